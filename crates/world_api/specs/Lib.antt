@@ -1,0 +1,9 @@
+pub mod Below
+pub mod Counts
+pub mod Causes
+pub mod Printed
+pub mod Act
+pub mod Around
+pub mod Calls
+pub mod Reads
+pub mod Meaning
