@@ -1,5 +1,5 @@
 -- The fields of a line that is cut at its quotes, and the bytes that they have.
-use Rattle.std.proofs.Common.{not, zero, suc, codes, arith, ◌||◌,  rules, ◌≡◌, ◌≢◌, ◌==◌, ◌<◌, ◌≤◌, ◌&&◌, ℕ, Bool, true, false, List, [], ◌∷◌, length, map, Option, Some, None, cond, sym, refl, ap, ◌∙◌, subst, get_or, nat_lt, nat_le, nat_eq, position, if◌then◌else◌, Bor, slice_index_or}
+use Rattle.std.proofs.Common.{not, zero, suc, codes, arith, ◌||◌, rules, ◌≡◌, ◌≢◌, ◌==◌, ◌<◌, ◌≤◌, ◌&&◌, ℕ, Bool, true, false, List, [], ◌∷◌, length, map, Option, Some, None, cond, sym, refl, ap, ◌∙◌, subst, get_or, nat_lt, nat_le, nat_eq, position, if◌then◌else◌, Bor, slice_index_or}
 use Rattle.std.specs.List.{list_all, slice_split, position_or_len, All, AllPass}
 use Rattle.std.specs.Str.{IsAscii}
 use Rattle.std.specs.Cmp.Lexicographic.{pointwise, bytes_decides}
@@ -75,9 +75,9 @@ no_slash_first (b ∷ bs) h =
 one_part : (name : List ℕ) → ((k : ℕ) → k < length name → get_or name k 0 ≢ 47) → path_parts name ≡ name ∷ []
 one_part name h =
     rw (no_slash_first name h)
-        (slice_split_none (λ b. b == slash) name (λ k d l.
-            let other : get_or name k d ≢ 47 = rw (get_or_default name k d 0 l) (h k l) in
-            grind (arith, nat_tests)))
+    (slice_split_none (λ b. b == slash) name (λ k d l.
+    let other : get_or name k d ≢ 47 = rw (get_or_default name k d 0 l) (h k l) in
+    grind (arith, nat_tests)))
 
 normal_name : (name : List ℕ) → is_name name ≡ true → path_parts name ≡ name ∷ [] → is_normal name ≡ true
 normal_name name named parts = rw (parts, named) (or-true (is_top name || is_root name))

@@ -1,2 +1,3 @@
 pub mod LineForm
 pub mod Fields
+pub mod Texts

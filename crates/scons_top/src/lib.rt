@@ -1,8 +1,15 @@
 //! The command `scons`: from the words of a command line to files, printed text and a status.
 #![tactic(auto)]
 
+mod faults;
 mod line_form;
+mod report;
 mod rule;
+mod skipped;
+mod texts;
 
+pub use faults::Faults;
 pub use line_form::{LineFault, read_line_form};
+pub use report::{ReadKind, Top, UsageKind};
 pub use rule::Rule;
+pub use skipped::Skipped;
