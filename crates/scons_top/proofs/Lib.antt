@@ -1,1 +1,5 @@
 pub mod LineParts
+pub mod PrintRuns
+pub mod Quiet
+pub mod Misread
+pub mod StopPrints

@@ -1,3 +1,9 @@
 pub mod LineForm
 pub mod Fields
 pub mod Texts
+pub mod Printing
+pub mod Course
+pub mod Reading
+pub mod Building
+pub mod Ends
+pub mod ReadSteps

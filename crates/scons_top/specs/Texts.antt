@@ -13,19 +13,19 @@ abbrev pub line_text : List ℕ → List ℕ
 line_text line = line ++ 10 ∷ []
 
 -- on standard output
-abbrev pub reading_text : List ℕ
+unfoldable pub reading_text : List ℕ
 reading_text = line_text (codes "scons: Reading SConscript files ...")
 
-abbrev pub read_text : List ℕ
+unfoldable pub read_text : List ℕ
 read_text = line_text (codes "scons: done reading SConscript files.")
 
-abbrev pub building_text : List ℕ
+unfoldable pub building_text : List ℕ
 building_text = line_text (codes "scons: Building targets ...")
 
-abbrev pub done_text : List ℕ
+unfoldable pub done_text : List ℕ
 done_text = line_text (codes "scons: done building targets.")
 
-abbrev pub terminated_text : List ℕ
+unfoldable pub terminated_text : List ℕ
 terminated_text = line_text (codes "scons: building terminated because of errors.")
 
 -- on standard error

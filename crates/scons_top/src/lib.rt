@@ -3,9 +3,12 @@
 
 mod faults;
 mod line_form;
+mod printing;
+mod reading;
 mod report;
 mod rule;
 mod skipped;
+mod stops;
 mod texts;
 
 pub use faults::Faults;

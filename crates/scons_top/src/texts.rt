@@ -6,6 +6,7 @@ use scons_base::{Memory, Text};
 use std::alloc::Global;
 
 /// Printed before the scripts are read.
+#[tactic(auto, unfolding(crate::specs::Texts::reading_text))]
 pub fn reading_text() -> &'static str
     ensures { result.now ≡ reading_text }
 {
@@ -13,6 +14,7 @@ pub fn reading_text() -> &'static str
 }
 
 /// Printed once they are read.
+#[tactic(auto, unfolding(crate::specs::Texts::read_text))]
 pub fn read_text() -> &'static str
     ensures { result.now ≡ read_text }
 {
@@ -20,6 +22,7 @@ pub fn read_text() -> &'static str
 }
 
 /// Printed before the first rule is looked at.
+#[tactic(auto, unfolding(crate::specs::Texts::building_text))]
 pub fn building_text() -> &'static str
     ensures { result.now ≡ building_text }
 {
@@ -27,6 +30,7 @@ pub fn building_text() -> &'static str
 }
 
 /// Printed at the end of a build without a fault.
+#[tactic(auto, unfolding(crate::specs::Texts::done_text))]
 pub fn done_text() -> &'static str
     ensures { result.now ≡ done_text }
 {
@@ -34,6 +38,7 @@ pub fn done_text() -> &'static str
 }
 
 /// Printed at the end of a build with a fault.
+#[tactic(auto, unfolding(crate::specs::Texts::terminated_text))]
 pub fn terminated_text() -> &'static str
     ensures { result.now ≡ terminated_text }
 {
