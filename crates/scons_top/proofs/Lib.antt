@@ -3,3 +3,4 @@ pub mod PrintRuns
 pub mod Quiet
 pub mod Misread
 pub mod StopPrints
+pub mod Builds

@@ -1,14 +1,42 @@
 -- What a step has printed where it stopped.
-use Rattle.std.proofs.Common.{◌≡◌, ◌≢◌, refl, Err}
+use Rattle.std.proofs.Common.{◌≡◌, ◌≢◌, [], inl, inr, refl, subst, sym, append-nil, Result, Ok, Err, IfErr}
 use Rattle.world_api.specs.Printed.{SinkMeaning}
 use Rattle.scons_top.specs.declared.stops.ReadStop.{ReadStop}
 use Rattle.scons_top.specs.declared.stops.ReadStop.TheVariants as read
-use Rattle.scons_top.specs.Ends.{ReadPrints}
-use Rattle.scons_top.specs.Printing.{Prints}
-use Rattle.scons_top.specs.Texts.{reading_text, read_text}
-use Rattle.scons_top.proofs.PrintRuns.{part_of}
+use Rattle.scons_top.specs.declared.stops.BuildStop.{BuildStop}
+use Rattle.scons_top.specs.declared.stops.BuildStop.TheVariants as build
+use Rattle.scons_top.specs.declared.rule.Rule.{Rule}
+use Rattle.scons_top.specs.BuildSteps.{IsNoPrintStop, IsFailStop, LinePrints}
+use Rattle.scons_top.specs.Course.{body_text}
+use Rattle.scons_top.specs.Ends.{ReadPrints, BuildPrints}
+use Rattle.scons_top.specs.Printing.{Prints, PrintsPart}
+use Rattle.scons_top.specs.Texts.{reading_text, read_text, building_text, line_text}
+use Rattle.scons_top.proofs.PrintRuns.{part_of, prints_both, cut_second}
 
 pub read_stop_prints : {S : Type 0} (meaning : SinkMeaning S) (old new : S) (stop : ReadStop) → stop ≢ read.Unprinted → Prints meaning old new reading_text → ReadPrints meaning old new (Err stop)
 read_stop_prints meaning old new (read.Fault fault) other printed = printed
 read_stop_prints meaning old new read.Unprinted other printed = absurd (other refl)
 read_stop_prints meaning old new read.NoMemory other printed = part_of meaning old new reading_text read_text printed
+
+module _ {S : Type 0} (meaning : SinkMeaning S) (rule : Rule) where
+  -- a stop before the line
+  pub step_stop_prints : (old new : S) (stop : BuildStop) → IsNoPrintStop stop → Prints meaning old new building_text → BuildPrints meaning rule old new (Err stop)
+  step_stop_prints old new (build.Stopped fault) how printed = printed
+  step_stop_prints old new (build.Failed fault) how printed = elim how [ ]
+  step_stop_prints old new build.Unprinted how printed = elim how [ ]
+  step_stop_prints old new build.NoMemory how printed = part_of meaning old new building_text (line_text rule.line) printed
+
+  -- a stop at the line
+  pub line_stop_prints : (old mid new : S) (stop : BuildStop) → Prints meaning old mid building_text → LinePrints meaning rule mid new (Err stop) → BuildPrints meaning rule old new (Err stop)
+  line_stop_prints old mid new stop first (inl (is, cut)) = subst (λ s. BuildPrints meaning rule old new (Err s)) (sym is) (cut_second meaning old mid new building_text (line_text rule.line) first cut)
+  line_stop_prints old mid new stop first (inr (is, none)) =
+      let both = subst (Prints meaning old new) (append-nil building_text) (prints_both meaning old mid new building_text [] first none) in
+      subst (λ s. BuildPrints meaning rule old new (Err s)) (sym is) (part_of meaning old new building_text (line_text rule.line) both)
+
+  -- the line is printed, and the action is run
+  pub made_prints : (old new : S) (result : Result (Unit {0}) BuildStop) → IfErr result (IsFailStop rule) → Prints meaning old new (body_text rule) → BuildPrints meaning rule old new result
+  made_prints old new (Ok done) how printed = printed
+  made_prints old new (Err (build.Stopped fault)) how printed = elim how [ ]
+  made_prints old new (Err (build.Failed fault)) how printed = printed
+  made_prints old new (Err build.Unprinted) how printed = elim how [ ]
+  made_prints old new (Err build.NoMemory) how printed = subst (PrintsPart meaning old new) (append-nil (body_text rule)) (part_of meaning old new (body_text rule) [] printed)

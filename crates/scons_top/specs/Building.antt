@@ -64,3 +64,11 @@ pub record Leaves (rule : Rule) (counts : Counts) (old new : Around) : Type 0 wh
 -- how the log ends by the course: a job that was built or failed ran; a job that wasn't started ran broken at most
 abbrev pub HasLog : Rule → Counts → List Entry → List Entry → Outcome → Type 0
 HasLog rule counts old new outcome = new ≡ (old ++ Started (job_of rule) counts ∷ []) ++ Finished 0 outcome ∷ []
+
+-- nothing ran, and no file but the target is another
+pub record Idles (rule : Rule) (old new : Around) : Type 0 where
+  pub files : (path : List ℕ) → path ≢ rule.target → new.tree path ≡ old.tree path
+  pub running : new.running ≡ []
+  pub log : new.log ≡ old.log
+  pub met : Grows old.met new.met
+  pub law : new.law ≡ old.law

@@ -7,3 +7,4 @@ pub mod Reading
 pub mod Building
 pub mod Ends
 pub mod ReadSteps
+pub mod BuildSteps

@@ -1,6 +1,7 @@
 //! The command `scons`: from the words of a command line to files, printed text and a status.
 #![tactic(auto)]
 
+mod building;
 mod faults;
 mod line_form;
 mod printing;
