@@ -18,24 +18,33 @@ use Rattle.scons_top.specs.declared.stops.BuildStop.TheVariants as build
 use Rattle.scons_top.specs.declared.report.Top.{Top}
 use Rattle.scons_top.specs.declared.report.Top.TheVariants.{Usage, Reading, Missing, ActionFailed, TreeFault, StartFault, OutFault, TooLarge}
 use Rattle.scons_top.specs.Course.{Failed as Fails}
-use Rattle.scons_top.specs.Building.{Idles, Leaves, Logs, nothing, ran, HasLog, HasSource, MayBuild, no_source, large_source, unreadable_source, kept_target, not_started, failed, built, clean_content, job_of, file_limit}
+use Rattle.scons_top.specs.Building.{Idles, Unchanged, Leaves, Logs, nothing, ran, HasLog, HasSource, MayBuild, no_source, large_source, unreadable_source, kept_target, not_started, failed, built, clean_content, job_of, file_limit}
 use Rattle.scons_top.specs.BuildSteps.{IsFailStop, StepGives, source_result, unread_stop, ended_result}
 use Rattle.scons_top.specs.Ends.{BuildGives, BuildMakes, FailLogs, Makes}
 use Rattle.scons_top.proofs.Quiet.{no_target, same_file}
+
+pub no_change : (around : Around) → around.running ≡ [] → Unchanged around around
+no_change around idle = record { files = λ path. refl; running = idle; log = refl; met = λ bytes met. met; law = refl }
+
+pub asked_only : (old new : Around) → old.running ≡ [] → Asks old new → Unchanged old new
+asked_only old new idle asks = record {
+  files = λ path. same_file old new path idle asks;
+  running = asks.running ∙ idle;
+  log = asks.log;
+  met = asks.met;
+  law = asks.law;
+}
 
 module _ (rule : Rule) where
   -- nothing done yet
   pub no_step : (around : Around) → around.running ≡ [] → Idles rule around around
   no_step around idle = record { files = λ path other. refl; running = idle; log = refl; met = λ bytes met. met; law = refl }
 
+  pub unchanged_idles : (old new : Around) → Unchanged old new → Idles rule old new
+  unchanged_idles old new same = record { files = λ path other. same.files path; running = same.running; log = same.log; met = same.met; law = same.law }
+
   pub asked : (old new : Around) → old.running ≡ [] → Asks old new → Idles rule old new
-  asked old new idle asks = record {
-    files = λ path other. same_file old new path idle asks;
-    running = asks.running ∙ idle;
-    log = asks.log;
-    met = asks.met;
-    law = asks.law;
-  }
+  asked old new idle asks = unchanged_idles old new (asked_only old new idle asks)
 
   pub two_steps : (old mid new : Around) → Idles rule old mid → Idles rule mid new → Idles rule old new
   two_steps old mid new first second = record {
@@ -77,7 +86,7 @@ module _ (rule : Rule) where
     source_refused refusal.Fault over above = unreadable_source
     source_refused (refusal.TooLarge size) over above =
         subst (λ n. StepGives old.tree rule (Err (unread_stop rule (refusal.TooLarge n)))) over.2
-            (large_source over.0 (at_source ∙ over.1) (subst (λ n. file_limit < n) (sym over.2) (above size refl)))
+        (large_source over.0 (at_source ∙ over.1) (subst (λ n. file_limit < n) (sym over.2) (above size refl)))
     source_refused refusal.Memory over above = tt
 
 -- an element of a list of one

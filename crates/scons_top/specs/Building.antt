@@ -65,6 +65,18 @@ pub record Leaves (rule : Rule) (counts : Counts) (old new : Around) : Type 0 wh
 abbrev pub HasLog : Rule → Counts → List Entry → List Entry → Outcome → Type 0
 HasLog rule counts old new outcome = new ≡ (old ++ Started (job_of rule) counts ∷ []) ++ Finished 0 outcome ∷ []
 
+-- nothing is another
+pub record Unchanged (old new : Around) : Type 0 where
+  pub files : (path : List ℕ) → new.tree path ≡ old.tree path
+  pub running : new.running ≡ []
+  pub log : new.log ≡ old.log
+  pub met : Grows old.met new.met
+  pub law : new.law ≡ old.law
+
+-- what building leaves: nothing is another, or the source is there and the rule was run or about to be
+abbrev pub LeavesBy : Rule → Counts → Around → Around → Type 0
+LeavesBy rule counts old new = Unchanged old new ⊎ (HasSource old.tree rule × Leaves rule counts old new)
+
 -- nothing ran, and no file but the target is another
 pub record Idles (rule : Rule) (old new : Around) : Type 0 where
   pub files : (path : List ℕ) → path ≢ rule.target → new.tree path ≡ old.tree path

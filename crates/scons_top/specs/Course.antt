@@ -20,19 +20,31 @@ faults_of (Stopped fault) = fault ∷ []
 faults_of (Failed rule fault) = fault ∷ []
 faults_of (Built rule) = []
 
--- on standard output, up to the end of reading and up to the last line of building
-abbrev pub head_text : List ℕ
-head_text = reading_text ++ read_text
+-- on standard output: what is printed before the rule is looked at, and up to its line
+abbrev pub announced_text : List ℕ
+announced_text = read_text ++ building_text
 
 abbrev pub body_text : Rule → List ℕ
-body_text rule = building_text ++ line_text rule.line
+body_text rule = announced_text ++ line_text rule.line
+
+-- all but the last line
+abbrev pub begun_text : Course → List ℕ
+begun_text (Refused fault) = []
+begun_text (Misread fault) = reading_text
+begun_text (Stopped fault) = reading_text ++ announced_text
+begun_text (Failed rule fault) = reading_text ++ body_text rule
+begun_text (Built rule) = reading_text ++ body_text rule
+
+-- the last line, of a run that came to building
+abbrev pub end_text : Course → List ℕ
+end_text (Refused fault) = []
+end_text (Misread fault) = []
+end_text (Stopped fault) = terminated_text
+end_text (Failed rule fault) = terminated_text
+end_text (Built rule) = done_text
 
 abbrev pub output_of : Course → List ℕ
-output_of (Refused fault) = []
-output_of (Misread fault) = reading_text
-output_of (Stopped fault) = (head_text ++ building_text) ++ terminated_text
-output_of (Failed rule fault) = (head_text ++ body_text rule) ++ terminated_text
-output_of (Built rule) = (head_text ++ body_text rule) ++ done_text
+output_of course = begun_text course ++ end_text course
 
 -- on standard error
 abbrev pub errors_of : Course → List ℕ

@@ -14,10 +14,10 @@ use Rattle.scons_top.specs.declared.stops.ReadStop.TheVariants as read
 use Rattle.scons_top.specs.declared.stops.BuildStop.{BuildStop}
 use Rattle.scons_top.specs.declared.stops.BuildStop.TheVariants as build
 use Rattle.scons_top.specs.Building.{MayBuild, HasLog, clean_content}
-use Rattle.scons_top.specs.Course.{Stopped, Failed as Fails_, Built, head_text, body_text}
+use Rattle.scons_top.specs.Course.{Stopped, Failed as Fails_, Built, announced_text, body_text}
 use Rattle.scons_top.specs.Reading.{Reads, Misreads}
 use Rattle.scons_top.specs.Printing.{Prints, PrintsPart, Cuts}
-use Rattle.scons_top.specs.Texts.{reading_text, building_text}
+use Rattle.scons_top.specs.Texts.{reading_text}
 
 -- the count of the outside that a fault stands for; the other faults leave the counts as they were
 abbrev pub FaultCause : Top → Counts → Counts → Type 0
@@ -44,10 +44,10 @@ ReadGives tree (Err read.Unprinted) = Unit {0}
 ReadGives tree (Err read.NoMemory) = Unit {0}
 
 abbrev pub ReadPrints : {S : Type 0} → SinkMeaning S → S → S → Result Rule ReadStop → Type 0
-ReadPrints meaning old new (Ok rule) = Prints meaning old new head_text
+ReadPrints meaning old new (Ok rule) = Prints meaning old new reading_text
 ReadPrints meaning old new (Err (read.Fault fault)) = Prints meaning old new reading_text
-ReadPrints meaning old new (Err read.Unprinted) = Cuts meaning old new head_text
-ReadPrints meaning old new (Err read.NoMemory) = PrintsPart meaning old new head_text
+ReadPrints meaning old new (Err read.Unprinted) = Cuts meaning old new reading_text
+ReadPrints meaning old new (Err read.NoMemory) = Prints meaning old new reading_text
 
 -- building
 abbrev pub BuildCause : Result (Unit {0}) BuildStop → Counts → Counts → Type 0
@@ -84,7 +84,7 @@ BuildMakes sure rule counts old new (Err build.NoMemory) = Unit {0}
 
 abbrev pub BuildPrints : {S : Type 0} → SinkMeaning S → Rule → S → S → Result (Unit {0}) BuildStop → Type 0
 BuildPrints meaning rule old new (Ok done) = Prints meaning old new (body_text rule)
-BuildPrints meaning rule old new (Err (build.Stopped fault)) = Prints meaning old new building_text
+BuildPrints meaning rule old new (Err (build.Stopped fault)) = Prints meaning old new announced_text
 BuildPrints meaning rule old new (Err (build.Failed fault)) = Prints meaning old new (body_text rule)
 BuildPrints meaning rule old new (Err build.Unprinted) = Cuts meaning old new (body_text rule)
 BuildPrints meaning rule old new (Err build.NoMemory) = PrintsPart meaning old new (body_text rule)

@@ -1,6 +1,8 @@
 ghost use Rattle.std.specs.Prelude.{◌≡◌, ◌≢◌, [], None, IfOk, IfErr, OnOk, OnErr, string_bytes};
 ghost use Rattle.world_api.specs.Meaning.{Told};
-ghost use Rattle.scons_top.specs.Building.{Idles, Leaves, job_of};
+ghost use Rattle.scons_top.specs.Building.{Idles, Unchanged, LeavesBy, Leaves, job_of};
+ghost use Rattle.scons_top.specs.Course.{announced_text};
+ghost use Rattle.scons_top.specs.Printing.{Prints, Cuts};
 ghost use Rattle.scons_top.specs.Ends.{BuildCause, BuildGives, BuildMakes, BuildPrints};
 ghost use Rattle.scons_top.specs.BuildSteps.{StepGives, StepCause, IsNoPrintStop, IsFailStop, LinePrints, source_result, unread_stop, unstarted_stop, ended_result};
 
@@ -8,10 +10,12 @@ use crate::printing::print;
 use crate::report::Top;
 use crate::rule::Rule;
 use crate::stops::BuildStop;
-use crate::texts::{building_text, line_text};
+use crate::texts::{building_text, line_text, read_text};
 use scons_base::{Memory, Paths, Texts};
 use std::alloc::Global;
-use world_api::{AskRefusal, Content, Job, Line, Lines, Outcome, ReadRefusal, Sink, Work, World};
+use world_api::{
+    AskRefusal, Content, Fault, Job, Line, Lines, Outcome, ReadRefusal, Sink, Work, World,
+};
 
 /// How many bytes a file that is read may have.
 const FILE_LIMIT: u64 = 67_108_864;
@@ -27,24 +31,34 @@ pub fn build<W: World, O: Sink>(
     requires reachable { W.meaning.closed world.old ≡ [] }
     requires others { rule.source ≢ rule.target }
     ensures told { Told W.meaning world.old world.new }
-    ensures leaves { W.meaning.tells world.new → Leaves rule (W.meaning.counts world.old) (W.meaning.around world.old) (W.meaning.around world.new) }
+    ensures leaves { W.meaning.tells world.new → LeavesBy rule (W.meaning.counts world.old) (W.meaning.around world.old) (W.meaning.around world.new) }
     ensures gives { W.meaning.tells world.new → BuildGives (W.meaning.around world.old).tree rule result }
     ensures makes { W.meaning.tells world.new → BuildMakes (W.meaning.sure world.new) rule (W.meaning.counts world.old) (W.meaning.around world.old) (W.meaning.around world.new) result }
     ensures cause { BuildCause result (W.meaning.counts world.old) (W.meaning.counts world.new) }
     ensures printed { BuildPrints O.meaning rule out.old out.new result }
 {
-    print(out, building_text())?;
+    announce(out)?;
     let rule = find_source(world, rule)?;
     let rule = remove_target(world, rule)?;
     print_line(alloc, out, &rule)?;
     make(alloc, world, rule)
 }
 
+/// Prints that reading is done and building begins.
+fn announce<O: Sink>(out: &mut O) -> Result<(), Fault>
+    ensures ok { OnOk result (Prints O.meaning out.old out.new announced_text) }
+    ensures err { OnErr result (Cuts O.meaning out.old out.new announced_text) }
+{
+    print(out, read_text())?;
+    print(out, building_text())?;
+    Ok(())
+}
+
 /// Looks whether the source is a file that isn't too large.
 fn find_source<W: World>(world: &mut W, rule: Rule) -> Result<Rule, BuildStop>
     requires { W.meaning.tells world.old → (W.meaning.around world.old).running ≡ [] }
     ensures told { Told W.meaning world.old world.new }
-    ensures idles { W.meaning.tells world.new → Idles rule (W.meaning.around world.old) (W.meaning.around world.new) }
+    ensures unchanged { W.meaning.tells world.new → Unchanged (W.meaning.around world.old) (W.meaning.around world.new) }
     ensures gives { W.meaning.tells world.new → StepGives (W.meaning.around world.old).tree rule result }
     ensures same { IfOk result (λ same. same ≡ rule) }
     ensures cause { StepCause result (W.meaning.counts world.old) (W.meaning.counts world.new) }

@@ -10,7 +10,7 @@ use crate::printing::print;
 use crate::report::{ReadKind, Top};
 use crate::rule::Rule;
 use crate::stops::ReadStop;
-use crate::texts::{read_text, reading_text};
+use crate::texts::reading_text;
 use scons_base::{Memory, PathFault, PathText};
 use std::alloc::Global;
 use world_api::{Content, ReadRefusal, Sink, World};
@@ -32,9 +32,7 @@ pub fn read_rule<W: World, O: Sink>(
     ensures printed { ReadPrints O.meaning out.old out.new result }
 {
     print(out, reading_text())?;
-    let rule = read_script(alloc, world)?;
-    print(out, read_text())?;
-    Ok(rule)
+    read_script(alloc, world)
 }
 
 fn read_script<W: World>(alloc: Global, world: &mut W) -> Result<Rule, ReadStop>

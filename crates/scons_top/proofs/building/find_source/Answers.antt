@@ -6,13 +6,13 @@ returns-in-Ok-clause-gives g c told =
     let around = g.W.World.meaning.around in
     let calls = c.in-Ok.ensures in
     rw c.with_source.ensures
-        (source_read c.args.rule (around c.args.world.now) (around c.read_file.new.self) (c.requires (calls.told.told told)) (calls.around told)
-            c.in-Ok.content (calls.content told) calls.within)
+    (source_read c.args.rule (around c.args.world.now) (around c.read_file.new.self) (c.requires (calls.told.told told)) (calls.around told)
+    c.in-Ok.content (calls.content told) calls.within)
 
 pub returns-in-Err-clause-gives : goal.returns-in-Err-clause-gives
 returns-in-Err-clause-gives g c told =
     let around = g.W.World.meaning.around in
     let calls = c.in-Err.ensures in
     rw c.unread.ensures
-        (source_refused c.args.rule (around c.args.world.now) (around c.read_file.new.self) (c.requires (calls.told.told told)) (calls.around told)
-            c.in-Err.refusal (calls.large told) calls.over)
+    (source_refused c.args.rule (around c.args.world.now) (around c.read_file.new.self) (c.requires (calls.told.told told)) (calls.around told)
+    c.in-Err.refusal (calls.large told) calls.over)
