@@ -4,3 +4,4 @@ pub mod Quiet
 pub mod Misread
 pub mod StopPrints
 pub mod Builds
+pub mod Runs

@@ -66,3 +66,15 @@ module _ {S : Type 0} (meaning : SinkMeaning S) where
     printed = λ t. record { front = text; rest = more; parts = refl; printed = p.printed t };
     faults = p.faults;
   }
+
+  pub part_second : (old mid new : S) (first second : List ℕ) → Prints meaning old mid first → PrintsPart meaning mid new second → PrintsPart meaning old new (first ++ second)
+  part_second old mid new first second p q = record {
+    told = λ t. p.told (q.told t);
+    printed = λ t. let part = q.printed t in record {
+      front = first ++ part.front;
+      rest = part.rest;
+      parts = ap (λ text. first ++ text) part.parts ∙ sym (append_assoc first part.front part.rest);
+      printed = part.printed ∙ (ap (λ text. text ++ part.front) (p.printed (q.told t)) ∙ append_assoc (meaning.text old) first part.front);
+    };
+    faults = q.faults ∙ p.faults;
+  }

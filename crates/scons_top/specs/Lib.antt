@@ -8,3 +8,5 @@ pub mod Building
 pub mod Ends
 pub mod ReadSteps
 pub mod BuildSteps
+pub mod Run
+pub mod Endings

@@ -27,3 +27,8 @@ pub record PrintsPart {S : Type 0} (meaning : SinkMeaning S) (old new : S) (text
   pub told : meaning.tells new → meaning.tells old
   pub printed : meaning.tells new → IsPrefixed (meaning.text old) (meaning.text new) text
   pub faults : meaning.faults new ≡ meaning.faults old
+
+-- a front of the text stands printed, maybe all; the sink may have refused
+pub record PrintsSome {S : Type 0} (meaning : SinkMeaning S) (old new : S) (text : List ℕ) : Type 0 where
+  pub told : meaning.tells new → meaning.tells old
+  pub printed : meaning.tells new → IsPrefixed (meaning.text old) (meaning.text new) text

@@ -2,12 +2,14 @@
 #![tactic(auto)]
 
 mod building;
+mod ending;
 mod faults;
 mod line_form;
 mod printing;
 mod reading;
 mod report;
 mod rule;
+mod run;
 mod skipped;
 mod stops;
 mod texts;

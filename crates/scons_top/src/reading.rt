@@ -29,6 +29,7 @@ pub fn read_rule<W: World, O: Sink>(
     ensures around { W.meaning.tells world.new → Asks (W.meaning.around world.old) (W.meaning.around world.new) }
     ensures gives { W.meaning.tells world.new → ReadGives (W.meaning.around world.old).tree result }
     ensures cause { ReadCause result (W.meaning.counts world.old) (W.meaning.counts world.new) }
+    ensures others { IfOk result (λ rule. rule.source ≢ rule.target) }
     ensures printed { ReadPrints O.meaning out.old out.new result }
 {
     print(out, reading_text())?;
@@ -41,6 +42,7 @@ fn read_script<W: World>(alloc: Global, world: &mut W) -> Result<Rule, ReadStop>
     ensures around { W.meaning.tells world.new → Asks (W.meaning.around world.old) (W.meaning.around world.new) }
     ensures gives { W.meaning.tells world.new → ReadGives (W.meaning.around world.old).tree result }
     ensures cause { ReadCause result (W.meaning.counts world.old) (W.meaning.counts world.new) }
+    ensures others { IfOk result (λ rule. rule.source ≢ rule.target) }
     ensures printed { IfErr result (λ stop. stop ≢ ReadStop.Unprinted) }
 {
     let path = script_path(alloc)?;
