@@ -5,3 +5,4 @@ pub mod Misread
 pub mod StopPrints
 pub mod Builds
 pub mod Runs
+pub mod Closing

@@ -51,8 +51,11 @@ module _ (mid old : Tree) (rule : Rule) (same : mid rule.source ≡ old rule.sou
 pub leaves_all : (words : List (List ℕ)) (rule : Rule) (counts before : Counts) (old mid new : Around) → words ≡ [] → Reads old.tree rule → counts ≡ before → Unchanged old mid → LeavesBy rule counts mid new → LeavesAll words before old new
 leaves_all words rule counts before old mid new no_words reads same first (inl second) = inl (unchanged_both old mid new first second)
 leaves_all words rule counts before old mid new no_words reads same first (inr (source, leaves)) =
-    inr (rule, record { no_words = no_words; reads = reads; source = same_source mid.tree old.tree rule (first.files rule.source) source },
-        step_leaves rule before old mid new (unchanged_idles rule old mid first) (subst (λ n. Leaves rule n mid new) same leaves))
+    inr (
+      rule,
+      record { no_words = no_words; reads = reads; source = same_source mid.tree old.tree rule (first.files rule.source) source },
+      step_leaves rule before old mid new (unchanged_idles rule old mid first) (subst (λ n. Leaves rule n mid new) same leaves),
+    )
 
 module _ {W O : Type 0} (world : Meaning W) (out : SinkMeaning O) (words : List (List ℕ)) where
   -- a word is refused
@@ -86,7 +89,6 @@ module _ {W O : Type 0} (world : Meaning W) (out : SinkMeaning O) (words : List 
       (first : world.tells mid → Unchanged (world.around old) (world.around mid))
       (counts : world.counts mid ≡ world.counts old)
       (announced : Prints out old_out mid_out reading_text) where
-
     may_take : (course : Course) → (world.tells new → MayBuild (world.around mid).tree rule course) → world.tells new → MayTake words (world.around old).tree course
     may_take course may now =
         let before = told.told now in
@@ -97,25 +99,31 @@ module _ {W O : Type 0} (world : Meaning W) (out : SinkMeaning O) (words : List 
     after result makes now =
         let before = told.told now in
         made_after rule others (world.sure new) (world.counts old) (world.around old) (world.around mid) (world.around new) (unchanged_idles rule (world.around old) (world.around mid) (first before)) result
-            (subst (λ n. BuildMakes (world.sure new) rule n (world.around mid) (world.around new) result) counts (makes now))
+        (subst (λ n. BuildMakes (world.sure new) rule n (world.around mid) (world.around new) result) counts (makes now))
 
     pub ends_build : (result : Result (Unit {0}) BuildStop)
         → (world.tells new → BuildGives (world.around mid).tree rule result)
         → (world.tells new → BuildMakes (world.sure new) rule (world.counts mid) (world.around mid) (world.around new) result)
         → BuildCause result (world.counts mid) (world.counts new) → BuildPrints out rule mid_out new_out result
         → EndsAs world out words old new old_out new_out (build_ending result)
-    ends_build (Ok done) gives makes cause printed = (rule, record {
-      takes = record { may = may_take (Built rule) gives; makes = after (Ok done) makes; cause = cause ∙ counts };
-      printed = prints_both out old_out mid_out new_out reading_text (body_text rule) announced printed;
-    })
+    ends_build (Ok done) gives makes cause printed = (
+      rule,
+      record {
+        takes = record { may = may_take (Built rule) gives; makes = after (Ok done) makes; cause = cause ∙ counts };
+        printed = prints_both out old_out mid_out new_out reading_text (body_text rule) announced printed;
+      },
+    )
     ends_build (Err (build.Stopped fault)) gives makes cause printed = record {
       takes = record { may = may_take (Stopped fault) gives; makes = after (Err (build.Stopped fault)) makes; cause = subst (λ n. FaultCause fault n (world.counts new)) counts cause };
       printed = prints_both out old_out mid_out new_out reading_text announced_text announced printed;
     }
-    ends_build (Err (build.Failed fault)) gives makes cause printed = (rule, record {
-      takes = record { may = may_take (Failed rule fault) gives; makes = after (Err (build.Failed fault)) makes; cause = subst (λ n. FaultCause fault n (world.counts new)) counts cause };
-      printed = prints_both out old_out mid_out new_out reading_text (body_text rule) announced printed;
-    })
+    ends_build (Err (build.Failed fault)) gives makes cause printed = (
+      rule,
+      record {
+        takes = record { may = may_take (Failed rule fault) gives; makes = after (Err (build.Failed fault)) makes; cause = subst (λ n. FaultCause fault n (world.counts new)) counts cause };
+        printed = prints_both out old_out mid_out new_out reading_text (body_text rule) announced printed;
+      },
+    )
     ends_build (Err build.Unprinted) gives makes cause printed = record {
       course = Built rule;
       may = λ now. (no_words, reads (told.told now));

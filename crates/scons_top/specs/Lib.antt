@@ -10,3 +10,4 @@ pub mod ReadSteps
 pub mod BuildSteps
 pub mod Run
 pub mod Endings
+pub mod Conclusion

@@ -2,6 +2,7 @@
 #![tactic(auto)]
 
 mod building;
+mod conclusion;
 mod ending;
 mod faults;
 mod line_form;
@@ -16,6 +17,6 @@ mod texts;
 
 pub use faults::Faults;
 pub use line_form::{LineFault, read_line_form};
-pub use report::{ReadKind, Top, UsageKind};
+pub use report::{ReadKind, Report, Top, UsageKind};
 pub use rule::Rule;
 pub use skipped::Skipped;

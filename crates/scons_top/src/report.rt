@@ -1,3 +1,5 @@
+use crate::faults::Faults;
+use crate::skipped::Skipped;
 use scons_base::PathText;
 
 /// How a word of the command line is refused.
@@ -32,4 +34,14 @@ pub enum Top {
     OutFault,
     /// The file has this many bytes, more than its limit.
     TooLarge(PathText, u64),
+}
+
+/// What a run answers. Status 0 is a run without a fault, 2 one with faults, and 3 one that memory ran out for; its
+/// faults are then those found before.
+#[derive(Debug, Drop)]
+pub struct Report {
+    pub status: u8,
+    pub faults: Faults,
+    /// The rules that weren't started because of one below them.
+    pub skipped: Skipped,
 }

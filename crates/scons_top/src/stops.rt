@@ -34,6 +34,33 @@ impl From<Memory> for ReadStop {
     }
 }
 
+/// Why a text wasn't printed whole.
+#[derive(Clone, Copy, Debug, PartialEq, Eq)]
+pub enum PrintStop {
+    Unprinted,
+    NoMemory,
+}
+
+impl From<Fault> for PrintStop {
+    ghost use Rattle.scons_top.specs.declared.stops.PrintStop.TheVariants.{Unprinted};
+
+    ghost from_gives = { λ _ e. e ≡ Unprinted };
+
+    fn from(_: Fault) -> Self {
+        PrintStop::Unprinted
+    }
+}
+
+impl From<Memory> for PrintStop {
+    ghost use Rattle.scons_top.specs.declared.stops.PrintStop.TheVariants.{NoMemory};
+
+    ghost from_gives = { λ _ e. e ≡ NoMemory };
+
+    fn from(_: Memory) -> Self {
+        PrintStop::NoMemory
+    }
+}
+
 /// Why building ended without the target.
 #[derive(Debug, Drop)]
 pub enum BuildStop {
