@@ -6,3 +6,4 @@ pub mod StopPrints
 pub mod Builds
 pub mod Runs
 pub mod Closing
+pub mod Whole

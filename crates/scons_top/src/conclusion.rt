@@ -92,6 +92,15 @@ fn cut_off(alloc: Global, mut faults: Vec<Top>, stop: PrintStop) -> Report
     }
 }
 
+/// Reports a run that memory ran out for before it began.
+pub fn out_of_memory(alloc: Global) -> Report
+    ensures status { result.status ≡ 3 }
+    ensures faults { result.faults ≡ [] }
+    ensures skipped { result.skipped ≡ [] }
+{
+    report(alloc, 3, Vec::new(alloc))
+}
+
 fn print_fault<E: Sink>(alloc: Global, err: &mut E, fault: &Top) -> Result<(), PrintStop>
     ensures { ErrorPrints E.meaning (fault_text fault.now) err.old err.new result }
 {

@@ -14,9 +14,11 @@ mod run;
 mod skipped;
 mod stops;
 mod texts;
+mod top;
 
 pub use faults::Faults;
 pub use line_form::{LineFault, read_line_form};
 pub use report::{ReadKind, Report, Top, UsageKind};
 pub use rule::Rule;
 pub use skipped::Skipped;
+pub use top::scons;
