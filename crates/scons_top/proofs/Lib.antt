@@ -7,3 +7,5 @@ pub mod Builds
 pub mod Runs
 pub mod Closing
 pub mod Whole
+pub mod OneCourse
+pub mod Promised

@@ -19,7 +19,8 @@ use Rattle.scons_top.specs.Reading.{Reads, Misreads}
 use Rattle.scons_top.specs.Printing.{Prints, PrintsPart, Cuts}
 use Rattle.scons_top.specs.Texts.{reading_text}
 
--- the count of the outside that a fault stands for; the other faults leave the counts as they were
+-- the count of the outside that a fault stands for; the other faults leave the counts as they were. No step ends by a
+-- sink's fault: that comes from printing alone.
 abbrev pub FaultCause : Top → Counts → Counts → Type 0
 FaultCause (Usage place kind) old new = new ≡ old
 FaultCause (Reading file line kind) old new = new ≡ old
@@ -27,7 +28,7 @@ FaultCause (Missing node target) old new = new ≡ old
 FaultCause (ActionFailed target code) old new = ActionFails old new
 FaultCause (TreeFault path) old new = Fails (λ counts. counts.tree_faults) old new
 FaultCause (StartFault target) old new = Fails (λ counts. counts.start_faults) old new
-FaultCause OutFault old new = new ≡ old
+FaultCause OutFault old new = ⊥
 FaultCause (TooLarge path size) old new = new ≡ old
 
 -- reading

@@ -11,3 +11,4 @@ pub mod BuildSteps
 pub mod Run
 pub mod Endings
 pub mod Conclusion
+pub mod Promises

@@ -1,12 +1,17 @@
-use Rattle.scons_top.proofs.Whole.{runs, no_start}
+use Rattle.scons_top.proofs.Promised.{has_status, succeeds, explained, risen, called_for}
 use Rattle.scons_top.proofs.top.scons.Goals as goal
 
-pub returns-in-Ok-clause-runs : goal.returns-in-Ok-clause-runs
-returns-in-Ok-clause-runs g c =
-    runs g.W.World.meaning g.O.Sink.meaning g.E.Sink.meaning c.args.words.now c.args.world.now c.run-ending.new.world c.args.out.now c.run-ending.new.out c.conclude.new.out c.args.err.now c.conclude.new.err
-        c.run-ending.result c.conclude.result.status c.conclude.result.faults c.run-ending.ensures.ends c.conclude.ensures.concludes
+pub returns-clause-status : goal.returns-clause-status
+returns-clause-status g c = has_status g.W.World.meaning g.O.Sink.meaning g.E.Sink.meaning c.args.words.now c.args.world.now c.take_course.new.world c.args.out.now c.take_course.new.out c.args.err.now c.take_course.new.err c.take_course.ensures.runs
 
-pub returns-in-Err-clause-runs : goal.returns-in-Err-clause-runs
-returns-in-Err-clause-runs g c =
-    no_start g.W.World.meaning g.O.Sink.meaning g.E.Sink.meaning c.args.world.now c.args.out.now c.args.err.now c.args.words.now
-        c.out_of_memory.result.status c.out_of_memory.result.faults c.out_of_memory.ensures.status c.out_of_memory.ensures.faults
+pub returns-clause-success : goal.returns-clause-success
+returns-clause-success g c = succeeds g.W.World.meaning g.O.Sink.meaning g.E.Sink.meaning c.args.words.now c.args.world.now c.take_course.new.world c.args.out.now c.take_course.new.out c.args.err.now c.take_course.new.err c.take_course.ensures.runs
+
+pub returns-clause-explained : goal.returns-clause-explained
+returns-clause-explained g c = explained g.W.World.meaning g.O.Sink.meaning g.E.Sink.meaning c.args.words.now c.args.world.now c.take_course.new.world c.args.out.now c.take_course.new.out c.args.err.now c.take_course.new.err c.take_course.ensures.runs
+
+pub returns-clause-risen : goal.returns-clause-risen
+returns-clause-risen g c = risen g.W.World.meaning g.O.Sink.meaning g.E.Sink.meaning c.args.words.now c.args.world.now c.take_course.new.world c.args.out.now c.take_course.new.out c.args.err.now c.take_course.new.err c.take_course.ensures.runs
+
+pub returns-clause-called_for : goal.returns-clause-called_for
+returns-clause-called_for g c none = called_for g.W.World.meaning g.O.Sink.meaning g.E.Sink.meaning c.args.words.now c.args.world.now c.take_course.new.world c.args.out.now c.take_course.new.out c.args.err.now c.take_course.new.err none c.take_course.ensures.runs
