@@ -1,0 +1,5 @@
+pub mod Maps
+pub mod Moves
+pub mod NormalForms
+pub mod Tails
+pub mod Walks
