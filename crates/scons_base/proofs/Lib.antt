@@ -1,1 +1,6 @@
 pub mod Passed
+pub mod Maps
+pub mod Moves
+pub mod NormalForms
+pub mod Tails
+pub mod Walks

@@ -1,2 +1,4 @@
 pub mod Normal
+pub mod Parts
 pub mod PathFaults
+pub mod Resolve

@@ -4,7 +4,7 @@ use Rattle.scons_base.specs.declared.fault.PathFault.{PathFault}
 use Rattle.scons_base.specs.declared.fault.PathFault.TheVariants.{Empty, BadByte, TooLong, NotNormal}
 use Rattle.scons_base.specs.Normal.{is_normal}
 
-abbrev fault_past_zero : List ℕ → Option ℕ → Option PathFault
+abbrev pub fault_past_zero : List ℕ → Option ℕ → Option PathFault
 fault_past_zero text (Some place) = Some (BadByte place)
 fault_past_zero text None =
     if nat_lt 4096 (length text) then Some (TooLong (length text)) else (if is_normal text then None else Some NotNormal)

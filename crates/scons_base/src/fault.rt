@@ -1,6 +1,7 @@
 ghost use Rattle.std.specs.Prelude.{◌≡◌};
 ghost use Rattle.scons_base.specs.declared.fault.PathFault.TheVariants.{Memory};
 
+use crate::memory::Memory as NoMemory;
 use std::alloc::AllocError;
 use thiserror::Error;
 
@@ -25,6 +26,14 @@ impl From<AllocError> for PathFault {
     ghost from_gives = { λ _ e. e ≡ Memory };
 
     fn from(_: AllocError) -> Self {
+        PathFault::Memory
+    }
+}
+
+impl From<NoMemory> for PathFault {
+    ghost from_gives = { λ _ e. e ≡ Memory };
+
+    fn from(_: NoMemory) -> Self {
         PathFault::Memory
     }
 }

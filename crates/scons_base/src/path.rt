@@ -1,4 +1,4 @@
-ghost use Rattle.std.specs.Prelude.{nat_eq, position, ◌≡◌, ◌≢◌, ◌==◌, List, ℕ, None, Some, IfOk, IfErr, string_bytes};
+ghost use Rattle.std.specs.Prelude.{nat_eq, position, ◌≡◌, ◌≢◌, ◌==◌, List, ℕ, None, Some, IfOk, IfErr, IsTrue, string_bytes};
 ghost use Rattle.std.specs.List.{slice_split, list_all};
 ghost use Rattle.std.specs.Hash as fed;
 ghost use Rattle.std.specs.Cmp.{partial_equiv_from_equiv};
@@ -7,7 +7,7 @@ ghost use Rattle.std.specs.Cmp.Lexicographic.{pointwise, slice_cmp, nat_list_eq_
 ghost use Rattle.std.specs.Ordering.{nat_cmp};
 ghost use Rattle.std.proofs.Common.{refl, rules};
 ghost use Rattle.scons_base.specs.Normal.{is_name, is_normal, slash};
-ghost use Rattle.scons_base.specs.PathFaults.{fault_in};
+ghost use Rattle.scons_base.specs.PathFaults.{fault_in, is_path};
 
 use crate::fault::PathFault;
 use crate::memory::Memory;
@@ -53,10 +53,29 @@ impl PathText {
         })
     }
 
+    pub(crate) fn normal(text: String) -> PathText
+        requires { IsTrue (is_path (string_bytes text)) }
+        ensures { result ≡ string_bytes text }
+    {
+        PathText { text }
+    }
+
     pub fn as_str(&self) -> &str
         ensures { result.now ≡ self.now }
     {
         self.text.as_str()
+    }
+
+    /// The text, with what is known of each path.
+    pub(crate) fn normal_text(&self) -> &str
+        ensures value { result.now ≡ self.now }
+        ensures valid { IsTrue (is_path self.now) }
+    {
+        self.text.as_str()
+    }
+
+    pub(crate) fn allocator(&self) -> Global {
+        *self.text.allocator()
     }
 
     pub fn copy(&self) -> Result<PathText, Memory>
@@ -136,7 +155,7 @@ fn fault_of(text: &[u8]) -> Option<PathFault>
     }
 }
 
-fn zero_in(text: &[u8]) -> Option<usize>
+pub(crate) fn zero_in(text: &[u8]) -> Option<usize>
     ensures { result ≡ position (λ b. b == 0) text.now }
 {
     text.iter().position(|b| *b == 0)

@@ -1,12 +1,12 @@
 -- What each call of a world does to what stands around.
-use Rattle.std.specs.Prelude.{◌≡◌, ◌≢◌, ◌⊎◌, ℕ, List, [], ◌∷◌, ◌++◌, Contains, None}
+use Rattle.std.specs.Prelude.{◌≡◌, ◌≢◌, ◌⊎◌, ℕ, List, [], ◌∷◌, ◌++◌, Contains, None, IsTrue}
 use Rattle.world_api.specs.declared.job.Job.{Job}
 use Rattle.world_api.specs.declared.job.Ended.{Ended}
 use Rattle.world_api.specs.declared.job.Outcome.TheVariants.{Done}
 use Rattle.world_api.specs.Act.{act}
 use Rattle.world_api.specs.Around.{Around, Running, Started, Finished, IsRunningTarget, given_of}
 use Rattle.world_api.specs.Counts.{Counts}
-use Rattle.world_api.specs.Below.{IsWithin}
+use Rattle.scons_base.specs.Parts.{lies_in}
 
 -- whatever was in the old list is in the new one
 abbrev pub Grows : List (List ℕ) → List (List ℕ) → Type 0
@@ -38,8 +38,8 @@ pub record CanStart (job : Job) (around : Around) : Type 0 where
 
 -- none of a job's paths lies in a closed directory
 pub record IsOpen (closed : List (List ℕ)) (job : Job) : Type 0 where
-  pub targets : (dir path : List ℕ) → Contains closed dir → Contains job.targets path → IsWithin dir path → ⊥
-  pub deps : (dir path : List ℕ) → Contains closed dir → Contains job.deps path → IsWithin dir path → ⊥
+  pub targets : (dir path : List ℕ) → Contains closed dir → Contains job.targets path → IsTrue (lies_in path dir) → ⊥
+  pub deps : (dir path : List ℕ) → Contains closed dir → Contains job.deps path → IsTrue (lies_in path dir) → ⊥
 
 -- a start: the job runs, given what its dependencies hold, and the log has it with the counts before the call
 pub record Starts (job : Job) (counts : Counts) (old new : Around) : Type 0 where

@@ -1,4 +1,3 @@
-pub mod Below
 pub mod Counts
 pub mod Causes
 pub mod Printed

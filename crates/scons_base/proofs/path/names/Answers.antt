@@ -8,5 +8,5 @@ use Rattle.scons_base.proofs.path.names.Goals as goal
 pub returns : goal.returns
 returns c =
     all_passed [] _ _ _ (cases_from_all _ _ _ (λ x. is_name x ≡ true) (λ x. is_name x ≡ false) c.all.ensures.ran
-        (YieldsList-from_slice_split _ (λ b. b == slash) c.args.path.now c.split.ensures.rest c.split.ensures.done c.split.ensures.closure (λ x r q k. search (rules, tests)))
-        (λ x q k. search (rules, tests)) (λ x q k. search (rules, tests)))
+    (YieldsList-from_slice_split _ (λ b. b == slash) c.args.path.now c.split.ensures.rest c.split.ensures.done c.split.ensures.closure (λ x r q k. search (rules, tests)))
+    (λ x q k. search (rules, tests)) (λ x q k. search (rules, tests)))

@@ -1,0 +1,12 @@
+-- Nodes: the list of the paths that have a number, in the order of their numbers.
+use Rattle.std.specs.Prelude.{◌≡◌, ℕ, List, [], ◌∷◌, ◌++◌, Option, position, length, MatchOption}
+use Rattle.std.specs.Str.{bytes_eq}
+
+-- the number of a path, if it has one
+abbrev pub number_of : List (List ℕ) → List ℕ → Option ℕ
+number_of paths path = position (bytes_eq path) paths
+
+-- a path keeps the number that it has, and a new one gets the next: the numbers of the others stay
+abbrev pub Interns : List (List ℕ) → List ℕ → ℕ → List (List ℕ) → Type 0
+Interns old path id new =
+    MatchOption (number_of old path) ((id ≡ length old) × (new ≡ old ++ path ∷ [])) (λ number. (id ≡ number) × (new ≡ old))
