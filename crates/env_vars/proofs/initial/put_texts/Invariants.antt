@@ -1,0 +1,7 @@
+use Rattle.std.proofs.Common.{◌≡◌, map, take}
+use Rattle.env_vars.specs.declared.value.EnvValue.TheVariants as value
+use Rattle.env_vars.specs.Vars.{put_all}
+use Rattle.env_vars.proofs.initial.put_texts.Given as goal
+
+abbrev pub invariant-loop-name : goal.invariant-loop-name
+invariant-loop-name l = l.vars ≡ put_all l.initial.vars (take l.name-index (map (λ row. (row.0.now, value.Text row.1.now)) l.rows))

@@ -1,0 +1,68 @@
+-- Variant directories: each with the directory of its sources, and whether the sources are copied into it. The chapter
+-- on variant directories of the SCons User Guide tells what they are for; which of them may stand beside each other is
+-- this project's own.
+use Rattle.std.specs.Prelude.{◌≡◌, Bool, true, false, not, ℕ, List, [], ◌∷◌, ◌++◌, ◌&&◌, ◌||◌, Option, Some, None, if◌then◌else◌}
+use Rattle.std.specs.List.{list_any, find}
+use Rattle.std.specs.Option.{option_to_list}
+use Rattle.std.specs.Str.{bytes_eq}
+use Rattle.scons_base.specs.Parts.{is_below, lies_in, moved_path}
+use Rattle.scons_base.specs.declared.fault.PathFault.{PathFault}
+use Rattle.variant_dirs.specs.declared.variants.Variant.{Variant}
+use Rattle.variant_dirs.specs.declared.fault.VariantFault.{VariantFault}
+use Rattle.variant_dirs.specs.declared.fault.VariantFault.TheVariants.{Nested, Twice, BadName}
+
+-- the variant directory that a path lies in
+abbrev pub variant_of : List Variant → List ℕ → Option Variant
+variant_of variants path = find (λ v. lies_in path v.dir) variants
+
+-- the path in the source directory that stands for a path in a variant directory
+abbrev pub source_in : List ℕ → Option Variant → Option (List ℕ)
+source_in path (Some v) = moved_path path v.dir v.source
+source_in path None = None
+
+-- the source of a path, taken once: none where the path lies in no variant directory or its source would be too long
+abbrev pub source_of : List Variant → List ℕ → Option (List ℕ)
+source_of variants path = source_in path (variant_of variants path)
+
+abbrev pub uncopied_in : List ℕ → Option Variant → List (List ℕ)
+uncopied_in path (Some v) = if v.duplicate then [] else option_to_list (moved_path path v.dir v.source)
+uncopied_in path None = []
+
+-- where a path is looked for: at itself, and then, where sources aren't copied, at its source
+abbrev pub searched : List Variant → List ℕ → List (List ℕ)
+searched variants path = path ∷ uncopied_in path (variant_of variants path)
+
+-- whether this very variant directory is there
+abbrev pub is_there : List Variant → List ℕ → List ℕ → Bool → Bool
+is_there variants dir source duplicate =
+    list_any (λ v. bytes_eq v.dir dir && (bytes_eq v.source source && same v.duplicate duplicate)) variants
+  where
+    same : Bool → Bool → Bool
+    same true b = b
+    same false b = not b
+
+-- whether the directory stands among the variant directories
+abbrev pub stands : List Variant → List ℕ → Bool
+stands variants dir = list_any (λ v. bytes_eq v.dir dir) variants
+
+-- whether a variant directory would lie in another one, or its source in one
+abbrev pub is_nested : List Variant → List ℕ → List ℕ → Bool
+is_nested variants dir source =
+    lies_in source dir || list_any (λ v. lies_in source v.dir || (is_below dir v.dir || is_below v.dir dir)) variants
+
+-- why a variant directory can't be added: one that is there already can
+abbrev pub add_fault : List Variant → List ℕ → List ℕ → Bool → Option VariantFault
+add_fault variants dir source duplicate =
+    if is_there variants dir source duplicate then None
+    else (if is_nested variants dir source then Some Nested
+    else (if stands variants dir then Some Twice else None))
+
+abbrev pub added : List Variant → List ℕ → List ℕ → Bool → List Variant
+added variants dir source duplicate =
+    if is_there variants dir source duplicate then variants
+    else variants ++ record { dir = dir; source = source; duplicate = duplicate } ∷ []
+
+-- the fault of a name that gives no path
+abbrev pub IsBadName : Option PathFault → VariantFault → Type 0
+IsBadName (Some fault) e = e ≡ BadName fault
+IsBadName None e = ⊥

@@ -1,0 +1,170 @@
+ghost use Rattle.std.specs.Prelude.{◌≡◌, IfOk};
+
+use crate::fault::VariantFault;
+use crate::nesting::{is_nested, is_there, stands, variant_of};
+use scons_base::{Memory, PathFault, PathText, Paths};
+use std::alloc::Global;
+use std::marker::Model;
+
+/// A directory for built files, and the directory of their sources.
+#[derive(Debug, Drop)]
+pub struct Variant {
+    pub dir: PathText,
+    pub source: PathText,
+    /// Whether sources are copied into the variant directory before they are used.
+    pub duplicate: bool,
+}
+
+impl Variant {
+    pub fn copy(&self) -> Result<Variant, Memory>
+        ensures { IfOk result (λ v. v ≡ self.now) }
+    {
+        Ok(Variant {
+            dir: self.dir.copy()?,
+            source: self.source.copy()?,
+            duplicate: self.duplicate,
+        })
+    }
+}
+
+/// The variant directories of a project.
+#[derive(Debug, Drop)]
+pub struct Variants {
+    variants: Vec<Variant>,
+}
+
+impl Model for Variants {
+    ghost use Rattle.std.specs.Prelude.{List};
+    ghost use Rattle.variant_dirs.specs.declared.variants.Variant.{Variant};
+
+    ghost Value = { List Variant };
+
+    ghost view = { λ v. v.variants.items };
+}
+
+impl Variants {
+    ghost use Rattle.std.specs.Prelude.{◌≡◌, ◌≢◌, ◌++◌, ◌∷◌, [], None, Some, IfOk, IfErr, OnOk, OnErr, option_copied};
+    ghost use Rattle.std.specs.Option.{option_to_list};
+    ghost use Rattle.scons_base.specs.Resolve.{resolved, resolve_fault};
+    ghost use Rattle.variant_dirs.specs.Variants.{variant_of, source_of, uncopied_in, searched, add_fault, added, IsBadName};
+
+    pub fn new(alloc: Global) -> Variants
+        ensures { result ≡ [] }
+    {
+        Variants {
+            variants: Vec::new(alloc),
+        }
+    }
+
+    pub fn as_slice(&self) -> &[Variant]
+        ensures { result.now ≡ self.now }
+    {
+        self.variants.as_slice()
+    }
+
+    pub fn copy(&self) -> Result<Variants, Memory>
+        ensures { IfOk result (λ v. v ≡ self.now) }
+    {
+        let mut variants = Vec::with_capacity(*self.variants.allocator(), self.variants.len())?;
+        for variant in &self.variants {
+            variants.push(variant.copy()?)?;
+        }
+        Ok(Variants { variants })
+    }
+
+    /// Makes a directory the variant directory of another one. An equal one again changes nothing.
+    pub fn add(
+        &mut self,
+        dir: &PathText,
+        source: &PathText,
+        duplicate: bool,
+    ) -> Result<(), VariantFault>
+        ensures ok { OnOk result (self.new ≡ added self.old dir.now source.now duplicate) }
+        ensures no_fault { OnOk result (add_fault self.old dir.now source.now duplicate ≡ None) }
+        ensures fault { IfErr result (λ e. e ≢ VariantFault.Memory
+            → add_fault self.old dir.now source.now duplicate ≡ Some e) }
+        ensures err { OnErr result (self.new ≡ self.old) }
+    {
+        let variants = self.variants.as_slice();
+        if is_there(variants, dir, source, duplicate) {
+            return Ok(());
+        }
+        if is_nested(variants, dir, source) {
+            return Err(VariantFault::Nested);
+        }
+        if stands(variants, dir) {
+            return Err(VariantFault::Twice);
+        }
+        self.push(dir, source, duplicate)?;
+        Ok(())
+    }
+
+    fn push(&mut self, dir: &PathText, source: &PathText, duplicate: bool) -> Result<(), Memory>
+        ensures ok { OnOk result (self.new
+            ≡ self.old ++ record { dir = dir.now; source = source.now; duplicate = duplicate } ∷ []) }
+        ensures err { OnErr result (self.new ≡ self.old) }
+    {
+        self.variants.push(Variant {
+            dir: dir.copy()?,
+            source: source.copy()?,
+            duplicate,
+        })?;
+        Ok(())
+    }
+
+    /// The variant directory that a path lies in: the directory itself lies in it too.
+    pub fn variant_of(&self, path: &PathText) -> Option<&Variant>
+        ensures { option_copied result ≡ variant_of self.now path.now }
+    {
+        variant_of(self.variants.as_slice(), path)
+    }
+
+    /// The source of a path, taken once. There is none where the path lies in no variant directory, or where its
+    /// source would be too long for a path.
+    pub fn source_of(&self, path: &PathText) -> Result<Option<PathText>, Memory>
+        ensures { IfOk result (λ p. p ≡ source_of self.now path.now) }
+    {
+        match self.variant_of(path) {
+            Some(variant) => path.moved(&variant.dir, &variant.source),
+            None => Ok(None),
+        }
+    }
+
+    /// Where a name is looked for that stands in the directory `dir`: the path that it names, and then, in a variant
+    /// directory without copies, the source of that path.
+    pub fn search(&self, top: &PathText, dir: &PathText, name: &str) -> Result<Paths, VariantFault>
+        ensures ok { IfOk result (λ p. p ≡ searched self.now (resolved top.now dir.now name.now)) }
+        ensures no_fault { IfOk result (λ _. resolve_fault top.now dir.now name.now ≡ None) }
+        ensures fault { IfErr result (λ e. e ≢ VariantFault.Memory
+            → IsBadName (resolve_fault top.now dir.now name.now) e) }
+    {
+        let alloc = *self.variants.allocator();
+        let path = match PathText::resolve(alloc, top, dir, name) {
+            Ok(path) => path,
+            Err(PathFault::Memory) => return Err(VariantFault::Memory),
+            Err(fault) => return Err(VariantFault::BadName(fault)),
+        };
+        Ok(self.searched(alloc, path)?)
+    }
+
+    fn searched(&self, alloc: Global, path: PathText) -> Result<Paths, Memory>
+        ensures { IfOk result (λ p. p ≡ searched self.now path) }
+    {
+        let source = self.uncopied_source(&path)?;
+        let mut paths = Paths::new(Vec::new(alloc));
+        paths.push(path)?;
+        if let Some(source) = source {
+            paths.push(source)?;
+        }
+        Ok(paths)
+    }
+
+    fn uncopied_source(&self, path: &PathText) -> Result<Option<PathText>, Memory>
+        ensures { IfOk result (λ p. option_to_list p ≡ uncopied_in path.now (variant_of self.now path.now)) }
+    {
+        match self.variant_of(path) {
+            Some(variant) if !variant.duplicate => path.moved(&variant.dir, &variant.source),
+            _ => Ok(None),
+        }
+    }
+}
