@@ -1,0 +1,11 @@
+pub mod Bytes
+pub mod Gaps
+pub mod Levels
+pub mod Lexes
+pub mod Marks
+pub mod Numbers
+pub mod Spelt
+pub mod Steps
+pub mod Texts
+pub mod Tokens
+pub mod Turns
