@@ -63,3 +63,6 @@ fn lex_script(alloc: Global, script: &[u8]) -> Result<Tokens, LexFault>
         }
     }
 }
+
+#[cfg(test)]
+mod tests;
