@@ -1,5 +1,6 @@
 -- What is left of a script leads to the whole of it.
-use Rattle.py_lex.specs.Steps.{State, Fits, Steps, goes}
+use Rattle.py_lex.specs.Steps.{State, Steps, goes}
+use Rattle.py_lex.specs.Sizes.{Fits}
 use Rattle.py_lex.specs.Lexes.{Outcome, Reads, goes_on}
 
 -- whatever comes of the one state comes of the other

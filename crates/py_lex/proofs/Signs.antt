@@ -7,7 +7,8 @@ use Rattle.std.proofs.lemmas.List.{length-take}
 use Rattle.py_token.specs.declared.mark.Mark.{Mark}
 use Rattle.py_token.specs.declared.mark.Mark.TheVariants.{OpenParen, CloseParen, OpenBracket, CloseBracket, OpenBrace, CloseBrace, Comma, Colon, Dot, Semicolon, Assign, PlusAssign, MinusAssign, StarAssign, Equal, NotEqual, Less, LessEqual, Greater, GreaterEqual, Plus, Minus, Star, FloorDivide, Percent, Slash, Power, At, Bar, Ampersand, Caret, Tilde, ShiftLeft, ShiftRight, Arrow, Walrus}
 use Rattle.py_token.specs.Marks.{mark_text}
-use Rattle.py_lex.specs.Marks.{marks, mark_at, StandsAt}
+use Rattle.py_lex.specs.Marks.{marks, mark_at}
+use Rattle.py_lex.specs.Sizes.{StandsAt}
 
 found_by : {X : Type 0} (p : X → Bool) (x y : X) (b : Bool) (more : Option X) → p x ≡ b → cond b (Some x) more ≡ Some y → (more ≡ Some y → p y ≡ true) → p y ≡ true
 found_by p x y true more is e rest = cc (is, e)

@@ -1,4 +1,6 @@
--- Bytes, runs of bytes and line ends: sections 2.1 and 2.3 of the Python language reference.
+-- Bytes, runs of bytes and line ends: sections 2.1.2, 2.1.3, 2.1.9 and 2.3 of the Python language reference.
+-- Here and in the other files a byte stands by its number: 9 is a tab, 10 a line feed, 13 a carriage return, 32 a space,
+-- 34 `"`, 35 `#`, 39 `'`, 46 `.`, 92 a backslash and 95 `_`.
 use Rattle.std.specs.Prelude.{ℕ, Bool, not, ◌||◌, ◌==◌, List, [], ◌∷◌, Option, None, Some, take, drop, if◌then◌else◌}
 use Rattle.std.specs.List.{prefix_len}
 use Rattle.std.specs.Char.{is_ascii_alphanumeric}

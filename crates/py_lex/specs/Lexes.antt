@@ -24,7 +24,8 @@ pub data Reads : State → Outcome → Type 0 where
   ends_with : {s : State} (tokens : List Token) → Steps s (ends tokens) → Reads s (lexed tokens)
   stops_at : {s : State} (line : ℕ) (kind : LexKind) → Steps s (stops line kind) → Reads s (faulty line kind)
 
--- a script in UTF-8, or what is UTF-8 in front of its first byte that isn't, and a byte that stands in no UTF-8
+-- a script in UTF-8; or what is UTF-8 in front of its first byte that isn't, and there a byte that stands in no UTF-8, so
+-- that this fault has its place among the others
 abbrev pub marked : List ℕ → List ℕ
 marked bytes = if is_utf8 bytes then bytes else take (utf8_valid_len bytes) bytes ++ NO_TEXT ∷ []
 

@@ -1,11 +1,11 @@
 pub mod Bytes
 pub mod Gaps
-pub mod Levels
-pub mod Lexes
-pub mod Marks
 pub mod Numbers
-pub mod Spelt
-pub mod Steps
+pub mod Marks
 pub mod Texts
 pub mod Tokens
-pub mod Turns
+pub mod Levels
+pub mod Steps
+pub mod Lexes
+pub mod Views
+pub mod Sizes

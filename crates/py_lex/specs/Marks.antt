@@ -1,6 +1,6 @@
 -- Operators and delimiters: sections 2.5 and 2.6 of the Python language reference, those of the subset and those that
 -- the parser refuses.
-use Rattle.std.specs.Prelude.{ℕ, ◌<◌, ◌≤◌, length, nat_eq, List, [], ◌∷◌, Option, find}
+use Rattle.std.specs.Prelude.{ℕ, nat_eq, List, [], ◌∷◌, Option, find}
 use Rattle.std.specs.List.{starts_with}
 use Rattle.py_token.specs.declared.mark.Mark.{Mark}
 use Rattle.py_token.specs.declared.mark.Mark.TheVariants.{OpenParen, CloseParen, OpenBracket, CloseBracket, OpenBrace, CloseBrace, Comma, Colon, Dot, Semicolon, Assign, PlusAssign, MinusAssign, StarAssign, Equal, NotEqual, Less, LessEqual, Greater, GreaterEqual, Plus, Minus, Star, FloorDivide, Percent, Slash, Power, At, Bar, Ampersand, Caret, Tilde, ShiftLeft, ShiftRight, Arrow, Walrus}
@@ -17,8 +17,3 @@ marks =
 -- the longest mark in front: the first of the list that the bytes begin with
 abbrev pub mark_at : List ℕ → Option Mark
 mark_at bytes = find (λ m. starts_with nat_eq bytes (mark_text m)) marks
-
--- a mark takes a byte or two
-pub record StandsAt (mark : Mark) (bytes : List ℕ) : Type 0 where
-  pub some : 0 < length (mark_text mark)
-  pub fits : length (mark_text mark) ≤ length bytes

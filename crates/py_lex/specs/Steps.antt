@@ -1,5 +1,5 @@
 -- A script is read step by step: a gap or a token a step.
-use Rattle.std.specs.Prelude.{◌≡◌, ℕ, ◌+◌, ◌-◌, ◌*◌, ◌<◌, ◌^◌, ◌==◌, List, [], ◌∷◌, ◌++◌, length, drop, replicate, if◌then◌else◌}
+use Rattle.std.specs.Prelude.{◌≡◌, ℕ, ◌+◌, ◌-◌, ◌==◌, List, [], ◌∷◌, ◌++◌, length, drop, replicate, if◌then◌else◌}
 use Rattle.py_token.specs.declared.token.Token.{Token}
 use Rattle.py_token.specs.declared.token.TokenKind.{TokenKind}
 use Rattle.py_token.specs.declared.token.TokenKind.TheVariants as token
@@ -11,9 +11,6 @@ use Rattle.py_lex.specs.declared.levels.Level.{Level}
 use Rattle.py_lex.specs.declared.levels.Level.TheVariants.{Closes, Opens, Refused}
 use Rattle.py_lex.specs.declared.reader.Place.{Place}
 use Rattle.py_lex.specs.declared.reader.Place.TheVariants.{LineStart, Inside}
-use Rattle.py_lex.specs.declared.reader.Reader.{Reader}
-use Rattle.py_lex.specs.declared.reader.Step.{Step}
-use Rattle.py_lex.specs.declared.reader.Step.TheVariants.{Goes, Ends, Stops}
 use Rattle.py_lex.specs.Bytes.{is_blank, front_run, after_run}
 use Rattle.py_lex.specs.Gaps.{gap_at}
 use Rattle.py_lex.specs.Levels.{level_of}
@@ -129,42 +126,3 @@ start script = record {
   rest = after_run is_blank script;
   tokens = [];
 }
-
--- what the code says of a state and of a step
-abbrev pub state_of : Reader → State
-state_of r = record {
-  place = r.place;
-  indentation = r.indentation.now;
-  levels = r.levels;
-  line = r.line;
-  rest = r.rest.now;
-  tokens = r.tokens.items;
-}
-
-abbrev pub step_of : Step → Move
-step_of (Goes reader) = goes (state_of reader)
-step_of (Ends tokens) = ends tokens.items
-step_of (Stops line kind) = stops line kind
-
-abbrev pub depth_of : Place → ℕ
-depth_of LineStart = 0
-depth_of (Inside depth) = depth
-
-abbrev pub rank_of : Place → ℕ
-rank_of LineStart = 1
-rank_of (Inside depth) = 0
-
--- lines and brackets can be counted
-pub record Fits (s : State) : Type 0 where
-  pub lines : s.line + length s.rest < 2 ^ 31
-  pub brackets : depth_of s.place + length s.rest < 2 ^ 31
-
--- a step takes a byte, or begins a line's tokens
-pub record FitsNext (s t : State) : Type 0 where
-  pub fits : Fits t
-  pub falls : 2 * length t.rest + rank_of t.place < 2 * length s.rest + rank_of s.place
-
-abbrev pub FitsStep : State → Move → Type 0
-FitsStep s (goes t) = FitsNext s t
-FitsStep s (ends tokens) = Unit {0}
-FitsStep s (stops line kind) = Unit {0}

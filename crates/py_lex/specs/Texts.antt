@@ -94,15 +94,6 @@ piece_at style (b ∷ rest) =
     else (if b == NO_TEXT then (NotUtf8, b ∷ rest)
     else plain style b rest (after_line_end (b ∷ rest))))
 
--- a piece that belongs to the text
-abbrev pub IsTaken : Piece → Type 0
-IsTaken Closes = Unit {0}
-IsTaken (Stands c) = Unit {0}
-IsTaken (EndsLine c) = Unit {0}
-IsTaken Unclosed = ⊥
-IsTaken BadEscape = ⊥
-IsTaken NotUtf8 = ⊥
-
 -- the bytes of what a piece stands for
 abbrev pub bytes_of : Chars → List ℕ
 bytes_of Nothing = []

@@ -35,7 +35,8 @@ class_of b =
     else (if is_name_byte b then Letter
     else (if b == NO_TEXT then NoText else Sign)))
 
--- a text stands for its characters; it is one rule, so that one which isn't closed is a fault where it begins
+-- a text stands for its characters, which are UTF-8 as the script is; it is one rule, so that one which isn't closed is a
+-- fault where it begins
 abbrev pub text_read : ℕ → Spelling → Read
 text_read depth (closed value lines rest) =
     if is_utf8 value then takes (token.Text value) lines depth rest else refuses kinds.NotUtf8 0

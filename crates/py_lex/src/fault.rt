@@ -14,7 +14,7 @@ pub enum LexFault {
     Memory,
 }
 
-#[derive(Clone, Copy, Debug, PartialEq, Eq, Drop)]
+#[derive(Clone, Copy, Debug, PartialEq, Eq)]
 pub enum LexKind {
     /// The script isn't UTF-8.
     NotUtf8,

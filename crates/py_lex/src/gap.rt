@@ -4,7 +4,7 @@ ghost use Rattle.py_lex.specs.Gaps.{gap_at};
 use crate::bytes::{after_comment, after_line_end, cut_blanks, is_blank};
 
 /// What stands in front of a part of a script.
-#[derive(Clone, Copy, Debug, PartialEq, Eq, Drop)]
+#[derive(Clone, Copy)]
 pub enum Gap {
     Blanks,
     Comment,

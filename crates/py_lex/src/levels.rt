@@ -8,7 +8,7 @@ use std::collections::VecDeque;
 use std::marker::Model;
 
 /// Where an indentation stands among the open levels.
-#[derive(Clone, Copy, Debug, PartialEq, Eq, Drop)]
+#[derive(Clone, Copy)]
 pub enum Level {
     /// At an open level, so that this many close.
     Closes(usize),
@@ -17,7 +17,7 @@ pub enum Level {
 }
 
 /// The indentations of the open blocks, the innermost first. The last is the empty one.
-#[derive(Debug, Drop)]
+#[derive(Drop)]
 pub struct Levels {
     open: VecDeque<Vec<u8>>,
 }

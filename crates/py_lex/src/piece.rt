@@ -1,11 +1,12 @@
 ghost use Rattle.std.specs.Prelude.{◌≡◌, ◌<◌, ◌≤◌, ◌++◌, length, OnOk};
-ghost use Rattle.py_lex.specs.Texts.{piece_at, closing, kept, escape, hex_escape, hex_digit, simple_escape, IsTaken, bytes_of};
+ghost use Rattle.py_lex.specs.Texts.{piece_at, closing, kept, escape, hex_escape, hex_digit, simple_escape, bytes_of};
+ghost use Rattle.py_lex.specs.Sizes.{IsTaken};
 
 use crate::bytes::{NO_TEXT, after_line_end};
 use std::alloc::AllocError;
 
 /// How a text is written.
-#[derive(Clone, Copy, Debug, PartialEq, Eq, Drop)]
+#[derive(Clone, Copy)]
 pub struct Style {
     pub quote: u8,
     /// Three quotes on each side.
@@ -14,7 +15,7 @@ pub struct Style {
 }
 
 /// What a piece of a text stands for.
-#[derive(Clone, Copy, Debug, PartialEq, Eq, Drop)]
+#[derive(Clone, Copy)]
 pub enum Chars {
     Nothing,
     Byte(u8),
@@ -25,7 +26,7 @@ pub enum Chars {
 }
 
 /// What stands next in a text.
-#[derive(Clone, Copy, Debug, PartialEq, Eq, Drop)]
+#[derive(Clone, Copy)]
 pub enum Piece {
     /// The quotes that close it.
     Closes,

@@ -1,5 +1,7 @@
 ghost use Rattle.std.specs.Prelude.{◌≡◌, ◌<◌, ◌+◌, ◌-◌, ◌^◌, ◌++◌, ◌∷◌, [], length, OnOk, IfOk};
-ghost use Rattle.py_lex.specs.Steps.{state_of, step_of, Steps, Fits, FitsStep, TakesToken, token_at, dedents, added, with_text, text_behind, goes, start, line_end, begin_line, finish};
+ghost use Rattle.py_lex.specs.Steps.{Steps, TakesToken, token_at, dedents, added, with_text, text_behind, goes, start, line_end, begin_line, finish};
+ghost use Rattle.py_lex.specs.Views.{state_of, step_of};
+ghost use Rattle.py_lex.specs.Sizes.{Fits, FitsStep};
 
 use crate::bytes::cut_blanks;
 use crate::fault::LexKind;
@@ -10,7 +12,7 @@ use py_token::{Token, TokenKind};
 use scons_base::{Memory, Text};
 use std::alloc::Global;
 
-#[derive(Clone, Copy, Debug, PartialEq, Eq, Drop)]
+#[derive(Clone, Copy)]
 pub enum Place {
     /// In front of the first token of a line.
     LineStart,
@@ -19,7 +21,7 @@ pub enum Place {
 }
 
 /// A script that is read up to a place.
-#[derive(Debug, Drop)]
+#[derive(Drop)]
 pub struct Reader<'a> {
     pub place: Place,
     /// The blanks in front of the line.
@@ -31,7 +33,7 @@ pub struct Reader<'a> {
 }
 
 /// What the next step gives.
-#[derive(Debug, Drop)]
+#[derive(Drop)]
 pub enum Step<'a> {
     Goes(Reader<'a>),
     Ends(Vec<Token>),

@@ -1,5 +1,6 @@
 ghost use Rattle.std.specs.Prelude.{◌≡◌, IfSome};
-ghost use Rattle.py_lex.specs.Marks.{mark_at, StandsAt};
+ghost use Rattle.py_lex.specs.Marks.{mark_at};
+ghost use Rattle.py_lex.specs.Sizes.{StandsAt};
 
 use py_token::Mark;
 

@@ -1,13 +1,14 @@
 ghost use Rattle.std.specs.Prelude.{◌≡◌, ◌<◌, ◌≤◌, ◌^◌, length, IfOk};
 ghost use Rattle.py_lex.specs.Texts.{opening, Spells};
-ghost use Rattle.py_lex.specs.Spelt.{spelling_of, FitsIn};
+ghost use Rattle.py_lex.specs.Views.{spelling_of};
+ghost use Rattle.py_lex.specs.Sizes.{FitsIn};
 
 use crate::fault::LexKind;
 use crate::piece::{Piece, Style, next_piece, push_chars};
 use std::alloc::{AllocError, Global};
 
 /// What reading a text gives.
-#[derive(Debug, Drop)]
+#[derive(Drop)]
 pub enum Spelt<'a> {
     Closed {
         value: Vec<u8>,

@@ -3,7 +3,8 @@ ghost use Rattle.std.specs.List.{list_all};
 ghost use Rattle.std.specs.Char.{is_ascii_digit};
 ghost use Rattle.py_lex.specs.Bytes.{is_name_byte};
 ghost use Rattle.py_lex.specs.Tokens.{class_of, lead_of, is_r, is_b_or_f, is_float, is_fraction, is_name_first, quoted, depth_after, takes, refuses, TokenAt, NameAt, TextAt, number_turn, sign_turn, named};
-ghost use Rattle.py_lex.specs.Turns.{turn_of, FitsTurn, FitsBehind};
+ghost use Rattle.py_lex.specs.Views.{turn_of};
+ghost use Rattle.py_lex.specs.Sizes.{FitsTurn, FitsBehind};
 
 use crate::bytes::{NO_TEXT, cut_name, is_name_byte};
 use crate::fault::LexKind;
@@ -16,7 +17,7 @@ use std::alloc::Global;
 use std::str;
 
 /// What a token begins with.
-#[derive(Clone, Copy, Debug, PartialEq, Eq, Drop)]
+#[derive(Clone, Copy)]
 pub enum Class {
     Quote,
     Digit,
@@ -26,7 +27,7 @@ pub enum Class {
 }
 
 /// What a name is to what follows it.
-#[derive(Clone, Copy, Debug, PartialEq, Eq, Drop)]
+#[derive(Clone, Copy)]
 pub enum Lead {
     /// A name or a keyword.
     Name,
@@ -37,7 +38,7 @@ pub enum Lead {
 }
 
 /// What reading a token gives.
-#[derive(Debug, Drop)]
+#[derive(Drop)]
 pub enum Turn<'a> {
     Takes {
         kind: TokenKind,

@@ -3,7 +3,7 @@ ghost use Rattle.py_token.specs.Marks.{mark_text};
 
 /// Operators and delimiters. Those from `Slash` on belong to Python and to no script of the subset: they are tokens
 /// that the parser refuses.
-#[derive(Clone, Copy, Debug, PartialEq, Eq, Drop)]
+#[derive(Clone, Copy, Debug, PartialEq, Eq)]
 pub enum Mark {
     OpenParen,
     CloseParen,

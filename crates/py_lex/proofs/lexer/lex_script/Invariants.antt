@@ -1,5 +1,7 @@
 use Rattle.std.proofs.Common.{◌+◌, ◌*◌, length}
-use Rattle.py_lex.specs.Steps.{state_of, rank_of, start}
+use Rattle.py_lex.specs.Steps.{start}
+use Rattle.py_lex.specs.Sizes.{rank_of}
+use Rattle.py_lex.specs.Views.{state_of}
 use Rattle.py_lex.proofs.Reading.{LeadsTo}
 use Rattle.py_lex.proofs.lexer.lex_script.Given as goal
 
