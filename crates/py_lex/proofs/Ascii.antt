@@ -11,7 +11,7 @@ both true true e = (refl, refl)
 both true false e = cc
 both false b e = cc
 
-name_byte_is_ascii : (b : ℕ) → is_name_byte b ≡ true → b < 128
+pub name_byte_is_ascii : (b : ℕ) → is_name_byte b ≡ true → b < 128
 name_byte_is_ascii b e = grind (arith, nat_tests)
 
 ascii_at : (name : List ℕ) → list_all is_name_byte name ≡ true → (i : ℕ) → get_or name i 0 < 128

@@ -9,3 +9,6 @@ pub mod TokenLists
 pub mod One
 pub mod Reading
 pub mod Whole
+pub mod Clean
+pub mod TextUtf8
+pub mod StepUtf8

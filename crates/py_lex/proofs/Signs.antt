@@ -14,7 +14,7 @@ found_by : {X : Type 0} (p : X → Bool) (x y : X) (b : Bool) (more : Option X) 
 found_by p x y true more is e rest = cc (is, e)
 found_by p x y false more is e rest = rest e
 
-find_passes : {X : Type 0} (p : X → Bool) (xs : List X) (y : X) → find p xs ≡ Some y → p y ≡ true
+pub find_passes : {X : Type 0} (p : X → Bool) (xs : List X) (y : X) → find p xs ≡ Some y → p y ≡ true
 find_passes p [] y e = cc
 find_passes p (x ∷ xs) y e = found_by p x y (p x) (find p xs) refl e (find_passes p xs y)
 

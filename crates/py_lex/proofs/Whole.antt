@@ -19,7 +19,7 @@ agrees_too (Err Memory) P Q h = λ p. tt
 within : (n : ℕ) → n ≤ 1048576 → nat_lt 1048576 n ≡ false
 within n h = grind (arith, nat_tests)
 
-pub read_whole : (bytes script : List ℕ) → length bytes ≤ 1048576 → script ≡ without_order_mark (marked bytes) → (o : Outcome) → Reads (start script) o → IsRead bytes o
+pub read_whole : (bytes script : List ℕ) → length bytes ≤ 1048576 → script ≡ marked (without_order_mark bytes) → (o : Outcome) → Reads (start script) o → IsRead bytes o
 read_whole bytes script h is o r =
     subst (λ b. ReadIf b bytes o) (sym (within (length bytes) h)) (subst (λ x. Reads (start x) o) is r)
 

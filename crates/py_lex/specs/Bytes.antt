@@ -26,7 +26,7 @@ front_run p bytes = take (prefix_len p bytes) bytes
 abbrev pub after_run : (ℕ → Bool) → List ℕ → List ℕ
 after_run p bytes = drop (prefix_len p bytes) bytes
 
-abbrev after_feed : List ℕ → Option (List ℕ)
+abbrev pub after_feed : List ℕ → Option (List ℕ)
 after_feed [] = None
 after_feed (b ∷ rest) = if b == 10 then Some rest else None
 

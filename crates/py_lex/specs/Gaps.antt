@@ -5,12 +5,12 @@ use Rattle.py_lex.specs.declared.gap.Gap.TheVariants.{Blanks, Comment, LineEnd, 
 use Rattle.py_lex.specs.Bytes.{is_blank, is_comment_byte, after_run, after_line_end}
 
 -- a backslash and a line end join the next line (2.1.5), where there is one
-abbrev joined_or : List ℕ → Option (List ℕ) → Gap × List ℕ
+abbrev pub joined_or : List ℕ → Option (List ℕ) → Gap × List ℕ
 joined_or bytes None = (Nothing, bytes)
 joined_or bytes (Some []) = (Nothing, bytes)
 joined_or bytes (Some (b ∷ rest)) = (Joined, b ∷ rest)
 
-abbrev line_end_or : List ℕ → Option (List ℕ) → Gap × List ℕ
+abbrev pub line_end_or : List ℕ → Option (List ℕ) → Gap × List ℕ
 line_end_or bytes None = (Nothing, bytes)
 line_end_or bytes (Some rest) = (LineEnd, rest)
 

@@ -35,7 +35,7 @@ without_order_mark bytes = if starts_with nat_eq bytes (239 ∷ 187 ∷ 191 ∷ 
 
 abbrev pub ReadIf : Bool → List ℕ → Outcome → Type 0
 ReadIf true bytes o = o ≡ faulty 1 kinds.TooLong
-ReadIf false bytes o = Reads (start (without_order_mark (marked bytes))) o
+ReadIf false bytes o = Reads (start (marked (without_order_mark bytes))) o
 
 -- what comes of a script
 abbrev pub IsRead : List ℕ → Outcome → Type 0

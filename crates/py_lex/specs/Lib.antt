@@ -9,3 +9,4 @@ pub mod Steps
 pub mod Lexes
 pub mod Views
 pub mod Sizes
+pub mod Utf8

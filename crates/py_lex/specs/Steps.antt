@@ -69,7 +69,7 @@ line_end (Inside depth) s after =
     if depth == 0 then next_line (record s { tokens = s.tokens ++ token_at s.line token.Newline ∷ [] }) after
     else record s { line = s.line + 1; rest = after }
 
-abbrev level_move : Level → State → Move
+abbrev pub level_move : Level → State → Move
 level_move (Closes count) s =
     goes (record s { place = Inside 0; levels = drop count s.levels; tokens = s.tokens ++ dedents s.line count })
 level_move Opens s =

@@ -21,11 +21,11 @@ closing style (a ∷ b ∷ rest) =
     (if a == style.quote && b == style.quote then (Closes, rest) else (Stands (Byte style.quote), a ∷ b ∷ rest))
     else (Closes, a ∷ b ∷ rest)
 
-abbrev kept_byte : List ℕ → Piece × List ℕ
+abbrev pub kept_byte : List ℕ → Piece × List ℕ
 kept_byte [] = (Stands (Byte 92), [])
 kept_byte (b ∷ rest) = if b == NO_TEXT then (Stands (Byte 92), b ∷ rest) else (Stands (Kept b), rest)
 
-abbrev kept_line : List ℕ → Option (List ℕ) → Piece × List ℕ
+abbrev pub kept_line : List ℕ → Option (List ℕ) → Piece × List ℕ
 kept_line bytes None = kept_byte bytes
 kept_line bytes (Some rest) = (EndsLine (Kept 10), rest)
 
@@ -49,7 +49,7 @@ simple_escape e =
 abbrev pub hex_digit : ℕ → Option ℕ
 hex_digit b = if is_digit b 16 then Some (digit_value b) else None
 
-abbrev hex_char : Option ℕ → Option ℕ → List ℕ → List ℕ → Piece × List ℕ
+abbrev pub hex_char : Option ℕ → Option ℕ → List ℕ → List ℕ → Piece × List ℕ
 hex_char (Some high) (Some low) bytes rest = (Stands (Char (high * 16 + low)), rest)
 hex_char (Some high) None bytes rest = (BadEscape, bytes)
 hex_char None low bytes rest = (BadEscape, bytes)
@@ -61,18 +61,18 @@ hex_escape (a ∷ []) = (BadEscape, a ∷ [])
 hex_escape (a ∷ b ∷ rest) = hex_char (hex_digit a) (hex_digit b) (a ∷ b ∷ rest) rest
 
 -- a backslash before any other byte stays
-abbrev simple_or : List ℕ → List ℕ → Option ℕ → Piece × List ℕ
+abbrev pub simple_or : List ℕ → List ℕ → Option ℕ → Piece × List ℕ
 simple_or bytes rest None = (Stands (Byte 92), bytes)
 simple_or bytes rest (Some c) = (Stands (Byte c), rest)
 
-abbrev escape_byte : List ℕ → Piece × List ℕ
+abbrev pub escape_byte : List ℕ → Piece × List ℕ
 escape_byte [] = (Stands (Byte 92), [])
 escape_byte (e ∷ rest) =
     if e == 120 then hex_escape rest
     else (if is_ascii_digit e || (e == 117 || (e == 85 || e == 78)) then (BadEscape, e ∷ rest)
     else simple_or (e ∷ rest) rest (simple_escape e))
 
-abbrev escape_line : List ℕ → Option (List ℕ) → Piece × List ℕ
+abbrev pub escape_line : List ℕ → Option (List ℕ) → Piece × List ℕ
 escape_line bytes None = escape_byte bytes
 escape_line bytes (Some rest) = (EndsLine Nothing, rest)
 
@@ -81,7 +81,7 @@ abbrev pub escape : List ℕ → Piece × List ℕ
 escape bytes = escape_line bytes (after_line_end bytes)
 
 -- a line end in a long text is the character 10, however it is written; a short text doesn't go over lines
-abbrev plain : Style → ℕ → List ℕ → Option (List ℕ) → Piece × List ℕ
+abbrev pub plain : Style → ℕ → List ℕ → Option (List ℕ) → Piece × List ℕ
 plain style b rest None = (Stands (Byte b), rest)
 plain style b rest (Some next) = if style.long then (EndsLine (Byte 10), next) else (Unclosed, b ∷ rest)
 

@@ -2,7 +2,6 @@
 use Rattle.std.specs.Prelude.{◌≡◌, ℕ, ◌+◌, ◌-◌, Bool, true, false, ◌||◌, ◌&&◌, ◌==◌, List, [], ◌∷◌, length, drop, Option, None, Some, if◌then◌else◌}
 use Rattle.std.specs.List.{list_all}
 use Rattle.std.specs.Char.{is_ascii_digit}
-use Rattle.std.specs.Str.{is_utf8}
 use Rattle.py_token.specs.declared.keyword.Keyword.{Keyword}
 use Rattle.py_token.specs.Keywords.{keyword_of}
 use Rattle.py_token.specs.declared.mark.Mark.{Mark}
@@ -35,11 +34,9 @@ class_of b =
     else (if is_name_byte b then Letter
     else (if b == NO_TEXT then NoText else Sign)))
 
--- a text stands for its characters, which are UTF-8 as the script is; it is one rule, so that one which isn't closed is a
--- fault where it begins
+-- a text stands for its characters; it is one rule, so that one which isn't closed is a fault where it begins
 abbrev pub text_read : ℕ → Spelling → Read
-text_read depth (closed value lines rest) =
-    if is_utf8 value then takes (token.Text value) lines depth rest else refuses kinds.NotUtf8 0
+text_read depth (closed value lines rest) = takes (token.Text value) lines depth rest
 text_read depth unclosed = refuses kinds.Unclosed 0
 text_read depth (refused kind lines) = refuses kind lines
 
@@ -57,7 +54,7 @@ begins_with_point (b ∷ rest) = b == 46
 abbrev pub is_float : List ℕ → List ℕ → Bool
 is_float literal rest = begins_with_point rest && list_all is_ascii_digit literal
 
-abbrev integer_read : ℕ → List ℕ → Option ℕ → Read
+abbrev pub integer_read : ℕ → List ℕ → Option ℕ → Read
 integer_read depth rest (Some value) = takes (token.Integer value) 0 depth rest
 integer_read depth rest None = refuses kinds.BadNumber 0
 
@@ -123,7 +120,7 @@ depth_after CloseBracket depth = depth - 1
 depth_after CloseBrace depth = depth - 1
 depth_after _ depth = depth
 
-abbrev mark_read : ℕ → List ℕ → Option Mark → Read
+abbrev pub mark_read : ℕ → List ℕ → Option Mark → Read
 mark_read depth bytes (Some mark) = takes (token.Mark mark) 0 (depth_after mark depth) (drop (length (mark_text mark)) bytes)
 mark_read depth bytes None = refuses kinds.BadByte 0
 

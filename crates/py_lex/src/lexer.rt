@@ -2,6 +2,7 @@ ghost use Rattle.std.specs.Prelude.{◌≡◌, ◌<◌, ◌≤◌, ◌-◌, ◌^
 ghost use Rattle.py_token.specs.declared.token.Token.{Token};
 ghost use Rattle.py_lex.specs.declared.fault.LexKind.{LexKind};
 ghost use Rattle.py_lex.specs.Steps.{start};
+ghost use Rattle.py_lex.specs.Utf8.{IsClean};
 ghost use Rattle.py_lex.specs.Lexes.{Lexes, FaultAt, FaultsAt, Gives, Tells, Agrees, IsRead, Reads, without_order_mark};
 
 use crate::bytes::NO_TEXT;
@@ -31,12 +32,13 @@ fn lex_bytes(alloc: Global, bytes: &[u8]) -> Result<Tokens, LexFault>
         let kind = LexKind::TooLong;
         return Err(LexFault::At { line, kind });
     }
-    match str::from_utf8(bytes) {
-        Ok(_) => lex_script(alloc, without_order_mark(bytes)),
+    let script = without_order_mark(bytes);
+    match str::from_utf8(script) {
+        Ok(_) => lex_script(alloc, script),
         Err(fault) => {
-            let mut script = Vec::from_slice(alloc, &bytes[..fault.valid_up_to()])?;
-            script.push(NO_TEXT)?;
-            lex_script(alloc, without_order_mark(script.as_slice()))
+            let mut marked = Vec::from_slice(alloc, &script[..fault.valid_up_to()])?;
+            marked.push(NO_TEXT)?;
+            lex_script(alloc, marked.as_slice())
         }
     }
 }
@@ -51,7 +53,8 @@ fn without_order_mark(bytes: &[u8]) -> &[u8]
 }
 
 fn lex_script(alloc: Global, script: &[u8]) -> Result<Tokens, LexFault>
-    requires { length script.now < 2 ^ 31 - 1 }
+    requires fits { length script.now < 2 ^ 31 - 1 }
+    requires clean { IsClean script.now }
     ensures { Agrees result (Reads (start script.now)) }
 {
     let mut reader = reader::start(alloc, script)?;

@@ -2,6 +2,7 @@ ghost use Rattle.std.specs.Prelude.{◌≡◌, ◌<◌, ◌+◌, ◌-◌, ◌^�
 ghost use Rattle.py_lex.specs.Steps.{Steps, TakesToken, token_at, dedents, added, with_text, text_behind, goes, start, line_end, begin_line, finish};
 ghost use Rattle.py_lex.specs.Views.{state_of, step_of};
 ghost use Rattle.py_lex.specs.Sizes.{Fits, FitsStep};
+ghost use Rattle.py_lex.specs.Utf8.{IsClean};
 
 use crate::bytes::cut_blanks;
 use crate::fault::LexKind;
@@ -57,7 +58,8 @@ pub fn start(alloc: Global, script: &[u8]) -> Result<Reader<'_>, Memory>
 
 /// Takes a gap or a token, or comes to the end.
 pub fn next_step(alloc: Global, reader: Reader<'_>) -> Result<Step<'_>, Memory>
-    requires { Fits (state_of reader) }
+    requires fits { Fits (state_of reader) }
+    requires clean { IsClean reader.rest.now }
     ensures steps { IfOk result (λ s. Steps (state_of reader.entry) (step_of s)) }
     ensures fits { IfOk result (λ s. FitsStep (state_of reader.entry) (step_of s)) }
 {
@@ -140,6 +142,7 @@ fn take_token(alloc: Global, depth: u32, reader: Reader<'_>) -> Result<Step<'_>,
     requires fits { Fits (state_of reader) }
     requires inside { reader.place ≡ Place.Inside depth }
     requires some { 0 < length reader.rest.now }
+    requires clean { IsClean reader.rest.now }
     ensures steps { IfOk result (λ s. TakesToken depth (state_of reader.entry) (step_of s)) }
     ensures fits { IfOk result (λ s. FitsStep (state_of reader.entry) (step_of s)) }
 {

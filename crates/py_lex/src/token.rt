@@ -4,6 +4,7 @@ ghost use Rattle.std.specs.Char.{is_ascii_digit};
 ghost use Rattle.py_lex.specs.Bytes.{is_name_byte};
 ghost use Rattle.py_lex.specs.Tokens.{class_of, lead_of, is_r, is_b_or_f, is_float, is_fraction, is_name_first, quoted, depth_after, takes, refuses, TokenAt, NameAt, TextAt, number_turn, sign_turn, named};
 ghost use Rattle.py_lex.specs.Views.{turn_of};
+ghost use Rattle.py_lex.specs.Utf8.{IsClean};
 ghost use Rattle.py_lex.specs.Sizes.{FitsTurn, FitsBehind};
 
 use crate::bytes::{NO_TEXT, cut_name, is_name_byte};
@@ -74,6 +75,7 @@ fn class_of(byte: u8) -> Class
 pub fn next_token<'a>(alloc: Global, depth: u32, bytes: &'a [u8]) -> Result<Turn<'a>, Memory>
     requires some { 0 < length bytes.now }
     requires room { depth + length bytes.now < 2 ^ 31 }
+    requires clean { IsClean bytes.now }
     ensures turn { IfOk result (λ t. TokenAt depth bytes.now (turn_of t)) }
     ensures fits { IfOk result (FitsTurn depth bytes.now) }
 {
@@ -105,6 +107,8 @@ fn text_token<'a>(
     rest: &'a [u8],
 ) -> Result<Turn<'a>, Memory>
     requires room { depth + length rest.now < 2 ^ 31 }
+    requires quote { quote < 128 }
+    requires clean { IsClean rest.now }
     ensures turn { IfOk result (λ t. TextAt raw quote depth rest.now (turn_of t)) }
     ensures fits { IfOk result (FitsBehind depth rest.now) }
 {
@@ -117,7 +121,7 @@ fn text_token<'a>(
                 depth,
                 rest,
             }),
-            Err(_) => Ok(refused(LexKind::NotUtf8)),
+            Err(_) => unreachable!(),
         },
         Spelt::Unclosed => Ok(refused(LexKind::Unclosed)),
         Spelt::Refused { kind, lines } => Ok(Turn::Refuses { kind, lines }),
@@ -164,6 +168,7 @@ fn all_digits(literal: &[u8]) -> bool
 fn name_token<'a>(alloc: Global, depth: u32, bytes: &'a [u8]) -> Result<Turn<'a>, Memory>
     requires room { depth + length bytes.now < 2 ^ 31 }
     requires name { is_name_first bytes.now ≡ true }
+    requires clean { IsClean bytes.now }
     ensures turn { IfOk result (λ t. NameAt depth bytes.now (turn_of t)) }
     ensures fits { IfOk result (FitsTurn depth bytes.now) }
 {
