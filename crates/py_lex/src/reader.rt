@@ -94,12 +94,10 @@ fn end_line<'a>(reader: Reader<'a>, after: &'a [u8]) -> Result<Step<'a>, Memory>
     ensures fits { IfOk result (λ s. FitsStep (state_of reader.entry) (step_of s)) }
 {
     let mut reader = reader;
+    let line = reader.line;
     reader.line += 1;
     match reader.place {
-        Place::Inside(0) => {
-            let line = reader.line - 1;
-            push_token(&mut reader.tokens, line, TokenKind::Newline)?;
-        }
+        Place::Inside(0) => push_token(&mut reader.tokens, line, TokenKind::Newline)?,
         Place::Inside(_) => {
             reader.rest = after;
             return Ok(Step::Goes(reader));

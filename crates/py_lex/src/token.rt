@@ -114,9 +114,9 @@ fn text_token<'a>(
 {
     let (style, inside) = opening(raw, quote, rest);
     match spell(alloc, style, inside)? {
-        Spelt::Closed { value, lines, rest } => match str::from_utf8(value.as_slice()) {
+        Spelt::Closed { value, lines, rest } => match String::from_utf8(value) {
             Ok(text) => Ok(Turn::Takes {
-                kind: TokenKind::Text(Text::of(alloc, text)?),
+                kind: TokenKind::Text(Text::new(text)),
                 lines,
                 depth,
                 rest,

@@ -1,5 +1,5 @@
 use Rattle.std.proofs.Common.{◌<◌, sym, subst}
-use Rattle.std.specs.Str.{IsUtf8}
+use Rattle.std.proofs.lemmas.Bool.{false≢true}
 use Rattle.py_lex.specs.Utf8.{IsClean}
 use Rattle.py_lex.proofs.TextUtf8.{text_is_utf8, opening_is_clean}
 use Rattle.py_lex.proofs.token.text_token.Goals as goal
@@ -8,4 +8,4 @@ pub unreachable-requires : goal.unreachable-requires
 unreachable-requires c =
     let opens = opening_is_clean c.args.raw c.args.quote c.args.rest.now c.requires.quote c.requires.clean in
     let text = text_is_utf8 (subst (λ s. s.quote < 128) (sym c.opening.ensures.style) opens.quote) (rw c.in-Closed.is at c.in_ok-value.ensures.spells) (subst (λ x. IsClean x) (sym c.opening.ensures.rest) opens.inside) in
-    c.in-Err.ensures.cases.0 (subst (λ x. IsUtf8 x) (sym c.as_slice.ensures.value) text.0)
+    false≢true (c.in-Err.ensures.succeeds text.0)
