@@ -1,0 +1,14 @@
+pub mod Ascii
+pub mod Digits
+pub mod OpenLevels
+pub mod Runs
+pub mod Signs
+pub mod Spelling
+pub mod TextTokens
+pub mod TokenLists
+pub mod One
+pub mod Reading
+pub mod Whole
+pub mod Clean
+pub mod TextUtf8
+pub mod StepUtf8

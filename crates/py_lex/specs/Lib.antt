@@ -1,0 +1,12 @@
+pub mod Bytes
+pub mod Gaps
+pub mod Numbers
+pub mod Marks
+pub mod Texts
+pub mod Tokens
+pub mod Levels
+pub mod Steps
+pub mod Lexes
+pub mod Views
+pub mod Sizes
+pub mod Utf8

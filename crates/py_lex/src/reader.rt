@@ -1,0 +1,246 @@
+ghost use Rattle.std.specs.Prelude.{◌≡◌, ◌<◌, ◌+◌, ◌-◌, ◌^◌, ◌++◌, ◌∷◌, [], length, OnOk, IfOk};
+ghost use Rattle.py_lex.specs.Steps.{Steps, TakesToken, token_at, dedents, added, with_text, text_behind, goes, start, line_end, begin_line, finish};
+ghost use Rattle.py_lex.specs.Views.{state_of, step_of};
+ghost use Rattle.py_lex.specs.Sizes.{Fits, FitsStep};
+ghost use Rattle.py_lex.specs.Utf8.{IsClean};
+
+use crate::bytes::cut_blanks;
+use crate::fault::LexKind;
+use crate::gap::{Gap, next_gap};
+use crate::levels::{Level, Levels};
+use crate::token::{Turn, next_token};
+use py_token::{Token, TokenKind};
+use scons_base::{Memory, Text};
+use std::alloc::Global;
+
+#[derive(Clone, Copy)]
+pub enum Place {
+    /// In front of the first token of a line.
+    LineStart,
+    /// Behind a token of a line, inside this many brackets.
+    Inside(u32),
+}
+
+/// A script that is read up to a place.
+#[derive(Drop)]
+pub struct Reader<'a> {
+    pub place: Place,
+    /// The blanks in front of the line.
+    pub indentation: &'a [u8],
+    pub levels: Levels,
+    pub line: u32,
+    pub rest: &'a [u8],
+    pub tokens: Vec<Token>,
+}
+
+/// What the next step gives.
+#[derive(Drop)]
+pub enum Step<'a> {
+    Goes(Reader<'a>),
+    Ends(Vec<Token>),
+    Stops { line: u32, kind: LexKind },
+}
+
+pub fn start(alloc: Global, script: &[u8]) -> Result<Reader<'_>, Memory>
+    ensures state { IfOk result (λ r. state_of r ≡ start script.now) }
+    ensures fits { length script.now < 2 ^ 31 - 1 → IfOk result (λ r. Fits (state_of r)) }
+{
+    let (indentation, rest) = cut_blanks(script);
+    Ok(Reader {
+        place: Place::LineStart,
+        indentation,
+        levels: Levels::new(alloc)?,
+        line: 1,
+        rest,
+        tokens: Vec::new(alloc),
+    })
+}
+
+/// Takes a gap or a token, or comes to the end.
+pub fn next_step(alloc: Global, reader: Reader<'_>) -> Result<Step<'_>, Memory>
+    requires fits { Fits (state_of reader) }
+    requires clean { IsClean reader.rest.now }
+    ensures steps { IfOk result (λ s. Steps (state_of reader.entry) (step_of s)) }
+    ensures fits { IfOk result (λ s. FitsStep (state_of reader.entry) (step_of s)) }
+{
+    if reader.rest.is_empty() {
+        return finish(reader);
+    }
+    let mut reader = reader;
+    let (gap, after) = next_gap(reader.rest);
+    match gap {
+        Gap::Blanks | Gap::Comment => {
+            reader.rest = after;
+            Ok(Step::Goes(reader))
+        }
+        Gap::Joined => {
+            reader.rest = after;
+            reader.line += 1;
+            Ok(Step::Goes(reader))
+        }
+        Gap::LineEnd => end_line(reader, after),
+        Gap::Nothing => match reader.place {
+            Place::LineStart => begin_line(alloc, reader),
+            Place::Inside(depth) => take_token(alloc, depth, reader),
+        },
+    }
+}
+
+/// The line ends here, unless a bracket is open.
+fn end_line<'a>(reader: Reader<'a>, after: &'a [u8]) -> Result<Step<'a>, Memory>
+    requires fits { Fits (state_of reader) }
+    requires shorter { length after.now < length reader.rest.now }
+    ensures steps { IfOk result (λ s. step_of s ≡ goes (line_end reader.entry.place (state_of reader.entry) after.now)) }
+    ensures fits { IfOk result (λ s. FitsStep (state_of reader.entry) (step_of s)) }
+{
+    let mut reader = reader;
+    let line = reader.line;
+    reader.line += 1;
+    match reader.place {
+        Place::Inside(0) => push_token(&mut reader.tokens, line, TokenKind::Newline)?,
+        Place::Inside(_) => {
+            reader.rest = after;
+            return Ok(Step::Goes(reader));
+        }
+        Place::LineStart => {}
+    }
+    let (indentation, rest) = cut_blanks(after);
+    reader.place = Place::LineStart;
+    reader.indentation = indentation;
+    reader.rest = rest;
+    Ok(Step::Goes(reader))
+}
+
+/// Blocks open and close in front of the first token of a line.
+fn begin_line(alloc: Global, reader: Reader<'_>) -> Result<Step<'_>, Memory>
+    requires fits { Fits (state_of reader) }
+    requires start { reader.place ≡ Place.LineStart }
+    ensures steps { IfOk result (λ s. step_of s ≡ begin_line (state_of reader.entry)) }
+    ensures fits { IfOk result (λ s. FitsStep (state_of reader.entry) (step_of s)) }
+{
+    let mut reader = reader;
+    let line = reader.line;
+    match reader.levels.level(reader.indentation) {
+        Level::Closes(count) => {
+            reader.levels.close(count);
+            push_dedents(&mut reader.tokens, line, count)?;
+        }
+        Level::Opens => {
+            let indentation = reader.indentation;
+            reader.levels.open(alloc, indentation)?;
+            push_token(&mut reader.tokens, line, TokenKind::Indent)?;
+        }
+        Level::Refused(kind) => return Ok(Step::Stops { line, kind }),
+    }
+    reader.place = Place::Inside(0);
+    Ok(Step::Goes(reader))
+}
+
+fn take_token(alloc: Global, depth: u32, reader: Reader<'_>) -> Result<Step<'_>, Memory>
+    requires fits { Fits (state_of reader) }
+    requires inside { reader.place ≡ Place.Inside depth }
+    requires some { 0 < length reader.rest.now }
+    requires clean { IsClean reader.rest.now }
+    ensures steps { IfOk result (λ s. TakesToken depth (state_of reader.entry) (step_of s)) }
+    ensures fits { IfOk result (λ s. FitsStep (state_of reader.entry) (step_of s)) }
+{
+    let mut reader = reader;
+    match next_token(alloc, depth, reader.rest)? {
+        Turn::Takes {
+            kind,
+            lines,
+            depth,
+            rest,
+        } => {
+            let line = reader.line;
+            add_token(&mut reader.tokens, line, kind)?;
+            reader.place = Place::Inside(depth);
+            reader.line += lines;
+            reader.rest = rest;
+            Ok(Step::Goes(reader))
+        }
+        Turn::Refuses { kind, lines } => Ok(Step::Stops {
+            line: reader.line + lines,
+            kind,
+        }),
+    }
+}
+
+/// The last line ends, and all blocks close.
+fn finish(reader: Reader<'_>) -> Result<Step<'_>, Memory>
+    ensures { IfOk result (λ s. step_of s ≡ finish reader.entry.place (state_of reader.entry)) }
+{
+    let line = reader.line;
+    let count = reader.levels.depth();
+    let mut tokens = reader.tokens;
+    match reader.place {
+        Place::LineStart => {}
+        Place::Inside(0) => push_token(&mut tokens, line, TokenKind::Newline)?,
+        Place::Inside(_) => {
+            let kind = LexKind::Unclosed;
+            return Ok(Step::Stops { line, kind });
+        }
+    }
+    push_dedents(&mut tokens, line, count)?;
+    Ok(Step::Ends(tokens))
+}
+
+fn push_token(tokens: &mut Vec<Token>, line: u32, kind: TokenKind) -> Result<(), Memory>
+    ensures { OnOk result (tokens.new.items ≡ tokens.old.items ++ token_at line kind ∷ []) }
+{
+    tokens.push(Token { line, kind })?;
+    Ok(())
+}
+
+fn push_dedents(tokens: &mut Vec<Token>, line: u32, count: usize) -> Result<(), Memory>
+    ensures { OnOk result (tokens.new.items ≡ tokens.old.items ++ dedents line count) }
+{
+    for i in 0..count {
+        push_token(tokens, line, TokenKind::Dedent)?;
+    }
+    Ok(())
+}
+
+/// A text directly behind a text is joined to it.
+fn add_token(tokens: &mut Vec<Token>, line: u32, kind: TokenKind) -> Result<(), Memory>
+    ensures { OnOk result (tokens.new.items ≡ added kind tokens.old.items line) }
+{
+    match kind {
+        TokenKind::Text(text) => push_text(tokens, line, text),
+        other => push_token(tokens, line, other),
+    }
+}
+
+fn push_text(tokens: &mut Vec<Token>, line: u32, text: Text) -> Result<(), Memory>
+    ensures { OnOk result (tokens.new.items ≡ with_text tokens.old.items line text) }
+{
+    match tokens.pop() {
+        None => push_token(tokens, line, TokenKind::Text(text)),
+        Some(last) => push_behind(tokens, last, line, text),
+    }
+}
+
+/// The last token, and the text behind it.
+fn push_behind(tokens: &mut Vec<Token>, last: Token, line: u32, text: Text) -> Result<(), Memory>
+    ensures { OnOk result (tokens.new.items ≡ tokens.old.items ++ text_behind last.kind last line text) }
+{
+    let Token { line: first, kind } = last;
+    match kind {
+        TokenKind::Text(front) => {
+            let whole = joined(front, text)?;
+            push_token(tokens, first, TokenKind::Text(whole))
+        }
+        other => {
+            push_token(tokens, first, other)?;
+            push_token(tokens, line, TokenKind::Text(text))
+        }
+    }
+}
+
+fn joined(front: Text, back: Text) -> Result<Text, Memory>
+    ensures { IfOk result (λ t. t ≡ front ++ back) }
+{
+    let mut text = front.into_string();
+    text.push_str(back.as_str())?;
+    Ok(Text::new(text))
+}
