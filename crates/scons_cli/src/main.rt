@@ -3,6 +3,8 @@
 
 mod real_sink;
 mod real_world;
+#[cfg(test)]
+mod tests;
 
 use real_sink::RealSink;
 use real_world::RealWorld;
