@@ -1,8 +1,8 @@
 -- What the steps of building leave, one after the other.
-use Rattle.std.proofs.Common.{◌≡◌, ◌≢◌, ◌∙◌, ◌<◌, ◌≤◌, ℕ, zero, suc, List, [], ◌∷◌, ◌++◌, length, get_or, sym, ap, subst, refl, inl, inr, arith, Some, None, Option, Result, Ok, Err, IfSome, IfErr}
+use Rattle.std.proofs.Common.{◌≡◌, ◌≢◌, ◌∙◌, ◌<◌, ◌≤◌, ℕ, zero, suc, List, [], ◌∷◌, ◌++◌, length, sym, ap, subst, refl, inl, inr, arith, Some, None, Option, Result, Ok, Err, IfSome, IfErr}
 use Rattle.std.specs.Prelude.{Contains}
-use Rattle.world_api.specs.Act.{Law, Given, act}
-use Rattle.world_api.specs.Around.{Around, Tree, Running, Entry, Started, Finished, IsRunningTarget, given_of}
+use Rattle.world_api.specs.Act.{act}
+use Rattle.world_api.specs.Around.{Around, Tree, Running, Started, Finished, IsRunningTarget, given_of}
 use Rattle.world_api.specs.Calls.{Asks, Starts, Ends}
 use Rattle.world_api.specs.Counts.{Counts}
 use Rattle.world_api.specs.Reads.{IsOver}
@@ -20,7 +20,7 @@ use Rattle.scons_top.specs.declared.report.Top.TheVariants.{Usage, Reading, Miss
 use Rattle.scons_top.specs.Course.{Failed as Fails}
 use Rattle.scons_top.specs.Building.{Idles, Unchanged, Leaves, Logs, nothing, ran, HasLog, HasSource, MayBuild, no_source, large_source, unreadable_source, kept_target, not_started, failed, built, clean_content, job_of, file_limit}
 use Rattle.scons_top.specs.BuildSteps.{IsFailStop, StepGives, source_result, unread_stop, ended_result}
-use Rattle.scons_top.specs.Ends.{BuildGives, BuildMakes, FailLogs, Makes}
+use Rattle.scons_top.specs.Ends.{BuildGives, BuildMakes, FailLogs}
 use Rattle.scons_top.proofs.Quiet.{no_target, same_file}
 
 pub no_change : (around : Around) → around.running ≡ [] → Unchanged around around

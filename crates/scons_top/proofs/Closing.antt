@@ -1,6 +1,5 @@
 -- The report of a run, by its status and faults.
-use Rattle.std.proofs.Common.{◌≡◌, ◌∙◌, ℕ, List, [], ◌∷◌, ◌++◌, sym, ap, subst, refl, append-nil, Result, Ok, Err}
-use Rattle.world_api.specs.Causes.{Rose}
+use Rattle.std.proofs.Common.{◌≡◌, ◌∙◌, ℕ, List, [], ◌∷◌, ◌++◌, sym, ap, subst, refl, append-nil, Err}
 use Rattle.world_api.specs.Printed.{SinkMeaning}
 use Rattle.scons_top.specs.declared.report.Top.{Top}
 use Rattle.scons_top.specs.declared.report.Top.TheVariants.{OutFault}
@@ -8,7 +7,7 @@ use Rattle.scons_top.specs.declared.stops.PrintStop.{PrintStop}
 use Rattle.scons_top.specs.declared.stops.PrintStop.TheVariants as stop
 use Rattle.scons_top.specs.Conclusion.{Closes, closed, cut, EndsOutput, ended, refused, Reports, stop_status, stop_faults, ErrorPrints}
 use Rattle.scons_top.specs.Printing.{Prints, PrintsSome, Cuts}
-use Rattle.scons_top.specs.Run.{IsCut, out_refused, err_refused, no_memory}
+use Rattle.scons_top.specs.Run.{out_refused, err_refused, no_memory}
 use Rattle.scons_top.proofs.PrintRuns.{prints_nothing}
 
 module _ {S : Type 0} (meaning : SinkMeaning S) where

@@ -1,6 +1,6 @@
 -- The fields of a line that is cut at its quotes, and the bytes that they have.
-use Rattle.std.proofs.Common.{not, zero, suc, codes, arith, ◌||◌, rules, ◌≡◌, ◌≢◌, ◌==◌, ◌<◌, ◌≤◌, ◌&&◌, ℕ, Bool, true, false, List, [], ◌∷◌, length, map, Option, Some, None, cond, sym, refl, ap, ◌∙◌, subst, get_or, nat_lt, nat_le, nat_eq, position, if◌then◌else◌, Bor, slice_index_or}
-use Rattle.std.specs.List.{list_all, slice_split, position_or_len, All, AllPass}
+use Rattle.std.proofs.Common.{not, zero, suc, codes, arith, ◌||◌, ◌≡◌, ◌≢◌, ◌==◌, ◌<◌, ◌≤◌, ◌&&◌, ℕ, Bool, true, false, List, [], ◌∷◌, length, map, Some, None, cond, sym, refl, ap, ◌∙◌, subst, get_or, nat_lt, nat_eq, position, if◌then◌else◌, Bor, slice_index_or}
+use Rattle.std.specs.List.{slice_split}
 use Rattle.std.specs.Str.{IsAscii}
 use Rattle.std.specs.Cmp.Lexicographic.{pointwise, bytes_decides}
 use Rattle.std.proofs.lemmas.Bool.Decides.{nat_tests}

@@ -1,12 +1,11 @@
 -- What a look at the script says of the tree as it was.
-use Rattle.std.proofs.Common.{◌≡◌, ◌∙◌, ◌<◌, ◌≤◌, ℕ, List, [], length, sym, subst, Some, None, Option, Result, Ok, Err, IfSome, arith, refl}
+use Rattle.std.proofs.Common.{◌≡◌, ◌∙◌, ◌<◌, ◌≤◌, ℕ, List, [], length, sym, subst, Some, None, Option, Result, Ok, Err, IfSome, refl}
 use Rattle.world_api.specs.Around.{Around}
 use Rattle.world_api.specs.Calls.{Asks}
 use Rattle.world_api.specs.Reads.{IsOver}
 use Rattle.world_api.specs.declared.refusal.ReadRefusal.{ReadRefusal}
 use Rattle.world_api.specs.declared.refusal.ReadRefusal.TheVariants as refusal
 use Rattle.scons_top.specs.declared.rule.Rule.{Rule}
-use Rattle.scons_top.specs.declared.report.Top.{Top}
 use Rattle.scons_top.specs.declared.report.Top.TheVariants.{Reading, TooLarge, TreeFault}
 use Rattle.scons_top.specs.declared.report.ReadKind.TheVariants.{NoScript, LineForm}
 use Rattle.scons_top.specs.LineForm.{Declares, IsFaultLine}

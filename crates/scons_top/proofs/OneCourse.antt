@@ -1,12 +1,12 @@
 -- The words and the files call for one course, where nothing outside is at fault.
-use Rattle.std.proofs.Common.{◌≡◌, ◌≢◌, ◌∙◌, ◌<◌, ◌≤◌, ℕ, List, [], ◌∷◌, length, sym, ap, subst, refl, arith, inl, inr, Option, Some, None}
+use Rattle.std.proofs.Common.{◌≡◌, ◌∙◌, ◌<◌, ◌≤◌, ℕ, List, length, sym, ap, subst, refl, arith, inl, inr, Option, Some, None}
 use Rattle.world_api.specs.Around.{Tree}
 use Rattle.scons_top.specs.declared.rule.Rule.{Rule}
 use Rattle.scons_top.specs.declared.report.Top.{Top}
 use Rattle.scons_top.specs.declared.report.Top.TheVariants.{Reading, TooLarge}
 use Rattle.scons_top.specs.declared.report.ReadKind.TheVariants.{LineForm}
 use Rattle.scons_top.specs.Building.{MayBuild, no_source, large_source, unreadable_source, kept_target, not_started, failed, built}
-use Rattle.scons_top.specs.Course.{Course, Refused, Misread, Stopped, Failed, Built}
+use Rattle.scons_top.specs.Course.{Course, Misread, Stopped}
 use Rattle.scons_top.specs.Fields.{fields_of}
 use Rattle.scons_top.specs.LineForm.{Declares, DeclaresRule, IsFaultLine, first_line}
 use Rattle.scons_top.specs.Promises.{IsInner, IsOfInput}

@@ -1,8 +1,8 @@
 -- Prints one after the other.
-use Rattle.std.proofs.Common.{◌≡◌, ◌∙◌, ℕ, List, [], ◌++◌, take, drop, length, ◌≤◌, sym, ap, subst, append_assoc, append-nil, take-append-drop, refl}
-use Rattle.world_api.specs.Printed.{SinkMeaning, taken}
+use Rattle.std.proofs.Common.{◌≡◌, ◌∙◌, ℕ, List, [], ◌++◌, take, drop, sym, ap, subst, append_assoc, append-nil, take-append-drop, refl}
+use Rattle.world_api.specs.Printed.{SinkMeaning}
 use Rattle.world_api.specs.Causes.{Rose}
-use Rattle.scons_top.specs.Printing.{IsPrefixed, Prints, PrintsPart, Cuts}
+use Rattle.scons_top.specs.Printing.{Prints, PrintsPart, Cuts}
 
 module _ {S : Type 0} (meaning : SinkMeaning S) where
   -- nothing printed yet

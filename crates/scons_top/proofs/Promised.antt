@@ -1,16 +1,15 @@
 -- What follows from the course that a run takes.
-use Rattle.std.proofs.Common.{◌⊎◌, ⊎_elim, ◌≡◌, ◌≢◌, ◌∙◌, ◌<◌, ◌≤◌, ◌+◌, ◌-◌, ◌^◌, min, ℕ, zero, suc, List, [], ◌∷◌, ◌++◌, length, get_or, sym, ap, subst, refl, arith, inl, inr}
+use Rattle.std.proofs.Common.{◌⊎◌, ⊎_elim, ◌≡◌, ◌≢◌, ℕ, zero, suc, List, [], ◌∷◌, ◌++◌, sym, ap, subst, refl, arith, inl, inr}
 use Rattle.std.specs.Prelude.{Contains}
 use Rattle.std.proofs.lemmas.List.Elements.{Contains-append_cases}
 use Rattle.world_api.specs.Around.{Tree}
-use Rattle.world_api.specs.Causes.{Rose, Fails, ActionFails}
-use Rattle.world_api.specs.Counts.{Counts}
+use Rattle.world_api.specs.Causes.{Rose}
 use Rattle.world_api.specs.Meaning.{Meaning}
 use Rattle.world_api.specs.Printed.{SinkMeaning}
 use Rattle.scons_top.specs.declared.rule.Rule.{Rule}
 use Rattle.scons_top.specs.declared.report.Top.{Top}
 use Rattle.scons_top.specs.declared.report.Top.TheVariants.{Usage, Reading, Missing, ActionFailed, TreeFault, StartFault, OutFault, TooLarge}
-use Rattle.scons_top.specs.Building.{MayBuild, built}
+use Rattle.scons_top.specs.Building.{built}
 use Rattle.scons_top.specs.Course.{Course, Refused, Misread, Stopped, Failed, Built, faults_of, output_of, errors_of}
 use Rattle.scons_top.specs.Ends.{FaultCause}
 use Rattle.scons_top.specs.Printing.{Prints}

@@ -1,5 +1,5 @@
 -- A world in which nothing runs.
-use Rattle.std.proofs.Common.{◌≡◌, ◌<◌, ℕ, List, [], ◌∷◌, length, get_or, arith, subst, Option}
+use Rattle.std.proofs.Common.{◌≡◌, ◌<◌, ℕ, List, [], length, arith, subst}
 use Rattle.std.specs.Prelude.{Contains}
 use Rattle.world_api.specs.Around.{Around, Running, IsRunningTarget}
 use Rattle.world_api.specs.Calls.{Asks}

@@ -1,13 +1,11 @@
 -- A run, put together of its reading and its building.
-use Rattle.std.proofs.Common.{Bool, true, false, length, ◌==◌, ◌∷◌, arith, ◌≡◌, ◌≢◌, ◌∙◌, ◌++◌, List, ℕ, [], sym, ap, subst, refl, inl, inr, append_assoc, append-nil, Result, Ok, Err}
+use Rattle.std.proofs.Common.{Bool, true, false, length, ◌==◌, ◌∷◌, arith, ◌≡◌, ◌≢◌, ◌∙◌, List, ℕ, [], sym, subst, refl, inl, inr, append-nil, Result, Ok, Err}
 use Rattle.std.proofs.lemmas.Bool.Decides.{nat_tests}
 use Rattle.world_api.specs.Around.{Around, Tree}
-use Rattle.world_api.specs.Calls.{Asks}
 use Rattle.world_api.specs.Counts.{Counts}
 use Rattle.world_api.specs.Meaning.{Meaning, Told}
 use Rattle.world_api.specs.Printed.{SinkMeaning}
 use Rattle.scons_top.specs.declared.rule.Rule.{Rule}
-use Rattle.scons_top.specs.declared.report.Top.{Top}
 use Rattle.scons_top.specs.declared.report.Top.TheVariants.{Usage}
 use Rattle.scons_top.specs.declared.report.UsageKind.TheVariants.{NotBuilt}
 use Rattle.scons_top.specs.declared.stops.ReadStop.{ReadStop}
@@ -16,13 +14,13 @@ use Rattle.scons_top.specs.declared.stops.BuildStop.{BuildStop}
 use Rattle.scons_top.specs.declared.stops.BuildStop.TheVariants as build
 use Rattle.scons_top.specs.Building.{Unchanged, Leaves, LeavesBy, HasSource, MayBuild, no_source, large_source, unreadable_source, kept_target, not_started, failed, built}
 use Rattle.scons_top.specs.Course.{Course, Refused, Misread, Stopped, Failed, Built, announced_text, body_text}
-use Rattle.scons_top.specs.Endings.{Comes, BreaksOff, EndsAs, read_ending, build_ending}
+use Rattle.scons_top.specs.Endings.{Comes, EndsAs, read_ending, build_ending}
 use Rattle.scons_top.specs.Ends.{FaultCause, ReadCause, ReadGives, ReadPrints, BuildCause, BuildGives, BuildMakes, BuildPrints}
-use Rattle.scons_top.specs.Printing.{Prints, PrintsPart, Cuts}
-use Rattle.scons_top.specs.Reading.{Reads, Misreads}
-use Rattle.scons_top.specs.Run.{MayTake, refused, misread, builds, IsDue, LeavesAll, Takes}
-use Rattle.scons_top.specs.Texts.{reading_text, line_text}
-use Rattle.scons_top.proofs.Builds.{asked_only, unchanged_idles, step_leaves, made_after}
+use Rattle.scons_top.specs.Printing.{Prints, PrintsPart}
+use Rattle.scons_top.specs.Reading.{Reads}
+use Rattle.scons_top.specs.Run.{MayTake, refused, misread, builds, LeavesAll}
+use Rattle.scons_top.specs.Texts.{reading_text}
+use Rattle.scons_top.proofs.Builds.{unchanged_idles, step_leaves, made_after}
 use Rattle.scons_top.proofs.PrintRuns.{prints_nothing, prints_both, cut_second, part_of, part_second}
 
 pub unchanged_both : (old mid new : Around) → Unchanged old mid → Unchanged mid new → Unchanged old new

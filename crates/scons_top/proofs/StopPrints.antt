@@ -1,5 +1,5 @@
 -- What a step has printed where it stopped.
-use Rattle.std.proofs.Common.{◌≡◌, ◌≢◌, [], inl, inr, refl, subst, sym, append-nil, Result, Ok, Err, IfErr}
+use Rattle.std.proofs.Common.{◌≢◌, [], inl, inr, refl, subst, sym, append-nil, Result, Ok, Err, IfErr}
 use Rattle.world_api.specs.Printed.{SinkMeaning}
 use Rattle.scons_top.specs.declared.stops.ReadStop.{ReadStop}
 use Rattle.scons_top.specs.declared.stops.ReadStop.TheVariants as read

@@ -1,6 +1,5 @@
 -- A run, put together of its way and its end.
-use Rattle.std.proofs.Common.{◌≡◌, ◌≢◌, ◌∙◌, ◌++◌, ◌∷◌, List, ℕ, [], sym, ap, subst, refl, append_assoc, append-nil}
-use Rattle.world_api.specs.Around.{Around}
+use Rattle.std.proofs.Common.{◌≡◌, ◌∙◌, ◌++◌, ◌∷◌, List, ℕ, [], sym, ap, subst, refl, append_assoc, append-nil}
 use Rattle.world_api.specs.Causes.{Rose}
 use Rattle.world_api.specs.Meaning.{Meaning}
 use Rattle.world_api.specs.Printed.{SinkMeaning}
@@ -10,13 +9,12 @@ use Rattle.scons_top.specs.declared.report.Top.TheVariants.{Usage, OutFault}
 use Rattle.scons_top.specs.declared.report.UsageKind.TheVariants.{NotBuilt}
 use Rattle.scons_top.specs.declared.ending.Ending.{Ending}
 use Rattle.scons_top.specs.declared.ending.Ending.TheVariants as end
-use Rattle.scons_top.specs.declared.stops.PrintStop.TheVariants as stop
-use Rattle.scons_top.specs.Conclusion.{Closes, closed, cut, EndsOutput, ended, refused, Concludes, Reports, stop_status, stop_faults}
+use Rattle.scons_top.specs.Conclusion.{Closes, closed, cut, EndsOutput, ended, refused, Concludes}
 use Rattle.scons_top.specs.Course.{Course, Refused, Misread, Stopped, Failed, Built, begun_text, end_text, output_of, errors_of, faults_of}
-use Rattle.scons_top.specs.Endings.{Comes, BreaksOff, EndsAs}
-use Rattle.scons_top.specs.Printing.{Prints, PrintsPart, PrintsSome, Cuts}
+use Rattle.scons_top.specs.Endings.{Comes, EndsAs}
+use Rattle.scons_top.specs.Printing.{Prints, PrintsPart, PrintsSome}
 use Rattle.scons_top.specs.Run.{status_of, MayPrint, IsCut, out_refused, no_memory, Runs, whole, unprinted, broken}
-use Rattle.scons_top.specs.Texts.{fault_text, done_text, terminated_text}
+use Rattle.scons_top.specs.Texts.{done_text}
 use Rattle.scons_top.proofs.PrintRuns.{prints_nothing, prints_both}
 use Rattle.scons_top.proofs.Closing.{some_of, none_of, cut_of}
 

@@ -1,6 +1,6 @@
 -- The steps of building a rule.
 use Rattle.std.specs.Prelude.{◌≡◌, ◌⊎◌, ℕ, ℤ, List, [], Option, Some, None, Result, Ok, Err}
-use Rattle.world_api.specs.Around.{Around, Tree}
+use Rattle.world_api.specs.Around.{Tree}
 use Rattle.world_api.specs.Counts.{Counts}
 use Rattle.world_api.specs.declared.refusal.ReadRefusal.{ReadRefusal}
 use Rattle.world_api.specs.declared.refusal.ReadRefusal.TheVariants as refusal
@@ -15,8 +15,7 @@ use Rattle.scons_top.specs.Texts.{line_text}
 use Rattle.scons_top.specs.declared.report.Top.TheVariants.{Missing, TreeFault, TooLarge, StartFault, ActionFailed}
 use Rattle.scons_top.specs.declared.stops.BuildStop.{BuildStop}
 use Rattle.scons_top.specs.declared.stops.BuildStop.TheVariants.{Stopped, Failed, Unprinted, NoMemory}
-use Rattle.scons_top.specs.Building.{HasSource, MayBuild}
-use Rattle.scons_top.specs.Course as course
+use Rattle.scons_top.specs.Building.{HasSource}
 use Rattle.scons_top.specs.Ends.{BuildGives, BuildCause}
 
 -- a source that was read

@@ -6,11 +6,9 @@ use Rattle.world_api.specs.Calls.{Grows}
 use Rattle.world_api.specs.Counts.{Counts}
 use Rattle.world_api.specs.declared.job.Job.{Job}
 use Rattle.world_api.specs.declared.job.Outcome.{Outcome}
-use Rattle.world_api.specs.declared.job.Outcome.TheVariants.{Done, Failed, Broken, NoMemory}
 use Rattle.world_api.specs.declared.job.Work.TheVariants.{Shell}
 use Rattle.scons_top.specs.declared.rule.Rule.{Rule}
 use Rattle.scons_top.specs.Course.{Course, Stopped, Failed as Fails, Built}
-use Rattle.scons_top.specs.declared.report.Top.{Top}
 use Rattle.scons_top.specs.declared.report.Top.TheVariants.{Missing, ActionFailed, TreeFault, StartFault, TooLarge}
 
 abbrev pub file_limit : ℕ

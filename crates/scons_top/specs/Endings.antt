@@ -1,11 +1,8 @@
 -- How a run ends before its last text is printed.
-use Rattle.std.specs.Prelude.{◌≡◌, ◌⊎◌, ℕ, List, Result, Ok, Err}
-use Rattle.world_api.specs.Around.{Tree}
-use Rattle.world_api.specs.Causes.{Rose}
+use Rattle.std.specs.Prelude.{◌≡◌, ℕ, List, Result, Ok, Err}
 use Rattle.world_api.specs.Meaning.{Meaning}
 use Rattle.world_api.specs.Printed.{SinkMeaning}
 use Rattle.scons_top.specs.declared.rule.Rule.{Rule}
-use Rattle.scons_top.specs.declared.report.Top.{Top}
 use Rattle.scons_top.specs.declared.stops.ReadStop.{ReadStop}
 use Rattle.scons_top.specs.declared.stops.ReadStop.TheVariants as read
 use Rattle.scons_top.specs.declared.stops.BuildStop.{BuildStop}

@@ -1,6 +1,5 @@
 -- What each step of a run is told and leaves, by how it ends.
-use Rattle.std.specs.Prelude.{◌≡◌, ◌⊎◌, ℕ, List, ◌++◌, Result, Ok, Err}
-use Rattle.world_api.specs.Act.{Law}
+use Rattle.std.specs.Prelude.{◌≡◌, ◌⊎◌, Result, Ok, Err}
 use Rattle.world_api.specs.Around.{Around, Tree}
 use Rattle.world_api.specs.Causes.{ActionFails, Fails}
 use Rattle.world_api.specs.Counts.{Counts}

@@ -1,8 +1,7 @@
 -- The line form of a script: the one line `Command('TARGET', 'SOURCE', 'LINE')`, with or without its line feed. It is
 -- this project's first form of a script, and an SConstruct that SCons reads too (SCons User Guide, "The Command Builder").
-use Rattle.std.specs.Prelude.{◌≡◌, ◌≢◌, ℕ, Bool, true, false, List, [], ◌∷◌, ◌==◌, ◌||◌, ◌&&◌, not, nat_le, nat_eq, length, IsTrue, codes, ◌⊎◌}
+use Rattle.std.specs.Prelude.{◌≡◌, ◌≢◌, ℕ, Bool, true, false, List, [], ◌∷◌, ◌==◌, ◌||◌, ◌&&◌, not, nat_le, length, IsTrue, codes, ◌⊎◌}
 use Rattle.std.specs.List.{slice_split, list_all, before_first, after_first}
-use Rattle.std.specs.Cmp.Lexicographic.{pointwise}
 use Rattle.scons_base.specs.Normal.{is_name, dot}
 use Rattle.scons_top.specs.declared.rule.Rule.{Rule}
 

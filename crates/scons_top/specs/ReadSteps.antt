@@ -8,7 +8,7 @@ use Rattle.scons_top.specs.declared.line_form.LineFault.TheVariants as line
 use Rattle.scons_top.specs.declared.report.Top.TheVariants.{Reading, TooLarge, TreeFault}
 use Rattle.scons_top.specs.declared.report.ReadKind.TheVariants.{NoScript, LineForm}
 use Rattle.scons_top.specs.declared.stops.ReadStop.{ReadStop}
-use Rattle.scons_top.specs.declared.stops.ReadStop.TheVariants.{Fault, Unprinted, NoMemory}
+use Rattle.scons_top.specs.declared.stops.ReadStop.TheVariants.{Fault, NoMemory}
 use Rattle.scons_top.specs.LineForm.{Declares, IsFaultLine}
 
 abbrev pub refused_stop : List ℕ → ReadRefusal → ReadStop

@@ -1,6 +1,5 @@
 -- What a run of the command does: which course it takes, and what it leaves outside.
 use Rattle.std.specs.Prelude.{◌≡◌, ◌≢◌, ◌⊎◌, ℕ, List, [], ◌∷◌, ◌++◌}
-use Rattle.world_api.specs.Act.{Law}
 use Rattle.world_api.specs.Around.{Around, Tree}
 use Rattle.world_api.specs.Causes.{Rose}
 use Rattle.world_api.specs.Counts.{Counts}

@@ -1,5 +1,5 @@
 -- The world at one moment, as a build sees it.
-use Rattle.std.specs.Prelude.{◌≡◌, ℕ, List, [], ◌∷◌, Contains, map}
+use Rattle.std.specs.Prelude.{ℕ, List, [], ◌∷◌, Contains, map}
 use Rattle.world_api.specs.declared.job.Job.{Job}
 use Rattle.world_api.specs.declared.job.Outcome.{Outcome}
 use Rattle.world_api.specs.Act.{Content, Given, Law}

@@ -9,7 +9,7 @@ use Rattle.scons_top.specs.Course.{announced_text}
 use Rattle.scons_top.specs.Texts.{line_text}
 use Rattle.scons_top.proofs.Builds.{no_change, unchanged_idles, two_steps, idle_leaves, step_leaves, kept, made_gives, made_after}
 use Rattle.scons_top.proofs.PrintRuns.{prints_both, cut_longer}
-use Rattle.scons_top.proofs.StopPrints.{step_stop_prints, line_stop_prints, made_prints}
+use Rattle.scons_top.proofs.StopPrints.{line_stop_prints, made_prints}
 use Rattle.scons_top.proofs.building.build.Goals as goal
 
 pub returns-in_err-announce-clause-leaves : goal.returns-in_err-announce-clause-leaves

@@ -1,7 +1,6 @@
-use Rattle.std.proofs.Common.{◌≡◌, Some, Option, ap, ◌∙◌, sym}
-use Rattle.scons_top.specs.declared.rule.Rule.{Rule}
-use Rattle.scons_top.specs.Fields.{rule_fields, fields_of}
-use Rattle.scons_top.proofs.LineParts.{declares, none_declared, ill_formed}
+use Rattle.std.proofs.Common.{◌∙◌, sym}
+use Rattle.scons_top.specs.Fields.{rule_fields}
+use Rattle.scons_top.proofs.LineParts.{declares, none_declared}
 use Rattle.scons_top.proofs.line_form.read_rule_line.Goals as goal
 
 pub returns-clause-declared : goal.returns-clause-declared

@@ -1,5 +1,4 @@
-use Rattle.std.proofs.Common.{refl, length, List, ℕ, []}
-use Rattle.scons_top.proofs.PrintRuns.{prints_nothing, prints_some, prints_rest, cut_rest, cut_at_once}
+use Rattle.scons_top.proofs.PrintRuns.{prints_some, prints_rest, cut_rest}
 use Rattle.scons_top.proofs.printing.print.Goals as goal
 
 pub loop-rest-preserved : goal.loop-rest-preserved

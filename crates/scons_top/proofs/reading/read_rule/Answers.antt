@@ -1,4 +1,3 @@
-use Rattle.std.proofs.lemmas.Result.{err_from_is_err_and}
 use Rattle.scons_top.proofs.StopPrints.{read_prints}
 use Rattle.scons_top.proofs.reading.read_rule.Goals as goal
 
