@@ -1,0 +1,6 @@
+pub mod Keys
+pub mod Written
+pub mod Membership
+pub mod Apart
+pub mod Marks
+pub mod Plain

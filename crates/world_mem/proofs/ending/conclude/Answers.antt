@@ -1,0 +1,40 @@
+use Rattle.std.proofs.Common.{rules, ◌≡◌, ◌≢◌, ◌∙◌, ◌⊎◌, sym, ap, subst, inl, inr, arith, ◌+◌, ◌<◌, ◌≤◌, ℕ, List, Some, IsTrue, Contains, vec_len, ◌∷◌, ◌++◌, [], IsSome, None, length, map, cond, take, drop, suc, refl, true, Option}
+use Rattle.std.specs.List.{slice_index_or, list_any}
+use Rattle.std.specs.Str.{bytes_eq}
+use Rattle.std.specs.Vec.{vec_capacity}
+use Rattle.world_mem.specs.AsAround.{around_of}
+use Rattle.world_mem.specs.InSlots.{slot_at, content_of}
+use Rattle.world_mem.specs.Kept.{contents_in, met_of, counts_of, IdsApart, running_of, entry_of}
+use Rattle.world_mem.specs.Planned.{makes, ends}
+use Rattle.world_mem.specs.declared.running.RunningJob.{RunningJob}
+use Rattle.world_mem.specs.declared.slots.Slot.TheVariants.{Running, Settled}
+use Rattle.world_mem.proofs.Apart.{apart-push, apart-remove}
+use Rattle.world_mem.proofs.Marks.{marked-off, marked-on, marked-empty, marked-absent, settled-off, settled-on, settled-content, written_off, met-push, found_in_push, found_before}
+use Rattle.world_mem.proofs.Membership.{push_all, contains_map, other_place, still_in, parted, names_of_pairs}
+use Rattle.world_mem.proofs.ending.conclude.Goals as goal
+
+pub returns-then-eq-clause-others : goal.returns-then-eq-clause-others
+returns-then-eq-clause-others c = λ path off.
+    c.settle.ensures path ∙ settled-off c.args.made path (slot_at c.args.slots.now path) (subst (λ (ts : List (List ℕ)). Contains ts path → ⊥) (sym c.requires.names) off)
+
+pub returns-then-eq-clause-held : goal.returns-then-eq-clause-held
+returns-then-eq-clause-held c = λ path bytes h.
+    elim (settled-content c.args.made path (slot_at c.args.slots.now path) bytes (ap content_of (sym (c.settle.ensures path)) ∙ h)) [
+      | inl before ↦ inl before
+      | inr found ↦ inr (
+          subst (λ groups. list_any (bytes_eq bytes) (met_of groups) ≡ true) (sym c.add.ensures.items)
+          (found_in_push bytes c.args.met.now.items c.args.kept (subst (λ (group : List (List ℕ × Option (List ℕ))). list_any (bytes_eq bytes) (contents_in group) ≡ true) (sym c.requires.same) found)))
+    ]
+
+pub returns-then-eq-clause-more : goal.returns-then-eq-clause-more
+returns-then-eq-clause-more c = (contents_in c.args.kept, ap met_of c.add.ensures.items ∙ met-push c.args.met.now.items c.args.kept)
+
+pub returns-else-eq-clause-others : goal.returns-else-eq-clause-others
+returns-else-eq-clause-others c = λ path off. c.clear.ensures path ∙ marked-off c.args.job.now.targets (Settled None) path (slot_at c.args.slots.now path) off
+
+pub returns-else-eq-clause-absent : goal.returns-else-eq-clause-absent
+returns-else-eq-clause-absent c = λ _ path h. ap content_of (c.clear.ensures path) ∙ marked-absent c.args.job.now.targets (Settled None) path (slot_at c.args.slots.now path) refl h.0 h.1 h.2
+
+pub returns-else-eq-clause-held : goal.returns-else-eq-clause-held
+returns-else-eq-clause-held c = λ path bytes h.
+    inl (marked-empty c.args.job.now.targets (Settled None) path (slot_at c.args.slots.now path) bytes refl (ap content_of (sym (c.clear.ensures path)) ∙ h))

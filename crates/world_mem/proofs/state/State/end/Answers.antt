@@ -1,0 +1,126 @@
+use Rattle.std.proofs.Common.{rules, ◌≡◌, ◌≢◌, ◌∙◌, ◌⊎◌, sym, ap, subst, inl, inr, arith, ◌+◌, ◌<◌, ◌≤◌, ℕ, List, Some, Option, IsTrue, Contains, vec_len, ◌∷◌, ◌++◌, [], IsSome, None, length, map, cond, take, drop, suc, refl, true, get_or, is_some}
+use Rattle.std.specs.List.{slice_index_or, list_any}
+use Rattle.std.specs.Str.{bytes_eq}
+use Rattle.std.specs.Vec.{vec_capacity}
+use Rattle.world_mem.specs.AsAround.{around_of}
+use Rattle.world_mem.specs.InSlots.{slot_at, content_of}
+use Rattle.world_mem.specs.Kept.{met_of, counts_of, IdsApart, running_of, entry_of}
+use Rattle.world_mem.specs.Planned.{makes, ends, IsPlain}
+use Rattle.world_mem.proofs.Plain.{ends_plain}
+use Rattle.std.proofs.lemmas.List.{length-map, map-append}
+use Rattle.std.proofs.lemmas.List.Elements.{Contains-append_left}
+use Rattle.world_api.specs.Act.{act}
+use Rattle.world_mem.specs.InSlots.{settled}
+use Rattle.world_mem.specs.Table.{law_of}
+use Rattle.world_mem.specs.declared.running.RunningJob.{RunningJob}
+use Rattle.world_mem.specs.declared.slots.Slot.TheVariants.{Running, Settled}
+use Rattle.world_mem.proofs.Apart.{apart-push, apart-remove}
+use Rattle.world_mem.proofs.Marks.{marked-off, marked-on, marked-empty, marked-absent, settled-off, settled-on, settled-content, written_off, met-push, found_in_push, found_before}
+use Rattle.world_mem.proofs.Membership.{push_all, contains_map, other_place, still_in, parted, names_of_pairs, same_at}
+use Rattle.world_mem.proofs.state.State.end.Goals as goal
+use Rattle.world_mem.proofs.state.State.end.Goals.{then-fails, else-fails}
+
+pub conclude-requires-clause-names : goal.conclude-requires-clause-names
+conclude-requires-clause-names c =
+    let old = c.args.self.now.running.items in
+    let run = c.remove-job.result in
+    let lt : c.args.place < length old = rw length-map at c.requires in
+    let here : Contains old run = (c.args.place, lt, sym c.remove-job.ensures.value) in
+    let f : List ℕ → Option (List ℕ) = λ target. act (law_of c.args.self.now.table) run.job.work run.job.signed run.job.targets run.given target in
+    ap (map (λ (entry : List ℕ × Option (List ℕ)). entry.0)) (c.args.self.now.planned run here) ∙ names_of_pairs f run.job.targets
+
+pub conclude-requires-clause-same : goal.conclude-requires-clause-same
+conclude-requires-clause-same c =
+    let old = c.args.self.now.running.items in
+    let run = c.remove-job.result in
+    let lt : c.args.place < length old = rw length-map at c.requires in
+    let here : Contains old run = (c.args.place, lt, sym c.remove-job.ensures.value) in
+    c.args.self.now.kept run here
+
+pub invariant_of-self-clause-owned : goal.invariant_of-self-clause-owned
+invariant_of-self-clause-owned c = λ other path h target.
+    let old = c.args.self.now.running.items in
+    let run = c.remove-job.result in
+    let lt : c.args.place < length old = rw length-map at c.requires in
+    let here : Contains old run = (c.args.place, lt, sym c.remove-job.ensures.value) in
+    let p = other_place old c.args.place other lt (subst (λ (items : List RunningJob). Contains items other) c.remove-job.ensures.items h) in
+    let still : Contains old other = (p.0, p.1, p.3) in
+    let off : Contains run.job.targets path → ⊥ = λ own.
+    let slots : Some (Running run.job.id) ≡ Some (Running other.job.id) = sym (c.args.self.now.owned run path here own) ∙ c.args.self.now.owned other path still target in
+    let ids : other.job.id ≡ run.job.id = cc slots in
+    p.2 (c.args.self.now.apart p.0 c.args.place run p.1 lt
+    (ap (λ (r : RunningJob). r.job.id) (same_at old p.0 run other p.1 ∙ p.3) ∙ ids ∙ ap (λ (r : RunningJob). r.job.id) c.remove-job.ensures.value)) in
+    c.conclude.ensures.others path off ∙ c.args.self.now.owned other path still target
+
+pub invariant_of-self-clause-apart : goal.invariant_of-self-clause-apart
+invariant_of-self-clause-apart c =
+    let old = c.args.self.now.running.items in
+    let run = c.remove-job.result in
+    let lt : c.args.place < length old = rw length-map at c.requires in
+    subst IdsApart (sym c.remove-job.ensures.items) (apart-remove old c.args.place lt c.args.self.now.apart)
+
+pub invariant_of-self-clause-planned : goal.invariant_of-self-clause-planned
+invariant_of-self-clause-planned c = λ other h.
+    let old = c.args.self.now.running.items in
+    let run = c.remove-job.result in
+    let lt : c.args.place < length old = rw length-map at c.requires in
+    c.args.self.now.planned other (still_in old c.args.place other lt (subst (λ (items : List RunningJob). Contains items other) c.remove-job.ensures.items h))
+
+pub invariant_of-self-clause-kept : goal.invariant_of-self-clause-kept
+invariant_of-self-clause-kept c = λ other h.
+    let old = c.args.self.now.running.items in
+    let run = c.remove-job.result in
+    let lt : c.args.place < length old = rw length-map at c.requires in
+    c.args.self.now.kept other (still_in old c.args.place other lt (subst (λ (items : List RunningJob). Contains items other) c.remove-job.ensures.items h))
+
+pub invariant_of-self-clause-ending : goal.invariant_of-self-clause-ending
+invariant_of-self-clause-ending c = λ other h.
+    let old = c.args.self.now.running.items in
+    let run = c.remove-job.result in
+    let lt : c.args.place < length old = rw length-map at c.requires in
+    c.args.self.now.ending other (still_in old c.args.place other lt (subst (λ (items : List RunningJob). Contains items other) c.remove-job.ensures.items h))
+
+pub invariant_of-self-clause-held : goal.invariant_of-self-clause-held
+invariant_of-self-clause-held c = λ path bytes h.
+    let more = c.conclude.ensures.more in
+    elim (c.conclude.ensures.held path bytes h) [
+      | inl before ↦ subst (λ (met : List (List ℕ)). list_any (bytes_eq bytes) met ≡ true) (sym more.1) (found_before (bytes_eq bytes) (met_of c.args.self.now.met.items) more.0 (c.args.self.now.held path bytes before))
+      | inr found ↦ found
+    ]
+
+pub returns-clause-ended : goal.returns-clause-ended
+returns-clause-ended c =
+    let old = c.args.self.now.running.items in
+    let run = c.remove-job.result in
+    let lt : c.args.place < length old = rw length-map at c.requires in
+    let here : Contains old run = (c.args.place, lt, sym c.remove-job.ensures.value) in
+    let f : List ℕ → Option (List ℕ) = λ target. act (law_of c.args.self.now.table) run.job.work run.job.signed run.job.targets run.given target in
+    let more = c.conclude.ensures.more in
+    let table = c.args.self.now.table in
+    record {
+      front = map running_of (take c.args.place old);
+      which = running_of run;
+      back = map running_of (drop (suc c.args.place) old);
+      was = ap (map running_of) (parted old c.args.place run lt c.remove-job.ensures.value) ∙ map-append running_of (take c.args.place old) (run ∷ drop (suc c.args.place) old);
+      running = ap (map running_of) c.remove-job.ensures.items ∙ map-append running_of (take c.args.place old) (drop (suc c.args.place) old);
+      id = refl;
+      files = λ path off. ap content_of (c.conclude.ensures.others path (λ own. off (running_of run, contains_map running_of old run here, own)));
+      made = λ _ done path own. ap content_of (
+          c.conclude.ensures.done done path
+          ∙ ap (λ made. settled made path (slot_at c.args.self.now.slots path)) (c.args.self.now.planned run here)
+          ∙ settled-on f run.job.targets path (slot_at c.args.self.now.slots path) own.0 own.1 own.2 (ap is_some (c.args.self.now.owned run path here own)));
+      log = ap (map entry_of) c.add.ensures.items ∙ map-append entry_of c.args.self.now.log.items _;
+      met = λ bytes h. subst (λ (met : List (List ℕ)). Contains met bytes) (sym more.1) (Contains-append_left (met_of c.args.self.now.met.items) more.0 bytes h);
+      law = refl;
+    }
+
+pub returns-clause-plain : goal.returns-clause-plain
+returns-clause-plain c =
+    let old = c.args.self.now.running.items in
+    let run = c.remove-job.result in
+    let lt : c.args.place < length old = rw length-map at c.requires in
+    let here : Contains old run = (c.args.place, lt, sym c.remove-job.ensures.value) in
+    elim c.if-fails.branch [
+      | then-fails w ↦ subst IsPlain (sym w.outcome-is) tt
+      | else-fails w ↦ subst IsPlain (sym (w.outcome-is ∙ c.args.self.now.ending run here)) (ends_plain c.args.self.now.table run.job run.given)
+    ]

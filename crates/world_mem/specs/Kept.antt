@@ -1,0 +1,34 @@
+-- What a world in memory keeps of the past.
+use Rattle.std.specs.Prelude.{◌≡◌, ◌<◌, ℕ, List, [], ◌∷◌, ◌++◌, length}
+use Rattle.std.specs.List.{flat_map, slice_index_or}
+use Rattle.std.specs.Option.{option_to_list}
+use Rattle.world_api.specs.Act.{Content, Given}
+use Rattle.world_api.specs.Around.{Running, Entry, Started, Finished}
+use Rattle.world_api.specs.Counts.{Counts}
+use Rattle.world_mem.specs.declared.event.Event.{Event}
+use Rattle.world_mem.specs.declared.event.Event.TheVariants as events
+use Rattle.world_mem.specs.declared.event.Faults.{Faults}
+use Rattle.world_mem.specs.declared.running.RunningJob.{RunningJob}
+
+abbrev pub counts_of : Faults → Counts
+counts_of faults = record { tree_faults = faults.tree; start_faults = faults.start; action_failures = faults.action }
+
+abbrev pub entry_of : Event → Entry
+entry_of (events.Started job faults) = Started job (counts_of faults)
+entry_of (events.Finished id outcome) = Finished id outcome
+
+abbrev pub running_of : RunningJob → Running
+running_of run = record { job = run.job; given = run.given }
+
+-- the contents in a list of paths with their contents
+abbrev pub contents_in : Given → List (List ℕ)
+contents_in [] = []
+contents_in (entry ∷ rest) = option_to_list entry.1 ++ contents_in rest
+
+abbrev pub met_of : List Given → List (List ℕ)
+met_of groups = flat_map contents_in groups
+
+-- no two running jobs have one id
+abbrev pub IdsApart : List RunningJob → Type 0
+IdsApart running = (j k : ℕ) (d : RunningJob) → j < length running → k < length running
+    → (slice_index_or running j d).job.id ≡ (slice_index_or running k d).job.id → j ≡ k

@@ -1,0 +1,9 @@
+pub mod Listed
+pub mod Default
+pub mod Table
+pub mod CallCounts
+pub mod InSlots
+pub mod Planned
+pub mod Kept
+pub mod AsAround
+pub mod Held

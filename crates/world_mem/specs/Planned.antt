@@ -1,0 +1,32 @@
+-- What a job makes and how it ends: known as it starts, by the table and by what it is given.
+use Rattle.std.specs.Prelude.{ℕ, List, ◌++◌, codes, Some, map}
+use Rattle.world_api.specs.Act.{Content, Given, act}
+use Rattle.world_api.specs.declared.job.Job.{Job}
+use Rattle.world_api.specs.declared.job.Outcome.{Outcome}
+use Rattle.world_api.specs.declared.job.Outcome.TheVariants.{Done, Failed, Broken, NoMemory}
+use Rattle.world_mem.specs.Default.{line}
+use Rattle.world_mem.specs.Listed.{listed}
+use Rattle.world_mem.specs.Table.{law_of, outcome_of}
+use Rattle.world_mem.specs.declared.plan.Recipe.{Recipe}
+use Rattle.world_mem.specs.declared.plan.Recipe.TheVariants.{Same, Listed, Lines}
+use Rattle.world_mem.specs.declared.table.ActRow.{ActRow}
+
+-- what a recipe makes at a target
+abbrev pub gives : Recipe → List ℕ → Content
+gives (Same content) target = content
+gives (Listed contents) target = listed contents.now target
+gives (Lines front back) target = Some (front.items ++ line (codes "-> " ++ target) ++ back.items)
+
+-- each target with what the action makes there
+abbrev pub makes : List ActRow → Job → Given → Given
+makes rows job given = map (λ target. (target, act (law_of rows) job.work job.signed job.targets given target)) job.targets
+
+abbrev pub ends : List ActRow → Job → Given → Outcome
+ends rows job given = outcome_of rows job.work job.signed given
+
+-- done or failed
+abbrev pub IsPlain : Outcome → Type 0
+IsPlain Done = Unit {0}
+IsPlain (Failed code) = Unit {0}
+IsPlain Broken = ⊥
+IsPlain NoMemory = ⊥

@@ -1,0 +1,53 @@
+-- What the shell makes here: a table of actions, and a text of its own where no row fits.
+use Rattle.std.specs.Prelude.{ℕ, Bool, true, List, [], ◌∷◌, ◌&&◌, Option, Some, None, if◌then◌else◌}
+use Rattle.std.specs.Str.{bytes_eq}
+use Rattle.std.specs.Cmp.Lexicographic.{pointwise}
+use Rattle.world_api.specs.Act.{Content, Given, Law}
+use Rattle.world_api.specs.declared.job.Outcome.{Outcome}
+use Rattle.world_api.specs.declared.job.Outcome.TheVariants.{Done, Failed}
+use Rattle.world_api.specs.declared.job.Work.{Work}
+use Rattle.world_api.specs.declared.job.Work.TheVariants.{Shell, Copy, Write}
+use Rattle.world_mem.specs.Default.{default_content}
+use Rattle.world_mem.specs.Listed.{listed, same_given}
+use Rattle.world_mem.specs.declared.table.ActRow.{ActRow}
+use Rattle.world_mem.specs.declared.table.Made.{Made}
+use Rattle.world_mem.specs.declared.table.Made.TheVariants.{Files, Fail}
+
+abbrev fits_given : Option Given → Given → Bool
+fits_given None given = true
+fits_given (Some wanted) given = same_given wanted given
+
+-- the signed lines are equal, and what is given is any or equal
+abbrev pub fits : ActRow → List (List ℕ) → Given → Bool
+fits row signed given = pointwise bytes_eq row.signed signed && fits_given row.given given
+
+-- the first row that fits
+abbrev pub row_for : List ActRow → List (List ℕ) → Given → Option ActRow
+row_for [] signed given = None
+row_for (row ∷ rows) signed given = if fits row signed given then Some row else row_for rows signed given
+
+abbrev pub content_by : Made → List ℕ → Content
+content_by (Files contents) target = listed contents target
+content_by (Fail code) target = None
+
+abbrev pub shell_content : Option ActRow → List (List ℕ) → Given → List ℕ → Content
+shell_content None signed given target = Some (default_content signed given target)
+shell_content (Some row) signed given target = content_by row.made target
+
+-- the table as a law of actions
+abbrev pub law_of : List ActRow → Law
+law_of rows signed targets given target = shell_content (row_for rows signed given) signed given target
+
+abbrev pub outcome_by : Made → Outcome
+outcome_by (Files contents) = Done
+outcome_by (Fail code) = Failed code
+
+abbrev pub shell_outcome : Option ActRow → Outcome
+shell_outcome None = Done
+shell_outcome (Some row) = outcome_by row.made
+
+-- how a job ends: by its row, where it is one for the shell
+abbrev pub outcome_of : List ActRow → Work → List (List ℕ) → Given → Outcome
+outcome_of rows Shell signed given = shell_outcome (row_for rows signed given)
+outcome_of rows Copy signed given = Done
+outcome_of rows Write signed given = Done

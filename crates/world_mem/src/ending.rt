@@ -1,0 +1,39 @@
+ghost use Rattle.std.specs.Prelude.{◌≡◌, ◌≢◌, ◌++◌, ◌+◌, ◌<◌, ◌≤◌, ◌⊎◌, ℕ, List, Some, None, IsTrue, Contains, map, vec_len};
+ghost use Rattle.std.specs.List.{list_any};
+ghost use Rattle.std.specs.Str.{bytes_eq};
+ghost use Rattle.std.specs.Vec.{vec_capacity};
+ghost use Rattle.world_mem.specs.InSlots.{slot_at, content_of, settled};
+ghost use Rattle.world_mem.specs.Kept.{met_of};
+
+use crate::contents::Contents;
+use crate::room::add;
+use crate::slots::Slots;
+use world_api::{Job, Outcome};
+
+/// Settles the targets of a job that ends. What it made has been met from then on; where it isn't done nothing stands.
+pub fn conclude(
+    slots: &mut Slots,
+    met: &mut Vec<Contents>,
+    job: &Job,
+    outcome: Outcome,
+    made: Contents,
+    kept: Contents,
+)
+    requires names { map (λ entry. entry.0) made ≡ job.now.targets }
+    requires same { kept ≡ made }
+    requires room { vec_len met.old < vec_capacity met.old }
+    ensures others { (path : List ℕ) → (Contains job.now.targets path → ⊥) → slot_at slots.new path ≡ slot_at slots.old path }
+    ensures done { outcome ≡ Outcome.Done → (path : List ℕ) → slot_at slots.new path ≡ settled made path (slot_at slots.old path) }
+    ensures absent { outcome ≢ Outcome.Done → (path : List ℕ) → Contains job.now.targets path → content_of (slot_at slots.new path) ≡ None }
+    ensures held { (path bytes : List ℕ) → content_of (slot_at slots.new path) ≡ Some bytes → (content_of (slot_at slots.old path) ≡ Some bytes) ⊎ IsTrue (list_any (bytes_eq bytes) (met_of met.new.items)) }
+    ensures more { (more : List (List ℕ)) × (met_of met.new.items ≡ met_of met.old.items ++ more) }
+    ensures length { vec_len met.new ≤ vec_len met.old + 1 }
+    ensures capacity { vec_capacity met.old ≤ vec_capacity met.new }
+{
+    if outcome == Outcome::Done {
+        slots.settle(made);
+        add(met, kept);
+    } else {
+        slots.clear(&job.targets);
+    }
+}

@@ -1,0 +1,19 @@
+use scons_base::Memory;
+
+/// Why a world wasn't made: the file at this place is listed twice, or lies below or above one before it.
+#[derive(Clone, Copy, Debug, PartialEq, Eq)]
+pub enum NewRefusal {
+    Place(usize),
+    Memory,
+}
+
+impl From<Memory> for NewRefusal {
+    ghost use Rattle.std.specs.Prelude.{◌≡◌};
+    ghost use Rattle.world_mem.specs.declared.refusal.NewRefusal.TheVariants.{Memory};
+
+    ghost from_gives = { λ _ e. e ≡ Memory };
+
+    fn from(_: Memory) -> Self {
+        NewRefusal::Memory
+    }
+}

@@ -1,0 +1,193 @@
+ghost use Rattle.std.specs.Prelude.{◌≡◌, List, ℕ, None, Some, IfOk, OnOk, OnErr, if◌then◌else◌, IsSome, ◌<◌, length};
+ghost use Rattle.std.specs.Option.{option_copied, is_some};
+ghost use Rattle.std.specs.List.{slice_index_or};
+ghost use Rattle.std.specs.Str.{bytes_eq};
+ghost use Rattle.world_mem.specs.InSlots.{slot_at, content_of, file_at, written, marked, settled};
+ghost use Rattle.world_mem.specs.declared.slots.Slot.{Slot};
+
+use crate::contents::Contents;
+use crate::refusal::NewRefusal;
+use scons_base::{Blob, Memory, PathText, Paths};
+use std::alloc::Global;
+use std::collections::BTreeMap;
+use world_api::Content;
+
+/// What stands at a path: a target of the running job of this id, or what is settled.
+#[derive(Debug, Drop)]
+pub enum Slot {
+    Running(u32),
+    Settled(Content),
+}
+
+/// A slot for each path that was ever a file or a target.
+#[derive(Debug, Drop)]
+pub struct Slots {
+    slots: BTreeMap<Vec<u8>, Slot>,
+}
+
+impl Slots {
+    pub fn new(alloc: Global) -> Slots
+        ensures { (path : List ℕ) → slot_at result path ≡ None }
+    {
+        Slots {
+            slots: BTreeMap::new(alloc),
+        }
+    }
+
+    /// The bytes of the file, or `None`.
+    pub fn content(&self, path: &PathText) -> Option<&Blob>
+        ensures { option_copied result ≡ content_of (slot_at self.now path.now) }
+    {
+        match self.slots.get(path.as_str().as_bytes()) {
+            Some(Slot::Settled(content)) => content.as_ref(),
+            _ => None,
+        }
+    }
+
+    /// A copy of what the path holds.
+    pub fn copy_content(&self, path: &PathText) -> Result<Content, Memory>
+        ensures { IfOk result (λ content. content ≡ content_of (slot_at self.now path.now)) }
+    {
+        match self.content(path) {
+            Some(bytes) => Ok(Some(bytes.copy()?)),
+            None => Ok(None),
+        }
+    }
+
+    fn has_file(&self, path: &PathText) -> bool
+        ensures { result ≡ is_some (content_of (slot_at self.now path.now)) }
+    {
+        self.content(path).is_some()
+    }
+
+    fn stands(&self, path: &[u8]) -> bool {
+        match self.slots.get(path) {
+            Some(slot) => is_live(slot),
+            None => false,
+        }
+    }
+
+    fn stands_above(&self, path: &[u8]) -> bool {
+        for (place, byte) in path.iter().enumerate() {
+            if *byte == b'/' && self.stands(&path[..place]) {
+                return true;
+            }
+        }
+        false
+    }
+
+    fn stands_below(&self, alloc: Global, path: &[u8]) -> Result<bool, Memory> {
+        let mut from = Vec::from_slice(alloc, path)?;
+        from.push(b'/')?;
+        for (key, slot) in self.slots.range(from..) {
+            if !is_below(key.as_slice(), path) {
+                return Ok(false);
+            }
+            if is_live(slot) {
+                return Ok(true);
+            }
+        }
+        Ok(false)
+    }
+
+    /// Whether a file or a running target stands above or below the path.
+    pub fn is_blocked(&self, alloc: Global, path: &PathText) -> Result<bool, Memory> {
+        let bytes = path.as_str().as_bytes();
+        Ok(self.stands_above(bytes) || self.stands_below(alloc, bytes)?)
+    }
+
+    /// Puts the files of a list. A file that is listed twice, or lies below or above an earlier one, is refused by its
+    /// place.
+    pub fn fill(&mut self, alloc: Global, files: &[(PathText, Blob)]) -> Result<(), NewRefusal>
+        requires { (path : List ℕ) → slot_at self.old path ≡ None }
+        ensures { OnOk result ((path : List ℕ) → content_of (slot_at self.new path) ≡ file_at files.now path) }
+    {
+        for (place, (path, bytes)) in files.iter().enumerate() {
+            if self.has_file(path) || self.is_blocked(alloc, path)? {
+                return Err(NewRefusal::Place(place));
+            }
+            self.put(alloc, path, Slot::Settled(Some(bytes.copy()?)))?;
+        }
+        Ok(())
+    }
+
+    /// Puts a slot at a path.
+    pub fn put(&mut self, alloc: Global, path: &PathText, slot: Slot) -> Result<(), Memory>
+        ensures ok { OnOk result ((other : List ℕ) → slot_at self.new other ≡ (if bytes_eq path.now other then Some slot else slot_at self.old other)) }
+        ensures err { OnErr result ((other : List ℕ) → slot_at self.new other ≡ slot_at self.old other) }
+    {
+        let key = Vec::from_slice(alloc, path.as_str().as_bytes())?;
+        self.slots.insert(key, slot)?;
+        Ok(())
+    }
+
+    /// Writes the slot of a path, where there is one.
+    pub fn write(&mut self, path: &PathText, slot: Slot)
+        ensures { (other : List ℕ) → slot_at self.new other ≡ written path.now slot other (slot_at self.old other) }
+    {
+        if let Some(place) = self.slots.get_mut(path.as_str().as_bytes()) {
+            *place = slot;
+        }
+    }
+
+    /// Makes a slot at a path that has none.
+    pub fn make_place(&mut self, alloc: Global, path: &PathText) -> Result<(), Memory>
+        ensures kept { (other : List ℕ) (slot : Slot) → slot_at self.old other ≡ Some slot → slot_at self.new other ≡ Some slot }
+        ensures same { (other : List ℕ) → content_of (slot_at self.new other) ≡ content_of (slot_at self.old other) }
+        ensures stands { OnOk result (IsSome (slot_at self.new path.now)) }
+    {
+        if self.slots.contains_key(path.as_str().as_bytes()) {
+            return Ok(());
+        }
+        self.put(alloc, path, Slot::Settled(None))
+    }
+
+    /// Makes a slot at each path that has none.
+    pub fn make_places(&mut self, alloc: Global, paths: &Paths) -> Result<(), Memory>
+        ensures kept { (other : List ℕ) (slot : Slot) → slot_at self.old other ≡ Some slot → slot_at self.new other ≡ Some slot }
+        ensures same { (other : List ℕ) → content_of (slot_at self.new other) ≡ content_of (slot_at self.old other) }
+        ensures stand { OnOk result ((k : ℕ) (d : List ℕ) → k < length paths.now → IsSome (slot_at self.new (slice_index_or paths.now k d))) }
+    {
+        for path in paths.as_slice() {
+            self.make_place(alloc, path)?;
+        }
+        Ok(())
+    }
+
+    /// Marks the slots of a job's targets.
+    pub fn mark(&mut self, targets: &Paths, id: u32)
+        ensures { (path : List ℕ) → slot_at self.new path ≡ marked targets.now (Slot.Running id) path (slot_at self.old path) }
+    {
+        for target in targets.as_slice() {
+            self.write(target, Slot::Running(id));
+        }
+    }
+
+    /// Leaves no file at these paths.
+    pub fn clear(&mut self, targets: &Paths)
+        ensures { (path : List ℕ) → slot_at self.new path ≡ marked targets.now (Slot.Settled None) path (slot_at self.old path) }
+    {
+        for target in targets.as_slice() {
+            self.write(target, Slot::Settled(None));
+        }
+    }
+
+    /// Settles the slots of these paths.
+    pub fn settle(&mut self, made: Contents)
+        ensures { (path : List ℕ) → slot_at self.new path ≡ settled made path (slot_at self.old path) }
+    {
+        let mut made = made.into_vec();
+        while let Some((path, content)) = made.pop() {
+            self.write(&path, Slot::Settled(content));
+        }
+    }
+}
+
+/// Whether a file stands, or is to.
+fn is_live(slot: &Slot) -> bool {
+    !matches!(slot, Slot::Settled(None))
+}
+
+fn is_below(path: &[u8], dir: &[u8]) -> bool {
+    path.starts_with(dir) && path.get(dir.len()) == Some(&b'/')
+}

@@ -1,0 +1,71 @@
+ghost use Rattle.std.specs.Prelude.{◌≡◌, List};
+ghost use Rattle.std.specs.Option.{option_copied};
+ghost use Rattle.world_mem.specs.Table.{fits, row_for};
+
+use crate::contents::Contents;
+use scons_base::Texts;
+use std::marker::Model;
+
+/// What an action of a row does.
+#[derive(Debug, Drop)]
+pub enum Made {
+    /// Each target has the content that is listed first for it, or isn't made.
+    Files(Contents),
+    /// No target is made, and the action ends with this status.
+    Fail(i32),
+}
+
+/// An action: its signed lines, what it is given where that counts, and what it does.
+#[derive(Debug, Drop)]
+pub struct ActRow {
+    pub signed: Texts,
+    pub given: Option<Contents>,
+    pub made: Made,
+}
+
+impl ActRow {
+    fn fits(&self, signed: &Texts, given: &Contents) -> bool
+        ensures { result ≡ fits self.now signed.now given.now }
+    {
+        self.signed.as_slice() == signed.as_slice()
+            && match &self.given {
+                Some(wanted) => wanted.is(given),
+                None => true,
+            }
+    }
+}
+
+/// What the shell makes, as a table. The first row that fits counts.
+#[derive(Debug, Drop)]
+pub struct ActTable {
+    rows: Vec<ActRow>,
+}
+
+impl Model for ActTable {
+    ghost use Rattle.std.specs.Prelude.{List};
+    ghost use Rattle.world_mem.specs.declared.table.ActRow.{ActRow};
+
+    ghost Value = { List ActRow };
+
+    ghost view = { λ t. t.rows.items };
+}
+
+impl ActTable {
+    pub fn new(rows: Vec<ActRow>) -> ActTable
+        ensures { result ≡ rows.items }
+    {
+        ActTable { rows }
+    }
+
+    /// The row that counts for these signed lines and what is given.
+    pub fn row_for(&self, signed: &Texts, given: &Contents) -> Option<&ActRow>
+        ensures { option_copied result ≡ row_for self.now signed.now given.now }
+    {
+        for row in &self.rows {
+            if row.fits(signed, given) {
+                return Some(row);
+            }
+        }
+        None
+    }
+}

@@ -1,0 +1,157 @@
+ghost use Rattle.std.specs.Prelude.{◌≡◌, ◌≢◌, ◌+◌, ◌*◌, ◌%◌, ◌<◌, ◌≤◌, ℕ, List, [], Some, None, Ok, Err, length, slice_index, IfOk, IfErr, IfSome, OnOk, OnErr, IsTrue, Contains};
+ghost use Rattle.std.specs.Option.{option_copied};
+ghost use Rattle.world_api.specs.Reads.{IsOver};
+ghost use Rattle.world_mem.specs.declared.calls.Call.{Call};
+
+use crate::calls::{Call, Calls};
+use crate::event::Faults;
+use crate::refusal::NewRefusal;
+use crate::state::State;
+use crate::table::ActTable;
+use scons_base::{Blob, PathText};
+use std::alloc::Global;
+use world_api::{AskRefusal, Content, Ended, Fault, Job, Outcome, ReadRefusal, World};
+
+/// A world in memory. It tells all.
+#[derive(Debug, Drop)]
+pub struct MemWorld {
+    state: State,
+    calls: Calls,
+    orders: Vec<u32>,
+    faults: Faults,
+    alloc: Global,
+}
+
+/// The place of the job that ends: the order of this number, modulo the number of jobs; past the orders the oldest.
+fn place_of(orders: &[u32], number: u64, jobs: usize) -> usize
+    requires { 0 < jobs }
+    ensures value { result ≡ slice_index orders.now number % jobs }
+    ensures within { result < jobs }
+{
+    match orders.get(number as usize) {
+        Some(order) => *order as usize % jobs,
+        None => 0,
+    }
+}
+
+/// The content of a file, unless it is over the limit.
+fn within(content: Option<&Blob>, limit: u64) -> Result<Content, ReadRefusal>
+    ensures content { IfOk result (λ read. read ≡ option_copied content.entry) }
+    ensures within { IfOk result (λ read. IfSome read (λ bytes. length bytes ≤ limit)) }
+    ensures large { IfErr result (IsOver (option_copied content.entry)) }
+    ensures over { IfErr result (λ refusal. (size : ℕ) → refusal ≡ ReadRefusal.TooLarge size → limit < size) }
+    ensures no_fault { result ≢ Err ReadRefusal.Fault }
+{
+    match content {
+        Some(bytes) => {
+            let size = bytes.as_slice().len() as u64;
+            if size > limit {
+                return Err(ReadRefusal::TooLarge(size));
+            }
+            Ok(Some(bytes.copy()?))
+        }
+        None => Ok(None),
+    }
+}
+
+impl MemWorld {
+    ghost use Rattle.world_mem.specs.AsAround.{around_of};
+    ghost use Rattle.world_mem.specs.CallCounts.{count_of};
+    ghost use Rattle.world_mem.specs.InSlots.{file_at};
+    ghost use Rattle.world_mem.specs.Table.{law_of};
+    ghost use Rattle.world_mem.specs.Kept.{counts_of};
+
+    /// A world with these files in which nothing has run or failed. The pair of a call and a number makes the call of
+    /// that number fail, counted from 0; the orders say which of the running jobs ends at each wait.
+    pub fn new(
+        alloc: Global,
+        files: Vec<(PathText, Blob)>,
+        table: ActTable,
+        orders: Vec<u32>,
+        failing: Vec<(Call, u32)>,
+    ) -> Result<MemWorld, NewRefusal>
+        ensures tree { IfOk result (λ world. (path : List ℕ) → (around_of world.state).tree path ≡ file_at files.items path) }
+        ensures running { IfOk result (λ world. (around_of world.state).running ≡ []) }
+        ensures log { IfOk result (λ world. (around_of world.state).log ≡ []) }
+        ensures law { IfOk result (λ world. (around_of world.state).law ≡ law_of table) }
+        ensures counts { IfOk result (λ world. counts_of world.faults ≡ record { tree_faults = 0; start_faults = 0; action_failures = 0 }) }
+        ensures calls { IfOk result (λ world. (call : Call) → count_of call world.calls ≡ 0) }
+        ensures orders { IfOk result (λ world. world.orders ≡ orders) }
+        ensures failing { IfOk result (λ world. world.calls.failing ≡ failing) }
+    {
+        let state = State::new(alloc, &files, table)?;
+        Ok(MemWorld {
+            state,
+            calls: Calls::new(failing),
+            orders,
+            faults: Faults {
+                tree: 0,
+                start: 0,
+                action: 0,
+            },
+            alloc,
+        })
+    }
+}
+
+impl World for MemWorld {
+    ghost use Rattle.world_api.specs.Around.{IsUnused};
+    ghost use Rattle.world_api.specs.Calls.{Asks, Removes, CanStart, IsOpen, Starts, Ends};
+    ghost use Rattle.world_api.specs.Causes.{Fails, HasOutcomeCause};
+    ghost use Rattle.world_api.specs.Meaning.{Told};
+    ghost use Rattle.world_api.specs.Reads.{IsOver};
+    ghost use Rattle.world_mem.specs.AsAround.{around_of};
+    ghost use Rattle.world_mem.specs.Kept.{counts_of};
+    ghost use Rattle.world_mem.specs.Held.{held_of};
+
+    ghost meaning = { record {
+      tells = λ w. Unit {0};
+      sure = λ w. Unit {0};
+      closed = λ w. [];
+      around = λ w. around_of w.state;
+      counts = λ w. counts_of w.faults;
+    } };
+
+    fn read_file(&mut self, path: &PathText, limit: u64) -> Result<Content, ReadRefusal> {
+        if self.calls.fails(Call::ReadFile) {
+            self.faults.tree = self.faults.tree.saturating_add(1);
+            return Err(ReadRefusal::Fault);
+        }
+        within(self.state.content(path), limit)
+    }
+
+    fn remove(&mut self, path: &PathText) -> Result<(), Fault> {
+        if self.calls.fails(Call::Remove) {
+            self.faults.tree = self.faults.tree.saturating_add(1);
+            return Err(Fault);
+        }
+        self.state.remove(path);
+        Ok(())
+    }
+
+    fn start(&mut self, job: Job) -> Result<(), AskRefusal> {
+        let listed = self.calls.fails(Call::Start);
+        if listed || self.state.is_blocked(self.alloc, &job.targets)? {
+            self.faults.start = self.faults.start.saturating_add(1);
+            return Err(AskRefusal::Fault);
+        }
+        self.state.start(self.alloc, job, self.faults)?;
+        Ok(())
+    }
+
+    fn wait(&mut self) -> Ended {
+        let place = place_of(
+            &self.orders,
+            self.calls.count(Call::Wait),
+            self.state.running(),
+        );
+        let fails = self.calls.fails(Call::Wait);
+        let ended = self.state.end(place, fails);
+        if ended.outcome != Outcome::Done {
+            self.faults.action = self.faults.action.saturating_add(1);
+        }
+        ended
+    }
+
+    ghost held = { λ w told path bytes is off. held_of w.state path bytes is };
+}
