@@ -7,9 +7,9 @@ use Rattle.world_mem.specs.declared.world.MemWorld.{MemWorld}
 
 abbrev pub world_meaning : Meaning MemWorld
 world_meaning = record {
-    tells = λ w. Unit {0};
-    sure = λ w. Unit {0};
-    closed = λ w. [];
-    around = λ w. around_of w.state;
-    counts = λ w. counts_of w.faults;
-  }
+  tells = λ w. Unit {0};
+  sure = λ w. Unit {0};
+  closed = λ w. [];
+  around = λ w. around_of w.state;
+  counts = λ w. counts_of w.faults;
+}
