@@ -1,5 +1,6 @@
-ghost use Rattle.std.specs.Prelude.{◌≡◌, ◌≢◌, ◌+◌, ◌*◌, ◌%◌, ◌<◌, ◌≤◌, ℕ, List, [], Some, None, Ok, Err, length, slice_index, IfOk, IfErr, IfSome, OnOk, OnErr, IsTrue, Contains, ◌↔◌};
+ghost use Rattle.std.specs.Prelude.{◌≡◌, ◌≢◌, ◌+◌, ◌*◌, ◌%◌, ◌<◌, ◌≤◌, ℕ, List, [], Some, None, Ok, Err, length, slice_index, IfOk, IfErr, IfSome, OnOk, OnErr, IsTrue, Contains, ◌↔◌, pos};
 ghost use Rattle.std.specs.Option.{option_copied};
+ghost use Rattle.std.specs.List.{slice_index_or};
 ghost use Rattle.world_api.specs.Reads.{IsOver};
 ghost use Rattle.world_mem.specs.declared.calls.Call.{Call};
 
@@ -95,14 +96,14 @@ impl MemWorld {
 }
 
 impl World for MemWorld {
-    ghost use Rattle.world_api.specs.Around.{IsUnused};
+    ghost use Rattle.world_api.specs.Around.{IsUnused, Running};
     ghost use Rattle.world_api.specs.Calls.{Asks, Removes, CanStart, IsOpen, Starts, Ends};
     ghost use Rattle.world_api.specs.Causes.{Fails, HasOutcomeCause};
     ghost use Rattle.world_api.specs.Meaning.{Told};
     ghost use Rattle.world_api.specs.Reads.{IsOver};
     ghost use Rattle.world_mem.specs.AsAround.{around_of};
     ghost use Rattle.world_mem.specs.Kept.{counts_of};
-    ghost use Rattle.world_mem.specs.CallCounts.{IsListed, counted};
+    ghost use Rattle.world_mem.specs.CallCounts.{IsListed, count_of, counted};
     ghost use Rattle.world_mem.specs.Planned.{IsPlain};
     ghost use Rattle.world_mem.specs.Means.{world_meaning};
     ghost use Rattle.world_mem.specs.Held.{held_of};
@@ -147,7 +148,17 @@ impl World for MemWorld {
         Ok(())
     }
 
-    fn start(&mut self, job: Job) -> Result<(), AskRefusal> {
+    fn start(&mut self, job: Job) -> Result<(), AskRefusal>
+        requires free { world_meaning.tells self.old → CanStart job (world_meaning.around self.old) }
+        requires reachable { IsOpen (world_meaning.closed self.old) job }
+        ensures started { world_meaning.tells self.new → OnOk result (Starts job (world_meaning.counts self.old) (world_meaning.around self.old) (world_meaning.around self.new)) }
+        ensures refused { world_meaning.tells self.new → OnErr result (Asks (world_meaning.around self.old) (world_meaning.around self.new)) }
+        ensures told { Told world_meaning self.old self.new }
+        ensures kept { result ≢ Err AskRefusal.Fault → world_meaning.counts self.new ≡ world_meaning.counts self.old }
+        ensures rose { result ≡ Err AskRefusal.Fault → Fails (λ counts. counts.start_faults) (world_meaning.counts self.old) (world_meaning.counts self.new) }
+        ensures listed { IsListed Call.Start self.old.calls → result ≡ Err AskRefusal.Fault }
+        ensures counted { self.new.calls ≡ counted Call.Start self.old.calls }
+    {
         let listed = self.calls.fails(Call::Start);
         if listed || self.state.is_blocked(self.alloc, &job.targets)? {
             self.faults.start = self.faults.start.saturating_add(1);
@@ -163,6 +174,8 @@ impl World for MemWorld {
         ensures around { world_meaning.tells self.new → Ends (world_meaning.sure self.new) result (world_meaning.around self.old) (world_meaning.around self.new) }
         ensures cause { HasOutcomeCause result.outcome (world_meaning.counts self.old) (world_meaning.counts self.new) }
         ensures plain { IsPlain result.outcome }
+        ensures chosen { (d : Running) → result.id ≡ (slice_index_or (around_of self.old.state).running (slice_index self.old.orders.items (count_of Call.Wait self.old.calls) % length (around_of self.old.state).running) d).job.id }
+        ensures fails { IsListed Call.Wait self.old.calls → result.outcome ≡ Outcome.Failed (pos 1) }
         ensures counted { self.new.calls ≡ counted Call.Wait self.old.calls }
     {
         let place = place_of(
