@@ -7,3 +7,5 @@ pub mod Planned
 pub mod Kept
 pub mod AsAround
 pub mod Held
+pub mod Means
+pub mod SinkMeans

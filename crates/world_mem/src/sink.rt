@@ -1,4 +1,4 @@
-ghost use Rattle.std.specs.Prelude.{◌≡◌, ◌≢◌, ◌+◌, ◌*◌, ◌^◌, ◌<◌, ◌≤◌, ◌⊎◌, ◌↔◌, ℕ, List, [], ◌++◌, Ok, Err, length, IfOk, OnOk, OnErr, IsTrue, Contains, vec_len};
+ghost use Rattle.std.specs.Prelude.{◌≡◌, ◌≢◌, ◌+◌, ◌*◌, ◌-◌, ◌^◌, min, ◌<◌, ◌≤◌, ◌⊎◌, ◌↔◌, ℕ, List, [], ◌++◌, Ok, Err, length, IfOk, OnOk, OnErr, IsTrue, Contains, vec_len};
 ghost use Rattle.std.specs.Vec.{vec_capacity};
 
 use scons_base::Memory;
@@ -51,14 +51,32 @@ impl MemSink {
 impl Sink for MemSink {
     ghost use Rattle.world_api.specs.Printed.{taken};
     ghost use Rattle.world_api.specs.Causes.{Rose};
+    ghost use Rattle.world_mem.specs.SinkMeans.{sink_meaning};
 
-    ghost meaning = { record { tells = λ s. Unit {0}; text = λ s. s.text.items; faults = λ s. s.faults } };
+    ghost meaning = { sink_meaning };
 
-    fn write(&mut self, bytes: &[u8]) -> Result<usize, Fault> {
-        let fails = is_listed(&self.failing, self.writes)
-            || bytes.len() > SINK_ROOM - self.text.len();
+    fn write(&mut self, bytes: &[u8]) -> Result<usize, Fault>
+        requires { 0 < length bytes.now }
+        ensures some { IfOk result (λ count. 0 < count) }
+        ensures within { IfOk result (λ count. count ≤ length bytes.now) }
+        ensures told { sink_meaning.tells self.new → sink_meaning.tells self.old }
+        ensures printed { sink_meaning.tells self.new → sink_meaning.text self.new ≡ sink_meaning.text self.old ++ taken result bytes.now }
+        ensures kept { OnOk result (sink_meaning.faults self.new ≡ sink_meaning.faults self.old) }
+        ensures rose { OnErr result (Rose (sink_meaning.faults self.old) (sink_meaning.faults self.new)) }
+        ensures fails { OnErr result (Contains self.old.failing.items self.old.writes ⊎ (4194304 < vec_len self.old.text + length bytes.now)) }
+        ensures goes { OnOk result ((Contains self.old.failing.items self.old.writes → ⊥) × (vec_len self.old.text + length bytes.now ≤ 4194304)) }
+        ensures whole { IfOk result (λ count. count ≡ length bytes.now) }
+        ensures counted { self.new.writes ≡ min (self.old.writes + 1) (2 ^ 64 - 1) }
+        ensures failing { self.new.failing ≡ self.old.failing }
+    {
+        let listed = is_listed(&self.failing, self.writes);
+        let past = bytes.len() > SINK_ROOM - self.text.len();
         self.writes = self.writes.saturating_add(1);
-        if fails {
+        if listed {
+            self.faults = self.faults.saturating_add(1);
+            return Err(Fault);
+        }
+        if past {
             self.faults = self.faults.saturating_add(1);
             return Err(Fault);
         }

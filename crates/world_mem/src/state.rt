@@ -40,9 +40,9 @@ pub struct State {
 }
 
 impl State {
-    ghost use Rattle.std.specs.Prelude.{◌∷◌, ◌++◌, ◌≢◌, OnOk, OnErr, IsSome, None, length};
+    ghost use Rattle.std.specs.Prelude.{◌∷◌, ◌++◌, ◌≢◌, OnOk, OnErr, IsSome, None, length, false, pos};
     ghost use Rattle.std.specs.Option.{option_copied};
-    ghost use Rattle.world_api.specs.Around.{IsUnused, given_of};
+    ghost use Rattle.world_api.specs.Around.{IsUnused, Running, given_of};
     ghost use Rattle.world_api.specs.Calls.{Asks, Removes, CanStart, Starts, Ends};
     ghost use Rattle.world_mem.specs.AsAround.{around_of};
     ghost use Rattle.world_mem.specs.Kept.{counts_of};
@@ -187,6 +187,9 @@ impl State {
         requires { place < length (around_of self.old).running }
         ensures ended { Ends (Unit {0}) result (around_of self.old) (around_of self.new) }
         ensures plain { IsPlain result.outcome }
+        ensures chosen { (d : Running) → result.id ≡ (slice_index_or (around_of self.old).running place d).job.id }
+        ensures fails { IsTrue fails → result.outcome ≡ Outcome.Failed (pos 1) }
+        ensures ends { (d : Running) → fails ≡ false → result.outcome ≡ ends self.old.table (slice_index_or (around_of self.old).running place d).job (slice_index_or (around_of self.old).running place d).given }
     {
         let RunningJob {
             job,

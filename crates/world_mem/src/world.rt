@@ -1,5 +1,6 @@
-ghost use Rattle.std.specs.Prelude.{◌≡◌, ◌≢◌, ◌+◌, ◌*◌, ◌%◌, ◌<◌, ◌≤◌, ℕ, List, [], Some, None, Ok, Err, length, slice_index, IfOk, IfErr, IfSome, OnOk, OnErr, IsTrue, Contains};
+ghost use Rattle.std.specs.Prelude.{◌≡◌, ◌≢◌, ◌+◌, ◌*◌, ◌%◌, ◌<◌, ◌≤◌, ℕ, List, [], Some, None, Ok, Err, length, slice_index, IfOk, IfErr, IfSome, OnOk, OnErr, IsTrue, Contains, ◌↔◌, pos};
 ghost use Rattle.std.specs.Option.{option_copied};
+ghost use Rattle.std.specs.List.{slice_index_or};
 ghost use Rattle.world_api.specs.Reads.{IsOver};
 ghost use Rattle.world_mem.specs.declared.calls.Call.{Call};
 
@@ -95,24 +96,32 @@ impl MemWorld {
 }
 
 impl World for MemWorld {
-    ghost use Rattle.world_api.specs.Around.{IsUnused};
+    ghost use Rattle.world_api.specs.Around.{IsUnused, Running};
     ghost use Rattle.world_api.specs.Calls.{Asks, Removes, CanStart, IsOpen, Starts, Ends};
     ghost use Rattle.world_api.specs.Causes.{Fails, HasOutcomeCause};
     ghost use Rattle.world_api.specs.Meaning.{Told};
     ghost use Rattle.world_api.specs.Reads.{IsOver};
     ghost use Rattle.world_mem.specs.AsAround.{around_of};
     ghost use Rattle.world_mem.specs.Kept.{counts_of};
+    ghost use Rattle.world_mem.specs.CallCounts.{IsListed, count_of, counted};
+    ghost use Rattle.world_mem.specs.Planned.{IsPlain};
+    ghost use Rattle.world_mem.specs.Means.{world_meaning};
     ghost use Rattle.world_mem.specs.Held.{held_of};
 
-    ghost meaning = { record {
-      tells = λ w. Unit {0};
-      sure = λ w. Unit {0};
-      closed = λ w. [];
-      around = λ w. around_of w.state;
-      counts = λ w. counts_of w.faults;
-    } };
+    ghost meaning = { world_meaning };
 
-    fn read_file(&mut self, path: &PathText, limit: u64) -> Result<Content, ReadRefusal> {
+    fn read_file(&mut self, path: &PathText, limit: u64) -> Result<Content, ReadRefusal>
+        ensures content { world_meaning.tells self.new → IfOk result (λ content. content ≡ (world_meaning.around self.new).tree path.now) }
+        ensures within { IfOk result (λ content. IfSome content (λ bytes. length bytes ≤ limit)) }
+        ensures large { world_meaning.tells self.new → IfErr result (IsOver ((world_meaning.around self.new).tree path.now)) }
+        ensures over { IfErr result (λ refusal. (size : ℕ) → refusal ≡ ReadRefusal.TooLarge size → limit < size) }
+        ensures told { Told world_meaning self.old self.new }
+        ensures around { world_meaning.tells self.new → Asks (world_meaning.around self.old) (world_meaning.around self.new) }
+        ensures kept { result ≢ Err ReadRefusal.Fault → world_meaning.counts self.new ≡ world_meaning.counts self.old }
+        ensures rose { result ≡ Err ReadRefusal.Fault → Fails (λ counts. counts.tree_faults) (world_meaning.counts self.old) (world_meaning.counts self.new) }
+        ensures exactly { result ≡ Err ReadRefusal.Fault ↔ IsListed Call.ReadFile self.old.calls }
+        ensures counted { self.new.calls ≡ counted Call.ReadFile self.old.calls }
+    {
         if self.calls.fails(Call::ReadFile) {
             self.faults.tree = self.faults.tree.saturating_add(1);
             return Err(ReadRefusal::Fault);
@@ -120,7 +129,17 @@ impl World for MemWorld {
         within(self.state.content(path), limit)
     }
 
-    fn remove(&mut self, path: &PathText) -> Result<(), Fault> {
+    fn remove(&mut self, path: &PathText) -> Result<(), Fault>
+        requires { world_meaning.tells self.old → IsUnused (world_meaning.around self.old).running path.now }
+        ensures gone { world_meaning.tells self.new → OnOk result ((world_meaning.around self.new).tree path.now ≡ None) }
+        ensures told { Told world_meaning self.old self.new }
+        ensures around { world_meaning.tells self.new → Removes path.now (world_meaning.around self.old) (world_meaning.around self.new) }
+        ensures kept { OnOk result (world_meaning.counts self.new ≡ world_meaning.counts self.old) }
+        ensures rose { OnErr result (Fails (λ counts. counts.tree_faults) (world_meaning.counts self.old) (world_meaning.counts self.new)) }
+        ensures fails { OnErr result (IsListed Call.Remove self.old.calls) }
+        ensures goes { OnOk result (IsListed Call.Remove self.old.calls → ⊥) }
+        ensures counted { self.new.calls ≡ counted Call.Remove self.old.calls }
+    {
         if self.calls.fails(Call::Remove) {
             self.faults.tree = self.faults.tree.saturating_add(1);
             return Err(Fault);
@@ -129,7 +148,17 @@ impl World for MemWorld {
         Ok(())
     }
 
-    fn start(&mut self, job: Job) -> Result<(), AskRefusal> {
+    fn start(&mut self, job: Job) -> Result<(), AskRefusal>
+        requires free { world_meaning.tells self.old → CanStart job (world_meaning.around self.old) }
+        requires reachable { IsOpen (world_meaning.closed self.old) job }
+        ensures started { world_meaning.tells self.new → OnOk result (Starts job (world_meaning.counts self.old) (world_meaning.around self.old) (world_meaning.around self.new)) }
+        ensures refused { world_meaning.tells self.new → OnErr result (Asks (world_meaning.around self.old) (world_meaning.around self.new)) }
+        ensures told { Told world_meaning self.old self.new }
+        ensures kept { result ≢ Err AskRefusal.Fault → world_meaning.counts self.new ≡ world_meaning.counts self.old }
+        ensures rose { result ≡ Err AskRefusal.Fault → Fails (λ counts. counts.start_faults) (world_meaning.counts self.old) (world_meaning.counts self.new) }
+        ensures listed { IsListed Call.Start self.old.calls → result ≡ Err AskRefusal.Fault }
+        ensures counted { self.new.calls ≡ counted Call.Start self.old.calls }
+    {
         let listed = self.calls.fails(Call::Start);
         if listed || self.state.is_blocked(self.alloc, &job.targets)? {
             self.faults.start = self.faults.start.saturating_add(1);
@@ -139,7 +168,16 @@ impl World for MemWorld {
         Ok(())
     }
 
-    fn wait(&mut self) -> Ended {
+    fn wait(&mut self) -> Ended
+        requires { world_meaning.tells self.old → (world_meaning.around self.old).running ≢ [] }
+        ensures told { Told world_meaning self.old self.new }
+        ensures around { world_meaning.tells self.new → Ends (world_meaning.sure self.new) result (world_meaning.around self.old) (world_meaning.around self.new) }
+        ensures cause { HasOutcomeCause result.outcome (world_meaning.counts self.old) (world_meaning.counts self.new) }
+        ensures plain { IsPlain result.outcome }
+        ensures chosen { (d : Running) → result.id ≡ (slice_index_or (around_of self.old.state).running (slice_index self.old.orders.items (count_of Call.Wait self.old.calls) % length (around_of self.old.state).running) d).job.id }
+        ensures fails { IsListed Call.Wait self.old.calls → result.outcome ≡ Outcome.Failed (pos 1) }
+        ensures counted { self.new.calls ≡ counted Call.Wait self.old.calls }
+    {
         let place = place_of(
             &self.orders,
             self.calls.count(Call::Wait),

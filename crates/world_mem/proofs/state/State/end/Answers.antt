@@ -1,4 +1,4 @@
-use Rattle.std.proofs.Common.{rules, ◌≡◌, ◌≢◌, ◌∙◌, ◌⊎◌, sym, ap, subst, inl, inr, arith, ◌+◌, ◌<◌, ◌≤◌, ℕ, List, Some, Option, IsTrue, Contains, vec_len, ◌∷◌, ◌++◌, [], IsSome, None, length, map, cond, take, drop, suc, refl, true, get_or, is_some}
+use Rattle.std.proofs.Common.{rules, ◌≡◌, ◌≢◌, ◌∙◌, ◌⊎◌, sym, ap, subst, inl, inr, arith, ◌+◌, ◌<◌, ◌≤◌, ℕ, List, Some, Option, IsTrue, Contains, vec_len, ◌∷◌, ◌++◌, [], IsSome, None, length, map, cond, take, drop, suc, refl, true, get_or, is_some, false}
 use Rattle.std.specs.List.{slice_index_or, list_any}
 use Rattle.std.specs.Str.{bytes_eq}
 use Rattle.std.specs.Vec.{vec_capacity}
@@ -7,7 +7,8 @@ use Rattle.world_mem.specs.InSlots.{slot_at, content_of}
 use Rattle.world_mem.specs.Kept.{met_of, counts_of, IdsApart, running_of, entry_of}
 use Rattle.world_mem.specs.Planned.{makes, ends, IsPlain}
 use Rattle.world_mem.proofs.Plain.{ends_plain}
-use Rattle.std.proofs.lemmas.List.{length-map, map-append}
+use Rattle.world_api.specs.Around as api
+use Rattle.std.proofs.lemmas.List.{get_or-map, length-map, map-append}
 use Rattle.std.proofs.lemmas.List.Elements.{Contains-append_left}
 use Rattle.world_api.specs.Act.{act}
 use Rattle.world_mem.specs.InSlots.{settled}
@@ -123,4 +124,32 @@ returns-clause-plain c =
     elim c.if-fails.branch [
       | then-fails w ↦ subst IsPlain (sym w.outcome-is) tt
       | else-fails w ↦ subst IsPlain (sym (w.outcome-is ∙ c.args.self.now.ending run here)) (ends_plain c.args.self.now.table run.job run.given)
+    ]
+
+pub returns-clause-chosen : goal.returns-clause-chosen
+returns-clause-chosen c = λ d.
+    let old = c.args.self.now.running.items in
+    let run = c.remove-job.result in
+    let lt : c.args.place < length old = rw length-map at c.requires in
+    let here : Contains old run = (c.args.place, lt, sym c.remove-job.ensures.value) in
+    let at : slice_index_or (map running_of old) c.args.place d ≡ running_of run = get_or-map running_of old c.args.place run d lt ∙ ap running_of (sym c.remove-job.ensures.value) in
+    ap (λ (r : api.Running). r.job.id) (sym at)
+
+pub returns-clause-fails : goal.returns-clause-fails
+returns-clause-fails c = λ t.
+    elim c.if-fails.branch [
+      | then-fails w ↦ w.outcome-is
+      | else-fails w ↦ absurd (let e : true ≡ false = sym t ∙ w.if-fails.false in cc e)
+    ]
+
+pub returns-clause-ends : goal.returns-clause-ends
+returns-clause-ends c = λ d f.
+    let old = c.args.self.now.running.items in
+    let run = c.remove-job.result in
+    let lt : c.args.place < length old = rw length-map at c.requires in
+    let here : Contains old run = (c.args.place, lt, sym c.remove-job.ensures.value) in
+    let at : slice_index_or (map running_of old) c.args.place d ≡ running_of run = get_or-map running_of old c.args.place run d lt ∙ ap running_of (sym c.remove-job.ensures.value) in
+    elim c.if-fails.branch [
+      | then-fails w ↦ absurd (let e : true ≡ false = sym w.if-fails.true ∙ f in cc e)
+      | else-fails w ↦ w.outcome-is ∙ c.args.self.now.ending run here ∙ ap (λ (r : api.Running). ends c.args.self.now.table r.job r.given) (sym at)
     ]
