@@ -1,5 +1,5 @@
 -- Syntax trees as plain data, and the tree that each value of `src/` stands for. A list of trees is a tree too.
-use Rattle.std.specs.Prelude.{ℕ, List, [], ◌∷◌, ◌++◌, map, Some, None}
+use Rattle.std.specs.Prelude.{ℕ, Bool, List, [], ◌∷◌, ◌++◌, map, Some, None}
 use Rattle.std.specs.declared.option.Option.{Option}
 use Rattle.std.specs.declared.boxed.Box.{Box}
 use Rattle.std.specs.declared.alloc.Global.{Global}
@@ -8,10 +8,10 @@ use Rattle.py_tree.specs.declared.expr.Operator.{Operator}
 use Rattle.py_tree.specs.declared.expr.Comparison.{Comparison}
 use Rattle.py_tree.specs.declared.expr.Expr.{Expr, fold-Expr}
 use Rattle.py_tree.specs.declared.expr.Link.{Link, fold-Link}
-use Rattle.py_tree.specs.declared.expr.Named.{Named, fold-Named}
+use Rattle.py_tree.specs.declared.expr.Argument.{Argument, fold-Argument}
 use Rattle.py_tree.specs.declared.expr.Operation.{Operation, fold-Operation}
 use Rattle.py_tree.specs.declared.expr.Pair.{Pair, fold-Pair}
-use Rattle.py_tree.specs.declared.expr.Expr.TheOpen as open'
+use Rattle.py_tree.specs.declared.expr.Argument.TheOpen as open'
 use Rattle.py_tree.specs.declared.line.Line.{Line, fold-Line}
 use Rattle.py_tree.specs.declared.line.Branch.{Branch, fold-Branch}
 use Rattle.py_tree.specs.declared.line.Line.TheOpen as lines'
@@ -32,7 +32,7 @@ pub data Tree : Type 0 where
   text : ℕ → List ℕ → Tree
   constant : ℕ → Constant → Tree
   group : ℕ → Tree → Tree
-  tuple : ℕ → Tree → Tree
+  tuple : ℕ → Tree → Bool → Tree
   list : ℕ → Tree → Tree
   comprehension : ℕ → Tree → Tree → Tree → Tree → Tree
   dict : ℕ → Tree → Tree
@@ -40,7 +40,7 @@ pub data Tree : Type 0 where
   -- what stands behind an atom
   post : Tree → Tree → Tree
   attribute : ℕ → List ℕ → Tree
-  call : ℕ → Tree → Tree → Tree
+  call : ℕ → Tree → Tree
   named : ℕ → List ℕ → Tree → Tree
   index : ℕ → Tree → Tree
   slice : ℕ → Tree → Tree → Tree
@@ -88,7 +88,7 @@ expr_step (open'.Integer l n) = integer l n
 expr_step (open'.Text l t) = text l t
 expr_step (open'.Constant l k) = constant l k
 expr_step (open'.Group l t) = group l t.value
-expr_step (open'.Tuple l ts) = tuple l (trees ts.items)
+expr_step (open'.Tuple l ts b) = tuple l (trees ts.items) b
 expr_step (open'.List l ts) = list l (trees ts.items)
 expr_step (open'.Comprehension l t ns s ts) = comprehension l t.value (words ns.items) s.value (trees ts.items)
 expr_step (open'.Dict l ps) = dict l (trees ps.items)
@@ -100,12 +100,13 @@ expr_step (open'.Compare l k t u) = compare l k t.value u.value
 
 abbrev pub link_step : open'.Link-F Tree Tree Tree Tree Tree → Tree
 link_step (open'.Attribute l n) = attribute l n
-link_step (open'.Call l ps ns) = call l (trees ps.items) (trees ns.items)
+link_step (open'.Call l as') = call l (trees as'.items)
 link_step (open'.Index l t) = index l t.value
 link_step (open'.Slice l t u) = slice l (optional t) (optional u)
 
-abbrev pub named_step : open'.Named-F Tree Tree Tree Tree Tree → Tree
-named_step n = named n.line n.name n.value
+abbrev pub argument_step : open'.Argument-F Tree Tree Tree Tree Tree → Tree
+argument_step (open'.Positional t) = t
+argument_step (open'.Named l n t) = named l n t
 
 abbrev pub operation_step : open'.Operation-F Tree Tree Tree Tree Tree → Tree
 operation_step o = operation o.line o.operator o.operand
@@ -115,19 +116,19 @@ pair_step p = pair p.line p.key p.value
 
 -- the tree that an expression stands for, and so for its parts
 unfoldable pub expr_tree : Expr → Tree
-expr_tree = fold-Expr Tree Tree Tree Tree Tree expr_step link_step named_step operation_step pair_step
+expr_tree = fold-Expr Tree Tree Tree Tree Tree argument_step expr_step link_step operation_step pair_step
 
 unfoldable pub link_tree : Link → Tree
-link_tree = fold-Link Tree Tree Tree Tree Tree expr_step link_step named_step operation_step pair_step
+link_tree = fold-Link Tree Tree Tree Tree Tree argument_step expr_step link_step operation_step pair_step
 
-unfoldable pub named_tree : Named → Tree
-named_tree = fold-Named Tree Tree Tree Tree Tree expr_step link_step named_step operation_step pair_step
+unfoldable pub argument_tree : Argument → Tree
+argument_tree = fold-Argument Tree Tree Tree Tree Tree argument_step expr_step link_step operation_step pair_step
 
 unfoldable pub operation_tree : Operation → Tree
-operation_tree = fold-Operation Tree Tree Tree Tree Tree expr_step link_step named_step operation_step pair_step
+operation_tree = fold-Operation Tree Tree Tree Tree Tree argument_step expr_step link_step operation_step pair_step
 
 unfoldable pub pair_tree : Pair → Tree
-pair_tree = fold-Pair Tree Tree Tree Tree Tree expr_step link_step named_step operation_step pair_step
+pair_tree = fold-Pair Tree Tree Tree Tree Tree argument_step expr_step link_step operation_step pair_step
 
 -- an expression that may be left out
 abbrev pub optional_tree : Option Expr → Tree

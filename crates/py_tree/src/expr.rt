@@ -46,7 +46,11 @@ pub enum Expr {
     /// What stands in parentheses; `()` is the empty tuple in parentheses.
     Group { line: u32, inner: Box<Expr> },
     /// The line is that of its first comma, or of the parenthesis of `()`.
-    Tuple { line: u32, items: Vec<Expr> },
+    Tuple {
+        line: u32,
+        items: Vec<Expr>,
+        trailing_comma: bool,
+    },
     List { line: u32, items: Vec<Expr> },
     Comprehension {
         line: u32,
@@ -75,11 +79,8 @@ pub enum Expr {
 #[cycle(tree)]
 pub enum Link {
     Attribute { line: u32, name: Text },
-    Call {
-        line: u32,
-        positional: Vec<Expr>,
-        named: Vec<Named>,
-    },
+    /// Positional arguments, then named ones.
+    Call { line: u32, arguments: Vec<Argument> },
     Index { line: u32, index: Box<Expr> },
     Slice {
         line: u32,
@@ -88,13 +89,12 @@ pub enum Link {
     },
 }
 
-/// A named argument of a call.
+/// An argument of a call.
 #[derive(Debug, Drop)]
 #[cycle(tree)]
-pub struct Named {
-    pub line: u32,
-    pub name: Text,
-    pub value: Expr,
+pub enum Argument {
+    Positional { value: Expr },
+    Named { line: u32, name: Text, value: Expr },
 }
 
 /// An operator of a chain and its right operand.
