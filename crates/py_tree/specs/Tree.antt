@@ -74,8 +74,7 @@ trees (t ∷ ts) = cons t (trees ts)
 
 -- a list of names as one tree
 abbrev pub words : List (List ℕ) → Tree
-words [] = nil
-words (w ∷ ws) = cons (word w) (words ws)
+words ws = trees (map word ws)
 
 -- a part that may be left out
 abbrev pub optional : Option (Box Tree Global) → Tree

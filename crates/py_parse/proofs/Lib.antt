@@ -1,0 +1,7 @@
+pub mod Cases
+pub mod Paths
+pub mod Shorter
+pub mod Loops
+pub mod Comparing
+pub mod One
+pub mod Sound
