@@ -5,3 +5,5 @@ pub mod Loops
 pub mod Comparing
 pub mod One
 pub mod Sound
+pub mod Fill
+pub mod Viable

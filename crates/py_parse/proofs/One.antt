@@ -1,9 +1,9 @@
 -- Reading ends in one way.
-use Rattle.std.proofs.Common.{◌≡◌, ℕ, zero, suc, List, [], ◌∷◌, Bool, true, false, refl, sym, ap, subst, ◌∙◌}
+use Rattle.std.proofs.Common.{◌≡◌, ℕ, List, Bool, true, false, refl, sym, subst}
 use Rattle.py_token.specs.declared.token.Token.{Token}
 use Rattle.py_tree.specs.Tree.{Tree}
-use Rattle.py_parse.specs.Grammar.{Part, Body}
-use Rattle.py_parse.specs.Reading.{Outcome, ok, fault, Why, Reads, r_given, r_taken, r_refused, r_opened, r_deep, r_unopened, r_read, r_part_fault, r_nested, r_nested_fault, pick}
+use Rattle.py_parse.specs.Grammar.{Body}
+use Rattle.py_parse.specs.Reading.{Outcome, ok, Reads, r_given, r_taken, r_refused, r_opened, r_deep, r_unopened, r_read, r_part_fault, r_nested, r_nested_fault}
 
 clash : {b : Bool} → b ≡ true → b ≡ false → ⊥
 clash p q = cc

@@ -1,9 +1,8 @@
 -- Reading never gives back more tokens than there were.
-use Rattle.std.proofs.Common.{◌≡◌, ℕ, suc, ◌≤◌, ◌<◌, List, [], ◌∷◌, length, refl, arith}
+use Rattle.std.proofs.Common.{ℕ, ◌≤◌, List, length, arith}
 use Rattle.py_token.specs.declared.token.Token.{Token}
-use Rattle.py_tree.specs.Tree.{Tree}
-use Rattle.py_parse.specs.Grammar.{Part, Body}
-use Rattle.py_parse.specs.Reading.{Outcome, ok, fault, Reads, r_given, r_taken, r_refused, r_opened, r_deep, r_unopened, r_read, r_part_fault, r_nested, r_nested_fault, pick}
+use Rattle.py_parse.specs.Grammar.{Body}
+use Rattle.py_parse.specs.Reading.{Outcome, ok, fault, Reads, r_given, r_taken, r_refused, r_opened, r_deep, r_unopened, r_read, r_part_fault, r_nested, r_nested_fault}
 
 abbrev pub rest_of : Outcome → List Token
 rest_of (ok t rest) = rest

@@ -1,13 +1,13 @@
 -- What is read is in the grammar.
-use Rattle.std.proofs.Common.{◌≡◌, ℕ, zero, suc, List, [], ◌∷◌, ◌++◌, Bool, true, false, cond, refl, sym, ap, subst, ◌∙◌, append_assoc}
+use Rattle.std.proofs.Common.{◌≡◌, ℕ, suc, List, [], ◌∷◌, ◌++◌, Bool, true, false, cond, refl, ap, append_assoc}
 use Rattle.py_token.specs.declared.token.Token.{Token}
 use Rattle.py_tree.specs.Tree as tree
 use Rattle.py_tree.specs.Tree.{Tree}
 use Rattle.py_parse.specs.Terminals.{Want, fits}
 use Rattle.py_parse.specs.Grammar as g
 use Rattle.py_parse.specs.Grammar.{Part, Body, productions, when, first_named}
-use Rattle.py_parse.specs.Parses.{Among, here, there, Spells, given, taken, opened, read, nested, Parses, ParsesWithin}
-use Rattle.py_parse.specs.Reading.{Outcome, ok, fault, Why, Reads, r_given, r_taken, r_refused, r_opened, r_deep, r_unopened, r_read, r_part_fault, r_nested, r_nested_fault, pick, choose, leads}
+use Rattle.py_parse.specs.Parses.{Among, here, there, Spells, given, taken, opened, read, nested}
+use Rattle.py_parse.specs.Reading.{Outcome, ok, fault, Reads, r_given, r_taken, r_refused, r_opened, r_deep, r_unopened, r_read, r_part_fault, r_nested, r_nested_fault, pick, choose, leads}
 
 pub chosen : (b : Body) (bs : List Body) (ts : List Token) → Among (choose (b ∷ bs) ts) (b ∷ bs)
 unfolding choose
@@ -22,7 +22,7 @@ chosen_when true b c cs ts = chosen b (c ∷ cs) ts
 chosen_when false b c cs ts = chosen c cs ts
 
 chosen_two : (v w : Bool) (a b c : Body) (ts : List Token) →
-  Among (choose (when v a (when w b (c ∷ []))) ts) (when v a (when w b (c ∷ [])))
+    Among (choose (when v a (when w b (c ∷ []))) ts) (when v a (when w b (c ∷ [])))
 chosen_two true w a b c ts = chosen a (when w b (c ∷ [])) ts
 chosen_two false true a b c ts = chosen b (c ∷ []) ts
 chosen_two false false a b c ts = chosen c [] ts
@@ -95,12 +95,12 @@ SoundFor d b ts (ok t rest) = Sound d b ts t rest
 SoundFor d b ts (fault w rest) = Unit {0}
 
 behind_token : (d : ℕ) (w : Want) (k : Token → Body) (x : Token) (ts : List Token) (o : Outcome) →
-  fits w x.kind ≡ true → SoundFor d (k x) ts o → SoundFor d (g.takes w k) (x ∷ ts) o
+    fits w x.kind ≡ true → SoundFor d (k x) ts o → SoundFor d (g.takes w k) (x ∷ ts) o
 behind_token d w k x ts (ok t rest) f h = record { front = x ∷ h.front; parts = ap (λ l. x ∷ l) h.parts; spelling = taken f h.spelling }
 behind_token d w k x ts (fault y rest) f h = tt
 
 behind_opener : (d : ℕ) (w : Want) (k : Token → Body) (x : Token) (ts : List Token) (o : Outcome) →
-  fits w x.kind ≡ true → SoundFor (suc d) (k x) ts o → SoundFor (suc d) (g.opens w k) (x ∷ ts) o
+    fits w x.kind ≡ true → SoundFor (suc d) (k x) ts o → SoundFor (suc d) (g.opens w k) (x ∷ ts) o
 behind_opener d w k x ts (ok t rest) f h = record { front = x ∷ h.front; parts = ap (λ l. x ∷ l) h.parts; spelling = opened f h.spelling }
 behind_opener d w k x ts (fault y rest) f h = tt
 
@@ -108,20 +108,20 @@ joined : (ts a rest b r : List Token) → ts ≡ a ++ rest → rest ≡ b ++ r �
 joined ts a rest b r p q = rw (append_assoc, ← q) p
 
 behind_part : (d : ℕ) (p : Part) (k : Tree → Body) (u : Tree) (ts rest : List Token) (o : Outcome) →
-  Sound d (pick p ts) ts u rest → SoundFor d (k u) rest o → SoundFor d (g.reads p k) ts o
+    Sound d (pick p ts) ts u rest → SoundFor d (k u) rest o → SoundFor d (g.reads p k) ts o
 behind_part d p k u ts rest (ok t r) h i = record {
   front = h.front ++ i.front;
   parts = joined ts h.front rest i.front r h.parts i.parts;
-  spelling = read (pick p ts) h.front i.front (picks p ts) h.spelling i.spelling
+  spelling = read (pick p ts) h.front i.front (picks p ts) h.spelling i.spelling;
 }
 behind_part d p k u ts rest (fault w r) h i = tt
 
 behind_deeper : (d : ℕ) (p : Part) (k : Tree → Body) (u : Tree) (ts rest : List Token) (o : Outcome) →
-  Sound d (pick p ts) ts u rest → SoundFor (suc d) (k u) rest o → SoundFor (suc d) (g.deeper p k) ts o
+    Sound d (pick p ts) ts u rest → SoundFor (suc d) (k u) rest o → SoundFor (suc d) (g.deeper p k) ts o
 behind_deeper d p k u ts rest (ok t r) h i = record {
   front = h.front ++ i.front;
   parts = joined ts h.front rest i.front r h.parts i.parts;
-  spelling = nested (pick p ts) h.front i.front (picks p ts) h.spelling i.spelling
+  spelling = nested (pick p ts) h.front i.front (picks p ts) h.spelling i.spelling;
 }
 behind_deeper d p k u ts rest (fault w r) h i = tt
 

@@ -1,8 +1,8 @@
 -- How what the reading functions answer stands to `Reads`.
-use Rattle.std.specs.Prelude.{◌≡◌, ◌&&◌, ◌++◌, ℕ, ◌<◌, ◌≤◌, length, Bool, true, false, List, [], ◌∷◌, Result, Ok, Err, Option, Some, None}
+use Rattle.std.specs.Prelude.{◌≡◌, ◌&&◌, ◌++◌, ℕ, Bool, true, false, List, [], ◌∷◌, Result, Ok, Err, Option, Some, None}
 use Rattle.std.specs.Borrow.{Bor}
 use Rattle.py_token.specs.declared.token.Token.{Token}
-use Rattle.py_tree.specs.Tree.{Tree, nil, cons, absent, operation, compare, name, named, parameter, branch, expr_tree}
+use Rattle.py_tree.specs.Tree.{Tree, nil, cons, absent, compare, name, named, parameter, branch, expr_tree}
 use Rattle.py_tree.specs.declared.expr.Operator.{Operator}
 use Rattle.py_tree.specs.declared.expr.Comparison.{Comparison}
 use Rattle.py_tree.specs.declared.expr.Comparison.TheVariants as comparison'
@@ -17,8 +17,8 @@ use Rattle.py_parse.specs.declared.stop.Stop.{Stop}
 use Rattle.py_parse.specs.declared.stop.Stop.TheVariants as stop'
 use Rattle.py_parse.specs.Terminals.{Want, one, fresh, heads, fits, operator_in, name_in}
 use Rattle.py_parse.specs.declared.terminal.Terminal.TheVariants as terminal'
-use Rattle.py_parse.specs.Grammar.{Part, Body, takes, reads, deeper, gives, operand, operations, constants, chained, compared, expr, block, below, mark, is_name, named_rest, defaults_rest, params}
-use Rattle.py_parse.specs.Reading.{Outcome, ok, fault, Why, unfit, deep, Reads, pick}
+use Rattle.py_parse.specs.Grammar.{Part, Body, takes, reads, deeper, gives, constants, chained, compared, expr, block, below, mark, is_name, named_rest, defaults_rest, params}
+use Rattle.py_parse.specs.Reading.{Outcome, ok, fault, unfit, deep, Reads, pick}
 
 -- the first of these tokens is what is wanted, and the others stand behind it
 pub record Taken (w : Want) (ts : List Token) (x : Token) (rest : List Token) : Type 0 where
@@ -76,7 +76,7 @@ right_of _ = chained level'.Sum
 -- an operator of a comparison stands here, whatever tree stands on its left
 abbrev pub ComparisonAt : List Token → ℕ → Comparison → List Token → Type 0
 ComparisonAt ts line c rest = (d : ℕ) (t : Tree) (out : Outcome) →
-  Reads d (reads (right_of c) (λ u. gives (compare line c t u))) rest out → Reads d (pick (compared t) ts) ts out
+    Reads d (reads (right_of c) (λ u. gives (compare line c t u))) rest out → Reads d (pick (compared t) ts) ts out
 
 -- what `next_comparison` answers
 abbrev pub Compares : List Token → Result (Option (ℕ × Comparison × Bor (List Token))) Stop → Type 0

@@ -8,9 +8,6 @@ use Rattle.py_token.specs.declared.mark.Mark.TheVariants as mark'
 use Rattle.py_token.specs.declared.token.Token.{Token}
 use Rattle.py_token.specs.declared.token.TokenKind.{TokenKind}
 use Rattle.py_token.specs.declared.token.TokenKind.TheVariants as kind'
-use Rattle.py_tree.specs.declared.expr.Operator.{Operator}
-use Rattle.py_tree.specs.declared.expr.Operator.TheVariants as operator'
-use Rattle.py_tree.specs.declared.expr.Comparison.{Comparison}
 use Rattle.py_tree.specs.declared.expr.Comparison.TheVariants as comparison'
 use Rattle.py_tree.specs.Tree.{Tree, nil, cons, absent, word, name, integer, text, constant, group, tuple, list, comprehension, dict, pair, post, attribute, call, named, index, slice, negative, not, chain, operation, compare, assign, augment, expression, pass, break, continue, return, imports, simple, branching, branch, for', def, parameter}
 use Rattle.py_parse.specs.declared.terminal.Terminal.TheVariants as terminal'
@@ -244,8 +241,8 @@ productions (line s) =
     opens (keyword keyword'.If) (λ x. conditional x.line s) ∷
     opens (keyword keyword'.For) (λ x. loop_body x.line s) ∷
     when s.outermost
-      (opens (keyword keyword'.Def) (λ x. function_body x.line))
-      (reads (statements s) (λ t. gives (simple t)) ∷ [])
+    (opens (keyword keyword'.Def) (λ x. function_body x.line))
+    (reads (statements s) (λ t. gives (simple t)) ∷ [])
 productions (branches s) =
     opens (keyword keyword'.Elif) (λ x. conditional x.line s) ∷
     opens (keyword keyword'.Else) (λ _. takes (mark mark'.Colon) (λ _. deeper (block (below s)) (λ b. gives (branching nil b)))) ∷
@@ -265,14 +262,14 @@ productions (small s) =
     takes (keyword keyword'.Pass) (λ x. gives (pass x.line)) ∷
     takes (keyword keyword'.From) (λ x. import_body x.line) ∷
     when s.in_for (takes (keyword keyword'.Break) (λ x. gives (break x.line)))
-      (when s.in_for (takes (keyword keyword'.Continue) (λ x. gives (continue x.line)))
-        (when s.in_def (takes (keyword keyword'.Return) (λ x. return_body x.line))
-          (assignment ∷ [])))
+    (when s.in_for (takes (keyword keyword'.Continue) (λ x. gives (continue x.line)))
+    (when s.in_def (takes (keyword keyword'.Return) (λ x. return_body x.line))
+    (assignment ∷ [])))
 productions returned = reads exprs gives ∷ gives absent ∷ []
 productions (assigned t) =
     when (is_targets t) (takes (mark mark'.Assign) (λ x. reads exprs (λ e. gives (assign x.line t e))))
-      (when (is_place t) (takes (one terminal'.Augment) (augment_body t))
-        (gives (expression t) ∷ []))
+    (when (is_place t) (takes (one terminal'.Augment) (augment_body t))
+    (gives (expression t) ∷ []))
 -- Function definitions: section 8.7. No name comes twice, and behind a default each parameter has one.
 productions parameters = reads (params []) (λ ps. takes (mark mark'.CloseParen) (λ _. gives ps)) ∷ []
 productions (params seen) =

@@ -1,6 +1,6 @@
 -- How tokens are read: at each part the first production that the next token may begin. This serves proofs alone; the
 -- grammar is in `Grammar` and `Parses`.
-use Rattle.std.specs.Prelude.{◌≡◌, ℕ, zero, suc, List, [], ◌∷◌, Bool, true, false, cond, ◌||◌}
+use Rattle.std.specs.Prelude.{◌≡◌, ℕ, zero, suc, List, [], ◌∷◌, Bool, true, false, cond}
 use Rattle.py_token.specs.declared.token.Token.{Token}
 use Rattle.py_tree.specs.Tree.{Tree}
 use Rattle.py_parse.specs.declared.terminal.Terminal.{Terminal}
@@ -45,20 +45,20 @@ pub data Outcome : Type 0 where
 pub data Reads : ℕ → Body → List Token → Outcome → Type 0 where
   r_given : {d : ℕ} {t : Tree} {ts : List Token} → Reads d (gives t) ts (ok t ts)
   r_taken : {d : ℕ} {w : Want} {k : Token → Body} {x : Token} {ts : List Token} {o : Outcome} →
-    fits w x.kind ≡ true → Reads d (k x) ts o → Reads d (takes w k) (x ∷ ts) o
+      fits w x.kind ≡ true → Reads d (k x) ts o → Reads d (takes w k) (x ∷ ts) o
   r_refused : {d : ℕ} {w : Want} {k : Token → Body} {ts : List Token} →
-    heads w ts ≡ false → Reads d (takes w k) ts (fault unfit ts)
+      heads w ts ≡ false → Reads d (takes w k) ts (fault unfit ts)
   r_opened : {d : ℕ} {w : Want} {k : Token → Body} {x : Token} {ts : List Token} {o : Outcome} →
-    fits w x.kind ≡ true → Reads (suc d) (k x) ts o → Reads (suc d) (opens w k) (x ∷ ts) o
+      fits w x.kind ≡ true → Reads (suc d) (k x) ts o → Reads (suc d) (opens w k) (x ∷ ts) o
   r_deep : {w : Want} {k : Token → Body} {ts : List Token} →
-    heads w ts ≡ true → Reads zero (opens w k) ts (fault deep ts)
+      heads w ts ≡ true → Reads zero (opens w k) ts (fault deep ts)
   r_unopened : {d : ℕ} {w : Want} {k : Token → Body} {ts : List Token} →
-    heads w ts ≡ false → Reads d (opens w k) ts (fault unfit ts)
+      heads w ts ≡ false → Reads d (opens w k) ts (fault unfit ts)
   r_read : {d : ℕ} {p : Part} {k : Tree → Body} {ts : List Token} {o : Outcome} (u : Tree) (rest : List Token) →
-    Reads d (pick p ts) ts (ok u rest) → Reads d (k u) rest o → Reads d (reads p k) ts o
+      Reads d (pick p ts) ts (ok u rest) → Reads d (k u) rest o → Reads d (reads p k) ts o
   r_part_fault : {d : ℕ} {p : Part} {k : Tree → Body} {ts rest : List Token} {w : Why} →
-    Reads d (pick p ts) ts (fault w rest) → Reads d (reads p k) ts (fault w rest)
+      Reads d (pick p ts) ts (fault w rest) → Reads d (reads p k) ts (fault w rest)
   r_nested : {d : ℕ} {p : Part} {k : Tree → Body} {ts : List Token} {o : Outcome} (u : Tree) (rest : List Token) →
-    Reads d (pick p ts) ts (ok u rest) → Reads (suc d) (k u) rest o → Reads (suc d) (deeper p k) ts o
+      Reads d (pick p ts) ts (ok u rest) → Reads (suc d) (k u) rest o → Reads (suc d) (deeper p k) ts o
   r_nested_fault : {d : ℕ} {p : Part} {k : Tree → Body} {ts rest : List Token} {w : Why} →
-    Reads d (pick p ts) ts (fault w rest) → Reads (suc d) (deeper p k) ts (fault w rest)
+      Reads d (pick p ts) ts (fault w rest) → Reads (suc d) (deeper p k) ts (fault w rest)

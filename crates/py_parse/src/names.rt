@@ -28,7 +28,10 @@ pub fn take_name<'a>(tokens: &'a [Token]) -> Option<(u32, &'a Text, &'a [Token])
 }
 
 /// Names with commas between them.
-pub fn parse_names<'a>(alloc: Global, tokens: &'a [Token]) -> Result<(Vec<Text>, &'a [Token]), Stop<'a>>
+pub fn parse_names<'a>(
+    alloc: Global,
+    tokens: &'a [Token],
+) -> Result<(Vec<Text>, &'a [Token]), Stop<'a>>
     ensures { Agrees (λ p. ok (words p.0.items) p.1.now) result (λ o. (d : ℕ) → Reads d (pick grammar.names tokens.now) tokens.now o) }
 {
     let mut found = Vec::new(alloc);

@@ -37,7 +37,13 @@ pub fn take_constant<'a>(tokens: &'a [Token]) -> Result<(Expr, &'a [Token]), Sto
     let Some(constant) = constant_of(&token.kind) else {
         return Err(Stop::At(tokens));
     };
-    Ok((Expr::Constant { line: token.line, constant }, rest))
+    Ok((
+        Expr::Constant {
+            line: token.line,
+            constant,
+        },
+        rest,
+    ))
 }
 
 /// The operands joined, or the first alone.
@@ -52,7 +58,9 @@ pub fn chain_of(alloc: Global, first: Expr, rest: Vec<Operation>) -> Result<Expr
 }
 
 /// The operator of a comparison that is next, with its line.
-pub fn next_comparison<'a>(tokens: &'a [Token]) -> Result<Option<(u32, Comparison, &'a [Token])>, Stop<'a>>
+pub fn next_comparison<'a>(
+    tokens: &'a [Token],
+) -> Result<Option<(u32, Comparison, &'a [Token])>, Stop<'a>>
     ensures { Compares tokens.now result }
 {
     if let Some((word, rest)) = strip(Terminal::Word(Keyword::Not), tokens) {

@@ -32,7 +32,9 @@ impl Seen {
     pub fn new(alloc: Global) -> Seen
         ensures { result ≡ [] }
     {
-        Seen { names: Vec::new(alloc) }
+        Seen {
+            names: Vec::new(alloc),
+        }
     }
 
     pub fn insert(&mut self, name: Text) -> Result<(), Memory>

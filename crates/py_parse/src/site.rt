@@ -15,24 +15,40 @@ impl Site {
     pub fn top() -> Site
         ensures { result ≡ grammar.top }
     {
-        Site { outermost: true, in_def: false, in_for: false }
+        Site {
+            outermost: true,
+            in_def: false,
+            in_for: false,
+        }
     }
 
     pub fn below(self) -> Site
         ensures { result ≡ grammar.below self }
     {
-        Site { outermost: false, in_def: self.in_def, in_for: self.in_for }
+        Site {
+            outermost: false,
+            in_def: self.in_def,
+            in_for: self.in_for,
+        }
     }
 
     pub fn in_loop(self) -> Site
         ensures { result ≡ grammar.in_loop self }
     {
-        Site { outermost: false, in_def: self.in_def, in_for: true }
+        Site {
+            outermost: false,
+            in_def: self.in_def,
+            in_for: true,
+        }
     }
 
     pub fn in_function() -> Site
         ensures { result ≡ grammar.in_function }
     {
-        Site { outermost: false, in_def: true, in_for: false }
+        Site {
+            outermost: false,
+            in_def: true,
+            in_for: false,
+        }
     }
 }

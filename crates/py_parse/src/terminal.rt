@@ -3,7 +3,9 @@ ghost use Rattle.py_parse.specs.Terminals.{one, heads, is_of, keyword_number, ma
 ghost use Rattle.py_parse.specs.Agrees.{Taken};
 
 use crate::level::Level;
-use crate::tables::{augment_of, comparison_of, constant_of, is_bracket, is_leaf, is_link, operator_of, starts_expr};
+use crate::tables::{
+    augment_of, comparison_of, constant_of, is_bracket, is_leaf, is_link, operator_of, starts_expr,
+};
 use py_token::{Keyword, Mark, Token, TokenKind};
 
 /// What a place of the grammar wants of a token.

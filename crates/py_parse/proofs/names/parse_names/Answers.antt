@@ -1,4 +1,4 @@
-use Rattle.std.proofs.Common.{◌≡◌, arith, map, length, ap, refl}
+use Rattle.std.proofs.Common.{arith, refl}
 use Rattle.py_tree.specs.Tree.{word}
 use Rattle.py_parse.specs.Grammar as grammar
 use Rattle.py_parse.proofs.Cases.{stopped, taken_shorter, map_more}

@@ -1,7 +1,7 @@
-use Rattle.std.proofs.Common.{◌≡◌, arith, sym}
+use Rattle.std.proofs.Common.{sym}
 use Rattle.py_tree.specs.Tree.{expr_tree, operation_tree}
 use Rattle.py_tree.proofs.Views.{expr_tree-Chain}
-use Rattle.py_parse.proofs.Cases.{not_empty, none_none, chain_some}
+use Rattle.py_parse.proofs.Cases.{not_empty, chain_some}
 use Rattle.py_parse.proofs.operators.chain_of.Goals as goal
 
 pub returns : goal.returns

@@ -1,4 +1,3 @@
-use Rattle.std.proofs.Common.{◌≡◌}
 use Rattle.py_parse.proofs.Comparing.{not_in_unfit, not_in_at, is_not_at, is_at, not_compared, comparison_at, comparison_there}
 use Rattle.py_parse.proofs.operators.next_comparison.Goals as goal
 

@@ -1,7 +1,7 @@
-use Rattle.std.proofs.Common.{◌≡◌, arith, sym}
+use Rattle.std.proofs.Common.{sym}
 use Rattle.py_tree.specs.Tree.{expr_tree, link_tree}
 use Rattle.py_tree.proofs.Views.{expr_tree-Post}
-use Rattle.py_parse.proofs.Cases.{not_empty, none_behind, post_some}
+use Rattle.py_parse.proofs.Cases.{not_empty, post_some}
 use Rattle.py_parse.proofs.operators.post_of.Goals as goal
 
 pub returns : goal.returns

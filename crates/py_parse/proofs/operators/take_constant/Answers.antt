@@ -1,4 +1,3 @@
-use Rattle.std.proofs.Common.{◌≡◌}
 use Rattle.py_tree.proofs.Views.{expr_tree-Constant}
 use Rattle.py_parse.proofs.Comparing.{constant_at, constant_unfit, constant_there}
 use Rattle.py_parse.proofs.operators.take_constant.Goals as goal
