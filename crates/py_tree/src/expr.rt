@@ -39,19 +39,37 @@ pub enum Comparison {
 #[derive(Debug, Drop)]
 #[cycle(tree)]
 pub enum Expr {
-    Name { line: u32, name: Text },
-    Integer { line: u32, value: u64 },
-    Text { line: u32, text: Text },
-    Constant { line: u32, constant: Constant },
+    Name {
+        line: u32,
+        name: Text,
+    },
+    Integer {
+        line: u32,
+        value: u64,
+    },
+    Text {
+        line: u32,
+        text: Text,
+    },
+    Constant {
+        line: u32,
+        constant: Constant,
+    },
     /// What stands in parentheses; `()` is the empty tuple in parentheses.
-    Group { line: u32, inner: Box<Expr> },
+    Group {
+        line: u32,
+        inner: Box<Expr>,
+    },
     /// The line is that of its first comma, or of the parenthesis of `()`.
     Tuple {
         line: u32,
         items: Vec<Expr>,
         trailing_comma: bool,
     },
-    List { line: u32, items: Vec<Expr> },
+    List {
+        line: u32,
+        items: Vec<Expr>,
+    },
     Comprehension {
         line: u32,
         item: Box<Expr>,
@@ -59,13 +77,28 @@ pub enum Expr {
         source: Box<Expr>,
         tests: Vec<Expr>,
     },
-    Dict { line: u32, pairs: Vec<Pair> },
+    Dict {
+        line: u32,
+        pairs: Vec<Pair>,
+    },
     /// Calls, indices and attributes behind an atom, of which there is at least one.
-    Post { atom: Box<Expr>, links: Vec<Link> },
-    Negative { line: u32, operand: Box<Expr> },
-    Not { line: u32, operand: Box<Expr> },
+    Post {
+        atom: Box<Expr>,
+        links: Vec<Link>,
+    },
+    Negative {
+        line: u32,
+        operand: Box<Expr>,
+    },
+    Not {
+        line: u32,
+        operand: Box<Expr>,
+    },
     /// Operands joined by operators of one level, from left to right.
-    Chain { first: Box<Expr>, rest: Vec<Operation> },
+    Chain {
+        first: Box<Expr>,
+        rest: Vec<Operation>,
+    },
     Compare {
         line: u32,
         comparison: Comparison,
@@ -78,10 +111,19 @@ pub enum Expr {
 #[derive(Debug, Drop)]
 #[cycle(tree)]
 pub enum Link {
-    Attribute { line: u32, name: Text },
+    Attribute {
+        line: u32,
+        name: Text,
+    },
     /// Positional arguments, then named ones.
-    Call { line: u32, arguments: Vec<Argument> },
-    Index { line: u32, index: Box<Expr> },
+    Call {
+        line: u32,
+        arguments: Vec<Argument>,
+    },
+    Index {
+        line: u32,
+        index: Box<Expr>,
+    },
     Slice {
         line: u32,
         lower: Option<Box<Expr>>,

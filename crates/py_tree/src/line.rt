@@ -12,7 +12,9 @@ pub struct Script {
 #[cycle(line)]
 pub enum Line {
     /// Statements with `;` between them.
-    Simple { statements: Vec<Simple> },
+    Simple {
+        statements: Vec<Simple>,
+    },
     /// The `if` with its `elif`s, and the lines below `else`, none where there is no `else`.
     If {
         branches: Vec<Branch>,
@@ -53,7 +55,11 @@ pub struct Parameter {
 #[derive(Debug, Drop)]
 pub enum Simple {
     /// The target is a name, an index behind an atom, or a tuple of at least two names.
-    Assign { line: u32, target: Expr, value: Expr },
+    Assign {
+        line: u32,
+        target: Expr,
+        value: Expr,
+    },
     /// The target is a name or an index behind an atom.
     Augment {
         line: u32,
@@ -61,11 +67,24 @@ pub enum Simple {
         target: Expr,
         value: Expr,
     },
-    Expression { value: Expr },
-    Pass { line: u32 },
-    Break { line: u32 },
-    Continue { line: u32 },
-    Return { line: u32, value: Option<Expr> },
+    Expression {
+        value: Expr,
+    },
+    Pass {
+        line: u32,
+    },
+    Break {
+        line: u32,
+    },
+    Continue {
+        line: u32,
+    },
+    Return {
+        line: u32,
+        value: Option<Expr>,
+    },
     /// `from SCons.Script import *`.
-    ImportScons { line: u32 },
+    ImportScons {
+        line: u32,
+    },
 }
