@@ -7,3 +7,8 @@ pub mod One
 pub mod Sound
 pub mod Fill
 pub mod Viable
+pub mod Follow
+pub mod Complete
+pub mod First
+pub mod Table
+pub mod Top
