@@ -12,3 +12,4 @@ pub mod Complete
 pub mod First
 pub mod Table
 pub mod Top
+pub mod Local

@@ -11,7 +11,7 @@ use Rattle.py_parse.proofs.Sound.{Sound, sound}
 use Rattle.py_parse.proofs.Viable.{Viable, Begins, viable}
 use Rattle.py_parse.proofs.Table.{complete_script}
 
-with_nothing : (ts : List Token) → ts ++ [] ≡ ts
+pub with_nothing : (ts : List Token) → ts ++ [] ≡ ts
 with_nothing [] = refl
 with_nothing (x ∷ ts) = ap (λ l. x ∷ l) (with_nothing ts)
 

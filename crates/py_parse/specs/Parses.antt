@@ -1,5 +1,5 @@
 -- Which tokens spell a tree, and the first token that no continuation allows. Both speak of the grammar alone.
-use Rattle.std.specs.Prelude.{◌≡◌, ℕ, suc, List, [], ◌∷◌, ◌++◌, true}
+use Rattle.std.specs.Prelude.{◌≡◌, ℕ, suc, List, [], ◌∷◌, ◌++◌, true, length}
 use Rattle.py_token.specs.declared.token.Token.{Token}
 use Rattle.py_tree.specs.Tree.{Tree}
 use Rattle.py_parse.specs.Terminals.{Want, fits}
@@ -29,3 +29,21 @@ ParsesWithin d tokens t = Spells d (reads script gives) tokens t
 -- The limit is the project's own.
 abbrev pub Parses : List Token → Tree → Type 0
 Parses tokens t = ParsesWithin 100 tokens t
+
+-- These tokens are the front of a script.
+abbrev pub BeginsScript : List Token → Type 0
+BeginsScript front = (more : List Token) × (t : Tree) × Parses (front ++ more) t
+
+-- With the next token they are the front of none; where no token is left they are none.
+abbrev pub NoMore : List Token → List Token → Type 0
+NoMore front [] = (t : Tree) → Parses front t → ⊥
+NoMore front (x ∷ rest) = (more : List Token) (t : Tree) → Parses (front ++ x ∷ more) t → ⊥
+
+-- The token at this place, counted from 0, is the first that no continuation allows.
+pub record IsFirstFault (tokens : List Token) (place : ℕ) : Type 0 where
+  pub front : List Token
+  pub rest : List Token
+  pub parts : tokens ≡ front ++ rest
+  pub place_is : place ≡ length front
+  pub begins : BeginsScript front
+  pub ends : NoMore front rest
