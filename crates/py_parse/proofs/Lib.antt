@@ -13,3 +13,4 @@ pub mod First
 pub mod Table
 pub mod Top
 pub mod Local
+pub mod Levels
