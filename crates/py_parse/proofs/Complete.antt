@@ -1,8 +1,7 @@
 -- What is in the grammar is read, where what may follow each part never begins more of it. The two tables that this
 -- asks for are the arguments of the section.
-use Rattle.std.proofs.Common.{◌≡◌, ℕ, suc, List, [], ◌∷◌, ◌++◌, Bool, true, false, cond, ◌||◌, refl, sym, ap, append_assoc}
+use Rattle.std.proofs.Common.{◌≡◌, ℕ, suc, List, [], ◌∷◌, ◌++◌, Bool, true, false, ◌||◌, refl, append_assoc}
 use Rattle.py_token.specs.declared.token.Token.{Token}
-use Rattle.py_token.specs.declared.token.TokenKind.{TokenKind}
 use Rattle.py_tree.specs.Tree.{Tree}
 use Rattle.py_parse.specs.declared.level.Level.{Level}
 use Rattle.py_parse.specs.declared.level.Level.TheVariants as level'
@@ -11,8 +10,8 @@ use Rattle.py_parse.specs.Terminals.{Want, one, fits, heads}
 use Rattle.py_parse.specs.Grammar as g
 use Rattle.py_parse.specs.Grammar.{Part, Body, productions, gives, takes, opens, reads, deeper}
 use Rattle.py_parse.specs.Parses.{Among, here, there, Spells, given, taken, opened, read, nested}
-use Rattle.py_parse.specs.Reading.{Outcome, ok, fault, Reads, r_given, r_taken, r_opened, r_read, r_nested, pick, choose, leads, beginning}
-use Rattle.py_parse.proofs.Follow.{any_fits, blocked, s_free, s_atom, s_product, s_sum, s_cmp, s_and, s_expr, s_items, s_args, s_names, s_tests, s_upper, s_small, s_line, s_script}
+use Rattle.py_parse.specs.Reading.{ok, Reads, r_given, r_taken, r_opened, r_read, r_nested, pick, choose, leads, beginning}
+use Rattle.py_parse.proofs.Follow.{blocked, s_free, s_atom, s_product, s_sum, s_cmp, s_and, s_expr, s_items, s_args, s_names, s_tests, s_upper, s_small, s_line, s_script}
 
 -- the tokens that would go on with a level of operators, and with a part
 abbrev pub level_stops : Level → List Want

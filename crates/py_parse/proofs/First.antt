@@ -1,19 +1,13 @@
 -- How each part begins, and what that says of what stands before it.
-use Rattle.std.proofs.Common.{◌≡◌, ℕ, suc, List, [], ◌∷◌, ◌++◌, Bool, true, false, ◌||◌, ◌⊎◌, inl, inr, refl, sym, ap}
-use Rattle.py_token.specs.declared.keyword.Keyword.TheVariants as keyword'
-use Rattle.py_token.specs.declared.mark.Mark.TheVariants as mark'
+use Rattle.std.proofs.Common.{◌≡◌, ℕ, List, [], ◌∷◌, ◌++◌, Bool, true, false, ◌||◌, ◌⊎◌, inl, inr, refl}
 use Rattle.py_token.specs.declared.token.Token.{Token}
 use Rattle.py_token.specs.declared.token.TokenKind.{TokenKind}
 use Rattle.py_tree.specs.Tree.{Tree}
-use Rattle.py_parse.specs.declared.level.Level.{Level}
-use Rattle.py_parse.specs.declared.level.Level.TheVariants as level'
-use Rattle.py_parse.specs.declared.terminal.Terminal.TheVariants as terminal'
-use Rattle.py_parse.specs.Terminals.{Want, one, fits, heads}
-use Rattle.py_parse.specs.Grammar as g
-use Rattle.py_parse.specs.Grammar.{Part, Body, productions, gives, takes, opens, reads, deeper}
-use Rattle.py_parse.specs.Parses.{Among, here, there, Spells, given, taken, opened, read, nested}
+use Rattle.py_parse.specs.Terminals.{Want, fits, heads}
+use Rattle.py_parse.specs.Grammar.{Part, Body, productions, gives, takes, opens, reads}
+use Rattle.py_parse.specs.Parses.{Among, here, there, Spells, given, taken, opened, read}
 use Rattle.py_parse.proofs.Follow.{any_fits, blocked}
-use Rattle.py_parse.proofs.Complete.{Followed, Own}
+use Rattle.py_parse.proofs.Complete.{Followed}
 
 -- the first token is one of these
 abbrev pub heads_in : List Want → List Token → Bool

@@ -1,5 +1,5 @@
 -- What may follow each part, so that one token ahead decides what is read.
-use Rattle.std.proofs.Common.{◌≡◌, ℕ, List, [], ◌∷◌, ◌++◌, Bool, true, false, ◌&&◌, ◌||◌, refl, sym, ap}
+use Rattle.std.proofs.Common.{◌≡◌, ℕ, List, [], ◌∷◌, Bool, true, false, ◌&&◌, ◌||◌, refl}
 use Rattle.std.specs.Prelude.{not}
 use Rattle.std.specs.List.{list_all}
 use Rattle.py_token.specs.declared.keyword.Keyword.{Keyword}
@@ -9,10 +9,9 @@ use Rattle.py_token.specs.declared.mark.Mark.TheVariants as mark'
 use Rattle.py_token.specs.declared.token.Token.{Token}
 use Rattle.py_token.specs.declared.token.TokenKind.{TokenKind}
 use Rattle.py_token.specs.declared.token.TokenKind.TheVariants as kind'
-use Rattle.py_parse.specs.declared.level.Level.{Level}
 use Rattle.py_parse.specs.declared.level.Level.TheVariants as level'
 use Rattle.py_parse.specs.declared.terminal.Terminal.TheVariants as terminal'
-use Rattle.py_parse.specs.Terminals.{Want, one, fresh, fits, heads}
+use Rattle.py_parse.specs.Terminals.{Want, one, fits}
 use Rattle.py_parse.specs.Grammar as g
 use Rattle.py_parse.specs.Grammar.{Part}
 

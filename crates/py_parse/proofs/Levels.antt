@@ -1,13 +1,13 @@
 -- With one more level of nesting, what was refused as such is refused still, and what was refused as too deep goes on.
-use Rattle.std.proofs.Common.{◌≡◌, ℕ, zero, suc, List, [], ◌∷◌, ◌++◌, Bool, true, false, refl, sym, ap, ◌∙◌, append_assoc}
+use Rattle.std.proofs.Common.{◌≡◌, ℕ, zero, suc, List, [], ◌∷◌, ◌++◌, true, refl, ap, append_assoc}
 use Rattle.py_token.specs.declared.token.Token.{Token}
 use Rattle.py_tree.specs.Tree.{Tree}
 use Rattle.py_parse.specs.Terminals.{Want, fits, heads}
 use Rattle.py_parse.specs.Grammar.{Part, Body, gives, takes, opens, reads, deeper, script}
-use Rattle.py_parse.specs.Parses.{Spells, taken, opened, read, nested, ParsesWithin}
+use Rattle.py_parse.specs.Parses.{Spells, taken, opened, read, nested}
 use Rattle.py_parse.specs.Reading.{Outcome, ok, fault, Why, unfit, deep, Reads, r_given, r_taken, r_refused, r_opened, r_deep, r_unopened, r_read, r_part_fault, r_nested, r_nested_fault, pick}
 use Rattle.py_parse.proofs.Sound.{Sound, sound, picks}
-use Rattle.py_parse.proofs.Fill.{Filled, fill}
+use Rattle.py_parse.proofs.Fill.{fill}
 use Rattle.py_parse.proofs.Viable.{Begins}
 
 abbrev pub NotDeep : Outcome → Type 0

@@ -1,15 +1,15 @@
 -- Reading looks one token ahead: other tokens behind that one change nothing. So where reading stops, no tokens that go on
 -- with the next one are a script.
-use Rattle.std.proofs.Common.{◌≡◌, ℕ, zero, suc, ◌+◌, List, [], ◌∷◌, ◌++◌, Bool, true, false, cond, refl, sym, ap, ◌∙◌, append_assoc, length, length-append, arith, ◌⊎◌, inl, inr}
+use Rattle.std.proofs.Common.{◌≡◌, ℕ, suc, ◌+◌, List, [], ◌∷◌, ◌++◌, true, refl, sym, ap, ◌∙◌, append_assoc, length, length-append, arith, ◌⊎◌, inl, inr}
 use Rattle.py_token.specs.declared.token.Token.{Token}
 use Rattle.py_tree.specs.Tree.{Tree, nil}
 use Rattle.py_parse.specs.Terminals.{Want, one, fits, heads}
 use Rattle.py_parse.specs.Grammar.{Part, Body, productions, gives, takes, opens, reads, deeper, script}
-use Rattle.py_parse.specs.Parses.{Parses, BeginsScript, NoMore, IsFirstFault, here, there, given, read}
-use Rattle.py_parse.specs.Reading.{Outcome, ok, fault, Why, unfit, deep, Reads, r_given, r_taken, r_refused, r_opened, r_deep, r_unopened, r_read, r_part_fault, r_nested, r_nested_fault, pick, choose, leads, beginning}
+use Rattle.py_parse.specs.Parses.{BeginsScript, NoMore, IsFirstFault, here, there, given, read}
+use Rattle.py_parse.specs.Reading.{Outcome, ok, fault, Why, Reads, r_given, r_taken, r_refused, r_opened, r_deep, r_unopened, r_read, r_part_fault, r_nested, r_nested_fault, pick, choose, leads, beginning}
 use Rattle.py_parse.proofs.Shorter.{rest_of}
 use Rattle.py_parse.proofs.Top.{no_tree, with_nothing, begins_script}
-use Rattle.py_parse.proofs.Viable.{Viable, Begins}
+use Rattle.py_parse.proofs.Viable.{Begins}
 
 abbrev pub SameHead : List Token → List Token → Type 0
 SameHead ts us = (w : Want) → heads w ts ≡ heads w us

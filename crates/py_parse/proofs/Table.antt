@@ -1,28 +1,25 @@
 -- Of each part: how it begins, and what may follow it. The tables are generated from the list of productions.
-use Rattle.std.proofs.Common.{◌≡◌, ℕ, suc, List, [], ◌∷◌, ◌++◌, Bool, true, false, ◌||◌, ◌⊎◌, inl, inr, refl, sym, ap}
+use Rattle.std.proofs.Common.{◌≡◌, ℕ, List, [], ◌∷◌, ◌++◌, Bool, true, false, ◌||◌, ◌⊎◌, refl}
 use Rattle.py_token.specs.declared.keyword.Keyword.TheVariants as keyword'
 use Rattle.py_token.specs.declared.mark.Mark.TheVariants as mark'
 use Rattle.py_token.specs.declared.token.Token.{Token}
 use Rattle.py_token.specs.declared.token.TokenKind.{TokenKind}
 use Rattle.py_tree.specs.Tree as tree
 use Rattle.py_tree.specs.Tree.{Tree}
-use Rattle.py_parse.specs.declared.level.Level.{Level}
 use Rattle.py_parse.specs.declared.level.Level.TheVariants as level'
 use Rattle.py_parse.specs.declared.terminal.Terminal.TheVariants as terminal'
-use Rattle.py_parse.specs.Terminals.{Want, one, fresh, fits, heads}
+use Rattle.py_parse.specs.Terminals.{Want, one, fresh, fits}
 use Rattle.py_parse.specs.Grammar as g
 use Rattle.py_parse.specs.Grammar.{Part, Body, productions, gives, takes, opens, reads, deeper, when, first_named}
-use Rattle.py_parse.specs.Parses.{Among, here, there, Spells, given, taken, opened, read, nested}
-use Rattle.py_parse.proofs.Follow.{any_fits, blocked, every_kind, excludes, covers, excluded, covered, s_free, s_atom, s_product, s_sum, s_cmp, s_and, s_expr, s_items, s_args, s_names, s_tests, s_upper, s_small, s_line, s_script, f_atom, f_unary, f_neg, f_small, f_line}
-use Rattle.py_parse.proofs.Complete.{Followed, Own, Fine, Later, Chooses, Ordered, stops, complete}
+use Rattle.py_parse.specs.Parses.{Among, here, there, Spells}
+use Rattle.py_parse.proofs.Follow.{any_fits, every_kind, excludes, covers, excluded, covered, s_free, s_atom, s_product, s_sum, s_cmp, s_and, s_expr, s_items, s_args, s_names, s_tests, s_upper, s_small, s_line, s_script, f_atom, f_unary, f_neg, f_small, f_line}
+use Rattle.py_parse.proofs.Complete.{Fine, Ordered, stops, complete}
 use Rattle.py_token.specs.declared.mark.Mark.{Mark}
 use Rattle.py_token.specs.declared.token.TokenKind.TheVariants as kind'
 use Rattle.std.specs.Prelude.{not}
 use Rattle.py_parse.specs.declared.site.Site.{Site}
-use Rattle.py_parse.specs.Reading.{beginning, Reads, ok, pick}
-use Rattle.py_parse.specs.Parses.{Parses}
-use Rattle.py_parse.proofs.One.{Reads-one}
-use Rattle.py_parse.proofs.First.{heads_in, Wanted, wanted, further, BodyFirst, AllFirst, AllMaybe, first_takes, first_opens, first_part, followed_first, followed_end, followed_maybe, maybe_first, maybe_nothing, own_first, first_maybe}
+use Rattle.py_parse.specs.Reading.{beginning, Reads, ok}
+use Rattle.py_parse.proofs.First.{heads_in, wanted, further, BodyFirst, AllFirst, AllMaybe, first_takes, first_opens, first_part, followed_first, followed_end, followed_maybe, maybe_first, maybe_nothing, own_first, first_maybe}
 
 abbrev implies : List Want → List Want → TokenKind → Bool
 implies ws vs k = not (any_fits ws k) || any_fits vs k

@@ -2,13 +2,13 @@
 -- most one tree, and where reading stops the tokens before begin a script.
 use Rattle.std.proofs.Common.{◌≡◌, List, [], ◌∷◌, ◌++◌, ◌∙◌, refl, ap}
 use Rattle.py_token.specs.declared.token.Token.{Token}
-use Rattle.py_tree.specs.Tree.{Tree, nil}
+use Rattle.py_tree.specs.Tree.{Tree}
 use Rattle.py_parse.specs.Grammar.{reads, gives, script}
-use Rattle.py_parse.specs.Parses.{Parses, Spells}
-use Rattle.py_parse.specs.Reading.{Outcome, ok, fault, Why, Reads}
+use Rattle.py_parse.specs.Parses.{Parses}
+use Rattle.py_parse.specs.Reading.{ok, fault, Why, Reads}
 use Rattle.py_parse.proofs.One.{Reads-one}
 use Rattle.py_parse.proofs.Sound.{Sound, sound}
-use Rattle.py_parse.proofs.Viable.{Viable, Begins, viable}
+use Rattle.py_parse.proofs.Viable.{Viable, viable}
 use Rattle.py_parse.proofs.Table.{complete_script}
 
 pub with_nothing : (ts : List Token) → ts ++ [] ≡ ts
