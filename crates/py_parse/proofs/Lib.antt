@@ -1,0 +1,16 @@
+pub mod Cases
+pub mod Paths
+pub mod Shorter
+pub mod Loops
+pub mod Comparing
+pub mod One
+pub mod Sound
+pub mod Fill
+pub mod Viable
+pub mod Follow
+pub mod Complete
+pub mod First
+pub mod Table
+pub mod Top
+pub mod Local
+pub mod Levels

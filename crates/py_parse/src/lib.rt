@@ -1,0 +1,106 @@
+//! The grammar of the script language, and how tokens are read by it.
+//!
+//! The grammar is in `specs/Grammar.antt`, and which tokens are a script with which tree in `specs/Parses.antt`. Reading
+//! tokens from left to right, one token ahead, is the relation `Reads` of `specs/Reading.antt`: a contract of a reading
+//! function says that what it answers is what reading gives.
+#![tactic(auto)]
+
+mod level;
+mod names;
+mod operators;
+mod seen;
+mod site;
+mod stop;
+mod tables;
+mod terminal;
+
+pub use level::Level;
+pub use names::{parse_names, take_name};
+pub use operators::{chain_of, next_comparison, next_operator, post_of, take_constant};
+pub use seen::Seen;
+pub use site::Site;
+pub use stop::Stop;
+pub use terminal::{Terminal, sees, strip};
+
+#[cfg(test)]
+mod tests {
+    use super::*;
+    use py_token::{Keyword, Mark, Token, TokenKind};
+    use py_tree::{Comparison, Expr, Operation, Operator};
+    use scons_base::Text;
+    use std::alloc::Global;
+    use std::test::Fail;
+
+    fn name(alloc: Global, text: &str) -> Result<Token, Fail> {
+        let kind = TokenKind::Name(Text::of(alloc, text)?);
+        Ok(Token { line: 7, kind })
+    }
+
+    fn token(kind: TokenKind) -> Token {
+        Token { line: 7, kind }
+    }
+
+    #[test]
+    fn names_end_at_the_first_without_a_comma(rt: HostRuntime) -> Result<(), Fail> {
+        let alloc = rt.alloc();
+        let mut tokens = Vec::new(alloc);
+        tokens.push(name(alloc, "a")?)?;
+        tokens.push(token(TokenKind::Mark(Mark::Comma)))?;
+        tokens.push(name(alloc, "b")?)?;
+        tokens.push(token(TokenKind::Word(Keyword::In)))?;
+        match parse_names(alloc, tokens.as_slice()) {
+            Ok((names, rest)) => {
+                assert_eq!(rt; names.len(), 2);
+                assert_eq!(rt; names[0].as_str(), "a");
+                assert_eq!(rt; names[1].as_str(), "b");
+                assert_eq!(rt; rest.len(), 1);
+            }
+            Err(_) => assert!(rt; false, "names are read"),
+        }
+        let mut seen = Seen::new(alloc);
+        seen.insert(Text::of(alloc, "a")?)?;
+        assert!(rt; seen.take_fresh(tokens.as_slice()).is_none());
+        Ok(())
+    }
+
+    #[test]
+    fn a_comparison_may_have_two_words(rt: HostRuntime) -> Result<(), Fail> {
+        let alloc = rt.alloc();
+        let mut tokens = Vec::new(alloc);
+        tokens.push(token(TokenKind::Word(Keyword::Is)))?;
+        tokens.push(token(TokenKind::Word(Keyword::Not)))?;
+        tokens.push(token(TokenKind::Word(Keyword::NoneValue)))?;
+        match next_comparison(tokens.as_slice()) {
+            Ok(Some((line, comparison, rest))) => {
+                assert_eq!(rt; line, 7);
+                assert_eq!(rt; comparison, Comparison::IsNot);
+                assert!(rt; take_constant(rest).is_ok());
+            }
+            _ => assert!(rt; false, "`is not` is read"),
+        }
+        Ok(())
+    }
+
+    #[test]
+    fn one_operand_is_no_chain(rt: HostRuntime) -> Result<(), Fail> {
+        let alloc = rt.alloc();
+        let one = Expr::Integer { line: 1, value: 1 };
+        let alone = chain_of(alloc, one, Vec::new(alloc))?;
+        assert!(rt; matches!(alone, Expr::Integer { .. }));
+        let mut rest = Vec::new(alloc);
+        let operand = Expr::Integer { line: 1, value: 2 };
+        let operator = Operator::Add;
+        rest.push(Operation {
+            line: 1,
+            operator,
+            operand,
+        })?;
+        let one = Expr::Integer { line: 1, value: 1 };
+        let sum = chain_of(alloc, one, rest)?;
+        assert!(rt; matches!(sum, Expr::Chain { .. }));
+        let one = Expr::Integer { line: 1, value: 1 };
+        let alone = post_of(alloc, one, Vec::new(alloc))?;
+        assert!(rt; matches!(alone, Expr::Integer { .. }));
+        Ok(())
+    }
+}

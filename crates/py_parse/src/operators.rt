@@ -1,0 +1,96 @@
+//! Operators and constants: what is read without going deeper.
+ghost use Rattle.std.specs.Prelude.{◌≡◌, ◌≢◌, ◌-◌, ◌<◌, ◌≤◌, ℕ, true, false, map, length, Some, None, Ok, Err, MatchOption, MatchResult, IfOk, Option, IsTrue};
+ghost use Rattle.py_tree.specs.Tree.{expr_tree, link_tree, argument_tree, operation_tree, pair_tree, simple_tree, parameter_tree, line_tree, branch_tree, script_tree, trees, words, Tree, nil, cons, absent, branching, optional_tree};
+ghost use Rattle.py_parse.specs.Terminals.{one, heads};
+ghost use Rattle.py_parse.specs.Agrees.{Agrees, AgreesOnStop, Taken, EndsAt, OperatorAt, NameAt, Compares, right_of, list_end, optional_box, onto};
+ghost use Rattle.py_parse.specs.Reading.{Reads, pick, ok};
+ghost use Rattle.py_parse.specs.Grammar as grammar;
+ghost use Rattle.py_parse.specs.Agrees as agrees;
+ghost use Rattle.py_parse.specs.declared.level.Level.TheVariants as level';
+ghost use Rattle.py_parse.specs.declared.terminal.Terminal.TheVariants as terminal';
+ghost use Rattle.py_token.specs.declared.mark.Mark.TheVariants as mark';
+
+use crate::level::Level;
+use crate::stop::Stop;
+use crate::tables::{comparison_of, constant_of, operator_of};
+use crate::terminal::{Terminal, strip};
+use py_token::{Keyword, Token};
+use py_tree::{Comparison, Constant, Expr, Link, Operation, Operator};
+use std::alloc::{AllocError, Global};
+
+/// The operator of this level that is the next token, with its line.
+pub fn next_operator<'a>(level: Level, tokens: &'a [Token]) -> Option<(u32, Operator, &'a [Token])>
+    ensures { MatchOption result (heads (one (terminal'.Operator level)) tokens.now ≡ false) (λ p. OperatorAt level tokens.now p.0 p.1 p.2.now) }
+{
+    let (first, rest) = tokens.split_first()?;
+    let operator = operator_of(level, &first.kind)?;
+    Some((first.line, operator, rest))
+}
+
+/// `True`, `False` or `None`.
+pub fn take_constant<'a>(tokens: &'a [Token]) -> Result<(Expr, &'a [Token]), Stop<'a>>
+    ensures { Agrees (λ p. ok (expr_tree p.0) p.1.now) result (λ o. (d : ℕ) → Reads d (pick grammar.constants tokens.now) tokens.now o) }
+{
+    let Some((token, rest)) = strip(Terminal::Constant, tokens) else {
+        return Err(Stop::At(tokens));
+    };
+    let Some(constant) = constant_of(&token.kind) else {
+        return Err(Stop::At(tokens));
+    };
+    Ok((
+        Expr::Constant {
+            line: token.line,
+            constant,
+        },
+        rest,
+    ))
+}
+
+/// The operands joined, or the first alone.
+pub fn chain_of(alloc: Global, first: Expr, rest: Vec<Operation>) -> Result<Expr, AllocError>
+    ensures { IfOk result (λ e. expr_tree e ≡ grammar.chain_of (expr_tree first) (trees (map operation_tree rest.items))) }
+{
+    if rest.is_empty() {
+        return Ok(first);
+    }
+    let first = Box::new(alloc, first)?;
+    Ok(Expr::Chain { first, rest })
+}
+
+/// The operator of a comparison that is next, with its line.
+pub fn next_comparison<'a>(
+    tokens: &'a [Token],
+) -> Result<Option<(u32, Comparison, &'a [Token])>, Stop<'a>>
+    ensures { Compares tokens.now result }
+{
+    if let Some((word, rest)) = strip(Terminal::Word(Keyword::Not), tokens) {
+        let Some((_, rest)) = strip(Terminal::Word(Keyword::In), rest) else {
+            return Err(Stop::At(rest));
+        };
+        return Ok(Some((word.line, Comparison::NotIn, rest)));
+    }
+    if let Some((word, rest)) = strip(Terminal::Word(Keyword::Is), tokens) {
+        if let Some((_, rest)) = strip(Terminal::Word(Keyword::Not), rest) {
+            return Ok(Some((word.line, Comparison::IsNot, rest)));
+        }
+        return Ok(Some((word.line, Comparison::Is, rest)));
+    }
+    let Some((mark, rest)) = strip(Terminal::Comparison, tokens) else {
+        return Ok(None);
+    };
+    let Some(comparison) = comparison_of(&mark.kind) else {
+        return Err(Stop::At(tokens));
+    };
+    Ok(Some((mark.line, comparison, rest)))
+}
+
+/// The atom with what stands behind it, or the atom alone.
+pub fn post_of(alloc: Global, atom: Expr, links: Vec<Link>) -> Result<Expr, AllocError>
+    ensures { IfOk result (λ e. expr_tree e ≡ grammar.post_of (expr_tree atom) (trees (map link_tree links.items))) }
+{
+    if links.is_empty() {
+        return Ok(atom);
+    }
+    let atom = Box::new(alloc, atom)?;
+    Ok(Expr::Post { atom, links })
+}

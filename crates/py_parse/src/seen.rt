@@ -1,0 +1,64 @@
+//! The names that a list of parameters or named arguments has so far.
+ghost use Rattle.std.specs.Prelude.{◌≡◌, ◌≢◌, ◌-◌, ◌<◌, ◌≤◌, ℕ, true, false, map, length, Some, None, Ok, Err, MatchOption, MatchResult, IfOk, Option, IsTrue, List, [], ◌∷◌, ◌++◌, OnOk};
+ghost use Rattle.py_tree.specs.Tree.{expr_tree, link_tree, argument_tree, operation_tree, pair_tree, simple_tree, parameter_tree, line_tree, branch_tree, script_tree, trees, words, Tree, nil, cons, absent, branching, optional_tree};
+ghost use Rattle.py_parse.specs.Terminals.{one, heads, has, fresh};
+ghost use Rattle.py_parse.specs.Agrees.{Agrees, AgreesOnStop, Taken, EndsAt, OperatorAt, NameAt, FreshAt, Compares, right_of, list_end, optional_box, onto};
+ghost use Rattle.py_parse.specs.Reading.{Reads, pick, ok};
+ghost use Rattle.py_parse.specs.Grammar as grammar;
+ghost use Rattle.py_parse.specs.Agrees as agrees;
+ghost use Rattle.py_parse.specs.declared.level.Level.TheVariants as level';
+ghost use Rattle.py_parse.specs.declared.terminal.Terminal.TheVariants as terminal';
+ghost use Rattle.py_token.specs.declared.mark.Mark.TheVariants as mark';
+
+use crate::names::take_name;
+use py_token::Token;
+use scons_base::{Memory, Text};
+use std::alloc::Global;
+use std::marker::Model;
+
+/// The names so far.
+#[derive(Debug, Drop)]
+pub struct Seen {
+    names: Vec<Text>,
+}
+
+impl Model for Seen {
+    ghost Value = { List (List ℕ) };
+
+    ghost view = { λ s. s.names.items };
+}
+
+impl Seen {
+    pub fn new(alloc: Global) -> Seen
+        ensures { result ≡ [] }
+    {
+        Seen {
+            names: Vec::new(alloc),
+        }
+    }
+
+    pub fn insert(&mut self, name: Text) -> Result<(), Memory>
+        ensures { OnOk result (self.new ≡ self.old ++ name ∷ []) }
+    {
+        self.names.push(name)?;
+        Ok(())
+    }
+
+    pub fn contains(&self, name: &Text) -> bool
+        ensures { result ≡ has self.now name.now }
+    {
+        self.names.iter().any(|seen| seen == name)
+    }
+
+    /// The name that is the next token, where it isn't one of these.
+    pub fn take_fresh<'a>(&self, tokens: &'a [Token]) -> Option<(u32, &'a Text, &'a [Token])>
+        ensures { MatchOption result (heads (fresh self.now) tokens.now ≡ false) (λ p. FreshAt self.now tokens.now p.0 p.1.now p.2.now) }
+    {
+        let (line, name, rest) = take_name(tokens)?;
+        if self.contains(name) {
+            None
+        } else {
+            Some((line, name, rest))
+        }
+    }
+}
