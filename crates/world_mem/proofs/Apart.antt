@@ -1,5 +1,5 @@
 -- Ids that differ, after one job more and one job fewer.
-use Rattle.std.proofs.Common.{◌≡◌, ◌≢◌, ◌∙◌, ◌⊎◌, ◌<◌, ◌≤◌, ◌+◌, sym, refl, ℕ, suc, List, [], ◌∷◌, ◌++◌, ap, length, get_or, inl, inr, arith, Contains, length-append}
+use Rattle.std.proofs.Common.{◌≡◌, ◌≢◌, ◌∙◌, ◌<◌, ◌≤◌, ◌+◌, sym, ℕ, List, [], ◌∷◌, ◌++◌, ap, length, get_or, inl, inr, arith, Contains, length-append}
 use Rattle.std.specs.List.{remove}
 use Rattle.std.proofs.Math.ListN.{get_or-append}
 use Rattle.std.proofs.Math.Seq.{get_or-append_seam}

@@ -1,14 +1,14 @@
 -- Marks at the targets of a job, and what an ending leaves there.
-use Rattle.std.proofs.Common.{◌≡◌, ◌≢◌, ◌∙◌, ◌⊎◌, ◌<◌, ◌+◌, sym, refl, ℕ, suc, zero, List, [], ◌∷◌, ◌++◌, Bool, true, false, cond, Option, Some, None, ap, map, length, get_or, inl, inr, arith, Contains, subst, IsSome, is_some, IsTrue, ◌||◌, append-nil}
+use Rattle.std.proofs.Common.{◌≡◌, ◌∙◌, ◌⊎◌, ◌<◌, sym, refl, ℕ, suc, zero, List, [], ◌∷◌, ◌++◌, Bool, true, false, cond, Option, Some, None, ap, map, length, get_or, inl, inr, arith, Contains, IsSome, is_some, IsTrue, ◌||◌, append-nil}
 use Rattle.std.specs.Cmp.Lexicographic.{bytes_decides}
-use Rattle.std.specs.List.{list_any, flat_map}
+use Rattle.std.specs.List.{list_any}
 use Rattle.std.specs.Option.{option_map, option_to_list}
 use Rattle.std.specs.Str.{bytes_eq}
 use Rattle.std.proofs.lemmas.Bool.{cases_Bool}
 use Rattle.std.proofs.lemmas.Grind.{flat_map-append}
 use Rattle.world_api.specs.Act.{Content, Given}
 use Rattle.world_mem.specs.declared.slots.Slot.{Slot}
-use Rattle.world_mem.specs.declared.slots.Slot.TheVariants.{Running, Settled}
+use Rattle.world_mem.specs.declared.slots.Slot.TheVariants.{Settled}
 use Rattle.world_mem.specs.InSlots.{file_at, written, marked, settled, content_of}
 use Rattle.world_mem.specs.Kept.{contents_in, met_of}
 

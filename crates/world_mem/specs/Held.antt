@@ -1,11 +1,10 @@
 -- What a file holds has been met.
-use Rattle.std.proofs.Common.{◌≡◌, ◌+◌, ◌<◌, ℕ, suc, List, [], ◌∷◌, Bool, true, false, Some, Contains, length, arith, sym, inl, inr, ◌||◌}
+use Rattle.std.proofs.Common.{◌≡◌, ℕ, suc, List, [], ◌∷◌, Bool, true, false, Some, Contains, arith, sym, inl, inr, ◌||◌}
 use Rattle.std.specs.Cmp.Lexicographic.{bytes_decides}
 use Rattle.std.specs.List.{list_any}
 use Rattle.std.specs.Str.{bytes_eq}
 use Rattle.std.proofs.lemmas.Bool.{cases_Bool}
 use Rattle.world_mem.specs.AsAround.{around_of}
-use Rattle.world_mem.specs.InSlots.{slot_at, content_of}
 use Rattle.world_mem.specs.Kept.{met_of}
 use Rattle.world_mem.specs.declared.state.State.{State}
 

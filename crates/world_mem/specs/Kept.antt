@@ -2,7 +2,7 @@
 use Rattle.std.specs.Prelude.{◌≡◌, ◌<◌, ℕ, List, [], ◌∷◌, ◌++◌, length}
 use Rattle.std.specs.List.{flat_map, slice_index_or}
 use Rattle.std.specs.Option.{option_to_list}
-use Rattle.world_api.specs.Act.{Content, Given}
+use Rattle.world_api.specs.Act.{Given}
 use Rattle.world_api.specs.Around.{Running, Entry, Started, Finished}
 use Rattle.world_api.specs.Counts.{Counts}
 use Rattle.world_mem.specs.declared.event.Event.{Event}

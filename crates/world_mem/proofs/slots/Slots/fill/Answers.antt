@@ -1,7 +1,6 @@
-use Rattle.std.proofs.Common.{◌≡◌, ◌∙◌, sym, ap, subst, cond, List, ℕ, Bool, true, false, Option, Some, None, take, get_or, ◌++◌, ◌∷◌, [], is_some, ◌+◌}
+use Rattle.std.proofs.Common.{◌≡◌, ◌∙◌, sym, ap, cond, List, ℕ, Some, None, take, ◌++◌, ◌∷◌, [], ◌+◌}
 use Rattle.std.specs.Str.{bytes_eq}
 use Rattle.std.proofs.lemmas.List.{take_more}
-use Rattle.world_mem.specs.declared.slots.Slot.{Slot}
 use Rattle.world_mem.specs.declared.slots.Slot.TheVariants.{Settled}
 use Rattle.world_mem.specs.InSlots.{slot_at, content_of, file_at}
 use Rattle.world_mem.proofs.Marks.{put-file, none_of}

@@ -1,4 +1,4 @@
-use Rattle.std.proofs.Common.{◌≡◌, ◌<◌, ◌≤◌, ap, subst, arith, ℕ, List, IsSome, length}
+use Rattle.std.proofs.Common.{◌≡◌, ap, subst, arith, ℕ, List, IsSome, length}
 use Rattle.std.specs.List.{slice_index_or}
 use Rattle.world_mem.specs.InSlots.{slot_at}
 use Rattle.world_mem.proofs.slots.Slots.make_places.Goals as goal

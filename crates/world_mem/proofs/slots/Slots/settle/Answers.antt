@@ -1,4 +1,4 @@
-use Rattle.std.proofs.Common.{◌≡◌, ◌∙◌, sym, ap}
+use Rattle.std.proofs.Common.{◌∙◌, sym, ap}
 use Rattle.world_mem.proofs.Written.{settled-push}
 use Rattle.world_mem.specs.InSlots.{slot_at, settled}
 use Rattle.world_mem.proofs.slots.Slots.settle.Goals as goal

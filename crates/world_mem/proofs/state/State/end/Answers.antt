@@ -1,11 +1,9 @@
-use Rattle.std.proofs.Common.{rules, ◌≡◌, ◌≢◌, ◌∙◌, ◌⊎◌, sym, ap, subst, inl, inr, arith, ◌+◌, ◌<◌, ◌≤◌, ℕ, List, Some, Option, IsTrue, Contains, vec_len, ◌∷◌, ◌++◌, [], IsSome, None, length, map, cond, take, drop, suc, refl, true, get_or, is_some, false}
+use Rattle.std.proofs.Common.{◌≡◌, ◌∙◌, sym, ap, subst, inl, inr, ◌<◌, ℕ, List, Some, Option, Contains, ◌∷◌, length, map, take, drop, suc, refl, true, is_some, false}
 use Rattle.std.specs.List.{slice_index_or, list_any}
 use Rattle.std.specs.Str.{bytes_eq}
-use Rattle.std.specs.Vec.{vec_capacity}
-use Rattle.world_mem.specs.AsAround.{around_of}
 use Rattle.world_mem.specs.InSlots.{slot_at, content_of}
-use Rattle.world_mem.specs.Kept.{met_of, counts_of, IdsApart, running_of, entry_of}
-use Rattle.world_mem.specs.Planned.{makes, ends, IsPlain}
+use Rattle.world_mem.specs.Kept.{met_of, IdsApart, running_of, entry_of}
+use Rattle.world_mem.specs.Planned.{ends, IsPlain}
 use Rattle.world_mem.proofs.Plain.{ends_plain}
 use Rattle.world_api.specs.Around as api
 use Rattle.std.proofs.lemmas.List.{get_or-map, length-map, map-append}
@@ -14,10 +12,10 @@ use Rattle.world_api.specs.Act.{act}
 use Rattle.world_mem.specs.InSlots.{settled}
 use Rattle.world_mem.specs.Table.{law_of}
 use Rattle.world_mem.specs.declared.running.RunningJob.{RunningJob}
-use Rattle.world_mem.specs.declared.slots.Slot.TheVariants.{Running, Settled}
-use Rattle.world_mem.proofs.Apart.{apart-push, apart-remove}
-use Rattle.world_mem.proofs.Marks.{marked-off, marked-on, marked-empty, marked-absent, settled-off, settled-on, settled-content, written_off, met-push, found_in_push, found_before}
-use Rattle.world_mem.proofs.Membership.{push_all, contains_map, other_place, still_in, parted, names_of_pairs, same_at}
+use Rattle.world_mem.specs.declared.slots.Slot.TheVariants.{Running}
+use Rattle.world_mem.proofs.Apart.{apart-remove}
+use Rattle.world_mem.proofs.Marks.{settled-on, found_before}
+use Rattle.world_mem.proofs.Membership.{contains_map, other_place, still_in, parted, names_of_pairs, same_at}
 use Rattle.world_mem.proofs.state.State.end.Goals as goal
 use Rattle.world_mem.proofs.state.State.end.Goals.{then-fails, else-fails}
 

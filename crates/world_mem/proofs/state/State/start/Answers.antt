@@ -1,20 +1,13 @@
-use Rattle.std.proofs.Common.{rules, ◌≡◌, ◌≢◌, ◌∙◌, ◌⊎◌, sym, ap, subst, inl, inr, arith, ◌+◌, ◌<◌, ◌≤◌, ℕ, List, Some, IsTrue, Contains, vec_len, ◌∷◌, ◌++◌, [], IsSome, None, length, map, cond, take, drop, suc, refl, Option}
-use Rattle.std.specs.List.{slice_index_or, list_any}
-use Rattle.std.specs.Str.{bytes_eq}
-use Rattle.std.specs.Vec.{vec_capacity}
+use Rattle.std.proofs.Common.{◌≡◌, ◌≢◌, ◌∙◌, sym, ap, subst, ℕ, List, Contains, ◌∷◌, ◌++◌, [], map, Option}
 use Rattle.world_mem.specs.AsAround.{around_of}
-use Rattle.world_mem.specs.InSlots.{slot_at, content_of}
-use Rattle.world_mem.specs.Kept.{met_of, counts_of, IdsApart, running_of, entry_of}
-use Rattle.world_mem.specs.Planned.{makes, ends}
+use Rattle.world_mem.specs.Kept.{met_of, running_of, entry_of}
 use Rattle.std.proofs.lemmas.List.{map-append}
-use Rattle.world_api.specs.Around.{Running, given_of}
+use Rattle.world_api.specs.Around.{given_of}
 use Rattle.world_api.specs.declared.job.Job.{Job}
 use Rattle.world_mem.specs.Table.{law_of}
 use Rattle.world_mem.specs.declared.event.Event.TheVariants as events
 use Rattle.world_mem.specs.declared.running.RunningJob.{RunningJob}
-use Rattle.world_mem.proofs.Apart.{apart-push, apart-remove}
-use Rattle.world_mem.proofs.Marks.{marked-off, marked-on, marked-empty, marked-absent, settled-off, settled-on, settled-content, written_off, met-push, found_in_push, found_before}
-use Rattle.world_mem.proofs.Membership.{push_all, contains_map, other_place, still_in, parted, names_of_pairs}
+use Rattle.world_mem.proofs.Membership.{contains_map}
 use Rattle.world_mem.proofs.state.State.start.Goals as goal
 
 pub enter-requires-clause-new_id : goal.enter-requires-clause-new_id
