@@ -3,6 +3,7 @@ pub mod Default
 pub mod Table
 pub mod CallCounts
 pub mod InSlots
+pub mod Blocked
 pub mod Planned
 pub mod Kept
 pub mod AsAround

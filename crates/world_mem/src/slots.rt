@@ -1,7 +1,8 @@
-ghost use Rattle.std.specs.Prelude.{◌≡◌, List, ℕ, None, Some, IfOk, OnOk, OnErr, if◌then◌else◌, IsSome, ◌<◌, length};
+ghost use Rattle.std.specs.Prelude.{◌≡◌, List, ℕ, None, Some, IsTrue, IfOk, OnOk, OnErr, if◌then◌else◌, IsSome, ◌<◌, length};
 ghost use Rattle.std.specs.Option.{option_copied, is_some};
 ghost use Rattle.std.specs.List.{slice_index_or};
 ghost use Rattle.std.specs.Str.{bytes_eq};
+ghost use Rattle.world_mem.specs.Blocked.{LiesBelow, Stands, IsBlocked, is_live, holds_live};
 ghost use Rattle.world_mem.specs.InSlots.{slot_at, content_of, file_at, written, marked, settled};
 ghost use Rattle.world_mem.specs.declared.slots.Slot.{Slot};
 
@@ -60,14 +61,18 @@ impl Slots {
         self.content(path).is_some()
     }
 
-    fn stands(&self, path: &[u8]) -> bool {
+    fn stands(&self, path: &[u8]) -> bool
+        ensures { result ≡ holds_live (slot_at self.now path.now) }
+    {
         match self.slots.get(path) {
             Some(slot) => is_live(slot),
             None => false,
         }
     }
 
-    fn stands_above(&self, path: &[u8]) -> bool {
+    fn stands_above(&self, path: &[u8]) -> bool
+        ensures { IsTrue result → (other : List ℕ) × Stands self.now other × LiesBelow path.now other }
+    {
         for (place, byte) in path.iter().enumerate() {
             if *byte == b'/' && self.stands(&path[..place]) {
                 return true;
@@ -76,14 +81,16 @@ impl Slots {
         false
     }
 
-    fn stands_below(&self, alloc: Global, path: &[u8]) -> Result<bool, Memory> {
+    fn stands_below(&self, alloc: Global, path: &[u8]) -> Result<bool, Memory>
+        ensures { IfOk result (λ found. IsTrue found → (other : List ℕ) × Stands self.now other × LiesBelow other path.now) }
+    {
         let mut from = Vec::from_slice(alloc, path)?;
         from.push(b'/')?;
-        for (key, slot) in self.slots.range(from..) {
+        for (key, _) in self.slots.range(from..) {
             if !is_below(key.as_slice(), path) {
                 return Ok(false);
             }
-            if is_live(slot) {
+            if self.stands(key.as_slice()) {
                 return Ok(true);
             }
         }
@@ -91,7 +98,9 @@ impl Slots {
     }
 
     /// Whether a file or a running target stands above or below the path.
-    pub fn is_blocked(&self, alloc: Global, path: &PathText) -> Result<bool, Memory> {
+    pub fn is_blocked(&self, alloc: Global, path: &PathText) -> Result<bool, Memory>
+        ensures { IfOk result (λ blocked. IsTrue blocked → IsBlocked self.now path.now) }
+    {
         let bytes = path.as_str().as_bytes();
         Ok(self.stands_above(bytes) || self.stands_below(alloc, bytes)?)
     }
@@ -184,10 +193,17 @@ impl Slots {
 }
 
 /// Whether a file stands, or is to.
-fn is_live(slot: &Slot) -> bool {
+fn is_live(slot: &Slot) -> bool
+    ensures { result ≡ is_live slot.now }
+{
     !matches!(slot, Slot::Settled(None))
 }
 
-fn is_below(path: &[u8], dir: &[u8]) -> bool {
-    path.starts_with(dir) && path.get(dir.len()) == Some(&b'/')
+fn is_below(path: &[u8], dir: &[u8]) -> bool
+    ensures { IsTrue result → LiesBelow path.now dir.now }
+{
+    match path.strip_prefix(dir) {
+        Some([first, ..]) => *first == b'/',
+        _ => false,
+    }
 }

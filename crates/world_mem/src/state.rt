@@ -45,6 +45,7 @@ impl State {
     ghost use Rattle.world_api.specs.Around.{IsUnused, Running, given_of};
     ghost use Rattle.world_api.specs.Calls.{Asks, Removes, CanStart, Starts, Ends};
     ghost use Rattle.world_mem.specs.AsAround.{around_of};
+    ghost use Rattle.world_mem.specs.Blocked.{AreBlocked};
     ghost use Rattle.world_mem.specs.Kept.{counts_of};
     ghost use Rattle.world_mem.specs.Planned.{IsPlain};
     ghost use Rattle.world_mem.specs.Table.{law_of};
@@ -86,7 +87,9 @@ impl State {
     }
 
     /// Whether a target lies below or above a file, a target of a running job or another one of these.
-    pub fn is_blocked(&self, alloc: Global, targets: &Paths) -> Result<bool, Memory> {
+    pub fn is_blocked(&self, alloc: Global, targets: &Paths) -> Result<bool, Memory>
+        ensures { IfOk result (λ blocked. IsTrue blocked → AreBlocked self.now.slots targets.now) }
+    {
         let mut own = Slots::new(alloc);
         for target in targets.as_slice() {
             if self.slots.is_blocked(alloc, target)? || own.is_blocked(alloc, target)? {

@@ -1,4 +1,4 @@
-ghost use Rattle.std.specs.Prelude.{◌≡◌, ◌≢◌, ◌+◌, ◌*◌, ◌%◌, ◌<◌, ◌≤◌, ℕ, List, [], Some, None, Ok, Err, length, slice_index, IfOk, IfErr, IfSome, OnOk, OnErr, IsTrue, Contains, ◌↔◌, pos};
+ghost use Rattle.std.specs.Prelude.{◌≡◌, ◌≢◌, ◌+◌, ◌*◌, ◌%◌, ◌<◌, ◌≤◌, ℕ, List, [], Some, None, Ok, Err, length, slice_index, IfOk, IfErr, IfSome, OnOk, OnErr, IsTrue, Contains, ◌↔◌, ◌⊎◌, pos};
 ghost use Rattle.std.specs.Option.{option_copied};
 ghost use Rattle.std.specs.List.{slice_index_or};
 ghost use Rattle.world_api.specs.Reads.{IsOver};
@@ -102,6 +102,7 @@ impl World for MemWorld {
     ghost use Rattle.world_api.specs.Meaning.{Told};
     ghost use Rattle.world_api.specs.Reads.{IsOver};
     ghost use Rattle.world_mem.specs.AsAround.{around_of};
+    ghost use Rattle.world_mem.specs.Blocked.{AreBlocked};
     ghost use Rattle.world_mem.specs.Kept.{counts_of};
     ghost use Rattle.world_mem.specs.CallCounts.{IsListed, count_of, counted};
     ghost use Rattle.world_mem.specs.Planned.{IsPlain};
@@ -157,6 +158,7 @@ impl World for MemWorld {
         ensures kept { result ≢ Err AskRefusal.Fault → world_meaning.counts self.new ≡ world_meaning.counts self.old }
         ensures rose { result ≡ Err AskRefusal.Fault → Fails (λ counts. counts.start_faults) (world_meaning.counts self.old) (world_meaning.counts self.new) }
         ensures listed { IsListed Call.Start self.old.calls → result ≡ Err AskRefusal.Fault }
+        ensures only { result ≡ Err AskRefusal.Fault → IsListed Call.Start self.old.calls ⊎ AreBlocked self.old.state.slots job.targets }
         ensures counted { self.new.calls ≡ counted Call.Start self.old.calls }
     {
         let listed = self.calls.fails(Call::Start);
