@@ -1,11 +1,13 @@
 -- Paths that lie below others, and what a put leaves live.
-use Rattle.std.proofs.Common.{◌≡◌, ◌∙◌, ◌<◌, ◌≤◌, ◌+◌, sym, refl, ap, cond, ℕ, suc, List, [], ◌∷◌, ◌++◌, Bool, true, false, Option, Some, take, drop, length, get_or, inl, inr, arith, Contains, subst}
+use Rattle.std.proofs.Common.{◌≡◌, ◌∙◌, ◌<◌, ◌≤◌, ◌+◌, sym, refl, ap, cond, ℕ, suc, List, [], ◌∷◌, ◌++◌, Bool, true, false, Option, Some, None, is_some, take, drop, length, get_or, inl, inr, arith, Contains, subst}
 use Rattle.std.specs.Cmp.Lexicographic.{bytes_decides}
 use Rattle.std.specs.Str.{bytes_eq}
 use Rattle.std.proofs.lemmas.Bool.{cases_Bool}
 use Rattle.std.proofs.lemmas.List.{take-append-drop}
 use Rattle.world_mem.specs.Blocked.{LiesBelow, holds_live}
+use Rattle.world_mem.specs.InSlots.{content_of}
 use Rattle.world_mem.specs.declared.slots.Slot.{Slot}
+use Rattle.world_mem.specs.declared.slots.Slot.TheVariants.{Running, Settled}
 use Rattle.world_mem.proofs.Membership.{parted, same_at}
 
 first_is : (b : ℕ) (xs : List ℕ) → 0 < length xs → get_or xs 0 0 ≡ b → xs ≡ b ∷ drop 1 xs
@@ -29,3 +31,9 @@ put_live P target other slot old new put before here live = elim (cases_Bool (by
   | inl y ↦ subst P ((bytes_decides target other).0 y) here
   | inr n ↦ before (sym (ap holds_live (put ∙ ap (λ b. cond b (Some slot) old) n)) ∙ live)
 ]
+
+-- a file that stands is live
+pub live_of : (o : Option Slot) → is_some (content_of o) ≡ true → holds_live o ≡ true
+live_of None h = absurd (let e : false ≡ true = h in cc e)
+live_of (Some (Running id)) h = absurd (let e : false ≡ true = h in cc e)
+live_of (Some (Settled content)) h = h

@@ -1,5 +1,6 @@
 -- A path in the way of another: a file can't also be a directory.
-use Rattle.std.specs.Prelude.{◌≡◌, ◌++◌, ◌⊎◌, ℕ, List, ◌∷◌, Bool, true, false, Option, Some, None, IsTrue, Contains}
+use Rattle.std.specs.Prelude.{◌≡◌, ◌++◌, ◌⊎◌, ℕ, List, ◌∷◌, Bool, true, false, Option, Some, None, IsTrue, Contains, ◌<◌, length, take}
+use Rattle.std.specs.List.{slice_index_or}
 use Rattle.std.specs.Option.{is_some}
 use Rattle.world_mem.specs.InSlots.{slot_at}
 use Rattle.world_mem.specs.declared.slots.Slot.{Slot}
@@ -35,3 +36,9 @@ IsBlocked slots path = (other : List ℕ) × Stands slots other × Clashes path 
 abbrev pub AreBlocked : Slots → List (List ℕ) → Type 0
 AreBlocked slots targets = (target : List ℕ) × Contains targets target
     × (IsBlocked slots target ⊎ ((other : List ℕ) × Contains targets other × Clashes target other))
+
+-- the file at a place of a list has the path of one listed before, or a path below or above it
+abbrev pub IsRefused : List (List ℕ × List ℕ) → ℕ → Type 0
+IsRefused files place = (file : List ℕ × List ℕ) × (place < length files) × (slice_index_or files place file ≡ file)
+    × ((earlier : List ℕ × List ℕ) × Contains (take place files) earlier
+    × ((file.0 ≡ earlier.0) ⊎ Clashes file.0 earlier.0))

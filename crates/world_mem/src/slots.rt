@@ -1,9 +1,10 @@
-ghost use Rattle.std.specs.Prelude.{◌≡◌, List, ℕ, None, Some, IsTrue, IfOk, OnOk, OnErr, if◌then◌else◌, IsSome, ◌<◌, length};
+ghost use Rattle.std.specs.Prelude.{◌≡◌, List, ℕ, None, Some, IsTrue, IfOk, IfErr, OnOk, OnErr, if◌then◌else◌, IsSome, ◌<◌, length};
 ghost use Rattle.std.specs.Option.{option_copied, is_some};
 ghost use Rattle.std.specs.List.{slice_index_or};
 ghost use Rattle.std.specs.Str.{bytes_eq};
-ghost use Rattle.world_mem.specs.Blocked.{LiesBelow, Stands, IsBlocked, is_live, holds_live};
+ghost use Rattle.world_mem.specs.Blocked.{LiesBelow, Stands, IsBlocked, IsRefused, is_live, holds_live};
 ghost use Rattle.world_mem.specs.InSlots.{slot_at, content_of, file_at, written, marked, settled};
+ghost use Rattle.world_mem.specs.declared.refusal.NewRefusal.{NewRefusal};
 ghost use Rattle.world_mem.specs.declared.slots.Slot.{Slot};
 
 use crate::contents::Contents;
@@ -109,7 +110,8 @@ impl Slots {
     /// place.
     pub fn fill(&mut self, alloc: Global, files: &[(PathText, Blob)]) -> Result<(), NewRefusal>
         requires { (path : List ℕ) → slot_at self.old path ≡ None }
-        ensures { OnOk result ((path : List ℕ) → content_of (slot_at self.new path) ≡ file_at files.now path) }
+        ensures files { OnOk result ((path : List ℕ) → content_of (slot_at self.new path) ≡ file_at files.now path) }
+        ensures place { IfErr result (λ refusal. (place : ℕ) → refusal ≡ NewRefusal.Place place → IsRefused files.now place) }
     {
         for (place, (path, bytes)) in files.iter().enumerate() {
             if self.has_file(path) || self.is_blocked(alloc, path)? {

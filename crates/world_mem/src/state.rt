@@ -1,4 +1,4 @@
-ghost use Rattle.std.specs.Prelude.{◌≡◌, ◌+◌, ◌<◌, ◌≤◌, ℕ, List, Some, IsTrue, Contains, vec_len, IfOk, map, []};
+ghost use Rattle.std.specs.Prelude.{◌≡◌, ◌+◌, ◌<◌, ◌≤◌, ℕ, List, Some, IsTrue, Contains, vec_len, IfOk, IfErr, map, []};
 ghost use Rattle.std.specs.List.{slice_index_or, list_any};
 ghost use Rattle.std.specs.Str.{bytes_eq};
 ghost use Rattle.std.specs.Vec.{vec_capacity};
@@ -45,7 +45,8 @@ impl State {
     ghost use Rattle.world_api.specs.Around.{IsUnused, Running, given_of};
     ghost use Rattle.world_api.specs.Calls.{Asks, Removes, CanStart, Starts, Ends};
     ghost use Rattle.world_mem.specs.AsAround.{around_of};
-    ghost use Rattle.world_mem.specs.Blocked.{AreBlocked};
+    ghost use Rattle.world_mem.specs.Blocked.{AreBlocked, IsRefused};
+    ghost use Rattle.world_mem.specs.declared.refusal.NewRefusal.{NewRefusal};
     ghost use Rattle.world_mem.specs.Kept.{counts_of};
     ghost use Rattle.world_mem.specs.Planned.{IsPlain};
     ghost use Rattle.world_mem.specs.Table.{law_of};
@@ -59,6 +60,7 @@ impl State {
         ensures running { IfOk result (λ state. (around_of state).running ≡ []) }
         ensures log { IfOk result (λ state. (around_of state).log ≡ []) }
         ensures law { IfOk result (λ state. (around_of state).law ≡ law_of table) }
+        ensures place { IfErr result (λ refusal. (place : ℕ) → refusal ≡ NewRefusal.Place place → IsRefused files.now place) }
     {
         let mut slots = Slots::new(alloc);
         slots.fill(alloc, files)?;

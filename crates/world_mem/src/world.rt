@@ -57,7 +57,9 @@ fn within(content: Option<&Blob>, limit: u64) -> Result<Content, ReadRefusal>
 
 impl MemWorld {
     ghost use Rattle.world_mem.specs.AsAround.{around_of};
+    ghost use Rattle.world_mem.specs.Blocked.{IsRefused};
     ghost use Rattle.world_mem.specs.CallCounts.{count_of};
+    ghost use Rattle.world_mem.specs.declared.refusal.NewRefusal.{NewRefusal};
     ghost use Rattle.world_mem.specs.InSlots.{file_at};
     ghost use Rattle.world_mem.specs.Table.{law_of};
     ghost use Rattle.world_mem.specs.Kept.{counts_of};
@@ -79,6 +81,7 @@ impl MemWorld {
         ensures calls { IfOk result (λ world. (call : Call) → count_of call world.calls ≡ 0) }
         ensures orders { IfOk result (λ world. world.orders ≡ orders) }
         ensures failing { IfOk result (λ world. world.calls.failing ≡ failing) }
+        ensures place { IfErr result (λ refusal. (place : ℕ) → refusal ≡ NewRefusal.Place place → IsRefused files.items place) }
     {
         let state = State::new(alloc, &files, table)?;
         Ok(MemWorld {

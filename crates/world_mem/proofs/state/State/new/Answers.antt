@@ -10,4 +10,4 @@ invariant_of-result-clause-held c = λ path bytes h.
     subst (λ groups. list_any (bytes_eq bytes) (met_of groups) ≡ true) (sym c.add.ensures.items)
     (found_in_push bytes c.in_ok-met.met.items c.in_ok-group.group
     (subst (λ (group : List (List ℕ × Option (List ℕ))). list_any (bytes_eq bytes) (contents_in group) ≡ true) (sym c.in_ok-group.ensures)
-    (file_met c.args.files.now path bytes (sym (c.in_ok-fill.ensures path) ∙ h))))
+    (file_met c.args.files.now path bytes (sym (c.in_ok-fill.ensures.files path) ∙ h))))
