@@ -1,59 +1,93 @@
-//! Values for tests, by their names, and how tests show a value.
+//! How tests write values: `nil`, `true`, a number `7`, a text `'a b'`, a word list `w[a,b]`, a list `['a b',7,<n.c>,A=1,B]`
+//! of a text, a number, a path and pairs with a value and without one, and a dict `{A:7,B:'x'}`. No value is `absent`.
 
 use crate::*;
 use scons_base::{PathText, Text, Texts};
 use std::alloc::Global;
 use std::test::Fail;
 
-/// `absent` has no value.
-pub(crate) fn sample(alloc: Global, name: &str) -> Result<Option<EnvValue>, Fail> {
-    let value = match name.as_bytes() {
-        b"nil" => EnvValue::Nil,
-        b"bool" => EnvValue::Bool(true),
-        b"int" => EnvValue::Int(7),
-        b"empty" => EnvValue::Text(Text::of(alloc, "")?),
-        b"a b" | b"c a" | b" c" => EnvValue::Text(Text::of(alloc, name)?),
-        b"words a b" => EnvValue::Words(Texts::new(texts(alloc, ["a", "b"])?)),
-        b"list a c" => EnvValue::List(Items::new(items(alloc, ["a", "c"])?)),
-        b"list c d" => EnvValue::List(Items::new(items(alloc, ["c", "d"])?)),
-        b"list e e" => EnvValue::List(Items::new(items(alloc, ["e", "e"])?)),
-        b"mixed" => {
-            let mut mixed = items(alloc, ["a", "b"])?;
-            mixed.push(Item::Int(7))?;
-            mixed.push(Item::Node(PathText::read(alloc, "n.c")?))?;
-            EnvValue::List(Items::new(mixed))
-        }
-        b"dict" => {
-            let mut pairs = Pairs::new(Vec::new(alloc));
-            pairs.push((Text::of(alloc, "A")?, Item::Int(-1)))?;
-            EnvValue::Pairs(pairs)
-        }
-        b"dict 2" => {
-            let mut pairs = Pairs::new(Vec::new(alloc));
-            pairs.push((Text::of(alloc, "B")?, Item::Text(Text::of(alloc, "x")?)))?;
-            pairs.push((Text::of(alloc, "A")?, Item::Text(Text::of(alloc, "2")?)))?;
-            EnvValue::Pairs(pairs)
-        }
-        _ => return Ok(None),
-    };
-    Ok(Some(value))
+/// The value that is written so.
+pub(crate) fn value(alloc: Global, text: &str) -> Result<EnvValue, Fail> {
+    if let Some(words) = text.strip_prefix('w') {
+        return Ok(EnvValue::Words(words_in(alloc, words)?));
+    }
+    if text.starts_with('[') {
+        return Ok(EnvValue::List(items_in(alloc, text)?));
+    }
+    if text.starts_with('{') {
+        return Ok(EnvValue::Pairs(pairs_in(alloc, text)?));
+    }
+    match text {
+        "nil" => Ok(EnvValue::Nil),
+        "true" => Ok(EnvValue::Bool(true)),
+        _ => match item(alloc, text)? {
+            Item::Text(text) => Ok(EnvValue::Text(text)),
+            Item::Int(number) => Ok(EnvValue::Int(number)),
+            _ => Err(Fail::from("no value is written so")),
+        },
+    }
 }
 
-fn texts(alloc: Global, names: [&str; 2]) -> Result<Vec<Text>, Fail> {
-    let mut texts = Vec::new(alloc);
-    texts.push(Text::of(alloc, names[0])?)?;
-    texts.push(Text::of(alloc, names[1])?)?;
-    Ok(texts)
+fn words_in(alloc: Global, text: &str) -> Result<Texts, Fail> {
+    let mut words = Vec::new(alloc);
+    for part in parts(alloc, text, '[', ']')?.as_slice() {
+        words.push(Text::of(alloc, part)?)?;
+    }
+    Ok(Texts::new(words))
 }
 
-fn items(alloc: Global, names: [&str; 2]) -> Result<Vec<Item>, Fail> {
+fn items_in(alloc: Global, text: &str) -> Result<Items, Fail> {
     let mut items = Vec::new(alloc);
-    items.push(Item::Text(Text::of(alloc, names[0])?))?;
-    items.push(Item::Text(Text::of(alloc, names[1])?))?;
-    Ok(items)
+    for part in parts(alloc, text, '[', ']')?.as_slice() {
+        items.push(item(alloc, part)?)?;
+    }
+    Ok(Items::new(items))
 }
 
-/// A text in `'`, a word list as `w[a b]`, a list as `['a' 7 <n.c> A=1 ]`, a dict as `{A:7 }`.
+fn pairs_in(alloc: Global, text: &str) -> Result<Pairs, Fail> {
+    let mut pairs = Vec::new(alloc);
+    for part in parts(alloc, text, '{', '}')?.as_slice() {
+        let Some((name, rest)) = part.split_once(':') else {
+            return Err(Fail::from("a dict's item has a name"));
+        };
+        pairs.push((Text::of(alloc, name)?, item(alloc, rest)?))?;
+    }
+    Ok(Pairs::new(pairs))
+}
+
+/// What stands between commas inside a pair of brackets.
+fn parts<'a>(alloc: Global, text: &'a str, open: char, close: char) -> Result<Vec<&'a str>, Fail> {
+    match between(text, open, close) {
+        None => Err(Fail::from("a bracket is missing")),
+        Some("") => Ok(Vec::new(alloc)),
+        Some(inside) => Ok(inside.split(',').collect(alloc)?),
+    }
+}
+
+fn between(text: &str, open: char, close: char) -> Option<&str> {
+    text.strip_prefix(open)?.strip_suffix(close)
+}
+
+fn item(alloc: Global, text: &str) -> Result<Item, Fail> {
+    if let Some(inside) = between(text, '\'', '\'') {
+        return Ok(Item::Text(Text::of(alloc, inside)?));
+    }
+    if let Some(path) = between(text, '<', '>') {
+        return Ok(Item::Node(PathText::read(alloc, path)?));
+    }
+    if let Ok(number) = text.parse::<i64>() {
+        return Ok(Item::Int(number));
+    }
+    match text.split_once('=') {
+        Some((name, value)) => {
+            let value = Text::of(alloc, value)?;
+            Ok(Item::Pair(Text::of(alloc, name)?, Some(value)))
+        }
+        None => Ok(Item::Pair(Text::of(alloc, text)?, None)),
+    }
+}
+
+/// How a value is written.
 pub(crate) fn shown(alloc: Global, value: Option<&EnvValue>) -> Result<String, Fail> {
     let mut text = String::new(alloc);
     match value {
@@ -74,9 +108,11 @@ pub(crate) fn shown(alloc: Global, value: Option<&EnvValue>) -> Result<String, F
 
 fn show_words(text: &mut String, words: &[Text]) -> Result<(), Fail> {
     text.push_str("w[")?;
+    let mut comma = "";
     for word in words {
+        text.push_str(comma)?;
         text.push_str(word.as_str())?;
-        text.push(' ')?;
+        comma = ",";
     }
     text.push(']')?;
     Ok(())
@@ -84,9 +120,11 @@ fn show_words(text: &mut String, words: &[Text]) -> Result<(), Fail> {
 
 fn show_items(text: &mut String, items: &[Item]) -> Result<(), Fail> {
     text.push('[')?;
+    let mut comma = "";
     for item in items {
+        text.push_str(comma)?;
         show_item(text, item)?;
-        text.push(' ')?;
+        comma = ",";
     }
     text.push(']')?;
     Ok(())
@@ -94,11 +132,13 @@ fn show_items(text: &mut String, items: &[Item]) -> Result<(), Fail> {
 
 fn show_pairs(text: &mut String, pairs: &[(Text, Item)]) -> Result<(), Fail> {
     text.push('{')?;
+    let mut comma = "";
     for (name, item) in pairs {
+        text.push_str(comma)?;
         text.push_str(name.as_str())?;
         text.push(':')?;
         show_item(text, item)?;
-        text.push(' ')?;
+        comma = ",";
     }
     text.push('}')?;
     Ok(())
