@@ -1,6 +1,6 @@
 -- Bytes, and the names of variables. Here and in the other files a byte stands by its number: 36 is `$`, 40 `(`, 41 `)`,
 -- 44 `,`, 45 `-`, 46 `.`, 48 `0`, 58 `:`, 91 `[`, 93 `]`, 95 `_`, 123 `{` and 125 `}`.
-use Rattle.std.specs.Prelude.{ℕ, ◌+◌, Bool, false, not, ◌||◌, ◌&&◌, ◌==◌, nat_le, List, [], ◌∷◌, take, if◌then◌else◌}
+use Rattle.std.specs.Prelude.{ℕ, ◌+◌, Bool, false, not, ◌||◌, ◌&&◌, ◌==◌, nat_le, List, [], ◌∷◌, take, drop, if◌then◌else◌}
 use Rattle.std.specs.List.{prefix_len}
 use Rattle.std.specs.Char.{is_ascii_alphabetic, is_ascii_alphanumeric}
 
@@ -22,16 +22,19 @@ is_plain b = not (b == 36)
 abbrev pub front_run : (ℕ → Bool) → List ℕ → List ℕ
 front_run p bytes = take (prefix_len p bytes) bytes
 
+-- and what follows them
+abbrev pub after_run : (ℕ → Bool) → List ℕ → List ℕ
+after_run p bytes = drop (prefix_len p bytes) bytes
+
 abbrev pub begins_name : List ℕ → Bool
 begins_name [] = false
 begins_name (b ∷ bytes) = is_name_first b
 
--- a name without braces has letters, digits, `_`, and a `.` where a letter or `_` follows it
-abbrev pub goes_on : List ℕ → Bool
-goes_on [] = false
-goes_on (b ∷ bytes) = is_name_byte b || b == 46 && begins_name bytes
+-- a name without braces goes on with a letter, a digit or `_`, and with a `.` where a letter or `_` follows it
+abbrev pub goes_on : ℕ → List ℕ → Bool
+goes_on b bytes = is_name_byte b || b == 46 && begins_name bytes
 
--- how many bytes it has
+-- how many bytes of such a name are in front
 abbrev pub dotted_len : List ℕ → ℕ
 dotted_len [] = 0
-dotted_len (b ∷ bytes) = if goes_on (b ∷ bytes) then 1 + dotted_len bytes else 0
+dotted_len (b ∷ bytes) = if goes_on b bytes then 1 + dotted_len bytes else 0

@@ -1,5 +1,5 @@
 -- What the code holds, as the definitions say it.
-use Rattle.std.specs.Prelude.{◌≡◌, ℕ, ◌<◌, List, [], ◌∷◌, Option, None, Some, length, ⊤}
+use Rattle.std.specs.Prelude.{◌≡◌, ℕ, ◌<◌, ◌+◌, false, List, [], ◌∷◌, Option, None, Some, length, ⊤}
 use Rattle.std.specs.Borrow.{Bor}
 use Rattle.std.specs.Option.{option_map, option_copied}
 use Rattle.std.specs.Str.{IsCharBoundary}
@@ -11,6 +11,7 @@ use Rattle.env_text.specs.declared.reader.Step.{Step}
 use Rattle.env_text.specs.declared.reader.Step.TheVariants as step
 use Rattle.env_text.specs.declared.word.Word.{Word}
 use Rattle.env_text.specs.declared.word.Word.TheVariants as word
+use Rattle.env_text.specs.Bytes.{is_white}
 use Rattle.env_text.specs.Words.{PlainWord, name, number, sign, no_number, words_of}
 use Rattle.env_text.specs.References.{names_of}
 use Rattle.env_text.specs.Parts.{PlainPart, text, begin, end, variable, concat}
@@ -55,10 +56,15 @@ GoesShorter None bytes = ⊤
 GoesShorter (Some more) bytes = length more.now < length bytes
 
 abbrev pub beginning_of : Front → Beginning
-beginning_of (front.Takes p size) = takes (plain p) size
+beginning_of (front.Takes p more) = takes (plain p) more
 beginning_of front.Refuses = refuses
 
--- a part has bytes, and ends where a character does
+-- a part ends where a character does
 abbrev pub EndsAtBoundary : List ℕ → Front → Type 0
-EndsAtBoundary bytes (front.Takes p size) = (0 < size) × IsCharBoundary bytes size
+EndsAtBoundary bytes (front.Takes p more) = IsCharBoundary bytes (more + 1)
 EndsAtBoundary bytes front.Refuses = ⊤
+
+-- no white space is in front
+abbrev pub BeginsWord : List ℕ → Type 0
+BeginsWord [] = ⊤
+BeginsWord (b ∷ bytes) = is_white b ≡ false

@@ -1,5 +1,5 @@
 -- What stands in the braces of a reference is a list of words, with white space round them or not.
-use Rattle.std.specs.Prelude.{ℕ, zero, suc, ◌+◌, ◌-◌, min, Bool, true, false, not, ◌&&◌, ◌==◌, List, [], ◌∷◌, drop, if◌then◌else◌}
+use Rattle.std.specs.Prelude.{ℕ, zero, suc, min, Bool, true, false, not, ◌&&◌, ◌==◌, List, [], ◌∷◌, if◌then◌else◌}
 use Rattle.std.specs.List.{prefix_len}
 use Rattle.std.specs.Char.{is_ascii_digit}
 use Rattle.std.specs.Str.Parse.{digits_value}
@@ -33,13 +33,13 @@ value_of ds = min (digits_value 10 ds) LARGEST
 abbrev pub number_of : Bool → List ℕ → PlainWord
 number_of minus ds = if is_numeral ds then number (index_of minus (value_of ds)) else no_number
 
--- the word in front and the number of its bytes, by the first one
+-- the word that this byte begins, and how many bytes more it has
 abbrev pub word_at : ℕ → List ℕ → PlainWord × ℕ
 word_at b bytes =
-    if is_name_first b then (name (front_run is_name_byte bytes), prefix_len is_name_byte bytes)
-    else (if is_ascii_digit b then (number_of false (front_run is_ascii_digit bytes), prefix_len is_ascii_digit bytes)
-    else (if b == 45 then (number_of true (front_run is_ascii_digit (drop 1 bytes)), 1 + prefix_len is_ascii_digit (drop 1 bytes))
-    else (sign b, 1)))
+    if is_name_first b then (name (b ∷ front_run is_name_byte bytes), prefix_len is_name_byte bytes)
+    else (if is_ascii_digit b then (number_of false (b ∷ front_run is_ascii_digit bytes), prefix_len is_ascii_digit bytes)
+    else (if b == 45 then (number_of true (front_run is_ascii_digit bytes), prefix_len is_ascii_digit bytes)
+    else (sign b, 0)))
 
 -- the words behind so many bytes of the one in front
 abbrev pub words_behind : ℕ → List ℕ → List PlainWord
@@ -47,7 +47,7 @@ words_behind skipped [] = []
 words_behind (suc skipped) (b ∷ bytes) = words_behind skipped bytes
 words_behind zero (b ∷ bytes) =
     if is_white b then words_behind zero bytes
-    else (word_at b (b ∷ bytes)).0 ∷ words_behind ((word_at b (b ∷ bytes)).1 - 1) bytes
+    else (word_at b bytes).0 ∷ words_behind (word_at b bytes).1 bytes
 
 abbrev pub words_of : List ℕ → List PlainWord
 words_of bytes = words_behind 0 bytes

@@ -1,5 +1,5 @@
 ghost use Rattle.std.specs.Prelude.{◌≡◌, ◌+◌, ◌*◌, min, true};
-ghost use Rattle.std.specs.List.{prefix_len, list_all};
+ghost use Rattle.std.specs.List.{list_all};
 ghost use Rattle.std.specs.Char.{is_ascii_digit, digit_value};
 ghost use Rattle.env_text.specs.Words.{is_numeral, index_of, value_of, number_of};
 ghost use Rattle.env_text.specs.Views.{plain_word};
@@ -9,12 +9,6 @@ use crate::word::Word;
 
 /// The largest number.
 pub const LARGEST: usize = 0xFFFF_FFFF_FFFF_FFFF;
-
-pub fn digit_count(bytes: &[u8]) -> usize
-    ensures { result ≡ prefix_len is_ascii_digit bytes.now }
-{
-    bytes.iter().take_while(|byte| byte.is_ascii_digit()).count()
-}
 
 /// The number that these digits are, with a minus in front or not.
 pub fn number_of<'a>(minus: bool, digits: &[u8]) -> Word<'a>

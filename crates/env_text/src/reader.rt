@@ -1,9 +1,9 @@
-ghost use Rattle.std.specs.Prelude.{◌≡◌, ◌==◌, ◌+◌, ◌<◌, ◌^◌, ◌∷◌, length, drop, position};
+ghost use Rattle.std.specs.Prelude.{◌≡◌, ◌==◌, ◌+◌, ◌<◌, ◌^◌, ◌∷◌, ⊤, length, position, MatchOption};
 ghost use Rattle.std.specs.Str.{IsCharBoundary};
-ghost use Rattle.env_text.specs.Readings.{front_of, behind_dollar, braced, bare, reference};
+ghost use Rattle.env_text.specs.Readings.{beginning_at, behind_dollar, braced, bare, reference};
 ghost use Rattle.env_text.specs.Views.{Reads, GoesOn, beginning_of, EndsAtBoundary};
 
-use crate::bytes::{dotted_len, is_name_first, plain_count};
+use crate::bytes::{dotted_len, is_name_first, plain_len};
 use crate::part::Part;
 use crate::reference::reference_of;
 
@@ -18,7 +18,7 @@ pub enum Step<'a> {
     BadBrace,
 }
 
-/// What stands in front: a part and the number of its bytes, or nothing that can be read.
+/// What a byte begins: a part, with the number of its bytes behind that one, or nothing that can be read.
 #[derive(Clone, Copy)]
 pub enum Front<'a> {
     Takes(Part<'a>, usize),
@@ -32,45 +32,39 @@ pub fn next_part(text: &str, at: usize) -> Step<'_>
     ensures goes_on { GoesOn text.now at result }
 {
     let rest = &text[at..];
-    let Some(first) = rest.as_bytes().first() else {
-        return Step::End;
-    };
-    match front_of(*first, rest) {
-        Front::Takes(part, size) => Step::Part(part, at + size),
-        Front::Refuses => Step::BadBrace,
+    match rest.as_bytes() {
+        [] => Step::End,
+        [first, behind @ ..] => match front_at(*first, behind, rest) {
+            Front::Takes(part, more) => Step::Part(part, at + more + 1),
+            Front::Refuses => Step::BadBrace,
+        },
     }
 }
 
-fn front_of(first: u8, text: &str) -> Front<'_>
-    requires { text.now ≡ first ∷ drop 1 text.now }
-    ensures front { beginning_of result ≡ front_of first (drop 1 text.now) }
+/// What the first byte of a text begins.
+fn front_at<'a>(first: u8, rest: &'a [u8], text: &'a str) -> Front<'a>
+    requires { text.now ≡ first ∷ rest.now }
+    ensures front { beginning_of result ≡ beginning_at first rest.now }
     ensures boundary { EndsAtBoundary text.now result }
 {
     if first == b'$' {
-        behind_dollar(&text.as_bytes()[1..])
+        behind_dollar(rest)
     } else {
-        plain_text(text)
+        let more = plain_len(rest);
+        Front::Takes(Part::Text(&text[..more + 1]), more)
     }
 }
 
-/// What stands for itself in front.
-fn plain_text(text: &str) -> Front<'_>
-{
-    let size = plain_count(text.as_bytes());
-    Front::Takes(Part::Text(&text[..size]), size)
-}
-
 fn behind_dollar(bytes: &[u8]) -> Front<'_>
-    requires { length bytes.now + 1 < 2 ^ 64 }
     ensures { beginning_of result ≡ behind_dollar bytes.now }
 {
     match bytes {
-        [b'$', ..] => Front::Takes(Part::Text("$"), 2),
-        [b'(', ..] => Front::Takes(Part::Begin, 2),
-        [b')', ..] => Front::Takes(Part::End, 2),
+        [b'$', ..] => Front::Takes(Part::Text("$"), 1),
+        [b'(', ..] => Front::Takes(Part::Begin, 1),
+        [b')', ..] => Front::Takes(Part::End, 1),
         [b'{', inside @ ..] => braced(inside),
         [first, ..] if is_name_first(*first) => bare(bytes),
-        _ => Front::Takes(Part::Text("$"), 1),
+        _ => Front::Takes(Part::Text("$"), 0),
     }
 }
 
@@ -80,31 +74,32 @@ fn braced(bytes: &[u8]) -> Front<'_>
     ensures { beginning_of result ≡ braced bytes.now }
 {
     match closing_place(bytes) {
-        Some(place) => reference(place + 3, &bytes[..place]),
+        Some(place) => reference(place + 2, &bytes[..place]),
         None => Front::Refuses,
     }
 }
 
 fn closing_place(bytes: &[u8]) -> Option<usize>
-    ensures { result ≡ position (λ b. b == 125) bytes.now }
+    ensures place { result ≡ position (λ b. b == 125) bytes.now }
+    ensures fits { MatchOption result ⊤ (λ place. place < length bytes.now) }
 {
     bytes.iter().position(|byte| *byte == b'}')
 }
 
 /// A reference without braces.
 fn bare(bytes: &[u8]) -> Front<'_>
-    requires { length bytes.now + 1 < 2 ^ 64 }
     ensures { beginning_of result ≡ bare bytes.now }
 {
     let len = dotted_len(bytes);
-    reference(len + 1, &bytes[..len])
+    reference(len, &bytes[..len])
 }
 
-fn reference(size: usize, content: &[u8]) -> Front<'_>
-    ensures { beginning_of result ≡ reference size content.now }
+/// A reference with this content, which has so many bytes behind its `$`.
+fn reference(more: usize, content: &[u8]) -> Front<'_>
+    ensures { beginning_of result ≡ reference more content.now }
 {
     match reference_of(content) {
-        Some(part) => Front::Takes(part, size),
+        Some(part) => Front::Takes(part, more),
         None => Front::Refuses,
     }
 }

@@ -78,8 +78,11 @@ fn end_of(words: &[u8]) -> (Option<Index>, &[u8])
     ensures end { result.0 ≡ (end_of (words_of words.now)).0 }
     ensures rest { words_of result.1.now ≡ (end_of (words_of words.now)).1 }
 {
-    match next_word(words) {
-        Some((Word::Number(index), rest)) => (Some(index), rest),
+    let Some((word, rest)) = next_word(words) else {
+        return (None, words);
+    };
+    match word {
+        Word::Number(index) => (Some(index), rest),
         _ => (None, words),
     }
 }
@@ -140,7 +143,7 @@ fn concat_of(arguments: &[u8]) -> Option<Part<'_>>
 
 /// Whether `RDirs` is the first of the names that are left, if they are names.
 fn has_rdirs(arguments: Option<&[u8]>) -> Option<bool>
-    ensures { result ≡ option_map begins_with_rdirs (further_names arguments) }
+    ensures { result ≡ option_map begins_with_rdirs (further_names arguments.entry) }
 {
     let Some(arguments) = arguments else {
         return Some(false);
@@ -155,7 +158,7 @@ fn has_rdirs(arguments: Option<&[u8]>) -> Option<bool>
 
 /// Whether what is left is names.
 fn are_names(arguments: Option<&[u8]>) -> bool
-    ensures { result ≡ is_some (further_names arguments) }
+    ensures { result ≡ is_some (further_names arguments.entry) }
 {
     let mut left = arguments;
     'names: while let Some(bytes) = left {

@@ -1,10 +1,10 @@
-use Rattle.std.proofs.Common.{◌≡◌, ◌≤◌, length, ℕ, ◌+◌, ◌-◌, drop}
+use Rattle.std.proofs.Common.{◌≡◌, length, ℕ, ◌+◌}
 use Rattle.env_text.specs.Bytes.{dotted_len}
 use Rattle.env_text.proofs.bytes.dotted_len.Given as goal
 
--- the name goes on at least as far
-abbrev pub invariant-loop-len : goal.invariant-loop-len
-invariant-loop-len l = (l.len ≤ length l.bytes) × (dotted_len l.bytes ≡ l.len + dotted_len (drop l.len l.bytes))
+-- the name is as long as what was passed and what is left of it
+abbrev pub invariant-name : goal.invariant-name
+invariant-name l = (dotted_len l.bytes ≡ l.len + dotted_len l.left) × (length l.bytes ≡ l.len + length l.left)
 
-abbrev pub decreases-loop-len : goal.decreases-loop-len
-decreases-loop-len l = length l.bytes - l.len
+abbrev pub decreases-name : goal.decreases-name
+decreases-name l = length l.left
