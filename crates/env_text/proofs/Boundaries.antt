@@ -1,5 +1,6 @@
 -- A part ends where a character does.
-use Rattle.std.proofs.Common.{arith, ◌≡◌, ◌+◌, ◌<◌, ◌≤◌, ◌∷◌, ◌||◌, ◌&&◌, ◌==◌, [], ℕ, zero, suc, Bool, true, false, not, cond, List, Option, None, Some, length, get_or, position, refl, sym, ap, subst, inl, inr, add-one, add_comm, eqb-true}
+use Rattle.std.proofs.Common.{arith, ◌≡◌, ◌≢◌, ◌+◌, ◌<◌, ◌≤◌, ◌∷◌, ◌||◌, ◌&&◌, ◌==◌, [], ℕ, zero, suc, Bool, true, false, not, cond, List, Option, None, Some, length, get_or, position, refl, sym, ap, ◌∙◌, subst, ne_eqb, inl, inr, add-one, add_comm, eqb-true}
+use borrow.Author.Tests.{ltb-true}
 use Rattle.std.specs.List.{prefix_len, position_or_len}
 use Rattle.std.specs.Str.{IsUtf8, IsCharBoundary}
 use Rattle.std.proofs.lemmas.Bool.{cases_lt}
@@ -25,8 +26,11 @@ plain_with : (t : Bool) (bs : List ℕ) (n : ℕ) → t ≡ true → IsCharBound
 plain_with true bs n is h = rw (add_comm n 1) h
 plain_with false bs n is h = cc
 
-pub plain_boundary : (b : ℕ) (bytes : List ℕ) → is_plain b ≡ true → IsCharBoundary (b ∷ bytes) (prefix_len is_plain bytes + 1)
-plain_boundary b bytes is = plain_with (is_plain b) (b ∷ bytes) (prefix_len is_plain bytes) is (run_boundary is_plain (b ∷ bytes) (λ c e. grind (arith, nat_tests)))
+plain_by : (b : ℕ) (bytes : List ℕ) → is_plain b ≡ true → IsCharBoundary (b ∷ bytes) (prefix_len is_plain bytes + 1)
+plain_by b bytes is = plain_with (is_plain b) (b ∷ bytes) (prefix_len is_plain bytes) is (run_boundary is_plain (b ∷ bytes) (λ c e. grind (arith, nat_tests)))
+
+pub plain_boundary : (bytes rest : List ℕ) (b n : ℕ) → bytes ≡ b ∷ rest → b ≢ 36 → n ≡ prefix_len is_plain rest → IsCharBoundary bytes (n + 1)
+plain_boundary bytes rest b n cut other is = rw (cut, is) (plain_by b rest (ap not (ne_eqb b 36 other)))
 
 -- the last byte of a part is ASCII
 abbrev EndsInAscii : List ℕ → Beginning → Type 0
@@ -55,11 +59,12 @@ brace_at bytes below = eqb-true _ _ (not_false _ (prefix_len_stops (λ b. not (b
 two_more : (a b n : ℕ) (bytes : List ℕ) → get_or (a ∷ b ∷ bytes) (n + 2) 0 ≡ get_or bytes n 0
 two_more a b n bytes = let e : n + 2 ≡ suc (suc n) = omega arith in rw e refl
 
+brace_by : (t : Bool) (b n : ℕ) (bytes : List ℕ) → (t ≡ true → (n < length bytes) × (get_or bytes n 0 < 128)) → EndsInAscii (36 ∷ b ∷ bytes) (up_to_brace bytes (cond t (Some n) None))
+brace_by true b n bytes h = let r = h refl in option_ends (36 ∷ b ∷ bytes) (n + 2) _ (omega arith) (rw (two_more 36 b n bytes) r.1)
+brace_by false b n bytes h = tt
+
 braced_ends : (b : ℕ) (bytes : List ℕ) → EndsInAscii (36 ∷ b ∷ bytes) (braced bytes)
-braced_ends b bytes = elim (cases_lt (position_or_len (λ b. b == 125) bytes) (length bytes)) [
-      | inl within ↦ ?
-      | inr past ↦ ?
-    ]
+braced_ends b bytes = brace_by _ b (position_or_len (λ b. b == 125) bytes) bytes (λ t. let below = ltb-true _ _ t in (below, omega (arith, brace_at bytes below)))
 
 goes_on_ascii : (b : ℕ) (bytes : List ℕ) → goes_on b bytes ≡ true → b < 128
 goes_on_ascii b bytes e = grind (arith, nat_tests)
@@ -84,15 +89,21 @@ bare_ends bytes = let r = name_ends bytes (dotted_len bytes) (omega arith) in op
 dollar_ends : (bytes : List ℕ) → EndsInAscii (36 ∷ bytes) (behind_dollar bytes)
 dollar_ends [] = (omega arith, omega arith)
 dollar_ends (b ∷ bytes) =
-    if_ends (b == 36) _ _ _ (λ e. one_ends b 36 bytes e (omega arith))
-    (if_ends (b == 40) _ _ _ (λ e. one_ends b 40 bytes e (omega arith))
-    (if_ends (b == 41) _ _ _ (λ e. one_ends b 41 bytes e (omega arith))
-    (if_ends (b == 123) _ _ _ (λ e. braced_ends b bytes)
-    (if_ends (is_name_first b) _ _ _ (λ e. bare_ends (b ∷ bytes)) (omega arith, omega arith)))))
+    let stays : (0 < length (36 ∷ b ∷ bytes)) × (get_or (36 ∷ b ∷ bytes) 0 0 < 128) = (omega arith, omega arith) in
+    if_ends (b == 36) (36 ∷ b ∷ bytes) _ _ (λ e. one_ends b 36 bytes e (omega arith))
+    (if_ends (b == 40) (36 ∷ b ∷ bytes) _ _ (λ e. one_ends b 40 bytes e (omega arith))
+    (if_ends (b == 41) (36 ∷ b ∷ bytes) _ _ (λ e. one_ends b 41 bytes e (omega arith))
+    (if_ends (b == 123) (36 ∷ b ∷ bytes) _ _ (λ e. braced_ends b bytes)
+    (if_ends (is_name_first b) (36 ∷ b ∷ bytes) _ _ (λ e. bare_ends (b ∷ bytes)) stays))))
 
 boundary_of : (bytes : List ℕ) (f : Front) → IsUtf8 bytes → EndsInAscii bytes (beginning_of f) → EndsAtBoundary bytes f
 boundary_of bytes (front.Takes part more) utf8 h = IsCharBoundary-after_ascii bytes more utf8 h.0 h.1
 boundary_of bytes front.Refuses utf8 h = tt
 
-pub dollar_boundary : (bytes : List ℕ) (f : Front) → IsUtf8 (36 ∷ bytes) → beginning_of f ≡ behind_dollar bytes → EndsAtBoundary (36 ∷ bytes) f
-dollar_boundary bytes f utf8 is = boundary_of (36 ∷ bytes) f utf8 (rw is (dollar_ends bytes))
+dollar_by : (bytes : List ℕ) (f : Front) → IsUtf8 (36 ∷ bytes) → beginning_of f ≡ behind_dollar bytes → EndsAtBoundary (36 ∷ bytes) f
+dollar_by bytes f utf8 is = boundary_of (36 ∷ bytes) f utf8 (rw is (dollar_ends bytes))
+
+pub dollar_boundary : (bytes rest : List ℕ) (b : ℕ) (f : Front) → bytes ≡ b ∷ rest → b ≡ 36 → IsUtf8 bytes → beginning_of f ≡ behind_dollar rest → EndsAtBoundary bytes f
+dollar_boundary bytes rest b f cut same utf8 is =
+    let whole : bytes ≡ 36 ∷ rest = cut ∙ ap (λ x. x ∷ rest) same in
+    subst (λ t. EndsAtBoundary t f) (sym whole) (dollar_by rest f (subst IsUtf8 whole utf8) is)

@@ -1,5 +1,5 @@
 -- The value of digits, read one after another.
-use Rattle.std.proofs.Common.{arith, ◌≡◌, ◌<◌, ◌+◌, ◌*◌, ◌∷◌, [], ℕ, suc, min, List, length, drop, get_or, drop-cons, add-one, sym, ap, ◌∙◌}
+use Rattle.std.proofs.Common.{arith, ◌≡◌, ◌<◌, ◌≤◌, ◌+◌, ◌*◌, ◌∷◌, [], ℕ, suc, min, List, length, drop, get_or, drop-cons, drop_of_length-le, add-one, sym, ap, ◌∙◌}
 use Rattle.std.specs.Char.{digit_value}
 use Rattle.std.specs.Str.Parse.{digits_value_after}
 use Rattle.env_text.specs.declared.number.TheConstants.{LARGEST}
@@ -15,3 +15,9 @@ digit_read ds i n m v before below is =
     let cut = drop-cons ds i 0 below in
     let next : min (digits_value_after 10 (n * 10 + digit_value (get_or ds i 0)) (drop (suc i) ds)) LARGEST ≡ v = rw cut at before in
     rw add-one (capped_after (drop (suc i) ds) m (n * 10 + digit_value (get_or ds i 0)) (omega arith) ∙ next)
+
+pub digits_read : (ds : List ℕ) (i n v : ℕ) → min (digits_value_after 10 n (drop i ds)) LARGEST ≡ v → length ds ≤ i → n ≤ LARGEST → n ≡ v
+digits_read ds i n v read over below =
+    let over : drop i ds ≡ [] = drop_of_length-le ds over in
+    let e : min n LARGEST ≡ v = rw over at read in
+    omega arith

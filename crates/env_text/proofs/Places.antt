@@ -1,6 +1,8 @@
 -- What is read at a place of a text.
-use Rattle.std.proofs.Common.{arith, ◌≡◌, ◌+◌, ◌∷◌, [], ℕ, zero, suc, List, drop, drop-drop, add-zero, refl, sym, ap, ◌∙◌}
-use Rattle.env_text.specs.Parts.{PlainPart}
+use Rattle.std.proofs.Common.{arith, ◌≡◌, ◌≢◌, ◌+◌, ◌-◌, ◌∷◌, [], ℕ, zero, suc, List, take, drop, drop-drop, add-zero, add-one, ne_eqb, refl, sym, ap, ◌∙◌}
+use Rattle.std.specs.List.{prefix_len, slice_range}
+use Rattle.env_text.specs.Bytes.{is_plain}
+use Rattle.env_text.specs.Parts.{PlainPart, text}
 use Rattle.env_text.specs.Readings.{Beginning, takes, refuses, beginning_at, ends, part_at, bad_brace, reading_behind, reading_from}
 
 reading_skipped : (n at : ℕ) (bytes : List ℕ) → reading_behind n at bytes ≡ reading_behind 0 (at + n) (drop n bytes)
@@ -23,3 +25,10 @@ brace_refused bytes rest at b cut is = rw (cut, is) refl
 
 pub text_read : (bytes : List ℕ) (at : ℕ) → drop at bytes ≡ [] → reading_from bytes at ≡ ends
 text_read bytes at cut = rw cut refl
+
+pub plain_read : (bytes rest t : List ℕ) (b n : ℕ) → bytes ≡ b ∷ rest → b ≢ 36 → n ≡ prefix_len is_plain rest → t ≡ slice_range bytes 0 (n + 1) → takes (text t) n ≡ beginning_at b rest
+plain_read bytes rest t b n cut other is taken =
+    let front : take (n + 1) (b ∷ rest) ≡ b ∷ take n rest = rw add-one refl in
+    let size : n + 1 - 0 ≡ n + 1 = omega arith in
+    let whole : t ≡ b ∷ take n rest = taken ∙ ap (λ k. take k bytes) size ∙ ap (take (n + 1)) cut ∙ front in
+    rw (ne_eqb b 36 other, whole, is) refl

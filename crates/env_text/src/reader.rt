@@ -32,12 +32,12 @@ pub fn next_part(text: &str, at: usize) -> Step<'_>
     ensures goes_on { GoesOn text.now at result }
 {
     let rest = &text[at..];
-    match rest.as_bytes() {
-        [] => Step::End,
-        [first, behind @ ..] => match front_at(*first, behind, rest) {
-            Front::Takes(part, more) => Step::Part(part, at + more + 1),
-            Front::Refuses => Step::BadBrace,
-        },
+    let Some((first, behind)) = rest.as_bytes().split_first() else {
+        return Step::End;
+    };
+    match front_at(*first, behind, rest) {
+        Front::Takes(part, more) => Step::Part(part, at + more + 1),
+        Front::Refuses => Step::BadBrace,
     }
 }
 

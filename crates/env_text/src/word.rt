@@ -24,10 +24,10 @@ pub fn next_word(bytes: &[u8]) -> Option<(Word<'_>, &[u8])>
     ensures shorter { MatchOption result ⊤ (λ p. length p.1.now < length bytes.now) }
 {
     let bytes = after_white(bytes);
-    match bytes {
-        [first, rest @ ..] => Some(word_at(*first, rest, bytes)),
-        [] => None,
-    }
+    let Some((first, rest)) = bytes.split_first() else {
+        return None;
+    };
+    Some(word_at(*first, rest, bytes))
 }
 
 /// The word that the first of these bytes begins, and what follows it.
