@@ -14,3 +14,6 @@ mod word;
 
 pub use part::{Index, Part, Selection};
 pub use reader::{Step, next_part};
+
+#[cfg(test)]
+mod tests;

@@ -25,7 +25,7 @@ pub enum Front<'a> {
     Refuses,
 }
 
-/// The part that begins at a place of the text.
+/// The part that begins at a place of the text. A text that is read part by part is gone through once.
 pub fn next_part(text: &str, at: usize) -> Step<'_>
     requires { IsCharBoundary text.now at }
     ensures reads { Reads text.now at result }
