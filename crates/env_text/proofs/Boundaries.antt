@@ -1,5 +1,5 @@
 -- A part ends where a character does.
-use Rattle.std.proofs.Common.{arith, ◌≡◌, ◌≢◌, ◌+◌, ◌<◌, ◌≤◌, ◌∷◌, ◌||◌, ◌&&◌, ◌==◌, [], ℕ, zero, suc, Bool, true, false, not, cond, List, Option, None, Some, length, get_or, position, refl, sym, ap, ◌∙◌, subst, ne_eqb, inl, inr, add-one, add_comm, eqb-true}
+use Rattle.std.proofs.Common.{arith, ◌≡◌, ◌≢◌, ◌+◌, ◌<◌, ◌≤◌, ◌∷◌, ◌==◌, [], ℕ, zero, suc, Bool, true, false, not, cond, List, Option, None, Some, length, get_or, refl, sym, ap, ◌∙◌, subst, ne_eqb, inl, inr, add_comm, eqb-true}
 use borrow.Author.Tests.{ltb-true}
 use Rattle.std.specs.List.{prefix_len, position_or_len}
 use Rattle.std.specs.Str.{IsUtf8, IsCharBoundary}
@@ -7,7 +7,7 @@ use Rattle.std.proofs.lemmas.Bool.{cases_lt}
 use Rattle.std.proofs.lemmas.Bool.Decides.{nat_tests}
 use Rattle.std.proofs.lemmas.List.Sums.{prefix_len-le-length, prefix_len_stops}
 use Rattle.std.proofs.lemmas.Str.{IsCharBoundary-end, IsCharBoundary-before_ascii, IsCharBoundary-after_ascii}
-use Rattle.env_text.specs.Bytes.{is_plain, is_name_byte, is_name_first, goes_on, begins_name, dotted_len}
+use Rattle.env_text.specs.Bytes.{is_plain, is_name_first, goes_on, dotted_len}
 use Rattle.env_text.specs.Parts.{PlainPart}
 use Rattle.env_text.specs.Readings.{Beginning, takes, refuses, takes_or_refuses, up_to_brace, behind_dollar, braced, bare}
 use Rattle.env_text.specs.Views.{beginning_of, EndsAtBoundary}

@@ -1,5 +1,5 @@
 -- The value of digits, read one after another.
-use Rattle.std.proofs.Common.{arith, ◌≡◌, ◌<◌, ◌≤◌, ◌+◌, ◌*◌, ◌∷◌, [], ℕ, suc, min, List, length, drop, get_or, drop-cons, drop_of_length-le, add-one, sym, ap, ◌∙◌}
+use Rattle.std.proofs.Common.{arith, ◌≡◌, ◌<◌, ◌≤◌, ◌+◌, ◌*◌, ◌∷◌, [], ℕ, suc, min, List, length, drop, get_or, drop-cons, drop_of_length-le, add-one, ◌∙◌}
 use Rattle.std.specs.Char.{digit_value}
 use Rattle.std.specs.Str.Parse.{digits_value_after}
 use Rattle.env_text.specs.declared.number.TheConstants.{LARGEST}

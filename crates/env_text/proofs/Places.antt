@@ -3,7 +3,7 @@ use Rattle.std.proofs.Common.{arith, ◌≡◌, ◌≢◌, ◌+◌, ◌-◌, ◌
 use Rattle.std.specs.List.{prefix_len, slice_range}
 use Rattle.env_text.specs.Bytes.{is_plain}
 use Rattle.env_text.specs.Parts.{PlainPart, text}
-use Rattle.env_text.specs.Readings.{Beginning, takes, refuses, beginning_at, ends, part_at, bad_brace, reading_behind, reading_from}
+use Rattle.env_text.specs.Readings.{takes, refuses, beginning_at, ends, part_at, bad_brace, reading_behind, reading_from}
 
 reading_skipped : (n at : ℕ) (bytes : List ℕ) → reading_behind n at bytes ≡ reading_behind 0 (at + n) (drop n bytes)
 reading_skipped zero at bytes = rw add-zero refl

@@ -75,7 +75,10 @@ fn digits_len(bytes: &[u8]) -> usize
     ensures count { result ≡ prefix_len is_ascii_digit bytes.now }
     ensures fits { result ≤ length bytes.now }
 {
-    bytes.iter().take_while(|byte| byte.is_ascii_digit()).count()
+    bytes
+        .iter()
+        .take_while(|byte| byte.is_ascii_digit())
+        .count()
 }
 
 /// How many bytes stand in front of the next `$`.

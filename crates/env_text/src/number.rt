@@ -58,5 +58,7 @@ fn with_digit(value: usize, digit: u8) -> usize
     requires { is_ascii_digit digit ≡ true }
     ensures { result ≡ min (value * 10 + digit_value digit) LARGEST }
 {
-    value.saturating_mul(10).saturating_add((digit - b'0') as usize)
+    value
+        .saturating_mul(10)
+        .saturating_add((digit - b'0') as usize)
 }

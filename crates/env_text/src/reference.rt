@@ -102,7 +102,11 @@ fn attribute_of(words: &[u8]) -> Option<Option<&str>>
         return Some(None);
     }
     let (name, rest) = next_name(behind(b'.', words)?)?;
-    if is_over(rest) { Some(Some(name)) } else { None }
+    if is_over(rest) {
+        Some(Some(name))
+    } else {
+        None
+    }
 }
 
 fn is_over(words: &[u8]) -> bool
@@ -176,8 +180,15 @@ fn next_argument(bytes: &[u8]) -> Option<Argument<'_>>
 {
     let (name, words) = next_name(bytes)?;
     if let Some(rest) = behind(b',', words) {
-        return Some(Argument { name, more: Some(rest) });
+        return Some(Argument {
+            name,
+            more: Some(rest),
+        });
     }
     let rest = behind(b')', words)?;
-    if is_over(rest) { Some(Argument { name, more: None }) } else { None }
+    if is_over(rest) {
+        Some(Argument { name, more: None })
+    } else {
+        None
+    }
 }

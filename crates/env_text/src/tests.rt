@@ -124,9 +124,18 @@ fn each_form_is_read(rt: HostRuntime) -> Result<(), Fail> {
         ("${_concat}", "<_concat>"),
         ("${_concat(P, L, S, __env__)}", "<P L S false>"),
         ("${_concat(P,L,S,__env__,RDirs)}", "<P L S true>"),
-        ("${ _concat ( P , L , S , __env__ , TARGET ) }", "<P L S false>"),
-        ("${_concat(P, L, S, __env__, RDirs, TARGET, SOURCE)}", "<P L S true>"),
-        ("${_concat(P, L, S, __env__, TARGET, RDirs)}", "<P L S false>"),
+        (
+            "${ _concat ( P , L , S , __env__ , TARGET ) }",
+            "<P L S false>",
+        ),
+        (
+            "${_concat(P, L, S, __env__, RDirs, TARGET, SOURCE)}",
+            "<P L S true>",
+        ),
+        (
+            "${_concat(P, L, S, __env__, TARGET, RDirs)}",
+            "<P L S false>",
+        ),
     ];
     for (text, parts) in rows {
         let found = shown(rt.alloc(), text)?;

@@ -1,4 +1,4 @@
-use Rattle.std.proofs.Common.{◌≡◌, length, ℕ, ◌+◌}
+use Rattle.std.proofs.Common.{◌≡◌, length, ◌+◌}
 use Rattle.env_text.specs.Bytes.{dotted_len}
 use Rattle.env_text.proofs.bytes.dotted_len.Given as goal
 

@@ -1,4 +1,4 @@
-use Rattle.std.proofs.Common.{◌≡◌, ℕ, zero, suc, List, Option, None, Some, Bor, length}
+use Rattle.std.proofs.Common.{◌≡◌, ℕ, suc, List, Option, None, Some, Bor, length}
 use Rattle.std.specs.Option.{is_some}
 use Rattle.env_text.specs.Views.{further_names}
 use Rattle.env_text.proofs.reference.are_names.Given as goal

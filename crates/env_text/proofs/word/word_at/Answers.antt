@@ -1,5 +1,4 @@
-use Rattle.std.proofs.Common.{sym, ◌∙◌, ap}
-use Rattle.env_text.specs.Words.{name}
+use Rattle.std.proofs.Common.{sym, ◌∙◌}
 use Rattle.env_text.specs.Views.{plain_word}
 use Rattle.env_text.proofs.WordLists.{name_read, behind_name, number_read, behind_number}
 use Rattle.env_text.proofs.word.word_at.Goals as goal
