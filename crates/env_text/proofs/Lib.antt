@@ -1,0 +1,6 @@
+pub mod Ascii
+pub mod Runs
+pub mod Digits
+pub mod WordLists
+pub mod Boundaries
+pub mod Places

@@ -1,0 +1,6 @@
+pub mod Bytes
+pub mod Words
+pub mod Parts
+pub mod References
+pub mod Readings
+pub mod Views
