@@ -1,4 +1,8 @@
 pub mod Cases
+pub mod Flat
+pub mod Steps
+pub mod Puts
+pub mod Targets
 pub mod Paths
 pub mod Shorter
 pub mod Loops

@@ -5,21 +5,34 @@
 //! function says that what it answers is what reading gives.
 #![tactic(auto)]
 
+mod arguments;
+mod atoms;
+mod dicts;
+mod display;
 mod level;
+mod link;
+mod lists;
 mod names;
 mod operators;
 mod seen;
 mod site;
 mod stop;
+mod subscripts;
 mod tables;
 mod terminal;
+mod tuples;
 
+pub use arguments::open_call;
+pub use atoms::{boxed, compare, take_attribute, take_leaf};
+pub use display::{NextDisplay, OpenDisplay, open_display, put_in_display};
 pub use level::Level;
+pub use link::{NextLink, OpenLink, put_in_link};
 pub use names::{parse_names, take_name};
 pub use operators::{chain_of, next_comparison, next_operator, post_of, take_constant};
 pub use seen::Seen;
 pub use site::Site;
 pub use stop::Stop;
+pub use subscripts::open_subscript;
 pub use terminal::{Terminal, sees, strip};
 
 #[cfg(test)]
@@ -74,7 +87,7 @@ mod tests {
             Ok(Some((line, comparison, rest))) => {
                 assert_eq!(rt; line, 7);
                 assert_eq!(rt; comparison, Comparison::IsNot);
-                assert!(rt; take_constant(rest).is_ok());
+                assert!(rt; take_constant(alloc, rest).is_ok());
             }
             _ => assert!(rt; false, "`is not` is read"),
         }
@@ -84,9 +97,9 @@ mod tests {
     #[test]
     fn one_operand_is_no_chain(rt: HostRuntime) -> Result<(), Fail> {
         let alloc = rt.alloc();
-        let one = Expr::Integer { line: 1, value: 1 };
+        let one = Box::new(alloc, Expr::Integer { line: 1, value: 1 })?;
         let alone = chain_of(alloc, one, Vec::new(alloc))?;
-        assert!(rt; matches!(alone, Expr::Integer { .. }));
+        assert!(rt; matches!(*alone, Expr::Integer { .. }));
         let mut rest = Vec::new(alloc);
         let operand = Expr::Integer { line: 1, value: 2 };
         let operator = Operator::Add;
@@ -95,12 +108,12 @@ mod tests {
             operator,
             operand,
         })?;
-        let one = Expr::Integer { line: 1, value: 1 };
+        let one = Box::new(alloc, Expr::Integer { line: 1, value: 1 })?;
         let sum = chain_of(alloc, one, rest)?;
-        assert!(rt; matches!(sum, Expr::Chain { .. }));
-        let one = Expr::Integer { line: 1, value: 1 };
+        assert!(rt; matches!(*sum, Expr::Chain { .. }));
+        let one = Box::new(alloc, Expr::Integer { line: 1, value: 1 })?;
         let alone = post_of(alloc, one, Vec::new(alloc))?;
-        assert!(rt; matches!(alone, Expr::Integer { .. }));
+        assert!(rt; matches!(*alone, Expr::Integer { .. }));
         Ok(())
     }
 }
