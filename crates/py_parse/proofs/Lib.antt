@@ -2,6 +2,7 @@ pub mod Cases
 pub mod Flat
 pub mod Steps
 pub mod Puts
+pub mod Ways
 pub mod Targets
 pub mod Paths
 pub mod Shorter

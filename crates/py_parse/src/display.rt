@@ -117,13 +117,13 @@ impl OpenDisplay {
 /// What comes behind an expression of a display, both on the heap.
 pub fn put_in_display<'a>(
     alloc: Global,
-    open: Box<OpenDisplay>,
+    display: Box<OpenDisplay>,
     value: Box<Expr>,
     tokens: &'a [Token],
 ) -> Result<NextDisplay<'a>, Stop<'a>>
-    ensures goes { Continues (display_after open.value (expr_tree value.value)) tokens.now result }
+    ensures goes { Continues (display_after display.value (expr_tree value.value)) tokens.now result }
     ensures shrinks { Shrinks tokens.now result }
 {
-    let open = Box::into_inner(open);
-    open.put(alloc, Box::into_inner(value), tokens)
+    let display = Box::into_inner(display);
+    display.put(alloc, Box::into_inner(value), tokens)
 }

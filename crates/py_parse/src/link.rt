@@ -72,13 +72,13 @@ impl OpenLink {
 /// What comes behind an expression of a call or subscript, both on the heap.
 pub fn put_in_link<'a>(
     alloc: Global,
-    open: Box<OpenLink>,
+    link: Box<OpenLink>,
     value: Box<Expr>,
     tokens: &'a [Token],
 ) -> Result<NextLink<'a>, Stop<'a>>
-    ensures goes { LinkContinues (link_after open.value (expr_tree value.value)) tokens.now result }
+    ensures goes { LinkContinues (link_after link.value (expr_tree value.value)) tokens.now result }
     ensures shrinks { LinkShrinks tokens.now result }
 {
-    let open = Box::into_inner(open);
-    open.put(alloc, Box::into_inner(value), tokens)
+    let link = Box::into_inner(link);
+    link.put(alloc, Box::into_inner(value), tokens)
 }
