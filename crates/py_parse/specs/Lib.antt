@@ -3,3 +3,4 @@ pub mod Grammar
 pub mod Parses
 pub mod Reading
 pub mod Agrees
+pub mod Permits
