@@ -5,20 +5,32 @@
 //! function says that what it answers is what reading gives.
 #![tactic(auto)]
 
+mod assignment;
+mod expression;
 mod level;
+mod lines;
 mod names;
 mod operators;
+mod parameters;
+mod script;
 mod seen;
 mod site;
+mod statements;
 mod stop;
 mod tables;
 mod terminal;
 
+pub use assignment::parse_assignment;
+pub use expression::{parse_expr, parse_exprs};
 pub use level::Level;
+pub use lines::parse_line;
 pub use names::{parse_names, take_name};
 pub use operators::{chain_of, next_comparison, next_operator, post_of, take_constant};
+pub use parameters::parse_parameters;
+pub use script::read_script;
 pub use seen::Seen;
 pub use site::Site;
+pub use statements::{parse_small, parse_statements, strip_where};
 pub use stop::Stop;
 pub use terminal::{Terminal, sees, strip};
 
