@@ -45,10 +45,10 @@ choose_strict d [] ts rest t a r = absurd a
 choose_strict d (b ∷ []) ts rest t a r = a ts rest t r
 choose_strict d (b ∷ (c ∷ cs)) ts rest t a r =
     let go : Reads d (cond (leads b ts) b (choose (c ∷ cs) ts)) ts (ok t rest) → length rest < length ts =
-        elim (leads b ts) as (λ v. Reads d (cond v b (choose (c ∷ cs) ts)) ts (ok t rest) → length rest < length ts) [
-          true ↦ a.0 ts rest t
-        | false ↦ choose_strict d (c ∷ cs) ts rest t a.1
-        ] in
+    elim (leads b ts) as (λ v. Reads d (cond v b (choose (c ∷ cs) ts)) ts (ok t rest) → length rest < length ts) [
+      | true ↦ a.0 ts rest t
+      | false ↦ choose_strict d (c ∷ cs) ts rest t a.1
+    ] in
     go r
 
 statements_rest_strict : (d : ℕ) (s : Site) (ts rest : List Token) (t : Tree) → Reads d (pick (statements_rest s) ts) ts (ok t rest) → length rest < length ts

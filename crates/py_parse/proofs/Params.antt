@@ -35,8 +35,8 @@ pub params_last : (d : ℕ) (ts : List Token) (seen : List (List ℕ)) (found fo
 params_last d ts seen found found' rest rest' line name c a h i e =
     let p : Tree = parameter line name absent in
     let r : Reads d (pick (params seen) rest) rest (ok (cons p nil) rest') =
-        param_at d seen rest rest' line name _ a
-        (by_production (param_rest (seen ++ name ∷ []) line name) (no_takes _ _ _ _ h (no_takes _ _ _ _ i (yes_gives (cons p nil) [])))) in
+    param_at d seen rest rest' line name _ a
+    (by_production (param_rest (seen ++ name ∷ []) line name) (no_takes _ _ _ _ h (no_takes _ _ _ _ i (yes_gives (cons p nil) [])))) in
     rw (← onto_trees found', e) (rw (← all_behind_one found p (ok nil rest')) at (c (ok (cons p nil) rest') r))
 
 pub params_more : (d : ℕ) (ts : List Token) (seen seen' : List (List ℕ)) (found found' : List Tree) (rest rest1 rest2 : List Token) (x : Token) (line : ℕ) (name : List ℕ) →
@@ -46,8 +46,8 @@ pub params_more : (d : ℕ) (ts : List Token) (seen seen' : List (List ℕ)) (fo
 params_more d ts seen seen' found found' rest rest1 rest2 x line name c a h b f e o r =
     let p : Tree = parameter line name absent in
     let q : Reads d (pick (params seen) rest) rest (behind p o) =
-        param_at d seen rest rest1 line name _ a
-        (by_production (param_rest (seen ++ name ∷ []) line name) (no_takes _ _ _ _ h (yes_takes _ _ b (reads_behind p o (rw f at r))))) in
+    param_at d seen rest rest1 line name _ a
+    (by_production (param_rest (seen ++ name ∷ []) line name) (no_takes _ _ _ _ h (yes_takes _ _ b (reads_behind p o (rw f at r))))) in
     rw (e, all_behind_one found p o) (c (behind p o) q)
 
 -- what is given behind parameters found is given behind them
@@ -72,7 +72,7 @@ pub params_default : (d : ℕ) (ts : List Token) (seen : List (List ℕ)) (found
 params_default d ts seen found rest rest1 rest2 x line name o c a b r =
     let s : Behind d seen found line name rest2 o = behind_found d seen found line name rest2 o r in
     let q : Reads d (pick (params seen) rest) rest s.alone =
-        param_at d seen rest rest1 line name _ a (by_production (param_rest (seen ++ name ∷ []) line name) (yes_takes _ _ b s.reading)) in
+    param_at d seen rest rest1 line name _ a (by_production (param_rest (seen ++ name ∷ []) line name) (yes_takes _ _ b s.reading)) in
     rw s.joined (c s.alone q)
 
 pub params_default_answers : {X : Type 0} (view : X → Outcome) (res : Result X Stop) (d : ℕ) (ts : List Token) (seen : List (List ℕ)) (found : List Tree)

@@ -86,7 +86,14 @@ pub fn parse_assignment<'a>(
     if let Some((mark, rest)) = strip_where(is_targets(&target), mark, rest) {
         let (value, rest) = parse_exprs(alloc, depth, rest)?;
         let line = mark.line;
-        return Ok((Simple::Assign { line, target, value }, rest));
+        return Ok((
+            Simple::Assign {
+                line,
+                target,
+                value,
+            },
+            rest,
+        ));
     }
     if let Some((mark, rest)) = strip_where(is_place(&target), Terminal::Augment, rest) {
         let Some(operator) = augment_of(&mark.kind) else {

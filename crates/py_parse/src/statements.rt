@@ -89,8 +89,11 @@ pub fn parse_small<'a>(
     if let Some((word, rest)) = strip_where(site.in_for, Terminal::Word(Keyword::Break), tokens) {
         return Ok((Simple::Break { line: word.line }, rest));
     }
-    if let Some((word, rest)) = strip_where(site.in_for, Terminal::Word(Keyword::Continue), tokens)
-    {
+    if let Some((word, rest)) = strip_where(
+        site.in_for,
+        Terminal::Word(Keyword::Continue),
+        tokens,
+    ) {
         return Ok((Simple::Continue { line: word.line }, rest));
     }
     if let Some((word, rest)) = strip_where(site.in_def, Terminal::Word(Keyword::Return), tokens) {

@@ -17,19 +17,19 @@ returns-in_err-value c =
 pub returns-in_default : goal.returns-in_default
 returns-in_default c =
     let a : Defaulted c.args.depth c.insert.new.self c.defaults.seen (map parameter_tree c.push.new.self.items) (map parameter_tree c.defaults.found.items) c.defaults.line c.defaults.name c.defaults.rest.now c.in_ok-value.after.now =
-        record { value = expr_tree c.in_ok-value.value; reading = c.in_ok-value.ensures; seen_is = rw c.in_ok-copy.ensures at c.in_ok-insert.ensures; found_is = map_more parameter_tree _ _ _ c.in_ok-push.ensures.items } in
+    record { value = expr_tree c.in_ok-value.value; reading = c.in_ok-value.ensures; seen_is = rw c.in_ok-copy.ensures at c.in_ok-insert.ensures; found_is = map_more parameter_tree _ _ _ c.in_ok-push.ensures.items } in
     c.defaults.invariant _ (defaults_end _ _ _ _ _ _ _ _ _ _ a (no_comma _ _ _ c.in_default.ensures))
 
 pub returns-in_default-take_fresh : goal.returns-in_default-take_fresh
 returns-in_default-take_fresh c =
     let a : Defaulted c.args.depth c.insert.new.self c.defaults.seen (map parameter_tree c.push.new.self.items) (map parameter_tree c.defaults.found.items) c.defaults.line c.defaults.name c.defaults.rest.now c.in_ok-value.after.now =
-        record { value = expr_tree c.in_ok-value.value; reading = c.in_ok-value.ensures; seen_is = rw c.in_ok-copy.ensures at c.in_ok-insert.ensures; found_is = map_more parameter_tree _ _ _ c.in_ok-push.ensures.items } in
+    record { value = expr_tree c.in_ok-value.value; reading = c.in_ok-value.ensures; seen_is = rw c.in_ok-copy.ensures at c.in_ok-insert.ensures; found_is = map_more parameter_tree _ _ _ c.in_ok-push.ensures.items } in
     c.defaults.invariant _ (defaults_end _ _ _ _ _ _ _ _ _ _ a (last_comma _ _ _ _ _ c.in-Some.ensures c.in_default-take_fresh.ensures))
 
 pub returns-in_default-strip : goal.returns-in_default-strip
 returns-in_default-strip c =
     let a : Defaulted c.args.depth c.insert.new.self c.defaults.seen (map parameter_tree c.push.new.self.items) (map parameter_tree c.defaults.found.items) c.defaults.line c.defaults.name c.defaults.rest.now c.in_ok-value.after.now =
-        record { value = expr_tree c.in_ok-value.value; reading = c.in_ok-value.ensures; seen_is = rw c.in_ok-copy.ensures at c.in_ok-insert.ensures; found_is = map_more parameter_tree _ _ _ c.in_ok-push.ensures.items } in
+    record { value = expr_tree c.in_ok-value.value; reading = c.in_ok-value.ensures; seen_is = rw c.in_ok-copy.ensures at c.in_ok-insert.ensures; found_is = map_more parameter_tree _ _ _ c.in_ok-push.ensures.items } in
     c.defaults.invariant _ (defaults_unfit _ _ _ _ _ _ _ _ _ _ _ _ _ _ a c.in-Some.ensures c.in-Some-take_fresh.ensures c.in_default-strip.ensures)
 
 pub defaults-smaller : goal.defaults-smaller
@@ -43,5 +43,5 @@ defaults-smaller c =
 pub defaults-preserved : goal.defaults-preserved
 defaults-preserved c =
     let a : Defaulted c.args.depth c.insert.new.self c.defaults.seen (map parameter_tree c.push.new.self.items) (map parameter_tree c.defaults.found.items) c.defaults.line c.defaults.name c.defaults.rest.now c.in_ok-value.after.now =
-        record { value = expr_tree c.in_ok-value.value; reading = c.in_ok-value.ensures; seen_is = rw c.in_ok-copy.ensures at c.in_ok-insert.ensures; found_is = map_more parameter_tree _ _ _ c.in_ok-push.ensures.items } in
+    record { value = expr_tree c.in_ok-value.value; reading = c.in_ok-value.ensures; seen_is = rw c.in_ok-copy.ensures at c.in_ok-insert.ensures; found_is = map_more parameter_tree _ _ _ c.in_ok-push.ensures.items } in
     λ o r. c.defaults.invariant _ (defaults_more _ _ _ _ _ _ _ _ _ _ _ _ _ _ _ _ o a c.in-Some.ensures c.in-Some-take_fresh.ensures c.in-Some-strip.ensures (rw c.in_ok-name.ensures at r))

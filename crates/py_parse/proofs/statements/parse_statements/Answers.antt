@@ -29,7 +29,7 @@ pub returns-in-Some-strip-2 : goal.returns-in-Some-strip-2
 returns-in-Some-strip-2 c =
     let e = map_more simple_tree _ _ _ c.in_ok-push.ensures.items in
     let a : Divided c.args.depth c.args.site c.statements.rest.now (simple_tree c.in_ok-statement.statement) c.in-Some-strip.next.now =
-        record { first_rest = c.in_ok-statement.after.now; first = c.in_ok-statement.ensures; no_end = c.in_default.ensures; divider = _; taking = c.in-Some-strip.ensures } in
+    record { first_rest = c.in_ok-statement.after.now; first = c.in_ok-statement.ensures; no_end = c.in_default.ensures; divider = _; taking = c.in-Some-strip.ensures } in
     continues_last _ _ _ _ _ _ _ _ c.statements.invariant (statements_end_mark _ _ _ _ _ _ _ a c.in-Some-strip-2.ensures) e
 
 pub statements-smaller : goal.statements-smaller
@@ -42,5 +42,5 @@ pub statements-preserved : goal.statements-preserved
 statements-preserved c =
     let e = map_more simple_tree _ _ _ c.in_ok-push.ensures.items in
     let a : Divided c.args.depth c.args.site c.statements.rest.now (simple_tree c.in_ok-statement.statement) c.in-Some-strip.next.now =
-        record { first_rest = c.in_ok-statement.after.now; first = c.in_ok-statement.ensures; no_end = c.in_default.ensures; divider = _; taking = c.in-Some-strip.ensures } in
+    record { first_rest = c.in_ok-statement.after.now; first = c.in_ok-statement.ensures; no_end = c.in_default.ensures; divider = _; taking = c.in-Some-strip.ensures } in
     continues_more _ _ _ _ _ _ _ _ c.statements.invariant (statements_further _ _ _ _ _ a c.in_default-strip-2.ensures) e
