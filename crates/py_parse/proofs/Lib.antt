@@ -19,3 +19,7 @@ pub mod Table
 pub mod Top
 pub mod Local
 pub mod Levels
+pub mod Simples
+pub mod Params
+pub mod Targets
+pub mod Blocks

@@ -4,3 +4,4 @@ pub mod Parses
 pub mod Reading
 pub mod Agrees
 pub mod Open
+pub mod Permits
