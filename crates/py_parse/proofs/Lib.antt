@@ -14,3 +14,6 @@ pub mod Table
 pub mod Top
 pub mod Local
 pub mod Levels
+pub mod Faults
+pub mod Found
+pub mod Ends

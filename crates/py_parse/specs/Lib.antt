@@ -3,3 +3,5 @@ pub mod Grammar
 pub mod Parses
 pub mod Reading
 pub mod Agrees
+pub mod Kinds
+pub mod Faults

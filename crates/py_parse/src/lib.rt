@@ -5,18 +5,24 @@
 //! function says that what it answers is what reading gives.
 #![tactic(auto)]
 
+mod fault;
+mod kind;
 mod level;
 mod names;
 mod operators;
+mod parser;
+mod script;
 mod seen;
 mod site;
 mod stop;
 mod tables;
 mod terminal;
 
+pub use fault::{ParseFault, ParseKind, Unsupported};
 pub use level::Level;
 pub use names::{parse_names, take_name};
 pub use operators::{chain_of, next_comparison, next_operator, post_of, take_constant};
+pub use parser::parse;
 pub use seen::Seen;
 pub use site::Site;
 pub use stop::Stop;
