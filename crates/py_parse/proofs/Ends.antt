@@ -3,7 +3,7 @@ use Rattle.std.proofs.Common.{◌≡◌, ℕ, ◌<◌, List, [], false, length, 
 use Rattle.py_token.specs.declared.token.Token.{Token}
 use Rattle.py_parse.specs.declared.terminal.Terminal.{Terminal}
 use Rattle.py_parse.specs.declared.terminal.Terminal.TheVariants as terminal'
-use Rattle.py_parse.specs.Kinds.{are}
+use Rattle.py_parse.specs.Outside.{are}
 
 -- no tokens are left where more are wanted
 pub are_fewer : (ts : List Terminal) (i : ℕ) (xs : List Token) → i < length ts → xs ≡ [] → are (drop i ts) xs ≡ false

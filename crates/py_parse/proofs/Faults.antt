@@ -1,24 +1,19 @@
 -- A fault of reading is the fault of the tokens, with its place and its kind, and tokens have one fault or a tree.
-use Rattle.std.proofs.Common.{◌≡◌, ℕ, zero, suc, ◌+◌, ◌<◌, ◌≤◌, List, [], ◌∷◌, ◌++◌, length, refl, sym, ap, subst, ◌∙◌, append_assoc, length-append, arith, ◌⊎◌, inl, inr}
-use Rattle.std.specs.Prelude.{Option, Some, None}
+use Rattle.std.proofs.Common.{◌≡◌, ℕ, zero, suc, ◌+◌, List, [], ◌∷◌, ◌++◌, refl, sym, ap, subst, ◌∙◌, append_assoc, arith, ◌⊎◌, inl, inr}
 use Rattle.py_token.specs.declared.token.Token.{Token}
 use Rattle.py_tree.specs.Tree.{Tree}
 use Rattle.py_parse.specs.declared.fault.ParseKind.{ParseKind}
-use Rattle.py_parse.specs.declared.fault.ParseKind.TheVariants.{OutOfSubset, TooDeep, Unexpected}
-use Rattle.py_parse.specs.declared.fault.Unsupported.{Unsupported}
-use Rattle.py_parse.specs.Terminals.{heads}
 use Rattle.py_parse.specs.Grammar.{Body, takes, opens, reads, deeper, gives, script}
 use Rattle.py_parse.specs.Parses.{Parses, BeginsScript, NoMore, IsFirstFault}
 use Rattle.py_parse.specs.Reading.{Outcome, ok, fault, Why, unfit, deep, Reads, r_given, r_taken, r_refused, r_opened, r_deep, r_unopened, r_read, r_part_fault, r_nested, r_nested_fault, pick, choose, leads, beginning}
-use Rattle.py_parse.specs.Kinds.{IsTooDeep, EndsExpression, IsKind, too_deep, behind_expression, behind_none, elsewhere, or_token, unsupported_behind, unsupported_at, kind_of}
+use Rattle.py_parse.specs.Kinds.{IsTooDeep, IsKind, too_deep, behind_expression, behind_none, elsewhere}
 use Rattle.py_parse.specs.Faults.{FaultAt, line_of, number_of}
 use Rattle.py_parse.proofs.One.{Reads-one}
 use Rattle.py_parse.proofs.Table.{complete_script}
 use Rattle.py_parse.proofs.Levels as levels
 use Rattle.py_parse.proofs.Levels.{NotDeep, GoesOn, one_more}
-use Rattle.py_parse.proofs.Viable.{Begins}
 use Rattle.py_parse.proofs.Top.{with_nothing, tree_of, begins_script}
-use Rattle.py_parse.proofs.Local.{SameHead, local, same_part, same_fronts, begun, no_more_at}
+use Rattle.py_parse.proofs.Local.{SameHead, local, same_fronts, begun, no_more_at}
 
 -- a script stands last in the body
 abbrev IsGiven : Body → Type 0

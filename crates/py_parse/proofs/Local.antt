@@ -124,7 +124,7 @@ pub no_more_at : (front rest : List Token) (w : Why) → ((r : List Token) → S
 no_more_at front [] w m = λ t p. no_tree (front ++ []) [] t w (m [] (λ v. refl)) (rw with_nothing p)
 no_more_at front (x ∷ rest) w m = λ more t p. no_tree (front ++ x ∷ more) (x ∷ more) t w (m (x ∷ more) (λ v. refl)) p
 
-pub same_part : (a b r s : List Token) → a ++ r ≡ b ++ s → length a ≡ length b → a ≡ b
+same_part : (a b r s : List Token) → a ++ r ≡ b ++ s → length a ≡ length b → a ≡ b
 same_part [] [] r s e n = refl
 same_part [] (y ∷ b) r s e n = absurd (omega arith)
 same_part (x ∷ a) [] r s e n = absurd (omega arith)

@@ -1,6 +1,6 @@
 ghost use Rattle.std.specs.Prelude.{◌≡◌};
 ghost use Rattle.py_parse.specs.declared.fault.ParseFault.TheVariants.{Memory};
-ghost use Rattle.py_parse.specs.Kinds.{spelling_of};
+ghost use Rattle.py_parse.specs.Outside.{spelling_of};
 
 use py_token::{Keyword, Mark};
 use scons_base::Memory as OutOfMemory;

@@ -5,11 +5,13 @@
 //! function says that what it answers is what reading gives.
 #![tactic(auto)]
 
+mod copies;
 mod fault;
 mod kind;
 mod level;
 mod names;
 mod operators;
+mod outside;
 mod parser;
 mod script;
 mod seen;

@@ -1,7 +1,7 @@
 use Rattle.std.proofs.Common.{sym, ◌∙◌}
 use Rattle.py_parse.proofs.Cases.{empty_list}
 use Rattle.py_parse.proofs.Ends.{are_fewer}
-use Rattle.py_parse.proofs.kind.are.Goals as goal
+use Rattle.py_parse.proofs.outside.are.Goals as goal
 
 pub returns-in_default : goal.returns-in_default
 returns-in_default c =
