@@ -3,73 +3,17 @@ use Rattle.std.proofs.Common.{◌≡◌, ℕ, zero, suc, ◌+◌, List, [], ◌�
 use Rattle.py_token.specs.declared.token.Token.{Token}
 use Rattle.py_tree.specs.Tree.{Tree}
 use Rattle.py_parse.specs.declared.fault.ParseKind.{ParseKind}
-use Rattle.py_parse.specs.Grammar.{Body, takes, opens, reads, deeper, gives, script}
+use Rattle.py_parse.specs.Grammar.{Body, reads, gives, script}
 use Rattle.py_parse.specs.Parses.{Parses, BeginsScript, NoMore, IsFirstFault}
-use Rattle.py_parse.specs.Reading.{Outcome, ok, fault, Why, unfit, deep, Reads, r_given, r_taken, r_refused, r_opened, r_deep, r_unopened, r_read, r_part_fault, r_nested, r_nested_fault, pick, choose, leads, beginning}
-use Rattle.py_parse.specs.Kinds.{IsTooDeep, IsKind, too_deep, behind_expression, behind_none, elsewhere}
+use Rattle.py_parse.specs.Reading.{Outcome, ok, fault, Why, unfit, deep, Reads}
+use Rattle.py_parse.specs.Kinds.{IsTooDeep, IsKind, too_deep, behind_expression, behind_none, another}
 use Rattle.py_parse.specs.Faults.{FaultAt, line_of, number_of}
 use Rattle.py_parse.proofs.One.{Reads-one}
 use Rattle.py_parse.proofs.Table.{complete_script}
 use Rattle.py_parse.proofs.Levels as levels
 use Rattle.py_parse.proofs.Levels.{NotDeep, GoesOn, one_more}
-use Rattle.py_parse.proofs.Top.{with_nothing, tree_of, begins_script}
+use Rattle.py_parse.proofs.Top.{with_nothing, begins_script}
 use Rattle.py_parse.proofs.Local.{SameHead, local, same_fronts, begun, no_more_at}
-
--- a script stands last in the body
-abbrev IsGiven : Body → Type 0
-IsGiven (gives t) = Unit {0}
-IsGiven _ = ⊥
-
-abbrev EndsInScript : Body → Type 0
-EndsInScript (gives t) = ⊥
-EndsInScript (takes w k) = (x : Token) → EndsInScript (k x)
-EndsInScript (opens w k) = (x : Token) → EndsInScript (k x)
-EndsInScript (reads p k) = ((p ≡ script) × ((u : Tree) → IsGiven (k u))) ⊎ ((u : Tree) → EndsInScript (k u))
-EndsInScript (deeper p k) = (u : Tree) → EndsInScript (k u)
-
-abbrev NoneLeft : Outcome → Type 0
-NoneLeft (ok t rest) = rest ≡ []
-NoneLeft (fault w rest) = Unit {0}
-
-none_behind : {d : ℕ} {b : Body} {ts : List Token} {o : Outcome} → Reads d b ts o → IsGiven b → ts ≡ [] → NoneLeft o
-none_behind r_given g e = e
-none_behind (r_taken f r) g e = absurd g
-none_behind (r_refused f) g e = absurd g
-none_behind (r_opened f r) g e = absurd g
-none_behind (r_deep f) g e = absurd g
-none_behind (r_unopened f) g e = absurd g
-none_behind (r_read u rest r s) g e = absurd g
-none_behind (r_part_fault r) g e = absurd g
-none_behind (r_nested u rest r s) g e = absurd g
-none_behind (r_nested_fault r) g e = absurd g
-
-script_at : (d : ℕ) (ts rest : List Token) (u : Tree) → Reads d (pick script ts) ts (ok u rest) → (EndsInScript (pick script ts) → rest ≡ []) → rest ≡ []
-unfolding pick choose leads beginning
-script_at d [] rest u r h = none_behind r tt refl
-script_at d (x ∷ ts) rest u r h = h (inr (λ t. inl (refl, λ v. tt)))
-
-none_left : {d : ℕ} {b : Body} {ts : List Token} {o : Outcome} → Reads d b ts o → EndsInScript b → NoneLeft o
-none_left r_given e = absurd e
-none_left (r_taken {x = x} f r) e = none_left r (e x)
-none_left (r_refused f) e = tt
-none_left (r_opened {x = x} f r) e = none_left r (e x)
-none_left (r_deep f) e = tt
-none_left (r_unopened f) e = tt
-none_left (r_read {d = d} {p = p} {k = k} {ts = ts} u rest r s) (inl e) =
-    let h = λ (g : EndsInScript (pick script ts)). none_left r (subst (λ q. EndsInScript (pick q ts)) (sym e.0) g) in
-    none_behind s (e.1 u) (script_at d ts rest u (subst (λ q. Reads d (pick q ts) ts (ok u rest)) e.0 r) h)
-none_left (r_read u rest r s) (inr e) = none_left s (e u)
-none_left (r_part_fault r) e = tt
-none_left (r_nested u rest r s) e = none_left s (e u)
-none_left (r_nested_fault r) e = tt
-
--- reading a script ends at the end of the tokens
-pub script_ends : {d : ℕ} {ts rest : List Token} {t : Tree} → Reads d (reads script gives) ts (ok t rest) → rest ≡ []
-script_ends r = none_left r (inl (refl, λ u. tt))
-
--- what is read is a script
-pub script_of : (ts rest : List Token) (t : Tree) → Reads 100 (reads script gives) ts (ok t rest) → Parses ts t
-script_of ts rest t r = let e = script_ends r in tree_of ts t (rw e at r)
 
 -- where reading stops: the tokens before begin a script, no script goes on with the next one, and other tokens behind that
 -- one change nothing
@@ -167,19 +111,19 @@ one_kind : (front rest : List Token) (k l : ParseKind) → IsKind front rest k �
 one_kind front rest k l (too_deep d) (too_deep e) = refl
 one_kind front rest k l (too_deep d) (behind_expression u n is b) = absurd (n d)
 one_kind front rest k l (too_deep d) (behind_none u n is b) = absurd (n d)
-one_kind front rest k l (too_deep d) (elsewhere kind n is w) = absurd (n d)
+one_kind front rest k l (too_deep d) (another kind n is w) = absurd (n d)
 one_kind front rest k l (behind_expression u n is b) (too_deep d) = absurd (n d)
 one_kind front rest k l (behind_expression u n is b) (behind_expression v m are c) = cc
 one_kind front rest k l (behind_expression u n is b) (behind_none v m are c) = absurd (c b)
-one_kind front rest k l (behind_expression u n is b) (elsewhere kind m are w) = cc
+one_kind front rest k l (behind_expression u n is b) (another kind m are w) = cc
 one_kind front rest k l (behind_none u n is b) (too_deep d) = absurd (n d)
 one_kind front rest k l (behind_none u n is b) (behind_expression v m are c) = absurd (b c)
 one_kind front rest k l (behind_none u n is b) (behind_none v m are c) = refl
-one_kind front rest k l (behind_none u n is b) (elsewhere kind m are w) = cc
-one_kind front rest k l (elsewhere kind n is w) (too_deep d) = absurd (n d)
-one_kind front rest k l (elsewhere kind n is w) (behind_expression v m are c) = cc
-one_kind front rest k l (elsewhere kind n is w) (behind_none v m are c) = cc
-one_kind front rest k l (elsewhere kind n is w) (elsewhere other m are v) = cc
+one_kind front rest k l (behind_none u n is b) (another kind m are w) = cc
+one_kind front rest k l (another kind n is w) (too_deep d) = absurd (n d)
+one_kind front rest k l (another kind n is w) (behind_expression v m are c) = cc
+one_kind front rest k l (another kind n is w) (behind_none v m are c) = cc
+one_kind front rest k l (another kind n is w) (another other m are v) = cc
 
 pub one_fault : (ts : List Token) (line number : ℕ) (kind : ParseKind) (line' number' : ℕ) (kind' : ParseKind) →
     FaultAt ts line number kind → FaultAt ts line' number' kind' → (line ≡ line') × (number ≡ number') × (kind ≡ kind')

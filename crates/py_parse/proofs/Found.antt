@@ -14,8 +14,8 @@ use Rattle.py_parse.specs.Parses.{Parses, BeginsScript}
 use Rattle.py_parse.specs.Reading.{ok, fault, Why, Reads}
 use Rattle.py_parse.specs.Kinds.{IsKind}
 use Rattle.py_parse.specs.Faults.{FaultAt, FaultsAt, IsTree, Gives, Tells, line_of, number_of}
-use Rattle.py_parse.proofs.Top.{with_nothing, one_tree}
-use Rattle.py_parse.proofs.Faults.{Stopped, stopped_at, script_of, one_fault, not_both}
+use Rattle.py_parse.proofs.Top.{with_nothing, tree_of, one_tree}
+use Rattle.py_parse.proofs.Faults.{Stopped, stopped_at, one_fault, not_both}
 
 fault_here : (ts rest : List Token) (w : Why) (kind : ParseKind) (s : Stopped ts rest w) →
     (Reads 100 (reads script gives) (s.front ++ rest) (fault w rest) → IsKind s.front rest kind) →
@@ -52,8 +52,8 @@ fault_found ts rest front back w kind r p q h =
     subst (λ g. FaultAt ts (line_of front g) (number_of front) kind) b (subst (λ g. FaultAt ts (line_of g rest) (number_of g) kind) f a)
 
 -- a script is the front of one
-pub begins_if_read : (ts rest : List Token) (t : Tree) → Reads 100 (reads script gives) ts (ok t rest) → BeginsScript ts
-begins_if_read ts rest t r = ([], t, subst (λ l. Parses l t) (sym (with_nothing ts)) (script_of ts rest t r))
+pub begins_if_read : (ts : List Token) (t : Tree) → Reads 100 (reads script gives) ts (ok t []) → BeginsScript ts
+begins_if_read ts t r = ([], t, subst (λ l. Parses l t) (sym (with_nothing ts)) (tree_of ts t r))
 
 some_left : (n : ℕ) → (suc n == 0) ≡ true → ⊥
 some_left n h = grind (arith, nat_tests)

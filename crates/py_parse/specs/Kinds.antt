@@ -29,6 +29,8 @@ kind_of (Some u) = OutOfSubset u
 -- Why the first of the tokens `rest` is refused behind those of `front`.
 pub data IsKind (front rest : List Token) : ParseKind → Type 0 where
   too_deep : IsTooDeep front rest → IsKind front rest TooDeep
+  -- what is refused behind an expression alone, there and elsewhere
   behind_expression : (u : Unsupported) → (IsTooDeep front rest → ⊥) → unsupported_behind rest ≡ Some u → EndsExpression front → IsKind front rest (OutOfSubset u)
   behind_none : (u : Unsupported) → (IsTooDeep front rest → ⊥) → unsupported_behind rest ≡ Some u → (EndsExpression front → ⊥) → IsKind front rest Unexpected
-  elsewhere : (kind : ParseKind) → (IsTooDeep front rest → ⊥) → unsupported_behind rest ≡ None → kind ≡ kind_of (unsupported_at front rest) → IsKind front rest kind
+  -- every other token
+  another : (kind : ParseKind) → (IsTooDeep front rest → ⊥) → unsupported_behind rest ≡ None → kind ≡ kind_of (unsupported_at front rest) → IsKind front rest kind

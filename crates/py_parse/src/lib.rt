@@ -49,6 +49,17 @@ mod tests {
     }
 
     #[test]
+    fn what_a_script_has_not_is_told_by_a_word(rt: HostRuntime) {
+        for (unsupported, word) in [
+            (Unsupported::Word(Keyword::Class), "class"),
+            (Unsupported::Mark(Mark::Power), "**"),
+            (Unsupported::Chain, "chain"),
+        ] {
+            assert_eq!(rt; unsupported.word(), word);
+        }
+    }
+
+    #[test]
     fn names_end_at_the_first_without_a_comma(rt: HostRuntime) -> Result<(), Fail> {
         let alloc = rt.alloc();
         let mut tokens = Vec::new(alloc);

@@ -27,7 +27,7 @@ fn parse_tokens(alloc: Global, tokens: &[Token]) -> Result<Script, ParseFault>
     ensures { MatchResult result (IsTree tokens.now) (FaultsAt tokens.now) }
 {
     match read_script(alloc, tokens) {
-        Ok((script, _)) => Ok(script),
+        Ok(script) => Ok(script),
         Err(Stop::At(rest)) => {
             let (front, rest) = tokens.split_at(tokens.len() - rest.len());
             let kind = kind_at(alloc, front, rest)?;

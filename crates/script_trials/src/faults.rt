@@ -63,8 +63,8 @@ fn a_conditional_expression_is_refused_at_its_if(rt: HostRuntime) -> Result<(), 
         ("a += b if c else d", "1 3 OutOfSubset if"),
         ("[a for a in b if c if d else e]", "1 10 Unexpected"),
         ("for x if", "1 2 Unexpected"),
-        ("def f(a if", "1 4 Unexpected"),
-        ("f(a b if", "1 3 Unexpected"),
+        ("def f(a if): pass", "1 4 Unexpected"),
+        ("f(a b if)", "1 3 Unexpected"),
         ("if", "1 1 Unexpected"),
         ("x = if a", "1 2 Unexpected"),
         ("a, if", "1 2 Unexpected"),
@@ -74,7 +74,7 @@ fn a_conditional_expression_is_refused_at_its_if(rt: HostRuntime) -> Result<(), 
         ("pass if a", "1 1 Unexpected"),
         ("def if", "1 1 Unexpected"),
         ("if x: if y: z", "1 3 Unexpected"),
-        ("f(a=if", "1 4 Unexpected"),
+        ("f(a=if)", "1 4 Unexpected"),
     ] {
         let fault = shown(alloc, script)?;
         assert_eq!(rt; fault.as_str(), expected, "{script}");
@@ -277,7 +277,7 @@ fn other_tokens_are_unexpected(rt: HostRuntime) -> Result<(), Fail> {
     let alloc = rt.alloc();
     for (script, expected) in [
         (")", "1 0 Unexpected"),
-        ("(a", "1 2 Unexpected"),
+        ("(a))", "1 3 Unexpected"),
         ("a b", "1 1 Unexpected"),
         ("a,,b", "1 2 Unexpected"),
         ("[a,,b]", "1 3 Unexpected"),
@@ -290,7 +290,7 @@ fn other_tokens_are_unexpected(rt: HostRuntime) -> Result<(), Fail> {
         ("a[]", "1 2 Unexpected"),
         ("a[b, c]", "1 3 Unexpected"),
         ("a[b:c:d]", "1 5 Unexpected"),
-        ("a.1", "1 2 Unexpected"),
+        ("a.(b)", "1 2 Unexpected"),
         ("a +", "1 2 Unexpected"),
         ("+a", "1 0 Unexpected"),
         ("a not b", "1 2 Unexpected"),

@@ -50,26 +50,44 @@ fn width(script: &Script) -> usize {
     }
 }
 
+fn width_of(alloc: Global, script: &str) -> Result<usize, Fail> {
+    let tokens = lex(alloc, script.as_bytes())?;
+    let script = parse(alloc, &tokens)?;
+    Ok(width(&script))
+}
+
+#[test]
+fn a_long_chain_is_flat(rt: HostRuntime) -> Result<(), Fail> {
+    let alloc = rt.alloc();
+    let script = long(alloc, "a", 10_000, " + a", "")?;
+    assert_eq!(rt; width_of(alloc, script.as_str())?, 10_000);
+    Ok(())
+}
+
+#[test]
+fn a_long_list_is_flat(rt: HostRuntime) -> Result<(), Fail> {
+    let alloc = rt.alloc();
+    let script = long(alloc, "[", 100_000, "a, ", "]")?;
+    assert_eq!(rt; width_of(alloc, script.as_str())?, 100_000);
+    Ok(())
+}
+
 #[test]
 fn what_stands_side_by_side_is_flat(rt: HostRuntime) -> Result<(), Fail> {
     let alloc = rt.alloc();
-    for (front, count, middle, end) in [
-        ("a", 10_000, " + a", ""),
-        ("a", 10_000, " or a", ""),
-        ("a", 10_000, " and a", ""),
-        ("a", 10_000, " % a", ""),
-        ("[", 100_000, "a, ", "]"),
-        ("", 100_000, "a, ", ""),
-        ("{", 100_000, "a: a, ", "}"),
-        ("a(", 100_000, "a, ", ")"),
-        ("a", 10_000, ".a", ""),
-        ("a", 10_000, "()", ""),
-        ("a", 10_000, "[a]", ""),
+    for (front, middle, end) in [
+        ("a", " or a", ""),
+        ("a", " and a", ""),
+        ("a", " % a", ""),
+        ("", "a, ", ""),
+        ("{", "a: a, ", "}"),
+        ("a(", "a, ", ")"),
+        ("a", ".a", ""),
+        ("a", "()", ""),
+        ("a", "[a]", ""),
     ] {
-        let script = long(alloc, front, count, middle, end)?;
-        let tokens = lex(alloc, script.as_bytes())?;
-        let script = parse(alloc, &tokens)?;
-        assert_eq!(rt; width(&script), count, "{middle}");
+        let script = long(alloc, front, 2_000, middle, end)?;
+        assert_eq!(rt; width_of(alloc, script.as_str())?, 2_000, "{middle}");
     }
     Ok(())
 }
@@ -77,16 +95,16 @@ fn what_stands_side_by_side_is_flat(rt: HostRuntime) -> Result<(), Fail> {
 #[test]
 fn elifs_and_lines_are_flat(rt: HostRuntime) -> Result<(), Fail> {
     let alloc = rt.alloc();
-    let script = long(alloc, "if a: a\n", 10_000, "elif a: a\n", "else: a\n")?;
+    let script = long(alloc, "if a: a\n", 2_000, "elif a: a\n", "else: a\n")?;
     let tokens = lex(alloc, script.as_bytes())?;
     let script = parse(alloc, &tokens)?;
     match script.lines.first() {
-        Some(Line::If { branches, .. }) => assert_eq!(rt; branches.len(), 10_001),
+        Some(Line::If { branches, .. }) => assert_eq!(rt; branches.len(), 2_001),
         _ => assert!(rt; false, "the line is an `if`"),
     }
-    let script = long(alloc, "", 10_000, "a = a; a = a\n", "")?;
+    let script = long(alloc, "", 2_000, "a = a; a = a\n", "")?;
     let tokens = lex(alloc, script.as_bytes())?;
     let script = parse(alloc, &tokens)?;
-    assert_eq!(rt; script.lines.len(), 10_000);
+    assert_eq!(rt; script.lines.len(), 2_000);
     Ok(())
 }

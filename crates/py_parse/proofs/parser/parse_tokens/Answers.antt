@@ -1,7 +1,8 @@
 use Rattle.py_parse.specs.Reading.{unfit, deep}
 use Rattle.py_parse.specs.Kinds.{too_deep}
 use Rattle.py_parse.proofs.Shorter.{shorter}
-use Rattle.py_parse.proofs.Faults.{script_of, deep_is, unfit_is}
+use Rattle.py_parse.proofs.Top.{tree_of}
+use Rattle.py_parse.proofs.Faults.{deep_is, unfit_is}
 use Rattle.py_parse.proofs.Found.{fault_found}
 use Rattle.py_parse.proofs.parser.parse_tokens.Goals as goal
 
@@ -12,7 +13,7 @@ pub overflow_sub-tokens-in-Err-TooDeep : goal.overflow_sub-tokens-in-Err-TooDeep
 overflow_sub-tokens-in-Err-TooDeep c = shorter (rw c.in-Err-TooDeep.field-0-is at c.in-Err-TooDeep.ensures)
 
 pub returns-in-Ok : goal.returns-in-Ok
-returns-in-Ok c = script_of c.args.tokens.now _ _ c.in-Ok.ensures
+returns-in-Ok c = tree_of c.args.tokens.now _ c.in-Ok.ensures
 
 pub returns-in_ok-kind-in-Err-At : goal.returns-in_ok-kind-in-Err-At
 returns-in_ok-kind-in-Err-At c =
