@@ -12,6 +12,7 @@ fn statements_and_lines_have_their_trees(rt: HostRuntime) -> Result<(), Fail> {
         ("x = 1", "Script{[Simple{[Assign{1,Name{1,\"x\"},Integer{1,1}}]}]}"),
         ("x = y, z", "Script{[Simple{[Assign{1,Name{1,\"x\"},Tuple{1,[Name{1,\"y\"},Name{1,\"z\"}],false}}]}]}"),
         ("x, y = z", "Script{[Simple{[Assign{1,Tuple{1,[Name{1,\"x\"},Name{1,\"y\"}],false},Name{1,\"z\"}}]}]}"),
+        ("x, y, z = w", "Script{[Simple{[Assign{1,Tuple{1,[Name{1,\"x\"},Name{1,\"y\"},Name{1,\"z\"}],false},Name{1,\"w\"}}]}]}"),
         ("x[0] = y", "Script{[Simple{[Assign{1,Post{Name{1,\"x\"},[Index{1,Integer{1,0}}]},Name{1,\"y\"}}]}]}"),
         ("x.y[z] = 1", "Script{[Simple{[Assign{1,Post{Name{1,\"x\"},[Attribute{1,\"y\"},Index{1,Name{1,\"z\"}}]},Integer{1,1}}]}]}"),
         ("x += 1", "Script{[Simple{[Augment{1,Add,Name{1,\"x\"},Integer{1,1}}]}]}"),
@@ -29,6 +30,7 @@ fn statements_and_lines_have_their_trees(rt: HostRuntime) -> Result<(), Fail> {
         ("for x in y:\n  if z: continue\n  pass", "Script{[For{1,[\"x\"],Name{1,\"y\"},[If{[Branch{2,Name{2,\"z\"},[Simple{[Continue{2}]}]}],[]},Simple{[Pass{3}]}]}]}"),
         ("def f(): pass", "Script{[Def{1,\"f\",[],[Simple{[Pass{1}]}]}]}"),
         ("def f(a, b): return a", "Script{[Def{1,\"f\",[Parameter{1,\"a\",None},Parameter{1,\"b\",None}],[Simple{[Return{1,Some(Name{1,\"a\"})}]}]}]}"),
+        ("def f(a,): pass", "Script{[Def{1,\"f\",[Parameter{1,\"a\",None}],[Simple{[Pass{1}]}]}]}"),
         ("def f(a, b=1, c=d,):\n  return\n  return a, b", "Script{[Def{1,\"f\",[Parameter{1,\"a\",None},Parameter{1,\"b\",Some(Integer{1,1})},Parameter{1,\"c\",Some(Name{1,\"d\"})}],[Simple{[Return{2,None}]},Simple{[Return{3,Some(Tuple{3,[Name{3,\"a\"},Name{3,\"b\"}],false})}]}]}]}"),
         ("def f(a=1): return\nf()", "Script{[Def{1,\"f\",[Parameter{1,\"a\",Some(Integer{1,1})}],[Simple{[Return{1,None}]}]},Simple{[Expression{Post{Name{2,\"f\"},[Call{2,[]}]}}]}]}"),
     ] {
