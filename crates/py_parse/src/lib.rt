@@ -1,8 +1,9 @@
-//! The grammar of the script language, and how tokens are read by it.
+//! Reads the tokens of a script as its syntax tree.
 //!
-//! The grammar is in `specs/Grammar.antt`, and which tokens are a script with which tree in `specs/Parses.antt`. Reading
-//! tokens from left to right, one token ahead, is the relation `Reads` of `specs/Reading.antt`: a contract of a reading
-//! function says that what it answers is what reading gives.
+//! The grammar is in `specs/Grammar.antt`, and which tokens are a script with which tree in `specs/Parses.antt`, with the
+//! first token that no continuation allows. Why that token is refused is in `specs/Kinds.antt`. Reading tokens from left
+//! to right, one token ahead, is the relation `Reads` of `specs/Reading.antt`: a contract of a reading function says that
+//! what it answers is what reading gives.
 #![tactic(auto)]
 
 mod copies;
