@@ -2,6 +2,7 @@ pub mod Cases
 pub mod Flat
 pub mod Steps
 pub mod Puts
+pub mod Items
 pub mod Ways
 pub mod Targets
 pub mod Paths
@@ -21,5 +22,7 @@ pub mod Local
 pub mod Levels
 pub mod Simples
 pub mod Params
-pub mod Targets
 pub mod Blocks
+pub mod Faults
+pub mod Found
+pub mod Ends

@@ -265,3 +265,24 @@ slice_at l None None = link_tree-Slice l None None
 slice_at l None (Some u) = link_tree-Slice l None (Some u)
 slice_at l (Some t) None = link_tree-Slice l (Some t) None
 slice_at l (Some t) (Some u) = link_tree-Slice l (Some t) (Some u)
+
+-- the items of a list from the next on
+pub items_open : {d : ℕ} {ts : List Token} {o : Outcome} (k : Tree → Body) → heads (one terminal'.Expression) ts ≡ true →
+    Reads d (reads expr (λ t. reads items_rest (λ u. k (cons t u)))) ts o → Reads d (reads items k) ts o
+unfolding beginning
+items_open k h r = reads_by items k (reads expr (λ t. reads items_rest (λ u. gives (cons t u)))) (λ o' s. by_production items (yes_reads _ _ h s)) r
+
+pub items_none : {d : ℕ} {ts : List Token} {o : Outcome} (k : Tree → Body) → heads (one terminal'.Expression) ts ≡ false →
+    Reads d (k absent) ts o → Reads d (reads items k) ts o
+unfolding beginning
+items_none {ts = ts} k h r = r_read absent ts (by_production items (no_reads _ _ _ _ h (yes_gives absent []))) r
+
+pub items_comma : {d : ℕ} {ts rest : List Token} {x : Token} {o : Outcome} (k : Tree → Body) →
+    Taken (mark mark'.Comma) ts x rest → Reads d (reads items k) rest o → Reads d (reads items_rest k) ts o
+items_comma k t r =
+    reads_by items_rest k (takes (mark mark'.Comma) (λ _. reads items gives)) (λ o' s. by_production items_rest (yes_takes _ _ t (untake t s))) (takes_at _ t r)
+
+-- several expressions behind the first comma
+pub exprs_more : {d : ℕ} {ts rest : List Token} {x : Token} {o : Outcome} (t : Tree) → Taken (mark mark'.Comma) ts x rest →
+    Reads d (reads items (λ u. gives (tuple x.line (cons t (closed u)) (trails (cons t u))))) rest o → Reads d (pick (exprs_rest t) ts) ts o
+exprs_more t a r = by_production (exprs_rest t) (yes_takes _ _ a r)

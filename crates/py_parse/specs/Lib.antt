@@ -5,3 +5,6 @@ pub mod Reading
 pub mod Agrees
 pub mod Open
 pub mod Permits
+pub mod Outside
+pub mod Kinds
+pub mod Faults

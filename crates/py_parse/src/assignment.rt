@@ -7,7 +7,7 @@ ghost use Rattle.py_parse.specs.Reading.{Reads, pick, ok};
 ghost use Rattle.py_parse.specs.Grammar as grammar;
 ghost use Rattle.py_parse.specs.Agrees as agrees;
 
-use crate::expression::parse_exprs;
+use crate::expression_list::parse_exprs;
 use crate::statements::strip_where;
 use crate::stop::Stop;
 use crate::tables::augment_of;

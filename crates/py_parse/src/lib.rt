@@ -1,25 +1,30 @@
-//! The grammar of the script language, and how tokens are read by it.
+//! Reads the tokens of a script as its syntax tree.
 //!
-//! The grammar is in `specs/Grammar.antt`, and which tokens are a script with which tree in `specs/Parses.antt`. Reading
-//! tokens from left to right, one token ahead, is the relation `Reads` of `specs/Reading.antt`: a contract of a reading
-//! function says that what it answers is what reading gives.
+//! The grammar is in `specs/Grammar.antt`, and which tokens are a script with which tree in `specs/Parses.antt`, with the
+//! first token that no continuation allows. Why that token is refused is in `specs/Kinds.antt`. Reading tokens from left
+//! to right, one token ahead, is the relation `Reads` of `specs/Reading.antt`: a contract of a reading function says that
+//! what it answers is what reading gives.
 #![tactic(auto)]
 
 mod arguments;
+mod assignment;
 mod atoms;
+mod copies;
 mod dicts;
 mod display;
 mod expression;
-mod level;
-mod link;
-mod lists;
-mod assignment;
-mod expression;
+mod expression_list;
+mod fault;
+mod kind;
 mod level;
 mod lines;
+mod link;
+mod lists;
 mod names;
 mod operators;
+mod outside;
 mod parameters;
+mod parser;
 mod script;
 mod seen;
 mod site;
@@ -30,30 +35,15 @@ mod tables;
 mod terminal;
 mod tuples;
 
-pub use arguments::open_call;
-pub use atoms::{boxed, compare, take_attribute, take_leaf};
-pub use display::{NextDisplay, OpenDisplay, open_display, put_in_display};
-pub use expression::parse_expr;
-pub use level::Level;
-pub use link::{NextLink, OpenLink, put_in_link};
-pub use assignment::parse_assignment;
-pub use expression::{parse_expr, parse_exprs};
-pub use level::Level;
-pub use lines::parse_line;
-pub use names::{parse_names, take_name};
-pub use operators::{chain_of, next_comparison, next_operator, post_of, take_constant};
-pub use parameters::parse_parameters;
-pub use script::read_script;
-pub use seen::Seen;
-pub use site::Site;
-pub use statements::{parse_small, parse_statements, strip_where};
-pub use stop::Stop;
-pub use subscripts::open_subscript;
-pub use terminal::{Terminal, sees, strip};
+pub use fault::{ParseFault, ParseKind, Unsupported};
+pub use parser::parse;
 
 #[cfg(test)]
 mod tests {
     use super::*;
+    use crate::names::parse_names;
+    use crate::operators::{chain_of, next_comparison, post_of, take_constant};
+    use crate::seen::Seen;
     use py_token::{Keyword, Mark, Token, TokenKind};
     use py_tree::{Comparison, Expr, Operation, Operator};
     use scons_base::Text;
@@ -67,6 +57,17 @@ mod tests {
 
     fn token(kind: TokenKind) -> Token {
         Token { line: 7, kind }
+    }
+
+    #[test]
+    fn what_a_script_has_not_is_told_by_a_word(rt: HostRuntime) {
+        for (unsupported, word) in [
+            (Unsupported::Word(Keyword::Class), "class"),
+            (Unsupported::Mark(Mark::Power), "**"),
+            (Unsupported::Chain, "chain"),
+        ] {
+            assert_eq!(rt; unsupported.word(), word);
+        }
     }
 
     #[test]

@@ -9,7 +9,8 @@ ghost use Rattle.py_parse.specs.Agrees as agrees;
 ghost use Rattle.py_token.specs.declared.keyword.Keyword.TheVariants as keyword';
 ghost use Rattle.py_parse.specs.declared.terminal.Terminal.TheVariants as terminal';
 
-use crate::expression::{parse_expr, parse_exprs};
+use crate::expression::parse_expr;
+use crate::expression_list::parse_exprs;
 use crate::names::{parse_names, take_name};
 use crate::parameters::parse_parameters;
 use crate::site::Site;

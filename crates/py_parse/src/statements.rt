@@ -9,7 +9,7 @@ ghost use Rattle.py_parse.specs.Grammar as grammar;
 ghost use Rattle.py_parse.specs.Agrees as agrees;
 
 use crate::assignment::parse_assignment;
-use crate::expression::parse_exprs;
+use crate::expression_list::parse_exprs;
 use crate::site::Site;
 use crate::stop::Stop;
 use crate::terminal::{Terminal, sees, strip};
