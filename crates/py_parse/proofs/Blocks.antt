@@ -1,5 +1,5 @@
 -- Lines with blocks below them: the ways through their productions, and what the loops over branches and lines keep.
-use Rattle.std.proofs.Common.{◌≡◌, ◌≢◌, ℕ, suc, ◌-◌, ◌<◌, ◌≤◌, List, [], ◌∷◌, ◌++◌, Bool, true, false, ◌&&◌, cond, length, refl, sym, ap, ◌∙◌, Result, Ok, Err, arith}
+use Rattle.std.proofs.Common.{◌≡◌, ◌≢◌, ℕ, ◌<◌, List, [], ◌∷◌, ◌++◌, Bool, true, false, ◌&&◌, cond, length, refl, sym, ap, ◌∙◌, Result, Ok, Err, arith}
 use Rattle.py_token.specs.declared.keyword.Keyword.TheVariants as keyword'
 use Rattle.py_token.specs.declared.mark.Mark.TheVariants as mark'
 use Rattle.py_token.specs.declared.token.Token.{Token}
@@ -8,12 +8,12 @@ use Rattle.py_parse.specs.declared.site.Site.{Site}
 use Rattle.py_parse.specs.declared.stop.Stop.{Stop}
 use Rattle.py_parse.specs.declared.terminal.Terminal.TheVariants as terminal'
 use Rattle.py_parse.specs.Terminals.{Want, one, heads}
-use Rattle.py_parse.specs.Grammar.{Part, Body, takes, opens, reads, deeper, gives, when, keyword, mark, below, top, block, branches, conditional, loop_body, function_body, indented, line, more_lines, script, small, statements, statements_rest, with_branch, productions}
+use Rattle.py_parse.specs.Grammar.{Body, takes, opens, reads, gives, when, keyword, mark, top, block, branches, conditional, loop_body, function_body, indented, line, script, small, statements, statements_rest, with_branch, productions}
 use Rattle.py_parse.specs.Reading.{Outcome, ok, fault, Why, unfit, deep, Reads, r_given, r_taken, r_refused, r_opened, r_unopened, r_read, r_part_fault, r_nested, r_nested_fault, pick, choose, leads, beginning}
 use Rattle.py_parse.specs.Agrees.{Taken, Agrees, branch_body, behind, onto, all_behind}
 use Rattle.py_parse.specs.Permits.{Permitted}
-use Rattle.py_parse.proofs.Cases.{by_production, last_production, takes_at, yes_takes, yes_opens, yes_deep, yes_gives, yes_reads, no_opens, no_reads, reads_gives, reads_behind, agrees_over, stops_over, all_behind_none, all_behind_one, onto_trees}
-use Rattle.py_parse.proofs.Loops.{Continues, Step}
+use Rattle.py_parse.proofs.Cases.{by_production, last_production, takes_at, yes_opens, yes_deep, yes_gives, yes_reads, no_opens, no_reads, reads_behind, agrees_over, stops_over, all_behind_none, all_behind_one, onto_trees}
+use Rattle.py_parse.proofs.Loops.{Step}
 use Rattle.py_parse.proofs.Paths.{another_line_tail, dedent_ok, elif_tail, one_line_ok}
 use Rattle.py_parse.proofs.Shorter.{shorter}
 use Rattle.py_parse.proofs.Simples.{HasOne}

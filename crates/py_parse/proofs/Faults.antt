@@ -5,7 +5,7 @@ use Rattle.py_tree.specs.Tree.{Tree}
 use Rattle.py_parse.specs.declared.fault.ParseKind.{ParseKind}
 use Rattle.py_parse.specs.Grammar.{Body, reads, gives, script}
 use Rattle.py_parse.specs.Parses.{Parses, BeginsScript, NoMore, IsFirstFault}
-use Rattle.py_parse.specs.Reading.{Outcome, ok, fault, Why, unfit, deep, Reads}
+use Rattle.py_parse.specs.Reading.{Outcome, fault, Why, unfit, deep, Reads}
 use Rattle.py_parse.specs.Kinds.{IsTooDeep, IsKind, too_deep, behind_expression, behind_none, another}
 use Rattle.py_parse.specs.Faults.{FaultAt, line_of, number_of}
 use Rattle.py_parse.proofs.One.{Reads-one}

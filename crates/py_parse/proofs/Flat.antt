@@ -1,11 +1,10 @@
 -- A part that is read inside another, as one body: what stands behind it goes on from where its productions end.
-use Rattle.std.proofs.Common.{◌≡◌, ℕ, zero, suc, List, [], ◌∷◌, ◌++◌, true, false, refl, subst, sym, ap}
+use Rattle.std.proofs.Common.{◌≡◌, ℕ, suc, List, ◌∷◌, refl, subst, sym}
 use Rattle.py_token.specs.declared.token.Token.{Token}
-use Rattle.py_tree.specs.Tree.{Tree, nil, cons, trees}
-use Rattle.py_parse.specs.Terminals.{Want, heads}
+use Rattle.py_tree.specs.Tree.{Tree}
+use Rattle.py_parse.specs.Terminals.{Want}
 use Rattle.py_parse.specs.Grammar.{Part, Body, gives, takes, opens, reads, deeper}
 use Rattle.py_parse.specs.Reading.{Outcome, ok, fault, Why, Reads, r_given, r_taken, r_refused, r_opened, r_deep, r_unopened, r_read, r_part_fault, r_nested, r_nested_fault, pick}
-use Rattle.py_parse.specs.Agrees.{onto}
 
 -- the body, and behind its tree what `k` reads
 abbrev pub bind : Body → (Tree → Body) → Body

@@ -1,12 +1,8 @@
 -- Items with commas between them, as a loop reads them.
-use Rattle.std.proofs.Common.{◌≡◌, ℕ, List, [], ◌∷◌, ◌++◌, Bool, true, false, refl, ap, sym, subst, ◌∙◌, Result, Ok, Err, map}
-use Rattle.std.specs.Borrow.{Bor}
-use Rattle.std.specs.declared.vec.Vec.{Vec}
-use Rattle.std.specs.declared.alloc.Global.{Global}
+use Rattle.std.proofs.Common.{◌≡◌, ℕ, List, [], ◌∷◌, ◌++◌, Bool, true, false, refl, ap, sym, subst, ◌∙◌}
 use Rattle.py_token.specs.declared.mark.Mark.TheVariants as mark'
 use Rattle.py_token.specs.declared.token.Token.{Token}
-use Rattle.py_tree.specs.declared.expr.Expr.{Expr}
-use Rattle.py_tree.specs.Tree.{Tree, nil, cons, absent, trees, tuple, expr_tree}
+use Rattle.py_tree.specs.Tree.{Tree, nil, cons, absent, trees, tuple}
 use Rattle.py_parse.specs.declared.terminal.Terminal.TheVariants as terminal'
 use Rattle.py_parse.specs.Terminals.{one, heads}
 use Rattle.py_parse.specs.Grammar.{Body, gives, reads, mark, expr, exprs, exprs_rest, items, closed, trails}

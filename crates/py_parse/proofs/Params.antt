@@ -1,14 +1,14 @@
 -- The parameters of a function: those without a default, then those with one.
-use Rattle.std.proofs.Common.{◌≡◌, ◌≢◌, ℕ, List, [], ◌∷◌, ◌++◌, false, true, refl, sym, ap, Result}
+use Rattle.std.proofs.Common.{◌≡◌, ℕ, List, [], ◌∷◌, ◌++◌, false, refl, Result}
 use Rattle.py_token.specs.declared.mark.Mark.TheVariants as mark'
 use Rattle.py_token.specs.declared.token.Token.{Token}
 use Rattle.py_tree.specs.Tree.{Tree, nil, cons, absent, trees, parameter}
 use Rattle.py_parse.specs.declared.stop.Stop.{Stop}
-use Rattle.py_parse.specs.Terminals.{Want, one, fresh, heads, name_in}
-use Rattle.py_parse.specs.Grammar.{Part, Body, takes, gives, reads, mark, expr, params, param_rest, defaults, defaults_rest}
+use Rattle.py_parse.specs.Terminals.{fresh, heads}
+use Rattle.py_parse.specs.Grammar.{Part, gives, reads, mark, expr, params, param_rest, defaults, defaults_rest}
 use Rattle.py_parse.specs.Reading.{Outcome, ok, fault, Why, unfit, Reads, r_read, r_part_fault, r_refused, r_given, pick}
 use Rattle.py_parse.specs.Agrees.{Taken, Agrees, FreshAt, behind, onto, all_behind, defaults_from}
-use Rattle.py_parse.proofs.Cases.{by_production, last_production, takes_at, given_at, yes_takes, yes_gives, no_takes, reads_gives, reads_behind, agrees_over, onto_trees, onto_snoc, all_behind_none, all_behind_one}
+use Rattle.py_parse.proofs.Cases.{by_production, takes_at, given_at, yes_takes, yes_gives, no_takes, reads_gives, reads_behind, agrees_over, onto_trees, onto_snoc, all_behind_none, all_behind_one}
 
 -- whatever the parameters behind give, all of them give behind those found
 abbrev pub ParamsGoOn : ℕ → List Token → List (List ℕ) → List Tree → List Token → Type 0

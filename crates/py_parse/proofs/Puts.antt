@@ -14,14 +14,14 @@ use Rattle.py_tree.specs.Tree.{Tree, nil, cons, absent, trees, tuple, pair, name
 use Rattle.py_parse.specs.declared.display.NextDisplay.{NextDisplay}
 use Rattle.py_parse.specs.declared.stop.Stop.{Stop}
 use Rattle.py_parse.specs.declared.terminal.Terminal.TheVariants as terminal'
-use Rattle.py_parse.specs.Terminals.{one, fresh, heads, name_in, constant_in}
-use Rattle.py_parse.specs.Grammar.{Body, gives, takes, reads, mark, keyword, is_name, closed, trails, expr, listed_rest, dict_body, call_body, subscript_rest, sliced, names, comprehended, leaf_at}
+use Rattle.py_parse.specs.Terminals.{one, fresh, heads, constant_in}
+use Rattle.py_parse.specs.Grammar.{Body, reads, mark, keyword, is_name, closed, trails, expr, listed_rest, dict_body, call_body, subscript_rest, sliced, names, comprehended, leaf_at}
 use Rattle.py_parse.specs.Reading.{Outcome, ok, fault, Why, Reads, r_read, pick}
 use Rattle.py_parse.specs.Agrees.{Taken, FreshAt, AgreesOnStop, onto}
 use Rattle.py_parse.specs.Open.{Continues, group_end, grouped_after, tuple_after, list_end, list_after, item_after, source_after, tests_from, test_after, dict_end, key_after, value_after, call_end, argument_after, named_after, named_from_here, lower_after, upper_after}
 use Rattle.py_parse.proofs.Cases.{by_production, last_production, takes_at, yes_takes, no_takes, reads_gives, stops_over}
 use Rattle.py_parse.proofs.Flat.{covers_given, covers_taken, covers_read}
-use Rattle.py_parse.proofs.Steps.{exprs_go, exprs_trail, onto_one_more, closed_trees, closed_trailing, trails_not, trails_yes, onto_all, items_stop, items_trail, items_go, pairs_open, pairs_none, pairs_stop, pairs_comma, args_none, args_open, args_stop, args_go, named_stop, named_comma, named_none, named_unfit, named_go, named_open}
+use Rattle.py_parse.proofs.Steps.{exprs_go, exprs_trail, onto_one_more, closed_trees, closed_trailing, trails_not, trails_yes, onto_all, items_stop, items_trail, items_go, pairs_open, pairs_none, pairs_stop, pairs_comma, args_none, args_open, args_stop, args_go, named_stop, named_comma, named_none, named_go, named_open}
 
 map_one_more : {A : Type 0} (f : A → Tree) (xs : List A) (x : A) → map f (xs ++ x ∷ []) ≡ map f xs ++ f x ∷ []
 map_one_more f [] x = refl

@@ -1,6 +1,6 @@
 -- Statements without a block: the ways through their productions that stand only under a condition, and what a loop over
 -- statements keeps.
-use Rattle.std.proofs.Common.{◌≡◌, ℕ, ◌<◌, List, [], ◌∷◌, Bool, true, false, ◌&&◌, length, refl, Result, Option, Some, None, is_some, arith}
+use Rattle.std.proofs.Common.{◌≡◌, ℕ, List, [], ◌∷◌, Bool, true, false, ◌&&◌, refl, Result, Option, Some, None, is_some}
 use Rattle.py_token.specs.declared.keyword.Keyword.TheVariants as keyword'
 use Rattle.py_token.specs.declared.mark.Mark.TheVariants as mark'
 use Rattle.py_token.specs.declared.token.Token.{Token}
@@ -10,13 +10,12 @@ use Rattle.py_parse.specs.declared.site.Site.{Site}
 use Rattle.py_parse.specs.declared.stop.Stop.{Stop}
 use Rattle.py_parse.specs.declared.terminal.Terminal.TheVariants as terminal'
 use Rattle.py_parse.specs.Terminals.{Want, one, heads, augment_of, augment_in}
-use Rattle.py_parse.specs.Grammar.{Part, Body, takes, gives, reads, when, keyword, mark, small, assignment, assigned, augment_body, return_body, returned, exprs, is_targets, is_place, statements, statements_rest, statements_more}
+use Rattle.py_parse.specs.Grammar.{Body, takes, gives, reads, when, keyword, mark, small, assignment, assigned, augment_body, return_body, returned, exprs, is_targets, is_place, statements, statements_rest, statements_more}
 use Rattle.py_parse.specs.Reading.{Outcome, ok, fault, Why, unfit, Reads, r_read, r_part_fault, r_refused, r_given, pick, choose, beginning}
 use Rattle.py_parse.specs.Agrees.{Taken, Agrees}
 use Rattle.py_parse.specs.Permits.{Permitted}
-use Rattle.py_parse.proofs.Cases.{by_production, last_production, takes_at, given_at, yes_takes, yes_gives, yes_reads, no_takes, no_reads, reads_gives, reads_behind, agrees_over}
+use Rattle.py_parse.proofs.Cases.{by_production, last_production, takes_at, yes_takes, yes_gives, yes_reads, no_takes, no_reads, reads_gives, reads_behind, agrees_over}
 use Rattle.py_parse.proofs.Loops.{Step}
-use Rattle.py_parse.proofs.Shorter.{shorter}
 
 -- the list isn't empty
 abbrev pub HasOne : List Body → Type 0

@@ -1,5 +1,5 @@
 -- What is read in brackets behind an expression: each way on, over plain variables.
-use Rattle.std.proofs.Common.{◌≡◌, ℕ, List, [], ◌∷◌, ◌++◌, ◌&&◌, true, false, refl, ap, sym, subst, Result, Ok, Err, Bool, Some, None}
+use Rattle.std.proofs.Common.{◌≡◌, ℕ, List, [], ◌∷◌, ◌++◌, ◌&&◌, true, false, refl, ap, subst, Result, Ok, Err, Bool, Some, None}
 use Rattle.py_token.specs.declared.keyword.Keyword.TheVariants as keyword'
 use Rattle.py_token.specs.declared.mark.Mark.TheVariants as mark'
 use Rattle.py_token.specs.declared.token.Token.{Token}
@@ -17,11 +17,11 @@ use Rattle.py_parse.specs.declared.link.NextLink.TheVariants as follow'
 use Rattle.py_parse.specs.declared.stop.Stop.{Stop}
 use Rattle.py_parse.specs.declared.terminal.Terminal.TheVariants as terminal'
 use Rattle.py_parse.specs.Terminals.{Want, one, fresh, fits, heads, name_in}
-use Rattle.py_parse.specs.Grammar.{Part, Body, gives, takes, reads, mark, keyword, productions, first_named, is_name, closed, trails, expr, exprs, exprs_rest, items, items_rest, listed, listed_rest, tests, one_pair, pairs, pairs_rest, dict_body, args, args_rest, named_args, named_rest, call_body, subscript, subscript_rest, upper, sliced}
-use Rattle.py_parse.specs.Reading.{Outcome, ok, fault, unfit, Reads, r_taken, r_refused, r_given, r_read, r_part_fault, pick, choose, beginning}
-use Rattle.py_parse.specs.Agrees.{Taken, FreshAt, AgreesOnStop, onto, optional_box}
+use Rattle.py_parse.specs.Grammar.{Body, gives, takes, reads, mark, keyword, first_named, is_name, closed, trails, expr, exprs, exprs_rest, items, items_rest, tests, one_pair, pairs, pairs_rest, args, args_rest, named_args, named_rest, upper}
+use Rattle.py_parse.specs.Reading.{Outcome, fault, unfit, Reads, r_taken, r_refused, r_given, r_read, r_part_fault, pick, choose, beginning}
+use Rattle.py_parse.specs.Agrees.{Taken, onto, optional_box}
 use Rattle.py_parse.specs.Open.{GoesOn, Continues, LinkGoesOn, LinkContinues}
-use Rattle.py_parse.proofs.Flat.{bind, reads_by}
+use Rattle.py_parse.proofs.Flat.{reads_by}
 use Rattle.py_parse.proofs.Cases.{by_production, last_production, takes_at, yes_takes, no_takes, yes_reads, no_reads, yes_gives, reads_gives, stops_over}
 
 at_odds : {b : Bool} → b ≡ true → b ≡ false → ⊥

@@ -1,5 +1,5 @@
 -- What may stand on the left of an assignment: the trees that the code takes for it.
-use Rattle.std.proofs.Common.{◌≡◌, ℕ, ◌≤◌, List, [], ◌∷◌, ◌++◌, Bool, true, false, ◌&&◌, length, map, refl, sym, ap, subst, ◌∙◌, arith}
+use Rattle.std.proofs.Common.{◌≡◌, ℕ, ◌≤◌, List, [], ◌∷◌, ◌++◌, Bool, true, false, ◌&&◌, length, map, refl, sym, ap, subst, arith}
 use Rattle.std.specs.List.{list_all}
 use Rattle.std.specs.declared.boxed.Box.{Box}
 use Rattle.std.specs.declared.vec.Vec.{Vec}
@@ -12,8 +12,7 @@ use Rattle.py_tree.specs.declared.expr.Argument.{Argument}
 use Rattle.py_tree.specs.declared.expr.Operation.{Operation}
 use Rattle.py_tree.specs.declared.expr.Pair.{Pair}
 use Rattle.py_tree.specs.declared.expr.Argument.TheOpen as open'
-use Rattle.py_tree.specs.Tree.{Tree, nil, cons, name, post, tuple, index, trees, expr_tree, link_tree, argument_step, expr_step, link_step, operation_step, pair_step}
-use Rattle.py_tree.proofs.Views.{expr_tree-Name, expr_tree-Post, expr_tree-Tuple, link_tree-Index}
+use Rattle.py_tree.specs.Tree.{Tree, cons, tuple, trees, expr_tree, link_tree, argument_step, expr_step, link_step, operation_step, pair_step}
 use Rattle.py_parse.specs.Grammar.{is_index, ends_in_index, is_place, is_name, are_names, is_targets}
 
 abbrev pub NotName : Expr → Type 0

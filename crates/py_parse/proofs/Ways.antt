@@ -1,5 +1,5 @@
 -- How the functions that read expressions go on with what was read, over plain variables.
-use Rattle.std.proofs.Common.{◌≡◌, ℕ, ◌<◌, ◌≤◌, List, length, map, refl, ap, sym, subst, ◌∙◌, arith, Result, Ok, Err, IfOk, Option, Some, None}
+use Rattle.std.proofs.Common.{◌≡◌, ℕ, ◌<◌, List, length, subst, arith, Result, Ok, Err, IfOk, Option, Some, None}
 use Rattle.std.specs.Borrow.{Bor}
 use Rattle.py_token.specs.declared.token.Token.{Token}
 use Rattle.py_tree.specs.declared.expr.Expr.{Expr}
@@ -14,7 +14,7 @@ use Rattle.py_parse.specs.declared.link.NextLink.{NextLink}
 use Rattle.py_parse.specs.declared.link.NextLink.TheVariants as follow'
 use Rattle.py_parse.specs.declared.stop.Stop.{Stop}
 use Rattle.py_parse.specs.declared.level.Level.TheVariants as level'
-use Rattle.py_parse.specs.Grammar.{Body, reads, gives, expr, chained, comparison, compared}
+use Rattle.py_parse.specs.Grammar.{Body, reads, expr, chained, comparison, compared}
 use Rattle.py_parse.specs.Reading.{Outcome, ok, fault, Why, Reads, r_read, r_part_fault, pick}
 use Rattle.py_parse.specs.Agrees.{Agrees, Compares, ComparisonAt, EndsAt}
 use Rattle.py_parse.specs.Open.{GoesOn, Shrinks, LinkGoesOn, LinkShrinks, display_after, link_after}

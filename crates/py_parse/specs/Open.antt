@@ -1,9 +1,8 @@
 -- Brackets that are open: what is still read behind an expression that stands in one, up to its closing bracket.
-use Rattle.std.specs.Prelude.{ℕ, ◌<◌, ◌≤◌, ◌++◌, List, [], ◌∷◌, Bool, map, length, Result, Ok, Err, Option, Some, None}
+use Rattle.std.specs.Prelude.{ℕ, ◌<◌, ◌≤◌, List, map, length, Result, Ok, Err}
 use Rattle.py_token.specs.declared.mark.Mark.TheVariants as mark'
 use Rattle.py_token.specs.declared.token.Token.{Token}
-use Rattle.py_tree.specs.declared.expr.Expr.{Expr}
-use Rattle.py_tree.specs.Tree.{Tree, nil, cons, group, tuple, list, comprehension, dict, pair, call, named, index, slice, trees, words, expr_tree, link_tree, pair_tree, argument_tree}
+use Rattle.py_tree.specs.Tree.{Tree, cons, group, tuple, list, comprehension, dict, pair, call, named, slice, words, expr_tree, link_tree, pair_tree, argument_tree}
 use Rattle.py_parse.specs.declared.display.OpenDisplay.{OpenDisplay}
 use Rattle.py_parse.specs.declared.display.OpenDisplay.TheVariants as display'
 use Rattle.py_parse.specs.declared.display.NextDisplay.{NextDisplay}

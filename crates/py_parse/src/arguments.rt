@@ -29,10 +29,7 @@ pub fn open_call<'a>(
 {
     let arguments = Vec::new(alloc);
     if sees(Terminal::Expression, tokens) {
-        return Ok(NextLink::More(
-            OpenLink::Argument { line, arguments },
-            tokens,
-        ));
+        return Ok(NextLink::More(OpenLink::Argument { line, arguments }, tokens));
     }
     close_call(line, arguments, tokens)
 }

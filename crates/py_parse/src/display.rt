@@ -17,7 +17,9 @@ use std::alloc::Global;
 #[derive(Debug, Drop)]
 pub enum OpenDisplay {
     /// The first expression in parentheses.
-    Group { line: u32 },
+    Group {
+        line: u32,
+    },
     /// A further item of a tuple in parentheses, whose first comma is on that line.
     Tuple {
         line: u32,
@@ -25,9 +27,14 @@ pub enum OpenDisplay {
         items: Vec<Expr>,
     },
     /// The first expression in brackets.
-    First { line: u32 },
+    First {
+        line: u32,
+    },
     /// A further item of a list.
-    Item { line: u32, items: Vec<Expr> },
+    Item {
+        line: u32,
+        items: Vec<Expr>,
+    },
     /// What a comprehension goes over.
     Source {
         line: u32,
@@ -43,7 +50,10 @@ pub enum OpenDisplay {
         tests: Vec<Expr>,
     },
     /// A key of a dict.
-    Key { line: u32, pairs: Vec<Pair> },
+    Key {
+        line: u32,
+        pairs: Vec<Pair>,
+    },
     /// The value behind a key and the colon on that line.
     Value {
         line: u32,

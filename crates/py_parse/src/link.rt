@@ -16,7 +16,10 @@ use std::alloc::Global;
 #[derive(Debug, Drop)]
 pub enum OpenLink {
     /// An argument without a name, or a name in front of `=`.
-    Argument { line: u32, arguments: Vec<Argument> },
+    Argument {
+        line: u32,
+        arguments: Vec<Argument>,
+    },
     /// The value of this named argument; the names so far are seen, its own too.
     Named {
         line: u32,
@@ -26,7 +29,9 @@ pub enum OpenLink {
         name: Text,
     },
     /// An index, or where a slice begins.
-    Lower { line: u32 },
+    Lower {
+        line: u32,
+    },
     /// Where a slice ends.
     Upper {
         line: u32,

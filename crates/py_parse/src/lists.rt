@@ -96,10 +96,7 @@ fn open_comprehension<'a>(
         return Err(Stop::At(rest));
     };
     let item = Box::new(alloc, item)?;
-    Ok(NextDisplay::More(
-        OpenDisplay::Source { line, item, names },
-        rest,
-    ))
+    Ok(NextDisplay::More(OpenDisplay::Source { line, item, names }, rest))
 }
 
 /// What stands behind what a comprehension goes over.

@@ -49,10 +49,7 @@ pub fn put_grouped<'a>(
     let mut items = Vec::new(alloc);
     items.push(value)?;
     if sees(Terminal::Expression, rest) {
-        return Ok(NextDisplay::More(
-            OpenDisplay::Tuple { line, comma, items },
-            rest,
-        ));
+        return Ok(NextDisplay::More(OpenDisplay::Tuple { line, comma, items }, rest));
     }
     let tuple = Expr::Tuple {
         line: comma,
@@ -85,10 +82,7 @@ pub fn put_in_tuple<'a>(
         return close_group(alloc, line, tuple, tokens);
     };
     if sees(Terminal::Expression, rest) {
-        return Ok(NextDisplay::More(
-            OpenDisplay::Tuple { line, comma, items },
-            rest,
-        ));
+        return Ok(NextDisplay::More(OpenDisplay::Tuple { line, comma, items }, rest));
     }
     let tuple = Expr::Tuple {
         line: comma,

@@ -205,7 +205,10 @@ fn statements_stand_in_their_places(rt: HostRuntime) -> Result<(), Fail> {
         ("continue", "1 0 Unexpected"),
         ("if x: break", "1 3 Unexpected"),
         ("def f():\n  break", "2 7 Unexpected"),
-        ("def f():\n  for x in y:\n    break\n  continue", "4 17 Unexpected"),
+        (
+            "def f():\n  for x in y:\n    break\n  continue",
+            "4 17 Unexpected",
+        ),
         ("for x in y:\n  break\nbreak", "3 10 Unexpected"),
     ] {
         let fault = shown(alloc, script)?;

@@ -6,7 +6,7 @@ use Rattle.py_parse.proofs.Puts.{more, arg_stop, arg_go, arg_trail}
 use Rattle.py_parse.proofs.arguments.put_positional.Goals as goal
 
 pub returns-in_default-clause-goes : goal.returns-in_default-clause-goes
-returns-in_default-clause-goes c = 
+returns-in_default-clause-goes c =
     let e = more argument_tree _ _ _ _ c.in_ok-push.ensures.items (argument_tree-Positional _) in
     link_continues_over _ _ _ _ _ (λ d o r. arg_stop _ _ _ _ e c.requires c.in_default.ensures r) c.close_call.ensures.goes
 
@@ -16,6 +16,6 @@ returns-then-sees-clause-goes c = λ d o r.
     arg_go _ _ _ _ e c.requires c.in-Some.ensures (sym c.if-sees.ensures) r
 
 pub returns-clause-goes : goal.returns-clause-goes
-returns-clause-goes c = 
+returns-clause-goes c =
     let e = more argument_tree _ _ _ _ c.in_ok-push.ensures.items (argument_tree-Positional _) in
     link_continues_over _ _ _ _ _ (λ d o r. arg_trail _ _ _ _ e c.requires c.in-Some.ensures (sym c.if-sees.ensures) r) c.close_call-2.ensures.goes

@@ -1,4 +1,4 @@
-use Rattle.std.proofs.Common.{sym, ◌∙◌}
+use Rattle.std.proofs.Common.{◌∙◌}
 use Rattle.py_tree.specs.Tree.{expr_tree, trees}
 use Rattle.std.proofs.Common.{map}
 use Rattle.py_tree.proofs.Views.{expr_tree-Tuple}

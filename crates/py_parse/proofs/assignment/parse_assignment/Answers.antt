@@ -3,7 +3,7 @@ use Rattle.py_parse.specs.Grammar as grammar
 use Rattle.py_parse.specs.Reading.{Reads, pick}
 use Rattle.py_parse.proofs.Cases.{stopped_by}
 use Rattle.py_parse.proofs.Paths.{assignment_fault0}
-use Rattle.py_parse.proofs.Simples.{assign_fault, assign_ok, augment_fault, augment_ok, expression_ok, augment_there}
+use Rattle.py_parse.proofs.Simples.{assign_fault, assign_ok, augment_fault, augment_ok, expression_ok}
 use Rattle.py_parse.proofs.assignment.parse_assignment.Goals as goal
 
 pub returns-in_err-target : goal.returns-in_err-target

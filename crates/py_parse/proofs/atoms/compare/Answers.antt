@@ -1,5 +1,4 @@
 use Rattle.py_tree.proofs.Views.{expr_tree-Compare}
-use Rattle.std.proofs.Common.{refl}
 use Rattle.py_parse.proofs.Puts.{box_made}
 use Rattle.py_parse.proofs.atoms.compare.Goals as goal
 

@@ -2,7 +2,6 @@ use Rattle.py_tree.proofs.Views.{expr_tree-Name, expr_tree-Integer, expr_tree-Te
 use Rattle.std.proofs.Common.{refl, ap, ◌∙◌, unwrap_or}
 use Rattle.py_tree.specs.declared.expr.Constant.TheVariants as constant'
 use Rattle.py_parse.proofs.Puts.{leaf_rest}
-use Rattle.py_parse.specs.Grammar as grammar
 use Rattle.py_parse.proofs.atoms.leaf_of.Goals as goal
 
 pub returns-in_ok-name-in-Name : goal.returns-in_ok-name-in-Name

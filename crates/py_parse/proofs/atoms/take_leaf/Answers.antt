@@ -1,4 +1,4 @@
-use Rattle.std.proofs.Common.{refl, ap, ◌∙◌}
+use Rattle.std.proofs.Common.{ap, ◌∙◌}
 use Rattle.py_tree.specs.Tree.{expr_tree}
 use Rattle.py_parse.proofs.Cases.{takes_at, given_at}
 use Rattle.py_parse.specs.Reading.{r_refused}

@@ -1,7 +1,7 @@
 use Rattle.std.proofs.Common.{refl, ap, sym, ◌∙◌, arith}
 use Rattle.py_tree.specs.Tree.{expr_tree, link_tree, operation_tree, operation}
 use Rattle.py_tree.proofs.Views.{expr_tree-Not, expr_tree-Negative, operation_tree-Operation}
-use Rattle.py_parse.specs.Reading.{ok, fault, r_read, r_part_fault}
+use Rattle.py_parse.specs.Reading.{fault, r_read, r_part_fault}
 use Rattle.py_parse.proofs.Cases.{agrees_over, stopped_by, taken_shorter, map_more, given_at}
 use Rattle.py_parse.proofs.Loops.{read_shorter, continues_more, continues_end, continues_fault, operations_none, operations_fault, operations_more, links_none, links_fault, links_more}
 use Rattle.py_parse.proofs.Paths.{chained_fault0, chained_fault1, chained_ok, not_deep0, not_fault1, not_ok, unnegated_tail_answers, minus_deep0, minus_fault1, minus_ok, plain_tail_answers, posted_fault0, posted_fault1, posted_ok, bracketed_deep0, bracketed_tail, bracketed_tail_answers, leaf_tail, call_link_deep0, call_link_tail, call_link_tail_answers, index_link_deep0, index_link_tail, index_link_tail_answers}

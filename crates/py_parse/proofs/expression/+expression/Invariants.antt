@@ -1,4 +1,4 @@
-use Rattle.std.proofs.Common.{ℕ, ◌+◌, ◌-◌, ◌*◌, List, length, map}
+use Rattle.std.proofs.Common.{◌+◌, ◌-◌, ◌*◌, List, length, map}
 use Rattle.py_token.specs.declared.token.Token.{Token}
 use Rattle.py_tree.specs.Tree.{expr_tree, link_tree, operation_tree}
 use Rattle.py_parse.specs.Agrees.{level_rank}

@@ -1,4 +1,4 @@
-use Rattle.std.proofs.Common.{refl, ◌∙◌, map}
+use Rattle.std.proofs.Common.{◌∙◌}
 use Rattle.py_tree.specs.Tree.{expr_tree}
 use Rattle.py_tree.proofs.Views.{expr_tree-Tuple}
 use Rattle.py_parse.proofs.Cases.{stopped_by, by_production, no_takes, yes_gives, last_production}

@@ -1,4 +1,4 @@
-use Rattle.std.proofs.Common.{ℕ, length, map}
+use Rattle.std.proofs.Common.{length, map}
 use Rattle.py_tree.specs.Tree.{Tree, expr_tree}
 use Rattle.py_parse.specs.Agrees.{onto}
 use Rattle.py_parse.specs.Reading.{Outcome, Reads}

@@ -1,5 +1,5 @@
 use Rattle.std.proofs.Common.{ℕ, ◌-◌, map, arith, refl, ap, ◌∙◌}
-use Rattle.py_tree.specs.Tree.{branch_tree, line_tree, parameter_tree, simple_tree, expr_tree, trees, nil, branching, def}
+use Rattle.py_tree.specs.Tree.{branch_tree, line_tree, parameter_tree, trees, def}
 use Rattle.py_tree.proofs.Views.{branch_tree-Branch, line_tree-Simple, line_tree-If, line_tree-For, line_tree-Def}
 use Rattle.py_parse.specs.Grammar as grammar
 use Rattle.py_parse.specs.Agrees as agrees

@@ -1,4 +1,4 @@
-use Rattle.std.proofs.Common.{ℕ, ◌+◌, ◌*◌, length, map}
+use Rattle.std.proofs.Common.{◌+◌, ◌*◌, length, map}
 use Rattle.py_tree.specs.Tree.{branch_tree, line_tree}
 use Rattle.py_parse.proofs.Blocks.{BranchesGoOn, LinesGoOn}
 use Rattle.py_parse.proofs.lines.+line.Given as goal

@@ -1,4 +1,3 @@
-use Rattle.std.proofs.Common.{refl}
 use Rattle.py_tree.proofs.Views.{line_tree-Simple}
 use Rattle.py_parse.specs.Grammar as grammar
 use Rattle.py_parse.specs.Reading.{Reads, pick}

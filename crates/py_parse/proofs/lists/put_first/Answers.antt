@@ -1,5 +1,5 @@
 use Rattle.py_parse.specs.Grammar.{listed_rest}
-use Rattle.py_parse.proofs.Cases.{by_production, yes_takes, no_takes, last_production, reads_gives}
+use Rattle.py_parse.proofs.Cases.{by_production, yes_takes, reads_gives}
 use Rattle.py_parse.proofs.Steps.{continues_over}
 use Rattle.py_parse.proofs.Puts.{item_first}
 use Rattle.py_parse.proofs.lists.put_first.Goals as goal

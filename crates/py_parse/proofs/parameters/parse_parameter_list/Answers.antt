@@ -1,4 +1,4 @@
-use Rattle.std.proofs.Common.{map, arith, refl}
+use Rattle.std.proofs.Common.{arith, refl}
 use Rattle.py_tree.specs.Tree.{parameter_tree}
 use Rattle.py_parse.proofs.Cases.{taken_shorter, map_more}
 use Rattle.py_parse.proofs.Params.{params_start, params_none, params_end, params_last, params_more, params_default_answers}

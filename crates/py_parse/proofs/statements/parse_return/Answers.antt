@@ -1,4 +1,4 @@
-use Rattle.std.proofs.Common.{refl, sym, ◌∙◌}
+use Rattle.std.proofs.Common.{sym, ◌∙◌}
 use Rattle.py_parse.specs.Grammar as grammar
 use Rattle.py_parse.specs.Reading.{Reads, pick}
 use Rattle.py_parse.proofs.Cases.{stopped_by}

@@ -1,6 +1,6 @@
 use Rattle.std.proofs.Common.{ℕ, refl}
 use Rattle.py_parse.specs.Grammar as grammar
-use Rattle.py_parse.specs.Reading.{Outcome, Reads}
+use Rattle.py_parse.specs.Reading.{Reads}
 use Rattle.py_parse.proofs.Cases.{agrees_over}
 use Rattle.py_parse.proofs.Paths.{pass_ok, from_tail}
 use Rattle.py_parse.proofs.Simples.{break_ok, continue_ok, return_answers, assignment_answers}

@@ -2,7 +2,7 @@ use Rattle.std.proofs.Common.{arith, refl}
 use Rattle.py_tree.specs.Tree.{simple_tree}
 use Rattle.py_parse.specs.Grammar as grammar
 use Rattle.py_parse.specs.Reading.{Reads, pick}
-use Rattle.py_parse.proofs.Cases.{stopped, stopped_by, taken_shorter, map_more}
+use Rattle.py_parse.proofs.Cases.{stopped_by, taken_shorter, map_more}
 use Rattle.py_parse.proofs.Loops.{continues_start, continues_more, continues_last, continues_fault, read_shorter}
 use Rattle.py_parse.proofs.Simples.{Divided, statements_fault, statements_unfit, statements_end, statements_end_mark, statements_further}
 use Rattle.py_parse.proofs.statements.parse_statements.Goals as goal

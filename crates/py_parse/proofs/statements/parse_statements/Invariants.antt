@@ -1,4 +1,4 @@
-use Rattle.std.proofs.Common.{ℕ, length, map}
+use Rattle.std.proofs.Common.{length, map}
 use Rattle.py_tree.specs.Tree.{simple_tree}
 use Rattle.py_parse.specs.Grammar as grammar
 use Rattle.py_parse.proofs.Loops.{Continues}

@@ -1,5 +1,3 @@
-use Rattle.std.proofs.Common.{refl, None, Some}
-use Rattle.py_tree.proofs.Views.{link_tree-Slice}
 use Rattle.py_parse.proofs.Cases.{takes_at, given_at}
 use Rattle.py_parse.proofs.Steps.{slice_at}
 use Rattle.py_parse.specs.Reading.{r_refused}

@@ -1,8 +1,7 @@
-use Rattle.std.proofs.Common.{refl, ap, sym}
-use Rattle.py_tree.specs.Tree.{expr_tree, link_tree}
+use Rattle.std.proofs.Common.{refl, ap}
+use Rattle.py_tree.specs.Tree.{expr_tree}
 use Rattle.py_tree.proofs.Views.{link_tree-Index}
-use Rattle.py_parse.specs.Grammar.{subscript_rest}
-use Rattle.py_parse.proofs.Cases.{by_production, yes_takes, reads_gives}
+use Rattle.py_parse.proofs.Cases.{reads_gives}
 use Rattle.py_parse.proofs.Steps.{link_continues_over}
 use Rattle.py_parse.proofs.Puts.{slice_begins}
 use Rattle.py_parse.proofs.Paths.{index_unfit0, index_ok}

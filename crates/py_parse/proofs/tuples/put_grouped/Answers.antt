@@ -14,6 +14,6 @@ returns-then-sees-clause-goes c = λ d o r.
     grouped_go _ _ _ e c.in-Some.ensures (sym c.if-sees.ensures) r
 
 pub returns-clause-goes : goal.returns-clause-goes
-returns-clause-goes c = 
+returns-clause-goes c =
     let e = first expr_tree _ _ _ c.new-items.ensures.items c.in_ok-push.ensures.items in
     continues_over _ _ _ _ _ (λ d o r. grouped_trail _ _ _ (rw (expr_tree-Tuple, e) refl) c.in-Some.ensures (sym c.if-sees.ensures) r) c.close_group-2.ensures.goes
