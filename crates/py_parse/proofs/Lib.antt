@@ -18,3 +18,4 @@ pub mod Simples
 pub mod Params
 pub mod Targets
 pub mod Blocks
+pub mod SeenNames
