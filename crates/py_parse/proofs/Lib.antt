@@ -26,3 +26,4 @@ pub mod Blocks
 pub mod Faults
 pub mod Found
 pub mod Ends
+pub mod SeenNames

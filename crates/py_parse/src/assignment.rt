@@ -3,9 +3,8 @@ ghost use Rattle.std.specs.Prelude.{◌≡◌, ℕ, false, map};
 ghost use Rattle.std.specs.List.{list_all};
 ghost use Rattle.py_tree.specs.Tree.{expr_tree, link_tree, simple_tree, trees, tuple};
 ghost use Rattle.py_parse.specs.Agrees.{Agrees};
-ghost use Rattle.py_parse.specs.Reading.{Reads, pick, ok};
+ghost use Rattle.py_parse.specs.Reading.{Reads, ok};
 ghost use Rattle.py_parse.specs.Grammar as grammar;
-ghost use Rattle.py_parse.specs.Agrees as agrees;
 
 use crate::expression_list::parse_exprs;
 use crate::statements::strip_where;

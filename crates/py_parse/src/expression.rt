@@ -1,13 +1,12 @@
 //! Expressions, from the lowest level of operators down to atoms. A function goes down a level of nesting at an opening
 //! bracket, a `not` and a unary minus alone.
-ghost use Rattle.std.specs.Prelude.{◌≡◌, ◌<◌, ℕ, List, length, IfOk};
+ghost use Rattle.std.specs.Prelude.{◌<◌, List, length, IfOk};
 ghost use Rattle.py_token.specs.declared.token.Token.{Token};
 ghost use Rattle.py_tree.specs.Tree.{expr_tree, link_tree};
 ghost use Rattle.py_parse.specs.Agrees.{Agrees, right_of};
 ghost use Rattle.py_parse.specs.Open.{GoesOn, LinkGoesOn};
 ghost use Rattle.py_parse.specs.Reading.{Reads, pick, ok};
 ghost use Rattle.py_parse.specs.Grammar as grammar;
-ghost use Rattle.py_parse.specs.declared.level.Level.TheVariants as level';
 
 use crate::arguments::open_call;
 use crate::atoms::{boxed, compare, take_attribute, take_leaf};

@@ -173,10 +173,10 @@ fn parse_def<'a>(
     let Some((_, name, rest)) = take_name(tokens) else {
         return Err(Stop::At(tokens));
     };
-    let Some((_, inside)) = strip(Terminal::Mark(Mark::OpenParen), rest) else {
+    let Some((_, rest)) = strip(Terminal::Mark(Mark::OpenParen), rest) else {
         return Err(Stop::At(rest));
     };
-    let (parameters, rest) = parse_parameters(alloc, depth - 1, inside)?;
+    let (parameters, rest) = parse_parameters(alloc, depth - 1, rest)?;
     let Some((_, rest)) = strip(Terminal::Mark(Mark::Colon), rest) else {
         return Err(Stop::At(rest));
     };

@@ -1,5 +1,5 @@
 //! The parameters of a function.
-ghost use Rattle.std.specs.Prelude.{◌≡◌, [], map};
+ghost use Rattle.std.specs.Prelude.{map};
 ghost use Rattle.py_tree.specs.Tree.{parameter_tree, trees};
 ghost use Rattle.py_parse.specs.Agrees.{Agrees, defaults_from};
 ghost use Rattle.py_parse.specs.Reading.{Reads, pick, ok};

@@ -1,10 +1,9 @@
 //! A script: its lines to the last token.
-ghost use Rattle.std.specs.Prelude.{◌≡◌, [], map};
+ghost use Rattle.std.specs.Prelude.{[]};
 ghost use Rattle.py_tree.specs.Tree.{script_tree};
 ghost use Rattle.py_parse.specs.Agrees.{Agrees};
 ghost use Rattle.py_parse.specs.Reading.{Reads, ok};
 ghost use Rattle.py_parse.specs.Grammar as grammar;
-ghost use Rattle.py_parse.specs.Agrees as agrees;
 
 use crate::lines::parse_line;
 use crate::site::Site;

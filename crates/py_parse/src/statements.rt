@@ -6,7 +6,6 @@ ghost use Rattle.py_parse.specs.Agrees.{Agrees};
 ghost use Rattle.py_parse.specs.Permits.{Permitted};
 ghost use Rattle.py_parse.specs.Reading.{Reads, pick, ok};
 ghost use Rattle.py_parse.specs.Grammar as grammar;
-ghost use Rattle.py_parse.specs.Agrees as agrees;
 
 use crate::assignment::parse_assignment;
 use crate::expression_list::parse_exprs;
@@ -39,19 +38,19 @@ fn parse_import<'a>(line: u32, tokens: &'a [Token]) -> Result<(Simple, &'a [Toke
     let Some((_, rest)) = strip(Terminal::Scons, tokens) else {
         return Err(Stop::At(tokens));
     };
-    let Some((_, dot)) = strip(Terminal::Mark(Mark::Dot), rest) else {
+    let Some((_, rest)) = strip(Terminal::Mark(Mark::Dot), rest) else {
         return Err(Stop::At(rest));
     };
-    let Some((_, name)) = strip(Terminal::Script, dot) else {
-        return Err(Stop::At(dot));
+    let Some((_, rest)) = strip(Terminal::Script, rest) else {
+        return Err(Stop::At(rest));
     };
-    let Some((_, word)) = strip(Terminal::Word(Keyword::Import), name) else {
-        return Err(Stop::At(name));
+    let Some((_, rest)) = strip(Terminal::Word(Keyword::Import), rest) else {
+        return Err(Stop::At(rest));
     };
-    let Some((_, star)) = strip(Terminal::Mark(Mark::Star), word) else {
-        return Err(Stop::At(word));
+    let Some((_, rest)) = strip(Terminal::Mark(Mark::Star), rest) else {
+        return Err(Stop::At(rest));
     };
-    Ok((Simple::ImportScons { line }, star))
+    Ok((Simple::ImportScons { line }, rest))
 }
 
 /// What stands behind `return`.

@@ -145,7 +145,7 @@ parse_def-returns-in_default-strip t c = function_unfit1 _ _ _ _ _ c.in-Some.ens
 
 pub parse_def-returns-in_err-parameters : goal.parse_def-returns-in_err-parameters
 parse_def-returns-in_err-parameters t c =
-    stopped_by _ _ (Reads (c.args.depth - 1) (pick grammar.parameters c.in-Some-strip.inside.now) c.in-Some-strip.inside.now) (Reads c.args.depth (grammar.function_body c.args.line) c.args.tokens.now)
+    stopped_by _ _ (Reads (c.args.depth - 1) (pick grammar.parameters c.in-Some-strip.rest.now) c.in-Some-strip.rest.now) (Reads c.args.depth (grammar.function_body c.args.line) c.args.tokens.now)
     c.in_err-parameters.field-0.0 c.from_residual.ensures.1 (λ w rest r. function_fault2 c.args.depth c.args.line c.in-Some.ensures.taking c.requires c.in-Some-strip.ensures r) c.in_err-parameters.ensures
 
 pub parse_def-returns-in_default-strip-2 : goal.parse_def-returns-in_default-strip-2
