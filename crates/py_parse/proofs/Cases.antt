@@ -12,11 +12,6 @@ use Rattle.py_parse.specs.Agrees.{Taken, AgreesOnStop, Agrees, behind, onto, all
 pub heads_of : {w : Want} {ts rest : List Token} {x : Token} → Taken w ts x rest → heads w ts ≡ true
 heads_of {w = w} t = rw t.parts t.fitting
 
--- a place that isn't the first of a list of numbers of levels
-pub level_left : (d : ℕ) → d ≢ 0 → suc (d - 1) ≡ d
-level_left zero h = absurd (h refl)
-level_left (suc d) h = omega arith
-
 pub choose_yes : {d : ℕ} {ts : List Token} {o : Outcome} (b : Body) (bs : List Body) →
     leads b ts ≡ true → Reads d b ts o → Reads d (choose (b ∷ bs) ts) ts o
 unfolding choose
@@ -107,9 +102,6 @@ no_reads p k c cs h r = choose_no (reads p k) c cs h r
 pub given_at : {d : ℕ} {t v : Tree} {ts : List Token} → v ≡ t → Reads d (gives t) ts (ok v ts)
 given_at e = rw e r_given
 
-pub yes_given : {d : ℕ} {v : Tree} {ts : List Token} (t : Tree) (bs : List Body) → v ≡ t → Reads d (choose (gives t ∷ bs) ts) ts (ok v ts)
-yes_given t bs e = rw e (yes_gives t bs)
-
 -- a part in last place ends the whole as it ends
 pub reads_gives : {d : ℕ} {p : Part} {ts : List Token} {o : Outcome} → Reads d (pick p ts) ts o → Reads d (reads p gives) ts o
 reads_gives {o = ok u rest} r = r_read u rest r r_given
@@ -179,14 +171,6 @@ chain_some f t (x ∷ xs) h = refl
 pub post_some : {A : Type 0} (f : A → Tree) (t : Tree) (xs : List A) → (length xs ≡ 0 → ⊥) → post_of t (trees (map f xs)) ≡ post t (trees (map f xs))
 post_some f t [] h = absurd (h refl)
 post_some f t (x ∷ xs) h = refl
-
-pub none_none : {A : Type 0} (f : A → Tree) (t : Tree) (xs : List A) → length xs ≡ 0 → t ≡ chain_of t (trees (map f xs))
-none_none f t [] h = refl
-none_none f t (x ∷ xs) h = cc
-
-pub none_behind : {A : Type 0} (f : A → Tree) (t : Tree) (xs : List A) → length xs ≡ 0 → t ≡ post_of t (trees (map f xs))
-none_behind f t [] h = refl
-none_behind f t (x ∷ xs) h = cc
 
 pub not_empty : (n m : ℕ) → n ≡ m → false ≡ (n == 0) → m ≡ 0 → ⊥
 not_empty n m e f h = let p : n ≡ 0 = e ∙ h in let q : false ≡ true = f ∙ ap (λ k. k == 0) p in cc

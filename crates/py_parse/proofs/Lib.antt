@@ -1,4 +1,10 @@
 pub mod Cases
+pub mod Flat
+pub mod Steps
+pub mod Puts
+pub mod Items
+pub mod Ways
+pub mod Targets
 pub mod Paths
 pub mod Shorter
 pub mod Loops
@@ -14,3 +20,10 @@ pub mod Table
 pub mod Top
 pub mod Local
 pub mod Levels
+pub mod Simples
+pub mod Params
+pub mod Blocks
+pub mod Faults
+pub mod Found
+pub mod Ends
+pub mod SeenNames

@@ -120,7 +120,7 @@ local (r_part_fault {d = d} {p = p} {k = k} {ts = ts} {rest = rest} {w = w} r) =
 local (r_nested {d = d} {p = p} {k = k} {ts = ts} {o = o} u rest r s) = local_deeper d p k u ts rest o (local r) (local s)
 local (r_nested_fault {d = d} {p = p} {k = k} {ts = ts} {rest = rest} {w = w} r) = local_deeper_fault d p k ts rest w (local r)
 
-no_more_at : (front rest : List Token) (w : Why) → ((r : List Token) → SameHead rest r → Reads 100 (reads script gives) (front ++ r) (fault w r)) → NoMore front rest
+pub no_more_at : (front rest : List Token) (w : Why) → ((r : List Token) → SameHead rest r → Reads 100 (reads script gives) (front ++ r) (fault w r)) → NoMore front rest
 no_more_at front [] w m = λ t p. no_tree (front ++ []) [] t w (m [] (λ v. refl)) (rw with_nothing p)
 no_more_at front (x ∷ rest) w m = λ more t p. no_tree (front ++ x ∷ more) (x ∷ more) t w (m (x ∷ more) (λ v. refl)) p
 
@@ -134,7 +134,7 @@ same_part (x ∷ a) (y ∷ b) r s e n =
     let t : a ≡ b = same_part a b r s q (omega arith) in
     cc
 
-same_fronts : (ts a b r : List Token) → ts ≡ a ++ r → ts ≡ b ++ r → a ≡ b
+pub same_fronts : (ts a b r : List Token) → ts ≡ a ++ r → ts ≡ b ++ r → a ≡ b
 same_fronts ts a b r p q =
     let e : a ++ r ≡ b ++ r = sym p ∙ q in
     let n = length-append a r in
@@ -145,7 +145,7 @@ same_fronts ts a b r p q =
 nothing_begins : BeginsScript []
 nothing_begins = ([], nil, read (gives nil) [] [] (there here) given given)
 
-begun : (front : List Token) → (front ≡ []) ⊎ Begins 100 (reads script gives) front → BeginsScript front
+pub begun : (front : List Token) → (front ≡ []) ⊎ Begins 100 (reads script gives) front → BeginsScript front
 begun front (inl e) = rw e nothing_begins
 begun front (inr b) = (b.more, b.tree, b.spelling)
 

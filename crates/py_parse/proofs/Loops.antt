@@ -2,15 +2,14 @@
 -- was found so far.
 use Rattle.std.proofs.Common.{◌≡◌, ℕ, ◌≤◌, List, [], ◌∷◌, ◌++◌, false, true, length, refl}
 use Rattle.py_token.specs.declared.token.Token.{Token}
-use Rattle.py_token.specs.declared.keyword.Keyword.TheVariants as keyword'
 use Rattle.py_token.specs.declared.mark.Mark.TheVariants as mark'
-use Rattle.py_tree.specs.Tree.{Tree, nil, cons, absent, trees, operation, word}
+use Rattle.py_tree.specs.Tree.{Tree, nil, cons, trees, operation, word}
 use Rattle.py_tree.specs.declared.expr.Operator.{Operator}
 use Rattle.py_parse.specs.declared.level.Level.{Level}
 use Rattle.py_parse.specs.declared.terminal.Terminal.TheVariants as terminal'
 use Rattle.py_parse.specs.Terminals.{one, heads, name_in}
-use Rattle.py_parse.specs.Grammar.{Part, Body, operations, operand, links, one_link, tests, expr, pairs, pairs_rest, one_pair, items, items_rest, names, names_rest, keyword, mark}
-use Rattle.py_parse.specs.Reading.{Outcome, ok, fault, Why, unfit, Reads, r_given, r_read, r_part_fault, r_refused, pick, beginning}
+use Rattle.py_parse.specs.Grammar.{Part, Body, operations, operand, links, one_link, pairs, names, names_rest, mark}
+use Rattle.py_parse.specs.Reading.{Outcome, ok, fault, Why, unfit, Reads, r_read, r_part_fault, r_refused, pick, beginning}
 use Rattle.py_parse.specs.Agrees.{Taken, OperatorAt, NameAt, behind, all_behind}
 use Rattle.py_parse.proofs.Shorter.{shorter}
 use Rattle.py_parse.proofs.Cases.{by_production, last_production, takes_at, yes_takes, yes_gives, yes_reads, no_takes, no_reads, reads_gives, given_at, reads_behind, all_behind_none, all_behind_one, onto_trees}
@@ -76,62 +75,10 @@ pub links_more : (d : ℕ) (ts rest : List Token) (t v : Tree) → heads (one te
 unfolding beginning
 links_more d ts rest t v h r e out s = by_production links (yes_reads _ _ h (r_read t rest r (rw e (reads_behind t out s))))
 
--- the tests of a comprehension
-pub tests_none : (d : ℕ) (ts : List Token) → heads (keyword keyword'.If) ts ≡ false → Reads d (pick tests ts) ts (ok nil ts)
-tests_none d ts h = by_production tests (no_takes _ _ _ _ h (yes_gives nil []))
-
-pub tests_fault : (d : ℕ) (ts rest r9 : List Token) (x : Token) (w : Why) → Taken (keyword keyword'.If) ts x rest →
-    Reads d (pick expr rest) rest (fault w r9) → Reads d (pick tests ts) ts (fault w r9)
-tests_fault d ts rest r9 x w a r = by_production tests (yes_takes _ _ a (r_part_fault r))
-
-pub tests_more : (d : ℕ) (ts rest rest' : List Token) (x : Token) (t v : Tree) → Taken (keyword keyword'.If) ts x rest →
-    Reads d (pick expr rest) rest (ok t rest') → v ≡ t → Step d tests ts rest' v
-tests_more d ts rest rest' x t v a r e out s =
-    by_production tests (yes_takes _ _ a (r_read t rest' r (rw e (reads_behind t out s))))
-
 -- the pairs of a dict display
 pub pairs_none : (d : ℕ) (ts : List Token) → heads (one terminal'.Expression) ts ≡ false → Reads d (pick pairs ts) ts (ok nil ts)
 unfolding beginning
 pairs_none d ts h = by_production pairs (no_reads _ _ _ _ h (yes_gives nil []))
-
-pub pairs_fault : (d : ℕ) (ts r9 : List Token) (w : Why) → heads (one terminal'.Expression) ts ≡ true →
-    Reads d (pick one_pair ts) ts (fault w r9) → Reads d (pick pairs ts) ts (fault w r9)
-unfolding beginning
-pairs_fault d ts r9 w h r = by_production pairs (yes_reads _ _ h (r_part_fault r))
-
-pub pairs_last : (d : ℕ) (ts rest : List Token) (t : Tree) → heads (one terminal'.Expression) ts ≡ true →
-    Reads d (pick one_pair ts) ts (ok t rest) → heads (mark mark'.Comma) rest ≡ false → Reads d (pick pairs ts) ts (ok (cons t nil) rest)
-unfolding beginning
-pairs_last d ts rest t h r n =
-    by_production pairs (yes_reads _ _ h (r_read t rest r (r_read nil rest (by_production pairs_rest (no_takes _ _ _ _ n (yes_gives nil []))) r_given)))
-
-pub pairs_more : (d : ℕ) (ts rest rest' : List Token) (x : Token) (t : Tree) → heads (one terminal'.Expression) ts ≡ true →
-    Reads d (pick one_pair ts) ts (ok t rest) → Taken (mark mark'.Comma) rest x rest' → Step d pairs ts rest' t
-unfolding beginning
-pairs_more d ts rest rest' x t h r a out s =
-    by_production pairs (yes_reads _ _ h (r_read t rest r (reads_behind t out (by_production pairs_rest (yes_takes _ _ a (reads_gives s))))))
-
--- items behind commas
-pub items_rest_none : (d : ℕ) (ts : List Token) → heads (mark mark'.Comma) ts ≡ false → Reads d (pick items_rest ts) ts (ok nil ts)
-items_rest_none d ts h = by_production items_rest (no_takes _ _ _ _ h (yes_gives nil []))
-
-pub items_rest_comma : (d : ℕ) (ts rest : List Token) (x : Token) → Taken (mark mark'.Comma) ts x rest →
-    heads (one terminal'.Expression) rest ≡ false → Reads d (pick items_rest ts) ts (ok absent rest)
-unfolding beginning
-items_rest_comma d ts rest x a h =
-    by_production items_rest (yes_takes _ _ a (reads_gives (by_production items (no_reads _ _ _ _ h (yes_gives absent [])))))
-
-pub items_rest_fault : (d : ℕ) (ts rest r9 : List Token) (x : Token) (w : Why) → Taken (mark mark'.Comma) ts x rest →
-    heads (one terminal'.Expression) rest ≡ true → Reads d (pick expr rest) rest (fault w r9) → Reads d (pick items_rest ts) ts (fault w r9)
-unfolding beginning
-items_rest_fault d ts rest r9 x w a h r =
-    by_production items_rest (yes_takes _ _ a (reads_gives (by_production items (yes_reads _ _ h (r_part_fault r)))))
-
-pub items_rest_more : (d : ℕ) (ts rest rest' : List Token) (x : Token) (t : Tree) → Taken (mark mark'.Comma) ts x rest →
-    heads (one terminal'.Expression) rest ≡ true → Reads d (pick expr rest) rest (ok t rest') → Step d items_rest ts rest' t
-unfolding beginning
-items_rest_more d ts rest rest' x t a h r out s =
-    by_production items_rest (yes_takes _ _ a (reads_gives (by_production items (yes_reads _ _ h (r_read t rest' r (reads_behind t out s))))))
 
 -- names with commas between them
 pub names_unfit : (d : ℕ) (ts : List Token) → heads (one terminal'.Name) ts ≡ false → Reads d (pick names ts) ts (fault unfit ts)

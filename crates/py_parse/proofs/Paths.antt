@@ -1,19 +1,19 @@
 -- Each way through each production, over plain variables: how it ends, and where it stops. Generated from the list of
 -- productions.
-use Rattle.std.proofs.Common.{◌≡◌, ◌≢◌, ℕ, ◌-◌, List, [], true, false, Result}
+use Rattle.std.proofs.Common.{◌≡◌, ◌≢◌, ℕ, ◌-◌, List, [], false, Result}
 use Rattle.py_token.specs.declared.keyword.Keyword.TheVariants as keyword'
 use Rattle.py_token.specs.declared.mark.Mark.TheVariants as mark'
 use Rattle.py_token.specs.declared.token.Token.{Token}
-use Rattle.py_tree.specs.Tree.{Tree, nil, cons, absent, group, tuple, list, comprehension, dict, pair, attribute, call, index, slice, negative, imports, simple, branching, branch, for', def, pass, return, augment}
+use Rattle.py_tree.specs.Tree.{Tree, nil, cons, group, tuple, list, attribute, index, negative, imports, simple, branching, branch, for', def, pass, augment}
 use Rattle.py_parse.specs.declared.stop.Stop.{Stop}
 use Rattle.py_parse.specs.declared.level.Level.{Level}
 use Rattle.py_parse.specs.declared.site.Site.{Site}
 use Rattle.py_parse.specs.declared.terminal.Terminal.TheVariants as terminal'
 use Rattle.py_parse.specs.Terminals.{one, heads, name_in, augment_in}
-use Rattle.py_parse.specs.Grammar.{chained, operand, operations, chain_of, negation, comparison, unary, posted, atom, links, post_of, display_of, leaf_of, grouped, listed, listed_rest, exprs, expr, exprs_rest, items_rest, closed, names, tests, pairs, one_pair, dict_body, one_link, call_body, args, subscript, subscript_rest, upper, sliced, comprehended, loop_body, function_body, parameters, params, in_loop, in_function, below, block, conditional, branches, indented, statements, more_lines, import_body, return_body, returned, assignment, assigned, augment_body, small, line, keyword, mark, takes, gives}
-use Rattle.py_parse.specs.Reading.{Outcome, ok, fault, Why, unfit, deep, Reads, r_refused, r_read, r_part_fault, pick, beginning}
+use Rattle.py_parse.specs.Grammar.{chained, operand, operations, chain_of, negation, comparison, unary, posted, atom, links, post_of, display_of, leaf_of, grouped, listed, exprs, expr, names, one_link, call_body, subscript, subscript_rest, loop_body, function_body, parameters, params, in_loop, in_function, below, block, conditional, branches, indented, statements, more_lines, import_body, assignment, augment_body, small, line, keyword, mark, takes, gives}
+use Rattle.py_parse.specs.Reading.{Outcome, ok, fault, Why, unfit, deep, Reads, r_refused, r_read, r_part_fault, pick}
 use Rattle.py_parse.specs.Agrees.{Taken, Agrees, branch_body}
-use Rattle.py_parse.proofs.Cases.{by_production, last_production, takes_at, opens_at, deep_at, deeper_at, deeper_fault, deeper_gives, yes_takes, yes_opens, yes_deep, yes_reads, no_takes, no_opens, reads_gives, given_at, agrees_over}
+use Rattle.py_parse.proofs.Cases.{by_production, last_production, takes_at, opens_at, deeper_at, deeper_fault, deeper_gives, yes_takes, yes_opens, yes_deep, no_takes, no_opens, reads_gives, given_at, agrees_over}
 
 pub chained_fault0 : (d : ℕ) (l : Level) {ts0 : List Token} {w : Why} {r9 : List Token} →
     Reads d (pick (operand l) ts0) ts0 (fault w r9) → Reads d (pick (chained l) ts0) ts0 (fault w r9)
@@ -98,129 +98,13 @@ pub leaf_tail : (d : ℕ) {ts0 : List Token} {o : Outcome} →
     heads (one terminal'.Bracket) ts0 ≡ false → Reads d (takes (one terminal'.Leaf) (λ x. gives (leaf_of x))) ts0 o → Reads d (pick (atom) ts0) ts0 (o)
 leaf_tail d {ts0 = ts0} h0 r = by_production (atom) (no_opens _ _ _ _ h0 (last_production _ (r)))
 
-pub leaf_tail_answers : {X : Type 0} (view : X → Outcome) (res : Result X Stop) (d : ℕ) (ts0 : List Token) →
-    heads (one terminal'.Bracket) ts0 ≡ false → Agrees view res (Reads d (takes (one terminal'.Leaf) (λ x. gives (leaf_of x))) ts0) → Agrees view res (Reads d (pick (atom) ts0) ts0)
-leaf_tail_answers view res d ts0 h0 r =
-    agrees_over view res (Reads d (takes (one terminal'.Leaf) (λ x. gives (leaf_of x))) ts0) _ (λ o q. leaf_tail d h0 q) r
-
 pub empty_group_ok : (d : ℕ) (l : ℕ) {x : Token} {ts0 : List Token} {ts1 : List Token} {v : Tree} →
     Taken (mark mark'.CloseParen) ts0 x ts1 → v ≡ group l (tuple l nil false) → Reads d (pick (grouped l) ts0) ts0 (ok v ts1)
 empty_group_ok d l {ts0 = ts0} {ts1 = ts1} {v = v} t0 ev = by_production (grouped l) (yes_takes _ _ t0 (given_at ev))
 
-pub group_fault0 : (d : ℕ) (l : ℕ) {ts0 : List Token} {w : Why} {r9 : List Token} →
-    heads (mark mark'.CloseParen) ts0 ≡ false → Reads d (pick (exprs) ts0) ts0 (fault w r9) → Reads d (pick (grouped l) ts0) ts0 (fault w r9)
-group_fault0 d l {ts0 = ts0} h0 r = by_production (grouped l) (no_takes _ _ _ _ h0 (last_production _ (r_part_fault r)))
-
-pub group_unfit1 : (d : ℕ) (l : ℕ) {t : Tree} {ts0 : List Token} {ts1 : List Token} →
-    heads (mark mark'.CloseParen) ts0 ≡ false → Reads d (pick (exprs) ts0) ts0 (ok t ts1) → heads (mark mark'.CloseParen) ts1 ≡ false → Reads d (pick (grouped l) ts0) ts0 (fault unfit ts1)
-group_unfit1 d l {t = t} {ts0 = ts0} {ts1 = ts1} h0 r0 nh = by_production (grouped l) (no_takes _ _ _ _ h0 (last_production _ (r_read t ts1 r0 (r_refused nh))))
-
-pub group_ok : (d : ℕ) (l : ℕ) {t : Tree} {ts0 : List Token} {ts1 : List Token} {x : Token} {ts2 : List Token} {v : Tree} →
-    heads (mark mark'.CloseParen) ts0 ≡ false → Reads d (pick (exprs) ts0) ts0 (ok t ts1) → Taken (mark mark'.CloseParen) ts1 x ts2 → v ≡ group l t → Reads d (pick (grouped l) ts0) ts0 (ok v ts2)
-group_ok d l {t = t} {ts0 = ts0} {ts1 = ts1} {ts2 = ts2} {v = v} h0 r0 t1 ev = by_production (grouped l) (no_takes _ _ _ _ h0 (last_production _ (r_read t ts1 r0 (takes_at _ t1 (given_at ev)))))
-
 pub empty_list_ok : (d : ℕ) (l : ℕ) {x : Token} {ts0 : List Token} {ts1 : List Token} {v : Tree} →
     Taken (mark mark'.CloseBracket) ts0 x ts1 → v ≡ list l nil → Reads d (pick (listed l) ts0) ts0 (ok v ts1)
 empty_list_ok d l {ts0 = ts0} {ts1 = ts1} {v = v} t0 ev = by_production (listed l) (yes_takes _ _ t0 (given_at ev))
-
-pub list_fault0 : (d : ℕ) (l : ℕ) {ts0 : List Token} {w : Why} {r9 : List Token} →
-    heads (mark mark'.CloseBracket) ts0 ≡ false → Reads d (pick (expr) ts0) ts0 (fault w r9) → Reads d (pick (listed l) ts0) ts0 (fault w r9)
-list_fault0 d l {ts0 = ts0} h0 r = by_production (listed l) (no_takes _ _ _ _ h0 (last_production _ (r_part_fault r)))
-
-pub list_tail : (d : ℕ) (l : ℕ) {t : Tree} {ts0 : List Token} {ts1 : List Token} {o : Outcome} →
-    heads (mark mark'.CloseBracket) ts0 ≡ false → Reads d (pick (expr) ts0) ts0 (ok t ts1) → Reads d (pick (listed_rest l t) ts1) ts1 o → Reads d (pick (listed l) ts0) ts0 (o)
-list_tail d l {t = t} {ts0 = ts0} {ts1 = ts1} h0 r0 r = by_production (listed l) (no_takes _ _ _ _ h0 (last_production _ (r_read t ts1 r0 (reads_gives r))))
-
-pub list_tail_answers : {X : Type 0} (view : X → Outcome) (res : Result X Stop) (d : ℕ) (l : ℕ) (t : Tree) (ts0 : List Token) (ts1 : List Token) →
-    heads (mark mark'.CloseBracket) ts0 ≡ false → Reads d (pick (expr) ts0) ts0 (ok t ts1) → Agrees view res (Reads d (pick (listed_rest l t) ts1) ts1) → Agrees view res (Reads d (pick (listed l) ts0) ts0)
-list_tail_answers view res d l t ts0 ts1 h0 r0 r =
-    agrees_over view res (Reads d (pick (listed_rest l t) ts1) ts1) _ (λ o q. list_tail d l h0 r0 q) r
-
-pub comprehension_tail : (d : ℕ) (l : ℕ) (t : Tree) {x : Token} {ts0 : List Token} {ts1 : List Token} {o : Outcome} →
-    Taken (keyword keyword'.For) ts0 x ts1 → Reads d (comprehended l t) ts1 o → Reads d (pick (listed_rest l t) ts0) ts0 (o)
-comprehension_tail d l t {ts0 = ts0} {ts1 = ts1} t0 r = by_production (listed_rest l t) (yes_takes _ _ t0 (r))
-
-pub comprehension_tail_answers : {X : Type 0} (view : X → Outcome) (res : Result X Stop) (d : ℕ) (l : ℕ) (t : Tree) (x : Token) (ts0 : List Token) (ts1 : List Token) →
-    Taken (keyword keyword'.For) ts0 x ts1 → Agrees view res (Reads d (comprehended l t) ts1) → Agrees view res (Reads d (pick (listed_rest l t) ts0) ts0)
-comprehension_tail_answers view res d l t x ts0 ts1 t0 r =
-    agrees_over view res (Reads d (comprehended l t) ts1) _ (λ o q. comprehension_tail d l t t0 q) r
-
-pub more_items_fault0 : (d : ℕ) (l : ℕ) (t : Tree) {ts0 : List Token} {w : Why} {r9 : List Token} →
-    heads (keyword keyword'.For) ts0 ≡ false → Reads d (pick (items_rest) ts0) ts0 (fault w r9) → Reads d (pick (listed_rest l t) ts0) ts0 (fault w r9)
-more_items_fault0 d l t {ts0 = ts0} h0 r = by_production (listed_rest l t) (no_takes _ _ _ _ h0 (last_production _ (r_part_fault r)))
-
-pub more_items_unfit1 : (d : ℕ) (l : ℕ) (t : Tree) {u : Tree} {ts0 : List Token} {ts1 : List Token} →
-    heads (keyword keyword'.For) ts0 ≡ false → Reads d (pick (items_rest) ts0) ts0 (ok u ts1) → heads (mark mark'.CloseBracket) ts1 ≡ false → Reads d (pick (listed_rest l t) ts0) ts0 (fault unfit ts1)
-more_items_unfit1 d l t {u = u} {ts0 = ts0} {ts1 = ts1} h0 r0 nh = by_production (listed_rest l t) (no_takes _ _ _ _ h0 (last_production _ (r_read u ts1 r0 (r_refused nh))))
-
-pub more_items_ok : (d : ℕ) (l : ℕ) (t : Tree) {u : Tree} {ts0 : List Token} {ts1 : List Token} {x : Token} {ts2 : List Token} {v : Tree} →
-    heads (keyword keyword'.For) ts0 ≡ false → Reads d (pick (items_rest) ts0) ts0 (ok u ts1) → Taken (mark mark'.CloseBracket) ts1 x ts2 → v ≡ list l (cons t (closed u)) → Reads d (pick (listed_rest l t) ts0) ts0 (ok v ts2)
-more_items_ok d l t {u = u} {ts0 = ts0} {ts1 = ts1} {ts2 = ts2} {v = v} h0 r0 t1 ev = by_production (listed_rest l t) (no_takes _ _ _ _ h0 (last_production _ (r_read u ts1 r0 (takes_at _ t1 (given_at ev)))))
-
-pub comprehended_fault0 : (d : ℕ) (l : ℕ) (t : Tree) {ts0 : List Token} {w : Why} {r9 : List Token} →
-    Reads d (pick (names) ts0) ts0 (fault w r9) → Reads d (comprehended l t) ts0 (fault w r9)
-comprehended_fault0 d l t {ts0 = ts0} r = r_part_fault r
-
-pub comprehended_unfit1 : (d : ℕ) (l : ℕ) (t : Tree) {n : Tree} {ts0 : List Token} {ts1 : List Token} →
-    Reads d (pick (names) ts0) ts0 (ok n ts1) → heads (keyword keyword'.In) ts1 ≡ false → Reads d (comprehended l t) ts0 (fault unfit ts1)
-comprehended_unfit1 d l t {n = n} {ts0 = ts0} {ts1 = ts1} r0 nh = r_read n ts1 r0 (r_refused nh)
-
-pub comprehended_fault2 : (d : ℕ) (l : ℕ) (t : Tree) {n : Tree} {ts0 : List Token} {ts1 : List Token} {x : Token} {ts2 : List Token} {w : Why} {r9 : List Token} →
-    Reads d (pick (names) ts0) ts0 (ok n ts1) → Taken (keyword keyword'.In) ts1 x ts2 → Reads d (pick (expr) ts2) ts2 (fault w r9) → Reads d (comprehended l t) ts0 (fault w r9)
-comprehended_fault2 d l t {n = n} {ts0 = ts0} {ts1 = ts1} {ts2 = ts2} r0 t1 r = r_read n ts1 r0 (takes_at _ t1 (r_part_fault r))
-
-pub comprehended_fault3 : (d : ℕ) (l : ℕ) (t : Tree) {n : Tree} {ts0 : List Token} {ts1 : List Token} {x : Token} {ts2 : List Token} {s : Tree} {ts3 : List Token} {w : Why} {r9 : List Token} →
-    Reads d (pick (names) ts0) ts0 (ok n ts1) → Taken (keyword keyword'.In) ts1 x ts2 → Reads d (pick (expr) ts2) ts2 (ok s ts3) → Reads d (pick (tests) ts3) ts3 (fault w r9) → Reads d (comprehended l t) ts0 (fault w r9)
-comprehended_fault3 d l t {n = n} {ts0 = ts0} {ts1 = ts1} {ts2 = ts2} {s = s} {ts3 = ts3} r0 t1 r2 r = r_read n ts1 r0 (takes_at _ t1 (r_read s ts3 r2 (r_part_fault r)))
-
-pub comprehended_unfit4 : (d : ℕ) (l : ℕ) (t : Tree) {n : Tree} {ts0 : List Token} {ts1 : List Token} {x : Token} {ts2 : List Token} {s : Tree} {ts3 : List Token} {u : Tree} {ts4 : List Token} →
-    Reads d (pick (names) ts0) ts0 (ok n ts1) → Taken (keyword keyword'.In) ts1 x ts2 → Reads d (pick (expr) ts2) ts2 (ok s ts3) → Reads d (pick (tests) ts3) ts3 (ok u ts4) → heads (mark mark'.CloseBracket) ts4 ≡ false → Reads d (comprehended l t) ts0 (fault unfit ts4)
-comprehended_unfit4 d l t {n = n} {ts0 = ts0} {ts1 = ts1} {ts2 = ts2} {s = s} {ts3 = ts3} {u = u} {ts4 = ts4} r0 t1 r2 r3 nh = r_read n ts1 r0 (takes_at _ t1 (r_read s ts3 r2 (r_read u ts4 r3 (r_refused nh))))
-
-pub comprehended_ok : (d : ℕ) (l : ℕ) (t : Tree) {n : Tree} {ts0 : List Token} {ts1 : List Token} {x : Token} {ts2 : List Token} {s : Tree} {ts3 : List Token} {u : Tree} {ts4 : List Token} {y : Token} {ts5 : List Token} {v : Tree} →
-    Reads d (pick (names) ts0) ts0 (ok n ts1) → Taken (keyword keyword'.In) ts1 x ts2 → Reads d (pick (expr) ts2) ts2 (ok s ts3) → Reads d (pick (tests) ts3) ts3 (ok u ts4) → Taken (mark mark'.CloseBracket) ts4 y ts5 → v ≡ comprehension l t n s u → Reads d (comprehended l t) ts0 (ok v ts5)
-comprehended_ok d l t {n = n} {ts0 = ts0} {ts1 = ts1} {ts2 = ts2} {s = s} {ts3 = ts3} {u = u} {ts4 = ts4} {ts5 = ts5} {v = v} r0 t1 r2 r3 t4 ev = r_read n ts1 r0 (takes_at _ t1 (r_read s ts3 r2 (r_read u ts4 r3 (takes_at _ t4 (given_at ev)))))
-
-pub dict_fault0 : (d : ℕ) (l : ℕ) {ts0 : List Token} {w : Why} {r9 : List Token} →
-    Reads d (pick (pairs) ts0) ts0 (fault w r9) → Reads d (pick (dict_body l) ts0) ts0 (fault w r9)
-dict_fault0 d l {ts0 = ts0} r = by_production (dict_body l) (last_production _ (r_part_fault r))
-
-pub dict_unfit1 : (d : ℕ) (l : ℕ) {u : Tree} {ts0 : List Token} {ts1 : List Token} →
-    Reads d (pick (pairs) ts0) ts0 (ok u ts1) → heads (mark mark'.CloseBrace) ts1 ≡ false → Reads d (pick (dict_body l) ts0) ts0 (fault unfit ts1)
-dict_unfit1 d l {u = u} {ts0 = ts0} {ts1 = ts1} r0 nh = by_production (dict_body l) (last_production _ (r_read u ts1 r0 (r_refused nh)))
-
-pub dict_ok : (d : ℕ) (l : ℕ) {u : Tree} {ts0 : List Token} {ts1 : List Token} {x : Token} {ts2 : List Token} {v : Tree} →
-    Reads d (pick (pairs) ts0) ts0 (ok u ts1) → Taken (mark mark'.CloseBrace) ts1 x ts2 → v ≡ dict l u → Reads d (pick (dict_body l) ts0) ts0 (ok v ts2)
-dict_ok d l {u = u} {ts0 = ts0} {ts1 = ts1} {ts2 = ts2} {v = v} r0 t1 ev = by_production (dict_body l) (last_production _ (r_read u ts1 r0 (takes_at _ t1 (given_at ev))))
-
-pub pair_fault0 : (d : ℕ) {ts0 : List Token} {w : Why} {r9 : List Token} →
-    Reads d (pick (expr) ts0) ts0 (fault w r9) → Reads d (pick (one_pair) ts0) ts0 (fault w r9)
-pair_fault0 d {ts0 = ts0} r = by_production (one_pair) (last_production _ (r_part_fault r))
-
-pub pair_unfit1 : (d : ℕ) {k : Tree} {ts0 : List Token} {ts1 : List Token} →
-    Reads d (pick (expr) ts0) ts0 (ok k ts1) → heads (mark mark'.Colon) ts1 ≡ false → Reads d (pick (one_pair) ts0) ts0 (fault unfit ts1)
-pair_unfit1 d {k = k} {ts0 = ts0} {ts1 = ts1} r0 nh = by_production (one_pair) (last_production _ (r_read k ts1 r0 (r_refused nh)))
-
-pub pair_fault2 : (d : ℕ) {k : Tree} {ts0 : List Token} {ts1 : List Token} {x : Token} {ts2 : List Token} {w : Why} {r9 : List Token} →
-    Reads d (pick (expr) ts0) ts0 (ok k ts1) → Taken (mark mark'.Colon) ts1 x ts2 → Reads d (pick (expr) ts2) ts2 (fault w r9) → Reads d (pick (one_pair) ts0) ts0 (fault w r9)
-pair_fault2 d {k = k} {ts0 = ts0} {ts1 = ts1} {ts2 = ts2} r0 t1 r = by_production (one_pair) (last_production _ (r_read k ts1 r0 (takes_at _ t1 (r_part_fault r))))
-
-pub pair_ok : (d : ℕ) {k : Tree} {ts0 : List Token} {ts1 : List Token} {x : Token} {ts2 : List Token} {u : Tree} {ts3 : List Token} {v : Tree} →
-    Reads d (pick (expr) ts0) ts0 (ok k ts1) → Taken (mark mark'.Colon) ts1 x ts2 → Reads d (pick (expr) ts2) ts2 (ok u ts3) → v ≡ pair x.line k u → Reads d (pick (one_pair) ts0) ts0 (ok v ts3)
-pair_ok d {k = k} {ts0 = ts0} {ts1 = ts1} {ts2 = ts2} {u = u} {ts3 = ts3} {v = v} r0 t1 r2 ev = by_production (one_pair) (last_production _ (r_read k ts1 r0 (takes_at _ t1 (r_read u ts3 r2 (given_at ev)))))
-
-pub exprs_fault0 : (d : ℕ) {ts0 : List Token} {w : Why} {r9 : List Token} →
-    Reads d (pick (expr) ts0) ts0 (fault w r9) → Reads d (pick (exprs) ts0) ts0 (fault w r9)
-exprs_fault0 d {ts0 = ts0} r = by_production (exprs) (last_production _ (r_part_fault r))
-
-pub exprs_tail : (d : ℕ) {t : Tree} {ts0 : List Token} {ts1 : List Token} {o : Outcome} →
-    Reads d (pick (expr) ts0) ts0 (ok t ts1) → Reads d (pick (exprs_rest t) ts1) ts1 o → Reads d (pick (exprs) ts0) ts0 (o)
-exprs_tail d {t = t} {ts0 = ts0} {ts1 = ts1} r0 r = by_production (exprs) (last_production _ (r_read t ts1 r0 (reads_gives r)))
-
-pub exprs_tail_answers : {X : Type 0} (view : X → Outcome) (res : Result X Stop) (d : ℕ) (t : Tree) (ts0 : List Token) (ts1 : List Token) →
-    Reads d (pick (expr) ts0) ts0 (ok t ts1) → Agrees view res (Reads d (pick (exprs_rest t) ts1) ts1) → Agrees view res (Reads d (pick (exprs) ts0) ts0)
-exprs_tail_answers view res d t ts0 ts1 r0 r =
-    agrees_over view res (Reads d (pick (exprs_rest t) ts1) ts1) _ (λ o q. exprs_tail d r0 q) r
 
 pub call_link_deep0 : (d : ℕ) {ts0 : List Token} {x9 : Token} {ts1 : List Token} →
     d ≡ 0 → Taken (mark mark'.OpenParen) ts0 x9 ts1 → Reads d (pick (one_link) ts0) ts0 (fault deep ts0)
@@ -260,49 +144,6 @@ pub attribute_ok : (d : ℕ) {x : Token} {ts0 : List Token} {ts1 : List Token} {
     heads (mark mark'.OpenParen) ts0 ≡ false → heads (mark mark'.OpenBracket) ts0 ≡ false → Taken (mark mark'.Dot) ts0 x ts1 → Taken (one terminal'.Name) ts1 y ts2 → v ≡ attribute y.line (name_in y.kind) → Reads d (pick (one_link) ts0) ts0 (ok v ts2)
 attribute_ok d {ts0 = ts0} {ts1 = ts1} {ts2 = ts2} {v = v} h0 h1 t0 t1 ev = by_production (one_link) (no_opens _ _ _ _ h0 (no_opens _ _ _ _ h1 (last_production _ (takes_at _ t0 (takes_at _ t1 (given_at ev))))))
 
-pub call_fault0 : (d : ℕ) (l : ℕ) {ts0 : List Token} {w : Why} {r9 : List Token} →
-    Reads d (pick (args) ts0) ts0 (fault w r9) → Reads d (pick (call_body l) ts0) ts0 (fault w r9)
-call_fault0 d l {ts0 = ts0} r = by_production (call_body l) (last_production _ (r_part_fault r))
-
-pub call_unfit1 : (d : ℕ) (l : ℕ) {u : Tree} {ts0 : List Token} {ts1 : List Token} →
-    Reads d (pick (args) ts0) ts0 (ok u ts1) → heads (mark mark'.CloseParen) ts1 ≡ false → Reads d (pick (call_body l) ts0) ts0 (fault unfit ts1)
-call_unfit1 d l {u = u} {ts0 = ts0} {ts1 = ts1} r0 nh = by_production (call_body l) (last_production _ (r_read u ts1 r0 (r_refused nh)))
-
-pub call_ok : (d : ℕ) (l : ℕ) {u : Tree} {ts0 : List Token} {ts1 : List Token} {x : Token} {ts2 : List Token} {v : Tree} →
-    Reads d (pick (args) ts0) ts0 (ok u ts1) → Taken (mark mark'.CloseParen) ts1 x ts2 → v ≡ call l u → Reads d (pick (call_body l) ts0) ts0 (ok v ts2)
-call_ok d l {u = u} {ts0 = ts0} {ts1 = ts1} {ts2 = ts2} {v = v} r0 t1 ev = by_production (call_body l) (last_production _ (r_read u ts1 r0 (takes_at _ t1 (given_at ev))))
-
-pub open_slice_tail : (d : ℕ) (l : ℕ) {x : Token} {ts0 : List Token} {ts1 : List Token} {o : Outcome} →
-    Taken (mark mark'.Colon) ts0 x ts1 → Reads d (sliced l absent) ts1 o → Reads d (pick (subscript l) ts0) ts0 (o)
-open_slice_tail d l {ts0 = ts0} {ts1 = ts1} t0 r = by_production (subscript l) (yes_takes _ _ t0 (r))
-
-pub open_slice_tail_answers : {X : Type 0} (view : X → Outcome) (res : Result X Stop) (d : ℕ) (l : ℕ) (x : Token) (ts0 : List Token) (ts1 : List Token) →
-    Taken (mark mark'.Colon) ts0 x ts1 → Agrees view res (Reads d (sliced l absent) ts1) → Agrees view res (Reads d (pick (subscript l) ts0) ts0)
-open_slice_tail_answers view res d l x ts0 ts1 t0 r =
-    agrees_over view res (Reads d (sliced l absent) ts1) _ (λ o q. open_slice_tail d l t0 q) r
-
-pub subscript_fault0 : (d : ℕ) (l : ℕ) {ts0 : List Token} {w : Why} {r9 : List Token} →
-    heads (mark mark'.Colon) ts0 ≡ false → Reads d (pick (expr) ts0) ts0 (fault w r9) → Reads d (pick (subscript l) ts0) ts0 (fault w r9)
-subscript_fault0 d l {ts0 = ts0} h0 r = by_production (subscript l) (no_takes _ _ _ _ h0 (last_production _ (r_part_fault r)))
-
-pub subscript_tail : (d : ℕ) (l : ℕ) {t : Tree} {ts0 : List Token} {ts1 : List Token} {o : Outcome} →
-    heads (mark mark'.Colon) ts0 ≡ false → Reads d (pick (expr) ts0) ts0 (ok t ts1) → Reads d (pick (subscript_rest l t) ts1) ts1 o → Reads d (pick (subscript l) ts0) ts0 (o)
-subscript_tail d l {t = t} {ts0 = ts0} {ts1 = ts1} h0 r0 r = by_production (subscript l) (no_takes _ _ _ _ h0 (last_production _ (r_read t ts1 r0 (reads_gives r))))
-
-pub subscript_tail_answers : {X : Type 0} (view : X → Outcome) (res : Result X Stop) (d : ℕ) (l : ℕ) (t : Tree) (ts0 : List Token) (ts1 : List Token) →
-    heads (mark mark'.Colon) ts0 ≡ false → Reads d (pick (expr) ts0) ts0 (ok t ts1) → Agrees view res (Reads d (pick (subscript_rest l t) ts1) ts1) → Agrees view res (Reads d (pick (subscript l) ts0) ts0)
-subscript_tail_answers view res d l t ts0 ts1 h0 r0 r =
-    agrees_over view res (Reads d (pick (subscript_rest l t) ts1) ts1) _ (λ o q. subscript_tail d l h0 r0 q) r
-
-pub closed_slice_tail : (d : ℕ) (l : ℕ) (t : Tree) {x : Token} {ts0 : List Token} {ts1 : List Token} {o : Outcome} →
-    Taken (mark mark'.Colon) ts0 x ts1 → Reads d (sliced l t) ts1 o → Reads d (pick (subscript_rest l t) ts0) ts0 (o)
-closed_slice_tail d l t {ts0 = ts0} {ts1 = ts1} t0 r = by_production (subscript_rest l t) (yes_takes _ _ t0 (r))
-
-pub closed_slice_tail_answers : {X : Type 0} (view : X → Outcome) (res : Result X Stop) (d : ℕ) (l : ℕ) (t : Tree) (x : Token) (ts0 : List Token) (ts1 : List Token) →
-    Taken (mark mark'.Colon) ts0 x ts1 → Agrees view res (Reads d (sliced l t) ts1) → Agrees view res (Reads d (pick (subscript_rest l t) ts0) ts0)
-closed_slice_tail_answers view res d l t x ts0 ts1 t0 r =
-    agrees_over view res (Reads d (sliced l t) ts1) _ (λ o q. closed_slice_tail d l t t0 q) r
-
 pub index_unfit0 : (d : ℕ) (l : ℕ) (t : Tree) {ts0 : List Token} →
     heads (mark mark'.Colon) ts0 ≡ false → heads (mark mark'.CloseBracket) ts0 ≡ false → Reads d (pick (subscript_rest l t) ts0) ts0 (fault unfit ts0)
 index_unfit0 d l t {ts0 = ts0} h0 nh = by_production (subscript_rest l t) (no_takes _ _ _ _ h0 (last_production _ (r_refused nh)))
@@ -310,27 +151,6 @@ index_unfit0 d l t {ts0 = ts0} h0 nh = by_production (subscript_rest l t) (no_ta
 pub index_ok : (d : ℕ) (l : ℕ) (t : Tree) {x : Token} {ts0 : List Token} {ts1 : List Token} {v : Tree} →
     heads (mark mark'.Colon) ts0 ≡ false → Taken (mark mark'.CloseBracket) ts0 x ts1 → v ≡ index l t → Reads d (pick (subscript_rest l t) ts0) ts0 (ok v ts1)
 index_ok d l t {ts0 = ts0} {ts1 = ts1} {v = v} h0 t0 ev = by_production (subscript_rest l t) (no_takes _ _ _ _ h0 (last_production _ (takes_at _ t0 (given_at ev))))
-
-pub sliced_fault0 : (d : ℕ) (l : ℕ) (t : Tree) {ts0 : List Token} {w : Why} {r9 : List Token} →
-    Reads d (pick (upper) ts0) ts0 (fault w r9) → Reads d (sliced l t) ts0 (fault w r9)
-sliced_fault0 d l t {ts0 = ts0} r = r_part_fault r
-
-pub sliced_unfit1 : (d : ℕ) (l : ℕ) (t : Tree) {u : Tree} {ts0 : List Token} {ts1 : List Token} →
-    Reads d (pick (upper) ts0) ts0 (ok u ts1) → heads (mark mark'.CloseBracket) ts1 ≡ false → Reads d (sliced l t) ts0 (fault unfit ts1)
-sliced_unfit1 d l t {u = u} {ts0 = ts0} {ts1 = ts1} r0 nh = r_read u ts1 r0 (r_refused nh)
-
-pub sliced_ok : (d : ℕ) (l : ℕ) (t : Tree) {u : Tree} {ts0 : List Token} {ts1 : List Token} {x : Token} {ts2 : List Token} {v : Tree} →
-    Reads d (pick (upper) ts0) ts0 (ok u ts1) → Taken (mark mark'.CloseBracket) ts1 x ts2 → v ≡ slice l t u → Reads d (sliced l t) ts0 (ok v ts2)
-sliced_ok d l t {u = u} {ts0 = ts0} {ts1 = ts1} {ts2 = ts2} {v = v} r0 t1 ev = r_read u ts1 r0 (takes_at _ t1 (given_at ev))
-
-pub upper_tail : (d : ℕ) {ts0 : List Token} {o : Outcome} →
-    heads (one (beginning (expr))) ts0 ≡ true → Reads d (pick (expr) ts0) ts0 o → Reads d (pick (upper) ts0) ts0 (o)
-upper_tail d {ts0 = ts0} hb r = by_production (upper) (yes_reads _ _ hb (reads_gives r))
-
-pub upper_tail_answers : {X : Type 0} (view : X → Outcome) (res : Result X Stop) (d : ℕ) (ts0 : List Token) →
-    heads (one (beginning (expr))) ts0 ≡ true → Agrees view res (Reads d (pick (expr) ts0) ts0) → Agrees view res (Reads d (pick (upper) ts0) ts0)
-upper_tail_answers view res d ts0 hb r =
-    agrees_over view res (Reads d (pick (expr) ts0) ts0) _ (λ o q. upper_tail d hb q) r
 
 pub loop_fault0 : (d : ℕ) (l : ℕ) (s : Site) {ts0 : List Token} {w : Why} {r9 : List Token} →
     Reads d (pick (names) ts0) ts0 (fault w r9) → Reads d (loop_body l s) ts0 (fault w r9)
@@ -359,10 +179,6 @@ loop_ok d l s {n = n} {ts0 = ts0} {ts1 = ts1} {ts2 = ts2} {e = e} {ts3 = ts3} {t
 pub function_unfit0 : (d : ℕ) (l : ℕ) {ts0 : List Token} →
     heads (one terminal'.Name) ts0 ≡ false → Reads d (function_body l) ts0 (fault unfit ts0)
 function_unfit0 d l {ts0 = ts0} nh = r_refused nh
-
-pub function_deep1 : (d : ℕ) (l : ℕ) {n : Token} {ts0 : List Token} {ts1 : List Token} {x9 : Token} {ts2 : List Token} →
-    Taken (one terminal'.Name) ts0 n ts1 → d ≡ 0 → Taken (mark mark'.OpenParen) ts1 x9 ts2 → Reads d (function_body l) ts0 (fault deep ts1)
-function_deep1 d l {ts0 = ts0} {ts1 = ts1} {ts2 = ts2} t0 hz t9 = takes_at _ t0 (deep_at d _ hz t9)
 
 pub function_fault2 : (d : ℕ) (l : ℕ) {n : Token} {ts0 : List Token} {ts1 : List Token} {x : Token} {ts2 : List Token} {w : Why} {r9 : List Token} →
     Taken (one terminal'.Name) ts0 n ts1 → d ≢ 0 → Taken (mark mark'.OpenParen) ts1 x ts2 → Reads (d - 1) (pick (parameters) ts2) ts2 (fault w r9) → Reads d (function_body l) ts0 (fault w r9)
@@ -434,10 +250,6 @@ pub for_tail_answers : {X : Type 0} (view : X → Outcome) (res : Result X Stop)
 for_tail_answers view res d s x ts0 ts1 h0 hd t0 r =
     agrees_over view res (Reads d (loop_body x.line s) ts1) _ (λ o q. for_tail d s h0 hd t0 q) r
 
-pub else_deep0 : (d : ℕ) (s : Site) {ts0 : List Token} {x9 : Token} {ts1 : List Token} →
-    heads (keyword keyword'.Elif) ts0 ≡ false → d ≡ 0 → Taken (keyword keyword'.Else) ts0 x9 ts1 → Reads d (pick (branches s) ts0) ts0 (fault deep ts0)
-else_deep0 d s {ts0 = ts0} {ts1 = ts1} h0 hz t9 = by_production (branches s) (no_opens _ _ _ _ h0 (yes_deep d _ _ hz t9))
-
 pub else_unfit1 : (d : ℕ) (s : Site) {x : Token} {ts0 : List Token} {ts1 : List Token} →
     heads (keyword keyword'.Elif) ts0 ≡ false → d ≢ 0 → Taken (keyword keyword'.Else) ts0 x ts1 → heads (mark mark'.Colon) ts1 ≡ false → Reads d (pick (branches s) ts0) ts0 (fault unfit ts1)
 else_unfit1 d s {ts0 = ts0} {ts1 = ts1} h0 hd t0 nh = by_production (branches s) (no_opens _ _ _ _ h0 (yes_opens d _ _ hd t0 (r_refused nh)))
@@ -450,18 +262,9 @@ pub else_ok : (d : ℕ) (s : Site) {x : Token} {ts0 : List Token} {ts1 : List To
     heads (keyword keyword'.Elif) ts0 ≡ false → d ≢ 0 → Taken (keyword keyword'.Else) ts0 x ts1 → Taken (mark mark'.Colon) ts1 y ts2 → Reads (d - 1) (pick (block (below s)) ts2) ts2 (ok b ts3) → v ≡ branching nil b → Reads d (pick (branches s) ts0) ts0 (ok v ts3)
 else_ok d s {ts0 = ts0} {ts1 = ts1} {ts2 = ts2} {b = b} {ts3 = ts3} {v = v} h0 hd t0 t1 r2 ev = by_production (branches s) (no_opens _ _ _ _ h0 (yes_opens d _ _ hd t0 (takes_at _ t1 (deeper_at d _ b ts3 hd r2 (given_at ev)))))
 
-pub elif_deep0 : (d : ℕ) (s : Site) {ts0 : List Token} {x9 : Token} {ts1 : List Token} →
-    d ≡ 0 → Taken (keyword keyword'.Elif) ts0 x9 ts1 → Reads d (pick (branches s) ts0) ts0 (fault deep ts0)
-elif_deep0 d s {ts0 = ts0} {ts1 = ts1} hz t9 = by_production (branches s) (yes_deep d _ _ hz t9)
-
 pub elif_tail : (d : ℕ) (s : Site) {x : Token} {ts0 : List Token} {ts1 : List Token} {o : Outcome} →
     d ≢ 0 → Taken (keyword keyword'.Elif) ts0 x ts1 → Reads d (conditional x.line s) ts1 o → Reads d (pick (branches s) ts0) ts0 (o)
 elif_tail d s {ts0 = ts0} {ts1 = ts1} hd t0 r = by_production (branches s) (yes_opens d _ _ hd t0 (r))
-
-pub elif_tail_answers : {X : Type 0} (view : X → Outcome) (res : Result X Stop) (d : ℕ) (s : Site) (x : Token) (ts0 : List Token) (ts1 : List Token) →
-    d ≢ 0 → Taken (keyword keyword'.Elif) ts0 x ts1 → Agrees view res (Reads d (conditional x.line s) ts1) → Agrees view res (Reads d (pick (branches s) ts0) ts0)
-elif_tail_answers view res d s x ts0 ts1 hd t0 r =
-    agrees_over view res (Reads d (conditional x.line s) ts1) _ (λ o q. elif_tail d s hd t0 q) r
 
 pub no_branch_ok : (d : ℕ) (s : Site) {ts0 : List Token} {v : Tree} →
     heads (keyword keyword'.Elif) ts0 ≡ false → heads (keyword keyword'.Else) ts0 ≡ false → v ≡ branching nil nil → Reads d (pick (branches s) ts0) ts0 (ok v ts0)
@@ -496,11 +299,6 @@ pub another_line_tail : (d : ℕ) (s : Site) {ts0 : List Token} {o : Outcome} �
     heads (one terminal'.Dedent) ts0 ≡ false → Reads d (indented s) ts0 o → Reads d (pick (more_lines s) ts0) ts0 (o)
 another_line_tail d s {ts0 = ts0} h0 r = by_production (more_lines s) (no_takes _ _ _ _ h0 (last_production _ (r)))
 
-pub another_line_tail_answers : {X : Type 0} (view : X → Outcome) (res : Result X Stop) (d : ℕ) (s : Site) (ts0 : List Token) →
-    heads (one terminal'.Dedent) ts0 ≡ false → Agrees view res (Reads d (indented s) ts0) → Agrees view res (Reads d (pick (more_lines s) ts0) ts0)
-another_line_tail_answers view res d s ts0 h0 r =
-    agrees_over view res (Reads d (indented s) ts0) _ (λ o q. another_line_tail d s h0 q) r
-
 pub import_unfit0 : (d : ℕ) (l : ℕ) {ts0 : List Token} →
     heads (one terminal'.Scons) ts0 ≡ false → Reads d (import_body l) ts0 (fault unfit ts0)
 import_unfit0 d l {ts0 = ts0} nh = r_refused nh
@@ -525,39 +323,9 @@ pub import_ok : (d : ℕ) (l : ℕ) {x : Token} {ts0 : List Token} {ts1 : List T
     Taken (one terminal'.Scons) ts0 x ts1 → Taken (mark mark'.Dot) ts1 x1 ts2 → Taken (one terminal'.Script) ts2 x2 ts3 → Taken (keyword keyword'.Import) ts3 x3 ts4 → Taken (mark mark'.Star) ts4 x4 ts5 → v ≡ imports l → Reads d (import_body l) ts0 (ok v ts5)
 import_ok d l {ts0 = ts0} {ts1 = ts1} {ts2 = ts2} {ts3 = ts3} {ts4 = ts4} {ts5 = ts5} {v = v} t0 t1 t2 t3 t4 ev = takes_at _ t0 (takes_at _ t1 (takes_at _ t2 (takes_at _ t3 (takes_at _ t4 (given_at ev)))))
 
-pub returned_fault0 : (d : ℕ) (l : ℕ) {ts0 : List Token} {w : Why} {r9 : List Token} →
-    Reads d (pick (returned) ts0) ts0 (fault w r9) → Reads d (return_body l) ts0 (fault w r9)
-returned_fault0 d l {ts0 = ts0} r = r_part_fault r
-
-pub returned_ok : (d : ℕ) (l : ℕ) {t : Tree} {ts0 : List Token} {ts1 : List Token} {v : Tree} →
-    Reads d (pick (returned) ts0) ts0 (ok t ts1) → v ≡ return l t → Reads d (return_body l) ts0 (ok v ts1)
-returned_ok d l {t = t} {ts0 = ts0} {ts1 = ts1} {v = v} r0 ev = r_read t ts1 r0 (given_at ev)
-
-pub value_tail : (d : ℕ) {ts0 : List Token} {o : Outcome} →
-    heads (one (beginning (exprs))) ts0 ≡ true → Reads d (pick (exprs) ts0) ts0 o → Reads d (pick (returned) ts0) ts0 (o)
-value_tail d {ts0 = ts0} hb r = by_production (returned) (yes_reads _ _ hb (reads_gives r))
-
-pub value_tail_answers : {X : Type 0} (view : X → Outcome) (res : Result X Stop) (d : ℕ) (ts0 : List Token) →
-    heads (one (beginning (exprs))) ts0 ≡ true → Agrees view res (Reads d (pick (exprs) ts0) ts0) → Agrees view res (Reads d (pick (returned) ts0) ts0)
-value_tail_answers view res d ts0 hb r =
-    agrees_over view res (Reads d (pick (exprs) ts0) ts0) _ (λ o q. value_tail d hb q) r
-
 pub assignment_fault0 : (d : ℕ) {ts0 : List Token} {w : Why} {r9 : List Token} →
     Reads d (pick (exprs) ts0) ts0 (fault w r9) → Reads d (assignment) ts0 (fault w r9)
 assignment_fault0 d {ts0 = ts0} r = r_part_fault r
-
-pub assignment_tail : (d : ℕ) {t : Tree} {ts0 : List Token} {ts1 : List Token} {o : Outcome} →
-    Reads d (pick (exprs) ts0) ts0 (ok t ts1) → Reads d (pick (assigned t) ts1) ts1 o → Reads d (assignment) ts0 (o)
-assignment_tail d {t = t} {ts0 = ts0} {ts1 = ts1} r0 r = r_read t ts1 r0 (reads_gives r)
-
-pub assignment_tail_answers : {X : Type 0} (view : X → Outcome) (res : Result X Stop) (d : ℕ) (t : Tree) (ts0 : List Token) (ts1 : List Token) →
-    Reads d (pick (exprs) ts0) ts0 (ok t ts1) → Agrees view res (Reads d (pick (assigned t) ts1) ts1) → Agrees view res (Reads d (assignment) ts0)
-assignment_tail_answers view res d t ts0 ts1 r0 r =
-    agrees_over view res (Reads d (pick (assigned t) ts1) ts1) _ (λ o q. assignment_tail d r0 q) r
-
-pub augment_fault0 : (d : ℕ) (t : Tree) (x : Token) {ts0 : List Token} {w : Why} {r9 : List Token} →
-    Reads d (pick (exprs) ts0) ts0 (fault w r9) → Reads d (augment_body t x) ts0 (fault w r9)
-augment_fault0 d t x {ts0 = ts0} r = r_part_fault r
 
 pub augment_ok : (d : ℕ) (t : Tree) (x : Token) {e : Tree} {ts0 : List Token} {ts1 : List Token} {v : Tree} →
     Reads d (pick (exprs) ts0) ts0 (ok e ts1) → v ≡ augment x.line (augment_in x.kind) t e → Reads d (augment_body t x) ts0 (ok v ts1)
@@ -570,10 +338,3 @@ pass_ok d s {ts0 = ts0} {ts1 = ts1} {v = v} t0 ev = by_production (small s) (yes
 pub from_tail : (d : ℕ) (s : Site) {x : Token} {ts0 : List Token} {ts1 : List Token} {o : Outcome} →
     heads (keyword keyword'.Pass) ts0 ≡ false → Taken (keyword keyword'.From) ts0 x ts1 → Reads d (import_body x.line) ts1 o → Reads d (pick (small s) ts0) ts0 (o)
 from_tail d s {ts0 = ts0} {ts1 = ts1} h0 t0 r = by_production (small s) (no_takes _ _ _ _ h0 (yes_takes _ _ t0 (r)))
-
-pub from_tail_answers : {X : Type 0} (view : X → Outcome) (res : Result X Stop) (d : ℕ) (s : Site) (x : Token) (ts0 : List Token) (ts1 : List Token) →
-    heads (keyword keyword'.Pass) ts0 ≡ false → Taken (keyword keyword'.From) ts0 x ts1 → Agrees view res (Reads d (import_body x.line) ts1) → Agrees view res (Reads d (pick (small s) ts0) ts0)
-from_tail_answers view res d s x ts0 ts1 h0 t0 r =
-    agrees_over view res (Reads d (import_body x.line) ts1) _ (λ o q. from_tail d s h0 t0 q) r
-
-pub ruleset paths = (chained_fault0, chained_fault1, chained_ok, not_deep0, not_fault1, not_ok, unnegated_tail, unnegated_tail_answers, minus_deep0, minus_fault1, minus_ok, plain_tail, plain_tail_answers, posted_fault0, posted_fault1, posted_ok, bracketed_deep0, bracketed_tail, bracketed_tail_answers, leaf_tail, leaf_tail_answers, empty_group_ok, group_fault0, group_unfit1, group_ok, empty_list_ok, list_fault0, list_tail, list_tail_answers, comprehension_tail, comprehension_tail_answers, more_items_fault0, more_items_unfit1, more_items_ok, comprehended_fault0, comprehended_unfit1, comprehended_fault2, comprehended_fault3, comprehended_unfit4, comprehended_ok, dict_fault0, dict_unfit1, dict_ok, pair_fault0, pair_unfit1, pair_fault2, pair_ok, exprs_fault0, exprs_tail, exprs_tail_answers, call_link_deep0, call_link_tail, call_link_tail_answers, index_link_deep0, index_link_tail, index_link_tail_answers, attribute_unfit0, attribute_unfit1, attribute_ok, call_fault0, call_unfit1, call_ok, open_slice_tail, open_slice_tail_answers, subscript_fault0, subscript_tail, subscript_tail_answers, closed_slice_tail, closed_slice_tail_answers, index_unfit0, index_ok, sliced_fault0, sliced_unfit1, sliced_ok, upper_tail, upper_tail_answers, loop_fault0, loop_unfit1, loop_fault2, loop_unfit3, loop_fault4, loop_ok, function_unfit0, function_deep1, function_fault2, function_unfit3, function_fault4, function_ok, parameters_fault0, parameters_unfit1, parameters_ok, branch_fault0, branch_unfit1, branch_fault2, branch_ok, if_deep0, if_tail, if_tail_answers, for_deep0, for_tail, for_tail_answers, else_deep0, else_unfit1, else_fault2, else_ok, elif_deep0, elif_tail, elif_tail_answers, no_branch_ok, indent_unfit1, indent_tail, indent_tail_answers, one_line_fault0, one_line_ok, dedent_ok, another_line_tail, another_line_tail_answers, import_unfit0, import_unfit1, import_unfit2, import_unfit3, import_unfit4, import_ok, returned_fault0, returned_ok, value_tail, value_tail_answers, assignment_fault0, assignment_tail, assignment_tail_answers, augment_fault0, augment_ok, pass_ok, from_tail, from_tail_answers)

@@ -2,7 +2,7 @@
 use Rattle.std.specs.Prelude.{◌≡◌, ◌&&◌, ◌++◌, ℕ, Bool, true, false, List, [], ◌∷◌, Result, Ok, Err, Option, Some, None}
 use Rattle.std.specs.Borrow.{Bor}
 use Rattle.py_token.specs.declared.token.Token.{Token}
-use Rattle.py_tree.specs.Tree.{Tree, nil, cons, absent, compare, name, named, parameter, branch, expr_tree}
+use Rattle.py_tree.specs.Tree.{Tree, nil, cons, absent, compare, name, parameter, branch, expr_tree}
 use Rattle.py_tree.specs.declared.expr.Operator.{Operator}
 use Rattle.py_tree.specs.declared.expr.Comparison.{Comparison}
 use Rattle.py_tree.specs.declared.expr.Comparison.TheVariants as comparison'
@@ -17,7 +17,7 @@ use Rattle.py_parse.specs.declared.stop.Stop.{Stop}
 use Rattle.py_parse.specs.declared.stop.Stop.TheVariants as stop'
 use Rattle.py_parse.specs.Terminals.{Want, one, fresh, heads, fits, operator_in, name_in}
 use Rattle.py_parse.specs.declared.terminal.Terminal.TheVariants as terminal'
-use Rattle.py_parse.specs.Grammar.{Part, Body, takes, reads, deeper, gives, constants, chained, compared, expr, block, below, mark, is_name, named_rest, defaults_rest, params}
+use Rattle.py_parse.specs.Grammar.{Part, Body, takes, reads, deeper, gives, constants, chained, compared, expr, block, below, mark, is_name, defaults_rest, params}
 use Rattle.py_parse.specs.Reading.{Outcome, ok, fault, unfit, deep, Reads, pick}
 
 -- the first of these tokens is what is wanted, and the others stand behind it
@@ -105,11 +105,6 @@ optional_box (Some e) = expr_tree e.value
 abbrev pub BeforeAssign : Tree → List Token → Result (ℕ × List ℕ) Expr → Type 0
 BeforeAssign t ts (Ok p) = (t ≡ name p.0 p.1) × (heads (one (terminal'.Mark mark'.Assign)) ts ≡ true)
 BeforeAssign t ts (Err e) = (expr_tree e ≡ t) × (is_name t && heads (one (terminal'.Mark mark'.Assign)) ts ≡ false)
-
--- the named arguments from this one on, behind others
-abbrev pub named_from : List Tree → ℕ → List ℕ → Body
-named_from found l n =
-    takes (mark mark'.Assign) (λ _. reads expr (λ v. reads (named_rest (n ∷ [])) (λ u. gives (onto found (cons (named l n v) u)))))
 
 -- the parameters with defaults from this one on, behind others and behind its `=`
 abbrev pub defaults_from : List (List ℕ) → List Tree → ℕ → List ℕ → Body

@@ -3,3 +3,8 @@ pub mod Grammar
 pub mod Parses
 pub mod Reading
 pub mod Agrees
+pub mod Open
+pub mod Permits
+pub mod Outside
+pub mod Kinds
+pub mod Faults

@@ -1,30 +1,49 @@
-//! The grammar of the script language, and how tokens are read by it.
+//! Reads the tokens of a script as its syntax tree.
 //!
-//! The grammar is in `specs/Grammar.antt`, and which tokens are a script with which tree in `specs/Parses.antt`. Reading
-//! tokens from left to right, one token ahead, is the relation `Reads` of `specs/Reading.antt`: a contract of a reading
-//! function says that what it answers is what reading gives.
+//! The grammar is in `specs/Grammar.antt`, and which tokens are a script with which tree in `specs/Parses.antt`, with the
+//! first token that no continuation allows. Why that token is refused is in `specs/Kinds.antt`. Reading tokens from left
+//! to right, one token ahead, is the relation `Reads` of `specs/Reading.antt`: a contract of a reading function says that
+//! what it answers is what reading gives.
 #![tactic(auto)]
 
+mod arguments;
+mod assignment;
+mod atoms;
+mod copies;
+mod dicts;
+mod display;
+mod expression;
+mod expression_list;
+mod fault;
+mod kind;
 mod level;
+mod lines;
+mod link;
+mod lists;
 mod names;
 mod operators;
+mod outside;
+mod parameters;
+mod parser;
+mod script;
 mod seen;
 mod site;
+mod statements;
 mod stop;
+mod subscripts;
 mod tables;
 mod terminal;
+mod tuples;
 
-pub use level::Level;
-pub use names::{parse_names, take_name};
-pub use operators::{chain_of, next_comparison, next_operator, post_of, take_constant};
-pub use seen::Seen;
-pub use site::Site;
-pub use stop::Stop;
-pub use terminal::{Terminal, sees, strip};
+pub use fault::{ParseFault, ParseKind, Unsupported};
+pub use parser::parse;
 
 #[cfg(test)]
 mod tests {
     use super::*;
+    use crate::names::parse_names;
+    use crate::operators::{chain_of, next_comparison, post_of, take_constant};
+    use crate::seen::Seen;
     use py_token::{Keyword, Mark, Token, TokenKind};
     use py_tree::{Comparison, Expr, Operation, Operator};
     use scons_base::Text;
@@ -38,6 +57,17 @@ mod tests {
 
     fn token(kind: TokenKind) -> Token {
         Token { line: 7, kind }
+    }
+
+    #[test]
+    fn what_a_script_has_not_is_told_by_a_word(rt: HostRuntime) {
+        for (unsupported, word) in [
+            (Unsupported::Word(Keyword::Class), "class"),
+            (Unsupported::Mark(Mark::Power), "**"),
+            (Unsupported::Chain, "chain"),
+        ] {
+            assert_eq!(rt; unsupported.word(), word);
+        }
     }
 
     #[test]
@@ -74,7 +104,7 @@ mod tests {
             Ok(Some((line, comparison, rest))) => {
                 assert_eq!(rt; line, 7);
                 assert_eq!(rt; comparison, Comparison::IsNot);
-                assert!(rt; take_constant(rest).is_ok());
+                assert!(rt; take_constant(alloc, rest).is_ok());
             }
             _ => assert!(rt; false, "`is not` is read"),
         }
@@ -84,9 +114,9 @@ mod tests {
     #[test]
     fn one_operand_is_no_chain(rt: HostRuntime) -> Result<(), Fail> {
         let alloc = rt.alloc();
-        let one = Expr::Integer { line: 1, value: 1 };
+        let one = Box::new(alloc, Expr::Integer { line: 1, value: 1 })?;
         let alone = chain_of(alloc, one, Vec::new(alloc))?;
-        assert!(rt; matches!(alone, Expr::Integer { .. }));
+        assert!(rt; matches!(*alone, Expr::Integer { .. }));
         let mut rest = Vec::new(alloc);
         let operand = Expr::Integer { line: 1, value: 2 };
         let operator = Operator::Add;
@@ -95,12 +125,12 @@ mod tests {
             operator,
             operand,
         })?;
-        let one = Expr::Integer { line: 1, value: 1 };
+        let one = Box::new(alloc, Expr::Integer { line: 1, value: 1 })?;
         let sum = chain_of(alloc, one, rest)?;
-        assert!(rt; matches!(sum, Expr::Chain { .. }));
-        let one = Expr::Integer { line: 1, value: 1 };
+        assert!(rt; matches!(*sum, Expr::Chain { .. }));
+        let one = Box::new(alloc, Expr::Integer { line: 1, value: 1 })?;
         let alone = post_of(alloc, one, Vec::new(alloc))?;
-        assert!(rt; matches!(alone, Expr::Integer { .. }));
+        assert!(rt; matches!(*alone, Expr::Integer { .. }));
         Ok(())
     }
 }

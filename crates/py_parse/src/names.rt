@@ -1,14 +1,11 @@
 //! Names, and lists of names.
-ghost use Rattle.std.specs.Prelude.{◌≡◌, ◌≢◌, ◌-◌, ◌<◌, ◌≤◌, ℕ, true, false, map, length, Some, None, Ok, Err, MatchOption, MatchResult, IfOk, Option, IsTrue};
-ghost use Rattle.py_tree.specs.Tree.{expr_tree, link_tree, argument_tree, operation_tree, pair_tree, simple_tree, parameter_tree, line_tree, branch_tree, script_tree, trees, words, Tree, nil, cons, absent, branching, optional_tree};
+ghost use Rattle.std.specs.Prelude.{◌≡◌, ◌-◌, ◌<◌, ℕ, false, Some, None, Ok, Err, MatchOption, Option};
+ghost use Rattle.py_tree.specs.Tree.{words};
 ghost use Rattle.py_parse.specs.Terminals.{one, heads};
-ghost use Rattle.py_parse.specs.Agrees.{Agrees, AgreesOnStop, Taken, EndsAt, OperatorAt, NameAt, Compares, right_of, list_end, optional_box, onto};
+ghost use Rattle.py_parse.specs.Agrees.{Agrees, NameAt};
 ghost use Rattle.py_parse.specs.Reading.{Reads, pick, ok};
 ghost use Rattle.py_parse.specs.Grammar as grammar;
-ghost use Rattle.py_parse.specs.Agrees as agrees;
-ghost use Rattle.py_parse.specs.declared.level.Level.TheVariants as level';
 ghost use Rattle.py_parse.specs.declared.terminal.Terminal.TheVariants as terminal';
-ghost use Rattle.py_token.specs.declared.mark.Mark.TheVariants as mark';
 
 use crate::stop::Stop;
 use crate::terminal::{Terminal, strip};

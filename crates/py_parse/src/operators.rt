@@ -1,14 +1,11 @@
 //! Operators and constants: what is read without going deeper.
-ghost use Rattle.std.specs.Prelude.{◌≡◌, ◌≢◌, ◌-◌, ◌<◌, ◌≤◌, ℕ, true, false, map, length, Some, None, Ok, Err, MatchOption, MatchResult, IfOk, Option, IsTrue};
-ghost use Rattle.py_tree.specs.Tree.{expr_tree, link_tree, argument_tree, operation_tree, pair_tree, simple_tree, parameter_tree, line_tree, branch_tree, script_tree, trees, words, Tree, nil, cons, absent, branching, optional_tree};
+ghost use Rattle.std.specs.Prelude.{◌≡◌, ◌-◌, ◌<◌, ℕ, false, map, Some, None, Ok, Err, MatchOption, IfOk, Option};
+ghost use Rattle.py_tree.specs.Tree.{expr_tree, link_tree, operation_tree, trees};
 ghost use Rattle.py_parse.specs.Terminals.{one, heads};
-ghost use Rattle.py_parse.specs.Agrees.{Agrees, AgreesOnStop, Taken, EndsAt, OperatorAt, NameAt, Compares, right_of, list_end, optional_box, onto};
+ghost use Rattle.py_parse.specs.Agrees.{Agrees, OperatorAt, Compares};
 ghost use Rattle.py_parse.specs.Reading.{Reads, pick, ok};
 ghost use Rattle.py_parse.specs.Grammar as grammar;
-ghost use Rattle.py_parse.specs.Agrees as agrees;
-ghost use Rattle.py_parse.specs.declared.level.Level.TheVariants as level';
 ghost use Rattle.py_parse.specs.declared.terminal.Terminal.TheVariants as terminal';
-ghost use Rattle.py_token.specs.declared.mark.Mark.TheVariants as mark';
 
 use crate::level::Level;
 use crate::stop::Stop;
@@ -16,7 +13,7 @@ use crate::tables::{comparison_of, constant_of, operator_of};
 use crate::terminal::{Terminal, strip};
 use py_token::{Keyword, Token};
 use py_tree::{Comparison, Constant, Expr, Link, Operation, Operator};
-use std::alloc::{AllocError, Global};
+use std::alloc::{AllocFailed, Global};
 
 /// The operator of this level that is the next token, with its line.
 pub fn next_operator<'a>(level: Level, tokens: &'a [Token]) -> Option<(u32, Operator, &'a [Token])>
@@ -28,8 +25,11 @@ pub fn next_operator<'a>(level: Level, tokens: &'a [Token]) -> Option<(u32, Oper
 }
 
 /// `True`, `False` or `None`.
-pub fn take_constant<'a>(tokens: &'a [Token]) -> Result<(Expr, &'a [Token]), Stop<'a>>
-    ensures { Agrees (λ p. ok (expr_tree p.0) p.1.now) result (λ o. (d : ℕ) → Reads d (pick grammar.constants tokens.now) tokens.now o) }
+pub fn take_constant<'a>(
+    alloc: Global,
+    tokens: &'a [Token],
+) -> Result<(Box<Expr>, &'a [Token]), Stop<'a>>
+    ensures { Agrees (λ p. ok (expr_tree p.0.value) p.1.now) result (λ o. (d : ℕ) → Reads d (pick grammar.constants tokens.now) tokens.now o) }
 {
     let Some((token, rest)) = strip(Terminal::Constant, tokens) else {
         return Err(Stop::At(tokens));
@@ -37,24 +37,23 @@ pub fn take_constant<'a>(tokens: &'a [Token]) -> Result<(Expr, &'a [Token]), Sto
     let Some(constant) = constant_of(&token.kind) else {
         return Err(Stop::At(tokens));
     };
-    Ok((
-        Expr::Constant {
-            line: token.line,
-            constant,
-        },
-        rest,
-    ))
+    let line = token.line;
+    let expr = Box::new(alloc, Expr::Constant { line, constant })?;
+    Ok((expr, rest))
 }
 
 /// The operands joined, or the first alone.
-pub fn chain_of(alloc: Global, first: Expr, rest: Vec<Operation>) -> Result<Expr, AllocError>
-    ensures { IfOk result (λ e. expr_tree e ≡ grammar.chain_of (expr_tree first) (trees (map operation_tree rest.items))) }
+pub fn chain_of(
+    alloc: Global,
+    first: Box<Expr>,
+    rest: Vec<Operation>,
+) -> Result<Box<Expr>, AllocFailed<Expr>>
+    ensures { IfOk result (λ e. expr_tree e.value ≡ grammar.chain_of (expr_tree first.value) (trees (map operation_tree rest.items))) }
 {
     if rest.is_empty() {
         return Ok(first);
     }
-    let first = Box::new(alloc, first)?;
-    Ok(Expr::Chain { first, rest })
+    Box::new(alloc, Expr::Chain { first, rest })
 }
 
 /// The operator of a comparison that is next, with its line.
@@ -85,12 +84,15 @@ pub fn next_comparison<'a>(
 }
 
 /// The atom with what stands behind it, or the atom alone.
-pub fn post_of(alloc: Global, atom: Expr, links: Vec<Link>) -> Result<Expr, AllocError>
-    ensures { IfOk result (λ e. expr_tree e ≡ grammar.post_of (expr_tree atom) (trees (map link_tree links.items))) }
+pub fn post_of(
+    alloc: Global,
+    atom: Box<Expr>,
+    links: Vec<Link>,
+) -> Result<Box<Expr>, AllocFailed<Expr>>
+    ensures { IfOk result (λ e. expr_tree e.value ≡ grammar.post_of (expr_tree atom.value) (trees (map link_tree links.items))) }
 {
     if links.is_empty() {
         return Ok(atom);
     }
-    let atom = Box::new(alloc, atom)?;
-    Ok(Expr::Post { atom, links })
+    Box::new(alloc, Expr::Post { atom, links })
 }

@@ -1,31 +1,30 @@
 //! The names that a list of parameters or named arguments has so far.
-ghost use Rattle.std.specs.Prelude.{◌≡◌, ◌≢◌, ◌-◌, ◌<◌, ◌≤◌, ℕ, true, false, map, length, Some, None, Ok, Err, MatchOption, MatchResult, IfOk, Option, IsTrue, List, [], ◌∷◌, ◌++◌, OnOk};
-ghost use Rattle.py_tree.specs.Tree.{expr_tree, link_tree, argument_tree, operation_tree, pair_tree, simple_tree, parameter_tree, line_tree, branch_tree, script_tree, trees, words, Tree, nil, cons, absent, branching, optional_tree};
+ghost use Rattle.std.specs.Prelude.{◌≡◌, ◌-◌, ◌<◌, ℕ, false, Some, None, Ok, MatchOption, Option, List, [], ◌∷◌, ◌++◌, OnOk, nat_eq};
+ghost use Rattle.std.specs.Cmp.Lexicographic.{pointwise};
+ghost use Rattle.std.specs.HashSet.{contains};
 ghost use Rattle.py_parse.specs.Terminals.{one, heads, has, fresh};
-ghost use Rattle.py_parse.specs.Agrees.{Agrees, AgreesOnStop, Taken, EndsAt, OperatorAt, NameAt, FreshAt, Compares, right_of, list_end, optional_box, onto};
-ghost use Rattle.py_parse.specs.Reading.{Reads, pick, ok};
-ghost use Rattle.py_parse.specs.Grammar as grammar;
-ghost use Rattle.py_parse.specs.Agrees as agrees;
-ghost use Rattle.py_parse.specs.declared.level.Level.TheVariants as level';
-ghost use Rattle.py_parse.specs.declared.terminal.Terminal.TheVariants as terminal';
-ghost use Rattle.py_token.specs.declared.mark.Mark.TheVariants as mark';
+ghost use Rattle.py_parse.specs.Agrees.{FreshAt};
 
 use crate::names::take_name;
 use py_token::Token;
 use scons_base::{Memory, Text};
 use std::alloc::Global;
+use std::collections::HashSet;
 use std::marker::Model;
 
-/// The names so far.
+/// The names so far, as they came. Whether a name is one of them is looked up by hash.
 #[derive(Debug, Drop)]
 pub struct Seen {
     names: Vec<Text>,
+    known: HashSet<Text>,
 }
 
 impl Model for Seen {
     ghost Value = { List (List ℕ) };
 
     ghost view = { λ s. s.names.items };
+
+    ghost invariant = { λ s. (q : List ℕ) → contains (pointwise nat_eq) s.known q ≡ has s.names.items q };
 }
 
 impl Seen {
@@ -34,12 +33,16 @@ impl Seen {
     {
         Seen {
             names: Vec::new(alloc),
+            known: HashSet::new(alloc),
         }
     }
 
     pub fn insert(&mut self, name: Text) -> Result<(), Memory>
         ensures { OnOk result (self.new ≡ self.old ++ name ∷ []) }
     {
+        let key = name.copy()?;
+        self.names.reserve(1)?;
+        self.known.insert(key)?;
         self.names.push(name)?;
         Ok(())
     }
@@ -47,7 +50,7 @@ impl Seen {
     pub fn contains(&self, name: &Text) -> bool
         ensures { result ≡ has self.now name.now }
     {
-        self.names.iter().any(|seen| seen == name)
+        self.known.contains(name)
     }
 
     /// The name that is the next token, where it isn't one of these.

@@ -1,6 +1,5 @@
 ghost use Rattle.std.specs.Prelude.{◌≡◌};
 ghost use Rattle.py_parse.specs.Grammar as grammar;
-ghost use Rattle.py_parse.specs.Agrees as agrees;
 
 /// Where a statement stands: at the outermost level of the script, in a function, in a loop of the same function or
 /// script.

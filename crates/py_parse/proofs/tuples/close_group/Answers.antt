@@ -1,0 +1,11 @@
+use Rattle.std.proofs.Common.{refl}
+use Rattle.py_tree.proofs.Views.{expr_tree-Group}
+use Rattle.py_parse.proofs.Cases.{takes_at, given_at}
+use Rattle.py_parse.specs.Reading.{r_refused}
+use Rattle.py_parse.proofs.tuples.close_group.Goals as goal
+
+pub returns-in_default-clause-goes : goal.returns-in_default-clause-goes
+returns-in_default-clause-goes c = λ d. r_refused c.in_default.ensures
+
+pub returns-clause-goes : goal.returns-clause-goes
+returns-clause-goes c = λ d. takes_at _ c.in-Some.ensures (given_at (rw (expr_tree-Group, c.in_ok-inner.ensures.ok) refl))

@@ -1,0 +1,30 @@
+//! A script: its lines to the last token.
+ghost use Rattle.std.specs.Prelude.{[]};
+ghost use Rattle.py_tree.specs.Tree.{script_tree};
+ghost use Rattle.py_parse.specs.Agrees.{Agrees};
+ghost use Rattle.py_parse.specs.Reading.{Reads, ok};
+ghost use Rattle.py_parse.specs.Grammar as grammar;
+
+use crate::lines::parse_line;
+use crate::site::Site;
+use crate::stop::Stop;
+use py_token::Token;
+use py_tree::Script;
+use std::alloc::Global;
+
+/// So many levels of brackets, unary operators and blocks may stand inside each other.
+const LEVELS: u32 = 100;
+
+/// The script that all these tokens are.
+pub fn read_script<'a>(alloc: Global, tokens: &'a [Token]) -> Result<Script, Stop<'a>>
+    ensures { Agrees (λ s. ok (script_tree s) []) result (Reads 100 (grammar.reads grammar.script grammar.gives) tokens.now) }
+{
+    let mut lines = Vec::new(alloc);
+    let mut rest = tokens;
+    'lines: while !rest.is_empty() {
+        let (line, after) = parse_line(alloc, Site::top(), LEVELS, rest)?;
+        lines.push(line)?;
+        rest = after;
+    }
+    Ok(Script { lines })
+}
