@@ -24,21 +24,31 @@ holds_live (Some slot) = is_live slot
 abbrev pub Stands : Slots → List ℕ → Type 0
 Stands slots path = IsTrue (holds_live (slot_at slots path))
 
--- a path lies below or above another
-abbrev pub Clashes : List ℕ → List ℕ → Type 0
-Clashes path other = LiesBelow path other ⊎ LiesBelow other path
+-- one of these paths lies above a path
+abbrev pub HasAbove : (List ℕ → Type 0) → List ℕ → Type 0
+HasAbove taken path = (other : List ℕ) × taken other × LiesBelow path other
 
--- a path lies below or above one where a file stands or is to
-abbrev pub IsBlocked : Slots → List ℕ → Type 0
-IsBlocked slots path = (other : List ℕ) × Stands slots other × Clashes path other
+-- one of these paths lies below a path, which is a directory
+abbrev pub HasBelow : (List ℕ → Type 0) → List ℕ → Type 0
+HasBelow taken path = (other : List ℕ) × taken other × LiesBelow other path
 
--- a target lies below or above a path where a file stands or is to, or another target
-abbrev pub AreBlocked : Slots → List (List ℕ) → Type 0
-AreBlocked slots targets = (target : List ℕ) × Contains targets target
-    × (IsBlocked slots target ⊎ ((other : List ℕ) × Contains targets other × Clashes target other))
+-- a path can't be a file beside these paths
+abbrev pub IsBlocked : (List ℕ → Type 0) → List ℕ → Type 0
+IsBlocked taken path = HasAbove taken path ⊎ HasBelow taken path
+
+-- a target is blocked by one of these paths, or by another target
+abbrev pub AreBlocked : (List ℕ → Type 0) → List (List ℕ) → Type 0
+AreBlocked taken targets = (target : List ℕ) × Contains targets target × (IsBlocked taken target ⊎ IsBlocked (Contains targets) target)
+
+-- a list of files has one at a path
+abbrev pub HasFile : List (List ℕ × List ℕ) → List ℕ → Type 0
+HasFile files path = (bytes : List ℕ) × Contains files (path, bytes)
 
 -- the file at a place of a list has the path of one listed before, or a path below or above it
 abbrev pub IsRefused : List (List ℕ × List ℕ) → ℕ → Type 0
 IsRefused files place = (file : List ℕ × List ℕ) × (place < length files) × (slice_index_or files place file ≡ file)
-    × ((earlier : List ℕ × List ℕ) × Contains (take place files) earlier
-    × ((file.0 ≡ earlier.0) ⊎ Clashes file.0 earlier.0))
+    × (HasFile (take place files) file.0 ⊎ IsBlocked (HasFile (take place files)) file.0)
+
+-- the first of these
+abbrev pub IsFirstRefused : List (List ℕ × List ℕ) → ℕ → Type 0
+IsFirstRefused files place = IsRefused files place × ((earlier : ℕ) → earlier < place → IsRefused files earlier → ⊥)

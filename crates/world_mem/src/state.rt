@@ -40,12 +40,12 @@ pub struct State {
 }
 
 impl State {
-    ghost use Rattle.std.specs.Prelude.{◌∷◌, ◌++◌, ◌≢◌, OnOk, OnErr, IsSome, None, length, false, pos};
+    ghost use Rattle.std.specs.Prelude.{◌∷◌, ◌++◌, ◌≢◌, ◌↔◌, OnOk, OnErr, IsSome, None, length, false, pos};
     ghost use Rattle.std.specs.Option.{option_copied};
     ghost use Rattle.world_api.specs.Around.{IsUnused, Running, given_of};
     ghost use Rattle.world_api.specs.Calls.{Asks, Removes, CanStart, Starts, Ends};
     ghost use Rattle.world_mem.specs.AsAround.{around_of};
-    ghost use Rattle.world_mem.specs.Blocked.{AreBlocked, IsRefused};
+    ghost use Rattle.world_mem.specs.Blocked.{AreBlocked, IsRefused, IsFirstRefused, Stands};
     ghost use Rattle.world_mem.specs.declared.refusal.NewRefusal.{NewRefusal};
     ghost use Rattle.world_mem.specs.Kept.{counts_of};
     ghost use Rattle.world_mem.specs.Planned.{IsPlain};
@@ -60,7 +60,8 @@ impl State {
         ensures running { IfOk result (λ state. (around_of state).running ≡ []) }
         ensures log { IfOk result (λ state. (around_of state).log ≡ []) }
         ensures law { IfOk result (λ state. (around_of state).law ≡ law_of table) }
-        ensures place { IfErr result (λ refusal. (place : ℕ) → refusal ≡ NewRefusal.Place place → IsRefused files.now place) }
+        ensures stand { OnOk result ((place : ℕ) → IsRefused files.now place → ⊥) }
+        ensures place { IfErr result (λ refusal. (place : ℕ) → refusal ≡ NewRefusal.Place place → IsFirstRefused files.now place) }
     {
         let mut slots = Slots::new(alloc);
         slots.fill(alloc, files)?;
@@ -90,7 +91,7 @@ impl State {
 
     /// Whether a target lies below or above a file, a target of a running job or another one of these.
     pub fn is_blocked(&self, alloc: Global, targets: &Paths) -> Result<bool, Memory>
-        ensures { IfOk result (λ blocked. IsTrue blocked → AreBlocked self.now.slots targets.now) }
+        ensures { IfOk result (λ blocked. IsTrue blocked ↔ AreBlocked (Stands self.now.slots) targets.now) }
     {
         let mut own = Slots::new(alloc);
         for target in targets.as_slice() {
