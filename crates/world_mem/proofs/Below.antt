@@ -8,7 +8,7 @@ use Rattle.std.proofs.lemmas.List.{take-append-drop}
 use Rattle.std.proofs.lemmas.List.Elements.{Contains-push_cases}
 use Rattle.std.proofs.lemmas.Slice.Eq.{starts_is}
 use Rattle.std.proofs.Math.Seq.{take-append_seam, drop-append_seam, get_or-append_seam}
-use Rattle.world_mem.specs.Blocked.{LiesBelow, HasAbove, HasBelow, IsBlocked, HasFile, IsRefused, is_live, holds_live}
+use Rattle.world_mem.specs.Blocked.{LiesBelow, HasAbove, HasBelow, IsBlocked, AreBlocked, HasFile, IsRefused, is_live, holds_live}
 use Rattle.world_mem.specs.InSlots.{content_of, file_at}
 use Rattle.world_mem.specs.declared.slots.Slot.{Slot}
 use Rattle.world_mem.specs.declared.slots.Slot.TheVariants.{Running, Settled}
@@ -51,6 +51,12 @@ live_of None h = absurd (let e : false ≡ true = h in cc e)
 live_of (Some (Running id)) h = absurd (let e : false ≡ true = h in cc e)
 live_of (Some (Settled content)) h = h
 
+pub weaker_blocked : (P Q : List ℕ → Type 0) (path : List ℕ) → ((other : List ℕ) → P other → Q other) → IsBlocked P path → IsBlocked Q path
+weaker_blocked P Q path weaker blocked = elim blocked [ inl h ↦ inl (h.0, weaker h.0 h.1, h.2) | inr h ↦ inr (h.0, weaker h.0 h.1, h.2) ]
+
+pub weaker_targets : (P Q : List ℕ → Type 0) (targets : List (List ℕ)) → ((other : List ℕ) → P other → Q other) → AreBlocked P targets → AreBlocked Q targets
+weaker_targets P Q targets weaker blocked = (blocked.0, blocked.1, elim blocked.2 [ inl h ↦ inl (weaker_blocked P Q blocked.0 weaker h) | inr h ↦ inr h ])
+
 -- where a path goes on behind one that it lies below
 pub above_at : (path other : List ℕ) → LiesBelow path other → (length other < length path) × (get_or path (length other) 0 ≡ 47) × (take (length other) path ≡ other)
 above_at path other below =
@@ -62,9 +68,6 @@ pub below_itself : (path : List ℕ) → LiesBelow path path → ⊥
 below_itself path below =
     let longer : length path ≡ length path + suc (length below.0) = ap length below.1 ∙ length-append path (47 ∷ below.0) in
     omega (arith, longer)
-
-pub weaker_blocked : (P Q : List ℕ → Type 0) (path : List ℕ) → ((other : List ℕ) → P other → Q other) → IsBlocked P path → IsBlocked Q path
-weaker_blocked P Q path weaker blocked = elim blocked [ inl h ↦ inl (h.0, weaker h.0 h.1, h.2) | inr h ↦ inr (h.0, weaker h.0 h.1, h.2) ]
 
 -- a path that none lies above
 pub blocked_if : (taken : List ℕ → Type 0) (path : List ℕ) (above below : Bool) → (above ≡ true) ↔ HasAbove taken path → above ≡ false → (below ≡ true) ↔ HasBelow taken path → (below ≡ true) ↔ IsBlocked taken path

@@ -5,4 +5,6 @@ pub mod Below
 pub mod Directories
 pub mod Apart
 pub mod Marks
+pub mod Owners
+pub mod Taken
 pub mod Plain

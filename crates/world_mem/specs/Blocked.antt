@@ -1,7 +1,8 @@
 -- A path in the way of another: a file can't also be a directory.
-use Rattle.std.specs.Prelude.{◌≡◌, ◌++◌, ◌⊎◌, ℕ, List, ◌∷◌, Bool, true, false, Option, Some, None, IsTrue, Contains, ◌<◌, length, take}
+use Rattle.std.specs.Prelude.{◌≡◌, ◌++◌, ◌⊎◌, ℕ, List, ◌∷◌, Bool, true, false, Option, Some, None, IsTrue, IsSome, Contains, ◌<◌, length, take}
 use Rattle.std.specs.List.{slice_index_or}
 use Rattle.std.specs.Option.{is_some}
+use Rattle.world_api.specs.Around.{Around, IsRunningTarget}
 use Rattle.world_mem.specs.InSlots.{slot_at}
 use Rattle.world_mem.specs.declared.slots.Slot.{Slot}
 use Rattle.world_mem.specs.declared.slots.Slot.TheVariants.{Running, Settled}
@@ -20,9 +21,13 @@ abbrev pub holds_live : Option Slot → Bool
 holds_live None = false
 holds_live (Some slot) = is_live slot
 
--- a file, or a target of a running job, stands at a path
+-- the same in the slots
 abbrev pub Stands : Slots → List ℕ → Type 0
 Stands slots path = IsTrue (holds_live (slot_at slots path))
+
+-- a file, or a target of a running job, is at a path
+abbrev pub IsTaken : Around → List ℕ → Type 0
+IsTaken around path = IsSome (around.tree path) ⊎ IsRunningTarget around.running path
 
 -- one of these paths lies above a path
 abbrev pub HasAbove : (List ℕ → Type 0) → List ℕ → Type 0

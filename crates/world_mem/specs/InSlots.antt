@@ -21,6 +21,15 @@ abbrev pub content_of : Option Slot → Content
 content_of None = None
 content_of (Some slot) = settled_content slot
 
+abbrev mark : Slot → Option ℕ
+mark (Running id) = Some id
+mark (Settled content) = None
+
+-- the running job that a slot is kept for
+abbrev pub mark_of : Option Slot → Option ℕ
+mark_of None = None
+mark_of (Some slot) = mark slot
+
 -- what a slot is after a write at a path, where one stands there
 abbrev pub written : List ℕ → Slot → List ℕ → Option Slot → Option Slot
 written at slot path old = if bytes_eq at path then option_map (λ _. slot) old else old

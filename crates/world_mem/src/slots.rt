@@ -3,7 +3,7 @@ ghost use Rattle.std.specs.Option.{option_copied, is_some};
 ghost use Rattle.std.specs.List.{slice_index_or};
 ghost use Rattle.std.specs.Str.{bytes_eq};
 ghost use Rattle.world_mem.specs.Blocked.{LiesBelow, HasAbove, HasBelow, Stands, IsBlocked, IsRefused, IsFirstRefused, is_live, holds_live};
-ghost use Rattle.world_mem.specs.InSlots.{slot_at, content_of, file_at, written, marked, settled};
+ghost use Rattle.world_mem.specs.InSlots.{slot_at, content_of, mark_of, file_at, written, marked, settled};
 ghost use Rattle.world_mem.specs.declared.refusal.NewRefusal.{NewRefusal};
 ghost use Rattle.world_mem.specs.declared.slots.Slot.{Slot};
 
@@ -111,6 +111,7 @@ impl Slots {
     pub fn fill(&mut self, alloc: Global, files: &[(PathText, Blob)]) -> Result<(), NewRefusal>
         requires { (path : List ℕ) → slot_at self.old path ≡ None }
         ensures files { OnOk result ((path : List ℕ) → content_of (slot_at self.new path) ≡ file_at files.now path) }
+        ensures unmarked { OnOk result ((path : List ℕ) → mark_of (slot_at self.new path) ≡ None) }
         ensures stand { OnOk result ((place : ℕ) → IsRefused files.now place → ⊥) }
         ensures place { IfErr result (λ refusal. (place : ℕ) → refusal ≡ NewRefusal.Place place → IsFirstRefused files.now place) }
     {
@@ -146,6 +147,7 @@ impl Slots {
     pub fn make_place(&mut self, alloc: Global, path: &PathText) -> Result<(), Memory>
         ensures kept { (other : List ℕ) (slot : Slot) → slot_at self.old other ≡ Some slot → slot_at self.new other ≡ Some slot }
         ensures same { (other : List ℕ) → content_of (slot_at self.new other) ≡ content_of (slot_at self.old other) }
+        ensures marks { (other : List ℕ) → mark_of (slot_at self.new other) ≡ mark_of (slot_at self.old other) }
         ensures stands { OnOk result (IsSome (slot_at self.new path.now)) }
     {
         if self.slots.contains_key(path.as_str().as_bytes()) {
@@ -158,6 +160,7 @@ impl Slots {
     pub fn make_places(&mut self, alloc: Global, paths: &Paths) -> Result<(), Memory>
         ensures kept { (other : List ℕ) (slot : Slot) → slot_at self.old other ≡ Some slot → slot_at self.new other ≡ Some slot }
         ensures same { (other : List ℕ) → content_of (slot_at self.new other) ≡ content_of (slot_at self.old other) }
+        ensures marks { (other : List ℕ) → mark_of (slot_at self.new other) ≡ mark_of (slot_at self.old other) }
         ensures stand { OnOk result ((k : ℕ) (d : List ℕ) → k < length paths.now → IsSome (slot_at self.new (slice_index_or paths.now k d))) }
     {
         for path in paths.as_slice() {

@@ -106,7 +106,7 @@ impl World for MemWorld {
     ghost use Rattle.world_api.specs.Meaning.{Told};
     ghost use Rattle.world_api.specs.Reads.{IsOver};
     ghost use Rattle.world_mem.specs.AsAround.{around_of};
-    ghost use Rattle.world_mem.specs.Blocked.{AreBlocked, Stands};
+    ghost use Rattle.world_mem.specs.Blocked.{AreBlocked, IsTaken};
     ghost use Rattle.world_mem.specs.Kept.{counts_of};
     ghost use Rattle.world_mem.specs.CallCounts.{IsListed, count_of, counted};
     ghost use Rattle.world_mem.specs.Planned.{IsPlain};
@@ -162,8 +162,8 @@ impl World for MemWorld {
         ensures kept { result ≢ Err AskRefusal.Fault → world_meaning.counts self.new ≡ world_meaning.counts self.old }
         ensures rose { result ≡ Err AskRefusal.Fault → Fails (λ counts. counts.start_faults) (world_meaning.counts self.old) (world_meaning.counts self.new) }
         ensures listed { IsListed Call.Start self.old.calls → result ≡ Err AskRefusal.Fault }
-        ensures only { result ≡ Err AskRefusal.Fault → IsListed Call.Start self.old.calls ⊎ AreBlocked (Stands self.old.state.slots) job.targets }
-        ensures clear { OnOk result (AreBlocked (Stands self.old.state.slots) job.targets → ⊥) }
+        ensures only { result ≡ Err AskRefusal.Fault → IsListed Call.Start self.old.calls ⊎ AreBlocked (IsTaken (world_meaning.around self.old)) job.targets }
+        ensures clear { OnOk result (AreBlocked (IsTaken (world_meaning.around self.old)) job.targets → ⊥) }
         ensures counted { self.new.calls ≡ counted Call.Start self.old.calls }
     {
         let listed = self.calls.fails(Call::Start);

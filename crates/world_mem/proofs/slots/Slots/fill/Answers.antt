@@ -4,8 +4,9 @@ use Rattle.std.proofs.lemmas.List.{take_more}
 use Rattle.std.proofs.lemmas.List.Elements.{Contains-append_left, Contains-push, Contains-push_cases}
 use Rattle.world_mem.specs.declared.slots.Slot.TheVariants.{Settled}
 use Rattle.world_mem.specs.Blocked.{Stands, HasFile, IsRefused, IsFirstRefused}
-use Rattle.world_mem.specs.InSlots.{slot_at, content_of, file_at}
+use Rattle.world_mem.specs.InSlots.{slot_at, content_of, mark_of, file_at}
 use Rattle.world_mem.proofs.Below.{put_live, live_after, live_of, not_refused, weaker_blocked, file_at-listed}
+use Rattle.world_mem.proofs.Owners.{put-unmarked}
 use Rattle.world_mem.proofs.Membership.{below_or_not}
 use Rattle.world_mem.proofs.Marks.{put-file, none_of}
 use Rattle.world_mem.proofs.slots.Slots.fill.Goals as goal
@@ -37,6 +38,8 @@ loop-place-preserved c =
             | inl was ↦ inl (c.loop-place.invariant.stand path (listed.0, was))
             | inr e ↦ inr (ap (λ (f : List ℕ × List ℕ). f.0) e)
           ]);
+      unmarked = λ path.
+          ap mark_of (c.in_ok-put.ensures.ok path) ∙ put-unmarked (bytes_eq file.0 path) _ (slot_at c.loop-place.self path) (c.loop-place.invariant.unmarked path);
       none = λ n lt refused. elim (below_or_not n place) [
         | inl earlier ↦ c.loop-place.invariant.none n earlier refused
         | inr late ↦

@@ -1,10 +1,12 @@
 use Rattle.std.proofs.Common.{◌≡◌, ◌∙◌, ◌+◌, ℕ, List, [], ◌∷◌, ◌++◌, Contains, take, sym, ap, subst, refl, inl, inr, true, false, arith}
 use Rattle.std.proofs.lemmas.List.{take_more, take_all}
 use Rattle.std.proofs.lemmas.List.Elements.{Contains-push_cases}
-use Rattle.world_mem.specs.Blocked.{Stands, IsBlocked, AreBlocked}
+use Rattle.world_mem.specs.Blocked.{Stands, IsTaken, IsBlocked, AreBlocked}
+use Rattle.world_mem.specs.AsAround.{around_of}
 use Rattle.world_mem.specs.InSlots.{slot_at}
-use Rattle.world_mem.proofs.Below.{AreApart, apart_more, none_blocked, weaker_blocked, put_live, live_after}
+use Rattle.world_mem.proofs.Below.{AreApart, apart_more, none_blocked, weaker_blocked, weaker_targets, put_live, live_after}
 use Rattle.world_mem.proofs.Membership.{push_all}
+use Rattle.world_mem.proofs.Taken.{taken, stands}
 use Rattle.world_mem.proofs.state.State.is_blocked.Goals as goal
 use Rattle.world_mem.proofs.state.State.is_blocked.Goals.{then-branch-via-then-branch, then-branch-via-else-branch+in_ok-is_blocked-2+then-branch-2}
 
@@ -12,13 +14,13 @@ pub returns-then-branch : goal.returns-then-branch
 returns-then-branch c =
     let items = c.as_slice-target-items.result.now in
     let target = c.target-item.result in
-    let taken = Stands c.args.self.now.slots in
+    let state = c.args.self.now in
     let here : Contains items target = (c.loop-target.target-index, c.loop-target-test.true, sym c.target-item.is) in
     (
-      λ _. subst (AreBlocked taken) c.as_slice-target-items.ensures (target, here, elim c.then-branch.branch [
+      λ _. weaker_targets (Stands state.slots) (IsTaken (around_of state)) c.args.targets.now (taken state) (subst (AreBlocked (Stands state.slots)) c.as_slice-target-items.ensures (target, here, elim c.then-branch.branch [
         | then-branch-via-then-branch w ↦ inl (c.in_ok-is_blocked.ensures.0 w.if-branch.true)
         | then-branch-via-else-branch+in_ok-is_blocked-2+then-branch-2 w ↦ inr (weaker_blocked (Stands c.loop-target.own) (Contains items) target c.loop-target.invariant.only (w.in_ok-is_blocked-2.ensures.0 w.if-branch-2.true))
-      ]),
+      ])),
       λ _. refl,
     )
 
@@ -50,8 +52,12 @@ loop-target-preserved c =
 pub returns : goal.returns
 returns c =
     let items = c.as_slice-target-items.result.now in
-    let taken = Stands c.args.self.now.slots in
+    let state = c.args.self.now in
     let all : take c.loop-target.target-index items ≡ c.args.targets.now = take_all c.loop-target.target-index items (omega (arith, c.loop-target-test.false)) ∙ c.as_slice-target-items.ensures in
-    let free = subst (λ (ts : List (List ℕ)). (path : List ℕ) → Contains ts path → IsBlocked taken path → ⊥) all c.loop-target.invariant.free in
+    let free = subst (λ (ts : List (List ℕ)). (path : List ℕ) → Contains ts path → IsBlocked (Stands state.slots) path → ⊥) all c.loop-target.invariant.free in
     let apart = subst AreApart all c.loop-target.invariant.apart in
-    (λ e. absurd (cc e), λ h. absurd (none_blocked taken c.args.targets.now free apart h.0 h.1 h.2))
+    (
+      λ e. absurd (cc e),
+      λ h. let blocked = weaker_targets (IsTaken (around_of state)) (Stands state.slots) c.args.targets.now (stands state) h in
+          absurd (none_blocked (Stands state.slots) c.args.targets.now free apart blocked.0 blocked.1 blocked.2),
+    )
