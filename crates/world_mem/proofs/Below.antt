@@ -8,8 +8,8 @@ use Rattle.std.proofs.lemmas.List.{take-append-drop}
 use Rattle.std.proofs.lemmas.List.Elements.{Contains-push_cases}
 use Rattle.std.proofs.lemmas.Slice.Eq.{starts_is}
 use Rattle.std.proofs.Math.Seq.{take-append_seam, drop-append_seam, get_or-append_seam}
-use Rattle.world_mem.specs.Blocked.{LiesBelow, HasAbove, HasBelow, IsBlocked, AreBlocked, HasFile, IsRefused, is_live, holds_live}
-use Rattle.world_mem.specs.InSlots.{content_of, file_at}
+use Rattle.world_mem.specs.Blocked.{LiesBelow, HasAbove, HasBelow, IsBlocked, AreBlocked, HasFile, IsRefused}
+use Rattle.world_mem.specs.InSlots.{content_of, file_at, is_live, holds_live}
 use Rattle.world_mem.specs.declared.slots.Slot.{Slot}
 use Rattle.world_mem.specs.declared.slots.Slot.TheVariants.{Running, Settled}
 use Rattle.world_mem.proofs.Membership.{parted, same_at}

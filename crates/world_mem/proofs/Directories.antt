@@ -16,8 +16,8 @@ use Rattle.std.proofs.lemmas.List.Kept.{IsStrictlySortedBy-filter}
 use Rattle.std.proofs.lemmas.Map.Entries.{lookup-filter-keys}
 use Rattle.std.proofs.lemmas.Map.Keys.{sorted_head, sorted_tail}
 use Rattle.std.proofs.lemmas.Map.Text.{is_eq-slice_cmp}
-use Rattle.world_mem.specs.Blocked.{LiesBelow, Stands, is_live, holds_live}
-use Rattle.world_mem.specs.InSlots.{slot_at}
+use Rattle.world_mem.specs.Blocked.{LiesBelow}
+use Rattle.world_mem.specs.InSlots.{slot_at, Stands, is_live, holds_live}
 use Rattle.world_mem.specs.declared.slots.Slot.{Slot}
 use Rattle.world_mem.specs.declared.slots.Slots.{Slots}
 

@@ -2,8 +2,8 @@
 use Rattle.std.proofs.Common.{◌≡◌, ◌⊎◌, sym, refl, ap, subst, ℕ, List, true, false, Option, Some, None, is_some, inl, inr, Contains}
 use Rattle.world_api.specs.Around.{Running}
 use Rattle.world_mem.specs.AsAround.{around_of}
-use Rattle.world_mem.specs.Blocked.{IsTaken, Stands, holds_live}
-use Rattle.world_mem.specs.InSlots.{slot_at, content_of, mark_of}
+use Rattle.world_mem.specs.Blocked.{IsTaken}
+use Rattle.world_mem.specs.InSlots.{slot_at, content_of, mark_of, Stands, holds_live}
 use Rattle.world_mem.specs.Kept.{running_of}
 use Rattle.world_mem.specs.declared.slots.Slot.{Slot}
 use Rattle.world_mem.specs.declared.slots.Slot.TheVariants as slot

@@ -2,8 +2,8 @@ ghost use Rattle.std.specs.Prelude.{◌≡◌, List, ℕ, None, Some, IsTrue, �
 ghost use Rattle.std.specs.Option.{option_copied, is_some};
 ghost use Rattle.std.specs.List.{slice_index_or};
 ghost use Rattle.std.specs.Str.{bytes_eq};
-ghost use Rattle.world_mem.specs.Blocked.{LiesBelow, HasAbove, HasBelow, Stands, IsBlocked, IsRefused, IsFirstRefused, is_live, holds_live};
-ghost use Rattle.world_mem.specs.InSlots.{slot_at, content_of, mark_of, file_at, written, marked, settled};
+ghost use Rattle.world_mem.specs.Blocked.{LiesBelow, HasAbove, HasBelow, IsBlocked, IsRefused, IsFirstRefused};
+ghost use Rattle.world_mem.specs.InSlots.{slot_at, content_of, mark_of, file_at, written, marked, settled, Stands, is_live, holds_live};
 ghost use Rattle.world_mem.specs.declared.refusal.NewRefusal.{NewRefusal};
 ghost use Rattle.world_mem.specs.declared.slots.Slot.{Slot};
 

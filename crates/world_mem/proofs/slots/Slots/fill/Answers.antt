@@ -3,8 +3,8 @@ use Rattle.std.specs.Str.{bytes_eq}
 use Rattle.std.proofs.lemmas.List.{take_more}
 use Rattle.std.proofs.lemmas.List.Elements.{Contains-append_left, Contains-push, Contains-push_cases}
 use Rattle.world_mem.specs.declared.slots.Slot.TheVariants.{Settled}
-use Rattle.world_mem.specs.Blocked.{Stands, HasFile, IsRefused, IsFirstRefused}
-use Rattle.world_mem.specs.InSlots.{slot_at, content_of, mark_of, file_at}
+use Rattle.world_mem.specs.Blocked.{HasFile, IsRefused, IsFirstRefused}
+use Rattle.world_mem.specs.InSlots.{slot_at, content_of, mark_of, file_at, Stands}
 use Rattle.world_mem.proofs.Below.{put_live, live_after, live_of, not_refused, weaker_blocked, file_at-listed}
 use Rattle.world_mem.proofs.Owners.{put-unmarked}
 use Rattle.world_mem.proofs.Membership.{below_or_not}

@@ -1,6 +1,6 @@
 use Rattle.std.proofs.Common.{◌≡◌, ◌<◌, ℕ, List, None, take}
-use Rattle.world_mem.specs.Blocked.{Stands, HasFile, IsRefused}
-use Rattle.world_mem.specs.InSlots.{slot_at, content_of, mark_of, file_at}
+use Rattle.world_mem.specs.Blocked.{HasFile, IsRefused}
+use Rattle.world_mem.specs.InSlots.{slot_at, content_of, mark_of, file_at, Stands}
 use Rattle.world_mem.proofs.slots.Slots.fill.Given as goal
 
 abbrev pub invariant-loop-place : goal.invariant-loop-place

@@ -1,6 +1,7 @@
 use Rattle.std.proofs.Common.{◌≡◌, ◌∙◌, ◌↔◌, ℕ, List, IsTrue, subst}
 use Rattle.world_mem.proofs.Below.{blocked_if}
-use Rattle.world_mem.specs.Blocked.{Stands, IsBlocked}
+use Rattle.world_mem.specs.Blocked.{IsBlocked}
+use Rattle.world_mem.specs.InSlots.{Stands}
 use Rattle.world_mem.proofs.slots.Slots.is_blocked.Goals as goal
 
 pub returns-in_ok-stands_below : goal.returns-in_ok-stands_below

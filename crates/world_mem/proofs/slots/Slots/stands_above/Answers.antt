@@ -1,7 +1,6 @@
 use Rattle.std.proofs.Common.{◌∙◌, ℕ, List, sym, ap, arith, length, take, refl}
 use Rattle.world_mem.proofs.Below.{above, above_at}
-use Rattle.world_mem.specs.Blocked.{holds_live}
-use Rattle.world_mem.specs.InSlots.{slot_at}
+use Rattle.world_mem.specs.InSlots.{slot_at, holds_live}
 use Rattle.world_mem.proofs.slots.Slots.stands_above.Goals as goal
 
 pub returns-then-stands : goal.returns-then-stands

@@ -1,6 +1,5 @@
 use Rattle.std.proofs.Common.{◌≡◌, ℕ, ◌<◌, get_or, take, false}
-use Rattle.world_mem.specs.Blocked.{holds_live}
-use Rattle.world_mem.specs.InSlots.{slot_at}
+use Rattle.world_mem.specs.InSlots.{slot_at, holds_live}
 use Rattle.world_mem.proofs.slots.Slots.stands_above.Given as goal
 
 abbrev pub invariant-loop-place : goal.invariant-loop-place

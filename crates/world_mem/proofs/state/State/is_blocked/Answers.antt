@@ -1,9 +1,9 @@
 use Rattle.std.proofs.Common.{◌≡◌, ◌∙◌, ◌+◌, ℕ, List, [], ◌∷◌, ◌++◌, Contains, take, sym, ap, subst, refl, inl, inr, true, false, arith}
 use Rattle.std.proofs.lemmas.List.{take_more, take_all}
 use Rattle.std.proofs.lemmas.List.Elements.{Contains-push_cases}
-use Rattle.world_mem.specs.Blocked.{Stands, IsTaken, IsBlocked, AreBlocked}
+use Rattle.world_mem.specs.Blocked.{IsTaken, IsBlocked, AreBlocked}
 use Rattle.world_mem.specs.AsAround.{around_of}
-use Rattle.world_mem.specs.InSlots.{slot_at}
+use Rattle.world_mem.specs.InSlots.{slot_at, Stands}
 use Rattle.world_mem.proofs.Below.{AreApart, apart_more, none_blocked, weaker_blocked, weaker_targets, put_live, live_after}
 use Rattle.world_mem.proofs.Membership.{push_all}
 use Rattle.world_mem.proofs.Taken.{taken, stands}

@@ -1,5 +1,6 @@
 use Rattle.std.proofs.Common.{ℕ, List, Contains, take}
-use Rattle.world_mem.specs.Blocked.{Stands, IsBlocked}
+use Rattle.world_mem.specs.Blocked.{IsBlocked}
+use Rattle.world_mem.specs.InSlots.{Stands}
 use Rattle.world_mem.proofs.Below.{AreApart}
 use Rattle.world_mem.proofs.state.State.is_blocked.Given as goal
 
