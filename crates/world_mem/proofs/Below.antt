@@ -1,5 +1,5 @@
 -- Paths that lie below others, and what a put leaves live.
-use Rattle.std.proofs.Common.{◌≡◌, ◌∙◌, ◌<◌, ◌≤◌, ◌+◌, ◌↔◌, ◌⊎◌, eqb, zero, length-append, sym, refl, ap, cond, ℕ, suc, List, [], ◌∷◌, ◌++◌, Bool, true, false, Option, Some, None, is_some, take, drop, length, get_or, inl, inr, arith, Contains, subst}
+use Rattle.std.proofs.Common.{◌≡◌, ◌∙◌, ◌<◌, ◌+◌, ◌↔◌, ◌⊎◌, eqb, zero, length-append, sym, refl, ap, cond, ℕ, suc, List, [], ◌∷◌, ◌++◌, Bool, true, false, Option, Some, None, is_some, take, drop, length, get_or, inl, inr, arith, Contains, subst}
 use Rattle.std.specs.Cmp.Lexicographic.{bytes_decides, pointwise}
 use Rattle.std.specs.Str.{bytes_eq}
 use Rattle.std.proofs.lemmas.Bool.{cases_Bool}
@@ -18,8 +18,7 @@ use Rattle.world_api.specs.Act.{Content}
 -- a path that goes on behind a directory's text with a rest, which begins with a slash or doesn't
 pub below_by_rest : (path dir rest : List ℕ) (r : Bool) → take (length dir) path ≡ dir → rest ≡ drop (length dir) path → r ≡ pointwise eqb (47 ∷ []) (take 1 rest) → (r ≡ true) ↔ LiesBelow path dir
 below_by_rest path dir rest r same is answer =
-    let starts = starts_is Decides-eqb rest (47 ∷ []) r answer in
-    (
+    let starts = starts_is Decides-eqb rest (47 ∷ []) r answer in (
       λ y. (drop 1 rest, sym (take-append-drop (length dir) path) ∙ ap (λ front. front ++ drop (length dir) path) same ∙ ap (λ back. dir ++ back) (sym is ∙ starts.0 y)),
       λ below. starts.1 below.0 (is ∙ ap (drop (length dir)) below.1 ∙ drop-append_seam dir (47 ∷ below.0)),
     )

@@ -1,5 +1,5 @@
 -- The entries of a map from a directory's text on: those below the directory stand first.
-use Rattle.std.proofs.Common.{◌≡◌, ◌∙◌, ◌<◌, sym, refl, ap, cond, subst, ℕ, List, [], ◌∷◌, ◌++◌, Bool, true, false, ◌&&◌, Option, Some, None, inl, inr, arith}
+use Rattle.std.proofs.Common.{◌≡◌, ◌∙◌, ◌<◌, sym, refl, ap, cond, subst, ℕ, List, [], ◌∷◌, ◌++◌, Bool, true, false, ◌&&◌, Option, Some, inl, inr, arith}
 use Rattle.std.specs.BTreeMap.{is_at}
 use Rattle.std.specs.Cmp.Lexicographic.{slice_cmp, bytes_decides}
 use Rattle.std.specs.Global.{Vec}
@@ -9,7 +9,7 @@ use Rattle.std.specs.Map.{keys_of, lookup}
 use Rattle.std.specs.declared.cmp.Ordering.{Ordering}
 use Rattle.std.specs.declared.cmp.Ordering.TheVariants.{Less, Equal, Greater}
 use Rattle.std.specs.Ordering.{nat_cmp, is_gt, is_le, is_eq, ordering_then}
-use Rattle.std.proofs.lemmas.Bool.{cases_Bool, cond-true, cond-false}
+use Rattle.std.proofs.lemmas.Bool.{cases_Bool, cond-false}
 use Rattle.std.proofs.lemmas.Cmp.{ranked, by_ranked, tied_back, tied_itself, nat_cmp_total}
 use Rattle.std.proofs.lemmas.List.Elements.{All-head, All-tail}
 use Rattle.std.proofs.lemmas.List.Kept.{IsStrictlySortedBy-filter}
@@ -28,9 +28,9 @@ level : (a b : ℕ) (o u : Ordering) → is_gt (ordering_then (nat_cmp a b) o) �
 level a b o u from upto =
     by_ranked (a < b) (a ≡ b) (b < a) (nat_cmp a b) (ranked a b (nat_cmp a b) refl)
     (λ e lt. by_ranked (b < a) (b ≡ a) (a < b) (nat_cmp b a) (ranked b a (nat_cmp b a) refl)
-        (λ f gt. absurd (omega (arith, lt, gt)))
-        (λ f eq. absurd (omega (arith, lt, eq)))
-        (λ f gt. absurd (let x : true ≡ false = ap is_gt (sym (ap (λ c. ordering_then c u) f) ∙ upto) in cc x)))
+    (λ f gt. absurd (omega (arith, lt, gt)))
+    (λ f eq. absurd (omega (arith, lt, eq)))
+    (λ f gt. absurd (let x : true ≡ false = ap is_gt (sym (ap (λ c. ordering_then c u) f) ∙ upto) in cc x)))
     (λ e eq. (eq, sym (ap (λ c. is_gt (ordering_then c o)) e) ∙ from, sym (ap (λ c. ordering_then c u) (tied_back nat_cmp_total a b e)) ∙ upto))
     (λ e gt. absurd (let x : true ≡ false = sym (ap (λ c. is_gt (ordering_then c o)) e) ∙ from in cc x))
 
@@ -128,12 +128,12 @@ pub stops : (slots : Slots) (path : List ℕ) (e : Vec ℕ × Slot) (rest : List
 stops slots path e rest r off other live below = elim (cases_Bool (is_eq (slice_cmp nat_cmp other e.0.items))) [
   | inl y ↦ off (subst (λ (bytes : List ℕ). LiesBelow bytes path) (same_key other e.0 y) below)
   | inr n ↦
-    let later : holds_live (lookup (is_at (λ k. slice_cmp nat_cmp other k.items)) rest) ≡ true =
-    sym (ap holds_live (cond-false (is_eq (slice_cmp nat_cmp other e.0.items)) (Some e.1) (lookup (is_at (λ k. slice_cmp nat_cmp other k.items)) rest) n)) ∙ r.left other live below in
-    let less : slice_cmp nat_cmp e.0.items ((path ++ 47 ∷ []) ++ below.0) ≡ Less =
-    ap (slice_cmp nat_cmp e.0.items) (sym (below.1 ∙ within path below.0)) ∙ after e.0 other rest (sorted_head key_cmp e.0 (keys_of rest) r.sorted) later in
-    let more = begins_between (path ++ 47 ∷ []) e.0.items below.0 (All-head (λ e. is_gt (slice_cmp nat_cmp (path ++ 47 ∷ []) e.0.items) ≡ false) e rest r.behind) less in
-    off (more.0, more.1 ∙ sym (within path more.0))
+      let later : holds_live (lookup (is_at (λ k. slice_cmp nat_cmp other k.items)) rest) ≡ true =
+      sym (ap holds_live (cond-false (is_eq (slice_cmp nat_cmp other e.0.items)) (Some e.1) (lookup (is_at (λ k. slice_cmp nat_cmp other k.items)) rest) n)) ∙ r.left other live below in
+      let less : slice_cmp nat_cmp e.0.items ((path ++ 47 ∷ []) ++ below.0) ≡ Less =
+      ap (slice_cmp nat_cmp e.0.items) (sym (below.1 ∙ within path below.0)) ∙ after e.0 other rest (sorted_head key_cmp e.0 (keys_of rest) r.sorted) later in
+      let more = begins_between (path ++ 47 ∷ []) e.0.items below.0 (All-head (λ e. is_gt (slice_cmp nat_cmp (path ++ 47 ∷ []) e.0.items) ≡ false) e rest r.behind) less in
+      off (more.0, more.1 ∙ sym (within path more.0))
 ]
 
 -- where no entry is left nothing live is

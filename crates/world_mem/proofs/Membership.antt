@@ -57,9 +57,9 @@ past_removed xs i x lt zero fits at late = let same : zero ≡ i = omega (arith,
 past_removed xs i x lt (suc k) fits at late = elim (below_or_not k i) [
   | inl below ↦ let same : suc k ≡ i = omega (arith, late, below) in inl (sym at ∙ ap (λ n. get_or xs n x) same)
   | inr above ↦
-    let len : length (remove xs i) + 1 ≡ length xs = length-remove xs i lt in
-    let next : k + 1 ≡ suc k = omega arith in
-    inr (k, omega (arith, len, fits), get_or-remove_above xs i x k above lt ∙ ap (λ n. get_or xs n x) next ∙ at)
+      let len : length (remove xs i) + 1 ≡ length xs = length-remove xs i lt in
+      let next : k + 1 ≡ suc k = omega arith in
+      inr (k, omega (arith, len, fits), get_or-remove_above xs i x k above lt ∙ ap (λ n. get_or xs n x) next ∙ at)
 ]
 
 -- an element is the one removed, or is left

@@ -88,6 +88,6 @@ marked-where [] slot path old = inl refl
 marked-where (x ∷ xs) slot path old = elim (cases_Bool (bytes_eq x path)) [
   | inl y ↦ inr (in_front x xs path ((bytes_decides x path).0 y))
   | inr n ↦
-    let same : written x slot path old ≡ old = cond-false (bytes_eq x path) (option_map (λ _. slot) old) old n in
-    elim (marked-where xs slot path old) [ inl kept ↦ inl (ap (marked xs slot path) same ∙ kept) | inr h ↦ inr (behind x xs path h) ]
+      let same : written x slot path old ≡ old = cond-false (bytes_eq x path) (option_map (λ _. slot) old) old n in
+      elim (marked-where xs slot path old) [ inl kept ↦ inl (ap (marked xs slot path) same ∙ kept) | inr h ↦ inr (behind x xs path h) ]
 ]

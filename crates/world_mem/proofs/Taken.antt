@@ -27,6 +27,6 @@ pub stands : (state : State) (path : List ℕ) → IsTaken (around_of state) pat
 stands state path is = elim is [
   | inl file ↦ live_of (slot_at state.slots path) file
   | inr target ↦
-    let owner = contains_unmap running_of state.running.items target.0 target.1 in
-    ap holds_live (state.owned owner.0 path owner.1 (subst (λ (run : Running). Contains run.job.targets path) (sym owner.2) target.2))
+      let owner = contains_unmap running_of state.running.items target.0 target.1 in
+      ap holds_live (state.owned owner.0 path owner.1 (subst (λ (run : Running). Contains run.job.targets path) (sym owner.2) target.2))
 ]

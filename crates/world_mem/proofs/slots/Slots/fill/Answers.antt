@@ -43,11 +43,11 @@ loop-place-preserved c =
       none = λ n lt refused. elim (below_or_not n place) [
         | inl earlier ↦ c.loop-place.invariant.none n earlier refused
         | inr late ↦
-          let same : n ≡ place = omega (arith, lt, late) in
-          not_refused files place file (sym c.index-files-place.is)
-          (λ listed. let x : false ≡ true = ap is_some (sym free ∙ c.loop-place.invariant.files file.0) ∙ file_at-listed before file.0 listed.0 listed.1 in cc x)
-          (λ blocked. let x : true ≡ false = sym (c.in_ok-is_blocked.ensures.1 (weaker_blocked (HasFile before) (Stands c.loop-place.self) file.0 c.loop-place.invariant.stand blocked)) ∙ c.if-branch.false in cc x)
-          (subst (λ (k : ℕ). IsRefused files k) same refused)
+            let same : n ≡ place = omega (arith, lt, late) in
+            not_refused files place file (sym c.index-files-place.is)
+            (λ listed. let x : false ≡ true = ap is_some (sym free ∙ c.loop-place.invariant.files file.0) ∙ file_at-listed before file.0 listed.0 listed.1 in cc x)
+            (λ blocked. let x : true ≡ false = sym (c.in_ok-is_blocked.ensures.1 (weaker_blocked (HasFile before) (Stands c.loop-place.self) file.0 c.loop-place.invariant.stand blocked)) ∙ c.if-branch.false in cc x)
+            (subst (λ (k : ℕ). IsRefused files k) same refused)
       ];
     }
 
@@ -59,11 +59,16 @@ returns-then-has_file-clause-place c = λ n e.
     let before = take place files in
     let same : place ≡ n = cc e in
     subst (λ (k : ℕ). IsFirstRefused files k) same (
-      (file, c.loop-place-test.true, sym c.index-files-place.is, elim c.then-has_file.branch [
-        | then-has_file-via-then-has_file w ↦ inl (c.loop-place.invariant.only file.0 (live_of (slot_at c.loop-place.self file.0) (sym c.has_file.ensures ∙ w.if-has_file.true)))
-        | then-has_file-via-else-has_file+in_ok-is_blocked+then-branch w ↦ inr (weaker_blocked (Stands c.loop-place.self) (HasFile before) file.0 c.loop-place.invariant.only (w.in_ok-is_blocked.ensures.0 w.if-branch.true))
-      ]),
-      c.loop-place.invariant.none
+      (
+        file,
+        c.loop-place-test.true,
+        sym c.index-files-place.is,
+        elim c.then-has_file.branch [
+          | then-has_file-via-then-has_file w ↦ inl (c.loop-place.invariant.only file.0 (live_of (slot_at c.loop-place.self file.0) (sym c.has_file.ensures ∙ w.if-has_file.true)))
+          | then-has_file-via-else-has_file+in_ok-is_blocked+then-branch w ↦ inr (weaker_blocked (Stands c.loop-place.self) (HasFile before) file.0 c.loop-place.invariant.only (w.in_ok-is_blocked.ensures.0 w.if-branch.true))
+        ],
+      ),
+      c.loop-place.invariant.none,
     )
 
 pub returns-clause-stand : goal.returns-clause-stand

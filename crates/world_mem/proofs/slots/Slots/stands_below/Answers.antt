@@ -14,8 +14,7 @@ loop-key-init c =
 pub returns-then-not-is_below : goal.returns-then-not-is_below
 returns-then-not-is_below c =
     let path = c.args.path.now in
-    let rest = subst (Rest c.args.self.now path) c.in-Some.ensures.steps c.loop-key.invariant in
-    (
+    let rest = subst (Rest c.args.self.now path) c.in-Some.ensures.steps c.loop-key.invariant in (
       λ e. absurd (cc e),
       λ h. absurd (stops c.args.self.now path (c.in-Some.key.now, c.in-Some.slot.now) c.next.new.self rest
           (λ below. let x : true ≡ false = sym (c.is_below.ensures.1 (subst (λ (bytes : List ℕ). LiesBelow bytes path) (sym c.as_slice.ensures.value) below)) ∙ c.if-not-is_below.true in cc x)

@@ -162,8 +162,8 @@ invariant_of-self-clause-marks c = λ path id h.
     subst (λ (items : List RunningJob). is_target items path ≡ true) (sym c.remove-job.ensures.items)
     (is_target-of (remove old c.args.place) path (elim (remove_cases old c.args.place owner.0 lt owner.1) [
       | inl removed ↦
-        let same : owner.0 ≡ run = removed ∙ same_at old c.args.place owner.0 run lt ∙ sym c.remove-job.ensures.value in
-        let own = subst (λ (r : RunningJob). Contains r.job.targets path) same owner.2 in
-        absurd (let x : None ≡ Some id = sym (c.conclude.ensures.unmarked path own) ∙ h in cc x)
+          let same : owner.0 ≡ run = removed ∙ same_at old c.args.place owner.0 run lt ∙ sym c.remove-job.ensures.value in
+          let own = subst (λ (r : RunningJob). Contains r.job.targets path) same owner.2 in
+          absurd (let x : None ≡ Some id = sym (c.conclude.ensures.unmarked path own) ∙ h in cc x)
       | inr still ↦ (owner.0, still, owner.2)
     ]))

@@ -15,12 +15,15 @@ returns-then-branch c =
     let items = c.as_slice-target-items.result.now in
     let target = c.target-item.result in
     let state = c.args.self.now in
-    let here : Contains items target = (c.loop-target.target-index, c.loop-target-test.true, sym c.target-item.is) in
-    (
-      λ _. weaker_targets (Stands state.slots) (IsTaken (around_of state)) c.args.targets.now (taken state) (subst (AreBlocked (Stands state.slots)) c.as_slice-target-items.ensures (target, here, elim c.then-branch.branch [
-        | then-branch-via-then-branch w ↦ inl (c.in_ok-is_blocked.ensures.0 w.if-branch.true)
-        | then-branch-via-else-branch+in_ok-is_blocked-2+then-branch-2 w ↦ inr (weaker_blocked (Stands c.loop-target.own) (Contains items) target c.loop-target.invariant.only (w.in_ok-is_blocked-2.ensures.0 w.if-branch-2.true))
-      ])),
+    let here : Contains items target = (c.loop-target.target-index, c.loop-target-test.true, sym c.target-item.is) in (
+      λ _. weaker_targets (Stands state.slots) (IsTaken (around_of state)) c.args.targets.now (taken state) (subst (AreBlocked (Stands state.slots)) c.as_slice-target-items.ensures (
+        target,
+        here,
+        elim c.then-branch.branch [
+          | then-branch-via-then-branch w ↦ inl (c.in_ok-is_blocked.ensures.0 w.if-branch.true)
+          | then-branch-via-else-branch+in_ok-is_blocked-2+then-branch-2 w ↦ inr (weaker_blocked (Stands c.loop-target.own) (Contains items) target c.loop-target.invariant.only (w.in_ok-is_blocked-2.ensures.0 w.if-branch-2.true))
+        ],
+      )),
       λ _. refl,
     )
 
@@ -55,8 +58,7 @@ returns c =
     let state = c.args.self.now in
     let all : take c.loop-target.target-index items ≡ c.args.targets.now = take_all c.loop-target.target-index items (omega (arith, c.loop-target-test.false)) ∙ c.as_slice-target-items.ensures in
     let free = subst (λ (ts : List (List ℕ)). (path : List ℕ) → Contains ts path → IsBlocked (Stands state.slots) path → ⊥) all c.loop-target.invariant.free in
-    let apart = subst AreApart all c.loop-target.invariant.apart in
-    (
+    let apart = subst AreApart all c.loop-target.invariant.apart in (
       λ e. absurd (cc e),
       λ h. let blocked = weaker_targets (IsTaken (around_of state)) (Stands state.slots) c.args.targets.now (stands state) h in
           absurd (none_blocked (Stands state.slots) c.args.targets.now free apart blocked.0 blocked.1 blocked.2),
