@@ -2,6 +2,9 @@ pub mod Keys
 pub mod Written
 pub mod Membership
 pub mod Below
+pub mod Directories
 pub mod Apart
 pub mod Marks
+pub mod Owners
+pub mod Taken
 pub mod Plain

@@ -12,10 +12,10 @@ use Rattle.world_mem.specs.declared.slots.Slot.TheVariants.{Settled}
 use Rattle.world_mem.specs.InSlots.{file_at, written, marked, settled, content_of}
 use Rattle.world_mem.specs.Kept.{contents_in, met_of}
 
-in_front : (x : List ℕ) (xs : List (List ℕ)) (path : List ℕ) → x ≡ path → Contains (x ∷ xs) path
+pub in_front : (x : List ℕ) (xs : List (List ℕ)) (path : List ℕ) → x ≡ path → Contains (x ∷ xs) path
 in_front x xs path e = (0, omega arith, e)
 
-behind : (x : List ℕ) (xs : List (List ℕ)) (path : List ℕ) → Contains xs path → Contains (x ∷ xs) path
+pub behind : (x : List ℕ) (xs : List (List ℕ)) (path : List ℕ) → Contains xs path → Contains (x ∷ xs) path
 behind x xs path h = (suc h.0, omega (arith, h.1), h.2)
 
 written_off_if : (b : Bool) (slot : Slot) (old : Option Slot) → (b ≡ true → ⊥) → cond b (option_map (λ _. slot) old) old ≡ old

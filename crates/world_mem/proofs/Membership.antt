@@ -46,3 +46,27 @@ pub same_at : {X : Type 0} (xs : List X) (k : ℕ) (d e : X) → k < length xs �
 same_at [] k d e lt = absurd (omega arith)
 same_at (x ∷ xs) zero d e lt = refl
 same_at (x ∷ xs) (suc k) d e lt = same_at xs k d e (omega arith)
+
+pub contains_unmap : {X Y : Type 0} (f : X → Y) (xs : List X) (y : Y) → Contains (map f xs) y → (x : X) × Contains xs x × (f x ≡ y)
+contains_unmap f [] y h = absurd (omega (arith, h.1))
+contains_unmap f (x ∷ xs) y (zero, lt, at) = (x, (0, omega arith, refl), at)
+contains_unmap f (x ∷ xs) y (suc k, lt, at) = let later = contains_unmap f xs y (k, omega (arith, lt), at) in (later.0, (suc later.1.0, omega (arith, later.1.1), later.1.2), later.2)
+
+past_removed : {X : Type 0} (xs : List X) (i : ℕ) (x : X) → i < length xs → (k : ℕ) → k < length xs → get_or xs k x ≡ x → i ≤ k → (x ≡ get_or xs i x) ⊎ Contains (remove xs i) x
+past_removed xs i x lt zero fits at late = let same : zero ≡ i = omega (arith, late) in inl (sym at ∙ ap (λ n. get_or xs n x) same)
+past_removed xs i x lt (suc k) fits at late = elim (below_or_not k i) [
+  | inl below ↦ let same : suc k ≡ i = omega (arith, late, below) in inl (sym at ∙ ap (λ n. get_or xs n x) same)
+  | inr above ↦
+      let len : length (remove xs i) + 1 ≡ length xs = length-remove xs i lt in
+      let next : k + 1 ≡ suc k = omega arith in
+      inr (k, omega (arith, len, fits), get_or-remove_above xs i x k above lt ∙ ap (λ n. get_or xs n x) next ∙ at)
+]
+
+-- an element is the one removed, or is left
+pub remove_cases : {X : Type 0} (xs : List X) (i : ℕ) (x : X) → i < length xs → Contains xs x → (x ≡ get_or xs i x) ⊎ Contains (remove xs i) x
+remove_cases xs i x lt h =
+    let len : length (remove xs i) + 1 ≡ length xs = length-remove xs i lt in
+    elim (below_or_not h.0 i) [
+      | inl below ↦ inr (h.0, omega (arith, len, lt, below), get_or-remove_below xs i x h.0 below lt ∙ h.2)
+      | inr above ↦ past_removed xs i x lt h.0 h.1 h.2 above
+    ]

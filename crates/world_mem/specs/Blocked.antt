@@ -1,44 +1,41 @@
--- A path in the way of another: a file can't also be a directory.
-use Rattle.std.specs.Prelude.{◌≡◌, ◌++◌, ◌⊎◌, ℕ, List, ◌∷◌, Bool, true, false, Option, Some, None, IsTrue, Contains, ◌<◌, length, take}
+-- Paths in the way of one another: a path with others below it is a directory, and a directory can't be a file.
+use Rattle.std.specs.Prelude.{◌≡◌, ◌++◌, ◌⊎◌, ℕ, List, ◌∷◌, IsSome, Contains, ◌<◌, length, take}
 use Rattle.std.specs.List.{slice_index_or}
-use Rattle.std.specs.Option.{is_some}
-use Rattle.world_mem.specs.InSlots.{slot_at}
-use Rattle.world_mem.specs.declared.slots.Slot.{Slot}
-use Rattle.world_mem.specs.declared.slots.Slot.TheVariants.{Running, Settled}
-use Rattle.world_mem.specs.declared.slots.Slots.{Slots}
+use Rattle.world_api.specs.Around.{Around, IsRunningTarget}
 
 -- a path goes on behind another's text with a slash
 abbrev pub LiesBelow : List ℕ → List ℕ → Type 0
 LiesBelow path dir = (rest : List ℕ) × (path ≡ dir ++ 47 ∷ rest)
 
--- a file stands, or is to
-abbrev pub is_live : Slot → Bool
-is_live (Running id) = true
-is_live (Settled content) = is_some content
+-- one of these paths lies above a path
+abbrev pub HasAbove : (List ℕ → Type 0) → List ℕ → Type 0
+HasAbove taken path = (other : List ℕ) × taken other × LiesBelow path other
 
-abbrev pub holds_live : Option Slot → Bool
-holds_live None = false
-holds_live (Some slot) = is_live slot
+-- one of these paths lies below a path, which is a directory
+abbrev pub HasBelow : (List ℕ → Type 0) → List ℕ → Type 0
+HasBelow taken path = (other : List ℕ) × taken other × LiesBelow other path
 
--- a file, or a target of a running job, stands at a path
-abbrev pub Stands : Slots → List ℕ → Type 0
-Stands slots path = IsTrue (holds_live (slot_at slots path))
+-- a path can't be a file where these are
+abbrev pub IsBlocked : (List ℕ → Type 0) → List ℕ → Type 0
+IsBlocked taken path = HasAbove taken path ⊎ HasBelow taken path
 
--- a path lies below or above another
-abbrev pub Clashes : List ℕ → List ℕ → Type 0
-Clashes path other = LiesBelow path other ⊎ LiesBelow other path
+-- a file is at a path, or a target of a running job is to be
+abbrev pub IsTaken : Around → List ℕ → Type 0
+IsTaken around path = IsSome (around.tree path) ⊎ IsRunningTarget around.running path
 
--- a path lies below or above one where a file stands or is to
-abbrev pub IsBlocked : Slots → List ℕ → Type 0
-IsBlocked slots path = (other : List ℕ) × Stands slots other × Clashes path other
+-- a target of a job can't be a file where these paths are, or where another target of the job is
+abbrev pub AreBlocked : (List ℕ → Type 0) → List (List ℕ) → Type 0
+AreBlocked taken targets = (target : List ℕ) × Contains targets target × (IsBlocked taken target ⊎ IsBlocked (Contains targets) target)
 
--- a target lies below or above a path where a file stands or is to, or another target
-abbrev pub AreBlocked : Slots → List (List ℕ) → Type 0
-AreBlocked slots targets = (target : List ℕ) × Contains targets target
-    × (IsBlocked slots target ⊎ ((other : List ℕ) × Contains targets other × Clashes target other))
+-- a list of files has one at a path
+abbrev pub HasFile : List (List ℕ × List ℕ) → List ℕ → Type 0
+HasFile files path = (bytes : List ℕ) × Contains files (path, bytes)
 
--- the file at a place of a list has the path of one listed before, or a path below or above it
+-- the file at a place of a list has the path of one listed before, or can't be a file where those are
 abbrev pub IsRefused : List (List ℕ × List ℕ) → ℕ → Type 0
 IsRefused files place = (file : List ℕ × List ℕ) × (place < length files) × (slice_index_or files place file ≡ file)
-    × ((earlier : List ℕ × List ℕ) × Contains (take place files) earlier
-    × ((file.0 ≡ earlier.0) ⊎ Clashes file.0 earlier.0))
+    × (HasFile (take place files) file.0 ⊎ IsBlocked (HasFile (take place files)) file.0)
+
+-- the first of these
+abbrev pub IsFirstRefused : List (List ℕ × List ℕ) → ℕ → Type 0
+IsFirstRefused files place = IsRefused files place × ((earlier : ℕ) → earlier < place → IsRefused files earlier → ⊥)

@@ -1,8 +1,8 @@
 -- The tree as it is kept: a slot for each path that was ever a file or a target.
-use Rattle.std.specs.Prelude.{ℕ, List, [], ◌∷◌, Option, Some, None, if◌then◌else◌}
+use Rattle.std.specs.Prelude.{ℕ, Bool, true, false, IsTrue, List, [], ◌∷◌, Option, Some, None, if◌then◌else◌}
 use Rattle.std.specs.BTreeMap.{get_by}
 use Rattle.std.specs.Cmp.Lexicographic.{slice_cmp}
-use Rattle.std.specs.Option.{option_map}
+use Rattle.std.specs.Option.{option_map, is_some}
 use Rattle.std.specs.Ordering.{nat_cmp}
 use Rattle.std.specs.Str.{bytes_eq}
 use Rattle.world_api.specs.Act.{Content, Given}
@@ -20,6 +20,27 @@ settled_content (Settled content) = content
 abbrev pub content_of : Option Slot → Content
 content_of None = None
 content_of (Some slot) = settled_content slot
+
+-- a file stands, or a target is to
+abbrev pub is_live : Slot → Bool
+is_live (Running id) = true
+is_live (Settled content) = is_some content
+
+abbrev pub holds_live : Option Slot → Bool
+holds_live None = false
+holds_live (Some slot) = is_live slot
+
+abbrev pub Stands : Slots → List ℕ → Type 0
+Stands slots path = IsTrue (holds_live (slot_at slots path))
+
+abbrev mark : Slot → Option ℕ
+mark (Running id) = Some id
+mark (Settled content) = None
+
+-- the running job that a slot is kept for
+abbrev pub mark_of : Option Slot → Option ℕ
+mark_of None = None
+mark_of (Some slot) = mark slot
 
 -- what a slot is after a write at a path, where one stands there
 abbrev pub written : List ℕ → Slot → List ℕ → Option Slot → Option Slot

@@ -1,7 +1,8 @@
 -- What a world in memory keeps of the past.
-use Rattle.std.specs.Prelude.{◌≡◌, ◌<◌, ℕ, List, [], ◌∷◌, ◌++◌, length}
-use Rattle.std.specs.List.{flat_map, slice_index_or}
+use Rattle.std.specs.Prelude.{◌≡◌, ◌<◌, Bool, ℕ, List, [], ◌∷◌, ◌++◌, length}
+use Rattle.std.specs.List.{flat_map, slice_index_or, list_any}
 use Rattle.std.specs.Option.{option_to_list}
+use Rattle.std.specs.Str.{bytes_eq}
 use Rattle.world_api.specs.Act.{Given}
 use Rattle.world_api.specs.Around.{Running, Entry, Started, Finished}
 use Rattle.world_api.specs.Counts.{Counts}
@@ -19,6 +20,10 @@ entry_of (events.Finished id outcome) = Finished id outcome
 
 abbrev pub running_of : RunningJob → Running
 running_of run = record { job = run.job; given = run.given }
+
+-- whether a running job makes a path
+abbrev pub is_target : List RunningJob → List ℕ → Bool
+is_target running path = list_any (λ run. list_any (bytes_eq path) run.job.targets) running
 
 -- the contents in a list of paths with their contents
 abbrev pub contents_in : Given → List (List ℕ)

@@ -1,7 +1,7 @@
 ghost use Rattle.std.specs.Prelude.{◌≡◌, ◌++◌, ◌∷◌, [], ◌+◌, ◌<◌, ◌≤◌, ℕ, List, Some, IsSome, OnOk, length, vec_len};
 ghost use Rattle.std.specs.List.{slice_index_or};
 ghost use Rattle.std.specs.Vec.{vec_capacity};
-ghost use Rattle.world_mem.specs.InSlots.{slot_at, content_of};
+ghost use Rattle.world_mem.specs.InSlots.{slot_at, content_of, mark_of};
 ghost use Rattle.world_mem.specs.declared.slots.Slot.{Slot};
 
 use crate::contents::Contents;
@@ -32,6 +32,7 @@ pub fn take_room(
 ) -> Result<(), Memory>
     ensures kept { (path : List ℕ) (slot : Slot) → slot_at slots.old path ≡ Some slot → slot_at slots.new path ≡ Some slot }
     ensures same { (path : List ℕ) → content_of (slot_at slots.new path) ≡ content_of (slot_at slots.old path) }
+    ensures marks { (path : List ℕ) → mark_of (slot_at slots.new path) ≡ mark_of (slot_at slots.old path) }
     ensures running { running.new.items ≡ running.old.items }
     ensures log { log.new.items ≡ log.old.items }
     ensures met { met.new.items ≡ met.old.items }

@@ -1,9 +1,9 @@
-ghost use Rattle.std.specs.Prelude.{◌≡◌, List, ℕ, None, Some, IsTrue, IfOk, IfErr, OnOk, OnErr, if◌then◌else◌, IsSome, ◌<◌, length};
+ghost use Rattle.std.specs.Prelude.{◌≡◌, List, ℕ, None, Some, IsTrue, ◌↔◌, IfOk, IfErr, OnOk, OnErr, if◌then◌else◌, IsSome, ◌<◌, length};
 ghost use Rattle.std.specs.Option.{option_copied, is_some};
 ghost use Rattle.std.specs.List.{slice_index_or};
 ghost use Rattle.std.specs.Str.{bytes_eq};
-ghost use Rattle.world_mem.specs.Blocked.{LiesBelow, Stands, IsBlocked, IsRefused, is_live, holds_live};
-ghost use Rattle.world_mem.specs.InSlots.{slot_at, content_of, file_at, written, marked, settled};
+ghost use Rattle.world_mem.specs.Blocked.{LiesBelow, HasAbove, HasBelow, IsBlocked, IsRefused, IsFirstRefused};
+ghost use Rattle.world_mem.specs.InSlots.{slot_at, content_of, mark_of, file_at, written, marked, settled, Stands, is_live, holds_live};
 ghost use Rattle.world_mem.specs.declared.refusal.NewRefusal.{NewRefusal};
 ghost use Rattle.world_mem.specs.declared.slots.Slot.{Slot};
 
@@ -72,7 +72,7 @@ impl Slots {
     }
 
     fn stands_above(&self, path: &[u8]) -> bool
-        ensures { IsTrue result → (other : List ℕ) × Stands self.now other × LiesBelow path.now other }
+        ensures { IsTrue result ↔ HasAbove (Stands self.now) path.now }
     {
         for (place, byte) in path.iter().enumerate() {
             if *byte == b'/' && self.stands(&path[..place]) {
@@ -83,15 +83,15 @@ impl Slots {
     }
 
     fn stands_below(&self, alloc: Global, path: &[u8]) -> Result<bool, Memory>
-        ensures { IfOk result (λ found. IsTrue found → (other : List ℕ) × Stands self.now other × LiesBelow other path.now) }
+        ensures { IfOk result (λ found. IsTrue found ↔ HasBelow (Stands self.now) path.now) }
     {
         let mut from = Vec::from_slice(alloc, path)?;
         from.push(b'/')?;
-        for (key, _) in self.slots.range(from..) {
+        for (key, slot) in self.slots.range(from..) {
             if !is_below(key.as_slice(), path) {
                 return Ok(false);
             }
-            if self.stands(key.as_slice()) {
+            if is_live(slot) {
                 return Ok(true);
             }
         }
@@ -100,7 +100,7 @@ impl Slots {
 
     /// Whether a file or a running target stands above or below the path.
     pub fn is_blocked(&self, alloc: Global, path: &PathText) -> Result<bool, Memory>
-        ensures { IfOk result (λ blocked. IsTrue blocked → IsBlocked self.now path.now) }
+        ensures { IfOk result (λ blocked. IsTrue blocked ↔ IsBlocked (Stands self.now) path.now) }
     {
         let bytes = path.as_str().as_bytes();
         Ok(self.stands_above(bytes) || self.stands_below(alloc, bytes)?)
@@ -111,7 +111,9 @@ impl Slots {
     pub fn fill(&mut self, alloc: Global, files: &[(PathText, Blob)]) -> Result<(), NewRefusal>
         requires { (path : List ℕ) → slot_at self.old path ≡ None }
         ensures files { OnOk result ((path : List ℕ) → content_of (slot_at self.new path) ≡ file_at files.now path) }
-        ensures place { IfErr result (λ refusal. (place : ℕ) → refusal ≡ NewRefusal.Place place → IsRefused files.now place) }
+        ensures unmarked { OnOk result ((path : List ℕ) → mark_of (slot_at self.new path) ≡ None) }
+        ensures stand { OnOk result ((place : ℕ) → IsRefused files.now place → ⊥) }
+        ensures place { IfErr result (λ refusal. (place : ℕ) → refusal ≡ NewRefusal.Place place → IsFirstRefused files.now place) }
     {
         for (place, (path, bytes)) in files.iter().enumerate() {
             if self.has_file(path) || self.is_blocked(alloc, path)? {
@@ -145,6 +147,7 @@ impl Slots {
     pub fn make_place(&mut self, alloc: Global, path: &PathText) -> Result<(), Memory>
         ensures kept { (other : List ℕ) (slot : Slot) → slot_at self.old other ≡ Some slot → slot_at self.new other ≡ Some slot }
         ensures same { (other : List ℕ) → content_of (slot_at self.new other) ≡ content_of (slot_at self.old other) }
+        ensures marks { (other : List ℕ) → mark_of (slot_at self.new other) ≡ mark_of (slot_at self.old other) }
         ensures stands { OnOk result (IsSome (slot_at self.new path.now)) }
     {
         if self.slots.contains_key(path.as_str().as_bytes()) {
@@ -157,6 +160,7 @@ impl Slots {
     pub fn make_places(&mut self, alloc: Global, paths: &Paths) -> Result<(), Memory>
         ensures kept { (other : List ℕ) (slot : Slot) → slot_at self.old other ≡ Some slot → slot_at self.new other ≡ Some slot }
         ensures same { (other : List ℕ) → content_of (slot_at self.new other) ≡ content_of (slot_at self.old other) }
+        ensures marks { (other : List ℕ) → mark_of (slot_at self.new other) ≡ mark_of (slot_at self.old other) }
         ensures stand { OnOk result ((k : ℕ) (d : List ℕ) → k < length paths.now → IsSome (slot_at self.new (slice_index_or paths.now k d))) }
     {
         for path in paths.as_slice() {
@@ -202,10 +206,10 @@ fn is_live(slot: &Slot) -> bool
 }
 
 fn is_below(path: &[u8], dir: &[u8]) -> bool
-    ensures { IsTrue result → LiesBelow path.now dir.now }
+    ensures { IsTrue result ↔ LiesBelow path.now dir.now }
 {
     match path.strip_prefix(dir) {
-        Some([first, ..]) => *first == b'/',
-        _ => false,
+        Some(rest) => rest.starts_with(b"/"),
+        None => false,
     }
 }

@@ -2,8 +2,8 @@ ghost use Rattle.std.specs.Prelude.{◌≡◌, ◌+◌, ◌<◌, ◌≤◌, ℕ,
 ghost use Rattle.std.specs.List.{slice_index_or, list_any};
 ghost use Rattle.std.specs.Str.{bytes_eq};
 ghost use Rattle.std.specs.Vec.{vec_capacity};
-ghost use Rattle.world_mem.specs.InSlots.{slot_at, content_of, file_at};
-ghost use Rattle.world_mem.specs.Kept.{met_of, IdsApart};
+ghost use Rattle.world_mem.specs.InSlots.{slot_at, content_of, mark_of, file_at};
+ghost use Rattle.world_mem.specs.Kept.{met_of, IdsApart, is_target};
 ghost use Rattle.world_mem.specs.Planned.{makes, ends};
 ghost use Rattle.world_mem.specs.declared.running.RunningJob.{RunningJob};
 ghost use Rattle.world_mem.specs.declared.slots.Slot.TheVariants as slot;
@@ -32,6 +32,7 @@ pub struct State {
     ghost log_room: { vec_len log + vec_len running ≤ vec_capacity log },
     ghost met_room: { vec_len met + vec_len running ≤ vec_capacity met },
     ghost owned: { (run : RunningJob) (path : List ℕ) → Contains running.items run → Contains run.job.targets path → slot_at slots path ≡ Some (slot.Running run.job.id) },
+    ghost marks: { (path : List ℕ) (id : ℕ) → mark_of (slot_at slots path) ≡ Some id → IsTrue (is_target running.items path) },
     ghost apart: { IdsApart running.items },
     ghost planned: { (run : RunningJob) → Contains running.items run → run.made ≡ makes table run.job run.given },
     ghost kept: { (run : RunningJob) → Contains running.items run → run.kept ≡ run.made },
@@ -40,12 +41,12 @@ pub struct State {
 }
 
 impl State {
-    ghost use Rattle.std.specs.Prelude.{◌∷◌, ◌++◌, ◌≢◌, OnOk, OnErr, IsSome, None, length, false, pos};
+    ghost use Rattle.std.specs.Prelude.{◌∷◌, ◌++◌, ◌≢◌, ◌↔◌, OnOk, OnErr, IsSome, None, length, false, pos};
     ghost use Rattle.std.specs.Option.{option_copied};
     ghost use Rattle.world_api.specs.Around.{IsUnused, Running, given_of};
     ghost use Rattle.world_api.specs.Calls.{Asks, Removes, CanStart, Starts, Ends};
     ghost use Rattle.world_mem.specs.AsAround.{around_of};
-    ghost use Rattle.world_mem.specs.Blocked.{AreBlocked, IsRefused};
+    ghost use Rattle.world_mem.specs.Blocked.{AreBlocked, IsRefused, IsFirstRefused, IsTaken};
     ghost use Rattle.world_mem.specs.declared.refusal.NewRefusal.{NewRefusal};
     ghost use Rattle.world_mem.specs.Kept.{counts_of};
     ghost use Rattle.world_mem.specs.Planned.{IsPlain};
@@ -60,7 +61,8 @@ impl State {
         ensures running { IfOk result (λ state. (around_of state).running ≡ []) }
         ensures log { IfOk result (λ state. (around_of state).log ≡ []) }
         ensures law { IfOk result (λ state. (around_of state).law ≡ law_of table) }
-        ensures place { IfErr result (λ refusal. (place : ℕ) → refusal ≡ NewRefusal.Place place → IsRefused files.now place) }
+        ensures stand { OnOk result ((place : ℕ) → IsRefused files.now place → ⊥) }
+        ensures place { IfErr result (λ refusal. (place : ℕ) → refusal ≡ NewRefusal.Place place → IsFirstRefused files.now place) }
     {
         let mut slots = Slots::new(alloc);
         slots.fill(alloc, files)?;
@@ -90,7 +92,7 @@ impl State {
 
     /// Whether a target lies below or above a file, a target of a running job or another one of these.
     pub fn is_blocked(&self, alloc: Global, targets: &Paths) -> Result<bool, Memory>
-        ensures { IfOk result (λ blocked. IsTrue blocked → AreBlocked self.now.slots targets.now) }
+        ensures { IfOk result (λ blocked. IsTrue blocked ↔ AreBlocked (IsTaken (around_of self.now)) targets.now) }
     {
         let mut own = Slots::new(alloc);
         for target in targets.as_slice() {

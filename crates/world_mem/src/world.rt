@@ -57,7 +57,7 @@ fn within(content: Option<&Blob>, limit: u64) -> Result<Content, ReadRefusal>
 
 impl MemWorld {
     ghost use Rattle.world_mem.specs.AsAround.{around_of};
-    ghost use Rattle.world_mem.specs.Blocked.{IsRefused};
+    ghost use Rattle.world_mem.specs.Blocked.{IsRefused, IsFirstRefused};
     ghost use Rattle.world_mem.specs.CallCounts.{count_of};
     ghost use Rattle.world_mem.specs.declared.refusal.NewRefusal.{NewRefusal};
     ghost use Rattle.world_mem.specs.InSlots.{file_at};
@@ -81,7 +81,8 @@ impl MemWorld {
         ensures calls { IfOk result (λ world. (call : Call) → count_of call world.calls ≡ 0) }
         ensures orders { IfOk result (λ world. world.orders ≡ orders) }
         ensures failing { IfOk result (λ world. world.calls.failing ≡ failing) }
-        ensures place { IfErr result (λ refusal. (place : ℕ) → refusal ≡ NewRefusal.Place place → IsRefused files.items place) }
+        ensures stand { OnOk result ((place : ℕ) → IsRefused files.items place → ⊥) }
+        ensures place { IfErr result (λ refusal. (place : ℕ) → refusal ≡ NewRefusal.Place place → IsFirstRefused files.items place) }
     {
         let state = State::new(alloc, &files, table)?;
         Ok(MemWorld {
@@ -105,7 +106,7 @@ impl World for MemWorld {
     ghost use Rattle.world_api.specs.Meaning.{Told};
     ghost use Rattle.world_api.specs.Reads.{IsOver};
     ghost use Rattle.world_mem.specs.AsAround.{around_of};
-    ghost use Rattle.world_mem.specs.Blocked.{AreBlocked};
+    ghost use Rattle.world_mem.specs.Blocked.{AreBlocked, IsTaken};
     ghost use Rattle.world_mem.specs.Kept.{counts_of};
     ghost use Rattle.world_mem.specs.CallCounts.{IsListed, count_of, counted};
     ghost use Rattle.world_mem.specs.Planned.{IsPlain};
@@ -161,7 +162,8 @@ impl World for MemWorld {
         ensures kept { result ≢ Err AskRefusal.Fault → world_meaning.counts self.new ≡ world_meaning.counts self.old }
         ensures rose { result ≡ Err AskRefusal.Fault → Fails (λ counts. counts.start_faults) (world_meaning.counts self.old) (world_meaning.counts self.new) }
         ensures listed { IsListed Call.Start self.old.calls → result ≡ Err AskRefusal.Fault }
-        ensures only { result ≡ Err AskRefusal.Fault → IsListed Call.Start self.old.calls ⊎ AreBlocked self.old.state.slots job.targets }
+        ensures only { result ≡ Err AskRefusal.Fault → IsListed Call.Start self.old.calls ⊎ AreBlocked (IsTaken (world_meaning.around self.old)) job.targets }
+        ensures clear { OnOk result (AreBlocked (IsTaken (world_meaning.around self.old)) job.targets → ⊥) }
         ensures counted { self.new.calls ≡ counted Call.Start self.old.calls }
     {
         let listed = self.calls.fails(Call::Start);

@@ -1,10 +1,11 @@
 use Rattle.std.proofs.Common.{◌≡◌, ◌∙◌, sym, ap, subst, inl, inr, ℕ, List, Contains, None, refl, true, Option}
 use Rattle.std.specs.List.{list_any}
 use Rattle.std.specs.Str.{bytes_eq}
-use Rattle.world_mem.specs.InSlots.{slot_at, content_of}
+use Rattle.world_mem.specs.InSlots.{slot_at, content_of, mark_of}
 use Rattle.world_mem.specs.Kept.{contents_in, met_of}
 use Rattle.world_mem.specs.declared.slots.Slot.TheVariants.{Settled}
 use Rattle.world_mem.proofs.Marks.{marked-off, marked-empty, marked-absent, settled-off, settled-content, met-push, found_in_push}
+use Rattle.world_mem.proofs.Owners.{fewer-marked, fewer-settled, unmarked-marked, unmarked-settled}
 use Rattle.world_mem.proofs.ending.conclude.Goals as goal
 
 pub returns-then-eq-clause-others : goal.returns-then-eq-clause-others
@@ -32,3 +33,16 @@ returns-else-eq-clause-absent c = λ _ path h. ap content_of (c.clear.ensures pa
 pub returns-else-eq-clause-held : goal.returns-else-eq-clause-held
 returns-else-eq-clause-held c = λ path bytes h.
     inl (marked-empty c.args.job.now.targets (Settled None) path (slot_at c.args.slots.now path) bytes refl (ap content_of (sym (c.clear.ensures path)) ∙ h))
+
+pub returns-then-eq-clause-unmarked : goal.returns-then-eq-clause-unmarked
+returns-then-eq-clause-unmarked c = λ path own.
+    ap mark_of (c.settle.ensures path) ∙ unmarked-settled c.args.made path (slot_at c.args.slots.now path) (subst (λ (ts : List (List ℕ)). Contains ts path) (sym c.requires.names) own)
+
+pub returns-then-eq-clause-marks : goal.returns-then-eq-clause-marks
+returns-then-eq-clause-marks c = λ path id h. fewer-settled c.args.made path (slot_at c.args.slots.now path) id (ap mark_of (sym (c.settle.ensures path)) ∙ h)
+
+pub returns-else-eq-clause-unmarked : goal.returns-else-eq-clause-unmarked
+returns-else-eq-clause-unmarked c = λ path own. ap mark_of (c.clear.ensures path) ∙ unmarked-marked c.args.job.now.targets None path (slot_at c.args.slots.now path) own
+
+pub returns-else-eq-clause-marks : goal.returns-else-eq-clause-marks
+returns-else-eq-clause-marks c = λ path id h. fewer-marked c.args.job.now.targets None path (slot_at c.args.slots.now path) id (ap mark_of (sym (c.clear.ensures path)) ∙ h)

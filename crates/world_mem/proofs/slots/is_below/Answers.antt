@@ -1,14 +1,14 @@
-use Rattle.std.proofs.Common.{◌≡◌, get_or, take, length}
-use Rattle.std.proofs.lemmas.Bool.{eqb-true}
+use Rattle.std.proofs.Common.{length, take}
 use Rattle.std.specs.Cmp.Lexicographic.{bytes_decides}
-use Rattle.world_mem.proofs.Below.{below}
+use Rattle.world_mem.proofs.Below.{below_by_rest, not_below}
 use Rattle.world_mem.proofs.slots.is_below.Goals as goal
 
-pub returns-in-Some-len1-up : goal.returns-in-Some-len1-up
-returns-in-Some-len1-up c = λ t.
+pub returns-in-Some : goal.returns-in-Some
+returns-in-Some c =
     let path = c.args.path.now in
     let dir = c.args.dir.now in
-    let rest = c.in-Some-len1-up.field-0.now in
-    let cases = c.in-Some-len1-up.ensures.cases in
-    let first : get_or rest 0 0 ≡ 47 = eqb-true (get_or rest 0 0) 47 t in
-    below path dir rest ((bytes_decides (take (length dir) path) dir).0 cases.0) cases.1 c.in-Some-len1-up.len_at_least first
+    let cases = c.in-Some.ensures.cases in
+    below_by_rest path dir c.in-Some.rest.now c.starts_with.result ((bytes_decides (take (length dir) path) dir).0 cases.0) cases.1 c.starts_with.ensures.value
+
+pub returns-in-None : goal.returns-in-None
+returns-in-None c = not_below c.args.path.now c.args.dir.now c.in-None.ensures.cases

@@ -1,10 +1,13 @@
-use Rattle.std.proofs.Common.{◌≡◌, ℕ, List, take, Contains}
-use Rattle.world_mem.specs.Blocked.{Stands}
-use Rattle.world_mem.specs.InSlots.{slot_at, content_of, file_at}
+use Rattle.std.proofs.Common.{◌≡◌, ◌<◌, ℕ, List, None, take}
+use Rattle.world_mem.specs.Blocked.{HasFile, IsRefused}
+use Rattle.world_mem.specs.InSlots.{slot_at, content_of, mark_of, file_at, Stands}
 use Rattle.world_mem.proofs.slots.Slots.fill.Given as goal
 
 abbrev pub invariant-loop-place : goal.invariant-loop-place
 invariant-loop-place l = record {
   files : (path : List ℕ) → content_of (slot_at l.self path) ≡ file_at (take l.place l.files) path;
-  only : (path : List ℕ) → Stands l.self path → (bytes : List ℕ) × Contains (take l.place l.files) (path, bytes);
+  only : (path : List ℕ) → Stands l.self path → HasFile (take l.place l.files) path;
+  stand : (path : List ℕ) → HasFile (take l.place l.files) path → Stands l.self path;
+  unmarked : (path : List ℕ) → mark_of (slot_at l.self path) ≡ None;
+  none : (place : ℕ) → place < l.place → IsRefused l.files place → ⊥;
 }

@@ -1,8 +1,8 @@
-use Rattle.std.proofs.Common.{◌≡◌, ◌∙◌, sym, ap, subst, inl, inr, ◌<◌, ℕ, List, Some, Option, Contains, ◌∷◌, length, map, take, drop, suc, refl, true, is_some, false}
-use Rattle.std.specs.List.{slice_index_or, list_any}
+use Rattle.std.proofs.Common.{◌≡◌, ◌∙◌, sym, ap, subst, inl, inr, ◌<◌, ℕ, List, Some, Option, Contains, ◌∷◌, length, map, take, drop, suc, refl, true, is_some, false, None}
+use Rattle.std.specs.List.{slice_index_or, list_any, remove}
 use Rattle.std.specs.Str.{bytes_eq}
 use Rattle.world_mem.specs.InSlots.{slot_at, content_of}
-use Rattle.world_mem.specs.Kept.{met_of, IdsApart, running_of, entry_of}
+use Rattle.world_mem.specs.Kept.{met_of, IdsApart, is_target, running_of, entry_of}
 use Rattle.world_mem.specs.Planned.{ends, IsPlain}
 use Rattle.world_mem.proofs.Plain.{ends_plain}
 use Rattle.world_api.specs.Around as api
@@ -15,7 +15,8 @@ use Rattle.world_mem.specs.declared.running.RunningJob.{RunningJob}
 use Rattle.world_mem.specs.declared.slots.Slot.TheVariants.{Running}
 use Rattle.world_mem.proofs.Apart.{apart-remove}
 use Rattle.world_mem.proofs.Marks.{settled-on, found_before}
-use Rattle.world_mem.proofs.Membership.{contains_map, other_place, still_in, parted, names_of_pairs, same_at}
+use Rattle.world_mem.proofs.Membership.{contains_map, other_place, still_in, parted, names_of_pairs, same_at, remove_cases}
+use Rattle.world_mem.proofs.Owners.{is_target-of, target_of}
 use Rattle.world_mem.proofs.state.State.end.Goals as goal
 use Rattle.world_mem.proofs.state.State.end.Goals.{then-fails, else-fails}
 
@@ -151,3 +152,18 @@ returns-clause-ends c = λ d f.
       | then-fails w ↦ absurd (let e : true ≡ false = sym w.if-fails.true ∙ f in cc e)
       | else-fails w ↦ w.outcome-is ∙ c.args.self.now.ending run here ∙ ap (λ (r : api.Running). ends c.args.self.now.table r.job r.given) (sym at)
     ]
+
+pub invariant_of-self-clause-marks : goal.invariant_of-self-clause-marks
+invariant_of-self-clause-marks c = λ path id h.
+    let old = c.args.self.now.running.items in
+    let run = c.remove-job.result in
+    let lt : c.args.place < length old = rw length-map at c.requires in
+    let owner = target_of old path (c.args.self.now.marks path id (c.conclude.ensures.marks path id h)) in
+    subst (λ (items : List RunningJob). is_target items path ≡ true) (sym c.remove-job.ensures.items)
+    (is_target-of (remove old c.args.place) path (elim (remove_cases old c.args.place owner.0 lt owner.1) [
+      | inl removed ↦
+          let same : owner.0 ≡ run = removed ∙ same_at old c.args.place owner.0 run lt ∙ sym c.remove-job.ensures.value in
+          let own = subst (λ (r : RunningJob). Contains r.job.targets path) same owner.2 in
+          absurd (let x : None ≡ Some id = sym (c.conclude.ensures.unmarked path own) ∙ h in cc x)
+      | inr still ↦ (owner.0, still, owner.2)
+    ]))

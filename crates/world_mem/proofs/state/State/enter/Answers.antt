@@ -1,11 +1,13 @@
-use Rattle.std.proofs.Common.{◌≡◌, ◌∙◌, sym, ap, subst, ℕ, List, Some, Contains, IsSome, refl}
-use Rattle.world_mem.specs.InSlots.{slot_at, content_of}
-use Rattle.world_mem.specs.Kept.{IdsApart}
+use Rattle.std.proofs.Common.{◌≡◌, ◌∙◌, sym, ap, subst, ℕ, List, Some, Contains, IsSome, refl, true, [], ◌∷◌, ◌++◌, inl, inr}
+use Rattle.world_mem.specs.InSlots.{slot_at, content_of, mark_of}
+use Rattle.world_mem.specs.Kept.{IdsApart, is_target}
 use Rattle.world_mem.specs.Planned.{makes, ends}
 use Rattle.world_mem.specs.declared.running.RunningJob.{RunningJob}
 use Rattle.world_mem.specs.declared.slots.Slot.TheVariants.{Running}
 use Rattle.world_mem.proofs.Apart.{apart-push}
 use Rattle.world_mem.proofs.Marks.{marked-off, marked-on, marked-empty}
+use Rattle.std.proofs.lemmas.List.Elements.{Contains-append_left, Contains-push}
+use Rattle.world_mem.proofs.Owners.{marked-where, is_target-of, target_of}
 use Rattle.world_mem.proofs.Membership.{push_all}
 use Rattle.world_mem.proofs.state.State.enter.Goals as goal
 
@@ -49,3 +51,13 @@ invariant_of-self-clause-held c = λ path bytes h.
 pub returns-clause-others : goal.returns-clause-others
 returns-clause-others c = λ path off.
     ap content_of (c.mark.ensures path ∙ marked-off c.args.run.job.targets (Running c.args.run.job.id) path (slot_at c.args.self.now.slots path) off)
+
+pub invariant_of-self-clause-marks : goal.invariant_of-self-clause-marks
+invariant_of-self-clause-marks c = λ path id h.
+    let old = c.args.self.now.running.items in
+    let run = c.args.run in
+    subst (λ (items : List RunningJob). is_target items path ≡ true) (sym c.add.ensures.items)
+    (is_target-of (old ++ run ∷ []) path (elim (marked-where run.job.targets (Running run.job.id) path (slot_at c.args.self.now.slots path)) [
+      | inl same ↦ let owner = target_of old path (c.args.self.now.marks path id (ap mark_of (sym (c.mark.ensures path ∙ same)) ∙ h)) in (owner.0, Contains-append_left old (run ∷ []) owner.0 owner.1, owner.2)
+      | inr own ↦ (run, Contains-push old run, own)
+    ]))

@@ -1,7 +1,7 @@
 use Rattle.std.proofs.Common.{◌≡◌, ◌∙◌, sym, subst, List, Contains, true}
 use Rattle.std.specs.List.{list_any}
 use Rattle.std.specs.Str.{bytes_eq}
-use Rattle.world_mem.specs.Kept.{met_of, IdsApart}
+use Rattle.world_mem.specs.Kept.{met_of, IdsApart, is_target}
 use Rattle.world_mem.specs.declared.running.RunningJob.{RunningJob}
 use Rattle.world_mem.specs.declared.slots.Slot.TheVariants.{Running}
 use Rattle.world_mem.proofs.state.State.make_room.Goals as goal
@@ -27,3 +27,7 @@ pub invariant_of-self-clause-held : goal.invariant_of-self-clause-held
 invariant_of-self-clause-held c = λ path bytes h.
     subst (λ groups. list_any (bytes_eq bytes) (met_of groups) ≡ true) (sym c.take_room.ensures.met)
     (c.args.self.now.held path bytes (sym (c.take_room.ensures.same path) ∙ h))
+
+pub invariant_of-self-clause-marks : goal.invariant_of-self-clause-marks
+invariant_of-self-clause-marks c = λ path id h.
+    subst (λ (items : List RunningJob). is_target items path ≡ true) (sym c.take_room.ensures.running) (c.args.self.now.marks path id (sym (c.take_room.ensures.marks path) ∙ h))
