@@ -1,0 +1,63 @@
+//! A text by its characters.
+ghost use Rattle.std.specs.Prelude.{◌≡◌, ◌++◌, ◌≤◌, List, None, Some, take, drop, length, chars, encode_utf8_all, MatchOption};
+ghost use Rattle.py_text.specs.Characters.{char_count, char_at, slice_of};
+
+/// How many characters the text has.
+pub fn char_count(text: &str) -> usize
+    ensures { result ≡ char_count text.now }
+{
+    text.chars().count()
+}
+
+/// The character at a place, as a text.
+pub fn char_at(text: &str, place: usize) -> Option<&str>
+    ensures { MatchOption result (char_at text.now place ≡ None) (λ c. char_at text.now place ≡ Some c.now) }
+{
+    let (first, _) = first_char(behind(text, place))?;
+    Some(first)
+}
+
+/// The characters from place `from` on and before place `to`, as many as there are.
+pub fn slice(text: &str, from: usize, to: usize) -> &str
+    ensures { result.now ≡ slice_of text.now from to }
+{
+    before(behind(text, from), to.saturating_sub(from))
+}
+
+/// The first character and what follows it: a loop over a text's characters takes them so.
+pub fn first_char(text: &str) -> Option<(&str, &str)>
+    ensures { MatchOption result (char_at text.now 0 ≡ None)
+        (λ parts. (char_at text.now 0 ≡ Some parts.0.now) × (text.now ≡ parts.0.now ++ parts.1.now)) }
+{
+    let first = text.chars().next()?;
+    Some(text.split_at(first.len_utf8()))
+}
+
+/// What follows the first `count` characters.
+fn behind(text: &str, count: usize) -> &str
+    ensures value { result.now ≡ encode_utf8_all (drop count (chars text.now)) }
+    ensures chars { chars result.now ≡ drop count (chars text.now) }
+{
+    &text[byte_place(text, count)..]
+}
+
+/// The first `count` characters.
+fn before(text: &str, count: usize) -> &str
+    ensures { result.now ≡ encode_utf8_all (take count (chars text.now)) }
+{
+    &text[..byte_place(text, count)]
+}
+
+/// How many bytes the first `count` characters have.
+fn byte_place(text: &str, count: usize) -> usize
+    ensures place { result ≡ length (encode_utf8_all (take count (chars text.now))) }
+    ensures within { result ≤ length text.now }
+{
+    let mut rest = text.chars();
+    for _ in 0..count {
+        if rest.next().is_none() {
+            break;
+        }
+    }
+    text.len() - rest.as_str().len()
+}

@@ -1,0 +1,67 @@
+//! How a text is cut into parts and words.
+ghost use Rattle.std.specs.Prelude.{◌≡◌, ◌<◌, ◌++◌, ◌∷◌, [], length, map, filter, chars, encode_utf8_all, IfOk, OnOk, MatchOption};
+ghost use Rattle.std.specs.List.{position_or_len, before_first, after_first};
+ghost use Rattle.py_text.specs.Splitting.{split_of, is_word, words_of};
+ghost use Rattle.py_text.specs.White.{is_white};
+
+use crate::finding::cut_at_first;
+use crate::white::is_white;
+use scons_base::Memory;
+use std::alloc::Global;
+
+/// The parts between the places of the separator.
+pub fn split<'a>(alloc: Global, text: &'a str, separator: &str) -> Result<Vec<&'a str>, Memory>
+    requires { 0 < length separator.now }
+    ensures { IfOk result (λ parts. map (λ part. part.now) parts.items ≡ split_of text.now separator.now) }
+{
+    let mut parts = Vec::new(alloc);
+    let mut rest = text;
+    'cuts: while let Some((part, after)) = cut_at_first(rest, separator) {
+        parts.push(part)?;
+        rest = after;
+    }
+    parts.push(rest)?;
+    Ok(parts)
+}
+
+/// The words between runs of white space.
+pub fn words(alloc: Global, text: &str) -> Result<Vec<&str>, Memory>
+    ensures { IfOk result (λ words. map (λ word. word.now) words.items ≡ words_of text.now) }
+{
+    let mut words = Vec::new(alloc);
+    let mut rest = text;
+    'parts: while let Some((part, after)) = cut_at_white(rest) {
+        push_word(&mut words, part)?;
+        rest = after;
+    }
+    push_word(&mut words, rest)?;
+    Ok(words)
+}
+
+fn push_word<'a>(words: &mut Vec<&'a str>, part: &'a str) -> Result<(), Memory>
+    ensures { OnOk result (map (λ word. word.now) words.new.items ≡ map (λ word. word.now) words.old.items ++ filter is_word (part.now ∷ [])) }
+{
+    if !part.is_empty() {
+        words.push(part)?;
+    }
+    Ok(())
+}
+
+/// What stands before the first white space, and what behind it.
+fn cut_at_white(text: &str) -> Option<(&str, &str)>
+    ensures { MatchOption result (position_or_len is_white (chars text.now) ≡ length (chars text.now))
+        (λ parts. (position_or_len is_white (chars text.now) < length (chars text.now))
+        × (chars parts.0.now ≡ before_first is_white (chars text.now))
+        × (chars parts.1.now ≡ after_first is_white (chars text.now))
+        × (length parts.1.now < length text.now)) }
+{
+    let mut after = text.chars();
+    while let Some(c) = after.next() {
+        if is_white(c) {
+            let rest = after.as_str();
+            let end = text.len() - rest.len() - c.len_utf8();
+            return Some((&text[..end], rest));
+        }
+    }
+    None
+}
