@@ -1,5 +1,5 @@
 //! A text by its characters.
-ghost use Rattle.std.specs.Prelude.{◌≡◌, ◌++◌, ◌≤◌, List, None, Some, take, drop, length, chars, encode_utf8_all, MatchOption};
+ghost use Rattle.std.specs.Prelude.{◌≡◌, ◌++◌, None, Some, take, drop, chars, encode_utf8_all, MatchOption};
 ghost use Rattle.py_text.specs.Characters.{char_count, char_at, slice_of};
 
 /// How many characters the text has.
@@ -35,29 +35,24 @@ pub fn first_char(text: &str) -> Option<(&str, &str)>
 
 /// What follows the first `count` characters.
 fn behind(text: &str, count: usize) -> &str
-    ensures value { result.now ≡ encode_utf8_all (drop count (chars text.now)) }
+    ensures follows { text.now ≡ encode_utf8_all (take count (chars text.now)) ++ result.now }
     ensures chars { chars result.now ≡ drop count (chars text.now) }
 {
-    &text[byte_place(text, count)..]
+    let mut rest = text.chars();
+    let mut left = count;
+    'characters: while left > 0 {
+        match rest.next() {
+            Some(_) => left -= 1,
+            None => break,
+        }
+    }
+    rest.as_str()
 }
 
 /// The first `count` characters.
 fn before(text: &str, count: usize) -> &str
     ensures { result.now ≡ encode_utf8_all (take count (chars text.now)) }
 {
-    &text[..byte_place(text, count)]
-}
-
-/// How many bytes the first `count` characters have.
-fn byte_place(text: &str, count: usize) -> usize
-    ensures place { result ≡ length (encode_utf8_all (take count (chars text.now))) }
-    ensures within { result ≤ length text.now }
-{
-    let mut rest = text.chars();
-    for _ in 0..count {
-        if rest.next().is_none() {
-            break;
-        }
-    }
-    text.len() - rest.as_str().len()
+    let rest = behind(text, count);
+    &text[..text.len() - rest.len()]
 }

@@ -2,6 +2,7 @@
 ghost use Rattle.std.specs.Prelude.{◌≡◌, ◌+◌, ◌<◌, ◌≤◌, ◌++◌, None, Some, length, take, drop, chars, MatchOption};
 ghost use Rattle.py_text.specs.Finding.{starts_with, ends_with, first_place, find_of, contains};
 
+use crate::characters::char_count;
 use memchr::memmem;
 
 /// The place, in characters, where the part stands first.
@@ -9,7 +10,7 @@ pub fn find(text: &str, part: &str) -> Option<usize>
     ensures { result ≡ find_of text.now part.now }
 {
     let (before, _) = cut_at_first(text, part)?;
-    Some(before.chars().count())
+    Some(char_count(before))
 }
 
 pub fn contains(text: &str, part: &str) -> bool

@@ -1,0 +1,55 @@
+-- A text and its characters.
+use Rattle.std.proofs.Common.{arith, ◌≡◌, ◌<◌, ◌≤◌, ◌+◌, ◌-◌, ◌∙◌, ℕ, zero, suc, List, [], ◌∷◌, ◌++◌, true, false, ap, sym, refl, subst, length, take, drop, get_or, append_assoc, add-one, chars, encode_utf8_all, encode_utf8}
+use Rattle.std.specs.Str.{IsUtf8, IsCharBoundary}
+use Rattle.std.specs.Char.{encode_utf8 as encode}
+use Rattle.std.proofs.lemmas.Str.{chars-nil, chars-encodes, chars_past_char, chars-append, encodes-append, encodes-chars, IsUtf8-past_char, IsCharBoundary-at_seam, scalars-chars}
+use Rattle.std.proofs.lemmas.List.{length-append, length-drop, take_all, drop_all, append-nil, drop_at, take_at}
+
+-- what follows the first n characters, which may be all
+pub record Follows (text rest : List ℕ) (n : ℕ) : Type 0 where
+  pub utf8 : IsUtf8 rest
+  pub parts : text ≡ encode_utf8_all (take n (chars text)) ++ rest
+  pub characters : chars rest ≡ drop n (chars text)
+
+pub follows_none : (text : List ℕ) → IsUtf8 text → Follows text text 0
+follows_none text u = record { utf8 = u; parts = refl; characters = refl }
+
+drop_next : (xs ys : List ℕ) (c n : ℕ) → c ∷ ys ≡ drop n xs → (take (suc n) xs ≡ take n xs ++ c ∷ []) × (ys ≡ drop (suc n) xs)
+drop_next [] ys c zero e = cc
+drop_next [] ys c (suc n) e = cc
+drop_next (x ∷ xs) ys c zero e = (cc, cc)
+drop_next (x ∷ xs) ys c (suc n) e = let k = drop_next xs ys c n e in (ap (λ l. x ∷ l) k.0, k.1)
+
+-- one character more
+pub follows_more : (text rest after : List ℕ) (c n : ℕ) → Follows text rest n → rest ≡ encode c ++ after → Follows text after (n + 1)
+follows_more text rest after c n f e =
+    let k = drop_next (chars text) (chars after) c n (sym (chars_past_char rest after c f.utf8 e) ∙ f.characters) in
+    rw add-one (record {
+      utf8 = IsUtf8-past_char rest after c f.utf8 e;
+      parts = f.parts ∙ ap (λ r. encode_utf8_all (take n (chars text)) ++ r) e ∙ sym (append_assoc (encode_utf8_all (take n (chars text))) (encode c) after)
+        ∙ ap (λ l. l ++ after) (ap (λ l. encode_utf8_all (take n (chars text)) ++ l) (sym (append-nil (encode c))) ∙ sym (encodes-append (take n (chars text)) (c ∷ [])) ∙ ap encode_utf8_all (sym k.0));
+      characters = k.1;
+    })
+
+-- no more follows the last character
+pub follows_all : (text rest : List ℕ) (n m : ℕ) → Follows text rest n → length rest ≡ 0 → n ≤ m → Follows text rest m
+follows_all text [] n m f e l =
+    let gone : length (drop n (chars text)) ≡ 0 = ap length (sym f.characters) ∙ ap length chars-nil in
+    let short : length (chars text) ≤ n = omega (arith, length-drop n (chars text)) in
+    record {
+      utf8 = f.utf8;
+      parts = f.parts ∙ ap (λ l. encode_utf8_all l ++ []) (take_all n (chars text) short ∙ sym (take_all m (chars text) (omega arith)));
+      characters = chars-nil ∙ sym (drop_all m (chars text) (omega arith));
+    }
+follows_all text (x ∷ rest) n m f e l = absurd (omega arith)
+
+-- where the first characters end the text may be cut
+pub seam : (text front rest : List ℕ) → text ≡ front ++ rest → IsUtf8 rest → IsCharBoundary text (length text - length rest)
+seam text front rest e u =
+    let n : length front ≡ length text - length rest = omega (arith, length-append front rest, ap length e) in
+    subst (λ i. IsCharBoundary text i) n (IsCharBoundary-at_seam text front rest e u)
+
+pub front_of : (text front rest : List ℕ) → text ≡ front ++ rest → take (length text - length rest) text ≡ front
+front_of text front rest e =
+    let n : length front ≡ length text - length rest = omega (arith, length-append front rest, ap length e) in
+    rw e (take_at front rest (length (front ++ rest) - length rest) (rw e at n))

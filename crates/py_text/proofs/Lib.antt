@@ -1,0 +1,4 @@
+mod CharLemmas
+mod CutLemmas
+mod OrderLemmas
+mod PlaceLemmas
