@@ -1,4 +1,5 @@
 mod CharLemmas
 mod CutLemmas
+mod JoinLemmas
 mod OrderLemmas
 mod PlaceLemmas

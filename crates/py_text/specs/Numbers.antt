@@ -1,5 +1,5 @@
 -- Numbers read from texts and written as texts: `int` and `str` among the built-in functions of the Python library reference.
-use Rattle.std.specs.Prelude.{ℕ, Bool, ◌&&◌, ◌^◌, nat_lt, List, length, ℤ, pos, negsuc, Result, Ok, Err, if◌then◌else◌}
+use Rattle.std.specs.Prelude.{ℕ, Bool, not, ◌&&◌, ◌==◌, ◌^◌, nat_lt, List, length, ℤ, pos, negsuc, Result, Ok, Err, if◌then◌else◌}
 use Rattle.std.specs.List.{list_all}
 use Rattle.std.specs.Char.{is_ascii_digit}
 use Rattle.std.specs.Str.Parse.{without_leading_sign, signed_digits_value}
@@ -9,7 +9,7 @@ use Rattle.py_text.specs.declared.fault.IntFault.TheVariants.{BadText, Overflow}
 
 -- decimal digits, at least one, behind at most one sign, `+` or `-`
 abbrev pub is_decimal : List ℕ → Bool
-is_decimal text = nat_lt 0 (length (without_leading_sign text)) && list_all is_ascii_digit (without_leading_sign text)
+is_decimal text = not (length (without_leading_sign text) == 0) && list_all is_ascii_digit (without_leading_sign text)
 
 -- a number that has 64 bits: from -2^63 to 2^63 - 1
 abbrev pub in_64_bits : ℤ → Result ℤ IntFault

@@ -16,7 +16,7 @@ by_number c = 92 ∷ 120 ∷ digit_char (c / 16) ∷ digit_char (c % 16) ∷ []
 -- a character within those quotes
 abbrev pub escaped : ℕ → ℕ → List ℕ
 escaped quote c =
-    if c == 92 || c == quote then 92 ∷ c ∷ []
+    if c == 92 || c == quote then 92 ∷ encode_utf8 c
     else (if c == 10 then 92 ∷ 110 ∷ []
     else (if c == 13 then 92 ∷ 114 ∷ []
     else (if c == 9 then 92 ∷ 116 ∷ []

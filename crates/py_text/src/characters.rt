@@ -1,5 +1,5 @@
 //! A text by its characters.
-ghost use Rattle.std.specs.Prelude.{◌≡◌, ◌++◌, None, Some, take, drop, chars, encode_utf8_all, MatchOption};
+ghost use Rattle.std.specs.Prelude.{◌≡◌, ◌++◌, ◌∷◌, [], None, Some, take, drop, chars, encode_utf8, encode_utf8_all, MatchOption};
 ghost use Rattle.py_text.specs.Characters.{char_count, char_at, slice_of};
 
 /// How many characters the text has.
@@ -31,6 +31,26 @@ pub fn first_char(text: &str) -> Option<(&str, &str)>
 {
     let first = text.chars().next()?;
     Some(text.split_at(first.len_utf8()))
+}
+
+/// The first character as such, and what follows it.
+pub(crate) fn next_char(text: &str) -> Option<(char, &str)>
+    ensures { MatchOption result (chars text.now ≡ [])
+        (λ parts. (text.now ≡ encode_utf8 parts.0 ++ parts.1.now) × (chars text.now ≡ parts.0 ∷ chars parts.1.now)) }
+{
+    let mut rest = text.chars();
+    let first = rest.next()?;
+    Some((first, rest.as_str()))
+}
+
+/// What stands before the last character, and that one.
+pub(crate) fn last_char(text: &str) -> Option<(&str, char)>
+    ensures { MatchOption result (chars text.now ≡ [])
+        (λ parts. (text.now ≡ parts.0.now ++ encode_utf8 parts.1) × (chars text.now ≡ chars parts.0.now ++ parts.1 ∷ [])) }
+{
+    let mut rest = text.chars();
+    let last = rest.next_back()?;
+    Some((rest.as_str(), last))
 }
 
 /// What follows the first `count` characters.

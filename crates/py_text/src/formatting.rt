@@ -1,11 +1,13 @@
 //! The pieces of a `%` format.
-ghost use Rattle.std.specs.Prelude.{◌≡◌, None, Some, Err, map, IfOk};
+ghost use Rattle.std.specs.Prelude.{◌≡◌, ◌++◌, ◌∷◌, [], ℕ, List, None, Some, Err, map, IfOk, OnOk, MatchOption};
+ghost use Rattle.std.specs.List.{list_any};
 ghost use Rattle.py_text.specs.declared.fault.FormatFault.{FormatFault};
-ghost use Rattle.py_text.specs.Formatting.{pieces_of};
+ghost use Rattle.py_text.specs.Formatting.{pieces_of, literal_run, is_percent, HasNoLetter, StandsFor};
 ghost use Rattle.py_text.specs.Views.{plain_piece};
 
 use crate::fault::FormatFault;
 use memchr::memchr;
+use scons_base::Memory;
 use std::alloc::Global;
 
 /// What stands at one place of a format.
@@ -28,21 +30,48 @@ pub fn format_pieces(alloc: Global, format: &str) -> Result<Vec<Piece<'_>>, Form
 {
     let mut pieces = Vec::new(alloc);
     let mut rest = format;
-    'pieces: while let Some(place) = memchr(b'%', rest.as_bytes()) {
-        if place > 0 {
-            pieces.push(Piece::Literal(&rest[..place]))?;
+    'pieces: while let Some((literal, behind)) = cut_at_percent(rest) {
+        push_literal(&mut pieces, literal)?;
+        match read_letter(behind) {
+            Some((piece, after)) => {
+                pieces.push(piece)?;
+                rest = after;
+            }
+            None => return Err(FormatFault::BadText),
         }
-        let piece = match rest.as_bytes().get(place + 1) {
-            Some(b'%') => Piece::Percent,
-            Some(b's') => Piece::Any,
-            Some(b'd') => Piece::Integer,
-            _ => return Err(FormatFault::BadText),
-        };
-        pieces.push(piece)?;
-        rest = &rest[place + 2..];
     }
-    if !rest.is_empty() {
-        pieces.push(Piece::Literal(rest))?;
-    }
+    push_literal(&mut pieces, rest)?;
     Ok(pieces)
+}
+
+fn push_literal<'a>(pieces: &mut Vec<Piece<'a>>, text: &'a str) -> Result<(), Memory>
+    ensures { OnOk result (map plain_piece pieces.new.items ≡ map plain_piece pieces.old.items ++ literal_run text.now) }
+{
+    if !text.is_empty() {
+        pieces.push(Piece::Literal(text))?;
+    }
+    Ok(())
+}
+
+/// What stands before the first `%`, and what behind it.
+fn cut_at_percent(text: &str) -> Option<(&str, &str)>
+    ensures { MatchOption result (list_any is_percent text.now ≡ false)
+        (λ parts. (text.now ≡ parts.0.now ++ 37 ∷ parts.1.now) × (list_any is_percent parts.0.now ≡ false)) }
+{
+    let place = memchr(b'%', text.as_bytes())?;
+    Some((&text[..place], &text[place + 1..]))
+}
+
+/// What the letter behind a `%` stands for, and what follows it.
+fn read_letter(text: &str) -> Option<(Piece<'_>, &str)>
+    ensures { MatchOption result (HasNoLetter text.now) (λ read. StandsFor text.now (plain_piece read.0) read.1.now) }
+{
+    let letter = *text.as_bytes().first()?;
+    let piece = match letter {
+        b'%' => Piece::Percent,
+        b's' => Piece::Any,
+        b'd' => Piece::Integer,
+        _ => return None,
+    };
+    Some((piece, &text[1..]))
 }

@@ -1,5 +1,5 @@
 //! Texts one behind another.
-ghost use Rattle.std.specs.Prelude.{◌≡◌, map, length, string_bytes, IfOk};
+ghost use Rattle.std.specs.Prelude.{◌≡◌, ◌++◌, ℕ, List, map, flat_map, length, string_bytes, IfOk};
 ghost use Rattle.py_text.specs.Joining.{joined, repeated};
 ghost use Rattle.py_text.specs.Sizes.{saturated};
 
@@ -17,12 +17,21 @@ pub fn joined(alloc: Global, separator: &str, parts: &[&str]) -> Result<String, 
 pub fn joined_length(separator: &str, parts: &[&str]) -> u64
     ensures { result ≡ saturated (length (joined separator.now (map (λ part. part.now) parts.now))) }
 {
-    let mut length: u64 = 0;
-    for (place, part) in parts.iter().enumerate() {
-        if place > 0 {
-            length = length.saturating_add(separator.len() as u64);
-        }
-        length = length.saturating_add(part.len() as u64);
+    match parts {
+        [] => 0,
+        [first, others @ ..] => length_behind(separator, first.len() as u64, others),
+    }
+}
+
+/// A length with those of further parts and of the separators before them.
+fn length_behind(separator: &str, first: u64, others: &[&str]) -> u64
+    ensures { (before : List ℕ) → first ≡ saturated (length before) → result ≡ saturated (length (before ++ flat_map (λ part. separator.now ++ part) (map (λ part. part.now) others.now))) }
+{
+    let mut length = first;
+    for part in others {
+        length = length
+            .saturating_add(separator.len() as u64)
+            .saturating_add(part.len() as u64);
     }
     length
 }

@@ -1,5 +1,7 @@
 //! Numbers as texts.
 ghost use Rattle.std.specs.Prelude.{◌≡◌, string_bytes, IfOk};
+ghost use Rattle.std.specs.List.{list_all};
+ghost use Rattle.std.specs.Char.{is_ascii_digit};
 ghost use Rattle.std.specs.Str.Parse.{without_leading_sign};
 ghost use Rattle.py_text.specs.Numbers.{is_decimal, int_of, decimals};
 
@@ -24,7 +26,13 @@ fn is_decimal(text: &str) -> bool
     ensures { result ≡ is_decimal text.now }
 {
     let digits = without_sign(text.as_bytes());
-    !digits.is_empty() && digits.iter().all(|byte| byte.is_ascii_digit())
+    !digits.is_empty() && are_digits(digits)
+}
+
+fn are_digits(bytes: &[u8]) -> bool
+    ensures { result ≡ list_all is_ascii_digit bytes.now }
+{
+    bytes.iter().all(|byte| byte.is_ascii_digit())
 }
 
 fn without_sign(text: &[u8]) -> &[u8]

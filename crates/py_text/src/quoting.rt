@@ -1,6 +1,7 @@
 //! How a text shows within a list.
-ghost use Rattle.std.specs.Prelude.{◌≡◌, ◌++◌, ◌≤◌, length, string_bytes, IfOk, OnOk};
-ghost use Rattle.py_text.specs.Quoting.{quote_of, escaped, quoted};
+ghost use Rattle.std.specs.Prelude.{◌≡◌, ◌++◌, ◌<◌, length, string_bytes, IfOk, OnOk};
+ghost use Rattle.std.specs.Char.{digit_char};
+ghost use Rattle.py_text.specs.Quoting.{quote_of, by_number, escaped, quoted};
 ghost use Rattle.py_text.specs.Sizes.{saturated};
 
 use scons_base::Memory;
@@ -59,22 +60,35 @@ fn push_escaped(shown: &mut String, quote: char, c: char) -> Result<(), AllocErr
     }
 }
 
-fn push_number(shown: &mut String, c: char) -> Result<(), AllocError> {
-    let code = u32::from(c);
+/// Writes a character below 128 by its number.
+fn push_number(shown: &mut String, c: char) -> Result<(), AllocError>
+    requires { c < 128 }
+    ensures { OnOk result (string_bytes shown.new ≡ string_bytes shown.old ++ by_number c) }
+{
+    let code = c as u8;
     shown.push_str("\\x")?;
     shown.push(hex_digit(code / 16))?;
     shown.push(hex_digit(code % 16))
 }
 
-fn hex_digit(value: u32) -> char {
-    char::from_digit(value, 16).unwrap_or('0')
+fn hex_digit(value: u8) -> char
+    requires { value < 16 }
+    ensures value { result ≡ digit_char value }
+    ensures ascii { result < 128 }
+{
+    let digit = if value < 10 {
+        b'0' + value
+    } else {
+        b'a' + (value - 10)
+    };
+    digit as char
 }
 
 fn escaped_length(quote: char, c: char) -> u64
     ensures { result ≡ length (escaped quote c) }
 {
     match c {
-        _ if c == '\\' || c == quote => 2,
+        _ if c == '\\' || c == quote => 1 + c.len_utf8() as u64,
         '\n' | '\r' | '\t' => 2,
         '\0'..='\x1f' | '\x7f' => 4,
         _ => c.len_utf8() as u64,

@@ -1,10 +1,11 @@
 //! A text with another one in place of a part.
-ghost use Rattle.std.specs.Prelude.{◌≡◌, ◌<◌, ◌+◌, ◌*◌, length, string_bytes, chars, IfOk};
+ghost use Rattle.std.specs.Prelude.{◌≡◌, ◌<◌, length, string_bytes, IfOk};
 ghost use Rattle.py_text.specs.Replacing.{interspersed, replaced};
 ghost use Rattle.py_text.specs.Splitting.{split_of};
 ghost use Rattle.py_text.specs.Joining.{joined};
 ghost use Rattle.py_text.specs.Sizes.{saturated};
 
+use crate::characters::char_count;
 use crate::finding::cut_at_first;
 use scons_base::Memory;
 use std::alloc::Global;
@@ -24,15 +25,11 @@ pub fn replaced(alloc: Global, text: &str, old: &str, new: &str) -> Result<Strin
 pub fn replaced_length(text: &str, old: &str, new: &str) -> u64
     ensures { result ≡ saturated (length (replaced text.now old.now new.now)) }
 {
-    let places = if old.is_empty() {
-        text.chars().count() + 1
+    if old.is_empty() {
+        interspersed_length(text, new)
     } else {
-        count_places(text, old)
-    };
-    let kept = text.len() - places * old.len();
-    (places as u64)
-        .saturating_mul(new.len() as u64)
-        .saturating_add(kept as u64)
+        exchanged_length(text, old, new)
+    }
 }
 
 fn interspersed(alloc: Global, text: &str, new: &str) -> Result<String, Memory>
@@ -45,6 +42,15 @@ fn interspersed(alloc: Global, text: &str, new: &str) -> Result<String, Memory>
     }
     made.push_str(new)?;
     Ok(made)
+}
+
+fn interspersed_length(text: &str, new: &str) -> u64
+    ensures { result ≡ saturated (length (interspersed text.now new.now)) }
+{
+    (char_count(text) as u64)
+        .saturating_mul(new.len() as u64)
+        .saturating_add(text.len() as u64)
+        .saturating_add(new.len() as u64)
 }
 
 fn exchanged(alloc: Global, text: &str, old: &str, new: &str) -> Result<String, Memory>
@@ -62,15 +68,17 @@ fn exchanged(alloc: Global, text: &str, old: &str, new: &str) -> Result<String, 
     Ok(made)
 }
 
-fn count_places(text: &str, old: &str) -> usize
+fn exchanged_length(text: &str, old: &str, new: &str) -> u64
     requires { 0 < length old.now }
-    ensures { result + 1 ≡ length (split_of text.now old.now) }
+    ensures { result ≡ saturated (length (joined new.now (split_of text.now old.now))) }
 {
-    let mut places = 0;
+    let mut length: u64 = 0;
     let mut rest = text;
-    'places: while let Some((_, after)) = cut_at_first(rest, old) {
-        places += 1;
+    'places: while let Some((before, after)) = cut_at_first(rest, old) {
+        length = length
+            .saturating_add(before.len() as u64)
+            .saturating_add(new.len() as u64);
         rest = after;
     }
-    places
+    length.saturating_add(rest.len() as u64)
 }

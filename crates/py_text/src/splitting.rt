@@ -4,6 +4,7 @@ ghost use Rattle.std.specs.List.{position_or_len, before_first, after_first};
 ghost use Rattle.py_text.specs.Splitting.{split_of, is_word, words_of};
 ghost use Rattle.py_text.specs.White.{is_white};
 
+use crate::characters::next_char;
 use crate::finding::cut_at_first;
 use crate::white::is_white;
 use scons_base::Memory;
@@ -55,13 +56,12 @@ fn cut_at_white(text: &str) -> Option<(&str, &str)>
         × (chars parts.1.now ≡ after_first is_white (chars text.now))
         × (length parts.1.now < length text.now)) }
 {
-    let mut after = text.chars();
-    while let Some(c) = after.next() {
+    let mut rest = text;
+    'characters: while let Some((c, after)) = next_char(rest) {
         if is_white(c) {
-            let rest = after.as_str();
-            let end = text.len() - rest.len() - c.len_utf8();
-            return Some((&text[..end], rest));
+            return Some((&text[..text.len() - rest.len()], after));
         }
+        rest = after;
     }
     None
 }
