@@ -53,3 +53,20 @@ pub front_of : (text front rest : List ℕ) → text ≡ front ++ rest → take 
 front_of text front rest e =
     let n : length front ≡ length text - length rest = omega (arith, length-append front rest, ap length e) in
     rw e (take_at front rest (length (front ++ rest) - length rest) (rw e at n))
+
+pub no_chars : (text : List ℕ) → length text ≡ 0 → chars text ≡ []
+no_chars [] e = chars-nil
+no_chars (x ∷ text) e = absurd (omega arith)
+
+utf8_behind_chars : (cs ys : List ℕ) → IsUtf8 (encode_utf8_all cs ++ ys) → IsUtf8 ys
+utf8_behind_chars [] ys u = u
+utf8_behind_chars (c ∷ cs) ys u = utf8_behind_chars cs ys (IsUtf8-past_char (encode_utf8_all (c ∷ cs) ++ ys) (encode_utf8_all cs ++ ys) c u (append_assoc (encode c) (encode_utf8_all cs) ys))
+
+-- what follows a text within a text is one
+pub utf8_behind : (xs ys : List ℕ) → IsUtf8 xs → IsUtf8 (xs ++ ys) → IsUtf8 ys
+utf8_behind xs ys u v = utf8_behind_chars (chars xs) ys (rw (encodes-chars xs u) v)
+
+pub chars_before_char : (text before : List ℕ) (c : ℕ) → IsUtf8 text → IsUtf8 before → text ≡ before ++ encode c → chars text ≡ chars before ++ c ∷ []
+chars_before_char text before c u v e =
+    let w : IsUtf8 (encode c) = utf8_behind before (encode c) v (rw e at u) in
+    ap chars e ∙ chars-append before (encode c) v ∙ ap (λ l. chars before ++ l) (chars_past_char (encode c) [] c w (sym (append-nil (encode c))) ∙ ap (λ l. c ∷ l) chars-nil)

@@ -10,13 +10,13 @@ use Rattle.py_text.specs.Splitting.{split_up_to, split_of}
 
 split_last : (n : ℕ) (s xs : List ℕ) → first_place s xs ≡ None → split_up_to n s xs ≡ xs ∷ []
 split_last zero s xs none = refl
-split_last (suc n) s xs none = rw none refl
+split_last (suc n) s xs none = rw (none, split_up_to) refl
 
 split_first : (n : ℕ) (s xs a b : List ℕ) → first_place s xs ≡ Some (length a) → xs ≡ a ++ s ++ b → split_up_to (suc n) s xs ≡ a ∷ split_up_to n s b
 split_first n s xs a b found e =
     let front : take (length a) xs ≡ a = ap (take (length a)) (e ∙ append_assoc a s b) ∙ take_at a (s ++ b) (length a) refl in
     let rest : drop (length a + length s) xs ≡ b = ap (drop (length a + length s)) e ∙ drop_at (a ++ s) b (length a + length s) (length-append a s) in
-    rw found (rw (front, rest) refl)
+    rw (found, split_up_to) (rw (front, rest) refl)
 
 chars_some : (cs text : List ℕ) → encode_utf8_all cs ≡ text → 0 < length text → 0 < length cs
 chars_some [] text e l = absurd (omega (arith, ap length e))

@@ -49,3 +49,14 @@ length-interspersed new (c ∷ cs) = by (length-interspersed new cs)
       length-append new (encode_utf8 c),
       length-append (encode_utf8 c) (encode_utf8_all cs),
     )
+
+pub two_more : (made before new : List ℕ) (n m k : ℕ) → n ≡ saturated (length made) → m ≡ min (n + length before) (2 ^ 64 - 1) → k ≡ min (m + length new) (2 ^ 64 - 1)
+    → k ≡ saturated (length (made ++ before ++ new))
+two_more made before new n m k told first second =
+    let a : m ≡ saturated (length made + length before) = first ∙ saturated_add n (length made) (length before) told in
+    let b : k ≡ saturated (length made + length before + length new) = second ∙ saturated_add m (length made + length before) (length new) a in
+    let whole : length (made ++ before ++ new) ≡ length made + length before + length new = omega (arith, length-append (made ++ before) new, length-append made before) in
+    rw whole b
+
+pub one_more : (made more : List ℕ) (n m : ℕ) → n ≡ saturated (length made) → m ≡ min (n + length more) (2 ^ 64 - 1) → m ≡ saturated (length (made ++ more))
+one_more made more n m told e = rw (length-append made more) (e ∙ saturated_add n (length made) (length more) told)

@@ -3,3 +3,4 @@ mod CutLemmas
 mod JoinLemmas
 mod OrderLemmas
 mod PlaceLemmas
+mod WhiteLemmas

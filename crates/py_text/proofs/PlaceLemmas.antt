@@ -9,6 +9,7 @@ use Rattle.std.proofs.lemmas.List.Prefix.{at_from_reads, at_reads}
 use Rattle.std.proofs.lemmas.Str.{chars-append, encodes-append, encodes-chars, IsUtf8-past_char, IsUtf8-take, IsUtf8-drop, IsCharBoundary-start, IsCharBoundary-from_drop, length-le-encodes}
 use Rattle.memchr.specs.Find.{OccursAt, FindsNeedle, Nowhere, NoneBefore}
 use Rattle.py_text.specs.Finding.{starts_with, first_place}
+use Rattle.py_text.proofs.CharLemmas.{utf8_behind}
 
 -- the part stands in the list, behind so many items
 pub record Stands (part xs : List ℕ) (place : ℕ) : Type 0 where
@@ -88,14 +89,6 @@ stands_bytes part text m u v s = record {
     ∙ ap (λ l. encode_utf8_all s.front ++ l) (encodes-append (chars part) s.rest ∙ ap (λ l. l ++ encode_utf8_all s.rest) (encodes-chars part v));
   behind = refl;
 }
-
-utf8_behind_chars : (cs ys : List ℕ) → IsUtf8 (encode_utf8_all cs ++ ys) → IsUtf8 ys
-utf8_behind_chars [] ys u = u
-utf8_behind_chars (c ∷ cs) ys u = utf8_behind_chars cs ys (IsUtf8-past_char (encode_utf8_all (c ∷ cs) ++ ys) (encode_utf8_all cs ++ ys) c u (append_assoc (encode_utf8 c) (encode_utf8_all cs) ys))
-
--- what follows a text within a text is one
-pub utf8_behind : (xs ys : List ℕ) → IsUtf8 xs → IsUtf8 (xs ++ ys) → IsUtf8 ys
-utf8_behind xs ys u v = utf8_behind_chars (chars xs) ys (rw (encodes-chars xs u) v)
 
 boundary_at : (part text : List ℕ) (k : ℕ) → IsUtf8 part → OccursAt text part k → 0 < length part → IsCharBoundary text k
 boundary_at part text k v o l =

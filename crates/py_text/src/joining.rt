@@ -17,9 +17,9 @@ pub fn joined(alloc: Global, separator: &str, parts: &[&str]) -> Result<String, 
 pub fn joined_length(separator: &str, parts: &[&str]) -> u64
     ensures { result ≡ saturated (length (joined separator.now (map (λ part. part.now) parts.now))) }
 {
-    match parts {
-        [] => 0,
-        [first, others @ ..] => length_behind(separator, first.len() as u64, others),
+    match parts.split_first() {
+        None => 0,
+        Some((first, others)) => length_behind(separator, first.len() as u64, others),
     }
 }
 
