@@ -2,6 +2,8 @@
 use Rattle.std.proofs.Common.{arith, ◌≡◌, ◌<◌, ◌≤◌, ◌+◌, ◌-◌, ◌∙◌, ℕ, zero, suc, List, [], ◌∷◌, ◌++◌, true, false, ap, sym, refl, subst, length, take, drop, get_or, append_assoc, add-one, chars, encode_utf8_all, encode_utf8}
 use Rattle.std.specs.Str.{IsUtf8, IsCharBoundary}
 use Rattle.std.specs.Char.{encode_utf8 as encode}
+use lib.Utf8.{scalar, scalars}
+use Rattle.std.proofs.lemmas.Bool.{and_parts}
 use Rattle.std.proofs.lemmas.Str.{chars-nil, chars-encodes, chars_past_char, chars-append, encodes-append, encodes-chars, IsUtf8-past_char, IsCharBoundary-at_seam, scalars-chars}
 use Rattle.std.proofs.lemmas.List.{length-append, length-drop, take_all, drop_all, append-nil, drop_at, take_at}
 
@@ -70,3 +72,11 @@ pub chars_before_char : (text before : List ℕ) (c : ℕ) → IsUtf8 text → I
 chars_before_char text before c u v e =
     let w : IsUtf8 (encode c) = utf8_behind before (encode c) v (rw e at u) in
     ap chars e ∙ chars-append before (encode c) v ∙ ap (λ l. chars before ++ l) (chars_past_char (encode c) [] c w (sym (append-nil (encode c))) ∙ ap (λ l. c ∷ l) chars-nil)
+
+scalars-drop : (n : ℕ) (cs : List ℕ) → scalars cs ≡ true → scalars (drop n cs) ≡ true
+scalars-drop zero cs s = s
+scalars-drop (suc n) [] s = s
+scalars-drop (suc n) (c ∷ cs) s = scalars-drop n cs (and_parts (scalar c) (scalars cs) s).1
+
+pub chars-drop : (n : ℕ) (text : List ℕ) → IsUtf8 text → chars (encode_utf8_all (drop n (chars text))) ≡ drop n (chars text)
+chars-drop n text u = chars-encodes (drop n (chars text)) (scalars-drop n (chars text) (scalars-chars text u))

@@ -1,5 +1,6 @@
 mod CharLemmas
 mod CutLemmas
+mod FormatLemmas
 mod JoinLemmas
 mod OrderLemmas
 mod PlaceLemmas

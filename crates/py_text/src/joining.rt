@@ -28,7 +28,7 @@ fn length_behind(separator: &str, first: u64, others: &[&str]) -> u64
     ensures { (before : List ℕ) → first ≡ saturated (length before) → result ≡ saturated (length (before ++ flat_map (λ part. separator.now ++ part) (map (λ part. part.now) others.now))) }
 {
     let mut length = first;
-    for part in others {
+    for part in others.iter().copied() {
         length = length
             .saturating_add(separator.len() as u64)
             .saturating_add(part.len() as u64);

@@ -1,4 +1,5 @@
-use Rattle.std.proofs.Common.{rules}
+use Rattle.std.proofs.Common.{◌≡◌, ◌++◌, ◌∷◌, [], ℕ, List, ap, sym, ◌∙◌, length, map, flat_map}
+use Rattle.py_text.specs.Sizes.{saturated}
 use Rattle.py_text.proofs.JoinLemmas.{one_part_more}
 use Rattle.py_text.proofs.joining.length_behind.Goals as goal
 
