@@ -1,8 +1,12 @@
 -- The pieces of a format, run by run.
-use Rattle.std.proofs.Common.{arith, ◌≡◌, ◌<◌, ◌∙◌, ℕ, suc, List, [], ◌∷◌, ◌++◌, Bool, true, false, cond, Option, Some, None, ap, sym, refl, length, get_or, append_assoc, ◌==◌}
+use Rattle.std.proofs.Common.{arith, ◌≡◌, ◌<◌, ◌≤◌, ◌+◌, ◌∙◌, subst, take, drop, chars, encode_utf8, encode_utf8_all, ℕ, suc, List, [], ◌∷◌, ◌++◌, Bool, true, false, cond, Option, Some, None, ap, sym, refl, length, get_or, append_assoc, ◌==◌}
 use Rattle.std.specs.Prelude.{option_map}
 use Rattle.std.specs.List.{list_any}
-use Rattle.std.proofs.lemmas.Bool.{or_from, or_parts}
+use Rattle.std.specs.Str.{IsUtf8}
+use Rattle.std.proofs.lemmas.Bool.{or_from, or_parts, eqb-true, ne_eqb, false_from_ne_true}
+use Rattle.std.proofs.lemmas.List.{length-append, length-take-le, take-append-drop, drop_more, get_or-take}
+use Rattle.std.proofs.lemmas.Str.{encode_ascii, char_from_byte, encodes-chars}
+use Rattle.memchr.specs.Find.{NoneBefore, Nowhere, Passes, is_byte}
 use Rattle.py_text.specs.Formatting.{FormatPiece, literal, percent, any_value, integer, is_percent, onto_literal, piece_of, with_piece, pieces_of, literal_run, StandsFor, HasNoLetter}
 
 pub no_percent : (text : List ℕ) → ((i : ℕ) → i < length text → is_percent (get_or text i 0) ≡ false) → list_any is_percent text ≡ false
@@ -89,3 +93,38 @@ read_stops format rest text (letter ∷ behind) pieces r e h s =
 pub read_end : (format rest : List ℕ) (pieces : List FormatPiece) → Read format rest pieces → list_any is_percent rest ≡ false → pieces_of format ≡ Some (pieces ++ literal_run rest)
 unfolding Read
 read_end format rest pieces r h = r ∙ ap (option_map (λ more. pieces ++ more)) (literal_pieces rest h)
+
+-- where a `%` stands first
+pub percent_cut : (text : List ℕ) (k : ℕ) → NoneBefore (Passes (is_byte 37) text) 0 (length text) k → Passes (is_byte 37) text k
+    → (text ≡ take k text ++ 37 ∷ drop (k + 1) text) × (list_any is_percent (take k text) ≡ false)
+percent_cut text k n p =
+    let short = n.high in
+    let here : get_or text k 0 ≡ 37 = eqb-true (get_or text k 0) 37 p in
+    let cut : length (take k text) ≡ k = length-take-le k text (omega arith) in (
+      sym (take-append-drop k text) ∙ ap (λ l. take k text ++ l) (drop_more text k 0 short ∙ ap (λ b. b ∷ drop (k + 1) text) here),
+      no_percent (take k text) (λ i l. rw (get_or-take k text i 0 (omega arith)) (false_from_ne_true (get_or text i 0 == 37) (n.before i (omega arith) (omega arith)))),
+    )
+
+pub percent_ascii : (text : List ℕ) (k : ℕ) → Passes (is_byte 37) text k → get_or text k 0 < 128
+percent_ascii text k p = let here : get_or text k 0 ≡ 37 = eqb-true (get_or text k 0) 37 p in omega arith
+
+pub percent_nowhere : (text : List ℕ) → Nowhere (Passes (is_byte 37) text) 0 (length text) → list_any is_percent text ≡ false
+percent_nowhere text n = no_percent text (λ i l. false_from_ne_true (get_or text i 0 == 37) (n i (omega arith) l))
+
+pub ascii_first : (text after : List ℕ) (c : ℕ) → c < 128 → text ≡ encode_utf8 c ++ after → text ≡ c ∷ after
+ascii_first text after c l e = e ∙ ap (λ bytes. bytes ++ after) (encode_ascii c l)
+
+pub no_letter : (text after : List ℕ) (c : ℕ) → text ≡ encode_utf8 c ++ after → (c ≡ 37 → ⊥) → (c ≡ 115 → ⊥) → (c ≡ 100 → ⊥) → HasNoLetter text
+no_letter [] after c e x y z = tt
+no_letter (b ∷ text) after c e x y z =
+    let same : b < 128 → c ≡ b = λ l. char_from_byte (b ∷ text) after c e l (omega arith) in
+    let first : b == 37 ≡ false = ne_eqb b 37 (λ h. x (same (omega arith) ∙ h)) in
+    let second : b == 115 ≡ false = ne_eqb b 115 (λ h. y (same (omega arith) ∙ h)) in
+    let third : b == 100 ≡ false = ne_eqb b 100 (λ h. z (same (omega arith) ∙ h)) in
+    rw (first, second, third) refl
+
+pub nothing_left : (text : List ℕ) → IsUtf8 text → chars text ≡ [] → HasNoLetter text
+nothing_left text u e = subst HasNoLetter (sym (ap encode_utf8_all e) ∙ encodes-chars text u) tt
+
+pub behind_shorter : (rest text behind after : List ℕ) (piece : FormatPiece) → rest ≡ text ++ 37 ∷ behind → StandsFor behind piece after → length after < length rest
+behind_shorter rest text behind after piece e s = omega (arith, ap length e, length-append text (37 ∷ behind), ap length s.1)

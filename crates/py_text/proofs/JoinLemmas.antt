@@ -60,3 +60,6 @@ two_more made before new n m k told first second =
 
 pub one_more : (made more : List ℕ) (n m : ℕ) → n ≡ saturated (length made) → m ≡ min (n + length more) (2 ^ 64 - 1) → m ≡ saturated (length (made ++ more))
 one_more made more n m told e = rw (length-append made more) (e ∙ saturated_add n (length made) (length more) told)
+
+pub saturated_short : (n : ℕ) → n < 2 ^ 64 → n ≡ saturated n
+saturated_short n l = omega arith

@@ -2,6 +2,8 @@ mod CharLemmas
 mod CutLemmas
 mod FormatLemmas
 mod JoinLemmas
+mod NumberLemmas
 mod OrderLemmas
 mod PlaceLemmas
+mod QuoteLemmas
 mod WhiteLemmas

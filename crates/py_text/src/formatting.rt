@@ -1,10 +1,11 @@
 //! The pieces of a `%` format.
-ghost use Rattle.std.specs.Prelude.{◌≡◌, ◌++◌, ◌∷◌, [], ℕ, List, None, Some, Err, map, IfOk, OnOk, MatchOption};
+ghost use Rattle.std.specs.Prelude.{◌≡◌, ◌++◌, ◌∷◌, false, None, Some, Err, map, IfOk, OnOk, MatchOption};
 ghost use Rattle.std.specs.List.{list_any};
 ghost use Rattle.py_text.specs.declared.fault.FormatFault.{FormatFault};
 ghost use Rattle.py_text.specs.Formatting.{pieces_of, literal_run, is_percent, HasNoLetter, StandsFor};
 ghost use Rattle.py_text.specs.Views.{plain_piece};
 
+use crate::characters::next_char;
 use crate::fault::FormatFault;
 use memchr::memchr;
 use scons_base::Memory;
@@ -66,12 +67,11 @@ fn cut_at_percent(text: &str) -> Option<(&str, &str)>
 fn read_letter(text: &str) -> Option<(Piece<'_>, &str)>
     ensures { MatchOption result (HasNoLetter text.now) (λ read. StandsFor text.now (plain_piece read.0) read.1.now) }
 {
-    let letter = *text.as_bytes().first()?;
-    let piece = match letter {
-        b'%' => Piece::Percent,
-        b's' => Piece::Any,
-        b'd' => Piece::Integer,
-        _ => return None,
-    };
-    Some((piece, &text[1..]))
+    let (letter, after) = next_char(text)?;
+    match letter {
+        '%' => Some((Piece::Percent, after)),
+        's' => Some((Piece::Any, after)),
+        'd' => Some((Piece::Integer, after)),
+        _ => None,
+    }
 }

@@ -1,5 +1,5 @@
 //! Texts one behind another.
-ghost use Rattle.std.specs.Prelude.{◌≡◌, ◌++◌, ℕ, List, map, flat_map, length, string_bytes, IfOk};
+ghost use Rattle.std.specs.Prelude.{◌≡◌, ◌++◌, map, flat_map, length, string_bytes, IfOk};
 ghost use Rattle.py_text.specs.Joining.{joined, repeated};
 ghost use Rattle.py_text.specs.Sizes.{saturated};
 
@@ -19,15 +19,15 @@ pub fn joined_length(separator: &str, parts: &[&str]) -> u64
 {
     match parts.split_first() {
         None => 0,
-        Some((first, others)) => length_behind(separator, first.len() as u64, others),
+        Some((first, others)) => length_from(separator, first, others),
     }
 }
 
-/// A length with those of further parts and of the separators before them.
-fn length_behind(separator: &str, first: u64, others: &[&str]) -> u64
-    ensures { (before : List ℕ) → first ≡ saturated (length before) → result ≡ saturated (length (before ++ flat_map (λ part. separator.now ++ part) (map (λ part. part.now) others.now))) }
+/// The length of a text with further parts behind it, each behind a separator.
+fn length_from(separator: &str, first: &str, others: &[&str]) -> u64
+    ensures { result ≡ saturated (length (first.now ++ flat_map (λ part. separator.now ++ part) (map (λ part. part.now) others.now))) }
 {
-    let mut length = first;
+    let mut length = first.len() as u64;
     for part in others.iter().copied() {
         length = length
             .saturating_add(separator.len() as u64)
