@@ -38,4 +38,4 @@ too_large (negsuc n) h = by (ltb n (2 ^ 63)) refl
     by false e = rw e refl
 
 pub int_overflow : (text : List ℕ) → is_decimal text ≡ true → (IsNumeral 10 (without_leading_sign text) × SFits w64 (signed_digits_value 10 text) → ⊥) → Err Overflow ≡ int_of text
-int_overflow text h no = rw h (sym (too_large (signed_digits_value 10 text) (λ f. no (numeral text h, f))))
+int_overflow text h refused = rw h (sym (too_large (signed_digits_value 10 text) (λ f. refused (numeral text h, f))))
