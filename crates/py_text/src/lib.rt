@@ -30,7 +30,7 @@ pub use numbers::{decimals, int_of};
 pub use order::compare;
 pub use quoting::{quoted, quoted_length};
 pub use replacing::{replaced, replaced_length};
-pub use splitting::{split, words};
+pub use splitting::{split, split_count, word_count, words};
 pub use stripping::{lstrip, rstrip, strip};
 
 #[cfg(test)]

@@ -2,6 +2,7 @@
 ghost use Rattle.std.specs.Prelude.{◌≡◌, ◌<◌, ◌++◌, ◌∷◌, [], length, map, filter, chars, encode_utf8_all, IfOk, OnOk, MatchOption};
 ghost use Rattle.std.specs.List.{position_or_len, before_first, after_first};
 ghost use Rattle.py_text.specs.Splitting.{split_of, is_word, words_of};
+ghost use Rattle.py_text.specs.Sizes.{saturated};
 ghost use Rattle.py_text.specs.White.{is_white};
 
 use crate::characters::next_char;
@@ -25,6 +26,20 @@ pub fn split<'a>(alloc: Global, text: &'a str, separator: &str) -> Result<Vec<&'
     Ok(parts)
 }
 
+/// How many parts `split` makes.
+pub fn split_count(text: &str, separator: &str) -> u64
+    requires { 0 < length separator.now }
+    ensures { result ≡ saturated (length (split_of text.now separator.now)) }
+{
+    let mut count: u64 = 1;
+    let mut rest = text;
+    'cuts: while let Some((_, after)) = cut_at_first(rest, separator) {
+        count = count.saturating_add(1);
+        rest = after;
+    }
+    count
+}
+
 /// The words between runs of white space.
 pub fn words(alloc: Global, text: &str) -> Result<Vec<&str>, Memory>
     ensures { IfOk result (λ words. map (λ word. word.now) words.items ≡ words_of text.now) }
@@ -37,6 +52,26 @@ pub fn words(alloc: Global, text: &str) -> Result<Vec<&str>, Memory>
     }
     push_word(&mut words, rest)?;
     Ok(words)
+}
+
+/// How many words there are.
+pub fn word_count(text: &str) -> u64
+    ensures { result ≡ saturated (length (words_of text.now)) }
+{
+    let mut count: u64 = 0;
+    let mut rest = text;
+    'parts: while let Some((part, after)) = cut_at_white(rest) {
+        count = count.saturating_add(words_in(part));
+        rest = after;
+    }
+    count.saturating_add(words_in(rest))
+}
+
+/// One, or none where the part is empty.
+fn words_in(part: &str) -> u64
+    ensures { result ≡ length (filter is_word (part.now ∷ [])) }
+{
+    if part.is_empty() { 0 } else { 1 }
 }
 
 fn push_word<'a>(words: &mut Vec<&'a str>, part: &'a str) -> Result<(), Memory>

@@ -219,6 +219,7 @@ fn a_text_is_cut(rt: HostRuntime) -> Result<(), Fail> {
     ] {
         assert!(rt; !separator.is_empty());
         assert_eq!(rt; split(rt.alloc(), text, separator)?.as_slice(), parts, "{text}");
+        assert_eq!(rt; split_count(text, separator), parts.len() as u64, "{text}");
     }
     for (text, parts) in [
         ("", &[][..]),
@@ -231,6 +232,7 @@ fn a_text_is_cut(rt: HostRuntime) -> Result<(), Fail> {
         ("a\u{200b}b", &["a\u{200b}b"][..]),
     ] {
         assert_eq!(rt; words(rt.alloc(), text)?.as_slice(), parts, "{text}");
+        assert_eq!(rt; word_count(text), parts.len() as u64, "{text}");
     }
     for (text, front, end, both) in [
         ("", "", "", ""),
