@@ -29,7 +29,7 @@ follows_more text rest after c n f e =
     rw add-one (record {
       utf8 = IsUtf8-past_char rest after c f.utf8 e;
       parts = f.parts ∙ ap (λ r. encode_utf8_all (take n (chars text)) ++ r) e ∙ sym (append_assoc (encode_utf8_all (take n (chars text))) (encode c) after)
-        ∙ ap (λ l. l ++ after) (ap (λ l. encode_utf8_all (take n (chars text)) ++ l) (sym (append-nil (encode c))) ∙ sym (encodes-append (take n (chars text)) (c ∷ [])) ∙ ap encode_utf8_all (sym k.0));
+          ∙ ap (λ l. l ++ after) (ap (λ l. encode_utf8_all (take n (chars text)) ++ l) (sym (append-nil (encode c))) ∙ sym (encodes-append (take n (chars text)) (c ∷ [])) ∙ ap encode_utf8_all (sym k.0));
       characters = k.1;
     })
 

@@ -34,7 +34,7 @@ one_cut (suc m) sep rest part after some u v l found e =
       m,
       omega (arith, ap length e, length-append (chars part ++ chars sep) (chars after), length-append (chars part) (chars sep)),
       ap (map encode_utf8_all) (split_first m (chars sep) (chars rest) (chars part) (chars after) found e)
-        ∙ ap (λ p. p ∷ map encode_utf8_all (split_up_to m (chars sep) (chars after))) (encodes-chars part v),
+          ∙ ap (λ p. p ∷ map encode_utf8_all (split_up_to m (chars sep) (chars after))) (encodes-chars part v),
     )
 
 no_cut : (n : ℕ) (sep rest : List ℕ) → IsUtf8 rest → first_place (chars sep) (chars rest) ≡ None → map encode_utf8_all (split_up_to n (chars sep) (chars rest)) ≡ rest ∷ []
@@ -92,8 +92,8 @@ exchanges_more new old text rest before after made some u v c found e =
       cuts = k.0;
       enough = k.1;
       whole = append_assoc (made ++ before) new (joined new left) ∙ append_assoc made before (new ++ joined new left)
-        ∙ ap (λ l. made ++ l) (sym (joined_first new before left (encode_utf8_all s.0) (map encode_utf8_all s.1) (ap (map encode_utf8_all) s.2)) ∙ ap (joined new) (sym k.2))
-        ∙ c.whole;
+          ∙ ap (λ l. made ++ l) (sym (joined_first new before left (encode_utf8_all s.0) (map encode_utf8_all s.1) (ap (map encode_utf8_all) s.2)) ∙ ap (joined new) (sym k.2))
+          ∙ c.whole;
     }
 
 pub exchanges_end : (new old text rest made : List ℕ) → IsUtf8 rest → Exchanges new old text rest made → first_place (chars old) (chars rest) ≡ None → made ++ rest ≡ joined new (split_of text old)

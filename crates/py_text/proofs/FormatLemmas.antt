@@ -81,7 +81,7 @@ unfolding Read
 read_more format rest text behind after pieces piece r e h s =
     let whole : rest ≡ text ++ 37 ∷ s.0 ∷ after = e ∙ ap (λ l. text ++ 37 ∷ l) s.1 in
     r ∙ ap (option_map (λ more. pieces ++ more)) (ap pieces_of whole ∙ pieces_behind text s.0 after h ∙ ap (λ p. option_map (λ more. literal_run text ++ more) (with_piece p (pieces_of after))) s.2)
-      ∙ join_runs pieces (literal_run text) piece (pieces_of after)
+    ∙ join_runs pieces (literal_run text) piece (pieces_of after)
 
 pub read_stops : (format rest text behind : List ℕ) (pieces : List FormatPiece) → Read format rest pieces → rest ≡ text ++ 37 ∷ behind
     → list_any is_percent text ≡ false → HasNoLetter behind → pieces_of format ≡ None

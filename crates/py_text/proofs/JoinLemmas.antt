@@ -27,7 +27,7 @@ one_part_more sep part before parts n m k told with_sep with_part =
     let first : m ≡ saturated (length made + length sep) = with_sep ∙ saturated_add n (length made) (length sep) told in
     let second : k ≡ saturated (length made + length sep + length part) = with_part ∙ saturated_add m (length made + length sep) (length part) first in
     let whole : length (before ++ flat_map (λ y. sep ++ y) (parts ++ part ∷ [])) ≡ length made + length sep + length part =
-      ap length (sym (flat_map_more (λ y. sep ++ y) before parts part)) ∙ omega (arith, length-append made (sep ++ part), length-append sep part) in
+    ap length (sym (flat_map_more (λ y. sep ++ y) before parts part)) ∙ omega (arith, length-append made (sep ++ part), length-append sep part) in
     rw whole second
 
 pub length-repeated : (text : List ℕ) (n : ℕ) → length (repeated text n) ≡ length text * n

@@ -86,7 +86,7 @@ stands_bytes part text m u v s = record {
   front = encode_utf8_all s.front;
   rest = encode_utf8_all s.rest;
   whole = sym (encodes-chars text u) ∙ ap encode_utf8_all s.whole ∙ encodes-append s.front (chars part ++ s.rest)
-    ∙ ap (λ l. encode_utf8_all s.front ++ l) (encodes-append (chars part) s.rest ∙ ap (λ l. l ++ encode_utf8_all s.rest) (encodes-chars part v));
+      ∙ ap (λ l. encode_utf8_all s.front ++ l) (encodes-append (chars part) s.rest ∙ ap (λ l. l ++ encode_utf8_all s.rest) (encodes-chars part v));
   behind = refl;
 }
 
@@ -109,9 +109,6 @@ pub record CutsAt (part text front rest : List ℕ) : Type 0 where
   pub characters : chars text ≡ chars front ++ chars part ++ chars rest
 
 module _ (part text : List ℕ) (k : ℕ) (u : IsUtf8 text) (v : IsUtf8 part) (n : NoneBefore (OccursAt text part) 0 (length text + 1) k) (o : OccursAt text part k) where
-
-
-
   rest_utf8 : IsUtf8 (drop (k + length part) text)
   rest_utf8 = utf8_behind part (drop (k + length part) text) v (rw (occurs_rest part text k o) at (IsUtf8-drop text k u (boundary part text k u v n o)))
 
@@ -126,19 +123,19 @@ module _ (part text : List ℕ) (k : ℕ) (u : IsUtf8 text) (v : IsUtf8 part) (n
 
   whole_chars : chars text ≡ chars (take k text) ++ (chars part ++ chars (drop (k + length part) text))
   whole_chars = ap chars whole_text ∙ chars-append (take k text) (part ++ drop (k + length part) text) front_utf8
-    ∙ ap (λ l. chars (take k text) ++ l) (chars-append part (drop (k + length part) text) v)
+      ∙ ap (λ l. chars (take k text) ++ l) (chars-append part (drop (k + length part) text) v)
 
   -- a place before it in characters is one in bytes
   earlier : (m : ℕ) → m < length (chars (take k text)) → (s : Stands (chars part) (chars text) m) → length (encode_utf8_all s.front) < k
   earlier m l s =
       let front = chars (take k text) in
       let same : s.front ≡ take m front = sym (take_at s.front (chars part ++ s.rest) m s.behind) ∙ ap (take m) (sym s.whole) ∙ ap (take m) whole_chars
-        ∙ take-append-le m front (chars part ++ chars (drop (k + length part) text)) (omega arith) in
+      ∙ take-append-le m front (chars part ++ chars (drop (k + length part) text)) (omega arith) in
       let parts : encode_utf8_all (take m front) ++ encode_utf8_all (drop m front) ≡ take k text =
-        sym (encodes-append (take m front) (drop m front)) ∙ ap encode_utf8_all (take-append-drop m front) ∙ encodes-chars (take k text) front_utf8 in
+      sym (encodes-append (take m front) (drop m front)) ∙ ap encode_utf8_all (take-append-drop m front) ∙ encodes-chars (take k text) front_utf8 in
       let long : length (drop m front) ≤ length (encode_utf8_all (drop m front)) = length-le-encodes (drop m front) in
       let total : length (encode_utf8_all (take m front)) + length (encode_utf8_all (drop m front)) ≡ length (take k text) =
-        sym (length-append (encode_utf8_all (take m front)) (encode_utf8_all (drop m front))) ∙ ap length parts in
+      sym (length-append (encode_utf8_all (take m front)) (encode_utf8_all (drop m front))) ∙ ap length parts in
       let cut : length (take k text) ≤ k = rw length-take (omega arith) in
       let left : length (drop m front) ≡ length front - m = length-drop m front in
       rw same (omega arith)
@@ -146,8 +143,8 @@ module _ (part text : List ℕ) (k : ℕ) (u : IsUtf8 text) (v : IsUtf8 part) (n
   pub cuts_at : CutsAt part text (take k text) (drop (k + length part) text)
   cuts_at = record {
     first = first_at (chars part) (chars text) (length (chars (take k text)))
-      (record { front = chars (take k text); rest = chars (drop (k + length part) text); whole = whole_chars; behind = refl })
-      (λ m l s. n.before (length (encode_utf8_all s.front)) (omega arith) (earlier m l s) (stands_occurs part text (length (encode_utf8_all s.front)) (stands_bytes part text m u v s)));
+        (record { front = chars (take k text); rest = chars (drop (k + length part) text); whole = whole_chars; behind = refl })
+        (λ m l s. n.before (length (encode_utf8_all s.front)) (omega arith) (earlier m l s) (stands_occurs part text (length (encode_utf8_all s.front)) (stands_bytes part text m u v s)));
     whole = whole_text ∙ sym (append_assoc (take k text) part (drop (k + length part) text));
     characters = whole_chars ∙ sym (append_assoc (chars (take k text)) (chars part) (chars (drop (k + length part) text)));
   }

@@ -12,9 +12,9 @@ quote_ascii text = cond_both (list_any (λ b. b == 39) text && not (list_any (λ
 pub quoted_is : (text : List ℕ) (quote : ℕ) → quote ≡ quote_of text → encode_utf8 quote ++ flat_map (escaped quote) (chars text) ++ encode_utf8 quote ≡ quoted text
 quoted_is text quote q =
     ap (λ c. encode_utf8 c ++ flat_map (escaped c) (chars text) ++ encode_utf8 c) q
-      ∙ ap (λ bytes. bytes ++ flat_map (escaped (quote_of text)) (chars text) ++ bytes) (encode_ascii (quote_of text) (quote_ascii text))
+    ∙ ap (λ bytes. bytes ++ flat_map (escaped (quote_of text)) (chars text) ++ bytes) (encode_ascii (quote_of text) (quote_ascii text))
 
 pub length-quoted : (text : List ℕ) (quote : ℕ) → quote ≡ quote_of text → 2 + length (flat_map (escaped quote) (chars text)) ≡ length (quoted text)
 length-quoted text quote q =
     ap (λ c. 2 + length (flat_map (escaped c) (chars text))) q
-      ∙ omega (arith, length-append (flat_map (escaped (quote_of text)) (chars text)) (quote_of text ∷ []))
+    ∙ omega (arith, length-append (flat_map (escaped (quote_of text)) (chars text)) (quote_of text ∷ []))

@@ -98,7 +98,7 @@ passed_found text rest after front c p e f w u parts =
     let place : position_or_len is_white (chars text) ≡ p.count = omega (arith, p.whole) in
     let left : length (drop p.count (chars text)) ≡ suc (length (chars after)) = ap length (sym p.follows.characters ∙ f) in
     let front_chars : chars front ≡ take p.count (chars text) = append_cancel_right (chars front) (take p.count (chars text)) (drop p.count (chars text))
-      (ap (λ l. chars front ++ l) (sym p.follows.characters) ∙ sym (ap chars parts ∙ chars-append front rest u) ∙ sym (take-append-drop p.count (chars text))) in
+    (ap (λ l. chars front ++ l) (sym p.follows.characters) ∙ sym (ap chars parts ∙ chars-append front rest u) ∙ sym (take-append-drop p.count (chars text))) in
     record {
       within = omega (arith, length-drop p.count (chars text));
       before = front_chars ∙ ap (λ i. take i (chars text)) (sym place);
@@ -131,11 +131,11 @@ words_first rest part after u f =
     let first = before_first is_white (chars rest) in
     let later = slice_split is_white (after_first is_white (chars rest)) in
     ap (λ parts. map encode_utf8_all (filter is_word parts)) (slice_split_first is_white (chars rest) 0 f.within)
-      ∙ ap (map encode_utf8_all) (filter_first is_word first later)
-      ∙ map-append encode_utf8_all (filter is_word (first ∷ [])) (filter is_word later)
-      ∙ ap (λ l. map encode_utf8_all (filter is_word (l ∷ [])) ++ map encode_utf8_all (filter is_word later)) (sym f.before)
-      ∙ ap (λ l. map encode_utf8_all (filter is_word (chars part ∷ [])) ++ map encode_utf8_all (filter is_word (slice_split is_white l))) (sym f.behind)
-      ∙ ap (λ l. l ++ words_of after) (word_bytes part u)
+    ∙ ap (map encode_utf8_all) (filter_first is_word first later)
+    ∙ map-append encode_utf8_all (filter is_word (first ∷ [])) (filter is_word later)
+    ∙ ap (λ l. map encode_utf8_all (filter is_word (l ∷ [])) ++ map encode_utf8_all (filter is_word later)) (sym f.before)
+    ∙ ap (λ l. map encode_utf8_all (filter is_word (chars part ∷ [])) ++ map encode_utf8_all (filter is_word (slice_split is_white l))) (sym f.behind)
+    ∙ ap (λ l. l ++ words_of after) (word_bytes part u)
 
 pub words_more : (old new : List (List ℕ)) (rest part after : List ℕ) → IsUtf8 part → new ≡ old ++ filter is_word (part ∷ []) → FoundWhite rest part after → new ++ words_of after ≡ old ++ words_of rest
 words_more old new rest part after u n f =
@@ -144,4 +144,4 @@ words_more old new rest part after u n f =
 pub words_end : (old new : List (List ℕ)) (rest : List ℕ) → IsUtf8 rest → new ≡ old ++ filter is_word (rest ∷ []) → position_or_len is_white (chars rest) ≡ length (chars rest) → new ≡ old ++ words_of rest
 words_end old new rest u n e =
     n ∙ ap (λ l. old ++ l) (sym (ap (λ parts. map encode_utf8_all (filter is_word parts))
-      (slice_split_none is_white (chars rest) (λ i d l. fails_before_first is_white (chars rest) i d (rw e l))) ∙ word_bytes rest u))
+    (slice_split_none is_white (chars rest) (λ i d l. fails_before_first is_white (chars rest) i d (rw e l))) ∙ word_bytes rest u))

@@ -9,9 +9,9 @@ use Rattle.py_text.specs.White.{is_white}
 abbrev pub split_up_to : ℕ → List ℕ → List ℕ → List (List ℕ)
 split_up_to zero separator xs = xs ∷ []
 split_up_to (suc cuts) separator xs = elim (first_place separator xs) [
-    None ↦ xs ∷ []
+  | None ↦ xs ∷ []
   | Some place ↦ take place xs ∷ split_up_to cuts separator (drop (place + length separator) xs)
-  ]
+]
 
 -- the parts of a text, cut at each place of a separator that isn't empty; a text has no more cuts than characters
 abbrev pub split_of : List ℕ → List ℕ → List (List ℕ)

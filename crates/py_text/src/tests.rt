@@ -1,17 +1,13 @@
 //! Rows whose values CPython gave, but for the formats, which stand as the library reference has them.
 use super::*;
+use std::alloc::{AllocError, Global};
 use std::cmp::Ordering;
+use std::process::Abort;
 use std::test::Fail;
 
 #[test]
 fn a_text_is_characters(rt: HostRuntime) -> Result<(), Fail> {
-    for (text, count) in [
-        ("", 0),
-        ("abc", 3),
-        ("é", 1),
-        ("aé€😀", 4),
-        ("e\u{301}", 2),
-    ] {
+    for (text, count) in [("", 0), ("abc", 3), ("é", 1), ("aé€😀", 4), ("e\u{301}", 2)] {
         assert_eq!(rt; char_count(text), count, "{text}");
     }
     for (text, place, character) in [
@@ -173,19 +169,35 @@ fn a_text_shows_in_quotes(rt: HostRuntime) -> Result<(), Fail> {
     Ok(())
 }
 
+fn joins(
+    rt: &impl Abort,
+    alloc: Global,
+    separator: &str,
+    parts: &[&str],
+    whole: &str,
+) -> Result<(), Fail> {
+    assert_eq!(rt; joined(alloc, separator, parts)?.as_str(), whole);
+    assert_eq!(rt; joined_length(separator, parts), whole.len() as u64);
+    Ok(())
+}
+
 #[test]
-fn texts_stand_in_a_row(rt: HostRuntime) -> Result<(), Fail> {
-    for (separator, parts, whole) in [
-        (",", &[][..], ""),
-        (",", &["a"][..], "a"),
-        (",", &["a", "b", "c"][..], "a,b,c"),
-        ("", &["a", "b"][..], "ab"),
-        ("€", &["", "é", ""][..], "€é€"),
-        (", ", &["", ""][..], ", "),
-    ] {
-        assert_eq!(rt; joined(rt.alloc(), separator, parts)?.as_str(), whole);
-        assert_eq!(rt; joined_length(separator, parts), whole.len() as u64);
-    }
+fn texts_are_joined(rt: HostRuntime) -> Result<(), Fail> {
+    let alloc = rt.alloc();
+    joins(&rt, alloc, ",", &[], "")?;
+    joins(&rt, alloc, ",", &["a"], "a")?;
+    joins(&rt, alloc, ",", &["a", "b", "c"], "a,b,c")?;
+    joins(&rt, alloc, "", &["a", "b"], "ab")?;
+    joins(&rt, alloc, "€", &["", "é", ""], "€é€")?;
+    joins(&rt, alloc, ", ", &["", ""], ", ")
+}
+
+fn is_repeated(rt: &impl Abort, text: &str, times: usize, length: u64) {
+    assert_eq!(rt; repeated_length(text, times), length);
+}
+
+#[test]
+fn a_text_is_repeated(rt: HostRuntime) -> Result<(), Fail> {
     for (text, times, whole) in [
         ("ab", 0, ""),
         ("ab", 1, "ab"),
@@ -196,43 +208,68 @@ fn texts_stand_in_a_row(rt: HostRuntime) -> Result<(), Fail> {
         assert_eq!(rt; repeated(rt.alloc(), text, times)?.as_str(), whole);
         assert_eq!(rt; repeated_length(text, times), whole.len() as u64);
     }
-    assert_eq!(rt; repeated_length("", usize::MAX), 0);
-    assert_eq!(rt; repeated_length("a", usize::MAX), u64::MAX);
-    assert_eq!(rt; repeated_length("ab", usize::MAX), u64::MAX);
+    is_repeated(&rt, "", usize::MAX, 0);
+    is_repeated(&rt, "a", usize::MAX, u64::MAX);
+    is_repeated(&rt, "ab", usize::MAX, u64::MAX);
     Ok(())
 }
 
 #[test]
 fn a_text_is_cut(rt: HostRuntime) -> Result<(), Fail> {
+    // Each part of a row, and each word, ends at a `|`.
     for (text, separator, parts) in [
-        ("", ",", &[""][..]),
-        (",", ",", &["", ""][..]),
-        ("a,b,,c", ",", &["a", "b", "", "c"][..]),
-        (",a,", ",", &["", "a", ""][..]),
-        ("abc", "abc", &["", ""][..]),
-        ("aaa", "aa", &["", "a"][..]),
-        ("aaaa", "aa", &["", "", ""][..]),
-        ("abc", "d", &["abc"][..]),
-        ("a€b€c", "€", &["a", "b", "c"][..]),
-        ("a, b, c", ", ", &["a", "b", "c"][..]),
-        ("é,é", ",", &["é", "é"][..]),
+        ("", ",", "|"),
+        (",", ",", "||"),
+        ("a,b,,c", ",", "a|b||c|"),
+        (",a,", ",", "|a||"),
+        ("abc", "abc", "||"),
+        ("aaa", "aa", "|a|"),
+        ("aaaa", "aa", "|||"),
+        ("abc", "d", "abc|"),
+        ("a€b€c", "€", "a|b|c|"),
+        ("a, b, c", ", ", "a|b|c|"),
+        ("é,é", ",", "é|é|"),
     ] {
         assert!(rt; !separator.is_empty());
-        assert_eq!(rt; split(rt.alloc(), text, separator)?.as_slice(), parts, "{text}");
-        assert_eq!(rt; split_count(text, separator), parts.len() as u64, "{text}");
+        let cut = split(rt.alloc(), text, separator)?;
+        assert_eq!(rt; split_count(text, separator), cut.len() as u64, "{text}");
+        assert_eq!(rt;
+            ended(rt.alloc(), cut.as_slice())?.as_str(),
+            parts,
+            "{text}"
+        );
     }
+    Ok(())
+}
+
+fn ended(alloc: Global, parts: &[&str]) -> Result<String, AllocError> {
+    let mut row = String::new(alloc);
+    for part in parts {
+        row.push_str(part)?;
+        row.push('|')?;
+    }
+    Ok(row)
+}
+
+#[test]
+fn a_text_has_words(rt: HostRuntime) -> Result<(), Fail> {
     for (text, parts) in [
-        ("", &[][..]),
-        (" ", &[][..]),
-        ("a", &["a"][..]),
-        (" a  b\tc\n", &["a", "b", "c"][..]),
-        ("a\u{a0}b\u{3000}c", &["a", "b", "c"][..]),
-        ("a\x1cb\x1fc\u{85}d", &["a", "b", "c", "d"][..]),
-        ("\u{2003}é\u{2028}€ ", &["é", "€"][..]),
-        ("a\u{200b}b", &["a\u{200b}b"][..]),
+        ("", ""),
+        (" ", ""),
+        ("a", "a|"),
+        (" a  b\tc\n", "a|b|c|"),
+        ("a\u{a0}b\u{3000}c", "a|b|c|"),
+        ("a\x1cb\x1fc\u{85}d", "a|b|c|d|"),
+        ("\u{2003}é\u{2028}€ ", "é|€|"),
+        ("a\u{200b}b", "a\u{200b}b|"),
     ] {
-        assert_eq!(rt; words(rt.alloc(), text)?.as_slice(), parts, "{text}");
-        assert_eq!(rt; word_count(text), parts.len() as u64, "{text}");
+        let found = words(rt.alloc(), text)?;
+        assert_eq!(rt; word_count(text), found.len() as u64, "{text}");
+        assert_eq!(rt;
+            ended(rt.alloc(), found.as_slice())?.as_str(),
+            parts,
+            "{text}"
+        );
     }
     for (text, front, end, both) in [
         ("", "", "", ""),
@@ -266,8 +303,16 @@ fn a_part_is_replaced(rt: HostRuntime) -> Result<(), Fail> {
         ("é€é", "é", "ee", "ee€ee"),
         ("a.b", ".", " . ", "a . b"),
     ] {
-        assert_eq!(rt; replaced(rt.alloc(), text, old, new)?.as_str(), made, "{text}");
-        assert_eq!(rt; replaced_length(text, old, new), made.len() as u64, "{text}");
+        assert_eq!(rt;
+            replaced(rt.alloc(), text, old, new)?.as_str(),
+            made,
+            "{text}"
+        );
+        assert_eq!(rt;
+            replaced_length(text, old, new),
+            made.len() as u64,
+            "{text}"
+        );
     }
     for (text, small, great) in [
         ("", "", ""),
@@ -287,10 +332,25 @@ fn a_format_has_pieces(rt: HostRuntime) -> Result<(), Fail> {
         ("", &[][..]),
         ("a é", &[Piece::Literal("a é")][..]),
         ("%s", &[Piece::Any][..]),
-        ("%s-%d%%", &[Piece::Any, Piece::Literal("-"), Piece::Integer, Piece::Percent][..]),
-        ("€%%s", &[Piece::Literal("€"), Piece::Percent, Piece::Literal("s")][..]),
+        (
+            "%s-%d%%",
+            &[
+                Piece::Any,
+                Piece::Literal("-"),
+                Piece::Integer,
+                Piece::Percent,
+            ][..],
+        ),
+        (
+            "€%%s",
+            &[Piece::Literal("€"), Piece::Percent, Piece::Literal("s")][..],
+        ),
     ] {
-        assert_eq!(rt; format_pieces(rt.alloc(), format)?.as_slice(), pieces, "{format}");
+        assert_eq!(rt;
+            format_pieces(rt.alloc(), format)?.as_slice(),
+            pieces,
+            "{format}"
+        );
     }
     for format in ["%", "a%", "%x", "%s%", "%5d", "% d", "%é"] {
         let fault = format_pieces(rt.alloc(), format).err();

@@ -14,8 +14,8 @@ pieces-preserved c =
     let piece = plain_piece c.in-Some-read_letter.piece in
     let cut = c.in-Some.ensures {u = tt} in
     let pieces : map plain_piece c.push.new.self.items ≡ old ++ literal_run c.in-Some.literal.now ++ piece ∷ [] =
-      ap (map plain_piece) (c.in_ok-push-in-Some-read_letter.ensures {u = tt}).items ∙ map_push plain_piece c.push_literal.new.pieces.items c.in-Some-read_letter.piece
-        ∙ ap (λ l. l ++ piece ∷ []) (c.in_ok-push_literal.ensures {u = tt}) in (
+    ap (map plain_piece) (c.in_ok-push-in-Some-read_letter.ensures {u = tt}).items ∙ map_push plain_piece c.push_literal.new.pieces.items c.in-Some-read_letter.piece
+    ∙ ap (λ l. l ++ piece ∷ []) (c.in_ok-push_literal.ensures {u = tt}) in (
       rw pieces (read_more c.args.format.now c.pieces.rest.now c.in-Some.literal.now c.in-Some.behind.now c.in-Some-read_letter.after.now old piece c.pieces.invariant.0 cut.0 cut.1 (c.in-Some-read_letter.ensures {u = tt})),
       search rules,
     )
@@ -28,4 +28,4 @@ returns-in-None-clause-bad_text c = λ _.
 pub returns-clause-ok : goal.returns-clause-ok
 returns-clause-ok c =
     read_end c.args.format.now c.pieces.rest.now (map plain_piece c.pieces.pieces.items) c.pieces.invariant.0 (rw c.in_default.is at c.cut_at_percent.ensures)
-      ∙ ap Some (sym (c.in_ok-push_literal-2.ensures {u = tt}))
+    ∙ ap Some (sym (c.in_ok-push_literal-2.ensures {u = tt}))

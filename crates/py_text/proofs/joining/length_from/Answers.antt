@@ -11,12 +11,12 @@ pub loop-part-preserved : goal.loop-part-preserved
 loop-part-preserved c =
     let now : Bor (List ℕ) → List ℕ = λ part. part.now in
     one_part_more c.args.separator.now c.in-Some.part.now c.args.first.now (map now c.loop-part.yielded) c.loop-part.length c.saturating_add.result c.saturating_add-length.result
-      c.loop-part.invariant c.saturating_add.ensures c.saturating_add-length.ensures
-      ∙ ap (λ parts. saturated (length (c.args.first.now ++ flat_map (λ y. c.args.separator.now ++ y) parts))) (sym (map_push now c.loop-part.yielded c.in-Some.part))
+    c.loop-part.invariant c.saturating_add.ensures c.saturating_add-length.ensures
+    ∙ ap (λ parts. saturated (length (c.args.first.now ++ flat_map (λ y. c.args.separator.now ++ y) parts))) (sym (map_push now c.loop-part.yielded c.in-Some.part))
 
 pub returns : goal.returns
 returns c =
     let shown : List (Bor (List ℕ)) → List (List ℕ) = λ l. map (λ part. part.now) l in
     let all = YieldsList-end (YieldsList-from_copied (YieldsList-from_slice c.args.others.now cc)) c.loop-part.yielded _ c.loop-part.yielded_by _ _ c.in-None.is c.next.ensures.steps in
     c.loop-part.invariant
-      ∙ ap (λ parts. saturated (length (c.args.first.now ++ flat_map (λ y. c.args.separator.now ++ y) (shown parts)))) (sym (map-id c.loop-part.yielded) ∙ all.0)
+    ∙ ap (λ parts. saturated (length (c.args.first.now ++ flat_map (λ y. c.args.separator.now ++ y) (shown parts)))) (sym (map-id c.loop-part.yielded) ∙ all.0)

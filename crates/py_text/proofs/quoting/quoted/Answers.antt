@@ -11,5 +11,5 @@ returns c =
     let quote = c.quote_of-quote.result in
     let all = YieldsList-end (YieldsList-from_chars c.args.text.now c.utf8.text cc) c.loop-c.yielded _ c.loop-c.yielded_by _ _ c.in-None.is c.next.ensures.steps in
     (c.in_ok-push-2.ensures {u = tt}).bytes
-      ∙ ap (λ l. l ++ encode_utf8 quote) (c.loop-c.invariant ∙ ap (λ l. encode_utf8 quote ++ flat_map (escaped quote) l) (sym (map-id c.loop-c.yielded) ∙ all.0))
-      ∙ quoted_is c.args.text.now quote c.quote_of-quote.ensures
+    ∙ ap (λ l. l ++ encode_utf8 quote) (c.loop-c.invariant ∙ ap (λ l. encode_utf8 quote ++ flat_map (escaped quote) l) (sym (map-id c.loop-c.yielded) ∙ all.0))
+    ∙ quoted_is c.args.text.now quote c.quote_of-quote.ensures

@@ -12,4 +12,4 @@ returns c =
     let quote = c.quote_of-quote.result in
     let all = YieldsList-end (YieldsList-from_chars c.args.text.now c.utf8.text cc) c.loop-c.yielded _ c.loop-c.yielded_by _ _ c.in-None.is c.next.ensures.steps in
     c.loop-c.invariant ∙ ap (λ l. saturated (2 + length (flat_map (escaped quote) l))) (sym (map-id c.loop-c.yielded) ∙ all.0)
-      ∙ ap saturated (length-quoted c.args.text.now quote c.quote_of-quote.ensures)
+    ∙ ap saturated (length-quoted c.args.text.now quote c.quote_of-quote.ensures)

@@ -22,5 +22,5 @@ pub returns : goal.returns
 returns c =
     let made = c.places.invariant.0.0 in
     one_more made c.places.rest.now c.places.length c.saturating_add-2.result c.places.invariant.0.1 c.saturating_add-2.ensures
-      ∙ ap (λ l. saturated (length l))
-        (exchanges_end c.args.new.now c.args.old.now c.args.text.now c.places.rest.now made c.places.invariant.1 c.places.invariant.0.2 (rw c.in_default.is at c.cut_at_first.ensures))
+    ∙ ap (λ l. saturated (length l))
+    (exchanges_end c.args.new.now c.args.old.now c.args.text.now c.places.rest.now made c.places.invariant.1 c.places.invariant.0.2 (rw c.in_default.is at c.cut_at_first.ensures))

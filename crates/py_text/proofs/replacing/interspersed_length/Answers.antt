@@ -18,5 +18,5 @@ returns c =
     ) in
     let with_text : c.saturating_add.result ≡ saturated (places + length c.args.text.now) = c.saturating_add.ensures ∙ saturated_add c.saturating_mul.result places (length c.args.text.now) c.saturating_mul.ensures in
     let with_last : c.saturating_add-2.result ≡ saturated (places + length c.args.text.now + length c.args.new.now) =
-      c.saturating_add-2.ensures ∙ saturated_add c.saturating_add.result (places + length c.args.text.now) (length c.args.new.now) with_text in
+    c.saturating_add-2.ensures ∙ saturated_add c.saturating_add.result (places + length c.args.text.now) (length c.args.new.now) with_text in
     rw whole with_last

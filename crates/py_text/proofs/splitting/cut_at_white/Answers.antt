@@ -18,7 +18,7 @@ returns-then-is_white c =
     let white : is_white c.in-Some.c ≡ true = sym c.is_white.ensures ∙ c.if-is_white.true in
     let cut : c.range.result.now ≡ take (length c.args.text.now - length c.characters.rest.now) c.args.text.now = grind (arith, common_steps) in
     let front : c.range.result.now ≡ encode_utf8_all (take passed.count (chars c.args.text.now)) =
-      cut ∙ front_of c.args.text.now (encode_utf8_all (take passed.count (chars c.args.text.now))) c.characters.rest.now passed.follows.parts in
+    cut ∙ front_of c.args.text.now (encode_utf8_all (take passed.count (chars c.args.text.now))) c.characters.rest.now passed.follows.parts in
     let parts : c.args.text.now ≡ c.range.result.now ++ c.characters.rest.now = passed.follows.parts ∙ ap (λ l. l ++ c.characters.rest.now) (sym front) in
     let found = passed_found c.args.text.now c.characters.rest.now c.in-Some.after.now c.range.result.now c.in-Some.c passed next.0 next.1 white c.range.utf8 parts in
     let shorter : length c.in-Some.after.now < length c.characters.rest.now = shorter_front c.characters.rest.now c.in-Some.after.now c.in-Some.c next.0 in

@@ -13,7 +13,7 @@ cuts-preserved c =
     let cut = c.in-Some.ensures {u = tt} in
     let part_utf8 : IsUtf8 part = search rules in
     let counted : c.saturating_add-count.result ≡ saturated (length (parts ++ part ∷ []) + 1) =
-      c.saturating_add-count.ensures ∙ saturated_add c.cuts.count (length parts + 1) 1 c.cuts.invariant.0.1 ∙ ap (λ n. saturated (n + 1)) (sym (length_push parts part)) in (
+    c.saturating_add-count.ensures ∙ saturated_add c.cuts.count (length parts + 1) 1 c.cuts.invariant.0.1 ∙ ap (λ n. saturated (n + 1)) (sym (length_push parts part)) in (
       (parts ++ part ∷ [], counted, cuts_more c.args.separator.now c.args.text.now c.cuts.rest.now part c.in-Some.after.now parts c.requires c.utf8.separator part_utf8 c.cuts.invariant.0.2 cut.0 cut.2),
       search rules,
     )
@@ -22,4 +22,4 @@ pub returns : goal.returns
 returns c =
     let parts = c.cuts.invariant.0.0 in
     c.cuts.invariant.0.1 ∙ ap saturated (sym (length_push parts c.cuts.rest.now))
-      ∙ ap (λ l. saturated (length l)) (cuts_end c.args.separator.now c.args.text.now c.cuts.rest.now parts c.cuts.invariant.1 c.cuts.invariant.0.2 (rw c.in_default.is at c.cut_at_first.ensures))
+    ∙ ap (λ l. saturated (length l)) (cuts_end c.args.separator.now c.args.text.now c.cuts.rest.now parts c.cuts.invariant.1 c.cuts.invariant.0.2 (rw c.in_default.is at c.cut_at_first.ensures))

@@ -15,8 +15,8 @@ parts-preserved c =
     let cut = c.in-Some.ensures {u = tt} in
     let part_utf8 : IsUtf8 c.in-Some.part.now = search rules in
     let counted : c.saturating_add-count.result ≡ saturated (length (words ++ more)) =
-      c.saturating_add-count.ensures ∙ saturated_add c.parts.count (length words) c.words_in.result c.parts.invariant.0.1
-        ∙ ap (λ n. saturated (length words + n)) c.words_in.ensures ∙ ap saturated (sym (length-append words more)) in (
+    c.saturating_add-count.ensures ∙ saturated_add c.parts.count (length words) c.words_in.result c.parts.invariant.0.1
+    ∙ ap (λ n. saturated (length words + n)) c.words_in.ensures ∙ ap saturated (sym (length-append words more)) in (
       (
         words ++ more,
         counted,
@@ -30,5 +30,5 @@ returns c =
     let words = c.parts.invariant.0.0 in
     let more = filter is_word (c.parts.rest.now ∷ []) in
     c.saturating_add.ensures ∙ saturated_add c.parts.count (length words) c.words_in-2.result c.parts.invariant.0.1
-      ∙ ap (λ n. saturated (length words + n)) c.words_in-2.ensures ∙ ap saturated (sym (length-append words more))
-      ∙ ap (λ l. saturated (length l)) (words_end words (words ++ more) c.parts.rest.now c.parts.invariant.1 refl (rw c.in_default.is at c.cut_at_white.ensures) ∙ c.parts.invariant.0.2)
+    ∙ ap (λ n. saturated (length words + n)) c.words_in-2.ensures ∙ ap saturated (sym (length-append words more))
+    ∙ ap (λ l. saturated (length l)) (words_end words (words ++ more) c.parts.rest.now c.parts.invariant.1 refl (rw c.in_default.is at c.cut_at_white.ensures) ∙ c.parts.invariant.0.2)

@@ -8,4 +8,4 @@ use Rattle.py_text.proofs.stripping.strip.Goals as goal
 pub returns : goal.returns
 returns c =
     c.rstrip.ensures ∙ ap rstrip c.lstrip.ensures
-      ∙ ap (λ cs. encode_utf8_all (without_white_end cs)) (chars-drop (prefix_len is_white (chars c.args.text.now)) c.args.text.now c.utf8.text)
+    ∙ ap (λ cs. encode_utf8_all (without_white_end cs)) (chars-drop (prefix_len is_white (chars c.args.text.now)) c.args.text.now c.utf8.text)
