@@ -1,11 +1,11 @@
 -- A text and its characters.
-use Rattle.std.proofs.Common.{arith, ◌≡◌, ◌<◌, ◌≤◌, ◌+◌, ◌-◌, ◌∙◌, ℕ, zero, suc, List, [], ◌∷◌, ◌++◌, true, false, ap, sym, refl, subst, length, take, drop, get_or, append_assoc, add-one, chars, encode_utf8_all, encode_utf8}
+use Rattle.std.proofs.Common.{arith, ◌≡◌, ◌≤◌, ◌+◌, ◌-◌, ◌∙◌, ℕ, zero, suc, List, [], ◌∷◌, ◌++◌, true, ap, sym, refl, subst, length, take, drop, append_assoc, add-one, chars, encode_utf8_all}
 use Rattle.std.specs.Str.{IsUtf8, IsCharBoundary}
 use Rattle.std.specs.Char.{encode_utf8 as encode}
 use lib.Utf8.{scalar, scalars}
 use Rattle.std.proofs.lemmas.Bool.{and_parts}
 use Rattle.std.proofs.lemmas.Str.{chars-nil, chars-encodes, chars_past_char, chars-append, encodes-append, encodes-chars, IsUtf8-past_char, IsCharBoundary-at_seam, scalars-chars}
-use Rattle.std.proofs.lemmas.List.{length-append, length-drop, take_all, drop_all, append-nil, drop_at, take_at}
+use Rattle.std.proofs.lemmas.List.{length-append, length-drop, take_all, drop_all, append-nil, take_at}
 
 -- what follows the first n characters, which may be all
 pub record Follows (text rest : List ℕ) (n : ℕ) : Type 0 where

@@ -1,9 +1,8 @@
 -- Texts in a row, and how long they are.
-use Rattle.std.proofs.Common.{arith, ◌≡◌, ◌<◌, ◌≤◌, ◌+◌, ◌-◌, ◌*◌, ◌^◌, ◌∙◌, ℕ, zero, suc, List, [], ◌∷◌, ◌++◌, ap, sym, refl, length, map, append_assoc, encode_utf8, encode_utf8_all, flat_map}
+use Rattle.std.proofs.Common.{arith, ◌≡◌, ◌<◌, ◌+◌, ◌-◌, ◌*◌, ◌^◌, ◌∙◌, ℕ, zero, suc, List, [], ◌∷◌, ◌++◌, ap, sym, refl, length, map, encode_utf8, encode_utf8_all, flat_map}
 use Rattle.std.specs.Prelude.{min}
 use Rattle.std.specs.List.{join_by, repeat}
 use Rattle.std.proofs.lemmas.List.{length-append, flat_map_more}
-use Rattle.std.proofs.lemmas.Bool.{cases_lt}
 use denote.Ref.{Bor}
 use Rattle.py_text.specs.Joining.{joined, repeated}
 use Rattle.py_text.specs.Sizes.{saturated}

@@ -1,5 +1,5 @@
 -- Numbers read from texts.
-use Rattle.std.proofs.Common.{arith, ◌≡◌, ◌<◌, ◌^◌, ◌∙◌, ◌==◌, ℕ, List, [], ◌∷◌, Bool, true, false, not, Err, refl, sym, ap, length, ltb}
+use Rattle.std.proofs.Common.{arith, ◌≡◌, ◌<◌, ◌^◌, ◌==◌, ℕ, List, [], ◌∷◌, Bool, true, false, not, Err, refl, sym, length, ltb}
 use Rattle.std.specs.Prelude.{ℤ, pos, negsuc}
 use Rattle.std.specs.Char.{is_ascii_digit, digit_value}
 use Rattle.std.specs.List.{list_all}

@@ -1,13 +1,13 @@
 -- The first place of a part.
-use Rattle.std.proofs.Common.{arith, ◌≡◌, ◌<◌, ◌≤◌, ◌+◌, ◌-◌, ◌∙◌, ℕ, zero, suc, List, [], ◌∷◌, ◌++◌, Bool, true, false, Option, Some, None, ap, sym, refl, subst, length, take, drop, get_or, append_assoc, eqb, add-zero, encode_utf8, chars, encode_utf8_all}
+use Rattle.std.proofs.Common.{arith, ◌≡◌, ◌<◌, ◌≤◌, ◌+◌, ◌-◌, ◌∙◌, ℕ, zero, suc, List, [], ◌∷◌, ◌++◌, Bool, true, false, Some, None, ap, sym, refl, subst, length, take, drop, get_or, append_assoc, add-zero, chars, encode_utf8_all}
 use Rattle.std.specs.Str.{IsUtf8, IsCharBoundary}
 use Rattle.std.specs.Prelude.{option_map}
 use Rattle.std.proofs.lemmas.Bool.Decides.{Decides-eqb}
 use Rattle.std.proofs.lemmas.Slice.Eq.{starts_is}
-use Rattle.std.proofs.lemmas.List.{length-append, length-take, length-drop, take-append-drop, append_cancel_left, take_at, drop_at, take-append-le}
+use Rattle.std.proofs.lemmas.List.{length-append, length-take, length-drop, take-append-drop, take_at, drop_at, take-append-le}
 use Rattle.std.proofs.lemmas.List.Prefix.{at_from_reads, at_reads}
-use Rattle.std.proofs.lemmas.Str.{chars-append, encodes-append, encodes-chars, IsUtf8-past_char, IsUtf8-take, IsUtf8-drop, IsCharBoundary-start, IsCharBoundary-from_drop, length-le-encodes}
-use Rattle.memchr.specs.Find.{OccursAt, FindsNeedle, Nowhere, NoneBefore}
+use Rattle.std.proofs.lemmas.Str.{chars-append, encodes-append, encodes-chars, IsUtf8-take, IsUtf8-drop, IsCharBoundary-start, IsCharBoundary-from_drop, length-le-encodes}
+use Rattle.memchr.specs.Find.{OccursAt, Nowhere, NoneBefore}
 use Rattle.py_text.specs.Finding.{starts_with, first_place}
 use Rattle.py_text.proofs.CharLemmas.{utf8_behind}
 

@@ -1,5 +1,5 @@
 -- The quotes around a text.
-use Rattle.std.proofs.Common.{arith, ◌≡◌, ◌<◌, ◌+◌, ◌∷◌, [], List, ℕ, not, ◌==◌, ◌&&◌, ◌∙◌, ap, sym, length, lit<, encode_utf8, flat_map, chars, ◌++◌}
+use Rattle.std.proofs.Common.{arith, ◌≡◌, ◌<◌, ◌+◌, ◌∷◌, [], List, ℕ, not, ◌==◌, ◌&&◌, ◌∙◌, ap, length, lit<, encode_utf8, flat_map, chars, ◌++◌}
 use Rattle.std.specs.List.{list_any}
 use Rattle.std.proofs.lemmas.Bool.{cond_both}
 use Rattle.std.proofs.lemmas.List.{length-append}

@@ -1,9 +1,9 @@
 -- White space around a text and within it.
-use Rattle.std.proofs.Common.{arith, ◌≡◌, ◌<◌, ◌≤◌, ◌+◌, ◌-◌, ◌∙◌, ℕ, zero, suc, List, [], ◌∷◌, ◌++◌, Bool, true, false, not, cond, ap, sym, refl, length, take, drop, map, reverse, append_assoc, chars, encode_utf8_all, encode_utf8, ◌==◌}
+use Rattle.std.proofs.Common.{arith, ◌≡◌, ◌<◌, ◌+◌, ◌-◌, ◌∙◌, ℕ, suc, List, [], ◌∷◌, ◌++◌, Bool, true, false, not, cond, ap, sym, refl, length, take, drop, map, reverse, append_assoc, chars, encode_utf8_all, encode_utf8}
 use Rattle.std.specs.Prelude.{filter}
 use Rattle.std.specs.Str.{IsUtf8}
 use Rattle.std.specs.List.{prefix_len, suffix_len, slice_split, position_or_len, before_first, after_first}
-use Rattle.std.proofs.lemmas.List.{length-append, length-take, length-drop, length-reverse, reverse-append, take-append-le, take-append-drop, append_cancel_right, map-append, take_all}
+use Rattle.std.proofs.lemmas.List.{length-append, length-drop, reverse-append, take-append-le, take-append-drop, append_cancel_right, map-append, take_all}
 use Rattle.std.proofs.lemmas.List.Sums.{prefix_len-le-length, fails_before_first}
 use Rattle.std.proofs.lemmas.List.Splits.{slice_split_first, slice_split_none}
 use Rattle.std.proofs.lemmas.Bool.{ne_eqb}
@@ -11,7 +11,7 @@ use Rattle.std.proofs.lemmas.Str.{encodes-chars, chars-append, length-encode, le
 use Rattle.py_text.specs.White.{is_white}
 use Rattle.py_text.specs.Stripping.{without_white_front, without_white_end, lstrip, rstrip}
 use Rattle.py_text.specs.Splitting.{is_word, words_of}
-use Rattle.py_text.proofs.CharLemmas.{Follows, follows_none, follows_more, front_of}
+use Rattle.py_text.proofs.CharLemmas.{Follows, follows_none, follows_more}
 
 prefix_more : (p : ℕ → Bool) (c : ℕ) (cs : List ℕ) → p c ≡ true → prefix_len p (c ∷ cs) ≡ suc (prefix_len p cs)
 prefix_more p c cs w = rw w (omega arith)

@@ -1,7 +1,7 @@
 -- How a text shows within a list: `repr` in the Python library reference, with the escapes of section 2.4.1 of the language
 -- reference. A character stands by its number: 9 is a tab, 10 a line feed, 13 a carriage return, 34 `"`, 39 `'`, 92 a
 -- backslash, 110 `n`, 114 `r`, 116 `t` and 120 `x`.
-use Rattle.std.specs.Prelude.{ℕ, ◌/◌, ◌%◌, Bool, not, ◌&&◌, ◌||◌, ◌==◌, nat_lt, List, [], ◌∷◌, ◌++◌, flat_map, if◌then◌else◌, chars, encode_utf8}
+use Rattle.std.specs.Prelude.{ℕ, ◌/◌, ◌%◌, not, ◌&&◌, ◌||◌, ◌==◌, nat_lt, List, [], ◌∷◌, ◌++◌, flat_map, if◌then◌else◌, chars, encode_utf8}
 use Rattle.std.specs.List.{list_any}
 use Rattle.std.specs.Char.{digit_char}
 

@@ -1,5 +1,4 @@
-use Rattle.std.proofs.Common.{encode_utf8_all, take, chars}
-use Rattle.py_text.proofs.CharLemmas.{seam, front_of}
+use Rattle.py_text.proofs.CharLemmas.{seam}
 use Rattle.py_text.proofs.characters.before.Goals as goal
 
 pub range-requires-clause-end_boundary : goal.range-requires-clause-end_boundary

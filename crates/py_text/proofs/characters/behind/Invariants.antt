@@ -1,4 +1,4 @@
-use Rattle.std.proofs.Common.{◌≡◌, ◌≤◌, ◌-◌}
+use Rattle.std.proofs.Common.{◌≤◌, ◌-◌}
 use Rattle.py_text.proofs.CharLemmas.{Follows}
 use Rattle.py_text.proofs.characters.behind.Given as goal
 

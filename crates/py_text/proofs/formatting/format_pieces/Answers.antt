@@ -2,7 +2,7 @@ use Rattle.std.proofs.Common.{rules, ◌≡◌, ◌++◌, ◌∷◌, [], Some, a
 use Rattle.std.proofs.lemmas.List.{map_push}
 use Rattle.py_text.specs.Formatting.{literal_run}
 use Rattle.py_text.specs.Views.{plain_piece}
-use Rattle.py_text.proofs.FormatLemmas.{Read, read_none, read_more, read_stops, read_end, behind_shorter}
+use Rattle.py_text.proofs.FormatLemmas.{Read, read_none, read_more, read_stops, read_end}
 use Rattle.py_text.proofs.formatting.format_pieces.Goals as goal
 
 pub pieces-init : goal.pieces-init

@@ -1,4 +1,4 @@
-use Rattle.std.proofs.Common.{◌≡◌, List, ℕ, ap, sym, ◌∙◌, length, map}
+use Rattle.std.proofs.Common.{List, ℕ, ap, sym, ◌∙◌, length, map}
 use denote.Ref.{Bor}
 use Rattle.py_text.specs.Joining.{joined}
 use Rattle.py_text.specs.Sizes.{saturated}

@@ -1,5 +1,3 @@
-use Rattle.std.proofs.Common.{arith, ◌≡◌, ◌*◌, length}
-use Rattle.py_text.specs.Joining.{repeated}
 use Rattle.py_text.proofs.JoinLemmas.{length-repeated}
 use Rattle.py_text.proofs.joining.repeated_length.Goals as goal
 

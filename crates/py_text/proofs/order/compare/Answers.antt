@@ -1,6 +1,4 @@
-use Rattle.std.proofs.Common.{◌∙◌, sym, chars, encode_utf8_all}
-use Rattle.std.specs.Ordering.{nat_cmp}
-use Rattle.std.specs.Cmp.Lexicographic.{slice_cmp}
+use Rattle.std.proofs.Common.{◌∙◌, chars}
 use Rattle.std.proofs.lemmas.Str.{encodes-chars}
 use Rattle.py_text.proofs.OrderLemmas.{order_kept}
 use Rattle.py_text.proofs.order.compare.Goals as goal

@@ -1,6 +1,6 @@
 use Rattle.std.proofs.Common.{rules, ◌≡◌, ◌++◌, ap, ◌∙◌, string_bytes}
 use Rattle.std.specs.Str.{IsUtf8}
-use Rattle.py_text.proofs.CutLemmas.{exchanges_more, exchanges_end, cut_shorter}
+use Rattle.py_text.proofs.CutLemmas.{exchanges_more, exchanges_end}
 use Rattle.py_text.proofs.replacing.exchanged.Goals as goal
 
 pub places-preserved : goal.places-preserved

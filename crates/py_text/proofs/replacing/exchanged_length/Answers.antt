@@ -1,7 +1,7 @@
 use Rattle.std.proofs.Common.{rules, ◌++◌, ap, length, ◌∙◌}
 use Rattle.std.specs.Str.{IsUtf8}
 use Rattle.py_text.specs.Sizes.{saturated}
-use Rattle.py_text.proofs.CutLemmas.{exchanges_more, exchanges_end, cut_shorter}
+use Rattle.py_text.proofs.CutLemmas.{exchanges_more, exchanges_end}
 use Rattle.py_text.proofs.JoinLemmas.{one_more, two_more}
 use Rattle.py_text.proofs.replacing.exchanged_length.Goals as goal
 

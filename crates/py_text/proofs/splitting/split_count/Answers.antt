@@ -2,7 +2,7 @@ use Rattle.std.proofs.Common.{rules, ◌≡◌, ◌+◌, ◌++◌, ◌∷◌, []
 use Rattle.std.specs.Str.{IsUtf8}
 use Rattle.std.proofs.lemmas.List.{length_push}
 use Rattle.py_text.specs.Sizes.{saturated}
-use Rattle.py_text.proofs.CutLemmas.{cuts_none, cuts_more, cuts_end}
+use Rattle.py_text.proofs.CutLemmas.{cuts_more, cuts_end}
 use Rattle.py_text.proofs.JoinLemmas.{saturated_add}
 use Rattle.py_text.proofs.splitting.split_count.Goals as goal
 

@@ -3,7 +3,7 @@ use Rattle.std.specs.Prelude.{filter}
 use Rattle.std.specs.Str.{IsUtf8}
 use Rattle.std.proofs.lemmas.List.{length-append}
 use Rattle.py_text.specs.Sizes.{saturated}
-use Rattle.py_text.specs.Splitting.{is_word, words_of}
+use Rattle.py_text.specs.Splitting.{is_word}
 use Rattle.py_text.proofs.JoinLemmas.{saturated_add}
 use Rattle.py_text.proofs.WhiteLemmas.{words_more, words_end}
 use Rattle.py_text.proofs.splitting.word_count.Goals as goal

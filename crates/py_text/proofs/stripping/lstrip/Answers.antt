@@ -1,4 +1,4 @@
-use Rattle.std.proofs.Common.{arith, ◌≡◌, false, ◌∙◌, sym}
+use Rattle.std.proofs.Common.{◌≡◌, false, ◌∙◌, sym}
 use Rattle.py_text.specs.White.{is_white}
 use Rattle.py_text.proofs.WhiteLemmas.{lstrip_stops, lstrip_empty}
 use Rattle.py_text.proofs.stripping.lstrip.Goals as goal
