@@ -1,0 +1,9 @@
+mod CharLemmas
+mod CutLemmas
+mod FormatLemmas
+mod JoinLemmas
+mod NumberLemmas
+mod OrderLemmas
+mod PlaceLemmas
+mod QuoteLemmas
+mod WhiteLemmas

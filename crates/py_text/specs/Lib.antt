@@ -1,0 +1,13 @@
+pub mod Characters
+pub mod Finding
+pub mod Formatting
+pub mod Joining
+pub mod Letters
+pub mod Numbers
+pub mod Quoting
+pub mod Replacing
+pub mod Sizes
+pub mod Splitting
+pub mod Stripping
+pub mod White
+pub mod Views
