@@ -1,0 +1,3 @@
+pub mod Squeezing
+pub mod Showing
+pub mod Sizes
