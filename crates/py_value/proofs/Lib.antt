@@ -1,0 +1,13 @@
+pub mod Entries
+pub mod Facing
+pub mod Fitting
+pub mod Grown
+pub mod Lengths
+pub mod Letters
+pub mod Limits
+pub mod Pairs
+pub mod ShownLimits
+pub mod Shows
+pub mod Steps
+pub mod TextLengths
+pub mod ManyTexts
