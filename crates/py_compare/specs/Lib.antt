@@ -1,0 +1,5 @@
+pub mod Comparisons
+pub mod Equality
+pub mod Numbers
+pub mod Order
+pub mod Outcomes

@@ -1,0 +1,94 @@
+//! The comparisons.
+ghost use Rattle.std.specs.Prelude.{◌≡◌, ◌≢◌, Ok, Err, IfOk, IfErr};
+ghost use Rattle.py_compare.specs.Comparisons.{ordered, within_of, is_constant, item_in};
+ghost use Rattle.py_compare.specs.Equality.{is_nil, equal_of};
+
+use crate::equal::{LEVEL_LIMIT, equal, place_of};
+use crate::order::order_of;
+use py_heap::{Budget, Heap, Value, ValueFault};
+use std::cmp::Ordering;
+
+/// How two values are ordered, once their meeting is charged for.
+pub fn ordered(
+    heap: &Heap,
+    budget: &mut Budget,
+    a: Value,
+    b: Value,
+) -> Result<Ordering, ValueFault>
+    ensures ok { IfOk result (λ o. ordered heap.now budget.old a b ≡ Ok (o, budget.new)) }
+    ensures fault { IfErr result (λ e. e ≢ ValueFault.Memory → ordered heap.now budget.old a b ≡ Err e) }
+{
+    budget.charge(1)?;
+    let order = order_of(heap, a, b)?;
+    Ok(order)
+}
+
+/// Whether a value stands in another one.
+pub fn within(
+    heap: &Heap,
+    budget: &mut Budget,
+    item: Value,
+    owner: Value,
+) -> Result<bool, ValueFault>
+    ensures ok { IfOk result (λ x. within_of heap.now budget.old item owner ≡ Ok (x, budget.new)) }
+    ensures fault { IfErr result (λ e. e ≢ ValueFault.Memory → within_of heap.now budget.old item owner ≡ Err e) }
+{
+    match owner {
+        Value::List(list) => item_in(heap, budget, heap.list_at(list), item),
+        Value::Tuple(tuple) => item_in(heap, budget, heap.tuple_at(tuple), item),
+        Value::Dict(dict) => {
+            let Some(key) = heap.key_of(item)? else {
+                return Err(ValueFault::Key);
+            };
+            Ok(heap.entry_at(dict, &key).is_some())
+        }
+        Value::Text(text) => match item {
+            Value::Text(part) => Ok(py_text::contains(heap.text_at(text), heap.text_at(part))),
+            _ => Err(ValueFault::Mismatch(item.kind(), owner.kind())),
+        },
+        _ => Err(ValueFault::Mismatch(item.kind(), owner.kind())),
+    }
+}
+
+fn item_in(
+    heap: &Heap,
+    budget: &mut Budget,
+    items: &[Value],
+    item: Value,
+) -> Result<bool, ValueFault>
+    ensures ok { IfOk result (λ x. item_in heap.now budget.old items.now item ≡ Ok (x, budget.new)) }
+    ensures fault { IfErr result (λ e. e ≢ ValueFault.Memory → item_in heap.now budget.old items.now item ≡ Err e) }
+{
+    let found = place_of(heap, budget, items, item)?;
+    Ok(found.is_some())
+}
+
+/// Whether a value is that very constant.
+pub fn is_constant(value: Value, constant: Value) -> bool
+    ensures { result ≡ is_constant value constant }
+{
+    match constant {
+        Value::Nil => match value {
+            Value::Nil => true,
+            _ => false,
+        },
+        Value::Bool(true) => match value {
+            Value::Bool(flag) => flag,
+            _ => false,
+        },
+        Value::Bool(false) => match value {
+            Value::Bool(flag) => !flag,
+            _ => false,
+        },
+        _ => false,
+    }
+}
+
+/// Whether two values are equal.
+
+pub fn same(heap: &Heap, budget: &mut Budget, a: Value, b: Value) -> Result<bool, ValueFault>
+    ensures ok { IfOk result (λ x. equal_of heap.now budget.old a b ≡ Ok (x, budget.new)) }
+    ensures fault { IfErr result (λ e. e ≢ ValueFault.Memory → equal_of heap.now budget.old a b ≡ Err e) }
+{
+    equal(heap, budget, LEVEL_LIMIT, a, b)
+}

@@ -1,0 +1,19 @@
+-- An item that is put where a dict has none, within the limit and past it.
+use Rattle.std.proofs.Common.{arith, ◌≡◌, ◌∙◌, ◌<◌, ◌≤◌, ℕ, length, Ok, Err, refl, ap, sym}
+use Rattle.py_heap.specs.declared.value.Value.{Value}
+use Rattle.py_heap.specs.declared.key.Key.{Key}
+use Rattle.py_heap.specs.Heap.{Objects, Entries, dict_at, with_dict_at}
+use Rattle.py_heap.specs.Dicts.{put, length_with}
+use Rattle.py_heap.specs.Units.{limited, list_limit, told_length}
+use Rattle.py_heap.proofs.Rooms.{limited_within}
+use Rattle.py_heap.proofs.Grown.{length-put}
+use Rattle.py_operators.proofs.Grown.{put_passes}
+
+pub default_within : (h : Objects) (id : ℕ) (k : Key) (given item : Value) (told : ℕ) (new : Objects) → told ≡ told_length (length_with (dict_at h id) k) → told ≤ list_limit
+    → new ≡ with_dict_at h id (put (dict_at h id) k given item)
+    → limited {X = Value × Objects} list_limit (length (put (dict_at h id) k given item)) (item, with_dict_at h id (put (dict_at h id) k given item)) ≡ Ok (item, new)
+default_within h id k given item told new t l n =
+    let within : length (put (dict_at h id) k given item) ≤ list_limit = rw length-put (omega arith) in
+    limited_within {X = Value × Objects} list_limit _ (item, with_dict_at h id (put (dict_at h id) k given item)) within ∙ rw n refl
+
+pub ruleset default_grown = (default_within, put_passes)

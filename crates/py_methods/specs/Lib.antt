@@ -1,0 +1,7 @@
+pub mod Arguments
+pub mod Calls
+pub mod Dicts
+pub mod Lists
+pub mod Many
+pub mod Methods
+pub mod TextMethods

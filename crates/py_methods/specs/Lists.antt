@@ -1,0 +1,73 @@
+-- The methods of a list: "Mutable Sequence Types" in the Python library reference. The limit is own.
+use Rattle.std.specs.Prelude.{ℕ, ◌+◌, ℤ, pos, negsuc, List, [], ◌∷◌, ◌++◌, length, Option, Some, None, Result, Ok, Err, slice_index_or, insert, remove, reverse}
+use Rattle.py_heap.specs.declared.value.Value.{Value}
+use Rattle.py_heap.specs.declared.value.Value.TheVariants as v
+use Rattle.py_heap.specs.declared.fault.ValueFault.{ValueFault}
+use Rattle.py_heap.specs.declared.fault.ValueFault.TheVariants as fault
+use Rattle.py_heap.specs.Heap.{Objects, list_at, with_list_at}
+use Rattle.py_heap.specs.Units.{Units, limited, list_limit}
+use Rattle.py_compare.specs.Outcomes.{Outcome, then_by, number, mismatch}
+use Rattle.py_compare.specs.Numbers.{fitting}
+use Rattle.py_compare.specs.Equality.{place_from}
+use Rattle.py_operators.specs.Places.{place_in}
+use Rattle.py_operators.specs.Slices.{end_in}
+
+-- a value beside the heap after a list was changed
+abbrev pub Changed : Type 0
+Changed = Result (Value × Objects) ValueFault
+
+-- the list numbered `id` with other items, and None as the answer
+abbrev pub with_items : Objects → ℕ → List Value → Value × Objects
+with_items h id items = (v.Nil, with_list_at h id items)
+
+abbrev pub append_of : Objects → ℕ → Value → Changed
+append_of h id x = limited list_limit (length (list_at h id) + 1) (with_items h id (list_at h id ++ x ∷ []))
+
+abbrev pub extend_of : Objects → ℕ → List Value → Changed
+extend_of h id more = limited list_limit (length (list_at h id) + length more) (with_items h id (list_at h id ++ more))
+
+-- in front of the item at a place, as an end of a slice names it
+abbrev pub insert_at : Objects → ℕ → ℤ → Value → Changed
+insert_at h id i x = limited list_limit (length (list_at h id) + 1) (with_items h id (insert (list_at h id) (end_in i (length (list_at h id))) x))
+
+abbrev pub insert_of : Objects → ℕ → Value → Value → Value → Changed
+insert_of h id a (v.Int i) x = insert_at h id i x
+insert_of h id a i x = mismatch a i
+
+abbrev pop_by : Objects → ℕ → ℤ → Option ℕ → Changed
+pop_by h id i None = Err (fault.Index i (length (list_at h id)))
+pop_by h id i (Some n) = Ok (slice_index_or (list_at h id) n v.Nil, with_list_at h id (remove (list_at h id) n))
+
+abbrev pub pop_at : Objects → ℕ → ℤ → Changed
+pop_at h id i = pop_by h id i (place_in i (length (list_at h id)))
+
+abbrev pub pop_of : Objects → ℕ → Value → Value → Changed
+pop_of h id a (v.Int i) = pop_at h id i
+pop_of h id a i = mismatch a i
+
+-- without an index it takes the last item
+abbrev pub pop_last_of : Objects → ℕ → Changed
+pop_last_of h id = pop_at h id (negsuc 0)
+
+abbrev remove_by : Objects → ℕ → Option ℕ × Units → Outcome
+remove_by h id found = elim found.0 [
+  | None ↦ Err fault.Key
+  | Some n ↦ Ok (v.Nil, with_list_at h id (remove (list_at h id) n), found.1)
+]
+
+-- the first item equal to a value goes
+abbrev pub remove_of : Objects → Units → ℕ → Value → Outcome
+remove_of h u id x = then_by (place_from 0 h u (list_at h id) x) (remove_by h id)
+
+abbrev index_by : Objects → Option ℕ × Units → Outcome
+index_by h found = elim found.0 [
+  | None ↦ Err fault.Key
+  | Some n ↦ number h found.1 (fitting (pos n))
+]
+
+-- the place of the first item equal to a value
+abbrev pub index_of : Objects → Units → ℕ → Value → Outcome
+index_of h u id x = then_by (place_from 0 h u (list_at h id) x) (index_by h)
+
+abbrev pub reverse_of : Objects → ℕ → Value × Objects
+reverse_of h id = with_items h id (reverse (list_at h id))

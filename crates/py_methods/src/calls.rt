@@ -1,0 +1,30 @@
+//! Methods by the kind that they belong to.
+ghost use Rattle.std.specs.Prelude.{◌≡◌, ◌≢◌, Ok, Err, IfOk, IfErr, OnErr};
+ghost use Rattle.py_methods.specs.Calls.{method_of};
+
+use crate::methods::{dict_method, list_method};
+use crate::name::Name;
+use crate::text_methods::text_method;
+use py_heap::{Budget, Heap, Value, ValueFault};
+
+/// What a method of a value gives. A number of arguments that it doesn't take is refused before the call. `sort` isn't
+/// built yet.
+pub fn method(
+    heap: &mut Heap,
+    budget: &mut Budget,
+    a: Value,
+    name: Name,
+    args: &[Value],
+) -> Result<Value, ValueFault>
+    requires built { name ≢ Name.Sort }
+    ensures ok { IfOk result (λ v. method_of heap.old budget.old a name args.now ≡ Ok (v, heap.new, budget.new)) }
+    ensures fault { IfErr result (λ e. e ≢ ValueFault.Memory → method_of heap.old budget.old a name args.now ≡ Err e) }
+    ensures err { OnErr result (heap.new ≡ heap.old) }
+{
+    match a {
+        Value::Text(text) => text_method(heap, budget, text, name, args),
+        Value::List(list) => list_method(heap, budget, list, name, args),
+        Value::Dict(dict) => dict_method(heap, budget, dict, name, args),
+        _ => Err(ValueFault::NoMethod),
+    }
+}

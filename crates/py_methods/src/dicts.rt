@@ -1,0 +1,119 @@
+//! The methods of a dict.
+ghost use Rattle.std.specs.Prelude.{◌≡◌, ◌≢◌, length, Ok, Err, IfOk, IfErr, OnErr};
+ghost use Rattle.py_heap.specs.Heap.{dict_at, keys_of, items_in};
+ghost use Rattle.py_compare.specs.Outcomes.{paid_items};
+ghost use Rattle.py_methods.specs.Dicts.{new_dict, update_of, get_of, setdefault_of, keys_list, values_list};
+
+use py_operators::length_with;
+use py_heap::{Budget, DictId, Heap, Value, ValueFault, list_room};
+use scons_base::limits::LIST_LIMIT;
+
+/// The item under a key, or else another value.
+pub(crate) fn get(
+    heap: &Heap,
+    dict: DictId,
+    key: Value,
+    default: Value,
+) -> Result<Value, ValueFault>
+    ensures ok { IfOk result (λ v. get_of heap.now dict.0 key default ≡ Ok v) }
+    ensures fault { IfErr result (λ e. e ≢ ValueFault.Memory → get_of heap.now dict.0 key default ≡ Err e) }
+{
+    let Some(key) = heap.key_of(key)? else {
+        return Err(ValueFault::Key);
+    };
+    match heap.entry_at(dict, &key) {
+        Some(entry) => Ok(entry.item),
+        None => Ok(default),
+    }
+}
+
+/// The item under a key, which is put there where there is none.
+#[tactic(auto, using(crate::proofs::Defaults::default_grown))]
+pub(crate) fn setdefault(
+    heap: &mut Heap,
+    dict: DictId,
+    key: Value,
+    item: Value,
+) -> Result<Value, ValueFault>
+    ensures ok { IfOk result (λ v. setdefault_of heap.old dict.0 key item ≡ Ok (v, heap.new)) }
+    ensures fault { IfErr result (λ e. e ≢ ValueFault.Memory → setdefault_of heap.old dict.0 key item ≡ Err e) }
+    ensures err { OnErr result (heap.new ≡ heap.old) }
+{
+    let Some(content) = heap.key_of(key)? else {
+        return Err(ValueFault::Key);
+    };
+    match heap.entry_at(dict, &content) {
+        Some(entry) => Ok(entry.item),
+        None => {
+            let length = length_with(heap, dict, &content);
+            if length > LIST_LIMIT {
+                return Err(ValueFault::TooBig(length));
+            }
+            heap.put_item(dict, content, key, item)?;
+            Ok(item)
+        }
+    }
+}
+
+/// A list of the keys, as they were given.
+#[tactic(auto, using(crate::proofs::Listed::listed))]
+pub(crate) fn keys(heap: &mut Heap, budget: &mut Budget, dict: DictId) -> Result<Value, ValueFault>
+    ensures ok { IfOk result (λ v. keys_list heap.old budget.old dict.0 ≡ Ok (v, heap.new, budget.new)) }
+    ensures fault { IfErr result (λ e. e ≢ ValueFault.Memory → keys_list heap.old budget.old dict.0 ≡ Err e) }
+    ensures err { OnErr result (heap.new ≡ heap.old) }
+{
+    list_room(budget, heap.dict_len(dict) as u64)?;
+    let made = heap.keys_of(dict)?;
+    let value = heap.add_list(made)?;
+    Ok(value)
+}
+
+/// A list of the items.
+#[tactic(auto, using(crate::proofs::Listed::listed))]
+pub(crate) fn values(
+    heap: &mut Heap,
+    budget: &mut Budget,
+    dict: DictId,
+) -> Result<Value, ValueFault>
+    ensures ok { IfOk result (λ v. values_list heap.old budget.old dict.0 ≡ Ok (v, heap.new, budget.new)) }
+    ensures fault { IfErr result (λ e. e ≢ ValueFault.Memory → values_list heap.old budget.old dict.0 ≡ Err e) }
+    ensures err { OnErr result (heap.new ≡ heap.old) }
+{
+    list_room(budget, heap.dict_len(dict) as u64)?;
+    let made = heap.items_in(dict)?;
+    let value = heap.add_list(made)?;
+    Ok(value)
+}
+
+/// A new dict with the same entries.
+pub(crate) fn copy(heap: &mut Heap, budget: &mut Budget, dict: DictId) -> Result<Value, ValueFault>
+    ensures ok { IfOk result (λ v. new_dict heap.old budget.old (dict_at heap.old dict.0) ≡ Ok (v, heap.new, budget.new)) }
+    ensures fault { IfErr result (λ e. e ≢ ValueFault.Memory → new_dict heap.old budget.old (dict_at heap.old dict.0) ≡ Err e) }
+    ensures err { OnErr result (heap.new ≡ heap.old) }
+{
+    list_room(budget, heap.dict_len(dict) as u64)?;
+    let made = heap.copy_of_dict(dict)?;
+    let value = heap.add_dict(made)?;
+    Ok(value)
+}
+
+/// Puts the items of another dict under its keys.
+#[tactic(auto, using(crate::proofs::Limits::exact_limits))]
+pub(crate) fn update(heap: &mut Heap, dict: DictId, other: Value) -> Result<Value, ValueFault>
+    ensures ok { IfOk result (λ v. update_of heap.old dict.0 other ≡ Ok (v, heap.new)) }
+    ensures fault { IfErr result (λ e. e ≢ ValueFault.Memory → update_of heap.old dict.0 other ≡ Err e) }
+    ensures err { OnErr result (heap.new ≡ heap.old) }
+{
+    match other {
+        Value::Dict(other) => {
+            let merged = heap.merged_dict(dict, other)?;
+            let length = merged.len() as u64;
+            if length > LIST_LIMIT {
+                return Err(ValueFault::TooBig(length));
+            }
+            heap.replace_dict(dict, merged);
+            Ok(Value::Nil)
+        }
+        _ => Err(ValueFault::Mismatch(Value::Dict(dict).kind(), other.kind())),
+    }
+}

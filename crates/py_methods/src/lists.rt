@@ -1,0 +1,151 @@
+//! The methods of a list.
+ghost use Rattle.std.specs.Prelude.{◌≡◌, ◌≢◌, Ok, Err, IfOk, IfErr, OnErr};
+ghost use Rattle.py_methods.specs.Lists.{append_of, extend_of, insert_of, insert_at, pop_at, pop_of, pop_last_of, remove_of, index_of, reverse_of};
+
+use py_compare::place_of;
+use py_compare::above_zero;
+use py_operators::place_in;
+use py_operators::end_in;
+use py_heap::{Budget, Heap, ListId, Value, ValueFault};
+use scons_base::limits::LIST_LIMIT;
+
+#[tactic(auto, using(crate::proofs::Limits::limits))]
+pub(crate) fn append(heap: &mut Heap, list: ListId, item: Value) -> Result<Value, ValueFault>
+    ensures ok { IfOk result (λ v. append_of heap.old list.0 item ≡ Ok (v, heap.new)) }
+    ensures fault { IfErr result (λ e. e ≢ ValueFault.Memory → append_of heap.old list.0 item ≡ Err e) }
+    ensures err { OnErr result (heap.new ≡ heap.old) }
+{
+    let length = (heap.list_at(list).len() as u64).saturating_add(1);
+    if length > LIST_LIMIT {
+        return Err(ValueFault::TooBig(length));
+    }
+    heap.push_item(list, item)?;
+    Ok(Value::Nil)
+}
+
+#[tactic(auto, using(crate::proofs::Limits::limits))]
+pub(crate) fn extend(heap: &mut Heap, list: ListId, more: &[Value]) -> Result<Value, ValueFault>
+    ensures ok { IfOk result (λ v. extend_of heap.old list.0 more.now ≡ Ok (v, heap.new)) }
+    ensures fault { IfErr result (λ e. e ≢ ValueFault.Memory → extend_of heap.old list.0 more.now ≡ Err e) }
+    ensures err { OnErr result (heap.new ≡ heap.old) }
+{
+    let length = (heap.list_at(list).len() as u64).saturating_add(more.len() as u64);
+    if length > LIST_LIMIT {
+        return Err(ValueFault::TooBig(length));
+    }
+    heap.extend_list(list, more)?;
+    Ok(Value::Nil)
+}
+
+pub(crate) fn insert(
+    heap: &mut Heap,
+    list: ListId,
+    index: Value,
+    item: Value,
+) -> Result<Value, ValueFault>
+    ensures ok { IfOk result (λ v. insert_of heap.old list.0 (Value.List list) index item ≡ Ok (v, heap.new)) }
+    ensures fault { IfErr result (λ e. e ≢ ValueFault.Memory → insert_of heap.old list.0 (Value.List list) index item ≡ Err e) }
+    ensures err { OnErr result (heap.new ≡ heap.old) }
+{
+    match index {
+        Value::Int(index) => insert_at(heap, list, index, item),
+        _ => Err(ValueFault::Mismatch(Value::List(list).kind(), index.kind())),
+    }
+}
+
+#[tactic(auto, using(crate::proofs::Limits::limits))]
+fn insert_at(heap: &mut Heap, list: ListId, index: i64, item: Value) -> Result<Value, ValueFault>
+    ensures ok { IfOk result (λ v. insert_at heap.old list.0 index item ≡ Ok (v, heap.new)) }
+    ensures fault { IfErr result (λ e. e ≢ ValueFault.Memory → insert_at heap.old list.0 index item ≡ Err e) }
+    ensures err { OnErr result (heap.new ≡ heap.old) }
+{
+    let count = heap.list_at(list).len();
+    let length = (count as u64).saturating_add(1);
+    if length > LIST_LIMIT {
+        return Err(ValueFault::TooBig(length));
+    }
+    heap.insert_item(list, end_in(index, count), item)?;
+    Ok(Value::Nil)
+}
+
+/// Takes the last item out.
+pub(crate) fn pop_last(heap: &mut Heap, list: ListId) -> Result<Value, ValueFault>
+    ensures ok { IfOk result (λ v. pop_last_of heap.old list.0 ≡ Ok (v, heap.new)) }
+    ensures fault { IfErr result (λ e. pop_last_of heap.old list.0 ≡ Err e) }
+    ensures err { OnErr result (heap.new ≡ heap.old) }
+{
+    pop_at(heap, list, -1)
+}
+
+pub(crate) fn pop(heap: &mut Heap, list: ListId, index: Value) -> Result<Value, ValueFault>
+    ensures ok { IfOk result (λ v. pop_of heap.old list.0 (Value.List list) index ≡ Ok (v, heap.new)) }
+    ensures fault { IfErr result (λ e. pop_of heap.old list.0 (Value.List list) index ≡ Err e) }
+    ensures err { OnErr result (heap.new ≡ heap.old) }
+{
+    match index {
+        Value::Int(index) => pop_at(heap, list, index),
+        _ => Err(ValueFault::Mismatch(Value::List(list).kind(), index.kind())),
+    }
+}
+
+fn pop_at(heap: &mut Heap, list: ListId, index: i64) -> Result<Value, ValueFault>
+    ensures ok { IfOk result (λ v. pop_at heap.old list.0 index ≡ Ok (v, heap.new)) }
+    ensures fault { IfErr result (λ e. pop_at heap.old list.0 index ≡ Err e) }
+    ensures err { OnErr result (heap.new ≡ heap.old) }
+{
+    let items = heap.list_at(list);
+    let length = items.len();
+    match place_in(index, length) {
+        Some(place) => {
+            let item = items[place];
+            heap.remove_item(list, place);
+            Ok(item)
+        }
+        None => Err(ValueFault::Index(index, length as u64)),
+    }
+}
+
+/// Takes the first item out that is equal to a value.
+pub(crate) fn remove(
+    heap: &mut Heap,
+    budget: &mut Budget,
+    list: ListId,
+    item: Value,
+) -> Result<Value, ValueFault>
+    ensures ok { IfOk result (λ v. remove_of heap.old budget.old list.0 item ≡ Ok (v, heap.new, budget.new)) }
+    ensures fault { IfErr result (λ e. e ≢ ValueFault.Memory → remove_of heap.old budget.old list.0 item ≡ Err e) }
+    ensures err { OnErr result (heap.new ≡ heap.old) }
+{
+    let found = place_of(heap, budget, heap.list_at(list), item)?;
+    match found {
+        Some(place) => {
+            heap.remove_item(list, place);
+            Ok(Value::Nil)
+        }
+        None => Err(ValueFault::Key),
+    }
+}
+
+/// The place of the first item equal to a value.
+pub(crate) fn index(
+    heap: &Heap,
+    budget: &mut Budget,
+    list: ListId,
+    item: Value,
+) -> Result<Value, ValueFault>
+    ensures ok { IfOk result (λ v. index_of heap.now budget.old list.0 item ≡ Ok (v, heap.now, budget.new)) }
+    ensures fault { IfErr result (λ e. e ≢ ValueFault.Memory → index_of heap.now budget.old list.0 item ≡ Err e) }
+{
+    let found = place_of(heap, budget, heap.list_at(list), item)?;
+    match found {
+        Some(place) => Ok(Value::Int(above_zero(place as u64)?)),
+        None => Err(ValueFault::Key),
+    }
+}
+
+pub(crate) fn reverse(heap: &mut Heap, list: ListId) -> Value
+    ensures { (result, heap.new) ≡ reverse_of heap.old list.0 }
+{
+    heap.reverse_list(list);
+    Value::Nil
+}

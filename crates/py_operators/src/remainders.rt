@@ -1,0 +1,168 @@
+//! The operator `%`.
+ghost use Rattle.std.specs.Prelude.{◌≡◌, ◌≢◌, Ok, Err, Some, None, IfOk, IfErr, OnOk, OnErr, map, string_bytes};
+ghost use Rattle.py_text.specs.Formatting.{pieces_of};
+ghost use Rattle.py_text.specs.Views.{plain_piece};
+ghost use Rattle.py_heap.specs.Heap.{text_at};
+ghost use Rattle.py_operators.specs.Remainders.{integer_shown, piece_onto, pieces_onto, filled, values_in, format_of, rest_of};
+
+use py_compare::LEVEL_LIMIT;
+use py_compare::floor_rem;
+use py_show::show_onto;
+use py_heap::{Budget, Heap, TextId, Value, ValueFault, text_room};
+use py_text::{FormatFault, Piece};
+use scons_base::Text;
+use std::alloc::Global;
+
+/// `%`
+pub(crate) fn rest(
+    heap: &mut Heap,
+    budget: &mut Budget,
+    a: Value,
+    b: Value,
+) -> Result<Value, ValueFault>
+    ensures ok { IfOk result (λ v. rest_of heap.old budget.old a b ≡ Ok (v, heap.new, budget.new)) }
+    ensures fault { IfErr result (λ e. e ≢ ValueFault.Memory → rest_of heap.old budget.old a b ≡ Err e) }
+    ensures err { OnErr result (heap.new ≡ heap.old) }
+{
+    match a {
+        Value::Int(number) => match b {
+            Value::Int(other) => Ok(Value::Int(floor_rem(number, other)?)),
+            _ => Err(ValueFault::Mismatch(a.kind(), b.kind())),
+        },
+        Value::Text(format) => format_with(heap, budget, format, b),
+        _ => Err(ValueFault::Mismatch(a.kind(), b.kind())),
+    }
+}
+
+/// A format with a value in it, or with those of a tuple.
+fn format_with(
+    heap: &mut Heap,
+    budget: &mut Budget,
+    format: TextId,
+    value: Value,
+) -> Result<Value, ValueFault>
+    ensures ok { IfOk result (λ v. format_of heap.old budget.old (text_at heap.old format.0) value ≡ Ok (v, heap.new, budget.new)) }
+    ensures fault { IfErr result (λ e. e ≢ ValueFault.Memory → format_of heap.old budget.old (text_at heap.old format.0) value ≡ Err e) }
+    ensures err { OnErr result (heap.new ≡ heap.old) }
+{
+    let made = filled_with(heap, budget, format, value)?;
+    let value = heap.add_text(made)?;
+    Ok(value)
+}
+
+fn filled_with(
+    heap: &Heap,
+    budget: &mut Budget,
+    format: TextId,
+    value: Value,
+) -> Result<Text, ValueFault>
+    ensures ok { IfOk result (λ made. filled heap.now budget.old (text_at heap.now format.0) (values_in heap.now value) ≡ Ok (made, budget.new)) }
+    ensures fault { IfErr result (λ e. e ≢ ValueFault.Memory → filled heap.now budget.old (text_at heap.now format.0) (values_in heap.now value) ≡ Err e) }
+{
+    match value {
+        Value::Tuple(values) => filled(heap, budget, heap.text_at(format), heap.tuple_at(values)),
+        _ => filled(heap, budget, heap.text_at(format), &[value]),
+    }
+}
+
+fn filled(
+    heap: &Heap,
+    budget: &mut Budget,
+    format: &str,
+    values: &[Value],
+) -> Result<Text, ValueFault>
+    ensures ok { IfOk result (λ made. filled heap.now budget.old format.now values.now ≡ Ok (made, budget.new)) }
+    ensures fault { IfErr result (λ e. e ≢ ValueFault.Memory → filled heap.now budget.old format.now values.now ≡ Err e) }
+{
+    let pieces = pieces_of(heap.allocator(), format)?;
+    let mut text = String::new(heap.allocator());
+    push_pieces(heap, budget, &mut text, pieces.as_slice(), values)?;
+    text_room(budget, text.len() as u64)?;
+    Ok(Text::new(text))
+}
+
+fn pieces_of(alloc: Global, format: &str) -> Result<Vec<Piece<'_>>, ValueFault>
+    ensures ok { IfOk result (λ pieces. pieces_of format.now ≡ Some (map plain_piece pieces.items)) }
+    ensures fault { IfErr result (λ e. e ≢ ValueFault.Memory → (e ≡ ValueFault.BadText) × (pieces_of format.now ≡ None)) }
+{
+    match py_text::format_pieces(alloc, format) {
+        Ok(pieces) => Ok(pieces),
+        Err(FormatFault::BadText) => Err(ValueFault::BadText),
+        Err(FormatFault::Memory) => Err(ValueFault::Memory),
+    }
+}
+
+/// Puts the pieces of a format behind a text, with the values in their places.
+fn push_pieces(
+    heap: &Heap,
+    budget: &mut Budget,
+    text: &mut String,
+    pieces: &[Piece<'_>],
+    values: &[Value],
+) -> Result<(), ValueFault>
+    ensures ok { OnOk result (pieces_onto heap.now (string_bytes text.old) budget.old (map plain_piece pieces.now) values.now ≡ Ok (string_bytes text.new, budget.new)) }
+    ensures fault { IfErr result (λ e. e ≢ ValueFault.Memory → pieces_onto heap.now (string_bytes text.old) budget.old (map plain_piece pieces.now) values.now ≡ Err e) }
+{
+    let mut left = values;
+    'pieces: for piece in pieces {
+        left = push_piece(heap, budget, text, *piece, left)?;
+    }
+    if left.is_empty() {
+        Ok(())
+    } else {
+        Err(ValueFault::BadText)
+    }
+}
+
+/// Puts one piece behind a text, and gives the values that are left.
+fn push_piece<'a>(
+    heap: &Heap,
+    budget: &mut Budget,
+    text: &mut String,
+    piece: Piece<'_>,
+    values: &'a [Value],
+) -> Result<&'a [Value], ValueFault>
+    ensures ok { IfOk result (λ left. piece_onto heap.now (string_bytes text.old) budget.old (plain_piece piece.entry) values.now ≡ Ok (left.now, string_bytes text.new, budget.new)) }
+    ensures fault { IfErr result (λ e. e ≢ ValueFault.Memory → piece_onto heap.now (string_bytes text.old) budget.old (plain_piece piece.entry) values.now ≡ Err e) }
+{
+    match piece {
+        Piece::Literal(literal) => {
+            text.push_str(literal)?;
+            Ok(values)
+        }
+        Piece::Percent => {
+            text.push_str("%")?;
+            Ok(values)
+        }
+        Piece::Any => match values {
+            [value, left @ ..] => {
+                show_onto(heap, budget, LEVEL_LIMIT, false, text, *value)?;
+                Ok(left)
+            }
+            _ => Err(ValueFault::BadText),
+        },
+        Piece::Integer => match values {
+            [value, left @ ..] => {
+                push_integer(heap, budget, text, *value)?;
+                Ok(left)
+            }
+            _ => Err(ValueFault::BadText),
+        },
+    }
+}
+
+/// Puts an integer behind a text.
+fn push_integer(
+    heap: &Heap,
+    budget: &mut Budget,
+    text: &mut String,
+    value: Value,
+) -> Result<(), ValueFault>
+    ensures ok { OnOk result (integer_shown heap.now (string_bytes text.old) budget.old value ≡ Ok (string_bytes text.new, budget.new)) }
+    ensures fault { IfErr result (λ e. e ≢ ValueFault.Memory → integer_shown heap.now (string_bytes text.old) budget.old value ≡ Err e) }
+{
+    match value {
+        Value::Int(_) => show_onto(heap, budget, LEVEL_LIMIT, false, text, value),
+        _ => Err(ValueFault::Mismatch(value.kind(), value.kind())),
+    }
+}

@@ -1,6 +1,0 @@
-use Rattle.std.proofs.Common.{◌≡◌, ◌+◌, drop, map, length}
-use Rattle.py_value.specs.Many.{total_length}
-use Rattle.py_value.proofs.many.units_of.Given as goal
-
-abbrev pub invariant-texts : goal.invariant-texts
-invariant-texts l = l.units + total_length (map (λ t. t.now) (drop l.text-index l.texts)) ≡ length l.texts + total_length (map (λ t. t.now) l.texts)
