@@ -1,4 +1,4 @@
-use Rattle.std.proofs.Common.{ℕ, List, Contains, subst, sym, ◌≡◌, ◌%◌, length, slice_index, arith}
+use Rattle.std.proofs.Common.{Contains, subst, sym, ◌≡◌, ◌%◌, length, slice_index, arith}
 use Rattle.std.specs.List.{slice_index_or}
 use Rattle.world_mem.specs.AsAround.{around_of}
 use Rattle.world_mem.specs.CallCounts.{count_of}
