@@ -8,3 +8,4 @@ pub mod Marks
 pub mod Owners
 pub mod Taken
 pub mod Plain
+pub mod Unmade

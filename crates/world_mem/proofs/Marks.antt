@@ -202,3 +202,8 @@ none_of (Some x) h = absurd (let e : true ≡ false = h in cc e)
 pub file_met : (files : List (List ℕ × List ℕ)) (path bytes : List ℕ) → file_at files path ≡ Some bytes → list_any (bytes_eq bytes) (contents_in (map (λ file. (file.0, Some file.1)) files)) ≡ true
 file_met [] path bytes h = absurd (cc)
 file_met (x ∷ xs) path bytes h = met_if (bytes_eq x.0 path) x.1 bytes (file_at xs path) (contents_in (map (λ file. (file.0, Some file.1)) xs)) h (λ e. file_met xs path bytes e)
+
+-- what the files of a list hold
+pub contents_in-files : (files : List (List ℕ × List ℕ)) → contents_in (map (λ file. (file.0, Some file.1)) files) ≡ map (λ file. file.1) files
+contents_in-files [] = refl
+contents_in-files (x ∷ xs) = ap (λ rest. x.1 ∷ rest) (contents_in-files xs)

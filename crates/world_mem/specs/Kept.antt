@@ -6,6 +6,7 @@ use Rattle.std.specs.Str.{bytes_eq}
 use Rattle.world_api.specs.Act.{Given}
 use Rattle.world_api.specs.Around.{Running, Entry, Started, Finished}
 use Rattle.world_api.specs.Counts.{Counts}
+use Rattle.world_mem.specs.CallCounts.{next}
 use Rattle.world_mem.specs.declared.event.Event.{Event}
 use Rattle.world_mem.specs.declared.event.Event.TheVariants as events
 use Rattle.world_mem.specs.declared.event.Faults.{Faults}
@@ -13,6 +14,16 @@ use Rattle.world_mem.specs.declared.running.RunningJob.{RunningJob}
 
 abbrev pub counts_of : Faults → Counts
 counts_of faults = record { tree_faults = faults.tree; start_faults = faults.start; action_failures = faults.action }
+
+-- one fault more, and no other
+abbrev pub tree_fault : Counts → Counts
+tree_fault counts = record counts { tree_faults = next counts.tree_faults }
+
+abbrev pub start_fault : Counts → Counts
+start_fault counts = record counts { start_faults = next counts.start_faults }
+
+abbrev pub action_failure : Counts → Counts
+action_failure counts = record counts { action_failures = next counts.action_failures }
 
 abbrev pub entry_of : Event → Entry
 entry_of (events.Started job faults) = Started job (counts_of faults)

@@ -9,4 +9,5 @@ pub mod Kept
 pub mod AsAround
 pub mod Held
 pub mod Means
+pub mod Waits
 pub mod SinkMeans

@@ -3,7 +3,7 @@ ghost use Rattle.std.specs.List.{list_any};
 ghost use Rattle.std.specs.Str.{bytes_eq};
 ghost use Rattle.std.specs.Vec.{vec_capacity};
 ghost use Rattle.world_mem.specs.InSlots.{slot_at, content_of, mark_of, settled};
-ghost use Rattle.world_mem.specs.Kept.{met_of};
+ghost use Rattle.world_mem.specs.Kept.{met_of, contents_in};
 
 use crate::contents::Contents;
 use crate::room::add;
@@ -28,6 +28,8 @@ pub fn conclude(
     ensures unmarked { (path : List ℕ) → Contains job.now.targets path → mark_of (slot_at slots.new path) ≡ None }
     ensures marks { (path : List ℕ) (id : ℕ) → mark_of (slot_at slots.new path) ≡ Some id → mark_of (slot_at slots.old path) ≡ Some id }
     ensures held { (path bytes : List ℕ) → content_of (slot_at slots.new path) ≡ Some bytes → (content_of (slot_at slots.old path) ≡ Some bytes) ⊎ IsTrue (list_any (bytes_eq bytes) (met_of met.new.items)) }
+    ensures met { outcome ≡ Outcome.Done → met_of met.new.items ≡ met_of met.old.items ++ contents_in kept }
+    ensures unmet { outcome ≢ Outcome.Done → met.new.items ≡ met.old.items }
     ensures more { (more : List (List ℕ)) × (met_of met.new.items ≡ met_of met.old.items ++ more) }
     ensures length { vec_len met.new ≤ vec_len met.old + 1 }
     ensures capacity { vec_capacity met.old ≤ vec_capacity met.new }

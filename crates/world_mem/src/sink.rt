@@ -63,6 +63,7 @@ impl Sink for MemSink {
         ensures printed { sink_meaning.tells self.new → sink_meaning.text self.new ≡ sink_meaning.text self.old ++ taken result bytes.now }
         ensures kept { OnOk result (sink_meaning.faults self.new ≡ sink_meaning.faults self.old) }
         ensures rose { OnErr result (Rose (sink_meaning.faults self.old) (sink_meaning.faults self.new)) }
+        ensures once { OnErr result (self.new.faults ≡ min (self.old.faults + 1) (2 ^ 64 - 1)) }
         ensures fails { OnErr result (Contains self.old.failing.items self.old.writes ⊎ (4194304 < vec_len self.old.text + length bytes.now)) }
         ensures goes { OnOk result ((Contains self.old.failing.items self.old.writes → ⊥) × (vec_len self.old.text + length bytes.now ≤ 4194304)) }
         ensures whole { IfOk result (λ count. count ≡ length bytes.now) }

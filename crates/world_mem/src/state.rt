@@ -3,7 +3,7 @@ ghost use Rattle.std.specs.List.{slice_index_or, list_any};
 ghost use Rattle.std.specs.Str.{bytes_eq};
 ghost use Rattle.std.specs.Vec.{vec_capacity};
 ghost use Rattle.world_mem.specs.InSlots.{slot_at, content_of, mark_of, file_at};
-ghost use Rattle.world_mem.specs.Kept.{met_of, IdsApart, is_target};
+ghost use Rattle.world_mem.specs.Kept.{met_of, contents_in, IdsApart, is_target};
 ghost use Rattle.world_mem.specs.Planned.{makes, ends};
 ghost use Rattle.world_mem.specs.declared.running.RunningJob.{RunningJob};
 ghost use Rattle.world_mem.specs.declared.slots.Slot.TheVariants as slot;
@@ -60,6 +60,7 @@ impl State {
         ensures tree { IfOk result (λ state. (path : List ℕ) → (around_of state).tree path ≡ file_at files.now path) }
         ensures running { IfOk result (λ state. (around_of state).running ≡ []) }
         ensures log { IfOk result (λ state. (around_of state).log ≡ []) }
+        ensures met { IfOk result (λ state. (around_of state).met ≡ map (λ file. file.1) files.now) }
         ensures law { IfOk result (λ state. (around_of state).law ≡ law_of table) }
         ensures stand { OnOk result ((place : ℕ) → IsRefused files.now place → ⊥) }
         ensures place { IfErr result (λ refusal. (place : ℕ) → refusal ≡ NewRefusal.Place place → IsFirstRefused files.now place) }
@@ -109,6 +110,8 @@ impl State {
         requires { IsUnused (around_of self.old).running path.now }
         ensures removed { Removes path.now (around_of self.old) (around_of self.new) }
         ensures gone { (around_of self.new).tree path.now ≡ None }
+        ensures met { self.new.met.items ≡ self.old.met.items }
+        ensures table { self.new.table ≡ self.old.table }
     {
         self.slots.write(path, Slot::Settled(None));
     }
@@ -118,6 +121,8 @@ impl State {
         requires { CanStart job (around_of self.old) }
         ensures ok { OnOk result (Starts job (counts_of faults) (around_of self.old) (around_of self.new)) }
         ensures err { OnErr result (Asks (around_of self.old) (around_of self.new)) }
+        ensures met { self.new.met.items ≡ self.old.met.items }
+        ensures table { self.new.table ≡ self.old.table }
     {
         let event = Event::Started(copy_job(&job)?, faults);
         let run = self.prepare(alloc, job)?;
@@ -197,6 +202,10 @@ impl State {
         ensures chosen { (d : Running) → result.id ≡ (slice_index_or (around_of self.old).running place d).job.id }
         ensures fails { IsTrue fails → result.outcome ≡ Outcome.Failed (pos 1) }
         ensures ends { (d : Running) → fails ≡ false → result.outcome ≡ ends self.old.table (slice_index_or (around_of self.old).running place d).job (slice_index_or (around_of self.old).running place d).given }
+        ensures absent { (d : Running) (path : List ℕ) → result.outcome ≢ Outcome.Done → Contains (slice_index_or (around_of self.old).running place d).job.targets path → (around_of self.new).tree path ≡ None }
+        ensures met { (d : Running) → result.outcome ≡ Outcome.Done → (around_of self.new).met ≡ (around_of self.old).met ++ contents_in (makes self.old.table (slice_index_or (around_of self.old).running place d).job (slice_index_or (around_of self.old).running place d).given) }
+        ensures unmet { result.outcome ≢ Outcome.Done → (around_of self.new).met ≡ (around_of self.old).met }
+        ensures table { self.new.table ≡ self.old.table }
     {
         let RunningJob {
             job,

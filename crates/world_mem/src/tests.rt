@@ -57,10 +57,11 @@ fn ended(world: &mut MemWorld, job: Job) -> Result<Outcome, AskRefusal>
     Ok(world.wait().outcome)
 }
 
-/// Runs the line for the target, which isn't a file from then on.
+/// Runs the work of the line for the target, which isn't a file from then on. It depends on `s`.
 fn run(
     alloc: Global,
     world: &mut MemWorld,
+    work: Work,
     line: &str,
     target: &str,
 ) -> Result<Result<Outcome, AskRefusal>, Fail>
@@ -72,7 +73,7 @@ fn run(
     world.remove(&target)?;
     let job = Job {
         id: 1,
-        work: Work::Shell,
+        work,
         targets: Paths::new(vec![in alloc; target]?),
         lines: Lines::new(Vec::new(alloc)),
         signed,
@@ -131,18 +132,22 @@ fn a_world_has_no_file_below_another(rt: HostRuntime) -> Result<(), Fail> {
 #[test]
 fn a_job_leaves_what_it_makes(rt: HostRuntime) -> Result<(), Fail> {
     let alloc = rt.alloc();
-    for (line, target, outcome, left) in [
-        ("made", "o", Ok(Outcome::Done), Some("made")),
-        ("made", "p", Ok(Outcome::Done), None),
-        ("fails", "o", Ok(Outcome::Failed(3)), None),
+    let shell = Work::Shell;
+    for (work, line, target, outcome, left) in [
+        (shell, "made", "o", Ok(Outcome::Done), Some("made")),
+        (shell, "made", "p", Ok(Outcome::Done), None),
+        (shell, "fails", "o", Ok(Outcome::Failed(3)), None),
+        (Work::Copy, "fails", "o", Ok(Outcome::Done), Some("abc")),
+        (Work::Write, "fails", "o", Ok(Outcome::Done), Some("fails")),
         (
+            shell,
             "mk",
             "o",
             Ok(Outcome::Done),
             Some("mk\n-> o\ns 900150983cd24fb0d6963f7d28e17f72\n"),
         ),
-        ("mk", "s/o", Err(AskRefusal::Fault), None),
-        ("mk", "d", Err(AskRefusal::Fault), None),
+        (shell, "mk", "s/o", Err(AskRefusal::Fault), None),
+        (shell, "mk", "d", Err(AskRefusal::Fault), None),
     ] {
         let files = files(alloc, ["s", "d/s"].as_slice())?;
         let mut world = MemWorld::new(
@@ -152,7 +157,7 @@ fn a_job_leaves_what_it_makes(rt: HostRuntime) -> Result<(), Fail> {
             Vec::new(alloc),
             Vec::new(alloc),
         )?;
-        let answer = run(alloc, &mut world, line, target)?;
+        let answer = run(alloc, &mut world, work, line, target)?;
         assert_eq!(rt; answer, outcome, "{line} {target}");
         let content = world.read_file(&PathText::read(alloc, target)?, 1000)?;
         let bytes = content.as_ref().map(|blob| blob.as_slice());

@@ -21,6 +21,9 @@ returns-then-eq-clause-held c = λ path bytes h.
           (found_in_push bytes c.args.met.now.items c.args.kept (subst (λ (group : List (List ℕ × Option (List ℕ))). list_any (bytes_eq bytes) (contents_in group) ≡ true) (sym c.requires.same) found)))
     ]
 
+pub returns-then-eq-clause-met : goal.returns-then-eq-clause-met
+returns-then-eq-clause-met c = λ _. ap met_of c.add.ensures.items ∙ met-push c.args.met.now.items c.args.kept
+
 pub returns-then-eq-clause-more : goal.returns-then-eq-clause-more
 returns-then-eq-clause-more c = (contents_in c.args.kept, ap met_of c.add.ensures.items ∙ met-push c.args.met.now.items c.args.kept)
 

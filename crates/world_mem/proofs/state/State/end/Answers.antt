@@ -1,9 +1,9 @@
-use Rattle.std.proofs.Common.{◌≡◌, ◌∙◌, sym, ap, subst, inl, inr, ◌<◌, ℕ, List, Some, Option, Contains, ◌∷◌, length, map, take, drop, suc, refl, true, is_some, false, None}
+use Rattle.std.proofs.Common.{◌≡◌, ◌∙◌, sym, ap, subst, inl, inr, ◌<◌, ℕ, List, Some, Option, Contains, ◌∷◌, ◌++◌, length, map, take, drop, suc, refl, true, is_some, false, None}
 use Rattle.std.specs.List.{slice_index_or, list_any, remove}
 use Rattle.std.specs.Str.{bytes_eq}
 use Rattle.world_mem.specs.InSlots.{slot_at, content_of}
-use Rattle.world_mem.specs.Kept.{met_of, IdsApart, is_target, running_of, entry_of}
-use Rattle.world_mem.specs.Planned.{ends, IsPlain}
+use Rattle.world_mem.specs.Kept.{met_of, contents_in, IdsApart, is_target, running_of, entry_of}
+use Rattle.world_mem.specs.Planned.{ends, makes, IsPlain}
 use Rattle.world_mem.proofs.Plain.{ends_plain}
 use Rattle.world_api.specs.Around as api
 use Rattle.std.proofs.lemmas.List.{get_or-map, length-map, map-append}
@@ -152,6 +152,29 @@ returns-clause-ends c = λ d f.
       | then-fails w ↦ absurd (let e : true ≡ false = sym w.if-fails.true ∙ f in cc e)
       | else-fails w ↦ w.outcome-is ∙ c.args.self.now.ending run here ∙ ap (λ (r : api.Running). ends c.args.self.now.table r.job r.given) (sym at)
     ]
+
+pub returns-clause-absent : goal.returns-clause-absent
+returns-clause-absent c = λ d path off own.
+    let old = c.args.self.now.running.items in
+    let run = c.remove-job.result in
+    let lt : c.args.place < length old = rw length-map at c.requires in
+    let at : slice_index_or (map running_of old) c.args.place d ≡ running_of run = get_or-map running_of old c.args.place run d lt ∙ ap running_of (sym c.remove-job.ensures.value) in
+    c.conclude.ensures.absent off path (subst (λ (r : api.Running). Contains r.job.targets path) at own)
+
+pub returns-clause-met : goal.returns-clause-met
+returns-clause-met c = λ d done.
+    let old = c.args.self.now.running.items in
+    let run = c.remove-job.result in
+    let table = c.args.self.now.table in
+    let lt : c.args.place < length old = rw length-map at c.requires in
+    let here : Contains old run = (c.args.place, lt, sym c.remove-job.ensures.value) in
+    let at : slice_index_or (map running_of old) c.args.place d ≡ running_of run = get_or-map running_of old c.args.place run d lt ∙ ap running_of (sym c.remove-job.ensures.value) in
+    c.conclude.ensures.met done
+    ∙ ap (λ made. met_of c.args.self.now.met.items ++ contents_in made) (c.args.self.now.kept run here ∙ c.args.self.now.planned run here)
+    ∙ ap (λ (r : api.Running). met_of c.args.self.now.met.items ++ contents_in (makes table r.job r.given)) (sym at)
+
+pub returns-clause-unmet : goal.returns-clause-unmet
+returns-clause-unmet c = λ off. ap met_of (c.conclude.ensures.unmet off)
 
 pub invariant_of-self-clause-marks : goal.invariant_of-self-clause-marks
 invariant_of-self-clause-marks c = λ path id h.

@@ -1,8 +1,8 @@
-use Rattle.std.proofs.Common.{◌≡◌, ◌∙◌, sym, subst, List, ℕ, true, Option, Some, None}
+use Rattle.std.proofs.Common.{◌≡◌, ◌∙◌, sym, ap, subst, List, ℕ, true, Option, Some, None, ◌++◌}
 use Rattle.std.specs.List.{list_any}
 use Rattle.std.specs.Str.{bytes_eq}
 use Rattle.world_mem.specs.Kept.{met_of, contents_in}
-use Rattle.world_mem.proofs.Marks.{found_in_push, file_met}
+use Rattle.world_mem.proofs.Marks.{found_in_push, file_met, met-push, contents_in-files}
 use Rattle.world_mem.proofs.state.State.new.Goals as goal
 
 pub invariant_of-result-clause-held : goal.invariant_of-result-clause-held
@@ -14,3 +14,12 @@ invariant_of-result-clause-held c = λ path bytes h.
 
 pub invariant_of-result-clause-marks : goal.invariant_of-result-clause-marks
 invariant_of-result-clause-marks c = λ path id h. absurd (let x : None ≡ Some id = sym (c.in_ok-fill.ensures.unmarked path) ∙ h in cc x)
+
+pub returns-clause-met : goal.returns-clause-met
+returns-clause-met c =
+    let group = c.in_ok-group.group in
+    ap met_of c.add.ensures.items
+    ∙ met-push c.in_ok-met.met.items group
+    ∙ ap (λ (groups : List (List (List ℕ × Option (List ℕ)))). met_of groups ++ contents_in group) c.in_ok-met.ensures.empty
+    ∙ ap contents_in c.in_ok-group.ensures
+    ∙ contents_in-files c.args.files.now
