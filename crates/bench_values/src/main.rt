@@ -6,6 +6,7 @@ use py_value::{Budget, Heap, Name, Value, ValueFault, index, method};
 use std::time::Instant;
 
 const ITEMS: i64 = 1_000_000;
+
 const UNITS: u64 = 100_000_000;
 
 /// A step from one item to the next, so that they come in no order.
@@ -29,7 +30,9 @@ fn main(rt: HostRuntime) -> Result<()> {
     let start = Instant::now(&rt)?;
     method(&mut heap, &mut budget, list, Name::Sort, &[]).map_err(refused)?;
     let sorted = start.elapsed(&rt)?.as_micros();
-    println!(rt; "py_value: append {appended}, index {indexed}, join {joined}, sort {sorted} microseconds, sum {sum}")?;
+    println!(rt;
+        "py_value: append {appended}, index {indexed}, join {joined}, sort {sorted} microseconds, sum {sum}"
+    )?;
     Ok(())
 }
 

@@ -32,7 +32,10 @@ fn a_dict_keeps_the_order_of_insertion(rt: HostRuntime) -> Result<(), Fail> {
         (Value::Int(1), Value::Int(3)),
         (same, Value::Int(4)),
     ])?;
-    assert_eq!(rt; heap.pair_of(dict, 0), Some((Value::Bool(true), Value::Int(3))));
+    assert_eq!(rt;
+        heap.pair_of(dict, 0),
+        Some((Value::Bool(true), Value::Int(3)))
+    );
     assert_eq!(rt; heap.pair_of(dict, 1), Some((a, Value::Int(4))));
     assert_eq!(rt; heap.pair_of(dict, 2), None);
     let fault = heap.dict(&[(dict, Value::Nil)]).err();
@@ -54,10 +57,22 @@ fn a_charge_stays_within_the_total(rt: HostRuntime) -> Result<(), Fail> {
 #[test]
 fn the_limit_is_tested_before_the_charge(rt: HostRuntime) -> Result<(), Fail> {
     let mut budget = Budget::new(1);
-    assert_eq!(rt; text_room(&mut budget, 16_777_217), Err(ValueFault::TooBig(16_777_217)));
-    assert_eq!(rt; text_room(&mut budget, 16_777_216), Err(ValueFault::Budget(0)));
-    assert_eq!(rt; list_room(&mut budget, 8_000_001), Err(ValueFault::TooBig(8_000_001)));
-    assert_eq!(rt; list_room(&mut budget, 8_000_000), Err(ValueFault::Budget(0)));
+    assert_eq!(rt;
+        text_room(&mut budget, 16_777_217),
+        Err(ValueFault::TooBig(16_777_217))
+    );
+    assert_eq!(rt;
+        text_room(&mut budget, 16_777_216),
+        Err(ValueFault::Budget(0))
+    );
+    assert_eq!(rt;
+        list_room(&mut budget, 8_000_001),
+        Err(ValueFault::TooBig(8_000_001))
+    );
+    assert_eq!(rt;
+        list_room(&mut budget, 8_000_000),
+        Err(ValueFault::Budget(0))
+    );
     Ok(())
 }
 

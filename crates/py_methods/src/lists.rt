@@ -148,11 +148,7 @@ pub(crate) fn reverse(heap: &mut Heap, list: ListId) -> Value
     Value::Nil
 }
 
-pub(crate) fn sort(
-    heap: &mut Heap,
-    budget: &mut Budget,
-    list: ListId,
-) -> Result<Value, ValueFault>
+pub(crate) fn sort(heap: &mut Heap, budget: &mut Budget, list: ListId) -> Result<Value, ValueFault>
     ensures ok { IfOk result (λ v. sort_of heap.old budget.old list.0 ≡ Ok (v, heap.new, budget.new)) }
     ensures fault { IfErr result (λ e. e ≢ ValueFault.Memory → sort_of heap.old budget.old list.0 ≡ Err e) }
     ensures err { OnErr result (heap.new ≡ heap.old) }

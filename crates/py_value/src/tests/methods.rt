@@ -86,10 +86,34 @@ fn lists_answer_as_in_python(rt: HostRuntime) -> Result<(), Fail> {
         (&[][..], Name::Reverse, &[][..], "None", "[]"),
         (&[1, 2, 3][..], Name::Reverse, &[][..], "None", "[3, 2, 1]"),
         (&[][..], Name::Insert, &[5, 1][..], "None", "[1]"),
-        (&[1, 2, 3][..], Name::Insert, &[-1, 9][..], "None", "[1, 2, 9, 3]"),
-        (&[1, 2, 3][..], Name::Insert, &[100, 7][..], "None", "[1, 2, 3, 7]"),
-        (&[1, 2, 3][..], Name::Insert, &[-100, 0][..], "None", "[0, 1, 2, 3]"),
-        (&[1, 2, 3][..], Name::Insert, &[1, 8][..], "None", "[1, 8, 2, 3]"),
+        (
+            &[1, 2, 3][..],
+            Name::Insert,
+            &[-1, 9][..],
+            "None",
+            "[1, 2, 9, 3]",
+        ),
+        (
+            &[1, 2, 3][..],
+            Name::Insert,
+            &[100, 7][..],
+            "None",
+            "[1, 2, 3, 7]",
+        ),
+        (
+            &[1, 2, 3][..],
+            Name::Insert,
+            &[-100, 0][..],
+            "None",
+            "[0, 1, 2, 3]",
+        ),
+        (
+            &[1, 2, 3][..],
+            Name::Insert,
+            &[1, 8][..],
+            "None",
+            "[1, 8, 2, 3]",
+        ),
         (&[7][..], Name::Pop, &[][..], "7", "[]"),
         (&[1, 2, 3][..], Name::Pop, &[][..], "3", "[1, 2]"),
         (&[1, 2, 3][..], Name::Pop, &[0][..], "1", "[2, 3]"),
@@ -101,9 +125,27 @@ fn lists_answer_as_in_python(rt: HostRuntime) -> Result<(), Fail> {
         (&[5, 6, 7][..], Name::Index, &[7][..], "2", "[5, 6, 7]"),
         (&[][..], Name::Sort, &[][..], "None", "[]"),
         (&[1][..], Name::Sort, &[][..], "None", "[1]"),
-        (&[3, -1, 2, i64::MIN, i64::MAX, 2, 0][..], Name::Sort, &[][..], "None", "[-9223372036854775808, -1, 0, 2, 2, 3, 9223372036854775807]"),
-        (&[5, 4, 3, 2, 1][..], Name::Sort, &[][..], "None", "[1, 2, 3, 4, 5]"),
-        (&[2, 1, 2, 1, 2, 1][..], Name::Sort, &[][..], "None", "[1, 1, 1, 2, 2, 2]"),
+        (
+            &[3, -1, 2, i64::MIN, i64::MAX, 2, 0][..],
+            Name::Sort,
+            &[][..],
+            "None",
+            "[-9223372036854775808, -1, 0, 2, 2, 3, 9223372036854775807]",
+        ),
+        (
+            &[5, 4, 3, 2, 1][..],
+            Name::Sort,
+            &[][..],
+            "None",
+            "[1, 2, 3, 4, 5]",
+        ),
+        (
+            &[2, 1, 2, 1, 2, 1][..],
+            Name::Sort,
+            &[][..],
+            "None",
+            "[1, 1, 1, 2, 2, 2]",
+        ),
     ] {
         let items = numbers(alloc, items)?;
         let args = numbers(alloc, args)?;
@@ -150,13 +192,48 @@ fn dicts_keep_the_order_of_insertion(rt: HostRuntime) -> Result<(), Fail> {
         (Name::Get, &[a][..], "1", "{'a': 1, True: 2}"),
         (Name::Get, &[Value::Int(1)][..], "2", "{'a': 1, True: 2}"),
         (Name::Get, &[Value::Int(7)][..], "None", "{'a': 1, True: 2}"),
-        (Name::Get, &[Value::Int(7), a][..], "'a'", "{'a': 1, True: 2}"),
-        (Name::Update, &[other][..], "None", "{'a': 1, True: 3, 0: 'a'}"),
-        (Name::Keys, &[][..], "['a', True, 0]", "{'a': 1, True: 3, 0: 'a'}"),
-        (Name::Values, &[][..], "[1, 3, 'a']", "{'a': 1, True: 3, 0: 'a'}"),
-        (Name::Items, &[][..], "[('a', 1), (True, 3), (0, 'a')]", "{'a': 1, True: 3, 0: 'a'}"),
-        (Name::Setdefault, &[a, a][..], "1", "{'a': 1, True: 3, 0: 'a'}"),
-        (Name::Setdefault, &[Value::Int(5)][..], "None", "{'a': 1, True: 3, 0: 'a', 5: None}"),
+        (
+            Name::Get,
+            &[Value::Int(7), a][..],
+            "'a'",
+            "{'a': 1, True: 2}",
+        ),
+        (
+            Name::Update,
+            &[other][..],
+            "None",
+            "{'a': 1, True: 3, 0: 'a'}",
+        ),
+        (
+            Name::Keys,
+            &[][..],
+            "['a', True, 0]",
+            "{'a': 1, True: 3, 0: 'a'}",
+        ),
+        (
+            Name::Values,
+            &[][..],
+            "[1, 3, 'a']",
+            "{'a': 1, True: 3, 0: 'a'}",
+        ),
+        (
+            Name::Items,
+            &[][..],
+            "[('a', 1), (True, 3), (0, 'a')]",
+            "{'a': 1, True: 3, 0: 'a'}",
+        ),
+        (
+            Name::Setdefault,
+            &[a, a][..],
+            "1",
+            "{'a': 1, True: 3, 0: 'a'}",
+        ),
+        (
+            Name::Setdefault,
+            &[Value::Int(5)][..],
+            "None",
+            "{'a': 1, True: 3, 0: 'a', 5: None}",
+        ),
     ] {
         let told = method(&mut heap, &mut budget, dict, name, args)?;
         let shown = show(&heap, &mut budget, told, true)?;
@@ -164,7 +241,10 @@ fn dicts_keep_the_order_of_insertion(rt: HostRuntime) -> Result<(), Fail> {
         let shown = show(&heap, &mut budget, dict, true)?;
         assert_eq!(rt; shown.as_str(), after, "{name:?}");
     }
-    assert_eq!(rt; show(&heap, &mut budget, copy, true)?.as_str(), "{'a': 1, True: 2}");
+    assert_eq!(rt;
+        show(&heap, &mut budget, copy, true)?.as_str(),
+        "{'a': 1, True: 2}"
+    );
     Ok(())
 }
 
@@ -181,24 +261,89 @@ fn methods_refuse_by_name(rt: HostRuntime) -> Result<(), Fail> {
     let dict = heap.dict(&[(text, list)])?;
     let one = Value::Int(1);
     for (value, name, args, fault) in [
-        (list, Name::Pop, &[Value::Int(3)][..], ValueFault::Index(3, 3)),
-        (list, Name::Pop, &[Value::Int(-4)][..], ValueFault::Index(-4, 3)),
+        (
+            list,
+            Name::Pop,
+            &[Value::Int(3)][..],
+            ValueFault::Index(3, 3),
+        ),
+        (
+            list,
+            Name::Pop,
+            &[Value::Int(-4)][..],
+            ValueFault::Index(-4, 3),
+        ),
         (none, Name::Pop, &[][..], ValueFault::Index(-1, 0)),
-        (list, Name::Pop, &[text][..], ValueFault::Mismatch(ValueKind::List, ValueKind::Text)),
-        (list, Name::Insert, &[Value::Nil, one][..], ValueFault::Mismatch(ValueKind::List, ValueKind::Nil)),
-        (list, Name::Extend, &[one][..], ValueFault::Mismatch(ValueKind::List, ValueKind::Int)),
+        (
+            list,
+            Name::Pop,
+            &[text][..],
+            ValueFault::Mismatch(ValueKind::List, ValueKind::Text),
+        ),
+        (
+            list,
+            Name::Insert,
+            &[Value::Nil, one][..],
+            ValueFault::Mismatch(ValueKind::List, ValueKind::Nil),
+        ),
+        (
+            list,
+            Name::Extend,
+            &[one][..],
+            ValueFault::Mismatch(ValueKind::List, ValueKind::Int),
+        ),
         (list, Name::Remove, &[Value::Nil][..], ValueFault::Key),
         (list, Name::Index, &[empty][..], ValueFault::Key),
-        (list, Name::Sort, &[][..], ValueFault::Mismatch(ValueKind::Int, ValueKind::Text)),
+        (
+            list,
+            Name::Sort,
+            &[][..],
+            ValueFault::Mismatch(ValueKind::Int, ValueKind::Text),
+        ),
         (text, Name::Split, &[empty][..], ValueFault::BadText),
-        (text, Name::Split, &[one][..], ValueFault::Mismatch(ValueKind::Text, ValueKind::Int)),
-        (text, Name::Join, &[list][..], ValueFault::Mismatch(ValueKind::Text, ValueKind::Int)),
-        (text, Name::Join, &[text][..], ValueFault::Mismatch(ValueKind::Text, ValueKind::Text)),
-        (text, Name::Replace, &[text, one][..], ValueFault::Mismatch(ValueKind::Text, ValueKind::Int)),
-        (text, Name::Startswith, &[Value::Nil][..], ValueFault::Mismatch(ValueKind::Text, ValueKind::Nil)),
+        (
+            text,
+            Name::Split,
+            &[one][..],
+            ValueFault::Mismatch(ValueKind::Text, ValueKind::Int),
+        ),
+        (
+            text,
+            Name::Join,
+            &[list][..],
+            ValueFault::Mismatch(ValueKind::Text, ValueKind::Int),
+        ),
+        (
+            text,
+            Name::Join,
+            &[text][..],
+            ValueFault::Mismatch(ValueKind::Text, ValueKind::Text),
+        ),
+        (
+            text,
+            Name::Replace,
+            &[text, one][..],
+            ValueFault::Mismatch(ValueKind::Text, ValueKind::Int),
+        ),
+        (
+            text,
+            Name::Startswith,
+            &[Value::Nil][..],
+            ValueFault::Mismatch(ValueKind::Text, ValueKind::Nil),
+        ),
         (dict, Name::Get, &[list][..], ValueFault::Key),
-        (dict, Name::Setdefault, &[Value::Nil, one][..], ValueFault::Key),
-        (dict, Name::Update, &[list][..], ValueFault::Mismatch(ValueKind::Dict, ValueKind::List)),
+        (
+            dict,
+            Name::Setdefault,
+            &[Value::Nil, one][..],
+            ValueFault::Key,
+        ),
+        (
+            dict,
+            Name::Update,
+            &[list][..],
+            ValueFault::Mismatch(ValueKind::Dict, ValueKind::List),
+        ),
         (list, Name::Get, &[one][..], ValueFault::NoMethod),
         (text, Name::Append, &[one][..], ValueFault::NoMethod),
         (dict, Name::Sort, &[][..], ValueFault::NoMethod),
@@ -212,7 +357,10 @@ fn methods_refuse_by_name(rt: HostRuntime) -> Result<(), Fail> {
         let answer = method(&mut heap, &mut budget, value, name, args);
         assert_eq!(rt; answer, Err(fault), "{value:?} {name:?}");
     }
-    assert_eq!(rt; show(&heap, &mut budget, dict, true)?.as_str(), "{'abc': [1, 2, 'abc']}");
+    assert_eq!(rt;
+        show(&heap, &mut budget, dict, true)?.as_str(),
+        "{'abc': [1, 2, 'abc']}"
+    );
     Ok(())
 }
 
@@ -224,6 +372,9 @@ fn a_list_extends_itself(rt: HostRuntime) -> Result<(), Fail> {
     let tuple = heap.tuple(&[Value::Int(3)])?;
     method(&mut heap, &mut budget, list, Name::Extend, &[list])?;
     method(&mut heap, &mut budget, list, Name::Extend, &[tuple])?;
-    assert_eq!(rt; show(&heap, &mut budget, list, true)?.as_str(), "[1, 2, 1, 2, 3]");
+    assert_eq!(rt;
+        show(&heap, &mut budget, list, true)?.as_str(),
+        "[1, 2, 1, 2, 3]"
+    );
     Ok(())
 }

@@ -49,7 +49,13 @@ fn letter(answer: Result<Value, ValueFault>, left: ValueKind, right: ValueKind) 
 }
 
 /// The letters of an operator's answers with one left operand.
-fn letters(alloc: Global, heap: &mut Heap, op: Op, a: Value, values: &[Value]) -> Result<String, Fail> {
+fn letters(
+    alloc: Global,
+    heap: &mut Heap,
+    op: Op,
+    a: Value,
+    values: &[Value],
+) -> Result<String, Fail> {
     let mut row = String::new(alloc);
     for b in values {
         let mut budget = Budget::new(UNITS);

@@ -10,9 +10,15 @@ fn a_list_is_shared(rt: HostRuntime) -> Result<(), Fail> {
     let a = heap.list(&[Value::Int(1)])?;
     let holder = heap.tuple(&[a])?;
     method(&mut heap, &mut budget, a, Name::Append, &[Value::Int(2)])?;
-    assert_eq!(rt; show(&heap, &mut budget, holder, false)?.as_str(), "([1, 2],)");
+    assert_eq!(rt;
+        show(&heap, &mut budget, holder, false)?.as_str(),
+        "([1, 2],)"
+    );
     set_index(&mut heap, a, Value::Int(-1), Value::Nil)?;
-    assert_eq!(rt; show(&heap, &mut budget, holder, false)?.as_str(), "([1, None],)");
+    assert_eq!(rt;
+        show(&heap, &mut budget, holder, false)?.as_str(),
+        "([1, None],)"
+    );
     Ok(())
 }
 
@@ -28,7 +34,10 @@ fn a_key_that_is_true_is_one(rt: HostRuntime) -> Result<(), Fail> {
     ] {
         set_index(&mut heap, dict, key, Value::Int(item))?;
     }
-    assert_eq!(rt; show(&heap, &mut budget, dict, false)?.as_str(), "{True: 2, 0: 4}");
+    assert_eq!(rt;
+        show(&heap, &mut budget, dict, false)?.as_str(),
+        "{True: 2, 0: 4}"
+    );
     let fault = index(&mut heap, &mut budget, dict, Value::Int(2));
     assert_eq!(rt; fault, Err(ValueFault::Key));
     let fault = set_index(&mut heap, dict, Value::Nil, Value::Nil);
@@ -39,9 +48,15 @@ fn a_key_that_is_true_is_one(rt: HostRuntime) -> Result<(), Fail> {
     let put = method(&mut heap, &mut budget, dict, Name::Setdefault, &args)?;
     assert_eq!(rt; put, Value::Int(6));
     let keys = method(&mut heap, &mut budget, dict, Name::Keys, &[])?;
-    assert_eq!(rt; show(&heap, &mut budget, keys, false)?.as_str(), "[True, 0, 2]");
+    assert_eq!(rt;
+        show(&heap, &mut budget, keys, false)?.as_str(),
+        "[True, 0, 2]"
+    );
     let values = method(&mut heap, &mut budget, dict, Name::Values, &[])?;
-    assert_eq!(rt; show(&heap, &mut budget, values, false)?.as_str(), "[2, 4, 6]");
+    assert_eq!(rt;
+        show(&heap, &mut budget, values, false)?.as_str(),
+        "[2, 4, 6]"
+    );
     Ok(())
 }
 
@@ -53,7 +68,13 @@ fn texts_are_counted_by_characters(rt: HostRuntime) -> Result<(), Fail> {
     let last = index(&mut heap, &mut budget, text, Value::Int(-2))?;
     assert_eq!(rt; heap.text_of(last), Some("€"));
     assert_eq!(rt; budget.used(), 3);
-    let part = slice(&mut heap, &mut budget, text, Some(Value::Int(1)), Some(Value::Int(3)))?;
+    let part = slice(
+        &mut heap,
+        &mut budget,
+        text,
+        Some(Value::Int(1)),
+        Some(Value::Int(3)),
+    )?;
     assert_eq!(rt; heap.text_of(part), Some("é€"));
     let rest = slice(&mut heap, &mut budget, text, Some(Value::Int(9)), None)?;
     assert_eq!(rt; heap.text_of(rest), Some(""));
@@ -88,9 +109,17 @@ fn slices_reach_past_both_ends(rt: HostRuntime) -> Result<(), Fail> {
     ] {
         let (from, to) = (integer(from), integer(to));
         let cut = slice(&mut heap, &mut budget, text, from, to)?;
-        assert_eq!(rt; show(&heap, &mut budget, cut, true)?.as_str(), part, "{from:?}:{to:?}");
+        assert_eq!(rt;
+            show(&heap, &mut budget, cut, true)?.as_str(),
+            part,
+            "{from:?}:{to:?}"
+        );
         let cut = slice(&mut heap, &mut budget, list, from, to)?;
-        assert_eq!(rt; show(&heap, &mut budget, cut, true)?.as_str(), items, "{from:?}:{to:?}");
+        assert_eq!(rt;
+            show(&heap, &mut budget, cut, true)?.as_str(),
+            items,
+            "{from:?}:{to:?}"
+        );
     }
     Ok(())
 }
@@ -123,8 +152,14 @@ fn indices_count_from_both_ends(rt: HostRuntime) -> Result<(), Fail> {
         }
     }
     let fault = index(&mut heap, &mut budget, list, Value::Bool(true));
-    assert_eq!(rt; fault, Err(ValueFault::Mismatch(ValueKind::List, ValueKind::Bool)));
+    assert_eq!(rt;
+        fault,
+        Err(ValueFault::Mismatch(ValueKind::List, ValueKind::Bool))
+    );
     let fault = index(&mut heap, &mut budget, Value::Nil, Value::Int(0));
-    assert_eq!(rt; fault, Err(ValueFault::Mismatch(ValueKind::Nil, ValueKind::Nil)));
+    assert_eq!(rt;
+        fault,
+        Err(ValueFault::Mismatch(ValueKind::Nil, ValueKind::Nil))
+    );
     Ok(())
 }

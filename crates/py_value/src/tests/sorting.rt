@@ -14,7 +14,10 @@ fn texts_are_sorted_by_code_points(rt: HostRuntime) -> Result<(), Fail> {
     }
     method(&mut heap, &mut budget, list, Name::Sort, &[])?;
     let shown = show(&heap, &mut budget, list, false)?;
-    assert_eq!(rt; shown.as_str(), "['', 'Z', 'a', 'a', 'aa', 'b', 'é', '～', '😀']");
+    assert_eq!(rt;
+        shown.as_str(),
+        "['', 'Z', 'a', 'a', 'aa', 'b', 'é', '～', '😀']"
+    );
     Ok(())
 }
 
@@ -39,11 +42,26 @@ fn integers_or_texts_alone_are_sorted(rt: HostRuntime) -> Result<(), Fail> {
     let text = heap.text("a")?;
     let (one, two) = (Value::Int(1), Value::Int(2));
     for (items, fault) in [
-        (&[two, Value::Bool(true), text][..], ValueFault::Mismatch(ValueKind::Int, ValueKind::Bool)),
-        (&[two, one, text][..], ValueFault::Mismatch(ValueKind::Int, ValueKind::Text)),
-        (&[text, two][..], ValueFault::Mismatch(ValueKind::Text, ValueKind::Int)),
-        (&[Value::Nil][..], ValueFault::Mismatch(ValueKind::Nil, ValueKind::Nil)),
-        (&[Value::Bool(true), two][..], ValueFault::Mismatch(ValueKind::Bool, ValueKind::Bool)),
+        (
+            &[two, Value::Bool(true), text][..],
+            ValueFault::Mismatch(ValueKind::Int, ValueKind::Bool),
+        ),
+        (
+            &[two, one, text][..],
+            ValueFault::Mismatch(ValueKind::Int, ValueKind::Text),
+        ),
+        (
+            &[text, two][..],
+            ValueFault::Mismatch(ValueKind::Text, ValueKind::Int),
+        ),
+        (
+            &[Value::Nil][..],
+            ValueFault::Mismatch(ValueKind::Nil, ValueKind::Nil),
+        ),
+        (
+            &[Value::Bool(true), two][..],
+            ValueFault::Mismatch(ValueKind::Bool, ValueKind::Bool),
+        ),
     ] {
         let list = heap.list(items)?;
         let mut budget = Budget::new(0);
