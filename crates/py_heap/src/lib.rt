@@ -30,3 +30,6 @@ pub use kind::ValueKind;
 pub use room::{list_room, text_room};
 pub use value::{Builtin, Value};
 pub use values::Values;
+
+#[cfg(test)]
+mod tests;
