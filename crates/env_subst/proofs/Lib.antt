@@ -1,0 +1,4 @@
+pub mod NameParts
+pub mod Said
+pub mod Stacks
+pub mod Doing
