@@ -157,12 +157,19 @@ fn include_flags_are_not_signed(rt: HostRuntime) -> Result<(), Fail> {
     let env = envs.make()?;
     let mut path = Items::new(Vec::new(alloc));
     path.push(Item::Text(Text::of(alloc, "inc")?))?;
-    envs.set(env, "CPPPATH", EnvValue::List(path))?;
+    let mut names = Vec::new(alloc);
+    names.push((Text::of(alloc, "CPPPATH")?, EnvValue::List(path)))?;
+    let overlay = envs.overlay(env, names.as_slice())?;
     let locals = plain_locals(alloc, "a.o", "a.c")?;
-    let line = subst(alloc, &envs, env, "$CCCOM", &locals, Mode::Text)?;
-    assert_eq!(rt; line.as_str(), "cc -o a.o -c -Iinc a.c");
-    let signed = subst(alloc, &envs, env, "$CCCOM", &locals, Mode::Signed)?;
-    assert_eq!(rt; signed.as_str(), "cc -o a.o -c a.c");
+    for (env, mode, form) in [
+        (env, Mode::Text, "cc -o a.o -c a.c"),
+        (env, Mode::Raw, "cc -o a.o -c     $(  $) a.c"),
+        (overlay, Mode::Text, "cc -o a.o -c -Iinc a.c"),
+        (overlay, Mode::Signed, "cc -o a.o -c a.c"),
+    ] {
+        let line = subst(alloc, &envs, env, "$CCCOM", &locals, mode)?;
+        assert_eq!(rt; line.as_str(), form);
+    }
     Ok(())
 }
 
@@ -192,32 +199,50 @@ fn repeated(alloc: Global, part: &str, count: usize) -> Result<String, Fail> {
     Ok(text)
 }
 
-/// What a text of so many such parts gives, behind another one.
-fn form_of_many(alloc: Global, front: &str, part: &str, count: usize) -> Result<String, Fail> {
+/// What a text of so many such parts gives, with another text behind them.
+fn form_of_many(alloc: Global, part: &str, count: usize, behind: &str) -> Result<String, Fail> {
     let mut envs = Envs::new(alloc);
     let env = sample_env(alloc, &mut envs)?;
     let locals = sample_locals(alloc)?;
-    let mut text = String::from_str(alloc, front)?;
-    text.push_str(repeated(alloc, part, count)?.as_str())?;
+    let mut text = repeated(alloc, part, count)?;
+    text.push_str(behind)?;
     shown(alloc, subst(alloc, &envs, env, text.as_str(), &locals, Mode::Raw))
 }
 
 #[test]
 fn there_are_at_most_100000_references(rt: HostRuntime) -> Result<(), Fail> {
     let alloc = rt.alloc();
-    assert_eq!(rt; form_of_many(alloc, "", "$EMPTY", 100_000)?.as_str(), "");
-    assert_eq!(rt; form_of_many(alloc, "", "$EMPTY", 100_001)?.as_str(), "!many 100001");
-    assert_eq!(rt; form_of_many(alloc, "", "${T.base}", 1)?.as_str(), "!attr [] 0");
+    for (behind, form) in [
+        ("", ""),
+        ("$EMPTY", "!many 100001"),
+        ("${_concat(P, NONE, S, __env__)}", "!many 100001"),
+        // at one place
+        ("${T.base}", "!many 100001"),
+        ("${", "!brace [] 600000"),
+    ] {
+        let answer = form_of_many(alloc, "$EMPTY", 100_000, behind)?;
+        assert_eq!(rt; answer.as_str(), form, "{behind}");
+    }
     Ok(())
 }
 
 #[test]
 fn pieces_have_at_most_1048576_bytes(rt: HostRuntime) -> Result<(), Fail> {
     let alloc = rt.alloc();
-    assert_eq!(rt; form_of_many(alloc, "", "a", 1_048_576)?.len(), 1_048_576);
-    assert_eq!(rt; form_of_many(alloc, "", "a", 1_048_577)?.as_str(), "!long 1048577");
-    assert_eq!(rt; form_of_many(alloc, "$(", "a", 1_048_574)?.len(), 1_048_576);
-    assert_eq!(rt; form_of_many(alloc, "$(", "a", 1_048_575)?.as_str(), "!long 1048577");
+    assert_eq!(rt; form_of_many(alloc, "a", 1_048_576, "")?.len(), 1_048_576);
+    assert_eq!(rt; form_of_many(alloc, "a", 1_048_574, "$(")?.len(), 1_048_576);
+    for (behind, form) in [
+        ("a", "!long 1048577"),
+        ("$T", "!long 1048577"),
+        ("$(", "!long 1048577"),
+        // at one place
+        ("${T.base}", "!attr [] 1048575"),
+        ("${_concat(P, BAD_DIRS, S, __env__, RDirs)}", "!path"),
+        ("${_concat(P, SOURCES, S, __env__, RDirs)}", "!long 1048577"),
+    ] {
+        let answer = form_of_many(alloc, "a", 1_048_575, behind)?;
+        assert_eq!(rt; answer.as_str(), form, "{behind}");
+    }
     Ok(())
 }
 
