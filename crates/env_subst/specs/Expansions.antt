@@ -191,16 +191,17 @@ reads w deeper names owner ends s = Ok s
 reads w deeper names owner (part_at at p rest) s = and_then (part w deeper names owner at p s) (reads w deeper names owner rest)
 reads w deeper names owner (bad_brace at) s = Err (BadBrace owner at)
 
--- What comes of a text of the value of `owner`, where these variables are open and so many more may be opened. The given
--- text has no name. Variables that stand in each other are all referred to, so there are never more than references.
+-- What comes of a text of the value of `owner`, where these variables are open and so many texts may stand in each other.
+-- The given text has no name.
 unfoldable pub meaning : Setting → ℕ → Names → List ℕ → Reader
 meaning w zero names owner t s = Err (TooMany 100001)
 meaning w (suc more) names owner t s =
     reads w (λ name u v. if is_open name names then Ok v else meaning w more (names ++ name ∷ []) name u v) names owner (reading_of t) s
 
--- how many variables may stand in each other
+-- how many texts may stand in each other: the given one, that of a variable whose directories are asked for, and one for each
+-- reference, so that no reading comes to an end here
 unfoldable pub height : ℕ
-height = 100001
+height = 100002
 
 -- a text of the innermost of these variables
 abbrev pub text_at : Setting → Names → Deeper

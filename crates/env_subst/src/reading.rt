@@ -241,7 +241,7 @@ pub(crate) fn begin<'a>(
 ) -> Result<(), SubstFault>
     ensures { Steps setting.now (λ w names. text_at w names owner text) desk.old desk.new result }
 {
-    if desk.names.len() > REFERENCE_LIMIT as usize {
+    if desk.names.len() > REFERENCE_LIMIT as usize + 1 {
         return Err(SubstFault::TooMany(REFERENCE_LIMIT + 1));
     }
     let place = beginning(text);
