@@ -18,7 +18,7 @@ use Rattle.env_subst.specs.Settings.{Setting}
 use Rattle.env_subst.specs.Contents.{Content, nothing, content_at, taken, said, said_by, parts_or_none}
 use Rattle.env_subst.specs.Attributes.{attribute_named}
 use Rattle.env_subst.specs.declared.attribute.Attribute.{Attribute}
-use Rattle.env_subst.specs.Expansions.{State, Answer, and_then, sheet_or_fault, puts, marks, spaces, refers, Reader, says_one, says_more, says_all, Names, is_open, content_in, sayings_in, Deeper, expands, affixed, more_dirs, all_dirs, Found, dirs_named, inner, dirs_read, dirs_of, puts_found, plain_item, item, items_more, items_all, says_or_fault, refers_to, calls, part, reads, meaning, height, text_at}
+use Rattle.env_subst.specs.Expansions.{State, Answer, and_then, sheet_or_fault, puts, marks, spaces, refers, Reader, says_one, says_more, says_all, Names, is_open, content_in, sayings_in, Deeper, expands, affixed, more_dirs, all_dirs, Found, dirs_named, inner, dirs_read, dirs_of, puts_found, plain_item, item, items_more, items_all, says_or_fault, refers_to, calls, reads_part, reads, meaning, height, text_at}
 use Rattle.env_subst.specs.Desks.{PlainTask, put, read, say, inside, expand, items, dirs, directory, close, deeper_of, outer_names, does, names_after, resumes, Desk, left_of, Leads, behind_all}
 
 abbrev pub desk : List PlainTask → Names → Sheet → ℕ → Desk
@@ -194,9 +194,9 @@ module _ (w : Setting) (names : Names) (owner t : List ℕ) (place : ℕ) where
   read_fails d e = ap (λ r. behind_all w (reads w (deeper_of w names) names owner r) d) e
 
   pub read_step : (tasks more : List PlainTask) (sheet : Sheet) (n : ℕ) (p : PlainPart) (next : ℕ) (copy : List ℕ) → reading_from t place ≡ part_at place p (reading_from t next) → copy ≡ owner → more ≡ read copy t next ∷ tasks
-      → behind_all w (part w (deeper_of w names) names owner place p) (desk more names sheet n) ≡ behind_all w (reads w (deeper_of w names) names owner (reading_from t place)) (desk tasks names sheet n)
+      → behind_all w (reads_part w (deeper_of w names) names owner place p) (desk more names sheet n) ≡ behind_all w (reads w (deeper_of w names) names owner (reading_from t place)) (desk tasks names sheet n)
   read_step tasks more sheet n p next copy e c m =
-      upon w tasks more names sheet n (read owner t next) (part w (deeper_of w names) names owner place p) refl (m ∙ ap (λ y. read y t next ∷ tasks) c)
+      upon w tasks more names sheet n (read owner t next) (reads_part w (deeper_of w names) names owner place p) refl (m ∙ ap (λ y. read y t next ∷ tasks) c)
       ∙ ap (λ r. behind_all w (reads w (deeper_of w names) names owner r) (desk tasks names sheet n)) (sym e)
 
 -- a reference counts

@@ -176,19 +176,19 @@ abbrev pub calls : Setting → Deeper → Names → Call → State → Answer
 calls w deeper names call s = items_all w deeper names call (sayings_in w names call.list) s
 
 -- a part of the text of `owner`
-abbrev pub part : Setting → Deeper → Names → List ℕ → ℕ → PlainPart → State → Answer
-part w deeper names owner at (text t) s = puts t s
-part w deeper names owner at begin s = marks Begin s
-part w deeper names owner at end s = marks End s
-part w deeper names owner at (variable name selection attribute) s =
+abbrev pub reads_part : Setting → Deeper → Names → List ℕ → ℕ → PlainPart → State → Answer
+reads_part w deeper names owner at (text t) s = puts t s
+reads_part w deeper names owner at begin s = marks Begin s
+reads_part w deeper names owner at end s = marks End s
+reads_part w deeper names owner at (variable name selection attribute) s =
     and_then (refers s) (refers_to w deeper names owner at name selection attribute)
-part w deeper names owner at (concat prefix list suffix directories) s =
+reads_part w deeper names owner at (concat prefix list suffix directories) s =
     and_then (refers s) (calls w deeper names (record { prefix = prefix; list = list; suffix = suffix; directories = directories }))
 
 -- the parts of a text, one behind another
 abbrev pub reads : Setting → Deeper → Names → List ℕ → Reading → State → Answer
 reads w deeper names owner ends s = Ok s
-reads w deeper names owner (part_at at p rest) s = and_then (part w deeper names owner at p s) (reads w deeper names owner rest)
+reads w deeper names owner (part_at at p rest) s = and_then (reads_part w deeper names owner at p s) (reads w deeper names owner rest)
 reads w deeper names owner (bad_brace at) s = Err (BadBrace owner at)
 
 -- What comes of a text of the value of `owner`, where these variables are open and so many texts may stand in each other.
