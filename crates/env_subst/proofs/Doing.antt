@@ -18,7 +18,7 @@ use Rattle.env_subst.specs.Settings.{Setting}
 use Rattle.env_subst.specs.Contents.{Content, nothing, content_at, taken, said, said_by, parts_or_none}
 use Rattle.env_subst.specs.Attributes.{attribute_named}
 use Rattle.env_subst.specs.declared.attribute.Attribute.{Attribute}
-use Rattle.env_subst.specs.Expansions.{State, Answer, and_then, sheet_or_fault, puts, marks, spaces, refers, Reader, says_one, says_more, says_all, Names, is_open, content_in, sayings_in, Deeper, expands, affixed, more_dirs, all_dirs, Found, dirs_named, inner, dirs_read, dirs_of, puts_found, plain_item, item, items_more, items_all, says_or_fault, refers_to, calls, part, reads, meaning, height, text_at}
+use Rattle.env_subst.specs.Expansions.{State, Answer, and_then, sheet_or_fault, puts, marks, spaces, refers, Reader, says_one, says_more, says_all, Names, is_open, content_in, sayings_in, Deeper, expands, affixed, more_dirs, all_dirs, Found, dirs_named, inner, dirs_read, dirs_of, puts_found, plain_item, item, items_more, items_all, says_or_fault, refers_to, calls, reads_part, reads, meaning, height, text_at}
 use Rattle.env_subst.specs.Desks.{PlainTask, put, read, say, inside, expand, items, dirs, directory, close, deeper_of, outer_names, does, names_after, resumes, Desk, left_of, Leads, behind_all}
 
 abbrev pub desk : List PlainTask → Names → Sheet → ℕ → Desk
@@ -65,25 +65,25 @@ upon w tasks more names sheet n t f a m =
 pub say_more_step : (w : Setting) (tasks more : List PlainTask) (names : Names) (old new : Sheet) (n : ℕ) (name copy : List ℕ) (says : List Saying) (x : Saying) (xs : List Saying)
     → says ≡ x ∷ xs → with_text (32 ∷ []) old ≡ Some new → copy ≡ name → more ≡ say copy xs ∷ tasks
     → behind_all w (says_one (text_at w names name) x) (desk more names new n) ≡ behind_all w (says_more (text_at w names name) says) (desk tasks names old n)
-say_more_step w tasks more names old new n name copy says x xs e put c m =
+say_more_step w tasks more names old new n name copy says x xs e placed c m =
     upon w tasks more names new n (say name xs) (says_one (text_at w names name) x) refl (m ∙ ap (λ y. say y xs ∷ tasks) c)
-    ∙ spaced w tasks names old new n (λ t. and_then (says_one (text_at w names name) x t) (says_more (text_at w names name) xs)) put
+    ∙ spaced w tasks names old new n (λ t. and_then (says_one (text_at w names name) x t) (says_more (text_at w names name) xs)) placed
     ∙ ap (λ ys. behind_all w (says_more (text_at w names name) ys) (desk tasks names old n)) (sym e)
 
 pub items_more_step : (w : Setting) (tasks more : List PlainTask) (names : Names) (old new : Sheet) (n : ℕ) (call copy : Call) (says : List Saying) (x : Saying) (xs : List Saying)
     → says ≡ x ∷ xs → with_text (32 ∷ []) old ≡ Some new → copy ≡ call → more ≡ items copy xs ∷ tasks
     → behind_all w (item w (deeper_of w names) names call x) (desk more names new n) ≡ behind_all w (items_more w (deeper_of w names) names call says) (desk tasks names old n)
-items_more_step w tasks more names old new n call copy says x xs e put c m =
+items_more_step w tasks more names old new n call copy says x xs e placed c m =
     upon w tasks more names new n (items call xs) (item w (deeper_of w names) names call x) refl (m ∙ ap (λ y. items y xs ∷ tasks) c)
-    ∙ spaced w tasks names old new n (λ t. and_then (item w (deeper_of w names) names call x t) (items_more w (deeper_of w names) names call xs)) put
+    ∙ spaced w tasks names old new n (λ t. and_then (item w (deeper_of w names) names call x t) (items_more w (deeper_of w names) names call xs)) placed
     ∙ ap (λ ys. behind_all w (items_more w (deeper_of w names) names call ys) (desk tasks names old n)) (sym e)
 
 pub more_dirs_step : (w : Setting) (tasks more : List PlainTask) (names : Names) (old new : Sheet) (n : ℕ) (call copy : Call) (found : List (List ℕ)) (x : List ℕ) (xs : List (List ℕ))
     → found ≡ x ∷ xs → with_text (32 ∷ []) old ≡ Some new → copy ≡ call → more ≡ dirs copy xs ∷ tasks
     → behind_all w (affixed w (deeper_of w names) names call (puts x)) (desk more names new n) ≡ behind_all w (more_dirs w (deeper_of w names) names call found) (desk tasks names old n)
-more_dirs_step w tasks more names old new n call copy found x xs e put c m =
+more_dirs_step w tasks more names old new n call copy found x xs e placed c m =
     upon w tasks more names new n (dirs call xs) (affixed w (deeper_of w names) names call (puts x)) refl (m ∙ ap (λ y. dirs y xs ∷ tasks) c)
-    ∙ spaced w tasks names old new n (λ t. and_then (affixed w (deeper_of w names) names call (puts x) t) (more_dirs w (deeper_of w names) names call xs)) put
+    ∙ spaced w tasks names old new n (λ t. and_then (affixed w (deeper_of w names) names call (puts x) t) (more_dirs w (deeper_of w names) names call xs)) placed
     ∙ ap (λ ys. behind_all w (more_dirs w (deeper_of w names) names call ys) (desk tasks names old n)) (sym e)
 
 -- the first of several, without a space
@@ -143,7 +143,7 @@ pub read_inside_none : (w : Setting) (d : Desk) (name t : List ℕ) → is_open 
 read_inside_none w d name t o = ap (λ b. and_then (if b then Ok d.state else text_at w (d.names ++ name ∷ []) name t d.state) (resumes w d.tasks d.names)) (sym o)
 
 -- a text is begun
-level : (names : Names) → length names ≤ 100000 → height - length names ≡ suc (height - suc (length names))
+level : (names : Names) → length names ≤ 100001 → height - length names ≡ suc (height - suc (length names))
 unfolding height
 level names h = omega arith
 
@@ -161,13 +161,13 @@ one_in w k names owner t s = refl
 deeper_levels : (w : Setting) (names : Names) → deeper_with w (height - suc (length names)) names ≡ deeper_of w names
 deeper_levels w names = λ i name t s. if is_open name names then Ok s else meaning w (level_in names name i) (names ++ name ∷ []) name t s
 
-enter : (w : Setting) (names : Names) (owner t : List ℕ) (s : State) → length names ≤ 100000 → text_at w names owner t s ≡ reads w (deeper_of w names) names owner (reading_of t) s
+enter : (w : Setting) (names : Names) (owner t : List ℕ) (s : State) → length names ≤ 100001 → text_at w names owner t s ≡ reads w (deeper_of w names) names owner (reading_of t) s
 enter w names owner t s h =
     ap (λ k. meaning w k names owner t s) (level names h)
     ∙ one_in w (height - suc (length names)) names owner t s
     ∙ ap (λ d. reads w d names owner (reading_of t) s) (deeper_levels w names)
 
-pub begin_step : (w : Setting) (tasks more : List PlainTask) (names : Names) (sheet : Sheet) (n : ℕ) (owner t text : List ℕ) (place : ℕ) → length names ≤ 100000 → text ≡ t → place ≡ 0 → more ≡ read owner text place ∷ tasks
+pub begin_step : (w : Setting) (tasks more : List PlainTask) (names : Names) (sheet : Sheet) (n : ℕ) (owner t text : List ℕ) (place : ℕ) → length names ≤ 100001 → text ≡ t → place ≡ 0 → more ≡ read owner text place ∷ tasks
     → left_of w (desk more names sheet n) ≡ behind_all w (text_at w names owner t) (desk tasks names sheet n)
 begin_step w tasks more names sheet n owner t text place h a b m =
     ap (λ ts. resumes w ts names (at sheet n)) (m ∙ ap (λ x. read owner x place ∷ tasks) a ∙ ap (λ k. read owner t k ∷ tasks) b)
@@ -177,11 +177,11 @@ too_deep : (w : Setting) (k : ℕ) (names : Names) (owner t : List ℕ) (s : Sta
 unfolding meaning
 too_deep w k names owner t s e = ap (λ j. meaning w j names owner t s) e
 
-no_level : (names : Names) → 100000 < length names → height - length names ≡ 0
+no_level : (names : Names) → 100001 < length names → height - length names ≡ 0
 unfolding height
 no_level names h = omega arith
 
-pub begin_fails : (w : Setting) (tasks : List PlainTask) (names : Names) (sheet : Sheet) (n : ℕ) (owner t : List ℕ) → 100000 < length names
+pub begin_fails : (w : Setting) (tasks : List PlainTask) (names : Names) (sheet : Sheet) (n : ℕ) (owner t : List ℕ) → 100001 < length names
     → behind_all w (text_at w names owner t) (desk tasks names sheet n) ≡ Err (TooMany 100001)
 begin_fails w tasks names sheet n owner t h = ap (λ a. and_then a (resumes w tasks names)) (too_deep w (height - length names) names owner t (at sheet n) (no_level names h))
 
@@ -194,9 +194,9 @@ module _ (w : Setting) (names : Names) (owner t : List ℕ) (place : ℕ) where
   read_fails d e = ap (λ r. behind_all w (reads w (deeper_of w names) names owner r) d) e
 
   pub read_step : (tasks more : List PlainTask) (sheet : Sheet) (n : ℕ) (p : PlainPart) (next : ℕ) (copy : List ℕ) → reading_from t place ≡ part_at place p (reading_from t next) → copy ≡ owner → more ≡ read copy t next ∷ tasks
-      → behind_all w (part w (deeper_of w names) names owner place p) (desk more names sheet n) ≡ behind_all w (reads w (deeper_of w names) names owner (reading_from t place)) (desk tasks names sheet n)
+      → behind_all w (reads_part w (deeper_of w names) names owner place p) (desk more names sheet n) ≡ behind_all w (reads w (deeper_of w names) names owner (reading_from t place)) (desk tasks names sheet n)
   read_step tasks more sheet n p next copy e c m =
-      upon w tasks more names sheet n (read owner t next) (part w (deeper_of w names) names owner place p) refl (m ∙ ap (λ y. read y t next ∷ tasks) c)
+      upon w tasks more names sheet n (read owner t next) (reads_part w (deeper_of w names) names owner place p) refl (m ∙ ap (λ y. read y t next ∷ tasks) c)
       ∙ ap (λ r. behind_all w (reads w (deeper_of w names) names owner r) (desk tasks names sheet n)) (sym e)
 
 -- a reference counts
@@ -270,7 +270,7 @@ pub item_plain : (w : Setting) (d : Desk) (call : Call) (x : Saying) → call.di
 item_plain w d call x e =
     ap (λ b. and_then (if b then puts_found w (deeper_of w d.names) d.names call (dirs_of w (deeper_of w d.names call.list) x d.state) else plain_item w (deeper_of w d.names) d.names call x d.state) (resumes w d.tasks d.names)) (sym e)
 
-inner-assoc : (f g h : State → Answer) → (λ (s : State). and_then (f s) (λ t. and_then (g t) h)) ≡ (λ (s : State). and_then (and_then (f s) g) h)
+inner-assoc : (f g h : State → Answer) → ◌≡◌ {A = State → Answer} (λ s. and_then (f s) (λ t. and_then (g t) h)) (λ s. and_then (and_then (f s) g) h)
 inner-assoc f g h = λ i s. sym (and_then-assoc (f s) g h) i
 
 -- something between prefix and suffix

@@ -2,3 +2,4 @@ pub mod NameParts
 pub mod Said
 pub mod Stacks
 pub mod Doing
+pub mod Runs

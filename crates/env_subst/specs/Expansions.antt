@@ -176,31 +176,32 @@ abbrev pub calls : Setting → Deeper → Names → Call → State → Answer
 calls w deeper names call s = items_all w deeper names call (sayings_in w names call.list) s
 
 -- a part of the text of `owner`
-abbrev pub part : Setting → Deeper → Names → List ℕ → ℕ → PlainPart → State → Answer
-part w deeper names owner at (text t) s = puts t s
-part w deeper names owner at begin s = marks Begin s
-part w deeper names owner at end s = marks End s
-part w deeper names owner at (variable name selection attribute) s =
+abbrev pub reads_part : Setting → Deeper → Names → List ℕ → ℕ → PlainPart → State → Answer
+reads_part w deeper names owner at (text t) s = puts t s
+reads_part w deeper names owner at begin s = marks Begin s
+reads_part w deeper names owner at end s = marks End s
+reads_part w deeper names owner at (variable name selection attribute) s =
     and_then (refers s) (refers_to w deeper names owner at name selection attribute)
-part w deeper names owner at (concat prefix list suffix directories) s =
+reads_part w deeper names owner at (concat prefix list suffix directories) s =
     and_then (refers s) (calls w deeper names (record { prefix = prefix; list = list; suffix = suffix; directories = directories }))
 
 -- the parts of a text, one behind another
 abbrev pub reads : Setting → Deeper → Names → List ℕ → Reading → State → Answer
 reads w deeper names owner ends s = Ok s
-reads w deeper names owner (part_at at p rest) s = and_then (part w deeper names owner at p s) (reads w deeper names owner rest)
+reads w deeper names owner (part_at at p rest) s = and_then (reads_part w deeper names owner at p s) (reads w deeper names owner rest)
 reads w deeper names owner (bad_brace at) s = Err (BadBrace owner at)
 
--- What comes of a text of the value of `owner`, where these variables are open and so many more may be opened. The given
--- text has no name. Variables that stand in each other are all referred to, so there are never more than references.
+-- What comes of a text of the value of `owner`, where these variables are open and so many texts may stand in each other.
+-- The given text has no name.
 unfoldable pub meaning : Setting → ℕ → Names → List ℕ → Reader
 meaning w zero names owner t s = Err (TooMany 100001)
 meaning w (suc more) names owner t s =
     reads w (λ name u v. if is_open name names then Ok v else meaning w more (names ++ name ∷ []) name u v) names owner (reading_of t) s
 
--- how many variables may stand in each other
+-- how many texts may stand in each other: the given one, that of a variable whose directories are asked for, and one for each
+-- reference, so that no reading comes to an end here
 unfoldable pub height : ℕ
-height = 100001
+height = 100002
 
 -- a text of the innermost of these variables
 abbrev pub text_at : Setting → Names → Deeper

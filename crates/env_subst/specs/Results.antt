@@ -21,7 +21,7 @@ in_form mode (Err fault) = Err fault
 abbrev pub substituted : Setting → Mode → List ℕ → Result (List ℕ) SubstFault
 substituted w mode t = in_form mode (text_at w [] [] t start)
 
-abbrev Paths : Type 0
+abbrev pub Paths : Type 0
 Paths = Result (List (List ℕ)) SubstFault
 
 abbrev pub behind : List (List ℕ) → Paths → Paths

@@ -6,7 +6,7 @@ ghost use Rattle.env_subst.specs.Contents.{content_of, said_by};
 ghost use Rattle.env_subst.specs.declared.locals.Locals.{Locals};
 ghost use Rattle.env_subst.specs.Parts.{owned_part};
 ghost use Rattle.env_subst.specs.Sayings.{sayings_of};
-ghost use Rattle.env_subst.specs.Expansions.{is_open, content_in, refers_to, part, reads, says_one, says_more, says_all, expands, text_at};
+ghost use Rattle.env_subst.specs.Expansions.{is_open, content_in, refers_to, reads_part, reads, says_one, says_more, says_all, expands, text_at};
 ghost use Rattle.env_subst.specs.Desks.{deeper_of, Steps};
 
 use crate::calls::call_items;
@@ -58,7 +58,7 @@ fn read_part<'a>(
     at: usize,
     part: OwnedPart,
 ) -> Result<(), SubstFault>
-    ensures { Steps setting.now (λ w names. part w (deeper_of w names) names owner at (owned_part part)) desk.old desk.new result }
+    ensures { Steps setting.now (λ w names. reads_part w (deeper_of w names) names owner at (owned_part part)) desk.old desk.new result }
 {
     match part {
         OwnedPart::Text(text) => put(&mut desk.pieces, text.as_str()),
@@ -241,7 +241,7 @@ pub(crate) fn begin<'a>(
 ) -> Result<(), SubstFault>
     ensures { Steps setting.now (λ w names. text_at w names owner text) desk.old desk.new result }
 {
-    if desk.names.len() > REFERENCE_LIMIT as usize {
+    if desk.names.len() > REFERENCE_LIMIT as usize + 1 {
         return Err(SubstFault::TooMany(REFERENCE_LIMIT + 1));
     }
     let place = beginning(text);
