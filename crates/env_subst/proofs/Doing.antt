@@ -24,7 +24,7 @@ use Rattle.env_subst.specs.Desks.{PlainTask, put, read, say, inside, expand, ite
 abbrev pub desk : List PlainTask → Names → Sheet → ℕ → Desk
 desk tasks names sheet n = record { tasks = tasks; names = names; state = record { sheet = sheet; references = n } }
 
-abbrev at : Sheet → ℕ → State
+abbrev pub at : Sheet → ℕ → State
 at sheet n = record { sheet = sheet; references = n }
 
 pub and_then-assoc : (a : Answer) (f g : State → Answer) → and_then (and_then a f) g ≡ and_then a (λ s. and_then (f s) g)
@@ -50,12 +50,12 @@ pub space_fails : (w : Setting) (tasks : List PlainTask) (names : Names) (old : 
     → behind_all w (λ s. and_then (spaces s) f) (desk tasks names old n) ≡ Err e
 space_fails w tasks names old n e f h = ap (λ o. and_then (and_then (sheet_or_fault n o) f) (resumes w tasks names)) h.1 ∙ ap (λ x. Err x) (sym h.0)
 
-spaced : (w : Setting) (tasks : List PlainTask) (names : Names) (old new : Sheet) (n : ℕ) (f : State → Answer) → with_text (32 ∷ []) old ≡ Some new
+pub spaced : (w : Setting) (tasks : List PlainTask) (names : Names) (old new : Sheet) (n : ℕ) (f : State → Answer) → with_text (32 ∷ []) old ≡ Some new
     → behind_all w f (desk tasks names new n) ≡ behind_all w (λ s. and_then (spaces s) f) (desk tasks names old n)
 spaced w tasks names old new n f e = ap (λ o. and_then (and_then (sheet_or_fault n o) f) (resumes w tasks names)) (sym e)
 
 -- one thing, and what is left behind it
-upon : (w : Setting) (tasks more : List PlainTask) (names : Names) (sheet : Sheet) (n : ℕ) (t : PlainTask) (f : State → Answer) → names_after t names ≡ names → more ≡ t ∷ tasks
+pub upon : (w : Setting) (tasks more : List PlainTask) (names : Names) (sheet : Sheet) (n : ℕ) (t : PlainTask) (f : State → Answer) → names_after t names ≡ names → more ≡ t ∷ tasks
     → behind_all w f (desk more names sheet n) ≡ behind_all w (λ s. and_then (f s) (does w names t)) (desk tasks names sheet n)
 upon w tasks more names sheet n t f a m =
     ap (λ ts. and_then (f (at sheet n)) (resumes w ts names)) m
@@ -69,41 +69,6 @@ say_more_step w tasks more names old new n name copy says x xs e placed c m =
     upon w tasks more names new n (say name xs) (says_one (text_at w names name) x) refl (m ∙ ap (λ y. say y xs ∷ tasks) c)
     ∙ spaced w tasks names old new n (λ t. and_then (says_one (text_at w names name) x t) (says_more (text_at w names name) xs)) placed
     ∙ ap (λ ys. behind_all w (says_more (text_at w names name) ys) (desk tasks names old n)) (sym e)
-
-pub items_more_step : (w : Setting) (tasks more : List PlainTask) (names : Names) (old new : Sheet) (n : ℕ) (call copy : Call) (says : List Saying) (x : Saying) (xs : List Saying)
-    → says ≡ x ∷ xs → with_text (32 ∷ []) old ≡ Some new → copy ≡ call → more ≡ items copy xs ∷ tasks
-    → behind_all w (item w (deeper_of w names) names call x) (desk more names new n) ≡ behind_all w (items_more w (deeper_of w names) names call says) (desk tasks names old n)
-items_more_step w tasks more names old new n call copy says x xs e placed c m =
-    upon w tasks more names new n (items call xs) (item w (deeper_of w names) names call x) refl (m ∙ ap (λ y. items y xs ∷ tasks) c)
-    ∙ spaced w tasks names old new n (λ t. and_then (item w (deeper_of w names) names call x t) (items_more w (deeper_of w names) names call xs)) placed
-    ∙ ap (λ ys. behind_all w (items_more w (deeper_of w names) names call ys) (desk tasks names old n)) (sym e)
-
-pub more_dirs_step : (w : Setting) (tasks more : List PlainTask) (names : Names) (old new : Sheet) (n : ℕ) (call copy : Call) (found : List (List ℕ)) (x : List ℕ) (xs : List (List ℕ))
-    → found ≡ x ∷ xs → with_text (32 ∷ []) old ≡ Some new → copy ≡ call → more ≡ dirs copy xs ∷ tasks
-    → behind_all w (affixed w (deeper_of w names) names call (puts x)) (desk more names new n) ≡ behind_all w (more_dirs w (deeper_of w names) names call found) (desk tasks names old n)
-more_dirs_step w tasks more names old new n call copy found x xs e placed c m =
-    upon w tasks more names new n (dirs call xs) (affixed w (deeper_of w names) names call (puts x)) refl (m ∙ ap (λ y. dirs y xs ∷ tasks) c)
-    ∙ spaced w tasks names old new n (λ t. and_then (affixed w (deeper_of w names) names call (puts x) t) (more_dirs w (deeper_of w names) names call xs)) placed
-    ∙ ap (λ ys. behind_all w (more_dirs w (deeper_of w names) names call ys) (desk tasks names old n)) (sym e)
-
--- the first of several, without a space
-pub items_all_step : (w : Setting) (tasks more : List PlainTask) (names : Names) (sheet : Sheet) (n : ℕ) (call copy : Call) (says : List Saying) (x : Saying) (xs : List Saying)
-    → says ≡ x ∷ xs → says ≡ sayings_in w names call.list → copy ≡ call → more ≡ items copy xs ∷ tasks
-    → behind_all w (item w (deeper_of w names) names call x) (desk more names sheet n) ≡ behind_all w (calls w (deeper_of w names) names call) (desk tasks names sheet n)
-items_all_step w tasks more names sheet n call copy says x xs e h c m =
-    upon w tasks more names sheet n (items call xs) (item w (deeper_of w names) names call x) refl (m ∙ ap (λ y. items y xs ∷ tasks) c)
-    ∙ ap (λ ys. behind_all w (items_all w (deeper_of w names) names call ys) (desk tasks names sheet n)) (sym e ∙ h)
-
-pub items_none : (w : Setting) (d : Desk) (call : Call) (says : List Saying) → says ≡ [] → says ≡ sayings_in w d.names call.list
-    → left_of w d ≡ behind_all w (calls w (deeper_of w d.names) d.names call) d
-items_none w d call says e h = ap (λ ys. behind_all w (items_all w (deeper_of w d.names) d.names call ys) d) (sym e ∙ h)
-
-pub all_dirs_step : (w : Setting) (tasks more : List PlainTask) (names : Names) (sheet : Sheet) (n : ℕ) (call copy : Call) (found : List (List ℕ)) (x : List ℕ) (xs : List (List ℕ))
-    → found ≡ x ∷ xs → copy ≡ call → more ≡ dirs copy xs ∷ tasks
-    → behind_all w (affixed w (deeper_of w names) names call (puts x)) (desk more names sheet n) ≡ behind_all w (all_dirs w (deeper_of w names) names call found) (desk tasks names sheet n)
-all_dirs_step w tasks more names sheet n call copy found x xs e c m =
-    upon w tasks more names sheet n (dirs call xs) (affixed w (deeper_of w names) names call (puts x)) refl (m ∙ ap (λ y. dirs y xs ∷ tasks) c)
-    ∙ ap (λ ys. behind_all w (all_dirs w (deeper_of w names) names call ys) (desk tasks names sheet n)) (sym e)
 
 -- a variable is open no longer
 left_again : (names : Names) (name : List ℕ) → outer_names (names ++ name ∷ []) ≡ names
@@ -258,57 +223,6 @@ not_open name names says x xs none e = by (is_open name names) none
     by : (b : Bool) → (b ≡ true → says ≡ []) → b ≡ false
     by false h = refl
     by true h = let k : says ≡ [] = h refl in cc
-
--- an item, by what it is
-pub item_dirs : (w : Setting) (d : Desk) (call : Call) (x : Saying) → call.directories ≡ true
-    → behind_all w (λ s. puts_found w (deeper_of w d.names) d.names call (dirs_of w (deeper_of w d.names call.list) x s)) d ≡ behind_all w (item w (deeper_of w d.names) d.names call x) d
-item_dirs w d call x e =
-    ap (λ b. and_then (if b then puts_found w (deeper_of w d.names) d.names call (dirs_of w (deeper_of w d.names call.list) x d.state) else plain_item w (deeper_of w d.names) d.names call x d.state) (resumes w d.tasks d.names)) (sym e)
-
-pub item_plain : (w : Setting) (d : Desk) (call : Call) (x : Saying) → call.directories ≡ false
-    → behind_all w (plain_item w (deeper_of w d.names) d.names call x) d ≡ behind_all w (item w (deeper_of w d.names) d.names call x) d
-item_plain w d call x e =
-    ap (λ b. and_then (if b then puts_found w (deeper_of w d.names) d.names call (dirs_of w (deeper_of w d.names call.list) x d.state) else plain_item w (deeper_of w d.names) d.names call x d.state) (resumes w d.tasks d.names)) (sym e)
-
-inner-assoc : (f g h : State → Answer) → ◌≡◌ {A = State → Answer} (λ s. and_then (f s) (λ t. and_then (g t) h)) (λ s. and_then (and_then (f s) g) h)
-inner-assoc f g h = λ i s. sym (and_then-assoc (f s) g h) i
-
--- something between prefix and suffix
-pub affix_step : (w : Setting) (tasks one two three : List PlainTask) (names : Names) (sheet : Sheet) (n : ℕ) (call : Call) (middle : PlainTask) → names_after middle names ≡ names
-    → one ≡ expand call.suffix ∷ tasks → two ≡ middle ∷ one → three ≡ expand call.prefix ∷ two
-    → left_of w (desk three names sheet n) ≡ behind_all w (affixed w (deeper_of w names) names call (does w names middle)) (desk tasks names sheet n)
-affix_step w tasks one two three names sheet n call middle stay a b c =
-    ap (λ ts. resumes w ts names (at sheet n)) (c ∙ ap (λ ts. expand call.prefix ∷ ts) (b ∙ ap (λ ts. middle ∷ ts) a))
-    ∙ ap (λ ns. and_then (P (at sheet n)) (λ s. and_then (does w names middle s) (λ t. and_then (expands w (deeper_of w ns) ns call.suffix t) (resumes w tasks ns)))) stay
-    ∙ ap (and_then (P (at sheet n))) (inner-assoc (does w names middle) S (resumes w tasks names))
-    ∙ sym (and_then-assoc (P (at sheet n)) (λ s. and_then (does w names middle s) S) (resumes w tasks names))
-  where
-    P : State → Answer
-    P = expands w (deeper_of w names) names call.prefix
-
-    S : State → Answer
-    S = expands w (deeper_of w names) names call.suffix
-
--- directories
-pub directory_step : (w : Setting) (tasks one two : List PlainTask) (names : Names) (sheet : Sheet) (n : ℕ) (call : Call) (list t : List ℕ)
-    → list ≡ call.list → one ≡ directory sheet call ∷ tasks → two ≡ inside list (Read t) ∷ one
-    → left_of w (desk two names (blank sheet.room) n) ≡ behind_all w (λ s. puts_found w (deeper_of w names) names call (dirs_of w (deeper_of w names call.list) (Read t) s)) (desk tasks names sheet n)
-directory_step w tasks one two names sheet n call list t c a b =
-    ap (λ ts. resumes w ts names (at (blank sheet.room) n)) (b ∙ ap (λ ts. inside list (Read t) ∷ ts) a ∙ ap (λ y. inside y (Read t) ∷ directory sheet call ∷ tasks) c)
-    ∙ by (deeper_of w names call.list t (at (blank sheet.room) n))
-  where
-    by : (r : Answer) → and_then r (λ s. and_then (puts_found w (deeper_of w names) names call (dirs_read w sheet (Ok s))) (resumes w tasks names))
-        ≡ and_then (puts_found w (deeper_of w names) names call (dirs_read w sheet r)) (resumes w tasks names)
-    by (Ok s) = refl
-    by (Err fault) = refl
-
-pub found_step : (w : Setting) (d : Desk) (call : Call) (found : Found) (ps : List (List ℕ)) → found ≡ Ok (ps, d.state)
-    → behind_all w (all_dirs w (deeper_of w d.names) d.names call ps) d ≡ and_then (puts_found w (deeper_of w d.names) d.names call found) (resumes w d.tasks d.names)
-found_step w d call found ps e = ap (λ f. and_then (puts_found w (deeper_of w d.names) d.names call f) (resumes w d.tasks d.names)) (sym e)
-
-pub found_fails : (w : Setting) (d : Desk) (call : Call) (found : Found) (e : SubstFault) → found ≡ Err e
-    → and_then (puts_found w (deeper_of w d.names) d.names call found) (resumes w d.tasks d.names) ≡ Err e
-found_fails w d call found e h = ap (λ f. and_then (puts_found w (deeper_of w d.names) d.names call f) (resumes w d.tasks d.names)) h
 
 pub leads_too : {U : Type 0} → (w : Setting) (a b : Answer) (d : Desk) (r : Result U SubstFault) → a ≡ b → Leads w a d r → Leads w b d r
 leads_too w a b d r e = subst (λ x. Leads w x d r) e

@@ -1,17 +1,19 @@
 //! Calls of `_concat`.
-ghost use Rattle.std.specs.Prelude.{◌≡◌, ◌≢◌, ◌<◌, ◌+◌, ◌^◌, ⊤, [], ◌∷◌, Ok, Err, IfOk, MatchOption, MatchResult, drop, string_bytes};
+ghost use Rattle.std.specs.Prelude.{◌≡◌, ◌≢◌, ◌<◌, ◌+◌, ◌^◌, ⊤, [], ◌∷◌, Ok, Err, OnOk, IfOk, MatchOption, MatchResult, drop, string_bytes};
 ghost use Rattle.env_pieces.specs.Pieces.{pieces_of};
 ghost use Rattle.env_pieces.specs.Forms.{text_of};
 ghost use Rattle.variant_dirs.specs.Variants.{searched, uncopied_in, variant_of};
 ghost use Rattle.std.specs.Option.{option_to_list};
+ghost use Rattle.env_subst.specs.declared.locals.Locals.{Locals};
 ghost use Rattle.env_subst.specs.Settings.{setting_of};
-ghost use Rattle.env_subst.specs.Sayings.{sayings_of};
-ghost use Rattle.env_subst.specs.Expansions.{State, Names, dirs_named, affixed, all_dirs, more_dirs, puts_found, dirs_of, dirs_read, plain_item, item, items_more, calls};
-ghost use Rattle.env_subst.specs.Desks.{deeper_of, does, plain, names_after, Steps};
+ghost use Rattle.env_subst.specs.Sayings.{sayings_of, Begins};
+ghost use Rattle.env_subst.specs.Expansions.{State, Names, sayings_in, dirs_named, affixed, inner, all_dirs, more_dirs, puts_found, dirs_of, dirs_read, plain_item, item, items_more, items_all, calls};
+ghost use Rattle.env_subst.specs.Desks.{items, dirs, deeper_of, does, plain, tasks_of, names_after, Steps};
 
 use crate::content::said;
-use crate::desk::{Desk, push, put};
+use crate::desk::{Desk, Stack, push, put};
 use crate::fault::SubstFault;
+use crate::names::Names;
 use crate::reading::held_in;
 use crate::saying::{First, Saying, Sayings, first_of};
 use crate::setting::Setting;
@@ -30,18 +32,22 @@ pub(crate) fn call_items<'a>(
 ) -> Result<(), SubstFault>
     ensures { Steps setting.now (λ w names. calls w (deeper_of w names) names call) desk.old desk.new result }
 {
-    let held = held_in(setting, &desk.names, &call.list)?;
-    match first_of(setting.alloc, setting.locals, said(held))? {
-        Some(First { saying, rest }) => {
-            let task = Task::Items {
-                call: call.copy()?,
-                rest,
-            };
-            push(&mut desk.tasks, task)?;
-            put_item(setting, desk, call, saying)
-        }
+    match first_item(setting, &desk.names, &call.list)? {
+        Some(first) => put_items(setting, desk, call, first),
         None => Ok(()),
     }
+}
+
+/// The first item of a list and the others, if there are any.
+fn first_item<'a>(
+    setting: &Setting<'a>,
+    names: &Names,
+    list: &Text,
+) -> Result<Option<First<'a>>, Memory>
+    ensures { IfOk result (Begins setting.now.locals.now (sayings_in (setting_of setting.now) names.now list.now)) }
+{
+    let held = held_in(setting, names, list)?;
+    first_of(setting.alloc, setting.locals, said(held))
 }
 
 /// Further items of a call.
@@ -54,17 +60,35 @@ pub(crate) fn more_items<'a>(
     ensures { Steps setting.now (λ w names. items_more w (deeper_of w names) names call (sayings_of w.locals sayings.entry)) desk.old desk.new result }
 {
     match first_of(setting.alloc, setting.locals, sayings)? {
-        Some(First { saying, rest }) => {
+        Some(first) => {
             put(&mut desk.pieces, " ")?;
-            let task = Task::Items {
-                call: call.copy()?,
-                rest,
-            };
-            push(&mut desk.tasks, task)?;
-            put_item(setting, desk, call, saying)
+            put_items(setting, desk, call, first)
         }
         None => Ok(()),
     }
+}
+
+/// An item, and then the others.
+fn put_items<'a>(
+    setting: &Setting<'a>,
+    desk: &mut Desk<'a>,
+    call: Call,
+    first: First<'a>,
+) -> Result<(), SubstFault>
+    ensures { Steps setting.now (λ w names. items_all w (deeper_of w names) names call (first.entry.saying ∷ sayings_of w.locals first.entry.rest)) desk.old desk.new result }
+{
+    let First { saying, rest } = first;
+    push_items(&mut desk.tasks, &call, rest)?;
+    put_item(setting, desk, call, saying)
+}
+
+/// Further items are left to do.
+fn push_items<'a>(stack: &mut Stack<'a>, call: &Call, rest: Sayings<'a>) -> Result<(), Memory>
+    ensures { OnOk result ((locals : Locals) → tasks_of locals stack.new.tasks.items
+        ≡ items call.now (sayings_of locals rest.entry) ∷ tasks_of locals stack.old.tasks.items) }
+{
+    let call = call.copy()?;
+    push(stack, Task::Items { call, rest })
 }
 
 fn put_item<'a>(
@@ -102,7 +126,7 @@ fn put_plain<'a>(
     }
 }
 
-/// An item that is a directory. A text is read apart first.
+/// An item that is a directory.
 fn put_directory<'a>(
     setting: &Setting<'a>,
     desk: &mut Desk<'a>,
@@ -112,24 +136,31 @@ fn put_directory<'a>(
     ensures { Steps setting.now (λ w names s. puts_found w (deeper_of w names) names call (dirs_of w (deeper_of w names call.list) saying s)) desk.old desk.new result }
 {
     match saying {
-        Saying::Read(text) => {
-            let name = call.list.copy()?;
-            let inner = desk.pieces.inner();
-            let outer = mem::replace(&mut desk.pieces, inner);
-            push(&mut desk.tasks, Task::Directory { outer, call })?;
-            let saying = Saying::Read(text);
-            push(&mut desk.tasks, Task::Inside { name, saying })?;
-            Ok(())
-        }
-        Saying::Plain(text) => {
-            let found = dirs_named(setting, text.as_str())?;
-            put_dirs(setting, desk, call, found)
-        }
+        Saying::Read(text) => read_apart(setting, desk, call, text),
+        Saying::Plain(text) => put_named(setting, desk, call, text.as_str()),
         Saying::Path(path) => {
             let found = searched(setting.alloc, &setting.locals.variants, path)?;
-            put_dirs(setting, desk, call, found)
+            put_dirs(setting, desk, call, found, 0)
         }
     }
+}
+
+/// A text that names directories is read apart first.
+fn read_apart<'a>(
+    setting: &Setting<'a>,
+    desk: &mut Desk<'a>,
+    call: Call,
+    text: Text,
+) -> Result<(), SubstFault>
+    ensures { Steps setting.now (λ w names s. puts_found w (deeper_of w names) names call (dirs_read w s.sheet (deeper_of w names call.list text (inner s)))) desk.old desk.new result }
+{
+    let name = call.list.copy()?;
+    let inner = desk.pieces.inner();
+    let outer = mem::replace(&mut desk.pieces, inner);
+    push(&mut desk.tasks, Task::Directory { outer, call })?;
+    let saying = Saying::Read(text);
+    push(&mut desk.tasks, Task::Inside { name, saying })?;
+    Ok(())
 }
 
 /// What was read apart names directories. The pieces that were read before come back.
@@ -143,8 +174,22 @@ pub(crate) fn put_read<'a>(
 {
     let inner = mem::replace(&mut desk.pieces, outer);
     let text = read_text(setting.alloc, inner)?;
-    let found = dirs_named(setting, text.as_str())?;
-    put_dirs(setting, desk, call, found)
+    put_named(setting, desk, call, text.as_str())
+}
+
+/// The directories that a text names.
+fn put_named<'a>(
+    setting: &Setting<'a>,
+    desk: &mut Desk<'a>,
+    call: Call,
+    text: &str,
+) -> Result<(), SubstFault>
+    ensures { Steps setting.now (λ w names s. puts_found w (deeper_of w names) names call (dirs_named w text.now s)) desk.old desk.new result }
+{
+    match dirs_named(setting, text) {
+        Ok(found) => put_dirs(setting, desk, call, found, 0),
+        Err(fault) => Err(fault),
+    }
 }
 
 /// What was read, as text.
@@ -194,27 +239,37 @@ fn uncopied_source(variants: &Variants, path: &PathText) -> Result<Option<PathTe
     }
 }
 
-/// The directories of an item.
+/// The directories of an item, from this one on.
 fn put_dirs<'a>(
     setting: &Setting<'a>,
     desk: &mut Desk<'a>,
     call: Call,
     found: Paths,
+    next: usize,
 ) -> Result<(), SubstFault>
-    ensures { Steps setting.now (λ w names. all_dirs w (deeper_of w names) names call found) desk.old desk.new result }
+    ensures { Steps setting.now (λ w names. all_dirs w (deeper_of w names) names call (drop next found)) desk.old desk.new result }
 {
-    match dir_at(setting.alloc, &found, 0)? {
+    match dir_at(setting.alloc, &found, next)? {
         Some(text) => {
-            let task = Task::Dirs {
-                call: call.copy()?,
-                found,
-                next: 1,
-            };
-            push(&mut desk.tasks, task)?;
+            push_dirs(&mut desk.tasks, &call, found, next + 1)?;
             affix(setting, desk, call, Task::Put(text))
         }
         None => Ok(()),
     }
+}
+
+/// Further directories are left to do.
+fn push_dirs<'a>(
+    stack: &mut Stack<'a>,
+    call: &Call,
+    found: Paths,
+    next: usize,
+) -> Result<(), Memory>
+    ensures { OnOk result ((locals : Locals) → tasks_of locals stack.new.tasks.items
+        ≡ dirs call.now (drop next found) ∷ tasks_of locals stack.old.tasks.items) }
+{
+    let call = call.copy()?;
+    push(stack, Task::Dirs { call, found, next })
 }
 
 /// Further directories of an item, from this one on.
@@ -227,19 +282,11 @@ pub(crate) fn more_dirs<'a>(
 ) -> Result<(), SubstFault>
     ensures { Steps setting.now (λ w names. more_dirs w (deeper_of w names) names call (drop next found)) desk.old desk.new result }
 {
-    match dir_at(setting.alloc, &found, next)? {
-        Some(text) => {
-            put(&mut desk.pieces, " ")?;
-            let next = next + 1;
-            let task = Task::Dirs {
-                call: call.copy()?,
-                found,
-                next,
-            };
-            push(&mut desk.tasks, task)?;
-            affix(setting, desk, call, Task::Put(text))
-        }
-        None => Ok(()),
+    if next < found.as_slice().len() {
+        put(&mut desk.pieces, " ")?;
+        put_dirs(setting, desk, call, found, next)
+    } else {
+        Ok(())
     }
 }
 

@@ -232,7 +232,7 @@ fn pieces_have_at_most_1048576_bytes(rt: HostRuntime) -> Result<(), Fail> {
     assert_eq!(rt; form_of_many(alloc, "a", 1_048_576, "")?.len(), 1_048_576);
     assert_eq!(rt; form_of_many(alloc, "a", 1_048_574, "$(")?.len(), 1_048_576);
     for (behind, form) in [
-        ("a", "!long 1048577"),
+        ("aa", "!long 1048577"),
         ("$T", "!long 1048577"),
         ("$(", "!long 1048577"),
         // at one place

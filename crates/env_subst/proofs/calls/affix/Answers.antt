@@ -1,6 +1,6 @@
 use Rattle.env_subst.specs.Settings.{setting_of}
 use Rattle.env_subst.specs.Desks.{plain, tasks_of}
-use Rattle.env_subst.proofs.Doing.{affix_step}
+use Rattle.env_subst.proofs.CallSteps.{affix_step}
 use Rattle.env_subst.proofs.calls.affix.Goals as goal
 
 pub returns : goal.returns
