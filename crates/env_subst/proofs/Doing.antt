@@ -78,6 +78,18 @@ say_more_step w tasks more names old new n name copy says x xs e placed c m =
     ∙ spaced w tasks names old new n (λ t. and_then (says_one (text_at w names name) x t) (says_more (text_at w names name) xs)) placed
     ∙ ap (λ ys. behind_all w (says_more (text_at w names name) ys) (desk tasks names old n)) (sym e)
 
+pub says_more_fails : (w : Setting) (tasks : List PlainTask) (names : Names) (old : Sheet) (n : ℕ) (name : List ℕ) (says : List Saying) (x : Saying) (xs : List Saying) (e : SubstFault)
+    → says ≡ x ∷ xs → (e ≡ TooLong 1048577) × (with_text (32 ∷ []) old ≡ None) → behind_all w (says_more (text_at w names name) says) (desk tasks names old n) ≡ Err e
+says_more_fails w tasks names old n name says x xs e s h =
+    ap (λ ys. behind_all w (says_more (text_at w names name) ys) (desk tasks names old n)) s
+    ∙ space_fails w tasks names old n e (λ t. and_then (says_one (text_at w names name) x t) (says_more (text_at w names name) xs)) h
+
+pub says_no_more : (w : Setting) (d : Desk) (name : List ℕ) (says : List Saying) → says ≡ [] → left_of w d ≡ behind_all w (says_more (text_at w d.names name) says) d
+says_no_more w d name says e = ap (λ ys. behind_all w (says_more (text_at w d.names name) ys) d) (sym e)
+
+pub says_nothing_at_all : (w : Setting) (d : Desk) (name : List ℕ) (says : List Saying) → says ≡ [] → left_of w d ≡ behind_all w (says_all (deeper_of w d.names name) says) d
+says_nothing_at_all w d name says e = ap (λ ys. behind_all w (says_all (deeper_of w d.names name) ys) d) (sym e)
+
 pub items_more_step : (w : Setting) (tasks more : List PlainTask) (names : Names) (old new : Sheet) (n : ℕ) (call copy : Call) (says : List Saying) (x : Saying) (xs : List Saying)
     → says ≡ x ∷ xs → with_text (32 ∷ []) old ≡ Some new → copy ≡ call → more ≡ items copy xs ∷ tasks
     → behind_all w (item w (deeper_of w names) names call x) (desk more names new n) ≡ behind_all w (items_more w (deeper_of w names) names call says) (desk tasks names old n)

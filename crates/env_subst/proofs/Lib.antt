@@ -3,3 +3,4 @@ pub mod Said
 pub mod Stacks
 pub mod Doing
 pub mod Runs
+pub mod Shown
