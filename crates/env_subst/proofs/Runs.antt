@@ -30,12 +30,13 @@ module _ (w : Setting) (tasks rest : List PlainTask) (names : Names) (sheet : Sh
   run_fails fault h = sym the_whole ∙ h
 
 -- a text is begun where nothing else is left to do, and then all is done
-module _ (w : Setting) (d : Desk) (names : Names) (n : ℕ) (owner t own given : List ℕ)
-    (fresh : d ≡ record { tasks = []; names = names; state = started n }) (the_owner : owner ≡ own) (the_text : t ≡ given) where
+module _ (w : Setting) (d : Desk) (entered names : Names) (n : ℕ) (owner t own given : List ℕ)
+    (fresh : d ≡ record { tasks = []; names = entered; state = started n }) (the_names : entered ≡ names) (the_owner : owner ≡ own) (the_text : t ≡ given) where
   begun : behind_all w (text_at w d.names owner t) d ≡ text_at w names own given (started n)
   begun =
       ap (λ x. behind_all w (text_at w x.names owner t) x) fresh
-      ∙ and_then-ok (text_at w names owner t (started n))
+      ∙ and_then-ok (text_at w entered owner t (started n))
+      ∙ ap (λ x. text_at w x owner t (started n)) the_names
       ∙ ap (λ x. text_at w names x t (started n)) the_owner
       ∙ ap (λ x. text_at w names own x (started n)) the_text
 
