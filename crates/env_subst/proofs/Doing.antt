@@ -4,16 +4,19 @@ use Rattle.std.specs.Prelude.{Result, Option, OnOk, IfErr, nat_lt, if◌then◌e
 use Rattle.std.proofs.lemmas.List.{length-append, take_at}
 use Rattle.env_text.specs.declared.part.Selection.{Selection}
 use Rattle.env_text.specs.Parts.{PlainPart}
-use Rattle.env_text.specs.Readings.{ends, part_at, bad_brace, reading_of, reading_from}
+use Rattle.env_text.specs.Readings.{Reading, ends, part_at, bad_brace, reading_of, reading_from}
 use Rattle.env_pieces.specs.declared.piece.Mark.{Mark}
+use Rattle.env_pieces.specs.declared.piece.Mark.TheVariants.{Begin, End}
 use Rattle.env_pieces.specs.Pieces.{Sheet, blank, with_text, with_mark, pieces_of}
 use Rattle.env_pieces.specs.Forms.{text_of}
 use Rattle.env_subst.specs.declared.fault.SubstFault.{SubstFault}
 use Rattle.env_subst.specs.declared.fault.SubstFault.TheVariants.{BadBrace, BadAttr, TooLong, TooMany, Memory}
 use Rattle.env_subst.specs.declared.locals.Locals.{Locals}
+use Rattle.env_subst.specs.declared.part.OwnedPart.TheVariants as owned
 use Rattle.env_subst.specs.declared.saying.Saying.{Saying}
 use Rattle.env_subst.specs.declared.saying.Saying.TheVariants.{Read, Plain, Path}
 use Rattle.env_subst.specs.declared.task.Call.{Call}
+use Rattle.env_subst.specs.Parts.{owned_part}
 use Rattle.env_subst.specs.Settings.{Setting}
 use Rattle.env_subst.specs.Contents.{Content, nothing, content_at, taken, said, said_by, parts_or_none}
 use Rattle.env_subst.specs.Attributes.{attribute_named}
@@ -33,17 +36,22 @@ and_then-assoc (Err fault) f g = refl
 
 -- a text or a mark is put
 module _ {U : Type 0} (w : Setting) (tasks : List PlainTask) (names : Names) (old new : Sheet) (n : ℕ) where
-  pub put_leads : (t : List ℕ) (r : Result U SubstFault) → OnOk r (with_text t old ≡ Some new)
-      → IfErr r (λ e. e ≢ Memory → (e ≡ TooLong 1048577) × (with_text t old ≡ None))
+  pub put_leads : (t bytes : List ℕ) (r : Result U SubstFault) → bytes ≡ t → OnOk r (with_text bytes old ≡ Some new)
+      → IfErr r (λ e. e ≢ Memory → (e ≡ TooLong 1048577) × (with_text bytes old ≡ None))
       → Leads w (behind_all w (puts t) (desk tasks names old n)) (desk tasks names new n) r
-  put_leads t (Ok u) e f = ap (λ o. and_then (sheet_or_fault n o) (resumes w tasks names)) (sym e)
-  put_leads t (Err fault) e f = λ h. ap (λ o. and_then (sheet_or_fault n o) (resumes w tasks names)) (f h).1 ∙ ap (λ x. Err x) (sym (f h).0)
+  put_leads t bytes (Ok u) b e f = ap (λ o. and_then (sheet_or_fault n o) (resumes w tasks names)) (sym e ∙ ap (λ x. with_text x old) b)
+  put_leads t bytes (Err fault) b e f = λ h. ap (λ o. and_then (sheet_or_fault n o) (resumes w tasks names)) (ap (λ x. with_text x old) (sym b) ∙ (f h).1) ∙ ap (λ x. Err x) (sym (f h).0)
 
   pub mark_leads : (m : Mark) (r : Result U SubstFault) → OnOk r (with_mark m old ≡ Some new)
       → IfErr r (λ e. e ≢ Memory → (e ≡ TooLong 1048577) × (with_mark m old ≡ None))
       → Leads w (behind_all w (marks m) (desk tasks names old n)) (desk tasks names new n) r
   mark_leads m (Ok u) e f = ap (λ o. and_then (sheet_or_fault n o) (resumes w tasks names)) (sym e)
   mark_leads m (Err fault) e f = λ h. ap (λ o. and_then (sheet_or_fault n o) (resumes w tasks names)) (f h).1 ∙ ap (λ x. Err x) (sym (f h).0)
+
+pub mark_part : (w : Setting) (names : Names) (owner : List ℕ) (place : ℕ) (m : Mark) (d : Desk)
+    → behind_all w (marks m) d ≡ behind_all w (reads_part w (deeper_of w names) names owner place (owned_part (owned.Mark m))) d
+mark_part w names owner place Begin d = refl
+mark_part w names owner place End d = refl
 
 -- a space in front of more
 pub space_fails : (w : Setting) (tasks : List PlainTask) (names : Names) (old : Sheet) (n : ℕ) (e : SubstFault) (f : State → Answer) → (e ≡ TooLong 1048577) × (with_text (32 ∷ []) old ≡ None)
@@ -69,6 +77,18 @@ say_more_step w tasks more names old new n name copy says x xs e placed c m =
     upon w tasks more names new n (say name xs) (says_one (text_at w names name) x) refl (m ∙ ap (λ y. say y xs ∷ tasks) c)
     ∙ spaced w tasks names old new n (λ t. and_then (says_one (text_at w names name) x t) (says_more (text_at w names name) xs)) placed
     ∙ ap (λ ys. behind_all w (says_more (text_at w names name) ys) (desk tasks names old n)) (sym e)
+
+pub says_more_fails : (w : Setting) (tasks : List PlainTask) (names : Names) (old : Sheet) (n : ℕ) (name : List ℕ) (says : List Saying) (x : Saying) (xs : List Saying) (e : SubstFault)
+    → says ≡ x ∷ xs → (e ≡ TooLong 1048577) × (with_text (32 ∷ []) old ≡ None) → behind_all w (says_more (text_at w names name) says) (desk tasks names old n) ≡ Err e
+says_more_fails w tasks names old n name says x xs e s h =
+    ap (λ ys. behind_all w (says_more (text_at w names name) ys) (desk tasks names old n)) s
+    ∙ space_fails w tasks names old n e (λ t. and_then (says_one (text_at w names name) x t) (says_more (text_at w names name) xs)) h
+
+pub says_no_more : (w : Setting) (d : Desk) (name : List ℕ) (says : List Saying) → says ≡ [] → left_of w d ≡ behind_all w (says_more (text_at w d.names name) says) d
+says_no_more w d name says e = ap (λ ys. behind_all w (says_more (text_at w d.names name) ys) d) (sym e)
+
+pub says_nothing_at_all : (w : Setting) (d : Desk) (name : List ℕ) (says : List Saying) → says ≡ [] → left_of w d ≡ behind_all w (says_all (deeper_of w d.names name) says) d
+says_nothing_at_all w d name says e = ap (λ ys. behind_all w (says_all (deeper_of w d.names name) ys) d) (sym e)
 
 -- a variable is open no longer
 left_again : (names : Names) (name : List ℕ) → outer_names (names ++ name ∷ []) ≡ names
@@ -151,29 +171,36 @@ pub begin_fails : (w : Setting) (tasks : List PlainTask) (names : Names) (sheet 
 begin_fails w tasks names sheet n owner t h = ap (λ a. and_then a (resumes w tasks names)) (too_deep w (height - length names) names owner t (at sheet n) (no_level names h))
 
 -- a text is read on
-module _ (w : Setting) (names : Names) (owner t : List ℕ) (place : ℕ) where
-  pub read_ends : (d : Desk) → d.names ≡ names → reading_from t place ≡ ends → left_of w d ≡ behind_all w (reads w (deeper_of w names) names owner (reading_from t place)) d
-  read_ends d same e = ap (λ r. behind_all w (reads w (deeper_of w names) names owner r) d) (sym e)
+module _ (w : Setting) (names : Names) (owner t bytes : List ℕ) (place : ℕ) (same : bytes ≡ t) where
+  the_reading : (r : Reading) → reading_from bytes place ≡ r → reading_from t place ≡ r
+  the_reading r e = ap (λ x. reading_from x place) (sym same) ∙ e
 
-  pub read_fails : (d : Desk) → reading_from t place ≡ bad_brace place → behind_all w (reads w (deeper_of w names) names owner (reading_from t place)) d ≡ Err (BadBrace owner place)
-  read_fails d e = ap (λ r. behind_all w (reads w (deeper_of w names) names owner r) d) e
+  pub read_ends : (d : Desk) → reading_from bytes place ≡ ends → left_of w d ≡ behind_all w (reads w (deeper_of w names) names owner (reading_from t place)) d
+  read_ends d e = ap (λ r. behind_all w (reads w (deeper_of w names) names owner r) d) (sym (the_reading ends e))
 
-  pub read_step : (tasks more : List PlainTask) (sheet : Sheet) (n : ℕ) (p : PlainPart) (next : ℕ) (copy : List ℕ) → reading_from t place ≡ part_at place p (reading_from t next) → copy ≡ owner → more ≡ read copy t next ∷ tasks
+  pub read_fails : (d : Desk) → reading_from bytes place ≡ bad_brace place → behind_all w (reads w (deeper_of w names) names owner (reading_from t place)) d ≡ Err (BadBrace owner place)
+  read_fails d e = ap (λ r. behind_all w (reads w (deeper_of w names) names owner r) d) (the_reading (bad_brace place) e)
+
+  pub read_step : (tasks more : List PlainTask) (sheet : Sheet) (n : ℕ) (p q : PlainPart) (next : ℕ) (copy : List ℕ)
+      → reading_from bytes place ≡ part_at place q (reading_from bytes next) → p ≡ q → copy ≡ owner → more ≡ read copy t next ∷ tasks
       → behind_all w (reads_part w (deeper_of w names) names owner place p) (desk more names sheet n) ≡ behind_all w (reads w (deeper_of w names) names owner (reading_from t place)) (desk tasks names sheet n)
-  read_step tasks more sheet n p next copy e c m =
+  read_step tasks more sheet n p q next copy e h c m =
       upon w tasks more names sheet n (read owner t next) (reads_part w (deeper_of w names) names owner place p) refl (m ∙ ap (λ y. read y t next ∷ tasks) c)
-      ∙ ap (λ r. behind_all w (reads w (deeper_of w names) names owner r) (desk tasks names sheet n)) (sym e)
+      ∙ ap (λ y. behind_all w (reads w (deeper_of w names) names owner (part_at place y (reading_from t next))) (desk tasks names sheet n)) h
+      ∙ ap (λ r. behind_all w (reads w (deeper_of w names) names owner r) (desk tasks names sheet n))
+      (ap (λ x. part_at place q (reading_from x next)) (sym same) ∙ sym e ∙ ap (λ x. reading_from x place) same)
 
 -- a reference counts
-pub refers_step : (w : Setting) (tasks : List PlainTask) (names : Names) (sheet : Sheet) (n next : ℕ) (f : State → Answer) → nat_lt n 100000 ≡ true → next ≡ n + 1
+pub refers_step : (w : Setting) (tasks : List PlainTask) (names : Names) (sheet : Sheet) (n next : ℕ) (f : State → Answer) → (nat_lt n 100000 ≡ true) × (next ≡ n + 1)
     → behind_all w f (desk tasks names sheet next) ≡ behind_all w (λ s. and_then (refers s) f) (desk tasks names sheet n)
-refers_step w tasks names sheet n next f t e =
-    ap (λ k. behind_all w f (desk tasks names sheet k)) e
-    ∙ ap (λ b. and_then (and_then (if b then Ok (at sheet (n + 1)) else Err (TooMany 100001)) f) (resumes w tasks names)) (sym t)
+refers_step w tasks names sheet n next f h =
+    ap (λ k. behind_all w f (desk tasks names sheet k)) h.1
+    ∙ ap (λ b. and_then (and_then (if b then Ok (at sheet (n + 1)) else Err (TooMany 100001)) f) (resumes w tasks names)) (sym h.0)
 
-pub refers_fails : (w : Setting) (tasks : List PlainTask) (names : Names) (sheet : Sheet) (n : ℕ) (f : State → Answer) → nat_lt n 100000 ≡ false
-    → behind_all w (λ s. and_then (refers s) f) (desk tasks names sheet n) ≡ Err (TooMany 100001)
-refers_fails w tasks names sheet n f t = ap (λ b. and_then (and_then (if b then Ok (at sheet (n + 1)) else Err (TooMany 100001)) f) (resumes w tasks names)) t
+pub refers_fails : (w : Setting) (tasks : List PlainTask) (names : Names) (sheet : Sheet) (n : ℕ) (f : State → Answer) (e : SubstFault) → (nat_lt n 100000 ≡ false) × (e ≡ TooMany 100001)
+    → behind_all w (λ s. and_then (refers s) f) (desk tasks names sheet n) ≡ Err e
+refers_fails w tasks names sheet n f e h =
+    ap (λ b. and_then (and_then (if b then Ok (at sheet (n + 1)) else Err (TooMany 100001)) f) (resumes w tasks names)) h.0 ∙ ap (λ x. Err x) (sym h.1)
 
 -- what a reference says
 module _ (w : Setting) (d : Desk) (owner : List ℕ) (place : ℕ) (name : List ℕ) (selection : Selection) (attribute : Option (List ℕ)) (held held_taken : Content)

@@ -4,3 +4,4 @@ pub mod Stacks
 pub mod Doing
 pub mod CallSteps
 pub mod Runs
+pub mod Shown

@@ -1,17 +1,15 @@
 -- What comes of all tasks, and of the items of a search path.
-use Rattle.std.proofs.Common.{◌≡◌, ◌≢◌, ◌∙◌, ◌<◌, ℕ, suc, ◌+◌, List, [], ◌∷◌, ◌++◌, Ok, Err, Some, None, refl, sym, ap, length, append_assoc, arith}
-use Rattle.std.specs.Prelude.{Result, Option, MatchResult}
-use Rattle.std.proofs.lemmas.List.{append_nil}
+use Rattle.std.proofs.Common.{◌≡◌, ◌∙◌, ◌<◌, ℕ, suc, ◌+◌, List, [], ◌∷◌, ◌++◌, Ok, Err, refl, sym, ap, length, append_assoc, arith}
+use Rattle.std.specs.Prelude.{Result}
+use Rattle.std.proofs.lemmas.List.{append-nil}
 use Rattle.env_pieces.specs.Pieces.{Sheet, blank, pieces_of}
 use Rattle.env_pieces.specs.Forms.{text_of}
 use Rattle.env_subst.specs.declared.fault.SubstFault.{SubstFault}
-use Rattle.env_subst.specs.declared.fault.SubstFault.TheVariants.{Memory}
 use Rattle.env_subst.specs.declared.saying.Saying.{Saying}
 use Rattle.env_subst.specs.Settings.{Setting}
-use Rattle.env_subst.specs.Contents.{said}
 use Rattle.env_subst.specs.Expansions.{State, Answer, and_then, Reader, Names, sayings_in, Found, dirs_of, dirs_read, dirs_named, text_at, started, start}
 use Rattle.env_subst.specs.Results.{behind, with_more, dirs_of_all, search_path, Paths}
-use Rattle.env_subst.specs.Desks.{PlainTask, resumes, Desk, left_of, Leads, behind_all, with_task}
+use Rattle.env_subst.specs.Desks.{PlainTask, resumes, Desk, left_of, behind_all, with_task}
 use Rattle.env_subst.proofs.Doing.{desk, and_then-ok}
 
 -- nothing is left to do
@@ -20,14 +18,33 @@ pub run_ends : (w : Setting) (tasks : List PlainTask) (names : Names) (sheet : S
 run_ends w tasks names sheet n whole e none = sym e ∙ ap (λ ts. resumes w ts names (record { sheet = sheet; references = n })) none
 
 -- a task is taken off and done
-pub run_step : {U : Type 0} → (w : Setting) (tasks rest : List PlainTask) (names : Names) (sheet : Sheet) (n : ℕ) (whole : Answer) (t : PlainTask) (after : Desk) (r : Result U SubstFault)
-    → left_of w (desk tasks names sheet n) ≡ whole → tasks ≡ t ∷ rest → Leads w (left_of w (with_task t (desk rest names sheet n))) after r → Leads w whole after r
-run_step w tasks rest names sheet n whole t after (Ok u) e m h = h ∙ ap (λ ts. resumes w ts names (record { sheet = sheet; references = n })) (sym m) ∙ e
-run_step w tasks rest names sheet n whole t after (Err fault) e m h = λ k. sym e ∙ ap (λ ts. resumes w ts names (record { sheet = sheet; references = n })) m ∙ h k
+module _ (w : Setting) (tasks rest : List PlainTask) (names : Names) (sheet : Sheet) (n : ℕ) (whole : Answer) (t : PlainTask)
+    (so_far : left_of w (desk tasks names sheet n) ≡ whole) (taken_off : tasks ≡ t ∷ rest) where
+  the_whole : left_of w (with_task t (desk rest names sheet n)) ≡ whole
+  the_whole = ap (λ ts. resumes w ts names (record { sheet = sheet; references = n })) (sym taken_off) ∙ so_far
 
--- a text is begun with nothing else to do, and all is done
-pub begun : (whole : Answer) (begun_left done : Answer) → begun_left ≡ and_then whole (λ s. Ok s) → begun_left ≡ done → whole ≡ done
-begun whole begun_left done b d = sym (and_then-ok whole) ∙ sym b ∙ d
+  pub run_on : (after : Desk) → left_of w after ≡ left_of w (with_task t (desk rest names sheet n)) → left_of w after ≡ whole
+  run_on after h = h ∙ the_whole
+
+  pub run_fails : (fault : SubstFault) → left_of w (with_task t (desk rest names sheet n)) ≡ Err fault → whole ≡ Err fault
+  run_fails fault h = sym the_whole ∙ h
+
+-- a text is begun where nothing else is left to do, and then all is done
+module _ (w : Setting) (d : Desk) (entered names : Names) (n : ℕ) (owner t own given : List ℕ)
+    (fresh : d ≡ record { tasks = []; names = entered; state = started n }) (the_names : entered ≡ names) (the_owner : owner ≡ own) (the_text : t ≡ given) where
+  begun : behind_all w (text_at w d.names owner t) d ≡ text_at w names own given (started n)
+  begun =
+      ap (λ x. behind_all w (text_at w x.names owner t) x) fresh
+      ∙ and_then-ok (text_at w entered owner t (started n))
+      ∙ ap (λ x. text_at w x owner t (started n)) the_names
+      ∙ ap (λ x. text_at w names x t (started n)) the_owner
+      ∙ ap (λ x. text_at w names own x (started n)) the_text
+
+  pub begins_badly : (e : SubstFault) → behind_all w (text_at w d.names owner t) d ≡ Err e → text_at w names own given (started n) ≡ Err e
+  begins_badly e h = sym begun ∙ h
+
+  pub is_read : (after : Desk) (done : Answer) → left_of w after ≡ behind_all w (text_at w d.names owner t) d → left_of w after ≡ done → text_at w names own given (started n) ≡ done
+  is_read after done h r = sym begun ∙ sym h ∙ r
 
 -- the directories of a text that was read
 pub dirs_are_read : (w : Setting) (outer : Sheet) (read : Answer) (s : State) (t : List ℕ) (found : Found) → read ≡ Ok s → t ≡ text_of (pieces_of s.sheet)
@@ -52,7 +69,7 @@ search_begins w name says e = behind_none (dirs_of_all w (text_at w (name ∷ []
 
 module _ (w : Setting) (read : Reader) (found : List (List ℕ)) (says : List Saying) (s : State) (whole : Paths) (so_far : behind found (dirs_of_all w read says s) ≡ whole) where
   pub search_ends : says ≡ [] → whole ≡ Ok found
-  search_ends e = sym so_far ∙ ap (λ xs. behind found (dirs_of_all w read xs s)) e ∙ ap (λ x. Ok x) (append_nil found)
+  search_ends e = sym so_far ∙ ap (λ xs. behind found (dirs_of_all w read xs s)) e ∙ ap (λ x. Ok x) (append-nil found)
 
   pub search_step : (x : Saying) (xs : List Saying) (dirs more : List (List ℕ)) (t : State) → says ≡ x ∷ xs → dirs_of w read x s ≡ Ok (dirs, t) → more ≡ found ++ dirs
       → behind more (dirs_of_all w read xs t) ≡ whole
