@@ -59,6 +59,10 @@ pub item_plain : (w : Setting) (d : Desk) (call : Call) (x : Saying) → call.di
 item_plain w d call x e =
     ap (λ b. and_then (if b then puts_found w (deeper_of w d.names) d.names call (dirs_of w (deeper_of w d.names call.list) x d.state) else plain_item w (deeper_of w d.names) d.names call x d.state) (resumes w d.tasks d.names)) (sym e)
 
+pub read_item : (w : Setting) (d : Desk) (call : Call) (name t : List ℕ) → name ≡ call.list
+    → behind_all w (affixed w (deeper_of w d.names) d.names call (does w d.names (inside name (Read t)))) d ≡ behind_all w (plain_item w (deeper_of w d.names) d.names call (Read t)) d
+read_item w d call name t e = ap (λ y. behind_all w (affixed w (deeper_of w d.names) d.names call (deeper_of w d.names y t)) d) e
+
 inner-assoc : (f g h : State → Answer) → ◌≡◌ {A = State → Answer} (λ s. and_then (f s) (λ t. and_then (g t) h)) (λ s. and_then (and_then (f s) g) h)
 inner-assoc f g h = λ i s. sym (and_then-assoc (f s) g h) i
 
@@ -79,11 +83,13 @@ affix_step w tasks one two three names sheet n call middle stay a b c =
     S = expands w (deeper_of w names) names call.suffix
 
 -- directories
-pub directory_step : (w : Setting) (tasks one two : List PlainTask) (names : Names) (sheet : Sheet) (n : ℕ) (call : Call) (list t : List ℕ)
-    → list ≡ call.list → one ≡ directory sheet call ∷ tasks → two ≡ inside list (Read t) ∷ one
-    → left_of w (desk two names (blank sheet.room) n) ≡ behind_all w (λ s. puts_found w (deeper_of w names) names call (dirs_read w s.sheet (deeper_of w names call.list t (inner s)))) (desk tasks names sheet n)
-directory_step w tasks one two names sheet n call list t c a b =
-    ap (λ ts. resumes w ts names (at (blank sheet.room) n)) (b ∙ ap (λ ts. inside list (Read t) ∷ ts) a ∙ ap (λ y. inside y (Read t) ∷ directory sheet call ∷ tasks) c)
+pub directory_step : (w : Setting) (tasks one two : List PlainTask) (names : Names) (sheet outer fresh : Sheet) (n : ℕ) (call : Call) (list t : List ℕ)
+    → list ≡ call.list → outer ≡ sheet → fresh ≡ blank sheet.room → one ≡ directory outer call ∷ tasks → two ≡ inside list (Read t) ∷ one
+    → left_of w (desk two names fresh n) ≡ behind_all w (λ s. puts_found w (deeper_of w names) names call (dirs_read w s.sheet (deeper_of w names call.list t (inner s)))) (desk tasks names sheet n)
+directory_step w tasks one two names sheet outer fresh n call list t c o f a b =
+    ap (λ x. resumes w two names (at x n)) f
+    ∙ ap (λ ts. resumes w ts names (at (blank sheet.room) n)) (b ∙ ap (λ ts. inside list (Read t) ∷ ts) a ∙ ap (λ y. inside y (Read t) ∷ directory outer call ∷ tasks) c)
+    ∙ ap (λ x. resumes w (inside call.list (Read t) ∷ directory x call ∷ tasks) names (at (blank sheet.room) n)) o
     ∙ by (deeper_of w names call.list t (at (blank sheet.room) n))
   where
     by : (r : Answer) → and_then r (λ s. and_then (puts_found w (deeper_of w names) names call (dirs_read w sheet (Ok s))) (resumes w tasks names))
@@ -138,11 +144,13 @@ module _ {U : Type 0} (w : Setting) (after : Desk) (call : Call) (r : Result U S
   named_dirs d t ps e =
       subst (λ a. Leads w a after r) (ap (λ f. and_then (puts_found w (deeper_of w d.names) d.names call f) (resumes w d.tasks d.names)) (sym e))
 
-  pub read_named : (tasks : List PlainTask) (names : Names) (old outer : Sheet) (n : ℕ) (t : List ℕ) → t ≡ text_of (pieces_of old)
-      → Leads w (behind_all w (λ s. puts_found w (deeper_of w names) names call (dirs_named w t s)) (desk tasks names outer n)) after r
+  pub read_named : (tasks : List PlainTask) (names : Names) (old read outer placed : Sheet) (n : ℕ) (t : List ℕ) → read ≡ old → placed ≡ outer → t ≡ text_of (pieces_of read)
+      → Leads w (behind_all w (λ s. puts_found w (deeper_of w names) names call (dirs_named w t s)) (desk tasks names placed n)) after r
       → Leads w (behind_all w (λ s. puts_found w (deeper_of w names) names call (dirs_read w outer (Ok s))) (desk tasks names old n)) after r
-  read_named tasks names old outer n t e =
-      subst (λ u. Leads w (behind_all w (λ s. puts_found w (deeper_of w names) names call (dirs_named w u s)) (desk tasks names outer n)) after r) e
+  read_named tasks names old read outer placed n t o p e =
+      subst (λ a. Leads w a after r)
+      (ap (λ x. behind_all w (λ s. puts_found w (deeper_of w names) names call (dirs_named w t s)) (desk tasks names x n)) p
+      ∙ ap (λ u. behind_all w (λ s. puts_found w (deeper_of w names) names call (dirs_named w u s)) (desk tasks names outer n)) (e ∙ ap (λ x. text_of (pieces_of x)) o))
 
   pub node_dirs : (d : Desk) (path : List ℕ) (ps : List (List ℕ)) → ps ≡ searched w.locals.variants path
       → Leads w (behind_all w (all_dirs w (deeper_of w d.names) d.names call ps) d) after r

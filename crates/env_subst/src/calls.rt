@@ -214,11 +214,7 @@ pub(crate) fn dirs_named(setting: &Setting<'_>, text: &str) -> Result<Paths, Sub
 }
 
 /// A directory, and where sources aren't copied its source.
-pub(crate) fn searched(
-    alloc: Global,
-    variants: &Variants,
-    path: PathText,
-) -> Result<Paths, Memory>
+pub(crate) fn searched(alloc: Global, variants: &Variants, path: PathText) -> Result<Paths, Memory>
     ensures { IfOk result (λ p. p ≡ searched variants.now path) }
 {
     let source = uncopied_source(variants, &path)?;

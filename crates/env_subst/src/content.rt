@@ -93,16 +93,16 @@ pub(crate) fn taken<'a>(
     }
 }
 
-fn taken_text<'a>(
-    alloc: Global,
-    text: Text,
-    selection: Selection,
-) -> Result<Holding<'a>, Memory>
+fn taken_text<'a>(alloc: Global, text: Text, selection: Selection) -> Result<Holding<'a>, Memory>
     ensures { IfOk result (λ h. content_of h ≡ taken_text selection text) }
 {
     match selection {
         Selection::Whole => Ok(Holding::Text(text)),
-        Selection::Slice(_, _) => Ok(Holding::Text(selected_text(alloc, text.as_str(), selection)?)),
+        Selection::Slice(_, _) => Ok(Holding::Text(selected_text(
+            alloc,
+            text.as_str(),
+            selection,
+        )?)),
         Selection::Item(_) => {
             let character = selected_text(alloc, text.as_str(), selection)?;
             if character.as_str().is_empty() {

@@ -12,15 +12,15 @@ pub(crate) fn selected<T>(items: &[T], selection: Selection) -> &[T]
     ensures { result.now ≡ selected selection items.now }
 {
     let (from, to) = range_of(selection, items.len());
-    if from < to { &items[from..to] } else { &items[..0] }
+    if from < to {
+        &items[from..to]
+    } else {
+        &items[..0]
+    }
 }
 
 /// The characters that are selected.
-pub(crate) fn selected_text(
-    alloc: Global,
-    text: &str,
-    selection: Selection,
-) -> Result<Text, Memory>
+pub(crate) fn selected_text(alloc: Global, text: &str, selection: Selection) -> Result<Text, Memory>
     ensures { IfOk result (λ t. t ≡ selected_text selection text.now) }
 {
     let chars = chars_of(alloc, text)?;

@@ -18,15 +18,27 @@ pub(crate) enum Task<'a> {
     /// A text as it stands.
     Put(Text),
     /// What is left from a place of a text, which is the value of a variable, or an item of it.
-    Read { owner: Text, place: Place },
+    Read {
+        owner: Text,
+        place: Place,
+    },
     /// Further things that the innermost variable says, a space in front of each.
-    Say { name: Text, rest: Sayings<'a> },
+    Say {
+        name: Text,
+        rest: Sayings<'a>,
+    },
     /// One thing that a variable says.
-    Inside { name: Text, saying: Saying },
+    Inside {
+        name: Text,
+        saying: Saying,
+    },
     /// All that a variable says.
     Expand(Text),
     /// Further items of a call, a space in front of each.
-    Items { call: Call, rest: Sayings<'a> },
+    Items {
+        call: Call,
+        rest: Sayings<'a>,
+    },
     /// Further directories of an item, from this one on, a space in front of each.
     Dirs {
         call: Call,
@@ -34,7 +46,10 @@ pub(crate) enum Task<'a> {
         next: usize,
     },
     /// What was read apart names directories. These are the pieces that were read before.
-    Directory { outer: Pieces, call: Call },
+    Directory {
+        outer: Pieces,
+        call: Call,
+    },
     /// The innermost variable is read.
     Close,
 }

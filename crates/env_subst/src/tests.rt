@@ -51,13 +51,23 @@ const FORMS: [(&str, &str, &str, &str); 67] = [
     ("${SOURCES.file}", "a.c b.x.c", "=", "="),
     ("${SOURCES.filebase}", "a b.x", "=", "="),
     ("${SOURCES.suffix}", ".c .c", "=", "="),
-    ("${SOURCES.abspath}", "/top/src/a.c /top/build/b.x.c", "=", "="),
+    (
+        "${SOURCES.abspath}",
+        "/top/src/a.c /top/build/b.x.c",
+        "=",
+        "=",
+    ),
     ("${SOURCES.srcpath}", "src/a.c src/b.x.c", "=", "="),
     ("${SOURCES[1].srcdir}", "src", "=", "="),
     ("${NODES.srcpath}", "src/v.c w.tar.gz", "=", "="),
     ("${NODES[1].base} ${NODES[1].dir}", "w.tar .", "=", "="),
     ("${LIST[2].file}", "n.c", "=", "="),
-    ("<${SOURCES[7].base}${NOT.base}${T[9].base}${NONE.base}>", "<>", "=", "="),
+    (
+        "<${SOURCES[7].base}${NOT.base}${T[9].base}${NONE.base}>",
+        "<>",
+        "=",
+        "=",
+    ),
     ("${LIST.base}", "!attr [] 0", "=", "="),
     ("a${SOURCES.name}", "!attr [] 1", "=", "="),
     ("a${NOT.name}", "!attr [] 1", "=", "="),
@@ -77,9 +87,24 @@ const FORMS: [(&str, &str, &str, &str); 67] = [
     ("$SHUT", "a b", "a $) b", "!marks 1"),
     ("$($SHUT", "a b", "$(a $) b", "b"),
     // calls
-    ("${_concat(P, WORDS, S, __env__)}", "-Ip/x -Iq r/x -Iabc/x", "=", "="),
-    ("${_concat(P, LIST, NOT, __env__)}", "-Iaabc -I3 d/n.c -Ik=abc -Ionly", "=", "="),
-    ("${_concat(P, DIRS, S, __env__, RDirs)}", "-Ibuild/inc/x -Isrc/inc/x -Iabc/x -Ibuild/d/x -Isrc/d/x", "=", "="),
+    (
+        "${_concat(P, WORDS, S, __env__)}",
+        "-Ip/x -Iq r/x -Iabc/x",
+        "=",
+        "=",
+    ),
+    (
+        "${_concat(P, LIST, NOT, __env__)}",
+        "-Iaabc -I3 d/n.c -Ik=abc -Ionly",
+        "=",
+        "=",
+    ),
+    (
+        "${_concat(P, DIRS, S, __env__, RDirs)}",
+        "-Ibuild/inc/x -Isrc/inc/x -Iabc/x -Ibuild/d/x -Isrc/d/x",
+        "=",
+        "=",
+    ),
 ];
 
 #[test]
@@ -115,11 +140,17 @@ fn calls_and_their_faults(rt: HostRuntime) -> Result<(), Fail> {
         ("${_concat(P, INT, S, __env__)}", "-I-70/x"),
         ("${_concat(P, T, S, __env__)}", "-Iabc/x"),
         ("${_concat(P, SOURCES, S, __env__)}", "src/a.c build/b.x.c"),
-        ("${_concat(P, DICT, NOT, __env__, MORE, RDirs)}", "-IX=1 -IY=abc -IZ"),
+        (
+            "${_concat(P, DICT, NOT, __env__, MORE, RDirs)}",
+            "-IX=1 -IY=abc -IZ",
+        ),
         ("${_concat(P, WORDS, S)}", "!brace [] 0"),
         ("$OWN_LIST", "o"),
         ("${_concat(P, OWN_LIST, S, __env__)}", "-Io /x"),
-        ("${_concat(A, WORDS, S, __env__)}", "x y p/x x y q r/x x y abc/x"),
+        (
+            "${_concat(A, WORDS, S, __env__)}",
+            "x y p/x x y q r/x x y abc/x",
+        ),
         ("<$NO_DIR>", "<>"),
         ("${_concat(P, BAD_DIRS, S, __env__, RDirs)}", "!path"),
         ("${_concat(ATTR, WORDS, S, __env__)}", "!attr [ATTR] 2"),
@@ -206,7 +237,10 @@ fn form_of_many(alloc: Global, part: &str, count: usize, behind: &str) -> Result
     let locals = sample_locals(alloc)?;
     let mut text = repeated(alloc, part, count)?;
     text.push_str(behind)?;
-    shown(alloc, subst(alloc, &envs, env, text.as_str(), &locals, Mode::Raw))
+    shown(
+        alloc,
+        subst(alloc, &envs, env, text.as_str(), &locals, Mode::Raw),
+    )
 }
 
 #[test]
