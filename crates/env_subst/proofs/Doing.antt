@@ -22,13 +22,16 @@ use Rattle.env_subst.specs.Contents.{Content, nothing, content_at, taken, said, 
 use Rattle.env_subst.specs.Attributes.{attribute_named}
 use Rattle.env_subst.specs.declared.attribute.Attribute.{Attribute}
 use Rattle.env_subst.specs.Expansions.{State, Answer, and_then, sheet_or_fault, puts, marks, spaces, refers, Reader, says_one, says_more, says_all, Names, is_open, content_in, sayings_in, Deeper, expands, affixed, more_dirs, all_dirs, Found, dirs_named, inner, dirs_read, dirs_of, puts_found, plain_item, item, items_more, items_all, says_or_fault, refers_to, calls, reads_part, reads, meaning, height, text_at}
-use Rattle.env_subst.specs.Desks.{PlainTask, put, read, say, inside, expand, items, dirs, directory, close, deeper_of, outer_names, does, names_after, resumes, Desk, left_of, Leads, behind_all}
+use Rattle.env_subst.specs.Desks.{PlainTask, with_open, put, read, say, inside, expand, items, dirs, directory, close, deeper_of, outer_names, does, names_after, resumes, Desk, left_of, Leads, behind_all}
 
 abbrev pub desk : List PlainTask → Names → Sheet → ℕ → Desk
 desk tasks names sheet n = record { tasks = tasks; names = names; state = record { sheet = sheet; references = n } }
 
 abbrev pub at : Sheet → ℕ → State
 at sheet n = record { sheet = sheet; references = n }
+
+pub leads_too : {U : Type 0} → (w : Setting) (a b : Answer) (d : Desk) (r : Result U SubstFault) → a ≡ b → Leads w a d r → Leads w b d r
+leads_too w a b d r e = subst (λ x. Leads w x d r) e
 
 pub and_then-assoc : (a : Answer) (f g : State → Answer) → and_then (and_then a f) g ≡ and_then a (λ s. and_then (f s) g)
 and_then-assoc (Ok s) f g = refl
@@ -70,14 +73,6 @@ upon w tasks more names sheet n t f a m =
     ∙ ap (λ ns. and_then (f (at sheet n)) (λ s. and_then (does w names t s) (resumes w tasks ns))) a
     ∙ sym (and_then-assoc (f (at sheet n)) (does w names t) (resumes w tasks names))
 
-pub say_more_step : (w : Setting) (tasks more : List PlainTask) (names : Names) (old new : Sheet) (n : ℕ) (name copy : List ℕ) (says : List Saying) (x : Saying) (xs : List Saying)
-    → says ≡ x ∷ xs → with_text (32 ∷ []) old ≡ Some new → copy ≡ name → more ≡ say copy xs ∷ tasks
-    → behind_all w (says_one (text_at w names name) x) (desk more names new n) ≡ behind_all w (says_more (text_at w names name) says) (desk tasks names old n)
-say_more_step w tasks more names old new n name copy says x xs e placed c m =
-    upon w tasks more names new n (say name xs) (says_one (text_at w names name) x) refl (m ∙ ap (λ y. say y xs ∷ tasks) c)
-    ∙ spaced w tasks names old new n (λ t. and_then (says_one (text_at w names name) x t) (says_more (text_at w names name) xs)) placed
-    ∙ ap (λ ys. behind_all w (says_more (text_at w names name) ys) (desk tasks names old n)) (sym e)
-
 pub says_more_fails : (w : Setting) (tasks : List PlainTask) (names : Names) (old : Sheet) (n : ℕ) (name : List ℕ) (says : List Saying) (x : Saying) (xs : List Saying) (e : SubstFault)
     → says ≡ x ∷ xs → (e ≡ TooLong 1048577) × (with_text (32 ∷ []) old ≡ None) → behind_all w (says_more (text_at w names name) says) (desk tasks names old n) ≡ Err e
 says_more_fails w tasks names old n name says x xs e s h =
@@ -99,30 +94,41 @@ left_again names name =
 deeper_is : (w : Setting) (names : Names) (name : List ℕ) → is_open name names ≡ false → deeper_of w names name ≡ text_at w (names ++ name ∷ []) name
 deeper_is w names name e = ap (λ b. λ t s. if b then Ok s else text_at w (names ++ name ∷ []) name t s) e
 
+-- a variable is opened
+pub is_opened : {U E : Type 0} → (tasks more : Locals → List PlainTask) (names inner_names : Names) (sheet : Sheet) (n : ℕ) (name copy : List ℕ) (r : Result U E)
+    → inner_names ≡ names ++ copy ∷ [] → copy ≡ name → OnOk r ((locals : Locals) → more locals ≡ close ∷ tasks locals)
+    → OnOk r ((locals : Locals) → desk (more locals) inner_names sheet n ≡ with_open name (desk (tasks locals) names sheet n))
+is_opened tasks more names inner_names sheet n name copy (Ok u) i c h = λ locals.
+    ap (λ ts. desk ts inner_names sheet n) (h locals) ∙ ap (λ ns. desk (close ∷ tasks locals) ns sheet n) (i ∙ ap (λ x. names ++ x ∷ []) c)
+is_opened tasks more names inner_names sheet n name copy (Err e) i c h = tt
+
 -- what is read in an opened variable, and then it is closed
-opened : (w : Setting) (tasks more : List PlainTask) (names inner_names : Names) (sheet : Sheet) (n : ℕ) (name : List ℕ) (f : State → Answer) → inner_names ≡ names ++ name ∷ [] → more ≡ close ∷ tasks
-    → behind_all w f (desk more inner_names sheet n) ≡ behind_all w f (desk tasks names sheet n)
-opened w tasks more names inner_names sheet n name f i m =
-    ap (λ ts. and_then (f (at sheet n)) (resumes w ts inner_names)) m
-    ∙ ap (λ ns. and_then (f (at sheet n)) (resumes w tasks ns)) (ap outer_names i ∙ left_again names name)
+module _ {U : Type 0} (w : Setting) (d after new : Desk) (name : List ℕ) (r : Result U SubstFault) (opened : after ≡ with_open name d) (not_yet : is_open name d.names ≡ false) where
+  in_open : (f : Reader → State → Answer) → behind_all w (f (text_at w after.names name)) after ≡ behind_all w (f (deeper_of w d.names name)) d
+  in_open f =
+      ap (λ a. behind_all w (f (text_at w a.names name)) a) opened
+      ∙ ap (λ ns. and_then (f (text_at w (d.names ++ name ∷ []) name) d.state) (resumes w d.tasks ns)) (left_again d.names name)
+      ∙ ap (λ read. behind_all w (f read) d) (sym (deeper_is w d.names name not_yet))
 
-pub say_all_step : (w : Setting) (tasks more last : List PlainTask) (names inner_names : Names) (sheet : Sheet) (n : ℕ) (name entered copy : List ℕ) (says : List Saying) (x : Saying) (xs : List Saying)
-    → says ≡ x ∷ xs → is_open name names ≡ false → entered ≡ name → inner_names ≡ names ++ entered ∷ [] → more ≡ close ∷ tasks → copy ≡ name → last ≡ say copy xs ∷ more
-    → behind_all w (says_one (text_at w inner_names name) x) (desk last inner_names sheet n) ≡ behind_all w (says_all (deeper_of w names name) says) (desk tasks names sheet n)
-say_all_step w tasks more last names inner_names sheet n name entered copy says x xs e o en i m c l =
-    let is : inner_names ≡ names ++ name ∷ [] = i ∙ ap (λ y. names ++ y ∷ []) en in
-    upon w more last inner_names sheet n (say name xs) (says_one (text_at w inner_names name) x) refl (l ∙ ap (λ y. say y xs ∷ more) c)
-    ∙ opened w tasks more names inner_names sheet n name (says_all (text_at w inner_names name) (x ∷ xs)) is m
-    ∙ ap (λ r. behind_all w (says_all r (x ∷ xs)) (desk tasks names sheet n)) (ap (λ ns. text_at w ns name) is ∙ sym (deeper_is w names name o))
-    ∙ ap (λ ys. behind_all w (says_all (deeper_of w names name) ys) (desk tasks names sheet n)) (sym e)
+  pub says_in : (says : List Saying) (x : Saying) (xs : List Saying) → says ≡ x ∷ xs → Leads w (behind_all w (says_all (text_at w after.names name) (x ∷ xs)) after) new r
+      → Leads w (behind_all w (says_all (deeper_of w d.names name) says) d) new r
+  says_in says x xs e = leads_too w _ _ new r (in_open (λ read. says_all read (x ∷ xs)) ∙ ap (λ ys. behind_all w (says_all (deeper_of w d.names name) ys) d) (sym e))
 
-pub read_inside_step : (w : Setting) (tasks more : List PlainTask) (names inner_names : Names) (sheet : Sheet) (n : ℕ) (name entered t : List ℕ)
-    → is_open name names ≡ false → entered ≡ name → inner_names ≡ names ++ entered ∷ [] → more ≡ close ∷ tasks
-    → behind_all w (text_at w inner_names name t) (desk more inner_names sheet n) ≡ behind_all w (deeper_of w names name t) (desk tasks names sheet n)
-read_inside_step w tasks more names inner_names sheet n name entered t o en i m =
-    let is : inner_names ≡ names ++ name ∷ [] = i ∙ ap (λ y. names ++ y ∷ []) en in
-    opened w tasks more names inner_names sheet n name (text_at w inner_names name t) is m
-    ∙ ap (λ r. behind_all w (r t) (desk tasks names sheet n)) (ap (λ ns. text_at w ns name) is ∙ sym (deeper_is w names name o))
+  pub reads_in : (t : List ℕ) → Leads w (behind_all w (text_at w after.names name t) after) new r → Leads w (behind_all w (deeper_of w d.names name t) d) new r
+  reads_in t = leads_too w _ _ new r (in_open (λ read. read t))
+
+-- one thing, and then the others
+module _ {U : Type 0} (w : Setting) (tasks : List PlainTask) (names : Names) (n : ℕ) (new : Desk) (name : List ℕ) (r : Result U SubstFault) (x : Saying) (xs : List Saying) where
+  pub says_on : (more : List PlainTask) (sheet : Sheet) → more ≡ say name xs ∷ tasks → Leads w (behind_all w (says_one (text_at w names name) x) (desk more names sheet n)) new r
+      → Leads w (behind_all w (says_all (text_at w names name) (x ∷ xs)) (desk tasks names sheet n)) new r
+  says_on more sheet m = leads_too w _ _ new r (upon w tasks more names sheet n (say name xs) (says_one (text_at w names name) x) refl m)
+
+  pub says_further : (says : List Saying) (old sheet : Sheet) → says ≡ x ∷ xs → with_text (32 ∷ []) old ≡ Some sheet
+      → Leads w (behind_all w (says_all (text_at w names name) (x ∷ xs)) (desk tasks names sheet n)) new r
+      → Leads w (behind_all w (says_more (text_at w names name) says) (desk tasks names old n)) new r
+  says_further says old sheet e placed =
+      leads_too w _ _ new r (spaced w tasks names old sheet n (says_all (text_at w names name) (x ∷ xs)) placed
+      ∙ ap (λ ys. behind_all w (says_more (text_at w names name) ys) (desk tasks names old n)) (sym e))
 
 pub read_inside_none : (w : Setting) (d : Desk) (name t : List ℕ) → is_open name d.names ≡ true → left_of w d ≡ behind_all w (deeper_of w d.names name t) d
 read_inside_none w d name t o = ap (λ b. and_then (if b then Ok d.state else text_at w (d.names ++ name ∷ []) name t d.state) (resumes w d.tasks d.names)) (sym o)
@@ -250,9 +256,6 @@ not_open name names says x xs none e = by (is_open name names) none
     by : (b : Bool) → (b ≡ true → says ≡ []) → b ≡ false
     by false h = refl
     by true h = let k : says ≡ [] = h refl in cc
-
-pub leads_too : {U : Type 0} → (w : Setting) (a b : Answer) (d : Desk) (r : Result U SubstFault) → a ≡ b → Leads w a d r → Leads w b d r
-leads_too w a b d r e = subst (λ x. Leads w x d r) e
 
 pub and_then-ok : (a : Answer) → and_then a (λ s. Ok s) ≡ a
 and_then-ok (Ok s) = refl

@@ -113,6 +113,10 @@ Leads w whole after r = MatchResult r (λ _. left_of w after ≡ whole) (λ e. e
 abbrev pub with_task : PlainTask → Desk → Desk
 with_task t d = record { tasks = t ∷ d.tasks; names = d.names; state = d.state }
 
+-- a variable is opened, and will be closed again
+abbrev pub with_open : List ℕ → Desk → Desk
+with_open name d = record { tasks = close ∷ d.tasks; names = d.names ++ name ∷ []; state = d.state }
+
 -- this, and then what is left
 abbrev pub behind_all : Setting → (State → Answer) → Desk → Answer
 behind_all w first d = and_then (first d.state) (resumes w d.tasks d.names)

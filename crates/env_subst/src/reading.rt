@@ -1,5 +1,5 @@
 //! How a text is read, and the variables in it.
-ghost use Rattle.std.specs.Prelude.{◌≡◌, [], true, Some, None, IfOk, MatchOption};
+ghost use Rattle.std.specs.Prelude.{◌≡◌, [], ◌∷◌, true, false, Some, None, IfOk, OnOk, MatchOption};
 ghost use Rattle.env_text.specs.Readings.{reading_from};
 ghost use Rattle.env_subst.specs.Settings.{setting_of};
 ghost use Rattle.env_subst.specs.Contents.{content_of, said_by};
@@ -7,11 +7,11 @@ ghost use Rattle.env_subst.specs.declared.locals.Locals.{Locals};
 ghost use Rattle.env_subst.specs.Parts.{owned_part};
 ghost use Rattle.env_subst.specs.Sayings.{sayings_of};
 ghost use Rattle.env_subst.specs.Expansions.{is_open, content_in, refers_to, reads_part, reads, says_one, says_more, says_all, expands, text_at};
-ghost use Rattle.env_subst.specs.Desks.{deeper_of, Steps};
+ghost use Rattle.env_subst.specs.Desks.{say, deeper_of, with_open, tasks_of, desk_of, Steps};
 
 use crate::calls::call_items;
 use crate::content::{Holding, held_by, said, said_by, taken};
-use crate::desk::{Desk, push, put, put_mark, refer};
+use crate::desk::{Desk, Stack, push, put, put_mark, refer};
 use crate::fault::SubstFault;
 use crate::names::Names;
 use crate::part::{OwnedPart, owned};
@@ -20,8 +20,8 @@ use crate::saying::{First, Saying, Sayings, first_of};
 use crate::setting::Setting;
 use crate::task::Task;
 use env_text::{Selection, Step, next_part};
-use scons_base::{Memory, Text};
 use scons_base::limits::REFERENCE_LIMIT;
+use scons_base::{Memory, Text};
 
 /// Reads on from a place of a text of the variable `owner`.
 pub(crate) fn read_on<'a>(
@@ -135,18 +135,21 @@ pub(crate) fn say_all<'a>(
     ensures { Steps setting.now (λ w names. says_all (deeper_of w names name) (sayings_of w.locals sayings.entry)) desk.old desk.new result }
 {
     match first_of(setting.alloc, setting.locals, sayings)? {
-        Some(First { saying, rest }) => {
-            desk.names.enter(name.copy()?)?;
-            push(&mut desk.tasks, Task::Close)?;
-            let task = Task::Say {
-                name: name.copy()?,
-                rest,
-            };
-            push(&mut desk.tasks, task)?;
-            say_one(setting, desk, name, saying)
+        Some(first) => {
+            open(desk, &name)?;
+            say_first(setting, desk, name, first)
         }
         None => Ok(()),
     }
+}
+
+/// Opens a variable that isn't open.
+fn open(desk: &mut Desk<'_>, name: &Text) -> Result<(), Memory>
+    requires { is_open name.now desk.old.names ≡ false }
+    ensures { OnOk result ((locals : Locals) → desk_of locals desk.new ≡ with_open name.now (desk_of locals desk.old)) }
+{
+    desk.names.enter(name.copy()?)?;
+    push(&mut desk.tasks, Task::Close)
 }
 
 /// Further things that the innermost variable says.
@@ -159,17 +162,35 @@ pub(crate) fn say_more<'a>(
     ensures { Steps setting.now (λ w names. says_more (text_at w names name) (sayings_of w.locals sayings.entry)) desk.old desk.new result }
 {
     match first_of(setting.alloc, setting.locals, sayings)? {
-        Some(First { saying, rest }) => {
+        Some(first) => {
             put(&mut desk.pieces, " ")?;
-            let task = Task::Say {
-                name: name.copy()?,
-                rest,
-            };
-            push(&mut desk.tasks, task)?;
-            say_one(setting, desk, name, saying)
+            say_first(setting, desk, name, first)
         }
         None => Ok(()),
     }
+}
+
+/// One thing that the innermost variable says, and then the others.
+fn say_first<'a>(
+    setting: &Setting<'a>,
+    desk: &mut Desk<'a>,
+    name: Text,
+    first: First<'a>,
+) -> Result<(), SubstFault>
+    ensures { Steps setting.now (λ w names. says_all (text_at w names name) (first.entry.saying ∷ sayings_of w.locals first.entry.rest)) desk.old desk.new result }
+{
+    let First { saying, rest } = first;
+    push_sayings(&mut desk.tasks, &name, rest)?;
+    say_one(setting, desk, name, saying)
+}
+
+/// Further things that a variable says are left to do.
+fn push_sayings<'a>(stack: &mut Stack<'a>, name: &Text, rest: Sayings<'a>) -> Result<(), Memory>
+    ensures { OnOk result ((locals : Locals) → tasks_of locals stack.new.tasks.items
+        ≡ say name.now (sayings_of locals rest.entry) ∷ tasks_of locals stack.old.tasks.items) }
+{
+    let name = name.copy()?;
+    push(stack, Task::Say { name, rest })
 }
 
 /// One thing that the innermost variable says.
@@ -215,8 +236,7 @@ fn read_inside<'a>(
     if desk.names.is_open(&name) {
         return Ok(());
     }
-    desk.names.enter(name.copy()?)?;
-    push(&mut desk.tasks, Task::Close)?;
+    open(desk, &name)?;
     begin(setting, desk, name, text)
 }
 

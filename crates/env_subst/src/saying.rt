@@ -105,10 +105,7 @@ fn first_word<'a>(words: &'a [Text]) -> Result<Option<First<'a>>, Memory>
     }
 }
 
-fn first_pair<'a>(
-    alloc: Global,
-    pairs: &'a [(Text, Item)],
-) -> Result<Option<First<'a>>, Memory>
+fn first_pair<'a>(alloc: Global, pairs: &'a [(Text, Item)]) -> Result<Option<First<'a>>, Memory>
     ensures { (locals : Locals) → IfOk result (Begins locals (map (λ p. Saying.Read (said_pair p.0 p.1)) pairs.now)) }
 {
     match pairs.split_first() {

@@ -56,7 +56,12 @@ fn expansion(setting: &Setting<'_>, text: &str) -> Result<Pieces, SubstFault>
 {
     let alloc = setting.alloc;
     let mut desk = desk_with(alloc, Names::new(alloc), 0);
-    begin(setting, &mut desk, Text::of(alloc, "")?, Text::of(alloc, text)?)?;
+    begin(
+        setting,
+        &mut desk,
+        Text::of(alloc, "")?,
+        Text::of(alloc, text)?,
+    )?;
     run(setting, &mut desk)?;
     let Desk {
         tasks: _tasks,
@@ -105,7 +110,8 @@ pub fn dirs(
     let mut left = said(held_by(&setting, name)?);
     'items: loop {
         match first_of(alloc, locals, left)? {
-            Some(First { saying, rest }) => {
+            Some(first) => {
+                let First { saying, rest } = first;
                 let (dirs, next) = item_dirs(&setting, name, saying, references)?;
                 push_all(&mut found, dirs.as_slice())?;
                 references = next;
@@ -139,7 +145,10 @@ fn item_dirs(
     match saying {
         Saying::Read(text) => read_dirs(setting, name, text, references),
         Saying::Plain(text) => Ok((dirs_named(setting, text.as_str())?, references)),
-        Saying::Path(path) => Ok((searched(setting.alloc, &setting.locals.variants, path)?, references)),
+        Saying::Path(path) => Ok((
+            searched(setting.alloc, &setting.locals.variants, path)?,
+            references,
+        )),
     }
 }
 
@@ -186,11 +195,7 @@ fn run<'a>(setting: &Setting<'a>, desk: &mut Desk<'a>) -> Result<(), SubstFault>
     Err(SubstFault::Memory)
 }
 
-fn step<'a>(
-    setting: &Setting<'a>,
-    desk: &mut Desk<'a>,
-    task: Task<'a>,
-) -> Result<(), SubstFault>
+fn step<'a>(setting: &Setting<'a>, desk: &mut Desk<'a>, task: Task<'a>) -> Result<(), SubstFault>
     ensures { let w = setting_of setting.now in let l = setting.now.locals.now in
         Leads w (left_of w (with_task (plain l task.entry) (desk_of l desk.old))) (desk_of l desk.new) result }
 {

@@ -28,7 +28,7 @@ returns-in_err-desk-in-Variable c =
     let v = c.in-Variable in
     let p = err_from_is_err_and c.from_residual.result c.from_residual.ensures.1 in
     rw (c.in-Variable.is, p.1, p.2) (λ _. refers_fails w (tasks_of l d.tasks.tasks.items) d.names d.pieces d.references
-    (refers_to w (deeper_of w d.names) d.names c.args.owner c.args.at v.name v.selection v.attribute) c.in_err-desk-in-Variable.field-0 (c.in_err-desk-in-Variable.ensures {u = tt}))
+    (refers_to w (deeper_of w d.names) d.names c.args.owner c.args.at v.name v.selection v.attribute) _ (c.in_err-desk-in-Variable.ensures {u = tt}))
 
 pub returns-in_err-desk-in-Call : goal.returns-in_err-desk-in-Call
 returns-in_err-desk-in-Call c =
@@ -37,7 +37,7 @@ returns-in_err-desk-in-Call c =
     let d = c.args.desk.now in
     let p = err_from_is_err_and c.from_residual-in_err-desk-in-Call.result c.from_residual-in_err-desk-in-Call.ensures.1 in
     rw (c.in-Call.is, p.1, p.2) (λ _. refers_fails w (tasks_of l d.tasks.tasks.items) d.names d.pieces d.references
-    (calls w (deeper_of w d.names) d.names c.in-Call.call) c.in_err-desk-in-Call.field-0 (c.in_err-desk-in-Call.ensures {u = tt}))
+    (calls w (deeper_of w d.names) d.names c.in-Call.call) _ (c.in_err-desk-in-Call.ensures {u = tt}))
 
 pub returns-in_ok-desk-in-Variable : goal.returns-in_ok-desk-in-Variable
 returns-in_ok-desk-in-Variable c =

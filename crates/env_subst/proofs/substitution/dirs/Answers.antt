@@ -19,25 +19,25 @@ items-preserved c =
     let l = c.args.locals.now in
     let w = setting c.args.envs.now c.args.env.0 l in
     search_step w (text_at w (c.args.name.now ∷ []) c.args.name.now) c.items.found (sayings_of l c.items.left) (started c.items.references) (search_path w c.args.name.now) c.items.invariant
-    c.in-Some.saying (sayings_of l c.in-Some.rest) c.in_ok-item_dirs.dirs c.push_all.new.found (started c.in_ok-item_dirs.next)
-    (c.in-Some.ensures {u = tt}) (c.in_ok-item_dirs.ensures {u = tt}) (c.in_ok-push_all.ensures {u = tt})
+    c.in-Some.first.saying (sayings_of l c.in-Some.first.rest) c.in_ok-dirs-in-Some.dirs c.push_all.new.found (started c.in_ok-dirs-in-Some.next)
+    (rw c.in-Some.is at (c.in_ok-first.ensures {u = tt})) (c.in_ok-dirs-in-Some.ensures {u = tt}) (c.in_ok-push_all-in-Some.ensures {u = tt})
 
 pub items-smaller : goal.items-smaller
 items-smaller c =
     let l = c.args.locals.now in
-    search_falls (sayings_of l c.items.left) c.in-Some.saying (sayings_of l c.in-Some.rest) (c.in-Some.ensures {u = tt})
+    search_falls (sayings_of l c.items.left) c.in-Some.first.saying (sayings_of l c.in-Some.first.rest) (rw c.in-Some.is at (c.in_ok-first.ensures {u = tt}))
 
 pub returns-in-None-clause-dirs : goal.returns-in-None-clause-dirs
 returns-in-None-clause-dirs c =
     let l = c.args.locals.now in
     let w = setting c.args.envs.now c.args.env.0 l in
     search_ends w (text_at w (c.args.name.now ∷ []) c.args.name.now) c.items.found (sayings_of l c.items.left) (started c.items.references) (search_path w c.args.name.now) c.items.invariant
-    (c.in-None.ensures {u = tt})
+    (rw c.in-None.is at (c.in_ok-first.ensures {u = tt}))
 
-pub returns-in_err-item_dirs-clause-fault : goal.returns-in_err-item_dirs-clause-fault
-returns-in_err-item_dirs-clause-fault c =
+pub returns-in_err-dirs-in-Some-clause-fault : goal.returns-in_err-dirs-in-Some-clause-fault
+returns-in_err-dirs-in-Some-clause-fault c =
     let l = c.args.locals.now in
     let w = setting c.args.envs.now c.args.env.0 l in
-    let p = err_from_is_err_and c.from_residual.result c.from_residual.ensures.1 in
+    let p = err_from_is_err_and c.from_residual-in_err-dirs-in-Some.result c.from_residual-in_err-dirs-in-Some.ensures.1 in
     rw (p.1, p.2) (λ h. search_fails w (text_at w (c.args.name.now ∷ []) c.args.name.now) c.items.found (sayings_of l c.items.left) (started c.items.references) (search_path w c.args.name.now) c.items.invariant
-    c.in-Some.saying (sayings_of l c.in-Some.rest) c.in_err-item_dirs.field-0 (c.in-Some.ensures {u = tt}) ((c.in_err-item_dirs.ensures {u = tt}) h))
+    c.in-Some.first.saying (sayings_of l c.in-Some.first.rest) _ (rw c.in-Some.is at (c.in_ok-first.ensures {u = tt})) ((c.in_err-dirs-in-Some.ensures {u = tt}) h))

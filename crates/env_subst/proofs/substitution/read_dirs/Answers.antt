@@ -15,9 +15,9 @@ returns-in_err-begin c =
     let name = c.args.name.now in
     let p = err_from_is_err_and c.from_residual-in_err-begin.result c.from_residual-in_err-begin.ensures.1 in
     let names = (c.in_ok-enter.ensures {u = tt}).ok ∙ ap (λ (x : List (List ℕ)). x ++ c.in_ok-of.field-0 ∷ []) c.new-names.ensures ∙ ap (λ (x : List ℕ). x ∷ []) (c.in_ok-of.ensures {u = tt}) in
-    rw (p.1, p.2) (λ h. dirs_fail w (blank 1048576) (text_at w (name ∷ []) name c.args.text (started c.args.references)) c.in_err-begin.field-0
+    rw (p.1, p.2) (λ h. dirs_fail w (blank 1048576) (text_at w (name ∷ []) name c.args.text (started c.args.references)) _
     (begins_badly w (desk_of l c.desk_with-desk.result) c.enter.new.self (name ∷ []) c.args.references c.in_ok-of-2.field-0 c.args.text name c.args.text
-    (c.desk_with-desk.ensures l) names (c.in_ok-of-2.ensures {u = tt}) refl c.in_err-begin.field-0 ((c.in_err-begin.ensures {u = tt}) h)))
+    (c.desk_with-desk.ensures l) names (c.in_ok-of-2.ensures {u = tt}) refl _ ((c.in_err-begin.ensures {u = tt}) h)))
 
 pub returns-in_err-run : goal.returns-in_err-run
 returns-in_err-run c =
@@ -26,10 +26,10 @@ returns-in_err-run c =
     let name = c.args.name.now in
     let p = err_from_is_err_and c.from_residual-in_err-run.result c.from_residual-in_err-run.ensures.1 in
     let names = (c.in_ok-enter.ensures {u = tt}).ok ∙ ap (λ (x : List (List ℕ)). x ++ c.in_ok-of.field-0 ∷ []) c.new-names.ensures ∙ ap (λ (x : List ℕ). x ∷ []) (c.in_ok-of.ensures {u = tt}) in
-    rw (p.1, p.2) (λ h. dirs_fail w (blank 1048576) (text_at w (name ∷ []) name c.args.text (started c.args.references)) c.in_err-run.field-0
+    rw (p.1, p.2) (λ h. dirs_fail w (blank 1048576) (text_at w (name ∷ []) name c.args.text (started c.args.references)) _
     (is_read w (desk_of l c.desk_with-desk.result) c.enter.new.self (name ∷ []) c.args.references c.in_ok-of-2.field-0 c.args.text name c.args.text
     (c.desk_with-desk.ensures l) names (c.in_ok-of-2.ensures {u = tt}) refl
-    (desk_of l c.begin.new.desk) (Err c.in_err-run.field-0) (c.in_ok-begin.ensures {u = tt}) ((c.in_err-run.ensures {u = tt}) h)))
+    (desk_of l c.begin.new.desk) (Err _) (c.in_ok-begin.ensures {u = tt}) ((c.in_err-run.ensures {u = tt}) h)))
 
 -- what was read, and the directories that it names
 pub returns-in_err-found : goal.returns-in_err-found
@@ -41,11 +41,11 @@ returns-in_err-found c =
     let p = err_from_is_err_and c.from_residual-in_err-found.result c.from_residual-in_err-found.ensures.1 in
     let names = (c.in_ok-enter.ensures {u = tt}).ok ∙ ap (λ (x : List (List ℕ)). x ++ c.in_ok-of.field-0 ∷ []) c.new-names.ensures ∙ ap (λ (x : List ℕ). x ∷ []) (c.in_ok-of.ensures {u = tt}) in
     rw (p.1, p.2) (λ h. dirs_are_read w (blank 1048576) (text_at w (name ∷ []) name c.args.text (started c.args.references)) (record { sheet = d.pieces; references = d.references })
-    c.as_str.result.now (Err c.in_err-found.field-0)
+    c.as_str.result.now (Err _)
     (is_read w (desk_of l c.desk_with-desk.result) c.enter.new.self (name ∷ []) c.args.references c.in_ok-of-2.field-0 c.args.text name c.args.text
     (c.desk_with-desk.ensures l) names (c.in_ok-of-2.ensures {u = tt}) refl
     (desk_of l c.begin.new.desk) (Ok (record { sheet = d.pieces; references = d.references })) (c.in_ok-begin.ensures {u = tt}) (c.in_ok-run.ensures {u = tt}))
-    (c.as_str.ensures ∙ (c.in_ok-text.ensures {u = tt}))
+    (c.as_str.ensures.value ∙ (c.in_ok-text.ensures {u = tt}))
     ((c.in_err-found.ensures {u = tt}) (started d.references) h))
 
 pub returns : goal.returns
@@ -60,5 +60,5 @@ returns c =
     (is_read w (desk_of l c.desk_with-desk.result) c.enter.new.self (name ∷ []) c.args.references c.in_ok-of-2.field-0 c.args.text name c.args.text
     (c.desk_with-desk.ensures l) names (c.in_ok-of-2.ensures {u = tt}) refl
     (desk_of l c.begin.new.desk) (Ok (record { sheet = d.pieces; references = d.references })) (c.in_ok-begin.ensures {u = tt}) (c.in_ok-run.ensures {u = tt}))
-    (c.as_str.ensures ∙ (c.in_ok-text.ensures {u = tt}))
+    (c.as_str.ensures.value ∙ (c.in_ok-text.ensures {u = tt}))
     ((c.in_ok-found.ensures {u = tt}) (started d.references))

@@ -17,13 +17,13 @@ tasks-preserved c =
     let w = setting_of c.args.setting.now in
     let d = c.tasks.desk in
     run_on w (tasks_of l d.tasks.tasks.items) (tasks_of l c.pop.new.stack.tasks.items) d.names d.pieces d.references (left_of w (desk_of l c.args.desk.now)) (plain l c.in-Some.task)
-    c.tasks.invariant ((c.in-Some.ensures {u = tt}) l) (desk_of l c.step.new.desk) (c.in_ok-step.ensures {u = tt})
+    c.tasks.invariant ((c.in-Some.ensures {u = tt}) l) (desk_of l c.step.new.desk) (c.in_ok-step-in-Some.ensures {u = tt})
 
-pub returns-in_err-step : goal.returns-in_err-step
-returns-in_err-step c =
+pub returns-in_err-step-in-Some : goal.returns-in_err-step-in-Some
+returns-in_err-step-in-Some c =
     let l = c.args.setting.now.locals.now in
     let w = setting_of c.args.setting.now in
     let d = c.tasks.desk in
     let p = err_from_is_err_and c.from_residual.result c.from_residual.ensures.1 in
     rw (p.1, p.2) (λ h. run_fails w (tasks_of l d.tasks.tasks.items) (tasks_of l c.pop.new.stack.tasks.items) d.names d.pieces d.references (left_of w (desk_of l c.args.desk.now)) (plain l c.in-Some.task)
-    c.tasks.invariant ((c.in-Some.ensures {u = tt}) l) c.in_err-step.field-0 ((c.in_err-step.ensures {u = tt}) h))
+    c.tasks.invariant ((c.in-Some.ensures {u = tt}) l) _ ((c.in_err-step-in-Some.ensures {u = tt}) h))
