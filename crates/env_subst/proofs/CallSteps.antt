@@ -1,6 +1,6 @@
 -- What is left, after a task of a call has put what it stands for upon it.
-use Rattle.std.proofs.Common.{◌≡◌, ◌≢◌, ◌∙◌, ◌<◌, ◌≤◌, ℕ, Bool, true, false, List, [], ◌∷◌, Ok, Err, Some, None, refl, sym, ap, subst, length, drop, arith}
-use Rattle.std.specs.Prelude.{Result, if◌then◌else◌, ◌-◌}
+use Rattle.std.proofs.Common.{◌≡◌, ◌≢◌, ◌∙◌, ◌<◌, ◌≤◌, ℕ, true, false, List, [], ◌∷◌, Ok, Err, Some, None, refl, sym, ap, subst, length, drop, arith}
+use Rattle.std.specs.Prelude.{Result, if◌then◌else◌}
 use Rattle.std.proofs.lemmas.List.{length-drop, drop_all}
 use Rattle.env_pieces.specs.Pieces.{Sheet, blank, with_text, pieces_of}
 use Rattle.env_pieces.specs.Forms.{text_of}
@@ -8,10 +8,10 @@ use Rattle.variant_dirs.specs.Variants.{searched}
 use Rattle.env_subst.specs.declared.fault.SubstFault.{SubstFault}
 use Rattle.env_subst.specs.declared.fault.SubstFault.TheVariants.{TooLong}
 use Rattle.env_subst.specs.declared.saying.Saying.{Saying}
-use Rattle.env_subst.specs.declared.saying.Saying.TheVariants.{Read, Plain, Path}
+use Rattle.env_subst.specs.declared.saying.Saying.TheVariants.{Read, Path}
 use Rattle.env_subst.specs.declared.task.Call.{Call}
 use Rattle.env_subst.specs.Settings.{Setting}
-use Rattle.env_subst.specs.Expansions.{State, Answer, and_then, puts, spaces, Names, sayings_in, expands, affixed, inner, more_dirs, all_dirs, Found, dirs_named, dirs_read, dirs_of, puts_found, plain_item, item, items_more, items_all, calls}
+use Rattle.env_subst.specs.Expansions.{State, Answer, and_then, puts, spaces, Names, sayings_in, expands, affixed, inner, more_dirs, all_dirs, dirs_named, dirs_read, dirs_of, puts_found, plain_item, item, items_more, items_all, calls}
 use Rattle.env_subst.specs.Desks.{PlainTask, inside, expand, items, dirs, directory, deeper_of, does, names_after, resumes, Desk, left_of, Leads, behind_all}
 use Rattle.env_subst.proofs.Doing.{desk, at, and_then-assoc, spaced, space_fails, upon}
 

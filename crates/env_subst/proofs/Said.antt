@@ -9,7 +9,6 @@ use Rattle.env_vars.specs.declared.value.Item.TheVariants as item
 use Rattle.env_vars.specs.Added.{as_items, as_pairs, pair_text}
 use Rattle.env_subst.specs.declared.attribute.Attribute.{Attribute}
 use Rattle.env_subst.specs.declared.locals.Locals.{Locals}
-use Rattle.env_subst.specs.declared.saying.Saying.{Saying}
 use Rattle.env_subst.specs.declared.saying.Saying.TheVariants.{Read}
 use Rattle.env_subst.specs.Selections.{range_of, selected}
 use Rattle.env_subst.specs.declared.saying.Sayings.{Sayings}

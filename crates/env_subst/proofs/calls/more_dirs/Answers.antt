@@ -1,5 +1,4 @@
 use Rattle.std.proofs.lemmas.Result.{err_from_is_err_and}
-use Rattle.std.proofs.Common.{arith}
 use Rattle.env_subst.specs.Settings.{setting_of}
 use Rattle.env_subst.specs.Desks.{tasks_of, desk_of}
 use Rattle.env_subst.proofs.CallSteps.{further_dirs, no_more_dirs, no_room_for_dirs}
