@@ -63,9 +63,12 @@ behind_again : (found dirs : List (List ℕ)) (r : Paths) → behind (found ++ d
 behind_again found dirs (Ok more) = ap (λ x. Ok x) (append_assoc found dirs more)
 behind_again found dirs (Err fault) = refl
 
-pub search_begins : (w : Setting) (name : List ℕ) (says : List Saying) → says ≡ sayings_in w [] name
-    → behind [] (dirs_of_all w (text_at w (name ∷ []) name) says start) ≡ search_path w name
-search_begins w name says e = behind_none (dirs_of_all w (text_at w (name ∷ []) name) says start) ∙ ap (λ xs. dirs_of_all w (text_at w (name ∷ []) name) xs start) e
+pub search_begins : (w : Setting) (name : List ℕ) (found : List (List ℕ)) (says : List Saying) → found ≡ [] → says ≡ sayings_in w [] name
+    → behind found (dirs_of_all w (text_at w (name ∷ []) name) says start) ≡ search_path w name
+search_begins w name found says n e =
+    ap (λ ys. behind ys (dirs_of_all w (text_at w (name ∷ []) name) says start)) n
+    ∙ behind_none (dirs_of_all w (text_at w (name ∷ []) name) says start)
+    ∙ ap (λ xs. dirs_of_all w (text_at w (name ∷ []) name) xs start) e
 
 module _ (w : Setting) (read : Reader) (found : List (List ℕ)) (says : List Saying) (s : State) (whole : Paths) (so_far : behind found (dirs_of_all w read says s) ≡ whole) where
   pub search_ends : says ≡ [] → whole ≡ Ok found

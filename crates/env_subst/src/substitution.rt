@@ -180,7 +180,7 @@ fn read_dirs(
     Ok((found, references))
 }
 
-/// Does all that is left to do.
+/// Does all that is left to do. Beyond 2^64 - 1 turns, which would take centuries, it says want of memory.
 fn run<'a>(setting: &Setting<'a>, desk: &mut Desk<'a>) -> Result<(), SubstFault>
     ensures { let w = setting_of setting.now in let l = setting.now.locals.now in
         MatchResult result (λ _. left_of w (desk_of l desk.old) ≡ Ok (desk_of l desk.new).state)

@@ -1,4 +1,4 @@
-use Rattle.std.proofs.Common.{◌∙◌, ◌∷◌, [], ap}
+use Rattle.std.proofs.Common.{◌∙◌, ◌∷◌, ◌++◌, [], ℕ, List, ap}
 use Rattle.std.proofs.lemmas.Result.{err_from_is_err_and}
 use Rattle.env_subst.specs.Settings.{setting}
 use Rattle.env_subst.specs.Sayings.{sayings_of}
@@ -11,8 +11,8 @@ use Rattle.env_subst.proofs.substitution.dirs.Goals as goal
 pub items-init : goal.items-init
 items-init c =
     let l = c.args.locals.now in
-    rw (c.new-found.ensures) (search_begins (setting c.args.envs.now c.args.env.0 l) c.args.name.now (sayings_of l c.said-left.result)
-    ((c.said-left.ensures l) ∙ ap (said l) (c.in_ok-held_by.ensures {u = tt})))
+    search_begins (setting c.args.envs.now c.args.env.0 l) c.args.name.now c.new-found.result (sayings_of l c.said-left.result)
+    (c.new-found.ensures ∙ c.new.ensures.items) ((c.said-left.ensures l) ∙ ap (said l) (c.in_ok-held_by.ensures {u = tt}))
 
 pub items-preserved : goal.items-preserved
 items-preserved c =
@@ -20,7 +20,7 @@ items-preserved c =
     let w = setting c.args.envs.now c.args.env.0 l in
     search_step w (text_at w (c.args.name.now ∷ []) c.args.name.now) c.items.found (sayings_of l c.items.left) (started c.items.references) (search_path w c.args.name.now) c.items.invariant
     c.in-Some.first.saying (sayings_of l c.in-Some.first.rest) c.in_ok-dirs-in-Some.dirs c.push_all.new.found (started c.in_ok-dirs-in-Some.next)
-    (rw c.in-Some.is at (c.in_ok-first.ensures {u = tt})) (c.in_ok-dirs-in-Some.ensures {u = tt}) (c.in_ok-push_all-in-Some.ensures {u = tt})
+    (rw c.in-Some.is at (c.in_ok-first.ensures {u = tt})) (c.in_ok-dirs-in-Some.ensures {u = tt}) ((c.in_ok-push_all-in-Some.ensures {u = tt}) ∙ ap (λ (x : List (List ℕ)). c.items.found ++ x) c.as_slice.ensures)
 
 pub items-smaller : goal.items-smaller
 items-smaller c =
