@@ -1,0 +1,39 @@
+use Rattle.std.proofs.Common.{ap}
+use Rattle.env_subst.specs.Settings.{setting_of}
+use Rattle.env_subst.specs.Desks.{tasks_of, resumes}
+use Rattle.env_subst.proofs.Doing.{put_leads}
+use Rattle.env_subst.proofs.substitution.step.Goals as goal
+
+pub returns-in-Put : goal.returns-in-Put
+returns-in-Put c =
+    let l = c.args.setting.now.locals.now in
+    let d = c.args.desk.now in
+    rw c.in-Put.is (put_leads (setting_of c.args.setting.now) (tasks_of l d.tasks.tasks.items) d.names d.pieces c.put.new.pieces d.references
+    c.in-Put.text c.as_str.result.now c.put.result c.as_str.ensures c.put.ensures.ok c.put.ensures.fault)
+
+pub returns-in-Read : goal.returns-in-Read
+returns-in-Read c = rw c.in-Read.is c.read_on.ensures
+
+pub returns-in-Say : goal.returns-in-Say
+returns-in-Say c = rw c.in-Say.is c.say_more.ensures
+
+pub returns-in-Inside : goal.returns-in-Inside
+returns-in-Inside c = rw c.in-Inside.is c.say_inside.ensures
+
+pub returns-in-Expand : goal.returns-in-Expand
+returns-in-Expand c = rw c.in-Expand.is c.expand.ensures
+
+pub returns-in-Items : goal.returns-in-Items
+returns-in-Items c = rw c.in-Items.is c.more_items.ensures
+
+pub returns-in-Dirs : goal.returns-in-Dirs
+returns-in-Dirs c = rw c.in-Dirs.is c.more_dirs.ensures
+
+pub returns-in-Directory : goal.returns-in-Directory
+returns-in-Directory c = rw c.in-Directory.is c.put_read.ensures
+
+pub returns-in-Close : goal.returns-in-Close
+returns-in-Close c =
+    let l = c.args.setting.now.locals.now in
+    let d = c.args.desk.now in
+    rw c.in-Close.is (ap (λ names. resumes (setting_of c.args.setting.now) (tasks_of l d.tasks.tasks.items) names (record { sheet = d.pieces; references = d.references })) c.leave.ensures)

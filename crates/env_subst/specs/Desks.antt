@@ -1,0 +1,127 @@
+-- What is left to do while a text is read: the same as tasks, one upon another.
+use Rattle.std.specs.Prelude.{◌≡◌, ◌≢◌, ℕ, ◌-◌, List, [], ◌∷◌, ◌++◌, map, take, drop, reverse, length, Option, None, Some, Result, Ok, Err, MatchResult, if◌then◌else◌}
+use Rattle.env_text.specs.Readings.{reading_from}
+use Rattle.env_pieces.specs.declared.pieces.PieceFault.{PieceFault}
+use Rattle.env_pieces.specs.declared.pieces.PieceFault.TheVariants as piece
+use Rattle.env_pieces.specs.Pieces.{Sheet}
+use Rattle.env_subst.specs.declared.fault.SubstFault.{SubstFault}
+use Rattle.env_subst.specs.declared.fault.SubstFault.TheVariants.{Memory, TooLong}
+use Rattle.env_subst.specs.declared.locals.Locals.{Locals}
+use Rattle.env_subst.specs.declared.saying.Saying.{Saying}
+use Rattle.env_subst.specs.declared.task.Call.{Call}
+use Rattle.env_subst.specs.declared.task.Task.{Task}
+use Rattle.env_subst.specs.declared.task.Task.TheVariants as task
+use Rattle.env_subst.specs.declared.desk.Desk as code
+use Rattle.env_subst.specs.declared.setting.Setting as code_setting
+use Rattle.env_subst.specs.Settings.{Setting, setting_of}
+use Rattle.env_subst.specs.Sayings.{sayings_of}
+use Rattle.env_subst.specs.Expansions.{State, Answer, and_then, Reader, Deeper, Names, is_open, puts, says_one, says_more, expands, more_dirs, dirs_read, puts_found, items_more, reads, text_at}
+
+-- what a refused piece is for the whole
+abbrev pub piece_fault : PieceFault → SubstFault
+piece_fault piece.TooLong = TooLong 1048577
+piece_fault piece.Memory = Memory
+
+pub data PlainTask : Type 0 where
+  -- a text as it stands
+  put : List ℕ → PlainTask
+  -- what is left from a place of a text of the variable `owner`
+  read : List ℕ → List ℕ → ℕ → PlainTask
+  -- further things that the innermost variable says
+  say : List ℕ → List Saying → PlainTask
+  -- one thing that a variable says
+  inside : List ℕ → Saying → PlainTask
+  -- all that a variable says
+  expand : List ℕ → PlainTask
+  -- further items of a call, and further directories
+  items : Call → List Saying → PlainTask
+  dirs : Call → List (List ℕ) → PlainTask
+  -- what was read apart names directories
+  directory : Sheet → Call → PlainTask
+  -- the innermost variable is read
+  close : PlainTask
+
+abbrev pub plain : Locals → Task → PlainTask
+plain locals (task.Put t) = put t
+plain locals (task.Read owner place) = read owner place.text place.at
+plain locals (task.Say name rest) = say name (sayings_of locals rest)
+plain locals (task.Inside name saying) = inside name saying
+plain locals (task.Expand name) = expand name
+plain locals (task.Items call rest) = items call (sayings_of locals rest)
+plain locals (task.Dirs call found next) = dirs call (drop next found)
+plain locals (task.Directory outer call) = directory outer call
+plain locals task.Close = close
+
+-- the texts of the variables that stand in the innermost one
+abbrev pub deeper_of : Setting → Names → Deeper
+deeper_of w names name t s = if is_open name names then Ok s else text_at w (names ++ name ∷ []) name t s
+
+-- without the innermost one
+abbrev pub outer_names : Names → Names
+outer_names names = take (length names - 1) names
+
+abbrev pub does : Setting → Names → PlainTask → State → Answer
+does w names (put t) s = puts t s
+does w names (read owner t at) s = reads w (deeper_of w names) names owner (reading_from t at) s
+does w names (say name xs) s = says_more (text_at w names name) xs s
+does w names (inside name x) s = says_one (deeper_of w names name) x s
+does w names (expand name) s = expands w (deeper_of w names) names name s
+does w names (items call xs) s = items_more w (deeper_of w names) names call xs s
+does w names (dirs call ds) s = more_dirs w (deeper_of w names) names call ds s
+does w names (directory outer call) s = puts_found w (deeper_of w names) names call (dirs_read w outer (Ok s))
+does w names close s = Ok s
+
+abbrev pub names_after : PlainTask → Names → Names
+names_after close names = outer_names names
+names_after (put t) names = names
+names_after (read owner t at) names = names
+names_after (say name xs) names = names
+names_after (inside name x) names = names
+names_after (expand name) names = names
+names_after (items call xs) names = names
+names_after (dirs call ds) names = names
+names_after (directory outer call) names = names
+
+-- the tasks, the uppermost first
+abbrev pub resumes : Setting → List PlainTask → Names → State → Answer
+resumes w [] names s = Ok s
+resumes w (t ∷ tasks) names s = and_then (does w names t s) (resumes w tasks (names_after t names))
+
+pub record Desk : Type 0 where
+  pub tasks : List PlainTask
+  pub names : Names
+  pub state : State
+
+abbrev pub tasks_of : Locals → List Task → List PlainTask
+tasks_of locals tasks = reverse (map (plain locals) tasks)
+
+abbrev pub desk_of : Locals → code.Desk → Desk
+desk_of locals d = record {
+  tasks = tasks_of locals d.tasks.tasks.items;
+  names = d.names;
+  state = record { sheet = d.pieces; references = d.references };
+}
+
+abbrev pub left_of : Setting → Desk → Answer
+left_of w d = resumes w d.tasks d.names d.state
+
+-- what is left gives the whole; or the whole has this fault
+abbrev pub Leads : {U : Type 0} → Setting → Answer → Desk → Result U SubstFault → Type 0
+Leads w whole after r = MatchResult r (λ _. left_of w after ≡ whole) (λ e. e ≢ Memory → whole ≡ Err e)
+
+-- a task upon what is left
+abbrev pub with_task : PlainTask → Desk → Desk
+with_task t d = record { tasks = t ∷ d.tasks; names = d.names; state = d.state }
+
+-- a variable is opened, and will be closed again
+abbrev pub with_open : List ℕ → Desk → Desk
+with_open name d = record { tasks = close ∷ d.tasks; names = d.names ++ name ∷ []; state = d.state }
+
+-- this, and then what is left
+abbrev pub behind_all : Setting → (State → Answer) → Desk → Answer
+behind_all w first d = and_then (first d.state) (resumes w d.tasks d.names)
+
+-- what is done at a desk: so much of the whole
+abbrev pub Steps : {U : Type 0} → code_setting.Setting → (Setting → Names → State → Answer) → code.Desk → code.Desk → Result U SubstFault → Type 0
+Steps s first old new r =
+    Leads (setting_of s) (behind_all (setting_of s) (first (setting_of s) old.names) (desk_of s.locals.now old)) (desk_of s.locals.now new) r

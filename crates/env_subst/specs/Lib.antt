@@ -1,0 +1,9 @@
+pub mod Settings
+pub mod Selections
+pub mod Attributes
+pub mod Sayings
+pub mod Contents
+pub mod Parts
+pub mod Expansions
+pub mod Results
+pub mod Desks

@@ -1,0 +1,58 @@
+ghost use Rattle.std.specs.Prelude.{◌≡◌, ◌++◌, ◌∷◌, [], ◌≤◌, length, false, OnOk, OnErr};
+ghost use Rattle.env_subst.specs.Expansions.{is_open};
+ghost use Rattle.env_subst.specs.Desks.{outer_names};
+
+use indexmap::IndexSet;
+use scons_base::{Memory, Text};
+use std::alloc::Global;
+use std::marker::Model;
+
+/// The variables whose values are being read, the outermost first.
+#[derive(Drop)]
+pub(crate) struct Names {
+    names: IndexSet<Text>,
+}
+
+impl Model for Names {
+    ghost use Rattle.std.specs.Prelude.{List, ℕ};
+
+    ghost Value = { List (List ℕ) };
+
+    ghost view = { λ n. n.names.keys };
+}
+
+impl Names {
+    pub(crate) fn new(alloc: Global) -> Names
+        ensures { result ≡ [] }
+    {
+        Names {
+            names: IndexSet::new(alloc),
+        }
+    }
+
+    pub(crate) fn len(&self) -> usize
+        ensures { result ≡ length self.now }
+    {
+        self.names.len()
+    }
+
+    pub(crate) fn is_open(&self, name: &Text) -> bool
+        ensures { result ≡ is_open name.now self.now }
+    {
+        self.names.contains(name)
+    }
+
+    pub(crate) fn enter(&mut self, name: Text) -> Result<(), Memory>
+        requires { is_open name self.old ≡ false }
+        ensures ok { OnOk result (self.new ≡ self.old ++ name ∷ []) }
+    {
+        self.names.insert(name)?;
+        Ok(())
+    }
+
+    pub(crate) fn leave(&mut self)
+        ensures { self.new ≡ outer_names self.old }
+    {
+        self.names.truncate(self.names.len().saturating_sub(1));
+    }
+}

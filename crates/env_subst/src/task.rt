@@ -1,0 +1,55 @@
+use crate::place::Place;
+use crate::saying::{Saying, Sayings};
+use env_pieces::Pieces;
+use scons_base::{Paths, Text};
+
+/// A call of `_concat`, by the names of its variables.
+#[derive(Debug, Drop)]
+pub(crate) struct Call {
+    pub(crate) prefix: Text,
+    pub(crate) list: Text,
+    pub(crate) suffix: Text,
+    pub(crate) directories: bool,
+}
+
+/// Something that is left to do while a text is read.
+#[derive(Drop)]
+pub(crate) enum Task<'a> {
+    /// A text as it stands.
+    Put(Text),
+    /// What is left from a place of a text, which is the value of a variable, or an item of it.
+    Read {
+        owner: Text,
+        place: Place,
+    },
+    /// Further things that the innermost variable says, a space in front of each.
+    Say {
+        name: Text,
+        rest: Sayings<'a>,
+    },
+    /// One thing that a variable says.
+    Inside {
+        name: Text,
+        saying: Saying,
+    },
+    /// All that a variable says.
+    Expand(Text),
+    /// Further items of a call, a space in front of each.
+    Items {
+        call: Call,
+        rest: Sayings<'a>,
+    },
+    /// Further directories of an item, from this one on, a space in front of each.
+    Dirs {
+        call: Call,
+        found: Paths,
+        next: usize,
+    },
+    /// What was read apart names directories. These are the pieces that were read before.
+    Directory {
+        outer: Pieces,
+        call: Call,
+    },
+    /// The innermost variable is read.
+    Close,
+}
