@@ -1,0 +1,5 @@
+pub mod Counting
+pub mod Lengths
+pub mod Numbering
+pub mod RowTurns
+pub mod Zipping

@@ -1,0 +1,5 @@
+pub mod Builtins
+pub mod Collections
+pub mod Numbers
+pub mod Rows
+pub mod Takes
