@@ -9,12 +9,7 @@ use py_heap::{Budget, Heap, Value, ValueFault};
 use std::cmp::Ordering;
 
 /// How two values are ordered, once their meeting is charged for.
-pub fn ordered(
-    heap: &Heap,
-    budget: &mut Budget,
-    a: Value,
-    b: Value,
-) -> Result<Ordering, ValueFault>
+pub fn ordered(heap: &Heap, budget: &mut Budget, a: Value, b: Value) -> Result<Ordering, ValueFault>
     ensures ok { IfOk result (λ o. ordered heap.now budget.old a b ≡ Ok (o, budget.new)) }
     ensures fault { IfErr result (λ e. e ≢ ValueFault.Memory → ordered heap.now budget.old a b ≡ Err e) }
 {

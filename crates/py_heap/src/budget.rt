@@ -36,6 +36,16 @@ impl Budget {
         self.used
     }
 
+    /// The same total and as many units used.
+    pub fn copy(&self) -> Budget
+        ensures { result ≡ self.now }
+    {
+        Budget {
+            total: self.total,
+            used: self.used,
+        }
+    }
+
     /// Uses units, before the work that they stand for.
     pub fn charge(&mut self, units: u64) -> Result<(), ValueFault>
         ensures ok { OnOk result (charged self.old units ≡ Ok self.new) }

@@ -1,8 +1,8 @@
 -- An item that is put where a dict has none, within the limit and past it.
-use Rattle.std.proofs.Common.{arith, ◌≡◌, ◌∙◌, ◌<◌, ◌≤◌, ℕ, length, Ok, Err, refl, ap, sym}
+use Rattle.std.proofs.Common.{arith, ◌≡◌, ◌∙◌, ◌≤◌, ℕ, length, Ok, refl}
 use Rattle.py_heap.specs.declared.value.Value.{Value}
 use Rattle.py_heap.specs.declared.key.Key.{Key}
-use Rattle.py_heap.specs.Heap.{Objects, Entries, dict_at, with_dict_at}
+use Rattle.py_heap.specs.Heap.{Objects, dict_at, with_dict_at}
 use Rattle.py_heap.specs.Dicts.{put, length_with}
 use Rattle.py_heap.specs.Units.{limited, list_limit, told_length}
 use Rattle.py_heap.proofs.Rooms.{limited_within}

@@ -8,7 +8,7 @@ use Rattle.py_heap.specs.declared.dict.Entry.{Entry}
 use Rattle.py_heap.specs.Units.{Units, room, list_limit}
 use Rattle.py_heap.specs.Heap.{Objects, Entries, keys_of, items_in, with_list}
 use Rattle.py_heap.specs.Given.{next_list}
-use Rattle.py_compare.specs.Outcomes.{paid_items, new_list}
+use Rattle.py_compare.specs.Outcomes.{new_list}
 
 pub listed_room : (f : Key × Entry → Value) (u : Units) (es : Entries) (r : Result Units ValueFault) → room list_limit u (length es) ≡ r → room list_limit u (length (map f es)) ≡ r
 listed_room f u es r h = rw length-map h

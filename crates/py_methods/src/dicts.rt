@@ -4,8 +4,8 @@ ghost use Rattle.py_heap.specs.Heap.{dict_at, keys_of, items_in};
 ghost use Rattle.py_compare.specs.Outcomes.{paid_items};
 ghost use Rattle.py_methods.specs.Dicts.{new_dict, update_of, get_of, setdefault_of, keys_list, values_list};
 
-use py_operators::length_with;
 use py_heap::{Budget, DictId, Heap, Value, ValueFault, list_room};
+use py_operators::length_with;
 use scons_base::limits::LIST_LIMIT;
 
 /// The item under a key, or else another value.

@@ -3,11 +3,9 @@ ghost use Rattle.std.specs.Prelude.{◌≡◌, ◌≢◌, Ok, Err, IfOk, IfErr, 
 ghost use Rattle.py_methods.specs.Lists.{append_of, extended, extend_of, insert_of, insert_at, pop_at, pop_of, pop_last_of, remove_of, index_of, reverse_of};
 
 use crate::iterables::{iterable_bytes, iterable_items, iterable_length, iterable_texts};
-use py_compare::place_of;
-use py_compare::above_zero;
-use py_operators::place_in;
-use py_operators::end_in;
+use py_compare::{above_zero, place_of};
 use py_heap::{Budget, Heap, ListId, Value, ValueFault};
+use py_operators::{end_in, place_in};
 use scons_base::limits::LIST_LIMIT;
 
 #[tactic(auto, using(crate::proofs::Limits::limits))]

@@ -4,8 +4,8 @@ ghost use Rattle.py_text.specs.Splitting.{split_of, words_of};
 ghost use Rattle.py_heap.specs.Heap.{text_at, dict_at};
 ghost use Rattle.py_methods.specs.Many.{total_length, paid_texts, text_list, paid_pairs, pair_list, rows_of};
 
-use py_show::entry_in;
 use py_heap::{Budget, DictId, Heap, TextId, Value, ValueFault, Values};
+use py_show::entry_in;
 use scons_base::limits::LIST_LIMIT;
 use scons_base::{Memory, Text};
 use std::alloc::Global;

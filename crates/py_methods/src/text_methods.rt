@@ -9,8 +9,8 @@ ghost use Rattle.py_methods.specs.TextMethods.{as_text, texts_onto, paid_join, j
 use crate::many::{parts, words};
 use crate::name::Name;
 use py_compare::above_zero;
-use py_operators::copied_text;
 use py_heap::{Budget, Heap, TextId, Value, ValueFault, text_room};
+use py_operators::copied_text;
 use scons_base::Text;
 use std::alloc::Global;
 

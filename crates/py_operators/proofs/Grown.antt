@@ -1,5 +1,5 @@
 -- The length of a dict in which an item is put.
-use Rattle.std.proofs.Common.{arith, ◌≡◌, ◌∙◌, ◌<◌, ◌≤◌, ℕ, length, Ok, Err, refl, ap, sym}
+use Rattle.std.proofs.Common.{arith, ◌≡◌, ◌∙◌, ◌<◌, ◌≤◌, ℕ, length, Ok, Err, ap, sym}
 use Rattle.py_heap.specs.declared.value.Value.{Value}
 use Rattle.py_heap.specs.declared.key.Key.{Key}
 use Rattle.py_heap.specs.declared.fault.ValueFault.TheVariants as fault

@@ -1,16 +1,12 @@
 -- The lengths of what is put together.
-use Rattle.std.proofs.Common.{arith, ◌≡◌, ◌∙◌, ◌<◌, ◌+◌, ◌*◌, ◌-◌, ◌^◌, ◌++◌, ℕ, zero, suc, add-one, sym, ap, List, length, map, Ok, Err, Result, refl}
+use Rattle.std.proofs.Common.{arith, ◌≡◌, ◌∙◌, ◌<◌, ◌+◌, ◌*◌, ◌-◌, ◌^◌, ◌++◌, ℕ, zero, suc, add-one, sym, ap, List, length, Ok, Err, Result, refl}
 use Rattle.std.specs.List.{repeat}
-use Rattle.std.proofs.lemmas.List.{length-append, length-map, append_assoc, append-nil}
+use Rattle.std.proofs.lemmas.List.{length-append, append_assoc, append-nil}
 use Rattle.py_heap.specs.declared.value.Value.{Value}
 use Rattle.py_heap.specs.declared.fault.ValueFault.{ValueFault}
 use Rattle.py_heap.specs.Units.{Units, room, list_limit, told_length}
 use Rattle.py_heap.proofs.Rooms.{room-told_length}
-use Rattle.py_heap.specs.declared.key.Key.{Key}
-use Rattle.py_heap.specs.declared.dict.Entry.{Entry}
-use Rattle.py_heap.specs.Heap.{Objects, Entries, keys_of, items_in, with_list}
-use Rattle.py_heap.specs.Given.{next_list}
-use Rattle.py_compare.specs.Outcomes.{paid_items, new_list}
+use Rattle.py_compare.specs.Outcomes.{paid_items}
 
 pub length-repeat : {X : Type 0} (n : ℕ) (xs : List X) → length (repeat n xs) ≡ length xs * n
 length-repeat zero xs = omega arith

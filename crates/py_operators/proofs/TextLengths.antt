@@ -1,11 +1,9 @@
 -- The lengths of texts that are put together.
-use Rattle.std.proofs.Common.{arith, ◌≡◌, ◌+◌, ◌++◌, ℕ, List, [], length, Ok, Err, Result, refl}
+use Rattle.std.proofs.Common.{arith, ◌≡◌, ◌+◌, ◌++◌, ℕ, List, length, Ok, Err, Result, refl}
 use Rattle.std.proofs.lemmas.List.{length-append}
 use Rattle.py_text.specs.Sizes.{saturated}
 use Rattle.py_heap.specs.declared.fault.ValueFault.{ValueFault}
 use Rattle.py_heap.specs.Units.{Units, room, text_limit, told_length}
-use Rattle.py_heap.specs.declared.value.Value.{Value}
-use Rattle.py_heap.specs.Heap.{Objects}
 use Rattle.py_compare.specs.Outcomes.{paid_text}
 use Rattle.py_operators.proofs.Lengths.{room_told}
 

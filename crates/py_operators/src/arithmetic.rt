@@ -3,8 +3,8 @@ ghost use Rattle.std.specs.Prelude.{◌≡◌, ◌≢◌, Ok, Err, IfOk, IfErr, 
 ghost use Rattle.py_operators.specs.Arithmetic.{sum_of, difference_of, quotient_of, product_of, negative_of};
 
 use crate::joining::{join_lists, join_tuples, repeat_list, repeat_tuple};
-use py_compare::{floor_div, minus, negative, plus, times};
 use crate::texts::{join_texts, repeat_text};
+use py_compare::{floor_div, minus, negative, plus, times};
 use py_heap::{Budget, Heap, Value, ValueFault};
 
 /// `+`

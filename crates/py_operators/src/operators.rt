@@ -3,9 +3,9 @@ ghost use Rattle.std.specs.Prelude.{◌≡◌, ◌≢◌, Ok, Err, IfOk, IfErr, 
 ghost use Rattle.py_operators.specs.Binary.{binary_of};
 
 use crate::arithmetic::{difference, product, quotient, sum};
-use py_compare::{is_constant, ordered, same, within};
 use crate::op::Op;
 use crate::remainders::rest;
+use py_compare::{is_constant, ordered, same, within};
 use py_heap::{Budget, Heap, Value, ValueFault};
 
 /// What an operator gives. `Contains` asks whether the first operand stands in the second.

@@ -5,10 +5,9 @@ ghost use Rattle.py_text.specs.Views.{plain_piece};
 ghost use Rattle.py_heap.specs.Heap.{text_at};
 ghost use Rattle.py_operators.specs.Remainders.{integer_shown, piece_onto, pieces_onto, filled, values_in, format_of, rest_of};
 
-use py_compare::LEVEL_LIMIT;
-use py_compare::floor_rem;
-use py_show::show_onto;
+use py_compare::{LEVEL_LIMIT, floor_rem};
 use py_heap::{Budget, Heap, TextId, Value, ValueFault, text_room};
+use py_show::show_onto;
 use py_text::{FormatFault, Piece};
 use scons_base::Text;
 use std::alloc::Global;
