@@ -2,13 +2,12 @@
 use Rattle.std.proofs.Common.{arith, ◌≡◌, ◌∙◌, ◌<◌, ◌≤◌, ◌+◌, ◌*◌, ◌^◌, ℕ, zero, suc, List, [], ◌∷◌, ◌++◌, length, Ok, Err, refl, ap, sym}
 use Rattle.std.proofs.lemmas.List.{append_assoc}
 use Rattle.py_heap.specs.declared.value.Value.{Value}
-use Rattle.py_heap.specs.declared.fault.ValueFault.{ValueFault}
 use Rattle.py_heap.specs.declared.fault.ValueFault.TheVariants as fault
 use Rattle.py_heap.specs.Heap.{Objects}
-use Rattle.py_heap.specs.Units.{Units, charged, list_limit}
+use Rattle.py_heap.specs.Units.{list_limit}
 use Rattle.py_heap.proofs.Rooms.{limited_within, too_long_given}
 use Rattle.py_methods.specs.Many.{total_length}
-use Rattle.py_builtins.specs.Rows.{width_of, zip_texts, paid_zip}
+use Rattle.py_builtins.specs.Rows.{width_of, zip_texts, zip_cost}
 
 width-none : (n width : ℕ) → n ≤ 0 → width_of n width ≤ list_limit
 width-none zero width l = omega arith
@@ -22,25 +21,19 @@ width-some : (n width : ℕ) → 0 < n → width_of n width ≡ width
 width-some zero width l = absurd (omega arith)
 width-some (suc n) width l = refl
 
-module _ (h : Objects) (u : Units) (xs : List Value) (n : ℕ) where
-  pub zip_passes : list_limit < n → n < 2 ^ 64 → paid_zip h u xs n ≡ Err (fault.TooBig n)
+module _ (h : Objects) (xs : List Value) (n : ℕ) where
+  pub zip_passes : list_limit < n → n < 2 ^ 64 → zip_cost h xs n ≡ Err (fault.TooBig n)
   zip_passes l fits = rw (too_long_given list_limit n n l fits) refl
 
-  pub zip_too_wide : n ≤ list_limit → 0 < n → list_limit < length xs → length xs < 2 ^ 64 → paid_zip h u xs n ≡ Err (fault.TooBig (length xs))
+  pub zip_too_wide : n ≤ list_limit → 0 < n → list_limit < length xs → length xs < 2 ^ 64 → zip_cost h xs n ≡ Err (fault.TooBig (length xs))
   zip_too_wide l some w fits =
       rw (limited_within list_limit n n l, width-some n (length xs) some, too_long_given list_limit (length xs) (n * (1 + length xs) + total_length (zip_texts h n xs)) w fits) refl
 
-  zip_charged : (cost : ℕ) → n ≤ list_limit → width_of n (length xs) ≤ list_limit → cost ≡ n * (1 + length xs) + total_length (zip_texts h n xs) → paid_zip h u xs n ≡ charged u cost
-  zip_charged cost l w c =
+  pub zip_within : (cost : ℕ) → n ≤ list_limit → width_of n (length xs) ≤ list_limit → cost ≡ n * (1 + length xs) + total_length (zip_texts h n xs) → zip_cost h xs n ≡ Ok cost
+  zip_within cost l w c =
       rw (limited_within list_limit n n l, limited_within list_limit (width_of n (length xs)) (n * (1 + length xs) + total_length (zip_texts h n xs)) w, c) refl
 
-  pub zip_unpaid : (cost : ℕ) (e : ValueFault) → n ≤ list_limit → width_of n (length xs) ≤ list_limit → cost ≡ n * (1 + length xs) + total_length (zip_texts h n xs) → charged u cost ≡ Err e → paid_zip h u xs n ≡ Err e
-  zip_unpaid cost e l w c p = zip_charged cost l w c ∙ p
-
-  pub zip_paid : (cost : ℕ) (left : Units) → n ≤ list_limit → width_of n (length xs) ≤ list_limit → cost ≡ n * (1 + length xs) + total_length (zip_texts h n xs) → charged u cost ≡ Ok left → paid_zip h u xs n ≡ Ok left
-  zip_paid cost left l w c p = zip_charged cost l w c ∙ p
-
-pub ruleset zip_costs = (zip_passes, zip_too_wide, zip_unpaid, zip_paid, width-none, width-few)
+pub ruleset zip_costs = (zip_passes, zip_too_wide, zip_within, width-none, width-few)
 
 total_length-append : (xs ys : List (List ℕ)) → total_length (xs ++ ys) ≡ total_length xs + total_length ys
 total_length-append [] ys = omega arith

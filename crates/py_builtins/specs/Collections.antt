@@ -17,21 +17,26 @@ use Rattle.py_methods.specs.Many.{total_length}
 abbrev pub items_cost : Objects → Value → ℕ → Result ℕ ValueFault
 items_cost h x n = limited list_limit n (n + total_length (iterable_texts h n x))
 
-abbrev pub paid_length : Objects → Units → Value → Result (ℕ × Units) ValueFault
-paid_length h u x =
-    then_by (needed_length h x) (λ n. then_by (items_cost h x n) (λ cost. then_by (charged u cost) (λ left. Ok (n, left))))
+abbrev pub paid_items : Objects → Units → Value → ℕ → Result Units ValueFault
+paid_items h u x n = then_by (items_cost h x n) (λ cost. charged u cost)
+
+abbrev pub listed : Objects → Units → Value → ℕ → Outcome
+listed h u x n =
+    then_by (paid_items h u x n) (λ left.
+    Ok (next_list h, with_list (with_texts h (iterable_texts h n x)) (iterable_items h (length h.texts) n x), left))
 
 -- a list of all that a value gives
 abbrev pub list_of : Objects → Units → Value → Outcome
-list_of h u x =
-    then_by (paid_length h u x) (λ paid.
-    Ok (next_list h, with_list (with_texts h (iterable_texts h paid.0 x)) (iterable_items h (length h.texts) paid.0 x), paid.1))
+list_of h u x = then_by (needed_length h x) (λ n. listed h u x n)
 
--- the same as a tuple
+abbrev pub tupled : Objects → Units → Value → ℕ → Outcome
+tupled h u x n =
+    then_by (paid_items h u x n) (λ left.
+    Ok (next_tuple h, with_tuple (with_texts h (iterable_texts h n x)) (iterable_items h (length h.texts) n x), left))
+
+-- a tuple of all that a value gives
 abbrev pub tuple_of : Objects → Units → Value → Outcome
-tuple_of h u x =
-    then_by (paid_length h u x) (λ paid.
-    Ok (next_tuple h, with_tuple (with_texts h (iterable_texts h paid.0 x)) (iterable_items h (length h.texts) paid.0 x), paid.1))
+tuple_of h u x = then_by (needed_length h x) (λ n. tupled h u x n)
 
 -- a new dict with the entries of another one
 abbrev pub dict_of : Objects → Units → Value → Outcome

@@ -1,5 +1,6 @@
 -- `len`, `range`, `int` and `str` among the "Built-in Functions" of the Python library reference. `range` gives a list (own).
-use Rattle.std.specs.Prelude.{ℕ, zero, suc, ℤ, pos, ◌+ℤ◌, ◌-ℤ◌, true, false, int_lt, unsigned_abs, List, [], ◌∷◌, Result, Ok, Err, if◌then◌else◌}
+use Rattle.std.specs.Prelude.{ℕ, zero, suc, ℤ, pos, ◌+ℤ◌, true, false, List, [], ◌∷◌, Result, Ok, Err}
+use Rattle.std.specs.Int.{int_gap}
 use Rattle.py_text.specs.Numbers.{int_of as spelled_number}
 use Rattle.py_text.specs.declared.fault.IntFault.{IntFault}
 use Rattle.py_text.specs.declared.fault.IntFault.TheVariants as spelling
@@ -21,7 +22,7 @@ len_of h u x = then_by (needed_length h x) (λ n. number h u (fitting (pos n)))
 
 -- how many integers there are from one on and below another one
 abbrev pub span : ℤ → ℤ → ℕ
-span from to = if int_lt from to then unsigned_abs (to -ℤ from) else 0
+span from to = int_gap from to
 
 -- so many integers, counted from one on
 abbrev pub counted : ℕ → ℤ → List Value

@@ -27,11 +27,13 @@ rows_from place (suc n) columns = row_at columns place ∷ rows_from (suc place)
 abbrev pub numbers_fit : ℤ → ℕ → Result (Unit {0}) ValueFault
 numbers_fit from n = if int_le (from +ℤ pos n) (pos (2 ^ 63)) then Ok tt else Err fault.Overflow
 
+-- what so many items with their numbers cost
+abbrev pub numbered_cost : Objects → Value → ℕ → Result ℕ ValueFault
+numbered_cost h x n = limited list_limit n (3 * n + total_length (iterable_texts h n x))
+
 -- the limit of the list comes first, then the numbers, then the charge
 abbrev pub paid_numbered : Objects → Units → Value → ℕ → ℤ → Result Units ValueFault
-paid_numbered h u x n from =
-    then_by (limited list_limit n (3 * n + total_length (iterable_texts h n x))) (λ cost.
-    then_by (numbers_fit from n) (λ fit. charged u cost))
+paid_numbered h u x n from = then_by (numbered_cost h x n) (λ cost. then_by (numbers_fit from n) (λ fit. charged u cost))
 
 -- each item with its number
 abbrev pub numbered_rows : Objects → Value → ℕ → ℤ → List (List Value)
@@ -75,11 +77,14 @@ abbrev pub width_of : ℕ → ℕ → ℕ
 width_of zero width = 0
 width_of (suc n) width = width
 
--- the limit of the list comes first, then that of the tuples, then the charge
-abbrev pub paid_zip : Objects → Units → List Value → ℕ → Result Units ValueFault
-paid_zip h u xs n =
+-- what so many rows cost: the limit of the list comes first, then that of the tuples
+abbrev pub zip_cost : Objects → List Value → ℕ → Result ℕ ValueFault
+zip_cost h xs n =
     then_by (limited list_limit n n) (λ rows.
-    then_by (limited list_limit (width_of n (length xs)) (n * (1 + length xs) + total_length (zip_texts h n xs))) (λ cost. charged u cost))
+    limited list_limit (width_of n (length xs)) (n * (1 + length xs) + total_length (zip_texts h n xs)))
+
+abbrev pub paid_zip : Objects → Units → List Value → ℕ → Result Units ValueFault
+paid_zip h u xs n = then_by (zip_cost h xs n) (λ cost. charged u cost)
 
 abbrev pub zipped : Objects → Units → List Value → ℕ → Outcome
 zipped h u xs n =

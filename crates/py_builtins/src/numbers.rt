@@ -45,12 +45,7 @@ pub(crate) fn as_int(value: Value) -> Result<i64, ValueFault>
     }
 }
 
-fn range_list(
-    heap: &mut Heap,
-    budget: &mut Budget,
-    from: i64,
-    to: i64,
-) -> Result<Value, ValueFault>
+fn range_list(heap: &mut Heap, budget: &mut Budget, from: i64, to: i64) -> Result<Value, ValueFault>
     ensures ok { IfOk result (λ v. range_list heap.old budget.old from to ≡ Ok (v, heap.new, budget.new)) }
     ensures fault { IfErr result (λ e. e ≢ ValueFault.Memory → range_list heap.old budget.old from to ≡ Err e) }
     ensures err { OnErr result (heap.new ≡ heap.old) }
@@ -62,10 +57,15 @@ fn range_list(
 }
 
 /// How many integers there are from one on and below another one.
+#[tactic(auto, using(crate::proofs::Counting::gaps))]
 fn span(from: i64, to: i64) -> u64
     ensures { result ≡ span from to }
 {
-    if from < to { to.abs_diff(from) } else { 0 }
+    if from < to {
+        (to as i128 - from as i128) as u64
+    } else {
+        0
+    }
 }
 
 #[tactic(auto, using(crate::proofs::Counting::counting))]
@@ -105,11 +105,7 @@ fn spelled(text: &str) -> Result<i64, ValueFault>
 }
 
 /// What a value shows, as a text.
-pub(crate) fn str(
-    heap: &mut Heap,
-    budget: &mut Budget,
-    value: Value,
-) -> Result<Value, ValueFault>
+pub(crate) fn str(heap: &mut Heap, budget: &mut Budget, value: Value) -> Result<Value, ValueFault>
     ensures ok { IfOk result (λ v. str_of heap.old budget.old value ≡ Ok (v, heap.new, budget.new)) }
     ensures fault { IfErr result (λ e. e ≢ ValueFault.Memory → str_of heap.old budget.old value ≡ Err e) }
     ensures err { OnErr result (heap.new ≡ heap.old) }

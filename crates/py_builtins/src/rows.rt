@@ -4,7 +4,7 @@ ghost use Rattle.py_heap.specs.Units.{list_limit};
 ghost use Rattle.py_heap.specs.Many.{text_values};
 ghost use Rattle.py_methods.specs.Iterables.{iterable_items};
 ghost use Rattle.py_builtins.specs.Numbers.{counted};
-ghost use Rattle.py_builtins.specs.Rows.{rows_from, numbers_fit, paid_numbered, numbered_rows, numbered, enumerate_of};
+ghost use Rattle.py_builtins.specs.Rows.{rows_from, numbers_fit, numbered_cost, paid_numbered, numbered_rows, numbered, enumerate_of};
 
 use crate::numbers::as_int;
 use py_heap::{Budget, Heap, TextId, Value, ValueFault, Values};
@@ -54,7 +54,6 @@ fn numbered(
 }
 
 /// Charges for so many items with their numbers.
-#[tactic(auto, using(crate::proofs::Numbering::numbering))]
 fn numbered_room(
     heap: &Heap,
     budget: &mut Budget,
@@ -67,21 +66,33 @@ fn numbered_room(
     ensures few { OnOk result (count ≤ list_limit) }
     ensures fits { OnOk result ((from +ℤ pos count) ≤ℤ pos (2 ^ 63)) }
 {
-    if count as u64 > LIST_LIMIT {
-        return Err(ValueFault::TooBig(count as u64));
-    }
-    let bytes = iterable_bytes(heap, value, count);
-    let cost = (3 * count).checked_add(bytes).ok_or(Memory)?;
+    let cost = numbered_cost(heap, value, count)?;
     numbers_fit(from, count)?;
     budget.charge(cost as u64)?;
     Ok(())
 }
 
+#[tactic(auto, using(py_methods::proofs::Limits::exact_limits))]
+fn numbered_cost(heap: &Heap, value: Value, count: usize) -> Result<usize, ValueFault>
+    ensures ok { IfOk result (λ n. numbered_cost heap.now value count ≡ Ok n) }
+    ensures fault { IfErr result (λ e. e ≢ ValueFault.Memory → numbered_cost heap.now value count ≡ Err e) }
+    ensures few { OnOk result (count ≤ list_limit) }
+{
+    if count as u64 > LIST_LIMIT {
+        return Err(ValueFault::TooBig(count as u64));
+    }
+    let bytes = iterable_bytes(heap, value, count);
+    let cost = (3 * count).checked_add(bytes).ok_or(Memory)?;
+    Ok(cost)
+}
+
 /// One more than the greatest integer.
 const REACH: i128 = 1 << 63;
 
+#[tactic(auto, using(crate::proofs::Counting::fitting))]
 fn numbers_fit(from: i64, count: usize) -> Result<(), ValueFault>
-    ensures { result ≡ numbers_fit from count }
+    ensures same { result ≡ numbers_fit from count }
+    ensures fits { OnOk result ((from +ℤ pos count) ≤ℤ pos (2 ^ 63)) }
 {
     if from as i128 + count as i128 <= REACH {
         Ok(())
@@ -91,12 +102,7 @@ fn numbers_fit(from: i64, count: usize) -> Result<(), ValueFault>
 }
 
 #[tactic(auto, using(crate::proofs::RowTurns::row_turns))]
-fn numbered_rows(
-    heap: &Heap,
-    value: Value,
-    count: usize,
-    from: i64,
-) -> Result<Vec<Values>, Memory>
+fn numbered_rows(heap: &Heap, value: Value, count: usize, from: i64) -> Result<Vec<Values>, Memory>
     requires few { count ≤ list_limit }
     requires fits { (from +ℤ pos count) ≤ℤ pos (2 ^ 63) }
     ensures { IfOk result (λ rows. rows.items ≡ numbered_rows heap.now value count from) }

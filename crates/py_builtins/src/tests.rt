@@ -94,7 +94,11 @@ fn each_function_gives_what_python_gives(rt: HostRuntime) -> Result<(), Fail> {
         (Builtin::Range, &[int, two], "[]"),
         (Builtin::Range, &[two, two], "[]"),
         (Builtin::Range, &[next, high], "[9223372036854775806]"),
-        (Builtin::Range, &[low, Value::Int(i64::MIN + 1)], "[-9223372036854775808]"),
+        (
+            Builtin::Range,
+            &[low, Value::Int(i64::MIN + 1)],
+            "[-9223372036854775808]",
+        ),
         (Builtin::Range, &[high, low], "[]"),
         (Builtin::Str, &[], "''"),
         (Builtin::Str, &[s.marks], "'aé€😀'"),
@@ -132,13 +136,21 @@ fn each_function_gives_what_python_gives(rt: HostRuntime) -> Result<(), Fail> {
         (Builtin::Dict, &[], "{}"),
         (Builtin::Dict, &[s.dict], "{'b': 1, 'a': 2, 1: None}"),
         (Builtin::Enumerate, &[s.pair], "[(0, 7), (1, 'x')]"),
-        (Builtin::Enumerate, &[s.numbers, int], "[(5, 3), (6, 1), (7, 2)]"),
+        (
+            Builtin::Enumerate,
+            &[s.numbers, int],
+            "[(5, 3), (6, 1), (7, 2)]",
+        ),
         (
             Builtin::Enumerate,
             &[s.marks, Value::Int(-1)],
             "[(-1, 'a'), (0, 'é'), (1, '€'), (2, '😀')]",
         ),
-        (Builtin::Enumerate, &[s.dict], "[(0, 'b'), (1, 'a'), (2, 1)]"),
+        (
+            Builtin::Enumerate,
+            &[s.dict],
+            "[(0, 'b'), (1, 'a'), (2, 1)]",
+        ),
         (Builtin::Enumerate, &[s.none, high], "[]"),
         (
             Builtin::Enumerate,
@@ -153,12 +165,20 @@ fn each_function_gives_what_python_gives(rt: HostRuntime) -> Result<(), Fail> {
             &[s.marks, s.numbers, s.abc],
             "[('a', 3, 'a'), ('é', 1, 'b'), ('€', 2, 'c')]",
         ),
-        (Builtin::Zip, &[s.dict, s.abc], "[('b', 'a'), ('a', 'b'), (1, 'c')]"),
+        (
+            Builtin::Zip,
+            &[s.dict, s.abc],
+            "[('b', 'a'), ('a', 'b'), (1, 'c')]",
+        ),
         (Builtin::Zip, &[s.none, s.abc], "[]"),
     ];
     for (b, args, shown) in rows {
         assert!(rt; takes(*b, args.len()), "{b:?} {args:?}");
-        assert_eq!(rt; answer(&mut s.heap, *b, *args)?.as_str(), *shown, "{b:?} {args:?}");
+        assert_eq!(rt;
+            answer(&mut s.heap, *b, *args)?.as_str(),
+            *shown,
+            "{b:?} {args:?}"
+        );
     }
     Ok(())
 }
@@ -206,15 +226,43 @@ fn other_arguments_are_refused(rt: HostRuntime) -> Result<(), Fail> {
     let rows: &[(Builtin, &[Value], ValueFault)] = &[
         (Builtin::Len, &[int], ValueFault::Mismatch(ints, ints)),
         (Builtin::Range, &[flag], ValueFault::Mismatch(flags, flags)),
-        (Builtin::Range, &[int, flag], ValueFault::Mismatch(flags, flags)),
-        (Builtin::Int, &[s.none], ValueFault::Mismatch(ValueKind::List, ValueKind::List)),
+        (
+            Builtin::Range,
+            &[int, flag],
+            ValueFault::Mismatch(flags, flags),
+        ),
+        (
+            Builtin::Int,
+            &[s.none],
+            ValueFault::Mismatch(ValueKind::List, ValueKind::List),
+        ),
         (Builtin::List, &[int], ValueFault::Mismatch(ints, ints)),
         (Builtin::Tuple, &[flag], ValueFault::Mismatch(flags, flags)),
-        (Builtin::Dict, &[s.pair], ValueFault::Mismatch(ValueKind::Tuple, ValueKind::Tuple)),
-        (Builtin::Enumerate, &[int, flag], ValueFault::Mismatch(ints, ints)),
-        (Builtin::Enumerate, &[s.numbers, flag], ValueFault::Mismatch(flags, flags)),
-        (Builtin::Enumerate, &[s.numbers, Value::Int(i64::MAX - 1)], ValueFault::Overflow),
-        (Builtin::Zip, &[s.numbers, flag, int], ValueFault::Mismatch(flags, flags)),
+        (
+            Builtin::Dict,
+            &[s.pair],
+            ValueFault::Mismatch(ValueKind::Tuple, ValueKind::Tuple),
+        ),
+        (
+            Builtin::Enumerate,
+            &[int, flag],
+            ValueFault::Mismatch(ints, ints),
+        ),
+        (
+            Builtin::Enumerate,
+            &[s.numbers, flag],
+            ValueFault::Mismatch(flags, flags),
+        ),
+        (
+            Builtin::Enumerate,
+            &[s.numbers, Value::Int(i64::MAX - 1)],
+            ValueFault::Overflow,
+        ),
+        (
+            Builtin::Zip,
+            &[s.numbers, flag, int],
+            ValueFault::Mismatch(flags, flags),
+        ),
         (Builtin::Len, &[], ValueFault::NoMethod),
         (Builtin::Len, &[s.abc, s.abc], ValueFault::NoMethod),
         (Builtin::Range, &[int, int, int], ValueFault::NoMethod),
@@ -224,7 +272,11 @@ fn other_arguments_are_refused(rt: HostRuntime) -> Result<(), Fail> {
     for (b, args, fault) in rows {
         let answer = call(&mut s.heap, &mut budget, *b, *args);
         assert_eq!(rt; answer, Err(*fault), "{b:?} {args:?}");
-        assert_eq!(rt; takes(*b, args.len()), *fault != ValueFault::NoMethod, "{b:?} {args:?}");
+        assert_eq!(rt;
+            takes(*b, args.len()),
+            *fault != ValueFault::NoMethod,
+            "{b:?} {args:?}"
+        );
     }
     assert_eq!(rt; budget.used(), 0);
     Ok(())
@@ -307,6 +359,9 @@ fn a_list_is_extended_by_all_that_a_value_gives(rt: HostRuntime) -> Result<(), F
     }
     let mut budget = Budget::new(UNITS);
     let answer = method(&mut s.heap, &mut budget, list, Name::Extend, &[Value::Nil]);
-    assert_eq!(rt; answer, Err(ValueFault::Mismatch(ValueKind::List, ValueKind::Nil)));
+    assert_eq!(rt;
+        answer,
+        Err(ValueFault::Mismatch(ValueKind::List, ValueKind::Nil))
+    );
     Ok(())
 }

@@ -2,7 +2,7 @@
 ghost use Rattle.std.specs.Prelude.{◌≡◌, ◌≢◌, ◌+◌, ◌*◌, map, length, Ok, Err, IfOk, IfErr, OnOk, OnErr};
 ghost use Rattle.py_methods.specs.Many.{total_length};
 ghost use Rattle.py_methods.specs.Iterables.{iterable_items};
-ghost use Rattle.py_builtins.specs.Rows.{row_at, rows_from, shortest_from, shortest_of, text_share, zip_texts, zip_columns, paid_zip, zipped, zip_of};
+ghost use Rattle.py_builtins.specs.Rows.{row_at, rows_from, shortest_from, shortest_of, text_share, zip_texts, zip_columns, zip_cost, paid_zip, zipped, zip_of};
 
 use crate::rows::{Column, item_at};
 use py_heap::{Budget, Heap, Value, ValueFault, Values};
@@ -67,7 +67,6 @@ fn zipped(
 }
 
 /// Charges for so many rows of the items of some values.
-#[tactic(auto, using(crate::proofs::Zipping::zip_costs))]
 fn zip_room(
     heap: &Heap,
     budget: &mut Budget,
@@ -76,6 +75,16 @@ fn zip_room(
 ) -> Result<(), ValueFault>
     ensures ok { OnOk result (paid_zip heap.now budget.old values.now count ≡ Ok budget.new) }
     ensures fault { IfErr result (λ e. e ≢ ValueFault.Memory → paid_zip heap.now budget.old values.now count ≡ Err e) }
+{
+    let cost = zip_cost(heap, values, count)?;
+    budget.charge(cost as u64)?;
+    Ok(())
+}
+
+#[tactic(auto, using(crate::proofs::Zipping::zip_costs))]
+fn zip_cost(heap: &Heap, values: &[Value], count: usize) -> Result<usize, ValueFault>
+    ensures ok { IfOk result (λ n. zip_cost heap.now values.now count ≡ Ok n) }
+    ensures fault { IfErr result (λ e. e ≢ ValueFault.Memory → zip_cost heap.now values.now count ≡ Err e) }
 {
     let width = values.len();
     if count as u64 > LIST_LIMIT {
@@ -86,8 +95,7 @@ fn zip_room(
     }
     let bytes = bytes_of(heap, values, count)?;
     let cost = rows_cost(count, width, bytes)?;
-    budget.charge(cost as u64)?;
-    Ok(())
+    Ok(cost)
 }
 
 fn rows_cost(count: usize, width: usize, bytes: usize) -> Result<usize, Memory>
@@ -161,12 +169,7 @@ fn rows_of(heap: &Heap, columns: &[Column], count: usize) -> Result<Vec<Values>,
     Ok(rows)
 }
 
-fn row_of(
-    heap: &Heap,
-    columns: &[Column],
-    count: usize,
-    place: usize,
-) -> Result<Values, Memory>
+fn row_of(heap: &Heap, columns: &[Column], count: usize, place: usize) -> Result<Values, Memory>
     ensures { IfOk result (λ row. row ≡ row_at (map (λ c. iterable_items heap.now c.first count c.value) columns.now) place) }
 {
     let mut row = Values::new(Vec::new(heap.allocator()));
