@@ -2,6 +2,7 @@
 use Rattle.std.proofs.Common.{arith, ◌≡◌, ◌∙◌, ◌<◌, ◌≤◌, ◌+◌, ◌-◌, ℕ, zero, suc, ℤ, pos, ◌+ℤ◌, List, [], ◌∷◌, ◌++◌, refl, ap, sym}
 use Rattle.std.specs.Prelude.{slice_index_or}
 use Rattle.std.proofs.lemmas.List.{append_assoc, append-nil}
+use Rattle.std.proofs.lemmas.Option.{unwrap_or-slice_get}
 use Rattle.std.proofs.lemmas.Int.{ints}
 use Rattle.py_heap.specs.declared.value.Value.{Value}
 use Rattle.py_heap.specs.declared.value.Value.TheVariants as v
@@ -52,3 +53,5 @@ texts_past (suc n) first (suc place) l = texts_past n (suc first) place (omega a
 pub ruleset row_turns = (rows_more, rows_done, counted_at)
 
 pub ruleset text_places = (texts_at, texts_past)
+
+pub ruleset key_places = (unwrap_or-slice_get)

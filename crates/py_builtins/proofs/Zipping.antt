@@ -4,10 +4,12 @@ use Rattle.std.proofs.lemmas.List.{append_assoc}
 use Rattle.py_heap.specs.declared.value.Value.{Value}
 use Rattle.py_heap.specs.declared.fault.ValueFault.TheVariants as fault
 use Rattle.py_heap.specs.Heap.{Objects}
-use Rattle.py_heap.specs.Units.{list_limit}
+use Rattle.py_heap.specs.Given.{next_list}
+use Rattle.py_heap.specs.Many.{with_texts, with_tuple_list}
+use Rattle.py_heap.specs.Units.{Units, list_limit}
 use Rattle.py_heap.proofs.Rooms.{limited_within, too_long_given}
 use Rattle.py_methods.specs.Many.{total_length}
-use Rattle.py_builtins.specs.Rows.{width_of, zip_texts, zip_cost}
+use Rattle.py_builtins.specs.Rows.{rows_from, width_of, zip_texts, zip_columns, zip_cost, paid_zip, zipped}
 
 width-none : (n width : ℕ) → n ≤ 0 → width_of n width ≤ list_limit
 width-none zero width l = omega arith
@@ -35,14 +37,17 @@ module _ (h : Objects) (xs : List Value) (n : ℕ) where
 
 pub ruleset zip_costs = (zip_passes, zip_too_wide, zip_within, width-none, width-few)
 
-total_length-append : (xs ys : List (List ℕ)) → total_length (xs ++ ys) ≡ total_length xs + total_length ys
+pub total_length-append : (xs ys : List (List ℕ)) → total_length (xs ++ ys) ≡ total_length xs + total_length ys
 total_length-append [] ys = omega arith
 total_length-append (x ∷ xs) ys = omega (arith, total_length-append xs ys)
-
-pub bytes_more : (made more : List (List ℕ)) (bytes new all : ℕ) → bytes + total_length (made ++ more) ≡ all → new ≡ bytes + total_length made → new + total_length more ≡ all
-bytes_more made more bytes new all inv e = omega (arith, total_length-append made more)
 
 pub texts_more : (texts new first more all : List (List ℕ)) → texts ++ (first ++ more) ≡ all → new ≡ texts ++ first → new ++ more ≡ all
 texts_more texts new first more all inv e = ap (λ xs. xs ++ more) e ∙ append_assoc texts first more ∙ inv
 
-pub ruleset zip_turns = (bytes_more, texts_more)
+pub zip_made : (h : Objects) (u left : Units) (xs : List Value) (n : ℕ) (texts : List (List ℕ)) (rows : List (List Value)) (x : Value) (new : Objects) → paid_zip h u xs n ≡ Ok left → texts ≡ zip_texts h n xs
+    → rows ≡ rows_from 0 n (zip_columns h (length h.texts) n xs) → x ≡ next_list h → new ≡ with_tuple_list (with_texts h texts) rows → zipped h u xs n ≡ Ok (x, new, left)
+zip_made h u left xs n texts rows x new p t r l w = rw (p, l, w, t, r) refl
+
+pub ruleset byte_turns = (total_length-append)
+
+pub ruleset zip_turns = (texts_more)

@@ -5,16 +5,16 @@
 //! refused before its charge.
 #![tactic(auto)]
 
+mod arguments;
 mod calls;
 mod collections;
 mod empty;
 mod numbers;
 mod rows;
-mod takes;
 mod zips;
 
+pub use arguments::takes;
 pub use calls::call_builtin;
-pub use takes::takes;
 
 #[cfg(test)]
 mod tests;

@@ -121,6 +121,7 @@ fn numbered_rows(heap: &Heap, value: Value, count: usize, from: i64) -> Result<V
 }
 
 /// The value at a place of a column, of which so many new texts are taken; none stands past its end.
+#[tactic(auto, using(crate::proofs::RowTurns::key_places))]
 pub(crate) fn item_at(
     heap: &Heap,
     column: Column,
@@ -133,10 +134,7 @@ pub(crate) fn item_at(
         Value::Text(_) => text_at(column.first, count, place),
         Value::List(list) => Ok(value_at(heap.list_at(list), place)),
         Value::Tuple(tuple) => Ok(value_at(heap.tuple_at(tuple), place)),
-        Value::Dict(dict) => match heap.key_at(dict, place) {
-            Some(key) => Ok(key),
-            None => Ok(Value::Nil),
-        },
+        Value::Dict(dict) => Ok(heap.key_at(dict, place).unwrap_or(Value::Nil)),
         _ => Ok(Value::Nil),
     }
 }
