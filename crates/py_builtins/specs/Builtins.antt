@@ -13,6 +13,7 @@ use Rattle.py_methods.specs.Dicts.{new_dict}
 use Rattle.py_builtins.specs.Numbers.{len_of, range_of, int_of, str_of}
 use Rattle.py_builtins.specs.Collections.{list_of, tuple_of, dict_of}
 use Rattle.py_builtins.specs.Rows.{enumerate_of, zip_of}
+use Rattle.py_builtins.specs.Sorted.{sorted_list_of}
 
 -- `print` isn't one of values alone: whoever runs a script does it, and here it is read as no such function
 abbrev pub builtin_of : Objects → Units → Builtin → List Value → Outcome
@@ -24,7 +25,7 @@ builtin_of h u b.Bool args = with_optional args (Ok (v.Bool false, h, u)) (λ x.
 builtin_of h u b.List args = with_optional args (new_list h u []) (λ x. list_of h u x)
 builtin_of h u b.Tuple args = with_optional args (new_tuple h u []) (λ x. tuple_of h u x)
 builtin_of h u b.Dict args = with_optional args (new_dict h u []) (λ x. dict_of h u x)
-builtin_of h u b.Sorted args = Err fault.NoMethod
+builtin_of h u b.Sorted args = with_one args (λ x. sorted_list_of h u x)
 builtin_of h u b.Enumerate args = with_second args (λ x. enumerate_of h u x (v.Int (pos 0))) (λ x from. enumerate_of h u x from)
 builtin_of h u b.Zip args = zip_of h u args
 builtin_of h u b.Print args = Err fault.NoMethod

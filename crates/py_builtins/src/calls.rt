@@ -6,18 +6,18 @@ use crate::collections::{dict, list, tuple};
 use crate::empty::{empty_dict, empty_list, empty_text, empty_tuple};
 use crate::numbers::{int, len, range, str};
 use crate::rows::enumerate;
+use crate::sorting::sorted;
 use crate::zips::zip;
 use py_heap::{Budget, Builtin, Heap, Value, ValueFault, truth};
 
 /// What a built-in function gives. A number of arguments that it doesn't take is refused before the call, as `takes` tells
-/// it, and `print` is done by whoever runs the script. `sorted` isn't built yet.
+/// it, and `print` is done by whoever runs the script.
 pub fn call_builtin(
     heap: &mut Heap,
     budget: &mut Budget,
     b: Builtin,
     args: &[Value],
 ) -> Result<Value, ValueFault>
-    requires built { b ≢ Builtin.Sorted }
     ensures ok { IfOk result (λ v. builtin_of heap.old budget.old b args.now ≡ Ok (v, heap.new, budget.new)) }
     ensures fault { IfErr result (λ e. e ≢ ValueFault.Memory → builtin_of heap.old budget.old b args.now ≡ Err e) }
     ensures err { OnErr result (heap.new ≡ heap.old) }
@@ -68,6 +68,10 @@ pub fn call_builtin(
             [value] => dict(heap, budget, *value),
             _ => Err(ValueFault::NoMethod),
         },
-        Builtin::Sorted | Builtin::Print => Err(ValueFault::NoMethod),
+        Builtin::Sorted => match args {
+            [value] => sorted(heap, budget, *value),
+            _ => Err(ValueFault::NoMethod),
+        },
+        Builtin::Print => Err(ValueFault::NoMethod),
     }
 }

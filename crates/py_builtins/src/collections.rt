@@ -51,7 +51,7 @@ fn items_room(
 }
 
 #[tactic(auto, using(py_methods::proofs::Limits::exact_limits))]
-fn items_cost(heap: &Heap, value: Value, count: usize) -> Result<usize, ValueFault>
+pub(crate) fn items_cost(heap: &Heap, value: Value, count: usize) -> Result<usize, ValueFault>
     ensures ok { IfOk result (λ n. items_cost heap.now value count ≡ Ok n) }
     ensures fault { IfErr result (λ e. e ≢ ValueFault.Memory → items_cost heap.now value count ≡ Err e) }
 {

@@ -11,6 +11,7 @@ mod collections;
 mod empty;
 mod numbers;
 mod rows;
+mod sorting;
 mod zips;
 
 pub use arguments::takes;

@@ -53,22 +53,10 @@ fn made_samples(alloc: Global) -> Result<Samples, ValueFault> {
     })
 }
 
-fn call(
-    heap: &mut Heap,
-    budget: &mut Budget,
-    b: Builtin,
-    args: &[Value],
-) -> Result<Value, ValueFault> {
-    match b {
-        Builtin::Sorted => Err(ValueFault::NoMethod),
-        _ => call_builtin(heap, budget, b, args),
-    }
-}
-
 /// What a call shows, in quotes where it is a text.
 fn answer(heap: &mut Heap, b: Builtin, args: &[Value]) -> Result<Text, ValueFault> {
     let mut budget = Budget::new(UNITS);
-    let value = call(heap, &mut budget, b, args)?;
+    let value = call_builtin(heap, &mut budget, b, args)?;
     show(heap, &mut budget, value, true)
 }
 
@@ -79,6 +67,7 @@ fn each_function_gives_what_python_gives(rt: HostRuntime) -> Result<(), Fail> {
     let (low, high) = (Value::Int(i64::MIN), Value::Int(i64::MAX));
     let (two, less) = (Value::Int(2), Value::Int(-2));
     let next = Value::Int(i64::MAX - 1);
+    let mixed = s.heap.text("€bé😀a")?;
     let rows: &[(Builtin, &[Value], &str)] = &[
         (Builtin::Len, &[s.empty], "0"),
         (Builtin::Len, &[s.marks], "4"),
@@ -135,6 +124,10 @@ fn each_function_gives_what_python_gives(rt: HostRuntime) -> Result<(), Fail> {
         (Builtin::Tuple, &[s.empty], "()"),
         (Builtin::Dict, &[], "{}"),
         (Builtin::Dict, &[s.dict], "{'b': 1, 'a': 2, 1: None}"),
+        (Builtin::Sorted, &[s.numbers], "[1, 2, 3]"),
+        (Builtin::Sorted, &[s.none], "[]"),
+        (Builtin::Sorted, &[mixed], "['a', 'b', 'é', '€', '😀']"),
+        (Builtin::Sorted, &[s.abc], "['a', 'b', 'c']"),
         (Builtin::Enumerate, &[s.pair], "[(0, 7), (1, 'x')]"),
         (
             Builtin::Enumerate,
@@ -263,6 +256,17 @@ fn other_arguments_are_refused(rt: HostRuntime) -> Result<(), Fail> {
             &[s.numbers, flag, int],
             ValueFault::Mismatch(flags, flags),
         ),
+        (Builtin::Sorted, &[int], ValueFault::Mismatch(ints, ints)),
+        (
+            Builtin::Sorted,
+            &[s.pair],
+            ValueFault::Mismatch(ints, ValueKind::Text),
+        ),
+        (
+            Builtin::Sorted,
+            &[s.dict],
+            ValueFault::Mismatch(ValueKind::Text, ints),
+        ),
         (Builtin::Len, &[], ValueFault::NoMethod),
         (Builtin::Len, &[s.abc, s.abc], ValueFault::NoMethod),
         (Builtin::Range, &[int, int, int], ValueFault::NoMethod),
@@ -270,7 +274,7 @@ fn other_arguments_are_refused(rt: HostRuntime) -> Result<(), Fail> {
         (Builtin::Enumerate, &[], ValueFault::NoMethod),
     ];
     for (b, args, fault) in rows {
-        let answer = call(&mut s.heap, &mut budget, *b, *args);
+        let answer = call_builtin(&mut s.heap, &mut budget, *b, *args);
         assert_eq!(rt; answer, Err(*fault), "{b:?} {args:?}");
         assert_eq!(rt;
             takes(*b, args.len()),
@@ -296,6 +300,8 @@ fn what_is_made_is_charged_for_first(rt: HostRuntime) -> Result<(), Fail> {
         (Builtin::Tuple, &[s.pair], 2),
         (Builtin::Tuple, &[s.marks], 14),
         (Builtin::Dict, &[s.dict], 3),
+        (Builtin::Sorted, &[s.numbers], 6),
+        (Builtin::Sorted, &[s.marks], 18),
         (Builtin::Enumerate, &[s.numbers], 9),
         (Builtin::Enumerate, &[s.marks], 22),
         (Builtin::Zip, &[s.numbers, s.pair], 6),
@@ -304,12 +310,12 @@ fn what_is_made_is_charged_for_first(rt: HostRuntime) -> Result<(), Fail> {
     ];
     for (b, args, units) in rows {
         let mut budget = Budget::new(*units);
-        call(&mut s.heap, &mut budget, *b, *args)?;
+        call_builtin(&mut s.heap, &mut budget, *b, *args)?;
         assert_eq!(rt; budget.used(), *units, "{b:?} {args:?}");
-        if *units > 0 && *b != Builtin::Str {
+        if *units > 0 && *b != Builtin::Str && *b != Builtin::Sorted {
             let texts = s.heap.text_count();
             let mut short = Budget::new(*units - 1);
-            let answer = call(&mut s.heap, &mut short, *b, *args);
+            let answer = call_builtin(&mut s.heap, &mut short, *b, *args);
             assert_eq!(rt; answer, Err(ValueFault::Budget(0)), "{b:?} {args:?}");
             assert_eq!(rt; s.heap.text_count(), texts, "{b:?} {args:?}");
         }

@@ -8,8 +8,10 @@ mod comparisons;
 mod equal;
 mod numbers;
 mod order;
+mod sorting;
 
 pub use comparisons::{is_constant, ordered, same, within};
 pub use equal::{LEVEL_LIMIT, place_of};
 pub use numbers::{above_zero, floor_div, floor_rem, minus, negative, plus, times};
 pub use order::order_of;
+pub use sorting::{in_order, sort_room, sorted};

@@ -1,8 +1,8 @@
 //! Integers of 64 bits.
-ghost use Rattle.std.specs.Prelude.{◌≡◌, ◌+ℤ◌, ◌-ℤ◌, ◌*ℤ◌, pos, if◌then◌else◌};
+ghost use Rattle.std.specs.Prelude.{◌≡◌, ◌+ℤ◌, ◌-ℤ◌, ◌*ℤ◌, pos, if◌then◌else◌, IfOk};
 ghost use Rattle.std.specs.Option.{ok_or};
 ghost use Rattle.std.proofs.Common.{neg_ℤ};
-ghost use Rattle.py_compare.specs.Numbers.{fitting, divided, remainder};
+ghost use Rattle.py_compare.specs.Numbers.{fitting, floor_div, floor_rem, divided, remainder, IsDivision};
 
 use py_heap::ValueFault;
 
@@ -41,8 +41,10 @@ pub fn negative(number: i64) -> Result<i64, ValueFault>
 }
 
 /// The quotient, rounded down.
+#[tactic(auto, using(crate::proofs::Division::quotient_law))]
 pub fn floor_div(a: i64, b: i64) -> Result<i64, ValueFault>
-    ensures { result ≡ divided a b }
+    ensures exact { result ≡ divided a b }
+    ensures law { IfOk result (λ quotient. IsDivision a b quotient (floor_rem a b)) }
 {
     let (m, n) = (a.unsigned_abs(), b.unsigned_abs());
     if n == 0 {
@@ -56,8 +58,10 @@ pub fn floor_div(a: i64, b: i64) -> Result<i64, ValueFault>
 }
 
 /// What is left of the first where the second is taken that many times.
+#[tactic(auto, using(crate::proofs::Division::remainder_law))]
 pub fn floor_rem(a: i64, b: i64) -> Result<i64, ValueFault>
-    ensures { result ≡ remainder a b }
+    ensures exact { result ≡ remainder a b }
+    ensures law { IfOk result (λ rest. IsDivision a b (floor_div a b) rest) }
 {
     let (m, n) = (a.unsigned_abs(), b.unsigned_abs());
     if n == 0 {

@@ -31,3 +31,6 @@ pub use many::text_values;
 pub use room::{list_room, text_room};
 pub use value::{Builtin, Value};
 pub use values::Values;
+
+#[cfg(test)]
+mod tests;

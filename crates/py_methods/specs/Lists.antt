@@ -10,6 +10,7 @@ use Rattle.py_heap.specs.Units.{Units, charged, limited, list_limit}
 use Rattle.py_compare.specs.Outcomes.{Outcome, then_by, number, mismatch}
 use Rattle.py_compare.specs.Numbers.{fitting}
 use Rattle.py_compare.specs.Equality.{place_from}
+use Rattle.py_compare.specs.Sorting.{sorted_of}
 use Rattle.py_operators.specs.Places.{place_in}
 use Rattle.py_operators.specs.Slices.{end_in}
 use Rattle.py_methods.specs.Many.{total_length}
@@ -86,3 +87,7 @@ index_of h u id x = then_by (place_from 0 h u (list_at h id) x) (index_by h)
 
 abbrev pub reverse_of : Objects → ℕ → Value × Objects
 reverse_of h id = with_items h id (reverse (list_at h id))
+
+-- all integers or all texts in order
+abbrev pub sort_of : Objects → Units → ℕ → Outcome
+sort_of h u id = then_by (sorted_of h u (list_at h id)) (λ s. Ok (v.Nil, with_list_at h id s.0, s.1))

@@ -9,7 +9,7 @@ use Rattle.py_methods.specs.declared.name.Name.{Name}
 use Rattle.py_methods.specs.declared.name.Name.TheVariants as name
 use Rattle.py_compare.specs.Outcomes.{Outcome, plain, changed}
 use Rattle.py_methods.specs.Arguments.{with_none, with_one, with_two, with_optional, with_second}
-use Rattle.py_methods.specs.Lists.{append_of, extend_of, insert_of, pop_of, pop_last_of, remove_of, index_of, reverse_of}
+use Rattle.py_methods.specs.Lists.{append_of, extend_of, insert_of, pop_of, pop_last_of, remove_of, index_of, reverse_of, sort_of}
 use Rattle.py_methods.specs.Many.{pair_list, rows_of}
 use Rattle.py_methods.specs.Dicts.{new_dict, update_of, get_of, setdefault_of, keys_list, values_list}
 
@@ -21,6 +21,7 @@ list_method h u id name.Pop args = with_optional args (changed u (pop_last_of h 
 list_method h u id name.Remove args = with_one args (λ x. remove_of h u id x)
 list_method h u id name.Index args = with_one args (λ x. index_of h u id x)
 list_method h u id name.Reverse args = with_none args (changed u (Ok (reverse_of h id)))
+list_method h u id name.Sort args = with_none args (sort_of h u id)
 list_method h u id other args = Err fault.NoMethod
 
 abbrev pub dict_method : Objects → Units → ℕ → Name → List Value → Outcome

@@ -7,8 +7,7 @@ use crate::name::Name;
 use crate::text_methods::text_method;
 use py_heap::{Budget, Heap, Value, ValueFault};
 
-/// What a method of a value gives. A number of arguments that it doesn't take is refused before the call. `sort` isn't
-/// built yet.
+/// What a method of a value gives. A number of arguments that it doesn't take is refused before the call.
 pub fn method(
     heap: &mut Heap,
     budget: &mut Budget,
@@ -16,7 +15,6 @@ pub fn method(
     name: Name,
     args: &[Value],
 ) -> Result<Value, ValueFault>
-    requires built { name ≢ Name.Sort }
     ensures ok { IfOk result (λ v. method_of heap.old budget.old a name args.now ≡ Ok (v, heap.new, budget.new)) }
     ensures fault { IfErr result (λ e. e ≢ ValueFault.Memory → method_of heap.old budget.old a name args.now ≡ Err e) }
     ensures err { OnErr result (heap.new ≡ heap.old) }

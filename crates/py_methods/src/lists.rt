@@ -1,9 +1,9 @@
 //! The methods of a list.
 ghost use Rattle.std.specs.Prelude.{◌≡◌, ◌≢◌, Ok, Err, IfOk, IfErr, OnErr};
-ghost use Rattle.py_methods.specs.Lists.{append_of, extended, extend_of, insert_of, insert_at, pop_at, pop_of, pop_last_of, remove_of, index_of, reverse_of};
+ghost use Rattle.py_methods.specs.Lists.{append_of, extended, extend_of, insert_of, insert_at, pop_at, pop_of, pop_last_of, remove_of, index_of, reverse_of, sort_of};
 
 use crate::iterables::{iterable_bytes, iterable_items, iterable_length, iterable_texts};
-use py_compare::{above_zero, place_of};
+use py_compare::{above_zero, place_of, sorted};
 use py_heap::{Budget, Heap, ListId, Value, ValueFault};
 use py_operators::{end_in, place_in};
 use scons_base::limits::LIST_LIMIT;
@@ -174,4 +174,14 @@ pub(crate) fn reverse(heap: &mut Heap, list: ListId) -> Value
 {
     heap.reverse_list(list);
     Value::Nil
+}
+
+pub(crate) fn sort(heap: &mut Heap, budget: &mut Budget, list: ListId) -> Result<Value, ValueFault>
+    ensures ok { IfOk result (λ v. sort_of heap.old budget.old list.0 ≡ Ok (v, heap.new, budget.new)) }
+    ensures fault { IfErr result (λ e. e ≢ ValueFault.Memory → sort_of heap.old budget.old list.0 ≡ Err e) }
+    ensures err { OnErr result (heap.new ≡ heap.old) }
+{
+    let items = sorted(heap, budget, heap.list_at(list))?;
+    heap.replace_list(list, items);
+    Ok(Value::Nil)
 }

@@ -3,7 +3,7 @@ ghost use Rattle.std.specs.Prelude.{◌≡◌, ◌≢◌, Ok, Err, IfOk, IfErr, 
 ghost use Rattle.py_methods.specs.Methods.{list_method, dict_method};
 
 use crate::dicts::{copied_dict, get, keys, setdefault, update, values};
-use crate::lists::{append, extend, index, insert, pop, pop_last, remove, reverse};
+use crate::lists::{append, extend, index, insert, pop, pop_last, remove, reverse, sort};
 use crate::many::pairs;
 use crate::name::Name;
 use py_heap::{Budget, DictId, Heap, ListId, Value, ValueFault};
@@ -47,6 +47,10 @@ pub(crate) fn list_method(
         },
         Name::Reverse => match args {
             [] => Ok(reverse(heap, list)),
+            _ => Err(ValueFault::NoMethod),
+        },
+        Name::Sort => match args {
+            [] => sort(heap, budget, list),
             _ => Err(ValueFault::NoMethod),
         },
         _ => Err(ValueFault::NoMethod),

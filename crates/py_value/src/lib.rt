@@ -14,3 +14,6 @@ pub use py_heap::{
 };
 pub use py_methods::Name;
 pub use py_operators::{Op, set_index};
+
+#[cfg(test)]
+mod tests;
