@@ -14,4 +14,4 @@ returns-clause-ok c =
     let rows = c.in_ok-rows.ensures {u = tt} ∙ ap (λ xs. rows_from 0 c.args.count xs) columns in
     let made = (c.in_ok-list.ensures {u = tt}).ok in
     zip_made heap c.args.budget.now c.zip_room.new.budget c.args.values.now c.args.count c.in_ok-texts.texts.items c.in_ok-rows.rows.items c.in_ok-list.list c.add_tuple_list_with.new.self (c.in_ok-zip_room.ensures {u = tt}).ok
-        (c.in_ok-texts.ensures {u = tt}) rows made.0 made.1
+    (c.in_ok-texts.ensures {u = tt}) rows made.0 made.1
