@@ -1,6 +1,7 @@
 -- Integers counted on.
-use Rattle.std.proofs.Common.{arith, ◌≡◌, ◌∙◌, ◌^◌, ◌++◌, Ok, Err, ℕ, ◌∷◌, [], zero, suc, ℤ, pos, negsuc, ◌+◌, ◌-◌, ◌+ℤ◌, ◌<◌, ◌<ℤ◌, ◌≤ℤ◌, List, ap, sym}
+use Rattle.std.proofs.Common.{arith, ◌≡◌, ◌∙◌, ◌^◌, ◌++◌, Ok, Err, ℕ, ◌∷◌, [], true, zero, suc, ℤ, pos, negsuc, ◌+◌, ◌-◌, ◌+ℤ◌, ◌<◌, ◌<ℤ◌, ◌≤ℤ◌, List, ap, sym}
 use Rattle.std.specs.Int.{int_gap}
+use Rattle.std.specs.Int.Signed.{lt_z}
 use borrow.Author.Differences.{up, down}
 use Rattle.std.proofs.lemmas.List.{append_assoc, append-nil}
 use Rattle.std.proofs.lemmas.Int.{ints}
@@ -10,8 +11,11 @@ use Rattle.py_heap.specs.declared.fault.ValueFault.TheVariants as fault
 use Rattle.py_builtins.specs.Numbers.{span, counted}
 use Rattle.py_builtins.specs.Rows.{numbers_fit}
 
+pub below : (a b : ℤ) → lt_z a b ≡ true → a <ℤ b
+below a b e = grind (arith, ints)
+
 -- a gap, for `omega`
-gap_is : (a b : ℤ) → int_gap a b ≡ (up b + down a) - (up a + down b)
+pub gap_is : (a b : ℤ) → int_gap a b ≡ (up b + down a) - (up a + down b)
 gap_is (pos a) (pos b) = omega arith
 gap_is (pos a) (negsuc b) = omega arith
 gap_is (negsuc a) (pos b) = omega arith

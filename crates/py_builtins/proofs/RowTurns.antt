@@ -50,7 +50,7 @@ texts_past zero first (suc place) l = refl
 texts_past (suc n) first zero l = absurd (omega arith)
 texts_past (suc n) first (suc place) l = texts_past n (suc first) place (omega arith)
 
-pub ruleset row_turns = (rows_more, rows_done, counted_at)
+pub ruleset row_turns = (rows_more, rows_done)
 
 pub ruleset text_places = (texts_at, texts_past)
 

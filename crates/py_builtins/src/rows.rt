@@ -1,10 +1,10 @@
 //! Rows of numbers and items.
-ghost use Rattle.std.specs.Prelude.{◌≡◌, ◌≢◌, ◌≤◌, ◌^◌, ◌∷◌, [], pos, ◌+ℤ◌, ◌≤ℤ◌, length, slice_index_or, Ok, Err, IfOk, IfErr, OnOk, OnErr};
+ghost use Rattle.std.specs.Prelude.{◌≡◌, ◌≢◌, ◌<◌, ◌≤◌, ◌^◌, ◌∷◌, [], pos, ◌+ℤ◌, ◌≤ℤ◌, length, slice_index_or, Ok, Err, IfOk, IfErr, OnOk, OnErr};
 ghost use Rattle.py_heap.specs.Units.{list_limit};
 ghost use Rattle.py_heap.specs.Many.{text_values};
 ghost use Rattle.py_methods.specs.Iterables.{iterable_items};
 ghost use Rattle.py_builtins.specs.Numbers.{counted};
-ghost use Rattle.py_builtins.specs.Rows.{rows_from, numbers_fit, numbered_cost, paid_numbered, numbered_rows, numbered, enumerate_of};
+ghost use Rattle.py_builtins.specs.Rows.{row_at, rows_from, numbers_fit, numbered_cost, paid_numbered, numbered, enumerate_of};
 
 use crate::numbers::as_int;
 use py_heap::{Budget, Heap, TextId, Value, ValueFault, Values};
@@ -48,7 +48,11 @@ fn numbered(
 {
     numbered_room(heap, budget, value, count, from)?;
     let texts = iterable_texts(heap, value, count)?;
-    let rows = numbered_rows(heap, value, count, from)?;
+    let column = Column {
+        value,
+        first: heap.text_count(),
+    };
+    let rows = numbered_rows(heap, column, count, from)?;
     let list = heap.add_tuple_list_with(texts, rows)?;
     Ok(list)
 }
@@ -102,22 +106,49 @@ fn numbers_fit(from: i64, count: usize) -> Result<(), ValueFault>
 }
 
 #[tactic(auto, using(crate::proofs::RowTurns::row_turns))]
-fn numbered_rows(heap: &Heap, value: Value, count: usize, from: i64) -> Result<Vec<Values>, Memory>
+fn numbered_rows(
+    heap: &Heap,
+    column: Column,
+    count: usize,
+    from: i64,
+) -> Result<Vec<Values>, Memory>
     requires few { count ≤ list_limit }
     requires fits { (from +ℤ pos count) ≤ℤ pos (2 ^ 63) }
-    ensures { IfOk result (λ rows. rows.items ≡ numbered_rows heap.now value count from) }
+    ensures { IfOk result (λ rows. rows.items ≡ rows_from 0 count (counted count from ∷ iterable_items heap.now column.first count column.value ∷ [])) }
 {
-    let column = Column {
-        value,
-        first: heap.text_count(),
-    };
     let mut rows = Vec::new(heap.allocator());
     'places: for place in 0..count {
-        let item = item_at(heap, column, count, place)?;
-        let number = Value::Int(from + place as i64);
-        rows.push(Values::of(heap.allocator(), &[number, item])?)?;
+        rows.push(numbered_row(heap, column, count, from, place)?)?;
     }
     Ok(rows)
+}
+
+fn numbered_row(
+    heap: &Heap,
+    column: Column,
+    count: usize,
+    from: i64,
+    place: usize,
+) -> Result<Values, Memory>
+    requires inside { place < count }
+    requires few { count ≤ list_limit }
+    requires fits { (from +ℤ pos count) ≤ℤ pos (2 ^ 63) }
+    ensures { IfOk result (λ row. row ≡ row_at (counted count from ∷ iterable_items heap.now column.first count column.value ∷ []) place) }
+{
+    let item = item_at(heap, column, count, place)?;
+    let number = number_at(from, count, place);
+    let row = Values::of(heap.allocator(), &[number, item])?;
+    Ok(row)
+}
+
+/// The number beside the item at a place, where so many are counted from one on.
+fn number_at(from: i64, count: usize, place: usize) -> Value
+    requires inside { place < count }
+    requires few { count ≤ list_limit }
+    requires fits { (from +ℤ pos count) ≤ℤ pos (2 ^ 63) }
+    ensures { result ≡ slice_index_or (counted count from) place Value.Nil }
+{
+    Value::Int(from + place as i64)
 }
 
 /// The value at a place of a column, of which so many new texts are taken; none stands past its end.

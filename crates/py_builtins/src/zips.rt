@@ -107,7 +107,6 @@ fn rows_cost(count: usize, width: usize, bytes: usize) -> Result<usize, Memory>
 }
 
 /// How many bytes the new texts have that so many items of each value are.
-#[tactic(auto, using(crate::proofs::Zipping::byte_turns))]
 fn bytes_of(heap: &Heap, values: &[Value], count: usize) -> Result<usize, Memory>
     ensures { IfOk result (λ n. n ≡ total_length (zip_texts heap.now count values.now)) }
 {
