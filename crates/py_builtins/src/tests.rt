@@ -184,12 +184,12 @@ fn a_text_spells_an_integer(rt: HostRuntime) -> Result<(), Fail> {
     let bad = Err(ValueFault::BadText);
     let over = Err(ValueFault::Overflow);
     for (text, number) in [
-        ("42", Ok(42)),
-        ("-0", Ok(0)),
-        ("+7", Ok(7)),
-        ("007", Ok(7)),
-        ("9223372036854775807", Ok(i64::MAX)),
-        ("-9223372036854775808", Ok(i64::MIN)),
+        ("42", Ok(Value::Int(42))),
+        ("-0", Ok(Value::Int(0))),
+        ("+7", Ok(Value::Int(7))),
+        ("007", Ok(Value::Int(7))),
+        ("9223372036854775807", Ok(Value::Int(i64::MAX))),
+        ("-9223372036854775808", Ok(Value::Int(i64::MIN))),
         ("9223372036854775808", over),
         ("-9223372036854775809", over),
         ("", bad),
@@ -204,7 +204,7 @@ fn a_text_spells_an_integer(rt: HostRuntime) -> Result<(), Fail> {
     ] {
         let text = heap.text(text)?;
         let answer = call_builtin(&mut heap, &mut budget, Builtin::Int, &[text]);
-        assert_eq!(rt; answer, number.map(Value::Int));
+        assert_eq!(rt; answer, number);
     }
     Ok(())
 }
