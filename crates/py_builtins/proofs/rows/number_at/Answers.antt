@@ -6,6 +6,5 @@ use Rattle.py_builtins.proofs.rows.number_at.Goals as goal
 
 pub returns : goal.returns
 returns c =
-    let from = to_z w64 (of_z w64 c.args.from) in
-    let number : to_z w64 (of_z w64 (from +ℤ to_z w64 c.args.place)) ≡ from +ℤ pos c.args.place = omega (arith, ints) in
-    ap v.Int number ∙ sym (counted_at c.args.count c.args.place from c.requires.inside)
+    let number : to_z w64 (of_z w64 (to_z w64 (of_z w64 c.args.from) +ℤ to_z w64 c.args.place)) ≡ c.args.from +ℤ pos c.args.place = omega (arith, ints) in
+    ap v.Int number ∙ sym (counted_at c.args.count c.args.place c.args.from c.requires.inside)
