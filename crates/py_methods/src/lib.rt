@@ -16,5 +16,7 @@ mod text_methods;
 
 pub use calls::method;
 pub use dicts::copied_dict;
-pub use iterables::{iterable_bytes, iterable_items, iterable_length, iterable_texts, needed_length};
+pub use iterables::{
+    iterable_bytes, iterable_items, iterable_length, iterable_texts, needed_length,
+};
 pub use name::{Name, has_method};
