@@ -1,5 +1,5 @@
 -- A quotient rounded down and its remainder make the dividend again.
-use Rattle.std.proofs.Common.{arith, ◌≡◌, ◌≢◌, ◌∙◌, ◌+◌, ◌-◌, ◌*◌, ◌/◌, ◌%◌, ◌<◌, ◌≤◌, ◌^◌, min, ℕ, zero, suc, Bool, true, false, cond, Ok, Err, Result, refl, ap, sym, subst, true≢false, eq-eqb, ℤ, pos, negsuc, neg_ℤ}
+use Rattle.std.proofs.Common.{arith, ◌≡◌, ◌≢◌, ◌∙◌, ◌+◌, ◌-◌, ◌*◌, ◌/◌, ◌%◌, ◌<◌, ◌≤◌, ◌^◌, ℕ, zero, suc, Bool, true, false, cond, Ok, Err, Result, refl, ap, sym, subst, true≢false, eq-eqb, ℤ, pos, negsuc, neg_ℤ}
 use Rattle.std.specs.Prelude.{◌+ℤ◌, ◌*ℤ◌, ◌<ℤ◌, ◌≤ℤ◌, ◌==◌, nat_lt, unsigned_abs, IfOk}
 use Rattle.std.specs.Int.{div_ceil}
 use Rattle.std.proofs.lemmas.Int.{ints}
@@ -7,7 +7,7 @@ use Rattle.std.proofs.Math.IntN.{*ℤ_comm}
 use Rattle.std.proofs.Math.Nat.{div-add-mod, mod-lt, mod-eq_of_lt, mod_self, mul-zero, mul-suc}
 use Rattle.py_heap.specs.declared.fault.ValueFault.{ValueFault}
 use Rattle.py_heap.specs.declared.fault.ValueFault.TheVariants as fault
-use Rattle.py_compare.specs.Numbers.{fitting, floor_div, floor_rem, divided, remainder, IsRest, IsDivision}
+use Rattle.py_compare.specs.Numbers.{fitting, floor_div, floor_rem, divided, remainder, IsDivision}
 
 -- what is missing to the next multiple
 ceiling : (m n : ℕ) → 0 < n → n * div_ceil m n ≡ m + (n - m % n) % n

@@ -1,9 +1,8 @@
 -- What a stable sort by the order of all values gives, where the items can be sorted.
-use Rattle.std.proofs.Common.{◌≡◌, ◌∙◌, Bool, true, false, cond, List, [], ◌∷◌, Result, Ok, Err, refl, ap}
+use Rattle.std.proofs.Common.{◌≡◌, ◌∙◌, Bool, true, false, cond, List, [], ◌∷◌, Ok, refl, ap}
 use Rattle.std.specs.List.{AllByRecursion}
 use Rattle.std.specs.List.Sorted.{IsSortedBy, IsStableBy}
 use Rattle.py_heap.specs.declared.value.Value.{Value}
-use Rattle.py_heap.specs.declared.fault.ValueFault.{ValueFault}
 use Rattle.py_heap.specs.Heap.{Objects}
 use Rattle.py_compare.specs.Outcomes.{mismatch}
 use Rattle.py_compare.specs.Sorting.{sortable, sortable_beside, sortable_items, below, in_order, sorted_by}

@@ -1,6 +1,6 @@
 -- Sorting: `list.sort` and `sorted` of the Python library reference, cut down to integers alone and texts alone. As there, a
 -- sort is stable: items of which neither is less keep their order. Kinds are looked at before the units are charged (own).
-use Rattle.std.specs.Prelude.{ℕ, Bool, true, false, List, [], ◌∷◌, Result, Ok, Err, if◌then◌else◌, length}
+use Rattle.std.specs.Prelude.{Bool, true, false, List, [], ◌∷◌, Result, Ok, Err, if◌then◌else◌, length}
 use Rattle.std.specs.declared.cmp.Ordering.{Ordering}
 use Rattle.std.specs.Ordering.{is_lt}
 use Rattle.py_heap.specs.declared.value.Value.{Value}

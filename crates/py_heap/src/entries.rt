@@ -37,7 +37,8 @@ impl Heap {
         Ok(items)
     }
 
-    fn key_at(&self, id: DictId, place: usize) -> Option<Value>
+    /// The key at a place of a dict, as it was given.
+    pub fn key_at(&self, id: DictId, place: usize) -> Option<Value>
         ensures { result ≡ slice_get (keys_of (dict_at self.now id.0)) place }
     {
         let (_, entry) = self.place_at(id, place)?;

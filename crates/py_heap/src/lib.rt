@@ -27,6 +27,7 @@ pub use heap::{Heap, truth};
 pub use ids::{DictId, FuncId, HostId, ListId, TextId, TupleId};
 pub use key::Key;
 pub use kind::ValueKind;
+pub use many::text_values;
 pub use room::{list_room, text_room};
 pub use value::{Builtin, Value};
 pub use values::Values;

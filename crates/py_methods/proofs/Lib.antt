@@ -1,4 +1,6 @@
+pub mod Characters
 pub mod Defaults
+pub mod Extending
 pub mod Letters
 pub mod Limits
 pub mod Listed

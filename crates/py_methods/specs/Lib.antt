@@ -1,7 +1,9 @@
 pub mod Arguments
 pub mod Calls
 pub mod Dicts
+pub mod Iterables
 pub mod Lists
 pub mod Many
 pub mod Methods
+pub mod Names
 pub mod TextMethods

@@ -3,25 +3,19 @@ use Rattle.std.specs.Prelude.{ℕ, List, Ok, Err}
 use Rattle.py_heap.specs.declared.value.Value.{Value}
 use Rattle.py_heap.specs.declared.value.Value.TheVariants as v
 use Rattle.py_heap.specs.declared.fault.ValueFault.TheVariants as fault
-use Rattle.py_heap.specs.Heap.{Objects, list_at, tuple_at, dict_at}
+use Rattle.py_heap.specs.Heap.{Objects, dict_at}
 use Rattle.py_heap.specs.Units.{Units}
 use Rattle.py_methods.specs.declared.name.Name.{Name}
 use Rattle.py_methods.specs.declared.name.Name.TheVariants as name
-use Rattle.py_compare.specs.Outcomes.{Outcome, plain, changed, mismatch}
+use Rattle.py_compare.specs.Outcomes.{Outcome, plain, changed}
 use Rattle.py_methods.specs.Arguments.{with_none, with_one, with_two, with_optional, with_second}
-use Rattle.py_methods.specs.Lists.{Changed, append_of, extend_of, insert_of, pop_of, pop_last_of, remove_of, index_of, reverse_of, sort_of}
+use Rattle.py_methods.specs.Lists.{append_of, extend_of, insert_of, pop_of, pop_last_of, remove_of, index_of, reverse_of, sort_of}
 use Rattle.py_methods.specs.Many.{pair_list, rows_of}
 use Rattle.py_methods.specs.Dicts.{new_dict, update_of, get_of, setdefault_of, keys_list, values_list}
 
--- `extend` takes a list or a tuple
-abbrev pub extend_by : Objects → ℕ → Value → Changed
-extend_by h id (v.List more) = extend_of h id (list_at h more.0)
-extend_by h id (v.Tuple more) = extend_of h id (tuple_at h more.0)
-extend_by h id other = mismatch (v.List (record { 0 = id })) other
-
 abbrev pub list_method : Objects → Units → ℕ → Name → List Value → Outcome
 list_method h u id name.Append args = with_one args (λ x. changed u (append_of h id x))
-list_method h u id name.Extend args = with_one args (λ x. changed u (extend_by h id x))
+list_method h u id name.Extend args = with_one args (λ x. extend_of h u id x)
 list_method h u id name.Insert args = with_two args (λ i x. changed u (insert_of h id (v.List (record { 0 = id })) i x))
 list_method h u id name.Pop args = with_optional args (changed u (pop_last_of h id)) (λ i. changed u (pop_of h id (v.List (record { 0 = id })) i))
 list_method h u id name.Remove args = with_one args (λ x. remove_of h u id x)

@@ -86,7 +86,7 @@ pub(crate) fn values(
 }
 
 /// A new dict with the same entries.
-pub(crate) fn copy(heap: &mut Heap, budget: &mut Budget, dict: DictId) -> Result<Value, ValueFault>
+pub fn copied_dict(heap: &mut Heap, budget: &mut Budget, dict: DictId) -> Result<Value, ValueFault>
     ensures ok { IfOk result (λ v. new_dict heap.old budget.old (dict_at heap.old dict.0) ≡ Ok (v, heap.new, budget.new)) }
     ensures fault { IfErr result (λ e. e ≢ ValueFault.Memory → new_dict heap.old budget.old (dict_at heap.old dict.0) ≡ Err e) }
     ensures err { OnErr result (heap.new ≡ heap.old) }

@@ -7,6 +7,7 @@
 
 mod calls;
 mod dicts;
+mod iterables;
 mod lists;
 mod many;
 mod methods;
@@ -14,4 +15,8 @@ mod name;
 mod text_methods;
 
 pub use calls::method;
-pub use name::Name;
+pub use dicts::copied_dict;
+pub use iterables::{
+    iterable_bytes, iterable_items, iterable_length, iterable_texts, needed_length,
+};
+pub use name::{Name, has_method};

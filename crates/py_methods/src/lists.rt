@@ -1,7 +1,8 @@
 //! The methods of a list.
 ghost use Rattle.std.specs.Prelude.{◌≡◌, ◌≢◌, Ok, Err, IfOk, IfErr, OnErr};
-ghost use Rattle.py_methods.specs.Lists.{append_of, extend_of, insert_of, insert_at, pop_at, pop_of, pop_last_of, remove_of, index_of, reverse_of, sort_of};
+ghost use Rattle.py_methods.specs.Lists.{append_of, extended, extend_of, insert_of, insert_at, pop_at, pop_of, pop_last_of, remove_of, index_of, reverse_of, sort_of};
 
+use crate::iterables::{iterable_bytes, iterable_items, iterable_length, iterable_texts};
 use py_compare::{above_zero, place_of, sorted};
 use py_heap::{Budget, Heap, ListId, Value, ValueFault};
 use py_operators::{end_in, place_in};
@@ -21,17 +22,44 @@ pub(crate) fn append(heap: &mut Heap, list: ListId, item: Value) -> Result<Value
     Ok(Value::Nil)
 }
 
-#[tactic(auto, using(crate::proofs::Limits::limits))]
-pub(crate) fn extend(heap: &mut Heap, list: ListId, more: &[Value]) -> Result<Value, ValueFault>
-    ensures ok { IfOk result (λ v. extend_of heap.old list.0 more.now ≡ Ok (v, heap.new)) }
-    ensures fault { IfErr result (λ e. e ≢ ValueFault.Memory → extend_of heap.old list.0 more.now ≡ Err e) }
+/// Appends the items of a list, tuple, dict or text.
+pub(crate) fn extend(
+    heap: &mut Heap,
+    budget: &mut Budget,
+    list: ListId,
+    more: Value,
+) -> Result<Value, ValueFault>
+    ensures ok { IfOk result (λ v. extend_of heap.old budget.old list.0 more ≡ Ok (v, heap.new, budget.new)) }
+    ensures fault { IfErr result (λ e. e ≢ ValueFault.Memory → extend_of heap.old budget.old list.0 more ≡ Err e) }
     ensures err { OnErr result (heap.new ≡ heap.old) }
 {
-    let length = (heap.list_at(list).len() as u64).saturating_add(more.len() as u64);
+    match iterable_length(heap, more) {
+        Some(count) => extend_by(heap, budget, list, more, count),
+        None => Err(ValueFault::Mismatch(Value::List(list).kind(), more.kind())),
+    }
+}
+
+/// Appends so many items of a value.
+#[tactic(auto, using(crate::proofs::Extending::extending))]
+fn extend_by(
+    heap: &mut Heap,
+    budget: &mut Budget,
+    list: ListId,
+    more: Value,
+    count: usize,
+) -> Result<Value, ValueFault>
+    ensures ok { IfOk result (λ v. extended heap.old budget.old list.0 more count ≡ Ok (v, heap.new, budget.new)) }
+    ensures fault { IfErr result (λ e. e ≢ ValueFault.Memory → extended heap.old budget.old list.0 more count ≡ Err e) }
+    ensures err { OnErr result (heap.new ≡ heap.old) }
+{
+    let length = (heap.list_at(list).len() as u64).saturating_add(count as u64);
     if length > LIST_LIMIT {
         return Err(ValueFault::TooBig(length));
     }
-    heap.extend_list(list, more)?;
+    budget.charge(iterable_bytes(heap, more, count) as u64)?;
+    let texts = iterable_texts(heap, more, count)?;
+    let items = iterable_items(heap, more, heap.text_count(), count)?;
+    heap.extend_list_with(list, texts, items.as_slice())?;
     Ok(Value::Nil)
 }
 

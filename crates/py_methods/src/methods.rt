@@ -1,12 +1,12 @@
 //! The methods of lists and dicts, by their names.
 ghost use Rattle.std.specs.Prelude.{◌≡◌, ◌≢◌, Ok, Err, IfOk, IfErr, OnErr};
-ghost use Rattle.py_methods.specs.Methods.{list_method, dict_method, extend_by};
+ghost use Rattle.py_methods.specs.Methods.{list_method, dict_method};
 
-use crate::dicts::{copy, get, keys, setdefault, update, values};
+use crate::dicts::{copied_dict, get, keys, setdefault, update, values};
 use crate::lists::{append, extend, index, insert, pop, pop_last, remove, reverse, sort};
 use crate::many::pairs;
 use crate::name::Name;
-use py_heap::{Budget, DictId, Heap, ListId, Value, ValueFault, Values};
+use py_heap::{Budget, DictId, Heap, ListId, Value, ValueFault};
 
 pub(crate) fn list_method(
     heap: &mut Heap,
@@ -25,7 +25,7 @@ pub(crate) fn list_method(
             _ => Err(ValueFault::NoMethod),
         },
         Name::Extend => match args {
-            [more] => extend_by(heap, list, *more),
+            [more] => extend(heap, budget, list, *more),
             _ => Err(ValueFault::NoMethod),
         },
         Name::Insert => match args {
@@ -54,25 +54,6 @@ pub(crate) fn list_method(
             _ => Err(ValueFault::NoMethod),
         },
         _ => Err(ValueFault::NoMethod),
-    }
-}
-
-/// `extend` with a list or a tuple.
-fn extend_by(heap: &mut Heap, list: ListId, more: Value) -> Result<Value, ValueFault>
-    ensures ok { IfOk result (λ v. extend_by heap.old list.0 more ≡ Ok (v, heap.new)) }
-    ensures fault { IfErr result (λ e. e ≢ ValueFault.Memory → extend_by heap.old list.0 more ≡ Err e) }
-    ensures err { OnErr result (heap.new ≡ heap.old) }
-{
-    match more {
-        Value::List(other) => {
-            let items = Values::of(heap.allocator(), heap.list_at(other))?;
-            extend(heap, list, items.as_slice())
-        }
-        Value::Tuple(other) => {
-            let items = Values::of(heap.allocator(), heap.tuple_at(other))?;
-            extend(heap, list, items.as_slice())
-        }
-        _ => Err(ValueFault::Mismatch(Value::List(list).kind(), more.kind())),
     }
 }
 
@@ -110,7 +91,7 @@ pub(crate) fn dict_method(
             _ => Err(ValueFault::NoMethod),
         },
         Name::Copy => match args {
-            [] => copy(heap, budget, dict),
+            [] => copied_dict(heap, budget, dict),
             _ => Err(ValueFault::NoMethod),
         },
         Name::Setdefault => match args {

@@ -7,12 +7,13 @@
 
 mod operations;
 
-pub use operations::{binary, index, method, negate, show, slice};
+pub use operations::{binary, call_builtin, index, method, negate, show, slice};
+pub use py_builtins::takes;
 pub use py_heap::{
     Budget, Builtin, DictId, FuncId, Heap, HostId, ListId, TextId, TupleId, Value, ValueFault,
     ValueKind, truth,
 };
-pub use py_methods::Name;
+pub use py_methods::{Name, has_method};
 pub use py_operators::{Op, set_index};
 
 #[cfg(test)]

@@ -4,9 +4,10 @@ ghost use Rattle.py_operators.specs.Arithmetic.{negative_of};
 ghost use Rattle.py_operators.specs.Binary.{binary_of};
 ghost use Rattle.py_operators.specs.Indexing.{indexed, sliced};
 ghost use Rattle.py_methods.specs.Calls.{method_of};
+ghost use Rattle.py_builtins.specs.Builtins.{builtin_of};
 ghost use Rattle.py_show.specs.Showing.{show_of};
 
-use py_heap::{Budget, Heap, Value, ValueFault};
+use py_heap::{Budget, Builtin, Heap, Value, ValueFault};
 use py_methods::Name;
 use py_operators::Op;
 use scons_base::Text;
@@ -86,6 +87,23 @@ pub fn method(
 {
     let before = budget.copy();
     let answer = py_methods::method(heap, budget, a, name, args);
+    settled(budget, before, answer)
+}
+
+/// What a built-in function gives. A number of arguments that it doesn't take is refused before the call.
+pub fn call_builtin(
+    heap: &mut Heap,
+    budget: &mut Budget,
+    b: Builtin,
+    args: &[Value],
+) -> Result<Value, ValueFault>
+    ensures ok { IfOk result (λ v. builtin_of heap.old budget.old b args.now ≡ Ok (v, heap.new, budget.new)) }
+    ensures fault { IfErr result (λ e. e ≢ ValueFault.Memory → builtin_of heap.old budget.old b args.now ≡ Err e) }
+    ensures err { OnErr result (heap.new ≡ heap.old) }
+    ensures unpaid { OnErr result (budget.new ≡ budget.old) }
+{
+    let before = budget.copy();
+    let answer = py_builtins::call_builtin(heap, budget, b, args);
     settled(budget, before, answer)
 }
 

@@ -1,0 +1,3 @@
+pub mod Counting
+pub mod RowTurns
+pub mod Zipping

@@ -1,0 +1,104 @@
+//! Lists in order.
+ghost use Rattle.std.specs.Prelude.{◌≡◌, ◌≢◌, length, Ok, Err, IfOk, IfErr, OnOk, OnErr};
+ghost use Rattle.py_heap.specs.Heap.{with_list};
+ghost use Rattle.py_heap.specs.Given.{next_list};
+ghost use Rattle.py_heap.specs.Many.{with_texts};
+ghost use Rattle.py_compare.specs.Sorting.{sortable_items, sort_paid, in_order};
+ghost use Rattle.py_methods.specs.Iterables.{iterable_items};
+ghost use Rattle.py_builtins.specs.Sorted.{paid_order, ordered, sorted_list_of};
+
+use crate::collections::items_cost;
+use py_compare::{in_order, sort_room};
+use py_heap::{Budget, Heap, Value, ValueFault, Values};
+use py_methods::{iterable_items, iterable_texts, needed_length};
+use scons_base::{Memory, Text};
+
+/// A list, in order, of all that a value gives.
+pub(crate) fn sorted(
+    heap: &mut Heap,
+    budget: &mut Budget,
+    value: Value,
+) -> Result<Value, ValueFault>
+    ensures ok { IfOk result (λ v. sorted_list_of heap.old budget.old value ≡ Ok (v, heap.new, budget.new)) }
+    ensures fault { IfErr result (λ e. e ≢ ValueFault.Memory → sorted_list_of heap.old budget.old value ≡ Err e) }
+    ensures err { OnErr result (heap.new ≡ heap.old) }
+{
+    let count = needed_length(heap, value)?;
+    ordered(heap, budget, value, count)
+}
+
+fn ordered(
+    heap: &mut Heap,
+    budget: &mut Budget,
+    value: Value,
+    count: usize,
+) -> Result<Value, ValueFault>
+    ensures ok { IfOk result (λ v. ordered heap.old budget.old value count ≡ Ok (v, heap.new, budget.new)) }
+    ensures fault { IfErr result (λ e. e ≢ ValueFault.Memory → ordered heap.old budget.old value count ≡ Err e) }
+    ensures err { OnErr result (heap.new ≡ heap.old) }
+{
+    order_room(heap, budget, value, count)?;
+    let texts = iterable_texts(heap, value, count)?;
+    let items = iterable_items(heap, value, heap.text_count(), count)?;
+    let list = add_in_order(heap, texts, items.as_slice())?;
+    Ok(list)
+}
+
+/// Charges for a sort of so many items and for a list of them.
+fn order_room(
+    heap: &Heap,
+    budget: &mut Budget,
+    value: Value,
+    count: usize,
+) -> Result<(), ValueFault>
+    ensures sortable { OnOk result (sortable_items (iterable_items heap.now (length heap.now.texts) count value) ≡ Ok tt) }
+    ensures ok { OnOk result (paid_order heap.now budget.old value count ≡ Ok budget.new) }
+    ensures fault { IfErr result (λ e. e ≢ ValueFault.Memory → paid_order heap.now budget.old value count ≡ Err e) }
+{
+    let cost = items_cost(heap, value, count)?;
+    sort_paid(heap, budget, value, count)?;
+    budget.charge(cost as u64)?;
+    Ok(())
+}
+
+/// Charges for a sort of so many items, once it is known that they can be sorted.
+fn sort_paid(heap: &Heap, budget: &mut Budget, value: Value, count: usize) -> Result<(), ValueFault>
+    ensures sortable { OnOk result (sortable_items (iterable_items heap.now (length heap.now.texts) count value) ≡ Ok tt) }
+    ensures ok { OnOk result (sort_paid budget.old (iterable_items heap.now (length heap.now.texts) count value) ≡ Ok budget.new) }
+    ensures fault { IfErr result (λ e. e ≢ ValueFault.Memory → sort_paid budget.old (iterable_items heap.now (length heap.now.texts) count value) ≡ Err e) }
+{
+    match value {
+        Value::List(list) => sort_room(budget, heap.list_at(list)),
+        Value::Tuple(tuple) => sort_room(budget, heap.tuple_at(tuple)),
+        _ => {
+            let items = iterable_items(heap, value, heap.text_count(), count)?;
+            sort_room(budget, items.as_slice())
+        }
+    }
+}
+
+/// Adds texts, and a list in order of items among which they may stand.
+fn add_in_order(heap: &mut Heap, texts: Vec<Text>, items: &[Value]) -> Result<Value, Memory>
+    requires { sortable_items items.now ≡ Ok tt }
+    ensures ok { IfOk result (λ v. (v ≡ next_list heap.old) × (heap.new ≡ with_list (with_texts heap.old texts.items) (in_order (with_texts heap.old texts.items) items.now))) }
+    ensures err { OnErr result (heap.new ≡ heap.old) }
+{
+    let before = heap.text_count();
+    heap.add_texts(texts)?;
+    match list_in_order(heap, items) {
+        Ok(list) => Ok(list),
+        Err(memory) => {
+            heap.take_back_texts(before);
+            Err(memory)
+        }
+    }
+}
+
+fn list_in_order(heap: &mut Heap, items: &[Value]) -> Result<Value, Memory>
+    requires { sortable_items items.now ≡ Ok tt }
+    ensures ok { IfOk result (λ v. (v ≡ next_list heap.old) × (heap.new ≡ with_list heap.old (in_order heap.old items.now))) }
+    ensures err { OnErr result (heap.new ≡ heap.old) }
+{
+    let made = in_order(heap, items)?;
+    heap.add_list(made)
+}
