@@ -24,7 +24,7 @@ fn main(rt: HostRuntime) -> Result<()> {
         None => 1,
     };
     match expanded(rt.alloc(), turns) {
-        Some([text, raw, signed]) => println!(rt;
+        Some((text, raw, signed)) => println!(rt;
             "{text} bytes as text, {raw} raw, {signed} signed"
         )?,
         None => println!(rt; "refused")?,
@@ -33,7 +33,7 @@ fn main(rt: HostRuntime) -> Result<()> {
 }
 
 /// How many bytes all forms have together.
-fn expanded(alloc: Global, turns: u32) -> Option<[usize; 3]> {
+fn expanded(alloc: Global, turns: u32) -> Option<(usize, usize, usize)> {
     let mut envs = Envs::new(alloc);
     let env = environment(alloc, &mut envs)?;
     let locals = locals(alloc)?;
@@ -45,7 +45,7 @@ fn expanded(alloc: Global, turns: u32) -> Option<[usize; 3]> {
         raw = raw.saturating_add(length_of(alloc, &envs, env, &locals, Mode::Raw)?);
         signed = signed.saturating_add(length_of(alloc, &envs, env, &locals, Mode::Signed)?);
     }
-    Some([text, raw, signed])
+    Some((text, raw, signed))
 }
 
 fn length_of(alloc: Global, envs: &Envs, env: EnvId, locals: &Locals, mode: Mode) -> Option<usize>
