@@ -4,10 +4,18 @@ use std::test::Fail;
 
 const UNITS: u64 = 20_000_000;
 
-/// Texts of a heap.
-fn texts(alloc: Global, heap: &mut Heap, texts: &[&str]) -> Result<Vec<Value>, Fail> {
+/// The texts of a heap that are given.
+fn texts(
+    alloc: Global,
+    heap: &mut Heap,
+    first: Option<&str>,
+    second: Option<&str>,
+) -> Result<Vec<Value>, Fail> {
     let mut values = Vec::new(alloc);
-    for text in texts {
+    if let Some(text) = first {
+        values.push(heap.text(text)?)?;
+    }
+    if let Some(text) = second {
         values.push(heap.text(text)?)?;
     }
     Ok(values)
@@ -26,48 +34,54 @@ fn texts_answer_as_in_python(rt: HostRuntime) -> Result<(), Fail> {
     let alloc = rt.alloc();
     let mut heap = Heap::new(alloc);
     let mut budget = Budget::new(UNITS);
-    for (text, name, args, answer) in [
-        ("", Name::Split, &[][..], "[]"),
-        (" \t ", Name::Split, &[][..], "[]"),
-        (" a  b\tc\n", Name::Split, &[][..], "['a', 'b', 'c']"),
-        ("a　b", Name::Split, &[][..], "['a', 'b']"),
-        ("a\x1cb", Name::Split, &[][..], "['a', 'b']"),
-        ("a,b,,c", Name::Split, &[","][..], "['a', 'b', '', 'c']"),
-        ("", Name::Split, &[","][..], "['']"),
-        (",", Name::Split, &[","][..], "['', '']"),
-        ("aXXbXX", Name::Split, &["XX"][..], "['a', 'b', '']"),
-        ("", Name::Strip, &[][..], "''"),
-        (" \n", Name::Strip, &[][..], "''"),
-        ("\t a b \n", Name::Strip, &[][..], "'a b'"),
-        ("\t a b \n", Name::Lstrip, &[][..], "'a b \\n'"),
-        ("\t a b \n", Name::Rstrip, &[][..], "'\\t a b'"),
-        ("x", Name::Lstrip, &[][..], "'x'"),
-        ("abc", Name::Startswith, &["ab"][..], "True"),
-        ("abc", Name::Startswith, &[""][..], "True"),
-        ("", Name::Startswith, &[""][..], "True"),
-        ("ab", Name::Startswith, &["abc"][..], "False"),
-        ("abc", Name::Endswith, &["bc"][..], "True"),
-        ("abc", Name::Endswith, &["abcd"][..], "False"),
-        ("", Name::Endswith, &[""][..], "True"),
-        ("aé€b", Name::Find, &["€"][..], "2"),
-        ("abc", Name::Find, &[""][..], "0"),
-        ("", Name::Find, &["a"][..], "-1"),
-        ("", Name::Find, &[""][..], "0"),
-        ("aab", Name::Find, &["ab"][..], "1"),
-        ("abc", Name::Find, &["d"][..], "-1"),
-        ("abc", Name::Replace, &["", "-"][..], "'-a-b-c-'"),
-        ("", Name::Replace, &["", "x"][..], "'x'"),
-        ("aaa", Name::Replace, &["a", "aa"][..], "'aaaaaa'"),
-        ("aaa", Name::Replace, &["aa", "b"][..], "'ba'"),
-        ("é€", Name::Replace, &["", "."][..], "'.é.€.'"),
-        ("abc", Name::Replace, &["x", "y"][..], "'abc'"),
-        ("abab", Name::Replace, &["ab", ""][..], "''"),
-        ("AbcÉ z", Name::Upper, &[][..], "'ABCÉ Z'"),
-        ("AbC é", Name::Lower, &[][..], "'abc é'"),
-        ("", Name::Upper, &[][..], "''"),
+    for (text, name, first, second, answer) in [
+        ("", Name::Split, None, None, "[]"),
+        (" \t ", Name::Split, None, None, "[]"),
+        (" a  b\tc\n", Name::Split, None, None, "['a', 'b', 'c']"),
+        ("a　b", Name::Split, None, None, "['a', 'b']"),
+        ("a\x1cb", Name::Split, None, None, "['a', 'b']"),
+        (
+            "a,b,,c",
+            Name::Split,
+            Some(","),
+            None,
+            "['a', 'b', '', 'c']",
+        ),
+        ("", Name::Split, Some(","), None, "['']"),
+        (",", Name::Split, Some(","), None, "['', '']"),
+        ("aXXbXX", Name::Split, Some("XX"), None, "['a', 'b', '']"),
+        ("", Name::Strip, None, None, "''"),
+        (" \n", Name::Strip, None, None, "''"),
+        ("\t a b \n", Name::Strip, None, None, "'a b'"),
+        ("\t a b \n", Name::Lstrip, None, None, "'a b \\n'"),
+        ("\t a b \n", Name::Rstrip, None, None, "'\\t a b'"),
+        ("x", Name::Lstrip, None, None, "'x'"),
+        ("abc", Name::Startswith, Some("ab"), None, "True"),
+        ("abc", Name::Startswith, Some(""), None, "True"),
+        ("", Name::Startswith, Some(""), None, "True"),
+        ("ab", Name::Startswith, Some("abc"), None, "False"),
+        ("abc", Name::Endswith, Some("bc"), None, "True"),
+        ("abc", Name::Endswith, Some("abcd"), None, "False"),
+        ("", Name::Endswith, Some(""), None, "True"),
+        ("aé€b", Name::Find, Some("€"), None, "2"),
+        ("abc", Name::Find, Some(""), None, "0"),
+        ("", Name::Find, Some("a"), None, "-1"),
+        ("", Name::Find, Some(""), None, "0"),
+        ("aab", Name::Find, Some("ab"), None, "1"),
+        ("abc", Name::Find, Some("d"), None, "-1"),
+        ("abc", Name::Replace, Some(""), Some("-"), "'-a-b-c-'"),
+        ("", Name::Replace, Some(""), Some("x"), "'x'"),
+        ("aaa", Name::Replace, Some("a"), Some("aa"), "'aaaaaa'"),
+        ("aaa", Name::Replace, Some("aa"), Some("b"), "'ba'"),
+        ("é€", Name::Replace, Some(""), Some("."), "'.é.€.'"),
+        ("abc", Name::Replace, Some("x"), Some("y"), "'abc'"),
+        ("abab", Name::Replace, Some("ab"), Some(""), "''"),
+        ("AbcÉ z", Name::Upper, None, None, "'ABCÉ Z'"),
+        ("AbC é", Name::Lower, None, None, "'abc é'"),
+        ("", Name::Upper, None, None, "''"),
     ] {
         let value = heap.text(text)?;
-        let args = texts(alloc, &mut heap, args)?;
+        let args = texts(alloc, &mut heap, first, second)?;
         let told = method(&mut heap, &mut budget, value, name, args.as_slice())?;
         let shown = show(&heap, &mut budget, told, true)?;
         assert_eq!(rt; shown.as_str(), answer, "{text:?} {name:?}");
@@ -161,22 +175,27 @@ fn lists_answer_as_in_python(rt: HostRuntime) -> Result<(), Fail> {
 
 #[test]
 fn texts_join(rt: HostRuntime) -> Result<(), Fail> {
-    let alloc = rt.alloc();
-    let mut heap = Heap::new(alloc);
+    let mut heap = Heap::new(rt.alloc());
     let mut budget = Budget::new(UNITS);
+    let bar = heap.text("|")?;
     for (between, parts, joined) in [
-        (", ", &[][..], ""),
-        (", ", &["a"][..], "a"),
-        (", ", &["a", "b", ""][..], "a, b, "),
-        ("", &["é", "€"][..], "é€"),
+        (", ", "", ""),
+        (", ", "a", "a"),
+        (", ", "a|b|", "a, b, "),
+        ("", "é|€", "é€"),
     ] {
         let between = heap.text(between)?;
-        let parts = texts(alloc, &mut heap, parts)?;
-        for owner in [heap.list(parts.as_slice())?, heap.tuple(parts.as_slice())?] {
-            let told = method(&mut heap, &mut budget, between, Name::Join, &[owner])?;
-            assert_eq!(rt; heap.text_of(told), Some(joined));
-        }
+        let parts = heap.text(parts)?;
+        let list = method(&mut heap, &mut budget, parts, Name::Split, &[bar])?;
+        let told = method(&mut heap, &mut budget, between, Name::Join, &[list])?;
+        assert_eq!(rt; heap.text_of(told), Some(joined));
     }
+    let none = heap.tuple(&[])?;
+    let told = method(&mut heap, &mut budget, bar, Name::Join, &[none])?;
+    assert_eq!(rt; heap.text_of(told), Some(""));
+    let two = heap.tuple(&[bar, bar])?;
+    let told = method(&mut heap, &mut budget, bar, Name::Join, &[two])?;
+    assert_eq!(rt; heap.text_of(told), Some("|||"));
     Ok(())
 }
 
