@@ -1,0 +1,15 @@
+pub mod Arguments
+pub mod Calls
+pub mod Evaluates
+pub mod Expressions
+pub mod Jobs
+pub mod Lines
+pub mod Links
+pub mod LocalNames
+pub mod Lookup
+pub mod Loops
+pub mod Plans
+pub mod Scripts
+pub mod Statements
+pub mod States
+pub mod Words

@@ -1,0 +1,36 @@
+use py_heap::ValueFault;
+use scons_base::Text;
+
+/// How the last first script ended.
+#[derive(Clone, Copy, Debug, PartialEq, Eq)]
+pub enum Exit {
+    End,
+    /// By the host's `Reply::Return`.
+    Returned,
+}
+
+/// Why a script can't go on.
+#[derive(Debug, Drop)]
+pub enum EvalKind {
+    /// A name that stands for nothing, or for nothing yet.
+    Name(Text),
+    Value(ValueFault),
+    /// A call with other arguments than it takes.
+    Args,
+    NotCallable,
+    /// The 201st nested call.
+    Depth,
+    /// The host refused, and keeps why.
+    Host,
+}
+
+/// What ends the reading of scripts early. Scripts have numbers from 0, in the order in which they begin.
+#[derive(Debug, Drop)]
+pub enum EvalFault {
+    At {
+        script: u64,
+        line: u32,
+        kind: EvalKind,
+    },
+    Memory,
+}
