@@ -110,19 +110,24 @@ fn places_charge_for_new_texts_and_lists(rt: HostRuntime) -> Result<(), Fail> {
     Ok(())
 }
 
-/// So many bytes.
-fn long_text(heap: &mut Heap, budget: &mut Budget, length: i64) -> Result<Value, ValueFault> {
-    let text = heap.text("0123456789abcdef")?;
-    let part = binary(heap, budget, Op::Mul, text, Value::Int(256))?;
-    let whole = binary(heap, budget, Op::Mul, part, Value::Int(4096))?;
-    slice(heap, budget, whole, None, Some(Value::Int(length)))
+/// A text so many times, and that so many times again.
+fn long_text(
+    heap: &mut Heap,
+    budget: &mut Budget,
+    text: &str,
+    times: i64,
+    again: i64,
+) -> Result<Value, ValueFault> {
+    let text = heap.text(text)?;
+    let part = binary(heap, budget, Op::Mul, text, Value::Int(times))?;
+    binary(heap, budget, Op::Mul, part, Value::Int(again))
 }
 
 #[test]
 fn the_longest_text_has_16_777_216_bytes(rt: HostRuntime) -> Result<(), Fail> {
     let mut heap = Heap::new(rt.alloc());
     let mut budget = Budget::new(3 * UNITS);
-    let whole = long_text(&mut heap, &mut budget, 16_777_216)?;
+    let whole = long_text(&mut heap, &mut budget, "abcdefgh", 512, 4096)?;
     let a = heap.text("a")?;
     for (op, left, right, length) in [
         (Op::Add, whole, a, 16_777_217),
@@ -141,7 +146,7 @@ fn what_shows_has_16_777_216_bytes_at_most(rt: HostRuntime) -> Result<(), Fail> 
     let mut texts = Heap::new(rt.alloc());
     let mut heap = Heap::new(rt.alloc());
     let mut budget = Budget::new(3 * UNITS);
-    let text = long_text(&mut texts, &mut budget, 16_777_214)?;
+    let text = long_text(&mut texts, &mut budget, "ab", 47, 178_481)?;
     let node = heap.object(HostId(0), texts.text_of(text).unwrap_or(""))?;
     for (items, length) in [
         (&[node][..], None),
