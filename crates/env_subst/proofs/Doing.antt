@@ -1,5 +1,5 @@
 -- What is left, after a task has put what it stands for upon it.
-use Rattle.std.proofs.Common.{◌≡◌, ◌≢◌, ◌<◌, ◌≤◌, ◌∙◌, ℕ, zero, suc, ◌+◌, ◌-◌, Bool, true, false, List, [], ◌∷◌, ◌++◌, Ok, Err, Some, None, refl, sym, ap, subst, length, take, drop, arith}
+use Rattle.std.proofs.Common.{◌≡◌, ◌≢◌, ◌<◌, ◌≤◌, ◌∙◌, ℕ, suc, ◌+◌, ◌-◌, Bool, true, false, List, [], ◌∷◌, ◌++◌, Ok, Err, Some, None, refl, sym, ap, subst, length, take, arith}
 use Rattle.std.specs.Prelude.{Result, Option, OnOk, IfErr, nat_lt, if◌then◌else◌}
 use Rattle.std.proofs.lemmas.List.{length-append, take_at}
 use Rattle.env_text.specs.declared.part.Selection.{Selection}
@@ -7,22 +7,19 @@ use Rattle.env_text.specs.Parts.{PlainPart}
 use Rattle.env_text.specs.Readings.{Reading, ends, part_at, bad_brace, reading_of, reading_from}
 use Rattle.env_pieces.specs.declared.piece.Mark.{Mark}
 use Rattle.env_pieces.specs.declared.piece.Mark.TheVariants.{Begin, End}
-use Rattle.env_pieces.specs.Pieces.{Sheet, blank, with_text, with_mark, pieces_of}
-use Rattle.env_pieces.specs.Forms.{text_of}
+use Rattle.env_pieces.specs.Pieces.{Sheet, with_text, with_mark}
 use Rattle.env_subst.specs.declared.fault.SubstFault.{SubstFault}
 use Rattle.env_subst.specs.declared.fault.SubstFault.TheVariants.{BadBrace, BadAttr, TooLong, TooMany, Memory}
 use Rattle.env_subst.specs.declared.locals.Locals.{Locals}
 use Rattle.env_subst.specs.declared.part.OwnedPart.TheVariants as owned
 use Rattle.env_subst.specs.declared.saying.Saying.{Saying}
-use Rattle.env_subst.specs.declared.saying.Saying.TheVariants.{Read, Plain, Path}
-use Rattle.env_subst.specs.declared.task.Call.{Call}
 use Rattle.env_subst.specs.Parts.{owned_part}
 use Rattle.env_subst.specs.Settings.{Setting}
 use Rattle.env_subst.specs.Contents.{Content, nothing, content_at, taken, said, said_by, parts_or_none}
 use Rattle.env_subst.specs.Attributes.{attribute_named}
 use Rattle.env_subst.specs.declared.attribute.Attribute.{Attribute}
-use Rattle.env_subst.specs.Expansions.{State, Answer, and_then, sheet_or_fault, puts, marks, spaces, refers, Reader, says_one, says_more, says_all, Names, is_open, content_in, sayings_in, Deeper, expands, affixed, more_dirs, all_dirs, Found, dirs_named, inner, dirs_read, dirs_of, puts_found, plain_item, item, items_more, items_all, says_or_fault, refers_to, calls, reads_part, reads, meaning, height, text_at}
-use Rattle.env_subst.specs.Desks.{PlainTask, with_open, put, read, say, inside, expand, items, dirs, directory, close, deeper_of, outer_names, does, names_after, resumes, Desk, left_of, Leads, behind_all}
+use Rattle.env_subst.specs.Expansions.{State, Answer, and_then, sheet_or_fault, puts, marks, spaces, refers, Reader, says_one, says_more, says_all, Names, is_open, content_in, Deeper, expands, says_or_fault, refers_to, reads_part, reads, meaning, height, text_at}
+use Rattle.env_subst.specs.Desks.{PlainTask, with_open, read, say, close, deeper_of, outer_names, does, names_after, resumes, Desk, left_of, Leads, behind_all}
 
 abbrev pub desk : List PlainTask → Names → Sheet → ℕ → Desk
 desk tasks names sheet n = record { tasks = tasks; names = names; state = record { sheet = sheet; references = n } }

@@ -1,13 +1,12 @@
 -- What comes of all tasks, and of the items of a search path.
 use Rattle.std.proofs.Common.{◌≡◌, ◌∙◌, ◌<◌, ℕ, suc, ◌+◌, List, [], ◌∷◌, ◌++◌, Ok, Err, refl, sym, ap, length, append_assoc, arith}
-use Rattle.std.specs.Prelude.{Result}
 use Rattle.std.proofs.lemmas.List.{append-nil}
-use Rattle.env_pieces.specs.Pieces.{Sheet, blank, pieces_of}
+use Rattle.env_pieces.specs.Pieces.{Sheet, pieces_of}
 use Rattle.env_pieces.specs.Forms.{text_of}
 use Rattle.env_subst.specs.declared.fault.SubstFault.{SubstFault}
 use Rattle.env_subst.specs.declared.saying.Saying.{Saying}
 use Rattle.env_subst.specs.Settings.{Setting}
-use Rattle.env_subst.specs.Expansions.{State, Answer, and_then, Reader, Names, sayings_in, Found, dirs_of, dirs_read, dirs_named, text_at, started, start}
+use Rattle.env_subst.specs.Expansions.{State, Answer, Reader, Names, sayings_in, Found, dirs_of, dirs_read, dirs_named, text_at, started, start}
 use Rattle.env_subst.specs.Results.{behind, with_more, dirs_of_all, search_path, Paths}
 use Rattle.env_subst.specs.Desks.{PlainTask, resumes, Desk, left_of, behind_all, with_task}
 use Rattle.env_subst.proofs.Doing.{desk, and_then-ok}

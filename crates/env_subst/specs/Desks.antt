@@ -1,5 +1,5 @@
 -- What is left to do while a text is read: the same as tasks, one upon another.
-use Rattle.std.specs.Prelude.{◌≡◌, ◌≢◌, ℕ, ◌-◌, List, [], ◌∷◌, ◌++◌, map, take, drop, reverse, length, Option, None, Some, Result, Ok, Err, MatchResult, if◌then◌else◌}
+use Rattle.std.specs.Prelude.{◌≡◌, ◌≢◌, ℕ, ◌-◌, List, [], ◌∷◌, ◌++◌, map, take, drop, reverse, length, Result, Ok, Err, MatchResult, if◌then◌else◌}
 use Rattle.env_text.specs.Readings.{reading_from}
 use Rattle.env_pieces.specs.declared.pieces.PieceFault.{PieceFault}
 use Rattle.env_pieces.specs.declared.pieces.PieceFault.TheVariants as piece
@@ -15,7 +15,7 @@ use Rattle.env_subst.specs.declared.desk.Desk as code
 use Rattle.env_subst.specs.declared.setting.Setting as code_setting
 use Rattle.env_subst.specs.Settings.{Setting, setting_of}
 use Rattle.env_subst.specs.Sayings.{sayings_of}
-use Rattle.env_subst.specs.Expansions.{State, Answer, and_then, Reader, Deeper, Names, is_open, puts, says_one, says_more, expands, more_dirs, dirs_read, puts_found, items_more, reads, text_at}
+use Rattle.env_subst.specs.Expansions.{State, Answer, and_then, Deeper, Names, is_open, puts, says_one, says_more, expands, more_dirs, dirs_read, puts_found, items_more, reads, text_at}
 
 -- what a refused piece is for the whole
 abbrev pub piece_fault : PieceFault → SubstFault
