@@ -5,123 +5,161 @@ use scons_base::Text;
 use std::alloc::Global;
 use std::test::Fail;
 
-/// Texts and their forms: as text, raw and signed. A `=` says that it is the one in front.
-const FORMS: [(&str, &str, &str, &str); 67] = [
-    ("", "", "=", "="),
-    ("a  b", "a b", "a  b", "a b"),
-    ("a$$b", "a$b", "=", "="),
-    ("$", "$", "=", "="),
-    ("$1 $- $", "$1 $- $", "=", "="),
-    // variables
-    ("$A", "x y", "x y ", "x y"),
-    ("$B", "y x", "y x ", "y x"),
-    ("$UNKNOWN.", ".", "=", "="),
-    ("<$EMPTY>", "<>", "=", "="),
-    ("$T.o", "!attr [] 0", "=", "="),
-    ("${T}.o", "abc.o", "=", "="),
-    ("${ T }", "abc", "=", "="),
-    ("$REF", "abc", "=", "="),
-    ("[$WIDE]", "[ a b ]", "[  a \t b  ]", "[ a b ]"),
-    ("$INT $YES $NO <$NIL>", "-70 True False <>", "=", "="),
-    ("$WORDS", "p q r abc", "=", "="),
-    ("$LIST", "aabc 3 d/n.c k=abc only", "=", "="),
-    ("$DICT", "X=1 Y=abc Z", "=", "="),
-    ("<$NONE>", "<>", "=", "="),
-    ("$SMARTLINK", "cc", "=", "="),
-    ("$TARGET", "build/t.o", "=", "="),
-    ("$SOURCE", "src/a.c", "=", "="),
-    ("$SOURCES", "src/a.c build/b.x.c", "=", "="),
-    // an index and a slice
-    ("${T[0]}${T[2]}${T[-1]}", "acc", "=", "="),
-    ("<${T[3]}${T[-4]}>", "<>", "=", "="),
-    ("${T[1:]}${T[:1]}${T[-2:-1]}${T[2:1]}", "bcab", "=", "="),
-    ("${U[1]}${U[1:]}", "\u{f6}\u{f6}\u{20ac}", "=", "="),
-    ("${REF[0]}", "$", "=", "="),
-    ("${REF[0:2]}", "abc", "=", "="),
-    ("<${INT[0]}${YES[0:1]}${NIL[0]}>", "<>", "=", "="),
-    ("${WORDS[2]}", "abc", "=", "="),
-    ("${LIST[1:3]}", "3 d/n.c", "=", "="),
-    ("${LIST[-2]}", "k=abc", "=", "="),
-    ("${DICT[1]}", "Y=abc", "=", "="),
-    ("${SOURCES[1]}", "build/b.x.c", "=", "="),
-    ("<${SOURCES[2]}${TARGET[1]}>", "<>", "=", "="),
-    // attributes
-    ("${SOURCES.base}", "src/a build/b.x", "=", "="),
-    ("${SOURCES.dir}", "src build", "=", "="),
-    ("${SOURCES.file}", "a.c b.x.c", "=", "="),
-    ("${SOURCES.filebase}", "a b.x", "=", "="),
-    ("${SOURCES.suffix}", ".c .c", "=", "="),
-    (
-        "${SOURCES.abspath}",
-        "/top/src/a.c /top/build/b.x.c",
-        "=",
-        "=",
-    ),
-    ("${SOURCES.srcpath}", "src/a.c src/b.x.c", "=", "="),
-    ("${SOURCES[1].srcdir}", "src", "=", "="),
-    ("${NODES.srcpath}", "src/v.c w.tar.gz", "=", "="),
-    ("${NODES[1].base} ${NODES[1].dir}", "w.tar .", "=", "="),
-    ("${LIST[2].file}", "n.c", "=", "="),
-    (
-        "<${SOURCES[7].base}${NOT.base}${T[9].base}${NONE.base}>",
-        "<>",
-        "=",
-        "=",
-    ),
-    ("${LIST.base}", "!attr [] 0", "=", "="),
-    ("a${SOURCES.name}", "!attr [] 1", "=", "="),
-    ("a${NOT.name}", "!attr [] 1", "=", "="),
-    ("${INT.base}", "!attr [] 0", "=", "="),
-    ("$ATTR", "!attr [ATTR] 2", "=", "="),
-    ("$SELF", "se", "=", "="),
-    // faults of a reference
-    ("${X", "!brace [] 0", "=", "="),
-    ("ab ${T[} $T", "!brace [] 3", "=", "="),
-    ("$BRACE", "!brace [BRACE] 2", "=", "="),
-    ("${T.base} ${", "!attr [] 0", "=", "="),
-    // marks
-    ("a$($)b", "ab", "a$($)b", "a b"),
-    ("<$MARKED>", "< a >", "<$( a $)>", "< >"),
-    ("$NESTED", "1 2 3 4 5", "1 $( 2 $( 3 $) 4 $) 5", "1 5"),
-    ("$OPEN", "a b", "a $( b", "!marks 3"),
-    ("$SHUT", "a b", "a $) b", "!marks 1"),
-    ("$($SHUT", "a b", "$(a $) b", "b"),
-    // calls
-    (
-        "${_concat(P, WORDS, S, __env__)}",
-        "-Ip/x -Iq r/x -Iabc/x",
-        "=",
-        "=",
-    ),
+/// Characters, and variables that hold texts.
+const TEXTS: [(&str, &str); 14] = [
+    ("", ""),
+    ("a  b", "a b|a  b|a b"),
+    ("a$$b", "a$b"),
+    ("$", "$"),
+    ("$1 $- $", "$1 $- $"),
+    ("$A", "x y|x y |x y"),
+    ("$B", "y x|y x |y x"),
+    ("$UNKNOWN.", "."),
+    ("<$EMPTY>", "<>"),
+    ("$T.o", "!attr [] 0"),
+    ("${T}.o", "abc.o"),
+    ("${ T }", "abc"),
+    ("$REF", "abc"),
+    ("[$WIDE]", "[ a b ]|[  a \t b  ]|[ a b ]"),
+];
+
+/// Other values, and calls.
+const VALUES: [(&str, &str); 12] = [
+    ("$INT $YES $NO <$NIL>", "-70 True False <>"),
+    ("$WORDS", "p q r abc"),
+    ("$LIST", "aabc 3 d/n.c k=abc only"),
+    ("$DICT", "X=1 Y=abc Z"),
+    ("<$NONE>", "<>"),
+    ("$SMARTLINK", "cc"),
+    ("$TARGET", "build/t.o"),
+    ("$SOURCE", "src/a.c"),
+    ("$SOURCES", "src/a.c build/b.x.c"),
+    ("${_concat(P, WORDS, S, __env__)}", "-Ip/x -Iq r/x -Iabc/x"),
     (
         "${_concat(P, LIST, NOT, __env__)}",
         "-Iaabc -I3 d/n.c -Ik=abc -Ionly",
-        "=",
-        "=",
     ),
     (
         "${_concat(P, DIRS, S, __env__, RDirs)}",
         "-Ibuild/inc/x -Isrc/inc/x -Iabc/x -Ibuild/d/x -Isrc/d/x",
-        "=",
-        "=",
     ),
 ];
 
-#[test]
-fn a_text_has_three_forms(rt: HostRuntime) -> Result<(), Fail> {
-    let alloc = rt.alloc();
+/// An index or a slice.
+const SELECTIONS: [(&str, &str); 13] = [
+    ("${T[0]}${T[2]}${T[-1]}", "acc"),
+    ("<${T[3]}${T[-4]}>", "<>"),
+    ("${T[1:]}${T[:1]}${T[-2:-1]}${T[2:1]}", "bcab"),
+    ("${U[1]}${U[1:]}", "\u{f6}\u{f6}\u{20ac}"),
+    ("${REF[0]}", "$"),
+    ("${REF[0:2]}", "abc"),
+    ("<${INT[0]}${YES[0:1]}${NIL[0]}>", "<>"),
+    ("${WORDS[2]}", "abc"),
+    ("${LIST[1:3]}", "3 d/n.c"),
+    ("${LIST[-2]}", "k=abc"),
+    ("${DICT[1]}", "Y=abc"),
+    ("${SOURCES[1]}", "build/b.x.c"),
+    ("<${SOURCES[2]}${TARGET[1]}>", "<>"),
+];
+
+/// Attributes of nodes.
+const ATTRIBUTES: [(&str, &str); 16] = [
+    ("${SOURCES.base}", "src/a build/b.x"),
+    ("${SOURCES.dir}", "src build"),
+    ("${SOURCES.file}", "a.c b.x.c"),
+    ("${SOURCES.filebase}", "a b.x"),
+    ("${SOURCES.suffix}", ".c .c"),
+    ("${SOURCES.abspath}", "/top/src/a.c /top/build/b.x.c"),
+    ("${SOURCES.srcpath}", "src/a.c src/b.x.c"),
+    ("${SOURCES[1].srcdir}", "src"),
+    ("${NODES.srcpath}", "src/v.c w.tar.gz"),
+    ("${NODES[1].base} ${NODES[1].dir}", "w.tar ."),
+    ("${LIST[2].file}", "n.c"),
+    (
+        "<${SOURCES[7].base}${NOT.base}${T[9].base}${NONE.base}>",
+        "<>",
+    ),
+    ("${LIST.base}", "!attr [] 0"),
+    ("a${SOURCES.name}", "!attr [] 1"),
+    ("a${NOT.name}", "!attr [] 1"),
+    ("${INT.base}", "!attr [] 0"),
+];
+
+/// Faults of references, and marks.
+const FAULTS_AND_MARKS: [(&str, &str); 12] = [
+    ("$ATTR", "!attr [ATTR] 2"),
+    ("$SELF", "se"),
+    ("${X", "!brace [] 0"),
+    ("ab ${T[} $T", "!brace [] 3"),
+    ("$BRACE", "!brace [BRACE] 2"),
+    ("${T.base} ${", "!attr [] 0"),
+    ("a$($)b", "ab|a$($)b|a b"),
+    ("<$MARKED>", "< a >|<$( a $)>|< >"),
+    ("$NESTED", "1 2 3 4 5|1 $( 2 $( 3 $) 4 $) 5|1 5"),
+    ("$OPEN", "a b|a $( b|!marks 3"),
+    ("$SHUT", "a b|a $) b|!marks 1"),
+    ("$($SHUT", "a b|$(a $) b|b"),
+];
+
+/// What a text gives: one form where all three are the same, else the text, the raw and the signed one.
+fn forms_of(alloc: Global, text: &str) -> Result<String, Fail> {
+    let plain = form_of(alloc, text, Mode::Text)?;
+    let raw = form_of(alloc, text, Mode::Raw)?;
+    let signed = form_of(alloc, text, Mode::Signed)?;
+    if raw.as_str() == plain.as_str() && signed.as_str() == plain.as_str() {
+        return Ok(plain);
+    }
+    Ok(format!(in alloc; "{plain}|{raw}|{signed}")?)
+}
+
+fn form_of(alloc: Global, text: &str, mode: Mode) -> Result<String, Fail> {
     let mut envs = Envs::new(alloc);
     let env = sample_env(alloc, &mut envs)?;
     let locals = sample_locals(alloc)?;
-    for (text, plain, raw, signed) in FORMS {
-        let raw = if raw == "=" { plain } else { raw };
-        let signed = if signed == "=" { plain } else { signed };
-        let form = shown(alloc, subst(alloc, &envs, env, text, &locals, Mode::Text))?;
-        assert_eq!(rt; form.as_str(), plain, "text of {text}");
-        let form = shown(alloc, subst(alloc, &envs, env, text, &locals, Mode::Raw))?;
-        assert_eq!(rt; form.as_str(), raw, "raw {text}");
-        let form = shown(alloc, subst(alloc, &envs, env, text, &locals, Mode::Signed))?;
-        assert_eq!(rt; form.as_str(), signed, "signed {text}");
+    shown(alloc, subst(alloc, &envs, env, text, &locals, mode))
+}
+
+#[test]
+fn a_text_is_read(rt: HostRuntime) -> Result<(), Fail> {
+    let alloc = rt.alloc();
+    for (text, forms) in TEXTS {
+        assert_eq!(rt; forms_of(alloc, text)?.as_str(), forms, "{text}");
+    }
+    Ok(())
+}
+
+#[test]
+fn values_and_calls_say_their_items(rt: HostRuntime) -> Result<(), Fail> {
+    let alloc = rt.alloc();
+    for (text, forms) in VALUES {
+        assert_eq!(rt; forms_of(alloc, text)?.as_str(), forms, "{text}");
+    }
+    Ok(())
+}
+
+#[test]
+fn an_index_and_a_slice_select(rt: HostRuntime) -> Result<(), Fail> {
+    let alloc = rt.alloc();
+    for (text, forms) in SELECTIONS {
+        assert_eq!(rt; forms_of(alloc, text)?.as_str(), forms, "{text}");
+    }
+    Ok(())
+}
+
+#[test]
+fn attributes_are_of_nodes(rt: HostRuntime) -> Result<(), Fail> {
+    let alloc = rt.alloc();
+    for (text, forms) in ATTRIBUTES {
+        assert_eq!(rt; forms_of(alloc, text)?.as_str(), forms, "{text}");
+    }
+    Ok(())
+}
+
+#[test]
+fn faults_and_marks_are_told(rt: HostRuntime) -> Result<(), Fail> {
+    let alloc = rt.alloc();
+    for (text, forms) in FAULTS_AND_MARKS {
+        assert_eq!(rt; forms_of(alloc, text)?.as_str(), forms, "{text}");
     }
     Ok(())
 }
