@@ -1,6 +1,5 @@
 use crate::expr::{Expr, Operator};
 use scons_base::Text;
-use std::rc::Rc;
 
 /// A whole script.
 #[derive(Debug, Drop)]
@@ -27,12 +26,11 @@ pub enum Line {
         source: Expr,
         block: Vec<Line>,
     },
-    /// The block is shared with the functions that the line makes.
     Def {
         line: u32,
         name: Text,
         parameters: Vec<Parameter>,
-        block: Rc<Vec<Line>>,
+        block: Vec<Line>,
     },
 }
 
