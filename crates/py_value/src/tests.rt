@@ -1,10 +1,5 @@
 //! Rows of answers and of what shows are CPython's `repr` of the same operation, but where a comment says that a rule is
 //! own: kinds, units, limits and levels are.
-mod comparing;
-mod limits;
-mod methods;
 mod numbers;
-mod pairs;
-mod places;
 mod showing;
 mod sorting;

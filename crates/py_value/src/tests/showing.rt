@@ -37,17 +37,3 @@ fn values_show_as_in_python(rt: HostRuntime) -> Result<(), Fail> {
     assert_eq!(rt; shown.as_str(), "(<function>, <built-in>, <object>)");
     Ok(())
 }
-
-#[test]
-fn each_value_met_in_showing_costs_a_unit(rt: HostRuntime) -> Result<(), Fail> {
-    let mut heap = Heap::new(rt.alloc());
-    let inner = heap.list(&[Value::Int(1), Value::Int(2)])?;
-    let outer = heap.list(&[inner, Value::Nil])?;
-    let mut budget = Budget::new(UNITS);
-    show(&heap, &mut budget, outer, false)?;
-    assert_eq!(rt; budget.used(), 5);
-    let mut short = Budget::new(4);
-    let fault = show(&heap, &mut short, outer, false).err();
-    assert_eq!(rt; fault, Some(ValueFault::Budget(4)));
-    Ok(())
-}
