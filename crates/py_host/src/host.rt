@@ -33,7 +33,12 @@ pub trait Host {
         ensures later { meaning.refusals self.old ≤ meaning.refusals self.new }
         ensures stands { Extends heap.old heap.new };
 
-    fn attribute(&mut self, heap: &mut Heap, object: HostId, name: &str) -> Result<Value, HostRefusal>
+    fn attribute(
+        &mut self,
+        heap: &mut Heap,
+        object: HostId,
+        name: &str,
+    ) -> Result<Value, HostRefusal>
         ensures ok { IfOk result (λ v. meaning.replies (attribute object.0 name.now) self.old heap.old (answers v) self.new heap.new) }
         ensures refused { result ≡ Err HostRefusal.Host → meaning.replies (attribute object.0 name.now) self.old heap.old refuses self.new heap.new }
         ensures later { meaning.refusals self.old ≤ meaning.refusals self.new }
@@ -45,7 +50,13 @@ pub trait Host {
         ensures later { meaning.refusals self.old ≤ meaning.refusals self.new }
         ensures stands { Extends heap.old heap.new };
 
-    fn set_index(&mut self, heap: &mut Heap, object: HostId, key: Value, value: Value) -> Result<(), HostRefusal>
+    fn set_index(
+        &mut self,
+        heap: &mut Heap,
+        object: HostId,
+        key: Value,
+        value: Value,
+    ) -> Result<(), HostRefusal>
         ensures ok { OnOk result (meaning.replies (set_item object.0 key value) self.old heap.old (answers tt) self.new heap.new) }
         ensures refused { result ≡ Err HostRefusal.Host → meaning.replies (set_item object.0 key value) self.old heap.old refuses self.new heap.new }
         ensures later { meaning.refusals self.old ≤ meaning.refusals self.new }

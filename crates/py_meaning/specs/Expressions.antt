@@ -104,7 +104,7 @@ plan_expression (dict l ps) s = after_all (flat_pairs ps) s (λ xs s1. made l s1
 -- the source is evaluated outside, the rest inside
 plan_expression (comprehension l t ns source ts) s =
     after source s (λ x s1. checked l s1 (walk_of s1.objects x) (λ walk.
-      first (collect l walk [] t ns ts) (inside s1) (on_value (λ y s2. value y (outside_again s2)))))
+    first (collect l walk [] t ns ts) (inside s1) (on_value (λ y s2. value y (outside_again s2)))))
 plan_expression (post a ls) s = after a s (λ x s1. goes (links x (named_line a) ls) s1)
 plan_expression (negative l t) s = after t s (λ x s1. made l s1 (negative_of s1.objects s1.units x))
 plan_expression (not l t) s = after t s (λ x s1. value (v.Bool (turned (truth_of s1.objects x))) s1)
@@ -151,7 +151,7 @@ kept l walk xs t ns ts false s = goes (collect l walk xs t ns ts) s
 abbrev turn : ℕ → List Value → Tree → Tree → Tree → Value × Objects × Walk → State → Plan
 turn l xs t ns ts next s = paid l s (λ s1. checked l s1 (shared next.1 (names_of ns) next.0) (λ m.
     first (tests l ts) (with_inners (with_objects s1 m.1) (names_of ns) m.0)
-      (on_value (λ b s2. kept l next.2 xs t ns ts (truth_of s2.objects b) s2))))
+    (on_value (λ b s2. kept l next.2 xs t ns ts (truth_of s2.objects b) s2))))
 
 abbrev collected : ℕ → List Value → Tree → Tree → Tree → Option (Value × Objects × Walk) → State → Plan
 collected l xs t ns ts None s = made l s (new_list s.objects s.units xs)

@@ -55,5 +55,5 @@ plan_links x named (cons (call l ts) rest) s = called (line_or named l) (a_value
 plan_links x named (cons (index l t) rest) s = after t s (λ i s1. after_item l x i s1 (λ y s2. goes (links y None rest) s2))
 plan_links x named (cons (slice l t1 t2) rest) s =
     after_optional t1 s (λ from s1. after_optional t2 s1 (λ to s2.
-      checked l s2 (sliced s2.objects s2.units x from to) (λ m. goes (links m.0 None rest) (after_operation s2 m))))
+    checked l s2 (sliced s2.objects s2.units x from to) (λ m. goes (links m.0 None rest) (after_operation s2 m))))
 plan_links x named other s = value x s
