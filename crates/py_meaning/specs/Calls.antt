@@ -27,7 +27,7 @@ use Rattle.py_builtins.specs.Takes.{takes}
 use Rattle.py_methods.specs.Names.{takes as method_takes}
 
 -- values shown behind a text, with spaces between them
-abbrev pub shown_line : ℕ → Objects → List ℕ → Units → List Value → Shown
+abbrev pub shown_line : ℕ → Objects → List ℕ → Units → List Value → Shown (List ℕ)
 shown_line place h text u [] = Ok (text, u)
 shown_line place h text u (x ∷ xs) =
     then_by (show_of h u x false) (λ shown. shown_line (suc place) h (text ++ gap place ++ shown.0) shown.1 xs)
@@ -37,7 +37,7 @@ shown_line place h text u (x ∷ xs) =
     gap (suc n) = codes " "
 
 -- what `print` prints: the values with spaces between them, and a line feed
-abbrev pub printed : Objects → Units → List Value → Shown
+abbrev pub printed : Objects → Units → List Value → Shown (List ℕ)
 printed h u xs = then_by (shown_line 0 h [] u xs) (λ shown. Ok (shown.0 ++ 10 ∷ [], shown.1))
 
 -- no named argument, and a number of positional ones that is taken

@@ -1,3 +1,4 @@
+pub mod Fillings
 pub mod Grown
 pub mod Lengths
 pub mod TextLengths

@@ -1,6 +1,6 @@
 -- `%`: the remainder of two integers (section 6.7 of the Python language reference), and a text with values put in the places
 -- of `%s` and `%d` ("printf-style String Formatting" in the library reference, cut down).
-use Rattle.std.specs.Prelude.{ℕ, ℤ, false, List, [], ◌∷◌, ◌++◌, Option, Some, None, Result, Ok, Err, codes}
+use Rattle.std.specs.Prelude.{ℕ, ℤ, false, List, [], ◌∷◌, Option, Some, None, Result, Ok, Err, codes}
 use Rattle.py_text.specs.Formatting.{FormatPiece, literal, percent, any_value, integer, pieces_of}
 use Rattle.py_heap.specs.declared.value.Value.{Value}
 use Rattle.py_heap.specs.declared.value.Value.TheVariants as v
@@ -12,47 +12,48 @@ use Rattle.py_heap.specs.Units.{Units}
 use Rattle.py_compare.specs.Outcomes.{Outcome, then_by, number, mismatch, paid_text}
 use Rattle.py_compare.specs.Numbers.{remainder}
 use Rattle.py_compare.specs.Equality.{level_limit}
-use Rattle.py_show.specs.Showing.{Shown, show_at}
+use Rattle.py_show.specs.Showing.{Shown, show_at, behind}
 
 -- a text so far, the values that are left, and the units
-abbrev pub Filling : Type 0
-Filling = Result (List Value × List ℕ × Units) ValueFault
+abbrev pub Filling : Type 0 → Type 0
+Filling T = Result (List Value × T × Units) ValueFault
 
-abbrev shown_onto : Objects → List ℕ → Units → Value → List Value → Filling
-shown_onto h text u x xs = then_by (show_at level_limit h false text u x) (λ s. Ok (xs, s.0, s.1))
+module _ {T : Type 0} (put : T → List ℕ → T) where
+  abbrev shown_onto : Objects → T → Units → Value → List Value → Filling T
+  shown_onto h text u x xs = then_by (show_at put level_limit h false text u x) (λ s. Ok (xs, s.0, s.1))
 
-abbrev any_onto : Objects → List ℕ → Units → List Value → Filling
-any_onto h text u [] = Err fault.BadText
-any_onto h text u (x ∷ xs) = shown_onto h text u x xs
+  abbrev any_onto : Objects → T → Units → List Value → Filling T
+  any_onto h text u [] = Err fault.BadText
+  any_onto h text u (x ∷ xs) = shown_onto h text u x xs
 
--- `%d` needs an integer
-abbrev pub integer_shown : Objects → List ℕ → Units → Value → Shown
-integer_shown h text u (v.Int n) = show_at level_limit h false text u (v.Int n)
-integer_shown h text u x = mismatch x x
+  -- `%d` needs an integer
+  abbrev pub integer_shown : Objects → T → Units → Value → Shown T
+  integer_shown h text u (v.Int n) = show_at put level_limit h false text u (v.Int n)
+  integer_shown h text u x = mismatch x x
 
-abbrev integer_onto : Objects → List ℕ → Units → List Value → Filling
-integer_onto h text u [] = Err fault.BadText
-integer_onto h text u (x ∷ xs) = then_by (integer_shown h text u x) (λ s. Ok (xs, s.0, s.1))
+  abbrev integer_onto : Objects → T → Units → List Value → Filling T
+  integer_onto h text u [] = Err fault.BadText
+  integer_onto h text u (x ∷ xs) = then_by (integer_shown h text u x) (λ s. Ok (xs, s.0, s.1))
 
--- a piece of the format behind the text so far
-abbrev pub piece_onto : Objects → List ℕ → Units → FormatPiece → List Value → Filling
-piece_onto h text u (literal s) xs = Ok (xs, text ++ s, u)
-piece_onto h text u percent xs = Ok (xs, text ++ codes "%", u)
-piece_onto h text u any_value xs = any_onto h text u xs
-piece_onto h text u integer xs = integer_onto h text u xs
+  -- a piece of the format behind the text so far
+  abbrev pub piece_onto : Objects → T → Units → FormatPiece → List Value → Filling T
+  piece_onto h text u (literal s) xs = Ok (xs, put text s, u)
+  piece_onto h text u percent xs = Ok (xs, put text (codes "%"), u)
+  piece_onto h text u any_value xs = any_onto h text u xs
+  piece_onto h text u integer xs = integer_onto h text u xs
 
-abbrev ended : List ℕ → Units → List Value → Shown
-ended text u [] = Ok (text, u)
-ended text u (x ∷ xs) = Err fault.BadText
+  abbrev ended : T → Units → List Value → Shown T
+  ended text u [] = Ok (text, u)
+  ended text u (x ∷ xs) = Err fault.BadText
 
--- all pieces, with neither too few values nor too many
-abbrev pub pieces_onto : Objects → List ℕ → Units → List FormatPiece → List Value → Shown
-pieces_onto h text u [] xs = ended text u xs
-pieces_onto h text u (p ∷ ps) xs = then_by (piece_onto h text u p xs) (λ s. pieces_onto h s.1 s.2 ps s.0)
+  -- all pieces, with neither too few values nor too many
+  abbrev pub pieces_onto : Objects → T → Units → List FormatPiece → List Value → Shown T
+  pieces_onto h text u [] xs = ended text u xs
+  pieces_onto h text u (p ∷ ps) xs = then_by (piece_onto h text u p xs) (λ s. pieces_onto h s.1 s.2 ps s.0)
 
 abbrev filled_by : Objects → Units → List Value → Option (List FormatPiece) → Result (List ℕ × Units) ValueFault
 filled_by h u xs None = Err fault.BadText
-filled_by h u xs (Some ps) = then_by (pieces_onto h [] u ps xs) (λ s. paid_text s.1 s.0)
+filled_by h u xs (Some ps) = then_by (pieces_onto behind h [] u ps xs) (λ s. paid_text s.1 s.0)
 
 abbrev pub filled : Objects → Units → List ℕ → List Value → Result (List ℕ × Units) ValueFault
 filled h u s xs = filled_by h u xs (pieces_of s)

@@ -1,13 +1,14 @@
 //! The operator `%`.
-ghost use Rattle.std.specs.Prelude.{◌≡◌, ◌≢◌, Ok, Err, Some, None, IfOk, IfErr, OnOk, OnErr, map, string_bytes};
+ghost use Rattle.std.specs.Prelude.{◌≡◌, ◌≢◌, Ok, Err, Some, None, IfOk, IfErr, OnOk, OnErr, map};
 ghost use Rattle.py_text.specs.Formatting.{pieces_of};
 ghost use Rattle.py_text.specs.Views.{plain_piece};
 ghost use Rattle.py_heap.specs.Heap.{text_at};
+ghost use Rattle.py_show.specs.Growing.{grown};
 ghost use Rattle.py_operators.specs.Remainders.{integer_shown, piece_onto, pieces_onto, filled, values_in, format_of, rest_of};
 
 use py_compare::{LEVEL_LIMIT, floor_rem};
 use py_heap::{Budget, Heap, TextId, Value, ValueFault, text_room};
-use py_show::show_onto;
+use py_show::{GrowingText, show_onto};
 use py_text::{FormatFault, Piece};
 use scons_base::Text;
 use std::alloc::Global;
@@ -64,6 +65,7 @@ fn filled_with(
     }
 }
 
+#[tactic(auto, using(crate::proofs::Fillings::fillings))]
 fn filled(
     heap: &Heap,
     budget: &mut Budget,
@@ -74,10 +76,10 @@ fn filled(
     ensures fault { IfErr result (λ e. e ≢ ValueFault.Memory → filled heap.now budget.old format.now values.now ≡ Err e) }
 {
     let pieces = pieces_of(heap.allocator(), format)?;
-    let mut text = String::new(heap.allocator());
+    let mut text = GrowingText::new(heap.allocator());
     push_pieces(heap, budget, &mut text, pieces.as_slice(), values)?;
-    text_room(budget, text.len() as u64)?;
-    Ok(Text::new(text))
+    text_room(budget, text.size())?;
+    Ok(text.into_kept())
 }
 
 fn pieces_of(alloc: Global, format: &str) -> Result<Vec<Piece<'_>>, ValueFault>
@@ -95,12 +97,12 @@ fn pieces_of(alloc: Global, format: &str) -> Result<Vec<Piece<'_>>, ValueFault>
 fn push_pieces(
     heap: &Heap,
     budget: &mut Budget,
-    text: &mut String,
+    text: &mut GrowingText,
     pieces: &[Piece<'_>],
     values: &[Value],
 ) -> Result<(), ValueFault>
-    ensures ok { OnOk result (pieces_onto heap.now (string_bytes text.old) budget.old (map plain_piece pieces.now) values.now ≡ Ok (string_bytes text.new, budget.new)) }
-    ensures fault { IfErr result (λ e. e ≢ ValueFault.Memory → pieces_onto heap.now (string_bytes text.old) budget.old (map plain_piece pieces.now) values.now ≡ Err e) }
+    ensures ok { OnOk result (pieces_onto grown heap.now text.old budget.old (map plain_piece pieces.now) values.now ≡ Ok (text.new, budget.new)) }
+    ensures fault { IfErr result (λ e. e ≢ ValueFault.Memory → pieces_onto grown heap.now text.old budget.old (map plain_piece pieces.now) values.now ≡ Err e) }
 {
     let mut left = values;
     'pieces: for piece in pieces {
@@ -117,20 +119,20 @@ fn push_pieces(
 fn push_piece<'a>(
     heap: &Heap,
     budget: &mut Budget,
-    text: &mut String,
+    text: &mut GrowingText,
     piece: Piece<'_>,
     values: &'a [Value],
 ) -> Result<&'a [Value], ValueFault>
-    ensures ok { IfOk result (λ left. piece_onto heap.now (string_bytes text.old) budget.old (plain_piece piece.entry) values.now ≡ Ok (left.now, string_bytes text.new, budget.new)) }
-    ensures fault { IfErr result (λ e. e ≢ ValueFault.Memory → piece_onto heap.now (string_bytes text.old) budget.old (plain_piece piece.entry) values.now ≡ Err e) }
+    ensures ok { IfOk result (λ left. piece_onto grown heap.now text.old budget.old (plain_piece piece.entry) values.now ≡ Ok (left.now, text.new, budget.new)) }
+    ensures fault { IfErr result (λ e. e ≢ ValueFault.Memory → piece_onto grown heap.now text.old budget.old (plain_piece piece.entry) values.now ≡ Err e) }
 {
     match piece {
         Piece::Literal(literal) => {
-            text.push_str(literal)?;
+            text.put(literal)?;
             Ok(values)
         }
         Piece::Percent => {
-            text.push_str("%")?;
+            text.put("%")?;
             Ok(values)
         }
         Piece::Any => match values {
@@ -154,11 +156,11 @@ fn push_piece<'a>(
 fn push_integer(
     heap: &Heap,
     budget: &mut Budget,
-    text: &mut String,
+    text: &mut GrowingText,
     value: Value,
 ) -> Result<(), ValueFault>
-    ensures ok { OnOk result (integer_shown heap.now (string_bytes text.old) budget.old value ≡ Ok (string_bytes text.new, budget.new)) }
-    ensures fault { IfErr result (λ e. e ≢ ValueFault.Memory → integer_shown heap.now (string_bytes text.old) budget.old value ≡ Err e) }
+    ensures ok { OnOk result (integer_shown grown heap.now text.old budget.old value ≡ Ok (text.new, budget.new)) }
+    ensures fault { IfErr result (λ e. e ≢ ValueFault.Memory → integer_shown grown heap.now text.old budget.old value ≡ Err e) }
 {
     match value {
         Value::Int(_) => show_onto(heap, budget, LEVEL_LIMIT, false, text, value),

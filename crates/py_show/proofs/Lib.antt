@@ -1,3 +1,4 @@
 pub mod Entries
+pub mod Growths
 pub mod ShownLimits
 pub mod Shows

@@ -4,6 +4,8 @@
 //! that is met costs a unit.
 #![tactic(auto)]
 
+mod growing;
 mod showing;
 
+pub use growing::GrowingText;
 pub use showing::{entry_in, show, show_onto};

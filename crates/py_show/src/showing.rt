@@ -1,29 +1,27 @@
 //! How values show.
-ghost use Rattle.std.specs.Prelude.{◌≡◌, ◌≢◌, ◌++◌, Ok, Err, IfOk, IfErr, OnOk, true, slice_get, string_bytes};
+ghost use Rattle.std.specs.Prelude.{◌≡◌, ◌≢◌, Ok, Err, IfOk, IfErr, OnOk, true, slice_get};
 ghost use Rattle.std.specs.Prelude.{if◌then◌else◌};
 ghost use Rattle.py_text.specs.Numbers.{decimals};
 ghost use Rattle.py_text.specs.Quoting.{quoted as in_quotes};
 ghost use Rattle.py_heap.specs.Heap.{dict_at};
+ghost use Rattle.py_show.specs.Growing.{grown};
 ghost use Rattle.py_show.specs.Showing.{separator, onto_entry, tuple_end, flat_text, entries_of, shown_by, show_at, items_shown, entries_shown, show_of};
 
+use crate::growing::GrowingText;
 use py_compare::LEVEL_LIMIT;
 use py_heap::{Budget, DictId, Entry, Heap, Value, ValueFault};
-use scons_base::limits::TEXT_LIMIT;
 use scons_base::{Memory, Text};
 
 /// What a value shows; in quotes where it is a text and is to stand in them.
-#[tactic(auto, using(crate::proofs::ShownLimits::shown_limits))]
+#[tactic(auto, using(crate::proofs::Growths::whole_shown))]
 pub fn show(heap: &Heap, budget: &mut Budget, a: Value, quoted: bool) -> Result<Text, ValueFault>
     ensures ok { IfOk result (λ s. show_of heap.now budget.old a quoted ≡ Ok (s, budget.new)) }
     ensures fault { IfErr result (λ e. e ≢ ValueFault.Memory → show_of heap.now budget.old a quoted ≡ Err e) }
 {
-    let mut text = String::new(heap.allocator());
+    let mut text = GrowingText::new(heap.allocator());
     show_onto(heap, budget, LEVEL_LIMIT, quoted, &mut text, a)?;
-    let length = text.len() as u64;
-    if length > TEXT_LIMIT {
-        return Err(ValueFault::TooBig(length));
-    }
-    Ok(Text::new(text))
+    let shown = text.into_text()?;
+    Ok(shown)
 }
 
 /// Puts what a value shows behind a text, where so many levels may still be opened.
@@ -34,11 +32,11 @@ pub fn show_onto(
     budget: &mut Budget,
     levels: u32,
     quoted: bool,
-    text: &mut String,
+    text: &mut GrowingText,
     value: Value,
 ) -> Result<(), ValueFault>
-    ensures ok { OnOk result (show_at levels heap.now quoted (string_bytes text.old) budget.old value ≡ Ok (string_bytes text.new, budget.new)) }
-    ensures fault { IfErr result (λ e. e ≢ ValueFault.Memory → show_at levels heap.now quoted (string_bytes text.old) budget.old value ≡ Err e) }
+    ensures ok { OnOk result (show_at grown levels heap.now quoted text.old budget.old value ≡ Ok (text.new, budget.new)) }
+    ensures fault { IfErr result (λ e. e ≢ ValueFault.Memory → show_at grown levels heap.now quoted text.old budget.old value ≡ Err e) }
 {
     budget.charge(1)?;
     show_inside(heap, budget, levels, quoted, text, value)?;
@@ -52,28 +50,28 @@ fn show_inside(
     budget: &mut Budget,
     levels: u32,
     quoted: bool,
-    text: &mut String,
+    text: &mut GrowingText,
     value: Value,
 ) -> Result<(), ValueFault>
-    ensures ok { OnOk result (shown_by (items_shown levels heap.now) (entries_shown levels heap.now) heap.now quoted (string_bytes text.old) budget.old value ≡ Ok (string_bytes text.new, budget.new)) }
-    ensures fault { IfErr result (λ e. e ≢ ValueFault.Memory → shown_by (items_shown levels heap.now) (entries_shown levels heap.now) heap.now quoted (string_bytes text.old) budget.old value ≡ Err e) }
+    ensures ok { OnOk result (shown_by grown (items_shown grown levels heap.now) (entries_shown grown levels heap.now) heap.now quoted text.old budget.old value ≡ Ok (text.new, budget.new)) }
+    ensures fault { IfErr result (λ e. e ≢ ValueFault.Memory → shown_by grown (items_shown grown levels heap.now) (entries_shown grown levels heap.now) heap.now quoted text.old budget.old value ≡ Err e) }
 {
     match value {
         Value::List(list) => {
-            text.push_str("[")?;
+            text.put("[")?;
             show_items(heap, budget, levels, text, heap.list_at(list))?;
-            text.push_str("]")?;
+            text.put("]")?;
         }
         Value::Tuple(tuple) => {
             let items = heap.tuple_at(tuple);
-            text.push_str("(")?;
+            text.put("(")?;
             show_items(heap, budget, levels, text, items)?;
-            text.push_str(tuple_end(items.len()))?;
+            text.put(tuple_end(items.len()))?;
         }
         Value::Dict(dict) => {
-            text.push_str("{")?;
+            text.put("{")?;
             show_entries(heap, budget, levels, text, dict)?;
-            text.push_str("}")?;
+            text.put("}")?;
         }
         _ => push_flat(heap, quoted, text, value)?,
     }
@@ -85,17 +83,17 @@ fn show_items(
     heap: &Heap,
     budget: &mut Budget,
     levels: u32,
-    text: &mut String,
+    text: &mut GrowingText,
     items: &[Value],
 ) -> Result<(), ValueFault>
-    ensures ok { OnOk result (items_shown levels heap.now (string_bytes text.old) budget.old items.now ≡ Ok (string_bytes text.new, budget.new)) }
-    ensures fault { IfErr result (λ e. e ≢ ValueFault.Memory → items_shown levels heap.now (string_bytes text.old) budget.old items.now ≡ Err e) }
+    ensures ok { OnOk result (items_shown grown levels heap.now text.old budget.old items.now ≡ Ok (text.new, budget.new)) }
+    ensures fault { IfErr result (λ e. e ≢ ValueFault.Memory → items_shown grown levels heap.now text.old budget.old items.now ≡ Err e) }
 {
     if levels == 0 {
         return Err(ValueFault::Deep);
     }
     'items: for (place, item) in items.iter().enumerate() {
-        text.push_str(separator(place))?;
+        text.put(separator(place))?;
         show_onto(heap, budget, levels - 1, true, text, *item)?;
     }
     Ok(())
@@ -106,11 +104,11 @@ fn show_entries(
     heap: &Heap,
     budget: &mut Budget,
     levels: u32,
-    text: &mut String,
+    text: &mut GrowingText,
     dict: DictId,
 ) -> Result<(), ValueFault>
-    ensures ok { OnOk result (entries_shown levels heap.now (string_bytes text.old) budget.old (entries_of (dict_at heap.now dict.0)) ≡ Ok (string_bytes text.new, budget.new)) }
-    ensures fault { IfErr result (λ e. e ≢ ValueFault.Memory → entries_shown levels heap.now (string_bytes text.old) budget.old (entries_of (dict_at heap.now dict.0)) ≡ Err e) }
+    ensures ok { OnOk result (entries_shown grown levels heap.now text.old budget.old (entries_of (dict_at heap.now dict.0)) ≡ Ok (text.new, budget.new)) }
+    ensures fault { IfErr result (λ e. e ≢ ValueFault.Memory → entries_shown grown levels heap.now text.old budget.old (entries_of (dict_at heap.now dict.0)) ≡ Err e) }
 {
     if levels == 0 {
         return Err(ValueFault::Deep);
@@ -119,7 +117,7 @@ fn show_entries(
         let Some(entry) = entry_in(heap, dict, place) else {
             return Ok(());
         };
-        text.push_str(separator(place))?;
+        text.put(separator(place))?;
         show_entry(heap, budget, levels - 1, text, entry)?;
     }
     Ok(())
@@ -130,14 +128,14 @@ fn show_entry(
     heap: &Heap,
     budget: &mut Budget,
     levels: u32,
-    text: &mut String,
+    text: &mut GrowingText,
     entry: Entry,
 ) -> Result<(), ValueFault>
-    ensures ok { OnOk result (onto_entry (show_at levels heap.now true) (string_bytes text.old) budget.old entry ≡ Ok (string_bytes text.new, budget.new)) }
-    ensures fault { IfErr result (λ e. e ≢ ValueFault.Memory → onto_entry (show_at levels heap.now true) (string_bytes text.old) budget.old entry ≡ Err e) }
+    ensures ok { OnOk result (onto_entry grown (show_at grown levels heap.now true) text.old budget.old entry ≡ Ok (text.new, budget.new)) }
+    ensures fault { IfErr result (λ e. e ≢ ValueFault.Memory → onto_entry grown (show_at grown levels heap.now true) text.old budget.old entry ≡ Err e) }
 {
     show_onto(heap, budget, levels, true, text, entry.key)?;
-    text.push_str(": ")?;
+    text.put(": ")?;
     show_onto(heap, budget, levels, true, text, entry.item)?;
     Ok(())
 }
@@ -164,42 +162,41 @@ fn tuple_end(length: usize) -> &'static str
 }
 
 /// Puts what a value shows in which no others stand behind a text.
-fn push_flat(heap: &Heap, quoted: bool, text: &mut String, value: Value) -> Result<(), Memory>
-    ensures { OnOk result (string_bytes text.new ≡ string_bytes text.old ++ flat_text heap.now quoted value) }
+fn push_flat(heap: &Heap, quoted: bool, text: &mut GrowingText, value: Value) -> Result<(), Memory>
+    ensures { OnOk result (text.new ≡ grown text.old (flat_text heap.now quoted value)) }
 {
     match value {
-        Value::Nil => text.push_str("None")?,
-        Value::Bool(true) => text.push_str("True")?,
-        Value::Bool(false) => text.push_str("False")?,
+        Value::Nil => text.put("None")?,
+        Value::Bool(true) => text.put("True")?,
+        Value::Bool(false) => text.put("False")?,
         Value::Int(number) => push_number(heap, text, number)?,
         Value::Text(id) => push_text(heap, quoted, text, heap.text_at(id))?,
-        Value::Func(_) => text.push_str("<function>")?,
-        Value::Builtin(_) => text.push_str("<built-in>")?,
+        Value::Func(_) => text.put("<function>")?,
+        Value::Builtin(_) => text.put("<built-in>")?,
         Value::Object(id) => match heap.shown_of(id) {
-            Some(shown) => text.push_str(shown)?,
-            None => text.push_str("<object>")?,
+            Some(shown) => text.put(shown)?,
+            None => text.put("<object>")?,
         },
-        Value::List(_) | Value::Tuple(_) | Value::Dict(_) => {}
+        Value::List(_) | Value::Tuple(_) | Value::Dict(_) => text.put("")?,
     }
     Ok(())
 }
 
-fn push_number(heap: &Heap, text: &mut String, number: i64) -> Result<(), Memory>
-    ensures { OnOk result (string_bytes text.new ≡ string_bytes text.old ++ decimals number) }
+fn push_number(heap: &Heap, text: &mut GrowingText, number: i64) -> Result<(), Memory>
+    ensures { OnOk result (text.new ≡ grown text.old (decimals number)) }
 {
     let shown = py_text::decimals(heap.allocator(), number)?;
-    text.push_str(shown.as_str())?;
+    text.put(shown.as_str())?;
     Ok(())
 }
 
-fn push_text(heap: &Heap, quoted: bool, text: &mut String, shown: &str) -> Result<(), Memory>
-    ensures { OnOk result (string_bytes text.new ≡ string_bytes text.old ++ (if quoted then in_quotes shown.now else shown.now)) }
+fn push_text(heap: &Heap, quoted: bool, text: &mut GrowingText, shown: &str) -> Result<(), Memory>
+    ensures { OnOk result (text.new ≡ grown text.old (if quoted then in_quotes shown.now else shown.now)) }
 {
     if quoted {
-        let shown = py_text::quoted(heap.allocator(), shown)?;
-        text.push_str(shown.as_str())?;
+        text.put_quoted(heap.allocator(), shown)?;
     } else {
-        text.push_str(shown)?;
+        text.put(shown)?;
     }
     Ok(())
 }

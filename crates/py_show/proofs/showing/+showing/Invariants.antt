@@ -1,6 +1,6 @@
 use Rattle.std.proofs.Common.{◌≡◌, ◌+◌, ◌-◌, ◌*◌, drop, true}
-use Rattle.std.specs.Prelude.{string_bytes}
 use Rattle.py_heap.specs.Heap.{dict_at}
+use Rattle.py_show.specs.Growing.{grown}
 use Rattle.py_show.specs.Showing.{show_at, onto_items, onto_entries, items_shown, entries_shown, entries_of}
 use Rattle.py_show.proofs.showing.+showing.Given as goal
 
@@ -20,7 +20,7 @@ abbrev pub decreases-show_entry : goal.decreases-show_entry
 decreases-show_entry l = 4 * l.levels + 3
 
 abbrev pub invariant-show_items-items : goal.invariant-show_items-items
-invariant-show_items-items l = onto_items (show_at (l.levels - 1) l.heap true) l.place (string_bytes l.text) l.budget (drop l.place l.items) ≡ items_shown l.levels l.heap (string_bytes l.initial.text) l.initial.budget l.items
+invariant-show_items-items l = onto_items grown (show_at grown (l.levels - 1) l.heap true) l.place l.text l.budget (drop l.place l.items) ≡ items_shown grown l.levels l.heap l.initial.text l.initial.budget l.items
 
 abbrev pub invariant-show_entries-places : goal.invariant-show_entries-places
-invariant-show_entries-places l = onto_entries (show_at (l.levels - 1) l.heap true) l.place (string_bytes l.text) l.budget (drop l.place (entries_of (dict_at l.heap l.dict.0))) ≡ entries_shown l.levels l.heap (string_bytes l.initial.text) l.initial.budget (entries_of (dict_at l.heap l.dict.0))
+invariant-show_entries-places l = onto_entries grown (show_at grown (l.levels - 1) l.heap true) l.place l.text l.budget (drop l.place (entries_of (dict_at l.heap l.dict.0))) ≡ entries_shown grown l.levels l.heap l.initial.text l.initial.budget (entries_of (dict_at l.heap l.dict.0))
