@@ -1,8 +1,9 @@
 -- What each form of `src/` stands for: one equation a form.
-use Rattle.std.proofs.Common.{◌≡◌, ℕ, Bool, List, map, refl, sym, ap, ◌∙◌, Some, None}
+use Rattle.std.proofs.Common.{◌≡◌, ℕ, Bool, List, map, sym, ap, ◌∙◌, Some, None}
 use Rattle.std.specs.declared.option.Option.{Option}
 use Rattle.std.specs.declared.boxed.Box.{Box}
 use Rattle.std.specs.declared.vec.Vec.{Vec}
+use Rattle.std.specs.declared.rc.Rc.{Rc}
 use Rattle.std.specs.declared.alloc.Global.{Global}
 use Rattle.py_tree.specs.declared.expr.Constant.{Constant}
 use Rattle.py_tree.specs.declared.expr.Operator.{Operator}
@@ -22,7 +23,7 @@ use Rattle.py_tree.specs.declared.line.Branch.{Branch, fold-roll-Branch, rolls-B
 use Rattle.py_tree.specs.declared.line.Line.TheOpen as lines'
 use Rattle.py_tree.specs.declared.line.Parameter.{Parameter}
 use Rattle.py_tree.specs.declared.line.Simple.{Simple}
-use Rattle.py_tree.specs.Tree.{Tree, nil, cons, absent, word, name, integer, text, constant, group, tuple, list, comprehension, dict, pair, post, attribute, call, named, index, slice, negative, not, chain, operation, compare, simple, branching, branch, for', def, trees, words, optional, optional_tree, argument_step, expr_step, link_step, operation_step, pair_step, expr_tree, link_tree, argument_tree, operation_tree, pair_tree, simple_tree, parameter_tree, line_step, branch_step, line_tree, branch_tree}
+use Rattle.py_tree.specs.Tree.{Tree, absent, name, integer, text, constant, group, tuple, list, comprehension, dict, pair, post, attribute, call, named, index, slice, negative, not, chain, operation, compare, simple, branching, branch, for', def, trees, words, argument_step, expr_step, link_step, operation_step, pair_step, expr_tree, link_tree, argument_tree, operation_tree, pair_tree, simple_tree, parameter_tree, line_step, branch_step, line_tree, branch_tree}
 
 pub expr_tree-Name : (l : ℕ) (n : List ℕ) → expr_tree (expr'.Name l n) ≡ name l n
 unfolding expr_tree link_tree argument_tree operation_tree pair_tree line_tree branch_tree
@@ -142,7 +143,7 @@ pub line_tree-For : (l : ℕ) (ns : Vec (List ℕ) Global) (e : Expr) (ls : Vec 
 unfolding expr_tree link_tree argument_tree operation_tree pair_tree line_tree branch_tree
 line_tree-For l ns e ls = ap line_tree (sym (line'.rolls-For l ns e ls)) ∙ fold-roll-Line Tree Tree line_step branch_step (lines'.For l ns e ls)
 
-pub line_tree-Def : (l : ℕ) (n : List ℕ) (ps : Vec Parameter Global) (ls : Vec Line Global) → line_tree (line'.Def l n ps ls) ≡ def l n (trees (map parameter_tree ps.items)) (trees (map line_tree ls.items))
+pub line_tree-Def : (l : ℕ) (n : List ℕ) (ps : Vec Parameter Global) (ls : Rc (Vec Line Global) Global) → line_tree (line'.Def l n ps ls) ≡ def l n (trees (map parameter_tree ps.items)) (trees (map line_tree ls.value.items))
 unfolding expr_tree link_tree argument_tree operation_tree pair_tree line_tree branch_tree
 line_tree-Def l n ps ls = ap line_tree (sym (line'.rolls-Def l n ps ls)) ∙ fold-roll-Line Tree Tree line_step branch_step (lines'.Def l n ps ls)
 
