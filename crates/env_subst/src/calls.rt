@@ -2,8 +2,6 @@
 ghost use Rattle.std.specs.Prelude.{◌≡◌, ◌≢◌, ◌<◌, ◌+◌, ◌^◌, ⊤, [], ◌∷◌, Ok, Err, OnOk, IfOk, MatchOption, MatchResult, drop, string_bytes};
 ghost use Rattle.env_pieces.specs.Pieces.{pieces_of};
 ghost use Rattle.env_pieces.specs.Forms.{text_of};
-ghost use Rattle.variant_dirs.specs.Variants.{searched, uncopied_in, variant_of};
-ghost use Rattle.std.specs.Option.{option_to_list};
 ghost use Rattle.env_subst.specs.declared.locals.Locals.{Locals};
 ghost use Rattle.env_subst.specs.Settings.{setting_of};
 ghost use Rattle.env_subst.specs.Sayings.{sayings_of, Begins};
@@ -19,10 +17,10 @@ use crate::saying::{First, Saying, Sayings, first_of};
 use crate::setting::Setting;
 use crate::task::{Call, Task};
 use env_pieces::{Pieces, text_of};
-use scons_base::{Memory, PathText, Paths, Text};
+use scons_base::{Memory, Paths, Text};
 use std::alloc::Global;
 use std::mem;
-use variant_dirs::{VariantFault, Variants};
+use variant_dirs::VariantFault;
 
 /// The items of a call.
 pub(crate) fn call_items<'a>(
@@ -139,7 +137,7 @@ fn put_directory<'a>(
         Saying::Read(text) => read_apart(setting, desk, call, text),
         Saying::Plain(text) => put_named(setting, desk, call, text.as_str()),
         Saying::Path(path) => {
-            let found = searched(setting.alloc, &setting.locals.variants, path)?;
+            let found = setting.locals.variants.searched(path)?;
             put_dirs(setting, desk, call, found, 0)
         }
     }
@@ -210,28 +208,6 @@ pub(crate) fn dirs_named(setting: &Setting<'_>, text: &str) -> Result<Paths, Sub
         Ok(found) => Ok(found),
         Err(VariantFault::BadName(fault)) => Err(SubstFault::BadPath(fault)),
         Err(_) => Err(SubstFault::Memory),
-    }
-}
-
-/// A directory, and where sources aren't copied its source.
-pub(crate) fn searched(alloc: Global, variants: &Variants, path: PathText) -> Result<Paths, Memory>
-    ensures { IfOk result (λ p. p ≡ searched variants.now path) }
-{
-    let source = uncopied_source(variants, &path)?;
-    let mut paths = Paths::new(Vec::new(alloc));
-    paths.push(path)?;
-    if let Some(source) = source {
-        paths.push(source)?;
-    }
-    Ok(paths)
-}
-
-fn uncopied_source(variants: &Variants, path: &PathText) -> Result<Option<PathText>, Memory>
-    ensures { IfOk result (λ p. option_to_list p ≡ uncopied_in path.now (variant_of variants.now path.now)) }
-{
-    match variants.variant_of(path) {
-        Some(variant) if !variant.duplicate => path.moved(&variant.dir, &variant.source),
-        _ => Ok(None),
     }
 }
 

@@ -6,7 +6,7 @@ ghost use Rattle.env_subst.specs.Expansions.{dirs_of, dirs_read, text_at, starte
 ghost use Rattle.env_subst.specs.Results.{substituted, search_path};
 ghost use Rattle.env_subst.specs.Desks.{plain, desk_of, left_of, with_task, Leads};
 
-use crate::calls::{dirs_named, more_dirs, more_items, put_read, read_text, searched};
+use crate::calls::{dirs_named, more_dirs, more_items, put_read, read_text};
 use crate::content::{held_by, said};
 use crate::desk::{Desk, Stack, pop, put};
 use crate::fault::SubstFault;
@@ -145,10 +145,7 @@ fn item_dirs(
     match saying {
         Saying::Read(text) => read_dirs(setting, name, text, references),
         Saying::Plain(text) => Ok((dirs_named(setting, text.as_str())?, references)),
-        Saying::Path(path) => Ok((
-            searched(setting.alloc, &setting.locals.variants, path)?,
-            references,
-        )),
+        Saying::Path(path) => Ok((setting.locals.variants.searched(path)?, references)),
     }
 }
 

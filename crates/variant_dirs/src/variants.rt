@@ -144,14 +144,15 @@ impl Variants {
             Err(PathFault::Memory) => return Err(VariantFault::Memory),
             Err(fault) => return Err(VariantFault::BadName(fault)),
         };
-        Ok(self.searched(alloc, path)?)
+        Ok(self.searched(path)?)
     }
 
-    fn searched(&self, alloc: Global, path: PathText) -> Result<Paths, Memory>
+    /// Where a path is looked for: at itself, and then, in a variant directory without copies, at its source.
+    pub fn searched(&self, path: PathText) -> Result<Paths, Memory>
         ensures { IfOk result (λ p. p ≡ searched self.now path) }
     {
         let source = self.uncopied_source(&path)?;
-        let mut paths = Paths::new(Vec::new(alloc));
+        let mut paths = Paths::new(Vec::new(*self.variants.allocator()));
         paths.push(path)?;
         if let Some(source) = source {
             paths.push(source)?;
