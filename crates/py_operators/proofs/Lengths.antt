@@ -1,6 +1,8 @@
 -- The lengths of what is put together.
-use Rattle.std.proofs.Common.{arith, ◌≡◌, ◌∙◌, ◌<◌, ◌+◌, ◌*◌, ◌-◌, ◌^◌, ◌++◌, ℕ, zero, suc, add-one, sym, ap, List, length, Ok, Err, Result, refl}
+use Rattle.std.proofs.Common.{arith, ◌≡◌, ◌∙◌, ◌<◌, ◌+◌, ◌*◌, ◌-◌, ◌^◌, ◌++◌, ℕ, zero, suc, add-one, sym, ap, Bool, true, List, [], ◌∷◌, length, Ok, Err, Result, refl}
+use Rattle.std.specs.Prelude.{◌==◌}
 use Rattle.std.specs.List.{repeat}
+use Rattle.std.proofs.lemmas.Bool.{eqb-true}
 use Rattle.std.proofs.lemmas.List.{length-append, append_assoc, append-nil}
 use Rattle.py_heap.specs.declared.value.Value.{Value}
 use Rattle.py_heap.specs.declared.fault.ValueFault.{ValueFault}
@@ -20,6 +22,15 @@ pub turn_more : {X : Type 0} (n : ℕ) (xs made new : List X) → made ≡ repea
 turn_more n xs made new m e =
     let step : repeat n xs ++ xs ≡ repeat (n + 1) xs = repeat_more n xs ∙ ap (λ k. repeat k xs) (sym (add-one n)) in
     e ∙ ap (λ ys. ys ++ xs) m ∙ step
+
+repeat-nil : {X : Type 0} (n : ℕ) → repeat {A = X} n [] ≡ []
+repeat-nil zero = refl
+repeat-nil (suc n) = repeat-nil n
+
+-- nothing, however often
+pub nothing_repeated : {X : Type 0} (n : ℕ) (xs made : List X) (empty : Bool) → empty ≡ (length xs == 0) → empty ≡ true → made ≡ [] → made ≡ repeat n xs
+nothing_repeated n [] made empty e t m = m ∙ sym (repeat-nil n)
+nothing_repeated n (x ∷ xs) made empty e t m = let none : suc (length xs) ≡ zero = eqb-true (suc (length xs)) zero (sym e ∙ t) in absurd (omega arith)
 
 -- the answer of a call for room, by a length told in 64 bits
 pub room_told : (limit : ℕ) (u : Units) (n told : ℕ) (r : Result Units ValueFault) → limit < 2 ^ 64 - 1 → told ≡ told_length n → room limit u told ≡ r → room limit u n ≡ r
@@ -45,4 +56,4 @@ repeated_stop u xs n told e t h = rw (repeated_room u xs n told (Err e) t h) ref
 pub repeated_go : (u left : Units) (xs made : List Value) (n told : ℕ) → told ≡ told_length (length xs * n) → room list_limit u told ≡ Ok left → made ≡ repeat n xs → paid_items u (repeat n xs) ≡ Ok (made, left)
 repeated_go u left xs made n told t h m = rw (repeated_room u xs n told (Ok left) t h, m) refl
 
-pub ruleset lengths = (turn_more, joined_stop, joined_go, repeated_stop, repeated_go)
+pub ruleset lengths = (turn_more, nothing_repeated, joined_stop, joined_go, repeated_stop, repeated_go)

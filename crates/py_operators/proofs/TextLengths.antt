@@ -5,7 +5,7 @@ use Rattle.py_text.specs.Sizes.{saturated}
 use Rattle.py_heap.specs.declared.fault.ValueFault.{ValueFault}
 use Rattle.py_heap.specs.Units.{Units, room, text_limit, told_length}
 use Rattle.py_compare.specs.Outcomes.{paid_text}
-use Rattle.py_operators.proofs.Lengths.{room_told}
+use Rattle.py_operators.proofs.Lengths.{nothing_repeated, room_told}
 
 joined_room : (u : Units) (s t : List ℕ) (told : ℕ) (r : Result Units ValueFault) → told ≡ told_length (length s + length t) → room text_limit u told ≡ r → room text_limit u (length (s ++ t)) ≡ r
 joined_room u s t told r e h = rw length-append (room_told text_limit u (length s + length t) told r (omega arith) e h)
@@ -23,4 +23,4 @@ made_stop u s told e l h = rw (room_told text_limit u (length s) told (Err e) (o
 pub made_go : (u left : Units) (s made : List ℕ) (told : ℕ) → told ≡ saturated (length s) → room text_limit u told ≡ Ok left → made ≡ s → paid_text u s ≡ Ok (made, left)
 made_go u left s made told l h m = rw (room_told text_limit u (length s) told (Ok left) (omega arith) l h, m) refl
 
-pub ruleset text_lengths = (joined_stop, joined_go, made_stop, made_go)
+pub ruleset text_lengths = (nothing_repeated, joined_stop, joined_go, made_stop, made_go)

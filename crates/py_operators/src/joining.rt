@@ -50,6 +50,9 @@ pub(crate) fn repeated(
 {
     list_room(budget, (items.len() as u64).saturating_mul(times))?;
     let mut made = Values::new(Vec::new(alloc));
+    if items.is_empty() {
+        return Ok(made);
+    }
     'turns: for _ in 0..times {
         made.extend(items)?;
     }

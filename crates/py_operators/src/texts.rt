@@ -32,6 +32,9 @@ fn repeated(alloc: Global, budget: &mut Budget, text: &str, times: u64) -> Resul
     ensures fault { IfErr result (λ e. e ≢ ValueFault.Memory → paid_text budget.old (repeated text.now times) ≡ Err e) }
 {
     text_room(budget, py_text::repeated_length(text, times as usize))?;
+    if text.is_empty() {
+        return Ok(Text::new(String::new(alloc)));
+    }
     let made = py_text::repeated(alloc, text, times as usize)?;
     Ok(Text::new(made))
 }
