@@ -20,6 +20,7 @@ use crate::terminal::{Terminal, strip};
 use py_token::{Keyword, Mark, Token};
 use py_tree::{Branch, Line};
 use std::alloc::Global;
+use std::rc::Rc;
 
 /// A logical line, with the blocks below it.
 #[cycle(line)]
@@ -182,6 +183,7 @@ fn parse_def<'a>(
     };
     let (block, rest) = parse_block(alloc, Site::in_function(), depth - 1, rest)?;
     let name = name.copy()?;
+    let block = Rc::new(alloc, block)?;
     Ok((
         Line::Def {
             line,

@@ -3,6 +3,7 @@ use Rattle.std.proofs.Common.{◌≡◌, ℕ, Bool, List, map, refl, sym, ap, �
 use Rattle.std.specs.declared.option.Option.{Option}
 use Rattle.std.specs.declared.boxed.Box.{Box}
 use Rattle.std.specs.declared.vec.Vec.{Vec}
+use Rattle.std.specs.declared.rc.Rc.{Rc}
 use Rattle.std.specs.declared.alloc.Global.{Global}
 use Rattle.py_tree.specs.declared.expr.Constant.{Constant}
 use Rattle.py_tree.specs.declared.expr.Operator.{Operator}
@@ -142,7 +143,7 @@ pub line_tree-For : (l : ℕ) (ns : Vec (List ℕ) Global) (e : Expr) (ls : Vec 
 unfolding expr_tree link_tree argument_tree operation_tree pair_tree line_tree branch_tree
 line_tree-For l ns e ls = ap line_tree (sym (line'.rolls-For l ns e ls)) ∙ fold-roll-Line Tree Tree line_step branch_step (lines'.For l ns e ls)
 
-pub line_tree-Def : (l : ℕ) (n : List ℕ) (ps : Vec Parameter Global) (ls : Vec Line Global) → line_tree (line'.Def l n ps ls) ≡ def l n (trees (map parameter_tree ps.items)) (trees (map line_tree ls.items))
+pub line_tree-Def : (l : ℕ) (n : List ℕ) (ps : Vec Parameter Global) (ls : Rc (Vec Line Global) Global) → line_tree (line'.Def l n ps ls) ≡ def l n (trees (map parameter_tree ps.items)) (trees (map line_tree ls.value.items))
 unfolding expr_tree link_tree argument_tree operation_tree pair_tree line_tree branch_tree
 line_tree-Def l n ps ls = ap line_tree (sym (line'.rolls-Def l n ps ls)) ∙ fold-roll-Line Tree Tree line_step branch_step (lines'.Def l n ps ls)
 

@@ -151,7 +151,7 @@ abbrev pub line_step : lines'.Line-F Tree Tree → Tree
 line_step (lines'.Simple ss) = simple (trees (map simple_tree ss.items))
 line_step (lines'.If bs ls) = branching (trees bs.items) (trees ls.items)
 line_step (lines'.For l ns e ls) = for' l (words ns.items) (expr_tree e) (trees ls.items)
-line_step (lines'.Def l n ps ls) = def l n (trees (map parameter_tree ps.items)) (trees ls.items)
+line_step (lines'.Def l n ps ls) = def l n (trees (map parameter_tree ps.items)) (trees ls.value.items)
 
 abbrev pub branch_step : lines'.Branch-F Tree Tree → Tree
 branch_step b = branch b.line (expr_tree b.test) (trees b.block.items)

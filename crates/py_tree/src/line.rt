@@ -1,5 +1,6 @@
 use crate::expr::{Expr, Operator};
 use scons_base::Text;
+use std::rc::Rc;
 
 /// A whole script.
 #[derive(Debug, Drop)]
@@ -26,11 +27,12 @@ pub enum Line {
         source: Expr,
         block: Vec<Line>,
     },
+    /// The block is shared with the functions that the line makes.
     Def {
         line: u32,
         name: Text,
         parameters: Vec<Parameter>,
-        block: Vec<Line>,
+        block: Rc<Vec<Line>>,
     },
 }
 

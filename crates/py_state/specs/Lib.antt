@@ -1,0 +1,4 @@
+pub mod Lookups
+pub mod Stops
+pub mod Stores
+pub mod Walks

@@ -1,0 +1,126 @@
+//! `for` and `if`.
+ghost use Rattle.std.specs.Prelude.{◌∷◌};
+ghost use Rattle.py_meaning.specs.States.{State, goes_on};
+ghost use Rattle.py_meaning.specs.States as meaning;
+ghost use Rattle.py_steps.specs.Desks.{tasks_of, values_of};
+ghost use Rattle.py_steps.specs.Todos.{left};
+ghost use Rattle.py_steps.specs.Leads.{Steps, left_with, left_at};
+
+use crate::desk::Desk;
+use crate::task::{Loop, Task};
+use py_heap::{Value, ValueFault, truth};
+use py_state::{Frame, Machine, Stop, Walk, unpacked, value_fault};
+use py_tree::{Branch, Line};
+use scons_base::Text;
+
+/// What the names of a target take: one name the value itself, several its items.
+pub fn shared(
+    machine: &mut Machine,
+    names: &[Text],
+    value: Value,
+) -> Result<Vec<Value>, ValueFault> {
+    if names.len() == 1 {
+        return Ok(vec![in machine.alloc; value]?);
+    }
+    unpacked(&mut machine.heap, value, names.len())
+}
+
+/// Begins a `for`, whose source is there.
+pub fn begin<'a>(
+    machine: &Machine,
+    frame: &Frame,
+    desk: &mut Desk<'a>,
+    turns: Loop<'a>,
+) -> Result<(), Stop>
+    ensures { Steps (left_with (Task.Begin turns.entry) desk.old machine.now frame.now) result (left_at desk.new machine.now frame.now) }
+{
+    let source = desk.take();
+    match Walk::over(&machine.heap, source) {
+        Ok(walk) => desk.push(Task::Turns { turns, walk })?,
+        Err(fault) => return Err(value_fault(frame, turns.line, fault)),
+    }
+    Ok(())
+}
+
+/// A further turn, if there is one.
+pub fn turn<'a>(
+    machine: &mut Machine,
+    frame: &mut Frame,
+    desk: &mut Desk<'a>,
+    turns: Loop<'a>,
+    walk: Walk,
+) -> Result<(), Stop>
+    ensures { Steps (left_with (Task.Turns turns.entry walk) desk.old machine.old frame.old) result (left_at desk.new machine.new frame.new) }
+{
+    let Some((item, rest)) = walk.next(&mut machine.heap)? else {
+        return Ok(());
+    };
+    machine.pay(frame, turns.line)?;
+    desk.push(Task::Turns { turns, walk: rest })?;
+    if let [name] = turns.names {
+        machine.bind(frame, name, item)?;
+    } else {
+        match unpacked(&mut machine.heap, item, turns.names.len()) {
+            Ok(items) => bind_all(machine, frame, turns.names, items.as_slice())?,
+            Err(fault) => return Err(value_fault(frame, turns.line, fault)),
+        }
+    }
+    desk.push(Task::Lines(turns.block))?;
+    Ok(())
+}
+
+/// Binds names to values in turn.
+pub fn bind_all(
+    machine: &mut Machine,
+    frame: &mut Frame,
+    names: &[Text],
+    values: &[Value],
+) -> Result<(), Stop> {
+    'names: for (name, value) in names.iter().zip(values.iter()) {
+        machine.bind(frame, name, *value)?;
+    }
+    Ok(())
+}
+
+/// The test of the next branch, or the lines below `else`.
+pub fn next_branch<'a>(
+    desk: &mut Desk<'a>,
+    branches: &'a [Branch],
+    otherwise: &'a [Line],
+) -> Result<(), Stop>
+    ensures { (s : State) → Steps (left (Task.Branches branches.entry otherwise.entry ∷ tasks_of desk.old) (values_of desk.old) (goes_on s)) result (left (tasks_of desk.new) (values_of desk.new) (goes_on s)) }
+{
+    if let [branch, rest @ ..] = branches {
+        desk.push(Task::Choose {
+            branch,
+            branches: rest,
+            otherwise,
+        })?;
+        desk.push(Task::Evaluate(&branch.test))?;
+    } else {
+        desk.push(Task::Lines(otherwise))?;
+    }
+    Ok(())
+}
+
+/// The lines of a branch whose test is true, or the next one.
+pub fn choose<'a>(
+    machine: &Machine,
+    desk: &mut Desk<'a>,
+    branch: &'a Branch,
+    branches: &'a [Branch],
+    otherwise: &'a [Line],
+) -> Result<(), Stop>
+    ensures { (f : meaning.Frame) → Steps (left_with (Task.Choose branch.entry branches.entry otherwise.entry) desk.old machine.now f) result (left_at desk.new machine.now f) }
+{
+    let test = desk.take();
+    if truth(&machine.heap, test) {
+        desk.push(Task::Lines(branch.block.as_slice()))?;
+    } else {
+        desk.push(Task::Branches {
+            branches,
+            otherwise,
+        })?;
+    }
+    Ok(())
+}
