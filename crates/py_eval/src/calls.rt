@@ -1,13 +1,4 @@
 //! Calls, and the bodies and scripts that they run.
-ghost use Rattle.std.specs.Prelude.{ℕ, map};
-ghost use Rattle.py_tree.specs.Tree.{trees, line_tree};
-ghost use Rattle.py_host.specs.Calls.{arguments_of};
-ghost use Rattle.py_meaning.specs.Jobs.{exec_all, a_value};
-ghost use Rattle.py_meaning.specs.Calls.{begun};
-ghost use Rattle.py_meaning.specs.Evaluates.{plan};
-ghost use Rattle.py_state.specs.Stores.{state_of};
-ghost use Rattle.py_steps.specs.Leads.{Leads, Flows, left_with, left_at};
-ghost use Rattle.py_eval.specs.Bodies.{EndsOrStops, GivesOrStops};
 
 use py_builtins::{call_builtin, takes};
 use py_heap::{Builtin, HostId, Value, ValueFault};
@@ -31,9 +22,7 @@ pub(crate) fn run_body<H: Host>(
     frame: &mut Frame,
     calls: u32,
     lines: &[Line],
-) -> Result<Option<Value>, Stop>
-    ensures { EndsOrStops H.meaning calls (plan (exec_all (trees (map line_tree lines.now))) (state_of machine.old frame.old)) host.old result (state_of machine.new frame.new) host.new }
-{
+) -> Result<Option<Value>, Stop> {
     let mut desk = Desk::new(machine.alloc);
     desk.push(Task::Lines(lines))?;
     'tasks: for _ in 0..u64::MAX {
@@ -57,9 +46,7 @@ fn step<'a, H: Host>(
     calls: u32,
     desk: &mut Desk<'a>,
     task: Task<'a>,
-) -> Result<Flow, Stop>
-    ensures { Flows H.meaning calls (left_with task.entry desk.old machine.old frame.old) host.old result (left_at desk.new machine.new frame.new) host.new (state_of machine.new frame.new) }
-{
+) -> Result<Flow, Stop> {
     match task {
         Task::Call {
             line,
@@ -84,9 +71,7 @@ fn call_task<H: Host>(
     line: u32,
     name: Option<Name>,
     arguments: &[Argument],
-) -> Result<(), Stop>
-    ensures { Leads H.meaning calls (left_with (Task.Call line name arguments.entry) desk.old machine.old frame.old) host.old result (left_at desk.new machine.new frame.new) host.new }
-{
+) -> Result<(), Stop> {
     let values = desk.take_all(arguments.len())?;
     let callee = desk.take();
     let args = arguments_by(machine.alloc, arguments, values.as_slice())?;
@@ -131,9 +116,7 @@ fn call_value<H: Host>(
     line: u32,
     callee: Value,
     args: &Args,
-) -> Result<Value, Stop>
-    ensures { GivesOrStops H.meaning calls (begun line (a_value callee) (arguments_of args.now) (state_of machine.old frame.old)) host.old result (state_of machine.new frame.new) host.new }
-{
+) -> Result<Value, Stop> {
     match callee {
         Value::Func(id) => {
             let Some(function) = machine.function(id)? else {

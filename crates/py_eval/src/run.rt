@@ -1,9 +1,4 @@
 //! First scripts, one after another.
-ghost use Rattle.std.specs.Prelude.{◌≤◌, Result, IfErr, MatchResult};
-ghost use Rattle.py_tree.specs.Tree.{script_tree};
-ghost use Rattle.py_meaning.specs.States.{Out, Fault};
-ghost use Rattle.py_meaning.specs.Evaluates.{Evaluates};
-ghost use Rattle.py_eval.specs.Answers.{Exits, Faults, Gives, HasCause};
 
 use crate::calls::{pay_script, run_script};
 use py_heap::{Budget, Heap};
@@ -22,12 +17,7 @@ pub fn run<H: Host>(
     heap: &mut Heap,
     host: &mut H,
     budget: &mut Budget,
-) -> Result<Exit, EvalFault>
-    ensures found { MatchResult result (λ exit. Exits H.meaning (script_tree script.now) heap.old budget.old host.old exit heap.new budget.new host.new) (λ e. Faults H.meaning (script_tree script.now) heap.old budget.old host.old e host.new) }
-    ensures only { H.meaning.certain host.old → (r : Result Out Fault) (h : _) → Evaluates H.meaning (script_tree script.now) heap.old budget.old host.old r h → Gives result r }
-    ensures later { H.meaning.refusals host.old ≤ H.meaning.refusals host.new }
-    ensures cause { IfErr result (λ e. HasCause e (H.meaning.refusals host.old) (H.meaning.refusals host.new)) }
-{
+) -> Result<Exit, EvalFault> {
     let alloc = heap.allocator();
     let own_heap = mem::replace(heap, Heap::new(alloc));
     let own_budget = mem::replace(budget, Budget::new(0));

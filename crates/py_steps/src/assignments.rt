@@ -1,6 +1,4 @@
 //! Assignments.
-ghost use Rattle.std.specs.Prelude.{ℕ};
-ghost use Rattle.py_steps.specs.Leads.{Leads, Steps, left_with, left_at};
 
 use crate::desk::Desk;
 use crate::expressions::named_line;
@@ -21,9 +19,7 @@ pub fn assign<'a>(
     desk: &mut Desk<'a>,
     line: u32,
     target: &'a Expr,
-) -> Result<(), Stop>
-    ensures { Steps (left_with (Task.Assign line target.entry) desk.old machine.old frame.old) result (left_at desk.new machine.new frame.new) }
-{
+) -> Result<(), Stop> {
     match target {
         Expr::Name { name, .. } => {
             let value = desk.take();
@@ -114,9 +110,7 @@ pub fn load<H: Host>(
     frame: &Frame,
     desk: &mut Desk<'_>,
     line: u32,
-) -> Result<(), Stop>
-    ensures { (c : ℕ) → Leads H.meaning c (left_with (Task.Load line) desk.old machine.old frame.now) host.old result (left_at desk.new machine.new frame.now) host.new }
-{
+) -> Result<(), Stop> {
     let value = item(machine, host, frame, line, desk.second(), desk.top())?;
     desk.give(value)?;
     Ok(())
@@ -129,9 +123,7 @@ pub fn combine(
     desk: &mut Desk<'_>,
     line: u32,
     operator: Operator,
-) -> Result<(), Stop>
-    ensures { Steps (left_with (Task.Augment line operator) desk.old machine.old frame.now) result (left_at desk.new machine.new frame.now) }
-{
+) -> Result<(), Stop> {
     let right = desk.take();
     let left = desk.take();
     match augmented(
@@ -154,9 +146,7 @@ pub fn store_below<H: Host>(
     frame: &Frame,
     desk: &mut Desk<'_>,
     line: u32,
-) -> Result<(), Stop>
-    ensures { (c : ℕ) → Leads H.meaning c (left_with (Task.StoreBelow line) desk.old machine.old frame.now) host.old result (left_at desk.new machine.new frame.now) host.new }
-{
+) -> Result<(), Stop> {
     let key = desk.take();
     let base = desk.take();
     let value = desk.take();
@@ -170,9 +160,7 @@ pub fn store_above<H: Host>(
     frame: &Frame,
     desk: &mut Desk<'_>,
     line: u32,
-) -> Result<(), Stop>
-    ensures { (c : ℕ) → Leads H.meaning c (left_with (Task.StoreAbove line) desk.old machine.old frame.now) host.old result (left_at desk.new machine.new frame.now) host.new }
-{
+) -> Result<(), Stop> {
     let value = desk.take();
     let key = desk.take();
     let base = desk.take();

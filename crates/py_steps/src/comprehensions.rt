@@ -1,6 +1,4 @@
 //! Comprehensions.
-ghost use Rattle.py_meaning.specs.States as meaning;
-ghost use Rattle.py_steps.specs.Leads.{Steps, left_with, left_at};
 
 use crate::desk::Desk;
 use crate::expressions::{Shape, display};
@@ -16,9 +14,7 @@ pub fn comprehend<'a>(
     frame: &mut Frame,
     desk: &mut Desk<'a>,
     comprehension: Comprehension<'a>,
-) -> Result<(), Stop>
-    ensures { Steps (left_with (Task.Comprehend comprehension.entry) desk.old machine.now frame.old) result (left_at desk.new machine.now frame.new) }
-{
+) -> Result<(), Stop> {
     let source = desk.take();
     let walk = match Walk::over(&machine.heap, source) {
         Ok(walk) => walk,
@@ -39,9 +35,7 @@ pub fn collect<'a>(
     frame: &mut Frame,
     desk: &mut Desk<'a>,
     collecting: Collecting<'a>,
-) -> Result<(), Stop>
-    ensures { Steps (left_with (Task.Collect collecting.entry) desk.old machine.old frame.old) result (left_at desk.new machine.new frame.new) }
-{
+) -> Result<(), Stop> {
     let Collecting {
         comprehension,
         walk,
@@ -78,9 +72,7 @@ pub fn test<'a>(
     desk: &mut Desk<'a>,
     collecting: Collecting<'a>,
     tests: &'a [Expr],
-) -> Result<(), Stop>
-    ensures { Steps (left_with (Task.Tests collecting.entry tests.entry) desk.old machine.old frame.now) result (left_at desk.new machine.new frame.now) }
-{
+) -> Result<(), Stop> {
     if let [first, rest @ ..] = tests {
         machine.pay(frame, collecting.comprehension.line)?;
         desk.push(Task::Tested {
@@ -105,9 +97,7 @@ pub fn tested<'a>(
     desk: &mut Desk<'a>,
     collecting: Collecting<'a>,
     tests: &'a [Expr],
-) -> Result<(), Stop>
-    ensures { (f : meaning.Frame) → Steps (left_with (Task.Tested collecting.entry tests.entry) desk.old machine.now f) result (left_at desk.new machine.now f) }
-{
+) -> Result<(), Stop> {
     let value = desk.take();
     if truth(&machine.heap, value) {
         desk.push(Task::Tests { collecting, tests })?;

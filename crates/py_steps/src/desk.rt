@@ -1,6 +1,4 @@
 //! The tasks that are left in a body, and the values that they take.
-ghost use Rattle.std.specs.Prelude.{◌≡◌, ◌∷◌, [], IfOk, OnOk, OnErr, MatchOption, drop};
-ghost use Rattle.py_steps.specs.Desks.{stacks_of, tasks_of, values_of, top, below, taken, in_loop, past_loop};
 
 use crate::task::Task;
 use py_heap::Value;
@@ -15,41 +13,30 @@ pub struct Desk<'a> {
 }
 
 impl<'a> Desk<'a> {
-    pub fn new(alloc: Global) -> Desk<'a>
-        ensures { stacks_of result ≡ record { tasks = []; values = [] } }
-    {
+    pub fn new(alloc: Global) -> Desk<'a> {
         Desk {
             tasks: Vec::new(alloc),
             values: Vec::new(alloc),
         }
     }
 
-    pub fn push(&mut self, task: Task<'a>) -> Result<(), Memory>
-        ensures { OnOk result (stacks_of self.new ≡ record (stacks_of self.old) { tasks = task.entry ∷ tasks_of self.old }) }
-    {
+    pub fn push(&mut self, task: Task<'a>) -> Result<(), Memory> {
         self.tasks.push(task)?;
         Ok(())
     }
 
     /// The uppermost task, which is taken.
-    pub fn next(&mut self) -> Option<Task<'a>>
-        ensures { MatchOption result ((tasks_of self.old ≡ []) × (stacks_of self.new ≡ stacks_of self.old)) (λ t. (tasks_of self.old ≡ t ∷ tasks_of self.new) × (values_of self.new ≡ values_of self.old)) }
-    {
+    pub fn next(&mut self) -> Option<Task<'a>> {
         self.tasks.pop()
     }
 
-    pub fn give(&mut self, value: Value) -> Result<(), Memory>
-        ensures { OnOk result (stacks_of self.new ≡ record (stacks_of self.old) { values = value ∷ values_of self.old }) }
-    {
+    pub fn give(&mut self, value: Value) -> Result<(), Memory> {
         self.values.push(value)?;
         Ok(())
     }
 
     /// The uppermost value, which is taken; None where there is none.
-    pub fn take(&mut self) -> Value
-        ensures value { result ≡ top (values_of self.old) }
-        ensures left { stacks_of self.new ≡ record (stacks_of self.old) { values = below (values_of self.old) } }
-    {
+    pub fn take(&mut self) -> Value {
         match self.values.pop() {
             Some(value) => value,
             None => Value::Nil,
@@ -57,9 +44,7 @@ impl<'a> Desk<'a> {
     }
 
     /// The uppermost value, which stays.
-    pub fn top(&self) -> Value
-        ensures { result ≡ top (values_of self.now) }
-    {
+    pub fn top(&self) -> Value {
         match self.values.last() {
             Some(value) => *value,
             None => Value::Nil,
@@ -67,9 +52,7 @@ impl<'a> Desk<'a> {
     }
 
     /// The value below the uppermost one.
-    pub fn second(&self) -> Value
-        ensures { result ≡ top (below (values_of self.now)) }
-    {
+    pub fn second(&self) -> Value {
         let count = self.values.len();
         if count < 2 {
             return Value::Nil;
@@ -78,19 +61,14 @@ impl<'a> Desk<'a> {
     }
 
     /// So many of the uppermost values, which are taken, in the order in which they were given.
-    pub fn take_all(&mut self, count: usize) -> Result<Vec<Value>, Memory>
-        ensures values { IfOk result (λ vs. vs.items ≡ taken count (values_of self.old)) }
-        ensures left { OnOk result (stacks_of self.new ≡ record (stacks_of self.old) { values = drop count (values_of self.old) }) }
-    {
+    pub fn take_all(&mut self, count: usize) -> Result<Vec<Value>, Memory> {
         let from = self.values.len().saturating_sub(count);
         let taken = self.values.split_off(from)?;
         Ok(taken)
     }
 
     /// Leaves the innermost loop.
-    pub fn break_loop(&mut self)
-        ensures { stacks_of self.new ≡ record (stacks_of self.old) { tasks = past_loop (tasks_of self.old) } }
-    {
+    pub fn break_loop(&mut self) {
         'tasks: while let Some(task) = self.tasks.pop() {
             if let Task::Turns { .. } = task {
                 return;
@@ -99,9 +77,7 @@ impl<'a> Desk<'a> {
     }
 
     /// Goes on with the next turn of the innermost loop.
-    pub fn continue_loop(&mut self)
-        ensures { stacks_of self.new ≡ record (stacks_of self.old) { tasks = in_loop (tasks_of self.old) } }
-    {
+    pub fn continue_loop(&mut self) {
         'tasks: while let Some(task) = self.tasks.last() {
             if let Task::Turns { .. } = task {
                 return;

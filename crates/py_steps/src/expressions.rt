@@ -1,9 +1,4 @@
 //! Expressions.
-ghost use Rattle.std.specs.Prelude.{ℕ, ◌∷◌};
-ghost use Rattle.py_meaning.specs.States.{State, goes_on};
-ghost use Rattle.py_steps.specs.Desks.{tasks_of, values_of};
-ghost use Rattle.py_steps.specs.Todos.{left};
-ghost use Rattle.py_steps.specs.Leads.{Leads, Steps, left_with, left_at};
 
 use crate::desk::Desk;
 use crate::task::{Comprehension, Task};
@@ -22,9 +17,7 @@ pub fn evaluate<'a, H: Host>(
     frame: &Frame,
     desk: &mut Desk<'a>,
     expr: &'a Expr,
-) -> Result<(), Stop>
-    ensures { (c : ℕ) → Leads H.meaning c (left_with (Task.Evaluate expr.entry) desk.old machine.old frame.now) host.old result (left_at desk.new machine.new frame.now) host.new }
-{
+) -> Result<(), Stop> {
     match expr {
         Expr::Name { line, name } => {
             let value = named(machine, host, frame, *line, name)?;
@@ -121,9 +114,7 @@ pub fn named_line(atom: &Expr) -> Option<u32> {
 }
 
 /// The first of some expressions, and then the others.
-pub fn evaluate_all<'a>(desk: &mut Desk<'a>, exprs: &'a [Expr]) -> Result<(), Stop>
-    ensures { (s : State) → Steps (left (Task.EvaluateAll exprs.entry ∷ tasks_of desk.old) (values_of desk.old) (goes_on s)) result (left (tasks_of desk.new) (values_of desk.new) (goes_on s)) }
-{
+pub fn evaluate_all<'a>(desk: &mut Desk<'a>, exprs: &'a [Expr]) -> Result<(), Stop> {
     if let [first, rest @ ..] = exprs {
         desk.push(Task::EvaluateAll(rest))?;
         desk.push(Task::Evaluate(first))?;
@@ -131,9 +122,7 @@ pub fn evaluate_all<'a>(desk: &mut Desk<'a>, exprs: &'a [Expr]) -> Result<(), St
     Ok(())
 }
 
-pub fn evaluate_pairs<'a>(desk: &mut Desk<'a>, pairs: &'a [Pair]) -> Result<(), Stop>
-    ensures { (s : State) → Steps (left (Task.Pairs pairs.entry ∷ tasks_of desk.old) (values_of desk.old) (goes_on s)) result (left (tasks_of desk.new) (values_of desk.new) (goes_on s)) }
-{
+pub fn evaluate_pairs<'a>(desk: &mut Desk<'a>, pairs: &'a [Pair]) -> Result<(), Stop> {
     if let [first, rest @ ..] = pairs {
         desk.push(Task::Pairs(rest))?;
         desk.push(Task::Evaluate(&first.value))?;
@@ -142,9 +131,7 @@ pub fn evaluate_pairs<'a>(desk: &mut Desk<'a>, pairs: &'a [Pair]) -> Result<(), 
     Ok(())
 }
 
-pub fn evaluate_arguments<'a>(desk: &mut Desk<'a>, arguments: &'a [Argument]) -> Result<(), Stop>
-    ensures { (s : State) → Steps (left (Task.Arguments arguments.entry ∷ tasks_of desk.old) (values_of desk.old) (goes_on s)) result (left (tasks_of desk.new) (values_of desk.new) (goes_on s)) }
-{
+pub fn evaluate_arguments<'a>(desk: &mut Desk<'a>, arguments: &'a [Argument]) -> Result<(), Stop> {
     if let [first, rest @ ..] = arguments {
         desk.push(Task::Arguments(rest))?;
         match first {
@@ -218,9 +205,7 @@ pub fn negated(
     frame: &Frame,
     desk: &mut Desk<'_>,
     line: u32,
-) -> Result<(), Stop>
-    ensures { Steps (left_with (Task.Negate line) desk.old machine.old frame.now) result (left_at desk.new machine.new frame.now) }
-{
+) -> Result<(), Stop> {
     let operand = desk.take();
     match negate(&mut machine.heap, &mut machine.budget, operand) {
         Ok(value) => desk.give(value)?,
@@ -241,9 +226,7 @@ pub fn operated(
     desk: &mut Desk<'_>,
     line: u32,
     op: Op,
-) -> Result<(), Stop>
-    ensures { Steps (left_with (Task.Binary line op) desk.old machine.old frame.now) result (left_at desk.new machine.new frame.now) }
-{
+) -> Result<(), Stop> {
     let right = desk.take();
     let left = desk.take();
     match binary(&mut machine.heap, &mut machine.budget, op, left, right) {

@@ -1,6 +1,4 @@
 //! Calls, indices and attributes behind an atom.
-ghost use Rattle.std.specs.Prelude.{ℕ};
-ghost use Rattle.py_steps.specs.Leads.{Leads, Steps, left_with, left_at};
 
 use crate::desk::Desk;
 use crate::task::Task;
@@ -21,9 +19,7 @@ pub fn link<'a, H: Host>(
     desk: &mut Desk<'a>,
     links: &'a [Link],
     named: Option<u32>,
-) -> Result<(), Stop>
-    ensures { (c : ℕ) → Leads H.meaning c (left_with (Task.Links links.entry named) desk.old machine.old frame.now) host.old result (left_at desk.new machine.new frame.now) host.new }
-{
+) -> Result<(), Stop> {
     let [first, rest @ ..] = links else {
         return Ok(());
     };
@@ -155,9 +151,7 @@ pub fn indexed<H: Host>(
     frame: &Frame,
     desk: &mut Desk<'_>,
     line: u32,
-) -> Result<(), Stop>
-    ensures { (c : ℕ) → Leads H.meaning c (left_with (Task.Index line) desk.old machine.old frame.now) host.old result (left_at desk.new machine.new frame.now) host.new }
-{
+) -> Result<(), Stop> {
     let key = desk.take();
     let base = desk.take();
     let value = item(machine, host, frame, line, base, key)?;
@@ -172,9 +166,7 @@ pub fn sliced(
     line: u32,
     from: bool,
     to: bool,
-) -> Result<(), Stop>
-    ensures { Steps (left_with (Task.Slice line from to) desk.old machine.old frame.now) result (left_at desk.new machine.new frame.now) }
-{
+) -> Result<(), Stop> {
     let to = if to { Some(desk.take()) } else { None };
     let from = if from { Some(desk.take()) } else { None };
     let base = desk.take();

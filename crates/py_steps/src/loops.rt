@@ -1,10 +1,4 @@
 //! `for` and `if`.
-ghost use Rattle.std.specs.Prelude.{◌∷◌};
-ghost use Rattle.py_meaning.specs.States.{State, goes_on};
-ghost use Rattle.py_meaning.specs.States as meaning;
-ghost use Rattle.py_steps.specs.Desks.{tasks_of, values_of};
-ghost use Rattle.py_steps.specs.Todos.{left};
-ghost use Rattle.py_steps.specs.Leads.{Steps, left_with, left_at};
 
 use crate::desk::Desk;
 use crate::task::{Loop, Task};
@@ -31,9 +25,7 @@ pub fn begin<'a>(
     frame: &Frame,
     desk: &mut Desk<'a>,
     turns: Loop<'a>,
-) -> Result<(), Stop>
-    ensures { Steps (left_with (Task.Begin turns.entry) desk.old machine.now frame.now) result (left_at desk.new machine.now frame.now) }
-{
+) -> Result<(), Stop> {
     let source = desk.take();
     match Walk::over(&machine.heap, source) {
         Ok(walk) => desk.push(Task::Turns { turns, walk })?,
@@ -49,9 +41,7 @@ pub fn turn<'a>(
     desk: &mut Desk<'a>,
     turns: Loop<'a>,
     walk: Walk,
-) -> Result<(), Stop>
-    ensures { Steps (left_with (Task.Turns turns.entry walk) desk.old machine.old frame.old) result (left_at desk.new machine.new frame.new) }
-{
+) -> Result<(), Stop> {
     let Some((item, rest)) = walk.next(&mut machine.heap)? else {
         return Ok(());
     };
@@ -87,9 +77,7 @@ pub fn next_branch<'a>(
     desk: &mut Desk<'a>,
     branches: &'a [Branch],
     otherwise: &'a [Line],
-) -> Result<(), Stop>
-    ensures { (s : State) → Steps (left (Task.Branches branches.entry otherwise.entry ∷ tasks_of desk.old) (values_of desk.old) (goes_on s)) result (left (tasks_of desk.new) (values_of desk.new) (goes_on s)) }
-{
+) -> Result<(), Stop> {
     if let [branch, rest @ ..] = branches {
         desk.push(Task::Choose {
             branch,
@@ -110,9 +98,7 @@ pub fn choose<'a>(
     branch: &'a Branch,
     branches: &'a [Branch],
     otherwise: &'a [Line],
-) -> Result<(), Stop>
-    ensures { (f : meaning.Frame) → Steps (left_with (Task.Choose branch.entry branches.entry otherwise.entry) desk.old machine.now f) result (left_at desk.new machine.now f) }
-{
+) -> Result<(), Stop> {
     let test = desk.take();
     if truth(&machine.heap, test) {
         desk.push(Task::Lines(branch.block.as_slice()))?;

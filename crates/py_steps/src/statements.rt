@@ -1,6 +1,4 @@
 //! Lines and statements.
-ghost use Rattle.py_state.specs.Stores.{state_of};
-ghost use Rattle.py_steps.specs.Leads.{Steps, StepsOrReturns, left_with, left_at};
 
 use crate::assignments::augment;
 use crate::desk::Desk;
@@ -15,9 +13,7 @@ pub fn run_lines<'a>(
     frame: &Frame,
     desk: &mut Desk<'a>,
     lines: &'a [Line],
-) -> Result<(), Stop>
-    ensures { Steps (left_with (Task.Lines lines.entry) desk.old machine.old frame.now) result (left_at desk.new machine.new frame.now) }
-{
+) -> Result<(), Stop> {
     let [first, rest @ ..] = lines else {
         return Ok(());
     };
@@ -93,9 +89,7 @@ pub fn run_statements<'a>(
     frame: &Frame,
     desk: &mut Desk<'a>,
     statements: &'a [Simple],
-) -> Result<Flow, Stop>
-    ensures { StepsOrReturns (left_with (Task.Statements statements.entry) desk.old machine.old frame.now) result (left_at desk.new machine.new frame.now) (state_of machine.new frame.now) }
-{
+) -> Result<Flow, Stop> {
     let [first, rest @ ..] = statements else {
         return Ok(Flow::GoesOn);
     };
@@ -145,9 +139,7 @@ pub fn define(
     frame: &mut Frame,
     desk: &mut Desk<'_>,
     definition: Definition<'_>,
-) -> Result<(), Stop>
-    ensures { Steps (left_with (Task.Define definition.entry) desk.old machine.old frame.old) result (left_at desk.new machine.new frame.new) }
-{
+) -> Result<(), Stop> {
     let with_default = definition
         .parameters
         .iter()

@@ -1,7 +1,4 @@
 //! A task, by its kind.
-ghost use Rattle.std.specs.Prelude.{ℕ};
-ghost use Rattle.py_state.specs.Stores.{state_of};
-ghost use Rattle.py_steps.specs.Leads.{Flows, left_with, left_at};
 
 use crate::assignments::{assign, combine, load, store_above, store_below};
 use crate::comprehensions::{collect, comprehend, test, tested};
@@ -24,9 +21,7 @@ pub fn step<'a, H: Host>(
     frame: &mut Frame,
     desk: &mut Desk<'a>,
     task: Task<'a>,
-) -> Result<Flow, Stop>
-    ensures { (c : ℕ) → Flows H.meaning c (left_with task.entry desk.old machine.old frame.old) host.old result (left_at desk.new machine.new frame.new) host.new (state_of machine.new frame.new) }
-{
+) -> Result<Flow, Stop> {
     match task {
         Task::Statements(statements) => return run_statements(machine, frame, desk, statements),
         Task::Return => return Ok(Flow::Returns(desk.take())),
