@@ -1,4 +1,6 @@
 //! Calls, and the bodies and scripts that they run.
+ghost use Rattle.std.specs.Prelude.{◌≡◌, ◌≤◌, IfErr};
+ghost use Rattle.py_state.specs.Stops.{refusals_told, Told};
 
 use py_builtins::{call_builtin, takes};
 use py_heap::{Builtin, HostId, Value, ValueFault};
@@ -22,7 +24,10 @@ pub(crate) fn run_body<H: Host>(
     frame: &mut Frame,
     calls: u32,
     lines: &[Line],
-) -> Result<Option<Value>, Stop> {
+) -> Result<Option<Value>, Stop>
+    ensures later { H.meaning.refusals host.old ≤ H.meaning.refusals host.new }
+    ensures cause { IfErr result (λ e. Told e (H.meaning.refusals host.old) (H.meaning.refusals host.new)) }
+{
     let mut desk = Desk::new(machine.alloc);
     desk.push(Task::Lines(lines))?;
     'tasks: for _ in 0..u64::MAX {
@@ -46,7 +51,10 @@ fn step<'a, H: Host>(
     calls: u32,
     desk: &mut Desk<'a>,
     task: Task<'a>,
-) -> Result<Flow, Stop> {
+) -> Result<Flow, Stop>
+    ensures later { H.meaning.refusals host.old ≤ H.meaning.refusals host.new }
+    ensures cause { IfErr result (λ e. Told e (H.meaning.refusals host.old) (H.meaning.refusals host.new)) }
+{
     match task {
         Task::Call {
             line,
@@ -71,7 +79,10 @@ fn call_task<H: Host>(
     line: u32,
     name: Option<Name>,
     arguments: &[Argument],
-) -> Result<(), Stop> {
+) -> Result<(), Stop>
+    ensures later { H.meaning.refusals host.old ≤ H.meaning.refusals host.new }
+    ensures cause { IfErr result (λ e. Told e (H.meaning.refusals host.old) (H.meaning.refusals host.new)) }
+{
     let values = desk.take_all(arguments.len())?;
     let callee = desk.take();
     let args = arguments_by(machine.alloc, arguments, values.as_slice())?;
@@ -92,7 +103,9 @@ fn call_method(
     value: Value,
     name: Name,
     args: &Args,
-) -> Result<Value, Stop> {
+) -> Result<Value, Stop>
+    ensures { IfErr result (λ e. refusals_told e ≡ 0) }
+{
     let count = args.positional.len();
     if args.named.len() != 0 || !name.takes(count) {
         return Err(fault(frame, line, EvalKind::Args));
@@ -116,7 +129,10 @@ fn call_value<H: Host>(
     line: u32,
     callee: Value,
     args: &Args,
-) -> Result<Value, Stop> {
+) -> Result<Value, Stop>
+    ensures later { H.meaning.refusals host.old ≤ H.meaning.refusals host.new }
+    ensures cause { IfErr result (λ e. Told e (H.meaning.refusals host.old) (H.meaning.refusals host.new)) }
+{
     match callee {
         Value::Func(id) => {
             let Some(function) = machine.function(id)? else {
@@ -165,7 +181,10 @@ fn call_function<H: Host>(
     calls: u32,
     function: Rc<Function>,
     names: Scope,
-) -> Result<Value, Stop> {
+) -> Result<Value, Stop>
+    ensures later { H.meaning.refusals host.old ≤ H.meaning.refusals host.new }
+    ensures cause { IfErr result (λ e. Told e (H.meaning.refusals host.old) (H.meaning.refusals host.new)) }
+{
     let body = function.body.clone()?;
     let mut frame = Frame::of_function(machine.alloc, running, function, names);
     let lines = body.as_slice();
@@ -182,7 +201,10 @@ fn do_builtin<H: Host>(
     line: u32,
     builtin: Builtin,
     args: &[Value],
-) -> Result<Value, Stop> {
+) -> Result<Value, Stop>
+    ensures later { H.meaning.refusals host.old ≤ H.meaning.refusals host.new }
+    ensures cause { IfErr result (λ e. Told e (H.meaning.refusals host.old) (H.meaning.refusals host.new)) }
+{
     if builtin == Builtin::Print {
         return print(machine, host, frame, line, args);
     }
@@ -199,7 +221,10 @@ fn print<H: Host>(
     frame: &Frame,
     line: u32,
     values: &[Value],
-) -> Result<Value, Stop> {
+) -> Result<Value, Stop>
+    ensures later { H.meaning.refusals host.old ≤ H.meaning.refusals host.new }
+    ensures cause { IfErr result (λ e. Told e (H.meaning.refusals host.old) (H.meaning.refusals host.new)) }
+{
     let text = match printed(machine, values) {
         Ok(text) => text,
         Err(fault) => return Err(value_fault(frame, line, fault)),
@@ -235,7 +260,10 @@ fn call_object<H: Host>(
     line: u32,
     object: HostId,
     args: &Args,
-) -> Result<Value, Stop> {
+) -> Result<Value, Stop>
+    ensures later { H.meaning.refusals host.old ≤ H.meaning.refusals host.new }
+    ensures cause { IfErr result (λ e. Told e (H.meaning.refusals host.old) (H.meaning.refusals host.new)) }
+{
     let answer = ask_call(machine, host, frame, object, args);
     let mut reply = match answer {
         Ok(reply) => reply,
@@ -263,7 +291,9 @@ fn call_object<H: Host>(
 }
 
 /// One unit for a script that begins behind another one, on its first line.
-pub(crate) fn pay_script(machine: &mut Machine) -> Result<(), Stop> {
+pub(crate) fn pay_script(machine: &mut Machine) -> Result<(), Stop>
+    ensures { IfErr result (λ e. refusals_told e ≡ 0) }
+{
     let frame = Frame::of_script(machine.alloc, machine.globals.len() as u64);
     machine.pay(&frame, 1)
 }
@@ -277,7 +307,10 @@ fn run_inner<H: Host>(
     calls: u32,
     line: u32,
     script: &Script,
-) -> Result<Reply, Stop> {
+) -> Result<Reply, Stop>
+    ensures later { H.meaning.refusals host.old ≤ H.meaning.refusals host.new }
+    ensures cause { IfErr result (λ e. Told e (H.meaning.refusals host.old) (H.meaning.refusals host.new)) }
+{
     let number = machine.begin_script()?;
     let _returned = run_script(machine, host, calls, number, script.lines.as_slice())?;
     match ask_done(machine, host, number) {
@@ -294,7 +327,10 @@ pub(crate) fn run_script<H: Host>(
     calls: u32,
     number: u64,
     lines: &[Line],
-) -> Result<bool, Stop> {
+) -> Result<bool, Stop>
+    ensures later { H.meaning.refusals host.old ≤ H.meaning.refusals host.new }
+    ensures cause { IfErr result (λ e. Told e (H.meaning.refusals host.old) (H.meaning.refusals host.new)) }
+{
     let mut frame = Frame::of_script(machine.alloc, number);
     match run_body(machine, host, &mut frame, calls, lines) {
         Ok(_) => Ok(false),

@@ -1,4 +1,7 @@
 //! First scripts, one after another.
+ghost use Rattle.std.specs.Prelude.{◌≡◌, ◌≤◌, IfErr, length};
+ghost use Rattle.py_state.specs.Stops.{Told, refusal_stop};
+ghost use Rattle.py_eval.specs.Answers.{HasCause};
 
 use crate::calls::{pay_script, run_script};
 use py_heap::{Budget, Heap};
@@ -17,7 +20,10 @@ pub fn run<H: Host>(
     heap: &mut Heap,
     host: &mut H,
     budget: &mut Budget,
-) -> Result<Exit, EvalFault> {
+) -> Result<Exit, EvalFault>
+    ensures later { H.meaning.refusals host.old ≤ H.meaning.refusals host.new }
+    ensures cause { IfErr result (λ e. HasCause e (H.meaning.refusals host.old) (H.meaning.refusals host.new)) }
+{
     let alloc = heap.allocator();
     let own_heap = mem::replace(heap, Heap::new(alloc));
     let own_budget = mem::replace(budget, Budget::new(0));
@@ -40,7 +46,10 @@ pub fn run<H: Host>(
     }
 }
 
-fn run_first<H: Host>(machine: &mut Machine, host: &mut H, script: &Script) -> Result<Exit, Stop> {
+fn run_first<H: Host>(machine: &mut Machine, host: &mut H, script: &Script) -> Result<Exit, Stop>
+    ensures later { H.meaning.refusals host.old ≤ H.meaning.refusals host.new }
+    ensures cause { IfErr result (λ e. Told e (H.meaning.refusals host.old) (H.meaning.refusals host.new)) }
+{
     let mut exit = begin_first(machine, host, script)?;
     'scripts: for _ in 0..u64::MAX {
         let next = match host.next_script(&mut machine.heap) {
@@ -57,11 +66,10 @@ fn run_first<H: Host>(machine: &mut Machine, host: &mut H, script: &Script) -> R
 }
 
 /// Runs a first script from its beginning.
-fn begin_first<H: Host>(
-    machine: &mut Machine,
-    host: &mut H,
-    script: &Script,
-) -> Result<Exit, Stop> {
+fn begin_first<H: Host>(machine: &mut Machine, host: &mut H, script: &Script) -> Result<Exit, Stop>
+    ensures later { H.meaning.refusals host.old ≤ H.meaning.refusals host.new }
+    ensures cause { IfErr result (λ e. Told e (H.meaning.refusals host.old) (H.meaning.refusals host.new)) }
+{
     let number = machine.begin_script()?;
     if run_script(machine, host, CALL_LIMIT, number, script.lines.as_slice())? {
         Ok(Exit::Returned)
@@ -71,7 +79,9 @@ fn begin_first<H: Host>(
 }
 
 /// A refusal is told of the script that would be next, on its first line.
-fn refused_next(machine: &Machine, refusal: HostRefusal) -> Stop {
+fn refused_next(machine: &Machine, refusal: HostRefusal) -> Stop
+    ensures { result ≡ refusal_stop (length machine.now.globals.items) 1 refusal }
+{
     let frame = Frame::of_script(machine.alloc, machine.globals.len() as u64);
     refused(&frame, 1, refusal)
 }

@@ -1,5 +1,5 @@
 -- Why a body isn't run any further, by where it is and what was at fault.
-use Rattle.std.specs.Prelude.{ℕ}
+use Rattle.std.specs.Prelude.{ℕ, ◌+◌, ◌-◌, ◌^◌, ◌≤◌, min}
 use Rattle.py_heap.specs.declared.fault.ValueFault.{ValueFault}
 use Rattle.py_heap.specs.declared.fault.ValueFault.TheVariants as fault
 use Rattle.py_host.specs.declared.refusal.HostRefusal.{HostRefusal}
@@ -16,3 +16,12 @@ value_stop script line e = stop.Fault script line (kind.Value e)
 abbrev pub refusal_stop : ℕ → ℕ → HostRefusal → Stop
 refusal_stop script line refusal.Memory = stop.Memory
 refusal_stop script line refusal.Host = stop.Fault script line kind.Host
+
+-- how many refusals of the host a stop tells
+abbrev pub refusals_told : Stop → ℕ
+refusals_told (stop.Fault script line kind.Host) = 1
+refusals_told other = 0
+
+-- those that a stop tells were counted
+abbrev pub Told : Stop → ℕ → ℕ → Type 0
+Told e before now = min (before + refusals_told e) (2 ^ 64 - 1) ≤ now

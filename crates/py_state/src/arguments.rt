@@ -1,8 +1,5 @@
 //! Arguments and parameters.
-ghost use Rattle.std.specs.Prelude.{◌≡◌, IfOk, map, Some, None};
-ghost use Rattle.py_host.specs.Calls.{arguments_of};
-ghost use Rattle.py_tree.specs.Tree.{trees, argument_tree};
-ghost use Rattle.py_meaning.specs.Arguments.{arguments_by, bound};
+ghost use Rattle.std.specs.Prelude.{◌≡◌, IfOk};
 
 use crate::function::{Bindable, Function};
 use py_heap::Value;
@@ -12,10 +9,11 @@ use scons_base::{Memory, Text};
 use std::alloc::Global;
 
 /// The arguments that stand in a call, with their values.
-#[tactic(auto, using(crate::proofs::Trees::views))]
-pub fn arguments_by(alloc: Global, arguments: &[Argument], values: &[Value]) -> Result<Args, Memory>
-    ensures { IfOk result (λ args. arguments_of args ≡ arguments_by (trees (map argument_tree arguments.now)) values.now) }
-{
+pub fn arguments_by(
+    alloc: Global,
+    arguments: &[Argument],
+    values: &[Value],
+) -> Result<Args, Memory> {
     let mut positional = Vec::new(alloc);
     let mut named = Scope::new(alloc);
     let mut left = arguments;
@@ -38,9 +36,7 @@ pub fn arguments_by(alloc: Global, arguments: &[Argument], values: &[Value]) -> 
 }
 
 /// The names that a call of a function sets, where its arguments fit the parameters.
-pub fn bound(alloc: Global, function: &Function, args: &Args) -> Result<Option<Scope>, Memory>
-    ensures { IfOk result (λ names. names ≡ bound function.now.parameters.items (arguments_of args.now)) }
-{
+pub fn bound(alloc: Global, function: &Function, args: &Args) -> Result<Option<Scope>, Memory> {
     let parameters = function.parameters.as_slice();
     if args.positional.len() > parameters.len() {
         return Ok(None);

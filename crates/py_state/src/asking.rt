@@ -1,5 +1,5 @@
 //! Questions to the host that need global names.
-ghost use Rattle.std.specs.Prelude.{◌≡◌, [], Err, IfOk, slice_index_or};
+ghost use Rattle.std.specs.Prelude.{◌≡◌, ◌≤◌, [], Err, IfOk, slice_index_or};
 ghost use Rattle.py_host.specs.Calls.{called, script_done, answers, refuses, arguments_of, given_of};
 ghost use Rattle.py_state.specs.Stores.{store_of};
 
@@ -18,6 +18,7 @@ pub fn ask_call<H: Host>(
 ) -> Result<Reply, HostRefusal>
     ensures ok { IfOk result (λ reply. H.meaning.replies (called frame.now.values (slice_index_or machine.old.globals.items frame.now.script []) object.0 (arguments_of args.now)) host.old machine.old.heap (answers (given_of reply)) host.new machine.new.heap) }
     ensures refused { result ≡ Err HostRefusal.Host → H.meaning.replies (called frame.now.values (slice_index_or machine.old.globals.items frame.now.script []) object.0 (arguments_of args.now)) host.old machine.old.heap refuses host.new machine.new.heap }
+    ensures later { H.meaning.refusals host.old ≤ H.meaning.refusals host.new }
     ensures stays { store_of machine.new ≡ record (store_of machine.old) { objects = machine.new.heap } }
 {
     let no_names = Scope::new(machine.alloc);
@@ -36,6 +37,7 @@ pub fn ask_done<H: Host>(
 ) -> Result<Reply, HostRefusal>
     ensures ok { IfOk result (λ reply. H.meaning.replies (script_done (slice_index_or machine.old.globals.items script [])) host.old machine.old.heap (answers (given_of reply)) host.new machine.new.heap) }
     ensures refused { result ≡ Err HostRefusal.Host → H.meaning.replies (script_done (slice_index_or machine.old.globals.items script [])) host.old machine.old.heap refuses host.new machine.new.heap }
+    ensures later { H.meaning.refusals host.old ≤ H.meaning.refusals host.new }
     ensures stays { store_of machine.new ≡ record (store_of machine.old) { objects = machine.new.heap } }
 {
     let no_names = Scope::new(machine.alloc);

@@ -1,8 +1,7 @@
 //! What names stand for at a place of a script.
-ghost use Rattle.std.specs.Prelude.{◌≡◌, [], ◌∷◌, ◌++◌, Some, None, OnOk, OnErr};
+ghost use Rattle.std.specs.Prelude.{◌≡◌, [], ◌∷◌, Some, OnOk, OnErr};
 ghost use Rattle.py_host.specs.Names.{with_name};
 ghost use Rattle.py_meaning.specs.States.{script_frame};
-ghost use Rattle.py_meaning.specs.Lookup.{inner_value, set_inner};
 
 use crate::function::Function;
 use py_heap::Value;
@@ -64,9 +63,7 @@ impl Frame {
     }
 
     /// The value of a name of a comprehension.
-    pub fn inner_value(&self, name: &Text) -> Option<Value>
-        ensures { result ≡ inner_value self.now.inner name.now }
-    {
+    pub fn inner_value(&self, name: &Text) -> Option<Value> {
         self.inner.iter().rev().find_map(|names| names.get(name))
     }
 
@@ -85,9 +82,7 @@ impl Frame {
     }
 
     /// Binds a name of the innermost comprehension.
-    pub fn bind_inner(&mut self, name: &Text, value: Value) -> Result<(), Memory>
-        ensures { OnOk result (self.new ≡ record self.old { inner = set_inner self.old.inner name.now value }) }
-    {
+    pub fn bind_inner(&mut self, name: &Text, value: Value) -> Result<(), Memory> {
         let name = name.copy()?;
         if let Some(names) = self.inner.last_mut() {
             names.set(name, value)?;

@@ -1,7 +1,4 @@
 //! Which names are local in a function.
-ghost use Rattle.std.specs.Prelude.{◌≡◌, IfOk, OnOk, map};
-ghost use Rattle.py_tree.specs.Tree.{trees, expr_tree, simple_tree, line_tree, branch_tree, parameter_tree, words};
-ghost use Rattle.py_meaning.specs.LocalNames.{with_local, target_names, bound_names, local_names};
 
 use indexmap::IndexSet;
 use py_tree::{Branch, Expr, Line, Parameter, Simple};
@@ -13,22 +10,16 @@ pub fn local_names(
     alloc: Global,
     parameters: &[Parameter],
     body: &[Line],
-) -> Result<IndexSet<Text>, Memory>
-    ensures { IfOk result (λ names. names.keys ≡ local_names (trees (map parameter_tree parameters.now)) (trees (map line_tree body.now))) }
-{
+) -> Result<IndexSet<Text>, Memory> {
     let mut names = IndexSet::new(alloc);
-    let mut left = parameters;
-    'parameters: while let [parameter, rest @ ..] = left {
+    'parameters: for parameter in parameters {
         add(&mut names, &parameter.name)?;
-        left = rest;
     }
     add_lines(&mut names, body)?;
     Ok(names)
 }
 
-fn add(names: &mut IndexSet<Text>, name: &Text) -> Result<(), Memory>
-    ensures { OnOk result (names.new.keys ≡ with_local names.old.keys name.now) }
-{
+fn add(names: &mut IndexSet<Text>, name: &Text) -> Result<(), Memory> {
     if !names.contains(name) {
         names.insert(name.copy()?)?;
     }
@@ -36,24 +27,16 @@ fn add(names: &mut IndexSet<Text>, name: &Text) -> Result<(), Memory>
 }
 
 #[cycle(local_names)]
-#[tactic(auto, using(crate::proofs::Trees::views))]
-fn add_lines(names: &mut IndexSet<Text>, lines: &[Line]) -> Result<(), Memory>
-    ensures { OnOk result (names.new.keys ≡ bound_names names.old.keys (trees (map line_tree lines.now))) }
-{
-    let mut left = lines;
-    'lines: while let [line, rest @ ..] = left {
+fn add_lines(names: &mut IndexSet<Text>, lines: &[Line]) -> Result<(), Memory> {
+    'lines: for line in lines {
         add_line(names, line)?;
-        left = rest;
     }
     Ok(())
 }
 
 /// The names that a line binds.
 #[cycle(local_names)]
-#[tactic(auto, using(crate::proofs::Trees::views))]
-fn add_line(names: &mut IndexSet<Text>, line: &Line) -> Result<(), Memory>
-    ensures { OnOk result (names.new.keys ≡ bound_names names.old.keys (line_tree line.now)) }
-{
+fn add_line(names: &mut IndexSet<Text>, line: &Line) -> Result<(), Memory> {
     match line {
         Line::Simple { statements } => add_statements(names, statements.as_slice()),
         Line::If {
@@ -76,45 +59,28 @@ fn add_line(names: &mut IndexSet<Text>, line: &Line) -> Result<(), Memory>
 }
 
 #[cycle(local_names)]
-#[tactic(auto, using(crate::proofs::Trees::views))]
-fn add_branches(names: &mut IndexSet<Text>, branches: &[Branch]) -> Result<(), Memory>
-    ensures { OnOk result (names.new.keys ≡ bound_names names.old.keys (trees (map branch_tree branches.now))) }
-{
-    let mut left = branches;
-    'branches: while let [branch, rest @ ..] = left {
+fn add_branches(names: &mut IndexSet<Text>, branches: &[Branch]) -> Result<(), Memory> {
+    'branches: for branch in branches {
         add_lines(names, branch.block.as_slice())?;
-        left = rest;
     }
     Ok(())
 }
 
-fn add_all(names: &mut IndexSet<Text>, bound: &[Text]) -> Result<(), Memory>
-    ensures { OnOk result (names.new.keys ≡ target_names names.old.keys (words bound.now)) }
-{
-    let mut left = bound;
-    'names: while let [name, rest @ ..] = left {
+fn add_all(names: &mut IndexSet<Text>, bound: &[Text]) -> Result<(), Memory> {
+    'names: for name in bound {
         add(names, name)?;
-        left = rest;
     }
     Ok(())
 }
 
-#[tactic(auto, using(crate::proofs::Trees::views))]
-fn add_statements(names: &mut IndexSet<Text>, statements: &[Simple]) -> Result<(), Memory>
-    ensures { OnOk result (names.new.keys ≡ bound_names names.old.keys (trees (map simple_tree statements.now))) }
-{
-    let mut left = statements;
-    'statements: while let [statement, rest @ ..] = left {
+fn add_statements(names: &mut IndexSet<Text>, statements: &[Simple]) -> Result<(), Memory> {
+    'statements: for statement in statements {
         add_statement(names, statement)?;
-        left = rest;
     }
     Ok(())
 }
 
-#[tactic(auto, using(crate::proofs::Trees::views))]
-fn add_statement(names: &mut IndexSet<Text>, statement: &Simple) -> Result<(), Memory>
-    ensures { OnOk result (names.new.keys ≡ bound_names names.old.keys (simple_tree statement.now)) }
-{
+fn add_statement(names: &mut IndexSet<Text>, statement: &Simple) -> Result<(), Memory> {
     match statement {
         Simple::Assign { target, .. } => add_target(names, target),
         Simple::Augment { target, .. } => add_target(names, target),
@@ -124,10 +90,7 @@ fn add_statement(names: &mut IndexSet<Text>, statement: &Simple) -> Result<(), M
 
 /// The names that a target binds.
 #[cycle(targets)]
-#[tactic(auto, using(crate::proofs::Trees::views))]
-fn add_target(names: &mut IndexSet<Text>, target: &Expr) -> Result<(), Memory>
-    ensures { OnOk result (names.new.keys ≡ target_names names.old.keys (expr_tree target.now)) }
-{
+fn add_target(names: &mut IndexSet<Text>, target: &Expr) -> Result<(), Memory> {
     match target {
         Expr::Name { name, .. } => add(names, name),
         Expr::Tuple { items, .. } => add_targets(names, items.as_slice()),
@@ -136,14 +99,9 @@ fn add_target(names: &mut IndexSet<Text>, target: &Expr) -> Result<(), Memory>
 }
 
 #[cycle(targets)]
-#[tactic(auto, using(crate::proofs::Trees::views))]
-fn add_targets(names: &mut IndexSet<Text>, targets: &[Expr]) -> Result<(), Memory>
-    ensures { OnOk result (names.new.keys ≡ target_names names.old.keys (trees (map expr_tree targets.now))) }
-{
-    let mut left = targets;
-    'targets: while let [target, rest @ ..] = left {
+fn add_targets(names: &mut IndexSet<Text>, targets: &[Expr]) -> Result<(), Memory> {
+    'targets: for target in targets {
         add_target(names, target)?;
-        left = rest;
     }
     Ok(())
 }

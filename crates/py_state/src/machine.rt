@@ -1,5 +1,5 @@
 //! What stands while scripts run, besides the host and the names at a place.
-ghost use Rattle.std.specs.Prelude.{◌≡◌, ◌≢◌, ◌∷◌, ◌++◌, [], Ok, Err, Some, None, IfOk, IfErr, OnOk, OnErr, length, slice_get, slice_set, slice_index_or};
+ghost use Rattle.std.specs.Prelude.{◌≡◌, ◌∷◌, ◌++◌, [], Ok, Err, IfOk, IfErr, OnOk, OnErr, length, slice_get, slice_set, slice_index_or};
 ghost use Rattle.std.specs.Option.{option_map};
 ghost use Rattle.py_heap.specs.declared.value.Value.TheVariants as value;
 ghost use Rattle.py_heap.specs.Heap.{truth_of};
@@ -7,7 +7,7 @@ ghost use Rattle.py_heap.specs.Units.{charged};
 ghost use Rattle.py_host.specs.Names.{value_of, with_name, with_names};
 ghost use Rattle.py_meaning.specs.Lookup.{with_bound};
 ghost use Rattle.py_state.specs.Stores.{store_of, function_of, state_of};
-ghost use Rattle.py_state.specs.Stops.{value_stop};
+ghost use Rattle.py_state.specs.Stops.{value_stop, refusals_told};
 
 use crate::frame::Frame;
 use crate::function::Function;
@@ -58,6 +58,7 @@ impl Machine {
         ensures ok { OnOk result (charged self.old.budget 1 ≡ Ok self.new.budget) }
         ensures paid { store_of self.new ≡ record (store_of self.old) { units = self.new.budget } }
         ensures fault { IfErr result (λ stop. (e : _) × (charged self.old.budget 1 ≡ Err e) × (stop ≡ value_stop frame.now.script line e)) }
+        ensures own { IfErr result (λ stop. refusals_told stop ≡ 0) }
     {
         match self.budget.charge(1) {
             Ok(()) => Ok(()),

@@ -1,6 +1,6 @@
 //! Why a body isn't run any further.
 ghost use Rattle.std.specs.Prelude.{◌≡◌};
-ghost use Rattle.py_state.specs.Stops.{value_stop, refusal_stop};
+ghost use Rattle.py_state.specs.Stops.{value_stop, refusal_stop, refusals_told};
 
 use crate::frame::Frame;
 use py_heap::ValueFault;
@@ -67,7 +67,8 @@ pub fn fault(frame: &Frame, line: u32, kind: EvalKind) -> Stop
 
 /// A fault of an operation on values.
 pub fn value_fault(frame: &Frame, line: u32, cause: ValueFault) -> Stop
-    ensures { result ≡ value_stop frame.now.script line cause }
+    ensures stop { result ≡ value_stop frame.now.script line cause }
+    ensures own { refusals_told result ≡ 0 }
 {
     match cause {
         ValueFault::Memory => Stop::Memory,

@@ -1,7 +1,7 @@
 //! What a `for` and a comprehension go over.
-ghost use Rattle.std.specs.Prelude.{◌≡◌, ◌≢◌, Ok, Err, IfOk, IfErr, OnErr};
-ghost use Rattle.py_meaning.specs.Loops.{walk_of, next_of, unpacked};
-ghost use Rattle.py_state.specs.Walks.{plain, told_next};
+ghost use Rattle.std.specs.Prelude.{◌≡◌, Ok, Err, IfOk, IfErr};
+ghost use Rattle.py_meaning.specs.Loops.{walk_of};
+ghost use Rattle.py_state.specs.Walks.{plain};
 
 use py_heap::{DictId, Heap, ListId, TextId, TupleId, Value, ValueFault};
 use py_text::first_char;
@@ -49,9 +49,7 @@ impl Walk {
     }
 
     /// The next item, and what is left behind it.
-    pub fn next(self, heap: &mut Heap) -> Result<Option<(Value, Walk)>, Memory>
-        ensures { IfOk result (λ next. next_of heap.old (plain heap.old self) ≡ told_next heap.new next) }
-    {
+    pub fn next(self, heap: &mut Heap) -> Result<Option<(Value, Walk)>, Memory> {
         Ok(match self {
             Walk::List { list, place } => match heap.list_at(list).get(place) {
                 Some(item) => Some((
@@ -109,10 +107,7 @@ fn next_char(heap: &mut Heap, text: TextId, at: usize) -> Result<Option<(Value, 
 }
 
 /// The items of a value, as many as there are names for them. Characters are new texts.
-pub fn unpacked(heap: &mut Heap, value: Value, count: usize) -> Result<Vec<Value>, ValueFault>
-    ensures ok { IfOk result (λ items. unpacked heap.old count value ≡ Ok (items.items, heap.new)) }
-    ensures fault { IfErr result (λ e. e ≢ ValueFault.Memory → unpacked heap.old count value ≡ Err e) }
-{
+pub fn unpacked(heap: &mut Heap, value: Value, count: usize) -> Result<Vec<Value>, ValueFault> {
     let walk = Walk::over(heap, value)?;
     if items_in(heap, value) != count {
         return Err(ValueFault::Mismatch(value.kind(), value.kind()));

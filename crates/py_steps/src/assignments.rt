@@ -1,4 +1,6 @@
 //! Assignments.
+ghost use Rattle.std.specs.Prelude.{◌≡◌, ◌≤◌, IfErr};
+ghost use Rattle.py_state.specs.Stops.{refusals_told, Told};
 
 use crate::desk::Desk;
 use crate::expressions::named_line;
@@ -19,7 +21,9 @@ pub fn assign<'a>(
     desk: &mut Desk<'a>,
     line: u32,
     target: &'a Expr,
-) -> Result<(), Stop> {
+) -> Result<(), Stop>
+    ensures { IfErr result (λ e. refusals_told e ≡ 0) }
+{
     match target {
         Expr::Name { name, .. } => {
             let value = desk.take();
@@ -48,7 +52,9 @@ pub fn assign<'a>(
     Ok(())
 }
 
-fn target_names(machine: &Machine, targets: &[Expr]) -> Result<Vec<Text>, Stop> {
+fn target_names(machine: &Machine, targets: &[Expr]) -> Result<Vec<Text>, Stop>
+    ensures { IfErr result (λ e. refusals_told e ≡ 0) }
+{
     let mut names = Vec::new(machine.alloc);
     'targets: for target in targets {
         if let Expr::Name { name, .. } = target {
@@ -64,7 +70,9 @@ fn push_place<'a>(
     atom: &'a Expr,
     front: &'a [Link],
     index: &'a Expr,
-) -> Result<(), Stop> {
+) -> Result<(), Stop>
+    ensures { IfErr result (λ e. refusals_told e ≡ 0) }
+{
     desk.push(Task::Evaluate(index))?;
     desk.push(Task::Links {
         links: front,
@@ -81,7 +89,9 @@ pub fn augment<'a>(
     operator: Operator,
     target: &'a Expr,
     value: &'a Expr,
-) -> Result<(), Stop> {
+) -> Result<(), Stop>
+    ensures { IfErr result (λ e. refusals_told e ≡ 0) }
+{
     match target {
         Expr::Name { name, .. } => {
             desk.push(Task::Bind(name))?;
@@ -110,7 +120,10 @@ pub fn load<H: Host>(
     frame: &Frame,
     desk: &mut Desk<'_>,
     line: u32,
-) -> Result<(), Stop> {
+) -> Result<(), Stop>
+    ensures later { H.meaning.refusals host.old ≤ H.meaning.refusals host.new }
+    ensures cause { IfErr result (λ e. Told e (H.meaning.refusals host.old) (H.meaning.refusals host.new)) }
+{
     let value = item(machine, host, frame, line, desk.second(), desk.top())?;
     desk.give(value)?;
     Ok(())
@@ -123,7 +136,9 @@ pub fn combine(
     desk: &mut Desk<'_>,
     line: u32,
     operator: Operator,
-) -> Result<(), Stop> {
+) -> Result<(), Stop>
+    ensures { IfErr result (λ e. refusals_told e ≡ 0) }
+{
     let right = desk.take();
     let left = desk.take();
     match augmented(
@@ -146,7 +161,10 @@ pub fn store_below<H: Host>(
     frame: &Frame,
     desk: &mut Desk<'_>,
     line: u32,
-) -> Result<(), Stop> {
+) -> Result<(), Stop>
+    ensures later { H.meaning.refusals host.old ≤ H.meaning.refusals host.new }
+    ensures cause { IfErr result (λ e. Told e (H.meaning.refusals host.old) (H.meaning.refusals host.new)) }
+{
     let key = desk.take();
     let base = desk.take();
     let value = desk.take();
@@ -160,7 +178,10 @@ pub fn store_above<H: Host>(
     frame: &Frame,
     desk: &mut Desk<'_>,
     line: u32,
-) -> Result<(), Stop> {
+) -> Result<(), Stop>
+    ensures later { H.meaning.refusals host.old ≤ H.meaning.refusals host.new }
+    ensures cause { IfErr result (λ e. Told e (H.meaning.refusals host.old) (H.meaning.refusals host.new)) }
+{
     let value = desk.take();
     let key = desk.take();
     let base = desk.take();
@@ -175,7 +196,10 @@ fn store<H: Host>(
     base: Value,
     key: Value,
     value: Value,
-) -> Result<(), Stop> {
+) -> Result<(), Stop>
+    ensures later { H.meaning.refusals host.old ≤ H.meaning.refusals host.new }
+    ensures cause { IfErr result (λ e. Told e (H.meaning.refusals host.old) (H.meaning.refusals host.new)) }
+{
     match base {
         Value::Object(object) => match host.set_index(&mut machine.heap, object, key, value) {
             Ok(()) => Ok(()),

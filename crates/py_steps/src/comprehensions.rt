@@ -1,4 +1,6 @@
 //! Comprehensions.
+ghost use Rattle.std.specs.Prelude.{◌≡◌, IfErr};
+ghost use Rattle.py_state.specs.Stops.{refusals_told};
 
 use crate::desk::Desk;
 use crate::expressions::{Shape, display};
@@ -14,7 +16,9 @@ pub fn comprehend<'a>(
     frame: &mut Frame,
     desk: &mut Desk<'a>,
     comprehension: Comprehension<'a>,
-) -> Result<(), Stop> {
+) -> Result<(), Stop>
+    ensures { IfErr result (λ e. refusals_told e ≡ 0) }
+{
     let source = desk.take();
     let walk = match Walk::over(&machine.heap, source) {
         Ok(walk) => walk,
@@ -35,7 +39,9 @@ pub fn collect<'a>(
     frame: &mut Frame,
     desk: &mut Desk<'a>,
     collecting: Collecting<'a>,
-) -> Result<(), Stop> {
+) -> Result<(), Stop>
+    ensures { IfErr result (λ e. refusals_told e ≡ 0) }
+{
     let Collecting {
         comprehension,
         walk,
@@ -72,7 +78,9 @@ pub fn test<'a>(
     desk: &mut Desk<'a>,
     collecting: Collecting<'a>,
     tests: &'a [Expr],
-) -> Result<(), Stop> {
+) -> Result<(), Stop>
+    ensures { IfErr result (λ e. refusals_told e ≡ 0) }
+{
     if let [first, rest @ ..] = tests {
         machine.pay(frame, collecting.comprehension.line)?;
         desk.push(Task::Tested {
@@ -97,7 +105,9 @@ pub fn tested<'a>(
     desk: &mut Desk<'a>,
     collecting: Collecting<'a>,
     tests: &'a [Expr],
-) -> Result<(), Stop> {
+) -> Result<(), Stop>
+    ensures { IfErr result (λ e. refusals_told e ≡ 0) }
+{
     let value = desk.take();
     if truth(&machine.heap, value) {
         desk.push(Task::Tests { collecting, tests })?;

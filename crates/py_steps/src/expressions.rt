@@ -1,4 +1,6 @@
 //! Expressions.
+ghost use Rattle.std.specs.Prelude.{◌≡◌, ◌≤◌, IfErr};
+ghost use Rattle.py_state.specs.Stops.{refusals_told, Told};
 
 use crate::desk::Desk;
 use crate::task::{Comprehension, Task};
@@ -17,7 +19,10 @@ pub fn evaluate<'a, H: Host>(
     frame: &Frame,
     desk: &mut Desk<'a>,
     expr: &'a Expr,
-) -> Result<(), Stop> {
+) -> Result<(), Stop>
+    ensures later { H.meaning.refusals host.old ≤ H.meaning.refusals host.new }
+    ensures cause { IfErr result (λ e. Told e (H.meaning.refusals host.old) (H.meaning.refusals host.new)) }
+{
     match expr {
         Expr::Name { line, name } => {
             let value = named(machine, host, frame, *line, name)?;
@@ -114,7 +119,9 @@ pub fn named_line(atom: &Expr) -> Option<u32> {
 }
 
 /// The first of some expressions, and then the others.
-pub fn evaluate_all<'a>(desk: &mut Desk<'a>, exprs: &'a [Expr]) -> Result<(), Stop> {
+pub fn evaluate_all<'a>(desk: &mut Desk<'a>, exprs: &'a [Expr]) -> Result<(), Stop>
+    ensures { IfErr result (λ e. refusals_told e ≡ 0) }
+{
     if let [first, rest @ ..] = exprs {
         desk.push(Task::EvaluateAll(rest))?;
         desk.push(Task::Evaluate(first))?;
@@ -122,7 +129,9 @@ pub fn evaluate_all<'a>(desk: &mut Desk<'a>, exprs: &'a [Expr]) -> Result<(), St
     Ok(())
 }
 
-pub fn evaluate_pairs<'a>(desk: &mut Desk<'a>, pairs: &'a [Pair]) -> Result<(), Stop> {
+pub fn evaluate_pairs<'a>(desk: &mut Desk<'a>, pairs: &'a [Pair]) -> Result<(), Stop>
+    ensures { IfErr result (λ e. refusals_told e ≡ 0) }
+{
     if let [first, rest @ ..] = pairs {
         desk.push(Task::Pairs(rest))?;
         desk.push(Task::Evaluate(&first.value))?;
@@ -131,7 +140,9 @@ pub fn evaluate_pairs<'a>(desk: &mut Desk<'a>, pairs: &'a [Pair]) -> Result<(), 
     Ok(())
 }
 
-pub fn evaluate_arguments<'a>(desk: &mut Desk<'a>, arguments: &'a [Argument]) -> Result<(), Stop> {
+pub fn evaluate_arguments<'a>(desk: &mut Desk<'a>, arguments: &'a [Argument]) -> Result<(), Stop>
+    ensures { IfErr result (λ e. refusals_told e ≡ 0) }
+{
     if let [first, rest @ ..] = arguments {
         desk.push(Task::Arguments(rest))?;
         match first {
@@ -159,7 +170,9 @@ pub fn display(
     line: u32,
     count: usize,
     shape: Shape,
-) -> Result<(), Stop> {
+) -> Result<(), Stop>
+    ensures { IfErr result (λ e. refusals_told e ≡ 0) }
+{
     let values = match shape {
         Shape::Dict => desk.take_all(count.saturating_mul(2))?,
         _ => desk.take_all(count)?,
@@ -205,7 +218,9 @@ pub fn negated(
     frame: &Frame,
     desk: &mut Desk<'_>,
     line: u32,
-) -> Result<(), Stop> {
+) -> Result<(), Stop>
+    ensures { IfErr result (λ e. refusals_told e ≡ 0) }
+{
     let operand = desk.take();
     match negate(&mut machine.heap, &mut machine.budget, operand) {
         Ok(value) => desk.give(value)?,
@@ -214,7 +229,9 @@ pub fn negated(
     Ok(())
 }
 
-pub fn turned(heap: &Heap, desk: &mut Desk<'_>) -> Result<(), Stop> {
+pub fn turned(heap: &Heap, desk: &mut Desk<'_>) -> Result<(), Stop>
+    ensures { IfErr result (λ e. refusals_told e ≡ 0) }
+{
     let operand = desk.take();
     desk.give(Value::Bool(!truth(heap, operand)))?;
     Ok(())
@@ -226,7 +243,9 @@ pub fn operated(
     desk: &mut Desk<'_>,
     line: u32,
     op: Op,
-) -> Result<(), Stop> {
+) -> Result<(), Stop>
+    ensures { IfErr result (λ e. refusals_told e ≡ 0) }
+{
     let right = desk.take();
     let left = desk.take();
     match binary(&mut machine.heap, &mut machine.budget, op, left, right) {
@@ -241,7 +260,9 @@ pub fn operations<'a>(
     machine: &Machine,
     desk: &mut Desk<'a>,
     operations: &'a [Operation],
-) -> Result<(), Stop> {
+) -> Result<(), Stop>
+    ensures { IfErr result (λ e. refusals_told e ≡ 0) }
+{
     let [first, rest @ ..] = operations else {
         return Ok(());
     };

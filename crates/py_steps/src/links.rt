@@ -1,4 +1,6 @@
 //! Calls, indices and attributes behind an atom.
+ghost use Rattle.std.specs.Prelude.{◌≡◌, ◌≤◌, IfErr};
+ghost use Rattle.py_state.specs.Stops.{refusals_told, Told};
 
 use crate::desk::Desk;
 use crate::task::Task;
@@ -19,7 +21,10 @@ pub fn link<'a, H: Host>(
     desk: &mut Desk<'a>,
     links: &'a [Link],
     named: Option<u32>,
-) -> Result<(), Stop> {
+) -> Result<(), Stop>
+    ensures later { H.meaning.refusals host.old ≤ H.meaning.refusals host.new }
+    ensures cause { IfErr result (λ e. Told e (H.meaning.refusals host.old) (H.meaning.refusals host.new)) }
+{
     let [first, rest @ ..] = links else {
         return Ok(());
     };
@@ -84,7 +89,10 @@ fn attribute<H: Host>(
     line: u32,
     object: HostId,
     name: &Text,
-) -> Result<(), Stop> {
+) -> Result<(), Stop>
+    ensures later { H.meaning.refusals host.old ≤ H.meaning.refusals host.new }
+    ensures cause { IfErr result (λ e. Told e (H.meaning.refusals host.old) (H.meaning.refusals host.new)) }
+{
     let _object = desk.take();
     match host.attribute(&mut machine.heap, object, name.as_str()) {
         Ok(value) => desk.give(value)?,
@@ -100,7 +108,9 @@ fn method_link<'a>(
     line: u32,
     name: &Text,
     links: &'a [Link],
-) -> Result<(), Stop> {
+) -> Result<(), Stop>
+    ensures { IfErr result (λ e. refusals_told e ≡ 0) }
+{
     let no_method = EvalKind::Value(ValueFault::NoMethod);
     let [Link::Call { arguments, .. }, rest @ ..] = links else {
         return Err(fault(frame, line, no_method));
@@ -132,7 +142,10 @@ pub fn item<H: Host>(
     line: u32,
     base: Value,
     key: Value,
-) -> Result<Value, Stop> {
+) -> Result<Value, Stop>
+    ensures later { H.meaning.refusals host.old ≤ H.meaning.refusals host.new }
+    ensures cause { IfErr result (λ e. Told e (H.meaning.refusals host.old) (H.meaning.refusals host.new)) }
+{
     match base {
         Value::Object(object) => match host.index(&mut machine.heap, object, key) {
             Ok(value) => Ok(value),
@@ -151,7 +164,10 @@ pub fn indexed<H: Host>(
     frame: &Frame,
     desk: &mut Desk<'_>,
     line: u32,
-) -> Result<(), Stop> {
+) -> Result<(), Stop>
+    ensures later { H.meaning.refusals host.old ≤ H.meaning.refusals host.new }
+    ensures cause { IfErr result (λ e. Told e (H.meaning.refusals host.old) (H.meaning.refusals host.new)) }
+{
     let key = desk.take();
     let base = desk.take();
     let value = item(machine, host, frame, line, base, key)?;
@@ -166,7 +182,9 @@ pub fn sliced(
     line: u32,
     from: bool,
     to: bool,
-) -> Result<(), Stop> {
+) -> Result<(), Stop>
+    ensures { IfErr result (λ e. refusals_told e ≡ 0) }
+{
     let to = if to { Some(desk.take()) } else { None };
     let from = if from { Some(desk.take()) } else { None };
     let base = desk.take();

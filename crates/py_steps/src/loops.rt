@@ -1,4 +1,6 @@
 //! `for` and `if`.
+ghost use Rattle.std.specs.Prelude.{◌≡◌, IfErr};
+ghost use Rattle.py_state.specs.Stops.{refusals_told};
 
 use crate::desk::Desk;
 use crate::task::{Loop, Task};
@@ -25,7 +27,9 @@ pub fn begin<'a>(
     frame: &Frame,
     desk: &mut Desk<'a>,
     turns: Loop<'a>,
-) -> Result<(), Stop> {
+) -> Result<(), Stop>
+    ensures { IfErr result (λ e. refusals_told e ≡ 0) }
+{
     let source = desk.take();
     match Walk::over(&machine.heap, source) {
         Ok(walk) => desk.push(Task::Turns { turns, walk })?,
@@ -41,7 +45,9 @@ pub fn turn<'a>(
     desk: &mut Desk<'a>,
     turns: Loop<'a>,
     walk: Walk,
-) -> Result<(), Stop> {
+) -> Result<(), Stop>
+    ensures { IfErr result (λ e. refusals_told e ≡ 0) }
+{
     let Some((item, rest)) = walk.next(&mut machine.heap)? else {
         return Ok(());
     };
@@ -65,7 +71,9 @@ pub fn bind_all(
     frame: &mut Frame,
     names: &[Text],
     values: &[Value],
-) -> Result<(), Stop> {
+) -> Result<(), Stop>
+    ensures { IfErr result (λ e. refusals_told e ≡ 0) }
+{
     'names: for (name, value) in names.iter().zip(values.iter()) {
         machine.bind(frame, name, *value)?;
     }
@@ -77,7 +85,9 @@ pub fn next_branch<'a>(
     desk: &mut Desk<'a>,
     branches: &'a [Branch],
     otherwise: &'a [Line],
-) -> Result<(), Stop> {
+) -> Result<(), Stop>
+    ensures { IfErr result (λ e. refusals_told e ≡ 0) }
+{
     if let [branch, rest @ ..] = branches {
         desk.push(Task::Choose {
             branch,
@@ -98,7 +108,9 @@ pub fn choose<'a>(
     branch: &'a Branch,
     branches: &'a [Branch],
     otherwise: &'a [Line],
-) -> Result<(), Stop> {
+) -> Result<(), Stop>
+    ensures { IfErr result (λ e. refusals_told e ≡ 0) }
+{
     let test = desk.take();
     if truth(&machine.heap, test) {
         desk.push(Task::Lines(branch.block.as_slice()))?;

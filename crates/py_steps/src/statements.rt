@@ -1,4 +1,6 @@
 //! Lines and statements.
+ghost use Rattle.std.specs.Prelude.{◌≡◌, IfErr};
+ghost use Rattle.py_state.specs.Stops.{refusals_told};
 
 use crate::assignments::augment;
 use crate::desk::Desk;
@@ -13,7 +15,9 @@ pub fn run_lines<'a>(
     frame: &Frame,
     desk: &mut Desk<'a>,
     lines: &'a [Line],
-) -> Result<(), Stop> {
+) -> Result<(), Stop>
+    ensures { IfErr result (λ e. refusals_told e ≡ 0) }
+{
     let [first, rest @ ..] = lines else {
         return Ok(());
     };
@@ -67,7 +71,9 @@ pub fn run_lines<'a>(
 }
 
 /// The defaults of parameters, the first on top.
-fn push_defaults<'a>(desk: &mut Desk<'a>, parameters: &'a [Parameter]) -> Result<(), Stop> {
+fn push_defaults<'a>(desk: &mut Desk<'a>, parameters: &'a [Parameter]) -> Result<(), Stop>
+    ensures { IfErr result (λ e. refusals_told e ≡ 0) }
+{
     'parameters: for parameter in parameters.iter().rev() {
         if let Some(default) = &parameter.default {
             desk.push(Task::Evaluate(default))?;
@@ -89,7 +95,9 @@ pub fn run_statements<'a>(
     frame: &Frame,
     desk: &mut Desk<'a>,
     statements: &'a [Simple],
-) -> Result<Flow, Stop> {
+) -> Result<Flow, Stop>
+    ensures { IfErr result (λ e. refusals_told e ≡ 0) }
+{
     let [first, rest @ ..] = statements else {
         return Ok(Flow::GoesOn);
     };
@@ -139,7 +147,9 @@ pub fn define(
     frame: &mut Frame,
     desk: &mut Desk<'_>,
     definition: Definition<'_>,
-) -> Result<(), Stop> {
+) -> Result<(), Stop>
+    ensures { IfErr result (λ e. refusals_told e ≡ 0) }
+{
     let with_default = definition
         .parameters
         .iter()

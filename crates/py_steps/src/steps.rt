@@ -1,4 +1,6 @@
 //! A task, by its kind.
+ghost use Rattle.std.specs.Prelude.{◌≤◌, IfErr};
+ghost use Rattle.py_state.specs.Stops.{Told};
 
 use crate::assignments::{assign, combine, load, store_above, store_below};
 use crate::comprehensions::{collect, comprehend, test, tested};
@@ -21,7 +23,10 @@ pub fn step<'a, H: Host>(
     frame: &mut Frame,
     desk: &mut Desk<'a>,
     task: Task<'a>,
-) -> Result<Flow, Stop> {
+) -> Result<Flow, Stop>
+    ensures later { H.meaning.refusals host.old ≤ H.meaning.refusals host.new }
+    ensures cause { IfErr result (λ e. Told e (H.meaning.refusals host.old) (H.meaning.refusals host.new)) }
+{
     match task {
         Task::Statements(statements) => return run_statements(machine, frame, desk, statements),
         Task::Return => return Ok(Flow::Returns(desk.take())),

@@ -1,3 +1,0 @@
-pub mod Desks
-pub mod Leads
-pub mod Todos
