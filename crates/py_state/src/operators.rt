@@ -59,13 +59,16 @@ pub fn augmented(
     ensures ok { IfOk result (λ v. augmented_of operator heap.old budget.old a b ≡ Ok (v, heap.new, budget.new)) }
     ensures fault { IfErr result (λ e. e ≢ ValueFault.Memory → augmented_of operator heap.old budget.old a b ≡ Err e) }
 {
-    match a {
-        Value::List(list) => match operator {
-            Operator::Add => {
+    match operator {
+        Operator::Add => match a {
+            Value::List(_) => {
                 method(heap, budget, a, Name::Extend, &[b])?;
                 Ok(a)
             }
-            Operator::Multiply => {
+            _ => binary(heap, budget, Op::Add, a, b),
+        },
+        Operator::Multiply => match a {
+            Value::List(list) => {
                 let made = binary(heap, budget, Op::Mul, a, b)?;
                 match made {
                     Value::List(repeated) => {
@@ -76,7 +79,7 @@ pub fn augmented(
                     other => Ok(other),
                 }
             }
-            _ => binary(heap, budget, operator_op(operator), a, b),
+            _ => binary(heap, budget, Op::Mul, a, b),
         },
         _ => binary(heap, budget, operator_op(operator), a, b),
     }
