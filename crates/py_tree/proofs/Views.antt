@@ -1,5 +1,5 @@
 -- What each form of `src/` stands for: one equation a form.
-use Rattle.std.proofs.Common.{◌≡◌, ℕ, Bool, List, map, refl, sym, ap, ◌∙◌, Some, None}
+use Rattle.std.proofs.Common.{◌≡◌, ℕ, Bool, List, map, sym, ap, ◌∙◌, Some, None}
 use Rattle.std.specs.declared.option.Option.{Option}
 use Rattle.std.specs.declared.boxed.Box.{Box}
 use Rattle.std.specs.declared.vec.Vec.{Vec}
@@ -23,7 +23,7 @@ use Rattle.py_tree.specs.declared.line.Branch.{Branch, fold-roll-Branch, rolls-B
 use Rattle.py_tree.specs.declared.line.Line.TheOpen as lines'
 use Rattle.py_tree.specs.declared.line.Parameter.{Parameter}
 use Rattle.py_tree.specs.declared.line.Simple.{Simple}
-use Rattle.py_tree.specs.Tree.{Tree, nil, cons, absent, word, name, integer, text, constant, group, tuple, list, comprehension, dict, pair, post, attribute, call, named, index, slice, negative, not, chain, operation, compare, simple, branching, branch, for', def, trees, words, optional, optional_tree, argument_step, expr_step, link_step, operation_step, pair_step, expr_tree, link_tree, argument_tree, operation_tree, pair_tree, simple_tree, parameter_tree, line_step, branch_step, line_tree, branch_tree}
+use Rattle.py_tree.specs.Tree.{Tree, absent, name, integer, text, constant, group, tuple, list, comprehension, dict, pair, post, attribute, call, named, index, slice, negative, not, chain, operation, compare, simple, branching, branch, for', def, trees, words, argument_step, expr_step, link_step, operation_step, pair_step, expr_tree, link_tree, argument_tree, operation_tree, pair_tree, simple_tree, parameter_tree, line_step, branch_step, line_tree, branch_tree}
 
 pub expr_tree-Name : (l : ℕ) (n : List ℕ) → expr_tree (expr'.Name l n) ≡ name l n
 unfolding expr_tree link_tree argument_tree operation_tree pair_tree line_tree branch_tree

@@ -1,4 +1,7 @@
 use Rattle.std.proofs.Common.{ℕ, ◌-◌, map, arith, refl, ap, ◌∙◌}
+use Rattle.std.specs.declared.vec.Vec.{Vec}
+use Rattle.std.specs.declared.alloc.Global.{Global}
+use Rattle.py_tree.specs.declared.line.Line.{Line}
 use Rattle.py_tree.specs.Tree.{branch_tree, line_tree, parameter_tree, trees, def}
 use Rattle.py_tree.proofs.Views.{branch_tree-Branch, line_tree-Simple, line_tree-If, line_tree-For, line_tree-Def}
 use Rattle.py_parse.specs.Grammar as grammar
@@ -163,8 +166,9 @@ pub parse_def-returns : goal.parse_def-returns
 parse_def-returns t c =
     let b = rw c.in_function.ensures at c.in_ok-block.ensures in
     let n = c.in_ok-name.ensures ∙ c.in-Some.ensures.called in
+    let shared = ap (λ (lines : Vec Line Global). def c.args.line c.in_ok-name.name (trees (map parameter_tree c.in_ok-parameters.parameters.items)) (trees (map line_tree lines.items))) c.in_ok-block-2.ensures.ok in
     function_ok c.args.depth c.args.line c.in-Some.ensures.taking c.requires c.in-Some-strip.ensures c.in_ok-parameters.ensures c.in-Some-strip-2.ensures b
-    (line_tree-Def c.args.line c.in_ok-name.name c.in_ok-parameters.parameters c.in_ok-block.block ∙ ap (λ m. def c.args.line m (trees (map parameter_tree c.in_ok-parameters.parameters.items)) (trees (map line_tree c.in_ok-block.block.items))) n)
+    (line_tree-Def c.args.line c.in_ok-name.name c.in_ok-parameters.parameters c.in_ok-block-2.block ∙ shared ∙ ap (λ m. def c.args.line m (trees (map parameter_tree c.in_ok-parameters.parameters.items)) (trees (map line_tree c.in_ok-block.block.items))) n)
 
 pub parse_block-returns-in_default : goal.parse_block-returns-in_default
 parse_block-returns-in_default t c = c.parse_one_line.ensures
