@@ -6,8 +6,8 @@
 #![tactic(auto)]
 
 mod calls;
-mod run;
+mod scripts;
 
 pub use py_host::{Args, Host, HostRefusal, Reply, Scope};
 pub use py_meaning::{EvalFault, EvalKind, Exit};
-pub use run::run;
+pub use scripts::run;

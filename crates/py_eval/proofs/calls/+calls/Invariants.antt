@@ -1,5 +1,5 @@
 -- Each function goes down by the calls that may still be open, and for the same number by its place in the chain of calls.
-use Rattle.std.proofs.Common.{◌+◌, ◌*◌}
+use Rattle.std.proofs.Common.{◌+◌, ◌*◌, ◌≤◌}
 use Rattle.py_eval.proofs.calls.+calls.Given as goal
 
 abbrev pub decreases-call_value : goal.decreases-call_value
@@ -25,3 +25,10 @@ decreases-run_inner g l = 8 * l.calls + 5
 
 abbrev pub decreases-call_object : goal.decreases-call_object
 decreases-call_object g l = 8 * l.calls + 6
+
+-- the host's refusals only rise
+abbrev pub invariant-run_body-tasks : goal.invariant-run_body-tasks
+invariant-run_body-tasks g l = g.H.Host.meaning.refusals l.fn.host ≤ g.H.Host.meaning.refusals l.host
+
+abbrev pub invariant-call_object-scripts : goal.invariant-call_object-scripts
+invariant-call_object-scripts g l = g.H.Host.meaning.refusals l.fn.host ≤ g.H.Host.meaning.refusals l.host

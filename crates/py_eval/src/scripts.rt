@@ -15,6 +15,7 @@ use std::mem;
 const CALL_LIMIT: u32 = 200;
 
 /// Runs a script, and then each further first script that the host gives.
+#[tactic(auto, using(crate::proofs::Causes::caused))]
 pub fn run<H: Host>(
     script: &Script,
     heap: &mut Heap,
