@@ -17,10 +17,8 @@ pub fn local_names(
     ensures { IfOk result (λ names. names.keys ≡ local_names (trees (map parameter_tree parameters.now)) (trees (map line_tree body.now))) }
 {
     let mut names = IndexSet::new(alloc);
-    let mut left = parameters;
-    'parameters: while let [parameter, rest @ ..] = left {
+    'parameters: for parameter in parameters {
         add(&mut names, &parameter.name)?;
-        left = rest;
     }
     add_lines(&mut names, body)?;
     Ok(names)
@@ -40,10 +38,8 @@ fn add(names: &mut IndexSet<Text>, name: &Text) -> Result<(), Memory>
 fn add_lines(names: &mut IndexSet<Text>, lines: &[Line]) -> Result<(), Memory>
     ensures { OnOk result (names.new.keys ≡ bound_names names.old.keys (trees (map line_tree lines.now))) }
 {
-    let mut left = lines;
-    'lines: while let [line, rest @ ..] = left {
+    'lines: for line in lines {
         add_line(names, line)?;
-        left = rest;
     }
     Ok(())
 }
@@ -80,10 +76,8 @@ fn add_line(names: &mut IndexSet<Text>, line: &Line) -> Result<(), Memory>
 fn add_branches(names: &mut IndexSet<Text>, branches: &[Branch]) -> Result<(), Memory>
     ensures { OnOk result (names.new.keys ≡ bound_names names.old.keys (trees (map branch_tree branches.now))) }
 {
-    let mut left = branches;
-    'branches: while let [branch, rest @ ..] = left {
+    'branches: for branch in branches {
         add_lines(names, branch.block.as_slice())?;
-        left = rest;
     }
     Ok(())
 }
@@ -91,10 +85,8 @@ fn add_branches(names: &mut IndexSet<Text>, branches: &[Branch]) -> Result<(), M
 fn add_all(names: &mut IndexSet<Text>, bound: &[Text]) -> Result<(), Memory>
     ensures { OnOk result (names.new.keys ≡ target_names names.old.keys (words bound.now)) }
 {
-    let mut left = bound;
-    'names: while let [name, rest @ ..] = left {
+    'names: for name in bound {
         add(names, name)?;
-        left = rest;
     }
     Ok(())
 }
@@ -103,10 +95,8 @@ fn add_all(names: &mut IndexSet<Text>, bound: &[Text]) -> Result<(), Memory>
 fn add_statements(names: &mut IndexSet<Text>, statements: &[Simple]) -> Result<(), Memory>
     ensures { OnOk result (names.new.keys ≡ bound_names names.old.keys (trees (map simple_tree statements.now))) }
 {
-    let mut left = statements;
-    'statements: while let [statement, rest @ ..] = left {
+    'statements: for statement in statements {
         add_statement(names, statement)?;
-        left = rest;
     }
     Ok(())
 }
@@ -140,10 +130,8 @@ fn add_target(names: &mut IndexSet<Text>, target: &Expr) -> Result<(), Memory>
 fn add_targets(names: &mut IndexSet<Text>, targets: &[Expr]) -> Result<(), Memory>
     ensures { OnOk result (names.new.keys ≡ target_names names.old.keys (trees (map expr_tree targets.now))) }
 {
-    let mut left = targets;
-    'targets: while let [target, rest @ ..] = left {
+    'targets: for target in targets {
         add_target(names, target)?;
-        left = rest;
     }
     Ok(())
 }

@@ -1,10 +1,7 @@
-use Rattle.std.proofs.Common.{◌≡◌, length, [], map}
+use Rattle.std.proofs.Common.{◌≡◌, map, drop}
 use Rattle.py_tree.specs.Tree.{trees, simple_tree}
 use Rattle.py_meaning.specs.LocalNames.{bound_names}
 use Rattle.py_state.proofs.locals.add_statements.Given as goal
 
 abbrev pub invariant-statements : goal.invariant-statements
-invariant-statements l = bound_names l.names.keys (trees (map simple_tree l.left)) ≡ bound_names l.initial.names.keys (trees (map simple_tree l.initial.left))
-
-abbrev pub decreases-statements : goal.decreases-statements
-decreases-statements l = length l.left
+invariant-statements l = bound_names l.names.keys (trees (map simple_tree (drop l.statement-index l.statements))) ≡ bound_names l.initial.names.keys (trees (map simple_tree l.statements))
