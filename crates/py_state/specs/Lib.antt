@@ -1,3 +1,4 @@
+pub mod Arguments
 pub mod Lookups
 pub mod Stops
 pub mod Stores

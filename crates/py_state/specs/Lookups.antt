@@ -1,5 +1,5 @@
 -- What a look-up answers.
-use Rattle.std.specs.Prelude.{◌≡◌, ◌≢◌, ℕ, List, Option, Some, None}
+use Rattle.std.specs.Prelude.{◌≡◌, ◌≢◌, ℕ, List, Some, None}
 use Rattle.py_heap.specs.declared.value.Value.{Value}
 use Rattle.py_host.specs.Meaning.{Meaning}
 use Rattle.py_meaning.specs.declared.fault.EvalKind.TheVariants as kind

@@ -1,7 +1,8 @@
 //! What names stand for at a place of a script.
-ghost use Rattle.std.specs.Prelude.{◌≡◌, [], ◌∷◌, Some, OnOk, OnErr};
+ghost use Rattle.std.specs.Prelude.{◌≡◌, [], ◌∷◌, Some, drop, reverse, OnOk, OnErr};
 ghost use Rattle.py_host.specs.Names.{with_name};
 ghost use Rattle.py_meaning.specs.States.{script_frame};
+ghost use Rattle.py_meaning.specs.Lookup.{inner_value, set_inner};
 
 use crate::function::Function;
 use py_heap::Value;
@@ -63,8 +64,10 @@ impl Frame {
     }
 
     /// The value of a name of a comprehension.
-    pub fn inner_value(&self, name: &Text) -> Option<Value> {
-        self.inner.iter().rev().find_map(|names| names.get(name))
+    pub fn inner_value(&self, name: &Text) -> Option<Value>
+        ensures { result ≡ inner_value self.now.inner name.now }
+    {
+        innermost(self.inner.as_slice(), name)
     }
 
     /// Begins a comprehension, with no names yet.
@@ -77,14 +80,20 @@ impl Frame {
     }
 
     /// Ends the innermost comprehension.
-    pub fn close(&mut self) {
+    pub fn close(&mut self)
+        ensures { self.new ≡ record self.old { inner = drop 1 self.old.inner } }
+    {
         let _names = self.inner.pop();
     }
 
     /// Binds a name of the innermost comprehension.
-    pub fn bind_inner(&mut self, name: &Text, value: Value) -> Result<(), Memory> {
+    pub fn bind_inner(&mut self, name: &Text, value: Value) -> Result<(), Memory>
+        ensures { OnOk result (self.new ≡ record self.old { inner = set_inner self.old.inner name.now value }) }
+    {
         let name = name.copy()?;
-        if let Some(names) = self.inner.last_mut() {
+        let count = self.inner.len();
+        if count > 0 {
+            let names = &mut self.inner[count - 1];
             names.set(name, value)?;
         }
         Ok(())
@@ -97,4 +106,18 @@ impl Frame {
         self.values.set(name.copy()?, value)?;
         Ok(())
     }
+}
+
+/// The value of a name, which the last ones tell first.
+fn innermost(inner: &[Scope], name: &Text) -> Option<Value>
+    ensures { result ≡ inner_value (reverse inner.now) name.now }
+{
+    let mut left = inner.len();
+    'names: while left > 0 {
+        left -= 1;
+        if let Some(value) = inner[left].get(name) {
+            return Some(value);
+        }
+    }
+    None
 }

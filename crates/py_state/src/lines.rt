@@ -1,7 +1,14 @@
 //! On which line a statement or an expression begins.
+ghost use Rattle.std.specs.Prelude.{◌≡◌};
+ghost use Rattle.py_tree.specs.Tree.{simple_tree, expr_tree};
+ghost use Rattle.py_meaning.specs.Lines.{first_line};
+
 use py_tree::{Expr, Simple};
 
-pub fn first_line(statement: &Simple) -> u32 {
+#[tactic(auto, using(crate::proofs::Trees::views))]
+pub fn first_line(statement: &Simple) -> u32
+    ensures { result ≡ first_line (simple_tree statement.now) }
+{
     match statement {
         Simple::Assign { target, .. } | Simple::Augment { target, .. } => expression_line(target),
         Simple::Expression { value } => expression_line(value),
@@ -14,7 +21,10 @@ pub fn first_line(statement: &Simple) -> u32 {
 }
 
 /// The line of an expression's first token.
-pub fn expression_line(expr: &Expr) -> u32 {
+#[tactic(auto, using(crate::proofs::Trees::views))]
+pub fn expression_line(expr: &Expr) -> u32
+    ensures { result ≡ first_line (expr_tree expr.now) }
+{
     match expr {
         Expr::Name { line, .. }
         | Expr::Integer { line, .. }

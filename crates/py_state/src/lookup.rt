@@ -1,7 +1,9 @@
 //! What names stand for.
-ghost use Rattle.std.specs.Prelude.{◌≡◌, ◌≢◌, ◌≤◌, IfErr, [], slice_index_or};
-ghost use Rattle.py_meaning.specs.Lookup.{builtin_named, global_found};
-ghost use Rattle.py_state.specs.Lookups.{found_of};
+ghost use Rattle.std.specs.Prelude.{◌≡◌, ◌≢◌, ◌≤◌, IfOk, IfErr, Some, None, [], slice_index_or};
+ghost use Rattle.py_host.specs.Meaning.{Meaning};
+ghost use Rattle.py_meaning.specs.Lookup.{builtin_named, found_in, global_found};
+ghost use Rattle.py_state.specs.Stores.{state_of};
+ghost use Rattle.py_state.specs.Lookups.{found_of, IsNamed, IsUnnamed};
 ghost use Rattle.py_state.specs.Stops.{refusals_told};
 
 use crate::frame::Frame;
@@ -29,6 +31,8 @@ pub fn named<H: Host>(
     line: u32,
     name: &Text,
 ) -> Result<Value, Stop>
+    ensures ok { IfOk result (λ v. IsNamed H.meaning (found_in (state_of machine.now frame.now) name.now) name.now host.old v host.new) }
+    ensures fault { IfErr result (IsUnnamed H.meaning (found_in (state_of machine.now frame.now) name.now) frame.now.script line name.now host.old host.new) }
     ensures later { H.meaning.refusals host.old ≤ H.meaning.refusals host.new }
     ensures own { IfErr result (λ e. refusals_told e ≡ 0) }
 {
@@ -52,7 +56,9 @@ fn unknown(frame: &Frame, line: u32, name: &Text) -> Stop
     }
 }
 
-fn found_in(machine: &Machine, frame: &Frame, name: &Text) -> Found {
+fn found_in(machine: &Machine, frame: &Frame, name: &Text) -> Found
+    ensures { found_of result ≡ found_in (state_of machine.now frame.now) name.now }
+{
     if let Some(value) = frame.inner_value(name) {
         return Found::Value(value);
     }

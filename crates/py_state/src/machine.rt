@@ -1,5 +1,5 @@
 //! What stands while scripts run, besides the host and the names at a place.
-ghost use Rattle.std.specs.Prelude.{◌≡◌, ◌∷◌, ◌++◌, [], Ok, Err, IfOk, IfErr, OnOk, OnErr, length, slice_get, slice_set, slice_index_or};
+ghost use Rattle.std.specs.Prelude.{◌≡◌, ◌≢◌, ◌∷◌, ◌++◌, [], Ok, Err, Some, None, IfOk, IfErr, OnOk, OnErr, length, slice_get, slice_set, slice_index_or};
 ghost use Rattle.std.specs.Option.{option_map};
 ghost use Rattle.py_heap.specs.declared.value.Value.TheVariants as value;
 ghost use Rattle.py_heap.specs.Heap.{truth_of};

@@ -59,16 +59,13 @@ pub fn augmented(
     ensures ok { IfOk result (λ v. augmented_of operator heap.old budget.old a b ≡ Ok (v, heap.new, budget.new)) }
     ensures fault { IfErr result (λ e. e ≢ ValueFault.Memory → augmented_of operator heap.old budget.old a b ≡ Err e) }
 {
-    match operator {
-        Operator::Add => match a {
-            Value::List(_) => {
+    match a {
+        Value::List(list) => match operator {
+            Operator::Add => {
                 method(heap, budget, a, Name::Extend, &[b])?;
                 Ok(a)
             }
-            _ => binary(heap, budget, Op::Add, a, b),
-        },
-        Operator::Multiply => match a {
-            Value::List(list) => {
+            Operator::Multiply => {
                 let made = binary(heap, budget, Op::Mul, a, b)?;
                 match made {
                     Value::List(repeated) => {
@@ -79,7 +76,7 @@ pub fn augmented(
                     other => Ok(other),
                 }
             }
-            _ => binary(heap, budget, Op::Mul, a, b),
+            _ => binary(heap, budget, operator_op(operator), a, b),
         },
         _ => binary(heap, budget, operator_op(operator), a, b),
     }
