@@ -1,18 +1,17 @@
 -- Both hosts keep what every host keeps.
-use Rattle.std.specs.Prelude.{◌≡◌, ◌≢◌, ℕ, ◌+◌, ◌-◌, ◌^◌, ◌≤◌, ◌<◌, Bool, true, false, List, Option, Some, None, if◌then◌else◌, nat_lt, min}
+use Rattle.std.specs.Prelude.{◌≡◌, ℕ, ◌+◌, ◌-◌, ◌^◌, Bool, true, false, List, Option, None, if◌then◌else◌, nat_lt}
 use Rattle.std.proofs.Common.{arith, refl, sym, ◌∙◌}
-use Rattle.std.proofs.lemmas.Bool.{lt-leb}
-use Rattle.py_heap.specs.declared.value.Value.{Value}
+use Rattle.std.proofs.lemmas.Bool.{ltb-false}
 use Rattle.py_heap.specs.Heap.{Objects}
 use Rattle.py_host.specs.Calls.{Question, Answer, Answered, answers, refuses, called, attribute, item, set_item, script_done, next_script}
 use Rattle.py_host.specs.Meaning.{Counts, Rose, IsCounted, IsDetermined}
 use Rattle.eval_hosts.specs.Refusals.{raised}
-use Rattle.eval_hosts.specs.Printing.{Printed, refused, with_text, prints, refuses_all, has_none, replies, printing}
+use Rattle.eval_hosts.specs.Printing.{Printed, refused, prints, refuses_all, has_none, replies, printing}
 use Rattle.eval_hosts.specs.Replying.{counting}
 
 raised_by : (n : ℕ) (b : Bool) → nat_lt n (2 ^ 64 - 1) ≡ b → Rose n (if b then n + 1 else n)
 raised_by n true e = record { later = omega arith; more = omega arith }
-raised_by n false e = record { later = omega arith; more = omega arith }
+raised_by n false e = record { later = omega arith; more = omega (arith, ltb-false n (2 ^ 64 - 1) e) }
 
 pub raises : (n : ℕ) → Rose n (raised n)
 raises n = raised_by n (nat_lt n (2 ^ 64 - 1)) refl
@@ -51,7 +50,7 @@ abbrev SameAnswer : {X : Type 0} → X → X → Printed → Printed → Type 0
 SameAnswer a b h1 h2 = (a ≡ b) × (h1 ≡ h2) × Unit {0}
 
 one_prints : (h h1 h2 : Printed) (text : List ℕ) (a b : Answered (Unit {0})) → prints h text a h1 → prints h text b h2 → (a ≡ b) × (h1 ≡ h2) × Unit {0}
-one_prints h h1 h2 text (answers tt) (answers tt) p q = (refl, p.1 ∙ sym q.1, tt)
+one_prints h h1 h2 text (answers u) (answers w) p q = (refl, p.1 ∙ sym q.1, tt)
 one_prints h h1 h2 text (answers u) refuses p q = absurd (p.0 q.0)
 one_prints h h1 h2 text refuses (answers u) p q = absurd (q.0 p.0)
 one_prints h h1 h2 text refuses refuses p q = (refl, p.1 ∙ sym q.1, tt)

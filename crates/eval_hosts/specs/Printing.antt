@@ -1,6 +1,5 @@
 -- What the host that prints means.
 use Rattle.std.specs.Prelude.{◌≡◌, ◌≢◌, ℕ, ◌-◌, List, ◌++◌, Option, Some, None}
-use Rattle.py_heap.specs.declared.value.Value.{Value}
 use Rattle.py_heap.specs.Heap.{Objects}
 use Rattle.py_host.specs.Calls.{Question, Answer, Answered, answers, refuses, called, attribute, item, set_item, script_done, next_script}
 use Rattle.py_host.specs.Meaning.{Meaning}

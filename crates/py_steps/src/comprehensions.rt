@@ -54,7 +54,7 @@ pub fn collect<'a>(
     machine.pay(frame, comprehension.line)?;
     match shared(machine, comprehension.names, item) {
         Ok(items) => {
-            'names: for (name, item) in comprehension.names.iter().zip(items.iter()) {
+            'names: for (name, item) in comprehension.names.iter().zip(items.as_slice().iter()) {
                 frame.bind_inner(name, *item)?;
             }
         }

@@ -4,19 +4,15 @@ ghost use Rattle.py_state.specs.Stops.{refusals_told};
 
 use crate::desk::Desk;
 use crate::task::{Loop, Task};
-use py_heap::{Value, ValueFault, truth};
+use py_heap::{Value, ValueFault, Values, truth};
 use py_state::{Frame, Machine, Stop, Walk, unpacked, value_fault};
 use py_tree::{Branch, Line};
 use scons_base::Text;
 
 /// What the names of a target take: one name the value itself, several its items.
-pub fn shared(
-    machine: &mut Machine,
-    names: &[Text],
-    value: Value,
-) -> Result<Vec<Value>, ValueFault> {
+pub fn shared(machine: &mut Machine, names: &[Text], value: Value) -> Result<Values, ValueFault> {
     if names.len() == 1 {
-        return Ok(vec![in machine.alloc; value]?);
+        return Ok(Values::new(vec![in machine.alloc; value]?));
     }
     unpacked(&mut machine.heap, value, names.len())
 }
