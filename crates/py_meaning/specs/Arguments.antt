@@ -1,5 +1,5 @@
 -- Arguments and parameters: section 6.3.4 ("Calls") of the Python language reference.
-use Rattle.std.specs.Prelude.{ℕ, Bool, true, false, not, ◌&&◌, List, [], ◌∷◌, ◌++◌, Option, Some, None, if◌then◌else◌, is_some}
+use Rattle.std.specs.Prelude.{ℕ, Bool, true, ◌&&◌, List, [], ◌∷◌, ◌++◌, Option, Some, None, if◌then◌else◌, is_some}
 use Rattle.std.specs.List.{list_any}
 use Rattle.std.specs.Str.{bytes_eq}
 use Rattle.py_tree.specs.Tree.{Tree, nil, cons, named, parameter, absent}
@@ -8,7 +8,7 @@ use Rattle.py_host.specs.Names.{Names, value_of, with_name}
 use Rattle.py_host.specs.Calls.{Arguments}
 use Rattle.py_meaning.specs.States.{Parameter}
 
-abbrev with_argument : Arguments → Tree → Value → Arguments
+abbrev pub with_argument : Arguments → Tree → Value → Arguments
 with_argument given (named l n t) v = record given { named = with_name given.named n v }
 with_argument given other v = record given { positional = given.positional ++ v ∷ [] }
 
@@ -21,20 +21,20 @@ abbrev pub arguments_by : Tree → List Value → Arguments
 arguments_by ts vs = arguments_onto (record { positional = []; named = [] }) ts vs
 
 -- the value of a parameter without a positional argument: by its name, or its default
-abbrev by_name : Option Value → Option Value → Option Value
+abbrev pub by_name : Option Value → Option Value → Option Value
 by_name (Some v) default = Some v
 by_name None default = default
 
 -- a parameter takes its value: none where it has none, or where it gets a second one
-abbrev and_then : Option Names → (Names → Option Names) → Option Names
+abbrev pub and_then : Option Names → (Names → Option Names) → Option Names
 and_then None f = None
 and_then (Some names) f = f names
 
-abbrev bind_one : Names → List ℕ → Option Value → Option Names
+abbrev pub bind_one : Names → List ℕ → Option Value → Option Names
 bind_one bound n None = None
 bind_one bound n (Some v) = Some (with_name bound n v)
 
-abbrev bind_first : Names → Names → List ℕ → Value → Option Names
+abbrev pub bind_first : Names → Names → List ℕ → Value → Option Names
 bind_first bound by n v = if is_some (value_of by n) then None else Some (with_name bound n v)
 
 -- the parameters in turn: the positional arguments go to the first ones

@@ -3,12 +3,12 @@ use Rattle.std.specs.Prelude.{ℕ, List, Option, Some, None, Result, Ok, Err}
 use Rattle.py_tree.specs.Tree.{Tree, absent}
 use Rattle.py_heap.specs.declared.value.Value.{Value}
 use Rattle.py_heap.specs.declared.fault.ValueFault.{ValueFault}
-use Rattle.py_heap.specs.Units.{Units, charged}
+use Rattle.py_heap.specs.Units.{charged}
 use Rattle.py_host.specs.Calls.{Question, Answer}
 use Rattle.py_compare.specs.Outcomes.{Outcome}
 use Rattle.py_meaning.specs.declared.fault.EvalKind.{EvalKind}
 use Rattle.py_meaning.specs.declared.fault.EvalKind.TheVariants as kind
-use Rattle.py_meaning.specs.States.{State, Out, Place, place_at, gives, all_give, goes_on, with_units, after_operation}
+use Rattle.py_meaning.specs.States.{State, Out, Place, place_at, gives, all_give, goes_on, ends, state_in, with_units, after_operation}
 use Rattle.py_meaning.specs.Jobs.{Job, eval, eval_all}
 
 pub data Plan : Type 0 where
@@ -33,14 +33,14 @@ faulty line k s = stops (place_at line s) k
 abbrev pub goes : Job → State → Plan
 goes j s = first j s comes_to
 
--- on with a value; the end of the script is that of the whole
+-- on with a value; where there is none, that is the end of the script, and so of the whole
 abbrev pub on_value : (Value → State → Plan) → Out → Plan
 on_value f (gives x s) = f x s
-on_value f other = comes_to other
+on_value f other = comes_to (ends (state_in other))
 
 abbrev pub on_values : (List Value → State → Plan) → Out → Plan
 on_values f (all_give xs s) = f xs s
-on_values f other = comes_to other
+on_values f other = comes_to (ends (state_in other))
 
 abbrev pub on_end : (State → Plan) → Out → Plan
 on_end f (goes_on s) = f s

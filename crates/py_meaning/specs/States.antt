@@ -1,5 +1,5 @@
 -- What stands while scripts run, and how what was to be done comes out.
-use Rattle.std.specs.Prelude.{ℕ, List, [], ◌∷◌, ◌++◌, Option, Some, None, length, slice_set, slice_index_or}
+use Rattle.std.specs.Prelude.{ℕ, List, [], Option, Some, None, slice_set, slice_index_or}
 use Rattle.py_tree.specs.Tree.{Tree}
 use Rattle.py_heap.specs.declared.value.Value.{Value}
 use Rattle.py_heap.specs.Heap.{Objects}
@@ -56,6 +56,16 @@ pub data Out : Type 0 where
   ends : State → Out
   -- all scripts have run
   exits : Exit → State → Out
+
+abbrev pub state_in : Out → State
+state_in (gives x s) = s
+state_in (all_give xs s) = s
+state_in (goes_on s) = s
+state_in (breaks s) = s
+state_in (continues s) = s
+state_in (returns x s) = s
+state_in (ends s) = s
+state_in (exits exit s) = s
 
 -- a line of a script, and a fault there
 pub record Place : Type 0 where

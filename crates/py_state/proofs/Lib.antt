@@ -1,0 +1,6 @@
+pub mod ArgumentTurns
+pub mod Forms
+pub mod Frames
+pub mod LocalTurns
+pub mod Trees
+pub mod Walks

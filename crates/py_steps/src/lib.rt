@@ -1,0 +1,19 @@
+//! The steps of a body in which nothing is called: expressions, what stands behind them, assignments, loops and statements.
+//!
+//! What is left to do is a stack of tasks, beside one of values.
+#![tactic(auto)]
+
+mod assignments;
+mod comprehensions;
+mod desk;
+mod expressions;
+mod links;
+mod loops;
+mod statements;
+mod steps;
+mod task;
+
+pub use desk::Desk;
+pub use statements::Flow;
+pub use steps::step;
+pub use task::{Collecting, Comprehension, Definition, Loop, Task};
