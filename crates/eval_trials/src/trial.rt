@@ -8,6 +8,8 @@ use py_parse::parse;
 use py_tree::Script;
 use std::alloc::Global;
 
+type Outcome = std::result::Result<Exit, EvalFault>;
+
 /// To which script a line goes.
 #[derive(Clone, Copy)]
 enum Place {
@@ -79,14 +81,18 @@ impl Trial {
             }
             _ => {}
         }
-        let script = match self.place {
-            Place::First => Some(&mut self.first),
-            Place::Inner => self.inner.last_mut(),
-            Place::Further => self.further.last_mut(),
-        };
-        if let Some(script) = script {
-            script.push_str(line)?;
-            script.push('\n')?;
+        match self.place {
+            Place::First => push_line(&mut self.first, line)?,
+            Place::Inner => {
+                if let Some(script) = self.inner.last_mut() {
+                    push_line(script, line)?;
+                }
+            }
+            Place::Further => {
+                if let Some(script) = self.further.last_mut() {
+                    push_line(script, line)?;
+                }
+            }
         }
         Ok(())
     }
@@ -117,7 +123,7 @@ impl Trial {
         script: &Script,
         heap: &mut Heap,
         budget: &mut Budget,
-    ) -> (String, core::result::Result<Exit, EvalFault>) {
+    ) -> (String, Outcome) {
         let mut host = Printing {
             printed: String::new(alloc),
             left: self.left,
@@ -134,7 +140,7 @@ impl Trial {
         script: &Script,
         heap: &mut Heap,
         budget: &mut Budget,
-    ) -> Result<(String, core::result::Result<Exit, EvalFault>)> {
+    ) -> Result<(String, Outcome)> {
         let mut host = Replying {
             printed: String::new(alloc),
             inner: scripts_of(alloc, self.inner.as_slice())?,
@@ -145,6 +151,12 @@ impl Trial {
         let Replying { printed, .. } = host;
         Ok((printed, outcome))
     }
+}
+
+fn push_line(script: &mut String, line: &str) -> Result<()> {
+    script.push_str(line)?;
+    script.push('\n')?;
+    Ok(())
 }
 
 fn number(word: &str, name: &str) -> Option<u64> {
@@ -166,7 +178,7 @@ fn scripts_of(alloc: Global, texts: &[String]) -> Result<Vec<Script>> {
 }
 
 /// How scripts end, in a line of its own where that isn't at the end.
-fn told(alloc: Global, outcome: core::result::Result<Exit, EvalFault>) -> Result<String> {
+fn told(alloc: Global, outcome: Outcome) -> Result<String> {
     let (script, line, kind) = match outcome {
         Ok(Exit::End) => return Ok(String::new(alloc)),
         Ok(Exit::Returned) => return Ok(String::from_str(alloc, "returned\n")?),
