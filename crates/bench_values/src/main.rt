@@ -27,11 +27,11 @@ fn run(rt: &HostRuntime) -> Result<()> {
     let mut budget = Budget::new(UNITS);
     let list = heap.list(&[]).map_err(refused)?;
     let appended = time_appends(rt, &mut heap, &mut budget, list)?;
-    let indexed = time_indexes(rt, &mut heap, &mut budget, list)?;
+    let (indexed, sum) = time_indexes(rt, &mut heap, &mut budget, list)?;
     let joined = time_join(rt, &mut heap, &mut budget)?;
     let sorted = time_sort(rt, &mut heap, &mut budget, list)?;
     println!(rt;
-        "py_value: append {appended}, index {indexed}, join {joined}, sort {sorted} microseconds"
+        "py_value: append {appended}, index {indexed}, join {joined}, sort {sorted} microseconds, sum {sum}"
     )?;
     Ok(())
 }
@@ -69,10 +69,10 @@ fn time_indexes(
     heap: &mut Heap,
     budget: &mut Budget,
     list: Value,
-) -> Result<u128> {
+) -> Result<(u128, i64)> {
     let start = Instant::now(rt)?;
-    let _sum = sum_of(heap, budget, list).map_err(refused)?;
-    Ok(start.elapsed(rt)?.as_micros())
+    let sum = sum_of(heap, budget, list).map_err(refused)?;
+    Ok((start.elapsed(rt)?.as_micros(), sum))
 }
 
 fn sum_of(heap: &mut Heap, budget: &mut Budget, list: Value) -> Result<i64, ValueFault> {
