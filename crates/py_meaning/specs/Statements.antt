@@ -50,7 +50,7 @@ augmented_of operator'.Multiply h u (v.List id) y = then_by (product_of h u (v.L
 augmented_of k h u x y = binary_of (operator_op k) h u x y
 
 -- an index at the end of what stands behind an atom: what stands before it, its line and its key
-abbrev behind : Tree → Option (Tree × ℕ × Tree) → Option (Tree × ℕ × Tree)
+abbrev pub behind : Tree → Option (Tree × ℕ × Tree) → Option (Tree × ℕ × Tree)
 behind link None = None
 behind link (Some place) = Some (cons link place.0, place.1, place.2)
 
@@ -73,7 +73,7 @@ after_item_set l (v.Object id) i x s f = asked_on l (question.set_item id.0 i x)
 after_item_set l base i x s f = checked l s (set_of s.objects base i x) (λ h. f (with_objects s h))
 
 -- what stands before the index, then its key
-abbrev after_place : Tree → Option (Tree × ℕ × Tree) → State → (ℕ → Value → Value → State → Plan) → Plan
+abbrev pub after_place : Tree → Option (Tree × ℕ × Tree) → State → (ℕ → Value → Value → State → Plan) → Plan
 after_place a None s f = done s
 after_place a (Some place) s f =
     after a s (λ x s1. first (links x (named_line a) place.0) s1 (on_value (λ base s2. after place.2 s2 (f place.1 base))))
@@ -87,11 +87,11 @@ assigned l (post a ls) x s f = after_place a (last_index ls) s (λ li base i s1.
 assigned l other x s f = f s
 
 -- the operator of this line, and on with what it gives
-abbrev combined : ℕ → Operator → Value → Tree → State → (Value → State → Plan) → Plan
+abbrev pub combined : ℕ → Operator → Value → Tree → State → (Value → State → Plan) → Plan
 combined l k x e s f = after e s (λ y s1. checked l s1 (augmented_of k s1.objects s1.units x y) (λ m. f m.0 (after_operation s1 m)))
 
 -- the target is evaluated once, and before the value
-abbrev augmented : ℕ → Operator → Tree → Tree → State → Plan
+abbrev pub augmented : ℕ → Operator → Tree → Tree → State → Plan
 augmented l k (name ln n) e s = after (name ln n) s (λ x s1. combined l k x e s1 (λ y s2. done (with_bound s2 n y)))
 augmented l k (post a ls) e s = after_place a (last_index ls) s (λ li base i s1.
     after_item li base i s1 (λ x s2. combined l k x e s2 (λ y s3. after_item_set li base i y s3 done)))
@@ -103,7 +103,7 @@ defined n ps body xs s =
     let f : Function = record { script = s.frame.script; parameters = parameters_by ps xs; locals = local_names ps body; body = body } in
     with_bound (record s { functions = s.functions ++ f ∷ [] }) n (v.Func (record { 0 = length s.functions }))
 
-abbrev statement : Tree → State → Plan
+abbrev pub statement : Tree → State → Plan
 statement (expression e) s = after e s (λ x s1. done s1)
 statement (pass l) s = done s
 statement (break l) s = comes_to (breaks s)
@@ -131,7 +131,7 @@ plan_or_nil absent s = value v.Nil s
 plan_or_nil t s = goes (eval t) s
 
 -- section 8.1 ("The if statement"): the tests in turn, up to the first that is true
-abbrev chosen : Bool → Tree → Tree → Tree → State → Plan
+abbrev pub chosen : Bool → Tree → Tree → Tree → State → Plan
 chosen true block bs ls s = goes (exec_all block) s
 chosen false block bs ls s = goes (branches bs ls) s
 
@@ -140,13 +140,13 @@ plan_branches (cons (branch l t block) bs) ls s = after t s (λ x s1. chosen (tr
 plan_branches other ls s = goes (exec_all ls) s
 
 -- `continue` goes on with the next turn, `break` leaves this loop
-abbrev after_turn : (State → Plan) → Out → Plan
+abbrev pub after_turn : (State → Plan) → Out → Plan
 after_turn f (goes_on s) = f s
 after_turn f (continues s) = f s
 after_turn f (breaks s) = done s
 after_turn f other = comes_to other
 
-abbrev turned : ℕ → Tree → Tree → Option (Value × Objects × Walk) → State → Plan
+abbrev pub turned : ℕ → Tree → Tree → Option (Value × Objects × Walk) → State → Plan
 turned l ns block None s = done s
 turned l ns block (Some next) s = paid l s (λ s1. checked l s1 (shared next.1 (names_of ns) next.0) (λ m.
     first (exec_all block) (with_all_bound (with_objects s1 m.1) (names_of ns) m.0) (after_turn (λ s2. goes (turns l next.2 ns block) s2))))

@@ -1,5 +1,5 @@
 //! What a `for` and a comprehension go over.
-ghost use Rattle.std.specs.Prelude.{◌≡◌, ◌≢◌, ◌≤◌, ◌+◌, Ok, Err, IfOk, IfErr, IfSome, length};
+ghost use Rattle.std.specs.Prelude.{◌≡◌, ◌≢◌, ◌≤◌, ◌+◌, Ok, Err, None, IfOk, IfErr, IfSome, length};
 ghost use Rattle.std.specs.Option.{option_map};
 ghost use Rattle.py_meaning.specs.Loops.{walk_of, next_of, unpacked, list_from, tuple_from, keys_from, text_from, char_from};
 ghost use Rattle.py_state.specs.Walks.{plain, told_next};
@@ -53,7 +53,8 @@ impl Walk {
 
     /// The next item, and what is left behind it.
     pub fn next(self, heap: &mut Heap) -> Result<Option<(Value, Walk)>, Memory>
-        ensures { IfOk result (λ next. next_of heap.old (plain self) ≡ told_next heap.new next) }
+        ensures item { IfOk result (λ next. next_of heap.old (plain self) ≡ told_next heap.new next) }
+        ensures none { result ≡ Ok None → heap.new ≡ heap.old }
     {
         match self {
             Walk::List { list, place } => Ok(next_in_list(heap, list, place)),
@@ -104,7 +105,8 @@ fn next_key(heap: &Heap, dict: DictId, place: usize, count: usize) -> Option<(Va
 
 /// The character that begins at a byte, as a new text.
 fn next_char(heap: &mut Heap, text: TextId, at: usize) -> Result<Option<(Value, Walk)>, Memory>
-    ensures { IfOk result (λ next. next_of heap.old (text_from text.0 at) ≡ told_next heap.new next) }
+    ensures item { IfOk result (λ next. next_of heap.old (text_from text.0 at) ≡ told_next heap.new next) }
+    ensures none { result ≡ Ok None → heap.new ≡ heap.old }
 {
     let Some(first) = char_from(heap.text_at(text), at) else {
         return Ok(None);

@@ -1,6 +1,12 @@
 //! Assignments.
-ghost use Rattle.std.specs.Prelude.{◌≡◌, ◌≤◌, IfErr};
-ghost use Rattle.py_state.specs.Stops.{refusals_told, Told};
+ghost use Rattle.std.specs.Prelude.{◌≡◌, ◌∷◌, ℕ, OnOk, map};
+ghost use Rattle.py_tree.specs.Tree.{trees, post, expr_tree, link_tree};
+ghost use Rattle.py_meaning.specs.Expressions.{named_line};
+ghost use Rattle.py_meaning.specs.States.{State, goes_on};
+ghost use Rattle.py_meaning.specs.Statements.{augmented};
+ghost use Rattle.py_steps.specs.Desks.{stacks_of, tasks_of, values_of};
+ghost use Rattle.py_steps.specs.Todos.{left};
+ghost use Rattle.py_steps.specs.Leads.{Leads, Steps, Unfolds, left_with, left_at, plan_at};
 
 use crate::desk::Desk;
 use crate::expressions::named_line;
@@ -12,7 +18,7 @@ use py_host::Host;
 use py_operators::set_index;
 use py_state::{Frame, Machine, Stop, augmented, refused, unpacked, value_fault};
 use py_tree::{Expr, Link, Operator};
-use scons_base::Text;
+use scons_base::{Memory, Text};
 
 /// The uppermost value goes to a target.
 pub fn assign<'a>(
@@ -22,7 +28,7 @@ pub fn assign<'a>(
     line: u32,
     target: &'a Expr,
 ) -> Result<(), Stop>
-    ensures { IfErr result (λ e. refusals_told e ≡ 0) }
+    ensures { Steps (left_with (Task.Assign line target.entry) desk.old machine.old frame.old) result (left_at desk.new machine.new frame.new) }
 {
     match target {
         Expr::Name { name, .. } => {
@@ -52,9 +58,7 @@ pub fn assign<'a>(
     Ok(())
 }
 
-fn target_names(machine: &Machine, targets: &[Expr]) -> Result<Vec<Text>, Stop>
-    ensures { IfErr result (λ e. refusals_told e ≡ 0) }
-{
+fn target_names(machine: &Machine, targets: &[Expr]) -> Result<Vec<Text>, Stop> {
     let mut names = Vec::new(machine.alloc);
     'targets: for target in targets {
         if let Expr::Name { name, .. } = target {
@@ -70,16 +74,18 @@ fn push_place<'a>(
     atom: &'a Expr,
     front: &'a [Link],
     index: &'a Expr,
-) -> Result<(), Stop>
-    ensures { IfErr result (λ e. refusals_told e ≡ 0) }
+) -> Result<(), Memory>
+    ensures { OnOk result (stacks_of desk.new ≡ record (stacks_of desk.old) { tasks = Task.Evaluate atom.entry ∷ Task.Links front.entry (named_line (expr_tree atom.now)) ∷ Task.Evaluate index.entry ∷ tasks_of desk.old }) }
 {
     desk.push(Task::Evaluate(index))?;
-    desk.push(Task::Links {
-        links: front,
-        named: named_line(atom),
-    })?;
-    desk.push(Task::Evaluate(atom))?;
-    Ok(())
+    let named = named_line(atom);
+    desk.evaluate(
+        atom,
+        Task::Links {
+            links: front,
+            named,
+        },
+    )
 }
 
 /// Begins an augmented assignment: the target is evaluated once, and before the value.
@@ -89,28 +95,66 @@ pub fn augment<'a>(
     operator: Operator,
     target: &'a Expr,
     value: &'a Expr,
-) -> Result<(), Stop>
-    ensures { IfErr result (λ e. refusals_told e ≡ 0) }
+) -> Result<(), Memory>
+    ensures { OnOk result ((s : State) → Unfolds (plan_at (augmented line operator (expr_tree target.now) (expr_tree value.now) s) desk.old) (left (tasks_of desk.new) (values_of desk.new) (goes_on s))) }
 {
     match target {
-        Expr::Name { name, .. } => {
-            desk.push(Task::Bind(name))?;
-            desk.push(Task::Augment { line, operator })?;
-            desk.push(Task::Evaluate(value))?;
-            desk.push(Task::Evaluate(target))?;
-        }
+        Expr::Name { name, .. } => augment_name(desk, line, operator, target, name, value),
         Expr::Post { atom, links } => {
-            if let [front @ .., Link::Index { line: place, index }] = links.as_slice() {
-                desk.push(Task::StoreAbove { line: *place })?;
-                desk.push(Task::Augment { line, operator })?;
-                desk.push(Task::Evaluate(value))?;
-                desk.push(Task::Load { line: *place })?;
-                push_place(desk, atom, front, index)?;
-            }
+            augment_item(desk, line, operator, atom, links.as_slice(), value)
         }
-        _ => {}
+        _ => Ok(()),
     }
-    Ok(())
+}
+
+fn augment_name<'a>(
+    desk: &mut Desk<'a>,
+    line: u32,
+    operator: Operator,
+    target: &'a Expr,
+    name: &'a Text,
+    value: &'a Expr,
+) -> Result<(), Memory>
+    ensures { OnOk result (stacks_of desk.new ≡ record (stacks_of desk.old) { tasks = Task.Evaluate target.entry ∷ Task.Evaluate value.entry ∷ Task.Augment line operator ∷ Task.Bind name.entry ∷ tasks_of desk.old }) }
+{
+    desk.push(Task::Bind(name))?;
+    desk.evaluate(value, Task::Augment { line, operator })?;
+    desk.push(Task::Evaluate(target))
+}
+
+fn augment_item<'a>(
+    desk: &mut Desk<'a>,
+    line: u32,
+    operator: Operator,
+    atom: &'a Expr,
+    links: &'a [Link],
+    value: &'a Expr,
+) -> Result<(), Memory>
+    ensures { OnOk result ((s : State) → Unfolds (plan_at (augmented line operator (post (expr_tree atom.now) (trees (map link_tree links.now))) (expr_tree value.now) s) desk.old) (left (tasks_of desk.new) (values_of desk.new) (goes_on s))) }
+{
+    let Some((last, front)) = links.split_last() else {
+        return Ok(());
+    };
+    let Link::Index { line: place, index } = last else {
+        return Ok(());
+    };
+    push_augment(desk, line, operator, *place, value)?;
+    push_place(desk, atom, front, index)
+}
+
+/// The item is loaded, and stored with the value of the operator.
+fn push_augment<'a>(
+    desk: &mut Desk<'a>,
+    line: u32,
+    operator: Operator,
+    place: u32,
+    value: &'a Expr,
+) -> Result<(), Memory>
+    ensures { OnOk result (stacks_of desk.new ≡ record (stacks_of desk.old) { tasks = Task.Load place ∷ Task.Evaluate value.entry ∷ Task.Augment line operator ∷ Task.StoreAbove place ∷ tasks_of desk.old }) }
+{
+    desk.push(Task::StoreAbove { line: place })?;
+    desk.evaluate(value, Task::Augment { line, operator })?;
+    desk.push(Task::Load { line: place })
 }
 
 /// The item under a key, behind what it is of and the key.
@@ -121,8 +165,7 @@ pub fn load<H: Host>(
     desk: &mut Desk<'_>,
     line: u32,
 ) -> Result<(), Stop>
-    ensures later { H.meaning.refusals host.old ≤ H.meaning.refusals host.new }
-    ensures cause { IfErr result (λ e. Told e (H.meaning.refusals host.old) (H.meaning.refusals host.new)) }
+    ensures { (c : ℕ) → Leads H.meaning c (left_with (Task.Load line) desk.old machine.old frame.now) host.old result (left_at desk.new machine.new frame.now) host.new }
 {
     let value = item(machine, host, frame, line, desk.second(), desk.top())?;
     desk.give(value)?;
@@ -137,20 +180,22 @@ pub fn combine(
     line: u32,
     operator: Operator,
 ) -> Result<(), Stop>
-    ensures { IfErr result (λ e. refusals_told e ≡ 0) }
+    ensures { Steps (left_with (Task.Augment line operator) desk.old machine.old frame.now) result (left_at desk.new machine.new frame.now) }
 {
     let right = desk.take();
     let left = desk.take();
-    match augmented(
+    let made = augmented(
         &mut machine.heap,
         &mut machine.budget,
         operator,
         left,
         right,
-    ) {
-        Ok(value) => desk.give(value)?,
+    );
+    let value = match made {
+        Ok(value) => value,
         Err(fault) => return Err(value_fault(frame, line, fault)),
-    }
+    };
+    desk.give(value)?;
     Ok(())
 }
 
@@ -162,8 +207,7 @@ pub fn store_below<H: Host>(
     desk: &mut Desk<'_>,
     line: u32,
 ) -> Result<(), Stop>
-    ensures later { H.meaning.refusals host.old ≤ H.meaning.refusals host.new }
-    ensures cause { IfErr result (λ e. Told e (H.meaning.refusals host.old) (H.meaning.refusals host.new)) }
+    ensures { (c : ℕ) → Leads H.meaning c (left_with (Task.StoreBelow line) desk.old machine.old frame.now) host.old result (left_at desk.new machine.new frame.now) host.new }
 {
     let key = desk.take();
     let base = desk.take();
@@ -179,8 +223,7 @@ pub fn store_above<H: Host>(
     desk: &mut Desk<'_>,
     line: u32,
 ) -> Result<(), Stop>
-    ensures later { H.meaning.refusals host.old ≤ H.meaning.refusals host.new }
-    ensures cause { IfErr result (λ e. Told e (H.meaning.refusals host.old) (H.meaning.refusals host.new)) }
+    ensures { (c : ℕ) → Leads H.meaning c (left_with (Task.StoreAbove line) desk.old machine.old frame.now) host.old result (left_at desk.new machine.new frame.now) host.new }
 {
     let value = desk.take();
     let key = desk.take();
@@ -196,10 +239,7 @@ fn store<H: Host>(
     base: Value,
     key: Value,
     value: Value,
-) -> Result<(), Stop>
-    ensures later { H.meaning.refusals host.old ≤ H.meaning.refusals host.new }
-    ensures cause { IfErr result (λ e. Told e (H.meaning.refusals host.old) (H.meaning.refusals host.new)) }
-{
+) -> Result<(), Stop> {
     match base {
         Value::Object(object) => match host.set_index(&mut machine.heap, object, key, value) {
             Ok(()) => Ok(()),

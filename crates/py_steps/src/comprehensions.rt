@@ -1,6 +1,6 @@
 //! Comprehensions.
-ghost use Rattle.std.specs.Prelude.{◌≡◌, IfErr};
-ghost use Rattle.py_state.specs.Stops.{refusals_told};
+ghost use Rattle.py_meaning.specs.States as meaning;
+ghost use Rattle.py_steps.specs.Leads.{Steps, left_with, left_at};
 
 use crate::desk::Desk;
 use crate::expressions::{Shape, display};
@@ -17,7 +17,7 @@ pub fn comprehend<'a>(
     desk: &mut Desk<'a>,
     comprehension: Comprehension<'a>,
 ) -> Result<(), Stop>
-    ensures { IfErr result (λ e. refusals_told e ≡ 0) }
+    ensures { Steps (left_with (Task.Comprehend comprehension.entry) desk.old machine.now frame.old) result (left_at desk.new machine.now frame.new) }
 {
     let source = desk.take();
     let walk = match Walk::over(&machine.heap, source) {
@@ -40,7 +40,7 @@ pub fn collect<'a>(
     desk: &mut Desk<'a>,
     collecting: Collecting<'a>,
 ) -> Result<(), Stop>
-    ensures { IfErr result (λ e. refusals_told e ≡ 0) }
+    ensures { Steps (left_with (Task.Collect collecting.entry) desk.old machine.old frame.old) result (left_at desk.new machine.new frame.new) }
 {
     let Collecting {
         comprehension,
@@ -49,7 +49,8 @@ pub fn collect<'a>(
     } = collecting;
     let Some((item, rest)) = walk.next(&mut machine.heap)? else {
         frame.close();
-        return display(machine, frame, desk, comprehension.line, count, Shape::List);
+        let base = desk.height().saturating_sub(count);
+        return display(machine, frame, desk, comprehension.line, base, Shape::List);
     };
     machine.pay(frame, comprehension.line)?;
     match shared(machine, comprehension.names, item) {
@@ -79,7 +80,7 @@ pub fn test<'a>(
     collecting: Collecting<'a>,
     tests: &'a [Expr],
 ) -> Result<(), Stop>
-    ensures { IfErr result (λ e. refusals_told e ≡ 0) }
+    ensures { Steps (left_with (Task.Tests collecting.entry tests.entry) desk.old machine.old frame.now) result (left_at desk.new machine.new frame.now) }
 {
     if let [first, rest @ ..] = tests {
         machine.pay(frame, collecting.comprehension.line)?;
@@ -89,10 +90,13 @@ pub fn test<'a>(
         })?;
         desk.push(Task::Evaluate(first))?;
     } else {
+        let Some(count) = collecting.count.checked_add(1) else {
+            return Err(Stop::Memory);
+        };
         desk.push(Task::Collect(Collecting {
             comprehension: collecting.comprehension,
             walk: collecting.walk,
-            count: collecting.count.saturating_add(1),
+            count,
         }))?;
         desk.push(Task::Evaluate(collecting.comprehension.item))?;
     }
@@ -106,7 +110,7 @@ pub fn tested<'a>(
     collecting: Collecting<'a>,
     tests: &'a [Expr],
 ) -> Result<(), Stop>
-    ensures { IfErr result (λ e. refusals_told e ≡ 0) }
+    ensures { (f : meaning.Frame) → Steps (left_with (Task.Tested collecting.entry tests.entry) desk.old machine.now f) result (left_at desk.new machine.now f) }
 {
     let value = desk.take();
     if truth(&machine.heap, value) {

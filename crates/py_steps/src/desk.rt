@@ -1,7 +1,10 @@
 //! The tasks that are left in a body, and the values that they take.
+ghost use Rattle.std.specs.Prelude.{◌≡◌, ◌∷◌, [], length, IfOk, OnOk, MatchOption};
+ghost use Rattle.py_steps.specs.Desks.{stacks_of, tasks_of, values_of, top, below, above, under, in_loop, past_loop};
 
 use crate::task::Task;
 use py_heap::Value;
+use py_tree::Expr;
 use scons_base::Memory;
 use std::alloc::Global;
 
@@ -13,30 +16,49 @@ pub struct Desk<'a> {
 }
 
 impl<'a> Desk<'a> {
-    pub fn new(alloc: Global) -> Desk<'a> {
+    pub fn new(alloc: Global) -> Desk<'a>
+        ensures { stacks_of result ≡ record { tasks = []; values = [] } }
+    {
         Desk {
             tasks: Vec::new(alloc),
             values: Vec::new(alloc),
         }
     }
 
-    pub fn push(&mut self, task: Task<'a>) -> Result<(), Memory> {
+    pub fn push(&mut self, task: Task<'a>) -> Result<(), Memory>
+        ensures { OnOk result (stacks_of self.new ≡ record (stacks_of self.old) { tasks = task.entry ∷ tasks_of self.old }) }
+    {
         self.tasks.push(task)?;
         Ok(())
     }
 
+    /// Evaluates an expression, and then goes on with a task.
+    pub fn evaluate(&mut self, expr: &'a Expr, then: Task<'a>) -> Result<(), Memory>
+        ensures { OnOk result (stacks_of self.new ≡ record (stacks_of self.old) { tasks = Task.Evaluate expr.entry ∷ then.entry ∷ tasks_of self.old }) }
+    {
+        self.push(then)?;
+        self.push(Task::Evaluate(expr))
+    }
+
     /// The uppermost task, which is taken.
-    pub fn next(&mut self) -> Option<Task<'a>> {
+    pub fn next(&mut self) -> Option<Task<'a>>
+        ensures { MatchOption result ((tasks_of self.old ≡ []) × (stacks_of self.new ≡ stacks_of self.old)) (λ t. (tasks_of self.old ≡ t ∷ tasks_of self.new) × (values_of self.new ≡ values_of self.old)) }
+    {
         self.tasks.pop()
     }
 
-    pub fn give(&mut self, value: Value) -> Result<(), Memory> {
+    pub fn give(&mut self, value: Value) -> Result<(), Memory>
+        ensures { OnOk result (stacks_of self.new ≡ record (stacks_of self.old) { values = value ∷ values_of self.old }) }
+    {
         self.values.push(value)?;
         Ok(())
     }
 
     /// The uppermost value, which is taken; None where there is none.
-    pub fn take(&mut self) -> Value {
+    pub fn take(&mut self) -> Value
+        ensures value { result ≡ top (values_of self.old) }
+        ensures left { stacks_of self.new ≡ record (stacks_of self.old) { values = below (values_of self.old) } }
+    {
         match self.values.pop() {
             Some(value) => value,
             None => Value::Nil,
@@ -44,7 +66,9 @@ impl<'a> Desk<'a> {
     }
 
     /// The uppermost value, which stays.
-    pub fn top(&self) -> Value {
+    pub fn top(&self) -> Value
+        ensures { result ≡ top (values_of self.now) }
+    {
         match self.values.last() {
             Some(value) => *value,
             None => Value::Nil,
@@ -52,7 +76,9 @@ impl<'a> Desk<'a> {
     }
 
     /// The value below the uppermost one.
-    pub fn second(&self) -> Value {
+    pub fn second(&self) -> Value
+        ensures { result ≡ top (below (values_of self.now)) }
+    {
         let count = self.values.len();
         if count < 2 {
             return Value::Nil;
@@ -60,15 +86,27 @@ impl<'a> Desk<'a> {
         self.values[count - 2]
     }
 
-    /// So many of the uppermost values, which are taken, in the order in which they were given.
-    pub fn take_all(&mut self, count: usize) -> Result<Vec<Value>, Memory> {
-        let from = self.values.len().saturating_sub(count);
+    /// How many values there are.
+    pub fn height(&self) -> usize
+        ensures { result ≡ length (values_of self.now) }
+    {
+        self.values.len()
+    }
+
+    /// The values above a height, which are taken, in the order in which they were given.
+    pub fn take_above(&mut self, height: usize) -> Result<Vec<Value>, Memory>
+        ensures values { IfOk result (λ vs. vs.items ≡ above height (values_of self.old)) }
+        ensures left { OnOk result (stacks_of self.new ≡ record (stacks_of self.old) { values = under height (values_of self.old) }) }
+    {
+        let from = height.min(self.values.len());
         let taken = self.values.split_off(from)?;
         Ok(taken)
     }
 
     /// Leaves the innermost loop.
-    pub fn break_loop(&mut self) {
+    pub fn break_loop(&mut self)
+        ensures { stacks_of self.new ≡ record (stacks_of self.old) { tasks = past_loop (tasks_of self.old) } }
+    {
         'tasks: while let Some(task) = self.tasks.pop() {
             if let Task::Turns { .. } = task {
                 return;
@@ -77,7 +115,9 @@ impl<'a> Desk<'a> {
     }
 
     /// Goes on with the next turn of the innermost loop.
-    pub fn continue_loop(&mut self) {
+    pub fn continue_loop(&mut self)
+        ensures { stacks_of self.new ≡ record (stacks_of self.old) { tasks = in_loop (tasks_of self.old) } }
+    {
         'tasks: while let Some(task) = self.tasks.last() {
             if let Task::Turns { .. } = task {
                 return;

@@ -1,16 +1,23 @@
 //! Expressions.
-ghost use Rattle.std.specs.Prelude.{◌≡◌, ◌≤◌, IfErr};
-ghost use Rattle.py_state.specs.Stops.{refusals_told, Told};
+ghost use Rattle.std.specs.Prelude.{◌≡◌, ℕ, ◌∷◌};
+ghost use Rattle.py_tree.specs.Tree.{expr_tree};
+ghost use Rattle.py_meaning.specs.Expressions.{named_line};
+ghost use Rattle.py_meaning.specs.States.{State, goes_on};
+ghost use Rattle.py_meaning.specs.States as meaning;
+ghost use Rattle.py_steps.specs.Desks.{tasks_of, values_of};
+ghost use Rattle.py_steps.specs.Todos.{left};
+ghost use Rattle.py_steps.specs.Leads.{Leads, Steps, left_with, left_at};
 
 use crate::desk::Desk;
 use crate::task::{Comprehension, Task};
-use py_heap::{Heap, Value, ValueFault, list_room, truth};
+use py_compare::above_zero;
+use py_heap::{Value, ValueFault, list_room, truth};
 use py_host::Host;
 use py_operators::{Op, binary, negate};
 use py_state::{
     Frame, Machine, Stop, comparison_op, constant_value, named, operator_op, value_fault,
 };
-use py_tree::{Argument, Expr, Operation, Operator, Pair};
+use py_tree::{Argument, Expr, Operation, Operator, Pair, Parameter};
 
 /// Begins an expression.
 pub fn evaluate<'a, H: Host>(
@@ -20,44 +27,55 @@ pub fn evaluate<'a, H: Host>(
     desk: &mut Desk<'a>,
     expr: &'a Expr,
 ) -> Result<(), Stop>
-    ensures later { H.meaning.refusals host.old ≤ H.meaning.refusals host.new }
-    ensures cause { IfErr result (λ e. Told e (H.meaning.refusals host.old) (H.meaning.refusals host.new)) }
+    ensures { (c : ℕ) → Leads H.meaning c (left_with (Task.Evaluate expr.entry) desk.old machine.old frame.now) host.old result (left_at desk.new machine.new frame.now) host.new }
 {
     match expr {
-        Expr::Name { line, name } => {
-            let value = named(machine, host, frame, *line, name)?;
-            desk.give(value)?;
-        }
-        Expr::Integer { line, value } => match i64::try_from(*value) {
-            Ok(value) => desk.give(Value::Int(value))?,
-            Err(_) => return Err(value_fault(frame, *line, ValueFault::Overflow)),
+        Expr::Name { line, name } => match named(machine, host, frame, *line, name) {
+            Ok(value) => {
+                desk.give(value)?;
+                Ok(())
+            }
+            Err(stop) => Err(stop),
+        },
+        Expr::Integer { line, value } => match above_zero(*value) {
+            Ok(value) => {
+                desk.give(Value::Int(value))?;
+                Ok(())
+            }
+            Err(fault) => Err(value_fault(frame, *line, fault)),
         },
         Expr::Text { line, text } => match machine.heap.text(text.as_str()) {
-            Ok(value) => desk.give(value)?,
-            Err(fault) => return Err(value_fault(frame, *line, fault)),
+            Ok(value) => {
+                desk.give(value)?;
+                Ok(())
+            }
+            Err(fault) => Err(value_fault(frame, *line, fault)),
         },
-        Expr::Constant { constant, .. } => desk.give(constant_value(*constant))?,
-        Expr::Group { inner, .. } => desk.push(Task::Evaluate(inner))?,
+        Expr::Constant { constant, .. } => {
+            desk.give(constant_value(*constant))?;
+            Ok(())
+        }
+        Expr::Group { inner, .. } => {
+            desk.push(Task::Evaluate(inner))?;
+            Ok(())
+        }
         Expr::Tuple { line, items, .. } => {
-            desk.push(Task::Tuple {
-                line: *line,
-                count: items.len(),
-            })?;
+            let base = desk.height();
+            desk.push(Task::Tuple { line: *line, base })?;
             desk.push(Task::EvaluateAll(items.as_slice()))?;
+            Ok(())
         }
         Expr::List { line, items } => {
-            desk.push(Task::List {
-                line: *line,
-                count: items.len(),
-            })?;
+            let base = desk.height();
+            desk.push(Task::List { line: *line, base })?;
             desk.push(Task::EvaluateAll(items.as_slice()))?;
+            Ok(())
         }
         Expr::Dict { line, pairs } => {
-            desk.push(Task::Dict {
-                line: *line,
-                count: pairs.len(),
-            })?;
+            let base = desk.height();
+            desk.push(Task::Dict { line: *line, base })?;
             desk.push(Task::Pairs(pairs.as_slice()))?;
+            Ok(())
         }
         Expr::Comprehension {
             line,
@@ -66,32 +84,32 @@ pub fn evaluate<'a, H: Host>(
             source,
             tests,
         } => {
-            desk.push(Task::Comprehend(Comprehension {
+            let comprehension = Comprehension {
                 line: *line,
                 item,
                 names: names.as_slice(),
                 tests: tests.as_slice(),
-            }))?;
-            desk.push(Task::Evaluate(source))?;
+            };
+            desk.evaluate(source, Task::Comprehend(comprehension))?;
+            Ok(())
         }
         Expr::Post { atom, links } => {
-            desk.push(Task::Links {
-                links: links.as_slice(),
-                named: named_line(atom),
-            })?;
-            desk.push(Task::Evaluate(atom))?;
+            let named = named_line(atom);
+            let links = links.as_slice();
+            desk.evaluate(atom, Task::Links { links, named })?;
+            Ok(())
         }
         Expr::Negative { line, operand } => {
-            desk.push(Task::Negate { line: *line })?;
-            desk.push(Task::Evaluate(operand))?;
+            desk.evaluate(operand, Task::Negate { line: *line })?;
+            Ok(())
         }
         Expr::Not { operand, .. } => {
-            desk.push(Task::Not)?;
-            desk.push(Task::Evaluate(operand))?;
+            desk.evaluate(operand, Task::Not)?;
+            Ok(())
         }
         Expr::Chain { first, rest } => {
-            desk.push(Task::Operations(rest.as_slice()))?;
-            desk.push(Task::Evaluate(first))?;
+            desk.evaluate(first, Task::Operations(rest.as_slice()))?;
+            Ok(())
         }
         Expr::Compare {
             line,
@@ -99,19 +117,20 @@ pub fn evaluate<'a, H: Host>(
             left,
             right,
         } => {
-            desk.push(Task::Binary {
-                line: *line,
-                op: comparison_op(*comparison),
-            })?;
-            desk.push(Task::Evaluate(right))?;
-            desk.push(Task::Evaluate(left))?;
+            let line = *line;
+            let op = comparison_op(*comparison);
+            desk.push(Task::Binary { line, op })?;
+            desk.evaluate(left, Task::Evaluate(right))?;
+            Ok(())
         }
     }
-    Ok(())
 }
 
 /// The line of the name that an atom is.
-pub fn named_line(atom: &Expr) -> Option<u32> {
+#[tactic(auto, using(crate::proofs::Trees::views))]
+pub fn named_line(atom: &Expr) -> Option<u32>
+    ensures { result ≡ named_line (expr_tree atom.now) }
+{
     match atom {
         Expr::Name { line, .. } => Some(*line),
         _ => None,
@@ -120,38 +139,61 @@ pub fn named_line(atom: &Expr) -> Option<u32> {
 
 /// The first of some expressions, and then the others.
 pub fn evaluate_all<'a>(desk: &mut Desk<'a>, exprs: &'a [Expr]) -> Result<(), Stop>
-    ensures { IfErr result (λ e. refusals_told e ≡ 0) }
+    ensures { (s : State) → Steps (left (Task.EvaluateAll exprs.entry ∷ tasks_of desk.old) (values_of desk.old) (goes_on s)) result (left (tasks_of desk.new) (values_of desk.new) (goes_on s)) }
 {
-    if let [first, rest @ ..] = exprs {
-        desk.push(Task::EvaluateAll(rest))?;
-        desk.push(Task::Evaluate(first))?;
-    }
+    let Some((first, rest)) = exprs.split_first() else {
+        return Ok(());
+    };
+    desk.evaluate(first, Task::EvaluateAll(rest))?;
     Ok(())
 }
 
 pub fn evaluate_pairs<'a>(desk: &mut Desk<'a>, pairs: &'a [Pair]) -> Result<(), Stop>
-    ensures { IfErr result (λ e. refusals_told e ≡ 0) }
+    ensures { (s : State) → Steps (left (Task.Pairs pairs.entry ∷ tasks_of desk.old) (values_of desk.old) (goes_on s)) result (left (tasks_of desk.new) (values_of desk.new) (goes_on s)) }
 {
-    if let [first, rest @ ..] = pairs {
-        desk.push(Task::Pairs(rest))?;
-        desk.push(Task::Evaluate(&first.value))?;
-        desk.push(Task::Evaluate(&first.key))?;
-    }
+    let Some((first, rest)) = pairs.split_first() else {
+        return Ok(());
+    };
+    desk.push(Task::Pairs(rest))?;
+    desk.evaluate(&first.key, Task::Evaluate(&first.value))?;
     Ok(())
 }
 
 pub fn evaluate_arguments<'a>(desk: &mut Desk<'a>, arguments: &'a [Argument]) -> Result<(), Stop>
-    ensures { IfErr result (λ e. refusals_told e ≡ 0) }
+    ensures { (s : State) → Steps (left (Task.Arguments arguments.entry ∷ tasks_of desk.old) (values_of desk.old) (goes_on s)) result (left (tasks_of desk.new) (values_of desk.new) (goes_on s)) }
 {
-    if let [first, rest @ ..] = arguments {
-        desk.push(Task::Arguments(rest))?;
-        match first {
-            Argument::Positional { value } | Argument::Named { value, .. } => {
-                desk.push(Task::Evaluate(value))?;
-            }
+    let Some((first, rest)) = arguments.split_first() else {
+        return Ok(());
+    };
+    match first {
+        Argument::Positional { value } => {
+            desk.evaluate(value, Task::Arguments(rest))?;
+            Ok(())
+        }
+        Argument::Named { value, .. } => {
+            desk.evaluate(value, Task::Arguments(rest))?;
+            Ok(())
         }
     }
-    Ok(())
+}
+
+/// The first default of some parameters, and then the others.
+pub fn evaluate_defaults<'a>(desk: &mut Desk<'a>, parameters: &'a [Parameter]) -> Result<(), Stop>
+    ensures { (s : State) → Steps (left (Task.Defaults parameters.entry ∷ tasks_of desk.old) (values_of desk.old) (goes_on s)) result (left (tasks_of desk.new) (values_of desk.new) (goes_on s)) }
+{
+    let Some((first, rest)) = parameters.split_first() else {
+        return Ok(());
+    };
+    match &first.default {
+        Some(default) => {
+            desk.evaluate(default, Task::Defaults(rest))?;
+            Ok(())
+        }
+        None => {
+            desk.push(Task::Defaults(rest))?;
+            Ok(())
+        }
+    }
 }
 
 /// Which display is made.
@@ -162,21 +204,16 @@ pub enum Shape {
     Dict,
 }
 
-/// Makes a display of the uppermost values.
+/// Makes a display of the values above a height.
 pub fn display(
     machine: &mut Machine,
     frame: &Frame,
     desk: &mut Desk<'_>,
     line: u32,
-    count: usize,
+    base: usize,
     shape: Shape,
-) -> Result<(), Stop>
-    ensures { IfErr result (λ e. refusals_told e ≡ 0) }
-{
-    let values = match shape {
-        Shape::Dict => desk.take_all(count.saturating_mul(2))?,
-        _ => desk.take_all(count)?,
-    };
+) -> Result<(), Stop> {
+    let values = desk.take_above(base)?;
     match displayed(machine, shape, values.as_slice()) {
         Ok(value) => desk.give(value)?,
         Err(fault) => return Err(value_fault(frame, line, fault)),
@@ -219,21 +256,23 @@ pub fn negated(
     desk: &mut Desk<'_>,
     line: u32,
 ) -> Result<(), Stop>
-    ensures { IfErr result (λ e. refusals_told e ≡ 0) }
+    ensures { Steps (left_with (Task.Negate line) desk.old machine.old frame.now) result (left_at desk.new machine.new frame.now) }
 {
     let operand = desk.take();
     match negate(&mut machine.heap, &mut machine.budget, operand) {
-        Ok(value) => desk.give(value)?,
-        Err(fault) => return Err(value_fault(frame, line, fault)),
+        Ok(value) => {
+            desk.give(value)?;
+            Ok(())
+        }
+        Err(fault) => Err(value_fault(frame, line, fault)),
     }
-    Ok(())
 }
 
-pub fn turned(heap: &Heap, desk: &mut Desk<'_>) -> Result<(), Stop>
-    ensures { IfErr result (λ e. refusals_told e ≡ 0) }
+pub fn turned(machine: &Machine, desk: &mut Desk<'_>) -> Result<(), Stop>
+    ensures { (f : meaning.Frame) → Steps (left_with Task.Not desk.old machine.now f) result (left_at desk.new machine.now f) }
 {
     let operand = desk.take();
-    desk.give(Value::Bool(!truth(heap, operand)))?;
+    desk.give(Value::Bool(!truth(&machine.heap, operand)))?;
     Ok(())
 }
 
@@ -244,15 +283,17 @@ pub fn operated(
     line: u32,
     op: Op,
 ) -> Result<(), Stop>
-    ensures { IfErr result (λ e. refusals_told e ≡ 0) }
+    ensures { Steps (left_with (Task.Binary line op) desk.old machine.old frame.now) result (left_at desk.new machine.new frame.now) }
 {
     let right = desk.take();
     let left = desk.take();
     match binary(&mut machine.heap, &mut machine.budget, op, left, right) {
-        Ok(value) => desk.give(value)?,
-        Err(fault) => return Err(value_fault(frame, line, fault)),
+        Ok(value) => {
+            desk.give(value)?;
+            Ok(())
+        }
+        Err(fault) => Err(value_fault(frame, line, fault)),
     }
-    Ok(())
 }
 
 /// Goes on behind the left operand.
@@ -261,27 +302,36 @@ pub fn operations<'a>(
     desk: &mut Desk<'a>,
     operations: &'a [Operation],
 ) -> Result<(), Stop>
-    ensures { IfErr result (λ e. refusals_told e ≡ 0) }
+    ensures { (f : meaning.Frame) → Steps (left_with (Task.Operations operations.entry) desk.old machine.now f) result (left_at desk.new machine.now f) }
 {
-    let [first, rest @ ..] = operations else {
+    let Some((first, rest)) = operations.split_first() else {
         return Ok(());
     };
+    if is_decided(machine, first.operator, desk.top()) {
+        desk.push(Task::Operations(rest))?;
+        return Ok(());
+    }
     desk.push(Task::Operations(rest))?;
     match first.operator {
         Operator::Or | Operator::And => {
-            let decided = truth(&machine.heap, desk.top()) == (first.operator == Operator::Or);
-            if !decided {
-                let _left = desk.take();
-                desk.push(Task::Evaluate(&first.operand))?;
-            }
+            let _left = desk.take();
+            desk.push(Task::Evaluate(&first.operand))?;
+            Ok(())
         }
         operator => {
-            desk.push(Task::Binary {
-                line: first.line,
-                op: operator_op(operator),
-            })?;
-            desk.push(Task::Evaluate(&first.operand))?;
+            let line = first.line;
+            let op = operator_op(operator);
+            desk.evaluate(&first.operand, Task::Binary { line, op })?;
+            Ok(())
         }
     }
-    Ok(())
+}
+
+/// Whether `or` or `and` gives its left operand.
+fn is_decided(machine: &Machine, operator: Operator, left: Value) -> bool {
+    match operator {
+        Operator::Or => truth(&machine.heap, left),
+        Operator::And => !truth(&machine.heap, left),
+        _ => false,
+    }
 }

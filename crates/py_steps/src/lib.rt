@@ -1,6 +1,7 @@
 //! The steps of a body in which nothing is called: expressions, what stands behind them, assignments, loops and statements.
 //!
-//! What is left to do is a stack of tasks, beside one of values.
+//! What is left to do is a stack of tasks, beside one of values. A contract sees a `Desk` as both, the uppermost first, and
+//! `left` of `specs/Todos.antt` says what they stand for.
 #![tactic(auto)]
 
 mod assignments;

@@ -1,6 +1,8 @@
 //! Calls, indices and attributes behind an atom.
-ghost use Rattle.std.specs.Prelude.{◌≡◌, ◌≤◌, IfErr};
-ghost use Rattle.py_state.specs.Stops.{refusals_told, Told};
+ghost use Rattle.std.specs.Prelude.{◌≡◌, ℕ};
+ghost use Rattle.py_steps.specs.Desks.{stacks_of, values_of};
+ghost use Rattle.py_steps.specs.Todos.{end_at, past};
+ghost use Rattle.py_steps.specs.Leads.{Leads, Steps, left_with, left_at};
 
 use crate::desk::Desk;
 use crate::task::Task;
@@ -22,8 +24,7 @@ pub fn link<'a, H: Host>(
     links: &'a [Link],
     named: Option<u32>,
 ) -> Result<(), Stop>
-    ensures later { H.meaning.refusals host.old ≤ H.meaning.refusals host.new }
-    ensures cause { IfErr result (λ e. Told e (H.meaning.refusals host.old) (H.meaning.refusals host.new)) }
+    ensures { (c : ℕ) → Leads H.meaning c (left_with (Task.Links links.entry named) desk.old machine.old frame.now) host.old result (left_at desk.new machine.new frame.now) host.new }
 {
     let [first, rest @ ..] = links else {
         return Ok(());
@@ -44,10 +45,12 @@ pub fn link<'a, H: Host>(
                 links: rest,
                 named: None,
             })?;
+            let base = desk.height();
             desk.push(Task::Call {
                 line: named.unwrap_or(*line),
                 method: None,
                 arguments: arguments.as_slice(),
+                base,
             })?;
             desk.push(Task::Arguments(arguments.as_slice()))?;
         }
@@ -89,10 +92,7 @@ fn attribute<H: Host>(
     line: u32,
     object: HostId,
     name: &Text,
-) -> Result<(), Stop>
-    ensures later { H.meaning.refusals host.old ≤ H.meaning.refusals host.new }
-    ensures cause { IfErr result (λ e. Told e (H.meaning.refusals host.old) (H.meaning.refusals host.new)) }
-{
+) -> Result<(), Stop> {
     let _object = desk.take();
     match host.attribute(&mut machine.heap, object, name.as_str()) {
         Ok(value) => desk.give(value)?,
@@ -108,9 +108,7 @@ fn method_link<'a>(
     line: u32,
     name: &Text,
     links: &'a [Link],
-) -> Result<(), Stop>
-    ensures { IfErr result (λ e. refusals_told e ≡ 0) }
-{
+) -> Result<(), Stop> {
     let no_method = EvalKind::Value(ValueFault::NoMethod);
     let [Link::Call { arguments, .. }, rest @ ..] = links else {
         return Err(fault(frame, line, no_method));
@@ -125,10 +123,12 @@ fn method_link<'a>(
         links: rest,
         named: None,
     })?;
+    let base = desk.height();
     desk.push(Task::Call {
         line,
         method: Some(method),
         arguments: arguments.as_slice(),
+        base,
     })?;
     desk.push(Task::Arguments(arguments.as_slice()))?;
     Ok(())
@@ -142,10 +142,7 @@ pub fn item<H: Host>(
     line: u32,
     base: Value,
     key: Value,
-) -> Result<Value, Stop>
-    ensures later { H.meaning.refusals host.old ≤ H.meaning.refusals host.new }
-    ensures cause { IfErr result (λ e. Told e (H.meaning.refusals host.old) (H.meaning.refusals host.new)) }
-{
+) -> Result<Value, Stop> {
     match base {
         Value::Object(object) => match host.index(&mut machine.heap, object, key) {
             Ok(value) => Ok(value),
@@ -165,8 +162,7 @@ pub fn indexed<H: Host>(
     desk: &mut Desk<'_>,
     line: u32,
 ) -> Result<(), Stop>
-    ensures later { H.meaning.refusals host.old ≤ H.meaning.refusals host.new }
-    ensures cause { IfErr result (λ e. Told e (H.meaning.refusals host.old) (H.meaning.refusals host.new)) }
+    ensures { (c : ℕ) → Leads H.meaning c (left_with (Task.Index line) desk.old machine.old frame.now) host.old result (left_at desk.new machine.new frame.now) host.new }
 {
     let key = desk.take();
     let base = desk.take();
@@ -183,14 +179,27 @@ pub fn sliced(
     from: bool,
     to: bool,
 ) -> Result<(), Stop>
-    ensures { IfErr result (λ e. refusals_told e ≡ 0) }
+    ensures { Steps (left_with (Task.Slice line from to) desk.old machine.old frame.now) result (left_at desk.new machine.new frame.now) }
 {
-    let to = if to { Some(desk.take()) } else { None };
-    let from = if from { Some(desk.take()) } else { None };
+    let upper = end_of(desk, to);
+    let lower = end_of(desk, from);
     let base = desk.take();
-    match slice(&mut machine.heap, &mut machine.budget, base, from, to) {
-        Ok(value) => desk.give(value)?,
-        Err(fault) => return Err(value_fault(frame, line, fault)),
+    match slice(&mut machine.heap, &mut machine.budget, base, lower, upper) {
+        Ok(value) => {
+            desk.give(value)?;
+            Ok(())
+        }
+        Err(fault) => Err(value_fault(frame, line, fault)),
     }
-    Ok(())
+}
+
+/// An end of a slice, if it is there.
+fn end_of(desk: &mut Desk<'_>, there: bool) -> Option<Value>
+    ensures value { result ≡ end_at there (values_of desk.old) }
+    ensures left { stacks_of desk.new ≡ record (stacks_of desk.old) { values = past there (values_of desk.old) } }
+{
+    if there {
+        return Some(desk.take());
+    }
+    None
 }

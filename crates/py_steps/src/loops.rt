@@ -1,16 +1,27 @@
 //! `for` and `if`.
-ghost use Rattle.std.specs.Prelude.{◌≡◌, IfErr};
-ghost use Rattle.py_state.specs.Stops.{refusals_told};
+ghost use Rattle.std.specs.Prelude.{◌≡◌, ◌≢◌, ◌∷◌, Ok, Err, IfOk, IfErr, OnOk};
+ghost use Rattle.py_meaning.specs.Loops.{shared};
+ghost use Rattle.py_meaning.specs.Statements.{with_all_bound};
+ghost use Rattle.py_meaning.specs.States.{State, goes_on};
+ghost use Rattle.py_meaning.specs.States as meaning;
+ghost use Rattle.py_state.specs.Stores.{state_of, store_of};
+ghost use Rattle.py_steps.specs.Desks.{tasks_of, values_of};
+ghost use Rattle.py_steps.specs.Todos.{left};
+ghost use Rattle.py_steps.specs.Leads.{Steps, left_with, left_at};
 
 use crate::desk::Desk;
 use crate::task::{Loop, Task};
 use py_heap::{Value, ValueFault, Values, truth};
 use py_state::{Frame, Machine, Stop, Walk, unpacked, value_fault};
 use py_tree::{Branch, Line};
-use scons_base::Text;
+use scons_base::{Memory, Text};
 
 /// What the names of a target take: one name the value itself, several its items.
-pub fn shared(machine: &mut Machine, names: &[Text], value: Value) -> Result<Values, ValueFault> {
+pub fn shared(machine: &mut Machine, names: &[Text], value: Value) -> Result<Values, ValueFault>
+    ensures ok { IfOk result (λ items. shared machine.old.heap names.now value ≡ Ok (items, machine.new.heap)) }
+    ensures fault { IfErr result (λ e. e ≢ ValueFault.Memory → shared machine.old.heap names.now value ≡ Err e) }
+    ensures keeps { store_of machine.new ≡ record (store_of machine.old) { objects = machine.new.heap } }
+{
     if names.len() == 1 {
         return Ok(Values::new(vec![in machine.alloc; value]?));
     }
@@ -24,13 +35,14 @@ pub fn begin<'a>(
     desk: &mut Desk<'a>,
     turns: Loop<'a>,
 ) -> Result<(), Stop>
-    ensures { IfErr result (λ e. refusals_told e ≡ 0) }
+    ensures { Steps (left_with (Task.Begin turns.entry) desk.old machine.now frame.now) result (left_at desk.new machine.now frame.now) }
 {
     let source = desk.take();
-    match Walk::over(&machine.heap, source) {
-        Ok(walk) => desk.push(Task::Turns { turns, walk })?,
+    let walk = match Walk::over(&machine.heap, source) {
+        Ok(walk) => walk,
         Err(fault) => return Err(value_fault(frame, turns.line, fault)),
-    }
+    };
+    desk.push(Task::Turns { turns, walk })?;
     Ok(())
 }
 
@@ -42,21 +54,18 @@ pub fn turn<'a>(
     turns: Loop<'a>,
     walk: Walk,
 ) -> Result<(), Stop>
-    ensures { IfErr result (λ e. refusals_told e ≡ 0) }
+    ensures { Steps (left_with (Task.Turns turns.entry walk) desk.old machine.old frame.old) result (left_at desk.new machine.new frame.new) }
 {
     let Some((item, rest)) = walk.next(&mut machine.heap)? else {
         return Ok(());
     };
     machine.pay(frame, turns.line)?;
     desk.push(Task::Turns { turns, walk: rest })?;
-    if let [name] = turns.names {
-        machine.bind(frame, name, item)?;
-    } else {
-        match unpacked(&mut machine.heap, item, turns.names.len()) {
-            Ok(items) => bind_all(machine, frame, turns.names, items.as_slice())?,
-            Err(fault) => return Err(value_fault(frame, turns.line, fault)),
-        }
-    }
+    let items = match shared(machine, turns.names, item) {
+        Ok(items) => items,
+        Err(fault) => return Err(value_fault(frame, turns.line, fault)),
+    };
+    bind_all(machine, frame, turns.names, items.as_slice())?;
     desk.push(Task::Lines(turns.block))?;
     Ok(())
 }
@@ -67,10 +76,13 @@ pub fn bind_all(
     frame: &mut Frame,
     names: &[Text],
     values: &[Value],
-) -> Result<(), Stop>
-    ensures { IfErr result (λ e. refusals_told e ≡ 0) }
+) -> Result<(), Memory>
+    ensures { OnOk result (state_of machine.new frame.new ≡ with_all_bound (state_of machine.old frame.old) names.now values.now) }
 {
-    'names: for (name, value) in names.iter().zip(values.iter()) {
+    'names: for (place, name) in names.iter().enumerate() {
+        let Some(value) = values.get(place) else {
+            return Ok(());
+        };
         machine.bind(frame, name, *value)?;
     }
     Ok(())
@@ -82,18 +94,19 @@ pub fn next_branch<'a>(
     branches: &'a [Branch],
     otherwise: &'a [Line],
 ) -> Result<(), Stop>
-    ensures { IfErr result (λ e. refusals_told e ≡ 0) }
+    ensures { (s : State) → Steps (left (Task.Branches branches.entry otherwise.entry ∷ tasks_of desk.old) (values_of desk.old) (goes_on s)) result (left (tasks_of desk.new) (values_of desk.new) (goes_on s)) }
 {
-    if let [branch, rest @ ..] = branches {
-        desk.push(Task::Choose {
+    let Some((branch, rest)) = branches.split_first() else {
+        return Ok(desk.push(Task::Lines(otherwise))?);
+    };
+    desk.evaluate(
+        &branch.test,
+        Task::Choose {
             branch,
             branches: rest,
             otherwise,
-        })?;
-        desk.push(Task::Evaluate(&branch.test))?;
-    } else {
-        desk.push(Task::Lines(otherwise))?;
-    }
+        },
+    )?;
     Ok(())
 }
 
@@ -105,16 +118,15 @@ pub fn choose<'a>(
     branches: &'a [Branch],
     otherwise: &'a [Line],
 ) -> Result<(), Stop>
-    ensures { IfErr result (λ e. refusals_told e ≡ 0) }
+    ensures { (f : meaning.Frame) → Steps (left_with (Task.Choose branch.entry branches.entry otherwise.entry) desk.old machine.now f) result (left_at desk.new machine.now f) }
 {
     let test = desk.take();
     if truth(&machine.heap, test) {
-        desk.push(Task::Lines(branch.block.as_slice()))?;
-    } else {
-        desk.push(Task::Branches {
-            branches,
-            otherwise,
-        })?;
+        return Ok(desk.push(Task::Lines(branch.block.as_slice()))?);
     }
+    desk.push(Task::Branches {
+        branches,
+        otherwise,
+    })?;
     Ok(())
 }

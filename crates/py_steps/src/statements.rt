@@ -1,13 +1,26 @@
 //! Lines and statements.
-ghost use Rattle.std.specs.Prelude.{◌≡◌, IfErr};
-ghost use Rattle.py_state.specs.Stops.{refusals_told};
+ghost use Rattle.std.specs.Prelude.{◌≡◌, ◌∷◌, ℕ, Ok, Err, IfOk, OnOk, IfErr, map};
+ghost use Rattle.py_tree.specs.Tree.{Tree, trees, words, line_tree, branch_tree, simple_tree, expr_tree, optional_tree, parameter_tree, branching, for', def, assign, augment, expression, return};
+ghost use Rattle.py_heap.specs.declared.fault.ValueFault.{ValueFault};
+ghost use Rattle.py_heap.specs.Units.{charged};
+ghost use Rattle.py_meaning.specs.Arguments.{parameters_by};
+ghost use Rattle.py_meaning.specs.Lines.{first_line};
+ghost use Rattle.py_meaning.specs.States.{State, goes_on};
+ghost use Rattle.py_meaning.specs.Statements.{statement};
+ghost use Rattle.py_state.specs.Stores.{state_of, store_of};
+ghost use Rattle.py_state.specs.Stops.{value_stop};
+ghost use Rattle.py_steps.specs.Desks.{tasks_of, values_of};
+ghost use Rattle.py_steps.specs.Todos.{left, parameters_in};
+ghost use Rattle.py_steps.specs.Leads.{Steps, StepsOrReturns, left_with, left_at, exec_at, plan_at};
 
 use crate::assignments::augment;
 use crate::desk::Desk;
 use crate::task::{Definition, Loop, Task};
 use py_heap::Value;
-use py_state::{Frame, Function, Machine, Stop, bindable, first_line, local_names};
-use py_tree::{Line, Parameter, Simple};
+use py_state::{Bindable, Frame, Function, Machine, Stop, bindable, first_line, local_names};
+use py_tree::{Branch, Expr, Line, Operator, Parameter, Simple};
+use scons_base::Memory;
+use std::alloc::Global;
 
 /// The first of some lines, and then the others. Each costs a unit, and so does each statement of a simple one.
 pub fn run_lines<'a>(
@@ -16,41 +29,43 @@ pub fn run_lines<'a>(
     desk: &mut Desk<'a>,
     lines: &'a [Line],
 ) -> Result<(), Stop>
-    ensures { IfErr result (λ e. refusals_told e ≡ 0) }
+    ensures { Steps (left_with (Task.Lines lines.entry) desk.old machine.old frame.now) result (left_at desk.new machine.new frame.now) }
 {
-    let [first, rest @ ..] = lines else {
+    let Some((line, rest)) = lines.split_first() else {
         return Ok(());
     };
     desk.push(Task::Lines(rest))?;
-    match first {
-        Line::Simple { statements } => desk.push(Task::Statements(statements.as_slice()))?,
+    run_line(machine, frame, desk, line)
+}
+
+fn run_line<'a>(
+    machine: &mut Machine,
+    frame: &Frame,
+    desk: &mut Desk<'a>,
+    line: &'a Line,
+) -> Result<(), Stop>
+    ensures { Steps (exec_at (line_tree line.now) desk.old (state_of machine.old frame.now)) result (left_at desk.new machine.new frame.now) }
+{
+    match line {
+        Line::Simple { statements } => {
+            Ok(desk.push(Task::Statements(statements.as_slice()))?)
+        }
         Line::If {
             branches,
             otherwise,
-        } => {
-            let line = match branches.as_slice() {
-                [branch, ..] => branch.line,
-                [] => 0,
-            };
-            machine.pay(frame, line)?;
-            desk.push(Task::Branches {
-                branches: branches.as_slice(),
-                otherwise: otherwise.as_slice(),
-            })?;
-        }
+        } => run_if(machine, frame, desk, branches.as_slice(), otherwise.as_slice()),
         Line::For {
             line,
             names,
             source,
             block,
         } => {
-            machine.pay(frame, *line)?;
-            desk.push(Task::Begin(Loop {
+            let turns = Loop {
                 line: *line,
                 names: names.as_slice(),
                 block: block.as_slice(),
-            }))?;
-            desk.push(Task::Evaluate(source))?;
+            };
+            run_for(machine, frame, desk, turns, source)
         }
         Line::Def {
             line,
@@ -58,27 +73,70 @@ pub fn run_lines<'a>(
             parameters,
             block,
         } => {
-            machine.pay(frame, *line)?;
-            desk.push(Task::Define(Definition {
+            let definition = Definition {
                 name,
                 parameters: parameters.as_slice(),
                 block,
-            }))?;
-            push_defaults(desk, parameters.as_slice())?;
+            };
+            run_def(machine, frame, desk, *line, definition)
         }
     }
+}
+
+fn run_if<'a>(
+    machine: &mut Machine,
+    frame: &Frame,
+    desk: &mut Desk<'a>,
+    branches: &'a [Branch],
+    otherwise: &'a [Line],
+) -> Result<(), Stop>
+    ensures { Steps (exec_at (branching (trees (map branch_tree branches.now)) (trees (map line_tree otherwise.now))) desk.old (state_of machine.old frame.now)) result (left_at desk.new machine.new frame.now) }
+{
+    machine.pay(frame, branches_line(branches))?;
+    desk.push(Task::Branches {
+        branches,
+        otherwise,
+    })?;
     Ok(())
 }
 
-/// The defaults of parameters, the first on top.
-fn push_defaults<'a>(desk: &mut Desk<'a>, parameters: &'a [Parameter]) -> Result<(), Stop>
-    ensures { IfErr result (λ e. refusals_told e ≡ 0) }
+/// The line of an `if`: that of its first branch.
+fn branches_line(branches: &[Branch]) -> u32
+    ensures { (ls : Tree) → first_line (branching (trees (map branch_tree branches.now)) ls) ≡ result }
 {
-    'parameters: for parameter in parameters.iter().rev() {
-        if let Some(default) = &parameter.default {
-            desk.push(Task::Evaluate(default))?;
-        }
-    }
+    let Some((branch, _)) = branches.split_first() else {
+        return 0;
+    };
+    branch.line
+}
+
+fn run_for<'a>(
+    machine: &mut Machine,
+    frame: &Frame,
+    desk: &mut Desk<'a>,
+    turns: Loop<'a>,
+    source: &'a Expr,
+) -> Result<(), Stop>
+    ensures { Steps (exec_at (for' turns.entry.line (words turns.entry.names.now) (expr_tree source.now) (trees (map line_tree turns.entry.block.now))) desk.old (state_of machine.old frame.now)) result (left_at desk.new machine.new frame.now) }
+{
+    machine.pay(frame, turns.line)?;
+    desk.evaluate(source, Task::Begin(turns))?;
+    Ok(())
+}
+
+fn run_def<'a>(
+    machine: &mut Machine,
+    frame: &Frame,
+    desk: &mut Desk<'a>,
+    line: u32,
+    definition: Definition<'a>,
+) -> Result<(), Stop>
+    ensures { Steps (exec_at (def line definition.entry.name.now (parameters_in definition.entry) (trees (map line_tree definition.entry.block.now.value.items))) desk.old (state_of machine.old frame.now)) result (left_at desk.new machine.new frame.now) }
+{
+    machine.pay(frame, line)?;
+    let base = desk.height();
+    desk.push(Task::Define { definition, base })?;
+    desk.push(Task::Defaults(definition.parameters))?;
     Ok(())
 }
 
@@ -96,48 +154,86 @@ pub fn run_statements<'a>(
     desk: &mut Desk<'a>,
     statements: &'a [Simple],
 ) -> Result<Flow, Stop>
-    ensures { IfErr result (λ e. refusals_told e ≡ 0) }
+    ensures { StepsOrReturns (left_with (Task.Statements statements.entry) desk.old machine.old frame.now) result (left_at desk.new machine.new frame.now) (state_of machine.new frame.now) }
 {
-    let [first, rest @ ..] = statements else {
+    let Some((statement, rest)) = statements.split_first() else {
         return Ok(Flow::GoesOn);
     };
-    if machine.budget.charge(1).is_err() {
-        machine.pay(frame, first_line(first))?;
-    }
     desk.push(Task::Statements(rest))?;
-    match first {
+    pay_for(machine, frame, statement)?;
+    run_statement(desk, statement)
+}
+
+/// One unit for a statement. On which line it begins is of use only where there is none.
+fn pay_for(machine: &mut Machine, frame: &Frame, statement: &Simple) -> Result<(), Stop>
+    ensures ok { OnOk result (charged machine.old.budget 1 ≡ Ok machine.new.budget) }
+    ensures paid { store_of machine.new ≡ record (store_of machine.old) { units = machine.new.budget } }
+    ensures fault { IfErr result (λ stop. (e : ValueFault) × (charged machine.old.budget 1 ≡ Err e) × (stop ≡ value_stop frame.now.script (first_line (simple_tree statement.now)) e)) }
+{
+    if machine.budget.charge(1).is_ok() {
+        return Ok(());
+    }
+    machine.pay(frame, first_line(statement))
+}
+
+fn run_statement<'a>(desk: &mut Desk<'a>, simple: &'a Simple) -> Result<Flow, Stop>
+    ensures { (s : State) → StepsOrReturns (plan_at (statement (simple_tree simple.now) s) desk.old) result (left (tasks_of desk.new) (values_of desk.new) (goes_on s)) s }
+{
+    match simple {
         Simple::Assign {
             line,
             target,
             value,
-        } => {
-            desk.push(Task::Assign {
-                line: *line,
-                target,
-            })?;
-            desk.push(Task::Evaluate(value))?;
-        }
+        } => run_assign(desk, *line, target, value),
         Simple::Augment {
             line,
             operator,
             target,
             value,
-        } => augment(desk, *line, *operator, target, value)?,
-        Simple::Expression { value } => {
-            desk.push(Task::Forget)?;
-            desk.push(Task::Evaluate(value))?;
+        } => {
+            augment(desk, *line, *operator, target, value)?;
+            Ok(Flow::GoesOn)
         }
-        Simple::Pass { .. } | Simple::ImportScons { .. } => {}
-        Simple::Break { .. } => desk.break_loop(),
-        Simple::Continue { .. } => desk.continue_loop(),
-        Simple::Return { value, .. } => match value {
-            Some(value) => {
-                desk.push(Task::Return)?;
-                desk.push(Task::Evaluate(value))?;
-            }
-            None => return Ok(Flow::Returns(Value::Nil)),
-        },
+        Simple::Expression { value } => run_expression(desk, value),
+        Simple::Pass { .. } | Simple::ImportScons { .. } => Ok(Flow::GoesOn),
+        Simple::Break { .. } => {
+            desk.break_loop();
+            Ok(Flow::GoesOn)
+        }
+        Simple::Continue { .. } => {
+            desk.continue_loop();
+            Ok(Flow::GoesOn)
+        }
+        Simple::Return { value, .. } => run_return(desk, value),
     }
+}
+
+fn run_assign<'a>(
+    desk: &mut Desk<'a>,
+    line: u32,
+    target: &'a Expr,
+    value: &'a Expr,
+) -> Result<Flow, Stop>
+    ensures { (s : State) → StepsOrReturns (plan_at (statement (assign line (expr_tree target.now) (expr_tree value.now)) s) desk.old) result (left (tasks_of desk.new) (values_of desk.new) (goes_on s)) s }
+{
+    desk.evaluate(value, Task::Assign { line, target })?;
+    Ok(Flow::GoesOn)
+}
+
+fn run_expression<'a>(desk: &mut Desk<'a>, value: &'a Expr) -> Result<Flow, Stop>
+    ensures { (s : State) → StepsOrReturns (plan_at (statement (expression (expr_tree value.now)) s) desk.old) result (left (tasks_of desk.new) (values_of desk.new) (goes_on s)) s }
+{
+    desk.evaluate(value, Task::Forget)?;
+    Ok(Flow::GoesOn)
+}
+
+fn run_return<'a>(desk: &mut Desk<'a>, value: &'a Option<Expr>) -> Result<Flow, Stop>
+    ensures { (l : ℕ) (s : State) → StepsOrReturns (plan_at (statement (return l (optional_tree value.now)) s) desk.old) result (left (tasks_of desk.new) (values_of desk.new) (goes_on s)) s }
+{
+    let Some(value) = value else {
+        return Ok(Flow::Returns(Value::Nil));
+    };
+    desk.evaluate(value, Task::Return)?;
     Ok(Flow::GoesOn)
 }
 
@@ -147,26 +243,12 @@ pub fn define(
     frame: &mut Frame,
     desk: &mut Desk<'_>,
     definition: Definition<'_>,
+    base: usize,
 ) -> Result<(), Stop>
-    ensures { IfErr result (λ e. refusals_told e ≡ 0) }
+    ensures { Steps (left_with (Task.Define definition.entry base) desk.old machine.old frame.old) result (left_at desk.new machine.new frame.new) }
 {
-    let with_default = definition
-        .parameters
-        .iter()
-        .filter(|parameter| parameter.default.is_some())
-        .count();
-    let values = desk.take_all(with_default)?;
-    let mut parameters = Vec::new(machine.alloc);
-    let mut used = 0;
-    'parameters: for parameter in definition.parameters {
-        if parameter.default.is_some() {
-            let default = values.get(used).copied();
-            parameters.push(bindable(&parameter.name, default)?)?;
-            used += 1;
-        } else {
-            parameters.push(bindable(&parameter.name, None)?)?;
-        }
-    }
+    let values = desk.take_above(base)?;
+    let parameters = parameters_by(machine.alloc, definition.parameters, values.as_slice())?;
     let locals = local_names(
         machine.alloc,
         definition.parameters,
@@ -180,4 +262,26 @@ pub fn define(
     })?;
     machine.bind(frame, definition.name, value)?;
     Ok(())
+}
+
+/// The parameters, with the values of those defaults that stand there.
+fn parameters_by(
+    alloc: Global,
+    parameters: &[Parameter],
+    values: &[Value],
+) -> Result<Vec<Bindable>, Memory>
+    ensures { IfOk result (λ made. made.items ≡ parameters_by (trees (map parameter_tree parameters.now)) values.now) }
+{
+    let mut made = Vec::new(alloc);
+    let mut used = 0;
+    'parameters: for parameter in parameters {
+        if parameter.default.is_some() {
+            let default = values.get(used).copied();
+            made.push(bindable(&parameter.name, default)?)?;
+            used += 1;
+        } else {
+            made.push(bindable(&parameter.name, None)?)?;
+        }
+    }
+    Ok(made)
 }

@@ -1,13 +1,14 @@
 //! A task, by its kind.
-ghost use Rattle.std.specs.Prelude.{◌≤◌, IfErr};
-ghost use Rattle.py_state.specs.Stops.{Told};
+ghost use Rattle.std.specs.Prelude.{ℕ};
+ghost use Rattle.py_state.specs.Stores.{state_of};
+ghost use Rattle.py_steps.specs.Leads.{Flows, left_with, left_at};
 
 use crate::assignments::{assign, combine, load, store_above, store_below};
 use crate::comprehensions::{collect, comprehend, test, tested};
 use crate::desk::Desk;
 use crate::expressions::{
-    Shape, display, evaluate, evaluate_all, evaluate_arguments, evaluate_pairs, negated, operated,
-    operations, turned,
+    Shape, display, evaluate, evaluate_all, evaluate_arguments, evaluate_defaults, evaluate_pairs,
+    negated, operated, operations, turned,
 };
 use crate::links::{indexed, link, sliced};
 use crate::loops::{begin, choose, next_branch, turn};
@@ -24,8 +25,7 @@ pub fn step<'a, H: Host>(
     desk: &mut Desk<'a>,
     task: Task<'a>,
 ) -> Result<Flow, Stop>
-    ensures later { H.meaning.refusals host.old ≤ H.meaning.refusals host.new }
-    ensures cause { IfErr result (λ e. Told e (H.meaning.refusals host.old) (H.meaning.refusals host.new)) }
+    ensures { (c : ℕ) → Flows H.meaning c (left_with task.entry desk.old machine.old frame.old) host.old result (left_at desk.new machine.new frame.new) host.new (state_of machine.new frame.new) }
 {
     match task {
         Task::Statements(statements) => return run_statements(machine, frame, desk, statements),
@@ -34,11 +34,12 @@ pub fn step<'a, H: Host>(
         Task::EvaluateAll(exprs) => evaluate_all(desk, exprs)?,
         Task::Pairs(pairs) => evaluate_pairs(desk, pairs)?,
         Task::Arguments(arguments) => evaluate_arguments(desk, arguments)?,
-        Task::Tuple { line, count } => display(machine, frame, desk, line, count, Shape::Tuple)?,
-        Task::List { line, count } => display(machine, frame, desk, line, count, Shape::List)?,
-        Task::Dict { line, count } => display(machine, frame, desk, line, count, Shape::Dict)?,
+        Task::Defaults(parameters) => evaluate_defaults(desk, parameters)?,
+        Task::Tuple { line, base } => display(machine, frame, desk, line, base, Shape::Tuple)?,
+        Task::List { line, base } => display(machine, frame, desk, line, base, Shape::List)?,
+        Task::Dict { line, base } => display(machine, frame, desk, line, base, Shape::Dict)?,
         Task::Negate { line } => negated(machine, frame, desk, line)?,
-        Task::Not => turned(&machine.heap, desk)?,
+        Task::Not => turned(machine, desk)?,
         Task::Binary { line, op } => operated(machine, frame, desk, line, op)?,
         Task::Operations(rest) => operations(machine, desk, rest)?,
         Task::Links { links, named } => link(machine, host, frame, desk, links, named)?,
@@ -63,7 +64,7 @@ pub fn step<'a, H: Host>(
         } => choose(machine, desk, branch, branches, otherwise)?,
         Task::Begin(turns) => begin(machine, frame, desk, turns)?,
         Task::Turns { turns, walk } => turn(machine, frame, desk, turns, walk)?,
-        Task::Define(definition) => define(machine, frame, desk, definition)?,
+        Task::Define { definition, base } => define(machine, frame, desk, definition, base)?,
         Task::Assign { line, target } => assign(machine, frame, desk, line, target)?,
         Task::Bind(name) => {
             let value = desk.take();

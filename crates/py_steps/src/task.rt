@@ -47,18 +47,20 @@ pub enum Task<'a> {
     EvaluateAll(&'a [Expr]),
     Pairs(&'a [Pair]),
     Arguments(&'a [Argument]),
-    /// Displays of so many values.
+    /// Those of the parameters that have a default.
+    Defaults(&'a [Parameter]),
+    /// Displays of the values above a height.
     Tuple {
         line: u32,
-        count: usize,
+        base: usize,
     },
     List {
         line: u32,
-        count: usize,
+        base: usize,
     },
     Dict {
         line: u32,
-        count: usize,
+        base: usize,
     },
     /// Operators on values that are there.
     Negate {
@@ -76,11 +78,12 @@ pub enum Task<'a> {
         links: &'a [Link],
         named: Option<u32>,
     },
-    /// A call of the value below its arguments, or of its method.
+    /// A call of the value below its arguments, which stand above a height, or of its method.
     Call {
         line: u32,
         method: Option<Name>,
         arguments: &'a [Argument],
+        base: usize,
     },
     Index {
         line: u32,
@@ -122,7 +125,11 @@ pub enum Task<'a> {
         turns: Loop<'a>,
         walk: Walk,
     },
-    Define(Definition<'a>),
+    /// The values of the defaults stand above a height.
+    Define {
+        definition: Definition<'a>,
+        base: usize,
+    },
     /// A value that is there goes to a target.
     Assign {
         line: u32,

@@ -1,0 +1,17 @@
+pub mod Beginnings
+pub mod Behind
+pub mod Branches
+pub mod Combining
+pub mod Definitions
+pub mod Faults
+pub mod Going
+pub mod Lines
+pub mod Naming
+pub mod Places
+pub mod Rests
+pub mod Several
+pub mod Simples
+pub mod Stacks
+pub mod Stepping
+pub mod Trees
+pub mod Turns
