@@ -99,6 +99,11 @@ by_branch block bs ls vs k false s = first (branches bs ls) s (k vs)
 abbrev pub parameters_in : Definition → Tree
 parameters_in d = trees (map parameter_tree d.parameters.now)
 
+-- a task in which nothing is called
+abbrev pub IsStep : Task → Type 0
+IsStep (task.Call l name ts base) = ⊥
+IsStep other = Unit {0}
+
 -- what a task does, and how it goes on
 abbrev pub does : Task → List Value → State → Rest → Plan
 does (task.Evaluate e) vs s k = first (eval (expr_tree e.now)) s (gives_on vs k)

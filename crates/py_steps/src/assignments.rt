@@ -1,5 +1,5 @@
 //! Assignments.
-ghost use Rattle.std.specs.Prelude.{◌≡◌, ◌∷◌, ℕ, OnOk, map};
+ghost use Rattle.std.specs.Prelude.{◌≡◌, ◌≤◌, ◌∷◌, ℕ, OnOk, map};
 ghost use Rattle.py_tree.specs.Tree.{trees, post, expr_tree, link_tree};
 ghost use Rattle.py_meaning.specs.Expressions.{named_line};
 ghost use Rattle.py_meaning.specs.States.{State, goes_on};
@@ -165,7 +165,8 @@ pub fn load<H: Host>(
     desk: &mut Desk<'_>,
     line: u32,
 ) -> Result<(), Stop>
-    ensures { (c : ℕ) → Leads H.meaning c (left_with (Task.Load line) desk.old machine.old frame.now) host.old result (left_at desk.new machine.new frame.now) host.new }
+    ensures later { H.meaning.refusals host.old ≤ H.meaning.refusals host.new }
+    ensures leads { (c : ℕ) → Leads H.meaning c (left_with (Task.Load line) desk.old machine.old frame.now) host.old result (left_at desk.new machine.new frame.now) host.new }
 {
     let value = item(machine, host, frame, line, desk.second(), desk.top())?;
     desk.give(value)?;
@@ -207,7 +208,8 @@ pub fn store_below<H: Host>(
     desk: &mut Desk<'_>,
     line: u32,
 ) -> Result<(), Stop>
-    ensures { (c : ℕ) → Leads H.meaning c (left_with (Task.StoreBelow line) desk.old machine.old frame.now) host.old result (left_at desk.new machine.new frame.now) host.new }
+    ensures later { H.meaning.refusals host.old ≤ H.meaning.refusals host.new }
+    ensures leads { (c : ℕ) → Leads H.meaning c (left_with (Task.StoreBelow line) desk.old machine.old frame.now) host.old result (left_at desk.new machine.new frame.now) host.new }
 {
     let key = desk.take();
     let base = desk.take();
@@ -223,7 +225,8 @@ pub fn store_above<H: Host>(
     desk: &mut Desk<'_>,
     line: u32,
 ) -> Result<(), Stop>
-    ensures { (c : ℕ) → Leads H.meaning c (left_with (Task.StoreAbove line) desk.old machine.old frame.now) host.old result (left_at desk.new machine.new frame.now) host.new }
+    ensures later { H.meaning.refusals host.old ≤ H.meaning.refusals host.new }
+    ensures leads { (c : ℕ) → Leads H.meaning c (left_with (Task.StoreAbove line) desk.old machine.old frame.now) host.old result (left_at desk.new machine.new frame.now) host.new }
 {
     let value = desk.take();
     let key = desk.take();

@@ -1,5 +1,5 @@
 //! Expressions.
-ghost use Rattle.std.specs.Prelude.{◌≡◌, ℕ, ◌∷◌};
+ghost use Rattle.std.specs.Prelude.{◌≡◌, ◌≤◌, ℕ, ◌∷◌};
 ghost use Rattle.py_tree.specs.Tree.{expr_tree};
 ghost use Rattle.py_meaning.specs.Expressions.{named_line};
 ghost use Rattle.py_meaning.specs.States.{State, goes_on};
@@ -27,7 +27,8 @@ pub fn evaluate<'a, H: Host>(
     desk: &mut Desk<'a>,
     expr: &'a Expr,
 ) -> Result<(), Stop>
-    ensures { (c : ℕ) → Leads H.meaning c (left_with (Task.Evaluate expr.entry) desk.old machine.old frame.now) host.old result (left_at desk.new machine.new frame.now) host.new }
+    ensures later { H.meaning.refusals host.old ≤ H.meaning.refusals host.new }
+    ensures leads { (c : ℕ) → Leads H.meaning c (left_with (Task.Evaluate expr.entry) desk.old machine.old frame.now) host.old result (left_at desk.new machine.new frame.now) host.new }
 {
     match expr {
         Expr::Name { line, name } => match named(machine, host, frame, *line, name) {

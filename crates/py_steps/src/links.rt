@@ -1,5 +1,5 @@
 //! Calls, indices and attributes behind an atom.
-ghost use Rattle.std.specs.Prelude.{◌≡◌, ℕ};
+ghost use Rattle.std.specs.Prelude.{◌≡◌, ◌≤◌, ℕ};
 ghost use Rattle.py_steps.specs.Desks.{stacks_of, values_of};
 ghost use Rattle.py_steps.specs.Todos.{end_at, past};
 ghost use Rattle.py_steps.specs.Leads.{Leads, Steps, left_with, left_at};
@@ -24,7 +24,8 @@ pub fn link<'a, H: Host>(
     links: &'a [Link],
     named: Option<u32>,
 ) -> Result<(), Stop>
-    ensures { (c : ℕ) → Leads H.meaning c (left_with (Task.Links links.entry named) desk.old machine.old frame.now) host.old result (left_at desk.new machine.new frame.now) host.new }
+    ensures later { H.meaning.refusals host.old ≤ H.meaning.refusals host.new }
+    ensures leads { (c : ℕ) → Leads H.meaning c (left_with (Task.Links links.entry named) desk.old machine.old frame.now) host.old result (left_at desk.new machine.new frame.now) host.new }
 {
     let [first, rest @ ..] = links else {
         return Ok(());
@@ -162,7 +163,8 @@ pub fn indexed<H: Host>(
     desk: &mut Desk<'_>,
     line: u32,
 ) -> Result<(), Stop>
-    ensures { (c : ℕ) → Leads H.meaning c (left_with (Task.Index line) desk.old machine.old frame.now) host.old result (left_at desk.new machine.new frame.now) host.new }
+    ensures later { H.meaning.refusals host.old ≤ H.meaning.refusals host.new }
+    ensures leads { (c : ℕ) → Leads H.meaning c (left_with (Task.Index line) desk.old machine.old frame.now) host.old result (left_at desk.new machine.new frame.now) host.new }
 {
     let key = desk.take();
     let base = desk.take();

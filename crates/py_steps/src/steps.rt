@@ -1,6 +1,7 @@
 //! A task, by its kind.
-ghost use Rattle.std.specs.Prelude.{ℕ};
+ghost use Rattle.std.specs.Prelude.{ℕ, ◌≤◌};
 ghost use Rattle.py_state.specs.Stores.{state_of};
+ghost use Rattle.py_steps.specs.Todos.{IsStep};
 ghost use Rattle.py_steps.specs.Leads.{Flows, left_with, left_at};
 
 use crate::assignments::{assign, combine, load, store_above, store_below};
@@ -25,7 +26,9 @@ pub fn step<'a, H: Host>(
     desk: &mut Desk<'a>,
     task: Task<'a>,
 ) -> Result<Flow, Stop>
-    ensures { (c : ℕ) → Flows H.meaning c (left_with task.entry desk.old machine.old frame.old) host.old result (left_at desk.new machine.new frame.new) host.new (state_of machine.new frame.new) }
+    requires step { IsStep task.entry }
+    ensures later { H.meaning.refusals host.old ≤ H.meaning.refusals host.new }
+    ensures flows { (c : ℕ) → Flows H.meaning c (left_with task.entry desk.old machine.old frame.old) host.old result (left_at desk.new machine.new frame.new) host.new (state_of machine.new frame.new) }
 {
     match task {
         Task::Statements(statements) => return run_statements(machine, frame, desk, statements),
