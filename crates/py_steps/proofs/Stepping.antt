@@ -8,11 +8,13 @@ use Rattle.py_steps.proofs.Going.{onto}
 use Rattle.py_host.specs.Meaning.{Meaning}
 use Rattle.py_meaning.specs.States.{State, Out, Fault, place_at}
 use Rattle.py_meaning.specs.Plans.{Plan, stops}
-use Rattle.py_meaning.specs.Evaluates.{Follows, stopped, then, then_stopped}
+use Rattle.py_meaning.specs.Evaluates.{Follows, done, stopped, then, then_stopped}
 use Rattle.py_meaning.proofs.Binding.{unfolds}
 use Rattle.py_state.specs.declared.stop.Stop.{Stop}
 use Rattle.py_state.specs.declared.stop.Stop.TheVariants as stop
-use Rattle.py_steps.specs.Leads.{Unfolds, same, opens, later, Steps, Leads, LeadsOn, Stops}
+use Rattle.py_steps.specs.Leads.{Unfolds, same, opens, later, Steps, StepsOrReturns, Leads, LeadsOn, Stops, Flows, going}
+use Rattle.py_steps.specs.declared.statements.Flow.{Flow}
+use Rattle.py_steps.specs.declared.statements.Flow.TheVariants as flow
 
 pub goes : {H : Type 0} {m : Meaning H} {c : ℕ} {p q : Plan} {h h2 : H} {r : Result Out Fault} → Unfolds p q → Follows m c q h r h2 → Follows m c p h r h2
 goes {m = m} {c = c} {h = h} {h2 = h2} {r = r} (same e) d = subst (λ x. Follows m c x h r h2) (sym e) d
@@ -38,3 +40,13 @@ leads_on u e = λ r h3 d. goes (onto u e) d
 pub steps_value : (X : Type 0) (p q : Plan) (l : ℕ) (s : State) (e : ValueFault) → (e ≢ fault.Memory → Unfolds p (stops (place_at l s) (kind.Value e))) → Steps {X = X} p (Err (value_stop s.frame.script l e)) q
 steps_value X p q l s fault.Memory u = tt
 steps_value X p q l s e u = (tt, u (λ p. cc))
+
+-- a step after which the body goes on, and one that may end it
+pub flows_going : {H : Type 0} (m : Meaning H) (c : ℕ) (p q : Plan) (h h2 : H) (s : State) (result : Result (Unit {0}) Stop) → Leads m c p h result q h2 → Flows m c p h (going result) q h2 s
+flows_going m c p q h h2 s (Ok u) g = g
+flows_going m c p q h h2 s (Err e) g = g
+
+pub flows : {H : Type 0} (m : Meaning H) (c : ℕ) (p q : Plan) (h : H) (s : State) (result : Result Flow Stop) → StepsOrReturns p result q s → Flows m c p h result q h s
+flows m c p q h s (Ok flow.GoesOn) g = λ r h3 d. goes g d
+flows m c p q h s (Ok (flow.Returns x)) g = goes g done
+flows m c p q h s (Err e) g = leads m c p q h (Err e) g

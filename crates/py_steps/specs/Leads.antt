@@ -57,6 +57,11 @@ Flows m c before h (Ok flow.GoesOn) after h2 s = LeadsOn m c before h after h2
 Flows m c before h (Ok (flow.Returns x)) after h2 s = Follows m c before h (Ok (returns x s)) h2
 Flows m c before h (Err e) after h2 s = Stops m c before h e h2
 
+-- a step after which the body goes on
+abbrev pub going : Result (Unit {0}) Stop → Result Flow Stop
+going (Ok u) = Ok flow.GoesOn
+going (Err e) = Err e
+
 -- what was left is what is left now, where jobs are opened to their own plans
 pub data Unfolds : Plan → Plan → Type 0 where
   same : {p q : Plan} → p ≡ q → Unfolds p q

@@ -1,8 +1,10 @@
 //! A task, by its kind.
-ghost use Rattle.std.specs.Prelude.{ℕ, ◌≤◌};
+ghost use Rattle.std.specs.Prelude.{◌≡◌, ◌≤◌, ◌∷◌, ℕ};
+ghost use Rattle.py_meaning.specs.States.{State, goes_on};
 ghost use Rattle.py_state.specs.Stores.{state_of};
-ghost use Rattle.py_steps.specs.Todos.{IsStep};
-ghost use Rattle.py_steps.specs.Leads.{Flows, left_with, left_at};
+ghost use Rattle.py_steps.specs.Desks.{tasks_of, values_of};
+ghost use Rattle.py_steps.specs.Todos.{IsStep, left};
+ghost use Rattle.py_steps.specs.Leads.{Flows, Steps, going, left_with, left_at};
 
 use crate::assignments::{assign, combine, load, store_above, store_below};
 use crate::comprehensions::{collect, comprehend, test, tested};
@@ -17,6 +19,7 @@ use crate::statements::{Flow, define, run_lines, run_statements};
 use crate::task::Task;
 use py_host::Host;
 use py_state::{Frame, Machine, Stop};
+use scons_base::Text;
 
 /// Does a task in which nothing is called.
 pub fn step<'a, H: Host>(
@@ -26,58 +29,83 @@ pub fn step<'a, H: Host>(
     desk: &mut Desk<'a>,
     task: Task<'a>,
 ) -> Result<Flow, Stop>
-    requires step { IsStep task.entry }
+    requires step { IsStep task }
     ensures later { H.meaning.refusals host.old ≤ H.meaning.refusals host.new }
     ensures flows { (c : ℕ) → Flows H.meaning c (left_with task.entry desk.old machine.old frame.old) host.old result (left_at desk.new machine.new frame.new) host.new (state_of machine.new frame.new) }
 {
     match task {
-        Task::Statements(statements) => return run_statements(machine, frame, desk, statements),
-        Task::Return => return Ok(Flow::Returns(desk.take())),
-        Task::Evaluate(expr) => evaluate(machine, host, frame, desk, expr)?,
-        Task::EvaluateAll(exprs) => evaluate_all(desk, exprs)?,
-        Task::Pairs(pairs) => evaluate_pairs(desk, pairs)?,
-        Task::Arguments(arguments) => evaluate_arguments(desk, arguments)?,
-        Task::Defaults(parameters) => evaluate_defaults(desk, parameters)?,
-        Task::Tuple { line, base } => display(machine, frame, desk, line, base, Shape::Tuple)?,
-        Task::List { line, base } => display(machine, frame, desk, line, base, Shape::List)?,
-        Task::Dict { line, base } => display(machine, frame, desk, line, base, Shape::Dict)?,
-        Task::Negate { line } => negated(machine, frame, desk, line)?,
-        Task::Not => turned(machine, desk)?,
-        Task::Binary { line, op } => operated(machine, frame, desk, line, op)?,
-        Task::Operations(rest) => operations(machine, desk, rest)?,
-        Task::Links { links, named } => link(machine, host, frame, desk, links, named)?,
-        Task::Index { line } => indexed(machine, host, frame, desk, line)?,
-        Task::Slice { line, from, to } => sliced(machine, frame, desk, line, from, to)?,
-        Task::Comprehend(comprehension) => comprehend(machine, frame, desk, comprehension)?,
-        Task::Collect(collecting) => collect(machine, frame, desk, collecting)?,
-        Task::Tests { collecting, tests } => test(machine, frame, desk, collecting, tests)?,
-        Task::Tested { collecting, tests } => tested(machine, desk, collecting, tests)?,
-        Task::Lines(lines) => run_lines(machine, frame, desk, lines)?,
-        Task::Forget => {
-            let _value = desk.take();
-        }
+        Task::Statements(statements) => run_statements(machine, frame, desk, statements),
+        Task::Return => Ok(Flow::Returns(desk.take())),
+        Task::Evaluate(expr) => on(evaluate(machine, host, frame, desk, expr)),
+        Task::EvaluateAll(exprs) => on(evaluate_all(desk, exprs)),
+        Task::Pairs(pairs) => on(evaluate_pairs(desk, pairs)),
+        Task::Arguments(arguments) => on(evaluate_arguments(desk, arguments)),
+        Task::Defaults(parameters) => on(evaluate_defaults(desk, parameters)),
+        Task::Tuple { line, base } => on(display(machine, frame, desk, line, base, Shape::Tuple)),
+        Task::List { line, base } => on(display(machine, frame, desk, line, base, Shape::List)),
+        Task::Dict { line, base } => on(display(machine, frame, desk, line, base, Shape::Dict)),
+        Task::Negate { line } => on(negated(machine, frame, desk, line)),
+        Task::Not => on(turned(machine, desk)),
+        Task::Binary { line, op } => on(operated(machine, frame, desk, line, op)),
+        Task::Operations(rest) => on(operations(machine, desk, rest)),
+        Task::Links { links, named } => on(link(machine, host, frame, desk, links, named)),
+        Task::Index { line } => on(indexed(machine, host, frame, desk, line)),
+        Task::Slice { line, from, to } => on(sliced(machine, frame, desk, line, from, to)),
+        Task::Comprehend(comprehension) => on(comprehend(machine, frame, desk, comprehension)),
+        Task::Collect(collecting) => on(collect(machine, frame, desk, collecting)),
+        Task::Tests { collecting, tests } => on(test(machine, frame, desk, collecting, tests)),
+        Task::Tested { collecting, tests } => on(tested(machine, desk, collecting, tests)),
+        Task::Lines(lines) => on(run_lines(machine, frame, desk, lines)),
+        Task::Forget => on(forget(desk)),
         Task::Branches {
             branches,
             otherwise,
-        } => next_branch(desk, branches, otherwise)?,
+        } => on(next_branch(desk, branches, otherwise)),
         Task::Choose {
             branch,
             branches,
             otherwise,
-        } => choose(machine, desk, branch, branches, otherwise)?,
-        Task::Begin(turns) => begin(machine, frame, desk, turns)?,
-        Task::Turns { turns, walk } => turn(machine, frame, desk, turns, walk)?,
-        Task::Define { definition, base } => define(machine, frame, desk, definition, base)?,
-        Task::Assign { line, target } => assign(machine, frame, desk, line, target)?,
-        Task::Bind(name) => {
-            let value = desk.take();
-            machine.bind(frame, name, value)?;
-        }
-        Task::Load { line } => load(machine, host, frame, desk, line)?,
-        Task::Augment { line, operator } => combine(machine, frame, desk, line, operator)?,
-        Task::StoreBelow { line } => store_below(machine, host, frame, desk, line)?,
-        Task::StoreAbove { line } => store_above(machine, host, frame, desk, line)?,
-        Task::Call { .. } => {}
+        } => on(choose(machine, desk, branch, branches, otherwise)),
+        Task::Begin(turns) => on(begin(machine, frame, desk, turns)),
+        Task::Turns { turns, walk } => on(turn(machine, frame, desk, turns, walk)),
+        Task::Define { definition, base } => on(define(machine, frame, desk, definition, base)),
+        Task::Assign { line, target } => on(assign(machine, frame, desk, line, target)),
+        Task::Bind(name) => on(bind(machine, frame, desk, name)),
+        Task::Load { line } => on(load(machine, host, frame, desk, line)),
+        Task::Augment { line, operator } => on(combine(machine, frame, desk, line, operator)),
+        Task::StoreBelow { line } => on(store_below(machine, host, frame, desk, line)),
+        Task::StoreAbove { line } => on(store_above(machine, host, frame, desk, line)),
+        Task::Call { .. } => unreachable!(),
     }
-    Ok(Flow::GoesOn)
+}
+
+/// After a step of this kind the body goes on.
+fn on(outcome: Result<(), Stop>) -> Result<Flow, Stop>
+    ensures { result ≡ going outcome }
+{
+    match outcome {
+        Ok(()) => Ok(Flow::GoesOn),
+        Err(stop) => Err(stop),
+    }
+}
+
+/// The value of an expression is of no use.
+fn forget(desk: &mut Desk<'_>) -> Result<(), Stop>
+    ensures { (s : State) → Steps (left (Task.Forget ∷ tasks_of desk.old) (values_of desk.old) (goes_on s)) result (left (tasks_of desk.new) (values_of desk.new) (goes_on s)) }
+{
+    let _value = desk.take();
+    Ok(())
+}
+
+fn bind<'a>(
+    machine: &mut Machine,
+    frame: &mut Frame,
+    desk: &mut Desk<'a>,
+    name: &'a Text,
+) -> Result<(), Stop>
+    ensures { Steps (left_with (Task.Bind name.entry) desk.old machine.old frame.old) result (left_at desk.new machine.new frame.new) }
+{
+    let value = desk.take();
+    machine.bind(frame, name, value)?;
+    Ok(())
 }
