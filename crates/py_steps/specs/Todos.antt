@@ -34,10 +34,10 @@ Rest = List Value → Out → Plan
 abbrev pub gives_on : List Value → Rest → Out → Plan
 gives_on vs k = on_value (λ x s. k (x ∷ vs) (goes_on s))
 
-abbrev all_on : List Value → Rest → Out → Plan
+abbrev pub all_on : List Value → Rest → Out → Plan
 all_on vs k = on_values (λ xs s. k (reverse xs ++ vs) (goes_on s))
 
-abbrev made_on : ℕ → State → Outcome → List Value → Rest → Plan
+abbrev pub made_on : ℕ → State → Outcome → List Value → Rest → Plan
 made_on l s result vs k = checked l s result (λ m. k (m.0 ∷ vs) (goes_on (after_operation s m)))
 
 abbrev callee : Value → Option Name → Callee
@@ -45,11 +45,11 @@ callee x None = a_value x
 callee x (Some name) = a_method x name
 
 -- an end of a slice that is there
-abbrev end_at : Bool → List Value → Option Value
+abbrev pub end_at : Bool → List Value → Option Value
 end_at true vs = Some (top vs)
 end_at false vs = None
 
-abbrev past : Bool → List Value → List Value
+abbrev pub past : Bool → List Value → List Value
 past true vs = below vs
 past false vs = vs
 
