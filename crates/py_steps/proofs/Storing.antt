@@ -1,4 +1,4 @@
--- An item under a key, which is loaded or set.
+-- An item that is set under a key.
 use Rattle.std.proofs.Common.{◌≡◌, ◌≢◌, ◌∙◌, ℕ, List, [], ◌∷◌, drop, Result, Ok, Err, refl, sym, subst, ap}
 use Rattle.py_heap.specs.declared.ids.HostId.{HostId}
 use Rattle.py_heap.specs.declared.value.Value.{Value}
@@ -15,7 +15,6 @@ use Rattle.py_host.specs.declared.refusal.HostRefusal.TheVariants as refusal
 use Rattle.py_meaning.specs.States.{State, goes_on, place_at, with_objects}
 use Rattle.py_meaning.specs.Plans.{Plan, asks, checked}
 use Rattle.py_meaning.specs.Evaluates.{asked, refused}
-use Rattle.py_meaning.specs.Links.{after_item}
 use Rattle.py_meaning.specs.Statements.{after_item_set}
 use Rattle.py_state.specs.Stops.{value_stop, refusal_stop}
 use Rattle.py_state.specs.declared.stop.Stop.{Stop}
@@ -84,7 +83,7 @@ three_taken d d1 d2 d3 x y z e a f b g w =
       first = e;
       second = f ∙ ap (λ (k : Stacks). top k.values) a;
       third = g ∙ ap (λ (k : Stacks). top k.values) two;
-      rest = three ∙ ap (λ (vs : List Value). record { tasks = tasks_of d; values = vs }) (sym (below_three (values_of d)))
+      rest = three ∙ ap (λ (vs : List Value). record { tasks = tasks_of d; values = vs }) (sym (below_three (values_of d)));
     }
 
 stored_on : (d d3 : Desk) (s : State) → stacks_of d3 ≡ record { tasks = tasks_of d; values = drop 3 (values_of d) } → left (tasks_of d3) (values_of d3) (goes_on s) ≡ left (tasks_of d) (drop 3 (values_of d)) (goes_on s)
@@ -105,20 +104,3 @@ stores_above m c l d d3 x key base s s2 h h2 r t g =
     (ap (λ y. after_item_set l (top (below (below (values_of d)))) (top (below (values_of d))) y s f) (sym t.first)
     ∙ ap (λ k. after_item_set l (top (below (below (values_of d)))) k x s f) (sym t.second) ∙ ap (λ b. after_item_set l b key x s f) (sym t.third))
     (stored_on d d3 s2 t.rest) (g f)
-
--- the item under a key behind both
-load_at : (l : ℕ) (d : Desk) (base key : Value) (s : State) → base ≡ top (below (values_of d)) → key ≡ top (values_of d) → left (task.Load l ∷ tasks_of d) (values_of d) (goes_on s) ≡ after_item l base key s (λ x s1. left (tasks_of d) (x ∷ values_of d) (goes_on s1))
-load_at l d base key s e f =
-    let on : Value → State → Plan = λ x s1. left (tasks_of d) (x ∷ values_of d) (goes_on s1) in
-    ap (λ b. after_item l b (top (values_of d)) s on) (sym e) ∙ ap (λ k. after_item l base k s on) (sym f)
-
-pub loads : {H : Type 0} (m : Meaning H) (c l : ℕ) (d d1 : Desk) (base key x : Value) (s s2 : State) (h h2 : H) → base ≡ top (below (values_of d)) → key ≡ top (values_of d) → ((f : Value → State → Plan) → LeadsOn m c (after_item l base key s f) h (f x s2) h2) → stacks_of d1 ≡ record { tasks = tasks_of d; values = x ∷ values_of d } → LeadsOn m c (left (task.Load l ∷ tasks_of d) (values_of d) (goes_on s)) h (left (tasks_of d1) (values_of d1) (goes_on s2)) h2
-loads m c l d d1 base key x s s2 h h2 e f g a =
-    let on : Value → State → Plan = λ y s1. left (tasks_of d) (y ∷ values_of d) (goes_on s1) in
-    subst (λ p. LeadsOn m c p h (left (tasks_of d1) (values_of d1) (goes_on s2)) h2) (sym (load_at l d base key s e f))
-    (subst (λ (k : Stacks). LeadsOn m c (after_item l base key s on) h (left k.tasks k.values (goes_on s2)) h2) (sym a) (g on))
-
-pub load_stops : {H X : Type 0} (m : Meaning H) (c l : ℕ) (d : Desk) (base key : Value) (s : State) (h h2 : H) (r : Result X Stop) (y x : Stop) (q : Plan) → base ≡ top (below (values_of d)) → key ≡ top (values_of d) → r ≡ Err y → y ≡ x → ((f : Value → State → Plan) → Stops m c (after_item l base key s f) h x h2) → Leads m c (left (task.Load l ∷ tasks_of d) (values_of d) (goes_on s)) h r q h2
-load_stops m c l d base key s h h2 r y x q e f p i g =
-    subst (λ z. Leads m c (left (task.Load l ∷ tasks_of d) (values_of d) (goes_on s)) h z q h2) (sym (p ∙ ap (λ z. Err z) i))
-    (subst (λ z. Stops m c z h x h2) (sym (load_at l d base key s e f)) (g (λ y1 s1. left (tasks_of d) (y1 ∷ values_of d) (goes_on s1))))

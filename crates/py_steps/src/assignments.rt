@@ -89,11 +89,7 @@ fn target_names(alloc: Global, targets: &[Expr]) -> Result<Vec<Text>, Memory>
 }
 
 /// What is behind an atom takes the uppermost value, if its end is an index.
-fn assign_item<'a>(
-    desk: &mut Desk<'a>,
-    atom: &'a Expr,
-    links: &'a [Link],
-) -> Result<(), Memory>
+fn assign_item<'a>(desk: &mut Desk<'a>, atom: &'a Expr, links: &'a [Link]) -> Result<(), Memory>
     ensures { OnOk result ((l : ℕ) (s : State) → Unfolds (assigned_at l (post (expr_tree atom.now) (trees (map link_tree links.now))) desk.old s) (left (tasks_of desk.new) (values_of desk.new) (goes_on s))) }
 {
     let Some((last, front)) = links.split_last() else {

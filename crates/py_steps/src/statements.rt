@@ -47,13 +47,17 @@ fn run_line<'a>(
     ensures { Steps (exec_at (line_tree line.now) desk.old (state_of machine.old frame.now)) result (left_at desk.new machine.new frame.now) }
 {
     match line {
-        Line::Simple { statements } => {
-            Ok(desk.push(Task::Statements(statements.as_slice()))?)
-        }
+        Line::Simple { statements } => { Ok(desk.push(Task::Statements(statements.as_slice()))?) }
         Line::If {
             branches,
             otherwise,
-        } => run_if(machine, frame, desk, branches.as_slice(), otherwise.as_slice()),
+        } => run_if(
+            machine,
+            frame,
+            desk,
+            branches.as_slice(),
+            otherwise.as_slice(),
+        ),
         Line::For {
             line,
             names,

@@ -16,9 +16,9 @@ returns-in-Err-clause-leads g c = λ k f.
 
 pub returns-in-Err-set_index : goal.returns-in-Err-set_index
 returns-in-Err-set_index g c = record {
-    later = search rules;
-    leads = λ k f.
+  later = search rules;
+  leads = λ k f.
       leads {X = Unit {0}} g.H.Host.meaning k _ (f (state_of c.args.machine.now c.args.frame.now)) c.args.host.now (Err c.value_fault.result)
       (plain_set_stops (Unit {0}) c.args.line c.args.base c.args.key c.args.value (state_of c.args.machine.now c.args.frame.now) f c.in-Err-set_index.fault c.value_fault.result (f (state_of c.args.machine.now c.args.frame.now))
-      c.in_default.not-Object c.in-Err-set_index.ensures.fault c.value_fault.ensures.stop)
-  }
+      c.in_default.not-Object c.in-Err-set_index.ensures.fault c.value_fault.ensures.stop);
+}

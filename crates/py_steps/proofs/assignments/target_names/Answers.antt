@@ -1,4 +1,4 @@
-use Rattle.std.proofs.Common.{◌∙◌, ◌++◌, map, ap}
+use Rattle.std.proofs.Common.{map}
 use Rattle.py_tree.specs.Tree.{trees, expr_tree}
 use Rattle.py_meaning.specs.Loops.{names_of}
 use Rattle.py_steps.proofs.Assigning.{names_turn, names_end}
