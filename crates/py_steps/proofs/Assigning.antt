@@ -32,7 +32,6 @@ use Rattle.py_steps.specs.Desks.{Stacks, stacks_of, tasks_of, values_of, top, be
 use Rattle.py_steps.specs.Leads.{Unfolds, same, Steps, assigned_at}
 use Rattle.py_steps.specs.Todos.{left}
 use Rattle.py_steps.specs.declared.desk.Desk.{Desk}
-use Rattle.py_steps.specs.declared.task.Task.{Task}
 use Rattle.py_steps.specs.declared.task.Task.TheVariants as task
 use Rattle.py_steps.proofs.Behind.{checked_is, item_set_is, place_is}
 use Rattle.py_steps.proofs.Faults.{checked_faults}
@@ -45,12 +44,12 @@ unfolding expr_tree
 no_name_at (open'.Name l n) ts h = absurd (h l n (expr'.rolls-Name l n))
 no_name_at o ts h = ap (λ t. names_of (cons t ts)) (fold-roll-Expr Tree Tree Tree Tree Tree argument_step expr_step link_step operation_step pair_step o)
 
-pub no_name : (e : Expr) (ts : Tree) → NotName e → names_of (cons (expr_tree e) ts) ≡ []
+no_name : (e : Expr) (ts : Tree) → NotName e → names_of (cons (expr_tree e) ts) ≡ []
 no_name e ts =
     let P : Expr → Type 0 = λ x. NotName x → names_of (cons (expr_tree x) ts) ≡ [] in
     subst P (roll-out-Expr e) (no_name_at (out-Expr e) ts)
 
-pub name_first : (e : Expr) (l : ℕ) (n : List ℕ) (ts : Tree) → e ≡ expr'.Name l n → names_of (cons (expr_tree e) ts) ≡ n ∷ names_of ts
+name_first : (e : Expr) (l : ℕ) (n : List ℕ) (ts : Tree) → e ≡ expr'.Name l n → names_of (cons (expr_tree e) ts) ≡ n ∷ names_of ts
 name_first e l n ts is = ap (λ t. names_of (cons t ts)) (ap expr_tree is ∙ expr_tree-Name l n)
 
 -- one name behind others
@@ -90,6 +89,7 @@ items_go l lt ts b x s s1 s2 f names given n h items values e p u a g i w =
     let done : unpacked s.objects (length names) x ≡ Ok (items, h) = ap (λ k. unpacked s.objects k x) (sym p) ∙ u in
     same (ap (λ ns. items_to l ns x s f) (sym e) ∙ ap (λ (r : Result (List Value × Objects) ValueFault). checked l s r (λ m. f (with_all_bound (with_objects s m.1) names m.0))) done ∙ ap f (sym out))
 
+-- there aren't as many items
 pub items_stop : (X : Type 0) (l lt : ℕ) (ts : List Expr) (b : Bool) (x : Value) (s : State) (f : State → Plan) (names : List (List ℕ)) (n : ℕ) (e : ValueFault) (stop : Stop) (q : Plan) → names ≡ names_of (trees (map expr_tree ts)) → n ≡ length names → (e ≢ fault.Memory → unpacked s.objects n x ≡ Err e) → stop ≡ value_stop s.frame.script l e → Steps {X = X} (assigned l (several lt ts b) x s f) (Err stop) q
 items_stop X l lt ts b x s f names n e stop q is p u g =
     let bound : List Value × Objects → Plan = λ m. f (with_all_bound (with_objects s m.1) (names_of (trees (map expr_tree ts))) m.0) in
@@ -105,6 +105,7 @@ items_on l lt ts b x d s =
     let k = left (tasks_of d) (below (values_of d)) in
     checked_is l s (unpacked s.objects (length names) x) (λ m. comes_to (goes_on (with_all_bound (with_objects s m.1) names m.0))) (λ m. k (goes_on (with_all_bound (with_objects s m.1) names m.0))) k (λ m. refl)
 
+-- a step, by equal plans
 steps_at : {X : Type 0} (p p' q q' : Plan) (r : Result X Stop) → p' ≡ p → q' ≡ q → Steps p r q → Steps p' r q'
 steps_at p p' q q' r e f g = subst (λ x. Steps x r q') (sym e) (subst (λ x. Steps p r x) (sym f) g)
 
@@ -117,17 +118,18 @@ names_take l lt t items ts b x d d1 s s2 r is e p a g =
     (ap (λ (k : Stacks). left k.tasks k.values (goes_on s2)) a)
     (g f)
 
--- an item takes it
 below_one : (vs : List Value) → drop 1 vs ≡ below vs
 below_one [] = refl
 below_one (x ∷ vs) = refl
 
+-- there is no index at the end, so nothing does
 pub none_takes : (l : ℕ) (a ls : Tree) (d d1 : Desk) (s : State) → last_index ls ≡ None → Taken d d1 → Unfolds (assigned_at l (post a ls) d s) (left (tasks_of d1) (values_of d1) (goes_on s))
 unfolding bind
 none_takes l a ls d d1 s q w =
     arrives d1 (goes_on s) w
     (same (ap (λ (o : Option (Tree × ℕ × Tree)). bind (after_place a o s (λ li base i s1. after_item_set li base i (top (values_of d)) s1 (λ s2. comes_to (goes_on s2)))) (left (tasks_of d) (below (values_of d)))) q))
 
+-- an item takes it
 pub item_takes : (l : ℕ) (a i : Bor Expr) (front : Bor (List Link)) (ls : Tree) (li : ℕ) (d d1 d2 : Desk) (s : State) → last_index ls ≡ Some (trees (map link_tree front.now), li, expr_tree i.now) → stacks_of d1 ≡ record { tasks = task.StoreBelow li ∷ tasks_of d; values = values_of d } → stacks_of d2 ≡ record { tasks = task.Evaluate a ∷ task.Links front (named_line (expr_tree a.now)) ∷ task.Evaluate i ∷ tasks_of d1; values = values_of d1 } →
     Unfolds (assigned_at l (post (expr_tree a.now) ls) d s) (left (tasks_of d2) (values_of d2) (goes_on s))
 unfolding bind
@@ -161,6 +163,7 @@ other_takes l t d d1 s h g i a =
     arrives d1 (goes_on s) a
     (same (ap (λ p. bind p (left (tasks_of d) (below (values_of d)))) (assigned_other t.now l (top (values_of d)) s (λ s1. comes_to (goes_on s1)) h g i)))
 
+-- what is behind an atom takes it, or nothing does
 pub post_takes : (l : ℕ) (t : Bor Expr) (a : Box Expr Global) (ls : Vec Link Global) (x : Expr) (xs : List Link) (d d1 : Desk) (s : State) → t.now ≡ expr'.Post a ls → x ≡ a.value → xs ≡ ls.items → Unfolds (assigned_at l (post (expr_tree x) (trees (map link_tree xs))) d s) (left (tasks_of d1) (values_of d1) (goes_on s)) → Unfolds (left (task.Assign l t ∷ tasks_of d) (values_of d) (goes_on s)) (left (tasks_of d1) (values_of d1) (goes_on s))
 post_takes l t a ls x xs d d1 s is e f u =
     subst (λ (y : Tree). Unfolds (assigned_at l y d s) (left (tasks_of d1) (values_of d1) (goes_on s))) (sym (ap expr_tree is ∙ post_tree a ls x xs e f)) u

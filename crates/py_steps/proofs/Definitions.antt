@@ -18,7 +18,7 @@ use Rattle.py_meaning.specs.Statements.{defined}
 use Rattle.py_meaning.specs.States.{State, Frame, Function, Parameter, goes_on}
 use Rattle.py_state.specs.Stores.{Store, store_of, state_of, state_by, function_of}
 use Rattle.py_state.specs.declared.machine.Machine.{Machine}
-use Rattle.py_steps.specs.Desks.{Stacks, stacks_of, tasks_of, values_of, above, under}
+use Rattle.py_steps.specs.Desks.{stacks_of, tasks_of, values_of, above, under}
 use Rattle.py_steps.specs.Leads.{Unfolds, same}
 use Rattle.py_steps.specs.Todos.{left, parameters_in}
 use Rattle.py_steps.specs.declared.desk.Desk.{Desk}

@@ -75,6 +75,7 @@ pub record ThreeTaken (d d3 : Desk) (x y z : Value) : Type 0 where
   pub third : z ≡ top (below (below (values_of d)))
   pub rest : stacks_of d3 ≡ record { tasks = tasks_of d; values = drop 3 (values_of d) }
 
+-- three takes take them
 pub three_taken : (d d1 d2 d3 : Desk) (x y z : Value) → x ≡ top (values_of d) → stacks_of d1 ≡ record { tasks = tasks_of d; values = below (values_of d) } → y ≡ top (values_of d1) → stacks_of d2 ≡ record { tasks = tasks_of d1; values = below (values_of d1) } → z ≡ top (values_of d2) → stacks_of d3 ≡ record { tasks = tasks_of d2; values = below (values_of d2) } → ThreeTaken d d3 x y z
 three_taken d d1 d2 d3 x y z e a f b g w =
     let two : stacks_of d2 ≡ record { tasks = tasks_of d; values = below (below (values_of d)) } = b ∙ ap (λ (k : Stacks). record { tasks = k.tasks; values = below k.values }) a in
@@ -86,9 +87,11 @@ three_taken d d1 d2 d3 x y z e a f b g w =
       rest = three ∙ ap (λ (vs : List Value). record { tasks = tasks_of d; values = vs }) (sym (below_three (values_of d)));
     }
 
+-- what is left once they are taken
 stored_on : (d d3 : Desk) (s : State) → stacks_of d3 ≡ record { tasks = tasks_of d; values = drop 3 (values_of d) } → left (tasks_of d3) (values_of d3) (goes_on s) ≡ left (tasks_of d) (drop 3 (values_of d)) (goes_on s)
 stored_on d d3 s e = ap (λ (k : Stacks). left k.tasks k.values (goes_on s)) e
 
+-- the value below its place, and above it
 pub stores_below : {H X : Type 0} (m : Meaning H) (c l : ℕ) (d d3 : Desk) (key base x : Value) (s s2 : State) (h h2 : H) (r : Result X Stop) → ThreeTaken d d3 key base x → ((f : State → Plan) → Leads m c (after_item_set l base key x s f) h r (f s2) h2) → Leads m c (left (task.StoreBelow l ∷ tasks_of d) (values_of d) (goes_on s)) h r (left (tasks_of d3) (values_of d3) (goes_on s2)) h2
 stores_below m c l d d3 key base x s s2 h h2 r t g =
     let f : State → Plan = λ s1. left (tasks_of d) (drop 3 (values_of d)) (goes_on s1) in
