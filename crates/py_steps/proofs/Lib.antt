@@ -1,3 +1,4 @@
+pub mod Assigning
 pub mod Beginnings
 pub mod Behind
 pub mod Branches
@@ -13,5 +14,6 @@ pub mod Several
 pub mod Simples
 pub mod Stacks
 pub mod Stepping
+pub mod Storing
 pub mod Trees
 pub mod Turns

@@ -8,11 +8,12 @@ use Rattle.py_meaning.specs.States.{State, Frame, Out, Fault, goes_on, returns, 
 use Rattle.py_meaning.specs.Jobs.{Job, exec}
 use Rattle.py_meaning.specs.Plans.{Plan, comes_to, stops, first, bind}
 use Rattle.py_meaning.specs.Evaluates.{Follows, IsOwn, plan}
+use Rattle.py_meaning.specs.Statements.{assigned}
 use Rattle.py_state.specs.Stores.{state_of}
 use Rattle.py_state.specs.declared.machine.Machine.{Machine}
 use Rattle.py_state.specs.declared.stop.Stop.{Stop}
 use Rattle.py_state.specs.declared.stop.Stop.TheVariants as stop
-use Rattle.py_steps.specs.Desks.{tasks_of, values_of}
+use Rattle.py_steps.specs.Desks.{tasks_of, values_of, top, below}
 use Rattle.py_steps.specs.declared.desk.Desk.{Desk}
 use Rattle.py_steps.specs.declared.statements.Flow.{Flow}
 use Rattle.py_steps.specs.declared.statements.Flow.TheVariants as flow
@@ -34,6 +35,10 @@ plan_at p d = bind p (left (tasks_of d) (values_of d))
 abbrev pub exec_at : Tree → Desk → State → Plan
 exec_at t d s = first (exec t) s (left (tasks_of d) (values_of d))
 
+-- the uppermost value goes to a target
+abbrev pub assigned_at : ℕ → Tree → Desk → State → Plan
+assigned_at l t d s = bind (assigned l t (top (values_of d)) s (λ s1. comes_to (goes_on s1))) (left (tasks_of d) (below (values_of d)))
+
 abbrev pub told : ℕ → ℕ → EvalKind → Result Out Fault
 told script line k = Err (record { place = record { script = script; line = line }; kind = k })
 
@@ -50,6 +55,11 @@ LeadsOn {H = H} m c before h after h2 = (r : Result Out Fault) (h3 : H) → Foll
 abbrev pub Leads : {H X : Type 0} → Meaning H → ℕ → Plan → H → Result X Stop → Plan → H → Type 0
 Leads m c before h (Ok u) after h2 = LeadsOn m c before h after h2
 Leads m c before h (Err e) after h2 = Stops m c before h e h2
+
+-- what a step that gives a value owes: what goes on with the value in the state after it, was left before it
+abbrev pub Gives : {H : Type 0} → Meaning H → ℕ → Plan → H → Result Value Stop → (Value → State → Plan) → State → H → Type 0
+Gives m c before h (Ok x) f s h2 = LeadsOn m c before h (f x s) h2
+Gives m c before h (Err e) f s h2 = Stops m c before h e h2
 
 -- the same of a step that may end the body
 abbrev pub Flows : {H : Type 0} → Meaning H → ℕ → Plan → H → Result Flow Stop → Plan → H → State → Type 0

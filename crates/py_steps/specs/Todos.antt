@@ -34,10 +34,10 @@ Rest = List Value → Out → Plan
 abbrev pub gives_on : List Value → Rest → Out → Plan
 gives_on vs k = on_value (λ x s. k (x ∷ vs) (goes_on s))
 
-abbrev all_on : List Value → Rest → Out → Plan
+abbrev pub all_on : List Value → Rest → Out → Plan
 all_on vs k = on_values (λ xs s. k (reverse xs ++ vs) (goes_on s))
 
-abbrev made_on : ℕ → State → Outcome → List Value → Rest → Plan
+abbrev pub made_on : ℕ → State → Outcome → List Value → Rest → Plan
 made_on l s result vs k = checked l s result (λ m. k (m.0 ∷ vs) (goes_on (after_operation s m)))
 
 abbrev pub callee : Value → Option Name → Callee

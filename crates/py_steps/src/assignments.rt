@@ -1,12 +1,15 @@
 //! Assignments.
-ghost use Rattle.std.specs.Prelude.{◌≡◌, ◌≤◌, ◌∷◌, ℕ, OnOk, map};
-ghost use Rattle.py_tree.specs.Tree.{trees, post, expr_tree, link_tree};
+ghost use Rattle.std.specs.Prelude.{◌≡◌, ◌≤◌, ◌∷◌, ℕ, Bool, IfOk, OnOk, map};
+ghost use Rattle.py_tree.specs.Tree.{trees, tuple, post, expr_tree, link_tree};
 ghost use Rattle.py_meaning.specs.Expressions.{named_line};
+ghost use Rattle.py_meaning.specs.Loops.{names_of};
+ghost use Rattle.py_meaning.specs.Plans.{Plan};
 ghost use Rattle.py_meaning.specs.States.{State, goes_on};
-ghost use Rattle.py_meaning.specs.Statements.{augmented};
+ghost use Rattle.py_meaning.specs.Statements.{after_item_set, assigned, augmented};
+ghost use Rattle.py_state.specs.Stores.{state_of};
 ghost use Rattle.py_steps.specs.Desks.{stacks_of, tasks_of, values_of};
 ghost use Rattle.py_steps.specs.Todos.{left};
-ghost use Rattle.py_steps.specs.Leads.{Leads, Steps, Unfolds, left_with, left_at, plan_at};
+ghost use Rattle.py_steps.specs.Leads.{Leads, Steps, Unfolds, left_with, left_at, plan_at, assigned_at};
 
 use crate::desk::Desk;
 use crate::expressions::named_line;
@@ -19,6 +22,7 @@ use py_operators::set_index;
 use py_state::{Frame, Machine, Stop, augmented, refused, unpacked, value_fault};
 use py_tree::{Expr, Link, Operator};
 use scons_base::{Memory, Text};
+use std::alloc::Global;
 
 /// The uppermost value goes to a target.
 pub fn assign<'a>(
@@ -34,38 +38,70 @@ pub fn assign<'a>(
         Expr::Name { name, .. } => {
             let value = desk.take();
             machine.bind(frame, name, value)?;
+            Ok(())
         }
         Expr::Tuple { items, .. } => {
             let value = desk.take();
-            let names = target_names(machine, items.as_slice())?;
-            match unpacked(&mut machine.heap, value, names.len()) {
-                Ok(values) => bind_all(machine, frame, names.as_slice(), values.as_slice())?,
-                Err(fault) => return Err(value_fault(frame, line, fault)),
-            }
+            assign_items(machine, frame, line, items.as_slice(), value)
         }
         Expr::Post { atom, links } => {
-            if let [front @ .., Link::Index { line, index }] = links.as_slice() {
-                desk.push(Task::StoreBelow { line: *line })?;
-                push_place(desk, atom, front, index)?;
-            } else {
-                let _value = desk.take();
-            }
+            assign_item(desk, atom, links.as_slice())?;
+            Ok(())
         }
         _ => {
             let _value = desk.take();
+            Ok(())
         }
     }
+}
+
+/// The items of a value go to several names.
+fn assign_items(
+    machine: &mut Machine,
+    frame: &mut Frame,
+    line: u32,
+    targets: &[Expr],
+    value: Value,
+) -> Result<(), Stop>
+    ensures { (l : ℕ) (b : Bool) (f : State → Plan) → Steps (assigned line (tuple l (trees (map expr_tree targets.now)) b) value (state_of machine.old frame.old) f) result (f (state_of machine.new frame.new)) }
+{
+    let names = target_names(machine.alloc, targets)?;
+    let values = match unpacked(&mut machine.heap, value, names.len()) {
+        Ok(values) => values,
+        Err(fault) => return Err(value_fault(frame, line, fault)),
+    };
+    bind_all(machine, frame, names.as_slice(), values.as_slice())?;
     Ok(())
 }
 
-fn target_names(machine: &Machine, targets: &[Expr]) -> Result<Vec<Text>, Stop> {
-    let mut names = Vec::new(machine.alloc);
+/// The names that stand in a target, up to the first item of another form.
+fn target_names(alloc: Global, targets: &[Expr]) -> Result<Vec<Text>, Memory>
+    ensures { IfOk result (λ names. names.items ≡ names_of (trees (map expr_tree targets.now))) }
+{
+    let mut names = Vec::new(alloc);
     'targets: for target in targets {
-        if let Expr::Name { name, .. } = target {
-            names.push(name.copy()?)?;
-        }
+        let Expr::Name { name, .. } = target else {
+            return Ok(names);
+        };
+        names.push(name.copy()?)?;
     }
     Ok(names)
+}
+
+/// What is behind an atom takes the uppermost value, if its end is an index.
+fn assign_item<'a>(desk: &mut Desk<'a>, atom: &'a Expr, links: &'a [Link]) -> Result<(), Memory>
+    ensures { OnOk result ((l : ℕ) (s : State) → Unfolds (assigned_at l (post (expr_tree atom.now) (trees (map link_tree links.now))) desk.old s) (left (tasks_of desk.new) (values_of desk.new) (goes_on s))) }
+{
+    let Some((last, front)) = links.split_last() else {
+        let _value = desk.take();
+        return Ok(());
+    };
+    let Link::Index { line, index } = last else {
+        let _value = desk.take();
+        return Ok(());
+    };
+    desk.push(Task::StoreBelow { line: *line })?;
+    push_place(desk, atom, front, index)
 }
 
 /// What stands before an index, and its key.
@@ -242,7 +278,10 @@ fn store<H: Host>(
     base: Value,
     key: Value,
     value: Value,
-) -> Result<(), Stop> {
+) -> Result<(), Stop>
+    ensures later { H.meaning.refusals host.old ≤ H.meaning.refusals host.new }
+    ensures leads { (c : ℕ) (f : State → Plan) → Leads H.meaning c (after_item_set line base key value (state_of machine.old frame.now) f) host.old result (f (state_of machine.new frame.now)) host.new }
+{
     match base {
         Value::Object(object) => match host.set_index(&mut machine.heap, object, key, value) {
             Ok(()) => Ok(()),

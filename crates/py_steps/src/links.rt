@@ -1,8 +1,13 @@
 //! Calls, indices and attributes behind an atom.
 ghost use Rattle.std.specs.Prelude.{◌≡◌, ◌≤◌, ℕ};
+ghost use Rattle.py_heap.specs.declared.value.Value.{Value};
+ghost use Rattle.py_meaning.specs.Links.{after_item};
+ghost use Rattle.py_meaning.specs.Plans.{Plan};
+ghost use Rattle.py_meaning.specs.States.{State};
+ghost use Rattle.py_state.specs.Stores.{state_of};
 ghost use Rattle.py_steps.specs.Desks.{stacks_of, values_of};
 ghost use Rattle.py_steps.specs.Todos.{end_at, past};
-ghost use Rattle.py_steps.specs.Leads.{Leads, Steps, left_with, left_at};
+ghost use Rattle.py_steps.specs.Leads.{Gives, Leads, Steps, left_with, left_at};
 
 use crate::desk::Desk;
 use crate::task::Task;
@@ -143,7 +148,10 @@ pub fn item<H: Host>(
     line: u32,
     base: Value,
     key: Value,
-) -> Result<Value, Stop> {
+) -> Result<Value, Stop>
+    ensures later { H.meaning.refusals host.old ≤ H.meaning.refusals host.new }
+    ensures leads { (c : ℕ) (f : Value → State → Plan) → Gives H.meaning c (after_item line base key (state_of machine.old frame.now) f) host.old result f (state_of machine.new frame.now) host.new }
+{
     match base {
         Value::Object(object) => match host.index(&mut machine.heap, object, key) {
             Ok(value) => Ok(value),

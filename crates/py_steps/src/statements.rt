@@ -1,6 +1,6 @@
 //! Lines and statements.
 ghost use Rattle.std.specs.Prelude.{◌≡◌, ◌∷◌, ℕ, Ok, Err, IfOk, OnOk, IfErr, map};
-ghost use Rattle.py_tree.specs.Tree.{Tree, trees, words, line_tree, branch_tree, simple_tree, expr_tree, optional_tree, parameter_tree, branching, for', def, assign, augment, expression, return};
+ghost use Rattle.py_tree.specs.Tree.{Tree, cons, trees, words, line_tree, branch_tree, simple_tree, expr_tree, optional_tree, parameter_tree, branching, for', def, assign, augment, expression, return};
 ghost use Rattle.py_heap.specs.declared.fault.ValueFault.{ValueFault};
 ghost use Rattle.py_heap.specs.Units.{charged};
 ghost use Rattle.py_meaning.specs.Arguments.{parameters_by};
@@ -277,15 +277,24 @@ fn parameters_by(
     ensures { IfOk result (λ made. made.items ≡ parameters_by (trees (map parameter_tree parameters.now)) values.now) }
 {
     let mut made = Vec::new(alloc);
-    let mut used = 0;
+    let mut left = values;
     'parameters: for parameter in parameters {
-        if parameter.default.is_some() {
-            let default = values.get(used).copied();
-            made.push(bindable(&parameter.name, default)?)?;
-            used += 1;
-        } else {
-            made.push(bindable(&parameter.name, None)?)?;
-        }
+        let (default, rest) = default_of(parameter, left);
+        made.push(bindable(&parameter.name, default)?)?;
+        left = rest;
     }
     Ok(made)
+}
+
+/// The default of a parameter, and the values behind it.
+fn default_of<'a>(parameter: &Parameter, values: &'a [Value]) -> (Option<Value>, &'a [Value])
+    ensures { (ps : Tree) → parameters_by (cons (parameter_tree parameter.now) ps) values.now ≡ record { name = parameter.now.name; default = result.0 } ∷ parameters_by ps result.1.now }
+{
+    if parameter.default.is_none() {
+        return (None, values);
+    }
+    match values.split_first() {
+        Some((first, rest)) => (Some(*first), rest),
+        None => (None, values),
+    }
 }

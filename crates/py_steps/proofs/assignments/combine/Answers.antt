@@ -6,7 +6,7 @@ use Rattle.py_steps.proofs.assignments.combine.Goals as goal
 pub returns-in-Err : goal.returns-in-Err
 returns-in-Err c =
     combine_stops (Unit {0}) c.args.line c.args.operator (state_of c.args.machine.now c.args.frame.now) c.args.desk.now c.take-right.new.self c.take-left.result c.take-right.result c.in-Err.fault c.value_fault.result _
-    c.take-right.ensures.value c.take-right.ensures.left c.take-left.ensures.value c.in-Err.ensures.fault c.value_fault.ensures
+    c.take-right.ensures.value c.take-right.ensures.left c.take-left.ensures.value c.in-Err.ensures.fault c.value_fault.ensures.stop
 
 pub returns : goal.returns
 returns c =

@@ -17,6 +17,6 @@ returns-in_ok-give-in-Ok c =
 
 pub returns-in-Err : goal.returns-in-Err
 returns-in-Err c =
-    subst (λ stop. Steps {X = Unit {0}} (left_with (task.Negate c.args.line) c.args.desk.now c.args.machine.now c.args.frame.now) (Err stop) (left_at c.take-operand.new.self (record c.args.machine.now { heap = c.negate.new.heap; budget = c.negate.new.budget }) c.args.frame.now)) (sym c.value_fault.ensures)
+    subst (λ stop. Steps {X = Unit {0}} (left_with (task.Negate c.args.line) c.args.desk.now c.args.machine.now c.args.frame.now) (Err stop) (left_at c.take-operand.new.self (record c.args.machine.now { heap = c.negate.new.heap; budget = c.negate.new.budget }) c.args.frame.now)) (sym c.value_fault.ensures.stop)
     (steps_value (Unit {0}) _ _ c.args.line (state_of c.args.machine.now c.args.frame.now) c.in-Err.fault (λ p. made_stops c.args.line (state_of c.args.machine.now c.args.frame.now) _ c.in-Err.fault (below (values_of c.args.desk.now)) (left (tasks_of c.args.desk.now))
     (ap (negative_of c.args.machine.now.heap c.args.machine.now.budget) (sym c.take-operand.ensures.value) ∙ c.in-Err.ensures.fault p)))

@@ -20,7 +20,7 @@ returns-in_ok-give-in-Ok c =
 pub returns-in-Err : goal.returns-in-Err
 returns-in-Err c =
     let left_one = c.take-left.ensures.value ∙ ap (λ st. top st.values) c.take-right.ensures.left in
-    subst (λ stop. Steps {X = Unit {0}} (left_with (task.Binary c.args.line c.args.op) c.args.desk.now c.args.machine.now c.args.frame.now) (Err stop) (left_at c.take-left.new.self (record c.args.machine.now { heap = c.binary.new.heap; budget = c.binary.new.budget }) c.args.frame.now)) (sym c.value_fault.ensures)
+    subst (λ stop. Steps {X = Unit {0}} (left_with (task.Binary c.args.line c.args.op) c.args.desk.now c.args.machine.now c.args.frame.now) (Err stop) (left_at c.take-left.new.self (record c.args.machine.now { heap = c.binary.new.heap; budget = c.binary.new.budget }) c.args.frame.now)) (sym c.value_fault.ensures.stop)
     (steps_value (Unit {0}) _ _ c.args.line (state_of c.args.machine.now c.args.frame.now) c.in-Err.fault (λ p. made_stops c.args.line (state_of c.args.machine.now c.args.frame.now) _ c.in-Err.fault (below (below (values_of c.args.desk.now))) (left (tasks_of c.args.desk.now))
     (ap (λ x. binary_of c.args.op c.args.machine.now.heap c.args.machine.now.budget x (top (values_of c.args.desk.now))) (sym left_one)
     ∙ ap (binary_of c.args.op c.args.machine.now.heap c.args.machine.now.budget c.take-left.result) (sym c.take-right.ensures.value) ∙ c.in-Err.ensures.fault p)))

@@ -10,7 +10,7 @@ pub returns-in-Err : goal.returns-in-Err
 returns-in-Err c =
     let s = state_of c.args.machine.now c.args.frame.now in
     begin_stops (Unit {0}) c.args.turns c.take-source.result c.args.desk.now s c.in-Err.fault c.value_fault.result (left_at c.take-source.new.self c.args.machine.now c.args.frame.now)
-    c.take-source.ensures.value c.in-Err.ensures.fault c.value_fault.ensures
+    c.take-source.ensures.value c.in-Err.ensures.fault c.value_fault.ensures.stop
 
 pub returns : goal.returns
 returns c =

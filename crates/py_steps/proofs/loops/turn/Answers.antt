@@ -24,7 +24,7 @@ pub returns-in-Err : goal.returns-in-Err
 returns-in-Err c =
     let s = state_of c.args.machine.now c.args.frame.now in
     turn_stops_at (Unit {0}) c.args.turns c.args.walk c.in-Some.rest c.in-Some.item c.args.desk.now c.args.machine.now c.pay.new.self c.args.frame.now c.next.new.heap c.in_ok-item.field-0 c.in-Err.fault c.value_fault.result (left_at c.push.new.self c.shared.new.machine c.args.frame.now)
-    c.in_ok-item.ensures.item c.in-Some.is c.in_ok-pay.ensures.ok c.pay.ensures.paid c.in-Err.ensures.fault c.value_fault.ensures
+    c.in_ok-item.ensures.item c.in-Some.is c.in_ok-pay.ensures.ok c.pay.ensures.paid c.in-Err.ensures.fault c.value_fault.ensures.stop
 
 pub returns : goal.returns
 returns c =

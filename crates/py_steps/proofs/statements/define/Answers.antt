@@ -1,4 +1,4 @@
-use Rattle.std.proofs.Common.{◌∙◌, map, ap, sym}
+use Rattle.std.proofs.Common.{◌∙◌, map, ap}
 use Rattle.py_tree.specs.Tree.{trees, line_tree}
 use Rattle.py_meaning.specs.Arguments.{parameters_by}
 use Rattle.py_meaning.specs.LocalNames.{local_names}
