@@ -1,3 +1,4 @@
+pub mod Asking
 pub mod Beginnings
 pub mod Behind
 pub mod Branches
@@ -6,6 +7,7 @@ pub mod Definitions
 pub mod Faults
 pub mod Going
 pub mod Lines
+pub mod Linking
 pub mod Naming
 pub mod Places
 pub mod Rests

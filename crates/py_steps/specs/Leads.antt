@@ -1,23 +1,26 @@
 -- What a step at a desk owes: what is left after it leads to what was left before.
-use Rattle.std.specs.Prelude.{◌≡◌, ℕ, ◌∷◌, Result, Ok, Err}
+use Rattle.std.specs.Prelude.{◌≡◌, ℕ, ◌∷◌, Option, Result, Ok, Err}
 use Rattle.py_tree.specs.Tree.{Tree}
 use Rattle.py_heap.specs.declared.value.Value.{Value}
+use Rattle.py_heap.specs.declared.value.Value.TheVariants as v
 use Rattle.py_host.specs.Meaning.{Meaning}
 use Rattle.py_meaning.specs.declared.fault.EvalKind.{EvalKind}
 use Rattle.py_meaning.specs.States.{State, Frame, Out, Fault, goes_on, returns, ends}
 use Rattle.py_meaning.specs.Jobs.{Job, exec}
 use Rattle.py_meaning.specs.Plans.{Plan, comes_to, stops, first, bind}
 use Rattle.py_meaning.specs.Evaluates.{Follows, IsOwn, plan}
+use Rattle.py_meaning.specs.Expressions.{plan_operations}
+use Rattle.py_meaning.specs.Links.{plan_links}
 use Rattle.py_state.specs.Stores.{state_of}
 use Rattle.py_state.specs.declared.machine.Machine.{Machine}
 use Rattle.py_state.specs.declared.stop.Stop.{Stop}
 use Rattle.py_state.specs.declared.stop.Stop.TheVariants as stop
-use Rattle.py_steps.specs.Desks.{tasks_of, values_of}
+use Rattle.py_steps.specs.Desks.{tasks_of, values_of, top, below}
 use Rattle.py_steps.specs.declared.desk.Desk.{Desk}
 use Rattle.py_steps.specs.declared.statements.Flow.{Flow}
 use Rattle.py_steps.specs.declared.statements.Flow.TheVariants as flow
 use Rattle.py_steps.specs.declared.task.Task.{Task}
-use Rattle.py_steps.specs.Todos.{left}
+use Rattle.py_steps.specs.Todos.{left, gives_on}
 
 -- what is left at a desk in a state
 abbrev pub left_at : Desk → Machine → Frame → Plan
@@ -33,6 +36,19 @@ plan_at p d = bind p (left (tasks_of d) (values_of d))
 
 abbrev pub exec_at : Tree → Desk → State → Plan
 exec_at t d s = first (exec t) s (left (tasks_of d) (values_of d))
+
+-- what stands behind the uppermost value, as it goes on at a desk
+abbrev pub linked_at : Option ℕ → Tree → Desk → State → Plan
+linked_at named ls d s = bind (plan_links (top (values_of d)) named ls s) (gives_on (below (values_of d)) (left (tasks_of d)))
+
+-- and operators behind it
+abbrev pub operated_at : Tree → Desk → State → Plan
+operated_at os d s = bind (plan_operations (top (values_of d)) os s) (gives_on (below (values_of d)) (left (tasks_of d)))
+
+-- a value of which no host is asked
+abbrev pub IsNoObject : Value → Type 0
+IsNoObject (v.Object id) = ⊥
+IsNoObject other = Unit {0}
 
 abbrev pub told : ℕ → ℕ → EvalKind → Result Out Fault
 told script line k = Err (record { place = record { script = script; line = line }; kind = k })
@@ -50,6 +66,11 @@ LeadsOn {H = H} m c before h after h2 = (r : Result Out Fault) (h3 : H) → Foll
 abbrev pub Leads : {H X : Type 0} → Meaning H → ℕ → Plan → H → Result X Stop → Plan → H → Type 0
 Leads m c before h (Ok u) after h2 = LeadsOn m c before h after h2
 Leads m c before h (Err e) after h2 = Stops m c before h e h2
+
+-- what a step that gives a value owes: what goes on with the value in the state after it, was left before it
+abbrev pub Gives : {H : Type 0} → Meaning H → ℕ → Plan → H → Result Value Stop → (Value → State → Plan) → State → H → Type 0
+Gives m c before h (Ok x) f s h2 = LeadsOn m c before h (f x s) h2
+Gives m c before h (Err e) f s h2 = Stops m c before h e h2
 
 -- the same of a step that may end the body
 abbrev pub Flows : {H : Type 0} → Meaning H → ℕ → Plan → H → Result Flow Stop → Plan → H → State → Type 0
