@@ -13,6 +13,7 @@ pub mod Places
 pub mod Rests
 pub mod Several
 pub mod Simples
+pub mod Slicing
 pub mod Stacks
 pub mod Stepping
 pub mod Trees
