@@ -1,5 +1,5 @@
 -- What an object gives is its host's answer; what another value gives comes of an operation.
-use Rattle.std.proofs.Common.{◌≡◌, ◌≢◌, ◌∙◌, ℕ, Result, Ok, Err, refl, sym, subst, ap}
+use Rattle.std.proofs.Common.{◌≡◌, ◌≢◌, ◌∙◌, ℕ, List, Result, Ok, Err, refl, sym, subst, ap}
 use Rattle.py_heap.specs.declared.ids.HostId.{HostId}
 use Rattle.py_heap.specs.declared.value.Value.{Value}
 use Rattle.py_heap.specs.declared.value.Value.TheVariants as v
@@ -38,6 +38,17 @@ object_refuses m c h h2 l base key id s f objects e x p a w =
     subst (λ (y : Stop). Stops m c (after_item l base key s f) h y h2) (sym w)
     (subst (λ (b : Value). Stops m c (after_item l b key s f) h (refusal_stop s.frame.script l e) h2) (sym p)
     (refusal_stops m c h h2 (question.item id.0 key) l s f objects e a))
+
+-- an attribute of one
+pub attribute_gives : {H : Type 0} (m : Meaning H) (c : ℕ) (h h2 : H) (l id : ℕ) (n word : List ℕ) (x : Value) (s : State) (f : Value → State → Plan) (objects : Objects) → word ≡ n → m.replies (question.attribute id word) h s.objects (answers x) h2 objects → LeadsOn m c (asked_on l (question.attribute id n) s f) h (f x (with_objects s objects)) h2
+attribute_gives m c h h2 l id n word x s f objects e a =
+    λ r h3 d. subst (λ (w : List ℕ). Follows m c (asked_on l (question.attribute id w) s f) h r h3) e (follows.asked x h2 objects a d)
+
+pub attribute_refuses : {H : Type 0} (m : Meaning H) (c : ℕ) (h h2 : H) (l id : ℕ) (n word : List ℕ) (s : State) (f : Value → State → Plan) (objects : Objects) (e : HostRefusal) (x : Stop) → word ≡ n → (e ≡ refusal.Host → m.replies (question.attribute id word) h s.objects refuses h2 objects) → x ≡ refusal_stop s.frame.script l e → Stops m c (asked_on l (question.attribute id n) s f) h x h2
+attribute_refuses m c h h2 l id n word s f objects e x p a w =
+    subst (λ (y : Stop). Stops m c (asked_on l (question.attribute id n) s f) h y h2) (sym w)
+    (subst (λ (y : List ℕ). Stops m c (asked_on l (question.attribute id y) s f) h (refusal_stop s.frame.script l e) h2) p
+    (refusal_stops m c h h2 (question.attribute id word) l s f objects e a))
 
 abbrev pub NotObject : Value → Type 0
 NotObject x = (id : HostId) → x ≡ v.Object id → ⊥

@@ -9,6 +9,7 @@ pub mod Going
 pub mod Lines
 pub mod Linking
 pub mod Naming
+pub mod Operating
 pub mod Places
 pub mod Rests
 pub mod Several
