@@ -38,3 +38,15 @@ leads_on u e = λ r h3 d. goes (onto u e) d
 pub steps_value : (X : Type 0) (p q : Plan) (l : ℕ) (s : State) (e : ValueFault) → (e ≢ fault.Memory → Unfolds p (stops (place_at l s) (kind.Value e))) → Steps {X = X} p (Err (value_stop s.frame.script l e)) q
 steps_value X p q l s fault.Memory u = tt
 steps_value X p q l s e u = (tt, u (λ p. cc))
+
+-- what leads to a plan leads to those that come to the same
+pub leads_from : {H X : Type 0} (m : Meaning H) (c : ℕ) (p p' q : Plan) (h h2 : H) (result : Result X Stop) → ((r : Result Out Fault) (h3 : H) → Follows m c p h r h3 → Follows m c p' h r h3) → Leads m c p h result q h2 → Leads m c p' h result q h2
+leads_from m c p p' q h h2 (Ok u) f g = λ r h3 d. f r h3 (g r h3 d)
+leads_from m c p p' q h h2 (Err (stop.Fault script line k)) f g = f _ h2 g
+leads_from m c p p' q h h2 (Err stop.End) f g = (g.0, f _ h2 g.1)
+leads_from m c p p' q h h2 (Err stop.Memory) f g = tt
+
+-- a stop that is handed on
+pub leads_no_more : {H X : Type 0} (m : Meaning H) (c : ℕ) (p q : Plan) (h h2 : H) (result : Result X Stop) (y x : Stop) → result ≡ Err y → y ≡ x → Stops m c p h x h2 → Leads m c p h result q h2
+leads_no_more {X = X} m c p q h h2 result y x e f g =
+    subst (λ (z : Result X Stop). Leads m c p h z q h2) (sym e) (subst (λ (z : Stop). Stops m c p h z h2) (sym f) g)

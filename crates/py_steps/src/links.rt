@@ -115,7 +115,8 @@ fn slice_link<'a>(
         to: upper.is_some(),
     })?;
     evaluate_end(desk, upper)?;
-    evaluate_end(desk, lower)
+    evaluate_end(desk, lower)?;
+    Ok(())
 }
 
 /// Evaluates an end of a slice, if it is there.
@@ -186,7 +187,10 @@ fn method_link<'a>(
     ensures { (m : Store) → IsNoObject (top (values_of desk.old)) → Steps (linked_at None (cons (attribute line name.now) (trees (map link_tree links.now))) desk.old (state_by m frame.now)) result (left (tasks_of desk.new) (values_of desk.new) (goes_on (state_by m frame.now))) }
 {
     let no_method = EvalKind::Value(ValueFault::NoMethod);
-    let Some((Link::Call { arguments, .. }, rest)) = links.split_first() else {
+    let Some((first, rest)) = links.split_first() else {
+        return Err(fault(frame, line, no_method));
+    };
+    let Link::Call { arguments, .. } = first else {
         return Err(fault(frame, line, no_method));
     };
     let Some(method) = method_named(name.as_str()) else {
