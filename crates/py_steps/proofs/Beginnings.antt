@@ -79,12 +79,12 @@ compare_begins l k o t u ts vs s e =
     (λ y s2. same (made_bound l s2 (binary_of (comparison_op k) s2.objects s2.units x y) vs (left ts))))))
 
 -- the values that were given above a height, and those under it
-above_all : (xs vs : List Value) → above (length vs) (reverse xs ++ vs) ≡ xs
+pub above_all : (xs vs : List Value) → above (length vs) (reverse xs ++ vs) ≡ xs
 above_all xs vs =
     let n : length (reverse xs) ≡ length (reverse xs ++ vs) - length vs = omega (arith, length-append (reverse xs) vs) in
     ap reverse (take_at (reverse xs) vs (length (reverse xs ++ vs) - length vs) n) ∙ reverse-reverse xs
 
-under_all : (xs vs : List Value) → under (length vs) (reverse xs ++ vs) ≡ vs
+pub under_all : (xs vs : List Value) → under (length vs) (reverse xs ++ vs) ≡ vs
 under_all xs vs =
     let n : length (reverse xs) ≡ length (reverse xs ++ vs) - length vs = omega (arith, length-append (reverse xs) vs) in
     drop_at (reverse xs) vs (length (reverse xs ++ vs) - length vs) n

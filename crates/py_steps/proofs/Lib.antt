@@ -1,3 +1,4 @@
+pub mod Asking
 pub mod Assigning
 pub mod Beginnings
 pub mod Behind
@@ -7,11 +8,14 @@ pub mod Definitions
 pub mod Faults
 pub mod Going
 pub mod Lines
+pub mod Linking
 pub mod Naming
+pub mod Operating
 pub mod Places
 pub mod Rests
 pub mod Several
 pub mod Simples
+pub mod Slicing
 pub mod Stacks
 pub mod Stepping
 pub mod Storing

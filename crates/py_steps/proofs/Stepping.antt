@@ -50,3 +50,15 @@ pub flows : {H : Type 0} (m : Meaning H) (c : ℕ) (p q : Plan) (h : H) (s : Sta
 flows m c p q h s (Ok flow.GoesOn) g = λ r h3 d. goes g d
 flows m c p q h s (Ok (flow.Returns x)) g = goes g done
 flows m c p q h s (Err e) g = leads m c p q h (Err e) g
+
+-- what leads to a plan leads to those that come to the same
+pub leads_from : {H X : Type 0} (m : Meaning H) (c : ℕ) (p p' q : Plan) (h h2 : H) (result : Result X Stop) → ((r : Result Out Fault) (h3 : H) → Follows m c p h r h3 → Follows m c p' h r h3) → Leads m c p h result q h2 → Leads m c p' h result q h2
+leads_from m c p p' q h h2 (Ok u) f g = λ r h3 d. f r h3 (g r h3 d)
+leads_from m c p p' q h h2 (Err (stop.Fault script line k)) f g = f _ h2 g
+leads_from m c p p' q h h2 (Err stop.End) f g = (g.0, f _ h2 g.1)
+leads_from m c p p' q h h2 (Err stop.Memory) f g = tt
+
+-- a stop that is handed on
+pub leads_no_more : {H X : Type 0} (m : Meaning H) (c : ℕ) (p q : Plan) (h h2 : H) (result : Result X Stop) (y x : Stop) → result ≡ Err y → y ≡ x → Stops m c p h x h2 → Leads m c p h result q h2
+leads_no_more {X = X} m c p q h h2 result y x e f g =
+    subst (λ (z : Result X Stop). Leads m c p h z q h2) (sym e) (subst (λ (z : Stop). Stops m c p h z h2) (sym f) g)

@@ -1,13 +1,16 @@
 -- What a step at a desk owes: what is left after it leads to what was left before.
-use Rattle.std.specs.Prelude.{◌≡◌, ℕ, ◌∷◌, Result, Ok, Err}
+use Rattle.std.specs.Prelude.{◌≡◌, ℕ, ◌∷◌, Option, Result, Ok, Err}
 use Rattle.py_tree.specs.Tree.{Tree}
 use Rattle.py_heap.specs.declared.value.Value.{Value}
+use Rattle.py_heap.specs.declared.value.Value.TheVariants as v
 use Rattle.py_host.specs.Meaning.{Meaning}
 use Rattle.py_meaning.specs.declared.fault.EvalKind.{EvalKind}
 use Rattle.py_meaning.specs.States.{State, Frame, Out, Fault, goes_on, returns, ends}
 use Rattle.py_meaning.specs.Jobs.{Job, exec}
 use Rattle.py_meaning.specs.Plans.{Plan, comes_to, stops, first, bind}
 use Rattle.py_meaning.specs.Evaluates.{Follows, IsOwn, plan}
+use Rattle.py_meaning.specs.Expressions.{plan_operations}
+use Rattle.py_meaning.specs.Links.{plan_links}
 use Rattle.py_meaning.specs.Statements.{assigned}
 use Rattle.py_state.specs.Stores.{state_of}
 use Rattle.py_state.specs.declared.machine.Machine.{Machine}
@@ -18,7 +21,7 @@ use Rattle.py_steps.specs.declared.desk.Desk.{Desk}
 use Rattle.py_steps.specs.declared.statements.Flow.{Flow}
 use Rattle.py_steps.specs.declared.statements.Flow.TheVariants as flow
 use Rattle.py_steps.specs.declared.task.Task.{Task}
-use Rattle.py_steps.specs.Todos.{left}
+use Rattle.py_steps.specs.Todos.{left, gives_on}
 
 -- what is left at a desk in a state
 abbrev pub left_at : Desk → Machine → Frame → Plan
@@ -38,6 +41,19 @@ exec_at t d s = first (exec t) s (left (tasks_of d) (values_of d))
 -- the uppermost value goes to a target
 abbrev pub assigned_at : ℕ → Tree → Desk → State → Plan
 assigned_at l t d s = bind (assigned l t (top (values_of d)) s (λ s1. comes_to (goes_on s1))) (left (tasks_of d) (below (values_of d)))
+
+-- what stands behind the uppermost value, as it goes on at a desk
+abbrev pub linked_at : Option ℕ → Tree → Desk → State → Plan
+linked_at named ls d s = bind (plan_links (top (values_of d)) named ls s) (gives_on (below (values_of d)) (left (tasks_of d)))
+
+-- and operators behind it
+abbrev pub operated_at : Tree → Desk → State → Plan
+operated_at os d s = bind (plan_operations (top (values_of d)) os s) (gives_on (below (values_of d)) (left (tasks_of d)))
+
+-- a value of which no host is asked
+abbrev pub IsNoObject : Value → Type 0
+IsNoObject (v.Object id) = ⊥
+IsNoObject other = Unit {0}
 
 abbrev pub told : ℕ → ℕ → EvalKind → Result Out Fault
 told script line k = Err (record { place = record { script = script; line = line }; kind = k })

@@ -1,6 +1,11 @@
 -- What the tasks of a body stand for: what is left to do, as a plan.
 use Rattle.std.specs.Prelude.{ℕ, ◌+◌, Bool, true, false, not, List, [], ◌∷◌, ◌++◌, Option, Some, None, map, reverse, take, drop}
-use Rattle.py_tree.specs.Tree.{Tree, cons, trees, words, expr_tree, pair_tree, argument_tree, operation_tree, link_tree, simple_tree, line_tree, branch_tree, parameter_tree}
+use Rattle.std.specs.declared.boxed.Box.{Box}
+use Rattle.std.specs.declared.alloc.Global.{Global}
+use Rattle.py_tree.specs.declared.expr.Expr.{Expr}
+use Rattle.py_tree.specs.Tree.{Tree, absent, cons, trees, words, expr_tree, pair_tree, argument_tree, operation_tree, link_tree, simple_tree, line_tree, branch_tree, parameter_tree}
+use Rattle.py_tree.specs.declared.expr.Operator.{Operator}
+use Rattle.py_tree.specs.declared.expr.Operator.TheVariants as operator'
 use Rattle.py_heap.specs.declared.value.Value.{Value}
 use Rattle.py_heap.specs.declared.value.Value.TheVariants as v
 use Rattle.py_heap.specs.Heap.{truth_of}
@@ -49,11 +54,21 @@ abbrev pub end_at : Bool → List Value → Option Value
 end_at true vs = Some (top vs)
 end_at false vs = None
 
+
+-- an end that may be left out, as a tree, and a value of one on top of others
+abbrev pub end_tree : Option (Box Expr Global) → Tree
+end_tree None = absent
+end_tree (Some e) = expr_tree e.value
+
+abbrev pub with_end : Option Value → List Value → List Value
+with_end None vs = vs
+with_end (Some x) vs = x ∷ vs
+
 abbrev pub past : Bool → List Value → List Value
 past true vs = below vs
 past false vs = vs
 
-abbrev slice_on : ℕ → State → Bool → Bool → List Value → Rest → Plan
+abbrev pub slice_on : ℕ → State → Bool → Bool → List Value → Rest → Plan
 slice_on l s from to vs k =
     made_on l s (sliced s.objects s.units (top (past from (past to vs))) (end_at from (past to vs)) (end_at to vs)) (below (past from (past to vs))) k
 
@@ -95,6 +110,12 @@ by_test c ts vs k false s = collect_on c vs s k
 abbrev pub by_branch : Tree → Tree → Tree → List Value → Rest → Bool → State → Plan
 by_branch block bs ls vs k true s = first (exec_all block) s (k vs)
 by_branch block bs ls vs k false s = first (branches bs ls) s (k vs)
+
+-- whether `or` or `and` gives its left operand, by whether that is true
+abbrev pub is_decided : Operator → Bool → Bool
+is_decided operator'.Or holds = holds
+is_decided operator'.And holds = not holds
+is_decided other holds = false
 
 abbrev pub parameters_in : Definition → Tree
 parameters_in d = trees (map parameter_tree d.parameters.now)

@@ -75,6 +75,14 @@ impl<'a> Desk<'a> {
         }
     }
 
+    /// The uppermost value takes its own place; None where there is none.
+    pub fn keep(&mut self) -> Result<(), Memory>
+        ensures { OnOk result (stacks_of self.new ≡ record (stacks_of self.old) { values = top (values_of self.old) ∷ below (values_of self.old) }) }
+    {
+        let value = self.take();
+        self.give(value)
+    }
+
     /// The value below the uppermost one.
     pub fn second(&self) -> Value
         ensures { result ≡ top (below (values_of self.now)) }

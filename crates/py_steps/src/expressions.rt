@@ -1,12 +1,13 @@
 //! Expressions.
-ghost use Rattle.std.specs.Prelude.{◌≡◌, ◌≤◌, ℕ, ◌∷◌};
-ghost use Rattle.py_tree.specs.Tree.{expr_tree};
+ghost use Rattle.std.specs.Prelude.{◌≡◌, ◌≤◌, ℕ, ◌∷◌, false, OnOk, map};
+ghost use Rattle.py_tree.specs.Tree.{cons, trees, expr_tree, operation_tree};
+ghost use Rattle.py_heap.specs.Heap.{truth_of};
 ghost use Rattle.py_meaning.specs.Expressions.{named_line};
 ghost use Rattle.py_meaning.specs.States.{State, goes_on};
 ghost use Rattle.py_meaning.specs.States as meaning;
-ghost use Rattle.py_steps.specs.Desks.{tasks_of, values_of};
-ghost use Rattle.py_steps.specs.Todos.{left};
-ghost use Rattle.py_steps.specs.Leads.{Leads, Steps, left_with, left_at};
+ghost use Rattle.py_steps.specs.Desks.{tasks_of, values_of, top};
+ghost use Rattle.py_steps.specs.Todos.{left, is_decided};
+ghost use Rattle.py_steps.specs.Leads.{Leads, Steps, Unfolds, left_with, left_at, operated_at};
 
 use crate::desk::Desk;
 use crate::task::{Comprehension, Task};
@@ -18,6 +19,7 @@ use py_state::{
     Frame, Machine, Stop, comparison_op, constant_value, named, operator_op, value_fault,
 };
 use py_tree::{Argument, Expr, Operation, Operator, Pair, Parameter};
+use scons_base::Memory;
 
 /// Begins an expression.
 pub fn evaluate<'a, H: Host>(
@@ -306,30 +308,43 @@ pub fn operations<'a>(
     ensures { (f : meaning.Frame) → Steps (left_with (Task.Operations operations.entry) desk.old machine.now f) result (left_at desk.new machine.now f) }
 {
     let Some((first, rest)) = operations.split_first() else {
+        desk.keep()?;
         return Ok(());
     };
     if is_decided(machine, first.operator, desk.top()) {
         desk.push(Task::Operations(rest))?;
         return Ok(());
     }
+    operand(desk, first, rest)?;
+    Ok(())
+}
+
+/// Begins the right operand. That of `or` and `and` takes the left one's place.
+fn operand<'a>(
+    desk: &mut Desk<'a>,
+    first: &'a Operation,
+    rest: &'a [Operation],
+) -> Result<(), Memory>
+    ensures { OnOk result ((s : State) → is_decided first.now.operator (truth_of s.objects (top (values_of desk.old))) ≡ false → Unfolds (operated_at (cons (operation_tree first.now) (trees (map operation_tree rest.now))) desk.old s) (left (tasks_of desk.new) (values_of desk.new) (goes_on s))) }
+{
     desk.push(Task::Operations(rest))?;
     match first.operator {
         Operator::Or | Operator::And => {
             let _left = desk.take();
-            desk.push(Task::Evaluate(&first.operand))?;
-            Ok(())
+            desk.push(Task::Evaluate(&first.operand))
         }
         operator => {
             let line = first.line;
             let op = operator_op(operator);
-            desk.evaluate(&first.operand, Task::Binary { line, op })?;
-            Ok(())
+            desk.evaluate(&first.operand, Task::Binary { line, op })
         }
     }
 }
 
 /// Whether `or` or `and` gives its left operand.
-fn is_decided(machine: &Machine, operator: Operator, left: Value) -> bool {
+fn is_decided(machine: &Machine, operator: Operator, left: Value) -> bool
+    ensures { result ≡ is_decided operator (truth_of machine.now.heap left) }
+{
     match operator {
         Operator::Or => truth(&machine.heap, left),
         Operator::And => !truth(&machine.heap, left),

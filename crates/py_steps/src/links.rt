@@ -1,24 +1,25 @@
 //! Calls, indices and attributes behind an atom.
-ghost use Rattle.std.specs.Prelude.{◌≡◌, ◌≤◌, ℕ};
-ghost use Rattle.py_heap.specs.declared.value.Value.{Value};
+ghost use Rattle.std.specs.Prelude.{◌≡◌, ◌≤◌, ℕ, List, ◌∷◌, None, OnOk, length, map};
+ghost use Rattle.py_tree.specs.Tree.{cons, attribute, slice, trees, link_tree};
+ghost use Rattle.py_host.specs.Calls as question;
 ghost use Rattle.py_meaning.specs.Links.{after_item};
-ghost use Rattle.py_meaning.specs.Plans.{Plan};
-ghost use Rattle.py_meaning.specs.States.{State};
-ghost use Rattle.py_state.specs.Stores.{state_of};
-ghost use Rattle.py_steps.specs.Desks.{stacks_of, values_of};
-ghost use Rattle.py_steps.specs.Todos.{end_at, past};
-ghost use Rattle.py_steps.specs.Leads.{Gives, Leads, Steps, left_with, left_at};
+ghost use Rattle.py_meaning.specs.Plans.{Plan, after_optional, asked_on};
+ghost use Rattle.py_meaning.specs.States.{State, goes_on};
+ghost use Rattle.py_state.specs.Stores.{Store, state_of, state_by};
+ghost use Rattle.py_steps.specs.Desks.{stacks_of, tasks_of, values_of, top};
+ghost use Rattle.py_steps.specs.Todos.{left, end_at, past, end_tree, with_end};
+ghost use Rattle.py_steps.specs.Leads.{Gives, Leads, Steps, Unfolds, IsNoObject, left_with, left_at, linked_at};
 
 use crate::desk::Desk;
 use crate::task::Task;
 use py_heap::{HostId, Value, ValueFault};
 use py_host::Host;
 use py_meaning::EvalKind;
-use py_methods::has_method;
+use py_methods::{Name, has_method};
 use py_operators::{index, slice};
 use py_state::{Frame, Machine, Stop, fault, method_named, refused, value_fault};
-use py_tree::Link;
-use scons_base::Text;
+use py_tree::{Argument, Expr, Link};
+use scons_base::{Memory, Text};
 
 /// The next thing behind the uppermost value.
 pub fn link<'a, H: Host>(
@@ -32,79 +33,147 @@ pub fn link<'a, H: Host>(
     ensures later { H.meaning.refusals host.old ≤ H.meaning.refusals host.new }
     ensures leads { (c : ℕ) → Leads H.meaning c (left_with (Task.Links links.entry named) desk.old machine.old frame.now) host.old result (left_at desk.new machine.new frame.now) host.new }
 {
-    let [first, rest @ ..] = links else {
+    let Some((first, rest)) = links.split_first() else {
+        desk.keep()?;
         return Ok(());
     };
     match first {
-        Link::Attribute { line, name } => match desk.top() {
-            Value::Object(object) => {
-                attribute(machine, host, frame, desk, *line, object, name)?;
-                desk.push(Task::Links {
-                    links: rest,
-                    named: Some(*line),
-                })?;
-            }
-            _ => method_link(frame, desk, *line, name, rest)?,
-        },
+        Link::Attribute { line, name } => {
+            attribute_link(machine, host, frame, desk, *line, name, rest)
+        }
         Link::Call { line, arguments } => {
-            desk.push(Task::Links {
-                links: rest,
-                named: None,
-            })?;
-            let base = desk.height();
-            desk.push(Task::Call {
-                line: named.unwrap_or(*line),
-                method: None,
-                arguments: arguments.as_slice(),
-                base,
-            })?;
-            desk.push(Task::Arguments(arguments.as_slice()))?;
+            let line = named.unwrap_or(*line);
+            call_link(desk, line, None, arguments.as_slice(), rest)?;
+            Ok(())
         }
         Link::Index { line, index } => {
-            desk.push(Task::Links {
-                links: rest,
-                named: None,
-            })?;
-            desk.push(Task::Index { line: *line })?;
-            desk.push(Task::Evaluate(index))?;
+            index_link(desk, *line, index, rest)?;
+            Ok(())
         }
         Link::Slice { line, lower, upper } => {
-            desk.push(Task::Links {
-                links: rest,
-                named: None,
-            })?;
-            desk.push(Task::Slice {
-                line: *line,
-                from: lower.is_some(),
-                to: upper.is_some(),
-            })?;
-            if let Some(upper) = upper {
-                desk.push(Task::Evaluate(upper))?;
-            }
-            if let Some(lower) = lower {
-                desk.push(Task::Evaluate(lower))?;
-            }
+            slice_link(desk, *line, lower, upper, rest)?;
+            Ok(())
         }
     }
+}
+
+/// A call of the uppermost value, or of its method.
+fn call_link<'a>(
+    desk: &mut Desk<'a>,
+    line: u32,
+    method: Option<Name>,
+    arguments: &'a [Argument],
+    rest: &'a [Link],
+) -> Result<(), Memory>
+    ensures { OnOk result (stacks_of desk.new ≡ record (stacks_of desk.old) { tasks = Task.Arguments arguments.entry ∷ Task.Call line method arguments.entry (length (values_of desk.old)) ∷ Task.Links rest.entry None ∷ tasks_of desk.old }) }
+{
+    desk.push(Task::Links {
+        links: rest,
+        named: None,
+    })?;
+    let base = desk.height();
+    desk.push(Task::Call {
+        line,
+        method,
+        arguments,
+        base,
+    })?;
+    desk.push(Task::Arguments(arguments))
+}
+
+fn index_link<'a>(
+    desk: &mut Desk<'a>,
+    line: u32,
+    index: &'a Expr,
+    rest: &'a [Link],
+) -> Result<(), Memory>
+    ensures { OnOk result (stacks_of desk.new ≡ record (stacks_of desk.old) { tasks = Task.Evaluate index.entry ∷ Task.Index line ∷ Task.Links rest.entry None ∷ tasks_of desk.old }) }
+{
+    desk.push(Task::Links {
+        links: rest,
+        named: None,
+    })?;
+    desk.evaluate(index, Task::Index { line })
+}
+
+fn slice_link<'a>(
+    desk: &mut Desk<'a>,
+    line: u32,
+    lower: &'a Option<Box<Expr>>,
+    upper: &'a Option<Box<Expr>>,
+    rest: &'a [Link],
+) -> Result<(), Memory>
+    ensures { OnOk result ((s : State) → Unfolds (linked_at None (cons (slice line (end_tree lower.now) (end_tree upper.now)) (trees (map link_tree rest.now))) desk.old s) (left (tasks_of desk.new) (values_of desk.new) (goes_on s))) }
+{
+    desk.push(Task::Links {
+        links: rest,
+        named: None,
+    })?;
+    desk.push(Task::Slice {
+        line,
+        from: lower.is_some(),
+        to: upper.is_some(),
+    })?;
+    evaluate_end(desk, upper)?;
+    evaluate_end(desk, lower)?;
     Ok(())
 }
 
-/// An attribute of an object, in the object's place.
+/// Evaluates an end of a slice, if it is there.
+fn evaluate_end<'a>(desk: &mut Desk<'a>, end: &'a Option<Box<Expr>>) -> Result<(), Memory>
+    ensures tasks { OnOk result ((vs : List Value) (s : State) → left (tasks_of desk.new) vs (goes_on s) ≡ after_optional (end_tree end.now) s (λ x s1. left (tasks_of desk.old) (with_end x vs) (goes_on s1))) }
+    ensures values { OnOk result (values_of desk.new ≡ values_of desk.old) }
+{
+    match end {
+        Some(end) => desk.push(Task::Evaluate(end)),
+        None => Ok(()),
+    }
+}
+
+/// An attribute of an object, in the object's place. Of any other value it is a method.
+fn attribute_link<'a, H: Host>(
+    machine: &mut Machine,
+    host: &mut H,
+    frame: &Frame,
+    desk: &mut Desk<'a>,
+    line: u32,
+    name: &Text,
+    rest: &'a [Link],
+) -> Result<(), Stop>
+    ensures later { H.meaning.refusals host.old ≤ H.meaning.refusals host.new }
+    ensures leads { (c : ℕ) → Leads H.meaning c (linked_at None (cons (attribute line name.now) (trees (map link_tree rest.now))) desk.old (state_of machine.old frame.now)) host.old result (left_at desk.new machine.new frame.now) host.new }
+{
+    match desk.top() {
+        Value::Object(object) => {
+            let value = attribute(machine, host, frame, line, object, name)?;
+            let _object = desk.take();
+            desk.give(value)?;
+            desk.push(Task::Links {
+                links: rest,
+                named: Some(line),
+            })?;
+            Ok(())
+        }
+        _ => method_link(frame, desk, line, name, rest),
+    }
+}
+
+/// What an object's attribute is.
 fn attribute<H: Host>(
     machine: &mut Machine,
     host: &mut H,
     frame: &Frame,
-    desk: &mut Desk<'_>,
     line: u32,
     object: HostId,
     name: &Text,
-) -> Result<(), Stop> {
-    let _object = desk.take();
+) -> Result<Value, Stop>
+    ensures later { H.meaning.refusals host.old ≤ H.meaning.refusals host.new }
+    ensures leads { (c : ℕ) (f : Value → State → Plan) → Gives H.meaning c (asked_on line (question.attribute object.0 name.now) (state_of machine.old frame.now) f) host.old result f (state_of machine.new frame.now) host.new }
+{
     match host.attribute(&mut machine.heap, object, name.as_str()) {
-        Ok(value) => desk.give(value)?,
-        Err(refusal) => return Err(refused(frame, line, refusal)),
+        Ok(value) => Ok(value),
+        Err(refusal) => Err(refused(frame, line, refusal)),
     }
-    Ok(())
 }
 
 /// A method of the uppermost value, which is called at once.
@@ -114,9 +183,14 @@ fn method_link<'a>(
     line: u32,
     name: &Text,
     links: &'a [Link],
-) -> Result<(), Stop> {
+) -> Result<(), Stop>
+    ensures { (m : Store) → IsNoObject (top (values_of desk.old)) → Steps (linked_at None (cons (attribute line name.now) (trees (map link_tree links.now))) desk.old (state_by m frame.now)) result (left (tasks_of desk.new) (values_of desk.new) (goes_on (state_by m frame.now))) }
+{
     let no_method = EvalKind::Value(ValueFault::NoMethod);
-    let [Link::Call { arguments, .. }, rest @ ..] = links else {
+    let Some((first, rest)) = links.split_first() else {
+        return Err(fault(frame, line, no_method));
+    };
+    let Link::Call { arguments, .. } = first else {
         return Err(fault(frame, line, no_method));
     };
     let Some(method) = method_named(name.as_str()) else {
@@ -125,18 +199,7 @@ fn method_link<'a>(
     if !has_method(desk.top(), method) {
         return Err(fault(frame, line, no_method));
     }
-    desk.push(Task::Links {
-        links: rest,
-        named: None,
-    })?;
-    let base = desk.height();
-    desk.push(Task::Call {
-        line,
-        method: Some(method),
-        arguments: arguments.as_slice(),
-        base,
-    })?;
-    desk.push(Task::Arguments(arguments.as_slice()))?;
+    call_link(desk, line, Some(method), arguments.as_slice(), rest)?;
     Ok(())
 }
 
