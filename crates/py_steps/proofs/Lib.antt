@@ -3,8 +3,10 @@ pub mod Behind
 pub mod Branches
 pub mod Combining
 pub mod Definitions
+pub mod Displays
 pub mod Faults
 pub mod Going
+pub mod Items
 pub mod Lines
 pub mod Naming
 pub mod Places
