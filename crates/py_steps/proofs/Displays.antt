@@ -4,11 +4,12 @@ use Rattle.std.specs.Prelude.{nat_le, slice_index_or}
 use Rattle.std.proofs.lemmas.List.{get_or_push, append_assoc, append-nil}
 use Rattle.py_heap.specs.declared.value.Value.{Value}
 use Rattle.py_heap.specs.declared.value.Value.TheVariants as v
+use Rattle.py_heap.specs.declared.ids.DictId.{DictId}
 use Rattle.py_heap.specs.declared.fault.ValueFault.{ValueFault}
 use Rattle.py_heap.specs.declared.fault.ValueFault.TheVariants as fault
 use Rattle.py_heap.specs.Heap.{Objects, Entries, dict_at, with_dict}
 use Rattle.py_heap.specs.Given.{given_dict, next_dict, with_pairs}
-use Rattle.py_heap.specs.Units.{Units, charged, room, limited, list_limit}
+use Rattle.py_heap.specs.Units.{Units, charged, room, limited, list_limit, told_length}
 use Rattle.py_methods.specs.Dicts.{new_dict}
 use Rattle.py_meaning.specs.Plans.{Plan}
 use Rattle.py_meaning.specs.States.{State, Frame, goes_on, after_operation}
@@ -51,11 +52,6 @@ display_stops X k l base d m f xs ys e stop q a i g b =
     (steps_value X _ q l s e (λ w. made_stops l s (display_of k m.heap m.budget (above base (values_of d))) e (under base (values_of d)) (left (tasks_of d))
     (ap (display_of k m.heap m.budget) (sym (i ∙ a)) ∙ g w))))
 
--- keys and items, two by two
-pub paired_more : (done : List (Value × Value)) (left behind rest : List Value) (k x : Value) (all : List (Value × Value)) → done ++ paired left ≡ all → left ≡ k ∷ behind → behind ≡ x ∷ rest → (done ++ (k, x) ∷ []) ++ paired rest ≡ all
-paired_more done left behind rest k x all e f g =
-    append_assoc done ((k, x) ∷ []) (paired rest) ∙ ap (λ (ys : List Value). done ++ paired ys) (ap (λ (ys : List Value). k ∷ ys) (sym g) ∙ sym f) ∙ e
-
 -- what has no room within the limit has none in units
 no_room : {X : Type 0} (limit n : ℕ) (x : X) (u : Units) (e : ValueFault) → limited limit n x ≡ Err e → room limit u n ≡ Err e
 unfolding limited room
@@ -63,7 +59,10 @@ no_room limit n x u e h = by (nat_le n limit) refl
   where
     by : (b : Bool) → nat_le n limit ≡ b → room limit u n ≡ Err e
     by true t = let g = rw t at h in absurd cc
-    by false t = let g = rw t at h in rw t g
+    by false t =
+        let g = rw t at h in
+        let same : fault.TooBig (told_length n) ≡ e = cc in
+        rw t (ap (λ z. Err z) same)
 
 within : {X : Type 0} (limit n : ℕ) (x y : X) → limited limit n x ≡ Ok y → x ≡ y
 unfolding limited
@@ -80,7 +79,10 @@ dict_unmade h u ps xs e p g = by (with_pairs h [] (paired xs)) refl
     told : given_dict h (paired xs) ≡ Err e
     told = ap (given_dict h) (sym p) ∙ g
     by : (o : Option Entries) → with_pairs h [] (paired xs) ≡ o → displayed h u xs ≡ Err e
-    by None t = let w = rw t at told in rw t w
+    by None t =
+        let w = rw t at told in
+        let same : fault.Key ≡ e = cc in
+        rw t (ap (λ z. Err z) same)
     by (Some es) t =
         let w = rw t at told in
         rw (t, no_room list_limit (length es) (next_dict h, with_dict h es) u e w) refl
@@ -105,19 +107,28 @@ pub is_dict : (h h1 : Objects) (ps : List (Value × Value)) (xs : List Value) (x
 is_dict h h1 ps xs x p g = (dict_made h h1 ps xs x p g).2
 
 -- its length is that of its entries
-dict_length : (h h1 : Objects) (xs : List Value) (x : Value) (id : ℕ) (w : DictMade h h1 xs x) → x ≡ v.Dict (record { 0 = id }) → length (dict_at h1 id) ≡ length w.0
+dict_length : (h h1 : Objects) (xs : List Value) (x : Value) (id : DictId) (w : DictMade h h1 xs x) → x ≡ v.Dict id → length (dict_at h1 id.0) ≡ length w.0
 dict_length h h1 xs x id w e =
-    let place : id ≡ length h.dicts = cc (w.2, e) in
-    ap (λ (o : Objects). length (dict_at o id)) w.3 ∙ ap (λ (i : ℕ). length (dict_at (with_dict h w.0) i)) place ∙ ap length (get_or_push h.dicts w.0 [] (length h.dicts) refl)
+    let next : DictId = record { 0 = length h.dicts } in
+    let is_next : v.Dict id ≡ v.Dict next = sym e ∙ w.2 in
+    let same : id ≡ next = cc in
+    ap (λ (o : Objects). length (dict_at o id.0)) w.3 ∙ ap (λ (i : DictId). length (dict_at (with_dict h w.0) i.0)) same ∙ ap length (get_or_push h.dicts w.0 [] (length h.dicts) refl)
 
-pub dict_unpaid : (h h1 : Objects) (u : Units) (ps : List (Value × Value)) (xs : List Value) (x : Value) (id n : ℕ) (e : ValueFault) → ps ≡ paired xs → given_dict h ps ≡ Ok (x, h1) → x ≡ v.Dict (record { 0 = id }) → n ≡ length (dict_at h1 id) → room list_limit u n ≡ Err e → displayed h u xs ≡ Err e
+room_of : (h h1 : Objects) (u : Units) (xs : List Value) (x : Value) (id : DictId) (n : ℕ) (r : Result Units ValueFault) (w : DictMade h h1 xs x) → x ≡ v.Dict id → n ≡ length (dict_at h1 id.0) → room list_limit u n ≡ r → room list_limit u (length w.0) ≡ r
+room_of h h1 u xs x id n r w d l e = ap (room list_limit u) (sym (l ∙ dict_length h h1 xs x id w d)) ∙ e
+
+unpaid_by : (h : Objects) (u : Units) (xs : List Value) (es : Entries) (e : ValueFault) → with_pairs h [] (paired xs) ≡ Some es → room list_limit u (length es) ≡ Err e → displayed h u xs ≡ Err e
+unpaid_by h u xs es e t r = rw (t, r) refl
+
+pub dict_unpaid : (h h1 : Objects) (u : Units) (ps : List (Value × Value)) (xs : List Value) (x : Value) (id : DictId) (n : ℕ) (e : ValueFault) → ps ≡ paired xs → given_dict h ps ≡ Ok (x, h1) → x ≡ v.Dict id → n ≡ length (dict_at h1 id.0) → room list_limit u n ≡ Err e → displayed h u xs ≡ Err e
 dict_unpaid h h1 u ps xs x id n e p g d l r =
     let w = dict_made h h1 ps xs x p g in
-    let room_of = ap (room list_limit u) (sym (l ∙ dict_length h h1 xs x id w d)) ∙ r in
-    rw (w.1, room_of) refl
+    unpaid_by h u xs w.0 e w.1 (room_of h h1 u xs x id n (Err e) w d l r)
 
-pub dict_paid : (h h1 : Objects) (u u1 : Units) (ps : List (Value × Value)) (xs : List Value) (x : Value) (id n : ℕ) → ps ≡ paired xs → given_dict h ps ≡ Ok (x, h1) → x ≡ v.Dict (record { 0 = id }) → n ≡ length (dict_at h1 id) → room list_limit u n ≡ Ok u1 → displayed h u xs ≡ Ok (x, h1, u1)
+paid_by : (h h1 : Objects) (u u1 : Units) (xs : List Value) (x : Value) (es : Entries) → with_pairs h [] (paired xs) ≡ Some es → room list_limit u (length es) ≡ Ok u1 → x ≡ next_dict h → h1 ≡ with_dict h es → displayed h u xs ≡ Ok (x, h1, u1)
+paid_by h h1 u u1 xs x es t r a b = rw (t, r, a, b) refl
+
+pub dict_paid : (h h1 : Objects) (u u1 : Units) (ps : List (Value × Value)) (xs : List Value) (x : Value) (id : DictId) (n : ℕ) → ps ≡ paired xs → given_dict h ps ≡ Ok (x, h1) → x ≡ v.Dict id → n ≡ length (dict_at h1 id.0) → room list_limit u n ≡ Ok u1 → displayed h u xs ≡ Ok (v.Dict id, h1, u1)
 dict_paid h h1 u u1 ps xs x id n p g d l r =
     let w = dict_made h h1 ps xs x p g in
-    let room_of = ap (room list_limit u) (sym (l ∙ dict_length h h1 xs x id w d)) ∙ r in
-    rw (w.1, room_of, w.2, w.3) refl
+    paid_by h h1 u u1 xs (v.Dict id) w.0 w.1 (room_of h h1 u xs x id n (Ok u1) w d l r) (sym d ∙ w.2) w.3

@@ -49,7 +49,7 @@ abbrev end_at : Bool → List Value → Option Value
 end_at true vs = Some (top vs)
 end_at false vs = None
 
-abbrev past : Bool → List Value → List Value
+abbrev pub past : Bool → List Value → List Value
 past true vs = below vs
 past false vs = vs
 
