@@ -148,7 +148,7 @@ kept l walk xs t ns ts true s = after t s (λ x s1. goes (collect l walk (xs ++ 
 kept l walk xs t ns ts false s = goes (collect l walk xs t ns ts) s
 
 -- each turn costs one unit, and binds the names anew
-abbrev pub turn : ℕ → List Value → Tree → Tree → Tree → Value × Objects × Walk → State → Plan
+abbrev turn : ℕ → List Value → Tree → Tree → Tree → Value × Objects × Walk → State → Plan
 turn l xs t ns ts next s = paid l s (λ s1. checked l s1 (shared next.1 (names_of ns) next.0) (λ m.
     first (tests l ts) (with_inners (with_objects s1 m.1) (names_of ns) m.0)
     (on_value (λ b s2. kept l next.2 xs t ns ts (truth_of s2.objects b) s2))))

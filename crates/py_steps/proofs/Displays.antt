@@ -1,7 +1,7 @@
 -- The displays: what they make of the values above a height.
-use Rattle.std.proofs.Common.{arith, ◌≡◌, ◌≢◌, ◌∙◌, ℕ, Bool, true, false, List, [], ◌∷◌, ◌++◌, Option, Some, None, Result, Ok, Err, length, refl, sym, subst, ap, cond}
-use Rattle.std.specs.Prelude.{nat_le, slice_index_or}
-use Rattle.std.proofs.lemmas.List.{get_or_push, append_assoc, append-nil}
+use Rattle.std.proofs.Common.{◌≡◌, ◌≢◌, ◌∙◌, ℕ, Bool, true, false, List, [], ◌∷◌, Option, Some, None, Result, Ok, Err, length, refl, sym, subst, ap}
+use Rattle.std.specs.Prelude.{nat_le}
+use Rattle.std.proofs.lemmas.List.{get_or_push}
 use Rattle.py_heap.specs.declared.value.Value.{Value}
 use Rattle.py_heap.specs.declared.value.Value.TheVariants as v
 use Rattle.py_heap.specs.declared.ids.DictId.{DictId}
@@ -9,10 +9,9 @@ use Rattle.py_heap.specs.declared.fault.ValueFault.{ValueFault}
 use Rattle.py_heap.specs.declared.fault.ValueFault.TheVariants as fault
 use Rattle.py_heap.specs.Heap.{Objects, Entries, dict_at, with_dict}
 use Rattle.py_heap.specs.Given.{given_dict, next_dict, with_pairs}
-use Rattle.py_heap.specs.Units.{Units, charged, room, limited, list_limit, told_length}
-use Rattle.py_methods.specs.Dicts.{new_dict}
+use Rattle.py_heap.specs.Units.{Units, room, limited, list_limit, told_length}
 use Rattle.py_meaning.specs.Plans.{Plan}
-use Rattle.py_meaning.specs.States.{State, Frame, goes_on, after_operation}
+use Rattle.py_meaning.specs.States.{Frame, goes_on, after_operation}
 use Rattle.py_meaning.specs.Expressions.{displayed, paired}
 use Rattle.py_state.specs.Stops.{value_stop}
 use Rattle.py_state.specs.Stores.{state_of}
@@ -78,6 +77,7 @@ dict_unmade h u ps xs e p g = by (with_pairs h [] (paired xs)) refl
   where
     told : given_dict h (paired xs) ≡ Err e
     told = ap (given_dict h) (sym p) ∙ g
+
     by : (o : Option Entries) → with_pairs h [] (paired xs) ≡ o → displayed h u xs ≡ Err e
     by None t =
         let w = rw t at told in
@@ -96,6 +96,7 @@ dict_made h h1 ps xs x p g = by (with_pairs h [] (paired xs)) refl
   where
     told : given_dict h (paired xs) ≡ Ok (x, h1)
     told = ap (given_dict h) (sym p) ∙ g
+
     by : (o : Option Entries) → with_pairs h [] (paired xs) ≡ o → DictMade h h1 xs x
     by None t = let w = rw t at told in absurd cc
     by (Some es) t =

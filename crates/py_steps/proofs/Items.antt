@@ -15,18 +15,18 @@ use Rattle.py_meaning.specs.States.{State, Frame, Function, Out, goes_on, with_o
 use Rattle.py_meaning.specs.Jobs.{collect, tests}
 use Rattle.py_meaning.specs.Plans.{Plan, first, goes, on_value, after, bind, checked, made, paid}
 use Rattle.py_meaning.specs.Evaluates.{plan}
-use Rattle.py_meaning.specs.Expressions.{inside, outside_again, with_inners, kept, turn, collected, tested}
+use Rattle.py_meaning.specs.Expressions.{inside, outside_again, with_inners, kept, collected, tested}
 use Rattle.py_meaning.specs.Loops as loops
 use Rattle.py_meaning.specs.Loops.{walk_of, next_of, names_of, shared}
 use Rattle.py_state.specs.Stops.{value_stop}
-use Rattle.py_state.specs.Stores.{Store, store_of, state_of, state_by}
+use Rattle.py_state.specs.Stores.{Store, store_of, state_of}
 use Rattle.py_state.specs.Walks.{plain, told_next}
 use Rattle.py_state.specs.declared.machine.Machine.{Machine}
 use Rattle.py_state.specs.declared.stop.Stop.{Stop}
 use Rattle.py_state.specs.declared.walk.Walk.{Walk}
-use Rattle.py_steps.specs.Desks.{Stacks, stacks_of, tasks_of, values_of, top, below, above, under}
+use Rattle.py_steps.specs.Desks.{stacks_of, tasks_of, values_of, top, below, above, under}
 use Rattle.py_steps.specs.Leads.{Unfolds, same, opens, later, Steps, left_with}
-use Rattle.py_steps.specs.Todos.{Rest, left, made_on, taken, item_tree, names_tree, tests_tree, list_on, collect_on, item_on, by_tests, tests_on, by_test}
+use Rattle.py_steps.specs.Todos.{Rest, left, made_on, taken, item_tree, names_tree, tests_tree, list_on, collect_on, by_tests, tests_on, by_test}
 use Rattle.py_steps.specs.declared.desk.Desk.{Desk}
 use Rattle.py_steps.specs.declared.task.Collecting.{Collecting}
 use Rattle.py_steps.specs.declared.task.Comprehension.{Comprehension}

@@ -82,7 +82,7 @@ list_on c vs s k = checked c.comprehension.line s (new_list s.objects s.units (t
     k (m.0 ∷ drop c.count vs) (goes_on (outside_again (after_operation s m))))
 
 -- the item behind those so far, and on
-abbrev pub item_on : Collecting → List Value → State → Rest → Plan
+abbrev item_on : Collecting → List Value → State → Rest → Plan
 item_on c vs s k = first (eval (item_tree c.comprehension)) s (on_value (λ x s1.
     collect_on (record c { count = c.count + 1 }) (x ∷ vs) s1 k))
 

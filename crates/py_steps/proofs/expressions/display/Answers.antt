@@ -1,4 +1,3 @@
-use Rattle.std.proofs.Common.{◌∙◌}
 use Rattle.py_steps.specs.Leads.{left_at}
 use Rattle.py_steps.proofs.Displays.{display_goes, display_stops}
 use Rattle.py_steps.proofs.expressions.display.Goals as goal
