@@ -138,12 +138,12 @@ plan_operations x (cons (operation l operator'.Remainder t) os) s = operated l o
 plan_operations x other s = value x s
 
 -- names that are bound in a comprehension take values in turn
-abbrev with_inners : State → List (List ℕ) → List Value → State
+abbrev pub with_inners : State → List (List ℕ) → List Value → State
 with_inners s (n ∷ ns) (x ∷ xs) = with_inners (with_inner s n x) ns xs
 with_inners s ns xs = s
 
 -- where the tests hold, the item goes behind the others
-abbrev kept : ℕ → Walk → List Value → Tree → Tree → Tree → Bool → State → Plan
+abbrev pub kept : ℕ → Walk → List Value → Tree → Tree → Tree → Bool → State → Plan
 kept l walk xs t ns ts true s = after t s (λ x s1. goes (collect l walk (xs ++ x ∷ []) t ns ts) s1)
 kept l walk xs t ns ts false s = goes (collect l walk xs t ns ts) s
 
@@ -153,7 +153,7 @@ turn l xs t ns ts next s = paid l s (λ s1. checked l s1 (shared next.1 (names_o
     first (tests l ts) (with_inners (with_objects s1 m.1) (names_of ns) m.0)
     (on_value (λ b s2. kept l next.2 xs t ns ts (truth_of s2.objects b) s2))))
 
-abbrev collected : ℕ → List Value → Tree → Tree → Tree → Option (Value × Objects × Walk) → State → Plan
+abbrev pub collected : ℕ → List Value → Tree → Tree → Tree → Option (Value × Objects × Walk) → State → Plan
 collected l xs t ns ts None s = made l s (new_list s.objects s.units xs)
 collected l xs t ns ts (Some next) s = turn l xs t ns ts next s
 
@@ -161,7 +161,7 @@ abbrev pub plan_collect : ℕ → Walk → List Value → Tree → Tree → Tree
 plan_collect l walk xs t ns ts s = collected l xs t ns ts (next_of s.objects walk) s
 
 -- the tests from left to right, each for one unit, up to the first that fails
-abbrev tested : ℕ → Tree → Bool → State → Plan
+abbrev pub tested : ℕ → Tree → Bool → State → Plan
 tested l ts true s = goes (tests l ts) s
 tested l ts false s = value (v.Bool false) s
 

@@ -5,8 +5,10 @@ pub mod Behind
 pub mod Branches
 pub mod Combining
 pub mod Definitions
+pub mod Displays
 pub mod Faults
 pub mod Going
+pub mod Items
 pub mod Lines
 pub mod Linking
 pub mod Naming

@@ -1,3 +1,4 @@
 pub mod Desks
 pub mod Leads
+pub mod Shapes
 pub mod Todos

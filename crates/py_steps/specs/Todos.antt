@@ -72,13 +72,13 @@ abbrev pub slice_on : ℕ → State → Bool → Bool → List Value → Rest �
 slice_on l s from to vs k =
     made_on l s (sliced s.objects s.units (top (past from (past to vs))) (end_at from (past to vs)) (end_at to vs)) (below (past from (past to vs))) k
 
-abbrev item_tree : Comprehension → Tree
+abbrev pub item_tree : Comprehension → Tree
 item_tree c = expr_tree c.item.now
 
-abbrev names_tree : Comprehension → Tree
+abbrev pub names_tree : Comprehension → Tree
 names_tree c = words c.names.now
 
-abbrev tests_tree : Comprehension → Tree
+abbrev pub tests_tree : Comprehension → Tree
 tests_tree c = trees (map expr_tree c.tests.now)
 
 -- so many of the uppermost values in the order in which they were given
@@ -86,24 +86,29 @@ abbrev pub taken : ℕ → List Value → List Value
 taken n vs = reverse (take n vs)
 
 -- a comprehension from a turn on, whose items so far are the uppermost values
-abbrev collect_on : Collecting → List Value → State → Rest → Plan
+abbrev pub collect_on : Collecting → List Value → State → Rest → Plan
 collect_on c vs s k =
     first (collect c.comprehension.line (plain c.walk) (taken c.count vs) (item_tree c.comprehension) (names_tree c.comprehension) (tests_tree c.comprehension)) s
     (on_value (λ x s1. k (x ∷ drop c.count vs) (goes_on (outside_again s1))))
+
+-- the list of the items, at the end of a comprehension
+abbrev pub list_on : Collecting → List Value → State → Rest → Plan
+list_on c vs s k = checked c.comprehension.line s (new_list s.objects s.units (taken c.count vs)) (λ m.
+    k (m.0 ∷ drop c.count vs) (goes_on (outside_again (after_operation s m))))
 
 -- the item behind those so far, and on
 abbrev item_on : Collecting → List Value → State → Rest → Plan
 item_on c vs s k = first (eval (item_tree c.comprehension)) s (on_value (λ x s1.
     collect_on (record c { count = c.count + 1 }) (x ∷ vs) s1 k))
 
-abbrev by_tests : Collecting → List Value → Rest → Bool → State → Plan
+abbrev pub by_tests : Collecting → List Value → Rest → Bool → State → Plan
 by_tests c vs k true s = item_on c vs s k
 by_tests c vs k false s = collect_on c vs s k
 
-abbrev tests_on : Collecting → Tree → List Value → State → Rest → Plan
+abbrev pub tests_on : Collecting → Tree → List Value → State → Rest → Plan
 tests_on c ts vs s k = first (tests c.comprehension.line ts) s (on_value (λ b s1. by_tests c vs k (truth_of s1.objects b) s1))
 
-abbrev by_test : Collecting → Tree → List Value → Rest → Bool → State → Plan
+abbrev pub by_test : Collecting → Tree → List Value → Rest → Bool → State → Plan
 by_test c ts vs k true s = tests_on c ts vs s k
 by_test c ts vs k false s = collect_on c vs s k
 

@@ -1,18 +1,20 @@
 //! Expressions.
-ghost use Rattle.std.specs.Prelude.{◌≡◌, ◌≤◌, ℕ, ◌∷◌, false, OnOk, map};
+ghost use Rattle.std.specs.Prelude.{◌≡◌, ◌≢◌, ◌≤◌, ℕ, ◌∷◌, false, Ok, Err, IfOk, IfErr, OnOk, map};
 ghost use Rattle.py_tree.specs.Tree.{cons, trees, expr_tree, operation_tree};
+ghost use Rattle.py_compare.specs.Outcomes.{new_list, new_tuple};
 ghost use Rattle.py_heap.specs.Heap.{truth_of};
-ghost use Rattle.py_meaning.specs.Expressions.{named_line};
+ghost use Rattle.py_meaning.specs.Expressions.{named_line, displayed, paired};
 ghost use Rattle.py_meaning.specs.States.{State, goes_on};
 ghost use Rattle.py_meaning.specs.States as meaning;
 ghost use Rattle.py_steps.specs.Desks.{tasks_of, values_of, top};
 ghost use Rattle.py_steps.specs.Todos.{left, is_decided};
 ghost use Rattle.py_steps.specs.Leads.{Leads, Steps, Unfolds, left_with, left_at, operated_at};
+ghost use Rattle.py_steps.specs.Shapes.{task_of, display_of};
 
 use crate::desk::Desk;
 use crate::task::{Comprehension, Task};
 use py_compare::above_zero;
-use py_heap::{Value, ValueFault, list_room, truth};
+use py_heap::{Budget, Heap, Value, ValueFault, Values, list_room, truth};
 use py_host::Host;
 use py_operators::{Op, binary, negate};
 use py_state::{
@@ -20,6 +22,7 @@ use py_state::{
 };
 use py_tree::{Argument, Expr, Operation, Operator, Pair, Parameter};
 use scons_base::Memory;
+use std::alloc::Global;
 
 /// Begins an expression.
 pub fn evaluate<'a, H: Host>(
@@ -215,42 +218,99 @@ pub fn display(
     line: u32,
     base: usize,
     shape: Shape,
-) -> Result<(), Stop> {
+) -> Result<(), Stop>
+    ensures { Steps (left_with (task_of shape line base) desk.old machine.old frame.now) result (left_at desk.new machine.new frame.now) }
+{
     let values = desk.take_above(base)?;
-    match displayed(machine, shape, values.as_slice()) {
-        Ok(value) => desk.give(value)?,
+    let made = displayed(
+        &mut machine.heap,
+        &mut machine.budget,
+        shape,
+        values.as_slice(),
+    );
+    let value = match made {
+        Ok(value) => value,
         Err(fault) => return Err(value_fault(frame, line, fault)),
-    }
+    };
+    desk.give(value)?;
     Ok(())
 }
 
-fn displayed(machine: &mut Machine, shape: Shape, values: &[Value]) -> Result<Value, ValueFault> {
+fn displayed(
+    heap: &mut Heap,
+    budget: &mut Budget,
+    shape: Shape,
+    values: &[Value],
+) -> Result<Value, ValueFault>
+    ensures ok { IfOk result (λ v. display_of shape heap.old budget.old values.now ≡ Ok (v, heap.new, budget.new)) }
+    ensures fault { IfErr result (λ e. e ≢ ValueFault.Memory → display_of shape heap.old budget.old values.now ≡ Err e) }
+{
     match shape {
-        Shape::Tuple => {
-            list_room(&mut machine.budget, values.len() as u64)?;
-            machine.heap.tuple(values)
-        }
-        Shape::List => {
-            list_room(&mut machine.budget, values.len() as u64)?;
-            machine.heap.list(values)
-        }
-        Shape::Dict => displayed_dict(machine, values),
+        Shape::Tuple => tuple_displayed(heap, budget, values),
+        Shape::List => list_displayed(heap, budget, values),
+        Shape::Dict => dict_displayed(heap, budget, values),
     }
 }
 
-/// A dict of keys and items, one behind another.
-fn displayed_dict(machine: &mut Machine, values: &[Value]) -> Result<Value, ValueFault> {
-    let mut pairs = Vec::new(machine.alloc);
-    'pairs: for pair in values.chunks_exact(2) {
-        if let [key, item] = pair {
-            pairs.push((*key, *item))?;
-        }
-    }
-    let made = machine.heap.dict(pairs.as_slice())?;
-    if let Value::Dict(dict) = made {
-        list_room(&mut machine.budget, machine.heap.dict_len(dict) as u64)?;
-    }
+fn tuple_displayed(
+    heap: &mut Heap,
+    budget: &mut Budget,
+    values: &[Value],
+) -> Result<Value, ValueFault>
+    ensures ok { IfOk result (λ v. new_tuple heap.old budget.old values.now ≡ Ok (v, heap.new, budget.new)) }
+    ensures fault { IfErr result (λ e. e ≢ ValueFault.Memory → new_tuple heap.old budget.old values.now ≡ Err e) }
+{
+    list_room(budget, values.len() as u64)?;
+    let items = Values::of(heap.allocator(), values)?;
+    let made = heap.add_tuple(items)?;
     Ok(made)
+}
+
+fn list_displayed(
+    heap: &mut Heap,
+    budget: &mut Budget,
+    values: &[Value],
+) -> Result<Value, ValueFault>
+    ensures ok { IfOk result (λ v. new_list heap.old budget.old values.now ≡ Ok (v, heap.new, budget.new)) }
+    ensures fault { IfErr result (λ e. e ≢ ValueFault.Memory → new_list heap.old budget.old values.now ≡ Err e) }
+{
+    list_room(budget, values.len() as u64)?;
+    let items = Values::of(heap.allocator(), values)?;
+    let made = heap.add_list(items)?;
+    Ok(made)
+}
+
+/// A dict of keys and items, one behind another.
+fn dict_displayed(
+    heap: &mut Heap,
+    budget: &mut Budget,
+    values: &[Value],
+) -> Result<Value, ValueFault>
+    ensures ok { IfOk result (λ v. displayed heap.old budget.old values.now ≡ Ok (v, heap.new, budget.new)) }
+    ensures fault { IfErr result (λ e. e ≢ ValueFault.Memory → displayed heap.old budget.old values.now ≡ Err e) }
+{
+    let pairs = paired(heap.allocator(), values)?;
+    let made = heap.dict(pairs.as_slice())?;
+    let Value::Dict(dict) = made else {
+        return Ok(made);
+    };
+    list_room(budget, heap.dict_len(dict) as u64)?;
+    Ok(made)
+}
+
+fn paired(alloc: Global, values: &[Value]) -> Result<Vec<(Value, Value)>, Memory>
+    ensures { IfOk result (λ pairs. pairs.items ≡ paired values.now) }
+{
+    let mut pairs = Vec::new(alloc);
+    let mut left = values;
+    'pairs: while let Some((key, behind)) = left.split_first() {
+        let Some((item, rest)) = behind.split_first() else {
+            return Ok(pairs);
+        };
+        pairs.push((*key, *item))?;
+        left = rest;
+    }
+    Ok(pairs)
 }
 
 pub fn negated(
