@@ -55,7 +55,7 @@ flows m c p q h s (Err e) g = leads m c p q h (Err e) g
 pub leads_from : {H X : Type 0} (m : Meaning H) (c : ℕ) (p p' q : Plan) (h h2 : H) (result : Result X Stop) → ((r : Result Out Fault) (h3 : H) → Follows m c p h r h3 → Follows m c p' h r h3) → Leads m c p h result q h2 → Leads m c p' h result q h2
 leads_from m c p p' q h h2 (Ok u) f g = λ r h3 d. f r h3 (g r h3 d)
 leads_from m c p p' q h h2 (Err (stop.Fault script line k)) f g = f _ h2 g
-leads_from m c p p' q h h2 (Err stop.End) f g = (g.0, f _ h2 g.1)
+leads_from m c p p' q h h2 (Err stop.End) f g = absurd g
 leads_from m c p p' q h h2 (Err stop.Memory) f g = tt
 
 -- a stop that is handed on

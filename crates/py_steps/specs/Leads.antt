@@ -5,7 +5,7 @@ use Rattle.py_heap.specs.declared.value.Value.{Value}
 use Rattle.py_heap.specs.declared.value.Value.TheVariants as v
 use Rattle.py_host.specs.Meaning.{Meaning}
 use Rattle.py_meaning.specs.declared.fault.EvalKind.{EvalKind}
-use Rattle.py_meaning.specs.States.{State, Frame, Out, Fault, goes_on, returns, ends}
+use Rattle.py_meaning.specs.States.{State, Frame, Out, Fault, goes_on, returns}
 use Rattle.py_meaning.specs.Jobs.{Job, exec}
 use Rattle.py_meaning.specs.Plans.{Plan, comes_to, stops, first, bind}
 use Rattle.py_meaning.specs.Evaluates.{Follows, IsOwn, plan}
@@ -58,10 +58,10 @@ IsNoObject other = Unit {0}
 abbrev pub told : ℕ → ℕ → EvalKind → Result Out Fault
 told script line k = Err (record { place = record { script = script; line = line }; kind = k })
 
--- a stop is what was left comes to; want of memory says nothing
+-- a stop is what was left comes to; no step ends the script, and want of memory says nothing
 abbrev pub Stops : {H : Type 0} → Meaning H → ℕ → Plan → H → Stop → H → Type 0
 Stops m c before h (stop.Fault script line k) h2 = Follows m c before h (told script line k) h2
-Stops m c before h stop.End h2 = (s : State) × Follows m c before h (Ok (ends s)) h2
+Stops m c before h stop.End h2 = ⊥
 Stops m c before h stop.Memory h2 = Unit {0}
 
 -- whatever is left after a step comes to, was left before it

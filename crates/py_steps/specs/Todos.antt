@@ -45,6 +45,7 @@ all_on vs k = on_values (λ xs s. k (reverse xs ++ vs) (goes_on s))
 abbrev pub made_on : ℕ → State → Outcome → List Value → Rest → Plan
 made_on l s result vs k = checked l s result (λ m. k (m.0 ∷ vs) (goes_on (after_operation s m)))
 
+-- what a call calls: a value, or its method
 abbrev pub callee : Value → Option Name → Callee
 callee x None = a_value x
 callee x (Some name) = a_method x name
