@@ -55,7 +55,6 @@ abbrev pub end_at : Bool → List Value → Option Value
 end_at true vs = Some (top vs)
 end_at false vs = None
 
-
 -- an end that may be left out, as a tree, and a value of one on top of others
 abbrev pub end_tree : Option (Box Expr Global) → Tree
 end_tree None = absent
