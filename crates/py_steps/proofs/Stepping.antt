@@ -6,13 +6,21 @@ use Rattle.py_meaning.specs.declared.fault.EvalKind.TheVariants as kind
 use Rattle.py_state.specs.Stops.{value_stop}
 use Rattle.py_steps.proofs.Going.{onto}
 use Rattle.py_host.specs.Meaning.{Meaning}
-use Rattle.py_meaning.specs.States.{State, Out, Fault, place_at}
-use Rattle.py_meaning.specs.Plans.{Plan, stops}
+use Rattle.py_meaning.specs.States.{State, Frame, Out, Fault, place_at, returns}
+use Rattle.py_meaning.specs.Plans.{Plan, comes_to, stops}
 use Rattle.py_meaning.specs.Evaluates.{Follows, done, stopped, then, then_stopped}
 use Rattle.py_meaning.proofs.Binding.{unfolds}
 use Rattle.py_state.specs.declared.stop.Stop.{Stop}
 use Rattle.py_state.specs.declared.stop.Stop.TheVariants as stop
-use Rattle.py_steps.specs.Leads.{Unfolds, same, opens, later, Steps, StepsOrReturns, Leads, LeadsOn, Stops, Flows, going}
+use Rattle.py_steps.specs.Leads.{Unfolds, same, opens, later, Steps, StepsOrReturns, Leads, LeadsOn, Stops, Flows, going, left_at, left_with}
+use Rattle.py_heap.specs.declared.value.Value.{Value}
+use Rattle.py_state.specs.Stores.{state_of}
+use Rattle.py_state.specs.declared.machine.Machine.{Machine}
+use Rattle.py_steps.specs.Desks.{tasks_of, values_of, top, below}
+use Rattle.py_steps.specs.declared.desk.Desk.{Desk}
+use Rattle.py_steps.specs.declared.task.Task.{Task}
+use Rattle.py_steps.specs.declared.task.Task.TheVariants as task
+use Rattle.py_steps.proofs.Rests.{left_returns}
 use Rattle.py_steps.specs.declared.statements.Flow.{Flow}
 use Rattle.py_steps.specs.declared.statements.Flow.TheVariants as flow
 
@@ -62,3 +70,28 @@ leads_from m c p p' q h h2 (Err stop.Memory) f g = tt
 pub leads_no_more : {H X : Type 0} (m : Meaning H) (c : ℕ) (p q : Plan) (h h2 : H) (result : Result X Stop) (y x : Stop) → result ≡ Err y → y ≡ x → Stops m c p h x h2 → Leads m c p h result q h2
 leads_no_more {X = X} m c p q h h2 result y x e f g =
     subst (λ (z : Result X Stop). Leads m c p h z q h2) (sym e) (subst (λ (z : Stop). Stops m c p h z h2) (sym f) g)
+
+-- the step of a task
+pub on_leads : {H : Type 0} (m : Meaning H) (c : ℕ) (t t' : Task) (d d' : Desk) (a a' : Machine) (f f' : Frame) (h h2 : H) (r : Result (Unit {0}) Stop) (x : Result Flow Stop) → t ≡ t' → x ≡ going r → Leads m c (left_with t' d a f) h r (left_at d' a' f') h2 → Flows m c (left_with t d a f) h x (left_at d' a' f') h2 (state_of a' f')
+on_leads m c t t' d d' a a' f f' h h2 r x e g u =
+    let q = left_at d' a' f' in
+    let s = state_of a' f' in
+    subst (λ (y : Task). Flows m c (left_with y d a f) h x q h2 s) (sym e)
+    (subst (λ (y : Result Flow Stop). Flows m c (left_with t' d a f) h y q h2 s) (sym g) (flows_going m c (left_with t' d a f) q h h2 s r u))
+
+pub on_steps : {H : Type 0} (m : Meaning H) (c : ℕ) (t t' : Task) (d d' : Desk) (a a' : Machine) (f f' : Frame) (h : H) (r : Result (Unit {0}) Stop) (x : Result Flow Stop) → t ≡ t' → x ≡ going r → Steps (left_with t' d a f) r (left_at d' a' f') → Flows m c (left_with t d a f) h x (left_at d' a' f') h (state_of a' f')
+on_steps m c t t' d d' a a' f f' h r x e g u = on_leads m c t t' d d' a a' f f' h h r x e g (leads m c (left_with t' d a f) (left_at d' a' f') h r u)
+
+-- statements, which may end the body, and a value that does
+pub on_statements : {H : Type 0} (m : Meaning H) (c : ℕ) (t t' : Task) (d d' : Desk) (a a' : Machine) (f : Frame) (h : H) (r : Result Flow Stop) → t ≡ t' → StepsOrReturns (left_with t' d a f) r (left_at d' a' f) (state_of a' f) → Flows m c (left_with t d a f) h r (left_at d' a' f) h (state_of a' f)
+on_statements m c t t' d d' a a' f h r e u =
+    subst (λ (y : Task). Flows m c (left_with y d a f) h r (left_at d' a' f) h (state_of a' f)) (sym e) (flows m c (left_with t' d a f) (left_at d' a' f) h (state_of a' f) r u)
+
+pub on_return : {H : Type 0} (m : Meaning H) (c : ℕ) (t : Task) (d : Desk) (a : Machine) (f : Frame) (h : H) (x : Value) → t ≡ task.Return → x ≡ top (values_of d) → Follows m c (left_with t d a f) h (Ok (returns x (state_of a f))) h
+on_return m c t d a f h x e g =
+    let s = state_of a f in
+    let out : Value → Result Out Fault = λ y. Ok (returns y s) in
+    let over : Follows m c (comes_to (returns (top (values_of d)) s)) h (out (top (values_of d))) h = done in
+    subst (λ (y : Task). Follows m c (left_with y d a f) h (out x) h) (sym e)
+    (subst (λ (y : Value). Follows m c (left_with task.Return d a f) h (out y) h) (sym g)
+    (subst (λ (p : Plan). Follows m c p h (out (top (values_of d))) h) (sym (left_returns (tasks_of d) (below (values_of d)) (top (values_of d)) s)) over))
