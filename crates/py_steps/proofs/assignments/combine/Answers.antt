@@ -1,5 +1,4 @@
 use Rattle.py_state.specs.Stores.{state_of}
-use Rattle.py_steps.specs.Leads.{left_at}
 use Rattle.py_steps.proofs.Combining.{combine_stops, combine_goes}
 use Rattle.py_steps.proofs.assignments.combine.Goals as goal
 

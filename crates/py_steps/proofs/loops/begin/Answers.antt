@@ -1,8 +1,5 @@
-use Rattle.std.proofs.Common.{◌∙◌, Err, ap, sym, subst}
-use Rattle.py_meaning.specs.Loops.{walk_of}
 use Rattle.py_state.specs.Stores.{state_of}
-use Rattle.py_steps.specs.Leads.{Steps, left_with, left_at}
-use Rattle.py_steps.specs.declared.task.Task.TheVariants as task
+use Rattle.py_steps.specs.Leads.{left_at}
 use Rattle.py_steps.proofs.Turns.{begins, begin_stops}
 use Rattle.py_steps.proofs.loops.begin.Goals as goal
 

@@ -1,4 +1,3 @@
-use Rattle.std.proofs.Common.{◌∙◌, ap, sym, subst}
 use Rattle.std.proofs.lemmas.Result.{err_from_is_err_and}
 use Rattle.py_state.specs.Stores.{state_of}
 use Rattle.py_steps.specs.Leads.{left_at}
