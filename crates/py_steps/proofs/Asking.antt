@@ -24,7 +24,7 @@ use Rattle.py_steps.specs.Leads.{Unfolds, same, Gives, LeadsOn, Leads, Stops}
 use Rattle.py_steps.proofs.Stepping.{stops_value}
 
 -- a refusal of the host stops what was left; want of memory says nothing
-refusal_stops : {H : Type 0} (m : Meaning H) (c : ℕ) (h h2 : H) (q : Question) (l : ℕ) (s : State) (f : Answer q → State → Plan) (objects : Objects) (e : HostRefusal) → (e ≡ refusal.Host → m.replies q h s.objects refuses h2 objects) → Stops m c (asked_on l q s f) h (refusal_stop s.frame.script l e) h2
+pub refusal_stops : {H : Type 0} (m : Meaning H) (c : ℕ) (h h2 : H) (q : Question) (l : ℕ) (s : State) (f : Answer q → State → Plan) (objects : Objects) (e : HostRefusal) → (e ≡ refusal.Host → m.replies q h s.objects refuses h2 objects) → Stops m c (asked_on l q s f) h (refusal_stop s.frame.script l e) h2
 refusal_stops m c h h2 q l s f objects refusal.Host a = follows.refused objects (a refl)
 refusal_stops m c h h2 q l s f objects refusal.Memory a = tt
 

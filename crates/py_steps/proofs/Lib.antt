@@ -9,6 +9,7 @@ pub mod Displays
 pub mod Faults
 pub mod Going
 pub mod Items
+pub mod Leaving
 pub mod Lines
 pub mod Linking
 pub mod Naming

@@ -1,12 +1,14 @@
 -- What is left after a step leads to what was left before it.
-use Rattle.std.proofs.Common.{◌≡◌, ◌≢◌, ℕ, Result, Ok, Err, sym, subst}
+use Rattle.std.proofs.Common.{◌≡◌, ◌≢◌, ◌∙◌, ℕ, List, ◌∷◌, Result, Ok, Err, ap, refl, sym, subst}
+use denote.Ref.{Bor}
 use Rattle.py_heap.specs.declared.fault.ValueFault.{ValueFault}
 use Rattle.py_heap.specs.declared.fault.ValueFault.TheVariants as fault
 use Rattle.py_meaning.specs.declared.fault.EvalKind.TheVariants as kind
 use Rattle.py_state.specs.Stops.{value_stop}
 use Rattle.py_steps.proofs.Going.{onto}
 use Rattle.py_host.specs.Meaning.{Meaning}
-use Rattle.py_meaning.specs.States.{State, Frame, Out, Fault, place_at, returns}
+use Rattle.py_meaning.specs.States.{State, Frame, Out, Fault, place_at, goes_on, returns}
+use Rattle.py_meaning.specs.Lookup.{with_bound}
 use Rattle.py_meaning.specs.Plans.{Plan, comes_to, stops}
 use Rattle.py_meaning.specs.Evaluates.{Follows, done, stopped, then, then_stopped}
 use Rattle.py_meaning.proofs.Binding.{unfolds}
@@ -16,11 +18,12 @@ use Rattle.py_steps.specs.Leads.{Unfolds, same, opens, later, Steps, StepsOrRetu
 use Rattle.py_heap.specs.declared.value.Value.{Value}
 use Rattle.py_state.specs.Stores.{state_of}
 use Rattle.py_state.specs.declared.machine.Machine.{Machine}
-use Rattle.py_steps.specs.Desks.{tasks_of, values_of, top, below}
+use Rattle.py_steps.specs.Desks.{stacks_of, tasks_of, values_of, top, below}
+use Rattle.py_steps.specs.Todos.{left}
 use Rattle.py_steps.specs.declared.desk.Desk.{Desk}
 use Rattle.py_steps.specs.declared.task.Task.{Task}
 use Rattle.py_steps.specs.declared.task.Task.TheVariants as task
-use Rattle.py_steps.proofs.Rests.{left_returns}
+use Rattle.py_steps.proofs.Rests.{arrives, left_returns}
 use Rattle.py_steps.specs.declared.statements.Flow.{Flow}
 use Rattle.py_steps.specs.declared.statements.Flow.TheVariants as flow
 
@@ -57,7 +60,7 @@ flows_going m c p q h h2 s (Err e) g = g
 pub flows : {H : Type 0} (m : Meaning H) (c : ℕ) (p q : Plan) (h : H) (s : State) (result : Result Flow Stop) → StepsOrReturns p result q s → Flows m c p h result q h s
 flows m c p q h s (Ok flow.GoesOn) g = λ r h3 d. goes g d
 flows m c p q h s (Ok (flow.Returns x)) g = goes g done
-flows m c p q h s (Err e) g = leads m c p q h (Err e) g
+flows m c p q h s (Err e) g = leads {X = Flow} m c p q h (Err e) g
 
 -- what leads to a plan leads to those that come to the same
 pub leads_from : {H X : Type 0} (m : Meaning H) (c : ℕ) (p p' q : Plan) (h h2 : H) (result : Result X Stop) → ((r : Result Out Fault) (h3 : H) → Follows m c p h r h3 → Follows m c p' h r h3) → Leads m c p h result q h2 → Leads m c p' h result q h2
@@ -95,3 +98,8 @@ on_return m c t d a f h x e g =
     subst (λ (y : Task). Follows m c (left_with y d a f) h (out x) h) (sym e)
     (subst (λ (y : Value). Follows m c (left_with task.Return d a f) h (out y) h) (sym g)
     (subst (λ (p : Plan). Follows m c p h (out (top (values_of d))) h) (sym (left_returns (tasks_of d) (below (values_of d)) (top (values_of d)) s)) over))
+
+-- a name that takes the uppermost value
+pub bound_at : (d d' : Desk) (n : Bor (List ℕ)) (x : Value) (s s' : State) → x ≡ top (values_of d) → stacks_of d' ≡ record { tasks = tasks_of d; values = below (values_of d) } → s' ≡ with_bound s n.now x → Unfolds (left (task.Bind n ∷ tasks_of d) (values_of d) (goes_on s)) (left (tasks_of d') (values_of d') (goes_on s'))
+bound_at d d' n x s s' e a g =
+    arrives d' (goes_on s') a (same (ap (λ y. left (tasks_of d) (below (values_of d)) (goes_on y)) (sym (g ∙ ap (with_bound s n.now) e))))

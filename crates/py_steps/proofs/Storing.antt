@@ -7,14 +7,14 @@ use Rattle.py_heap.specs.declared.fault.ValueFault.{ValueFault}
 use Rattle.py_heap.specs.declared.fault.ValueFault.TheVariants as fault
 use Rattle.py_heap.specs.Heap.{Objects}
 use Rattle.py_operators.specs.Places.{set_of}
-use Rattle.py_host.specs.Calls.{Question, Answer, answers, refuses}
+use Rattle.py_host.specs.Calls.{answers, refuses}
 use Rattle.py_host.specs.Calls as question
 use Rattle.py_host.specs.Meaning.{Meaning}
 use Rattle.py_host.specs.declared.refusal.HostRefusal.{HostRefusal}
 use Rattle.py_host.specs.declared.refusal.HostRefusal.TheVariants as refusal
-use Rattle.py_meaning.specs.States.{State, goes_on, place_at, with_objects}
-use Rattle.py_meaning.specs.Plans.{Plan, asks, checked}
-use Rattle.py_meaning.specs.Evaluates.{asked, refused}
+use Rattle.py_meaning.specs.States.{State, goes_on, with_objects}
+use Rattle.py_meaning.specs.Plans.{Plan, checked}
+use Rattle.py_meaning.specs.Evaluates.{asked}
 use Rattle.py_meaning.specs.Statements.{after_item_set}
 use Rattle.py_state.specs.Stops.{value_stop, refusal_stop}
 use Rattle.py_state.specs.declared.stop.Stop.{Stop}
@@ -23,16 +23,12 @@ use Rattle.py_steps.specs.Leads.{Unfolds, same, Steps, Leads, LeadsOn, Stops}
 use Rattle.py_steps.specs.Todos.{left}
 use Rattle.py_steps.specs.declared.desk.Desk.{Desk}
 use Rattle.py_steps.specs.declared.task.Task.TheVariants as task
+use Rattle.py_steps.proofs.Asking.{NotObject, refusal_stops}
 use Rattle.py_steps.proofs.Faults.{checked_faults}
 
 -- what leads on, by equal plans
 pub leads_by : {H X : Type 0} (m : Meaning H) (c : ℕ) (p p' q q' : Plan) (h h2 : H) (r : Result X Stop) → p' ≡ p → q' ≡ q → Leads m c p h r q h2 → Leads m c p' h r q' h2
 leads_by m c p p' q q' h h2 r e f g = subst (λ x. Leads m c x h r q' h2) (sym e) (subst (λ x. Leads m c p h r x h2) (sym f) g)
-
--- a refusal of the host stops what was left
-pub refusal_stops : {H : Type 0} (m : Meaning H) (c : ℕ) (q : Question) (l : ℕ) (s : State) (k : Answer q → State → Plan) (h h2 : H) (o : Objects) (e : HostRefusal) → (e ≡ refusal.Host → m.replies q h s.objects refuses h2 o) → Stops m c (asks q s (place_at l s) k) h (refusal_stop s.frame.script l e) h2
-refusal_stops m c q l s k h h2 o refusal.Memory w = tt
-refusal_stops m c q l s k h h2 o refusal.Host w = refused o (w refl)
 
 -- an item of an object is the host's to set
 pub object_sets : {H : Type 0} (m : Meaning H) (c l : ℕ) (id : HostId) (base key x : Value) (s : State) (f : State → Plan) (h h2 : H) (o : Objects) → base ≡ v.Object id → m.replies (question.set_item id.0 key x) h s.objects (answers tt) h2 o → LeadsOn m c (after_item_set l base key x s f) h (f (with_objects s o)) h2
@@ -42,12 +38,9 @@ object_sets m c l id base key x s f h h2 o e w =
 pub object_refuses : {H : Type 0} (m : Meaning H) (c l : ℕ) (id : HostId) (base key x : Value) (s : State) (f : State → Plan) (h h2 : H) (o : Objects) (e : HostRefusal) (stop : Stop) → base ≡ v.Object id → (e ≡ refusal.Host → m.replies (question.set_item id.0 key x) h s.objects refuses h2 o) → stop ≡ refusal_stop s.frame.script l e → Stops m c (after_item_set l base key x s f) h stop h2
 object_refuses m c l id base key x s f h h2 o e stop p w g =
     subst (λ y. Stops m c (after_item_set l y key x s f) h stop h2) (sym p)
-    (subst (λ z. Stops m c (after_item_set l (v.Object id) key x s f) h z h2) (sym g) (refusal_stops m c (question.set_item id.0 key x) l s (λ u s1. f s1) h h2 o e w))
+    (subst (λ z. Stops m c (after_item_set l (v.Object id) key x s f) h z h2) (sym g) (refusal_stops m c h h2 (question.set_item id.0 key x) l s (λ u s1. f s1) o e w))
 
 -- an item of another value isn't
-abbrev pub NotObject : Value → Type 0
-NotObject x = (id : HostId) → x ≡ v.Object id → ⊥
-
 set_plainly : (l : ℕ) (base key x : Value) (s : State) (f : State → Plan) → NotObject base → after_item_set l base key x s f ≡ checked l s (set_of s.objects base key x) (λ h. f (with_objects s h))
 set_plainly l (v.Object id) key x s f h = absurd (h id refl)
 set_plainly l base key x s f h = refl

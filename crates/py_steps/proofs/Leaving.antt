@@ -1,0 +1,48 @@
+-- The innermost loop among the tasks: where a stack of tasks, the uppermost last, has it on top, and where it has nothing.
+use Rattle.std.proofs.Common.{arith, ◌≡◌, ◌∙◌, ◌<◌, ◌-◌, ◌+◌, ℕ, List, [], ◌∷◌, ◌++◌, Option, Some, None, length, get_or, slice_get, reverse, ap, sym, refl, subst}
+use Rattle.std.proofs.lemmas.List.{reverse-append, length-reverse, get_or-reverse, nil_from_length}
+use Rattle.std.proofs.lemmas.Option.{slice_get-get_or, slice_get_within, get_or_from_slice_get}
+use Rattle.py_state.specs.declared.walk.Walk.{Walk}
+use Rattle.py_heap.specs.declared.value.Value.{Value}
+use Rattle.py_steps.specs.Desks.{Stacks, in_loop, past_loop}
+use Rattle.py_steps.specs.declared.task.Loop.{Loop}
+use Rattle.py_steps.specs.declared.task.Task.{Task}
+use Rattle.py_steps.specs.declared.task.Task.TheVariants as task
+
+abbrev pub stacks : List Task → List Value → Stacks
+stacks ts vs = record { tasks = ts; values = vs }
+
+pub stacks_are : (ts us : List Task) (vs ws : List Value) → ts ≡ us → vs ≡ ws → stacks ts vs ≡ stacks us ws
+stacks_are ts us vs ws e f = ap (λ x. stacks x vs) e ∙ ap (λ x. stacks us x) f
+
+-- the loop that is taken from the top is left, and with no task there is none
+pub turns_taken : (xs rest old : List Task) (t : Task) (l : Loop) (w : Walk) → past_loop (reverse xs) ≡ past_loop (reverse old) → xs ≡ rest ++ t ∷ [] → t ≡ task.Turns l w → reverse rest ≡ past_loop (reverse old)
+turns_taken xs rest old t l w i e g =
+    sym (ap (λ ys. past_loop (reverse ys)) e ∙ ap past_loop (reverse-append rest (t ∷ [])) ∙ ap (λ u. past_loop (u ∷ reverse rest)) g) ∙ i
+
+pub none_taken : (xs rest old : List Task) → past_loop (reverse xs) ≡ past_loop (reverse old) → length xs ≡ 0 → length rest ≡ 0 → reverse rest ≡ past_loop (reverse old)
+none_taken xs rest old i e g = ap reverse (nil_from_length rest g) ∙ sym (ap (λ ys. past_loop (reverse ys)) (nil_from_length xs e)) ∙ i
+
+turns_on_top : (ys : List Task) (t : Task) (l : Loop) (w : Walk) → 0 < length ys → get_or ys 0 t ≡ t → t ≡ task.Turns l w → in_loop ys ≡ ys
+turns_on_top [] t l w p e g = absurd (omega arith)
+turns_on_top (y ∷ ys) t l w p e g = subst (λ x. in_loop (x ∷ ys) ≡ x ∷ ys) (sym (e ∙ g)) refl
+
+-- the loop that is seen on top stays
+pub turns_seen : (xs ys old : List Task) (t : Task) (l : Loop) (w : Walk) → in_loop (reverse xs) ≡ in_loop (reverse old) → ys ≡ xs → Some t ≡ slice_get ys (length ys - 1) → t ≡ task.Turns l w → reverse xs ≡ in_loop (reverse old)
+turns_seen xs ys old t l w i e g h =
+    let there : slice_get xs (length xs - 1) ≡ Some t = sym (ap (λ zs. slice_get zs (length zs - 1)) (sym e)) ∙ sym g in
+    let some : length xs - 1 < length xs = slice_get_within xs (length xs - 1) t there in
+    let top : get_or (reverse xs) 0 t ≡ t = get_or-reverse xs 0 t (omega arith) ∙ ap (λ n. get_or xs n t) (omega arith) ∙ get_or_from_slice_get xs (length xs - 1) t t there in
+    sym (turns_on_top (reverse xs) t l w (omega (arith, length-reverse xs)) top h) ∙ i
+
+no_last : (xs : List Task) → None ≡ slice_get xs (length xs - 1) → reverse xs ≡ in_loop (reverse xs)
+no_last [] e = refl
+no_last (x ∷ xs) e =
+    let there : slice_get (x ∷ xs) (length (x ∷ xs) - 1) ≡ Some (get_or (x ∷ xs) (length (x ∷ xs) - 1) x) = slice_get-get_or (x ∷ xs) (length (x ∷ xs) - 1) x (omega arith) in
+    absurd (none_some (e ∙ there))
+  where
+    none_some : {t : Task} → (let o : Option Task = None in o ≡ Some t) → ⊥
+    none_some p = cc
+
+pub none_seen : (xs ys old : List Task) → in_loop (reverse xs) ≡ in_loop (reverse old) → ys ≡ xs → None ≡ slice_get ys (length ys - 1) → reverse xs ≡ in_loop (reverse old)
+none_seen xs ys old i e g = no_last xs (g ∙ ap (λ zs. slice_get zs (length zs - 1)) e) ∙ i
