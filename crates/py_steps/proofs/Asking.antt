@@ -13,14 +13,14 @@ use Rattle.py_host.specs.Meaning.{Meaning}
 use Rattle.py_host.specs.declared.refusal.HostRefusal.{HostRefusal}
 use Rattle.py_host.specs.declared.refusal.HostRefusal.TheVariants as refusal
 use Rattle.py_operators.specs.Indexing.{indexed}
-use Rattle.py_meaning.specs.States.{State, Out, Fault, with_objects, after_operation}
+use Rattle.py_meaning.specs.States.{State, with_objects, after_operation}
 use Rattle.py_meaning.specs.Plans.{Plan, checked, asked_on}
 use Rattle.py_meaning.specs.Evaluates.{Follows}
 use Rattle.py_meaning.specs.Evaluates as follows
 use Rattle.py_meaning.specs.Links.{after_item}
 use Rattle.py_state.specs.Stops.{value_stop, refusal_stop}
 use Rattle.py_state.specs.declared.stop.Stop.{Stop}
-use Rattle.py_steps.specs.Leads.{Unfolds, same, LeadsOn, Stops}
+use Rattle.py_steps.specs.Leads.{same, LeadsOn, Stops}
 use Rattle.py_steps.proofs.Stepping.{stops_value}
 
 -- a refusal of the host stops what was left; want of memory says nothing

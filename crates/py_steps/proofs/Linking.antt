@@ -1,12 +1,12 @@
 -- What stands behind a value: what each form of it comes to.
-use Rattle.std.proofs.Common.{◌≡◌, ◌∙◌, ℕ, Bool, true, false, List, [], ◌∷◌, ◌++◌, Option, Some, None, Result, Ok, Err, map, length, reverse, refl, sym, subst, ap, suc-ne-zero, is_some, unwrap_or}
+use Rattle.std.proofs.Common.{◌≡◌, ◌∙◌, ℕ, Bool, true, false, List, [], ◌∷◌, ◌++◌, Option, Some, None, Result, Err, map, length, reverse, refl, sym, subst, ap, suc-ne-zero, is_some, unwrap_or}
 use Rattle.std.proofs.lemmas.Bool.{false≢true}
 use mathlib.Core.Path.{fun_ext}
 use denote.Ref.{Bor}
 use Rattle.std.specs.declared.boxed.Box.{Box}
 use Rattle.std.specs.declared.vec.Vec.{Vec}
 use Rattle.std.specs.declared.alloc.Global.{Global}
-use Rattle.py_tree.specs.Tree.{Tree, nil, cons, absent, attribute, call, index, slice, trees, expr_tree, link_tree, argument_tree, argument_step, expr_step, link_step, operation_step, pair_step}
+use Rattle.py_tree.specs.Tree.{Tree, nil, cons, attribute, call, index, slice, trees, expr_tree, link_tree, argument_tree, argument_step, expr_step, link_step, operation_step, pair_step}
 use Rattle.py_tree.specs.declared.expr.Expr.{Expr, roll-Expr, out-Expr, roll-out-Expr, fold-roll-Expr}
 use Rattle.py_tree.specs.declared.expr.Link.{Link, roll-Link, out-Link, roll-out-Link, fold-roll-Link}
 use Rattle.py_tree.specs.declared.expr.Link.TheVariants as link'
@@ -14,7 +14,7 @@ use Rattle.py_tree.specs.declared.expr.Argument.{Argument}
 use Rattle.py_tree.specs.declared.expr.Operation.{Operation}
 use Rattle.py_tree.specs.declared.expr.Pair.{Pair}
 use Rattle.py_tree.specs.declared.expr.Argument.TheOpen as open'
-use Rattle.py_tree.proofs.Views.{optional_box, link_tree-Attribute, link_tree-Call, link_tree-Index, link_tree-Slice}
+use Rattle.py_tree.proofs.Views.{optional_box, link_tree-Call, link_tree-Slice}
 use Rattle.py_heap.specs.declared.ids.HostId.{HostId}
 use Rattle.py_heap.specs.declared.value.Value.{Value}
 use Rattle.py_heap.specs.declared.value.Value.TheVariants as v
@@ -25,10 +25,10 @@ use Rattle.py_methods.specs.declared.name.Name.{Name}
 use Rattle.py_methods.specs.Names.{has_method}
 use Rattle.py_operators.specs.Indexing.{sliced}
 use Rattle.py_meaning.specs.declared.fault.EvalKind.TheVariants as kind
-use Rattle.py_meaning.specs.States.{State, Out, Fault, goes_on, ends, after_operation}
+use Rattle.py_meaning.specs.States.{State, Out, Fault, goes_on, after_operation}
 use Rattle.py_meaning.specs.Jobs.{Callee, links, eval_all}
 use Rattle.py_meaning.specs.Jobs as job
-use Rattle.py_meaning.specs.Plans.{Plan, comes_to, first, goes, faulty, on_value, on_values, after, after_all, after_optional, checked, asked_on, bind}
+use Rattle.py_meaning.specs.Plans.{Plan, first, goes, faulty, on_value, on_values, after, after_optional, checked, asked_on, bind}
 use Rattle.py_meaning.specs.Evaluates.{Follows, plan}
 use Rattle.py_meaning.specs.Arguments.{arguments_by}
 use Rattle.py_meaning.specs.Links.{line_or, after_item, called, plan_links}
@@ -37,7 +37,7 @@ use Rattle.py_meaning.proofs.Binding.{unfolds}
 use Rattle.py_state.specs.declared.stop.Stop.{Stop}
 use Rattle.py_state.specs.declared.stop.Stop.TheVariants as stop
 use Rattle.py_steps.specs.Desks.{Stacks, stacks_of, tasks_of, values_of, top, below, above, under}
-use Rattle.py_steps.specs.Leads.{Unfolds, same, opens, Steps, Stops, LeadsOn, IsNoObject, in_place_at, linked_at}
+use Rattle.py_steps.specs.Leads.{Unfolds, same, opens, Steps, IsNoObject, in_place_at, linked_at}
 use Rattle.py_steps.specs.Todos.{Rest, left, gives_on, made_on, callee, slice_on, end_tree, with_end}
 use Rattle.py_steps.specs.declared.desk.Desk.{Desk}
 use Rattle.py_steps.specs.declared.task.Task.{Task}

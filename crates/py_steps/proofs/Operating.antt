@@ -12,7 +12,7 @@ use Rattle.py_heap.specs.declared.value.Value.{Value}
 use Rattle.py_heap.specs.Heap.{truth_of}
 use Rattle.py_operators.specs.Binary.{binary_of}
 use Rattle.py_operators.specs.declared.op.Op.{Op}
-use Rattle.py_meaning.specs.States.{State, Out, goes_on, after_operation}
+use Rattle.py_meaning.specs.States.{State, goes_on, after_operation}
 use Rattle.py_meaning.specs.Jobs.{operations}
 use Rattle.py_meaning.specs.Plans.{Plan, first, goes, after, checked, bind}
 use Rattle.py_meaning.specs.Evaluates.{plan}
@@ -20,7 +20,7 @@ use Rattle.py_meaning.specs.Expressions.{plan_operations}
 use Rattle.py_meaning.specs.Statements.{operator_op}
 use Rattle.py_steps.specs.Desks.{Stacks, stacks_of, tasks_of, values_of, top, below}
 use Rattle.py_steps.specs.Leads.{Unfolds, same, opens, in_place_at, operated_at}
-use Rattle.py_steps.specs.Todos.{left, gives_on, is_decided}
+use Rattle.py_steps.specs.Todos.{left, is_decided}
 use Rattle.py_steps.specs.declared.desk.Desk.{Desk}
 use Rattle.py_steps.specs.declared.task.Task.TheVariants as task
 use Rattle.py_steps.proofs.Behind.{after_is, checked_is}

@@ -1,9 +1,8 @@
 use Rattle.std.proofs.Common.{map, Some}
 use Rattle.std.proofs.lemmas.Result.{err_from_is_err_and}
 use Rattle.py_tree.specs.Tree.{trees, link_tree}
-use Rattle.py_host.specs.Calls as question
 use Rattle.py_meaning.specs.Jobs.{links}
-use Rattle.py_meaning.specs.Plans.{first, asked_on}
+use Rattle.py_meaning.specs.Plans.{first}
 use Rattle.py_state.specs.Stores.{store_of, state_of}
 use Rattle.py_steps.specs.Leads.{left_at, in_place_at}
 use Rattle.py_steps.proofs.Linking.{attribute_is, attribute_stays, no_object}
