@@ -13,14 +13,14 @@ use Rattle.py_host.specs.Meaning.{Meaning}
 use Rattle.py_host.specs.declared.refusal.HostRefusal.{HostRefusal}
 use Rattle.py_host.specs.declared.refusal.HostRefusal.TheVariants as refusal
 use Rattle.py_operators.specs.Indexing.{indexed}
-use Rattle.py_meaning.specs.States.{State, Out, Fault, with_objects, after_operation}
+use Rattle.py_meaning.specs.States.{State, with_objects, after_operation}
 use Rattle.py_meaning.specs.Plans.{Plan, checked, asked_on}
 use Rattle.py_meaning.specs.Evaluates.{Follows}
 use Rattle.py_meaning.specs.Evaluates as follows
 use Rattle.py_meaning.specs.Links.{after_item}
 use Rattle.py_state.specs.Stops.{value_stop, refusal_stop}
 use Rattle.py_state.specs.declared.stop.Stop.{Stop}
-use Rattle.py_steps.specs.Leads.{Unfolds, same, Gives, LeadsOn, Leads, Stops}
+use Rattle.py_steps.specs.Leads.{same, LeadsOn, Stops}
 use Rattle.py_steps.proofs.Stepping.{stops_value}
 
 -- a refusal of the host stops what was left; want of memory says nothing
@@ -69,14 +69,3 @@ pub item_stops : {H : Type 0} (m : Meaning H) (c : ℕ) (h : H) (l : ℕ) (base 
 item_stops m c h l base key s f e x n a w =
     subst (λ (y : Stop). Stops m c (after_item l base key s f) h y h) (sym w)
     (stops_value m c h l s e (λ p. same (item_by l base key s f (Err e) n (a p))))
-
--- a value that is given is gone on with, and a stop is handed on
-pub gives_on : {H : Type 0} (m : Meaning H) (c : ℕ) (p q : Plan) (h h2 : H) (r : Result Value Stop) (x : Value) (f : Value → State → Plan) (s : State) → r ≡ Ok x → q ≡ f x s → Gives m c p h r f s h2 → LeadsOn m c p h q h2
-gives_on m c p q h h2 r x f s e a g =
-    let on : LeadsOn m c p h (f x s) h2 = subst (λ (y : Result Value Stop). Gives m c p h y f s h2) e g in
-    subst (λ (y : Plan). LeadsOn m c p h y h2) (sym a) on
-
-pub gives_no_more : {H : Type 0} (m : Meaning H) (c : ℕ) (p : Plan) (h h2 : H) (r : Result Value Stop) (e x : Stop) (f : Value → State → Plan) (s : State) → r ≡ Err e → x ≡ e → Gives m c p h r f s h2 → Stops m c p h x h2
-gives_no_more m c p h h2 r e x f s a b g =
-    let on : Stops m c p h e h2 = subst (λ (y : Result Value Stop). Gives m c p h y f s h2) a g in
-    subst (λ (y : Stop). Stops m c p h y h2) (sym b) on

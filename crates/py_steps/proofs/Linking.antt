@@ -1,12 +1,12 @@
 -- What stands behind a value: what each form of it comes to.
-use Rattle.std.proofs.Common.{◌≡◌, ◌∙◌, ℕ, Bool, true, false, List, [], ◌∷◌, ◌++◌, Option, Some, None, Result, Ok, Err, map, length, reverse, refl, sym, subst, ap, suc-ne-zero, is_some, unwrap_or}
+use Rattle.std.proofs.Common.{◌≡◌, ◌∙◌, ℕ, Bool, true, false, List, [], ◌∷◌, ◌++◌, Option, Some, None, Result, Err, map, length, reverse, refl, sym, subst, ap, suc-ne-zero, is_some, unwrap_or}
 use Rattle.std.proofs.lemmas.Bool.{false≢true}
 use mathlib.Core.Path.{fun_ext}
 use denote.Ref.{Bor}
 use Rattle.std.specs.declared.boxed.Box.{Box}
 use Rattle.std.specs.declared.vec.Vec.{Vec}
 use Rattle.std.specs.declared.alloc.Global.{Global}
-use Rattle.py_tree.specs.Tree.{Tree, nil, cons, absent, attribute, call, index, slice, trees, expr_tree, link_tree, argument_tree, argument_step, expr_step, link_step, operation_step, pair_step}
+use Rattle.py_tree.specs.Tree.{Tree, nil, cons, attribute, call, index, slice, trees, expr_tree, link_tree, argument_tree, argument_step, expr_step, link_step, operation_step, pair_step}
 use Rattle.py_tree.specs.declared.expr.Expr.{Expr, roll-Expr, out-Expr, roll-out-Expr, fold-roll-Expr}
 use Rattle.py_tree.specs.declared.expr.Link.{Link, roll-Link, out-Link, roll-out-Link, fold-roll-Link}
 use Rattle.py_tree.specs.declared.expr.Link.TheVariants as link'
@@ -14,7 +14,7 @@ use Rattle.py_tree.specs.declared.expr.Argument.{Argument}
 use Rattle.py_tree.specs.declared.expr.Operation.{Operation}
 use Rattle.py_tree.specs.declared.expr.Pair.{Pair}
 use Rattle.py_tree.specs.declared.expr.Argument.TheOpen as open'
-use Rattle.py_tree.proofs.Views.{optional_box, link_tree-Attribute, link_tree-Call, link_tree-Index, link_tree-Slice}
+use Rattle.py_tree.proofs.Views.{optional_box, link_tree-Call, link_tree-Slice}
 use Rattle.py_heap.specs.declared.ids.HostId.{HostId}
 use Rattle.py_heap.specs.declared.value.Value.{Value}
 use Rattle.py_heap.specs.declared.value.Value.TheVariants as v
@@ -25,10 +25,10 @@ use Rattle.py_methods.specs.declared.name.Name.{Name}
 use Rattle.py_methods.specs.Names.{has_method}
 use Rattle.py_operators.specs.Indexing.{sliced}
 use Rattle.py_meaning.specs.declared.fault.EvalKind.TheVariants as kind
-use Rattle.py_meaning.specs.States.{State, Out, Fault, goes_on, ends, after_operation}
+use Rattle.py_meaning.specs.States.{State, Out, Fault, goes_on, after_operation}
 use Rattle.py_meaning.specs.Jobs.{Callee, links, eval_all}
 use Rattle.py_meaning.specs.Jobs as job
-use Rattle.py_meaning.specs.Plans.{Plan, comes_to, first, goes, faulty, on_value, on_values, after, after_all, after_optional, checked, asked_on, bind}
+use Rattle.py_meaning.specs.Plans.{Plan, first, goes, faulty, on_value, on_values, after, after_optional, checked, asked_on, bind}
 use Rattle.py_meaning.specs.Evaluates.{Follows, plan}
 use Rattle.py_meaning.specs.Arguments.{arguments_by}
 use Rattle.py_meaning.specs.Links.{line_or, after_item, called, plan_links}
@@ -37,7 +37,7 @@ use Rattle.py_meaning.proofs.Binding.{unfolds}
 use Rattle.py_state.specs.declared.stop.Stop.{Stop}
 use Rattle.py_state.specs.declared.stop.Stop.TheVariants as stop
 use Rattle.py_steps.specs.Desks.{Stacks, stacks_of, tasks_of, values_of, top, below, above, under}
-use Rattle.py_steps.specs.Leads.{Unfolds, same, opens, Steps, Stops, LeadsOn, IsNoObject, linked_at}
+use Rattle.py_steps.specs.Leads.{Unfolds, same, opens, Steps, IsNoObject, in_place_at, linked_at}
 use Rattle.py_steps.specs.Todos.{Rest, left, gives_on, made_on, callee, slice_on, end_tree, with_end}
 use Rattle.py_steps.specs.declared.desk.Desk.{Desk}
 use Rattle.py_steps.specs.declared.task.Task.{Task}
@@ -46,12 +46,8 @@ use Rattle.py_steps.proofs.Behind.{EndsOn, value_is, values_are, first_is, after
 use Rattle.py_steps.proofs.Beginnings.{above_all, under_all}
 use Rattle.py_steps.proofs.Rests.{arrives}
 
--- how it goes on with the value in the place of the uppermost one
-abbrev pub behind : Desk → Out → Plan
-behind d = gives_on (below (values_of d)) (left (tasks_of d))
-
 abbrev pub links_left : Option ℕ → List Link → Desk → State → Plan
-links_left named ls d s = first (links (top (values_of d)) named (trees (map link_tree ls))) s (behind d)
+links_left named ls d s = first (links (top (values_of d)) named (trees (map link_tree ls))) s (in_place_at d)
 
 -- nothing stands there any more
 pub links_end : (named : Option ℕ) (ls : List Link) (d d' : Desk) (s : State) → length ls ≡ 0 → stacks_of d' ≡ record { tasks = tasks_of d; values = top (values_of d) ∷ below (values_of d) } → Unfolds (links_left named ls d s) (left (tasks_of d') (values_of d') (goes_on s))
@@ -60,12 +56,15 @@ links_end named [] d d' s e a = arrives d' (goes_on s) a (opens (same refl))
 links_end named (x ∷ ls) d d' s e a = absurd (suc-ne-zero _ e)
 
 -- the first thing, by its form
+first_tree : (ls rest : List Link) (x form : Link) (t : Tree) → ls ≡ x ∷ rest → x ≡ form → link_tree form ≡ t → trees (map link_tree ls) ≡ cons t (trees (map link_tree rest))
+first_tree ls rest x form t e f g =
+    let more = trees (map link_tree rest) in
+    ap (λ (y : List Link). trees (map link_tree y)) e ∙ ap (λ (y : Link). cons (link_tree y) more) f ∙ ap (λ (y : Tree). cons y more) g
+
 pub links_first : (named : Option ℕ) (ls rest : List Link) (x form : Link) (t : Tree) (d : Desk) (s : State) (q : Plan) → ls ≡ x ∷ rest → x ≡ form → link_tree form ≡ t → Unfolds (linked_at named (cons t (trees (map link_tree rest))) d s) q → Unfolds (links_left named ls d s) q
 unfolding plan
 links_first named ls rest x form t d s q e f g u =
-    let more = trees (map link_tree rest) in
-    let tree : trees (map link_tree ls) ≡ cons t more = ap (λ (y : List Link). trees (map link_tree y)) e ∙ ap (λ (y : Link). cons (link_tree y) more) f ∙ ap (λ (y : Tree). cons y more) g in
-    subst (λ (y : Tree). Unfolds (first (links (top (values_of d)) named y) s (behind d)) q) (sym tree) (opens u)
+    subst (λ (y : Tree). Unfolds (first (links (top (values_of d)) named y) s (in_place_at d)) q) (sym (first_tree ls rest x form t e f g)) (opens u)
 
 -- what stands behind the value that is given then
 rest_is : (rest : Bor (List Link)) (named : Option ℕ) (ts : List Task) (vs : List Value) (x : Value) (s : State) → bind (goes (links x named (trees (map link_tree rest.now))) s) (gives_on vs (left ts)) ≡ left (task.Links rest named ∷ ts) (x ∷ vs) (goes_on s)
@@ -89,10 +88,10 @@ call_is l method args rest ts vs s =
     ∙ ap (λ (ws : List Value). calls ws xs s1) (sym (under_all xs vs)) ∙ ap (λ (ys : List Value). calls (under (length vs) (reverse xs ++ vs)) ys s1) (sym (above_all xs vs))))
 
 pub call_comes : (l : ℕ) (method : Option Name) (args : Bor (List Argument)) (us : Tree) (rest : Bor (List Link)) (d d' : Desk) (s : State) → us ≡ trees (map argument_tree args.now) → stacks_of d' ≡ record { tasks = task.Arguments args ∷ task.Call l method args (length (values_of d)) ∷ task.Links rest None ∷ tasks_of d; values = values_of d } →
-    Unfolds (bind (called l (callee (top (values_of d)) method) us (trees (map link_tree rest.now)) s) (behind d)) (left (tasks_of d') (values_of d') (goes_on s))
+    Unfolds (bind (called l (callee (top (values_of d)) method) us (trees (map link_tree rest.now)) s) (in_place_at d)) (left (tasks_of d') (values_of d') (goes_on s))
 call_comes l method args us rest d d' s e a =
     arrives d' (goes_on s) a
-    (subst (λ (y : Tree). Unfolds (bind (called l (callee (top (values_of d)) method) y (trees (map link_tree rest.now)) s) (behind d)) (left (task.Arguments args ∷ task.Call l method args (length (values_of d)) ∷ task.Links rest None ∷ tasks_of d) (values_of d) (goes_on s))) (sym e)
+    (subst (λ (y : Tree). Unfolds (bind (called l (callee (top (values_of d)) method) y (trees (map link_tree rest.now)) s) (in_place_at d)) (left (task.Arguments args ∷ task.Call l method args (length (values_of d)) ∷ task.Links rest None ∷ tasks_of d) (values_of d) (goes_on s))) (sym e)
     (same (call_is l method args rest (tasks_of d) (values_of d) s)))
 
 -- the line of a call
@@ -105,7 +104,7 @@ pub value_call_comes : (named : Option ℕ) (l line : ℕ) (args : Bor (List Arg
 value_call_comes named l line args us rest d d' s p e a =
     let vs = trees (map argument_tree us.items) in
     let more = trees (map link_tree rest.now) in
-    subst (λ (n : ℕ). Unfolds (bind (called n (job.a_value (top (values_of d))) vs more s) (behind d)) (left (tasks_of d') (values_of d') (goes_on s))) (p ∙ line_of_call named l)
+    subst (λ (n : ℕ). Unfolds (bind (called n (job.a_value (top (values_of d))) vs more s) (in_place_at d)) (left (tasks_of d') (values_of d') (goes_on s))) (p ∙ line_of_call named l)
     (call_comes line None args vs rest d d' s (ap (λ (y : List Argument). trees (map argument_tree y)) (sym e)) a)
 
 -- an index
@@ -120,8 +119,8 @@ index_comes named l e t rest d d' s p a =
     let there : Value → State → Plan = λ y s2. left (task.Links rest None ∷ ts) (y ∷ below vs) (goes_on s2) in
     arrives d' (goes_on s) a
     (subst (λ (x : Expr). Unfolds (linked_at named (cons (index l (expr_tree x)) more) d s) (left (task.Evaluate e ∷ task.Index l ∷ task.Links rest None ∷ ts) vs (goes_on s))) p
-    (same (after_is (expr_tree e.now) s (λ i s1. after_item l (top vs) i s1 next) (λ i s1. after_item l (top vs) i s1 there) (behind d) (λ s1. refl)
-    (λ i s1. item_is l (top vs) i s1 next there (behind d) (λ y s2. rest_is rest None ts (below vs) y s2)))))
+    (same (after_is (expr_tree e.now) s (λ i s1. after_item l (top vs) i s1 next) (λ i s1. after_item l (top vs) i s1 there) (in_place_at d) (λ s1. refl)
+    (λ i s1. item_is l (top vs) i s1 next there (in_place_at d) (λ y s2. rest_is rest None ts (below vs) y s2)))))
 
 -- an end of a slice
 optional_at : (o : open'.Expr-F Argument Expr Link Operation Pair) (s : State) (f : Option Value → State → Plan) → after_optional (expr_tree (roll-Expr o)) s f ≡ after (expr_tree (roll-Expr o)) s (λ x s1. f (Some x) s1)
@@ -256,19 +255,18 @@ no_call x more =
 -- nothing stands behind the method's name, or no call does
 pub nothing_called : (X : Type 0) (l : ℕ) (n : List ℕ) (ls : List Link) (d : Desk) (s : State) (y : Stop) (q : Plan) → IsNoObject (top (values_of d)) → length ls ≡ 0 → y ≡ stop.Fault s.frame.script l (kind.Value fault.NoMethod) → Steps {X = X} (linked_at None (cons (attribute l n) (trees (map link_tree ls))) d s) (Err y) q
 nothing_called X l n [] d s y q i e f =
-    no_method_at X l (top (values_of d)) (cons (attribute l n) nil) (behind d) s y q (no_call_plan (top (values_of d)) l n nil s i tt) f
+    no_method_at X l (top (values_of d)) (cons (attribute l n) nil) (in_place_at d) s y q (no_call_plan (top (values_of d)) l n nil s i tt) f
 nothing_called X l n (x ∷ ls) d s y q i e f = absurd (suc-ne-zero _ e)
 
 pub other_called : (X : Type 0) (l : ℕ) (n : List ℕ) (ls rest : List Link) (x : Link) (d : Desk) (s : State) (y : Stop) (q : Plan) → IsNoObject (top (values_of d)) → ls ≡ x ∷ rest → OtherLink x → y ≡ stop.Fault s.frame.script l (kind.Value fault.NoMethod) → Steps {X = X} (linked_at None (cons (attribute l n) (trees (map link_tree ls))) d s) (Err y) q
 other_called X l n ls rest x d s y q i e h f =
     let more = trees (map link_tree rest) in
     subst (λ (z : List Link). Steps {X = X} (linked_at None (cons (attribute l n) (trees (map link_tree z))) d s) (Err y) q) (sym e)
-    (no_method_at X l (top (values_of d)) (cons (attribute l n) (cons (link_tree x) more)) (behind d) s y q (no_call_plan (top (values_of d)) l n (cons (link_tree x) more) s i (no_call x more h)) f)
+    (no_method_at X l (top (values_of d)) (cons (attribute l n) (cons (link_tree x) more)) (in_place_at d) s y q (no_call_plan (top (values_of d)) l n (cons (link_tree x) more) s i (no_call x more h)) f)
 
 -- a call stands there
 call_form : (ls rest : List Link) (x : Link) (cl : ℕ) (us : Vec Argument Global) → ls ≡ x ∷ rest → x ≡ link'.Call cl us → trees (map link_tree ls) ≡ cons (call cl (trees (map argument_tree us.items))) (trees (map link_tree rest))
-call_form ls rest x cl us e f =
-    ap (λ (y : List Link). trees (map link_tree y)) e ∙ ap (λ (y : Link). cons (link_tree y) (trees (map link_tree rest))) f ∙ ap (λ (y : Tree). cons y (trees (map link_tree rest))) (link_tree-Call cl us)
+call_form ls rest x cl us e f = first_tree ls rest x (link'.Call cl us) (call cl (trees (map argument_tree us.items))) e f (link_tree-Call cl us)
 
 -- no method has that name
 pub no_such_name : (X : Type 0) (l : ℕ) (n word : List ℕ) (o : Option Name) (ls rest : List Link) (x : Link) (cl : ℕ) (us : Vec Argument Global) (d : Desk) (s : State) (y : Stop) (q : Plan) → IsNoObject (top (values_of d)) → ls ≡ x ∷ rest → x ≡ link'.Call cl us → word ≡ n → o ≡ method_named word → o ≡ None → y ≡ stop.Fault s.frame.script l (kind.Value fault.NoMethod) → Steps {X = X} (linked_at None (cons (attribute l n) (trees (map link_tree ls))) d s) (Err y) q
@@ -276,7 +274,7 @@ no_such_name X l n word o ls rest x cl us d s y q i e f w p g z =
     let ts = trees (map argument_tree us.items) in
     let more = trees (map link_tree rest) in
     subst (λ (t : Tree). Steps {X = X} (linked_at None (cons (attribute l n) t) d s) (Err y) q) (sym (call_form ls rest x cl us e f))
-    (no_method_at X l (top (values_of d)) (cons (attribute l n) (cons (call cl ts) more)) (behind d) s y q (no_name_plan (top (values_of d)) l cl n ts more s i (ap method_named (sym w) ∙ sym p ∙ g)) z)
+    (no_method_at X l (top (values_of d)) (cons (attribute l n) (cons (call cl ts) more)) (in_place_at d) s y q (no_name_plan (top (values_of d)) l cl n ts more s i (ap method_named (sym w) ∙ sym p ∙ g)) z)
 
 -- the value hasn't it
 pub no_such_method : (X : Type 0) (l : ℕ) (n word : List ℕ) (o : Option Name) (name : Name) (v : Value) (b : Bool) (ls rest : List Link) (x : Link) (cl : ℕ) (us : Vec Argument Global) (d : Desk) (s : State) (y : Stop) (q : Plan) → IsNoObject (top (values_of d)) → ls ≡ x ∷ rest → x ≡ link'.Call cl us → word ≡ n → o ≡ method_named word → o ≡ Some name → v ≡ top (values_of d) → b ≡ has_method v name → b ≡ false → y ≡ stop.Fault s.frame.script l (kind.Value fault.NoMethod) → Steps {X = X} (linked_at None (cons (attribute l n) (trees (map link_tree ls))) d s) (Err y) q
@@ -284,7 +282,7 @@ no_such_method X l n word o name v b ls rest x cl us d s y q i e f w p g t h k z
     let ts = trees (map argument_tree us.items) in
     let more = trees (map link_tree rest) in
     subst (λ (t : Tree). Steps {X = X} (linked_at None (cons (attribute l n) t) d s) (Err y) q) (sym (call_form ls rest x cl us e f))
-    (no_method_at X l (top (values_of d)) (cons (attribute l n) (cons (call cl ts) more)) (behind d) s y q
+    (no_method_at X l (top (values_of d)) (cons (attribute l n) (cons (call cl ts) more)) (in_place_at d) s y q
     (no_method_plan (top (values_of d)) name l cl n ts more s i (ap method_named (sym w) ∙ sym p ∙ g) (ap (λ (u : Value). has_method u name) (sym t) ∙ sym h ∙ k)) z)
 
 -- it has it
@@ -295,23 +293,20 @@ method_comes l n word o name v b ls x cl us args rest d d' s i e f w p g t h k r
     let more = trees (map link_tree rest.now) in
     let q = left (tasks_of d') (values_of d') (goes_on s) in
     subst (λ (t : Tree). Unfolds (linked_at None (cons (attribute l n) t) d s) q) (sym (call_form ls rest.now x cl us e f))
-    (subst (λ (y : Plan). Unfolds (bind y (behind d)) q) (sym (method_plan (top (values_of d)) name l cl n ts more s i (ap method_named (sym w) ∙ sym p ∙ g) (ap (λ (u : Value). has_method u name) (sym t) ∙ sym h ∙ k)))
+    (subst (λ (y : Plan). Unfolds (bind y (in_place_at d)) q) (sym (method_plan (top (values_of d)) name l cl n ts more s i (ap method_named (sym w) ∙ sym p ∙ g) (ap (λ (u : Value). has_method u name) (sym t) ∙ sym h ∙ k)))
     (call_comes l (Some name) args ts rest d d' s (ap (λ (y : List Argument). trees (map argument_tree y)) (sym r)) a))
 
 -- an attribute of an object
-pub attribute_is : (l : ℕ) (n : List ℕ) (rest : Tree) (x : Value) (id : HostId) (d : Desk) (s : State) → x ≡ top (values_of d) → x ≡ v.Object id → linked_at None (cons (attribute l n) rest) d s ≡ asked_on l (question.attribute id.0 n) s (λ y s1. first (links y (Some l) rest) s1 (behind d))
+pub attribute_is : (l : ℕ) (n : List ℕ) (rest : Tree) (x : Value) (id : HostId) (d : Desk) (s : State) → x ≡ top (values_of d) → x ≡ v.Object id → linked_at None (cons (attribute l n) rest) d s ≡ asked_on l (question.attribute id.0 n) s (λ y s1. first (links y (Some l) rest) s1 (in_place_at d))
 unfolding bind
-attribute_is l n rest x id d s e f = ap (λ (z : Value). bind (plan_links z None (cons (attribute l n) rest) s) (behind d)) (sym e ∙ f)
+attribute_is l n rest x id d s e f = ap (λ (z : Value). bind (plan_links z None (cons (attribute l n) rest) s) (in_place_at d)) (sym e ∙ f)
 
-pub attribute_stays : (l : ℕ) (x : Value) (rest : Bor (List Link)) (d d1 d2 d3 : Desk) (s : State) → stacks_of d1 ≡ record { tasks = tasks_of d; values = below (values_of d) } → stacks_of d2 ≡ record { tasks = tasks_of d1; values = x ∷ values_of d1 } → stacks_of d3 ≡ record { tasks = task.Links rest (Some l) ∷ tasks_of d2; values = values_of d2 } → left (tasks_of d3) (values_of d3) (goes_on s) ≡ first (links x (Some l) (trees (map link_tree rest.now))) s (behind d)
+pub attribute_stays : (l : ℕ) (x : Value) (rest : Bor (List Link)) (d d1 d2 d3 : Desk) (s : State) → stacks_of d1 ≡ record { tasks = tasks_of d; values = below (values_of d) } → stacks_of d2 ≡ record { tasks = tasks_of d1; values = x ∷ values_of d1 } → stacks_of d3 ≡ record { tasks = task.Links rest (Some l) ∷ tasks_of d2; values = values_of d2 } → left (tasks_of d3) (values_of d3) (goes_on s) ≡ first (links x (Some l) (trees (map link_tree rest.now))) s (in_place_at d)
 attribute_stays l x rest d d1 d2 d3 s a b c =
     let two : stacks_of d2 ≡ record { tasks = tasks_of d; values = x ∷ below (values_of d) } = b ∙ ap (λ (k : Stacks). record { tasks = k.tasks; values = x ∷ k.values }) a in
     ap (λ (k : Stacks). left k.tasks k.values (goes_on s)) (c ∙ ap (λ (k : Stacks). record { tasks = task.Links rest (Some l) ∷ k.tasks; values = k.values }) two)
 
-pub attribute_leads : {H : Type 0} (m : Meaning H) (c : ℕ) (p p' q q' : Plan) (h h2 : H) → p' ≡ p → q' ≡ q → LeadsOn m c p h q h2 → LeadsOn m c p' h q' h2
-attribute_leads m c p p' q q' h h2 e f g =
-    subst (λ (x : Plan). LeadsOn m c x h q' h2) (sym e) (subst (λ (x : Plan). LeadsOn m c p h x h2) (sym f) g)
-
+-- a value of which no host is asked
 no_object_at : (x : Value) → ((id : HostId) → x ≡ v.Object id → ⊥) → IsNoObject x
 no_object_at (v.Object id) h = h id refl
 no_object_at x h = tt
@@ -323,9 +318,4 @@ no_object x y e h = subst IsNoObject e (no_object_at x h)
 pub follows_first : {H : Type 0} (m : Meaning H) (c : ℕ) (named : Option ℕ) (ls rest : List Link) (x form : Link) (t : Tree) (d : Desk) (s : State) (h : H) → ls ≡ x ∷ rest → x ≡ form → link_tree form ≡ t → (r : Result Out Fault) (h3 : H) → Follows m c (linked_at named (cons t (trees (map link_tree rest))) d s) h r h3 → Follows m c (links_left named ls d s) h r h3
 unfolding plan
 follows_first m c named ls rest x form t d s h e f g r h3 a =
-    let more = trees (map link_tree rest) in
-    let tree : trees (map link_tree ls) ≡ cons t more = ap (λ (y : List Link). trees (map link_tree y)) e ∙ ap (λ (y : Link). cons (link_tree y) more) f ∙ ap (λ (y : Tree). cons y more) g in
-    subst (λ (y : Tree). Follows m c (first (links (top (values_of d)) named y) s (behind d)) h r h3) (sym tree) (unfolds (links (top (values_of d)) named (cons t more)) s a)
-
-pub attribute_stops : {H : Type 0} (m : Meaning H) (c : ℕ) (p p' : Plan) (h h2 : H) (x : Stop) → p' ≡ p → Stops m c p h x h2 → Stops m c p' h x h2
-attribute_stops m c p p' h h2 x e g = subst (λ (y : Plan). Stops m c y h x h2) (sym e) g
+    subst (λ (y : Tree). Follows m c (first (links (top (values_of d)) named y) s (in_place_at d)) h r h3) (sym (first_tree ls rest x form t e f g)) (unfolds (links (top (values_of d)) named (cons t (trees (map link_tree rest)))) s a)

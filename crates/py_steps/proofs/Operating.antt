@@ -12,25 +12,22 @@ use Rattle.py_heap.specs.declared.value.Value.{Value}
 use Rattle.py_heap.specs.Heap.{truth_of}
 use Rattle.py_operators.specs.Binary.{binary_of}
 use Rattle.py_operators.specs.declared.op.Op.{Op}
-use Rattle.py_meaning.specs.States.{State, Out, goes_on, after_operation}
+use Rattle.py_meaning.specs.States.{State, goes_on, after_operation}
 use Rattle.py_meaning.specs.Jobs.{operations}
 use Rattle.py_meaning.specs.Plans.{Plan, first, goes, after, checked, bind}
 use Rattle.py_meaning.specs.Evaluates.{plan}
 use Rattle.py_meaning.specs.Expressions.{plan_operations}
 use Rattle.py_meaning.specs.Statements.{operator_op}
 use Rattle.py_steps.specs.Desks.{Stacks, stacks_of, tasks_of, values_of, top, below}
-use Rattle.py_steps.specs.Leads.{Unfolds, same, opens, operated_at}
-use Rattle.py_steps.specs.Todos.{left, gives_on, is_decided}
+use Rattle.py_steps.specs.Leads.{Unfolds, same, opens, in_place_at, operated_at}
+use Rattle.py_steps.specs.Todos.{left, is_decided}
 use Rattle.py_steps.specs.declared.desk.Desk.{Desk}
 use Rattle.py_steps.specs.declared.task.Task.TheVariants as task
 use Rattle.py_steps.proofs.Behind.{after_is, checked_is}
 use Rattle.py_steps.proofs.Rests.{arrives}
 
-abbrev behind : Desk → Out → Plan
-behind d = gives_on (below (values_of d)) (left (tasks_of d))
-
 abbrev operations_left : List Operation → Desk → State → Plan
-operations_left os d s = first (operations (top (values_of d)) (trees (map operation_tree os))) s (behind d)
+operations_left os d s = first (operations (top (values_of d)) (trees (map operation_tree os))) s (in_place_at d)
 
 -- no operator is left
 pub operations_end : (os : List Operation) (d d' : Desk) (s : State) → length os ≡ 0 → stacks_of d' ≡ record { tasks = tasks_of d; values = top (values_of d) ∷ below (values_of d) } → Unfolds (operations_left os d s) (left (tasks_of d') (values_of d') (goes_on s))
@@ -62,10 +59,10 @@ operator_plan operator'.And l x t more s h g = absurd (g refl)
 operator_plan op l x t more s h g = refl
 
 -- by the parts of an operation
-by_parts : (o : Operation) (more : Tree) (d : Desk) (s : State) (p q : Plan) → plan_operations (top (values_of d)) (cons (operation o.line o.operator (expr_tree o.operand)) more) s ≡ p → Unfolds (bind p (behind d)) q → Unfolds (operated_at (cons (operation_tree o) more) d s) q
+by_parts : (o : Operation) (more : Tree) (d : Desk) (s : State) (p q : Plan) → plan_operations (top (values_of d)) (cons (operation o.line o.operator (expr_tree o.operand)) more) s ≡ p → Unfolds (bind p (in_place_at d)) q → Unfolds (operated_at (cons (operation_tree o) more) d s) q
 by_parts o more d s p q e u =
     subst (λ (t : Tree). Unfolds (operated_at (cons t more) d s) q) (sym (operation_tree-Operation o.line o.operator o.operand))
-    (subst (λ (y : Plan). Unfolds (bind y (behind d)) q) (sym e) u)
+    (subst (λ (y : Plan). Unfolds (bind y (in_place_at d)) q) (sym e) u)
 
 pub decided_goes : (os : List Operation) (o : Operation) (rest : Bor (List Operation)) (x : Value) (b : Bool) (d d' : Desk) (s : State) → os ≡ o ∷ rest.now → x ≡ top (values_of d) → b ≡ is_decided o.operator (truth_of s.objects x) → b ≡ true → stacks_of d' ≡ record { tasks = task.Operations rest ∷ tasks_of d; values = values_of d } →
     Unfolds (operations_left os d s) (left (tasks_of d') (values_of d') (goes_on s))
@@ -96,8 +93,8 @@ in_place_goes o e rest d d1 d2 d3 s w p h a b c =
     let two : stacks_of d2 ≡ record { tasks = task.Operations rest ∷ tasks_of d; values = below (values_of d) } = b ∙ ap (λ (k : Stacks). record { tasks = k.tasks; values = below k.values }) a in
     arrives d3 (goes_on s) (c ∙ ap (λ (k : Stacks). record { tasks = task.Evaluate e ∷ k.tasks; values = k.values }) two)
     (by_parts o more d s (after (expr_tree o.operand) s next) q (undecided_plan o.operator o.line (top (values_of d)) (expr_tree o.operand) more s w h)
-    (subst (λ (x : Expr). Unfolds (bind (after (expr_tree x) s next) (behind d)) q) p
-    (same (after_is (expr_tree e.now) s next (λ y s1. first (operations y more) s1 (behind d)) (behind d) (λ s1. refl) (λ y s1. refl)))))
+    (subst (λ (x : Expr). Unfolds (bind (after (expr_tree x) s next) (in_place_at d)) q) p
+    (same (after_is (expr_tree e.now) s next (λ y s1. first (operations y more) s1 (in_place_at d)) (in_place_at d) (λ s1. refl) (λ y s1. refl)))))
 
 -- the right operand on top of the left one, and the operator
 pub on_top_goes : (o : Operation) (op : Op) (e : Bor Expr) (rest : Bor (List Operation)) (d d1 d2 : Desk) (s : State) → o.operator ≢ operator'.Or → o.operator ≢ operator'.And → op ≡ operator_op o.operator → e.now ≡ o.operand → stacks_of d1 ≡ record { tasks = task.Operations rest ∷ tasks_of d; values = values_of d } → stacks_of d2 ≡ record { tasks = task.Evaluate e ∷ task.Binary o.line op ∷ tasks_of d1; values = values_of d1 } →
@@ -109,10 +106,10 @@ on_top_goes o op e rest d d1 d2 s h g f p a b =
     let more = trees (map operation_tree rest.now) in
     let q = left (task.Evaluate e ∷ task.Binary l op ∷ task.Operations rest ∷ tasks_of d) vs (goes_on s) in
     let next : Op → Value → State → Plan = λ k y s1. checked l s1 (binary_of k s1.objects s1.units (top vs) y) (λ m. goes (operations m.0 more) (after_operation s1 m)) in
-    let there : Value → State → Plan = λ y s1. checked l s1 (binary_of op s1.objects s1.units (top vs) y) (λ m. first (operations m.0 more) (after_operation s1 m) (behind d)) in
+    let there : Value → State → Plan = λ y s1. checked l s1 (binary_of op s1.objects s1.units (top vs) y) (λ m. first (operations m.0 more) (after_operation s1 m) (in_place_at d)) in
     arrives d2 (goes_on s) (b ∙ ap (λ (k : Stacks). record { tasks = task.Evaluate e ∷ task.Binary l op ∷ k.tasks; values = k.values }) a)
     (by_parts o more d s (after (expr_tree o.operand) s (next (operator_op o.operator))) q (operator_plan o.operator l (top vs) (expr_tree o.operand) more s h g)
-    (subst (λ (x : Expr). Unfolds (bind (after (expr_tree x) s (next (operator_op o.operator))) (behind d)) q) p
-    (subst (λ (k : Op). Unfolds (bind (after (expr_tree e.now) s (next k)) (behind d)) q) f
-    (same (after_is (expr_tree e.now) s (next op) there (behind d) (λ s1. refl)
-    (λ y s1. checked_is l s1 (binary_of op s1.objects s1.units (top vs) y) (λ m. goes (operations m.0 more) (after_operation s1 m)) (λ m. first (operations m.0 more) (after_operation s1 m) (behind d)) (behind d) (λ m. refl)))))))
+    (subst (λ (x : Expr). Unfolds (bind (after (expr_tree x) s (next (operator_op o.operator))) (in_place_at d)) q) p
+    (subst (λ (k : Op). Unfolds (bind (after (expr_tree e.now) s (next k)) (in_place_at d)) q) f
+    (same (after_is (expr_tree e.now) s (next op) there (in_place_at d) (λ s1. refl)
+    (λ y s1. checked_is l s1 (binary_of op s1.objects s1.units (top vs) y) (λ m. goes (operations m.0 more) (after_operation s1 m)) (λ m. first (operations m.0 more) (after_operation s1 m) (in_place_at d)) (in_place_at d) (λ m. refl)))))))

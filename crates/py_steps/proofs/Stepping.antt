@@ -74,6 +74,14 @@ pub leads_no_more : {H X : Type 0} (m : Meaning H) (c : ℕ) (p q : Plan) (h h2 
 leads_no_more {X = X} m c p q h h2 result y x e f g =
     subst (λ (z : Result X Stop). Leads m c p h z q h2) (sym e) (subst (λ (z : Stop). Stops m c p h z h2) (sym f) g)
 
+-- between plans that are the same
+pub leads_between : {H : Type 0} (m : Meaning H) (c : ℕ) (p p' q q' : Plan) (h h2 : H) → p' ≡ p → q' ≡ q → LeadsOn m c p h q h2 → LeadsOn m c p' h q' h2
+leads_between m c p p' q q' h h2 e f g =
+    subst (λ (x : Plan). LeadsOn m c x h q' h2) (sym e) (subst (λ (x : Plan). LeadsOn m c p h x h2) (sym f) g)
+
+pub stops_before : {H : Type 0} (m : Meaning H) (c : ℕ) (p p' : Plan) (h h2 : H) (x : Stop) → p' ≡ p → Stops m c p h x h2 → Stops m c p' h x h2
+stops_before m c p p' h h2 x e g = subst (λ (y : Plan). Stops m c y h x h2) (sym e) g
+
 -- the step of a task
 pub on_leads : {H : Type 0} (m : Meaning H) (c : ℕ) (t t' : Task) (d d' : Desk) (a a' : Machine) (f f' : Frame) (h h2 : H) (r : Result (Unit {0}) Stop) (x : Result Flow Stop) → t ≡ t' → x ≡ going r → Leads m c (left_with t' d a f) h r (left_at d' a' f') h2 → Flows m c (left_with t d a f) h x (left_at d' a' f') h2 (state_of a' f')
 on_leads m c t t' d d' a a' f f' h h2 r x e g u =

@@ -42,13 +42,16 @@ exec_at t d s = first (exec t) s (left (tasks_of d) (values_of d))
 abbrev pub assigned_at : ℕ → Tree → Desk → State → Plan
 assigned_at l t d s = bind (assigned l t (top (values_of d)) s (λ s1. comes_to (goes_on s1))) (left (tasks_of d) (below (values_of d)))
 
--- what stands behind the uppermost value, as it goes on at a desk
-abbrev pub linked_at : Option ℕ → Tree → Desk → State → Plan
-linked_at named ls d s = bind (plan_links (top (values_of d)) named ls s) (gives_on (below (values_of d)) (left (tasks_of d)))
+-- how it goes on at a desk with a value in the place of the uppermost one
+abbrev pub in_place_at : Desk → Out → Plan
+in_place_at d = gives_on (below (values_of d)) (left (tasks_of d))
 
--- and operators behind it
+-- what stands behind the uppermost value, and operators behind it
+abbrev pub linked_at : Option ℕ → Tree → Desk → State → Plan
+linked_at named ls d s = bind (plan_links (top (values_of d)) named ls s) (in_place_at d)
+
 abbrev pub operated_at : Tree → Desk → State → Plan
-operated_at os d s = bind (plan_operations (top (values_of d)) os s) (gives_on (below (values_of d)) (left (tasks_of d)))
+operated_at os d s = bind (plan_operations (top (values_of d)) os s) (in_place_at d)
 
 -- a value of which no host is asked
 abbrev pub IsNoObject : Value → Type 0

@@ -3,7 +3,7 @@ use Rattle.std.specs.Prelude.{ℕ, ◌+◌, Bool, true, false, not, List, [], �
 use Rattle.std.specs.declared.boxed.Box.{Box}
 use Rattle.std.specs.declared.alloc.Global.{Global}
 use Rattle.py_tree.specs.declared.expr.Expr.{Expr}
-use Rattle.py_tree.specs.Tree.{Tree, absent, cons, trees, words, expr_tree, pair_tree, argument_tree, operation_tree, link_tree, simple_tree, line_tree, branch_tree, parameter_tree}
+use Rattle.py_tree.specs.Tree.{Tree, absent, trees, words, expr_tree, pair_tree, argument_tree, operation_tree, link_tree, simple_tree, line_tree, branch_tree, parameter_tree}
 use Rattle.py_tree.specs.declared.expr.Operator.{Operator}
 use Rattle.py_tree.specs.declared.expr.Operator.TheVariants as operator'
 use Rattle.py_heap.specs.declared.value.Value.{Value}

@@ -1,5 +1,5 @@
 use Rattle.std.proofs.Common.{map, refl}
-use Rattle.py_tree.specs.Tree.{trees, attribute, link_tree, argument_tree, call, expr_tree, index, slice}
+use Rattle.py_tree.specs.Tree.{trees, attribute, argument_tree, call, expr_tree, index, slice}
 use Rattle.py_tree.specs.declared.expr.Link.TheVariants as link'
 use Rattle.py_tree.proofs.Views.{link_tree-Attribute, link_tree-Call, link_tree-Index}
 use Rattle.py_state.specs.Stores.{state_of}
