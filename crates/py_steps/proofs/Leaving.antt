@@ -30,7 +30,7 @@ turns_on_top (y ∷ ys) t l w p e g = subst (λ x. in_loop (x ∷ ys) ≡ x ∷ 
 -- the loop that is seen on top stays
 pub turns_seen : (xs ys old : List Task) (t : Task) (l : Loop) (w : Walk) → in_loop (reverse xs) ≡ in_loop (reverse old) → ys ≡ xs → Some t ≡ slice_get ys (length ys - 1) → t ≡ task.Turns l w → reverse xs ≡ in_loop (reverse old)
 turns_seen xs ys old t l w i e g h =
-    let there : slice_get xs (length xs - 1) ≡ Some t = sym (ap (λ zs. slice_get zs (length zs - 1)) (sym e)) ∙ sym g in
+    let there : slice_get xs (length xs - 1) ≡ Some t = sym (g ∙ ap (λ (zs : List Task). slice_get zs (length zs - 1)) e) in
     let some : length xs - 1 < length xs = slice_get_within xs (length xs - 1) t there in
     let top : get_or (reverse xs) 0 t ≡ t = get_or-reverse xs 0 t (omega arith) ∙ ap (λ n. get_or xs n t) (omega arith) ∙ get_or_from_slice_get xs (length xs - 1) t t there in
     sym (turns_on_top (reverse xs) t l w (omega (arith, length-reverse xs)) top h) ∙ i

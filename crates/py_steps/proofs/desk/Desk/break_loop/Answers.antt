@@ -1,4 +1,4 @@
-use Rattle.std.proofs.Common.{ap, reverse}
+use Rattle.std.proofs.Common.{arith, ◌≡◌, ap, length, reverse}
 use Rattle.py_steps.proofs.Leaving.{stacks_are, turns_taken, none_taken}
 use Rattle.py_steps.proofs.desk.Desk.break_loop.Goals as goal
 
@@ -9,5 +9,7 @@ returns-in-Turns c =
 
 pub returns : goal.returns
 returns c =
-    stacks_are _ _ _ _ (none_taken c.tasks.self.tasks.items c.pop.new.self.items c.args.self.now.tasks.items c.tasks.invariant.0 c.in_default.ensures.cases.0 c.in_default.ensures.cases.1)
+    let none : length c.tasks.self.tasks.items ≡ 0 = omega (arith, c.tasks.self.tasks.ok.0, c.in_default.ensures.cases.0) in
+    let rest : length c.pop.new.self.items ≡ 0 = omega (arith, c.pop.new.self.ok.0, c.in_default.ensures.cases.1) in
+    stacks_are _ _ _ _ (none_taken c.tasks.self.tasks.items c.pop.new.self.items c.args.self.now.tasks.items c.tasks.invariant.0 none rest)
     (ap (λ vs. reverse vs.items) c.tasks.invariant.1)
