@@ -5,7 +5,7 @@ use denote.Ref.{Bor}
 use Rattle.std.specs.declared.boxed.Box.{Box}
 use Rattle.std.specs.declared.alloc.Global.{Global}
 use Rattle.std.specs.declared.vec.Vec.{Vec}
-use Rattle.py_tree.specs.Tree.{Tree, cons, name, tuple, post, trees, expr_tree, link_tree, argument_step, expr_step, link_step, operation_step, pair_step}
+use Rattle.py_tree.specs.Tree.{Tree, cons, tuple, post, trees, expr_tree, link_tree, argument_step, expr_step, link_step, operation_step, pair_step}
 use Rattle.py_tree.specs.declared.expr.Expr.{Expr, roll-Expr, out-Expr, roll-out-Expr, fold-roll-Expr}
 use Rattle.py_tree.specs.declared.expr.Expr.TheVariants as expr'
 use Rattle.py_tree.specs.declared.expr.Link.{Link}

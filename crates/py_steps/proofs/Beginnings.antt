@@ -1,7 +1,7 @@
 -- What the first step of an expression leaves.
 use Rattle.std.specs.Prelude.{not as turned}
-use Rattle.std.proofs.Common.{◌≡◌, ◌∙◌, arith, ℕ, ◌-◌, List, [], ◌∷◌, ◌++◌, Bool, Option, None, Result, Ok, Err, ℤ, pos, ap, sym, refl, subst, length, take, drop, reverse}
-use Rattle.std.proofs.lemmas.List.{take_at, drop_at, length-append, length-reverse, reverse-reverse}
+use Rattle.std.proofs.Common.{◌≡◌, ◌∙◌, arith, ℕ, ◌-◌, List, [], ◌∷◌, ◌++◌, Bool, Option, None, Result, Ok, Err, ℤ, pos, ap, sym, refl, subst, length, reverse}
+use Rattle.std.proofs.lemmas.List.{take_at, drop_at, length-append, reverse-reverse}
 use Rattle.py_tree.specs.Tree.{Tree, expr_tree, argument_step, expr_step, link_step, operation_step, pair_step, integer, text, constant, group, tuple, list, dict, comprehension, post, negative, not, chain, compare}
 use Rattle.py_tree.specs.declared.expr.Constant.{Constant}
 use Rattle.py_tree.specs.declared.expr.Comparison.{Comparison}

@@ -1,20 +1,20 @@
 -- The branches of an `if`.
 use Rattle.std.proofs.Common.{◌≡◌, ◌∙◌, ℕ, Bool, true, false, List, [], ◌∷◌, map, length, refl, sym, subst, ap, suc-ne-zero}
 use denote.Ref.{Bor}
-use Rattle.py_tree.specs.Tree.{Tree, nil, cons, branch, trees, line_tree, branch_tree, expr_tree}
+use Rattle.py_tree.specs.Tree.{Tree, cons, branch, trees, line_tree, branch_tree, expr_tree}
 use Rattle.py_tree.specs.declared.expr.Expr.{Expr}
 use Rattle.py_tree.specs.declared.line.Line.{Line}
 use Rattle.py_tree.specs.declared.line.Branch.{Branch}
 use Rattle.py_tree.proofs.Views.{branch_tree-Branch}
 use Rattle.py_heap.specs.declared.value.Value.{Value}
 use Rattle.py_heap.specs.Heap.{truth_of}
-use Rattle.py_meaning.specs.States.{State, Out, goes_on}
+use Rattle.py_meaning.specs.States.{State, goes_on}
 use Rattle.py_meaning.specs.Jobs.{branches, exec_all}
-use Rattle.py_meaning.specs.Plans.{Plan, first, bind}
+use Rattle.py_meaning.specs.Plans.{first, bind}
 use Rattle.py_meaning.specs.Evaluates.{plan}
 use Rattle.py_meaning.specs.Statements.{chosen}
 use Rattle.py_steps.specs.Leads.{Unfolds, same, opens, later}
-use Rattle.py_steps.specs.Desks.{Stacks, stacks_of, tasks_of, values_of, top, below}
+use Rattle.py_steps.specs.Desks.{stacks_of, tasks_of, values_of, top, below}
 use Rattle.py_steps.specs.Todos.{left, by_branch}
 use Rattle.py_steps.specs.declared.desk.Desk.{Desk}
 use Rattle.py_steps.specs.declared.task.Task.{Task}

@@ -1,5 +1,5 @@
 -- The operator of an augmented assignment.
-use Rattle.std.proofs.Common.{◌≡◌, ◌≢◌, ◌∙◌, ℕ, List, [], ◌∷◌, Result, Ok, Err, refl, sym, subst, ap}
+use Rattle.std.proofs.Common.{◌≡◌, ◌≢◌, ◌∙◌, ℕ, ◌∷◌, Ok, Err, refl, sym, subst, ap}
 use Rattle.py_tree.specs.declared.expr.Operator.{Operator}
 use Rattle.py_heap.specs.declared.value.Value.{Value}
 use Rattle.py_heap.specs.declared.fault.ValueFault.{ValueFault}

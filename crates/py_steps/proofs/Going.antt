@@ -1,6 +1,5 @@
 -- How what is left goes on behind a job that is opened.
-use Rattle.std.proofs.Common.{Bool, ◌≡◌, ◌∙◌, ℕ, List, [], ◌∷◌, ◌++◌, Result, Ok, Err, ap, sym, refl, subst, reverse}
-use Rattle.std.proofs.lemmas.List.{append_assoc}
+use Rattle.std.proofs.Common.{Bool, ◌≡◌, ◌∙◌, ℕ, List, ◌∷◌, Ok, Err, ap, sym, refl, subst}
 use Rattle.py_tree.specs.Tree.{Tree}
 use Rattle.py_heap.specs.declared.value.Value.{Value}
 use Rattle.py_heap.specs.declared.fault.ValueFault.{ValueFault}
@@ -9,13 +8,12 @@ use Rattle.py_heap.specs.Units.{Units}
 use Rattle.py_compare.specs.Outcomes.{Outcome}
 use Rattle.py_meaning.specs.declared.fault.EvalKind.TheVariants as kind
 use Rattle.py_meaning.specs.States.{State, Out, gives, all_give, goes_on, breaks, continues, returns, ends, exits, after_operation, place_at}
-use Rattle.py_meaning.specs.Plans.{Plan, comes_to, first, bind, on_value, on_values, after, after_all, checked, made, stops}
-use Rattle.py_meaning.specs.Evaluates.{plan}
+use Rattle.py_meaning.specs.Plans.{Plan, comes_to, bind, on_value, on_values, after, after_all, made, stops}
 use Rattle.py_steps.specs.Desks.{stacks_of, tasks_of, values_of, below}
 use Rattle.py_steps.specs.declared.desk.Desk.{Desk}
 use Rattle.py_steps.specs.declared.task.Task.{Task}
-use Rattle.py_steps.specs.Todos.{Rest, left, gives_on, all_on, made_on, past}
-use Rattle.py_steps.specs.Leads.{Unfolds, same, opens, later}
+use Rattle.py_steps.specs.Todos.{Rest, left, gives_on, made_on, past}
+use Rattle.py_steps.specs.Leads.{Unfolds, same, later}
 
 -- a task on top of a desk, and two
 pub pushed : (d0 d1 : Desk) (t : Task) (s : State) → stacks_of d1 ≡ record (stacks_of d0) { tasks = t ∷ tasks_of d0 } → left (tasks_of d1) (values_of d1) (goes_on s) ≡ left (t ∷ tasks_of d0) (values_of d0) (goes_on s)

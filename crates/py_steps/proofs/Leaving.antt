@@ -1,5 +1,5 @@
 -- The innermost loop among the tasks: where a stack of tasks, the uppermost last, has it on top, and where it has nothing.
-use Rattle.std.proofs.Common.{arith, ◌≡◌, ◌∙◌, ◌<◌, ◌-◌, ◌+◌, ℕ, List, [], ◌∷◌, ◌++◌, Option, Some, None, length, get_or, slice_get, reverse, ap, sym, refl, subst}
+use Rattle.std.proofs.Common.{arith, ◌≡◌, ◌∙◌, ◌<◌, ◌-◌, List, [], ◌∷◌, ◌++◌, Option, Some, None, length, get_or, slice_get, reverse, ap, sym, refl, subst}
 use Rattle.std.proofs.lemmas.List.{reverse-append, length-reverse, get_or-reverse, nil_from_length}
 use Rattle.std.proofs.lemmas.Option.{slice_get-get_or, slice_get_within, get_or_from_slice_get}
 use Rattle.py_state.specs.declared.walk.Walk.{Walk}

@@ -1,10 +1,9 @@
 -- Lines: what each form of one comes to.
-use Rattle.std.proofs.Common.{◌≡◌, ◌∙◌, ◌+◌, ◌-◌, ℕ, arith, List, [], ◌∷◌, ◌++◌, Result, Ok, Err, map, length, reverse, take, drop, refl, sym, subst, ap, suc-ne-zero}
-use Rattle.std.proofs.lemmas.List.{length-append, length-reverse, reverse-reverse}
+use Rattle.std.proofs.Common.{◌≡◌, ◌∙◌, ◌-◌, ℕ, arith, List, [], ◌∷◌, ◌++◌, Result, Ok, Err, map, length, reverse, take, drop, refl, sym, subst, ap, suc-ne-zero}
+use Rattle.std.proofs.lemmas.List.{length-append, reverse-reverse}
 use Rattle.std.proofs.Math.Seq.{take-append_seam, drop-append_seam}
-use mathlib.Core.Path.{fun_ext}
 use denote.Ref.{Bor}
-use Rattle.py_tree.specs.Tree.{Tree, nil, cons, simple, branching, for', def, trees, words, line_tree, branch_tree, simple_tree, expr_tree, parameter_tree}
+use Rattle.py_tree.specs.Tree.{Tree, simple, branching, for', def, trees, words, line_tree, branch_tree, simple_tree, expr_tree, parameter_tree}
 use Rattle.py_tree.specs.declared.expr.Expr.{Expr}
 use Rattle.py_tree.specs.declared.line.Line.{Line}
 use Rattle.py_tree.specs.declared.line.Branch.{Branch}
@@ -16,30 +15,29 @@ use Rattle.std.specs.declared.rc.Rc.{Rc}
 use Rattle.std.specs.declared.alloc.Global.{Global}
 use Rattle.py_tree.proofs.Views.{branch_tree-Branch, line_tree-Simple, line_tree-If, line_tree-For, line_tree-Def}
 use Rattle.py_heap.specs.declared.value.Value.{Value}
-use Rattle.py_heap.specs.Units.{Units, charged}
+use Rattle.py_heap.specs.Units.{charged}
 use Rattle.py_meaning.specs.Arguments.{defaults_of}
 use Rattle.py_meaning.specs.Lines.{first_line}
 use Rattle.py_meaning.specs.Loops.{walk_of}
-use Rattle.py_meaning.specs.States.{State, Frame, Out, goes_on, with_units}
-use Rattle.py_meaning.specs.Jobs.{exec, exec_all, branches, turns, eval, eval_all}
-use Rattle.py_meaning.specs.Plans.{Plan, comes_to, first, goes, on_value, on_values, after, after_all, checked, paid, bind}
+use Rattle.py_meaning.specs.States.{State, Frame, goes_on, with_units}
+use Rattle.py_meaning.specs.Jobs.{exec, exec_all, turns, eval_all}
+use Rattle.py_meaning.specs.Plans.{Plan, comes_to, first, goes, on_values, checked, paid, bind}
 use Rattle.py_meaning.specs.Evaluates.{plan}
 use Rattle.py_meaning.specs.Statements.{statement, defined}
 use Rattle.py_state.specs.Stores.{state_of, store_of}
 use Rattle.py_state.specs.declared.machine.Machine.{Machine}
 use Rattle.py_state.specs.declared.stop.Stop.{Stop}
 use Rattle.py_steps.specs.Desks.{Stacks, stacks_of, tasks_of, values_of, above, under}
-use Rattle.py_steps.specs.Leads.{Unfolds, same, opens, later, Steps, exec_at, left_at, left_with}
+use Rattle.py_steps.specs.Leads.{Unfolds, same, opens, Steps, exec_at, left_at}
 use Rattle.py_steps.specs.Todos.{left, parameters_in}
 use Rattle.py_steps.specs.declared.desk.Desk.{Desk}
 use Rattle.py_steps.specs.declared.task.Definition.{Definition}
 use Rattle.py_steps.specs.declared.task.Loop.{Loop}
 use Rattle.py_steps.specs.declared.task.Task.{Task}
 use Rattle.py_steps.specs.declared.task.Task.TheVariants as task
-use Rattle.py_steps.proofs.Behind.{first_is, value_is, values_are, after_is, checked_is}
+use Rattle.py_steps.proofs.Behind.{first_is, values_are, after_is, checked_is}
 use Rattle.py_steps.proofs.Faults.{NoUnit, unpaid, paid_goes, steps_by, after_pay}
 use Rattle.py_steps.proofs.Rests.{arrives, left_ends, lines_first}
-use Rattle.py_steps.proofs.Turns.{two_on}
 
 -- there is no unit for a line or a statement
 pub exec_unpaid : (X : Type 0) (t : Tree) (l : ℕ) (d : Desk) (m : Machine) (f : Frame) (g : State → Plan) (x : Stop) (q : Plan) → plan (exec t) (state_of m f) ≡ paid l (state_of m f) g → NoUnit m.budget f.script l x → Steps {X = X} (exec_at t d (state_of m f)) (Err x) q

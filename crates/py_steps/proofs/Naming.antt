@@ -1,5 +1,5 @@
 -- What a name comes to, by what was found.
-use Rattle.std.proofs.Common.{◌≡◌, ◌≢◌, ℕ, List, ◌∷◌, Option, Some, None, Result, Ok, Err, refl, sym, subst}
+use Rattle.std.proofs.Common.{◌≡◌, ◌≢◌, ℕ, List, ◌∷◌, Some, None, Result, sym, subst}
 use Rattle.py_tree.specs.Tree.{Tree, name}
 use Rattle.py_heap.specs.declared.value.Value.{Value}
 use Rattle.py_host.specs.Meaning.{Meaning}

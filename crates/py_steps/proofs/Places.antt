@@ -16,7 +16,7 @@ use Rattle.py_tree.specs.declared.expr.Pair.{Pair}
 use Rattle.py_tree.specs.declared.expr.Argument.TheOpen as open'
 use Rattle.py_tree.proofs.Views.{expr_tree-Name, expr_tree-Post, link_tree-Index}
 use Rattle.py_heap.specs.declared.value.Value.{Value}
-use Rattle.py_meaning.specs.States.{State, Out, goes_on, after_operation}
+use Rattle.py_meaning.specs.States.{State, goes_on, after_operation}
 use Rattle.py_meaning.specs.Expressions.{named_line}
 use Rattle.py_meaning.specs.Plans.{Plan, comes_to, bind, after, checked}
 use Rattle.py_meaning.specs.Links.{after_item}
@@ -27,9 +27,8 @@ use Rattle.py_steps.specs.Desks.{Stacks, stacks_of, tasks_of, values_of}
 use Rattle.py_steps.specs.Leads.{Unfolds, same, plan_at}
 use Rattle.py_steps.specs.Todos.{left}
 use Rattle.py_steps.specs.declared.desk.Desk.{Desk}
-use Rattle.py_steps.specs.declared.task.Task.{Task}
 use Rattle.py_steps.specs.declared.task.Task.TheVariants as task
-use Rattle.py_steps.proofs.Behind.{after_is, checked_is, item_is, item_set_is, place_is, at_place}
+use Rattle.py_steps.proofs.Behind.{after_is, checked_is, item_is, item_set_is, place_is}
 use Rattle.py_steps.proofs.Rests.{arrives, left_ends}
 
 last_more : (t u more : Tree) → last_index (cons t (cons u more)) ≡ behind t (last_index (cons u more))

@@ -1,8 +1,8 @@
 -- How what is left takes what was done before it.
-use Rattle.std.proofs.Common.{◌≡◌, ℕ, List, [], ◌∷◌, map, refl, sym, subst, ap}
+use Rattle.std.proofs.Common.{◌≡◌, List, [], ◌∷◌, map, refl, sym, subst}
 use mathlib.Core.Path.{fun_ext}
 use denote.Ref.{Bor}
-use Rattle.py_tree.specs.Tree.{Tree, cons, trees, words, line_tree, simple_tree}
+use Rattle.py_tree.specs.Tree.{Tree, cons, trees, line_tree, simple_tree}
 use Rattle.py_tree.specs.declared.line.Line.{Line}
 use Rattle.py_tree.specs.declared.line.Simple.{Simple}
 use Rattle.py_heap.specs.declared.value.Value.{Value}

@@ -1,12 +1,12 @@
 -- Several expressions, one after another.
-use Rattle.std.proofs.Common.{arith, ◌≡◌, ◌∙◌, ℕ, List, [], ◌∷◌, ◌++◌, Option, Some, None, ap, sym, refl, subst, reverse, map, length}
+use Rattle.std.proofs.Common.{arith, ◌≡◌, ◌∙◌, ℕ, List, [], ◌∷◌, ◌++◌, Some, None, ap, sym, refl, subst, reverse, map, length}
 use mathlib.Core.Path.{fun_ext}
 use Rattle.std.proofs.lemmas.List.{append_assoc}
 use Rattle.std.proofs.lemmas.Grind.{reverse_onto}
 use Rattle.py_tree.specs.Tree.{Tree, nil, cons, pair, named, parameter, trees, expr_tree, pair_tree, argument_tree, parameter_tree, optional_tree, argument_step, expr_step, link_step, operation_step, pair_step}
 use Rattle.py_heap.specs.declared.value.Value.{Value}
 use Rattle.py_meaning.specs.States.{State, Out, gives, all_give, goes_on, breaks, continues, returns, ends, exits}
-use Rattle.py_meaning.specs.Jobs.{eval, eval_all}
+use Rattle.py_meaning.specs.Jobs.{eval_all}
 use Rattle.py_meaning.specs.Plans.{Plan, comes_to, first, bind, on_values, after, after_all}
 use Rattle.py_meaning.specs.Evaluates.{plan}
 use Rattle.py_meaning.specs.Expressions.{flat_pairs}

@@ -1,7 +1,7 @@
 -- Statements: what each form of one comes to.
-use Rattle.std.proofs.Common.{◌≡◌, ◌∙◌, ◌⊎◌, inl, inr, ℕ, List, [], ◌∷◌, Option, Some, None, Result, Ok, Err, map, length, refl, sym, subst, ap, suc-ne-zero}
+use Rattle.std.proofs.Common.{◌≡◌, ◌⊎◌, inl, inr, ℕ, List, [], ◌∷◌, Result, Ok, Err, map, length, refl, sym, subst, ap, suc-ne-zero}
 use denote.Ref.{Bor}
-use Rattle.py_tree.specs.Tree.{Tree, absent, assign, expression, pass, imports, break, continue, return, trees, simple_tree, expr_tree, optional_tree, argument_step, expr_step, link_step, operation_step, pair_step}
+use Rattle.py_tree.specs.Tree.{Tree, absent, assign, expression, pass, imports, break, continue, return, trees, simple_tree, expr_tree, argument_step, expr_step, link_step, operation_step, pair_step}
 use Rattle.py_tree.specs.declared.expr.Expr.{Expr, roll-Expr, out-Expr, roll-out-Expr, fold-roll-Expr}
 use Rattle.py_tree.specs.declared.expr.Link.{Link}
 use Rattle.py_tree.specs.declared.expr.Argument.{Argument}
@@ -23,14 +23,14 @@ use Rattle.py_state.specs.Stores.{state_of, store_of}
 use Rattle.py_state.specs.declared.machine.Machine.{Machine}
 use Rattle.py_state.specs.declared.stop.Stop.{Stop}
 use Rattle.py_steps.specs.Desks.{Stacks, stacks_of, tasks_of, values_of, in_loop, past_loop}
-use Rattle.py_steps.specs.Leads.{Unfolds, same, opens, later, Steps, StepsOrReturns, plan_at, left_at}
+use Rattle.py_steps.specs.Leads.{Unfolds, same, opens, later, StepsOrReturns, plan_at, left_at}
 use Rattle.py_steps.specs.Todos.{left}
 use Rattle.py_steps.specs.declared.desk.Desk.{Desk}
 use Rattle.py_steps.specs.declared.statements.Flow.{Flow}
 use Rattle.py_steps.specs.declared.task.Task.{Task}
 use Rattle.py_steps.specs.declared.task.Task.TheVariants as task
 use Rattle.py_steps.proofs.Behind.{after_is, value_is}
-use Rattle.py_steps.proofs.Faults.{NoUnit, unpaid, paid_goes, steps_by, flows_by, stops_too, after_pay}
+use Rattle.py_steps.proofs.Faults.{NoUnit, unpaid, paid_goes, flows_by, stops_too, after_pay}
 use Rattle.py_steps.proofs.Rests.{arrives, left_ends, left_returns, statements_first}
 
 -- each is paid for

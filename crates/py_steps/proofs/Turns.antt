@@ -1,7 +1,5 @@
 -- The turns of a `for`.
 use Rattle.std.proofs.Common.{◌≡◌, ◌≢◌, ◌∙◌, ℕ, List, [], ◌∷◌, Option, Some, None, Result, Ok, Err, map, refl, sym, subst, ap}
-use mathlib.Core.Path.{fun_ext}
-use denote.Ref.{Bor}
 use Rattle.py_tree.specs.Tree.{Tree, trees, words, line_tree}
 use Rattle.py_heap.specs.declared.value.Value.{Value}
 use Rattle.py_heap.specs.declared.fault.ValueFault.{ValueFault}
@@ -10,7 +8,7 @@ use Rattle.py_heap.specs.Heap.{Objects}
 use Rattle.py_heap.specs.Units.{Units, charged}
 use Rattle.py_meaning.specs.States.{State, Frame, Out, gives, all_give, goes_on, breaks, continues, returns, ends, exits, with_objects, with_units}
 use Rattle.py_meaning.specs.Jobs.{exec_all, turns}
-use Rattle.py_meaning.specs.Plans.{Plan, comes_to, first, goes, bind, checked, paid}
+use Rattle.py_meaning.specs.Plans.{Plan, first, goes, bind, checked, paid}
 use Rattle.py_meaning.specs.Evaluates.{plan}
 use Rattle.py_meaning.specs.Loops as loops
 use Rattle.py_meaning.specs.Loops.{walk_of, next_of, names_of, shared}

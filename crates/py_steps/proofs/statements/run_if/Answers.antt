@@ -3,7 +3,7 @@ use Rattle.std.proofs.lemmas.Result.{err_from_is_err_and}
 use Rattle.py_tree.specs.Tree.{branching, trees, line_tree, branch_tree}
 use Rattle.py_meaning.specs.Statements.{statement}
 use Rattle.py_state.specs.Stores.{state_of}
-use Rattle.py_steps.specs.Desks.{stacks_of, tasks_of, values_of}
+use Rattle.py_steps.specs.Desks.{tasks_of, values_of}
 use Rattle.py_steps.specs.Leads.{left_at, exec_at}
 use Rattle.py_steps.proofs.Faults.{hands_on}
 use Rattle.py_steps.proofs.Lines.{exec_unpaid, exec_paid, if_pays, if_opens}
