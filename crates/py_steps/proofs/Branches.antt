@@ -19,7 +19,8 @@ use Rattle.py_steps.specs.Todos.{left, by_branch}
 use Rattle.py_steps.specs.declared.desk.Desk.{Desk}
 use Rattle.py_steps.specs.declared.task.Task.{Task}
 use Rattle.py_steps.specs.declared.task.Task.TheVariants as task
-use Rattle.py_steps.proofs.Rests.{left_ends, value_goes, arrives}
+use Rattle.py_steps.proofs.Going.{value_unfolds}
+use Rattle.py_steps.proofs.Rests.{left_ends, arrives}
 use Rattle.py_steps.proofs.Turns.{one_for}
 
 choice : (block bs ls : Tree) (ts : List Task) (vs : List Value) (s : State) (b : Bool) → Unfolds (bind (chosen b block bs ls s) (left ts vs)) (by_branch block bs ls vs (left ts) b s)
@@ -35,7 +36,7 @@ branch_opens {t = t} l b rest ls test ts vs s e =
     let more = trees (map branch_tree rest.now) in
     let otherwise = trees (map line_tree ls.now) in
     subst (λ x. Unfolds (first (branches (cons x more) otherwise) s (left ts vs)) (left (task.Evaluate test ∷ task.Choose b rest ls ∷ ts) vs (goes_on s))) (sym e)
-    (opens (later (value_goes (λ x s1. chosen (truth_of s1.objects x) block more otherwise s1) (λ x s1. by_branch block more otherwise vs (left ts) (truth_of s1.objects x) s1) (left ts vs) (left_ends ts vs)
+    (opens (later (value_unfolds (λ x s1. chosen (truth_of s1.objects x) block more otherwise s1) (λ x s1. by_branch block more otherwise vs (left ts) (truth_of s1.objects x) s1) (left ts vs) (left_ends ts vs)
     (λ x s1. choice block more otherwise ts vs s1 (truth_of s1.objects x)))))
 
 -- a branch is left, whose test comes first

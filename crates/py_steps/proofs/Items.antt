@@ -33,7 +33,8 @@ use Rattle.py_steps.specs.declared.task.Comprehension.{Comprehension}
 use Rattle.py_steps.specs.declared.task.Task.{Task}
 use Rattle.py_steps.specs.declared.task.Task.TheVariants as task
 use Rattle.py_steps.proofs.Faults.{checked_stops, checked_faults, checked_goes, paid_goes, unpaid, NoUnit, steps_by, after_pay}
-use Rattle.py_steps.proofs.Rests.{arrives, value_goes}
+use Rattle.py_steps.proofs.Going.{value_unfolds}
+use Rattle.py_steps.proofs.Rests.{arrives}
 use Rattle.py_steps.proofs.Turns.{names_of_words, one_for, shared_out}
 
 -- by the value of a test
@@ -98,7 +99,7 @@ test_goes c t rest ts vs s u p =
     let q = left (task.Evaluate t ∷ task.Tested c rest ∷ ts) vs (goes_on (with_units s u)) in
     test_opens c (expr_tree t.now) more vs s k q
     (paid_goes c.comprehension.line s (by_first c (expr_tree t.now) more) (behind_tests c vs k) u q p
-    (later (value_goes (λ x s1. tested c.comprehension.line more (truth_of s1.objects x) s1) (λ x s1. by_test c more vs k (truth_of s1.objects x) s1) (behind_tests c vs k) (λ s1. refl) (λ x s1. tested_goes c more vs k (truth_of s1.objects x) s1))))
+    (later (value_unfolds (λ x s1. tested c.comprehension.line more (truth_of s1.objects x) s1) (λ x s1. by_test c more vs k (truth_of s1.objects x) s1) (behind_tests c vs k) (λ s1. refl) (λ x s1. tested_goes c more vs k (truth_of s1.objects x) s1))))
 
 pub test_comes : (c : Collecting) (ts : Bor (List Expr)) (t : Bor Expr) (rest : Bor (List Expr)) (d d' : Desk) (m m1 : Machine) (f : Frame) → ts.now ≡ t.now ∷ rest.now → charged m.budget 1 ≡ Ok m1.budget → store_of m1 ≡ record (store_of m) { units = m1.budget } → stacks_of d' ≡ record { tasks = task.Evaluate t ∷ task.Tested c rest ∷ tasks_of d; values = values_of d } →
     Unfolds (left (task.Tests c ts ∷ tasks_of d) (values_of d) (goes_on (state_of m f))) (left (tasks_of d') (values_of d') (goes_on (state_of m1 f)))
@@ -219,7 +220,7 @@ kept_by c rest vs b s = kept c.comprehension.line (plain rest) (taken c.count vs
 kept_goes : (c : Collecting) (rest : Walk) (vs : List Value) (k : Rest) (b : Bool) (s : State) → Unfolds (bind (kept_by c rest vs b s) (behind_items c vs k)) (by_tests (with_rest c rest) vs k b s)
 unfolding bind
 kept_goes c rest vs k true s =
-    later (value_goes (λ x s1. goes (collect c.comprehension.line (plain rest) (taken c.count vs ++ x ∷ []) (item_tree c.comprehension) (names_tree c.comprehension) (tests_tree c.comprehension)) s1) (λ x s1. collect_on (with_item (with_rest c rest)) (x ∷ vs) s1 k) (behind_items c vs k) (λ s1. refl)
+    later (value_unfolds (λ x s1. goes (collect c.comprehension.line (plain rest) (taken c.count vs ++ x ∷ []) (item_tree c.comprehension) (names_tree c.comprehension) (tests_tree c.comprehension)) s1) (λ x s1. collect_on (with_item (with_rest c rest)) (x ∷ vs) s1 k) (behind_items c vs k) (λ s1. refl)
     (λ x s1. same (item_more c rest vs k x s1)))
 kept_goes c rest vs k false s = same refl
 
@@ -274,7 +275,7 @@ item_goes c rest item ts vs s h h2 next u items a n b g =
     item_opens c rest item vs s k h next q a n
     (paid_goes l s (paid_turn c rest vs item h names) (behind_items c vs k) u q b
     (checked_goes l s1 (shared h names item) (tested_turn c rest vs names s1) (behind_items c vs k) (items, h2) q g
-    (later (value_goes (λ x s2. kept_by c rest vs (truth_of s2.objects x) s2) (λ x s2. by_tests (with_rest c rest) vs k (truth_of s2.objects x) s2) (behind_items c vs k) (λ s2. refl) (λ x s2. kept_goes c rest vs k (truth_of s2.objects x) s2)))))
+    (later (value_unfolds (λ x s2. kept_by c rest vs (truth_of s2.objects x) s2) (λ x s2. by_tests (with_rest c rest) vs k (truth_of s2.objects x) s2) (behind_items c vs k) (λ s2. refl) (λ x s2. kept_goes c rest vs k (truth_of s2.objects x) s2)))))
 
 pub item_comes : (c : Collecting) (rest : Walk) (item : Value) (d d1 : Desk) (m m1 m2 : Machine) (f f2 : Frame) (h : Objects) (next : Option (Value × Walk)) (items given : List Value) → next_of m.heap (plain c.walk) ≡ told_next h next → next ≡ Some (item, rest) → charged m.budget 1 ≡ Ok m1.budget → store_of m1 ≡ record (store_of m) { objects = h; units = m1.budget } →
     shared m1.heap c.comprehension.names.now item ≡ Ok (items, m2.heap) → store_of m2 ≡ record (store_of m1) { objects = m2.heap } → given ≡ items → ((s : State) → with_frame s f2 ≡ with_inners (with_frame s f) c.comprehension.names.now given) → stacks_of d1 ≡ record { tasks = task.Tests (with_rest c rest) c.comprehension.tests ∷ tasks_of d; values = values_of d } →

@@ -1,7 +1,5 @@
 -- Lines: what each form of one comes to.
-use Rattle.std.proofs.Common.{◌≡◌, ◌∙◌, ◌-◌, ℕ, arith, List, [], ◌∷◌, ◌++◌, Result, Ok, Err, map, length, reverse, take, drop, refl, sym, subst, ap, suc-ne-zero}
-use Rattle.std.proofs.lemmas.List.{length-append, reverse-reverse}
-use Rattle.std.proofs.Math.Seq.{take-append_seam, drop-append_seam}
+use Rattle.std.proofs.Common.{◌≡◌, ◌∙◌, ℕ, List, [], ◌∷◌, ◌++◌, Result, Ok, Err, map, length, reverse, refl, sym, subst, ap, suc-ne-zero}
 use denote.Ref.{Bor}
 use Rattle.py_tree.specs.Tree.{Tree, simple, branching, for', def, trees, words, line_tree, branch_tree, simple_tree, expr_tree, parameter_tree}
 use Rattle.py_tree.specs.declared.expr.Expr.{Expr}
@@ -37,6 +35,7 @@ use Rattle.py_steps.specs.declared.task.Task.{Task}
 use Rattle.py_steps.specs.declared.task.Task.TheVariants as task
 use Rattle.py_steps.proofs.Behind.{first_is, values_are, after_is, checked_is}
 use Rattle.py_steps.proofs.Faults.{NoUnit, unpaid, paid_goes, steps_by, after_pay}
+use Rattle.py_steps.proofs.Beginnings.{above_all, under_all}
 use Rattle.py_steps.proofs.Rests.{arrives, left_ends, lines_first}
 
 -- there is no unit for a line or a statement
@@ -90,15 +89,6 @@ pub def_pays : (l : ℕ) (n : List ℕ) (ps ls : Tree) (s : State) → plan (exe
 unfolding plan
 def_pays l n ps ls s = refl
 
-height_over : (xs vs : List Value) → length (reverse xs ++ vs) - length vs ≡ length (reverse xs)
-height_over xs vs = let e = length-append (reverse xs) vs in omega (arith, e)
-
-under_values : (xs vs : List Value) → under (length vs) (reverse xs ++ vs) ≡ vs
-under_values xs vs = ap (λ n. drop n (reverse xs ++ vs)) (height_over xs vs) ∙ drop-append_seam (reverse xs) vs
-
-above_values : (xs vs : List Value) → above (length vs) (reverse xs ++ vs) ≡ xs
-above_values xs vs = ap (λ n. reverse (take n (reverse xs ++ vs))) (height_over xs vs) ∙ ap reverse (take-append_seam (reverse xs) vs) ∙ reverse-reverse xs
-
 pub def_opens : (d : Definition) (l : ℕ) (ps : Bor (List Parameter)) (base : ℕ) (ts : List Task) (vs : List Value) (s : State) → ps.now ≡ d.parameters.now → base ≡ length vs → Unfolds (bind (statement (def l d.name.now (parameters_in d) (trees (map line_tree d.block.now.value.items))) s) (left ts vs)) (left (task.Defaults ps ∷ task.Define d base ∷ ts) vs (goes_on s))
 unfolding bind
 def_opens d l ps base ts vs s p e =
@@ -109,8 +99,8 @@ def_opens d l ps base ts vs s p e =
     (same (first_is (eval_all (defaults_of (parameters_in d))) s (on_values (λ xs s1. comes_to (goes_on (defined d.name.now (parameters_in d) ls xs s1)))) (on_values made) k
     (values_are (λ xs s1. comes_to (goes_on (defined d.name.now (parameters_in d) ls xs s1))) made k (left_ends ts vs)
     (λ xs s1. subst (λ (n : ℕ). k (goes_on (defined d.name.now (parameters_in d) ls xs s1)) ≡ left ts (under n (reverse xs ++ vs)) (goes_on (defined d.name.now (parameters_in d) ls (above n (reverse xs ++ vs)) s1))) (sym e)
-    (ap (λ (ys : List Value). left ts ys (goes_on (defined d.name.now (parameters_in d) ls xs s1))) (sym (under_values xs vs))
-    ∙ ap (λ (ys : List Value). left ts (under (length vs) (reverse xs ++ vs)) (goes_on (defined d.name.now (parameters_in d) ls ys s1))) (sym (above_values xs vs)))))))
+    (ap (λ (ys : List Value). left ts ys (goes_on (defined d.name.now (parameters_in d) ls xs s1))) (sym (under_all xs vs))
+    ∙ ap (λ (ys : List Value). left ts (under (length vs) (reverse xs ++ vs)) (goes_on (defined d.name.now (parameters_in d) ls ys s1))) (sym (above_all xs vs)))))))
 
 -- statements with `;` between them
 pub simple_opens : (ss : Bor (List Simple)) (d d' : Desk) (s : State) → stacks_of d' ≡ record { tasks = task.Statements ss ∷ tasks_of d; values = values_of d } → Unfolds (exec_at (simple (trees (map simple_tree ss.now))) d s) (left (tasks_of d') (values_of d') (goes_on s))

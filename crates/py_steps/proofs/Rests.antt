@@ -8,9 +8,9 @@ use Rattle.py_tree.specs.declared.line.Simple.{Simple}
 use Rattle.py_heap.specs.declared.value.Value.{Value}
 use Rattle.py_meaning.specs.States.{State, Out, gives, all_give, goes_on, breaks, continues, returns, ends, exits}
 use Rattle.py_meaning.specs.Jobs.{exec, exec_all}
-use Rattle.py_meaning.specs.Plans.{Plan, comes_to, first, goes, on_value, on_end, bind}
+use Rattle.py_meaning.specs.Plans.{Plan, comes_to, first, goes, on_end, bind}
 use Rattle.py_meaning.specs.Evaluates.{plan}
-use Rattle.py_steps.specs.Leads.{Unfolds, same, opens}
+use Rattle.py_steps.specs.Leads.{Unfolds, opens}
 use Rattle.py_steps.specs.Desks.{Stacks, stacks_of, tasks_of, values_of}
 use Rattle.py_steps.specs.Todos.{left}
 use Rattle.py_steps.specs.declared.desk.Desk.{Desk}
@@ -61,18 +61,6 @@ unfolding plan bind
 statements_open {t = t} {s = s} {q = q} rest ts vs e u =
     subst (λ x. Unfolds (first (exec_all x) s (left ts vs)) q) (sym e)
     (opens (subst (λ k. Unfolds (first (exec t) s k) q) (sym (fun_ext (behind_statement rest ts vs))) (opens u)))
-
--- a value goes on to what is left
-pub value_goes : (f g : Value → State → Plan) (k : Out → Plan) → ((s : State) → k (ends s) ≡ comes_to (ends s)) → ((x : Value) (s : State) → Unfolds (bind (f x s) k) (g x s)) → (o : Out) → Unfolds (bind (on_value f o) k) (on_value g o)
-unfolding bind
-value_goes f g k e u (gives x s) = u x s
-value_goes f g k e u (all_give xs s) = same (e s)
-value_goes f g k e u (goes_on s) = same (e s)
-value_goes f g k e u (breaks s) = same (e s)
-value_goes f g k e u (continues s) = same (e s)
-value_goes f g k e u (returns x s) = same (e s)
-value_goes f g k e u (ends s) = same (e s)
-value_goes f g k e u (exits x s) = same (e s)
 
 -- what is left at a desk, by its stacks
 pub arrives : (d : Desk) {k : Stacks} {p : Plan} (o : Out) → stacks_of d ≡ k → Unfolds p (left k.tasks k.values o) → Unfolds p (left (tasks_of d) (values_of d) o)
