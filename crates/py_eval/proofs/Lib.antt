@@ -1,1 +1,8 @@
-pub mod Causes
+pub mod Answered
+pub mod Beginning
+pub mod Firsts
+pub mod Giving
+pub mod Halting
+pub mod Over
+pub mod Questions
+pub mod Tasks

@@ -1,24 +1,52 @@
 //! Calls, and the bodies and scripts that they run.
-ghost use Rattle.std.specs.Prelude.{◌≡◌, ◌≤◌, IfErr};
-ghost use Rattle.py_state.specs.Stops.{refusals_told, Told};
+ghost use Rattle.std.specs.Prelude.{◌≤◌, ℕ, map};
+ghost use Rattle.py_tree.specs.Tree.{trees, line_tree, script_tree};
+ghost use Rattle.py_heap.specs.declared.value.Value.TheVariants as value;
+ghost use Rattle.py_host.specs.Calls.{arguments_of, given_of};
+ghost use Rattle.py_meaning.specs.Jobs.{a_value, exec_all, inner_script, reply};
+ghost use Rattle.py_meaning.specs.States.{script_frame};
+ghost use Rattle.py_meaning.specs.Calls.{begun};
+ghost use Rattle.py_meaning.specs.Evaluates.{plan};
+ghost use Rattle.py_state.specs.Stores.{store_of, state_of, state_by};
+ghost use Rattle.py_steps.specs.Todos.{callee};
+ghost use Rattle.py_steps.specs.Leads.{left_with, left_at};
+ghost use Rattle.py_eval.specs.Bodies.{GivesOrHalts, LeadsOrHalts, FlowsOrHalts, EndsOrHalts, IsOverOrStops};
 
-use py_builtins::{call_builtin, takes};
-use py_heap::{Builtin, HostId, Value, ValueFault};
-use py_host::{Args, Host, Reply, Scope};
-use py_meaning::EvalKind;
-use py_methods::{Name, method};
-use py_show::show;
-use py_state::{
-    Frame, Function, Machine, Stop, arguments_by, ask_call, ask_done, bound, fault, refused,
-    value_fault,
-};
+use crate::asking::{pay_script, reply_to_call, reply_to_end};
+use crate::opening::{opened, plain};
+use crate::operations::{do_builtin, do_method};
+use py_builtins::takes;
+use py_heap::{FuncId, HostId, Value};
+use py_host::{Args, Host, Reply};
+use py_meaning::{EvalKind, Exit};
+use py_methods::Name;
+use py_state::{Frame, Machine, Stop, arguments_by, bound, fault};
 use py_steps::{Desk, Flow, Task};
 use py_tree::{Argument, Line, Script};
-use std::rc::Rc;
+
+/// Runs the lines of a script that has begun: whether the host ended it.
+#[cycle(calls)]
+pub(crate) fn run_script<H: Host>(
+    machine: &mut Machine,
+    host: &mut H,
+    calls: u32,
+    number: u64,
+    lines: &[Line],
+) -> Result<Exit, Stop>
+    ensures later { H.meaning.refusals host.old ≤ H.meaning.refusals host.new }
+    ensures over { IsOverOrStops H.meaning calls (plan (exec_all (trees (map line_tree lines.now))) (state_by (store_of machine.old) (script_frame number))) host.old result (store_of machine.new) host.new }
+{
+    let mut frame = Frame::of_script(machine.alloc, number);
+    match run_body(machine, host, &mut frame, calls, lines) {
+        Ok(_) => Ok(Exit::End),
+        Err(Stop::End) => Ok(Exit::Returned),
+        Err(stop) => Err(stop),
+    }
+}
 
 /// Runs the lines of a body: what it returns, if it returns.
 #[cycle(calls)]
-pub(crate) fn run_body<H: Host>(
+fn run_body<H: Host>(
     machine: &mut Machine,
     host: &mut H,
     frame: &mut Frame,
@@ -26,7 +54,7 @@ pub(crate) fn run_body<H: Host>(
     lines: &[Line],
 ) -> Result<Option<Value>, Stop>
     ensures later { H.meaning.refusals host.old ≤ H.meaning.refusals host.new }
-    ensures cause { IfErr result (λ e. Told e (H.meaning.refusals host.old) (H.meaning.refusals host.new)) }
+    ensures ends { EndsOrHalts H.meaning calls (plan (exec_all (trees (map line_tree lines.now))) (state_of machine.old frame.old)) host.old result (state_of machine.new frame.new) host.new }
 {
     let mut desk = Desk::new(machine.alloc);
     desk.push(Task::Lines(lines))?;
@@ -53,201 +81,111 @@ fn step<'a, H: Host>(
     task: Task<'a>,
 ) -> Result<Flow, Stop>
     ensures later { H.meaning.refusals host.old ≤ H.meaning.refusals host.new }
-    ensures cause { IfErr result (λ e. Told e (H.meaning.refusals host.old) (H.meaning.refusals host.new)) }
+    ensures flows { FlowsOrHalts H.meaning calls (left_with task.entry desk.old machine.old frame.old) host.old result (left_at desk.new machine.new frame.new) (state_of machine.new frame.new) host.new }
 {
     match task {
         Task::Call {
             line,
             method,
             arguments,
+            base,
         } => {
-            call_task(machine, host, frame, calls, desk, line, method, arguments)?;
+            call_task(
+                machine, host, frame, calls, desk, line, method, arguments, base,
+            )?;
             Ok(Flow::GoesOn)
         }
-        other => py_steps::step(machine, host, frame, desk, other),
+        _ => py_steps::step(machine, host, frame, desk, task),
     }
 }
 
-/// Calls the value below its arguments, or its method.
+/// Calls the value below its arguments, which stand above a height, or its method.
 #[cycle(calls)]
-fn call_task<H: Host>(
+fn call_task<'a, H: Host>(
     machine: &mut Machine,
     host: &mut H,
-    frame: &mut Frame,
+    frame: &Frame,
     calls: u32,
-    desk: &mut Desk<'_>,
+    desk: &mut Desk<'a>,
     line: u32,
-    name: Option<Name>,
-    arguments: &[Argument],
+    method: Option<Name>,
+    arguments: &'a [Argument],
+    base: usize,
 ) -> Result<(), Stop>
     ensures later { H.meaning.refusals host.old ≤ H.meaning.refusals host.new }
-    ensures cause { IfErr result (λ e. Told e (H.meaning.refusals host.old) (H.meaning.refusals host.new)) }
+    ensures leads { LeadsOrHalts H.meaning calls (left_with (Task.Call line method arguments.entry base) desk.old machine.old frame.now) host.old result (λ _. left_at desk.new machine.new frame.now) (state_of machine.new frame.now) host.new }
 {
-    let values = desk.take_all(arguments.len())?;
-    let callee = desk.take();
+    let values = desk.take_above(base)?;
+    let called = desk.take();
     let args = arguments_by(machine.alloc, arguments, values.as_slice())?;
     machine.pay(frame, line)?;
-    let value = match name {
-        Some(name) => call_method(machine, frame, calls, line, callee, name, &args)?,
-        None => call_value(machine, host, frame, calls, line, callee, &args)?,
-    };
+    let value = call(machine, host, frame, calls, line, called, method, &args)?;
     desk.give(value)?;
     Ok(())
 }
 
-fn call_method(
+/// A call that is paid for: first what is called is looked at, then its arguments, then how many calls are open.
+#[cycle(calls)]
+fn call<H: Host>(
     machine: &mut Machine,
+    host: &mut H,
     frame: &Frame,
     calls: u32,
     line: u32,
-    value: Value,
-    name: Name,
-    args: &Args,
-) -> Result<Value, Stop>
-    ensures { IfErr result (λ e. refusals_told e ≡ 0) }
-{
-    let count = args.positional.len();
-    if args.named.len() != 0 || !name.takes(count) {
-        return Err(fault(frame, line, EvalKind::Args));
-    }
-    if calls == 0 {
-        return Err(fault(frame, line, EvalKind::Depth));
-    }
-    let args = args.positional.as_slice();
-    match method(&mut machine.heap, &mut machine.budget, value, name, args) {
-        Ok(value) => Ok(value),
-        Err(fault) => Err(value_fault(frame, line, fault)),
-    }
-}
-
-#[cycle(calls)]
-fn call_value<H: Host>(
-    machine: &mut Machine,
-    host: &mut H,
-    frame: &mut Frame,
-    calls: u32,
-    line: u32,
-    callee: Value,
+    called: Value,
+    method: Option<Name>,
     args: &Args,
 ) -> Result<Value, Stop>
     ensures later { H.meaning.refusals host.old ≤ H.meaning.refusals host.new }
-    ensures cause { IfErr result (λ e. Told e (H.meaning.refusals host.old) (H.meaning.refusals host.new)) }
+    ensures gives { GivesOrHalts H.meaning calls (begun line (callee called method) (arguments_of args.now) (state_of machine.old frame.now)) host.old result (state_of machine.new frame.now) host.new }
 {
-    match callee {
-        Value::Func(id) => {
-            let Some(function) = machine.function(id)? else {
-                return Err(fault(frame, line, EvalKind::NotCallable));
-            };
-            let Some(names) = bound(machine.alloc, &function, args)? else {
-                return Err(fault(frame, line, EvalKind::Args));
-            };
-            if calls == 0 {
-                return Err(fault(frame, line, EvalKind::Depth));
-            }
-            call_function(machine, host, frame.running, calls - 1, function, names)
+    let positional = args.positional.as_slice();
+    match method {
+        Some(name) => {
+            plain(frame, line, args, name.takes(positional.len()))?;
+            let _inside = opened(frame, line, calls)?;
+            do_method(machine, frame, line, called, name, positional)
         }
-        Value::Builtin(builtin) => {
-            if args.named.len() != 0 || !takes(builtin, args.positional.len()) {
-                return Err(fault(frame, line, EvalKind::Args));
+        None => match called {
+            Value::Func(id) => call_function(machine, host, frame, calls, line, id, args),
+            Value::Builtin(builtin) => {
+                plain(frame, line, args, takes(builtin, positional.len()))?;
+                let _inside = opened(frame, line, calls)?;
+                do_builtin(machine, host, frame, line, builtin, positional)
             }
-            if calls == 0 {
-                return Err(fault(frame, line, EvalKind::Depth));
-            }
-            do_builtin(
-                machine,
-                host,
-                frame,
-                line,
-                builtin,
-                args.positional.as_slice(),
-            )
-        }
-        Value::Object(object) => {
-            if calls == 0 {
-                return Err(fault(frame, line, EvalKind::Depth));
-            }
-            call_object(machine, host, frame, calls - 1, line, object, args)
-        }
-        _ => Err(fault(frame, line, EvalKind::NotCallable)),
+            Value::Object(object) => call_object(machine, host, frame, calls, line, object, args),
+            _ => Err(fault(frame, line, EvalKind::NotCallable)),
+        },
     }
 }
 
-/// Runs the body of a function with these names.
+/// Runs the body of a function with the names that the arguments set.
 #[cycle(calls)]
 fn call_function<H: Host>(
     machine: &mut Machine,
     host: &mut H,
-    running: u64,
+    frame: &Frame,
     calls: u32,
-    function: Rc<Function>,
-    names: Scope,
+    line: u32,
+    id: FuncId,
+    args: &Args,
 ) -> Result<Value, Stop>
     ensures later { H.meaning.refusals host.old ≤ H.meaning.refusals host.new }
-    ensures cause { IfErr result (λ e. Told e (H.meaning.refusals host.old) (H.meaning.refusals host.new)) }
+    ensures gives { GivesOrHalts H.meaning calls (begun line (a_value (value.Func id)) (arguments_of args.now) (state_of machine.old frame.now)) host.old result (state_of machine.new frame.now) host.new }
 {
+    let Some(function) = machine.function(id)? else {
+        return Err(fault(frame, line, EvalKind::NotCallable));
+    };
+    let Some(names) = bound(machine.alloc, &function, args)? else {
+        return Err(fault(frame, line, EvalKind::Args));
+    };
+    let inside = opened(frame, line, calls)?;
     let body = function.body.clone()?;
-    let mut frame = Frame::of_function(machine.alloc, running, function, names);
-    let lines = body.as_slice();
-    match run_body(machine, host, &mut frame, calls, lines)? {
+    let mut own = Frame::of_function(machine.alloc, frame.running, function, names);
+    match run_body(machine, host, &mut own, inside, body.as_slice())? {
         Some(value) => Ok(value),
         None => Ok(Value::Nil),
     }
-}
-
-fn do_builtin<H: Host>(
-    machine: &mut Machine,
-    host: &mut H,
-    frame: &Frame,
-    line: u32,
-    builtin: Builtin,
-    args: &[Value],
-) -> Result<Value, Stop>
-    ensures later { H.meaning.refusals host.old ≤ H.meaning.refusals host.new }
-    ensures cause { IfErr result (λ e. Told e (H.meaning.refusals host.old) (H.meaning.refusals host.new)) }
-{
-    if builtin == Builtin::Print {
-        return print(machine, host, frame, line, args);
-    }
-    match call_builtin(&mut machine.heap, &mut machine.budget, builtin, args) {
-        Ok(value) => Ok(value),
-        Err(fault) => Err(value_fault(frame, line, fault)),
-    }
-}
-
-/// Prints values with spaces between them, and a line feed.
-fn print<H: Host>(
-    machine: &mut Machine,
-    host: &mut H,
-    frame: &Frame,
-    line: u32,
-    values: &[Value],
-) -> Result<Value, Stop>
-    ensures later { H.meaning.refusals host.old ≤ H.meaning.refusals host.new }
-    ensures cause { IfErr result (λ e. Told e (H.meaning.refusals host.old) (H.meaning.refusals host.new)) }
-{
-    let text = match printed(machine, values) {
-        Ok(text) => text,
-        Err(fault) => return Err(value_fault(frame, line, fault)),
-    };
-    match host.print(text.as_str()) {
-        Ok(()) => Ok(Value::Nil),
-        Err(refusal) => Err(refused(frame, line, refusal)),
-    }
-}
-
-fn printed(machine: &mut Machine, values: &[Value]) -> Result<String, ValueFault> {
-    let mut text = String::new(machine.alloc);
-    let mut first = true;
-    'values: for value in values {
-        if !first {
-            text.push(' ')?;
-        }
-        first = false;
-        let shown = show(&machine.heap, &mut machine.budget, *value, false)?;
-        text.push_str(shown.as_str())?;
-    }
-    text.push('\n')?;
-    Ok(text)
 }
 
 /// Calls an object, and does what the host replies.
@@ -255,21 +193,17 @@ fn printed(machine: &mut Machine, values: &[Value]) -> Result<String, ValueFault
 fn call_object<H: Host>(
     machine: &mut Machine,
     host: &mut H,
-    frame: &mut Frame,
+    frame: &Frame,
     calls: u32,
     line: u32,
     object: HostId,
     args: &Args,
 ) -> Result<Value, Stop>
     ensures later { H.meaning.refusals host.old ≤ H.meaning.refusals host.new }
-    ensures cause { IfErr result (λ e. Told e (H.meaning.refusals host.old) (H.meaning.refusals host.new)) }
+    ensures gives { GivesOrHalts H.meaning calls (begun line (a_value (value.Object object)) (arguments_of args.now) (state_of machine.old frame.now)) host.old result (state_of machine.new frame.now) host.new }
 {
-    let answer = ask_call(machine, host, frame, object, args);
-    let mut reply = match answer {
-        Ok(reply) => reply,
-        Err(refusal) => return Err(refused(frame, line, refusal)),
-    };
-    let mut further = false;
+    let inside = opened(frame, line, calls)?;
+    let mut reply = reply_to_call(machine, host, frame, line, object, args)?;
     'scripts: for _ in 0..u64::MAX {
         match reply {
             Reply::Value(value) => return Ok(value),
@@ -279,26 +213,14 @@ fn call_object<H: Host>(
             }
             Reply::Return => return Err(Stop::End),
             Reply::Script(script) => {
-                if further {
-                    pay_script(machine)?;
-                }
-                reply = run_inner(machine, host, frame, calls, line, &script)?;
-                further = true;
+                reply = run_inner(machine, host, frame, inside, line, &script)?;
             }
         }
     }
     Err(Stop::Memory)
 }
 
-/// One unit for a script that begins behind another one, on its first line.
-pub(crate) fn pay_script(machine: &mut Machine) -> Result<(), Stop>
-    ensures { IfErr result (λ e. refusals_told e ≡ 0) }
-{
-    let frame = Frame::of_script(machine.alloc, machine.globals.len() as u64);
-    machine.pay(&frame, 1)
-}
-
-/// Runs a script that a call began, and asks the host for the reply to the call.
+/// Runs a script that a call began, and asks the host for the reply to the call. A script behind it is paid for.
 #[cycle(calls)]
 fn run_inner<H: Host>(
     machine: &mut Machine,
@@ -309,32 +231,14 @@ fn run_inner<H: Host>(
     script: &Script,
 ) -> Result<Reply, Stop>
     ensures later { H.meaning.refusals host.old ≤ H.meaning.refusals host.new }
-    ensures cause { IfErr result (λ e. Told e (H.meaning.refusals host.old) (H.meaning.refusals host.new)) }
+    ensures leads { LeadsOrHalts H.meaning calls (plan (inner_script line (script_tree script.now)) (state_of machine.old frame.now)) host.old result (λ r. plan (reply line (given_of r)) (state_of machine.new frame.now)) (state_of machine.new frame.now) host.new }
 {
     let number = machine.begin_script()?;
-    let _returned = run_script(machine, host, calls, number, script.lines.as_slice())?;
-    match ask_done(machine, host, number) {
-        Ok(reply) => Ok(reply),
-        Err(refusal) => Err(refused(frame, line, refusal)),
+    let _exit = run_script(machine, host, calls, number, script.lines.as_slice())?;
+    let reply = reply_to_end(machine, host, frame, line, number)?;
+    if let Reply::Script(_) = &reply {
+        pay_script(machine)?;
+        return Ok(reply);
     }
-}
-
-/// Runs the lines of a script that has begun: whether the host ended it.
-#[cycle(calls)]
-pub(crate) fn run_script<H: Host>(
-    machine: &mut Machine,
-    host: &mut H,
-    calls: u32,
-    number: u64,
-    lines: &[Line],
-) -> Result<bool, Stop>
-    ensures later { H.meaning.refusals host.old ≤ H.meaning.refusals host.new }
-    ensures cause { IfErr result (λ e. Told e (H.meaning.refusals host.old) (H.meaning.refusals host.new)) }
-{
-    let mut frame = Frame::of_script(machine.alloc, number);
-    match run_body(machine, host, &mut frame, calls, lines) {
-        Ok(_) => Ok(false),
-        Err(Stop::End) => Ok(true),
-        Err(stop) => Err(stop),
-    }
+    Ok(reply)
 }

@@ -5,7 +5,11 @@
 //! and a script that a call begins take a stack of tasks of their own.
 #![tactic(auto)]
 
+mod asking;
 mod calls;
+mod opening;
+mod operations;
+mod printing;
 mod scripts;
 
 pub use py_host::{Args, Host, HostRefusal, Reply, Scope};

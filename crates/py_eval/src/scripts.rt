@@ -1,13 +1,19 @@
 //! First scripts, one after another.
-ghost use Rattle.std.specs.Prelude.{◌≡◌, ◌≤◌, IfErr, length};
-ghost use Rattle.py_state.specs.Stops.{Told, refusal_stop};
-ghost use Rattle.py_eval.specs.Answers.{HasCause};
+ghost use Rattle.std.specs.Prelude.{◌≤◌, Result, IfErr, MatchResult};
+ghost use Rattle.py_tree.specs.Tree.{script_tree};
+ghost use Rattle.py_meaning.specs.States.{Out, Fault, Frame, script_frame};
+ghost use Rattle.py_meaning.specs.Jobs.{first_scripts};
+ghost use Rattle.py_meaning.specs.Evaluates.{Evaluates, plan, call_limit};
+ghost use Rattle.py_state.specs.Stores.{store_of, state_by};
+ghost use Rattle.py_eval.specs.Answers.{Exits, Faults, Gives, HasCause};
+ghost use Rattle.py_eval.specs.Bodies.{LeadsToNext, ExitsOrStops};
 
-use crate::calls::{pay_script, run_script};
+use crate::asking::{pay_script, script_behind};
+use crate::calls::run_script;
 use py_heap::{Budget, Heap};
-use py_host::{Host, HostRefusal};
+use py_host::Host;
 use py_meaning::{EvalFault, Exit};
-use py_state::{Frame, Machine, Stop, refused};
+use py_state::{Machine, Stop};
 use py_tree::Script;
 use std::mem;
 
@@ -15,13 +21,14 @@ use std::mem;
 const CALL_LIMIT: u32 = 200;
 
 /// Runs a script, and then each further first script that the host gives.
-#[tactic(auto, using(crate::proofs::Causes::caused))]
 pub fn run<H: Host>(
     script: &Script,
     heap: &mut Heap,
     host: &mut H,
     budget: &mut Budget,
 ) -> Result<Exit, EvalFault>
+    ensures found { MatchResult result (λ exit. Exits H.meaning (script_tree script.now) heap.old budget.old host.old exit heap.new budget.new host.new) (λ e. Faults H.meaning (script_tree script.now) heap.old budget.old host.old e host.new) }
+    ensures only { H.meaning.certain host.old → (r : Result Out Fault) (h : _) → Evaluates H.meaning (script_tree script.now) heap.old budget.old host.old r h → Gives result r }
     ensures later { H.meaning.refusals host.old ≤ H.meaning.refusals host.new }
     ensures cause { IfErr result (λ e. HasCause e (H.meaning.refusals host.old) (H.meaning.refusals host.new)) }
 {
@@ -42,47 +49,42 @@ pub fn run<H: Host>(
     match outcome {
         Ok(exit) => Ok(exit),
         Err(Stop::Fault { script, line, kind }) => Err(EvalFault::At { script, line, kind }),
-        Err(Stop::End) => Ok(Exit::Returned),
+        Err(Stop::End) => unreachable!(),
         Err(Stop::Memory) => Err(EvalFault::Memory),
     }
 }
 
+/// What there is behind a first script.
+#[derive(Drop)]
+enum Next {
+    Script(Script),
+    Exit(Exit),
+}
+
 fn run_first<H: Host>(machine: &mut Machine, host: &mut H, script: &Script) -> Result<Exit, Stop>
     ensures later { H.meaning.refusals host.old ≤ H.meaning.refusals host.new }
-    ensures cause { IfErr result (λ e. Told e (H.meaning.refusals host.old) (H.meaning.refusals host.new)) }
+    ensures exits { ExitsOrStops H.meaning call_limit (plan (first_scripts (script_tree script.now)) (state_by (store_of machine.old) (script_frame 0))) host.old result (store_of machine.new) host.new }
 {
-    let mut exit = begin_first(machine, host, script)?;
+    let mut next = run_one(machine, host, script)?;
     'scripts: for _ in 0..u64::MAX {
-        let next = match host.next_script(&mut machine.heap) {
-            Ok(next) => next,
-            Err(refusal) => return Err(refused_next(machine, refusal)),
-        };
-        let Some(script) = next else {
-            return Ok(exit);
-        };
-        pay_script(machine)?;
-        exit = begin_first(machine, host, &script)?;
+        match next {
+            Next::Script(script) => next = run_one(machine, host, &script)?,
+            Next::Exit(exit) => return Ok(exit),
+        }
     }
     Err(Stop::Memory)
 }
 
-/// Runs a first script from its beginning.
-fn begin_first<H: Host>(machine: &mut Machine, host: &mut H, script: &Script) -> Result<Exit, Stop>
+/// Runs a first script from its beginning. A script behind it is paid for.
+fn run_one<H: Host>(machine: &mut Machine, host: &mut H, script: &Script) -> Result<Next, Stop>
     ensures later { H.meaning.refusals host.old ≤ H.meaning.refusals host.new }
-    ensures cause { IfErr result (λ e. Told e (H.meaning.refusals host.old) (H.meaning.refusals host.new)) }
+    ensures leads { (f : Frame) → LeadsToNext H.meaning call_limit (plan (first_scripts (script_tree script.now)) (state_by (store_of machine.old) f)) host.old result (store_of machine.new) host.new }
 {
     let number = machine.begin_script()?;
-    if run_script(machine, host, CALL_LIMIT, number, script.lines.as_slice())? {
-        Ok(Exit::Returned)
-    } else {
-        Ok(Exit::End)
-    }
-}
-
-/// A refusal is told of the script that would be next, on its first line.
-fn refused_next(machine: &Machine, refusal: HostRefusal) -> Stop
-    ensures { result ≡ refusal_stop (length machine.now.globals.items) 1 refusal }
-{
-    let frame = Frame::of_script(machine.alloc, machine.globals.len() as u64);
-    refused(&frame, 1, refusal)
+    let exit = run_script(machine, host, CALL_LIMIT, number, script.lines.as_slice())?;
+    let Some(script) = script_behind(machine, host)? else {
+        return Ok(Next::Exit(exit));
+    };
+    pay_script(machine)?;
+    Ok(Next::Script(script))
 }
