@@ -1,5 +1,5 @@
 -- First scripts, one after another.
-use Rattle.std.proofs.Common.{◌≡◌, ◌∙◌, ℕ, List, Option, Some, None, Result, Ok, Err, refl, sym, subst, ap}
+use Rattle.std.proofs.Common.{◌≡◌, ℕ, Option, Some, None, Result, Ok, Err, sym, subst, ap}
 use Rattle.py_tree.specs.Tree.{Tree, script_tree}
 use Rattle.py_tree.specs.declared.line.Script.{Script}
 use Rattle.py_host.specs.Calls.{next_script}
@@ -85,9 +85,11 @@ last_script m c t s exit kept kept2 h h1 h2 a over e answer =
     (over.0, first_leads m c t s exit kept kept2 h h1 h2 None over.0 over.1 over.2 over.3 (subst (λ b. Answered m c kept kept2 h1 h2 b) e answer))
 
 pub further_paid : {H : Type 0} (m : Meaning H) (c : ℕ) (t : Tree) (t2 : Script) (s : State) (exit : Exit) (kept kept2 kept3 : Store) (h h1 h2 : H) (a : Option Tree) → IsOverOrStops m c (plan (exec_all t) (script_begun s)) h (Ok exit) kept h1 → a ≡ Some (script_tree t2) → Answered m c kept kept2 h1 h2 a → ((f : Frame) (k : State → Plan) → Unfolds (paid_script (state_by kept2 f) k) (k (state_by kept3 f))) → LeadsToNext m c (plan (first_scripts t) s) h (Ok (next'.Script t2)) kept3 h2
-further_paid m c t t2 s exit kept kept2 kept3 h h1 h2 a over e answer pays =
-    (over.0, λ r h3 d. first_leads m c t s exit kept kept2 h h1 h2 (Some (script_tree t2)) over.0 over.1 over.2 over.3 (subst (λ b. Answered m c kept kept2 h1 h2 b) e answer) r h3
-    (step_goes (pays over.0 (λ s1. goes (first_scripts (script_tree t2)) s1)) d))
+further_paid m c t t2 s exit kept kept2 kept3 h h1 h2 a over e answer pays = (
+  over.0,
+  λ r h3 d. first_leads m c t s exit kept kept2 h h1 h2 (Some (script_tree t2)) over.0 over.1 over.2 over.3 (subst (λ b. Answered m c kept kept2 h1 h2 b) e answer) r h3
+      (step_goes (pays over.0 (λ s1. goes (first_scripts (script_tree t2)) s1)) d),
+)
 
 pub further_unpaid : {H : Type 0} (m : Meaning H) (c : ℕ) (t t2 : Tree) (s : State) (exit : Exit) (kept kept2 kept3 : Store) (h h1 h2 : H) (a : Option Tree) (x : Stop) → IsOverOrStops m c (plan (exec_all t) (script_begun s)) h (Ok exit) kept h1 → a ≡ Some t2 → Answered m c kept kept2 h1 h2 a → ((f : Frame) (k : State → Plan) → Steps {X = Unit {0}} (paid_script (state_by kept2 f) k) (Err x) (k (state_by kept3 f))) → Stops m c (plan (first_scripts t) s) h x h2
 further_unpaid m c t t2 s exit kept kept2 kept3 h h1 h2 a x over e answer pays =

@@ -10,7 +10,7 @@ use Rattle.py_heap.specs.Units.{Units}
 use Rattle.py_builtins.specs.Builtins.{builtin_of}
 use Rattle.py_host.specs.declared.refusal.HostRefusal.{HostRefusal}
 use Rattle.py_host.specs.declared.refusal.HostRefusal.TheVariants as refusal
-use Rattle.py_host.specs.Calls.{Arguments, answers, refuses}
+use Rattle.py_host.specs.Calls.{answers, refuses}
 use Rattle.py_host.specs.Meaning.{Meaning}
 use Rattle.py_meaning.specs.States.{State, gives, with_units, place_at}
 use Rattle.py_meaning.specs.Jobs.{a_value}

@@ -1,8 +1,8 @@
 -- A stop that is handed on, and what was to be done comes to it.
-use Rattle.std.proofs.Common.{◌≡◌, ◌∙◌, ℕ, suc, Result, Ok, Err, refl, sym, subst, ap}
+use Rattle.std.proofs.Common.{◌≡◌, ◌∙◌, ℕ, suc, Result, Ok, Err, sym, subst, ap}
 use Rattle.py_heap.specs.declared.value.Value.{Value}
 use Rattle.py_host.specs.Meaning.{Meaning}
-use Rattle.py_meaning.specs.States.{State, Out, Place, gives, ends, returns, with_frame}
+use Rattle.py_meaning.specs.States.{State, Out, Place, gives, ends, with_frame}
 use Rattle.py_meaning.specs.Jobs.{Job}
 use Rattle.py_meaning.specs.Plans.{Plan, comes_to, first, within_call, goes}
 use Rattle.py_meaning.specs.Evaluates.{Follows, plan, done, then, then_stopped, called, called_stopped}

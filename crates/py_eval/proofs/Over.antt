@@ -1,5 +1,5 @@
 -- Scripts that are over, and how it goes on behind them.
-use Rattle.std.proofs.Common.{◌≡◌, ◌≢◌, ◌∙◌, ℕ, List, [], ◌∷◌, ◌++◌, map, length, Option, Some, None, Result, Ok, Err, refl, sym, subst, ap}
+use Rattle.std.proofs.Common.{◌≡◌, ◌∙◌, ℕ, List, [], ◌∷◌, ◌++◌, map, length, Option, Some, None, Result, Ok, Err, refl, sym, subst, ap}
 use Rattle.py_tree.specs.Tree.{Tree, trees, line_tree}
 use Rattle.py_tree.specs.declared.line.Line.{Line}
 use Rattle.py_tree.specs.declared.line.Script.{Script}
@@ -12,7 +12,7 @@ use Rattle.py_host.specs.declared.reply.Reply.TheVariants as reply'
 use Rattle.py_host.specs.Meaning.{Meaning}
 use Rattle.py_meaning.specs.declared.fault.Exit.{Exit}
 use Rattle.py_meaning.specs.declared.fault.Exit.TheVariants as exit'
-use Rattle.py_meaning.specs.States.{State, Frame, Out, gives, all_give, goes_on, breaks, continues, returns, ends, exits, with_frame, with_globals, globals_at, script_frame}
+use Rattle.py_meaning.specs.States.{State, Frame, Out, gives, all_give, goes_on, breaks, continues, returns, ends, exits, with_globals, globals_at, script_frame}
 use Rattle.py_meaning.specs.Jobs.{exec_all, inner_script, reply}
 use Rattle.py_meaning.specs.Plans.{Plan, comes_to, goes, asked_on}
 use Rattle.py_meaning.specs.Calls.{script_begun, after_script, paid_script}

@@ -1,5 +1,5 @@
 -- A question to the host, and a script that is paid for: how it goes on.
-use Rattle.std.proofs.Common.{◌≡◌, ◌≢◌, ◌∙◌, ℕ, Result, Ok, Err, length, refl, sym, subst, ap}
+use Rattle.std.proofs.Common.{◌≡◌, ◌∙◌, ℕ, Result, Ok, Err, length, refl, sym, subst, ap}
 use Rattle.std.specs.Prelude.{OnOk, IfErr}
 use Rattle.py_heap.specs.Heap.{Objects}
 use Rattle.py_heap.specs.Units.{Units, charged}
@@ -17,7 +17,6 @@ use Rattle.py_state.specs.Stops.{refusal_stop, value_stop}
 use Rattle.py_state.specs.Stores.{Store, store_of, state_of, state_by}
 use Rattle.py_state.specs.declared.machine.Machine.{Machine}
 use Rattle.py_state.specs.declared.stop.Stop.{Stop}
-use Rattle.py_state.specs.declared.stop.Stop.TheVariants as stop
 use Rattle.py_steps.specs.Leads.{Unfolds, same, Steps, LeadsOn, Stops}
 
 -- the state with another heap

@@ -1,9 +1,8 @@
 -- The tasks of a body: what is left at the beginning and at the end, and a call among them.
-use Rattle.std.proofs.Common.{◌≡◌, ◌∙◌, ℕ, List, [], ◌∷◌, map, Option, Some, None, Result, Ok, Err, refl, sym, subst, ap}
+use Rattle.std.proofs.Common.{◌≡◌, ◌∙◌, ℕ, List, [], ◌∷◌, map, Option, Result, Ok, Err, refl, sym, subst, ap}
 use denote.Ref.{Bor}
-use Rattle.py_tree.specs.Tree.{Tree, trees, line_tree, argument_tree}
+use Rattle.py_tree.specs.Tree.{trees, line_tree}
 use Rattle.py_tree.specs.declared.line.Line.{Line}
-use Rattle.py_tree.specs.declared.expr.Argument.{Argument}
 use Rattle.py_heap.specs.declared.value.Value.{Value}
 use Rattle.py_heap.specs.declared.fault.ValueFault.{ValueFault}
 use Rattle.py_heap.specs.declared.fault.ValueFault.TheVariants as fault
@@ -11,7 +10,6 @@ use Rattle.py_heap.specs.Units.{Units, charged}
 use Rattle.py_methods.specs.declared.name.Name.{Name}
 use Rattle.py_host.specs.Calls.{Arguments}
 use Rattle.py_host.specs.Meaning.{Meaning}
-use Rattle.py_meaning.specs.Arguments.{arguments_by}
 use Rattle.py_meaning.specs.States.{State, Fault, Out, gives, all_give, goes_on, breaks, continues, returns, ends, exits, with_frame, with_units}
 use Rattle.py_meaning.specs.Jobs.{Job, call, exec_all}
 use Rattle.py_meaning.specs.Plans.{Plan, comes_to, first}
@@ -20,14 +18,13 @@ use Rattle.py_meaning.specs.Evaluates.{Follows, plan, done, stopped, then, then_
 use Rattle.py_state.specs.Stops.{value_stop}
 use Rattle.py_state.specs.declared.stop.Stop.{Stop}
 use Rattle.py_state.specs.declared.stop.Stop.TheVariants as stop
-use Rattle.py_steps.specs.Desks.{Stacks, stacks_of, tasks_of, values_of, top, below, above, under}
+use Rattle.py_steps.specs.Desks.{Stacks, stacks_of, tasks_of, values_of, below, under}
 use Rattle.py_steps.specs.Leads.{LeadsOn}
 use Rattle.py_steps.specs.Todos.{left, settled, callee, gives_on}
 use Rattle.py_steps.specs.declared.desk.Desk.{Desk}
 use Rattle.py_steps.specs.declared.task.Task.{Task}
 use Rattle.py_steps.specs.declared.task.Task.TheVariants as task
-use Rattle.py_steps.proofs.Rests.{left_ends}
-use Rattle.py_eval.specs.Bodies.{Halts, GivesOrHalts, EndsOrHalts}
+use Rattle.py_eval.specs.Bodies.{Halts, GivesOrHalts}
 use Rattle.py_eval.proofs.Halting.{halts_first}
 
 -- the lines of a body are all that is left at the beginning

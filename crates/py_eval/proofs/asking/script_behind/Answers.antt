@@ -6,7 +6,7 @@ use Rattle.py_meaning.specs.States.{State, Frame, with_objects}
 use Rattle.py_meaning.specs.Calls.{next_place}
 use Rattle.py_state.specs.Stops.{refusal_stop}
 use Rattle.py_state.specs.Stores.{store_of, state_by}
-use Rattle.py_eval.proofs.Questions.{with_heap, answered, not_answered}
+use Rattle.py_eval.proofs.Questions.{answered, not_answered}
 use Rattle.py_eval.proofs.asking.script_behind.Goals as goal
 
 pub returns-in-Ok-clause-leads : goal.returns-in-Ok-clause-leads

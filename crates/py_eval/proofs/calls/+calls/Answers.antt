@@ -1,29 +1,29 @@
-use Rattle.std.proofs.Common.{arith, ◌≡◌, ◌∙◌, ◌≤◌, ◌++◌, ℕ, List, [], ◌∷◌, map, length, Option, Some, None, Result, Ok, Err, refl, sym, subst, ap}
+use Rattle.std.proofs.Common.{arith, ◌≡◌, ◌∙◌, List, [], ◌∷◌, map, length, Option, Some, None, Result, Ok, Err, refl, sym, subst, ap}
 use Rattle.std.proofs.lemmas.Result.{err_from_is_err_and}
-use Rattle.py_tree.specs.Tree.{Tree, trees, line_tree, script_tree, argument_tree}
+use Rattle.py_tree.specs.Tree.{trees, line_tree, script_tree, argument_tree}
 use Rattle.py_heap.specs.declared.value.Value.{Value}
 use Rattle.py_heap.specs.declared.value.Value.TheVariants as v
 use Rattle.py_methods.specs.declared.name.Name.{Name}
 use Rattle.py_methods.specs.Names.{takes as method_takes}
 use Rattle.py_builtins.specs.Takes.{takes}
 use Rattle.py_host.specs.declared.reply.Reply.{Reply}
-use Rattle.py_host.specs.Calls.{Arguments, Given, arguments_of, given_of}
+use Rattle.py_host.specs.Calls.{arguments_of, given_of}
 use Rattle.py_meaning.specs.Arguments.{arguments_by, bound}
-use Rattle.py_meaning.specs.States.{State, Function, Frame, Out, goes_on, gives, returns, with_globals, script_frame, function_frame}
-use Rattle.py_meaning.specs.Jobs.{Job, a_value, a_method, exec_all, inner_script, reply, call}
+use Rattle.py_meaning.specs.States.{Function, Frame, Out, goes_on, gives, returns, with_globals, script_frame, function_frame}
+use Rattle.py_meaning.specs.Jobs.{a_value, a_method, exec_all, inner_script, reply, call}
 use Rattle.py_meaning.specs.Plans.{Plan, first, goes}
 use Rattle.py_meaning.specs.Calls.{begun, plan_perform}
-use Rattle.py_meaning.specs.Evaluates.{Follows, plan, done}
+use Rattle.py_meaning.specs.Evaluates.{Follows, plan}
 use Rattle.py_state.specs.Stores.{Store, store_of, state_of, state_by, function_of}
 use Rattle.py_state.specs.declared.function.Function as code
 use Rattle.py_state.specs.declared.stop.Stop.{Stop}
 use Rattle.py_state.specs.declared.stop.Stop.TheVariants as stop
 use Rattle.py_steps.specs.Desks.{Stacks, tasks_of, values_of, top, below, above, under}
-use Rattle.py_steps.specs.Leads.{LeadsOn, left_at, left_with}
+use Rattle.py_steps.specs.Leads.{left_at, left_with}
 use Rattle.py_steps.specs.Todos.{callee, gives_on, left}
 use Rattle.py_steps.specs.declared.statements.Flow.{Flow}
 use Rattle.py_steps.specs.declared.task.Task.TheVariants as task
-use Rattle.py_eval.specs.Bodies.{Halts, GivesOrHalts, LeadsOrHalts, FlowsOrHalts, EndsOrHalts, IsOverOrStops}
+use Rattle.py_eval.specs.Bodies.{Halts, GivesOrHalts, LeadsOrHalts, FlowsOrHalts, EndsOrHalts}
 use Rattle.py_eval.proofs.Beginning.{method_refused, method_too_deep, method_gives, builtin_refused, builtin_too_deep, builtin_gives, object_too_deep, object_gives, not_callable, no_function, not_bound, function_too_deep, function_gives, body_as}
 use Rattle.py_eval.proofs.Giving.{gives_alone}
 use Rattle.py_eval.proofs.Halting.{handed, whole, halts_after, halts_by, flows_by}
@@ -41,7 +41,7 @@ run_script-returns-in-Ok-clause-over g t c =
 pub run_body-tasks-init : goal.run_body-tasks-init
 run_body-tasks-init g t c = record {
   later = omega arith;
-  leads = begins g.H.Host.meaning c.args.calls c.push.new.self c.args.lines (state_of c.args.machine.now c.args.frame.now) c.args.host.now (c.in_ok-push.ensures ∙ ap (λ (st : Stacks). record st { tasks = task.Lines c.args.lines ∷ st.tasks }) c.new-desk.ensures)
+  leads = begins g.H.Host.meaning c.args.calls c.push.new.self c.args.lines (state_of c.args.machine.now c.args.frame.now) c.args.host.now (c.in_ok-push.ensures ∙ ap (λ (st : Stacks). record st { tasks = task.Lines c.args.lines ∷ st.tasks }) c.new-desk.ensures);
 }
 
 pub run_body-returns-in_default-clause-ends : goal.run_body-returns-in_default-clause-ends
@@ -88,13 +88,13 @@ run_body-tasks-preserved g t c =
     let step = subst (λ q. FlowsOrHalts m c.args.calls q c.tasks.host (Ok c.in_ok-step.field-0) after s c.step.new.host) (sym (task_taken c.tasks.desk c.next.new.self c.in-Some.task (state_of c.tasks.machine c.tasks.frame) c.in-Some.ensures)) c.in_ok-step.ensures.flows in
     record {
       later = omega (arith, c.tasks.invariant.later, c.step.ensures.later);
-      leads = λ r h3 d. c.tasks.invariant.leads r h3 ((subst (λ (w : Flow). FlowsOrHalts m c.args.calls before c.tasks.host (Ok w) after s c.step.new.host) c.in-GoesOn.is step) r h3 d)
+      leads = λ r h3 d. c.tasks.invariant.leads r h3 ((subst (λ (w : Flow). FlowsOrHalts m c.args.calls before c.tasks.host (Ok w) after s c.step.new.host) c.in-GoesOn.is step) r h3 d);
     }
 
 pub step-returns-in_default : goal.step-returns-in_default
 step-returns-in_default g t c = record {
   later = c.step.ensures.later;
-  flows = flows_by g.H.Host.meaning c.args.calls (left_with c.args.task c.args.desk.now c.args.machine.now c.args.frame.now) (left_at c.step.new.desk c.step.new.machine c.step.new.frame) c.args.host.now c.step.new.host (state_of c.step.new.machine c.step.new.frame) c.step.result (c.step.ensures.flows c.args.calls)
+  flows = flows_by g.H.Host.meaning c.args.calls (left_with c.args.task c.args.desk.now c.args.machine.now c.args.frame.now) (left_at c.step.new.desk c.step.new.machine c.step.new.frame) c.args.host.now c.step.new.host (state_of c.step.new.machine c.step.new.frame) c.step.result (c.step.ensures.flows c.args.calls);
 }
 
 pub call_task-returns-in_err-pay-clause-leads : goal.call_task-returns-in_err-pay-clause-leads
@@ -340,7 +340,7 @@ call_object-returns-in_err-reply-clause-gives g t c =
 pub call_object-scripts-init : goal.call_object-scripts-init
 call_object-scripts-init g t c = record {
   later = c.reply_to_call.ensures.later;
-  leads = λ r h3 d. c.in_ok-reply.ensures.leads c.in_ok-inside.inside (λ a s1. goes (reply c.args.line a) s1) r h3 (whole r d)
+  leads = λ r h3 d. c.in_ok-reply.ensures.leads c.in_ok-inside.inside (λ a s1. goes (reply c.args.line a) s1) r h3 (whole r d);
 }
 
 pub call_object-returns-in-Value-clause-gives : goal.call_object-returns-in-Value-clause-gives
@@ -391,7 +391,7 @@ call_object-scripts-preserved g t c =
     let s2 = state_of c.scripts.machine c.args.frame.now in
     record {
       later = omega (arith, c.scripts.invariant.later, c.run_inner.ensures.later);
-      leads = λ r h3 d. c.scripts.invariant.leads r h3 (script_replied m c.in_ok-inside.inside c.args.line (given_of c.scripts.reply) (script_tree c.in-Script.script) s2 c.scripts.host (ap given_of c.in-Script.is) r h3 (c.in_ok-reply-in-Script.ensures.leads r h3 d))
+      leads = λ r h3 d. c.scripts.invariant.leads r h3 (script_replied m c.in_ok-inside.inside c.args.line (given_of c.scripts.reply) (script_tree c.in-Script.script) s2 c.scripts.host (ap given_of c.in-Script.is) r h3 (c.in_ok-reply-in-Script.ensures.leads r h3 d));
     }
 
 pub run_inner-returns-in_err-_exit-clause-leads : goal.run_inner-returns-in_err-_exit-clause-leads
@@ -458,5 +458,5 @@ run_inner-returns g t c =
     let s2 = state_of c.reply_to_end.new.machine c.args.frame.now in
     record {
       later = omega (arith, c.run_script.ensures.later, c.reply_to_end.ensures.later);
-      leads = no_further m c.args.calls c.args.line ts s s2 c.in_ok-_exit._exit kept c.in_ok-number.number c.args.host.now c.run_script.new.host c.reply_to_end.new.host c.in_ok-reply.reply (lines_as m c.args.calls c.as_slice.result.now c.args.script.now.lines.items (state_by (store_of c.begin_script.new.self) (script_frame c.in_ok-number.number)) _ (Ok c.in_ok-_exit._exit) (store_of c.run_script.new.machine) c.args.host.now c.run_script.new.host c.as_slice.ensures.value begun_as c.in_ok-_exit.ensures.over) c.in_ok-number.ensures.ok c.in_default.not-Script (c.in_ok-reply.ensures.leads c.args.calls)
+      leads = no_further m c.args.calls c.args.line ts s s2 c.in_ok-_exit._exit kept c.in_ok-number.number c.args.host.now c.run_script.new.host c.reply_to_end.new.host c.in_ok-reply.reply (lines_as m c.args.calls c.as_slice.result.now c.args.script.now.lines.items (state_by (store_of c.begin_script.new.self) (script_frame c.in_ok-number.number)) _ (Ok c.in_ok-_exit._exit) (store_of c.run_script.new.machine) c.args.host.now c.run_script.new.host c.as_slice.ensures.value begun_as c.in_ok-_exit.ensures.over) c.in_ok-number.ensures.ok c.in_default.not-Script (c.in_ok-reply.ensures.leads c.args.calls);
     }

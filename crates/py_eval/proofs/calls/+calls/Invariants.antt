@@ -40,12 +40,12 @@ decreases-run_inner g l = 8 * l.calls + 6
 abbrev pub invariant-run_body-tasks : goal.invariant-run_body-tasks
 invariant-run_body-tasks g l = record {
   later : g.H.Host.meaning.refusals l.fn.host ≤ g.H.Host.meaning.refusals l.host;
-  leads : LeadsOn g.H.Host.meaning l.calls (first (exec_all (trees (map line_tree l.lines))) (state_of l.fn.machine l.fn.frame) (left [] [])) l.fn.host (left_at l.desk l.machine l.frame) l.host
+  leads : LeadsOn g.H.Host.meaning l.calls (first (exec_all (trees (map line_tree l.lines))) (state_of l.fn.machine l.fn.frame) (left [] [])) l.fn.host (left_at l.desk l.machine l.frame) l.host;
 }
 
 -- the same of the reply to the call
 abbrev pub invariant-call_object-scripts : goal.invariant-call_object-scripts
 invariant-call_object-scripts g l = record {
   later : g.H.Host.meaning.refusals l.fn.host ≤ g.H.Host.meaning.refusals l.host;
-  leads : LeadsOn g.H.Host.meaning l.inside (plan_perform l.line (a_value (v.Object l.fn.object)) (arguments_of l.fn.args) (state_of l.fn.machine l.frame)) l.fn.host (plan (reply l.line (given_of l.reply)) (state_of l.machine l.frame)) l.host
+  leads : LeadsOn g.H.Host.meaning l.inside (plan_perform l.line (a_value (v.Object l.fn.object)) (arguments_of l.fn.args) (state_of l.fn.machine l.frame)) l.fn.host (plan (reply l.line (given_of l.reply)) (state_of l.machine l.frame)) l.host;
 }

@@ -1,13 +1,13 @@
-use Rattle.std.proofs.Common.{arith, Result, Ok, Err, sym, subst}
+use Rattle.std.proofs.Common.{arith, Result}
 use Rattle.std.proofs.lemmas.Result.{err_from_is_err_and}
 use Rattle.py_tree.specs.Tree.{script_tree}
 use Rattle.py_meaning.specs.declared.fault.Exit.{Exit}
-use Rattle.py_meaning.specs.States.{State, script_frame}
+use Rattle.py_meaning.specs.States.{script_frame}
 use Rattle.py_meaning.specs.Jobs.{first_scripts}
 use Rattle.py_meaning.specs.Evaluates.{plan, call_limit}
 use Rattle.py_state.specs.Stores.{store_of, state_of, state_by}
 use Rattle.py_state.specs.declared.stop.Stop.{Stop}
-use Rattle.py_eval.specs.Bodies.{ExitsOrStops, next_plan}
+use Rattle.py_eval.specs.Bodies.{ExitsOrStops}
 use Rattle.py_eval.proofs.Halting.{handed}
 use Rattle.py_eval.proofs.Firsts.{stops_after, next_runs, next_exits}
 use Rattle.py_eval.proofs.scripts.run_first.Goals as goal
@@ -42,5 +42,5 @@ scripts-preserved g c =
     let next = c.in_ok-next-in-Script.ensures.leads f in
     record {
       later = omega (arith, c.scripts.invariant.later, c.run_one-in-Script.ensures.later);
-      leads = (next.0, λ r h3 d. runs r h3 (next.1 r h3 d))
+      leads = (next.0, λ r h3 d. runs r h3 (next.1 r h3 d));
     }

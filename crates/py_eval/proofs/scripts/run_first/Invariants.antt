@@ -12,5 +12,5 @@ use Rattle.py_eval.proofs.scripts.run_first.Given as goal
 abbrev pub invariant-scripts : goal.invariant-scripts
 invariant-scripts g l = record {
   later : g.H.Host.meaning.refusals l.fn.host ≤ g.H.Host.meaning.refusals l.host;
-  leads : (f : Frame) × LeadsOn g.H.Host.meaning call_limit (plan (first_scripts (script_tree l.fn.script)) (state_by (store_of l.fn.machine) (script_frame 0))) l.fn.host (next_plan l.next (state_by (store_of l.machine) f)) l.host
+  leads : (f : Frame) × LeadsOn g.H.Host.meaning call_limit (plan (first_scripts (script_tree l.fn.script)) (state_by (store_of l.fn.machine) (script_frame 0))) l.fn.host (next_plan l.next (state_by (store_of l.machine) f)) l.host;
 }

@@ -1,9 +1,8 @@
-use Rattle.std.proofs.Common.{◌≡◌, ◌∙◌, ℕ, Option, Some, None, Result, Ok, Err, map, ap}
+use Rattle.std.proofs.Common.{Result, Ok, Err, ap}
 use Rattle.std.proofs.lemmas.Result.{err_from_is_err_and}
 use Rattle.py_tree.specs.Tree.{script_tree}
-use Rattle.py_tree.specs.declared.line.Script.{Script}
 use Rattle.py_host.specs.Calls.{tree_of}
-use Rattle.py_meaning.specs.States.{Frame, script_frame}
+use Rattle.py_meaning.specs.States.{script_frame}
 use Rattle.py_meaning.specs.Jobs.{first_scripts}
 use Rattle.py_meaning.specs.Evaluates.{plan, call_limit}
 use Rattle.py_state.specs.Stores.{store_of, state_of, state_by}
