@@ -16,7 +16,7 @@ use Rattle.py_host.specs.Calls.{Arguments}
 use Rattle.py_host.specs.Meaning.{Meaning}
 use Rattle.py_meaning.specs.declared.fault.EvalKind.TheVariants as kind
 use Rattle.py_meaning.specs.States.{State, Frame, Function, Out, gives, all_give, goes_on, breaks, continues, returns, ends, exits, with_frame, function_frame, place_at}
-use Rattle.py_meaning.specs.Jobs.{a_value, a_method, perform, exec_all}
+use Rattle.py_meaning.specs.Jobs.{Callee, a_value, a_method, perform, exec_all}
 use Rattle.py_meaning.specs.Plans.{Plan}
 use Rattle.py_meaning.specs.Arguments.{bound}
 use Rattle.py_meaning.specs.Calls.{begun, plan_perform, plain_arguments}
@@ -28,59 +28,53 @@ use Rattle.py_steps.specs.Todos.{settled}
 use Rattle.py_eval.specs.Bodies.{Halts, GivesOrHalts, EndsOrHalts}
 use Rattle.py_eval.proofs.Halting.{gives_called}
 
--- a method: its arguments don't fit, it is one call too deep, or it gives what its plan gives
-method_taken : (b taken : Bool) (x : Value) (n : Name) (given : Arguments) → taken ≡ method_takes n (length given.positional) → plain_arguments taken given ≡ b → plain_arguments (method_takes n (length given.positional)) given ≡ b
-method_taken b taken x n given t e = ap (λ x. plain_arguments x given) (sym t) ∙ e
+-- what takes only plain arguments: a built-in function, or a method
+abbrev pub IsPlain : Callee → Type 0
+IsPlain (a_value (v.Builtin b)) = Unit {0}
+IsPlain (a_method x n) = Unit {0}
+IsPlain other = ⊥
 
-method_args : {H : Type 0} (m : Meaning H) (c : ℕ) (l : ℕ) (x : Value) (n : Name) (given : Arguments) (s : State) (s1 : State) (h : H) → plain_arguments (method_takes n (length given.positional)) given ≡ false → Halts m c (begun l (a_method x n) given s) h (stop.Fault s.frame.script l kind.Args) s1 h
-method_args m c l x n given s s1 h e = rw e (stopped tt)
+-- whether it takes so many
+abbrev pub taken_by : Callee → ℕ → Bool
+taken_by (a_value (v.Builtin b)) count = takes b count
+taken_by (a_method x n) count = method_takes n count
+taken_by other count = false
 
-pub method_refused : {H : Type 0} (m : Meaning H) (c : ℕ) (l : ℕ) (x : Value) (n : Name) (given : Arguments) (s : State) (s1 : State) (h : H) (taken : Bool) (z : Stop) → taken ≡ method_takes n (length given.positional) → (plain_arguments taken given ≡ false) × (z ≡ stop.Fault s.frame.script l kind.Args) → Halts m c (begun l (a_method x n) given s) h z s1 h
-method_refused m c l x n given s s1 h taken z t w =
-    subst (λ y. Halts m c (begun l (a_method x n) given s) h y s1 h) (sym w.1) (method_args m c l x n given s s1 h (method_taken false taken x n given t w.0))
+abbrev fits : Callee → Arguments → Bool
+fits x given = plain_arguments (taken_by x (length given.positional)) given
 
-method_depth : {H : Type 0} (m : Meaning H) (l : ℕ) (x : Value) (n : Name) (given : Arguments) (s : State) (s1 : State) (h : H) → plain_arguments (method_takes n (length given.positional)) given ≡ true → Halts m zero (begun l (a_method x n) given s) h (stop.Fault s.frame.script l kind.Depth) s1 h
-method_depth m l x n given s s1 h e = rw e too_deep
+plain_args : {H : Type 0} (m : Meaning H) (c l : ℕ) (x : Callee) (i : IsPlain x) (given : Arguments) (s s1 : State) (h : H) → fits x given ≡ false → Halts m c (begun l x given s) h (stop.Fault s.frame.script l kind.Args) s1 h
+plain_args m c l (a_value (v.Builtin b)) i given s s1 h e = rw e (stopped tt)
+plain_args m c l (a_method x n) i given s s1 h e = rw e (stopped tt)
+plain_args m c l (a_value x) i given s s1 h e = absurd i
 
-pub method_too_deep : {H : Type 0} (m : Meaning H) (c : ℕ) (l : ℕ) (x : Value) (n : Name) (given : Arguments) (s : State) (s1 : State) (h : H) (taken : Bool) (z : Stop) → taken ≡ method_takes n (length given.positional) → plain_arguments taken given ≡ true → (c ≡ 0) × (z ≡ stop.Fault s.frame.script l kind.Depth) → Halts m c (begun l (a_method x n) given s) h z s1 h
-method_too_deep m c l x n given s s1 h taken z t e w =
-    subst (λ y. Halts m c (begun l (a_method x n) given s) h y s1 h) (sym w.1)
-    (subst (λ calls. Halts m calls (begun l (a_method x n) given s) h (stop.Fault s.frame.script l kind.Depth) s1 h) (sym w.0) (method_depth m l x n given s s1 h (method_taken true taken x n given t e)))
+plain_depth : {H : Type 0} (m : Meaning H) (l : ℕ) (x : Callee) (i : IsPlain x) (given : Arguments) (s s1 : State) (h : H) → fits x given ≡ true → Halts m zero (begun l x given s) h (stop.Fault s.frame.script l kind.Depth) s1 h
+plain_depth m l (a_value (v.Builtin b)) i given s s1 h e = rw e too_deep
+plain_depth m l (a_method x n) i given s s1 h e = rw e too_deep
+plain_depth m l (a_value x) i given s s1 h e = absurd i
 
-method_inside : {H : Type 0} (m : Meaning H) (c : ℕ) (l : ℕ) (x : Value) (n : Name) (given : Arguments) (s : State) (s1 : State) (h h1 : H) (r : Result Value Stop) → plain_arguments (method_takes n (length given.positional)) given ≡ true → GivesOrHalts m c (plan_perform l (a_method x n) given s) h r s1 h1 → GivesOrHalts m (suc c) (begun l (a_method x n) given s) h r s1 h1
+plain_inside : {H : Type 0} (m : Meaning H) (c l : ℕ) (x : Callee) (i : IsPlain x) (given : Arguments) (s s1 : State) (h h1 : H) (r : Result Value Stop) → fits x given ≡ true → GivesOrHalts m c (plan_perform l x given s) h r s1 h1 → GivesOrHalts m (suc c) (begun l x given s) h r s1 h1
 unfolding plan
-method_inside m c l x n given s s1 h h1 r e d = rw e (gives_called m c (perform l (a_method x n) given) s s1 (place_at l s) h h1 r d)
+plain_inside m c l (a_value (v.Builtin b)) i given s s1 h h1 r e d = rw e (gives_called m c (perform l (a_value (v.Builtin b)) given) s s1 (place_at l s) h h1 r d)
+plain_inside m c l (a_method x n) i given s s1 h h1 r e d = rw e (gives_called m c (perform l (a_method x n) given) s s1 (place_at l s) h h1 r d)
+plain_inside m c l (a_value x) i given s s1 h h1 r e d = absurd i
 
-pub method_gives : {H : Type 0} (m : Meaning H) (c i : ℕ) (l : ℕ) (x : Value) (n : Name) (given : Arguments) (s : State) (s1 : State) (h h1 : H) (taken : Bool) (r : Result Value Stop) → taken ≡ method_takes n (length given.positional) → plain_arguments taken given ≡ true → c ≡ suc i → GivesOrHalts m i (plan_perform l (a_method x n) given s) h r s1 h1 → GivesOrHalts m c (begun l (a_method x n) given s) h r s1 h1
-method_gives m c i l x n given s s1 h h1 taken r t e f d =
-    subst (λ calls. GivesOrHalts m calls (begun l (a_method x n) given s) h r s1 h1) (sym f) (method_inside m i l x n given s s1 h h1 r (method_taken true taken x n given t e) d)
+taken_as : (b taken : Bool) (x : Callee) (given : Arguments) → taken ≡ taken_by x (length given.positional) → plain_arguments taken given ≡ b → fits x given ≡ b
+taken_as b taken x given t e = ap (λ y. plain_arguments y given) (sym t) ∙ e
 
--- a built-in function
-builtin_taken : (a taken : Bool) (b : Builtin) (given : Arguments) → taken ≡ takes b (length given.positional) → plain_arguments taken given ≡ a → plain_arguments (takes b (length given.positional)) given ≡ a
-builtin_taken a taken b given t e = ap (λ x. plain_arguments x given) (sym t) ∙ e
+-- its arguments don't fit, it is one call too deep, or it gives what its plan gives
+pub plain_refused : {H : Type 0} (m : Meaning H) (c l : ℕ) (x : Callee) (i : IsPlain x) (given : Arguments) (s s1 : State) (h : H) (taken : Bool) (z : Stop) → taken ≡ taken_by x (length given.positional) → (plain_arguments taken given ≡ false) × (z ≡ stop.Fault s.frame.script l kind.Args) → Halts m c (begun l x given s) h z s1 h
+plain_refused m c l x i given s s1 h taken z t w =
+    subst (λ y. Halts m c (begun l x given s) h y s1 h) (sym w.1) (plain_args m c l x i given s s1 h (taken_as false taken x given t w.0))
 
-builtin_args : {H : Type 0} (m : Meaning H) (c : ℕ) (l : ℕ) (b : Builtin) (given : Arguments) (s : State) (s1 : State) (h : H) → plain_arguments (takes b (length given.positional)) given ≡ false → Halts m c (begun l (a_value (v.Builtin b)) given s) h (stop.Fault s.frame.script l kind.Args) s1 h
-builtin_args m c l b given s s1 h e = rw e (stopped tt)
+pub plain_too_deep : {H : Type 0} (m : Meaning H) (c l : ℕ) (x : Callee) (i : IsPlain x) (given : Arguments) (s s1 : State) (h : H) (taken : Bool) (z : Stop) → taken ≡ taken_by x (length given.positional) → plain_arguments taken given ≡ true → (c ≡ 0) × (z ≡ stop.Fault s.frame.script l kind.Depth) → Halts m c (begun l x given s) h z s1 h
+plain_too_deep m c l x i given s s1 h taken z t e w =
+    subst (λ y. Halts m c (begun l x given s) h y s1 h) (sym w.1)
+    (subst (λ calls. Halts m calls (begun l x given s) h (stop.Fault s.frame.script l kind.Depth) s1 h) (sym w.0) (plain_depth m l x i given s s1 h (taken_as true taken x given t e)))
 
-pub builtin_refused : {H : Type 0} (m : Meaning H) (c : ℕ) (l : ℕ) (b : Builtin) (given : Arguments) (s : State) (s1 : State) (h : H) (taken : Bool) (z : Stop) → taken ≡ takes b (length given.positional) → (plain_arguments taken given ≡ false) × (z ≡ stop.Fault s.frame.script l kind.Args) → Halts m c (begun l (a_value (v.Builtin b)) given s) h z s1 h
-builtin_refused m c l b given s s1 h taken z t w =
-    subst (λ y. Halts m c (begun l (a_value (v.Builtin b)) given s) h y s1 h) (sym w.1) (builtin_args m c l b given s s1 h (builtin_taken false taken b given t w.0))
-
-builtin_depth : {H : Type 0} (m : Meaning H) (l : ℕ) (b : Builtin) (given : Arguments) (s : State) (s1 : State) (h : H) → plain_arguments (takes b (length given.positional)) given ≡ true → Halts m zero (begun l (a_value (v.Builtin b)) given s) h (stop.Fault s.frame.script l kind.Depth) s1 h
-builtin_depth m l b given s s1 h e = rw e too_deep
-
-pub builtin_too_deep : {H : Type 0} (m : Meaning H) (c : ℕ) (l : ℕ) (b : Builtin) (given : Arguments) (s : State) (s1 : State) (h : H) (taken : Bool) (z : Stop) → taken ≡ takes b (length given.positional) → plain_arguments taken given ≡ true → (c ≡ 0) × (z ≡ stop.Fault s.frame.script l kind.Depth) → Halts m c (begun l (a_value (v.Builtin b)) given s) h z s1 h
-builtin_too_deep m c l b given s s1 h taken z t e w =
-    subst (λ y. Halts m c (begun l (a_value (v.Builtin b)) given s) h y s1 h) (sym w.1)
-    (subst (λ calls. Halts m calls (begun l (a_value (v.Builtin b)) given s) h (stop.Fault s.frame.script l kind.Depth) s1 h) (sym w.0) (builtin_depth m l b given s s1 h (builtin_taken true taken b given t e)))
-
-builtin_inside : {H : Type 0} (m : Meaning H) (c : ℕ) (l : ℕ) (b : Builtin) (given : Arguments) (s : State) (s1 : State) (h h1 : H) (r : Result Value Stop) → plain_arguments (takes b (length given.positional)) given ≡ true → GivesOrHalts m c (plan_perform l (a_value (v.Builtin b)) given s) h r s1 h1 → GivesOrHalts m (suc c) (begun l (a_value (v.Builtin b)) given s) h r s1 h1
-unfolding plan
-builtin_inside m c l b given s s1 h h1 r e d = rw e (gives_called m c (perform l (a_value (v.Builtin b)) given) s s1 (place_at l s) h h1 r d)
-
-pub builtin_gives : {H : Type 0} (m : Meaning H) (c i : ℕ) (l : ℕ) (b : Builtin) (given : Arguments) (s : State) (s1 : State) (h h1 : H) (taken : Bool) (r : Result Value Stop) → taken ≡ takes b (length given.positional) → plain_arguments taken given ≡ true → c ≡ suc i → GivesOrHalts m i (plan_perform l (a_value (v.Builtin b)) given s) h r s1 h1 → GivesOrHalts m c (begun l (a_value (v.Builtin b)) given s) h r s1 h1
-builtin_gives m c i l b given s s1 h h1 taken r t e f d =
-    subst (λ calls. GivesOrHalts m calls (begun l (a_value (v.Builtin b)) given s) h r s1 h1) (sym f) (builtin_inside m i l b given s s1 h h1 r (builtin_taken true taken b given t e) d)
+pub plain_gives : {H : Type 0} (m : Meaning H) (c c1 l : ℕ) (x : Callee) (i : IsPlain x) (given : Arguments) (s s1 : State) (h h1 : H) (taken : Bool) (r : Result Value Stop) → taken ≡ taken_by x (length given.positional) → plain_arguments taken given ≡ true → c ≡ suc c1 → GivesOrHalts m c1 (plan_perform l x given s) h r s1 h1 → GivesOrHalts m c (begun l x given s) h r s1 h1
+plain_gives m c c1 l x i given s s1 h h1 taken r t e f d =
+    subst (λ calls. GivesOrHalts m calls (begun l x given s) h r s1 h1) (sym f) (plain_inside m c1 l x i given s s1 h h1 r (taken_as true taken x given t e) d)
 
 -- an object
 object_depth : {H : Type 0} (m : Meaning H) (l : ℕ) (id : HostId) (given : Arguments) (s s1 : State) (h : H) → Halts m zero (begun l (a_value (v.Object id)) given s) h (stop.Fault s.frame.script l kind.Depth) s1 h

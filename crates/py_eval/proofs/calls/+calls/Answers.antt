@@ -24,7 +24,7 @@ use Rattle.py_steps.specs.Todos.{callee, gives_on, left}
 use Rattle.py_steps.specs.declared.statements.Flow.{Flow}
 use Rattle.py_steps.specs.declared.task.Task.TheVariants as task
 use Rattle.py_eval.specs.Bodies.{Halts, GivesOrHalts, LeadsOrHalts, FlowsOrHalts, EndsOrHalts}
-use Rattle.py_eval.proofs.Beginning.{method_refused, method_too_deep, method_gives, builtin_refused, builtin_too_deep, builtin_gives, object_too_deep, object_gives, not_callable, no_function, not_bound, function_too_deep, function_gives, body_as}
+use Rattle.py_eval.proofs.Beginning.{plain_refused, plain_too_deep, plain_gives, object_too_deep, object_gives, not_callable, no_function, not_bound, function_too_deep, function_gives, body_as}
 use Rattle.py_eval.proofs.Giving.{gives_alone}
 use Rattle.py_eval.proofs.Halting.{handed, whole, halts_after, halts_by, flows_by}
 use Rattle.py_eval.proofs.Over.{ends_over, inner_stops, not_replied, no_further, further_paid, further_unpaid, script_begins, lines_as, value_replied, names_replied, end_replied, script_replied}
@@ -158,7 +158,7 @@ call-returns-in_err-plain-in-Some-clause-gives g t c =
     let p = err_from_is_err_and c.from_residual.result c.from_residual.ensures.1 in
     subst (λ (o : Option Name). GivesOrHalts m c.args.calls (begun c.args.line (callee c.args.called o) given s) c.args.host.now c.from_residual.result s c.args.host.now) (sym c.in-Some.is)
     (handed (λ (r : Result Value Stop). GivesOrHalts m c.args.calls (begun c.args.line (a_method c.args.called n) given s) c.args.host.now r s c.args.host.now) c.from_residual.result p.0 c.in_err-plain-in-Some.field-0.0 p.1 p.2
-    (method_refused m c.args.calls c.args.line c.args.called n given s s c.args.host.now c.takes.result c.in_err-plain-in-Some.field-0.0 taken c.in_err-plain-in-Some.ensures.fault))
+    (plain_refused m c.args.calls c.args.line (a_method c.args.called n) tt given s s c.args.host.now c.takes.result c.in_err-plain-in-Some.field-0.0 taken c.in_err-plain-in-Some.ensures.fault))
 
 pub call-returns-in_err-_inside-in-Some-clause-gives : goal.call-returns-in_err-_inside-in-Some-clause-gives
 call-returns-in_err-_inside-in-Some-clause-gives g t c =
@@ -170,7 +170,7 @@ call-returns-in_err-_inside-in-Some-clause-gives g t c =
     let p = err_from_is_err_and c.from_residual-in_err-_inside-in-Some.result c.from_residual-in_err-_inside-in-Some.ensures.1 in
     subst (λ (o : Option Name). GivesOrHalts m c.args.calls (begun c.args.line (callee c.args.called o) given s) c.args.host.now c.from_residual-in_err-_inside-in-Some.result s c.args.host.now) (sym c.in-Some.is)
     (handed (λ (r : Result Value Stop). GivesOrHalts m c.args.calls (begun c.args.line (a_method c.args.called n) given s) c.args.host.now r s c.args.host.now) c.from_residual-in_err-_inside-in-Some.result p.0 c.in_err-_inside-in-Some.field-0.0 p.1 p.2
-    (method_too_deep m c.args.calls c.args.line c.args.called n given s s c.args.host.now c.takes.result c.in_err-_inside-in-Some.field-0.0 taken c.in_ok-plain-in-Some.ensures.ok c.in_err-_inside-in-Some.ensures.fault))
+    (plain_too_deep m c.args.calls c.args.line (a_method c.args.called n) tt given s s c.args.host.now c.takes.result c.in_err-_inside-in-Some.field-0.0 taken c.in_ok-plain-in-Some.ensures.ok c.in_err-_inside-in-Some.ensures.fault))
 
 pub call-returns-in_ok-_inside-in-Some-clause-gives : goal.call-returns-in_ok-_inside-in-Some-clause-gives
 call-returns-in_ok-_inside-in-Some-clause-gives g t c =
@@ -183,7 +183,7 @@ call-returns-in_ok-_inside-in-Some-clause-gives g t c =
     let alone = subst (λ (xs : List Value). GivesOrHalts m c.in_ok-_inside-in-Some._inside (plan_perform c.args.line (a_method c.args.called n) (record { positional = xs; named = [] }) s) c.args.host.now c.do_method.result s2 c.args.host.now) c.as_slice-positional.ensures.value
     (gives_alone m c.in_ok-_inside-in-Some._inside (plan_perform c.args.line (a_method c.args.called n) (record { positional = c.as_slice-positional.result.now; named = [] }) s) c.do_method.result s2 c.args.host.now c.do_method.ensures) in
     subst (λ (o : Option Name). GivesOrHalts m c.args.calls (begun c.args.line (callee c.args.called o) given s) c.args.host.now c.do_method.result s2 c.args.host.now) (sym c.in-Some.is)
-    (method_gives m c.args.calls c.in_ok-_inside-in-Some._inside c.args.line c.args.called n given s s2 c.args.host.now c.args.host.now c.takes.result c.do_method.result taken c.in_ok-plain-in-Some.ensures.ok c.in_ok-_inside-in-Some.ensures.ok alone)
+    (plain_gives m c.args.calls c.in_ok-_inside-in-Some._inside c.args.line (a_method c.args.called n) tt given s s2 c.args.host.now c.args.host.now c.takes.result c.do_method.result taken c.in_ok-plain-in-Some.ensures.ok c.in_ok-_inside-in-Some.ensures.ok alone)
 
 pub call-returns-in_err-plain-in-Builtin-clause-gives : goal.call-returns-in_err-plain-in-Builtin-clause-gives
 call-returns-in_err-plain-in-Builtin-clause-gives g t c =
@@ -196,7 +196,7 @@ call-returns-in_err-plain-in-Builtin-clause-gives g t c =
     subst (λ (o : Option Name). GivesOrHalts m c.args.calls (begun c.args.line (callee c.args.called o) given s) c.args.host.now c.from_residual-in_err-plain-in-Builtin.result s c.args.host.now) (sym c.in-None.is)
     (subst (λ (x : Value). GivesOrHalts m c.args.calls (begun c.args.line (a_value x) given s) c.args.host.now c.from_residual-in_err-plain-in-Builtin.result s c.args.host.now) (sym c.in-Builtin.is)
     (handed (λ (r : Result Value Stop). GivesOrHalts m c.args.calls (begun c.args.line (a_value (v.Builtin b)) given s) c.args.host.now r s c.args.host.now) c.from_residual-in_err-plain-in-Builtin.result p.0 c.in_err-plain-in-Builtin.field-0.0 p.1 p.2
-    (builtin_refused m c.args.calls c.args.line b given s s c.args.host.now c.takes-in-Builtin.result c.in_err-plain-in-Builtin.field-0.0 taken c.in_err-plain-in-Builtin.ensures.fault)))
+    (plain_refused m c.args.calls c.args.line (a_value (v.Builtin b)) tt given s s c.args.host.now c.takes-in-Builtin.result c.in_err-plain-in-Builtin.field-0.0 taken c.in_err-plain-in-Builtin.ensures.fault)))
 
 pub call-returns-in_err-_inside-in-Builtin-clause-gives : goal.call-returns-in_err-_inside-in-Builtin-clause-gives
 call-returns-in_err-_inside-in-Builtin-clause-gives g t c =
@@ -209,7 +209,7 @@ call-returns-in_err-_inside-in-Builtin-clause-gives g t c =
     subst (λ (o : Option Name). GivesOrHalts m c.args.calls (begun c.args.line (callee c.args.called o) given s) c.args.host.now c.from_residual-in_err-_inside-in-Builtin.result s c.args.host.now) (sym c.in-None.is)
     (subst (λ (x : Value). GivesOrHalts m c.args.calls (begun c.args.line (a_value x) given s) c.args.host.now c.from_residual-in_err-_inside-in-Builtin.result s c.args.host.now) (sym c.in-Builtin.is)
     (handed (λ (r : Result Value Stop). GivesOrHalts m c.args.calls (begun c.args.line (a_value (v.Builtin b)) given s) c.args.host.now r s c.args.host.now) c.from_residual-in_err-_inside-in-Builtin.result p.0 c.in_err-_inside-in-Builtin.field-0.0 p.1 p.2
-    (builtin_too_deep m c.args.calls c.args.line b given s s c.args.host.now c.takes-in-Builtin.result c.in_err-_inside-in-Builtin.field-0.0 taken c.in_ok-plain-in-Builtin.ensures.ok c.in_err-_inside-in-Builtin.ensures.fault)))
+    (plain_too_deep m c.args.calls c.args.line (a_value (v.Builtin b)) tt given s s c.args.host.now c.takes-in-Builtin.result c.in_err-_inside-in-Builtin.field-0.0 taken c.in_ok-plain-in-Builtin.ensures.ok c.in_err-_inside-in-Builtin.ensures.fault)))
 
 pub call-returns-in_ok-_inside-in-Builtin-clause-gives : goal.call-returns-in_ok-_inside-in-Builtin-clause-gives
 call-returns-in_ok-_inside-in-Builtin-clause-gives g t c =
@@ -222,7 +222,7 @@ call-returns-in_ok-_inside-in-Builtin-clause-gives g t c =
     let inside = subst (λ (xs : List Value). GivesOrHalts m c.in_ok-_inside-in-Builtin._inside (plan_perform c.args.line (a_value (v.Builtin b)) (record { positional = xs; named = [] }) s) c.args.host.now c.do_builtin.result s2 c.do_builtin.new.host) c.as_slice-positional.ensures.value (c.do_builtin.ensures.gives c.in_ok-_inside-in-Builtin._inside) in
     subst (λ (o : Option Name). GivesOrHalts m c.args.calls (begun c.args.line (callee c.args.called o) given s) c.args.host.now c.do_builtin.result s2 c.do_builtin.new.host) (sym c.in-None.is)
     (subst (λ (x : Value). GivesOrHalts m c.args.calls (begun c.args.line (a_value x) given s) c.args.host.now c.do_builtin.result s2 c.do_builtin.new.host) (sym c.in-Builtin.is)
-    (builtin_gives m c.args.calls c.in_ok-_inside-in-Builtin._inside c.args.line b given s s2 c.args.host.now c.do_builtin.new.host c.takes-in-Builtin.result c.do_builtin.result taken c.in_ok-plain-in-Builtin.ensures.ok c.in_ok-_inside-in-Builtin.ensures.ok inside))
+    (plain_gives m c.args.calls c.in_ok-_inside-in-Builtin._inside c.args.line (a_value (v.Builtin b)) tt given s s2 c.args.host.now c.do_builtin.new.host c.takes-in-Builtin.result c.do_builtin.result taken c.in_ok-plain-in-Builtin.ensures.ok c.in_ok-_inside-in-Builtin.ensures.ok inside))
 
 pub call-returns-in_default-clause-gives : goal.call-returns-in_default-clause-gives
 call-returns-in_default-clause-gives g t c =
