@@ -27,8 +27,3 @@ pub use env_pieces::Mode;
 pub use fault::SubstFault;
 pub use locals::{Locals, Named};
 pub use substitution::{dirs, subst};
-
-#[cfg(test)]
-mod samples;
-#[cfg(test)]
-mod tests;
