@@ -1,19 +1,37 @@
-use py_lex::lex;
+//! What is shown of tokens.
+use crate::width::width;
+use anyhow::Result;
 use py_parse::{ParseFault, ParseKind, parse};
+use py_token::Tokens;
 use py_tree::Script;
 use std::alloc::{AllocError, Global};
-use std::test::Fail;
 
-/// The tree of a script, or its fault.
-pub fn shown(alloc: Global, script: &str) -> Result<String, Fail> {
-    let tokens = lex(alloc, script.as_bytes())?;
-    match parse(alloc, &tokens) {
-        Ok(script) => Ok(compact(alloc, &script)?),
+/// What is told of a tree.
+#[derive(Clone, Copy)]
+pub enum Told {
+    Tree,
+    /// That it is one.
+    Presence,
+    Width,
+}
+
+/// What is told of the tree of tokens, or their fault.
+pub fn shown(alloc: Global, tokens: &Tokens, told: Told) -> Result<String> {
+    match parse(alloc, tokens) {
+        Ok(script) => Ok(of_tree(alloc, &script, told)?),
         Err(ParseFault::At { line, token, kind }) => {
             let why = why(alloc, kind)?;
             Ok(format!(in alloc; "{line} {token} {why}")?)
         }
-        Err(fault) => Err(Fail::from(fault)),
+        Err(fault) => Err(fault.into()),
+    }
+}
+
+fn of_tree(alloc: Global, script: &Script, told: Told) -> Result<String, AllocError> {
+    match told {
+        Told::Tree => compact(alloc, script),
+        Told::Presence => String::from_str(alloc, "tree"),
+        Told::Width => format!(in alloc; "tree of {} parts", width(script)),
     }
 }
 
