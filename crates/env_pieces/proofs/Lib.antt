@@ -1,3 +1,4 @@
 pub mod Squeezing
 pub mod Showing
 pub mod Sizes
+pub mod LineCuts

@@ -2,8 +2,9 @@
 use Rattle.std.proofs.Common.{◌≡◌, ◌<◌, ◌∙◌, ℕ, Bool, true, false, not, ◌==◌, cond, List, [], ◌∷◌, ◌++◌, sym, refl, length, ap}
 use Rattle.std.specs.Prelude.{fold, filter, if◌then◌else◌}
 use Rattle.std.specs.List.{position_or_len, before_first, after_first}
-use Rattle.env_vars.specs.Words.{is_white, is_word, words_of}
-use Rattle.env_vars.proofs.WordLemmas.{words_first, words_last}
+use Rattle.env_text.specs.Bytes.{is_white}
+use Rattle.env_text.specs.White.{is_word, words_of}
+use Rattle.env_text.proofs.Whites.{words_first, words_last}
 use Rattle.env_pieces.specs.Forms.{put_word, put_part, squeezed}
 
 -- a part in front of other words

@@ -1,3 +1,4 @@
 pub mod Pieces
 pub mod Forms
+pub mod Lines
 pub mod Steps

@@ -1,5 +1,6 @@
-ghost use Rattle.std.specs.Prelude.{◌≡◌, ◌≢◌, ◌<◌, ◌≤◌, ◌^◌, ◌-◌, ◌+◌, ⊤, Ok, Err, length, IfOk, IfErr, MatchOption, string_bytes};
-ghost use Rattle.env_pieces.specs.Forms.{text_of, texts_of, raw_of, raw_piece, signed_part, shown, FaultIs};
+//! The forms in which pieces are shown.
+ghost use Rattle.std.specs.Prelude.{◌≡◌, ◌≢◌, ◌<◌, ◌≤◌, ◌^◌, ◌-◌, ◌+◌, ◌++◌, ◌==◌, ⊤, Ok, Err, length, filter, IfOk, IfErr, OnOk, MatchOption, string_bytes};
+ghost use Rattle.env_pieces.specs.Forms.{text_of, texts_of, raw_of, raw_piece, feeds, signed_part, shown, FaultIs};
 ghost use Rattle.env_pieces.specs.Steps.{Goes};
 
 use crate::piece::{Mark, Piece};
@@ -58,7 +59,7 @@ pub fn form_of(alloc: Global, pieces: &[Piece], mode: Mode) -> Result<String, Fo
         Mode::Text => Ok(text_of(alloc, pieces)?),
         Mode::Raw => Ok(raw_of(alloc, pieces)?),
         Mode::Signed => {
-            let signed = signed_part(alloc, pieces)?;
+            let signed = signed_part(alloc, pieces, false)?;
             Ok(squeezed(alloc, signed.as_str())?)
         }
     }
@@ -73,7 +74,7 @@ pub fn text_of(alloc: Global, pieces: &[Piece]) -> Result<String, AllocError>
 }
 
 /// The texts, one behind another.
-fn texts_of(alloc: Global, pieces: &[Piece]) -> Result<String, AllocError>
+pub(crate) fn texts_of(alloc: Global, pieces: &[Piece]) -> Result<String, AllocError>
     ensures { IfOk result (λ s. string_bytes s ≡ texts_of pieces.now) }
 {
     let mut out = String::new(alloc);
@@ -85,7 +86,7 @@ fn texts_of(alloc: Global, pieces: &[Piece]) -> Result<String, AllocError>
     Ok(out)
 }
 
-fn raw_of(alloc: Global, pieces: &[Piece]) -> Result<String, AllocError>
+pub(crate) fn raw_of(alloc: Global, pieces: &[Piece]) -> Result<String, AllocError>
     ensures { IfOk result (λ s. string_bytes s ≡ raw_of pieces.now) }
 {
     let mut out = String::new(alloc);
@@ -105,16 +106,16 @@ fn raw_piece(piece: &Piece) -> &str
     }
 }
 
-/// The texts outside of marks, with a space for each part between them.
-fn signed_part(alloc: Global, pieces: &[Piece]) -> Result<String, FormFault>
+/// The texts outside of marks, with a space for each part between them, and its line feeds where those are kept.
+pub(crate) fn signed_part(alloc: Global, pieces: &[Piece], keep: bool) -> Result<String, FormFault>
     requires { length pieces.now < 2 ^ 32 }
-    ensures part { IfOk result (λ s. signed_part 0 0 pieces.now ≡ Ok (string_bytes s)) }
-    ensures fault { IfErr result (λ e. e ≢ FormFault.Memory → FaultIs e (signed_part 0 0 pieces.now)) }
+    ensures part { IfOk result (λ s. signed_part keep 0 0 pieces.now ≡ Ok (string_bytes s)) }
+    ensures fault { IfErr result (λ e. e ≢ FormFault.Memory → FaultIs e (signed_part keep 0 0 pieces.now)) }
 {
     let mut out = String::new(alloc);
     let mut depth = 0u32;
     for (number, piece) in pieces.iter().enumerate() {
-        match put_signed(&mut out, depth, piece)? {
+        match put_signed(&mut out, depth, piece, keep)? {
             Some(next) => depth = next,
             None => return Err(FormFault::Marks(number as u32)),
         }
@@ -128,15 +129,22 @@ fn signed_part(alloc: Global, pieces: &[Piece]) -> Result<String, FormFault>
 /// Puts what a piece shows where so many parts are open, and tells how many are then open: none can be where it ends a part
 /// that isn't open.
 #[tactic(auto, using(crate::proofs::Showing::goings))]
-fn put_signed(out: &mut String, depth: u32, piece: &Piece) -> Result<Option<u32>, AllocError>
+fn put_signed(
+    out: &mut String,
+    depth: u32,
+    piece: &Piece,
+    keep: bool,
+) -> Result<Option<u32>, AllocError>
     requires { depth < 2 ^ 32 - 1 }
-    ensures goes { IfOk result (λ next. Goes (string_bytes out.old) depth piece.now (string_bytes out.new) next) }
+    ensures goes { IfOk result (λ next. Goes keep (string_bytes out.old) depth piece.now (string_bytes out.new) next) }
     ensures few { IfOk result (λ next. MatchOption next ⊤ (λ d. d ≤ depth + 1)) }
 {
     match piece {
         Piece::Text(text) => {
             if depth == 0 {
                 out.push_str(text.as_str())?;
+            } else {
+                put_feeds(out, text.as_str(), keep)?;
             }
             Ok(Some(depth))
         }
@@ -149,4 +157,26 @@ fn put_signed(out: &mut String, depth: u32, piece: &Piece) -> Result<Option<u32>
         Piece::Mark(Mark::End) if depth == 0 => Ok(None),
         Piece::Mark(Mark::End) => Ok(Some(depth - 1)),
     }
+}
+
+/// Puts the line feeds of a text, where they are kept.
+fn put_feeds(out: &mut String, text: &str, keep: bool) -> Result<(), AllocError>
+    ensures { OnOk result (string_bytes out.new ≡ string_bytes out.old ++ feeds keep text.now) }
+{
+    if keep {
+        push_feeds(out, text.as_bytes())
+    } else {
+        Ok(())
+    }
+}
+
+fn push_feeds(out: &mut String, text: &[u8]) -> Result<(), AllocError>
+    ensures { OnOk result (string_bytes out.new ≡ string_bytes out.old ++ filter (λ b. b == 10) text.now) }
+{
+    for byte in text {
+        if *byte == b'\n' {
+            out.push('\n')?;
+        }
+    }
+    Ok(())
 }

@@ -1,3 +1,4 @@
+//! The pieces that a text gives.
 use scons_base::Text;
 
 /// What stands round a part that isn't signed: `$(` in front of it and `$)` behind it.

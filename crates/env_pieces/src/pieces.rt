@@ -1,3 +1,4 @@
+//! What is read so far.
 ghost use Rattle.std.specs.Prelude.{◌≡◌, ◌≢◌, ◌≤◌, ◌++◌, Some, None, length, IfOk, IfErr, OnOk, OnErr, string_bytes};
 ghost use Rattle.env_pieces.specs.Pieces.{blank, text_piece, with_text, with_mark, pieces_of};
 
@@ -90,6 +91,13 @@ impl Pieces {
             text: String::new(alloc),
             room: self.room,
         }
+    }
+
+    /// How many bytes may still come.
+    pub fn room(&self) -> usize
+        ensures { result ≡ self.now.room }
+    {
+        self.room
     }
 
     pub fn put_text(&mut self, text: &str) -> Result<(), PieceFault>

@@ -1,33 +1,37 @@
 -- What is left, after a task of a call has put what it stands for upon it.
-use Rattle.std.proofs.Common.{◌≡◌, ◌≢◌, ◌∙◌, ◌<◌, ◌≤◌, ℕ, true, false, List, [], ◌∷◌, Ok, Err, Some, None, refl, sym, ap, subst, length, drop, arith}
-use Rattle.std.specs.Prelude.{Result, if◌then◌else◌}
-use Rattle.std.proofs.lemmas.List.{length-drop, drop_all}
+use Rattle.std.proofs.Common.{◌≡◌, ◌≢◌, ◌∙◌, ◌==◌, ℕ, Bool, true, false, not, ◌&&◌, List, [], ◌∷◌, Ok, Err, Some, None, refl, sym, ap, subst, length}
+use Rattle.std.specs.Prelude.{Result, Option, OnOk, IfErr, if◌then◌else◌}
+use Rattle.env_pieces.specs.declared.piece.Piece.{Piece}
 use Rattle.env_pieces.specs.Pieces.{Sheet, blank, with_text, pieces_of}
 use Rattle.env_pieces.specs.Forms.{text_of}
+use Rattle.scons_base.specs.Resolve.{spelling}
 use Rattle.variant_dirs.specs.Variants.{searched}
 use Rattle.env_subst.specs.declared.fault.SubstFault.{SubstFault}
-use Rattle.env_subst.specs.declared.fault.SubstFault.TheVariants.{TooLong}
+use Rattle.env_subst.specs.declared.fault.SubstFault.TheVariants.{Memory}
 use Rattle.env_subst.specs.declared.saying.Saying.{Saying}
-use Rattle.env_subst.specs.declared.saying.Saying.TheVariants.{Read, Path}
+use Rattle.env_subst.specs.declared.saying.Saying.TheVariants.{Read}
 use Rattle.env_subst.specs.declared.task.Call.{Call}
 use Rattle.env_subst.specs.Settings.{Setting}
-use Rattle.env_subst.specs.Expansions.{State, Answer, and_then, puts, spaces, Names, sayings_in, expands, affixed, inner, more_dirs, all_dirs, dirs_named, dirs_read, dirs_of, puts_found, plain_item, item, items_more, items_all, calls}
-use Rattle.env_subst.specs.Desks.{PlainTask, inside, expand, items, dirs, directory, deeper_of, does, names_after, resumes, Desk, left_of, Leads, behind_all}
-use Rattle.env_subst.proofs.Doing.{desk, at, and_then-assoc, spaced, space_fails, upon}
+use Rattle.env_subst.specs.Expansions.{State, Answer, and_then, sheet_or_fault, puts, Names, sayings_in, expands, affixed, parts, puts_item, puts_all, inner, all_dirs, dirs_named, puts_found, is_literal, known_item, node_item, puts_read, read_pieces, read_item, call_of, text_item, item, items_all, begun, calls}
+use Rattle.env_subst.specs.Desks.{PlainTask, inside, expand, items, dirs, apart, deeper_of, does, names_after, resumes, Desk, left_of, Leads, behind_all, Parted, CannotPart, PutsAll, CannotPut}
+use Rattle.env_subst.proofs.Doing.{desk, at, and_then-assoc, upon}
+
+-- a call begins
+pub call_begins : {U : Type 0} (w : Setting) (tasks : List PlainTask) (names : Names) (sheet : Sheet) (n : ℕ) (call begins : Call) (room : ℕ) (says : List Saying) (after : Desk) (r : Result U SubstFault)
+    → begins ≡ record { prefix = call.prefix; list = call.list; suffix = call.suffix; directories = call.directories; room = room } → room ≡ sheet.room → says ≡ sayings_in w names call.list
+    → Leads w (behind_all w (items_all w (deeper_of w names) names begins says) (desk tasks names sheet n)) after r
+    → Leads w (behind_all w (calls w (deeper_of w names) names call) (desk tasks names sheet n)) after r
+call_begins w tasks names sheet n call begins room says after r b room_is s =
+    subst (λ a. Leads w a after r)
+    (ap (λ c. behind_all w (items_all w (deeper_of w names) names c says) (desk tasks names sheet n)) b
+    ∙ ap (λ k. behind_all w (items_all w (deeper_of w names) names (record { prefix = call.prefix; list = call.list; suffix = call.suffix; directories = call.directories; room = k }) says) (desk tasks names sheet n)) room_is
+    ∙ ap (λ xs. behind_all w (items_all w (deeper_of w names) names (begun call (at sheet n)) xs) (desk tasks names sheet n)) s)
 
 -- the items of a call
 module _ {U : Type 0} (w : Setting) (after : Desk) (call : Call) (x : Saying) (xs : List Saying) (r : Result U SubstFault) where
-  pub first_items : (d : Desk) → sayings_in w d.names call.list ≡ x ∷ xs → Leads w (behind_all w (items_all w (deeper_of w d.names) d.names call (x ∷ xs)) d) after r
-      → Leads w (behind_all w (calls w (deeper_of w d.names) d.names call) d) after r
-  first_items d e = subst (λ ys. Leads w (behind_all w (items_all w (deeper_of w d.names) d.names call ys) d) after r) (sym e)
-
-  pub further_items : (tasks : List PlainTask) (names : Names) (old new : Sheet) (n : ℕ) (says : List Saying) → says ≡ x ∷ xs → with_text (32 ∷ []) old ≡ Some new
-      → Leads w (behind_all w (items_all w (deeper_of w names) names call (x ∷ xs)) (desk tasks names new n)) after r
-      → Leads w (behind_all w (items_more w (deeper_of w names) names call says) (desk tasks names old n)) after r
-  further_items tasks names old new n says e placed =
-      subst (λ a. Leads w a after r)
-      (spaced w tasks names old new n (items_all w (deeper_of w names) names call (x ∷ xs)) placed
-      ∙ ap (λ ys. behind_all w (items_more w (deeper_of w names) names call ys) (desk tasks names old n)) (sym e))
+  pub further_items : (d : Desk) (says : List Saying) → says ≡ x ∷ xs → Leads w (behind_all w (items_all w (deeper_of w d.names) d.names call (x ∷ xs)) d) after r
+      → Leads w (behind_all w (items_all w (deeper_of w d.names) d.names call says) d) after r
+  further_items d says e = subst (λ ys. Leads w (behind_all w (items_all w (deeper_of w d.names) d.names call ys) d) after r) (sym e)
 
   pub items_left : (tasks more : List PlainTask) (names : Names) (sheet : Sheet) (n : ℕ) → more ≡ items call xs ∷ tasks
       → Leads w (behind_all w (item w (deeper_of w names) names call x) (desk more names sheet n)) after r
@@ -35,43 +39,71 @@ module _ {U : Type 0} (w : Setting) (after : Desk) (call : Call) (x : Saying) (x
   items_left tasks more names sheet n m =
       subst (λ a. Leads w a after r) (upon w tasks more names sheet n (items call xs) (item w (deeper_of w names) names call x) refl m)
 
-pub no_items : (w : Setting) (d : Desk) (call : Call) → sayings_in w d.names call.list ≡ [] → left_of w d ≡ behind_all w (calls w (deeper_of w d.names) d.names call) d
-no_items w d call e = ap (λ ys. behind_all w (items_all w (deeper_of w d.names) d.names call ys) d) (sym e)
+pub no_items : (w : Setting) (d : Desk) (call : Call) (says : List Saying) → says ≡ [] → left_of w d ≡ behind_all w (items_all w (deeper_of w d.names) d.names call says) d
+no_items w d call says e = ap (λ ys. behind_all w (items_all w (deeper_of w d.names) d.names call ys) d) (sym e)
 
-pub no_more_items : (w : Setting) (d : Desk) (call : Call) (says : List Saying) → says ≡ [] → left_of w d ≡ behind_all w (items_more w (deeper_of w d.names) d.names call says) d
-no_more_items w d call says e = ap (λ ys. behind_all w (items_more w (deeper_of w d.names) d.names call ys) d) (sym e)
+-- an item that is known
+module _ (w : Setting) (d : Desk) (call : Call) (t : List ℕ) where
+  known_by : (empty directories : Bool) → (length t == 0) ≡ empty → call.directories ≡ directories
+      → and_then (if empty then Ok d.state else (if directories then puts_found w (deeper_of w d.names) d.names call (dirs_named w t d.state) else puts_item w (deeper_of w d.names) d.names call (puts t) d.state)) (resumes w d.tasks d.names)
+      ≡ behind_all w (known_item w (deeper_of w d.names) d.names call t) d
+  known_by empty directories e f =
+      ap (λ b. and_then (if b then Ok d.state else (if directories then puts_found w (deeper_of w d.names) d.names call (dirs_named w t d.state) else puts_item w (deeper_of w d.names) d.names call (puts t) d.state)) (resumes w d.tasks d.names)) (sym e)
+      ∙ ap (λ b. and_then (if length t == 0 then Ok d.state else (if b then puts_found w (deeper_of w d.names) d.names call (dirs_named w t d.state) else puts_item w (deeper_of w d.names) d.names call (puts t) d.state)) (resumes w d.tasks d.names)) (sym f)
 
-pub no_room_for_items : (w : Setting) (tasks : List PlainTask) (names : Names) (old : Sheet) (n : ℕ) (call : Call) (says : List Saying) (x : Saying) (xs : List Saying) (fault : SubstFault)
-    → says ≡ x ∷ xs → (fault ≡ TooLong 1048577) × (with_text (32 ∷ []) old ≡ None)
-    → behind_all w (items_more w (deeper_of w names) names call says) (desk tasks names old n) ≡ Err fault
-no_room_for_items w tasks names old n call says x xs fault e h =
-    ap (λ ys. behind_all w (items_more w (deeper_of w names) names call ys) (desk tasks names old n)) e
-    ∙ space_fails w tasks names old n fault (items_all w (deeper_of w names) names call (x ∷ xs)) h
+  pub known_empty : (length t == 0) ≡ true → left_of w d ≡ behind_all w (known_item w (deeper_of w d.names) d.names call t) d
+  known_empty e = known_by true call.directories e refl
 
--- an item, by what it is
-pub item_dirs : (w : Setting) (d : Desk) (call : Call) (x : Saying) → call.directories ≡ true
-    → behind_all w (λ s. puts_found w (deeper_of w d.names) d.names call (dirs_of w (deeper_of w d.names call.list) x s)) d ≡ behind_all w (item w (deeper_of w d.names) d.names call x) d
-item_dirs w d call x e =
-    ap (λ b. and_then (if b then puts_found w (deeper_of w d.names) d.names call (dirs_of w (deeper_of w d.names call.list) x d.state) else plain_item w (deeper_of w d.names) d.names call x d.state) (resumes w d.tasks d.names)) (sym e)
+  pub known_dirs : (u : List ℕ) → u ≡ t → (length t == 0) ≡ false → call.directories ≡ true
+      → behind_all w (λ s. puts_found w (deeper_of w d.names) d.names call (dirs_named w u s)) d ≡ behind_all w (known_item w (deeper_of w d.names) d.names call t) d
+  known_dirs u same e f = ap (λ v. behind_all w (λ s. puts_found w (deeper_of w d.names) d.names call (dirs_named w v s)) d) same ∙ known_by false true e f
 
-pub item_plain : (w : Setting) (d : Desk) (call : Call) (x : Saying) → call.directories ≡ false
-    → behind_all w (plain_item w (deeper_of w d.names) d.names call x) d ≡ behind_all w (item w (deeper_of w d.names) d.names call x) d
-item_plain w d call x e =
-    ap (λ b. and_then (if b then puts_found w (deeper_of w d.names) d.names call (dirs_of w (deeper_of w d.names call.list) x d.state) else plain_item w (deeper_of w d.names) d.names call x d.state) (resumes w d.tasks d.names)) (sym e)
+  pub known_plain : (length t == 0) ≡ false → call.directories ≡ false
+      → behind_all w (puts_item w (deeper_of w d.names) d.names call (puts t)) d ≡ behind_all w (known_item w (deeper_of w d.names) d.names call t) d
+  known_plain e f = known_by false false e f
 
-pub read_item : (w : Setting) (d : Desk) (call : Call) (name t : List ℕ) → name ≡ call.list
-    → behind_all w (affixed w (deeper_of w d.names) d.names call (does w d.names (inside name (Read t)))) d ≡ behind_all w (plain_item w (deeper_of w d.names) d.names call (Read t)) d
-read_item w d call name t e = ap (λ y. behind_all w (affixed w (deeper_of w d.names) d.names call (deeper_of w d.names y t)) d) e
+-- a node
+module _ (w : Setting) (d : Desk) (call : Call) (path : List ℕ) where
+  node_by : (directories : Bool) → call.directories ≡ directories
+      → and_then (if directories then all_dirs w (deeper_of w d.names) d.names call (searched w.locals.variants w.locals.top (spelling w.locals.top path)) d.state else and_then (parts call d.state) (puts path)) (resumes w d.tasks d.names)
+      ≡ behind_all w (node_item w (deeper_of w d.names) d.names call path) d
+  node_by directories e =
+      ap (λ b. and_then (if b then all_dirs w (deeper_of w d.names) d.names call (searched w.locals.variants w.locals.top (spelling w.locals.top path)) d.state else and_then (parts call d.state) (puts path)) (resumes w d.tasks d.names)) (sym e)
+
+  pub node_dirs : (found : List (List ℕ)) → call.directories ≡ true → found ≡ searched w.locals.variants w.locals.top (spelling w.locals.top path)
+      → behind_all w (all_dirs w (deeper_of w d.names) d.names call found) d ≡ behind_all w (node_item w (deeper_of w d.names) d.names call path) d
+  node_dirs found e f = ap (λ ds. behind_all w (all_dirs w (deeper_of w d.names) d.names call ds) d) f ∙ node_by true e
+
+  pub node_plain : call.directories ≡ false
+      → behind_all w (λ s. and_then (parts call s) (puts path)) d ≡ behind_all w (node_item w (deeper_of w d.names) d.names call path) d
+  node_plain e = node_by false e
+
+-- a space, where the call has put something
+parts_with : (call : Call) (old : Sheet) (n : ℕ) (o : Option Sheet) → (if old.room == call.room then Some old else with_text (32 ∷ []) old) ≡ o → parts call (at old n) ≡ sheet_or_fault n o
+parts_with call old n o e = by (old.room == call.room) ∙ ap (sheet_or_fault n) e
+  where
+    by : (b : Bool) → (if b then Ok (at old n) else sheet_or_fault n (with_text (32 ∷ []) old)) ≡ sheet_or_fault n (if b then Some old else with_text (32 ∷ []) old)
+    by true = refl
+    by false = refl
+
+pub parted : (w : Setting) (tasks : List PlainTask) (names : Names) (old new : Sheet) (n : ℕ) (call : Call) (f : State → Answer) → Parted call.room old new
+    → behind_all w f (desk tasks names new n) ≡ behind_all w (λ s. and_then (parts call s) f) (desk tasks names old n)
+parted w tasks names old new n call f e = ap (λ a. and_then (and_then a f) (resumes w tasks names)) (sym (parts_with call old n (Some new) e))
+
+pub cannot_part : (w : Setting) (tasks : List PlainTask) (names : Names) (old : Sheet) (n : ℕ) (call : Call) (fault : SubstFault) (f : State → Answer) → CannotPart call.room old fault
+    → behind_all w (λ s. and_then (parts call s) f) (desk tasks names old n) ≡ Err fault
+cannot_part w tasks names old n call fault f h =
+    ap (λ a. and_then (and_then a f) (resumes w tasks names)) (parts_with call old n None h.1) ∙ ap (λ x. Err x) (sym h.0)
 
 inner-assoc : (f g h : State → Answer) → ◌≡◌ {A = State → Answer} (λ s. and_then (f s) (λ t. and_then (g t) h)) (λ s. and_then (and_then (f s) g) h)
 inner-assoc f g h = λ i s. sym (and_then-assoc (f s) g h) i
 
 -- something between prefix and suffix
-pub affix_step : (w : Setting) (tasks one two three : List PlainTask) (names : Names) (sheet : Sheet) (n : ℕ) (call : Call) (middle : PlainTask) → names_after middle names ≡ names
-    → one ≡ expand call.suffix ∷ tasks → two ≡ middle ∷ one → three ≡ expand call.prefix ∷ two
+pub affix_step : (w : Setting) (tasks two three : List PlainTask) (names : Names) (sheet : Sheet) (n : ℕ) (call : Call) (middle : PlainTask) → names_after middle names ≡ names
+    → two ≡ middle ∷ (expand call.suffix ∷ tasks) → three ≡ expand call.prefix ∷ two
     → left_of w (desk three names sheet n) ≡ behind_all w (affixed w (deeper_of w names) names call (does w names middle)) (desk tasks names sheet n)
-affix_step w tasks one two three names sheet n call middle stay a b c =
-    ap (λ ts. resumes w ts names (at sheet n)) (c ∙ ap (λ ts. expand call.prefix ∷ ts) (b ∙ ap (λ ts. middle ∷ ts) a))
+affix_step w tasks two three names sheet n call middle stay b c =
+    ap (λ ts. resumes w ts names (at sheet n)) (c ∙ ap (λ ts. expand call.prefix ∷ ts) b)
     ∙ ap (λ ns. and_then (P (at sheet n)) (λ s. and_then (does w names middle s) (λ t. and_then (expands w (deeper_of w ns) ns call.suffix t) (resumes w tasks ns)))) stay
     ∙ ap (and_then (P (at sheet n))) (inner-assoc (does w names middle) S (resumes w tasks names))
     ∙ sym (and_then-assoc (P (at sheet n)) (λ s. and_then (does w names middle s) S) (resumes w tasks names))
@@ -82,59 +114,108 @@ affix_step w tasks one two three names sheet n call middle stay a b c =
     S : State → Answer
     S = expands w (deeper_of w names) names call.suffix
 
--- directories
-pub directory_step : (w : Setting) (tasks one two : List PlainTask) (names : Names) (sheet outer fresh : Sheet) (n : ℕ) (call : Call) (list t : List ℕ)
-    → list ≡ call.list → outer ≡ sheet → fresh ≡ blank sheet.room → one ≡ directory outer call ∷ tasks → two ≡ inside list (Read t) ∷ one
-    → left_of w (desk two names fresh n) ≡ behind_all w (λ s. puts_found w (deeper_of w names) names call (dirs_read w s.sheet (deeper_of w names call.list t (inner s)))) (desk tasks names sheet n)
-directory_step w tasks one two names sheet outer fresh n call list t c o f a b =
+-- an item that is read apart
+pub apart_step : (w : Setting) (tasks one two : List PlainTask) (names : Names) (sheet outer fresh : Sheet) (n : ℕ) (call : Call) (alone : Bool) (list t : List ℕ)
+    → list ≡ call.list → outer ≡ sheet → fresh ≡ blank sheet.room → one ≡ apart outer call alone ∷ tasks → two ≡ inside list (Read t) ∷ one
+    → left_of w (desk two names fresh n) ≡ behind_all w (λ s. read_item w (deeper_of w names) names call alone s.sheet (deeper_of w names call.list t (inner s))) (desk tasks names sheet n)
+apart_step w tasks one two names sheet outer fresh n call alone list t c o f a b =
     ap (λ x. resumes w two names (at x n)) f
-    ∙ ap (λ ts. resumes w ts names (at (blank sheet.room) n)) (b ∙ ap (λ ts. inside list (Read t) ∷ ts) a ∙ ap (λ y. inside y (Read t) ∷ directory outer call ∷ tasks) c)
-    ∙ ap (λ x. resumes w (inside call.list (Read t) ∷ directory x call ∷ tasks) names (at (blank sheet.room) n)) o
+    ∙ ap (λ ts. resumes w ts names (at (blank sheet.room) n)) (b ∙ ap (λ ts. inside list (Read t) ∷ ts) a ∙ ap (λ y. inside y (Read t) ∷ (apart outer call alone ∷ tasks)) c)
+    ∙ ap (λ x. resumes w (inside call.list (Read t) ∷ (apart x call alone ∷ tasks)) names (at (blank sheet.room) n)) o
     ∙ by (deeper_of w names call.list t (at (blank sheet.room) n))
   where
-    by : (r : Answer) → and_then r (λ s. and_then (puts_found w (deeper_of w names) names call (dirs_read w sheet (Ok s))) (resumes w tasks names))
-        ≡ and_then (puts_found w (deeper_of w names) names call (dirs_read w sheet r)) (resumes w tasks names)
+    by : (r : Answer) → and_then r (λ s. and_then (read_item w (deeper_of w names) names call alone sheet (Ok s)) (resumes w tasks names))
+        ≡ and_then (read_item w (deeper_of w names) names call alone sheet r) (resumes w tasks names)
     by (Ok s) = refl
     by (Err fault) = refl
 
+-- an item that is a text, by what it is
+module _ {U : Type 0} (w : Setting) (d after : Desk) (call : Call) (t : List ℕ) (r : Result U SubstFault) where
+  pub further_call : (further name : List ℕ) (found : Option (List ℕ)) → found ≡ Some name → further ≡ call_of call name
+      → Leads w (behind_all w (λ s. read_item w (deeper_of w d.names) d.names call true s.sheet (deeper_of w d.names call.list further (inner s))) d) after r
+      → Leads w (behind_all w (text_item w (deeper_of w d.names) d.names call t found) d) after r
+  further_call further name found e f =
+      subst (λ a. Leads w a after r)
+      (ap (λ u. behind_all w (λ s. read_item w (deeper_of w d.names) d.names call true s.sheet (deeper_of w d.names call.list u (inner s))) d) f
+      ∙ ap (λ o. behind_all w (text_item w (deeper_of w d.names) d.names call t o) d) (sym e))
+
+  text_by : (literal : Bool) (found : Option (List ℕ)) → found ≡ None → is_literal t ≡ literal
+      → and_then (if literal then known_item w (deeper_of w d.names) d.names call t d.state else read_item w (deeper_of w d.names) d.names call false d.state.sheet (deeper_of w d.names call.list t (inner d.state))) (resumes w d.tasks d.names)
+      ≡ behind_all w (text_item w (deeper_of w d.names) d.names call t found) d
+  text_by literal found e f =
+      ap (λ b. and_then (if b then known_item w (deeper_of w d.names) d.names call t d.state else read_item w (deeper_of w d.names) d.names call false d.state.sheet (deeper_of w d.names call.list t (inner d.state))) (resumes w d.tasks d.names)) (sym f)
+      ∙ ap (λ o. behind_all w (text_item w (deeper_of w d.names) d.names call t o) d) (sym e)
+
+  pub literal_item : (found : Option (List ℕ)) → found ≡ None → is_literal t ≡ true → Leads w (behind_all w (known_item w (deeper_of w d.names) d.names call t) d) after r
+      → Leads w (behind_all w (text_item w (deeper_of w d.names) d.names call t found) d) after r
+  literal_item found e f = subst (λ a. Leads w a after r) (text_by true found e f)
+
+  pub other_item : (found : Option (List ℕ)) → found ≡ None → is_literal t ≡ false
+      → Leads w (behind_all w (λ s. read_item w (deeper_of w d.names) d.names call false s.sheet (deeper_of w d.names call.list t (inner s))) d) after r
+      → Leads w (behind_all w (text_item w (deeper_of w d.names) d.names call t found) d) after r
+  other_item found e f = subst (λ a. Leads w a after r) (text_by false found e f)
+
+-- what was read apart, by what it is
+module _ (w : Setting) (tasks : List PlainTask) (names : Names) (old read outer placed : Sheet) (n : ℕ) (call : Call) (alone : Bool) (pieces : List Piece) (t : List ℕ)
+    (read_is : read ≡ old) (placed_is : placed ≡ outer) (pieces_is : pieces ≡ pieces_of read) (text_is : t ≡ text_of pieces) where
+  pieces_read : pieces ≡ pieces_of old
+  pieces_read = pieces_is ∙ ap pieces_of read_is
+
+  abbrev read_with : Bool → Sheet → List Piece → Answer
+  read_with b x ps =
+      if b then known_item w (deeper_of w names) names call (text_of ps) (at x n) else read_pieces w (deeper_of w names) names call alone ps (at x n)
+
+  read_by : (b : Bool) → (call.directories && not alone) ≡ b
+      → and_then (read_with b placed pieces) (resumes w tasks names) ≡ behind_all w (λ s. read_item w (deeper_of w names) names call alone outer (Ok s)) (desk tasks names old n)
+  read_by b e =
+      ap (λ x. and_then (read_with b x pieces) (resumes w tasks names)) placed_is
+      ∙ ap (λ ps. and_then (read_with b outer ps) (resumes w tasks names)) pieces_read
+      ∙ ap (λ c. and_then (read_with c outer (pieces_of old)) (resumes w tasks names)) (sym e)
+
+  pub read_known : (call.directories && not alone) ≡ true
+      → behind_all w (known_item w (deeper_of w names) names call t) (desk tasks names placed n) ≡ behind_all w (λ s. read_item w (deeper_of w names) names call alone outer (Ok s)) (desk tasks names old n)
+  read_known e = ap (λ u. behind_all w (known_item w (deeper_of w names) names call u) (desk tasks names placed n)) text_is ∙ read_by true e
+
+  empty_by : (b : Bool) → (length t == 0) ≡ b
+      → and_then (if b then Ok (at placed n) else puts_read w (deeper_of w names) names call alone pieces (at placed n)) (resumes w tasks names)
+      ≡ behind_all w (read_pieces w (deeper_of w names) names call alone pieces) (desk tasks names placed n)
+  empty_by b e =
+      ap (λ c. and_then (if c then Ok (at placed n) else puts_read w (deeper_of w names) names call alone pieces (at placed n)) (resumes w tasks names)) (sym e ∙ ap (λ u. length u == 0) text_is)
+
+  pub read_empty : (call.directories && not alone) ≡ false → (length t == 0) ≡ true
+      → left_of w (desk tasks names placed n) ≡ behind_all w (λ s. read_item w (deeper_of w names) names call alone outer (Ok s)) (desk tasks names old n)
+  read_empty e f = empty_by true f ∙ read_by false e
+
+  pub read_put : (call.directories && not alone) ≡ false → (length t == 0) ≡ false
+      → behind_all w (puts_read w (deeper_of w names) names call alone pieces) (desk tasks names placed n) ≡ behind_all w (λ s. read_item w (deeper_of w names) names call alone outer (Ok s)) (desk tasks names old n)
+  read_put e f = empty_by false f ∙ read_by false e
+
+-- pieces are put
+module _ (w : Setting) (d : Desk) (call : Call) (pieces : List Piece) where
+  pub put_alone : behind_all w (λ s. and_then (parts call s) (puts_all pieces)) d ≡ behind_all w (puts_read w (deeper_of w d.names) d.names call true pieces) d
+  put_alone = refl
+
+  pub put_affixed : behind_all w (puts_item w (deeper_of w d.names) d.names call (puts_all pieces)) d ≡ behind_all w (puts_read w (deeper_of w d.names) d.names call false pieces) d
+  put_affixed = refl
+
+module _ {U : Type 0} (w : Setting) (tasks : List PlainTask) (names : Names) (old new : Sheet) (n : ℕ) where
+  pub all_put : (pieces given : List Piece) (r : Result U SubstFault) → given ≡ pieces → OnOk r (PutsAll given old new) → IfErr r (λ e. e ≢ Memory → CannotPut given old e)
+      → Leads w (behind_all w (puts_all pieces) (desk tasks names old n)) (desk tasks names new n) r
+  all_put pieces given (Ok u) same e f = ap (λ a. and_then a (resumes w tasks names)) (sym (e n) ∙ ap (λ ps. puts_all ps (at old n)) same)
+  all_put pieces given (Err fault) same e f = λ h. ap (λ a. and_then a (resumes w tasks names)) (ap (λ ps. puts_all ps (at old n)) (sym same) ∙ f h n)
+
 -- the directories of an item
-not_over : (found : List (List ℕ)) (next : ℕ) → next < length found → drop next found ≢ []
-not_over found next h = λ e. let k : length (drop next found) ≡ 0 = ap length e in omega (arith, length-drop next found)
-
-more_spaced : (w : Setting) (names : Names) (call : Call) (ds : List (List ℕ)) → ds ≢ []
-    → (s : State) → more_dirs w (deeper_of w names) names call ds s ≡ and_then (spaces s) (all_dirs w (deeper_of w names) names call ds)
-more_spaced w names call [] n s = absurd (n refl)
-more_spaced w names call (d ∷ ds) n s = refl
-
 module _ {U : Type 0} (w : Setting) (tasks : List PlainTask) (names : Names) (after : Desk) (n : ℕ) (call : Call) (found : List (List ℕ)) (r : Result U SubstFault) where
   pub dirs_left : (more : List PlainTask) (sheet : Sheet) (x : List ℕ) (xs : List (List ℕ)) → found ≡ x ∷ xs → more ≡ dirs call xs ∷ tasks
-      → Leads w (behind_all w (affixed w (deeper_of w names) names call (puts x)) (desk more names sheet n)) after r
+      → Leads w (behind_all w (puts_item w (deeper_of w names) names call (puts x)) (desk more names sheet n)) after r
       → Leads w (behind_all w (all_dirs w (deeper_of w names) names call found) (desk tasks names sheet n)) after r
   dirs_left more sheet x xs e m =
       subst (λ a. Leads w a after r)
-      (upon w tasks more names sheet n (dirs call xs) (affixed w (deeper_of w names) names call (puts x)) refl m
+      (upon w tasks more names sheet n (dirs call xs) (puts_item w (deeper_of w names) names call (puts x)) refl m
       ∙ ap (λ ds. behind_all w (all_dirs w (deeper_of w names) names call ds) (desk tasks names sheet n)) (sym e))
-
-  pub further_dirs : (old new : Sheet) (next : ℕ) → next < length found → with_text (32 ∷ []) old ≡ Some new
-      → Leads w (behind_all w (all_dirs w (deeper_of w names) names call (drop next found)) (desk tasks names new n)) after r
-      → Leads w (behind_all w (more_dirs w (deeper_of w names) names call (drop next found)) (desk tasks names old n)) after r
-  further_dirs old new next h placed =
-      subst (λ a. Leads w a after r)
-      (spaced w tasks names old new n (all_dirs w (deeper_of w names) names call (drop next found)) placed
-      ∙ ap (λ a. and_then a (resumes w tasks names)) (sym (more_spaced w names call (drop next found) (not_over found next h) (at old n))))
 
 pub no_dirs : (w : Setting) (d : Desk) (call : Call) (found : List (List ℕ)) → found ≡ [] → left_of w d ≡ behind_all w (all_dirs w (deeper_of w d.names) d.names call found) d
 no_dirs w d call found e = ap (λ ds. behind_all w (all_dirs w (deeper_of w d.names) d.names call ds) d) (sym e)
-
-pub no_more_dirs : (w : Setting) (d : Desk) (call : Call) (found : List (List ℕ)) (next : ℕ) → length found ≤ next → left_of w d ≡ behind_all w (more_dirs w (deeper_of w d.names) d.names call (drop next found)) d
-no_more_dirs w d call found next h = ap (λ ds. behind_all w (more_dirs w (deeper_of w d.names) d.names call ds) d) (sym (drop_all next found h))
-
-pub no_room_for_dirs : (w : Setting) (tasks : List PlainTask) (names : Names) (old : Sheet) (n : ℕ) (call : Call) (found : List (List ℕ)) (next : ℕ) (fault : SubstFault)
-    → next < length found → (fault ≡ TooLong 1048577) × (with_text (32 ∷ []) old ≡ None)
-    → behind_all w (more_dirs w (deeper_of w names) names call (drop next found)) (desk tasks names old n) ≡ Err fault
-no_room_for_dirs w tasks names old n call found next fault h f =
-    ap (λ a. and_then a (resumes w tasks names)) (more_spaced w names call (drop next found) (not_over found next h) (at old n))
-    ∙ space_fails w tasks names old n fault (all_dirs w (deeper_of w names) names call (drop next found)) f
 
 -- a text that names directories
 module _ {U : Type 0} (w : Setting) (after : Desk) (call : Call) (r : Result U SubstFault) where
@@ -143,19 +224,6 @@ module _ {U : Type 0} (w : Setting) (after : Desk) (call : Call) (r : Result U S
       → Leads w (behind_all w (λ s. puts_found w (deeper_of w d.names) d.names call (dirs_named w t s)) d) after r
   named_dirs d t ps e =
       subst (λ a. Leads w a after r) (ap (λ f. and_then (puts_found w (deeper_of w d.names) d.names call f) (resumes w d.tasks d.names)) (sym e))
-
-  pub read_named : (tasks : List PlainTask) (names : Names) (old read outer placed : Sheet) (n : ℕ) (t : List ℕ) → read ≡ old → placed ≡ outer → t ≡ text_of (pieces_of read)
-      → Leads w (behind_all w (λ s. puts_found w (deeper_of w names) names call (dirs_named w t s)) (desk tasks names placed n)) after r
-      → Leads w (behind_all w (λ s. puts_found w (deeper_of w names) names call (dirs_read w outer (Ok s))) (desk tasks names old n)) after r
-  read_named tasks names old read outer placed n t o p e =
-      subst (λ a. Leads w a after r)
-      (ap (λ x. behind_all w (λ s. puts_found w (deeper_of w names) names call (dirs_named w t s)) (desk tasks names x n)) p
-      ∙ ap (λ u. behind_all w (λ s. puts_found w (deeper_of w names) names call (dirs_named w u s)) (desk tasks names outer n)) (e ∙ ap (λ x. text_of (pieces_of x)) o))
-
-  pub node_dirs : (d : Desk) (path : List ℕ) (ps : List (List ℕ)) → ps ≡ searched w.locals.variants path
-      → Leads w (behind_all w (all_dirs w (deeper_of w d.names) d.names call ps) d) after r
-      → Leads w (behind_all w (λ s. puts_found w (deeper_of w d.names) d.names call (dirs_of w (deeper_of w d.names call.list) (Path path) s)) d) after r
-  node_dirs d path ps e = subst (λ qs. Leads w (behind_all w (all_dirs w (deeper_of w d.names) d.names call qs) d) after r) e
 
 pub named_fails : (w : Setting) (d : Desk) (call : Call) (t : List ℕ) (fault : SubstFault) → dirs_named w t d.state ≡ Err fault
     → behind_all w (λ s. puts_found w (deeper_of w d.names) d.names call (dirs_named w t s)) d ≡ Err fault

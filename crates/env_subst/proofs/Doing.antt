@@ -83,7 +83,7 @@ pub says_nothing_at_all : (w : Setting) (d : Desk) (name : List ℕ) (says : Lis
 says_nothing_at_all w d name says e = ap (λ ys. behind_all w (says_all (deeper_of w d.names name) ys) d) (sym e)
 
 -- a variable is open no longer
-left_again : (names : Names) (name : List ℕ) → outer_names (names ++ name ∷ []) ≡ names
+pub left_again : (names : Names) (name : List ℕ) → outer_names (names ++ name ∷ []) ≡ names
 left_again names name =
     let e : length (names ++ name ∷ []) - 1 ≡ length names = omega (arith, length-append names (name ∷ [])) in
     ap (λ k. take k (names ++ name ∷ [])) e ∙ take_at names (name ∷ []) _ refl

@@ -5,3 +5,7 @@ pub mod Doing
 pub mod CallSteps
 pub mod Runs
 pub mod Shown
+pub mod EntrySteps
+pub mod CharCuts
+pub mod OpenNames
+pub mod PutPieces

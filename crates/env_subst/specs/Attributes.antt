@@ -3,10 +3,10 @@ use Rattle.std.specs.Prelude.{ℕ, ◌-◌, List, take, length, Option, None, So
 use Rattle.std.specs.Str.{bytes_eq}
 use Rattle.scons_base.specs.Normal.{is_top}
 use Rattle.scons_base.specs.Parts.{name_of, suffix_of, base_of, dir_of, is_absolute, joined}
-use Rattle.variant_dirs.specs.declared.variants.Variant.{Variant}
 use Rattle.variant_dirs.specs.Variants.{source_of}
 use Rattle.env_subst.specs.declared.attribute.Attribute.{Attribute}
 use Rattle.env_subst.specs.declared.attribute.Attribute.TheVariants.{Base, Dir, File, Filebase, Suffix, Abspath, Srcpath, Srcdir}
+use Rattle.env_subst.specs.declared.locals.Locals.{Locals}
 use Rattle.env_subst.specs.declared.locals.Named.{Named}
 
 abbrev pub attribute_named : List ℕ → Option Attribute
@@ -44,5 +44,5 @@ source_or path (Some source) = source
 source_or path None = path
 
 -- a path as a node: its source file is that of a path in a variant directory, and else the path
-abbrev pub named_of : List Variant → List ℕ → Named
-named_of variants path = record { path = path; src = source_or path (source_of variants path) }
+abbrev pub named_of : Locals → List ℕ → Named
+named_of locals path = record { path = path; src = source_or path (source_of locals.variants locals.top path) }

@@ -48,15 +48,22 @@ abbrev pub held_or_nothing : Option EnvValue → Content
 held_or_nothing None = nothing
 held_or_nothing (Some v) = held v
 
--- what a variable holds: five names stand for what the rule knows, whatever the environment has
+-- five names stand for what the rule knows, whatever the environment has
+abbrev pub known_at : Locals → List ℕ → Option Content
+known_at locals name =
+    if bytes_eq name (codes "TARGETS") then Some (nodes locals.targets.items)
+    else (if bytes_eq name (codes "SOURCES") then Some (nodes locals.sources.items)
+    else (if bytes_eq name (codes "TARGET") then Some (nodes (take 1 locals.targets.items))
+    else (if bytes_eq name (codes "SOURCE") then Some (nodes (take 1 locals.sources.items))
+    else (if bytes_eq name (codes "SMARTLINK") then Some (text locals.smartlink) else None))))
+
+abbrev pub known_or : Option Content → Content → Content
+known_or (Some known) other = known
+known_or None other = other
+
+-- what a variable holds
 abbrev pub content_at : Setting → List ℕ → Content
-content_at w name =
-    if bytes_eq name (codes "TARGETS") then nodes w.locals.targets.items
-    else (if bytes_eq name (codes "SOURCES") then nodes w.locals.sources.items
-    else (if bytes_eq name (codes "TARGET") then nodes (take 1 w.locals.targets.items)
-    else (if bytes_eq name (codes "SOURCE") then nodes (take 1 w.locals.sources.items)
-    else (if bytes_eq name (codes "SMARTLINK") then text w.locals.smartlink
-    else held_or_nothing (value_of w.envs w.env name)))))
+content_at w name = known_or (known_at w.locals name) (held_or_nothing (value_of w.envs w.env name))
 
 -- a character that isn't there is nothing
 abbrev pub character_or_nothing : List ℕ → Content
@@ -122,5 +129,5 @@ content_of (holding.Nodes ns) = nodes ns.now
 content_of (holding.Items xs) = items xs.now
 content_of (holding.Words words) = items (as_items words.now)
 content_of (holding.Pairs pairs) = items (as_pairs pairs.now)
-content_of (holding.Text t) = text t
+content_of (holding.Text t) = text t.now
 content_of (holding.Shown t) = shown t

@@ -1,9 +1,10 @@
 -- What is left to do while a text is read: the same as tasks, one upon another.
-use Rattle.std.specs.Prelude.{◌≡◌, ◌≢◌, ℕ, ◌-◌, List, [], ◌∷◌, ◌++◌, map, take, drop, reverse, length, Result, Ok, Err, MatchResult, if◌then◌else◌}
+use Rattle.std.specs.Prelude.{◌≡◌, ◌≢◌, ℕ, Bool, ◌-◌, ◌==◌, None, Some, List, [], ◌∷◌, ◌++◌, map, take, drop, reverse, length, Result, Ok, Err, MatchResult, if◌then◌else◌}
 use Rattle.env_text.specs.Readings.{reading_from}
+use Rattle.env_pieces.specs.declared.piece.Piece.{Piece}
 use Rattle.env_pieces.specs.declared.pieces.PieceFault.{PieceFault}
 use Rattle.env_pieces.specs.declared.pieces.PieceFault.TheVariants as piece
-use Rattle.env_pieces.specs.Pieces.{Sheet}
+use Rattle.env_pieces.specs.Pieces.{Sheet, with_text}
 use Rattle.env_subst.specs.declared.fault.SubstFault.{SubstFault}
 use Rattle.env_subst.specs.declared.fault.SubstFault.TheVariants.{Memory, TooLong}
 use Rattle.env_subst.specs.declared.locals.Locals.{Locals}
@@ -15,7 +16,7 @@ use Rattle.env_subst.specs.declared.desk.Desk as code
 use Rattle.env_subst.specs.declared.setting.Setting as code_setting
 use Rattle.env_subst.specs.Settings.{Setting, setting_of}
 use Rattle.env_subst.specs.Sayings.{sayings_of}
-use Rattle.env_subst.specs.Expansions.{State, Answer, and_then, Deeper, Names, is_open, puts, says_one, says_more, expands, more_dirs, dirs_read, puts_found, items_more, reads, text_at}
+use Rattle.env_subst.specs.Expansions.{State, Answer, and_then, Deeper, Names, is_open, puts, says_one, says_more, expands, all_dirs, puts_all, read_item, items_all, reads, text_at}
 
 -- what a refused piece is for the whole
 abbrev pub piece_fault : PieceFault → SubstFault
@@ -33,11 +34,13 @@ pub data PlainTask : Type 0 where
   inside : List ℕ → Saying → PlainTask
   -- all that a variable says
   expand : List ℕ → PlainTask
+  -- pieces, one behind another
+  put_all : List Piece → PlainTask
   -- further items of a call, and further directories
   items : Call → List Saying → PlainTask
   dirs : Call → List (List ℕ) → PlainTask
-  -- what was read apart names directories
-  directory : Sheet → Call → PlainTask
+  -- what was read apart is an item of a call; or all that a further call gave
+  apart : Sheet → Call → Bool → PlainTask
   -- the innermost variable is read
   close : PlainTask
 
@@ -49,7 +52,8 @@ plain locals (task.Inside name saying) = inside name saying
 plain locals (task.Expand name) = expand name
 plain locals (task.Items call rest) = items call (sayings_of locals rest)
 plain locals (task.Dirs call found next) = dirs call (drop next found)
-plain locals (task.Directory outer call) = directory outer call
+plain locals (task.Apart outer call alone) = apart outer call alone
+plain locals (task.PutAll pieces) = put_all pieces.items
 plain locals task.Close = close
 
 -- the texts of the variables that stand in the innermost one
@@ -66,9 +70,10 @@ does w names (read owner t at) s = reads w (deeper_of w names) names owner (read
 does w names (say name xs) s = says_more (text_at w names name) xs s
 does w names (inside name x) s = says_one (deeper_of w names name) x s
 does w names (expand name) s = expands w (deeper_of w names) names name s
-does w names (items call xs) s = items_more w (deeper_of w names) names call xs s
-does w names (dirs call ds) s = more_dirs w (deeper_of w names) names call ds s
-does w names (directory outer call) s = puts_found w (deeper_of w names) names call (dirs_read w outer (Ok s))
+does w names (put_all pieces) s = puts_all pieces s
+does w names (items call xs) s = items_all w (deeper_of w names) names call xs s
+does w names (dirs call ds) s = all_dirs w (deeper_of w names) names call ds s
+does w names (apart outer call alone) s = read_item w (deeper_of w names) names call alone outer (Ok s)
 does w names close s = Ok s
 
 abbrev pub names_after : PlainTask → Names → Names
@@ -80,7 +85,8 @@ names_after (inside name x) names = names
 names_after (expand name) names = names
 names_after (items call xs) names = names
 names_after (dirs call ds) names = names
-names_after (directory outer call) names = names
+names_after (apart outer call alone) names = names
+names_after (put_all pieces) names = names
 
 -- the tasks, the uppermost first
 abbrev pub resumes : Setting → List PlainTask → Names → State → Answer
@@ -125,3 +131,18 @@ behind_all w first d = and_then (first d.state) (resumes w d.tasks d.names)
 abbrev pub Steps : {U : Type 0} → code_setting.Setting → (Setting → Names → State → Answer) → code.Desk → code.Desk → Result U SubstFault → Type 0
 Steps s first old new r =
     Leads (setting_of s) (behind_all (setting_of s) (first (setting_of s) old.names) (desk_of s.locals.now old)) (desk_of s.locals.now new) r
+
+-- a space is put where less may come than this
+abbrev pub Parted : ℕ → Sheet → Sheet → Type 0
+Parted room old new = (if old.room == room then Some old else with_text (32 ∷ []) old) ≡ Some new
+
+-- and can't be
+abbrev pub CannotPart : ℕ → Sheet → SubstFault → Type 0
+CannotPart room old fault = (fault ≡ TooLong 1048577) × ((if old.room == room then Some old else with_text (32 ∷ []) old) ≡ None)
+
+-- pieces are put, whatever the references are; and can't be
+abbrev pub PutsAll : List Piece → Sheet → Sheet → Type 0
+PutsAll pieces old new = (n : ℕ) → puts_all pieces (record { sheet = old; references = n }) ≡ Ok (record { sheet = new; references = n })
+
+abbrev pub CannotPut : List Piece → Sheet → SubstFault → Type 0
+CannotPut pieces old fault = (n : ℕ) → puts_all pieces (record { sheet = old; references = n }) ≡ Err fault

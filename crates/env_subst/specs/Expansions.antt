@@ -1,15 +1,19 @@
 -- What comes of a text: texts and marks, or the first fault in the order of reading.
-use Rattle.std.specs.Prelude.{ℕ, zero, suc, ◌+◌, ◌-◌, length, Bool, nat_lt, List, [], ◌∷◌, ◌++◌, Option, None, Some, Result, Ok, Err, if◌then◌else◌}
-use Rattle.std.specs.List.{list_any}
+use Rattle.std.specs.Prelude.{ℕ, zero, suc, ◌+◌, ◌-◌, ◌==◌, ◌&&◌, not, length, Bool, true, false, nat_lt, codes, List, [], ◌∷◌, ◌++◌, Option, None, Some, Result, Ok, Err, if◌then◌else◌}
+use Rattle.std.specs.List.{list_any, list_all}
 use Rattle.std.specs.Str.{bytes_eq}
 use Rattle.scons_base.specs.declared.fault.PathFault.{PathFault}
-use Rattle.scons_base.specs.Resolve.{resolved, resolve_fault}
+use Rattle.scons_base.specs.Resolve.{spelling, resolved, resolve_fault}
 use Rattle.variant_dirs.specs.Variants.{searched}
+use Rattle.env_text.specs.Alone.{name_alone}
+use Rattle.env_text.specs.Bytes.{is_plain}
 use Rattle.env_text.specs.declared.part.Selection.{Selection}
 use Rattle.env_text.specs.Parts.{PlainPart, text, begin, end, variable, concat}
 use Rattle.env_text.specs.Readings.{Reading, ends, part_at, bad_brace, reading_of}
 use Rattle.env_pieces.specs.declared.piece.Mark.{Mark}
 use Rattle.env_pieces.specs.declared.piece.Mark.TheVariants.{Begin, End}
+use Rattle.env_pieces.specs.declared.piece.Piece.{Piece}
+use Rattle.env_pieces.specs.declared.piece.Piece.TheVariants as piece
 use Rattle.env_pieces.specs.Pieces.{Sheet, blank, with_text, with_mark, pieces_of}
 use Rattle.env_pieces.specs.Forms.{text_of}
 use Rattle.env_subst.specs.declared.fault.SubstFault.{SubstFault}
@@ -99,16 +103,25 @@ abbrev pub affixed : Setting → Deeper → Names → Call → (State → Answer
 affixed w deeper names call middle s =
     and_then (expands w deeper names call.prefix s) (λ t. and_then (middle t) (expands w deeper names call.suffix))
 
--- directories with prefix and suffix, with a space in front of each further one
-abbrev pub more_dirs : Setting → Deeper → Names → Call → List (List ℕ) → State → Answer
-more_dirs w deeper names call [] s = Ok s
-more_dirs w deeper names call (dir ∷ dirs) s =
-    and_then (spaces s) (λ t. and_then (affixed w deeper names call (puts dir) t) (more_dirs w deeper names call dirs))
+-- a space, where the call has put something before: where less may still come than when it began
+abbrev pub parts : Call → State → Answer
+parts call s = if s.sheet.room == call.room then Ok s else spaces s
 
+-- an item of a call, between prefix and suffix
+abbrev pub puts_item : Setting → Deeper → Names → Call → (State → Answer) → State → Answer
+puts_item w deeper names call middle s = and_then (parts call s) (affixed w deeper names call middle)
+
+-- pieces, one behind another
+abbrev pub puts_all : List Piece → State → Answer
+puts_all [] s = Ok s
+puts_all (piece.Text t ∷ pieces) s = and_then (puts t s) (puts_all pieces)
+puts_all (piece.Mark mark ∷ pieces) s = and_then (marks mark s) (puts_all pieces)
+
+-- directories with prefix and suffix
 abbrev pub all_dirs : Setting → Deeper → Names → Call → List (List ℕ) → State → Answer
 all_dirs w deeper names call [] s = Ok s
 all_dirs w deeper names call (dir ∷ dirs) s =
-    and_then (affixed w deeper names call (puts dir) s) (more_dirs w deeper names call dirs)
+    and_then (puts_item w deeper names call (puts dir) s) (all_dirs w deeper names call dirs)
 
 -- directories that are found, and how far reading has come
 abbrev pub Found : Type 0
@@ -122,46 +135,72 @@ found_or_fault s dirs (Some fault) = Err (BadPath fault)
 -- source directory too
 abbrev pub dirs_named : Setting → List ℕ → State → Found
 dirs_named w t s =
-    found_or_fault s (searched w.locals.variants (resolved w.locals.top w.locals.dir t)) (resolve_fault w.locals.top w.locals.dir t)
+    found_or_fault s (searched w.locals.variants w.locals.top (resolved w.locals.top w.locals.dir t)) (resolve_fault w.locals.top w.locals.dir t)
 
 -- nothing is read yet, with the room that is left
 abbrev pub inner : State → State
 inner s = record { sheet = blank s.sheet.room; references = s.references }
 
--- what was read apart names directories, and isn't put itself
-abbrev pub dirs_read : Setting → Sheet → Answer → Found
-dirs_read w outer (Ok s) = dirs_named w (text_of (pieces_of s.sheet)) (record { sheet = outer; references = s.references })
-dirs_read w outer (Err fault) = Err fault
-
--- the directories of an item
-abbrev pub dirs_of : Setting → Reader → Saying → State → Found
-dirs_of w read (Read t) s = dirs_read w s.sheet (read t (inner s))
-dirs_of w read (Plain t) s = dirs_named w t s
-dirs_of w read (Path path) s = Ok (searched w.locals.variants path, s)
-
 abbrev pub puts_found : Setting → Deeper → Names → Call → Found → Answer
 puts_found w deeper names call (Ok found) = all_dirs w deeper names call found.0 found.1
 puts_found w deeper names call (Err fault) = Err fault
 
--- an item that is no directory: a node stands alone
-abbrev pub plain_item : Setting → Deeper → Names → Call → Saying → State → Answer
-plain_item w deeper names call (Read t) s = affixed w deeper names call (deeper call.list t) s
-plain_item w deeper names call (Plain t) s = affixed w deeper names call (puts t) s
-plain_item w deeper names call (Path path) s = puts path s
+-- a text without a `$` stands for itself
+abbrev pub is_literal : List ℕ → Bool
+is_literal t = list_all is_plain t
+
+-- an item that is known as a text: an empty one gives nothing
+abbrev pub known_item : Setting → Deeper → Names → Call → List ℕ → State → Answer
+known_item w deeper names call t s =
+    if length t == 0 then Ok s
+    else (if call.directories then puts_found w deeper names call (dirs_named w t s) else puts_item w deeper names call (puts t) s)
+
+-- a node stands alone; as a directory it is looked for
+abbrev pub node_item : Setting → Deeper → Names → Call → List ℕ → State → Answer
+node_item w deeper names call path s =
+    if call.directories then all_dirs w deeper names call (searched w.locals.variants w.locals.top (spelling w.locals.top path)) s
+    else and_then (parts call s) (puts path)
+
+-- what was read apart as an item. What a further call gave stands alone.
+abbrev pub puts_read : Setting → Deeper → Names → Call → Bool → List Piece → State → Answer
+puts_read w deeper names call alone pieces s =
+    if alone then and_then (parts call s) (puts_all pieces) else puts_item w deeper names call (puts_all pieces) s
+
+-- where it has no text it gives nothing
+abbrev pub read_pieces : Setting → Deeper → Names → Call → Bool → List Piece → State → Answer
+read_pieces w deeper names call alone pieces s =
+    if length (text_of pieces) == 0 then Ok s else puts_read w deeper names call alone pieces s
+
+abbrev pub read_item : Setting → Deeper → Names → Call → Bool → Sheet → Answer → Answer
+read_item w deeper names call alone outer (Ok s) =
+    let t : State = record { sheet = outer; references = s.references } in
+    if call.directories && not alone then known_item w deeper names call (text_of (pieces_of s.sheet)) t
+    else read_pieces w deeper names call alone (pieces_of s.sheet) t
+read_item w deeper names call alone outer (Err fault) = Err fault
+
+-- the call with another variable in place of the list, as a text
+abbrev pub call_of : Call → List ℕ → List ℕ
+call_of call name =
+    codes "${_concat(" ++ (call.prefix ++ 44 ∷ (name ++ 44 ∷ (call.suffix ++ (if call.directories then codes ",__env__,RDirs)}" else codes ",__env__)}"))))
+
+-- an item that is a text: one name alone stands for all that the call gives for that variable; a text without a `$` stands
+-- for itself; any other is read apart first
+abbrev pub text_item : Setting → Deeper → Names → Call → List ℕ → Option (List ℕ) → State → Answer
+text_item w deeper names call t (Some name) s =
+    read_item w deeper names call true s.sheet (deeper call.list (call_of call name) (inner s))
+text_item w deeper names call t None s =
+    if is_literal t then known_item w deeper names call t s
+    else read_item w deeper names call false s.sheet (deeper call.list t (inner s))
 
 -- an item of the list of a call
 abbrev pub item : Setting → Deeper → Names → Call → Saying → State → Answer
-item w deeper names call x s =
-    if call.directories then puts_found w deeper names call (dirs_of w (deeper call.list) x s) else plain_item w deeper names call x s
-
-abbrev pub items_more : Setting → Deeper → Names → Call → List Saying → State → Answer
-items_more w deeper names call [] s = Ok s
-items_more w deeper names call (x ∷ xs) s =
-    and_then (spaces s) (λ t. and_then (item w deeper names call x t) (items_more w deeper names call xs))
+item w deeper names call (Read t) s = text_item w deeper names call t (name_alone (reading_of t)) s
+item w deeper names call (Plain t) s = known_item w deeper names call t s
+item w deeper names call (Path path) s = node_item w deeper names call path s
 
 abbrev pub items_all : Setting → Deeper → Names → Call → List Saying → State → Answer
 items_all w deeper names call [] s = Ok s
-items_all w deeper names call (x ∷ xs) s = and_then (item w deeper names call x s) (items_more w deeper names call xs)
+items_all w deeper names call (x ∷ xs) s = and_then (item w deeper names call x s) (items_all w deeper names call xs)
 
 -- what a reference says, or its fault at a place of the text of `owner`
 abbrev pub says_or_fault : Reader → List ℕ → ℕ → Option (List Saying) → State → Answer
@@ -172,8 +211,12 @@ abbrev pub refers_to : Setting → Deeper → Names → List ℕ → ℕ → Lis
 refers_to w deeper names owner at name selection attribute s =
     says_or_fault (deeper name) owner at (said_by w.locals attribute (taken selection (content_in w names name))) s
 
+-- a call that begins here
+abbrev pub begun : Call → State → Call
+begun call s = record { prefix = call.prefix; list = call.list; suffix = call.suffix; directories = call.directories; room = s.sheet.room }
+
 abbrev pub calls : Setting → Deeper → Names → Call → State → Answer
-calls w deeper names call s = items_all w deeper names call (sayings_in w names call.list) s
+calls w deeper names call s = items_all w deeper names (begun call s) (sayings_in w names call.list) s
 
 -- a part of the text of `owner`
 abbrev pub reads_part : Setting → Deeper → Names → List ℕ → ℕ → PlainPart → State → Answer
@@ -183,7 +226,7 @@ reads_part w deeper names owner at end s = marks End s
 reads_part w deeper names owner at (variable name selection attribute) s =
     and_then (refers s) (refers_to w deeper names owner at name selection attribute)
 reads_part w deeper names owner at (concat prefix list suffix directories) s =
-    and_then (refers s) (calls w deeper names (record { prefix = prefix; list = list; suffix = suffix; directories = directories }))
+    and_then (refers s) (calls w deeper names (record { prefix = prefix; list = list; suffix = suffix; directories = directories; room = 0 }))
 
 -- the parts of a text, one behind another
 abbrev pub reads : Setting → Deeper → Names → List ℕ → Reading → State → Answer

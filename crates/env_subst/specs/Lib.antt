@@ -6,4 +6,6 @@ pub mod Contents
 pub mod Parts
 pub mod Expansions
 pub mod Results
+pub mod Entries
 pub mod Desks
+pub mod Frames

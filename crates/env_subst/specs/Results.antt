@@ -1,43 +1,46 @@
 -- What substitution answers.
-use Rattle.std.specs.Prelude.{ℕ, List, [], ◌∷◌, ◌++◌, Result, Ok, Err}
+use Rattle.std.specs.Prelude.{ℕ, List, [], Result, Ok, Err, if◌then◌else◌}
+use Rattle.env_pieces.specs.declared.form.FormFault.{FormFault}
+use Rattle.env_pieces.specs.declared.form.FormFault.TheVariants as form
 use Rattle.env_pieces.specs.declared.form.Mode.{Mode}
+use Rattle.env_pieces.specs.declared.form.Mode.TheVariants as mode
+use Rattle.env_pieces.specs.declared.piece.Piece.{Piece}
 use Rattle.env_pieces.specs.Pieces.{pieces_of}
 use Rattle.env_pieces.specs.Forms.{shown}
+use Rattle.env_pieces.specs.Lines.{line_forms}
 use Rattle.env_subst.specs.declared.fault.SubstFault.{SubstFault}
-use Rattle.env_subst.specs.declared.fault.SubstFault.TheVariants.{Marks}
-use Rattle.env_subst.specs.declared.saying.Saying.{Saying}
+use Rattle.env_subst.specs.declared.fault.SubstFault.TheVariants.{Marks, Memory}
 use Rattle.env_subst.specs.Settings.{Setting}
-use Rattle.env_subst.specs.Expansions.{State, Answer, Reader, Found, dirs_of, sayings_in, text_at, start}
+use Rattle.env_subst.specs.Expansions.{Answer, is_literal, text_at, start}
 
-abbrev pub form_or_fault : Result (List ℕ) ℕ → Result (List ℕ) SubstFault
-form_or_fault (Ok t) = Ok t
+abbrev pub form_or_fault : {X : Type 0} → Result X ℕ → Result X SubstFault
+form_or_fault (Ok form) = Ok form
 form_or_fault (Err piece) = Err (Marks piece)
 
-abbrev pub in_form : Mode → Answer → Result (List ℕ) SubstFault
-in_form mode (Ok s) = form_or_fault (shown mode (pieces_of s.sheet))
-in_form mode (Err fault) = Err fault
+abbrev pub pieces_or_fault : Answer → Result (List Piece) SubstFault
+pieces_or_fault (Ok s) = Ok (pieces_of s.sheet)
+pieces_or_fault (Err fault) = Err fault
+
+-- the pieces of what comes of a text
+abbrev pub expansion : Setting → List ℕ → Result (List Piece) SubstFault
+expansion w t = pieces_or_fault (text_at w [] [] t start)
+
+abbrev pub in_form : {X : Type 0} → (List Piece → Result X ℕ) → Result (List Piece) SubstFault → Result X SubstFault
+in_form form (Ok pieces) = form_or_fault (form pieces)
+in_form form (Err fault) = Err fault
 
 -- the form of what comes of a text
 abbrev pub substituted : Setting → Mode → List ℕ → Result (List ℕ) SubstFault
-substituted w mode t = in_form mode (text_at w [] [] t start)
+substituted w m t = in_form (shown m) (expansion w t)
 
-abbrev pub Paths : Type 0
-Paths = Result (List (List ℕ)) SubstFault
+-- the forms of its lines
+abbrev pub lines_of : Setting → Mode → List ℕ → Result (List (List ℕ)) SubstFault
+lines_of w m t = in_form (line_forms m) (expansion w t)
 
-abbrev pub behind : List (List ℕ) → Paths → Paths
-behind dirs (Ok more) = Ok (dirs ++ more)
-behind dirs (Err fault) = Err fault
+-- the text of a path: one without a `$` is taken as it stands
+abbrev pub path_text : Setting → List ℕ → Result (List ℕ) SubstFault
+path_text w t = if is_literal t then Ok t else substituted w mode.Text t
 
--- found directories, and those of the further items
-abbrev pub with_more : Found → (State → Paths) → Paths
-with_more (Ok found) more = behind found.0 (more found.1)
-with_more (Err fault) more = Err fault
-
--- the directories of all items
-abbrev pub dirs_of_all : Setting → Reader → List Saying → State → Paths
-dirs_of_all w read [] s = Ok []
-dirs_of_all w read (x ∷ xs) s = with_more (dirs_of w read x s) (dirs_of_all w read xs)
-
--- the search path that a variable holds, as directories
-abbrev pub search_path : Setting → List ℕ → Paths
-search_path w name = dirs_of_all w (text_at w (name ∷ []) name) (sayings_in w [] name) start
+abbrev pub form_fault : FormFault → SubstFault
+form_fault (form.Marks piece) = Marks piece
+form_fault form.Memory = Memory

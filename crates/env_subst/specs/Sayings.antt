@@ -31,7 +31,7 @@ said_node locals (Some attribute) node = Plain (part_of locals.top attribute nod
 abbrev pub said_item : Locals → Option Attribute → Item → Saying
 said_item locals attribute (item.Text text) = Read text
 said_item locals attribute (item.Int number) = Plain (signed_decimal number)
-said_item locals attribute (item.Node path) = said_node locals attribute (named_of locals.variants path)
+said_item locals attribute (item.Node path) = said_node locals attribute (named_of locals path)
 said_item locals attribute (item.Pair name value) = Read (pair_with name value)
 
 -- a pair of a dict
@@ -44,6 +44,7 @@ sayings_of locals (sayings.Nodes nodes attribute) = map (said_node locals attrib
 sayings_of locals (sayings.Items items attribute) = map (said_item locals attribute) items.now
 sayings_of locals (sayings.Words words) = map (λ w. Read w) words.now
 sayings_of locals (sayings.Pairs pairs) = map (λ p. Read (said_pair p.0 p.1)) pairs.now
+sayings_of locals (sayings.Text text) = Read text.now ∷ []
 sayings_of locals (sayings.One saying) = saying ∷ []
 sayings_of locals sayings.Over = []
 

@@ -1,6 +1,6 @@
 -- What an index or a slice selects: as Python's subscriptions and slicings, sections 6.3.2 and 6.3.3 of its reference, but
 -- that an index outside the range selects nothing.
-use Rattle.std.specs.Prelude.{ℕ, ◌+◌, ◌-◌, min, ◌&&◌, nat_lt, nat_le, List, take, drop, length, Option, None, Some, encode_utf8_all, if◌then◌else◌}
+use Rattle.std.specs.Prelude.{◌≡◌, ℕ, ◌+◌, ◌-◌, min, ◌&&◌, nat_lt, nat_le, List, take, drop, length, Option, None, Some, encode_utf8_all, if◌then◌else◌}
 use Rattle.std.specs.Str.{chars}
 use Rattle.env_text.specs.declared.part.Index.{Index}
 use Rattle.env_text.specs.declared.part.Index.TheVariants.{FromFront, FromBack}
@@ -33,3 +33,18 @@ selected selection xs = between (range_of selection (length xs)) xs
 -- of a text its characters are selected
 abbrev pub selected_text : Selection → List ℕ → List ℕ
 selected_text selection text = encode_utf8_all (selected selection (chars text))
+
+-- the place in a text behind so many characters, or behind all
+abbrev pub place_behind : ℕ → List ℕ → ℕ
+place_behind count text = length (encode_utf8_all (take count (chars text)))
+
+-- where the part of this range of characters stands
+abbrev pub Cuts : List ℕ → ℕ × ℕ → ℕ × ℕ → Type 0
+Cuts text range places =
+    (from : ℕ) × ((to : ℕ) × (places ≡ (place_behind from text, place_behind to text)) × (between (from, to) (chars text) ≡ between range (chars text)))
+
+-- the place of an end of a slice
+abbrev pub end_place : Option Index → ℕ → List ℕ → ℕ
+end_place None missing text = missing
+end_place (Some (FromFront place)) missing text = place_behind place text
+end_place (Some (FromBack place)) missing text = place_behind (length (chars text) - place) text

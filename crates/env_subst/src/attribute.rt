@@ -1,13 +1,12 @@
 //! The attributes of nodes.
-ghost use Rattle.std.specs.Prelude.{◌≡◌, ◌≤◌, ◌-◌, length, IfOk, string_bytes};
+ghost use Rattle.std.specs.Prelude.{◌≡◌, ◌≤◌, ◌-◌, length, IfOk};
 ghost use Rattle.std.specs.Str.{IsCharBoundary};
-ghost use Rattle.scons_base.specs.Parts.{joined};
-ghost use Rattle.env_subst.specs.Attributes.{attribute_named, filebase_of, absolute_of, part_of, named_of};
+ghost use Rattle.variant_dirs.specs.Variants.{source_of};
+ghost use Rattle.env_subst.specs.Attributes.{attribute_named, filebase_of, absolute_of, part_of, source_or, named_of};
 
 use crate::locals::{Locals, Named};
-use scons_base::{Memory, PathText, Text};
+use scons_base::{Memory, PathText, Text, joined};
 use std::alloc::Global;
-use variant_dirs::Variants;
 
 #[derive(Clone, Copy, Debug, PartialEq, Eq)]
 pub(crate) enum Attribute {
@@ -85,33 +84,24 @@ fn absolute_of(alloc: Global, top: &PathText, path: &PathText) -> Result<Text, M
     }
 }
 
-/// A relative path behind a directory.
-fn joined(alloc: Global, dir: &str, rest: &str) -> Result<String, Memory>
-    ensures { IfOk result (λ s. string_bytes s ≡ joined dir.now rest.now) }
-{
-    let mut text = String::new(alloc);
-    match dir.as_bytes() {
-        b"." => {}
-        b"/" => text.push('/')?,
-        _ => {
-            text.push_str(dir)?;
-            text.push('/')?;
-        }
-    }
-    text.push_str(rest)?;
-    Ok(text)
-}
-
 /// A path as a node with its source.
-pub(crate) fn named_of(variants: &Variants, path: &PathText) -> Result<Named, Memory>
-    ensures { IfOk result (λ n. n ≡ named_of variants.now path.now) }
+pub(crate) fn named_of(locals: &Locals, path: &PathText) -> Result<Named, Memory>
+    ensures { IfOk result (λ n. n ≡ named_of locals.now path.now) }
 {
-    let src = match variants.source_of(path)? {
-        Some(source) => source,
-        None => path.copy()?,
-    };
+    let src = source_or(locals, path)?;
     Ok(Named {
         path: path.copy()?,
         src,
     })
+}
+
+/// The source file of a path in a variant directory, and else the path.
+fn source_or(locals: &Locals, path: &PathText) -> Result<PathText, Memory>
+    ensures { IfOk result (λ p. p
+        ≡ source_or path.now (source_of locals.now.variants locals.now.top path.now)) }
+{
+    match locals.variants.source_of(&locals.top, path)? {
+        Some(source) => Ok(source),
+        None => path.copy(),
+    }
 }

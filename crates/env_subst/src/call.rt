@@ -1,3 +1,4 @@
+//! Copies of calls.
 ghost use Rattle.std.specs.Prelude.{◌≡◌, IfOk};
 
 use crate::task::Call;
@@ -12,6 +13,7 @@ impl Call {
             list: self.list.copy()?,
             suffix: self.suffix.copy()?,
             directories: self.directories,
+            room: self.room,
         })
     }
 }

@@ -1,25 +1,22 @@
 //! Calls of `_concat`.
-ghost use Rattle.std.specs.Prelude.{◌≡◌, ◌≢◌, ◌<◌, ◌+◌, ◌^◌, ⊤, [], ◌∷◌, Ok, Err, OnOk, IfOk, MatchOption, MatchResult, drop, string_bytes};
-ghost use Rattle.env_pieces.specs.Pieces.{pieces_of};
-ghost use Rattle.env_pieces.specs.Forms.{text_of};
+ghost use Rattle.std.specs.Prelude.{◌≡◌, ◌≢◌, ◌<◌, ◌+◌, ◌^◌, ⊤, [], ◌∷◌, Ok, Err, OnOk, IfErr, MatchOption, MatchResult, IfOk, drop};
 ghost use Rattle.env_subst.specs.declared.locals.Locals.{Locals};
 ghost use Rattle.env_subst.specs.Settings.{setting_of};
-ghost use Rattle.env_subst.specs.Sayings.{sayings_of, Begins};
-ghost use Rattle.env_subst.specs.Expansions.{State, Names, sayings_in, dirs_named, affixed, inner, all_dirs, more_dirs, puts_found, dirs_of, dirs_read, plain_item, item, items_more, items_all, calls};
-ghost use Rattle.env_subst.specs.Desks.{items, dirs, deeper_of, does, plain, tasks_of, names_after, Steps};
+ghost use Rattle.env_subst.specs.Sayings.{sayings_of};
+ghost use Rattle.env_subst.specs.Expansions.{State, Names, dirs_named, affixed, puts_item, all_dirs, puts_found, known_item, node_item, item, items_all, calls};
+ghost use Rattle.env_subst.specs.Desks.{items, dirs, expand, deeper_of, does, plain, tasks_of, names_after, Parted, CannotPart, Steps};
 
+use crate::apart::put_apart;
 use crate::content::said;
 use crate::desk::{Desk, Stack, push, put};
 use crate::fault::SubstFault;
-use crate::names::Names;
 use crate::reading::held_in;
 use crate::saying::{First, Saying, Sayings, first_of};
 use crate::setting::Setting;
 use crate::task::{Call, Task};
-use env_pieces::{Pieces, text_of};
-use scons_base::{Memory, Paths, Text};
+use env_pieces::Pieces;
+use scons_base::{Memory, PathText, Paths, Text};
 use std::alloc::Global;
-use std::mem;
 use variant_dirs::VariantFault;
 
 /// The items of a call.
@@ -30,22 +27,22 @@ pub(crate) fn call_items<'a>(
 ) -> Result<(), SubstFault>
     ensures { Steps setting.now (λ w names. calls w (deeper_of w names) names call) desk.old desk.new result }
 {
-    match first_item(setting, &desk.names, &call.list)? {
-        Some(first) => put_items(setting, desk, call, first),
-        None => Ok(()),
-    }
+    let held = held_in(setting, &desk.names, &call.list)?;
+    let call = begun(call, desk.pieces.room());
+    more_items(setting, desk, call, said(held))
 }
 
-/// The first item of a list and the others, if there are any.
-fn first_item<'a>(
-    setting: &Setting<'a>,
-    names: &Names,
-    list: &Text,
-) -> Result<Option<First<'a>>, Memory>
-    ensures { IfOk result (Begins setting.now.locals.now (sayings_in (setting_of setting.now) names.now list.now)) }
+/// A call that begins where so many bytes may still come.
+fn begun(call: Call, room: usize) -> Call
+    ensures { result ≡ record { prefix = call.prefix; list = call.list; suffix = call.suffix; directories = call.directories; room = room } }
 {
-    let held = held_in(setting, names, list)?;
-    first_of(setting.alloc, setting.locals, said(held))
+    Call {
+        prefix: call.prefix,
+        list: call.list,
+        suffix: call.suffix,
+        directories: call.directories,
+        room,
+    }
 }
 
 /// Further items of a call.
@@ -55,13 +52,10 @@ pub(crate) fn more_items<'a>(
     call: Call,
     sayings: Sayings<'a>,
 ) -> Result<(), SubstFault>
-    ensures { Steps setting.now (λ w names. items_more w (deeper_of w names) names call (sayings_of w.locals sayings.entry)) desk.old desk.new result }
+    ensures { Steps setting.now (λ w names. items_all w (deeper_of w names) names call (sayings_of w.locals sayings.entry)) desk.old desk.new result }
 {
     match first_of(setting.alloc, setting.locals, sayings)? {
-        Some(first) => {
-            put(&mut desk.pieces, " ")?;
-            put_items(setting, desk, call, first)
-        }
+        Some(first) => put_items(setting, desk, call, first),
         None => Ok(()),
     }
 }
@@ -97,82 +91,49 @@ fn put_item<'a>(
 ) -> Result<(), SubstFault>
     ensures { Steps setting.now (λ w names. item w (deeper_of w names) names call saying) desk.old desk.new result }
 {
-    if call.directories {
-        put_directory(setting, desk, call, saying)
-    } else {
-        put_plain(setting, desk, call, saying)
-    }
-}
-
-/// An item that is no directory.
-fn put_plain<'a>(
-    setting: &Setting<'a>,
-    desk: &mut Desk<'a>,
-    call: Call,
-    saying: Saying,
-) -> Result<(), SubstFault>
-    ensures { Steps setting.now (λ w names. plain_item w (deeper_of w names) names call saying) desk.old desk.new result }
-{
     match saying {
-        Saying::Read(text) => {
-            let name = call.list.copy()?;
-            let saying = Saying::Read(text);
-            affix(setting, desk, call, Task::Inside { name, saying })
-        }
-        Saying::Plain(text) => affix(setting, desk, call, Task::Put(text)),
-        Saying::Path(path) => put(&mut desk.pieces, path.as_str()),
+        Saying::Read(text) => put_apart(setting, desk, call, text),
+        Saying::Plain(text) => put_known(setting, desk, call, text),
+        Saying::Path(path) => put_node(setting, desk, call, path),
     }
 }
 
-/// An item that is a directory.
-fn put_directory<'a>(
-    setting: &Setting<'a>,
-    desk: &mut Desk<'a>,
-    call: Call,
-    saying: Saying,
-) -> Result<(), SubstFault>
-    ensures { Steps setting.now (λ w names s. puts_found w (deeper_of w names) names call (dirs_of w (deeper_of w names call.list) saying s)) desk.old desk.new result }
-{
-    match saying {
-        Saying::Read(text) => read_apart(setting, desk, call, text),
-        Saying::Plain(text) => put_named(setting, desk, call, text.as_str()),
-        Saying::Path(path) => {
-            let found = setting.locals.variants.searched(path)?;
-            put_dirs(setting, desk, call, found, 0)
-        }
-    }
-}
-
-/// A text that names directories is read apart first.
-fn read_apart<'a>(
+/// An item that is known as a text.
+pub(crate) fn put_known<'a>(
     setting: &Setting<'a>,
     desk: &mut Desk<'a>,
     call: Call,
     text: Text,
 ) -> Result<(), SubstFault>
-    ensures { Steps setting.now (λ w names s. puts_found w (deeper_of w names) names call (dirs_read w s.sheet (deeper_of w names call.list text (inner s)))) desk.old desk.new result }
+    ensures { Steps setting.now (λ w names. known_item w (deeper_of w names) names call text) desk.old desk.new result }
 {
-    let name = call.list.copy()?;
-    let inner = desk.pieces.inner();
-    let outer = mem::replace(&mut desk.pieces, inner);
-    push(&mut desk.tasks, Task::Directory { outer, call })?;
-    let saying = Saying::Read(text);
-    push(&mut desk.tasks, Task::Inside { name, saying })?;
-    Ok(())
+    if text.as_str().is_empty() {
+        return Ok(());
+    }
+    if call.directories {
+        return put_named(setting, desk, call, text.as_str());
+    }
+    put_between(setting, desk, call, Task::Put(text))
 }
 
-/// What was read apart names directories. The pieces that were read before come back.
-pub(crate) fn put_read<'a>(
+/// A node: it stands alone, or is a directory.
+fn put_node<'a>(
     setting: &Setting<'a>,
     desk: &mut Desk<'a>,
-    outer: Pieces,
     call: Call,
+    path: PathText,
 ) -> Result<(), SubstFault>
-    ensures { Steps setting.now (λ w names s. puts_found w (deeper_of w names) names call (dirs_read w outer (Ok s))) desk.old desk.new result }
+    ensures { Steps setting.now (λ w names. node_item w (deeper_of w names) names call path) desk.old desk.new result }
 {
-    let inner = mem::replace(&mut desk.pieces, outer);
-    let text = read_text(setting.alloc, inner)?;
-    put_named(setting, desk, call, text.as_str())
+    if call.directories {
+        let found = setting
+            .locals
+            .variants
+            .searched(&setting.locals.top, &path)?;
+        return put_dirs(setting, desk, call, found, 0);
+    }
+    put_parting(&mut desk.pieces, call.room)?;
+    put(&mut desk.pieces, path.as_str())
 }
 
 /// The directories that a text names.
@@ -190,14 +151,6 @@ fn put_named<'a>(
     }
 }
 
-/// What was read, as text.
-pub(crate) fn read_text(alloc: Global, pieces: Pieces) -> Result<String, Memory>
-    ensures { IfOk result (λ s. string_bytes s ≡ text_of (pieces_of pieces)) }
-{
-    let pieces = pieces.finish()?;
-    Ok(text_of(alloc, pieces.as_slice())?)
-}
-
 /// The directories that a text names.
 pub(crate) fn dirs_named(setting: &Setting<'_>, text: &str) -> Result<Paths, SubstFault>
     ensures { (s : State) → MatchResult result (λ p. dirs_named (setting_of setting.now) text.now s ≡ Ok (p, s))
@@ -212,7 +165,7 @@ pub(crate) fn dirs_named(setting: &Setting<'_>, text: &str) -> Result<Paths, Sub
 }
 
 /// The directories of an item, from this one on.
-fn put_dirs<'a>(
+pub(crate) fn put_dirs<'a>(
     setting: &Setting<'a>,
     desk: &mut Desk<'a>,
     call: Call,
@@ -224,7 +177,7 @@ fn put_dirs<'a>(
     match dir_at(setting.alloc, &found, next)? {
         Some(text) => {
             push_dirs(&mut desk.tasks, &call, found, next + 1)?;
-            affix(setting, desk, call, Task::Put(text))
+            put_between(setting, desk, call, Task::Put(text))
         }
         None => Ok(()),
     }
@@ -244,24 +197,6 @@ fn push_dirs<'a>(
     push(stack, Task::Dirs { call, found, next })
 }
 
-/// Further directories of an item, from this one on.
-pub(crate) fn more_dirs<'a>(
-    setting: &Setting<'a>,
-    desk: &mut Desk<'a>,
-    call: Call,
-    found: Paths,
-    next: usize,
-) -> Result<(), SubstFault>
-    ensures { Steps setting.now (λ w names. more_dirs w (deeper_of w names) names call (drop next found)) desk.old desk.new result }
-{
-    if next < found.as_slice().len() {
-        put(&mut desk.pieces, " ")?;
-        put_dirs(setting, desk, call, found, next)
-    } else {
-        Ok(())
-    }
-}
-
 /// The text of the directory of this number.
 fn dir_at(alloc: Global, found: &Paths, number: usize) -> Result<Option<Text>, Memory>
     ensures dir { IfOk result (λ r. MatchOption r (drop number found.now ≡ [])
@@ -276,7 +211,32 @@ fn dir_at(alloc: Global, found: &Paths, number: usize) -> Result<Option<Text>, M
     Ok(Some(Text::of(alloc, dir.as_str())?))
 }
 
-/// Something between prefix and suffix.
+/// A space, where less may still come than when the call began.
+pub(crate) fn put_parting(pieces: &mut Pieces, room: usize) -> Result<(), SubstFault>
+    ensures ok { OnOk result (Parted room pieces.old pieces.new) }
+    ensures fault { IfErr result (λ e. e ≢ SubstFault.Memory → CannotPart room pieces.old e) }
+{
+    if pieces.room() == room {
+        Ok(())
+    } else {
+        put(pieces, " ")
+    }
+}
+
+/// Something of a call between prefix and suffix.
+pub(crate) fn put_between<'a>(
+    setting: &Setting<'a>,
+    desk: &mut Desk<'a>,
+    call: Call,
+    middle: Task<'a>,
+) -> Result<(), SubstFault>
+    requires { (names : Names) → names_after (plain setting.now.locals.now middle) names ≡ names }
+    ensures { Steps setting.now (λ w names. puts_item w (deeper_of w names) names call (does w names (plain w.locals middle.entry))) desk.old desk.new result }
+{
+    put_parting(&mut desk.pieces, call.room)?;
+    affix(setting, desk, call, middle)
+}
+
 fn affix<'a>(
     setting: &Setting<'a>,
     desk: &mut Desk<'a>,
@@ -286,14 +246,17 @@ fn affix<'a>(
     requires { (names : Names) → names_after (plain setting.now.locals.now middle) names ≡ names }
     ensures { Steps setting.now (λ w names. affixed w (deeper_of w names) names call (does w names (plain w.locals middle.entry))) desk.old desk.new result }
 {
-    let Call {
-        prefix,
-        list: _list,
-        suffix,
-        directories: _,
-    } = call;
-    push(&mut desk.tasks, Task::Expand(suffix))?;
-    push(&mut desk.tasks, middle)?;
-    push(&mut desk.tasks, Task::Expand(prefix))?;
+    push_middle(&mut desk.tasks, call.suffix, middle)?;
+    push(&mut desk.tasks, Task::Expand(call.prefix))?;
+    Ok(())
+}
+
+/// Something is left to do, and then a suffix.
+fn push_middle<'a>(stack: &mut Stack<'a>, suffix: Text, middle: Task<'a>) -> Result<(), Memory>
+    ensures { OnOk result ((locals : Locals) → tasks_of locals stack.new.tasks.items
+        ≡ plain locals middle.entry ∷ (expand suffix ∷ tasks_of locals stack.old.tasks.items)) }
+{
+    push(stack, Task::Expand(suffix))?;
+    push(stack, middle)?;
     Ok(())
 }

@@ -3,11 +3,13 @@ ghost use Rattle.std.specs.Prelude.{◌≡◌, [], true, false, None, Some, take
 ghost use Rattle.env_subst.specs.declared.locals.Locals.{Locals};
 ghost use Rattle.env_subst.specs.Sayings.{sayings_of};
 ghost use Rattle.std.specs.List.{list_all};
+ghost use Rattle.std.specs.Option.{option_map};
+ghost use Rattle.env_vars.specs.Envs.{value_of};
 ghost use Rattle.env_subst.specs.Settings.{setting_of};
-ghost use Rattle.env_subst.specs.Contents.{items, content_of, held, content_at, taken, taken_text, taken_shown, is_node, said, said_text, shown_parts, said_by};
+ghost use Rattle.env_subst.specs.Contents.{items, content_of, held, held_or_nothing, known_at, content_at, character_or_nothing, taken, taken_text, taken_shown, is_node, said, said_text, shown_parts, said_by};
 
 use crate::attribute::{Attribute, attribute_named};
-use crate::locals::Named;
+use crate::locals::{Locals, Named};
 use crate::saying::{Saying, Sayings};
 use crate::select::{selected, selected_text};
 use crate::setting::Setting;
@@ -25,7 +27,7 @@ pub(crate) enum Holding<'a> {
     Words(&'a [Text]),
     Pairs(&'a [(Text, Item)]),
     /// A text that is read in turn.
-    Text(Text),
+    Text(&'a str),
     /// A number or a truth value.
     Shown(Text),
 }
@@ -34,21 +36,38 @@ pub(crate) enum Holding<'a> {
 pub(crate) fn held_by<'a>(setting: &Setting<'a>, name: &str) -> Result<Holding<'a>, Memory>
     ensures { IfOk result (λ h. content_of h ≡ content_at (setting_of setting.now) name.now) }
 {
+    match known_by(setting.locals, name) {
+        Some(holding) => Ok(holding),
+        None => held_there(setting, name),
+    }
+}
+
+/// What the rule knows under this name, whatever the environment has.
+fn known_by<'a>(locals: &'a Locals, name: &str) -> Option<Holding<'a>>
+    ensures { option_map content_of result ≡ known_at locals.now name.now }
+{
     if name == "TARGETS" {
-        Ok(Holding::Nodes(setting.locals.targets.as_slice()))
+        Some(Holding::Nodes(locals.targets.as_slice()))
     } else if name == "SOURCES" {
-        Ok(Holding::Nodes(setting.locals.sources.as_slice()))
+        Some(Holding::Nodes(locals.sources.as_slice()))
     } else if name == "TARGET" {
-        Ok(Holding::Nodes(front(setting.locals.targets.as_slice())))
+        Some(Holding::Nodes(front(locals.targets.as_slice())))
     } else if name == "SOURCE" {
-        Ok(Holding::Nodes(front(setting.locals.sources.as_slice())))
+        Some(Holding::Nodes(front(locals.sources.as_slice())))
     } else if name == "SMARTLINK" {
-        Ok(Holding::Text(setting.locals.smartlink.copy()?))
+        Some(Holding::Text(locals.smartlink.as_str()))
     } else {
-        match setting.envs.get(setting.env, name) {
-            Some(value) => held(setting.alloc, value),
-            None => Ok(Holding::Nothing),
-        }
+        None
+    }
+}
+
+fn held_there<'a>(setting: &Setting<'a>, name: &str) -> Result<Holding<'a>, Memory>
+    ensures { IfOk result (λ h. content_of h
+        ≡ held_or_nothing (value_of setting.now.envs.now setting.now.env.0 name.now)) }
+{
+    match setting.envs.get(setting.env, name) {
+        Some(value) => held(setting.alloc, value),
+        None => Ok(Holding::Nothing),
     }
 }
 
@@ -63,11 +82,11 @@ fn held<'a>(alloc: Global, value: &'a EnvValue) -> Result<Holding<'a>, Memory>
     ensures { IfOk result (λ h. content_of h ≡ held value.now) }
 {
     match value {
-        EnvValue::Nil => Ok(Holding::Text(Text::of(alloc, "")?)),
+        EnvValue::Nil => Ok(Holding::Text("")),
         EnvValue::Bool(true) => Ok(Holding::Shown(Text::of(alloc, "True")?)),
         EnvValue::Bool(false) => Ok(Holding::Shown(Text::of(alloc, "False")?)),
         EnvValue::Int(number) => Ok(Holding::Shown(Text::new(format!(in alloc; "{number}")?))),
-        EnvValue::Text(text) => Ok(Holding::Text(text.copy()?)),
+        EnvValue::Text(text) => Ok(Holding::Text(text.as_str())),
         EnvValue::Words(words) => Ok(Holding::Words(words.as_slice())),
         EnvValue::List(items) => Ok(Holding::Items(items.as_slice())),
         EnvValue::Pairs(pairs) => Ok(Holding::Pairs(pairs.as_slice())),
@@ -75,42 +94,38 @@ fn held<'a>(alloc: Global, value: &'a EnvValue) -> Result<Holding<'a>, Memory>
 }
 
 /// What is selected of it.
-pub(crate) fn taken<'a>(
-    alloc: Global,
-    holding: Holding<'a>,
-    selection: Selection,
-) -> Result<Holding<'a>, Memory>
-    ensures { IfOk result (λ h. content_of h ≡ taken selection (content_of holding.entry)) }
+pub(crate) fn taken<'a>(holding: Holding<'a>, selection: Selection) -> Holding<'a>
+    ensures { content_of result ≡ taken selection (content_of holding.entry) }
 {
     match holding {
-        Holding::Nothing => Ok(Holding::Nothing),
-        Holding::Nodes(nodes) => Ok(Holding::Nodes(selected(nodes, selection))),
-        Holding::Items(items) => Ok(Holding::Items(selected(items, selection))),
-        Holding::Words(words) => Ok(Holding::Words(selected(words, selection))),
-        Holding::Pairs(pairs) => Ok(Holding::Pairs(selected(pairs, selection))),
-        Holding::Text(text) => taken_text(alloc, text, selection),
-        Holding::Shown(text) => Ok(taken_shown(text, selection)),
+        Holding::Nothing => Holding::Nothing,
+        Holding::Nodes(nodes) => Holding::Nodes(selected(nodes, selection)),
+        Holding::Items(items) => Holding::Items(selected(items, selection)),
+        Holding::Words(words) => Holding::Words(selected(words, selection)),
+        Holding::Pairs(pairs) => Holding::Pairs(selected(pairs, selection)),
+        Holding::Text(text) => taken_text(text, selection),
+        Holding::Shown(text) => taken_shown(text, selection),
     }
 }
 
-fn taken_text<'a>(alloc: Global, text: Text, selection: Selection) -> Result<Holding<'a>, Memory>
-    ensures { IfOk result (λ h. content_of h ≡ taken_text selection text) }
+fn taken_text<'a>(text: &'a str, selection: Selection) -> Holding<'a>
+    ensures { content_of result ≡ taken_text selection text.now }
 {
     match selection {
-        Selection::Whole => Ok(Holding::Text(text)),
-        Selection::Slice(_, _) => Ok(Holding::Text(selected_text(
-            alloc,
-            text.as_str(),
-            selection,
-        )?)),
-        Selection::Item(_) => {
-            let character = selected_text(alloc, text.as_str(), selection)?;
-            if character.as_str().is_empty() {
-                Ok(Holding::Nothing)
-            } else {
-                Ok(Holding::Text(character))
-            }
-        }
+        Selection::Whole => Holding::Text(text),
+        Selection::Slice(_, _) => Holding::Text(selected_text(text, selection)),
+        Selection::Item(_) => character(selected_text(text, selection)),
+    }
+}
+
+/// A character that isn't there is nothing.
+fn character<'a>(text: &'a str) -> Holding<'a>
+    ensures { content_of result ≡ character_or_nothing text.now }
+{
+    if text.is_empty() {
+        Holding::Nothing
+    } else {
+        Holding::Text(text)
     }
 }
 
@@ -153,13 +168,13 @@ pub(crate) fn said<'a>(holding: Holding<'a>) -> Sayings<'a>
 }
 
 /// An empty text says nothing.
-fn said_text<'a>(text: Text) -> Sayings<'a>
-    ensures { (locals : Locals) → sayings_of locals result ≡ said_text text }
+fn said_text<'a>(text: &'a str) -> Sayings<'a>
+    ensures { (locals : Locals) → sayings_of locals result ≡ said_text text.now }
 {
-    if text.as_str().is_empty() {
+    if text.is_empty() {
         Sayings::Over
     } else {
-        Sayings::One(Saying::Read(text))
+        Sayings::Text(text)
     }
 }
 
@@ -174,8 +189,8 @@ fn shown_parts<'a>(holding: Holding<'a>, attribute: Attribute) -> Option<Sayings
         Holding::Items(items) => item_parts(items, attribute),
         Holding::Words(words) => no_parts(words.is_empty()),
         Holding::Pairs(pairs) => no_parts(pairs.is_empty()),
-        Holding::Text(_) => None,
-        Holding::Shown(_) => None,
+        Holding::Text(_text) => None,
+        Holding::Shown(_text) => None,
     }
 }
 

@@ -1,3 +1,4 @@
+//! Why a text has no form.
 ghost use Rattle.std.specs.Prelude.{◌≡◌};
 ghost use Rattle.env_subst.specs.declared.fault.SubstFault.TheVariants.{Memory};
 

@@ -6,12 +6,16 @@
 //! `Selections`, `Attributes`, `Contents`, `Sayings`, `Expansions`, `Results`.
 #![tactic(auto)]
 
+mod apart;
 mod attribute;
 mod call;
 mod calls;
+mod command;
 mod content;
 mod desk;
+mod entries;
 mod fault;
+mod library;
 mod locals;
 mod names;
 mod part;
@@ -23,7 +27,9 @@ mod setting;
 mod substitution;
 mod task;
 
+pub use command::{lines, path_text};
 pub use env_pieces::Mode;
 pub use fault::SubstFault;
+pub use library::{LibItem, dirs, lib_names};
 pub use locals::{Locals, Named};
-pub use substitution::{dirs, subst};
+pub use substitution::subst;

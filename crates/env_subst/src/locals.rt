@@ -1,3 +1,4 @@
+//! What the lines of a rule know beside the environment.
 ghost use Rattle.std.specs.Prelude.{◌≡◌, IfOk};
 
 use scons_base::{Memory, PathText, Text};

@@ -1,4 +1,5 @@
-ghost use Rattle.std.specs.Prelude.{◌≡◌, ◌++◌, ◌∷◌, [], ◌≤◌, length, false, OnOk, OnErr};
+//! The variables whose values are being read.
+ghost use Rattle.std.specs.Prelude.{◌≡◌, ◌++◌, ◌∷◌, [], ◌≤◌, length, false, IfOk, OnOk, OnErr};
 ghost use Rattle.env_subst.specs.Expansions.{is_open};
 ghost use Rattle.env_subst.specs.Desks.{outer_names};
 
@@ -28,6 +29,16 @@ impl Names {
         Names {
             names: IndexSet::new(alloc),
         }
+    }
+
+    pub(crate) fn copy(&self, alloc: Global) -> Result<Names, Memory>
+        ensures { IfOk result (λ n. n ≡ self.now) }
+    {
+        let mut copy = Names::new(alloc);
+        for place in 0..self.names.len() {
+            copy.enter(self.names.as_slice()[place].copy()?)?;
+        }
+        Ok(copy)
     }
 
     pub(crate) fn len(&self) -> usize

@@ -1,3 +1,4 @@
+//! Parts of a text with names of their own.
 ghost use Rattle.std.specs.Prelude.{◌≡◌, IfOk};
 ghost use Rattle.env_text.specs.Views.{plain};
 ghost use Rattle.env_subst.specs.Parts.{owned_part};
@@ -56,6 +57,7 @@ pub(crate) fn owned(alloc: Global, part: Part<'_>) -> Result<OwnedPart, Memory>
             list: Text::of(alloc, list)?,
             suffix: Text::of(alloc, suffix)?,
             directories,
+            room: 0,
         })),
     }
 }

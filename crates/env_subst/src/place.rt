@@ -1,3 +1,4 @@
+//! Places of texts.
 ghost use Rattle.std.specs.Str.{IsCharBoundary};
 
 use scons_base::Text;

@@ -90,7 +90,7 @@ fn read_variable<'a>(
     ensures { Steps setting.now (λ w names. refers_to w (deeper_of w names) names owner at name selection attribute) desk.old desk.new result }
 {
     let held = held_in(setting, &desk.names, &name)?;
-    let holding = taken(setting.alloc, held, selection)?;
+    let holding = taken(held, selection);
     match said_as(holding, &attribute) {
         Some(sayings) => say_all(setting, desk, name, sayings),
         None => Err(SubstFault::BadAttr {

@@ -1,5 +1,5 @@
 //! What a value says, one thing after another.
-ghost use Rattle.std.specs.Prelude.{◌≡◌, map, IfOk};
+ghost use Rattle.std.specs.Prelude.{◌≡◌, [], map, IfOk};
 ghost use Rattle.env_subst.specs.declared.locals.Locals.{Locals};
 ghost use Rattle.env_subst.specs.Sayings.{said_node, said_item, said_pair, defined, sayings_of, Begins};
 
@@ -27,6 +27,8 @@ pub(crate) enum Sayings<'a> {
     Items(&'a [Item], Option<Attribute>),
     Words(&'a [Text]),
     Pairs(&'a [(Text, Item)]),
+    /// A text that is read in turn.
+    Text(&'a str),
     One(Saying),
     Over,
 }
@@ -51,11 +53,20 @@ pub(crate) fn first_of<'a>(
         Sayings::Items(items, attribute) => first_item(alloc, locals, items, attribute),
         Sayings::Words(words) => first_word(words),
         Sayings::Pairs(pairs) => first_pair(alloc, pairs),
-        Sayings::One(saying) => Ok(Some(First {
-            saying,
-            rest: Sayings::Over,
-        })),
+        Sayings::Text(text) => Ok(Some(alone(Saying::Read(Text::of(alloc, text)?)))),
+        Sayings::One(saying) => Ok(Some(alone(saying))),
         Sayings::Over => Ok(None),
+    }
+}
+
+/// One thing, and nothing behind it.
+fn alone<'a>(saying: Saying) -> First<'a>
+    ensures saying { result.saying ≡ saying }
+    ensures rest { (locals : Locals) → sayings_of locals result.rest ≡ [] }
+{
+    First {
+        saying,
+        rest: Sayings::Over,
     }
 }
 
@@ -143,7 +154,7 @@ fn said_item(
         Item::Text(text) => Ok(Saying::Read(text.copy()?)),
         Item::Int(number) => Ok(Saying::Plain(Text::new(format!(in alloc; "{number}")?))),
         Item::Node(path) => {
-            let node = named_of(&locals.variants, path)?;
+            let node = named_of(locals, path)?;
             said_node(alloc, locals, attribute, &node)
         }
         Item::Pair(name, None) => Ok(Saying::Read(name.copy()?)),

@@ -1,11 +1,9 @@
 //! What a reference selects of a list or a text.
-ghost use Rattle.std.specs.Prelude.{◌≡◌, ◌≤◌, ◌<◌, ◌-◌, ◌^◌, length, IfOk, string_bytes, encode_utf8_all};
-ghost use Rattle.std.specs.Str.{chars};
-ghost use Rattle.env_subst.specs.Selections.{slice_end, item_range, range_of, selected, selected_text};
+ghost use Rattle.std.specs.Prelude.{◌≡◌, ◌≤◌, ◌-◌, ◌++◌, ℕ, [], take, drop, length, MatchOption, encode_utf8};
+ghost use Rattle.std.specs.Str.{chars, IsCharBoundary};
+ghost use Rattle.env_subst.specs.Selections.{slice_end, item_range, range_of, selected, selected_text, place_behind, end_place, Cuts};
 
 use env_text::{Index, Selection};
-use scons_base::{Memory, Text};
-use std::alloc::Global;
 
 /// The items that are selected.
 pub(crate) fn selected<T>(items: &[T], selection: Selection) -> &[T]
@@ -19,25 +17,120 @@ pub(crate) fn selected<T>(items: &[T], selection: Selection) -> &[T]
     }
 }
 
-/// The characters that are selected.
-pub(crate) fn selected_text(alloc: Global, text: &str, selection: Selection) -> Result<Text, Memory>
-    ensures { IfOk result (λ t. t ≡ selected_text selection text.now) }
+/// The characters that are selected. This costs the characters up to them, from the end that they are counted from.
+pub(crate) fn selected_text(text: &str, selection: Selection) -> &str
+    ensures { result.now ≡ selected_text selection text.now }
 {
-    let chars = chars_of(alloc, text)?;
-    let taken = selected(chars.as_slice(), selection);
-    Ok(Text::new(joined(alloc, taken)?))
+    match selection {
+        Selection::Whole => text,
+        Selection::Item(index) => {
+            let (from, to) = item_ends(text, index);
+            part_between(text, from, to)
+        }
+        Selection::Slice(from, to) => {
+            part_between(
+                text,
+                place_of(text, from, 0),
+                place_of(text, to, text.len()),
+            )
+        }
+    }
 }
 
-fn chars_of(alloc: Global, text: &str) -> Result<Vec<char>, Memory>
-    ensures { IfOk result (λ v. v.items ≡ chars text.now) }
+fn part_between(text: &str, from: usize, to: usize) -> &str
+    requires from { IsCharBoundary text.now from }
+    requires to { IsCharBoundary text.now to }
+    ensures { result.now ≡ take (to - from) (drop from text.now) }
 {
-    Ok(text.chars().collect(alloc)?)
+    if from < to { &text[from..to] } else { "" }
 }
 
-fn joined(alloc: Global, chars: &[char]) -> Result<String, Memory>
-    ensures { IfOk result (λ s. string_bytes s ≡ encode_utf8_all chars.now) }
+/// Where a character begins and ends.
+fn item_ends(text: &str, index: Index) -> (usize, usize)
+    ensures { Cuts text.now (item_range index (length (chars text.now))) result }
 {
-    Ok(chars.iter().copied().collect(alloc)?)
+    match index {
+        Index::FromFront(place) => front_ends(text, place),
+        Index::FromBack(place) => (
+            back_place(text, place),
+            back_place(text, place.saturating_sub(1)),
+        ),
+    }
+}
+
+/// Where the character at a place begins and ends, counted from the front.
+fn front_ends(text: &str, place: usize) -> (usize, usize)
+    ensures { Cuts text.now (item_range (Index.FromFront place) (length (chars text.now))) result }
+{
+    if place >= text.len() {
+        return (0, 0);
+    }
+    (front_len(text, place), front_len(text, place + 1))
+}
+
+/// The place of an end of a slice, which is another one where nothing is said.
+fn place_of(text: &str, index: Option<Index>, missing: usize) -> usize
+    ensures { result ≡ end_place index missing text.now }
+{
+    match index {
+        None => missing,
+        Some(Index::FromFront(place)) => front_len(text, place),
+        Some(Index::FromBack(place)) => back_place(text, place),
+    }
+}
+
+/// How many bytes the first characters have, so many or all.
+fn front_len(text: &str, count: usize) -> usize
+    ensures { result ≡ place_behind count text.now }
+{
+    let mut rest = text;
+    let mut left = count;
+    'characters: while left > 0 {
+        match behind_first(rest) {
+            Some(behind) => rest = behind,
+            None => return text.len(),
+        }
+        left -= 1;
+    }
+    text.len() - rest.len()
+}
+
+/// The place in front of the last characters, so many or all.
+fn back_place(text: &str, count: usize) -> usize
+    ensures { result ≡ place_behind (length (chars text.now) - count) text.now }
+{
+    let mut rest = text;
+    let mut left = count;
+    'characters: while left > 0 {
+        match before_last(rest) {
+            Some(before) => rest = before,
+            None => return 0,
+        }
+        left -= 1;
+    }
+    rest.len()
+}
+
+/// What stands behind the first character.
+fn behind_first(text: &str) -> Option<&str>
+    ensures { MatchOption result (text.now ≡ []) (λ rest. (c : ℕ) × (text.now ≡ encode_utf8 c ++ rest.now)) }
+{
+    let mut characters = text.chars();
+    match characters.next() {
+        Some(_) => Some(characters.as_str()),
+        None => None,
+    }
+}
+
+/// What stands in front of the last character.
+fn before_last(text: &str) -> Option<&str>
+    ensures { MatchOption result (text.now ≡ []) (λ rest. (c : ℕ) × (text.now ≡ rest.now ++ encode_utf8 c)) }
+{
+    let mut characters = text.chars();
+    match characters.next_back() {
+        Some(_) => Some(characters.as_str()),
+        None => None,
+    }
 }
 
 /// Where the selected part of a list of so many begins and ends.

@@ -1,3 +1,4 @@
+//! What a text is read in.
 ghost use Rattle.std.specs.Prelude.{◌<◌, length};
 
 use crate::locals::Locals;

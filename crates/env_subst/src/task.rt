@@ -1,6 +1,7 @@
+//! What is left to do while a text is read.
 use crate::place::Place;
 use crate::saying::{Saying, Sayings};
-use env_pieces::Pieces;
+use env_pieces::{Piece, Pieces};
 use scons_base::{Paths, Text};
 
 /// A call of `_concat`, by the names of its variables.
@@ -10,6 +11,8 @@ pub(crate) struct Call {
     pub(crate) list: Text,
     pub(crate) suffix: Text,
     pub(crate) directories: bool,
+    /// How many bytes might still come when the call began.
+    pub(crate) room: usize,
 }
 
 /// Something that is left to do while a text is read.
@@ -34,21 +37,25 @@ pub(crate) enum Task<'a> {
     },
     /// All that a variable says.
     Expand(Text),
-    /// Further items of a call, a space in front of each.
+    /// Pieces as they stand.
+    PutAll(Vec<Piece>),
+    /// Further items of a call.
     Items {
         call: Call,
         rest: Sayings<'a>,
     },
-    /// Further directories of an item, from this one on, a space in front of each.
+    /// Further directories of an item, from this one on.
     Dirs {
         call: Call,
         found: Paths,
         next: usize,
     },
-    /// What was read apart names directories. These are the pieces that were read before.
-    Directory {
+    /// What was read apart is an item of a call; or, where it stands alone, all that a further call gave. These are the pieces
+    /// that were read before.
+    Apart {
         outer: Pieces,
         call: Call,
+        alone: bool,
     },
     /// The innermost variable is read.
     Close,

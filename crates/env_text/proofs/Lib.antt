@@ -4,3 +4,5 @@ pub mod Digits
 pub mod WordLists
 pub mod Boundaries
 pub mod Places
+pub mod Whites
+pub mod Ends

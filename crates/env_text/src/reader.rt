@@ -1,3 +1,4 @@
+//! What is read at a place of a text.
 ghost use Rattle.std.specs.Prelude.{◌≡◌, ◌==◌, ◌+◌, ◌<◌, ◌^◌, ◌∷◌, ⊤, length, position, MatchOption};
 ghost use Rattle.std.specs.Str.{IsCharBoundary};
 ghost use Rattle.env_text.specs.Readings.{beginning_at, behind_dollar, braced, bare, reference};

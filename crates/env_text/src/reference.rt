@@ -1,3 +1,4 @@
+//! What stands in the braces of a reference.
 ghost use Rattle.std.specs.Prelude.{◌≡◌, ◌<◌, ◌∷◌, [], ◌↔◌, ⊤, length, None, Some, MatchOption, IsTrue, is_some};
 ghost use Rattle.std.specs.Option.{option_map, option_copied};
 ghost use Rattle.env_text.specs.Words.{words_of, name};

@@ -1,3 +1,4 @@
+//! The words of a reference, and what follows them.
 ghost use Rattle.std.specs.Prelude.{◌≡◌, ◌<◌, ◌≤◌, ◌∷◌, [], ⊤, length, drop, None, Some, MatchOption};
 ghost use Rattle.env_text.specs.Words.{words_of, word_at};
 ghost use Rattle.env_text.specs.References.{behind};

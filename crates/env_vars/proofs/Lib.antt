@@ -1,4 +1,4 @@
 pub mod ChainLemmas
 pub mod PairLemmas
 pub mod VarLemmas
-pub mod WordLemmas
+pub mod GivenTexts

@@ -13,7 +13,7 @@ use Rattle.env_vars.specs.declared.value.EnvValue.TheVariants as value
 use Rattle.env_vars.specs.declared.place.Place.{Place}
 use Rattle.env_vars.specs.declared.place.Place.TheVariants as place
 use Rattle.env_vars.specs.Names.{is_word_variable, is_list_variable, takes_dict}
-use Rattle.env_vars.specs.Words.{words_of}
+use Rattle.env_text.specs.White.{words_of}
 
 -- words as items of a list
 abbrev pub as_items : List (List ℕ) → List Item

@@ -1,6 +1,6 @@
 pub mod Added
 pub mod Envs
+pub mod Given
 pub mod Initial
 pub mod Names
 pub mod Vars
-pub mod Words

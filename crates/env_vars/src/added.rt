@@ -3,16 +3,15 @@ ghost use Rattle.std.specs.Prelude.{◌≡◌, ◌++◌, fold, position, IfOk, O
 ghost use Rattle.std.specs.List.{list_any};
 ghost use Rattle.std.specs.Option.{option_map};
 ghost use Rattle.std.specs.Str.{bytes_eq};
-ghost use Rattle.env_vars.specs.Added.{as_set, item_eq, text_eq, add_new, put_items, put_text, text_items, beside_text, items_for_words, items_for_list, added_to_text, added_to_dict, added_to_list, added_to, set_pair, word_list};
+ghost use Rattle.env_vars.specs.Added.{as_set, item_eq, text_eq, add_new, put_items, put_text, beside_text, items_for_words, items_for_list, added_to_text, added_to_dict, added_to_list, added_to, set_pair, word_list};
 
 use crate::forms::{as_pairs, push_words, word_list};
-use crate::items::Items;
 use crate::names::{is_word_variable, takes_dict};
-use crate::pairs::Pairs;
 use crate::place::Place;
-use crate::value::{EnvValue, Item};
+use crate::shown::push_text;
+use crate::value::{EnvValue, Item, push_copies, push_pairs};
 use crate::words::words_of;
-use scons_base::{Memory, Text};
+use scons_base::{Listing, Memory, Text};
 use std::alloc::Global;
 
 /// What a value becomes where another is added to it: none where their kinds don't fit.
@@ -36,7 +35,7 @@ pub(crate) fn added_to(
         }
         EnvValue::List(items) => added_to_items(alloc, place, name, items.as_slice(), value),
         EnvValue::Text(text) => added_to_text(alloc, place, text, value),
-        EnvValue::Pairs(pairs) => added_to_dict(pairs, value),
+        EnvValue::Pairs(pairs) => added_to_dict(alloc, pairs, value),
         _ => Ok(None),
     }
 }
@@ -73,7 +72,7 @@ fn added_to_items(
         return Ok(None);
     };
     let items = put_items(alloc, place, old, added.as_slice())?;
-    Ok(Some(EnvValue::List(Items::new(items))))
+    Ok(Some(EnvValue::List(Listing::new(items))))
 }
 
 fn items_for_words(alloc: Global, value: &EnvValue) -> Result<Option<Vec<Item>>, Memory>
@@ -128,15 +127,6 @@ fn put_items(alloc: Global, place: Place, old: &[Item], added: &[Item]) -> Resul
         }
     }
     Ok(items)
-}
-
-fn push_copies(items: &mut Vec<Item>, more: &[Item]) -> Result<(), Memory>
-    ensures { OnOk result (items.new.items ≡ items.old.items ++ more.now) }
-{
-    for item in more {
-        items.push(item.copy()?)?;
-    }
-    Ok(())
 }
 
 fn push_new(items: &mut Vec<Item>, added: &[Item]) -> Result<(), Memory>
@@ -197,7 +187,7 @@ fn added_to_text(
         _ => return Ok(None),
     }
     let items = beside_text(alloc, place, old, items.as_slice())?;
-    Ok(Some(EnvValue::List(Items::new(items))))
+    Ok(Some(EnvValue::List(Listing::new(items))))
 }
 
 fn put_text(alloc: Global, place: Place, old: &Text, added: &Text) -> Result<Text, Memory>
@@ -234,25 +224,21 @@ fn beside_text(alloc: Global, place: Place, old: &Text, added: &[Item]) -> Resul
     Ok(items)
 }
 
-fn push_text(items: &mut Vec<Item>, text: &Text) -> Result<(), Memory>
-    ensures { OnOk result (items.new.items ≡ items.old.items ++ text_items text.now) }
-{
-    if !text.as_str().is_empty() {
-        items.push(Item::Text(text.copy()?))?;
-    }
-    Ok(())
-}
-
 /// The row of a dict.
-fn added_to_dict(old: &Pairs, value: &EnvValue) -> Result<Option<EnvValue>, Memory>
+fn added_to_dict(
+    alloc: Global,
+    old: &Listing<(Text, Item)>,
+    value: &EnvValue,
+) -> Result<Option<EnvValue>, Memory>
     ensures { IfOk result (λ o. o ≡ added_to_dict old.now value.now) }
 {
     let EnvValue::Pairs(added) = value else {
         return Ok(None);
     };
-    let mut pairs = old.copy()?.into_vec();
+    let mut pairs = Vec::new(alloc);
+    push_pairs(&mut pairs, old.as_slice())?;
     set_pairs(&mut pairs, added.as_slice())?;
-    Ok(Some(EnvValue::Pairs(Pairs::new(pairs))))
+    Ok(Some(EnvValue::Pairs(Listing::new(pairs))))
 }
 
 fn set_pairs(pairs: &mut Vec<(Text, Item)>, added: &[(Text, Item)]) -> Result<(), Memory>

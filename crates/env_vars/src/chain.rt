@@ -93,7 +93,7 @@ pub(crate) fn set_all(alloc: Global, names: &[(Text, EnvValue)]) -> Result<Vars,
 {
     let mut vars = Vars::new(alloc);
     for (name, value) in names {
-        let value = as_set(alloc, name.as_str(), value.copy()?)?;
+        let value = as_set(alloc, name.as_str(), value.copy(alloc)?)?;
         vars.put(String::from_str(alloc, name.as_str())?, value)?;
     }
     Ok(vars)

@@ -1,3 +1,4 @@
+//! One environment, with those behind it.
 ghost use Rattle.std.specs.Prelude.{◌≡◌, map, OnOk, OnErr, string_bytes};
 ghost use Rattle.env_vars.specs.Vars.{put};
 

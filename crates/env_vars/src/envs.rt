@@ -1,6 +1,8 @@
+//! The construction environments of a reading.
 ghost use Rattle.std.specs.Prelude.{◌≡◌, ◌≢◌, ◌<◌, ◌++◌, ◌∷◌, [], Some, None, length, IfOk, IfErr, OnOk, OnErr, option_copied};
 ghost use Rattle.env_vars.specs.declared.place.Place.TheVariants as place;
 ghost use Rattle.env_vars.specs.Added.{as_set, added};
+ghost use Rattle.env_vars.specs.Given.{given};
 ghost use Rattle.env_vars.specs.Initial.{initial_vars};
 ghost use Rattle.env_vars.specs.Envs.{behind_of, value_of, copied, set_all, with_var, after_adding};
 
@@ -9,6 +11,7 @@ use crate::chain::{chain, copied, set_all, value_of};
 use crate::env::Env;
 use crate::fault::EnvFault;
 use crate::forms::as_set;
+use crate::given::given;
 use crate::initial::initial_vars;
 use crate::place::Place;
 use crate::value::EnvValue;
@@ -91,6 +94,15 @@ impl Envs {
         ensures { option_copied result ≡ value_of self.now env.0 name.now }
     {
         value_of(self.envs.as_slice(), env, name)
+    }
+
+    /// What a value stands for that is given for a variable to a clone of the environment, or to one call: the variable's
+    /// own name in it stands for what the environment has.
+    pub fn given(&self, env: EnvId, name: &str, value: EnvValue) -> Result<EnvValue, Memory>
+        requires { env.0 < length self.now }
+        ensures { IfOk result (λ v. v ≡ given name.now (value_of self.now env.0 name.now) value) }
+    {
+        given(self.alloc, name, self.get(env, name), value)
     }
 
     /// Gives a variable a value, in the form that the variable takes.

@@ -1,3 +1,4 @@
+//! Why a variable takes no value.
 use scons_base::Memory as NoMemory;
 
 /// Why a variable takes no value.

@@ -3,12 +3,10 @@ ghost use Rattle.std.specs.Prelude.{◌≡◌, ◌++◌, map, IfOk, OnOk};
 ghost use Rattle.std.specs.Option.{option_map};
 ghost use Rattle.env_vars.specs.Added.{as_items, texts_of, word_list, pair_text, as_pairs, set_words, set_list, as_set};
 
-use crate::items::Items;
 use crate::names::{is_list_variable, is_word_variable, takes_dict};
-use crate::pairs::Pairs;
 use crate::value::{EnvValue, Item};
 use crate::words::words_of;
-use scons_base::{Memory, Text, Texts};
+use scons_base::{Listing, Memory, Text, Texts};
 use std::alloc::Global;
 
 /// The value that setting a variable gives it.
@@ -41,19 +39,19 @@ fn set_list(alloc: Global, name: &str, value: EnvValue) -> Result<EnvValue, Memo
         EnvValue::Text(text) => {
             let mut items = Vec::new(alloc);
             items.push(Item::Text(text))?;
-            Ok(EnvValue::List(Items::new(items)))
+            Ok(EnvValue::List(Listing::new(items)))
         }
         EnvValue::Pairs(pairs) => dict_form(alloc, name, pairs),
         value => Ok(value),
     }
 }
 
-fn dict_form(alloc: Global, name: &str, pairs: Pairs) -> Result<EnvValue, Memory>
+fn dict_form(alloc: Global, name: &str, pairs: Listing<(Text, Item)>) -> Result<EnvValue, Memory>
     ensures { IfOk result (λ v. v ≡ set_list name.now (EnvValue.Pairs pairs)) }
 {
     if takes_dict(name) {
         let items = as_pairs(alloc, pairs.as_slice())?;
-        Ok(EnvValue::List(Items::new(items)))
+        Ok(EnvValue::List(Listing::new(items)))
     } else {
         Ok(EnvValue::Pairs(pairs))
     }
@@ -65,7 +63,7 @@ pub(crate) fn word_list(alloc: Global, items: Vec<Item>) -> Result<EnvValue, Mem
 {
     match texts_of(alloc, items.as_slice())? {
         Some(words) => Ok(EnvValue::Words(Texts::new(words))),
-        None => Ok(EnvValue::List(Items::new(items))),
+        None => Ok(EnvValue::List(Listing::new(items))),
     }
 }
 

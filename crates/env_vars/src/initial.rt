@@ -1,14 +1,13 @@
 //! The variables that a new environment has.
 ghost use Rattle.std.specs.Prelude.{◌≡◌, ◌∷◌, [], map, filter, IfOk, OnOk};
-ghost use Rattle.env_vars.specs.Words.{is_word};
+ghost use Rattle.env_text.specs.White.{is_word};
 ghost use Rattle.env_vars.specs.Vars.{put_all};
 ghost use Rattle.env_vars.specs.Initial.{initial_vars};
 
-use crate::items::Items;
 use crate::names::LIST_VARIABLES;
 use crate::value::EnvValue;
 use crate::vars::Vars;
-use scons_base::{Memory, Text, Texts};
+use scons_base::{Listing, Memory, Text, Texts};
 use std::alloc::Global;
 
 const TEXTS: [(&str, &str); 23] = [
@@ -116,7 +115,7 @@ fn put_lists(alloc: Global, vars: &mut Vars, names: &[&str]) -> Result<(), Memor
         ≡ put_all vars.old (map (λ name. (name.now, EnvValue.List [])) names.now)) }
 {
     for name in names {
-        let value = EnvValue::List(Items::new(Vec::new(alloc)));
+        let value = EnvValue::List(Listing::new(Vec::new(alloc)));
         vars.put(String::from_str(alloc, name)?, value)?;
     }
     Ok(())

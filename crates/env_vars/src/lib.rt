@@ -3,7 +3,7 @@
 //! A contract sees `Envs` as the list of environments by their numbers, and an environment as the list of its own
 //! variables, pairs of a name and a value, with the numbers of the environments behind it. Only an overlay has any
 //! behind it: `value_of` looks at them in turn. What a variable becomes when it is set, or when a value is added to it,
-//! is told by `as_set` and `added`.
+//! is told by `as_set` and `added`, and what a value given to a clone or to one call stands for by `given`.
 #![tactic(auto)]
 
 mod added;
@@ -12,22 +12,15 @@ mod env;
 mod envs;
 mod fault;
 mod forms;
+mod given;
 mod initial;
-mod items;
 mod names;
-mod pairs;
 mod place;
+mod shown;
 mod value;
 mod vars;
 mod words;
 
 pub use envs::Envs;
 pub use fault::EnvFault;
-pub use items::Items;
-pub use pairs::Pairs;
 pub use value::{EnvValue, Item};
-
-#[cfg(test)]
-mod samples;
-#[cfg(test)]
-mod tests;

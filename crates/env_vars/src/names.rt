@@ -1,3 +1,4 @@
+//! Which variables hold word lists, and which hold lists.
 ghost use Rattle.std.specs.Prelude.{◌≡◌, codes};
 ghost use Rattle.env_vars.specs.Names.{is_word_variable, is_list_variable, takes_dict};
 

@@ -1,11 +1,11 @@
-ghost use Rattle.std.specs.Prelude.{◌≡◌, IfOk};
+//! Values of construction variables, and copies of them.
+ghost use Rattle.std.specs.Prelude.{◌≡◌, ◌++◌, IfOk, OnOk};
 
-use crate::items::Items;
-use crate::pairs::Pairs;
-use scons_base::{Memory, PathText, Text, Texts};
+use scons_base::{Listing, Memory, PathText, Text, Texts};
+use std::alloc::Global;
 
 /// One item of a list.
-#[derive(Debug, Drop)]
+#[derive(Drop)]
 pub enum Item {
     Text(Text),
     Int(i64),
@@ -29,7 +29,7 @@ impl Item {
 }
 
 /// The value of a construction variable.
-#[derive(Debug, Drop)]
+#[derive(Drop)]
 pub enum EnvValue {
     Nil,
     Bool(bool),
@@ -37,13 +37,13 @@ pub enum EnvValue {
     Text(Text),
     /// A word list.
     Words(Texts),
-    List(Items),
+    List(Listing<Item>),
     /// A dict.
-    Pairs(Pairs),
+    Pairs(Listing<(Text, Item)>),
 }
 
 impl EnvValue {
-    pub fn copy(&self) -> Result<EnvValue, Memory>
+    pub fn copy(&self, alloc: Global) -> Result<EnvValue, Memory>
         ensures { IfOk result (λ v. v ≡ self.now) }
     {
         Ok(match self {
@@ -52,8 +52,43 @@ impl EnvValue {
             EnvValue::Int(number) => EnvValue::Int(*number),
             EnvValue::Text(text) => EnvValue::Text(text.copy()?),
             EnvValue::Words(words) => EnvValue::Words(words.copy()?),
-            EnvValue::List(items) => EnvValue::List(items.copy()?),
-            EnvValue::Pairs(pairs) => EnvValue::Pairs(pairs.copy()?),
+            EnvValue::List(items) => EnvValue::List(copied(alloc, items.as_slice())?),
+            EnvValue::Pairs(pairs) => EnvValue::Pairs(copied_pairs(alloc, pairs.as_slice())?),
         })
     }
+}
+
+fn copied(alloc: Global, items: &[Item]) -> Result<Listing<Item>, Memory>
+    ensures { IfOk result (λ l. l ≡ items.now) }
+{
+    let mut copies = Vec::with_capacity(alloc, items.len())?;
+    push_copies(&mut copies, items)?;
+    Ok(Listing::new(copies))
+}
+
+fn copied_pairs(alloc: Global, pairs: &[(Text, Item)]) -> Result<Listing<(Text, Item)>, Memory>
+    ensures { IfOk result (λ l. l ≡ pairs.now) }
+{
+    let mut copies = Vec::with_capacity(alloc, pairs.len())?;
+    push_pairs(&mut copies, pairs)?;
+    Ok(Listing::new(copies))
+}
+
+pub(crate) fn push_copies(items: &mut Vec<Item>, more: &[Item]) -> Result<(), Memory>
+    ensures { OnOk result (items.new.items ≡ items.old.items ++ more.now) }
+{
+    for item in more {
+        items.push(item.copy()?)?;
+    }
+    Ok(())
+}
+
+/// Puts copies of pairs behind others.
+pub(crate) fn push_pairs(pairs: &mut Vec<(Text, Item)>, more: &[(Text, Item)]) -> Result<(), Memory>
+    ensures { OnOk result (pairs.new.items ≡ pairs.old.items ++ more.now) }
+{
+    for (name, item) in more {
+        pairs.push((name.copy()?, item.copy()?))?;
+    }
+    Ok(())
 }

@@ -1,3 +1,4 @@
+//! The variables of one environment, by their names.
 ghost use Rattle.std.specs.Prelude.{◌≡◌, [], length, slice_get, IfOk, OnOk, OnErr, string_bytes, option_copied};
 ghost use Rattle.std.specs.Option.{option_map};
 ghost use Rattle.env_vars.specs.Vars.{value_at, put, put_all};
@@ -67,7 +68,7 @@ impl Vars {
     {
         for place in 0..other.len() {
             if let Some((name, value)) = other.at(place) {
-                self.put(String::from_str(alloc, name)?, value.copy()?)?;
+                self.put(String::from_str(alloc, name)?, value.copy(alloc)?)?;
             }
         }
         Ok(())

@@ -1,8 +1,8 @@
 //! How a text is cut into words.
-ghost use Rattle.std.specs.Prelude.{◌≡◌, ◌<◌, ◌++◌, ◌∷◌, [], length, filter, position, IfOk, OnOk, MatchOption};
-ghost use Rattle.std.specs.List.{position_or_len, before_first, after_first};
-ghost use Rattle.env_vars.specs.Words.{is_white, is_word, words_of};
+ghost use Rattle.std.specs.Prelude.{◌≡◌, ◌++◌, ◌∷◌, [], filter, IfOk, OnOk};
+ghost use Rattle.env_text.specs.White.{is_word, words_of};
 
+use env_text::split_at_white;
 use scons_base::{Memory, Text};
 use std::alloc::Global;
 
@@ -27,28 +27,4 @@ fn push_word(alloc: Global, words: &mut Vec<Text>, part: &str) -> Result<(), Mem
         words.push(Text::of(alloc, part)?)?;
     }
     Ok(())
-}
-
-/// What stands before the first white space, and what behind it.
-fn split_at_white(text: &str) -> Option<(&str, &str)>
-    ensures { MatchOption result (position_or_len is_white text.now ≡ length text.now)
-        (λ parts. (position_or_len is_white text.now < length text.now)
-        × (parts.0.now ≡ before_first is_white text.now) × (parts.1.now ≡ after_first is_white text.now)) }
-{
-    match white_in(text.as_bytes()) {
-        Some(place) => Some((&text[..place], &text[place + 1..])),
-        None => None,
-    }
-}
-
-fn white_in(text: &[u8]) -> Option<usize>
-    ensures { result ≡ position is_white text.now }
-{
-    text.iter().position(|b| is_white(*b))
-}
-
-fn is_white(byte: u8) -> bool
-    ensures { result ≡ is_white byte }
-{
-    matches!(byte, b' ' | 9..=13)
 }

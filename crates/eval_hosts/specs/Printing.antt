@@ -1,9 +1,10 @@
 -- What the host that prints means.
-use Rattle.std.specs.Prelude.{◌≡◌, ◌≢◌, ℕ, ◌-◌, List, ◌++◌, Option, Some, None}
+use Rattle.std.specs.Prelude.{◌≡◌, ◌≢◌, ℕ, ◌-◌, ◌≤◌, List, ◌++◌, Option, Some, None}
 use Rattle.py_heap.specs.Heap.{Objects}
 use Rattle.py_host.specs.Calls.{Question, Answer, Answered, answers, refuses, called, attribute, item, set_item, script_done, next_script}
 use Rattle.py_host.specs.Meaning.{Meaning}
 use Rattle.eval_hosts.specs.Refusals.{raised}
+use Rattle.eval_hosts.specs.Texts.{Grown}
 
 pub record Printed : Type 0 where
   pub text : List ℕ
@@ -14,7 +15,7 @@ pub record Printed : Type 0 where
 abbrev pub refused : Printed → Printed
 refused h = record h { refusals = raised h.refusals }
 
-abbrev one_less : Option ℕ → Option ℕ
+abbrev pub one_less : Option ℕ → Option ℕ
 one_less None = None
 one_less (Some n) = Some (n - 1)
 
@@ -36,17 +37,25 @@ has_none h o refuses h2 o2 = ⊥
 
 abbrev pub replies : (q : Question) → Printed → Objects → Answered (Answer q) → Printed → Objects → Type 0
 replies next_script h o a h2 o2 = has_none h o a h2 o2
-replies (called locals globals object arguments) h o a h2 o2 = refuses_all h o a h2 o2
-replies (attribute object name) h o a h2 o2 = refuses_all h o a h2 o2
-replies (item object key) h o a h2 o2 = refuses_all h o a h2 o2
-replies (set_item object key v) h o a h2 o2 = refuses_all h o a h2 o2
+replies (called place locals globals object arguments) h o a h2 o2 = refuses_all h o a h2 o2
+replies (attribute place object name) h o a h2 o2 = refuses_all h o a h2 o2
+replies (item place object key) h o a h2 o2 = refuses_all h o a h2 o2
+replies (set_item place object key v) h o a h2 o2 = refuses_all h o a h2 o2
 replies (script_done names) h o a h2 o2 = refuses_all h o a h2 o2
+
+-- what was printed stays printed, whatever is asked, and refusals are counted
+pub record Keeps (h h2 : Printed) : Type 0 where
+  pub text : Grown h.text h2.text
+  pub refusals : h.refusals ≤ h2.refusals
 
 abbrev pub printing : Meaning Printed
 printing = record {
   names = λ h name v h2. (v ≡ None) × (h2 ≡ h);
   prints = prints;
   replies = replies;
-  certain = λ h. Unit {0};
+  keeps = Keeps;
+  tells = λ h. Unit {0};
+  alike = λ h k. h ≡ k;
+  escaped = λ h h2. ⊥;
   refusals = λ h. h.refusals;
 }

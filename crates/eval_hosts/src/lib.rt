@@ -3,6 +3,7 @@
 
 mod printing;
 mod replying;
+mod text;
 
 pub use printing::Printing;
 pub use replying::Replying;

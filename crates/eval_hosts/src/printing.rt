@@ -1,11 +1,14 @@
 //! A host that knows no name, has no further script and keeps what is printed.
-ghost use Rattle.std.specs.Prelude.{◌≡◌};
+ghost use Rattle.std.specs.Prelude.{◌≡◌, ◌≢◌, ℕ, List, ◌++◌, true, false, Some, OnOk};
 ghost use Rattle.py_host.specs.declared.refusal.HostRefusal.TheVariants as refusal;
-ghost use Rattle.eval_hosts.specs.Printing.{refused};
+ghost use Rattle.eval_hosts.specs.Printing.{refused, one_less};
+ghost use Rattle.eval_hosts.specs.Texts.{Grown};
 
+use crate::text::append;
 use py_heap::{Heap, HostId, Value};
-use py_host::{Args, Host, HostRefusal, Reply, Scope};
+use py_host::{Args, Host, HostRefusal, Place, Reply, Scope};
 use py_tree::Script;
+use std::alloc::AllocError;
 use std::marker::Model;
 
 #[derive(Drop)]
@@ -35,15 +38,37 @@ impl Printing {
         }
         HostRefusal::Host
     }
+
+    /// Whether a further text is printed, which then is one of those that are left.
+    fn may_print(&mut self) -> bool
+        ensures none { result ≡ false → (self.old.left ≡ Some 0) × (self.new ≡ self.old) }
+        ensures one { result ≡ true → (self.old.left ≢ Some 0) × (self.new ≡ record self.old { left = one_less self.old.left }) }
+    {
+        match self.left {
+            Some(0) => false,
+            Some(left) => {
+                self.left = Some(left - 1);
+                true
+            }
+            None => true,
+        }
+    }
+
+    fn keep(&mut self, text: &str) -> Result<(), AllocError>
+        ensures ok { OnOk result (self.new ≡ record self.old { text = self.old.text ++ text.now }) }
+        ensures grown { (text : List ℕ) × (self.new ≡ record self.old { text = text }) × Grown self.old.text text }
+    {
+        append(&mut self.printed, text)
+    }
 }
 
 impl Host for Printing {
     ghost use Rattle.eval_hosts.specs.Printing.{printing};
-    ghost use Rattle.eval_hosts.specs.Laws.{printing_counted, printing_determined};
+    ghost use Rattle.eval_hosts.specs.Laws.{printing_kept, printing_determined};
 
     ghost meaning = { printing };
 
-    ghost counted = { printing_counted };
+    ghost kept = { printing_kept };
 
     ghost determined = { printing_determined };
 
@@ -54,6 +79,7 @@ impl Host for Printing {
     fn call(
         &mut self,
         _heap: &mut Heap,
+        _place: Place,
         _locals: &Scope,
         _globals: &Scope,
         _object: HostId,
@@ -65,6 +91,7 @@ impl Host for Printing {
     fn attribute(
         &mut self,
         _heap: &mut Heap,
+        _place: Place,
         _object: HostId,
         _name: &str,
     ) -> Result<Value, HostRefusal> {
@@ -74,6 +101,7 @@ impl Host for Printing {
     fn index(
         &mut self,
         _heap: &mut Heap,
+        _place: Place,
         _object: HostId,
         _key: Value,
     ) -> Result<Value, HostRefusal> {
@@ -83,6 +111,7 @@ impl Host for Printing {
     fn set_index(
         &mut self,
         _heap: &mut Heap,
+        _place: Place,
         _object: HostId,
         _key: Value,
         _value: Value,
@@ -91,12 +120,10 @@ impl Host for Printing {
     }
 
     fn print(&mut self, text: &str) -> Result<(), HostRefusal> {
-        match self.left {
-            Some(0) => return Err(self.refuse()),
-            Some(left) => self.left = Some(left - 1),
-            None => {}
+        if !self.may_print() {
+            return Err(self.refuse());
         }
-        self.printed.push_str(text)?;
+        self.keep(text)?;
         Ok(())
     }
 

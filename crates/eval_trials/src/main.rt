@@ -4,7 +4,6 @@
 //! A script begins behind a heading `=== NAME`. Words behind the name change how it is tried, as `trial.rt` says.
 #![tactic(auto)]
 
-mod chain;
 mod trial;
 
 use anyhow::Result;

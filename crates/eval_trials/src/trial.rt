@@ -65,7 +65,8 @@ impl Trial {
         trial
     }
 
-    /// A line `--- run` begins a script that a call of `run` begins, and `--- next` one behind the first.
+    /// A line `--- run` begins a script that a call of `run` begins, and `--- next` one behind the first. `--- sum N` stands for
+    /// the assignment of a sum of N ones to `x`.
     pub fn add_line(&mut self, line: &str) -> Result<()> {
         let alloc = *self.inner.allocator();
         match line {
@@ -81,6 +82,14 @@ impl Trial {
             }
             _ => {}
         }
+        if let Some(count) = number(line, "--- sum ") {
+            let sum = sum_line(alloc, count)?;
+            return self.add_script_line(sum.as_str());
+        }
+        self.add_script_line(line)
+    }
+
+    fn add_script_line(&mut self, line: &str) -> Result<()> {
         match self.place {
             Place::First => push_line(&mut self.first, line)?,
             Place::Inner => {
@@ -157,6 +166,14 @@ fn push_line(script: &mut String, line: &str) -> Result<()> {
     script.push_str(line)?;
     script.push('\n')?;
     Ok(())
+}
+
+fn sum_line(alloc: Global, count: u64) -> Result<String> {
+    let mut line = String::from_str(alloc, "x = 0")?;
+    for _ in 0..count {
+        line.push_str(" + 1")?;
+    }
+    Ok(line)
 }
 
 fn number(word: &str, name: &str) -> Option<u64> {

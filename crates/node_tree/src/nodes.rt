@@ -1,3 +1,4 @@
+//! A number for each path.
 ghost use Rattle.std.specs.Prelude.{◌≡◌, ◌≢◌, ◌==◌, ◌<◌, ◌≤◌, [], List, ℕ, Some, None, IfOk, IfErr, OnErr, OnOk, length, slice_get};
 ghost use Rattle.std.specs.Option.{option_map};
 ghost use Rattle.node_tree.specs.Nodes.{number_of, Interns};

@@ -6,17 +6,17 @@ use Rattle.py_heap.specs.declared.fault.ValueFault.TheVariants as fault
 use Rattle.py_heap.specs.Heap.{Objects}
 use Rattle.py_heap.specs.Given.{next_list}
 use Rattle.py_heap.specs.Many.{with_texts, with_tuple_list}
-use Rattle.py_heap.specs.Units.{Units, list_limit}
+use Rattle.scons_base.specs.declared.limits.TheConstants.{LIST_LIMIT}
+use Rattle.py_heap.specs.Units.{Units}
 use Rattle.py_heap.proofs.Rooms.{limited_within, too_long_given}
-use Rattle.py_methods.specs.Iterables.{iterable_texts}
-use Rattle.py_methods.specs.Many.{total_length}
+use Rattle.py_compare.specs.Iterables.{iterable_texts, total_length}
 use Rattle.py_builtins.specs.Rows.{rows_from, width_of, zip_texts, zip_columns, zip_cost, paid_zip, zipped}
 
-pub width-none : (n width : ℕ) → n ≤ 0 → width_of n width ≤ list_limit
+pub width-none : (n width : ℕ) → n ≤ 0 → width_of n width ≤ LIST_LIMIT
 width-none zero width l = omega arith
 width-none (suc n) width l = absurd (omega arith)
 
-pub width-few : (n width : ℕ) → width ≤ list_limit → width_of n width ≤ list_limit
+pub width-few : (n width : ℕ) → width ≤ LIST_LIMIT → width_of n width ≤ LIST_LIMIT
 width-few zero width l = omega arith
 width-few (suc n) width l = l
 
@@ -25,16 +25,16 @@ width-some zero width l = absurd (omega arith)
 width-some (suc n) width l = refl
 
 module _ (h : Objects) (xs : List Value) (n : ℕ) where
-  pub zip_passes : list_limit < n → n < 2 ^ 64 → zip_cost h xs n ≡ Err (fault.TooBig n)
-  zip_passes l fits = rw (too_long_given list_limit n n l fits) refl
+  pub zip_passes : LIST_LIMIT < n → n < 2 ^ 64 → zip_cost h xs n ≡ Err (fault.TooBig n)
+  zip_passes l fits = rw (too_long_given LIST_LIMIT n n l fits) refl
 
-  pub zip_too_wide : n ≤ list_limit → 0 < n → list_limit < length xs → length xs < 2 ^ 64 → zip_cost h xs n ≡ Err (fault.TooBig (length xs))
+  pub zip_too_wide : n ≤ LIST_LIMIT → 0 < n → LIST_LIMIT < length xs → length xs < 2 ^ 64 → zip_cost h xs n ≡ Err (fault.TooBig (length xs))
   zip_too_wide l some w fits =
-      rw (limited_within list_limit n n l, width-some n (length xs) some, too_long_given list_limit (length xs) (n * (1 + length xs) + total_length (zip_texts h n xs)) w fits) refl
+      rw (limited_within LIST_LIMIT n n l, width-some n (length xs) some, too_long_given LIST_LIMIT (length xs) (n * (1 + length xs) + total_length (zip_texts h n xs)) w fits) refl
 
-  pub zip_within : (cost : ℕ) → n ≤ list_limit → width_of n (length xs) ≤ list_limit → cost ≡ n * (1 + length xs) + total_length (zip_texts h n xs) → zip_cost h xs n ≡ Ok cost
+  pub zip_within : (cost : ℕ) → n ≤ LIST_LIMIT → width_of n (length xs) ≤ LIST_LIMIT → cost ≡ n * (1 + length xs) + total_length (zip_texts h n xs) → zip_cost h xs n ≡ Ok cost
   zip_within cost l w c =
-      rw (limited_within list_limit n n l, limited_within list_limit (width_of n (length xs)) (n * (1 + length xs) + total_length (zip_texts h n xs)) w, c) refl
+      rw (limited_within LIST_LIMIT n n l, limited_within LIST_LIMIT (width_of n (length xs)) (n * (1 + length xs) + total_length (zip_texts h n xs)) w, c) refl
 
 pub ruleset zip_costs = (zip_passes, zip_too_wide, zip_within, width-none, width-few)
 

@@ -7,9 +7,8 @@ use Rattle.py_heap.specs.declared.value.Builtin.TheVariants as b
 use Rattle.py_heap.specs.declared.fault.ValueFault.TheVariants as fault
 use Rattle.py_heap.specs.Heap.{Objects, truth_of}
 use Rattle.py_heap.specs.Units.{Units}
-use Rattle.py_compare.specs.Outcomes.{Outcome, number, new_text, new_list, new_tuple}
-use Rattle.py_methods.specs.Arguments.{with_one, with_optional, with_second}
-use Rattle.py_methods.specs.Dicts.{new_dict}
+use Rattle.py_compare.specs.Outcomes.{Outcome, number, new_text, new_list, new_tuple, new_dict}
+use Rattle.py_compare.specs.Arguments.{with_one, with_optional, with_second}
 use Rattle.py_builtins.specs.Numbers.{len_of, range_of, int_of, str_of}
 use Rattle.py_builtins.specs.Collections.{list_of, tuple_of, dict_of}
 use Rattle.py_builtins.specs.Rows.{enumerate_of, zip_of}

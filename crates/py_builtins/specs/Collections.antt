@@ -7,15 +7,14 @@ use Rattle.py_heap.specs.declared.fault.ValueFault.{ValueFault}
 use Rattle.py_heap.specs.Heap.{Objects, dict_at, with_list, with_tuple}
 use Rattle.py_heap.specs.Given.{next_list, next_tuple}
 use Rattle.py_heap.specs.Many.{with_texts}
-use Rattle.py_heap.specs.Units.{Units, charged, limited, list_limit}
-use Rattle.py_compare.specs.Outcomes.{Outcome, then_by, mismatch}
-use Rattle.py_methods.specs.Dicts.{new_dict}
-use Rattle.py_methods.specs.Iterables.{needed_length, iterable_texts, iterable_items}
-use Rattle.py_methods.specs.Many.{total_length}
+use Rattle.scons_base.specs.declared.limits.TheConstants.{LIST_LIMIT}
+use Rattle.py_heap.specs.Units.{Units, charged, limited}
+use Rattle.py_compare.specs.Outcomes.{Outcome, then_by, mismatch, new_dict}
+use Rattle.py_compare.specs.Iterables.{needed_length, iterable_texts, iterable_items, total_length}
 
 -- what a list or tuple of all that a value gives costs
 abbrev pub items_cost : Objects → Value → ℕ → Result ℕ ValueFault
-items_cost h x n = limited list_limit n (n + total_length (iterable_texts h n x))
+items_cost h x n = limited LIST_LIMIT n (n + total_length (iterable_texts h n x))
 
 abbrev pub paid_items : Objects → Units → Value → ℕ → Result Units ValueFault
 paid_items h u x n = then_by (items_cost h x n) (λ cost. charged u cost)

@@ -10,11 +10,12 @@ use Rattle.py_heap.specs.declared.fault.ValueFault.{ValueFault}
 use Rattle.py_heap.specs.declared.fault.ValueFault.TheVariants as fault
 use Rattle.py_heap.specs.Heap.{Objects, text_at, with_list}
 use Rattle.py_heap.specs.Given.{next_list}
-use Rattle.py_heap.specs.Units.{Units, room, list_limit}
+use Rattle.scons_base.specs.declared.limits.TheConstants.{LIST_LIMIT}
+use Rattle.py_heap.specs.Units.{Units, room}
 use Rattle.py_compare.specs.Outcomes.{Outcome, then_by, number, mismatch, new_text}
 use Rattle.py_compare.specs.Numbers.{fitting}
-use Rattle.py_show.specs.Showing.{show_of}
-use Rattle.py_methods.specs.Iterables.{needed_length}
+use Rattle.py_compare.specs.Showing.{show_of}
+use Rattle.py_compare.specs.Iterables.{needed_length}
 
 -- how many characters, items or keys
 abbrev pub len_of : Objects → Units → Value → Outcome
@@ -31,7 +32,7 @@ counted (suc n) from = v.Int from ∷ counted n (from +ℤ pos 1)
 
 abbrev pub range_list : Objects → Units → ℤ → ℤ → Outcome
 range_list h u from to =
-    then_by (room list_limit u (span from to)) (λ left. Ok (next_list h, with_list h (counted (span from to) from), left))
+    then_by (room LIST_LIMIT u (span from to)) (λ left. Ok (next_list h, with_list h (counted (span from to) from), left))
 
 -- an argument that has to be an integer
 abbrev pub as_int : Value → Result ℤ ValueFault

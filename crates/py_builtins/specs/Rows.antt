@@ -8,10 +8,10 @@ use Rattle.py_heap.specs.declared.fault.ValueFault.TheVariants as fault
 use Rattle.py_heap.specs.Heap.{Objects}
 use Rattle.py_heap.specs.Given.{next_list}
 use Rattle.py_heap.specs.Many.{with_texts, with_tuple_list}
-use Rattle.py_heap.specs.Units.{Units, charged, limited, list_limit}
+use Rattle.scons_base.specs.declared.limits.TheConstants.{LIST_LIMIT}
+use Rattle.py_heap.specs.Units.{Units, charged, limited}
 use Rattle.py_compare.specs.Outcomes.{Outcome, then_by}
-use Rattle.py_methods.specs.Iterables.{needed_length, iterable_texts, iterable_items}
-use Rattle.py_methods.specs.Many.{total_length}
+use Rattle.py_compare.specs.Iterables.{needed_length, iterable_texts, iterable_items, total_length}
 use Rattle.py_builtins.specs.Numbers.{as_int, counted}
 
 -- the values at a place of columns
@@ -29,7 +29,7 @@ numbers_fit from n = if int_le (from +ℤ pos n) (pos (2 ^ 63)) then Ok tt else 
 
 -- what so many items with their numbers cost
 abbrev pub numbered_cost : Objects → Value → ℕ → Result ℕ ValueFault
-numbered_cost h x n = limited list_limit n (3 * n + total_length (iterable_texts h n x))
+numbered_cost h x n = limited LIST_LIMIT n (3 * n + total_length (iterable_texts h n x))
 
 -- the limit of the list comes first, then the numbers, then the charge
 abbrev pub paid_numbered : Objects → Units → Value → ℕ → ℤ → Result Units ValueFault
@@ -80,8 +80,8 @@ width_of (suc n) width = width
 -- what so many rows cost: the limit of the list comes first, then that of the tuples
 abbrev pub zip_cost : Objects → List Value → ℕ → Result ℕ ValueFault
 zip_cost h xs n =
-    then_by (limited list_limit n n) (λ rows.
-    limited list_limit (width_of n (length xs)) (n * (1 + length xs) + total_length (zip_texts h n xs)))
+    then_by (limited LIST_LIMIT n n) (λ rows.
+    limited LIST_LIMIT (width_of n (length xs)) (n * (1 + length xs) + total_length (zip_texts h n xs)))
 
 abbrev pub paid_zip : Objects → Units → List Value → ℕ → Result Units ValueFault
 paid_zip h u xs n = then_by (zip_cost h xs n) (λ cost. charged u cost)

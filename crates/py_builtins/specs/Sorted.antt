@@ -8,7 +8,7 @@ use Rattle.py_heap.specs.Many.{with_texts}
 use Rattle.py_heap.specs.Units.{Units, charged}
 use Rattle.py_compare.specs.Outcomes.{Outcome, then_by}
 use Rattle.py_compare.specs.Sorting.{sort_paid, in_order}
-use Rattle.py_methods.specs.Iterables.{needed_length, iterable_texts, iterable_items}
+use Rattle.py_compare.specs.Iterables.{needed_length, iterable_texts, iterable_items}
 use Rattle.py_builtins.specs.Collections.{items_cost}
 
 -- the limit of the list comes first, then the sort with its units, then the charge for the list
@@ -17,10 +17,10 @@ paid_order h u x n =
     then_by (items_cost h x n) (λ cost.
     then_by (sort_paid u (iterable_items h (length h.texts) n x)) (λ left. charged left cost))
 
-abbrev pub ordered : Objects → Units → Value → ℕ → Outcome
-ordered h u x n =
+abbrev pub ordered_list : Objects → Units → Value → ℕ → Outcome
+ordered_list h u x n =
     then_by (paid_order h u x n) (λ left.
     Ok (next_list h, with_list (with_texts h (iterable_texts h n x)) (in_order (with_texts h (iterable_texts h n x)) (iterable_items h (length h.texts) n x)), left))
 
 abbrev pub sorted_list_of : Objects → Units → Value → Outcome
-sorted_list_of h u x = then_by (needed_length h x) (λ n. ordered h u x n)
+sorted_list_of h u x = then_by (needed_length h x) (λ n. ordered_list h u x n)

@@ -1,3 +1,4 @@
+//! How many arguments a built-in function takes.
 ghost use Rattle.std.specs.Prelude.{◌≡◌};
 ghost use Rattle.py_builtins.specs.Takes.{takes as takes_so_many};
 

@@ -8,11 +8,28 @@ use crate::numbers::{int, len, range, str};
 use crate::rows::enumerate;
 use crate::sorting::sorted;
 use crate::zips::zip;
-use py_heap::{Budget, Builtin, Heap, Value, ValueFault, truth};
+use py_heap::{Budget, Builtin, Heap, Value, ValueFault, settled, truth};
 
 /// What a built-in function gives. A number of arguments that it doesn't take is refused before the call, as `takes` tells
-/// it, and `print` is done by whoever runs the script.
+/// it, and `print` is done by whoever runs the script. A call that fails leaves the heap and the units as they were.
 pub fn call_builtin(
+    heap: &mut Heap,
+    budget: &mut Budget,
+    b: Builtin,
+    args: &[Value],
+) -> Result<Value, ValueFault>
+    ensures ok { IfOk result (λ v. builtin_of heap.old budget.old b args.now ≡ Ok (v, heap.new, budget.new)) }
+    ensures fault { IfErr result (λ e. e ≢ ValueFault.Memory → builtin_of heap.old budget.old b args.now ≡ Err e) }
+    ensures err { OnErr result (heap.new ≡ heap.old) }
+    ensures unpaid { OnErr result (budget.new ≡ budget.old) }
+{
+    let before = budget.copy();
+    let answer = builtin_of(heap, budget, b, args);
+    settled(budget, before, answer)
+}
+
+/// The same, but for the units after a fault.
+fn builtin_of(
     heap: &mut Heap,
     budget: &mut Budget,
     b: Builtin,

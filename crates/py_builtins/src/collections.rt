@@ -2,8 +2,8 @@
 ghost use Rattle.std.specs.Prelude.{◌≡◌, ◌≢◌, Ok, Err, IfOk, IfErr, OnOk, OnErr};
 ghost use Rattle.py_builtins.specs.Collections.{items_cost, paid_items, list_of, tuple_of, dict_of};
 
+use py_compare::{copied_dict, iterable_bytes, iterable_items, iterable_texts, needed_length};
 use py_heap::{Budget, Heap, Value, ValueFault};
-use py_methods::{copied_dict, iterable_bytes, iterable_items, iterable_texts, needed_length};
 use scons_base::Memory;
 use scons_base::limits::LIST_LIMIT;
 
@@ -50,7 +50,7 @@ fn items_room(
     Ok(())
 }
 
-#[tactic(auto, using(py_methods::proofs::Limits::exact_limits))]
+#[tactic(auto, using(py_compare::proofs::Limits::exact_limits))]
 pub(crate) fn items_cost(heap: &Heap, value: Value, count: usize) -> Result<usize, ValueFault>
     ensures ok { IfOk result (λ n. items_cost heap.now value count ≡ Ok n) }
     ensures fault { IfErr result (λ e. e ≢ ValueFault.Memory → items_cost heap.now value count ≡ Err e) }

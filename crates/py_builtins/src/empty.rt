@@ -1,7 +1,6 @@
 //! What built-in functions give without an argument.
 ghost use Rattle.std.specs.Prelude.{◌≡◌, ◌≢◌, [], Ok, Err, IfOk, IfErr, OnErr};
-ghost use Rattle.py_compare.specs.Outcomes.{new_text, new_list, new_tuple};
-ghost use Rattle.py_methods.specs.Dicts.{new_dict};
+ghost use Rattle.py_compare.specs.Outcomes.{new_text, new_list, new_tuple, new_dict};
 
 use py_heap::{Budget, Dict, Heap, Value, ValueFault, Values, list_room, text_room};
 use scons_base::Text;

@@ -16,6 +16,3 @@ mod zips;
 
 pub use arguments::takes;
 pub use calls::call_builtin;
-
-#[cfg(test)]
-mod tests;

@@ -3,10 +3,8 @@ ghost use Rattle.std.specs.Prelude.{◌≡◌, ◌≢◌, Ok, Err, IfOk, IfErr, 
 ghost use Rattle.py_text.specs.Numbers.{int_of as spelled_number};
 ghost use Rattle.py_builtins.specs.Numbers.{len_of, span, counted, range_list, as_int, range_of, number_or_fault, int_of, str_of};
 
-use py_compare::above_zero;
+use py_compare::{above_zero, needed_length, show};
 use py_heap::{Budget, Heap, Value, ValueFault, Values, list_room, text_room};
-use py_methods::needed_length;
-use py_show::show;
 use py_text::IntFault;
 use scons_base::Memory;
 use std::alloc::Global;

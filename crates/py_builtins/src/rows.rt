@@ -1,14 +1,13 @@
 //! Rows of numbers and items.
 ghost use Rattle.std.specs.Prelude.{◌≡◌, ◌≢◌, ◌<◌, ◌≤◌, ◌^◌, ◌∷◌, [], pos, ◌+ℤ◌, ◌≤ℤ◌, length, slice_index_or, Ok, Err, IfOk, IfErr, OnOk, OnErr};
-ghost use Rattle.py_heap.specs.Units.{list_limit};
 ghost use Rattle.py_heap.specs.Many.{text_values};
-ghost use Rattle.py_methods.specs.Iterables.{iterable_items};
+ghost use Rattle.py_compare.specs.Iterables.{iterable_items};
 ghost use Rattle.py_builtins.specs.Numbers.{counted};
 ghost use Rattle.py_builtins.specs.Rows.{row_at, rows_from, numbers_fit, numbered_cost, paid_numbered, numbered, enumerate_of};
 
 use crate::numbers::as_int;
+use py_compare::{iterable_bytes, iterable_texts, needed_length};
 use py_heap::{Budget, Heap, TextId, Value, ValueFault, Values};
-use py_methods::{iterable_bytes, iterable_texts, needed_length};
 use scons_base::Memory;
 use scons_base::limits::LIST_LIMIT;
 
@@ -67,7 +66,7 @@ fn numbered_room(
 ) -> Result<(), ValueFault>
     ensures ok { OnOk result (paid_numbered heap.now budget.old value count from ≡ Ok budget.new) }
     ensures fault { IfErr result (λ e. e ≢ ValueFault.Memory → paid_numbered heap.now budget.old value count from ≡ Err e) }
-    ensures few { OnOk result (count ≤ list_limit) }
+    ensures few { OnOk result (count ≤ LIST_LIMIT) }
     ensures fits { OnOk result ((from +ℤ pos count) ≤ℤ pos (2 ^ 63)) }
 {
     let cost = numbered_cost(heap, value, count)?;
@@ -76,11 +75,11 @@ fn numbered_room(
     Ok(())
 }
 
-#[tactic(auto, using(py_methods::proofs::Limits::exact_limits))]
+#[tactic(auto, using(py_compare::proofs::Limits::exact_limits))]
 fn numbered_cost(heap: &Heap, value: Value, count: usize) -> Result<usize, ValueFault>
     ensures ok { IfOk result (λ n. numbered_cost heap.now value count ≡ Ok n) }
     ensures fault { IfErr result (λ e. e ≢ ValueFault.Memory → numbered_cost heap.now value count ≡ Err e) }
-    ensures few { OnOk result (count ≤ list_limit) }
+    ensures few { OnOk result (count ≤ LIST_LIMIT) }
 {
     if count as u64 > LIST_LIMIT {
         return Err(ValueFault::TooBig(count as u64));
@@ -112,7 +111,7 @@ fn numbered_rows(
     count: usize,
     from: i64,
 ) -> Result<Vec<Values>, Memory>
-    requires few { count ≤ list_limit }
+    requires few { count ≤ LIST_LIMIT }
     requires fits { (from +ℤ pos count) ≤ℤ pos (2 ^ 63) }
     ensures { IfOk result (λ rows. rows.items ≡ rows_from 0 count (counted count from ∷ iterable_items heap.now column.first count column.value ∷ [])) }
 {
@@ -131,11 +130,11 @@ fn numbered_row(
     place: usize,
 ) -> Result<Values, Memory>
     requires inside { place < count }
-    requires few { count ≤ list_limit }
+    requires few { count ≤ LIST_LIMIT }
     requires fits { (from +ℤ pos count) ≤ℤ pos (2 ^ 63) }
     ensures { IfOk result (λ row. row ≡ row_at (counted count from ∷ iterable_items heap.now column.first count column.value ∷ []) place) }
 {
-    let item = item_at(heap, column, count, place)?;
+    let item = column_item(heap, column, count, place)?;
     let number = number_at(from, count, place);
     let row = Values::of(heap.allocator(), &[number, item])?;
     Ok(row)
@@ -144,7 +143,7 @@ fn numbered_row(
 /// The number beside the item at a place, where so many are counted from one on.
 fn number_at(from: i64, count: usize, place: usize) -> Value
     requires inside { place < count }
-    requires few { count ≤ list_limit }
+    requires few { count ≤ LIST_LIMIT }
     requires fits { (from +ℤ pos count) ≤ℤ pos (2 ^ 63) }
     ensures { result ≡ slice_index_or (counted count from) place Value.Nil }
 {
@@ -153,7 +152,7 @@ fn number_at(from: i64, count: usize, place: usize) -> Value
 
 /// The value at a place of a column, of which so many new texts are taken; none stands past its end.
 #[tactic(auto, using(crate::proofs::RowTurns::key_places))]
-pub(crate) fn item_at(
+pub(crate) fn column_item(
     heap: &Heap,
     column: Column,
     count: usize,
@@ -162,7 +161,7 @@ pub(crate) fn item_at(
     ensures { IfOk result (λ v. v ≡ slice_index_or (iterable_items heap.now column.first count column.value) place Value.Nil) }
 {
     match column.value {
-        Value::Text(_) => text_at(column.first, count, place),
+        Value::Text(_) => numbered_text(column.first, count, place),
         Value::List(list) => Ok(value_at(heap.list_at(list), place)),
         Value::Tuple(tuple) => Ok(value_at(heap.tuple_at(tuple), place)),
         Value::Dict(dict) => Ok(heap.key_at(dict, place).unwrap_or(Value::Nil)),
@@ -181,7 +180,7 @@ fn value_at(items: &[Value], place: usize) -> Value
 
 /// The new text at a place, where so many are numbered from one on.
 #[tactic(auto, using(crate::proofs::RowTurns::text_places))]
-fn text_at(first: usize, count: usize, place: usize) -> Result<Value, Memory>
+fn numbered_text(first: usize, count: usize, place: usize) -> Result<Value, Memory>
     ensures { IfOk result (λ v. v ≡ slice_index_or (text_values first count) place Value.Nil) }
 {
     if place < count {

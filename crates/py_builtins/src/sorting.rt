@@ -4,13 +4,12 @@ ghost use Rattle.py_heap.specs.Heap.{with_list};
 ghost use Rattle.py_heap.specs.Given.{next_list};
 ghost use Rattle.py_heap.specs.Many.{with_texts};
 ghost use Rattle.py_compare.specs.Sorting.{sortable_items, sort_paid, in_order};
-ghost use Rattle.py_methods.specs.Iterables.{iterable_items};
-ghost use Rattle.py_builtins.specs.Sorted.{paid_order, ordered, sorted_list_of};
+ghost use Rattle.py_compare.specs.Iterables.{iterable_items};
+ghost use Rattle.py_builtins.specs.Sorted.{paid_order, ordered_list, sorted_list_of};
 
 use crate::collections::items_cost;
-use py_compare::{in_order, sort_room};
+use py_compare::{in_order_with, iterable_items, iterable_texts, needed_length, sort_room};
 use py_heap::{Budget, Heap, Value, ValueFault, Values};
-use py_methods::{iterable_items, iterable_texts, needed_length};
 use scons_base::{Memory, Text};
 
 /// A list, in order, of all that a value gives.
@@ -24,17 +23,17 @@ pub(crate) fn sorted(
     ensures err { OnErr result (heap.new ≡ heap.old) }
 {
     let count = needed_length(heap, value)?;
-    ordered(heap, budget, value, count)
+    ordered_list(heap, budget, value, count)
 }
 
-fn ordered(
+fn ordered_list(
     heap: &mut Heap,
     budget: &mut Budget,
     value: Value,
     count: usize,
 ) -> Result<Value, ValueFault>
-    ensures ok { IfOk result (λ v. ordered heap.old budget.old value count ≡ Ok (v, heap.new, budget.new)) }
-    ensures fault { IfErr result (λ e. e ≢ ValueFault.Memory → ordered heap.old budget.old value count ≡ Err e) }
+    ensures ok { IfOk result (λ v. ordered_list heap.old budget.old value count ≡ Ok (v, heap.new, budget.new)) }
+    ensures fault { IfErr result (λ e. e ≢ ValueFault.Memory → ordered_list heap.old budget.old value count ≡ Err e) }
     ensures err { OnErr result (heap.new ≡ heap.old) }
 {
     order_room(heap, budget, value, count)?;
@@ -83,22 +82,6 @@ fn add_in_order(heap: &mut Heap, texts: Vec<Text>, items: &[Value]) -> Result<Va
     ensures ok { IfOk result (λ v. (v ≡ next_list heap.old) × (heap.new ≡ with_list (with_texts heap.old texts.items) (in_order (with_texts heap.old texts.items) items.now))) }
     ensures err { OnErr result (heap.new ≡ heap.old) }
 {
-    let before = heap.text_count();
-    heap.add_texts(texts)?;
-    match list_in_order(heap, items) {
-        Ok(list) => Ok(list),
-        Err(memory) => {
-            heap.take_back_texts(before);
-            Err(memory)
-        }
-    }
-}
-
-fn list_in_order(heap: &mut Heap, items: &[Value]) -> Result<Value, Memory>
-    requires { sortable_items items.now ≡ Ok tt }
-    ensures ok { IfOk result (λ v. (v ≡ next_list heap.old) × (heap.new ≡ with_list heap.old (in_order heap.old items.now))) }
-    ensures err { OnErr result (heap.new ≡ heap.old) }
-{
-    let made = in_order(heap, items)?;
-    heap.add_list(made)
+    let made = in_order_with(heap, texts.as_slice(), items)?;
+    heap.add_list_with(texts, made)
 }

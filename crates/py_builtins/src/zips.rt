@@ -1,12 +1,11 @@
 //! Rows of the items of some values.
 ghost use Rattle.std.specs.Prelude.{◌≡◌, ◌≢◌, ◌+◌, ◌*◌, map, length, Ok, Err, IfOk, IfErr, OnOk, OnErr};
-ghost use Rattle.py_methods.specs.Many.{total_length};
-ghost use Rattle.py_methods.specs.Iterables.{iterable_items};
+ghost use Rattle.py_compare.specs.Iterables.{total_length, iterable_items};
 ghost use Rattle.py_builtins.specs.Rows.{row_at, rows_from, shortest_from, shortest_of, text_share, zip_texts, zip_columns, zip_cost, paid_zip, zipped, zip_of};
 
-use crate::rows::{Column, item_at};
+use crate::rows::{Column, column_item};
+use py_compare::{iterable_bytes, iterable_texts, needed_length};
 use py_heap::{Budget, Heap, Value, ValueFault, Values};
-use py_methods::{iterable_bytes, iterable_texts, needed_length};
 use scons_base::limits::LIST_LIMIT;
 use scons_base::{Memory, Text};
 
@@ -59,7 +58,7 @@ fn zipped(
     ensures err { OnErr result (heap.new ≡ heap.old) }
 {
     zip_room(heap, budget, values, count)?;
-    let texts = texts_of(heap, values, count)?;
+    let texts = zip_texts(heap, values, count)?;
     let columns = columns_of(heap, values, count)?;
     let rows = rows_of(heap, columns.as_slice(), count)?;
     let list = heap.add_tuple_list_with(texts, rows)?;
@@ -119,7 +118,7 @@ fn bytes_of(heap: &Heap, values: &[Value], count: usize) -> Result<usize, Memory
 }
 
 #[tactic(auto, using(crate::proofs::Zipping::zip_turns))]
-fn texts_of(heap: &Heap, values: &[Value], count: usize) -> Result<Vec<Text>, Memory>
+fn zip_texts(heap: &Heap, values: &[Value], count: usize) -> Result<Vec<Text>, Memory>
     ensures { IfOk result (λ made. made.items ≡ zip_texts heap.now count values.now) }
 {
     let mut texts = Vec::new(heap.allocator());
@@ -173,7 +172,7 @@ fn row_of(heap: &Heap, columns: &[Column], count: usize, place: usize) -> Result
 {
     let mut row = Values::new(Vec::new(heap.allocator()));
     'columns: for column in columns {
-        row.push(item_at(heap, *column, count, place)?)?;
+        row.push(column_item(heap, *column, count, place)?)?;
     }
     Ok(row)
 }

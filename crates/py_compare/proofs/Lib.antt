@@ -1,7 +1,14 @@
+pub mod Characters
+pub mod Coming
 pub mod Division
+pub mod Entries
 pub mod Facing
 pub mod Fitting
+pub mod Growths
 pub mod InOrder
+pub mod Limits
+pub mod ShownLimits
+pub mod Shows
 pub mod SortOrder
 pub mod StableSorts
 pub mod Steps

@@ -28,8 +28,8 @@ abbrev pub order_told : (Ordering → Bool) → Objects → Units → Value → 
 order_told test h u x y = then_by (ordered h u x y) (λ o. Ok (v.Bool (test o.0), h, o.1))
 
 -- whether an item stands in a list or tuple
-abbrev pub item_in : Objects → Units → List Value → Value → Verdict
-item_in h u items x = then_by (place_from 0 h u items x) (λ found. Ok (is_some found.0, found.1))
+abbrev pub is_among : Objects → Units → List Value → Value → Verdict
+is_among h u items x = then_by (place_from 0 h u items x) (λ found. Ok (is_some found.0, found.1))
 
 abbrev key_in : Units → Entries → Option Key → Verdict
 key_in u entries None = Err fault.Key
@@ -41,8 +41,8 @@ text_in h u s box x = mismatch x box
 
 -- `in`: an item of a list or tuple, a key of a dict, a part of a text
 abbrev pub within_of : Objects → Units → Value → Value → Verdict
-within_of h u x (v.List id) = item_in h u (list_at h id.0) x
-within_of h u x (v.Tuple id) = item_in h u (tuple_at h id.0) x
+within_of h u x (v.List id) = is_among h u (list_at h id.0) x
+within_of h u x (v.Tuple id) = is_among h u (tuple_at h id.0) x
 within_of h u x (v.Dict id) = key_in u (dict_at h id.0) (key_of h x)
 within_of h u x (v.Text id) = text_in h u (text_at h id.0) (v.Text id) x
 within_of h u x v.Nil = mismatch x v.Nil

@@ -15,6 +15,7 @@ use Rattle.py_heap.specs.Heap.{Objects, Entries, text_at, list_at, tuple_at, dic
 use Rattle.py_heap.specs.Dicts.{entry_at}
 use Rattle.py_heap.specs.Units.{Units, charged}
 use Rattle.py_compare.specs.Outcomes.{then_by}
+use Rattle.py_compare.specs.declared.equal.TheConstants.{LEVEL_LIMIT}
 
 -- whether two things are equal, with the units left after it was found out
 abbrev pub Verdict : Type 0
@@ -154,12 +155,8 @@ abbrev pub entries_at : ℕ → Objects → Units → Entries → Entries → Ve
 entries_at zero h u es other = Err fault.Deep
 entries_at (suc levels) h u es other = equal_dicts (equal_at levels h) u es other
 
--- lists, tuples and dicts inside one another, as far as they are looked into
-abbrev pub level_limit : ℕ
-level_limit = 100
-
 abbrev pub equal_of : Objects → Units → Value → Value → Verdict
-equal_of h u x y = equal_at level_limit h u x y
+equal_of h u x y = equal_at LEVEL_LIMIT h u x y
 
 -- the place of the first item equal to a value, if there is one: the item stands at the left
 abbrev pub place_from : ℕ → Objects → Units → List Value → Value → Result (Option ℕ × Units) ValueFault

@@ -1,7 +1,11 @@
+pub mod Arguments
 pub mod Comparisons
 pub mod Equality
+pub mod Growing
+pub mod Iterables
 pub mod Numbers
 pub mod Order
 pub mod Outcomes
+pub mod Showing
 pub mod SortOrder
 pub mod Sorting

@@ -1,10 +1,9 @@
 -- The order of values: section 6.10.1 ("Value comparisons") of the Python language reference, cut down to two integers and
 -- two texts. The order of texts by code points is that of their UTF-8 bytes.
-use Rattle.std.specs.Prelude.{ℕ, List, Result, Ok}
+use Rattle.std.specs.Prelude.{ℕ, List, Result, Ok, ℤ}
 use Rattle.std.specs.declared.cmp.Ordering.{Ordering}
 use Rattle.std.specs.Ordering.{nat_cmp, int_cmp}
 use Rattle.std.specs.Cmp.Lexicographic.{slice_cmp}
-use Rattle.std.specs.Prelude.{ℤ}
 use Rattle.py_heap.specs.declared.value.Value.{Value}
 use Rattle.py_heap.specs.declared.value.Value.TheVariants as v
 use Rattle.py_heap.specs.declared.fault.ValueFault.{ValueFault}

@@ -4,9 +4,10 @@ use Rattle.py_heap.specs.declared.value.Value.{Value}
 use Rattle.py_heap.specs.declared.value.Value.TheVariants as v
 use Rattle.py_heap.specs.declared.fault.ValueFault.{ValueFault}
 use Rattle.py_heap.specs.declared.fault.ValueFault.TheVariants as fault
-use Rattle.py_heap.specs.Heap.{Objects, with_text, with_list, with_tuple}
-use Rattle.py_heap.specs.Given.{next_text, next_list, next_tuple}
-use Rattle.py_heap.specs.Units.{Units, room, text_limit, list_limit}
+use Rattle.py_heap.specs.Heap.{Objects, Entries, with_text, with_list, with_tuple, with_dict}
+use Rattle.py_heap.specs.Given.{next_text, next_list, next_tuple, next_dict}
+use Rattle.scons_base.specs.declared.limits.TheConstants.{TEXT_LIMIT, LIST_LIMIT}
+use Rattle.py_heap.specs.Units.{Units, room}
 use Rattle.py_heap.specs.Values.{kind_of}
 
 abbrev pub Outcome : Type 0
@@ -23,12 +24,12 @@ mismatch a b = Err (fault.Mismatch (kind_of a) (kind_of b))
 
 -- bytes or items that are charged for before they are made: their limit, then their charge
 abbrev pub paid_text : Units → List ℕ → Result (List ℕ × Units) ValueFault
-paid_text u s = then_by (room text_limit u (length s)) (λ left. Ok (s, left))
+paid_text u s = then_by (room TEXT_LIMIT u (length s)) (λ left. Ok (s, left))
 
 abbrev pub paid_items : Units → List Value → Result (List Value × Units) ValueFault
-paid_items u items = then_by (room list_limit u (length items)) (λ left. Ok (items, left))
+paid_items u items = then_by (room LIST_LIMIT u (length items)) (λ left. Ok (items, left))
 
--- a new text, list or tuple
+-- a new text, list, tuple or dict
 abbrev pub new_text : Objects → Units → List ℕ → Outcome
 new_text h u s = then_by (paid_text u s) (λ made. Ok (next_text h, with_text h made.0, made.1))
 
@@ -37,6 +38,9 @@ new_list h u items = then_by (paid_items u items) (λ made. Ok (next_list h, wit
 
 abbrev pub new_tuple : Objects → Units → List Value → Outcome
 new_tuple h u items = then_by (paid_items u items) (λ made. Ok (next_tuple h, with_tuple h made.0, made.1))
+
+abbrev pub new_dict : Objects → Units → Entries → Outcome
+new_dict h u entries = then_by (room LIST_LIMIT u (length entries)) (λ left. Ok (next_dict h, with_dict h entries, left))
 
 -- an answer that makes nothing
 abbrev pub plain : Objects → Units → Result Value ValueFault → Outcome

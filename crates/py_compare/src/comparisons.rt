@@ -1,6 +1,6 @@
 //! The comparisons.
 ghost use Rattle.std.specs.Prelude.{◌≡◌, ◌≢◌, Ok, Err, IfOk, IfErr};
-ghost use Rattle.py_compare.specs.Comparisons.{ordered, within_of, is_constant, item_in};
+ghost use Rattle.py_compare.specs.Comparisons.{ordered, within_of, is_constant, is_among};
 ghost use Rattle.py_compare.specs.Equality.{is_nil, equal_of};
 
 use crate::equal::{LEVEL_LIMIT, equal, place_of};
@@ -29,8 +29,8 @@ pub fn within(
     ensures fault { IfErr result (λ e. e ≢ ValueFault.Memory → within_of heap.now budget.old item owner ≡ Err e) }
 {
     match owner {
-        Value::List(list) => item_in(heap, budget, heap.list_at(list), item),
-        Value::Tuple(tuple) => item_in(heap, budget, heap.tuple_at(tuple), item),
+        Value::List(list) => is_among(heap, budget, heap.list_at(list), item),
+        Value::Tuple(tuple) => is_among(heap, budget, heap.tuple_at(tuple), item),
         Value::Dict(dict) => {
             let Some(key) = heap.key_of(item)? else {
                 return Err(ValueFault::Key);
@@ -45,14 +45,14 @@ pub fn within(
     }
 }
 
-fn item_in(
+fn is_among(
     heap: &Heap,
     budget: &mut Budget,
     items: &[Value],
     item: Value,
 ) -> Result<bool, ValueFault>
-    ensures ok { IfOk result (λ x. item_in heap.now budget.old items.now item ≡ Ok (x, budget.new)) }
-    ensures fault { IfErr result (λ e. e ≢ ValueFault.Memory → item_in heap.now budget.old items.now item ≡ Err e) }
+    ensures ok { IfOk result (λ x. is_among heap.now budget.old items.now item ≡ Ok (x, budget.new)) }
+    ensures fault { IfErr result (λ e. e ≢ ValueFault.Memory → is_among heap.now budget.old items.now item ≡ Err e) }
 {
     let found = place_of(heap, budget, items, item)?;
     Ok(found.is_some())

@@ -1,7 +1,6 @@
 //! Equality by content.
-ghost use Rattle.std.specs.Prelude.{◌≡◌, ◌≢◌, Ok, Err, IfOk, IfErr};
+ghost use Rattle.std.specs.Prelude.{◌≡◌, ◌≢◌, Ok, Err, IfOk, IfErr, ◌<◌, length, slice_get, IfSome};
 ghost use Rattle.py_compare.specs.Equality.{number_of, is_number, builtin_place, is_builtin, flat_equal, equal_by, equal_at, items_at, entries_at, equal_of, place_from, facing_items};
-ghost use Rattle.std.specs.Prelude.{◌<◌, length, slice_get, IfSome};
 ghost use Rattle.std.specs.Option.{option_map};
 ghost use Rattle.py_heap.specs.Heap.{dict_at};
 ghost use Rattle.py_heap.specs.Dicts.{entry_at};

@@ -2,7 +2,8 @@
 use Rattle.std.proofs.Common.{◌≡◌, ◌∙◌, ℕ, suc, Result, Ok, Err, sym, subst, ap}
 use Rattle.py_heap.specs.declared.value.Value.{Value}
 use Rattle.py_host.specs.Meaning.{Meaning}
-use Rattle.py_meaning.specs.States.{State, Out, Place, gives, ends, with_frame}
+use Rattle.py_meaning.specs.States.{State, Out, gives, ends, with_frame}
+use Rattle.py_host.specs.declared.place.Place.{Place}
 use Rattle.py_meaning.specs.Jobs.{Job}
 use Rattle.py_meaning.specs.Plans.{Plan, comes_to, first, within_call, goes}
 use Rattle.py_meaning.specs.Evaluates.{Follows, plan, done, then, then_stopped, called, called_stopped}

@@ -9,7 +9,8 @@ use Rattle.py_host.specs.declared.refusal.HostRefusal.{HostRefusal}
 use Rattle.py_host.specs.declared.refusal.HostRefusal.TheVariants as refusal
 use Rattle.py_host.specs.Calls.{Question, Answer, answers, refuses}
 use Rattle.py_host.specs.Meaning.{Meaning}
-use Rattle.py_meaning.specs.States.{State, Frame, Place, with_objects, with_units}
+use Rattle.py_meaning.specs.States.{State, Frame, with_objects, with_units}
+use Rattle.py_host.specs.declared.place.Place.{Place}
 use Rattle.py_meaning.specs.Plans.{Plan, asks}
 use Rattle.py_meaning.specs.Calls.{paid_script}
 use Rattle.py_meaning.specs.Evaluates.{Follows, asked, refused}

@@ -3,7 +3,7 @@ use Rattle.std.specs.Prelude.{◌≡◌, ℕ, Result, Ok, Err}
 use Rattle.py_tree.specs.Tree.{Tree}
 use Rattle.py_heap.specs.Heap.{Objects}
 use Rattle.py_heap.specs.Units.{Units}
-use Rattle.py_host.specs.Meaning.{Meaning, Rose}
+use Rattle.py_host.specs.Meaning.{Meaning, Rose, SameUnlessEscaped}
 use Rattle.py_meaning.specs.declared.fault.EvalFault.{EvalFault}
 use Rattle.py_meaning.specs.declared.fault.EvalFault.TheVariants as fault
 use Rattle.py_meaning.specs.declared.fault.EvalKind.{EvalKind}
@@ -29,6 +29,12 @@ abbrev pub Gives : Result Exit EvalFault → Result Out Fault → Type 0
 Gives (Ok exit) r = (s : State) × (r ≡ Ok (exits exit s))
 Gives (Err (fault.At script line k)) r = r ≡ told script line k
 Gives (Err fault.Memory) r = Unit {0}
+
+-- from where the host began, and from states like it, the scripts come to no other answer and end alike, unless a count of the
+-- outside rose; want of memory says nothing
+abbrev pub IsOnly : {H : Type 0} → Meaning H → Tree → Objects → Units → H → Result Exit EvalFault → H → Type 0
+IsOnly m t o u h (Err fault.Memory) h2 = Unit {0}
+IsOnly {H = H} m t o u h answer h2 = m.tells h2 → (r : Result Out Fault) (k k2 : H) → m.tells k2 → m.alike h k → Evaluates m t o u k r k2 → SameUnlessEscaped m (Gives answer r) h h2 k k2
 
 -- only a refusal of the host is told as one
 abbrev pub HasCause : EvalFault → ℕ → ℕ → Type 0

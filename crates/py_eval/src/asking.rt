@@ -2,7 +2,7 @@
 ghost use Rattle.std.specs.Prelude.{◌≤◌, ℕ, Option};
 ghost use Rattle.py_tree.specs.Tree.{Tree};
 ghost use Rattle.py_host.specs.Calls.{Given, called, script_done, next_script, arguments_of, given_of, tree_of};
-ghost use Rattle.py_meaning.specs.States.{State, Frame as Place, globals_at};
+ghost use Rattle.py_meaning.specs.States.{State, Frame as Place, place_at, globals_at};
 ghost use Rattle.py_meaning.specs.Plans.{Plan, asks, asked_on};
 ghost use Rattle.py_meaning.specs.Calls.{next_place, paid_script};
 ghost use Rattle.py_state.specs.Stores.{store_of, state_of, state_by};
@@ -23,10 +23,10 @@ pub(crate) fn reply_to_call<H: Host>(
     object: HostId,
     args: &Args,
 ) -> Result<Reply, Stop>
-    ensures later { H.meaning.refusals host.old ≤ H.meaning.refusals host.new }
-    ensures leads { (c : ℕ) (k : Given → State → Plan) → LeadsOrStops H.meaning c (asked_on line (called frame.now.values (globals_at (state_of machine.old frame.now) frame.now.script) object.0 (arguments_of args.now)) (state_of machine.old frame.now) k) host.old result (λ reply. k (given_of reply) (state_of machine.new frame.now)) host.new }
+    ensures keeps { H.meaning.keeps host.old host.new }
+    ensures leads { (c : ℕ) (k : Given → State → Plan) → LeadsOrStops H.meaning c (asked_on line (called (place_at line (state_of machine.old frame.now)) frame.now.values (globals_at (state_of machine.old frame.now) frame.now.script) object.0 (arguments_of args.now)) (state_of machine.old frame.now) k) host.old result (λ reply. k (given_of reply) (state_of machine.new frame.now)) host.new }
 {
-    match ask_call(machine, host, frame, object, args) {
+    match ask_call(machine, host, frame, line, object, args) {
         Ok(reply) => Ok(reply),
         Err(refusal) => Err(refused(frame, line, refusal)),
     }
@@ -40,7 +40,7 @@ pub(crate) fn reply_to_end<H: Host>(
     line: u32,
     script: u64,
 ) -> Result<Reply, Stop>
-    ensures later { H.meaning.refusals host.old ≤ H.meaning.refusals host.new }
+    ensures keeps { H.meaning.keeps host.old host.new }
     ensures leads { (c : ℕ) (k : Given → State → Plan) → LeadsOrStops H.meaning c (asked_on line (script_done (globals_at (state_of machine.old frame.now) script)) (state_of machine.old frame.now) k) host.old result (λ reply. k (given_of reply) (state_of machine.new frame.now)) host.new }
 {
     match ask_done(machine, host, script) {
@@ -54,7 +54,7 @@ pub(crate) fn script_behind<H: Host>(
     machine: &mut Machine,
     host: &mut H,
 ) -> Result<Option<Script>, Stop>
-    ensures later { H.meaning.refusals host.old ≤ H.meaning.refusals host.new }
+    ensures keeps { H.meaning.keeps host.old host.new }
     ensures leads { (c : ℕ) (f : Place) (k : Option Tree → State → Plan) → LeadsOrStops H.meaning c (asks next_script (state_by (store_of machine.old) f) (next_place (state_by (store_of machine.old) f)) k) host.old result (λ next. k (tree_of next) (state_by (store_of machine.new) f)) host.new }
 {
     let frame = Frame::of_script(machine.alloc, machine.globals.len() as u64);

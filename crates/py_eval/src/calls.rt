@@ -33,7 +33,7 @@ pub(crate) fn run_script<H: Host>(
     number: u64,
     lines: &[Line],
 ) -> Result<Exit, Stop>
-    ensures later { H.meaning.refusals host.old ≤ H.meaning.refusals host.new }
+    ensures keeps { H.meaning.keeps host.old host.new }
     ensures over { IsOverOrStops H.meaning calls (plan (exec_all (trees (map line_tree lines.now))) (state_by (store_of machine.old) (script_frame number))) host.old result (store_of machine.new) host.new }
 {
     let mut frame = Frame::of_script(machine.alloc, number);
@@ -53,7 +53,7 @@ fn run_body<H: Host>(
     calls: u32,
     lines: &[Line],
 ) -> Result<Option<Value>, Stop>
-    ensures later { H.meaning.refusals host.old ≤ H.meaning.refusals host.new }
+    ensures keeps { H.meaning.keeps host.old host.new }
     ensures ends { EndsOrHalts H.meaning calls (plan (exec_all (trees (map line_tree lines.now))) (state_of machine.old frame.old)) host.old result (state_of machine.new frame.new) host.new }
 {
     let mut desk = Desk::new(machine.alloc);
@@ -80,7 +80,7 @@ fn step<'a, H: Host>(
     desk: &mut Desk<'a>,
     task: Task<'a>,
 ) -> Result<Flow, Stop>
-    ensures later { H.meaning.refusals host.old ≤ H.meaning.refusals host.new }
+    ensures keeps { H.meaning.keeps host.old host.new }
     ensures flows { FlowsOrHalts H.meaning calls (left_with task.entry desk.old machine.old frame.old) host.old result (left_at desk.new machine.new frame.new) (state_of machine.new frame.new) host.new }
 {
     match task {
@@ -112,7 +112,7 @@ fn call_task<'a, H: Host>(
     arguments: &'a [Argument],
     base: usize,
 ) -> Result<(), Stop>
-    ensures later { H.meaning.refusals host.old ≤ H.meaning.refusals host.new }
+    ensures keeps { H.meaning.keeps host.old host.new }
     ensures leads { LeadsOrHalts H.meaning calls (left_with (Task.Call line method arguments.entry base) desk.old machine.old frame.now) host.old result (λ _. left_at desk.new machine.new frame.now) (state_of machine.new frame.now) host.new }
 {
     let values = desk.take_above(base)?;
@@ -136,7 +136,7 @@ fn call<H: Host>(
     method: Option<Name>,
     args: &Args,
 ) -> Result<Value, Stop>
-    ensures later { H.meaning.refusals host.old ≤ H.meaning.refusals host.new }
+    ensures keeps { H.meaning.keeps host.old host.new }
     ensures gives { GivesOrHalts H.meaning calls (begun line (callee called method) (arguments_of args.now) (state_of machine.old frame.now)) host.old result (state_of machine.new frame.now) host.new }
 {
     let positional = args.positional.as_slice();
@@ -170,7 +170,7 @@ fn call_function<H: Host>(
     id: FuncId,
     args: &Args,
 ) -> Result<Value, Stop>
-    ensures later { H.meaning.refusals host.old ≤ H.meaning.refusals host.new }
+    ensures keeps { H.meaning.keeps host.old host.new }
     ensures gives { GivesOrHalts H.meaning calls (begun line (a_value (value.Func id)) (arguments_of args.now) (state_of machine.old frame.now)) host.old result (state_of machine.new frame.now) host.new }
 {
     let Some(function) = machine.function(id)? else {
@@ -199,7 +199,7 @@ fn call_object<H: Host>(
     object: HostId,
     args: &Args,
 ) -> Result<Value, Stop>
-    ensures later { H.meaning.refusals host.old ≤ H.meaning.refusals host.new }
+    ensures keeps { H.meaning.keeps host.old host.new }
     ensures gives { GivesOrHalts H.meaning calls (begun line (a_value (value.Object object)) (arguments_of args.now) (state_of machine.old frame.now)) host.old result (state_of machine.new frame.now) host.new }
 {
     let inside = opened(frame, line, calls)?;
@@ -230,7 +230,7 @@ fn run_inner<H: Host>(
     line: u32,
     script: &Script,
 ) -> Result<Reply, Stop>
-    ensures later { H.meaning.refusals host.old ≤ H.meaning.refusals host.new }
+    ensures keeps { H.meaning.keeps host.old host.new }
     ensures leads { LeadsOrHalts H.meaning calls (plan (inner_script line (script_tree script.now)) (state_of machine.old frame.now)) host.old result (λ r. plan (reply line (given_of r)) (state_of machine.new frame.now)) (state_of machine.new frame.now) host.new }
 {
     let number = machine.begin_script()?;

@@ -12,6 +12,6 @@ mod operations;
 mod printing;
 mod scripts;
 
-pub use py_host::{Args, Host, HostRefusal, Reply, Scope};
+pub use py_host::{Args, Host, HostRefusal, Place, Reply, Scope};
 pub use py_meaning::{EvalFault, EvalKind, Exit};
 pub use scripts::run;

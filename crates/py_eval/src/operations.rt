@@ -41,7 +41,7 @@ pub(crate) fn do_builtin<H: Host>(
     builtin: Builtin,
     args: &[Value],
 ) -> Result<Value, Stop>
-    ensures later { H.meaning.refusals host.old ≤ H.meaning.refusals host.new }
+    ensures keeps { H.meaning.keeps host.old host.new }
     ensures gives { (c : ℕ) → GivesOrHalts H.meaning c (plan_perform line (a_value (value.Builtin builtin)) (record { positional = args.now; named = [] }) (state_of machine.old frame.now)) host.old result (state_of machine.new frame.now) host.new }
 {
     match builtin {

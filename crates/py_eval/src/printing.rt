@@ -7,9 +7,9 @@ ghost use Rattle.py_meaning.specs.Calls.{printed, plan_perform};
 ghost use Rattle.py_state.specs.Stores.{store_of, state_of};
 ghost use Rattle.py_eval.specs.Bodies.{GivesOrHalts};
 
+use py_compare::show;
 use py_heap::{Builtin, Value, ValueFault};
 use py_host::Host;
-use py_show::show;
 use py_state::{Frame, Machine, Stop, refused, value_fault};
 
 /// Prints values with spaces between them, and a line feed.
@@ -20,7 +20,7 @@ pub(crate) fn print<H: Host>(
     line: u32,
     values: &[Value],
 ) -> Result<Value, Stop>
-    ensures later { H.meaning.refusals host.old ≤ H.meaning.refusals host.new }
+    ensures keeps { H.meaning.keeps host.old host.new }
     ensures gives { (c : ℕ) → GivesOrHalts H.meaning c (plan_perform line (a_value (value.Builtin Builtin.Print)) (record { positional = values.now; named = [] }) (state_of machine.old frame.now)) host.old result (state_of machine.new frame.now) host.new }
 {
     let text = match printed(machine, values) {

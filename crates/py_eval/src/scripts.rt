@@ -1,11 +1,11 @@
 //! First scripts, one after another.
-ghost use Rattle.std.specs.Prelude.{◌≤◌, Result, IfErr, MatchResult};
+ghost use Rattle.std.specs.Prelude.{◌≤◌, IfErr, MatchResult};
 ghost use Rattle.py_tree.specs.Tree.{script_tree};
-ghost use Rattle.py_meaning.specs.States.{Out, Fault, Frame, script_frame};
+ghost use Rattle.py_meaning.specs.States.{Frame, script_frame};
 ghost use Rattle.py_meaning.specs.Jobs.{first_scripts};
-ghost use Rattle.py_meaning.specs.Evaluates.{Evaluates, plan, call_limit};
+ghost use Rattle.py_meaning.specs.Evaluates.{plan, call_limit};
 ghost use Rattle.py_state.specs.Stores.{store_of, state_by};
-ghost use Rattle.py_eval.specs.Answers.{Exits, Faults, Gives, HasCause};
+ghost use Rattle.py_eval.specs.Answers.{Exits, Faults, IsOnly, HasCause};
 ghost use Rattle.py_eval.specs.Bodies.{LeadsToNext, ExitsOrStops};
 
 use crate::asking::{pay_script, script_behind};
@@ -28,8 +28,9 @@ pub fn run<H: Host>(
     budget: &mut Budget,
 ) -> Result<Exit, EvalFault>
     ensures found { MatchResult result (λ exit. Exits H.meaning (script_tree script.now) heap.old budget.old host.old exit heap.new budget.new host.new) (λ e. Faults H.meaning (script_tree script.now) heap.old budget.old host.old e host.new) }
-    ensures only { H.meaning.certain host.old → (r : Result Out Fault) (h : _) → Evaluates H.meaning (script_tree script.now) heap.old budget.old host.old r h → Gives result r }
+    ensures only { IsOnly H.meaning (script_tree script.now) heap.old budget.old host.old result host.new }
     ensures later { H.meaning.refusals host.old ≤ H.meaning.refusals host.new }
+    ensures keeps { H.meaning.keeps host.old host.new }
     ensures cause { IfErr result (λ e. HasCause e (H.meaning.refusals host.old) (H.meaning.refusals host.new)) }
 {
     let alloc = heap.allocator();
@@ -62,7 +63,7 @@ enum Next {
 }
 
 fn run_first<H: Host>(machine: &mut Machine, host: &mut H, script: &Script) -> Result<Exit, Stop>
-    ensures later { H.meaning.refusals host.old ≤ H.meaning.refusals host.new }
+    ensures keeps { H.meaning.keeps host.old host.new }
     ensures exits { ExitsOrStops H.meaning call_limit (plan (first_scripts (script_tree script.now)) (state_by (store_of machine.old) (script_frame 0))) host.old result (store_of machine.new) host.new }
 {
     let mut next = run_one(machine, host, script)?;
@@ -77,7 +78,7 @@ fn run_first<H: Host>(machine: &mut Machine, host: &mut H, script: &Script) -> R
 
 /// Runs a first script from its beginning. A script behind it is paid for.
 fn run_one<H: Host>(machine: &mut Machine, host: &mut H, script: &Script) -> Result<Next, Stop>
-    ensures later { H.meaning.refusals host.old ≤ H.meaning.refusals host.new }
+    ensures keeps { H.meaning.keeps host.old host.new }
     ensures leads { (f : Frame) → LeadsToNext H.meaning call_limit (plan (first_scripts (script_tree script.now)) (state_by (store_of machine.old) f)) host.old result (store_of machine.new) host.new }
 {
     let number = machine.begin_script()?;

@@ -4,7 +4,6 @@ use Rattle.std.specs.Prelude.{slice_get}
 use Rattle.std.specs.List.{IsDistinct}
 use Rattle.std.specs.Map.{keys_of}
 use Rattle.std.proofs.lemmas.List.{length-map, length-take-le, get_or-map, get_or-take, take_more}
-use Rattle.std.proofs.lemmas.List.Sums.{fold_more}
 use Rattle.std.proofs.lemmas.Option.{slice_get_within, get_or_from_slice_get}
 use Rattle.std.proofs.lemmas.Map.Keys.{apart_from_distinct}
 use Rattle.indexmap.specs.IndexMap.{insert_entry}
@@ -12,7 +11,6 @@ use Rattle.py_heap.specs.declared.key.Key.{Key}
 use Rattle.py_heap.specs.declared.dict.Entry.{Entry}
 use Rattle.py_heap.specs.Heap.{Entries}
 use Rattle.py_heap.specs.Keys.{key_eq, key_eq-Decides}
-use Rattle.py_heap.specs.Dicts.{put, put_all}
 
 differ : (x y : Key) → key_eq y x ≡ false → key_eq x y ≡ false
 differ x y h = by (key_eq x y) refl
@@ -44,7 +42,3 @@ copied_more es made new i e distinct at m n =
     rw (get_or-take i es k e below) (apart es i k e distinct at below)) in
     let more : take (i + 1) es ≡ take i es ++ e ∷ [] = take_more es i e within ∙ ap (λ y. take i es ++ y ∷ []) (get_or_from_slice_get es i e e at) in
     n ∙ ap (λ xs. insert_entry key_eq xs e.0 e.1) m ∙ added ∙ sym more
-
-pub put_all_more : (start more self new : Entries) (i : ℕ) (e : Key × Entry) → slice_get more i ≡ Some e → self ≡ put_all start (take i more) → new ≡ put self e.0 e.1.key e.1.item → new ≡ put_all start (take (i + 1) more)
-put_all_more start more self new i e at s n =
-    n ∙ rw (s, fold_more (λ done e. put done e.0 e.1.key e.1.item) start more i e (slice_get_within more i e at), get_or_from_slice_get more i e e at) refl

@@ -7,7 +7,8 @@ use Rattle.py_heap.specs.declared.fault.ValueFault.TheVariants as fault
 use Rattle.py_heap.specs.declared.key.Key.{Key}
 use Rattle.py_heap.specs.Heap.{Objects, Entries, with_text, with_list, with_tuple, with_dict, with_shown}
 use Rattle.py_heap.specs.Dicts.{key_of, put}
-use Rattle.py_heap.specs.Units.{limited, text_limit, list_limit}
+use Rattle.scons_base.specs.declared.limits.TheConstants.{TEXT_LIMIT, LIST_LIMIT}
+use Rattle.py_heap.specs.Units.{limited}
 
 -- the number of the next thing of each kind
 abbrev pub next_text : Objects → Value
@@ -23,13 +24,13 @@ abbrev pub next_dict : Objects → Value
 next_dict h = v.Dict (record { 0 = length h.dicts })
 
 abbrev pub given_text : Objects → List ℕ → Result (Value × Objects) ValueFault
-given_text h s = limited text_limit (length s) (next_text h, with_text h s)
+given_text h s = limited TEXT_LIMIT (length s) (next_text h, with_text h s)
 
 abbrev pub given_list : Objects → List Value → Result (Value × Objects) ValueFault
-given_list h items = limited list_limit (length items) (next_list h, with_list h items)
+given_list h items = limited LIST_LIMIT (length items) (next_list h, with_list h items)
 
 abbrev pub given_tuple : Objects → List Value → Result (Value × Objects) ValueFault
-given_tuple h items = limited list_limit (length items) (next_tuple h, with_tuple h items)
+given_tuple h items = limited LIST_LIMIT (length items) (next_tuple h, with_tuple h items)
 
 abbrev put_by : Objects → Entries → Option Key → Value × Value → Option Entries
 put_by h entries None pair = None
@@ -46,11 +47,11 @@ with_pairs h entries (p ∷ ps) = and_then (λ more. with_pairs h more ps) (put_
 
 abbrev dict_by : Objects → Option Entries → Result (Value × Objects) ValueFault
 dict_by h None = Err fault.Key
-dict_by h (Some entries) = limited list_limit (length entries) (next_dict h, with_dict h entries)
+dict_by h (Some entries) = limited LIST_LIMIT (length entries) (next_dict h, with_dict h entries)
 
 abbrev pub given_dict : Objects → List (Value × Value) → Result (Value × Objects) ValueFault
 given_dict h pairs = dict_by h (with_pairs h [] pairs)
 
 -- an object shows by the last text given for it
 abbrev pub given_object : Objects → ℕ → List ℕ → Result (Value × Objects) ValueFault
-given_object h id shown = limited text_limit (length shown) (v.Object (record { 0 = id }), with_shown h id shown)
+given_object h id shown = limited TEXT_LIMIT (length shown) (v.Object (record { 0 = id }), with_shown h id shown)

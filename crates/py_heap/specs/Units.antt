@@ -20,13 +20,6 @@ told_length n = min n (2 ^ 64 - 1)
 unfoldable pub room : ℕ → Units → ℕ → Result Units ValueFault
 room limit u n = if nat_le n limit then charged u n else Err (fault.TooBig (told_length n))
 
--- the most bytes of a text, and the most items of a list, tuple or dict
-abbrev pub text_limit : ℕ
-text_limit = 16777216
-
-abbrev pub list_limit : ℕ
-list_limit = 8000000
-
 -- something of this length, of which there may be no longer one than the limit; it costs nothing
 unfoldable pub limited : {X : Type 0} → ℕ → ℕ → X → Result X ValueFault
 limited limit n x = if nat_le n limit then Ok x else Err (fault.TooBig (told_length n))

@@ -1,3 +1,4 @@
+//! The units of work, and what a failed operation leaves of them.
 ghost use Rattle.std.specs.Prelude.{◌≡◌, ◌≢◌, Ok, Err, IfErr, OnOk, OnErr};
 ghost use Rattle.py_heap.specs.Units.{charged};
 
@@ -59,4 +60,20 @@ impl Budget {
         self.used += units;
         Ok(())
     }
+}
+
+/// An answer as it is; where it is a fault, the units are those before again.
+pub fn settled<T>(
+    budget: &mut Budget,
+    before: Budget,
+    answer: Result<T, ValueFault>,
+) -> Result<T, ValueFault>
+    ensures same { result ≡ answer }
+    ensures paid { OnOk answer (budget.new ≡ budget.old) }
+    ensures unpaid { OnErr answer (budget.new ≡ before) }
+{
+    if answer.is_err() {
+        *budget = before;
+    }
+    answer
 }

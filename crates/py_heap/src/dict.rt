@@ -1,7 +1,7 @@
-ghost use Rattle.std.specs.Prelude.{◌≡◌, ◌==◌, [], length, slice_get, OnOk, OnErr, option_copied};
+//! Dicts: entries in order of insertion, found by their keys.
+ghost use Rattle.std.specs.Prelude.{◌≡◌, ◌≤◌, ◌<◌, ◌+◌, ◌==◌, [], length, slice_get, OnOk, OnErr, IfOk, option_copied};
 ghost use Rattle.std.specs.Option.{option_map};
-ghost use Rattle.std.specs.Prelude.{IfOk};
-ghost use Rattle.indexmap.specs.IndexMap.{insert_entry};
+ghost use Rattle.indexmap.specs.IndexMap.{insert_entry, spare};
 ghost use Rattle.py_heap.specs.Keys.{key_eq};
 ghost use Rattle.py_heap.specs.Dicts.{entry_at, put, put_all};
 
@@ -103,15 +103,51 @@ impl Dict {
         Ok(())
     }
 
-    /// Puts the items of another dict under its keys, one after another.
-    pub fn put_all(&mut self, other: &Dict) -> Result<(), Memory>
-        ensures { OnOk result (self.new ≡ put_all self.old other.now) }
+    /// The entries, with keys of their own.
+    #[tactic(auto, using(crate::proofs::Turns::turns))]
+    pub fn entries(&self, alloc: Global) -> Result<Vec<(Key, Entry)>, Memory>
+        ensures { IfOk result (λ entries. entries.items ≡ self.now) }
     {
-        'places: for place in 0..other.len() {
-            if let Some((key, entry)) = other.at(place) {
-                self.put(key.copy()?, entry.key, entry.item)?;
+        let mut entries = Vec::new(alloc);
+        'places: for place in 0..self.len() {
+            if let Some((key, entry)) = self.at(place) {
+                entries.push((key.copy()?, entry))?;
             }
         }
+        Ok(entries)
+    }
+
+    /// Puts the items of other entries under their keys, one after another: all of them or, for want of memory, none.
+    pub fn put_all(&mut self, more: Vec<(Key, Entry)>) -> Result<(), Memory>
+        ensures ok { OnOk result (self.new ≡ put_all self.old more.items) }
+        ensures err { OnErr result (self.new ≡ self.old) }
+    {
+        self.map.reserve(more.len())?;
+        put_within(&mut self.map, more);
         Ok(())
     }
+}
+
+/// Puts items under their keys, for which there is room.
+fn put_within(map: &mut IndexMap<Key, Entry>, more: Vec<(Key, Entry)>)
+    requires { length more.items ≤ spare map.old }
+    ensures { map.new.entries ≡ put_all map.old.entries more.items }
+{
+    'entries: for (key, entry) in more {
+        put_one(map, key, entry);
+    }
+}
+
+/// Puts an item under its key, for which there is room: so it isn't refused.
+fn put_one(map: &mut IndexMap<Key, Entry>, key: Key, entry: Entry)
+    requires { 0 < spare map.old }
+    ensures put { map.new.entries ≡ put map.old.entries key entry.key entry.item }
+    ensures room { spare map.old ≤ spare map.new + 1 }
+{
+    let given = match map.get(&key) {
+        Some(there) => there.key,
+        None => entry.key,
+    };
+    let item = entry.item;
+    let _put = map.insert(key, Entry { key: given, item });
 }

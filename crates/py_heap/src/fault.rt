@@ -1,3 +1,4 @@
+//! Why an operation on values gives none.
 ghost use Rattle.std.specs.Prelude.{◌≡◌};
 
 use crate::kind::ValueKind;

@@ -1,3 +1,4 @@
+//! The heap of a reading, and what it is asked.
 ghost use Rattle.std.specs.Prelude.{◌≡◌};
 ghost use Rattle.std.specs.Option.{option_map};
 ghost use Rattle.py_heap.specs.Heap.{no_objects, text_at, list_at, tuple_at, dict_at, text_of, items_of, pair_of, truth_of, shown_of};

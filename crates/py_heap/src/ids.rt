@@ -1,3 +1,5 @@
+//! The numbers of what stands in a heap, of functions and of objects.
+
 /// The number of a text of a heap.
 #[derive(Clone, Copy, Debug, PartialEq, Eq)]
 pub struct TextId(pub u64);

@@ -1,3 +1,4 @@
+//! The keys of dicts.
 ghost use Rattle.std.specs.Prelude.{◌≡◌, IfOk};
 
 use scons_base::{Memory, Text};

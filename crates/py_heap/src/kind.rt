@@ -1,3 +1,4 @@
+//! The kinds of values.
 ghost use Rattle.std.specs.Prelude.{◌≡◌};
 ghost use Rattle.py_heap.specs.Values.{kind_of};
 

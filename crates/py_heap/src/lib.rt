@@ -20,7 +20,7 @@ mod room;
 mod value;
 mod values;
 
-pub use budget::Budget;
+pub use budget::{Budget, settled};
 pub use dict::{Dict, Entry};
 pub use fault::ValueFault;
 pub use heap::{Heap, truth};
@@ -31,6 +31,3 @@ pub use many::text_values;
 pub use room::{list_room, text_room};
 pub use value::{Builtin, Value};
 pub use values::Values;
-
-#[cfg(test)]
-mod tests;

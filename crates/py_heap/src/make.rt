@@ -4,7 +4,7 @@ ghost use Rattle.py_heap.specs.declared.value.Value.TheVariants as value;
 ghost use Rattle.py_heap.specs.Heap.{list_at, dict_at, with_text, with_list, with_tuple, with_dict, with_list_at, with_dict_at, with_shown};
 ghost use Rattle.py_heap.specs.Dicts.{put, put_all};
 
-use crate::dict::Dict;
+use crate::dict::{Dict, Entry};
 use crate::heap::Heap;
 use crate::ids::{DictId, HostId, ListId, TextId, TupleId};
 use crate::key::Key;
@@ -161,25 +161,38 @@ impl Heap {
         }
     }
 
+    /// The entries of a dict, with keys of their own.
+    fn entries_of(&self, id: DictId) -> Result<Vec<(Key, Entry)>, Memory>
+        ensures { IfOk result (λ entries. entries.items ≡ dict_at self.now id.0) }
+    {
+        match self.dicts.get(id.0 as usize) {
+            Some(dict) => dict.entries(self.alloc),
+            None => Ok(Vec::new(self.alloc)),
+        }
+    }
+
     /// A copy of a dict in which the items of another one are put.
     pub fn merged_dict(&self, id: DictId, other: DictId) -> Result<Dict, Memory>
         ensures { IfOk result (λ d. d ≡ put_all (dict_at self.now id.0) (dict_at self.now other.0)) }
     {
         let mut merged = self.copy_of_dict(id)?;
-        if let Some(more) = self.dicts.get(other.0 as usize) {
-            merged.put_all(more)?;
-        }
+        merged.put_all(self.entries_of(other)?)?;
         Ok(merged)
     }
 
-    /// Takes another dict in the place of one.
-    pub fn replace_dict(&mut self, id: DictId, dict: Dict)
-        ensures { self.new ≡ with_dict_at self.old id.0 dict }
+    /// Puts the items of another dict under the keys of one: all of them or, for want of memory, none. It takes as long as the
+    /// other one is.
+    pub fn put_all(&mut self, id: DictId, other: DictId) -> Result<(), Memory>
+        ensures ok { OnOk result (self.new ≡ with_dict_at self.old id.0 (put_all (dict_at self.old id.0) (dict_at self.old other.0))) }
+        ensures err { OnErr result (self.new ≡ self.old) }
     {
+        let more = self.entries_of(other)?;
         let place = id.0 as usize;
         if place < self.dicts.len() {
-            self.dicts[place] = dict;
+            let dict = &mut self.dicts[place];
+            dict.put_all(more)?;
         }
+        Ok(())
     }
 
     /// Keeps the text by which an object shows.

@@ -1,5 +1,5 @@
 //! Many new texts or tuples at once, and a list of them.
-ghost use Rattle.std.specs.Prelude.{◌≡◌, ◌-◌, ◌≤◌, ◌++◌, length, take, IfOk, OnOk, OnErr};
+ghost use Rattle.std.specs.Prelude.{◌≡◌, ◌-◌, ◌≤◌, ◌++◌, length, IfOk, OnOk, OnErr};
 ghost use Rattle.py_heap.specs.Heap.{list_at, with_list, with_tuple, with_list_at};
 ghost use Rattle.py_heap.specs.Given.{next_list, next_tuple};
 ghost use Rattle.py_heap.specs.Many.{text_values, tuple_values, with_texts, with_text_list, with_tuple_list};
@@ -51,13 +51,6 @@ impl Heap {
     {
         self.texts.append(&mut texts)?;
         Ok(())
-    }
-
-    /// Takes back the texts that were added after the first so many, as long as nothing names them.
-    pub fn take_back_texts(&mut self, count: usize)
-        ensures { self.new ≡ record self.old { texts = take count self.old.texts } }
-    {
-        self.texts.truncate(count);
     }
 
     /// Adds texts, and a list in which they may stand.

@@ -1,3 +1,4 @@
+//! Values and built-in functions.
 use crate::ids::{DictId, FuncId, HostId, ListId, TextId, TupleId};
 
 /// The built-in functions.

@@ -1,3 +1,4 @@
+//! Lists of values.
 ghost use Rattle.std.specs.Prelude.{◌≡◌, ◌++◌, ◌∷◌, [], OnOk, OnErr, IfOk, ◌≤◌, ◌<◌, length, slice_set, insert, remove, reverse};
 
 use crate::value::Value;

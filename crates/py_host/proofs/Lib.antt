@@ -1,1 +1,4 @@
+pub mod Extending
+pub mod Lending
 pub mod Setting
+pub mod Tables

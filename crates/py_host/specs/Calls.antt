@@ -5,6 +5,7 @@ use Rattle.py_tree.specs.declared.line.Script.{Script}
 use Rattle.py_tree.specs.Tree.{Tree, script_tree}
 use Rattle.py_heap.specs.declared.value.Value.{Value}
 use Rattle.py_host.specs.declared.args.Args.{Args}
+use Rattle.py_host.specs.declared.place.Place.{Place}
 use Rattle.py_host.specs.declared.reply.Reply.{Reply}
 use Rattle.py_host.specs.declared.reply.Reply.TheVariants as reply'
 use Rattle.py_host.specs.Names.{Names}
@@ -19,12 +20,12 @@ arguments_of args = record { positional = args.positional.items; named = args.na
 
 -- what is asked with the heap at hand
 pub data Question : Type 0 where
-  -- an object is called: the names of the function that calls, those of its script, the object, the arguments
-  called : Names → Names → ℕ → Arguments → Question
+  -- an object is called: where, the names of the function that calls, those of its script, the object, the arguments
+  called : Place → Names → Names → ℕ → Arguments → Question
   -- an attribute of an object, an item of it, and an item of it set
-  attribute : ℕ → List ℕ → Question
-  item : ℕ → Value → Question
-  set_item : ℕ → Value → Value → Question
+  attribute : Place → ℕ → List ℕ → Question
+  item : Place → ℕ → Value → Question
+  set_item : Place → ℕ → Value → Value → Question
   -- a script that a call began has ended, with these names
   script_done : Names → Question
   -- a first script has ended
@@ -48,10 +49,10 @@ tree_of None = None
 tree_of (Some s) = Some (script_tree s)
 
 abbrev pub Answer : Question → Type 0
-Answer (called locals globals object arguments) = Given
-Answer (attribute object name) = Value
-Answer (item object key) = Value
-Answer (set_item object key v) = Unit {0}
+Answer (called place locals globals object arguments) = Given
+Answer (attribute place object name) = Value
+Answer (item place object key) = Value
+Answer (set_item place object key v) = Unit {0}
 Answer (script_done names) = Given
 Answer next_script = Option Tree
 

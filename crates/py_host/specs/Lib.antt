@@ -1,3 +1,5 @@
 pub mod Calls
+pub mod Extends
+pub mod Lent
 pub mod Meaning
 pub mod Names

@@ -1,3 +1,4 @@
+//! The arguments of a call.
 use crate::scope::Scope;
 use py_heap::Value;
 

@@ -5,12 +5,14 @@
 
 mod args;
 mod host;
+mod place;
 mod refusal;
 mod reply;
 mod scope;
 
 pub use args::Args;
 pub use host::Host;
+pub use place::Place;
 pub use refusal::HostRefusal;
 pub use reply::Reply;
 pub use scope::Scope;

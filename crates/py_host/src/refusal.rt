@@ -1,3 +1,4 @@
+//! Why a host does not answer.
 use scons_base::Memory as NoMemory;
 use std::alloc::{AllocError, AllocFailed};
 

@@ -1,3 +1,4 @@
+//! What the call of an object comes to.
 use crate::scope::Scope;
 use py_heap::Value;
 use py_tree::Script;

@@ -1,3 +1,4 @@
+//! Which bytes of a script are what.
 ghost use Rattle.std.specs.Prelude.{◌≡◌, true, ◌<◌, ◌≤◌, length, None, Some, MatchOption, IfSome};
 ghost use Rattle.std.specs.List.{prefix_len, list_all};
 ghost use Rattle.py_lex.specs.Bytes.{is_blank, is_name_byte, is_comment_byte, front_run, after_run, after_line_end};

@@ -1,3 +1,4 @@
+//! Why a script has no tokens.
 ghost use Rattle.std.specs.Prelude.{◌≡◌};
 ghost use Rattle.py_lex.specs.declared.fault.LexFault.TheVariants.{Memory};
 

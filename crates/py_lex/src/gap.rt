@@ -1,3 +1,4 @@
+//! What stands between the parts of a script: blanks, comments, joined lines.
 ghost use Rattle.std.specs.Prelude.{◌≡◌, ◌≢◌, ◌<◌, length};
 ghost use Rattle.py_lex.specs.Gaps.{gap_at};
 

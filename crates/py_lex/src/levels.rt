@@ -1,3 +1,4 @@
+//! The indentations of open blocks.
 ghost use Rattle.std.specs.Prelude.{nat_eq, position, ◌≡◌, ◌≤◌, ◌-◌, ◌∷◌, [], List, length, drop, OnOk, IfOk};
 ghost use Rattle.std.specs.Cmp.Lexicographic.{pointwise};
 ghost use Rattle.py_lex.specs.Levels.{level_of, closed_by, innermost};

@@ -1,3 +1,4 @@
+//! A script, cut into its tokens.
 ghost use Rattle.std.specs.Prelude.{◌≡◌, ◌<◌, ◌≤◌, ◌-◌, ◌^◌, ℕ, List, length, MatchResult};
 ghost use Rattle.py_token.specs.declared.token.Token.{Token};
 ghost use Rattle.py_lex.specs.declared.fault.LexKind.{LexKind};
@@ -66,6 +67,3 @@ fn lex_script(alloc: Global, script: &[u8]) -> Result<Tokens, LexFault>
         }
     }
 }
-
-#[cfg(test)]
-mod tests;

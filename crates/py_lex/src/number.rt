@@ -1,3 +1,4 @@
+//! Integers of a script.
 ghost use Rattle.std.specs.Prelude.{◌≡◌, ◌≤◌};
 ghost use Rattle.py_lex.specs.Numbers.{number_of, value_in};
 ghost use Rattle.py_lex.specs.Numbers.{with_digit};

@@ -1,3 +1,4 @@
+//! The pieces of a text: characters and escapes.
 ghost use Rattle.std.specs.Prelude.{◌≡◌, ◌<◌, ◌≤◌, ◌++◌, length, OnOk};
 ghost use Rattle.py_lex.specs.Texts.{piece_at, closing, kept, escape, hex_escape, hex_digit, simple_escape, bytes_of};
 ghost use Rattle.py_lex.specs.Sizes.{IsTaken};

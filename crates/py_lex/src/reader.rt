@@ -1,3 +1,4 @@
+//! A script that is read up to a place.
 ghost use Rattle.std.specs.Prelude.{◌≡◌, ◌<◌, ◌+◌, ◌-◌, ◌^◌, ◌++◌, ◌∷◌, [], length, OnOk, IfOk};
 ghost use Rattle.py_lex.specs.Steps.{Steps, TakesToken, token_at, dedents, added, with_text, text_behind, goes, start, line_end, begin_line, finish};
 ghost use Rattle.py_lex.specs.Views.{state_of, step_of};

@@ -1,3 +1,4 @@
+//! Marks: operators and delimiters.
 ghost use Rattle.std.specs.Prelude.{◌≡◌, IfSome};
 ghost use Rattle.py_lex.specs.Marks.{mark_at};
 ghost use Rattle.py_lex.specs.Sizes.{StandsAt};

@@ -1,3 +1,4 @@
+//! Texts in quotes.
 ghost use Rattle.std.specs.Prelude.{◌≡◌, ◌<◌, ◌≤◌, ◌^◌, length, IfOk};
 ghost use Rattle.py_lex.specs.Texts.{opening, Spells};
 ghost use Rattle.py_lex.specs.Views.{spelling_of};

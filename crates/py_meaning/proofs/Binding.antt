@@ -4,7 +4,8 @@ use Rattle.py_heap.specs.declared.value.Value.{Value}
 use Rattle.py_heap.specs.Heap.{Objects}
 use Rattle.py_host.specs.Calls.{Question, Answer, answers, refuses}
 use Rattle.py_host.specs.Meaning.{Meaning}
-use Rattle.py_meaning.specs.States.{State, Out, Place, Fault, with_objects}
+use Rattle.py_meaning.specs.States.{State, Out, Fault, with_objects}
+use Rattle.py_host.specs.declared.place.Place.{Place}
 use Rattle.py_meaning.specs.Jobs.{Job}
 use Rattle.py_meaning.specs.Plans.{Plan, comes_to, stops, first, within_call, asks_name, prints, asks, bind}
 use Rattle.py_meaning.specs.Evaluates.{Follows, plan, done, stopped, then, then_stopped, too_deep, called, called_stopped, named, printed, print_refused, asked, refused}

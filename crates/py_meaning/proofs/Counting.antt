@@ -1,10 +1,12 @@
--- The count of a host's refusals never falls, and rises where a refusal is what a plan comes to.
+-- What a host keeps is kept by whatever a plan asks of it. The count of its refusals never falls, and rises where a refusal is what
+-- a plan comes to.
 use Rattle.std.proofs.Common.{arith, ◌≡◌, ◌≤◌, ◌+◌, ◌-◌, ◌^◌, ℕ, Result, Ok, Err, refl}
-use Rattle.py_host.specs.Meaning.{Meaning, IsCounted, Counts, Rose}
+use Rattle.py_host.specs.Meaning.{Meaning, IsKept, Counts, Rose}
 use Rattle.py_host.specs.Calls.{Answered, answers, refuses}
 use Rattle.py_meaning.specs.declared.fault.EvalKind.{EvalKind}
 use Rattle.py_meaning.specs.declared.fault.EvalKind.TheVariants as kind
-use Rattle.py_meaning.specs.States.{Out, Place, Fault}
+use Rattle.py_meaning.specs.States.{Out, Fault}
+use Rattle.py_host.specs.declared.place.Place.{Place}
 use Rattle.py_meaning.specs.Plans.{Plan}
 use Rattle.py_meaning.specs.Evaluates.{Follows, IsOwn, done, stopped, then, then_stopped, too_deep, called, called_stopped, named, printed, print_refused, asked, refused}
 
@@ -41,7 +43,7 @@ own kind.Args a i = omega arith
 own kind.NotCallable a i = omega arith
 own kind.Depth a i = omega arith
 
-pub counted : {H : Type 0} {m : Meaning H} {c : ℕ} {p : Plan} {h h2 : H} {r : Result Out Fault} → IsCounted m → Follows m c p h r h2 → Counted r (m.refusals h) (m.refusals h2)
+pub counted : {H : Type 0} {m : Meaning H} {c : ℕ} {p : Plan} {h h2 : H} {r : Result Out Fault} → IsKept m → Follows m c p h r h2 → Counted r (m.refusals h) (m.refusals h2)
 counted {m = m} {h = h} i done = omega arith
 counted {m = m} {h = h} i (stopped {k = k} o) = own k (m.refusals h) o
 counted {m = m} {h = h} {h2 = h2} {r = r} i (then o h1 a b) = earlier r (m.refusals h) (m.refusals h1) (m.refusals h2) (counted i a) (counted i b)
@@ -49,8 +51,22 @@ counted i (then_stopped e a) = counted i a
 counted {m = m} {h = h} i too_deep = omega arith
 counted {m = m} {h = h} {h2 = h2} {r = r} i (called o h1 a b) = earlier r (m.refusals h) (m.refusals h1) (m.refusals h2) (counted i a) (counted i b)
 counted i (called_stopped e a) = counted i a
-counted {m = m} {h = h} {h2 = h2} {r = r} i (named {n = n} v h1 a b) = earlier r (m.refusals h) (m.refusals h1) (m.refusals h2) (i.names h h1 n v a) (counted i b)
-counted {m = m} {h = h} {h2 = h2} {r = r} i (printed {text = text} h1 a b) = earlier r (m.refusals h) (m.refusals h1) (m.refusals h2) (i.prints h h1 text (answers tt) a) (counted i b)
-counted {h = h} {h2 = h2} i (print_refused {text = text} a) = i.prints h h2 text refuses a
-counted {m = m} {h = h} {h2 = h2} {r = r} i (asked {q = q} {s = s} v h1 objects a b) = earlier r (m.refusals h) (m.refusals h1) (m.refusals h2) (i.replies q h h1 s.objects objects (answers v) a) (counted i b)
-counted {h = h} {h2 = h2} i (refused {q = q} {s = s} objects a) = i.replies q h h2 s.objects objects refuses a
+counted {m = m} {h = h} {h2 = h2} {r = r} i (named {n = n} v h1 a b) = earlier r (m.refusals h) (m.refusals h1) (m.refusals h2) (i.later h h1 (i.names h h1 n v a)) (counted i b)
+counted {m = m} {h = h} {h2 = h2} {r = r} i (printed {text = text} h1 a b) = earlier r (m.refusals h) (m.refusals h1) (m.refusals h2) (i.later h h1 (i.prints h h1 text (answers tt) a).0) (counted i b)
+counted {h = h} {h2 = h2} i (print_refused {text = text} a) = (i.prints h h2 text refuses a).1
+counted {m = m} {h = h} {h2 = h2} {r = r} i (asked {q = q} {s = s} v h1 objects a b) = earlier r (m.refusals h) (m.refusals h1) (m.refusals h2) (i.later h h1 (i.replies q h h1 s.objects objects (answers v) a).0) (counted i b)
+counted {h = h} {h2 = h2} i (refused {q = q} {s = s} objects a) = (i.replies q h h2 s.objects objects refuses a).1
+
+pub kept : {H : Type 0} {m : Meaning H} {c : ℕ} {p : Plan} {h h2 : H} {r : Result Out Fault} → IsKept m → Follows m c p h r h2 → m.keeps h h2
+kept {h = h} i done = i.same h
+kept {h = h} i (stopped o) = i.same h
+kept {h = h} {h2 = h2} i (then o h1 a b) = i.joins h h1 h2 (kept i a) (kept i b)
+kept i (then_stopped e a) = kept i a
+kept {h = h} i too_deep = i.same h
+kept {h = h} {h2 = h2} i (called o h1 a b) = i.joins h h1 h2 (kept i a) (kept i b)
+kept i (called_stopped e a) = kept i a
+kept {h = h} {h2 = h2} i (named {n = n} v h1 a b) = i.joins h h1 h2 (i.names h h1 n v a) (kept i b)
+kept {h = h} {h2 = h2} i (printed {text = text} h1 a b) = i.joins h h1 h2 (i.prints h h1 text (answers tt) a).0 (kept i b)
+kept {h = h} {h2 = h2} i (print_refused {text = text} a) = (i.prints h h2 text refuses a).0
+kept {h = h} {h2 = h2} i (asked {q = q} {s = s} v h1 objects a b) = i.joins h h1 h2 (i.replies q h h1 s.objects objects (answers v) a).0 (kept i b)
+kept {h = h} {h2 = h2} i (refused {q = q} {s = s} objects a) = (i.replies q h h2 s.objects objects refuses a).0

@@ -1,3 +1,4 @@
 pub mod Binding
 pub mod Counting
 pub mod One
+pub mod Simulating

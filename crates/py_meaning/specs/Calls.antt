@@ -10,7 +10,7 @@ use Rattle.py_heap.specs.declared.fault.ValueFault.{ValueFault}
 use Rattle.py_heap.specs.Heap.{Objects}
 use Rattle.py_heap.specs.Units.{Units, charged}
 use Rattle.py_compare.specs.Outcomes.{Outcome, then_by}
-use Rattle.py_show.specs.Showing.{Shown, show_of, separator}
+use Rattle.py_compare.specs.Showing.{Shown, show_of, separator}
 use Rattle.py_methods.specs.declared.name.Name.{Name}
 use Rattle.py_methods.specs.Calls.{method_of}
 use Rattle.py_builtins.specs.Builtins.{builtin_of}
@@ -18,7 +18,8 @@ use Rattle.py_host.specs.Names.{Names}
 use Rattle.py_host.specs.Calls.{Arguments, Given, a_value, a_script, some_names, the_end}
 use Rattle.py_host.specs.Calls as question
 use Rattle.py_meaning.specs.declared.fault.EvalKind.TheVariants as kind
-use Rattle.py_meaning.specs.States.{State, Frame, Function, Out, Place, place_at, goes_on, breaks, continues, returns, ends, with_units, with_frame, with_globals, globals_at, function_frame, script_frame}
+use Rattle.py_meaning.specs.States.{State, Frame, Function, Out, place_at, goes_on, breaks, continues, returns, ends, with_units, with_frame, with_globals, globals_at, function_frame, script_frame}
+use Rattle.py_host.specs.declared.place.Place.{Place}
 use Rattle.py_meaning.specs.Jobs.{Job, Callee, perform, reply, inner_script, exec_all}
 use Rattle.py_meaning.specs.Jobs as job
 use Rattle.py_meaning.specs.Plans.{Plan, comes_to, stops, first, within_call, prints, value, faulty, goes, checked, made, paid, asked_on}
@@ -91,7 +92,7 @@ builtin_done l b xs s = made l s (builtin_of s.objects s.units b xs)
 abbrev pub plan_perform : ℕ → Callee → Arguments → State → Plan
 plan_perform l (job.a_value (v.Builtin b)) given s = builtin_done l b given.positional s
 plan_perform l (job.a_value (v.Object id)) given s =
-    asked_on l (question.called s.frame.values (globals_at s s.frame.script) id.0 given) s (λ g s1. goes (reply l g) s1)
+    asked_on l (question.called (place_at l s) s.frame.values (globals_at s s.frame.script) id.0 given) s (λ g s1. goes (reply l g) s1)
 plan_perform l (job.a_value other) given s = faulty l kind.NotCallable s
 plan_perform l (job.a_method x n) given s = made l s (method_of s.objects s.units x n given.positional)
 

@@ -8,7 +8,8 @@ use Rattle.py_host.specs.Meaning.{Meaning}
 use Rattle.py_heap.specs.declared.value.Value.{Value}
 use Rattle.py_meaning.specs.declared.fault.EvalKind.{EvalKind}
 use Rattle.py_meaning.specs.declared.fault.EvalKind.TheVariants as kind
-use Rattle.py_meaning.specs.States.{State, Out, Place, Fault, with_objects, script_frame}
+use Rattle.py_meaning.specs.States.{State, Out, Fault, with_objects, script_frame}
+use Rattle.py_host.specs.declared.place.Place.{Place}
 use Rattle.py_meaning.specs.Jobs.{Job, eval, eval_all, eval_or_nil, links, operations, collect, tests, call, perform, reply, inner_script, exec, exec_all, branches, turns, first_scripts}
 use Rattle.py_meaning.specs.Plans.{Plan, comes_to, stops, first, within_call, asks_name, prints, asks}
 use Rattle.py_meaning.specs.Expressions.{plan_expression, plan_all, plan_operations, plan_collect, plan_tests}

@@ -14,13 +14,12 @@ use Rattle.py_heap.specs.declared.fault.ValueFault.TheVariants as fault
 use Rattle.py_heap.specs.Heap.{Objects, Entries, truth_of}
 use Rattle.py_heap.specs.Given.{given_text, with_pairs}
 use Rattle.py_heap.specs.Units.{Units}
-use Rattle.py_compare.specs.Outcomes.{Outcome, new_list, new_tuple}
+use Rattle.py_compare.specs.Outcomes.{Outcome, new_list, new_tuple, new_dict}
 use Rattle.py_compare.specs.Numbers.{fitting}
 use Rattle.py_operators.specs.declared.op.Op.{Op}
 use Rattle.py_operators.specs.declared.op.Op.TheVariants as op
 use Rattle.py_operators.specs.Arithmetic.{negative_of}
 use Rattle.py_operators.specs.Binary.{binary_of}
-use Rattle.py_methods.specs.Dicts.{new_dict}
 use Rattle.py_meaning.specs.declared.fault.EvalKind.TheVariants as kind
 use Rattle.py_meaning.specs.States.{State, goes_on, all_give, with_objects, with_frame, after_operation}
 use Rattle.py_meaning.specs.Jobs.{eval, links, operations, collect, tests}

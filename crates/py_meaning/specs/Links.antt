@@ -9,7 +9,7 @@ use Rattle.py_operators.specs.Indexing.{indexed, sliced}
 use Rattle.py_methods.specs.declared.name.Name.{Name}
 use Rattle.py_host.specs.Calls as question
 use Rattle.py_meaning.specs.declared.fault.EvalKind.TheVariants as kind
-use Rattle.py_meaning.specs.States.{State, after_operation}
+use Rattle.py_meaning.specs.States.{State, place_at, after_operation}
 use Rattle.py_meaning.specs.Jobs.{Job, Callee, a_value, a_method, links}
 use Rattle.py_meaning.specs.Jobs as job
 use Rattle.py_meaning.specs.Plans.{Plan, first, value, faulty, goes, on_value, after, after_all, after_optional, checked, asked_on}
@@ -24,7 +24,7 @@ line_or (Some named) l = named
 
 -- the item under a key, and on with it
 abbrev pub after_item : ℕ → Value → Value → State → (Value → State → Plan) → Plan
-after_item l (v.Object id) i s f = asked_on l (question.item id.0 i) s f
+after_item l (v.Object id) i s f = asked_on l (question.item (place_at l s) id.0 i) s f
 after_item l x i s f = checked l s (indexed s.objects s.units x i) (λ m. f m.0 (after_operation s m))
 
 -- arguments and a call, and what stands behind it
@@ -46,7 +46,7 @@ method_linked l x n (cons (call cl ts) rest) s = method_of_name l x (method_name
 method_linked l x n other s = faulty l (kind.Value fault.NoMethod) s
 
 abbrev attribute_linked : ℕ → Value → List ℕ → Tree → State → Plan
-attribute_linked l (v.Object id) n rest s = asked_on l (question.attribute id.0 n) s (λ x s1. goes (links x (Some l) rest) s1)
+attribute_linked l (v.Object id) n rest s = asked_on l (question.attribute (place_at l s) id.0 n) s (λ x s1. goes (links x (Some l) rest) s1)
 attribute_linked l x n rest s = method_linked l x n rest s
 
 abbrev pub plan_links : Value → Option ℕ → Tree → State → Plan

@@ -25,7 +25,7 @@ use Rattle.py_meaning.specs.Links.{after_item}
 use Rattle.py_meaning.specs.LocalNames.{local_names}
 use Rattle.py_meaning.specs.Loops.{Walk, walk_of, next_of, names_of, unpacked, shared}
 use Rattle.py_meaning.specs.Plans.{Plan, comes_to, first, value, goes, on_value, on_end, after, after_all, checked, paid, asked_on}
-use Rattle.py_meaning.specs.States.{State, Out, Function, goes_on, breaks, continues, returns, with_objects, after_operation}
+use Rattle.py_meaning.specs.States.{State, Out, Function, place_at, goes_on, breaks, continues, returns, with_objects, after_operation}
 use Rattle.py_meaning.specs.Lookup.{with_bound}
 
 -- the operator of an augmented assignment
@@ -69,7 +69,7 @@ with_all_bound s ns xs = s
 
 -- an item set under a key, and on
 abbrev pub after_item_set : ℕ → Value → Value → Value → State → (State → Plan) → Plan
-after_item_set l (v.Object id) i x s f = asked_on l (question.set_item id.0 i x) s (λ u s1. f s1)
+after_item_set l (v.Object id) i x s f = asked_on l (question.set_item (place_at l s) id.0 i x) s (λ u s1. f s1)
 after_item_set l base i x s f = checked l s (set_of s.objects base i x) (λ h. f (with_objects s h))
 
 -- what stands before the index, then its key

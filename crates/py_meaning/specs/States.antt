@@ -4,6 +4,7 @@ use Rattle.py_tree.specs.Tree.{Tree}
 use Rattle.py_heap.specs.declared.value.Value.{Value}
 use Rattle.py_heap.specs.Heap.{Objects}
 use Rattle.py_heap.specs.Units.{Units}
+use Rattle.py_host.specs.declared.place.Place.{Place}
 use Rattle.py_host.specs.Names.{Names, with_name, with_names}
 use Rattle.py_meaning.specs.declared.fault.EvalKind.{EvalKind}
 use Rattle.py_meaning.specs.declared.fault.Exit.{Exit}
@@ -67,11 +68,7 @@ state_in (returns x s) = s
 state_in (ends s) = s
 state_in (exits exit s) = s
 
--- a line of a script, and a fault there
-pub record Place : Type 0 where
-  pub script : ℕ
-  pub line : ℕ
-
+-- a fault on a line of a script
 pub record Fault : Type 0 where
   pub place : Place
   pub kind : EvalKind

@@ -1,3 +1,4 @@
+//! How scripts end, and why one cannot go on.
 use py_heap::ValueFault;
 use scons_base::Text;
 

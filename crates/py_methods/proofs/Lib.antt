@@ -1,9 +1,8 @@
-pub mod Characters
 pub mod Defaults
 pub mod Extending
 pub mod Letters
-pub mod Limits
 pub mod Listed
 pub mod MadeTexts
 pub mod ManyTexts
 pub mod Pairs
+pub mod Updates

@@ -6,10 +6,10 @@ use Rattle.py_heap.specs.declared.key.Key.{Key}
 use Rattle.py_heap.specs.declared.dict.Entry.{Entry}
 use Rattle.py_heap.specs.declared.fault.ValueFault.{ValueFault}
 use Rattle.py_heap.specs.declared.fault.ValueFault.TheVariants as fault
-use Rattle.py_heap.specs.Heap.{Objects, Entries, dict_at, with_dict, with_dict_at, keys_of, items_in}
-use Rattle.py_heap.specs.Given.{next_dict}
+use Rattle.py_heap.specs.Heap.{Objects, Entries, dict_at, with_dict_at, keys_of, items_in}
 use Rattle.py_heap.specs.Dicts.{key_of, entry_at, put, put_all}
-use Rattle.py_heap.specs.Units.{Units, room, limited, list_limit}
+use Rattle.scons_base.specs.declared.limits.TheConstants.{LIST_LIMIT}
+use Rattle.py_heap.specs.Units.{Units, limited}
 use Rattle.py_compare.specs.Outcomes.{Outcome, then_by, mismatch, new_list}
 
 abbrev item_or : Value → Option Entry → Value
@@ -27,7 +27,7 @@ get_of h id key default = get_by (dict_at h id) default (key_of h key)
 abbrev default_at : Objects → ℕ → Value → Value → Key → Option Entry → Result (Value × Objects) ValueFault
 default_at h id key item k (Some e) = Ok (e.item, h)
 default_at h id key item k None =
-    limited list_limit (length (put (dict_at h id) k key item)) (item, with_dict_at h id (put (dict_at h id) k key item))
+    limited LIST_LIMIT (length (put (dict_at h id) k key item)) (item, with_dict_at h id (put (dict_at h id) k key item))
 
 abbrev default_by : Objects → ℕ → Value → Value → Option Key → Result (Value × Objects) ValueFault
 default_by h id key item None = Err fault.Key
@@ -44,13 +44,9 @@ keys_list h u id = new_list h u (keys_of (dict_at h id))
 abbrev pub values_list : Objects → Units → ℕ → Outcome
 values_list h u id = new_list h u (items_in (dict_at h id))
 
--- a new dict: its limit, its charge, then itself
-abbrev pub new_dict : Objects → Units → Entries → Outcome
-new_dict h u entries = then_by (room list_limit u (length entries)) (λ left. Ok (next_dict h, with_dict h entries, left))
-
 -- the dict with the items of another one put under its keys
 abbrev merged : Objects → ℕ → Entries → Result (Value × Objects) ValueFault
-merged h id entries = limited list_limit (length entries) (v.Nil, with_dict_at h id entries)
+merged h id entries = limited LIST_LIMIT (length entries) (v.Nil, with_dict_at h id entries)
 
 abbrev pub update_of : Objects → ℕ → Value → Result (Value × Objects) ValueFault
 update_of h id (v.Dict other) = merged h id (put_all (dict_at h id) (dict_at h other.0))

@@ -1,7 +1,5 @@
-pub mod Arguments
 pub mod Calls
 pub mod Dicts
-pub mod Iterables
 pub mod Lists
 pub mod Many
 pub mod Methods

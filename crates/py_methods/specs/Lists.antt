@@ -6,15 +6,15 @@ use Rattle.py_heap.specs.declared.fault.ValueFault.{ValueFault}
 use Rattle.py_heap.specs.declared.fault.ValueFault.TheVariants as fault
 use Rattle.py_heap.specs.Heap.{Objects, list_at, with_list_at}
 use Rattle.py_heap.specs.Many.{with_texts}
-use Rattle.py_heap.specs.Units.{Units, charged, limited, list_limit}
+use Rattle.scons_base.specs.declared.limits.TheConstants.{LIST_LIMIT}
+use Rattle.py_heap.specs.Units.{Units, charged, limited}
 use Rattle.py_compare.specs.Outcomes.{Outcome, then_by, number, mismatch}
 use Rattle.py_compare.specs.Numbers.{fitting}
 use Rattle.py_compare.specs.Equality.{place_from}
 use Rattle.py_compare.specs.Sorting.{sorted_of}
 use Rattle.py_operators.specs.Places.{place_in}
 use Rattle.py_operators.specs.Slices.{end_in}
-use Rattle.py_methods.specs.Many.{total_length}
-use Rattle.py_methods.specs.Iterables.{iterable_length, iterable_texts, iterable_items}
+use Rattle.py_compare.specs.Iterables.{total_length, iterable_length, iterable_texts, iterable_items}
 
 -- a value beside the heap after a list was changed
 abbrev pub Changed : Type 0
@@ -25,12 +25,12 @@ abbrev pub with_items : Objects → ℕ → List Value → Value × Objects
 with_items h id items = (v.Nil, with_list_at h id items)
 
 abbrev pub append_of : Objects → ℕ → Value → Changed
-append_of h id x = limited list_limit (length (list_at h id) + 1) (with_items h id (list_at h id ++ x ∷ []))
+append_of h id x = limited LIST_LIMIT (length (list_at h id) + 1) (with_items h id (list_at h id ++ x ∷ []))
 
 -- so many items of a value behind those of a list: the limit of the list, then a charge for the bytes of new texts
 abbrev pub extended : Objects → Units → ℕ → Value → ℕ → Outcome
 extended h u id x n =
-    then_by (limited list_limit (length (list_at h id) + n) n) (λ count.
+    then_by (limited LIST_LIMIT (length (list_at h id) + n) n) (λ count.
     then_by (charged u (total_length (iterable_texts h count x))) (λ left.
     Ok (v.Nil, with_list_at (with_texts h (iterable_texts h count x)) id (list_at h id ++ iterable_items h (length h.texts) count x), left)))
 
@@ -44,7 +44,7 @@ extend_of h u id x = extend_by h u id x (iterable_length h x)
 
 -- in front of the item at a place, as an end of a slice names it
 abbrev pub insert_at : Objects → ℕ → ℤ → Value → Changed
-insert_at h id i x = limited list_limit (length (list_at h id) + 1) (with_items h id (insert (list_at h id) (end_in i (length (list_at h id))) x))
+insert_at h id i x = limited LIST_LIMIT (length (list_at h id) + 1) (with_items h id (insert (list_at h id) (end_in i (length (list_at h id))) x))
 
 abbrev pub insert_of : Objects → ℕ → Value → Value → Value → Changed
 insert_of h id a (v.Int i) x = insert_at h id i x

@@ -7,11 +7,11 @@ use Rattle.py_heap.specs.Heap.{Objects, dict_at}
 use Rattle.py_heap.specs.Units.{Units}
 use Rattle.py_methods.specs.declared.name.Name.{Name}
 use Rattle.py_methods.specs.declared.name.Name.TheVariants as name
-use Rattle.py_compare.specs.Outcomes.{Outcome, plain, changed}
-use Rattle.py_methods.specs.Arguments.{with_none, with_one, with_two, with_optional, with_second}
+use Rattle.py_compare.specs.Outcomes.{Outcome, plain, changed, new_dict}
+use Rattle.py_compare.specs.Arguments.{with_none, with_one, with_two, with_optional, with_second}
 use Rattle.py_methods.specs.Lists.{append_of, extend_of, insert_of, pop_of, pop_last_of, remove_of, index_of, reverse_of, sort_of}
-use Rattle.py_methods.specs.Many.{pair_list, rows_of}
-use Rattle.py_methods.specs.Dicts.{new_dict, update_of, get_of, setdefault_of, keys_list, values_list}
+use Rattle.py_methods.specs.Many.{pair_list, pair_rows}
+use Rattle.py_methods.specs.Dicts.{update_of, get_of, setdefault_of, keys_list, values_list}
 
 abbrev pub list_method : Objects → Units → ℕ → Name → List Value → Outcome
 list_method h u id name.Append args = with_one args (λ x. changed u (append_of h id x))
@@ -28,7 +28,7 @@ abbrev pub dict_method : Objects → Units → ℕ → Name → List Value → O
 dict_method h u id name.Get args = with_second args (λ k. plain h u (get_of h id k v.Nil)) (λ k d. plain h u (get_of h id k d))
 dict_method h u id name.Keys args = with_none args (keys_list h u id)
 dict_method h u id name.Values args = with_none args (values_list h u id)
-dict_method h u id name.Items args = with_none args (pair_list h u (rows_of (dict_at h id)))
+dict_method h u id name.Items args = with_none args (pair_list h u (pair_rows (dict_at h id)))
 dict_method h u id name.Update args = with_one args (λ x. changed u (update_of h id x))
 dict_method h u id name.Copy args = with_none args (new_dict h u (dict_at h id))
 dict_method h u id name.Setdefault args = with_second args (λ k. changed u (setdefault_of h id k v.Nil)) (λ k d. changed u (setdefault_of h id k d))

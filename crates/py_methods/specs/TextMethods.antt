@@ -17,7 +17,7 @@ use Rattle.py_methods.specs.declared.name.Name.TheVariants as name
 use Rattle.py_compare.specs.Outcomes.{Outcome, then_by, number, mismatch, paid_text, new_text}
 use Rattle.py_heap.specs.Given.{next_text}
 use Rattle.py_compare.specs.Numbers.{fitting}
-use Rattle.py_methods.specs.Arguments.{with_none, with_one, with_two, with_optional}
+use Rattle.py_compare.specs.Arguments.{with_none, with_one, with_two, with_optional}
 use Rattle.py_methods.specs.Many.{text_list}
 
 -- an argument that has to be a text

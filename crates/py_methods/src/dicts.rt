@@ -1,8 +1,9 @@
 //! The methods of a dict.
-ghost use Rattle.std.specs.Prelude.{◌≡◌, ◌≢◌, length, Ok, Err, IfOk, IfErr, OnErr};
+ghost use Rattle.std.specs.Prelude.{◌≡◌, ◌≢◌, ◌≤◌, length, Ok, Err, IfOk, IfErr, OnOk, OnErr};
+ghost use Rattle.py_heap.specs.Dicts.{put_all};
 ghost use Rattle.py_heap.specs.Heap.{dict_at, keys_of, items_in};
 ghost use Rattle.py_compare.specs.Outcomes.{paid_items};
-ghost use Rattle.py_methods.specs.Dicts.{new_dict, update_of, get_of, setdefault_of, keys_list, values_list};
+ghost use Rattle.py_methods.specs.Dicts.{update_of, get_of, setdefault_of, keys_list, values_list};
 
 use py_heap::{Budget, DictId, Heap, Value, ValueFault, list_room};
 use py_operators::length_with;
@@ -85,20 +86,8 @@ pub(crate) fn values(
     Ok(value)
 }
 
-/// A new dict with the same entries.
-pub fn copied_dict(heap: &mut Heap, budget: &mut Budget, dict: DictId) -> Result<Value, ValueFault>
-    ensures ok { IfOk result (λ v. new_dict heap.old budget.old (dict_at heap.old dict.0) ≡ Ok (v, heap.new, budget.new)) }
-    ensures fault { IfErr result (λ e. e ≢ ValueFault.Memory → new_dict heap.old budget.old (dict_at heap.old dict.0) ≡ Err e) }
-    ensures err { OnErr result (heap.new ≡ heap.old) }
-{
-    list_room(budget, heap.dict_len(dict) as u64)?;
-    let made = heap.copy_of_dict(dict)?;
-    let value = heap.add_dict(made)?;
-    Ok(value)
-}
-
 /// Puts the items of another dict under its keys.
-#[tactic(auto, using(crate::proofs::Limits::exact_limits))]
+#[tactic(auto, using(py_compare::proofs::Limits::exact_limits))]
 pub(crate) fn update(heap: &mut Heap, dict: DictId, other: Value) -> Result<Value, ValueFault>
     ensures ok { IfOk result (λ v. update_of heap.old dict.0 other ≡ Ok (v, heap.new)) }
     ensures fault { IfErr result (λ e. e ≢ ValueFault.Memory → update_of heap.old dict.0 other ≡ Err e) }
@@ -106,14 +95,28 @@ pub(crate) fn update(heap: &mut Heap, dict: DictId, other: Value) -> Result<Valu
 {
     match other {
         Value::Dict(other) => {
-            let merged = heap.merged_dict(dict, other)?;
-            let length = merged.len() as u64;
-            if length > LIST_LIMIT {
-                return Err(ValueFault::TooBig(length));
-            }
-            heap.replace_dict(dict, merged);
+            update_room(heap, dict, other)?;
+            heap.put_all(dict, other)?;
             Ok(Value::Nil)
         }
         _ => Err(ValueFault::Mismatch(Value::Dict(dict).kind(), other.kind())),
     }
+}
+
+/// Whether there is room in a dict for the keys of another one. Where both together have few enough, so has what they come to;
+/// else a copy tells.
+#[tactic(auto, using(crate::proofs::Updates::updates))]
+fn update_room(heap: &Heap, dict: DictId, other: DictId) -> Result<(), ValueFault>
+    ensures few { OnOk result (length (put_all (dict_at heap.now dict.0) (dict_at heap.now other.0)) ≤ LIST_LIMIT) }
+    ensures fault { IfErr result (λ e. e ≢ ValueFault.Memory → update_of heap.now dict.0 (Value.Dict other) ≡ Err e) }
+{
+    let most = (heap.dict_len(dict) as u64).saturating_add(heap.dict_len(other) as u64);
+    if most <= LIST_LIMIT {
+        return Ok(());
+    }
+    let length = heap.merged_dict(dict, other)?.len() as u64;
+    if length > LIST_LIMIT {
+        return Err(ValueFault::TooBig(length));
+    }
+    Ok(())
 }

@@ -7,7 +7,6 @@
 
 mod calls;
 mod dicts;
-mod iterables;
 mod lists;
 mod many;
 mod methods;
@@ -15,8 +14,4 @@ mod name;
 mod text_methods;
 
 pub use calls::method;
-pub use dicts::copied_dict;
-pub use iterables::{
-    iterable_bytes, iterable_items, iterable_length, iterable_texts, needed_length,
-};
 pub use name::{Name, has_method};

@@ -2,13 +2,15 @@
 ghost use Rattle.std.specs.Prelude.{◌≡◌, ◌≢◌, Ok, Err, IfOk, IfErr, OnErr};
 ghost use Rattle.py_methods.specs.Lists.{append_of, extended, extend_of, insert_of, insert_at, pop_at, pop_of, pop_last_of, remove_of, index_of, reverse_of, sort_of};
 
-use crate::iterables::{iterable_bytes, iterable_items, iterable_length, iterable_texts};
-use py_compare::{above_zero, place_of, sorted};
+use py_compare::{
+    above_zero, iterable_bytes, iterable_items, iterable_length, iterable_texts, place_of,
+    sorted_items,
+};
 use py_heap::{Budget, Heap, ListId, Value, ValueFault};
 use py_operators::{end_in, place_in};
 use scons_base::limits::LIST_LIMIT;
 
-#[tactic(auto, using(crate::proofs::Limits::limits))]
+#[tactic(auto, using(py_compare::proofs::Limits::limits))]
 pub(crate) fn append(heap: &mut Heap, list: ListId, item: Value) -> Result<Value, ValueFault>
     ensures ok { IfOk result (λ v. append_of heap.old list.0 item ≡ Ok (v, heap.new)) }
     ensures fault { IfErr result (λ e. e ≢ ValueFault.Memory → append_of heap.old list.0 item ≡ Err e) }
@@ -79,7 +81,7 @@ pub(crate) fn insert(
     }
 }
 
-#[tactic(auto, using(crate::proofs::Limits::limits))]
+#[tactic(auto, using(py_compare::proofs::Limits::limits))]
 fn insert_at(heap: &mut Heap, list: ListId, index: i64, item: Value) -> Result<Value, ValueFault>
     ensures ok { IfOk result (λ v. insert_at heap.old list.0 index item ≡ Ok (v, heap.new)) }
     ensures fault { IfErr result (λ e. e ≢ ValueFault.Memory → insert_at heap.old list.0 index item ≡ Err e) }
@@ -181,7 +183,7 @@ pub(crate) fn sort(heap: &mut Heap, budget: &mut Budget, list: ListId) -> Result
     ensures fault { IfErr result (λ e. e ≢ ValueFault.Memory → sort_of heap.old budget.old list.0 ≡ Err e) }
     ensures err { OnErr result (heap.new ≡ heap.old) }
 {
-    let items = sorted(heap, budget, heap.list_at(list))?;
+    let items = sorted_items(heap, budget, heap.list_at(list))?;
     heap.replace_list(list, items);
     Ok(Value::Nil)
 }

@@ -2,10 +2,11 @@
 ghost use Rattle.std.specs.Prelude.{◌≡◌, ◌≢◌, ◌+◌, Ok, Err, IfOk, IfErr, OnErr, ◌<◌, map, length};
 ghost use Rattle.py_text.specs.Splitting.{split_of, words_of};
 ghost use Rattle.py_heap.specs.Heap.{text_at, dict_at};
-ghost use Rattle.py_methods.specs.Many.{total_length, paid_texts, text_list, paid_pairs, pair_list, rows_of};
+ghost use Rattle.py_compare.specs.Iterables.{total_length};
+ghost use Rattle.py_methods.specs.Many.{paid_texts, text_list, paid_pairs, pair_list, pair_rows};
 
+use py_compare::entry_in;
 use py_heap::{Budget, DictId, Heap, TextId, Value, ValueFault, Values};
-use py_show::entry_in;
 use scons_base::limits::LIST_LIMIT;
 use scons_base::{Memory, Text};
 use std::alloc::Global;
@@ -106,8 +107,8 @@ fn copies_of(alloc: Global, texts: &[&str]) -> Result<Vec<Text>, Memory>
 
 /// A list of the pairs of a dict.
 pub(crate) fn pairs(heap: &mut Heap, budget: &mut Budget, dict: DictId) -> Result<Value, ValueFault>
-    ensures ok { IfOk result (λ v. pair_list heap.old budget.old (rows_of (dict_at heap.old dict.0)) ≡ Ok (v, heap.new, budget.new)) }
-    ensures fault { IfErr result (λ e. e ≢ ValueFault.Memory → pair_list heap.old budget.old (rows_of (dict_at heap.old dict.0)) ≡ Err e) }
+    ensures ok { IfOk result (λ v. pair_list heap.old budget.old (pair_rows (dict_at heap.old dict.0)) ≡ Ok (v, heap.new, budget.new)) }
+    ensures fault { IfErr result (λ e. e ≢ ValueFault.Memory → pair_list heap.old budget.old (pair_rows (dict_at heap.old dict.0)) ≡ Err e) }
     ensures err { OnErr result (heap.new ≡ heap.old) }
 {
     let made = pairs_paid(heap, budget, dict)?;
@@ -117,21 +118,21 @@ pub(crate) fn pairs(heap: &mut Heap, budget: &mut Budget, dict: DictId) -> Resul
 
 #[tactic(auto, using(crate::proofs::Pairs::pair_limits))]
 fn pairs_paid(heap: &Heap, budget: &mut Budget, dict: DictId) -> Result<Vec<Values>, ValueFault>
-    ensures ok { IfOk result (λ made. paid_pairs budget.old (rows_of (dict_at heap.now dict.0)) ≡ Ok (made.items, budget.new)) }
-    ensures fault { IfErr result (λ e. e ≢ ValueFault.Memory → paid_pairs budget.old (rows_of (dict_at heap.now dict.0)) ≡ Err e) }
+    ensures ok { IfOk result (λ made. paid_pairs budget.old (pair_rows (dict_at heap.now dict.0)) ≡ Ok (made.items, budget.new)) }
+    ensures fault { IfErr result (λ e. e ≢ ValueFault.Memory → paid_pairs budget.old (pair_rows (dict_at heap.now dict.0)) ≡ Err e) }
 {
     let count = heap.dict_len(dict) as u64;
     if count > LIST_LIMIT {
         return Err(ValueFault::TooBig(count));
     }
     budget.charge(3 * count)?;
-    let made = rows_of(heap, dict)?;
+    let made = pair_rows(heap, dict)?;
     Ok(made)
 }
 
 #[tactic(auto, using(crate::proofs::Pairs::pair_turns))]
-fn rows_of(heap: &Heap, dict: DictId) -> Result<Vec<Values>, Memory>
-    ensures { IfOk result (λ rows. rows.items ≡ rows_of (dict_at heap.now dict.0)) }
+fn pair_rows(heap: &Heap, dict: DictId) -> Result<Vec<Values>, Memory>
+    ensures { IfOk result (λ rows. rows.items ≡ pair_rows (dict_at heap.now dict.0)) }
 {
     let mut rows = Vec::new(heap.allocator());
     'places: for place in 0..heap.dict_len(dict) {

@@ -2,10 +2,11 @@
 ghost use Rattle.std.specs.Prelude.{◌≡◌, ◌≢◌, Ok, Err, IfOk, IfErr, OnErr};
 ghost use Rattle.py_methods.specs.Methods.{list_method, dict_method};
 
-use crate::dicts::{copied_dict, get, keys, setdefault, update, values};
+use crate::dicts::{get, keys, setdefault, update, values};
 use crate::lists::{append, extend, index, insert, pop, pop_last, remove, reverse, sort};
 use crate::many::pairs;
 use crate::name::Name;
+use py_compare::copied_dict;
 use py_heap::{Budget, DictId, Heap, ListId, Value, ValueFault};
 
 pub(crate) fn list_method(

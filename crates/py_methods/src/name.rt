@@ -1,3 +1,4 @@
+//! The names of methods.
 ghost use Rattle.std.specs.Prelude.{◌≡◌};
 ghost use Rattle.py_methods.specs.Names.{of_text, of_list, of_dict, has_method, takes};
 

@@ -262,12 +262,12 @@ fn join(
 {
     match parts {
         Value::List(list) => {
-            let made = joined(heap, budget, text, heap.list_at(list))?;
+            let made = joined_texts(heap, budget, text, heap.list_at(list))?;
             let value = heap.add_text(made)?;
             Ok(value)
         }
         Value::Tuple(tuple) => {
-            let made = joined(heap, budget, text, heap.tuple_at(tuple))?;
+            let made = joined_texts(heap, budget, text, heap.tuple_at(tuple))?;
             let value = heap.add_text(made)?;
             Ok(value)
         }
@@ -276,7 +276,7 @@ fn join(
 }
 
 #[tactic(auto, using(crate::proofs::MadeTexts::made_texts))]
-fn joined(
+fn joined_texts(
     heap: &Heap,
     budget: &mut Budget,
     text: TextId,

@@ -8,13 +8,14 @@ use Rattle.py_heap.specs.declared.value.Value.TheVariants as v
 use Rattle.py_heap.specs.declared.fault.ValueFault.{ValueFault}
 use Rattle.py_heap.specs.declared.fault.ValueFault.TheVariants as fault
 use Rattle.py_heap.specs.Heap.{Objects}
-use Rattle.py_heap.specs.Units.{Units, room, text_limit}
+use Rattle.scons_base.specs.declared.limits.TheConstants.{TEXT_LIMIT}
+use Rattle.py_heap.specs.Units.{Units, room}
 use Rattle.py_heap.proofs.Rooms.{room-told_length, room_passes}
 use Rattle.py_compare.specs.Outcomes.{then_by, paid_text}
-use Rattle.py_compare.specs.Equality.{level_limit}
-use Rattle.py_show.specs.Growing.{Growth, not_begun, grown}
-use Rattle.py_show.specs.Showing.{Shown, show_at, behind}
-use Rattle.py_show.proofs.Growths.{grow, grow_is, grow-behind, grow_nothing, told_of, show_told}
+use Rattle.py_compare.specs.declared.equal.TheConstants.{LEVEL_LIMIT}
+use Rattle.py_compare.specs.Growing.{Growth, not_begun, grown}
+use Rattle.py_compare.specs.Showing.{Shown, show_at, behind}
+use Rattle.py_compare.proofs.Growths.{grow, grow_is, grow-behind, grow_nothing, told_of, show_told}
 use Rattle.py_operators.specs.Remainders.{Filling, integer_shown, piece_onto, pieces_onto, filled}
 
 unfoldable filling_of : Filling (List ℕ) → Filling Growth
@@ -28,7 +29,7 @@ onto_told (Err e) xs = refl
 
 integer_told : (h : Objects) (t : List ℕ) (u : Units) (x : Value) → integer_shown grown h (grow t) u x ≡ told_of (integer_shown behind h t u x)
 unfolding told_of
-integer_told h t u (v.Int n) = show_told level_limit h false t u (v.Int n)
+integer_told h t u (v.Int n) = show_told LEVEL_LIMIT h false t u (v.Int n)
 integer_told h t u v.Nil = refl
 integer_told h t u (v.Bool b) = refl
 integer_told h t u (v.Text id) = refl
@@ -47,7 +48,7 @@ unfolding filling_of
 piece_told h t u (literal s) xs = ap (λ g. with_text xs u g) (sym (grow-behind t s))
 piece_told h t u percent xs = ap (λ g. with_text xs u g) (sym (grow-behind t (codes "%")))
 piece_told h t u any_value [] = refl
-piece_told h t u any_value (x ∷ xs) = ap (λ o. then_by o (λ s. Ok (xs, s.0, s.1))) (show_told level_limit h false t u x) ∙ onto_told (show_at behind level_limit h false t u x) xs
+piece_told h t u any_value (x ∷ xs) = ap (λ o. then_by o (λ s. Ok (xs, s.0, s.1))) (show_told LEVEL_LIMIT h false t u x) ∙ onto_told (show_at behind LEVEL_LIMIT h false t u x) xs
 piece_told h t u integer [] = refl
 piece_told h t u integer (x ∷ xs) = ap (λ o. then_by o (λ s. Ok (xs, s.0, s.1))) (integer_told h t u x) ∙ onto_told (integer_shown behind h t u x) xs
 
@@ -66,21 +67,21 @@ pieces_told h t u (p ∷ ps) xs =
     ∙ filled_then (piece_onto behind h t u p xs) (λ s. pieces_onto behind h s.1 s.2 ps s.0) (λ s. pieces_onto grown h s.1 s.2 ps s.0) (λ xs' t' u'. pieces_told h t' u' ps xs')
 
 -- the bytes that are charged for are all of the text, and it is kept where there is room for it
-paid_grow : (t : List ℕ) (u : Units) → room text_limit u (grow t).size ≡ room text_limit u (length t)
-paid_grow t u = ap (λ g. room text_limit u g.size) (grow_is t (nat_le (length t) text_limit) refl) ∙ room-told_length text_limit u (length t) (omega arith)
+paid_grow : (t : List ℕ) (u : Units) → room TEXT_LIMIT u (grow t).size ≡ room TEXT_LIMIT u (length t)
+paid_grow t u = ap (λ g. room TEXT_LIMIT u g.size) (grow_is t (nat_le (length t) TEXT_LIMIT) refl) ∙ room-told_length TEXT_LIMIT u (length t) (omega arith)
 
-kept_grow : (t : List ℕ) (u left : Units) → room text_limit u (length t) ≡ Ok left → (grow t).kept ≡ t
-kept_grow t u left e = by (nat_le (length t) text_limit) refl
+kept_grow : (t : List ℕ) (u left : Units) → room TEXT_LIMIT u (length t) ≡ Ok left → (grow t).kept ≡ t
+kept_grow t u left e = by (nat_le (length t) TEXT_LIMIT) refl
   where
-    by : (b : Bool) → nat_le (length t) text_limit ≡ b → (grow t).kept ≡ t
+    by : (b : Bool) → nat_le (length t) TEXT_LIMIT ≡ b → (grow t).kept ≡ t
     by true within = ap (λ g. g.kept) (grow_is t true within)
-    by false over = let passes = room_passes text_limit u (length t) (leb-false (length t) text_limit over) in absurd (cc)
+    by false over = let passes = room_passes TEXT_LIMIT u (length t) (leb-false (length t) TEXT_LIMIT over) in absurd (cc)
 
 module _ (h : Objects) (u : Units) (s : List ℕ) (ps : List FormatPiece) (xs : List Value) (read : pieces_of s ≡ Some ps) where
   told : (r : Shown Growth) → pieces_onto grown h not_begun u ps xs ≡ r → told_of (pieces_onto behind h [] u ps xs) ≡ r
   told r e = sym (pieces_told h [] u ps xs) ∙ ap (λ g. pieces_onto grown h g u ps xs) grow_nothing ∙ e
 
-  pub filled_paid : (g : Growth) (spent left : Units) → pieces_onto grown h not_begun u ps xs ≡ Ok (g, spent) → room text_limit spent g.size ≡ Ok left → filled h u s xs ≡ Ok (g.kept, left)
+  pub filled_paid : (g : Growth) (spent left : Units) → pieces_onto grown h not_begun u ps xs ≡ Ok (g, spent) → room TEXT_LIMIT spent g.size ≡ Ok left → filled h u s xs ≡ Ok (g.kept, left)
   unfolding told_of
   filled_paid g spent left e paid = rw read (by (pieces_onto behind h [] u ps xs) (told (Ok (g, spent)) e))
     where
@@ -89,13 +90,13 @@ module _ (h : Objects) (u : Units) (s : List ℕ) (ps : List FormatPiece) (xs : 
           let pair : ◌≡◌ {A = Growth × Units} (grow t.0, t.1) (g, spent) = cc in
           let same : grow t.0 ≡ g = ap (λ (z : Growth × Units). z.0) pair in
           let units : t.1 ≡ spent = ap (λ (z : Growth × Units). z.1) pair in
-          let there : room text_limit t.1 (length t.0) ≡ Ok left = sym (paid_grow t.0 t.1) ∙ ap (λ k. room text_limit t.1 k.size) same ∙ ap (λ k. room text_limit k g.size) units ∙ paid in
+          let there : room TEXT_LIMIT t.1 (length t.0) ≡ Ok left = sym (paid_grow t.0 t.1) ∙ ap (λ k. room TEXT_LIMIT t.1 k.size) same ∙ ap (λ k. room TEXT_LIMIT k g.size) units ∙ paid in
           let kept : t.0 ≡ g.kept = sym (kept_grow t.0 t.1 left there) ∙ ap (λ k. k.kept) same in
           let with_left : List ℕ → Shown (List ℕ) = λ k. Ok (k, left) in
           ap (λ c. then_by c (λ k. Ok (t.0, k))) there ∙ ap with_left kept
       by (Err k) p = absurd (cc)
 
-  pub filled_unpaid : (g : Growth) (spent : Units) (k : ValueFault) → pieces_onto grown h not_begun u ps xs ≡ Ok (g, spent) → room text_limit spent g.size ≡ Err k → filled h u s xs ≡ Err k
+  pub filled_unpaid : (g : Growth) (spent : Units) (k : ValueFault) → pieces_onto grown h not_begun u ps xs ≡ Ok (g, spent) → room TEXT_LIMIT spent g.size ≡ Err k → filled h u s xs ≡ Err k
   unfolding told_of
   filled_unpaid g spent k e unpaid = rw read (by (pieces_onto behind h [] u ps xs) (told (Ok (g, spent)) e))
     where
@@ -104,7 +105,7 @@ module _ (h : Objects) (u : Units) (s : List ℕ) (ps : List FormatPiece) (xs : 
           let pair : ◌≡◌ {A = Growth × Units} (grow t.0, t.1) (g, spent) = cc in
           let same : grow t.0 ≡ g = ap (λ (z : Growth × Units). z.0) pair in
           let units : t.1 ≡ spent = ap (λ (z : Growth × Units). z.1) pair in
-          let there : room text_limit t.1 (length t.0) ≡ Err k = sym (paid_grow t.0 t.1) ∙ ap (λ w. room text_limit t.1 w.size) same ∙ ap (λ w. room text_limit w g.size) units ∙ unpaid in
+          let there : room TEXT_LIMIT t.1 (length t.0) ≡ Err k = sym (paid_grow t.0 t.1) ∙ ap (λ w. room TEXT_LIMIT t.1 w.size) same ∙ ap (λ w. room TEXT_LIMIT w g.size) units ∙ unpaid in
           ap (λ c. then_by c (λ w. Ok (t.0, w))) there
       by (Err k') p = absurd (cc)
 

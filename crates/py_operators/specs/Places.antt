@@ -8,7 +8,8 @@ use Rattle.py_heap.specs.declared.fault.ValueFault.{ValueFault}
 use Rattle.py_heap.specs.declared.fault.ValueFault.TheVariants as fault
 use Rattle.py_heap.specs.Heap.{Objects, Entries, list_at, dict_at, with_list_at, with_dict_at}
 use Rattle.py_heap.specs.Dicts.{key_of, entry_at, put}
-use Rattle.py_heap.specs.Units.{limited, list_limit}
+use Rattle.scons_base.specs.declared.limits.TheConstants.{LIST_LIMIT}
+use Rattle.py_heap.specs.Units.{limited}
 use Rattle.py_compare.specs.Outcomes.{mismatch}
 
 -- the place that an index names in something of a length: from 0 on, or back from the end
@@ -57,7 +58,7 @@ set_in_list h id a i x = mismatch a i
 abbrev put_by : Objects → ℕ → Value → Value → Option Key → Result Objects ValueFault
 put_by h id given x None = Err fault.Key
 put_by h id given x (Some k) =
-    limited list_limit (length (put (dict_at h id) k given x)) (with_dict_at h id (put (dict_at h id) k given x))
+    limited LIST_LIMIT (length (put (dict_at h id) k given x)) (with_dict_at h id (put (dict_at h id) k given x))
 
 abbrev pub with_entry : Objects → ℕ → Value → Value → Result Objects ValueFault
 with_entry h id i x = put_by h id i x (key_of h i)

@@ -113,7 +113,11 @@ pub(crate) fn product(
 }
 
 /// The sign turned.
-pub fn negate(heap: &mut Heap, budget: &mut Budget, a: Value) -> Result<Value, ValueFault>
+pub(crate) fn negative_of(
+    heap: &mut Heap,
+    budget: &mut Budget,
+    a: Value,
+) -> Result<Value, ValueFault>
     ensures ok { IfOk result (λ v. negative_of heap.old budget.old a ≡ Ok (v, heap.new, budget.new)) }
     ensures fault { IfErr result (λ e. e ≢ ValueFault.Memory → negative_of heap.old budget.old a ≡ Err e) }
     ensures err { OnErr result (heap.new ≡ heap.old) }

@@ -14,7 +14,12 @@ use scons_base::Text;
 use std::alloc::Global;
 
 /// An item of a list or tuple, the item under a key of a dict, or a character of a text.
-pub fn index(heap: &mut Heap, budget: &mut Budget, a: Value, i: Value) -> Result<Value, ValueFault>
+pub(crate) fn indexed(
+    heap: &mut Heap,
+    budget: &mut Budget,
+    a: Value,
+    i: Value,
+) -> Result<Value, ValueFault>
     ensures ok { IfOk result (λ v. indexed heap.old budget.old a i ≡ Ok (v, heap.new, budget.new)) }
     ensures fault { IfErr result (λ e. e ≢ ValueFault.Memory → indexed heap.old budget.old a i ≡ Err e) }
     ensures err { OnErr result (heap.new ≡ heap.old) }
@@ -69,7 +74,7 @@ fn char_copied(
 }
 
 /// The items of a list or tuple, or the characters of a text, between two ends.
-pub fn slice(
+pub(crate) fn sliced(
     heap: &mut Heap,
     budget: &mut Budget,
     a: Value,

@@ -1,12 +1,13 @@
 //! Lists and tuples put together, and repeated.
 ghost use Rattle.std.specs.Prelude.{◌≡◌, ◌≢◌, ◌++◌, length, Ok, Err, IfOk, IfErr, OnErr};
 ghost use Rattle.std.specs.List.{repeat};
-ghost use Rattle.py_heap.specs.Units.{room, list_limit};
+ghost use Rattle.py_heap.specs.Units.{room};
 ghost use Rattle.py_heap.specs.Heap.{list_at, tuple_at};
 ghost use Rattle.py_compare.specs.Outcomes.{paid_items, new_list, new_tuple};
 ghost use Rattle.py_operators.specs.Joining.{times_of};
 
 use py_heap::{Budget, Heap, ListId, TupleId, Value, ValueFault, Values, list_room};
+use scons_base::limits::LIST_LIMIT;
 use std::alloc::Global;
 
 /// How many times an integer repeats.
@@ -18,7 +19,7 @@ pub(crate) fn times_of(number: i64) -> u64
 
 /// The items of two lists or tuples, once they are charged for.
 #[tactic(auto, using(crate::proofs::Lengths::lengths))]
-pub(crate) fn joined(
+pub(crate) fn joined_items(
     alloc: Global,
     budget: &mut Budget,
     items: &[Value],
@@ -39,7 +40,7 @@ pub(crate) fn joined(
 
 /// The items of a list or tuple so many times, once they are charged for.
 #[tactic(auto, using(crate::proofs::Lengths::lengths))]
-pub(crate) fn repeated(
+pub(crate) fn repeated_items(
     alloc: Global,
     budget: &mut Budget,
     items: &[Value],
@@ -70,7 +71,7 @@ pub(crate) fn join_lists(
     ensures fault { IfErr result (λ e. e ≢ ValueFault.Memory → new_list heap.old budget.old (list_at heap.old list.0 ++ list_at heap.old other.0) ≡ Err e) }
     ensures err { OnErr result (heap.new ≡ heap.old) }
 {
-    let made = joined(
+    let made = joined_items(
         heap.allocator(),
         budget,
         heap.list_at(list),
@@ -90,7 +91,7 @@ pub(crate) fn join_tuples(
     ensures fault { IfErr result (λ e. e ≢ ValueFault.Memory → new_tuple heap.old budget.old (tuple_at heap.old tuple.0 ++ tuple_at heap.old other.0) ≡ Err e) }
     ensures err { OnErr result (heap.new ≡ heap.old) }
 {
-    let made = joined(
+    let made = joined_items(
         heap.allocator(),
         budget,
         heap.tuple_at(tuple),
@@ -111,7 +112,7 @@ pub(crate) fn repeat_list(
     ensures fault { IfErr result (λ e. e ≢ ValueFault.Memory → new_list heap.old budget.old (repeat (times_of number) (list_at heap.old list.0)) ≡ Err e) }
     ensures err { OnErr result (heap.new ≡ heap.old) }
 {
-    let made = repeated(
+    let made = repeated_items(
         heap.allocator(),
         budget,
         heap.list_at(list),
@@ -131,7 +132,7 @@ pub(crate) fn repeat_tuple(
     ensures fault { IfErr result (λ e. e ≢ ValueFault.Memory → new_tuple heap.old budget.old (repeat (times_of number) (tuple_at heap.old tuple.0)) ≡ Err e) }
     ensures err { OnErr result (heap.new ≡ heap.old) }
 {
-    let made = repeated(
+    let made = repeated_items(
         heap.allocator(),
         budget,
         heap.tuple_at(tuple),

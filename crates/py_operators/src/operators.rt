@@ -8,8 +8,8 @@ use crate::remainders::rest;
 use py_compare::{is_constant, ordered, same, within};
 use py_heap::{Budget, Heap, Value, ValueFault};
 
-/// What an operator gives. `Contains` asks whether the first operand stands in the second.
-pub fn binary(
+/// What an operator gives.
+pub(crate) fn binary_of(
     heap: &mut Heap,
     budget: &mut Budget,
     op: Op,

@@ -1,8 +1,7 @@
 //! Places of lists and tuples, and keys of dicts.
 ghost use Rattle.std.specs.Prelude.{◌≡◌, ◌≢◌, ◌<◌, length, Ok, Err, IfOk, IfErr, OnErr, OnOk, IfSome};
-ghost use Rattle.py_operators.specs.Places.{place_in, item_in, item_at, keyed, set_of};
+ghost use Rattle.py_operators.specs.Places.{place_in, item_in, item_at, keyed, set_of, with_item, with_entry};
 ghost use Rattle.py_heap.specs.Heap.{dict_at};
-ghost use Rattle.py_operators.specs.Places.{with_item, with_entry};
 ghost use Rattle.py_heap.specs.Dicts.{length_with};
 ghost use Rattle.py_heap.specs.Units.{told_length};
 

@@ -3,12 +3,11 @@ ghost use Rattle.std.specs.Prelude.{◌≡◌, ◌≢◌, Ok, Err, Some, None, I
 ghost use Rattle.py_text.specs.Formatting.{pieces_of};
 ghost use Rattle.py_text.specs.Views.{plain_piece};
 ghost use Rattle.py_heap.specs.Heap.{text_at};
-ghost use Rattle.py_show.specs.Growing.{grown};
+ghost use Rattle.py_compare.specs.Growing.{grown};
 ghost use Rattle.py_operators.specs.Remainders.{integer_shown, piece_onto, pieces_onto, filled, values_in, format_of, rest_of};
 
-use py_compare::{LEVEL_LIMIT, floor_rem};
+use py_compare::{GrowingText, LEVEL_LIMIT, floor_rem, show_onto};
 use py_heap::{Budget, Heap, TextId, Value, ValueFault, text_room};
-use py_show::{GrowingText, show_onto};
 use py_text::{FormatFault, Piece};
 use scons_base::Text;
 use std::alloc::Global;

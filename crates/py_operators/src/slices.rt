@@ -1,6 +1,5 @@
 //! The ends of slices.
-ghost use Rattle.std.specs.Prelude.{◌≡◌, ◌≤◌};
-ghost use Rattle.std.specs.Prelude.{length};
+ghost use Rattle.std.specs.Prelude.{◌≡◌, ◌≤◌, length};
 ghost use Rattle.py_operators.specs.Slices.{end_in, from_in, to_in, slice_of};
 
 use py_heap::Value;

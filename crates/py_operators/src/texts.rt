@@ -12,7 +12,12 @@ use std::alloc::Global;
 
 /// Two texts in one, once they are charged for.
 #[tactic(auto, using(crate::proofs::TextLengths::text_lengths))]
-fn joined(alloc: Global, budget: &mut Budget, text: &str, other: &str) -> Result<Text, ValueFault>
+fn joined_text(
+    alloc: Global,
+    budget: &mut Budget,
+    text: &str,
+    other: &str,
+) -> Result<Text, ValueFault>
     ensures ok { IfOk result (λ made. paid_text budget.old (text.now ++ other.now) ≡ Ok (made, budget.new)) }
     ensures fault { IfErr result (λ e. e ≢ ValueFault.Memory → paid_text budget.old (text.now ++ other.now) ≡ Err e) }
 {
@@ -27,7 +32,12 @@ fn joined(alloc: Global, budget: &mut Budget, text: &str, other: &str) -> Result
 
 /// A text so many times in a row, once it is charged for.
 #[tactic(auto, using(crate::proofs::TextLengths::text_lengths))]
-fn repeated(alloc: Global, budget: &mut Budget, text: &str, times: u64) -> Result<Text, ValueFault>
+fn repeated_text(
+    alloc: Global,
+    budget: &mut Budget,
+    text: &str,
+    times: u64,
+) -> Result<Text, ValueFault>
     ensures ok { IfOk result (λ made. paid_text budget.old (repeated text.now times) ≡ Ok (made, budget.new)) }
     ensures fault { IfErr result (λ e. e ≢ ValueFault.Memory → paid_text budget.old (repeated text.now times) ≡ Err e) }
 {
@@ -49,7 +59,7 @@ pub(crate) fn join_texts(
     ensures fault { IfErr result (λ e. e ≢ ValueFault.Memory → new_text heap.old budget.old (text_at heap.old text.0 ++ text_at heap.old other.0) ≡ Err e) }
     ensures err { OnErr result (heap.new ≡ heap.old) }
 {
-    let made = joined(
+    let made = joined_text(
         heap.allocator(),
         budget,
         heap.text_at(text),
@@ -69,7 +79,7 @@ pub(crate) fn repeat_text(
     ensures fault { IfErr result (λ e. e ≢ ValueFault.Memory → new_text heap.old budget.old (repeated (text_at heap.old text.0) (times_of number)) ≡ Err e) }
     ensures err { OnErr result (heap.new ≡ heap.old) }
 {
-    let made = repeated(
+    let made = repeated_text(
         heap.allocator(),
         budget,
         heap.text_at(text),

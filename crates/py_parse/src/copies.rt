@@ -1,3 +1,4 @@
+//! Copies of tokens.
 ghost use Rattle.std.specs.Prelude.{◌≡◌, IfOk};
 
 use py_token::{Token, TokenKind};

@@ -1,3 +1,4 @@
+//! Why tokens are no script.
 ghost use Rattle.std.specs.Prelude.{◌≡◌};
 ghost use Rattle.py_parse.specs.declared.fault.ParseFault.TheVariants.{Memory};
 ghost use Rattle.py_parse.specs.Outside.{spelling_of};

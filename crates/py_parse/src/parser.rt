@@ -1,3 +1,4 @@
+//! Tokens, read as the syntax tree of a script.
 ghost use Rattle.std.specs.Prelude.{◌≡◌, ◌-◌, ℕ, length, slice_get, MatchResult};
 ghost use Rattle.py_tree.specs.Tree.{Tree};
 ghost use Rattle.py_parse.specs.declared.fault.ParseFault.TheVariants.{At};

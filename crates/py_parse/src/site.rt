@@ -1,3 +1,4 @@
+//! Where a statement stands.
 ghost use Rattle.std.specs.Prelude.{◌≡◌};
 ghost use Rattle.py_parse.specs.Grammar as grammar;
 

@@ -1,3 +1,4 @@
+//! Why reading stops.
 ghost use Rattle.std.specs.Prelude.{◌≡◌};
 ghost use Rattle.py_parse.specs.declared.stop.Stop.TheVariants as stop';
 

@@ -1,3 +1,4 @@
+//! What the grammar wants of a token.
 ghost use Rattle.std.specs.Prelude.{◌≡◌, false, MatchOption, nat_eq};
 ghost use Rattle.py_parse.specs.Terminals.{one, heads, is_of, keyword_number, mark_number};
 ghost use Rattle.py_parse.specs.Agrees.{Taken};

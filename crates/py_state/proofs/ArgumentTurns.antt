@@ -1,16 +1,14 @@
 -- Arguments and parameters, one after another.
 use Rattle.std.proofs.Common.{arith, ◌≡◌, ◌∙◌, ◌<◌, ◌≤◌, ◌+◌, ℕ, Bool, true, false, List, [], ◌∷◌, Option, Some, None, length, drop, get_or, ap, sym, refl, inl, inr}
-use Rattle.std.specs.Prelude.{slice_get}
+use Rattle.std.specs.Prelude.{slice_get, is_some, if◌then◌else◌}
 use Rattle.std.proofs.lemmas.List.{drop_more, drop_all}
 use Rattle.std.proofs.lemmas.Option.{slice_get_within, get_or_from_slice_get, slice_get_cases}
 use Rattle.py_heap.specs.declared.value.Value.{Value}
 use Rattle.py_host.specs.Names.{Names, value_of, with_name}
 use Rattle.py_host.specs.Calls.{Arguments}
 use Rattle.py_meaning.specs.States.{Parameter}
-use Rattle.std.specs.List.{list_any}
-use Rattle.std.specs.Str.{bytes_eq}
 use Rattle.py_meaning.specs.Arguments.{bound_onto, and_then, bind_first, all_known, bound}
-use Rattle.py_state.specs.Arguments.{taken_value}
+use Rattle.py_state.specs.Arguments.{taken_value, all_set}
 
 there : {X : Type 0} (xs : List X) (i : ℕ) (x : X) → slice_get xs i ≡ Some x → drop i xs ≡ x ∷ drop (i + 1) xs
 there xs i x s = drop_more xs i x (slice_get_within xs i x s) ∙ ap (λ y. y ∷ drop (i + 1) xs) (get_or_from_slice_get xs i x x s)
@@ -63,18 +61,32 @@ bound_long names [] (v ∷ vs) by l = refl
 bound_long names (p ∷ ps) [] by l = absurd (omega arith)
 bound_long names (p ∷ ps) (v ∷ vs) by l = and_none (bind_first names by p.name v) (λ more. bound_onto more ps vs by) (λ more. bound_long more ps vs by (omega arith))
 
-pub bound_longer : (ps : List Parameter) (given : Arguments) → all_known ps given.named ≡ true → length ps < length given.positional → None ≡ bound ps given
-bound_longer ps given e l = rw e (sym (bound_long [] ps given.positional given.named l))
+none_by : (b : Bool) (o : Option Names) → None ≡ o → None ≡ (if b then o else None)
+none_by true o e = e
+none_by false o e = refl
 
-pub bound_fits : (ps : List Parameter) (given : Arguments) (o : Option Names) → all_known ps given.named ≡ true → o ≡ bound_onto [] ps given.positional given.named → o ≡ bound ps given
-bound_fits ps given o e f = rw e f
+pub bound_longer : (ps : List Parameter) (given : Arguments) → length ps < length given.positional → None ≡ bound ps given
+bound_longer ps given l = none_by (all_known ps given.named) (bound_onto [] ps given.positional given.named) (sym (bound_long [] ps given.positional given.named l))
+
+pub bound_none : (ps : List Parameter) (given : Arguments) → None ≡ bound_onto [] ps given.positional given.named → None ≡ bound ps given
+bound_none ps given e = none_by (all_known ps given.named) (bound_onto [] ps given.positional given.named) e
+
+-- at the end all parameters have their values
+pub bound_whole : (ps : List Parameter) (given : Arguments) (names : Names) (i : ℕ) → length ps ≤ i → length given.positional ≤ length ps → bound_onto names (drop i ps) (drop i given.positional) given.named ≡ bound_onto [] ps given.positional given.named → bound_onto [] ps given.positional given.named ≡ Some names
+bound_whole ps given names i l k e = sym e ∙ rw (drop_all i ps l, drop_all i given.positional (omega arith)) refl
+
+pub bound_fits : (ps : List Parameter) (given : Arguments) (names : Names) → all_known ps given.named ≡ true → bound_onto [] ps given.positional given.named ≡ Some names → Some names ≡ bound ps given
+bound_fits ps given names e f = rw e (sym f)
+
+pub bound_unknown : (ps : List Parameter) (given : Arguments) → all_known ps given.named ≡ false → None ≡ bound ps given
+bound_unknown ps given e = rw e refl
 
 -- the arguments by name in turn
-pub known_turn : (ps : List Parameter) (by : Names) (i : ℕ) (e : List ℕ × Value) (whole : Bool) → slice_get by i ≡ Some e → list_any (λ (p : Parameter). bytes_eq e.0 p.name) ps ≡ true → all_known ps (drop i by) ≡ whole → all_known ps (drop (i + 1) by) ≡ whole
-known_turn ps by i e whole s t w = sym (ap (all_known ps) (there by i e s) ∙ rw t refl) ∙ w
+pub set_turn : (names by : Names) (i : ℕ) (e : List ℕ × Value) (whole : Bool) → slice_get by i ≡ Some e → is_some (value_of names e.0) ≡ true → all_set names (drop i by) ≡ whole → all_set names (drop (i + 1) by) ≡ whole
+set_turn names by i e whole s t w = sym (ap (all_set names) (there by i e s) ∙ rw t refl) ∙ w
 
-pub known_refused : (ps : List Parameter) (by : Names) (i : ℕ) (e : List ℕ × Value) (whole : Bool) → slice_get by i ≡ Some e → list_any (λ (p : Parameter). bytes_eq e.0 p.name) ps ≡ false → all_known ps (drop i by) ≡ whole → false ≡ whole
-known_refused ps by i e whole s t w = sym (ap (all_known ps) (there by i e s) ∙ rw t refl) ∙ w
+pub set_refused : (names by : Names) (i : ℕ) (e : List ℕ × Value) (whole : Bool) → slice_get by i ≡ Some e → is_some (value_of names e.0) ≡ false → all_set names (drop i by) ≡ whole → false ≡ whole
+set_refused names by i e whole s t w = sym (ap (all_set names) (there by i e s) ∙ rw t refl) ∙ w
 
-pub known_none : (ps : List Parameter) (by : Names) (i : ℕ) (whole : Bool) → slice_get by i ≡ None → all_known ps (drop i by) ≡ whole → all_known ps (drop (i + 1) by) ≡ whole
-known_none ps by i whole s w = ap (all_known ps) (none_after by i s ∙ sym (none_there by i s)) ∙ w
+pub set_none : (names by : Names) (i : ℕ) (whole : Bool) → slice_get by i ≡ None → all_set names (drop i by) ≡ whole → all_set names (drop (i + 1) by) ≡ whole
+set_none names by i whole s w = ap (all_set names) (none_after by i s ∙ sym (none_there by i s)) ∙ w

@@ -1,13 +1,10 @@
 //! Arguments and parameters.
 ghost use Rattle.std.specs.Prelude.{◌≡◌, IfOk, OnOk, map, slice_get};
-ghost use Rattle.std.specs.List.{list_any};
-ghost use Rattle.std.specs.Str.{bytes_eq};
 ghost use Rattle.py_host.specs.Names.{value_of};
 ghost use Rattle.py_host.specs.Calls.{arguments_of};
 ghost use Rattle.py_tree.specs.Tree.{trees, argument_tree};
-ghost use Rattle.py_meaning.specs.States.{Parameter};
-ghost use Rattle.py_meaning.specs.Arguments.{with_argument, arguments_by, all_known, bound};
-ghost use Rattle.py_state.specs.Arguments.{taken_value};
+ghost use Rattle.py_meaning.specs.Arguments.{with_argument, arguments_by, bound};
+ghost use Rattle.py_state.specs.Arguments.{taken_value, all_set};
 
 use crate::function::{Bindable, Function};
 use py_heap::Value;
@@ -50,9 +47,6 @@ pub fn bound(alloc: Global, function: &Function, args: &Args) -> Result<Option<S
 {
     let parameters = function.parameters.as_slice();
     let positional = args.positional.as_slice();
-    if !all_known(parameters, &args.named) {
-        return Ok(None);
-    }
     if parameters.len() < positional.len() {
         return Ok(None);
     }
@@ -62,6 +56,9 @@ pub fn bound(alloc: Global, function: &Function, args: &Args) -> Result<Option<S
             return Ok(None);
         };
         names.set(parameter.name.copy()?, value)?;
+    }
+    if !all_set(&names, &args.named) {
+        return Ok(None);
     }
     Ok(Some(names))
 }
@@ -76,7 +73,7 @@ fn value_at(values: &[Value], place: usize) -> Option<Value>
 fn taken_value(parameter: &Bindable, positional: Option<Value>, named: &Scope) -> Option<Value>
     ensures { result ≡ taken_value positional (value_of named.now parameter.now.name) parameter.now.default }
 {
-    match (positional, named.get(&parameter.name)) {
+    match (positional, named.get(parameter.name.as_str())) {
         (Some(_), Some(_)) => None,
         (Some(value), None) => Some(value),
         (None, Some(value)) => Some(value),
@@ -84,24 +81,18 @@ fn taken_value(parameter: &Bindable, positional: Option<Value>, named: &Scope) -
     }
 }
 
-/// Whether each argument by name names a parameter.
-fn all_known(parameters: &[Bindable], named: &Scope) -> bool
-    ensures { result ≡ all_known parameters.now named.now }
+/// Whether each argument by name has its name among those that were set.
+fn all_set(names: &Scope, named: &Scope) -> bool
+    ensures { result ≡ all_set names.now named.now }
 {
     'places: for place in 0..named.len() {
         if let Some((name, _)) = named.at(place) {
-            if !is_parameter(parameters, name) {
+            if names.get(name).is_none() {
                 return false;
             }
         }
     }
     true
-}
-
-fn is_parameter(parameters: &[Bindable], name: &Text) -> bool
-    ensures { result ≡ list_any (λ (p : Parameter). bytes_eq name.now p.name) parameters.now }
-{
-    parameters.iter().any(|parameter| *name == parameter.name)
 }
 
 /// A parameter, with the value of its default.

@@ -1,5 +1,5 @@
 //! Questions to the host that need global names.
-ghost use Rattle.std.specs.Prelude.{◌≡◌, ◌≤◌, [], Err, IfOk, slice_index_or};
+ghost use Rattle.std.specs.Prelude.{◌≡◌, [], Err, IfOk, slice_index_or};
 ghost use Rattle.py_host.specs.Calls.{called, script_done, answers, refuses, arguments_of, given_of};
 ghost use Rattle.py_state.specs.Stores.{store_of};
 
@@ -13,12 +13,13 @@ pub fn ask_call<H: Host>(
     machine: &mut Machine,
     host: &mut H,
     frame: &Frame,
+    line: u32,
     object: HostId,
     args: &Args,
 ) -> Result<Reply, HostRefusal>
-    ensures ok { IfOk result (λ reply. H.meaning.replies (called frame.now.values (slice_index_or machine.old.globals.items frame.now.script []) object.0 (arguments_of args.now)) host.old machine.old.heap (answers (given_of reply)) host.new machine.new.heap) }
-    ensures refused { result ≡ Err HostRefusal.Host → H.meaning.replies (called frame.now.values (slice_index_or machine.old.globals.items frame.now.script []) object.0 (arguments_of args.now)) host.old machine.old.heap refuses host.new machine.new.heap }
-    ensures later { H.meaning.refusals host.old ≤ H.meaning.refusals host.new }
+    ensures ok { IfOk result (λ reply. H.meaning.replies (called (record { script = frame.now.script; line = line }) frame.now.values (slice_index_or machine.old.globals.items frame.now.script []) object.0 (arguments_of args.now)) host.old machine.old.heap (answers (given_of reply)) host.new machine.new.heap) }
+    ensures refused { result ≡ Err HostRefusal.Host → H.meaning.replies (called (record { script = frame.now.script; line = line }) frame.now.values (slice_index_or machine.old.globals.items frame.now.script []) object.0 (arguments_of args.now)) host.old machine.old.heap refuses host.new machine.new.heap }
+    ensures keeps { H.meaning.keeps host.old host.new }
     ensures stays { store_of machine.new ≡ record (store_of machine.old) { objects = machine.new.heap } }
 {
     let no_names = Scope::new(machine.alloc);
@@ -26,7 +27,14 @@ pub fn ask_call<H: Host>(
         Some(globals) => globals,
         None => &no_names,
     };
-    host.call(&mut machine.heap, &frame.values, globals, object, args)
+    host.call(
+        &mut machine.heap,
+        frame.place(line),
+        &frame.values,
+        globals,
+        object,
+        args,
+    )
 }
 
 /// Tells that a script has ended.
@@ -37,7 +45,7 @@ pub fn ask_done<H: Host>(
 ) -> Result<Reply, HostRefusal>
     ensures ok { IfOk result (λ reply. H.meaning.replies (script_done (slice_index_or machine.old.globals.items script [])) host.old machine.old.heap (answers (given_of reply)) host.new machine.new.heap) }
     ensures refused { result ≡ Err HostRefusal.Host → H.meaning.replies (script_done (slice_index_or machine.old.globals.items script [])) host.old machine.old.heap refuses host.new machine.new.heap }
-    ensures later { H.meaning.refusals host.old ≤ H.meaning.refusals host.new }
+    ensures keeps { H.meaning.keeps host.old host.new }
     ensures stays { store_of machine.new ≡ record (store_of machine.old) { objects = machine.new.heap } }
 {
     let no_names = Scope::new(machine.alloc);

@@ -6,7 +6,7 @@ ghost use Rattle.py_meaning.specs.Lookup.{inner_value, set_inner};
 
 use crate::function::Function;
 use py_heap::Value;
-use py_host::Scope;
+use py_host::{Place, Scope};
 use scons_base::{Memory, Text};
 use std::alloc::Global;
 use std::marker::Model;
@@ -37,6 +37,16 @@ impl Model for Frame {
 }
 
 impl Frame {
+    /// A line of the script in which the place is.
+    pub fn place(&self, line: u32) -> Place
+        ensures { result ≡ record { script = self.now.script; line = line } }
+    {
+        Place {
+            script: self.script,
+            line,
+        }
+    }
+
     /// A script's own level.
     pub fn of_script(alloc: Global, script: u64) -> Frame
         ensures { result ≡ script_frame script }
@@ -115,7 +125,7 @@ fn innermost(inner: &[Scope], name: &Text) -> Option<Value>
     let mut left = inner.len();
     'names: while left > 0 {
         left -= 1;
-        if let Some(value) = inner[left].get(name) {
+        if let Some(value) = inner[left].get(name.as_str()) {
             return Some(value);
         }
     }

@@ -1,3 +1,4 @@
+//! Functions of scripts.
 use indexmap::IndexSet;
 use py_heap::Value;
 use py_tree::Line;

@@ -33,7 +33,7 @@ pub fn named<H: Host>(
 ) -> Result<Value, Stop>
     ensures ok { IfOk result (λ v. IsNamed H.meaning (found_in (state_of machine.now frame.now) name.now) name.now host.old v host.new) }
     ensures fault { IfErr result (IsUnnamed H.meaning (found_in (state_of machine.now frame.now) name.now) frame.now.script line name.now host.old host.new) }
-    ensures later { H.meaning.refusals host.old ≤ H.meaning.refusals host.new }
+    ensures keeps { H.meaning.keeps host.old host.new }
     ensures own { IfErr result (λ e. refusals_told e ≡ 0) }
 {
     match found_in(machine, frame, name) {
@@ -65,7 +65,7 @@ fn found_in(machine: &Machine, frame: &Frame, name: &Text) -> Found
     match &frame.function {
         Some(function) => {
             if function.locals.contains(name) {
-                match frame.values.get(name) {
+                match frame.values.get(name.as_str()) {
                     Some(value) => Found::Value(value),
                     None => Found::Unset,
                 }

@@ -93,7 +93,7 @@ impl Machine {
         ensures { result ≡ value_of (slice_index_or self.now.globals.items script []) name.now }
     {
         match self.globals.get(script as usize) {
-            Some(names) => names.get(name),
+            Some(names) => names.get(name.as_str()),
             None => None,
         }
     }
@@ -116,7 +116,7 @@ impl Machine {
         let place = script as usize;
         if place < self.globals.len() {
             let globals = &mut self.globals[place];
-            globals.set_all(names)?;
+            globals.set_all(self.alloc, names)?;
         }
         Ok(())
     }

@@ -4,8 +4,8 @@ ghost use Rattle.std.specs.Option.{option_map};
 ghost use Rattle.py_meaning.specs.Loops.{walk_of, next_of, unpacked, list_from, tuple_from, keys_from, text_from, char_from};
 ghost use Rattle.py_state.specs.Walks.{plain, told_next};
 
+use py_compare::{iterable_items, iterable_texts, needed_length};
 use py_heap::{DictId, Heap, ListId, TextId, TupleId, Value, ValueFault, Values};
-use py_methods::{iterable_items, iterable_texts, needed_length};
 use py_text::first_char;
 use scons_base::{Memory, Text};
 

@@ -55,12 +55,12 @@ checked_is l s (Err e) f g k u = refl
 
 pub item_is : (l : ℕ) (x i : Value) (s : State) (f g : Value → State → Plan) (k : Out → Plan) → ((y : Value) (s1 : State) → bind (f y s1) k ≡ g y s1) → bind (after_item l x i s f) k ≡ after_item l x i s g
 unfolding bind
-item_is l (v.Object id) i s f g k u = ap (λ (h : Value → State → Plan). asks (question.item id.0 i) s (place_at l s) h) (fun_ext (λ y. fun_ext (u y)))
+item_is l (v.Object id) i s f g k u = ap (λ (h : Value → State → Plan). asks (question.item (place_at l s) id.0 i) s (place_at l s) h) (fun_ext (λ y. fun_ext (u y)))
 item_is l x i s f g k u = checked_is l s (indexed s.objects s.units x i) (λ m. f m.0 (after_operation s m)) (λ m. g m.0 (after_operation s m)) k (λ m. u m.0 (after_operation s m))
 
 pub item_set_is : (l : ℕ) (x i y : Value) (s : State) (f g : State → Plan) (k : Out → Plan) → ((s1 : State) → bind (f s1) k ≡ g s1) → bind (after_item_set l x i y s f) k ≡ after_item_set l x i y s g
 unfolding bind
-item_set_is l (v.Object id) i y s f g k u = ap (λ (h : State → Plan). asks (question.set_item id.0 i y) s (place_at l s) (λ a s1. h s1)) (fun_ext u)
+item_set_is l (v.Object id) i y s f g k u = ap (λ (h : State → Plan). asks (question.set_item (place_at l s) id.0 i y) s (place_at l s) (λ a s1. h s1)) (fun_ext u)
 item_set_is l x i y s f g k u = checked_is l s (set_of s.objects x i y) (λ h. f (with_objects s h)) (λ h. g (with_objects s h)) k (λ h. u (with_objects s h))
 
 -- what stands before an index, and its key

@@ -9,7 +9,8 @@ use Rattle.py_heap.specs.declared.fault.ValueFault.{ValueFault}
 use Rattle.py_heap.specs.declared.fault.ValueFault.TheVariants as fault
 use Rattle.py_heap.specs.Heap.{Objects, Entries, dict_at, with_dict}
 use Rattle.py_heap.specs.Given.{given_dict, next_dict, with_pairs}
-use Rattle.py_heap.specs.Units.{Units, room, limited, list_limit, told_length}
+use Rattle.scons_base.specs.declared.limits.TheConstants.{LIST_LIMIT}
+use Rattle.py_heap.specs.Units.{Units, room, limited, told_length}
 use Rattle.py_meaning.specs.Plans.{Plan}
 use Rattle.py_meaning.specs.States.{Frame, goes_on, after_operation}
 use Rattle.py_meaning.specs.Expressions.{displayed, paired}
@@ -85,7 +86,7 @@ dict_unmade h u ps xs e p g = by (with_pairs h [] (paired xs)) refl
         rw t (ap (λ z. Err z) same)
     by (Some es) t =
         let w = rw t at told in
-        rw (t, no_room list_limit (length es) (next_dict h, with_dict h es) u e w) refl
+        rw (t, no_room LIST_LIMIT (length es) (next_dict h, with_dict h es) u e w) refl
 
 -- one that is made, and charged for then
 abbrev pub DictMade : Objects → Objects → List Value → Value → Type 0
@@ -101,7 +102,7 @@ dict_made h h1 ps xs x p g = by (with_pairs h [] (paired xs)) refl
     by None t = let w = rw t at told in absurd cc
     by (Some es) t =
         let w = rw t at told in
-        let pair : (next_dict h, with_dict h es) ≡ (x, h1) = within list_limit (length es) (next_dict h, with_dict h es) (x, h1) w in
+        let pair : (next_dict h, with_dict h es) ≡ (x, h1) = within LIST_LIMIT (length es) (next_dict h, with_dict h es) (x, h1) w in
         (es, t, sym (ap (λ (r : Value × Objects). r.0) pair), sym (ap (λ (r : Value × Objects). r.1) pair))
 
 pub is_dict : (h h1 : Objects) (ps : List (Value × Value)) (xs : List Value) (x : Value) → ps ≡ paired xs → given_dict h ps ≡ Ok (x, h1) → x ≡ next_dict h
@@ -115,21 +116,21 @@ dict_length h h1 xs x id w e =
     let same : id ≡ next = cc in
     ap (λ (o : Objects). length (dict_at o id.0)) w.3 ∙ ap (λ (i : DictId). length (dict_at (with_dict h w.0) i.0)) same ∙ ap length (get_or_push h.dicts w.0 [] (length h.dicts) refl)
 
-room_of : (h h1 : Objects) (u : Units) (xs : List Value) (x : Value) (id : DictId) (n : ℕ) (r : Result Units ValueFault) (w : DictMade h h1 xs x) → x ≡ v.Dict id → n ≡ length (dict_at h1 id.0) → room list_limit u n ≡ r → room list_limit u (length w.0) ≡ r
-room_of h h1 u xs x id n r w d l e = ap (room list_limit u) (sym (l ∙ dict_length h h1 xs x id w d)) ∙ e
+room_of : (h h1 : Objects) (u : Units) (xs : List Value) (x : Value) (id : DictId) (n : ℕ) (r : Result Units ValueFault) (w : DictMade h h1 xs x) → x ≡ v.Dict id → n ≡ length (dict_at h1 id.0) → room LIST_LIMIT u n ≡ r → room LIST_LIMIT u (length w.0) ≡ r
+room_of h h1 u xs x id n r w d l e = ap (room LIST_LIMIT u) (sym (l ∙ dict_length h h1 xs x id w d)) ∙ e
 
-unpaid_by : (h : Objects) (u : Units) (xs : List Value) (es : Entries) (e : ValueFault) → with_pairs h [] (paired xs) ≡ Some es → room list_limit u (length es) ≡ Err e → displayed h u xs ≡ Err e
+unpaid_by : (h : Objects) (u : Units) (xs : List Value) (es : Entries) (e : ValueFault) → with_pairs h [] (paired xs) ≡ Some es → room LIST_LIMIT u (length es) ≡ Err e → displayed h u xs ≡ Err e
 unpaid_by h u xs es e t r = rw (t, r) refl
 
-pub dict_unpaid : (h h1 : Objects) (u : Units) (ps : List (Value × Value)) (xs : List Value) (x : Value) (id : DictId) (n : ℕ) (e : ValueFault) → ps ≡ paired xs → given_dict h ps ≡ Ok (x, h1) → x ≡ v.Dict id → n ≡ length (dict_at h1 id.0) → room list_limit u n ≡ Err e → displayed h u xs ≡ Err e
+pub dict_unpaid : (h h1 : Objects) (u : Units) (ps : List (Value × Value)) (xs : List Value) (x : Value) (id : DictId) (n : ℕ) (e : ValueFault) → ps ≡ paired xs → given_dict h ps ≡ Ok (x, h1) → x ≡ v.Dict id → n ≡ length (dict_at h1 id.0) → room LIST_LIMIT u n ≡ Err e → displayed h u xs ≡ Err e
 dict_unpaid h h1 u ps xs x id n e p g d l r =
     let w = dict_made h h1 ps xs x p g in
     unpaid_by h u xs w.0 e w.1 (room_of h h1 u xs x id n (Err e) w d l r)
 
-paid_by : (h h1 : Objects) (u u1 : Units) (xs : List Value) (x : Value) (es : Entries) → with_pairs h [] (paired xs) ≡ Some es → room list_limit u (length es) ≡ Ok u1 → x ≡ next_dict h → h1 ≡ with_dict h es → displayed h u xs ≡ Ok (x, h1, u1)
+paid_by : (h h1 : Objects) (u u1 : Units) (xs : List Value) (x : Value) (es : Entries) → with_pairs h [] (paired xs) ≡ Some es → room LIST_LIMIT u (length es) ≡ Ok u1 → x ≡ next_dict h → h1 ≡ with_dict h es → displayed h u xs ≡ Ok (x, h1, u1)
 paid_by h h1 u u1 xs x es t r a b = rw (t, r, a, b) refl
 
-pub dict_paid : (h h1 : Objects) (u u1 : Units) (ps : List (Value × Value)) (xs : List Value) (x : Value) (id : DictId) (n : ℕ) → ps ≡ paired xs → given_dict h ps ≡ Ok (x, h1) → x ≡ v.Dict id → n ≡ length (dict_at h1 id.0) → room list_limit u n ≡ Ok u1 → displayed h u xs ≡ Ok (v.Dict id, h1, u1)
+pub dict_paid : (h h1 : Objects) (u u1 : Units) (ps : List (Value × Value)) (xs : List Value) (x : Value) (id : DictId) (n : ℕ) → ps ≡ paired xs → given_dict h ps ≡ Ok (x, h1) → x ≡ v.Dict id → n ≡ length (dict_at h1 id.0) → room LIST_LIMIT u n ≡ Ok u1 → displayed h u xs ≡ Ok (v.Dict id, h1, u1)
 dict_paid h h1 u u1 ps xs x id n p g d l r =
     let w = dict_made h h1 ps xs x p g in
     paid_by h h1 u u1 xs (v.Dict id) w.0 w.1 (room_of h h1 u xs x id n (Ok u1) w d l r) (sym d ∙ w.2) w.3

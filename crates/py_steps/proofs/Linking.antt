@@ -25,7 +25,7 @@ use Rattle.py_methods.specs.declared.name.Name.{Name}
 use Rattle.py_methods.specs.Names.{has_method}
 use Rattle.py_operators.specs.Indexing.{sliced}
 use Rattle.py_meaning.specs.declared.fault.EvalKind.TheVariants as kind
-use Rattle.py_meaning.specs.States.{State, Out, Fault, goes_on, after_operation}
+use Rattle.py_meaning.specs.States.{State, Out, Fault, goes_on, place_at, after_operation}
 use Rattle.py_meaning.specs.Jobs.{Callee, links, eval_all}
 use Rattle.py_meaning.specs.Jobs as job
 use Rattle.py_meaning.specs.Plans.{Plan, first, goes, faulty, on_value, on_values, after, after_optional, checked, asked_on, bind}
@@ -297,7 +297,7 @@ method_comes l n word o name v b ls x cl us args rest d d' s i e f w p g t h k r
     (call_comes l (Some name) args ts rest d d' s (ap (λ (y : List Argument). trees (map argument_tree y)) (sym r)) a))
 
 -- an attribute of an object
-pub attribute_is : (l : ℕ) (n : List ℕ) (rest : Tree) (x : Value) (id : HostId) (d : Desk) (s : State) → x ≡ top (values_of d) → x ≡ v.Object id → linked_at None (cons (attribute l n) rest) d s ≡ asked_on l (question.attribute id.0 n) s (λ y s1. first (links y (Some l) rest) s1 (in_place_at d))
+pub attribute_is : (l : ℕ) (n : List ℕ) (rest : Tree) (x : Value) (id : HostId) (d : Desk) (s : State) → x ≡ top (values_of d) → x ≡ v.Object id → linked_at None (cons (attribute l n) rest) d s ≡ asked_on l (question.attribute (place_at l s) id.0 n) s (λ y s1. first (links y (Some l) rest) s1 (in_place_at d))
 unfolding bind
 attribute_is l n rest x id d s e f = ap (λ (z : Value). bind (plan_links z None (cons (attribute l n) rest) s) (in_place_at d)) (sym e ∙ f)
 

@@ -10,9 +10,10 @@ use Rattle.py_operators.specs.Places.{set_of}
 use Rattle.py_host.specs.Calls.{answers, refuses}
 use Rattle.py_host.specs.Calls as question
 use Rattle.py_host.specs.Meaning.{Meaning}
+use Rattle.py_host.specs.declared.place.Place.{Place}
 use Rattle.py_host.specs.declared.refusal.HostRefusal.{HostRefusal}
 use Rattle.py_host.specs.declared.refusal.HostRefusal.TheVariants as refusal
-use Rattle.py_meaning.specs.States.{State, goes_on, with_objects}
+use Rattle.py_meaning.specs.States.{State, goes_on, place_at, with_objects}
 use Rattle.py_meaning.specs.Plans.{Plan, checked}
 use Rattle.py_meaning.specs.Evaluates.{asked}
 use Rattle.py_meaning.specs.Statements.{after_item_set}
@@ -31,14 +32,15 @@ pub leads_by : {H X : Type 0} (m : Meaning H) (c : ℕ) (p p' q q' : Plan) (h h2
 leads_by m c p p' q q' h h2 r e f g = subst (λ x. Leads m c x h r q' h2) (sym e) (subst (λ x. Leads m c p h r x h2) (sym f) g)
 
 -- an item of an object is the host's to set
-pub object_sets : {H : Type 0} (m : Meaning H) (c l : ℕ) (id : HostId) (base key x : Value) (s : State) (f : State → Plan) (h h2 : H) (o : Objects) → base ≡ v.Object id → m.replies (question.set_item id.0 key x) h s.objects (answers tt) h2 o → LeadsOn m c (after_item_set l base key x s f) h (f (with_objects s o)) h2
-object_sets m c l id base key x s f h h2 o e w =
-    subst (λ y. LeadsOn m c (after_item_set l y key x s f) h (f (with_objects s o)) h2) (sym e) (λ r h3 d. asked tt h2 o w d)
+pub object_sets : {H : Type 0} (m : Meaning H) (c l : ℕ) (id : HostId) (base key x : Value) (s : State) (f : State → Plan) (h h2 : H) (o : Objects) (at : Place) → at ≡ place_at l s → base ≡ v.Object id → m.replies (question.set_item at id.0 key x) h s.objects (answers tt) h2 o → LeadsOn m c (after_item_set l base key x s f) h (f (with_objects s o)) h2
+object_sets m c l id base key x s f h h2 o at here e w =
+    let set = subst (λ z. m.replies (question.set_item z id.0 key x) h s.objects (answers tt) h2 o) here w in
+    subst (λ y. LeadsOn m c (after_item_set l y key x s f) h (f (with_objects s o)) h2) (sym e) (λ r h3 d. asked tt h2 o set d)
 
-pub object_refuses : {H : Type 0} (m : Meaning H) (c l : ℕ) (id : HostId) (base key x : Value) (s : State) (f : State → Plan) (h h2 : H) (o : Objects) (e : HostRefusal) (stop : Stop) → base ≡ v.Object id → (e ≡ refusal.Host → m.replies (question.set_item id.0 key x) h s.objects refuses h2 o) → stop ≡ refusal_stop s.frame.script l e → Stops m c (after_item_set l base key x s f) h stop h2
-object_refuses m c l id base key x s f h h2 o e stop p w g =
+pub object_refuses : {H : Type 0} (m : Meaning H) (c l : ℕ) (id : HostId) (base key x : Value) (s : State) (f : State → Plan) (h h2 : H) (o : Objects) (at : Place) (e : HostRefusal) (stop : Stop) → at ≡ place_at l s → base ≡ v.Object id → (e ≡ refusal.Host → m.replies (question.set_item at id.0 key x) h s.objects refuses h2 o) → stop ≡ refusal_stop s.frame.script l e → Stops m c (after_item_set l base key x s f) h stop h2
+object_refuses m c l id base key x s f h h2 o at e stop here p w g =
     subst (λ y. Stops m c (after_item_set l y key x s f) h stop h2) (sym p)
-    (subst (λ z. Stops m c (after_item_set l (v.Object id) key x s f) h z h2) (sym g) (refusal_stops m c h h2 (question.set_item id.0 key x) l s (λ u s1. f s1) o e w))
+    (subst (λ z. Stops m c (after_item_set l (v.Object id) key x s f) h z h2) (sym g) (refusal_stops m c h h2 (question.set_item (place_at l s) id.0 key x) l s (λ u s1. f s1) o e (λ q. subst (λ z. m.replies (question.set_item z id.0 key x) h s.objects refuses h2 o) here (w q))))
 
 -- an item of another value isn't
 set_plainly : (l : ℕ) (base key x : Value) (s : State) (f : State → Plan) → NotObject base → after_item_set l base key x s f ≡ checked l s (set_of s.objects base key x) (λ h. f (with_objects s h))

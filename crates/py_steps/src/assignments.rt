@@ -201,7 +201,7 @@ pub fn load<H: Host>(
     desk: &mut Desk<'_>,
     line: u32,
 ) -> Result<(), Stop>
-    ensures later { H.meaning.refusals host.old ≤ H.meaning.refusals host.new }
+    ensures keeps { H.meaning.keeps host.old host.new }
     ensures leads { (c : ℕ) → Leads H.meaning c (left_with (Task.Load line) desk.old machine.old frame.now) host.old result (left_at desk.new machine.new frame.now) host.new }
 {
     let value = item(machine, host, frame, line, desk.second(), desk.top())?;
@@ -244,7 +244,7 @@ pub fn store_below<H: Host>(
     desk: &mut Desk<'_>,
     line: u32,
 ) -> Result<(), Stop>
-    ensures later { H.meaning.refusals host.old ≤ H.meaning.refusals host.new }
+    ensures keeps { H.meaning.keeps host.old host.new }
     ensures leads { (c : ℕ) → Leads H.meaning c (left_with (Task.StoreBelow line) desk.old machine.old frame.now) host.old result (left_at desk.new machine.new frame.now) host.new }
 {
     let key = desk.take();
@@ -261,7 +261,7 @@ pub fn store_above<H: Host>(
     desk: &mut Desk<'_>,
     line: u32,
 ) -> Result<(), Stop>
-    ensures later { H.meaning.refusals host.old ≤ H.meaning.refusals host.new }
+    ensures keeps { H.meaning.keeps host.old host.new }
     ensures leads { (c : ℕ) → Leads H.meaning c (left_with (Task.StoreAbove line) desk.old machine.old frame.now) host.old result (left_at desk.new machine.new frame.now) host.new }
 {
     let value = desk.take();
@@ -279,11 +279,17 @@ fn store<H: Host>(
     key: Value,
     value: Value,
 ) -> Result<(), Stop>
-    ensures later { H.meaning.refusals host.old ≤ H.meaning.refusals host.new }
+    ensures keeps { H.meaning.keeps host.old host.new }
     ensures leads { (c : ℕ) (f : State → Plan) → Leads H.meaning c (after_item_set line base key value (state_of machine.old frame.now) f) host.old result (f (state_of machine.new frame.now)) host.new }
 {
     match base {
-        Value::Object(object) => match host.set_index(&mut machine.heap, object, key, value) {
+        Value::Object(object) => match host.set_index(
+            &mut machine.heap,
+            frame.place(line),
+            object,
+            key,
+            value,
+        ) {
             Ok(()) => Ok(()),
             Err(refusal) => Err(refused(frame, line, refusal)),
         },

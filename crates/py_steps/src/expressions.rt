@@ -32,7 +32,7 @@ pub fn evaluate<'a, H: Host>(
     desk: &mut Desk<'a>,
     expr: &'a Expr,
 ) -> Result<(), Stop>
-    ensures later { H.meaning.refusals host.old ≤ H.meaning.refusals host.new }
+    ensures keeps { H.meaning.keeps host.old host.new }
     ensures leads { (c : ℕ) → Leads H.meaning c (left_with (Task.Evaluate expr.entry) desk.old machine.old frame.now) host.old result (left_at desk.new machine.new frame.now) host.new }
 {
     match expr {

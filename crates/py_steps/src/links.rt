@@ -4,7 +4,7 @@ ghost use Rattle.py_tree.specs.Tree.{cons, attribute, slice, trees, link_tree};
 ghost use Rattle.py_host.specs.Calls as question;
 ghost use Rattle.py_meaning.specs.Links.{after_item};
 ghost use Rattle.py_meaning.specs.Plans.{Plan, after_optional, asked_on};
-ghost use Rattle.py_meaning.specs.States.{State, goes_on};
+ghost use Rattle.py_meaning.specs.States.{State, goes_on, place_at};
 ghost use Rattle.py_state.specs.Stores.{Store, state_of, state_by};
 ghost use Rattle.py_steps.specs.Desks.{stacks_of, tasks_of, values_of, top};
 ghost use Rattle.py_steps.specs.Todos.{left, end_at, past, end_tree, with_end};
@@ -30,7 +30,7 @@ pub fn link<'a, H: Host>(
     links: &'a [Link],
     named: Option<u32>,
 ) -> Result<(), Stop>
-    ensures later { H.meaning.refusals host.old ≤ H.meaning.refusals host.new }
+    ensures keeps { H.meaning.keeps host.old host.new }
     ensures leads { (c : ℕ) → Leads H.meaning c (left_with (Task.Links links.entry named) desk.old machine.old frame.now) host.old result (left_at desk.new machine.new frame.now) host.new }
 {
     let Some((first, rest)) = links.split_first() else {
@@ -140,7 +140,7 @@ fn attribute_link<'a, H: Host>(
     name: &Text,
     rest: &'a [Link],
 ) -> Result<(), Stop>
-    ensures later { H.meaning.refusals host.old ≤ H.meaning.refusals host.new }
+    ensures keeps { H.meaning.keeps host.old host.new }
     ensures leads { (c : ℕ) → Leads H.meaning c (linked_at None (cons (attribute line name.now) (trees (map link_tree rest.now))) desk.old (state_of machine.old frame.now)) host.old result (left_at desk.new machine.new frame.now) host.new }
 {
     match desk.top() {
@@ -167,10 +167,10 @@ fn attribute<H: Host>(
     object: HostId,
     name: &Text,
 ) -> Result<Value, Stop>
-    ensures later { H.meaning.refusals host.old ≤ H.meaning.refusals host.new }
-    ensures leads { (c : ℕ) (f : Value → State → Plan) → Gives H.meaning c (asked_on line (question.attribute object.0 name.now) (state_of machine.old frame.now) f) host.old result f (state_of machine.new frame.now) host.new }
+    ensures keeps { H.meaning.keeps host.old host.new }
+    ensures leads { (c : ℕ) (f : Value → State → Plan) → Gives H.meaning c (asked_on line (question.attribute (place_at line (state_of machine.old frame.now)) object.0 name.now) (state_of machine.old frame.now) f) host.old result f (state_of machine.new frame.now) host.new }
 {
-    match host.attribute(&mut machine.heap, object, name.as_str()) {
+    match host.attribute(&mut machine.heap, frame.place(line), object, name.as_str()) {
         Ok(value) => Ok(value),
         Err(refusal) => Err(refused(frame, line, refusal)),
     }
@@ -212,11 +212,16 @@ pub fn item<H: Host>(
     base: Value,
     key: Value,
 ) -> Result<Value, Stop>
-    ensures later { H.meaning.refusals host.old ≤ H.meaning.refusals host.new }
+    ensures keeps { H.meaning.keeps host.old host.new }
     ensures leads { (c : ℕ) (f : Value → State → Plan) → Gives H.meaning c (after_item line base key (state_of machine.old frame.now) f) host.old result f (state_of machine.new frame.now) host.new }
 {
     match base {
-        Value::Object(object) => match host.index(&mut machine.heap, object, key) {
+        Value::Object(object) => match host.index(
+            &mut machine.heap,
+            frame.place(line),
+            object,
+            key,
+        ) {
             Ok(value) => Ok(value),
             Err(refusal) => Err(refused(frame, line, refusal)),
         },
@@ -234,7 +239,7 @@ pub fn indexed<H: Host>(
     desk: &mut Desk<'_>,
     line: u32,
 ) -> Result<(), Stop>
-    ensures later { H.meaning.refusals host.old ≤ H.meaning.refusals host.new }
+    ensures keeps { H.meaning.keeps host.old host.new }
     ensures leads { (c : ℕ) → Leads H.meaning c (left_with (Task.Index line) desk.old machine.old frame.now) host.old result (left_at desk.new machine.new frame.now) host.new }
 {
     let key = desk.take();

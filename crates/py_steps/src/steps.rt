@@ -30,7 +30,7 @@ pub fn step<'a, H: Host>(
     task: Task<'a>,
 ) -> Result<Flow, Stop>
     requires step { IsStep task }
-    ensures later { H.meaning.refusals host.old ≤ H.meaning.refusals host.new }
+    ensures keeps { H.meaning.keeps host.old host.new }
     ensures flows { (c : ℕ) → Flows H.meaning c (left_with task.entry desk.old machine.old frame.old) host.old result (left_at desk.new machine.new frame.new) host.new (state_of machine.new frame.new) }
 {
     match task {

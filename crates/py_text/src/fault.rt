@@ -1,3 +1,4 @@
+//! Why a text isn't read as a number or a format.
 ghost use Rattle.std.specs.Prelude.{◌≡◌};
 ghost use Rattle.py_text.specs.declared.fault.FormatFault.TheVariants.{Memory};
 

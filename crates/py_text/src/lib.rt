@@ -32,6 +32,3 @@ pub use quoting::{quoted, quoted_length};
 pub use replacing::{replaced, replaced_length};
 pub use splitting::{split, split_count, word_count, words};
 pub use stripping::{lstrip, rstrip, strip};
-
-#[cfg(test)]
-mod tests;

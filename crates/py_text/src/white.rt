@@ -1,3 +1,4 @@
+//! White space.
 ghost use Rattle.std.specs.Prelude.{◌≡◌};
 ghost use Rattle.py_text.specs.White.{is_white};
 

@@ -1,3 +1,4 @@
+//! The keywords of Python 3.
 ghost use Rattle.std.specs.Prelude.{◌≡◌, Some};
 ghost use Rattle.py_token.specs.Keywords.{word_of, keyword_of};
 

@@ -1,3 +1,4 @@
+//! The marks of Python 3: operators and delimiters.
 ghost use Rattle.std.specs.Prelude.{◌≡◌};
 ghost use Rattle.py_token.specs.Marks.{mark_text};
 

@@ -1,3 +1,4 @@
+//! A token and its kind.
 ghost use Rattle.std.specs.Prelude.{◌≡◌, ◌==◌, length};
 
 use crate::keyword::Keyword;

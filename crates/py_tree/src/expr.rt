@@ -1,3 +1,4 @@
+//! Expressions.
 use scons_base::Text;
 
 /// `True`, `False` and `None`.

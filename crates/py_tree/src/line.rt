@@ -1,3 +1,4 @@
+//! Statements: scripts, lines and blocks.
 use crate::expr::{Expr, Operator};
 use scons_base::Text;
 use std::rc::Rc;

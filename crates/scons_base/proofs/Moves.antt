@@ -40,15 +40,15 @@ parts_append (d ∷ ds) rest h = by (d == slash)
     by false = cut_append (d ∷ ds) rest
 
 -- a normal path that is neither `.` nor `/` is made of names
-names_of_normal : (path : List ℕ) → is_normal path ≡ true → is_top path ≡ false → is_root path ≡ false → list_all is_name (parts_of path) ≡ true
+pub names_of_normal : (path : List ℕ) → is_normal path ≡ true → is_top path ≡ false → is_root path ≡ false → list_all is_name (parts_of path) ≡ true
 names_of_normal path n t r = sym (rw (t, r) refl) ∙ n
 
-relative_root : (path : List ℕ) → is_absolute path ≡ false → (is_root path ≡ false) × (below_root path ≡ path)
+pub relative_root : (path : List ℕ) → is_absolute path ≡ false → (is_root path ≡ false) × (below_root path ≡ path)
 relative_root [] h = (refl, refl)
 relative_root (a ∷ []) h = (h, rw h refl)
 relative_root (a ∷ b ∷ bs) h = (refl, rw h refl)
 
-absolute_top : (path : List ℕ) → is_absolute path ≡ true → (is_top path ≡ false) × (below_root path ≡ drop 1 path)
+pub absolute_top : (path : List ℕ) → is_absolute path ≡ true → (is_top path ≡ false) × (below_root path ≡ drop 1 path)
 absolute_top [] h = absurd (false≢true h)
 absolute_top (a ∷ []) h = let e = eqb-true a slash h in (rw e refl, rw h refl)
 absolute_top (a ∷ b ∷ bs) h = (refl, rw h refl)

@@ -70,7 +70,7 @@ target_parts top dir text t d z =
     if_parts (is_from_top text) _ _ (walk_parts (walk [] top) (drop 1 text) at_top (cut_pass (λ b. not (b == 0)) 1 text z).1)
     (walk_parts (if is_absolute text then [] else place_of top dir) text (if_parts (is_absolute text) [] (place_of top dir) refl at_dir) z)
 
-both : (names : List (List ℕ)) → list_all is_part names ≡ true → (list_all is_name names ≡ true) × (list_all is_solid names ≡ true)
+pub both : (names : List (List ℕ)) → list_all is_part names ≡ true → (list_all is_name names ≡ true) × (list_all is_solid names ≡ true)
 both [] h = (refl, refl)
 both (name ∷ names) h =
     let k = and_parts (is_part name) (list_all is_part names) h in
@@ -201,6 +201,7 @@ pub record IsSound (text : List ℕ) : Type 0 where
   pub zero_free : is_zero_free text ≡ true
   pub normal : is_normal text ≡ true
   pub full : 0 < length text
+  pub fits : length text ≤ 4096
 
 sound_by : (text : List ℕ) (e : Bool) (o : Option ℕ) (long n : Bool) → (length text == 0) ≡ e → position (λ b. b == 0) text ≡ o → nat_lt 4096 (length text) ≡ long → is_normal text ≡ n
     → is_none (if e then Some Empty else by_zero text o long n) ≡ true → IsSound text
@@ -208,7 +209,7 @@ sound_by text true o long n f p l m h = absurd (true≢false (sym h))
 sound_by text false (Some k) long n f p l m h = absurd (true≢false (sym h))
 sound_by text false None true n f p l m h = absurd (true≢false (sym h))
 sound_by text false None false false f p l m h = absurd (true≢false (sym h))
-sound_by text false None false true f p l m h = record { zero_free = zero_free_from_position text p; normal = m; full = let k = eqb-false _ _ f in omega arith }
+sound_by text false None false true f p l m h = record { zero_free = zero_free_from_position text p; normal = m; full = let k = eqb-false _ _ f in omega arith; fits = ltb-false _ _ l }
 
 pub path_sound : (text : List ℕ) → IsTrue (is_path text) → IsSound text
 path_sound text h = sound_by text (length text == 0) (position (λ b. b == 0) text) (nat_lt 4096 (length text)) (is_normal text) refl refl refl refl (by_same text (position (λ b. b == 0) text) ∙ h)

@@ -1,6 +1,6 @@
 -- How a path text is read from a directory. A place in the tree of directories is the list of the names that lead to it
 -- from the root. The marks `#` and the choice of the normal form are this project's own.
-use Rattle.std.specs.Prelude.{ℕ, Bool, false, List, [], ◌∷◌, ◌++◌, ◌-◌, ◌==◌, ◌&&◌, nat_lt, Option, Some, None, length, take, drop, position, if◌then◌else◌}
+use Rattle.std.specs.Prelude.{◌≡◌, ℕ, Bool, false, List, [], ◌∷◌, ◌++◌, ◌-◌, ◌==◌, ◌&&◌, nat_lt, Option, Some, None, length, take, drop, position, if◌then◌else◌}
 use Rattle.std.specs.List.{slice_split, starts_with}
 use Rattle.std.specs.Str.{bytes_eq}
 use Rattle.scons_base.specs.declared.fault.PathFault.{PathFault}
@@ -69,9 +69,19 @@ abbrev pub spelled : List (List ℕ) → List (List ℕ) → List ℕ
 spelled top place =
     if starts_with bytes_eq place top then relative_text (drop (length top) place) else absolute_text place
 
+-- the one spelling of a path, where the top directory has the absolute path `top`
+abbrev pub spelling : List ℕ → List ℕ → List ℕ
+spelling top path = spelled (walk [] top) (place_of top path)
+
 -- the path that a text names, read from the directory `dir`, where the top directory has the absolute path `top`
 abbrev pub resolved : List ℕ → List ℕ → List ℕ → List ℕ
 resolved top dir text = spelled (walk [] top) (target top dir text)
+
+-- a path that `resolve` may give: it is its own one spelling, and, read as a text from the top directory, it names itself,
+-- unless it begins with a `#`, which would count as the mark
+pub record IsResolved (top path : List ℕ) : Type 0 where
+  pub spelling : spelling top path ≡ path
+  pub named : is_from_top path ≡ false → resolved top (dot ∷ []) path ≡ path
 
 abbrev pub fault_of_length : List ℕ → Option PathFault
 fault_of_length path = if nat_lt 4096 (length path) then Some (TooLong (length path)) else None

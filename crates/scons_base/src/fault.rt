@@ -1,3 +1,4 @@
+//! Why a text is no path.
 ghost use Rattle.std.specs.Prelude.{◌≡◌};
 ghost use Rattle.scons_base.specs.declared.fault.PathFault.TheVariants.{Memory};
 

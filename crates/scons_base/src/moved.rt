@@ -49,7 +49,8 @@ fn lead_len(dir: &str) -> usize
     }
 }
 
-fn joined(alloc: Global, dir: &str, rest: &str) -> Result<String, Memory>
+/// The text of what lies below a directory, by what stands behind the directory.
+pub fn joined(alloc: Global, dir: &str, rest: &str) -> Result<String, Memory>
     ensures { IfOk result (λ s. string_bytes s ≡ joined dir.now rest.now) }
 {
     let mut text = String::new(alloc);

@@ -1,3 +1,4 @@
+//! Path texts in normal form.
 ghost use Rattle.std.specs.Prelude.{nat_eq, position, ◌≡◌, ◌≢◌, ◌==◌, List, ℕ, None, Some, IfOk, IfErr, IsTrue, string_bytes};
 ghost use Rattle.std.specs.List.{slice_split, list_all};
 ghost use Rattle.std.specs.Hash as fed;

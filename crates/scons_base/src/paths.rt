@@ -1,3 +1,4 @@
+//! A list of paths.
 ghost use Rattle.std.specs.Prelude.{◌≡◌, List, ℕ, ◌++◌, ◌∷◌, [], IfOk, OnOk, OnErr, IsTrue, ◌↔◌, Contains};
 
 use crate::memory::Memory;

@@ -22,6 +22,7 @@ impl PathText {
         text: &str,
     ) -> Result<PathText, PathFault>
         ensures path { IfOk result (λ p. p ≡ spec.resolved top.now dir.now text.now) }
+        ensures again { IfOk result (λ p. spec.IsResolved top.now p) }
         ensures no_fault { IfOk result (λ _. spec.resolve_fault top.now dir.now text.now ≡ None) }
         ensures fault { IfErr result (λ e. e ≢ PathFault.Memory
             → spec.resolve_fault top.now dir.now text.now ≡ Some e) }
@@ -38,6 +39,28 @@ impl PathText {
         }
         Ok(PathText::normal(normal))
     }
+
+    /// The one spelling of this path where the top directory has the absolute path `top`: relative at the top directory
+    /// and below it, absolute elsewhere.
+    pub fn spelled(&self, top: &PathText) -> Result<PathText, Memory>
+        ensures path { IfOk result (λ p. p ≡ spec.spelling top.now self.now) }
+        ensures again { IfOk result (λ p. spec.IsResolved top.now p) }
+    {
+        let path = self.normal_text();
+        if !is_absolute(path.as_bytes()) {
+            return self.copy();
+        }
+        Ok(PathText::normal(spelling(self.allocator(), top.normal_text(), path)?))
+    }
+}
+
+fn spelling(alloc: Global, top: &str, path: &str) -> Result<String, Memory>
+    ensures { IfOk result (λ s. string_bytes s ≡ spec.spelling top.now path.now) }
+{
+    let mut top_place = Vec::new(alloc);
+    walk(&mut top_place, top)?;
+    let place = place_of(alloc, top, path)?;
+    spelled(alloc, top_place.as_slice(), place.as_slice())
 }
 
 fn resolved(alloc: Global, top: &str, dir: &str, text: &str) -> Result<String, Memory>
@@ -80,8 +103,16 @@ fn start<'a>(
         ≡ (if is_absolute text.now then [] else spec.place_of top.now dir.now)) }
 {
     if is_absolute(text.as_bytes()) {
-        return Ok(Vec::new(alloc));
+        Ok(Vec::new(alloc))
+    } else {
+        place_of(alloc, top, dir)
     }
+}
+
+/// The place of a path: a relative one counts from the top directory.
+fn place_of<'a>(alloc: Global, top: &'a str, dir: &'a str) -> Result<Vec<&'a str>, Memory>
+    ensures { IfOk result (λ v. map (λ x. x.now) v.items ≡ spec.place_of top.now dir.now) }
+{
     let mut place = Vec::new(alloc);
     if !is_absolute(dir.as_bytes()) {
         walk(&mut place, top)?;

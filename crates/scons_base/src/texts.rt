@@ -1,3 +1,4 @@
+//! A list of texts.
 ghost use Rattle.std.specs.Prelude.{◌≡◌, List, ℕ, ◌++◌, ◌∷◌, [], IfOk, OnOk, OnErr, IsTrue, ◌↔◌};
 
 use crate::memory::Memory;

@@ -6,10 +6,10 @@ mod real_world;
 #[cfg(test)]
 mod tests;
 
+use one_rule::scons;
 use real_sink::RealSink;
 use real_world::RealWorld;
 use scons_base::Text;
-use scons_top::scons;
 use std::alloc::Global;
 use std::env::Env;
 use std::process::ExitCode;

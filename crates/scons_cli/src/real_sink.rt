@@ -1,3 +1,4 @@
+//! A standard stream as a sink.
 ghost use Rattle.std.specs.Prelude.{[]};
 
 use std::io::Write;

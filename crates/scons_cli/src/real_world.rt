@@ -1,3 +1,4 @@
+//! The real files and the real shell.
 ghost use Rattle.std.specs.Prelude.{◌≡◌, ◌≢◌, ◌<◌, ◌≤◌, ℕ, [], None, length, IfOk, IfErr, IfSome};
 
 use scons_base::{Blob, PathText, Text};

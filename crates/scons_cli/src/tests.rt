@@ -1,3 +1,4 @@
+//! The real world and the real sink, each tried once.
 use crate::real_sink::RealSink;
 use crate::real_world::RealWorld;
 use scons_base::{PathText, Paths, Text, Texts};

@@ -1,6 +1,7 @@
+//! Runs with one fault each.
 use crate::trial::{CLEAR, Trial, tried};
+use one_rule::{ReadKind, Top, UsageKind};
 use scons_base::PathText;
-use scons_top::{ReadKind, Top, UsageKind};
 use std::alloc::Global;
 use std::test::Fail;
 

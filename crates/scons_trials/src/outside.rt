@@ -1,8 +1,8 @@
 //! Each call of the outside that fails, in turn.
 
 use crate::trial::{CLEAR, Seen, Trial, tried};
+use one_rule::Top;
 use scons_base::PathText;
-use scons_top::Top;
 use std::alloc::Global;
 use std::test::Fail;
 use world_mem::Call;

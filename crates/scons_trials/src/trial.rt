@@ -1,5 +1,6 @@
+//! A run that is tried, and what stands in its way.
+use one_rule::{Report, scons};
 use scons_base::{Blob, Memory, PathText, Text, Texts};
-use scons_top::{Report, scons};
 use std::alloc::Global;
 use std::test::Fail;
 use world_api::World;

@@ -1,3 +1,4 @@
+//! Runs that build.
 use crate::trial::{CLEAR, Trial, files_of, tried, tried_over};
 use scons_base::{Blob, PathText};
 use std::test::Fail;

@@ -1,4 +1,6 @@
 //! What a line of the table asks for.
+use crate::held::{added, apart, defaults, initial, named, taken};
+use crate::parts::{put_forms, put_full, put_parts};
 use crate::rule::tell;
 use crate::trial::Trial;
 use crate::values::value;
@@ -17,11 +19,47 @@ pub(crate) fn answer(alloc: Global, trial: &mut Trial, line: &str) -> Option<Str
         "subst" => trial.forms(rest, text_of(alloc, rest)?.as_str()),
         "many" => trial.forms(rest, many_of(alloc, rest)?.as_str()),
         "dirs" => trial.dirs(rest),
+        "added" => added(alloc, rest),
+        "taken" => taken(alloc, text_of(alloc, rest)?.as_str()),
+        "named" => named(alloc, text_of(alloc, rest)?.as_str()),
+        "default" => defaults(alloc, text_of(alloc, rest)?.as_str()),
+        "initial" => initial(alloc, rest),
+        "apart" => apart(alloc),
+        "parts" => parts(alloc, rest),
+        "pieces" => pieces(alloc, rest),
+        "full" => full(alloc),
+        "libs" => trial.libs(),
+        "lines" => trial.lines(rest, text_of(alloc, rest)?.as_str()),
+        "path" => trial.path(rest, text_of(alloc, rest)?.as_str()),
         _ => {
             prepare(alloc, trial, verb, rest)?;
             Some(String::new(alloc))
         }
     }
+}
+
+/// The parts of a text.
+fn parts(alloc: Global, rest: &str) -> Option<String> {
+    let mut line = format!(in alloc; "{rest}|").ok()?;
+    put_parts(&mut line, text_of(alloc, rest)?.as_str())?;
+    line.push_str("|\n").ok()?;
+    Some(line)
+}
+
+/// The forms of pieces.
+fn pieces(alloc: Global, rest: &str) -> Option<String> {
+    let mut line = String::from_str(alloc, rest).ok()?;
+    put_forms(alloc, &mut line, text_of(alloc, rest)?.as_str())?;
+    line.push_str("|\n").ok()?;
+    Some(line)
+}
+
+/// What is taken where three bytes are left.
+fn full(alloc: Global) -> Option<String> {
+    let mut line = String::from_str(alloc, "full").ok()?;
+    put_full(alloc, &mut line)?;
+    line.push_str("|\n").ok()?;
+    Some(line)
 }
 
 /// Does a line that prints nothing.
@@ -30,6 +68,10 @@ fn prepare(alloc: Global, trial: &mut Trial, verb: &str, rest: &str) -> Option<(
         "set" => {
             let (name, value) = named_value(alloc, rest)?;
             trial.set(name.as_str(), value)
+        }
+        "given" => {
+            let (name, value) = named_value(alloc, rest)?;
+            trial.give(name.as_str(), value)
         }
         "overlay" => {
             let (name, value) = named_value(alloc, rest)?;
@@ -63,6 +105,10 @@ fn set_chain(alloc: Global, trial: &mut Trial, count: u32) -> Option<()> {
 fn text_of(alloc: Global, field: &str) -> Option<String> {
     let text = field.replace(alloc, "\\t", "\t").ok()?;
     let text = text.as_str().replace(alloc, "\\n", "\n").ok()?;
+    let text = text.as_str().replace(alloc, "\\z", "\0").ok()?;
+    let text = text.as_str().replace(alloc, "\\v", "\u{b}").ok()?;
+    let text = text.as_str().replace(alloc, "\\f", "\u{c}").ok()?;
+    let text = text.as_str().replace(alloc, "\\r", "\r").ok()?;
     text.as_str().replace(alloc, "\\s", " ").ok()
 }
 

@@ -1,6 +1,6 @@
 //! What answers show.
-use env_subst::SubstFault;
-use scons_base::Paths;
+use env_subst::{LibItem, SubstFault};
+use scons_base::{Listing, Paths, Texts};
 
 /// The length from which on a form shows only how many bytes it has.
 const LONG: usize = 200;
@@ -52,4 +52,40 @@ fn put_paths(line: &mut String, paths: &Paths) -> Option<()> {
         put_text(line, path.as_str())?;
     }
     Some(())
+}
+
+/// Each line behind a `|`.
+pub(crate) fn put_texts(line: &mut String, forms: Result<Texts, SubstFault>) -> Option<()> {
+    match forms {
+        Ok(texts) => {
+            for text in texts.as_slice() {
+                put_text(line, text.as_str())?;
+            }
+            Some(())
+        }
+        Err(fault) => put_fault(line, fault),
+    }
+}
+
+/// Each library behind a `|`, a node in angle brackets.
+pub(crate) fn put_libs(
+    line: &mut String,
+    found: Result<Listing<LibItem>, SubstFault>,
+) -> Option<()> {
+    match found {
+        Ok(items) => {
+            for item in items.as_slice() {
+                put_lib(line, item)?;
+            }
+            Some(())
+        }
+        Err(fault) => put_fault(line, fault),
+    }
+}
+
+fn put_lib(line: &mut String, item: &LibItem) -> Option<()> {
+    match item {
+        LibItem::Name(name) => put_text(line, name.as_str()),
+        LibItem::Node(path) => write!(line, "|<{}>", path.as_str()).ok(),
+    }
 }

@@ -1,8 +1,9 @@
+//! An environment, a rule, and what is asked of them.
 ghost use Rattle.std.specs.Prelude.{◌<◌, length};
 
 use crate::rule::plain_rule;
-use crate::shown::{put_dirs, put_form};
-use env_subst::{Locals, Mode, dirs, subst};
+use crate::shown::{put_dirs, put_form, put_libs, put_texts};
+use env_subst::{Locals, Mode, dirs, lib_names, lines, path_text, subst};
 use env_vars::{EnvValue, Envs};
 use scons_base::{EnvId, Text};
 use std::alloc::Global;
@@ -34,6 +35,12 @@ impl Trial {
         self.envs.set(self.env, name, value).ok()
     }
 
+    /// Sets a variable to what is meant where the value is given to a clone or to one call.
+    pub(crate) fn give(&mut self, name: &str, value: EnvValue) -> Option<()> {
+        let value = self.envs.given(self.env, name, value).ok()?;
+        self.set(name, value)
+    }
+
     /// From here on the environment is an overlay with this variable.
     pub(crate) fn overlay(&mut self, name: Text, value: EnvValue) -> Option<()> {
         let mut names = Vec::new(self.alloc);
@@ -63,6 +70,41 @@ impl Trial {
         let mut line = String::from_str(self.alloc, name).ok()?;
         let found = dirs(self.alloc, &self.envs, self.env, name, &self.locals);
         put_dirs(&mut line, found)?;
+        line.push_str("|\n").ok()?;
+        Some(line)
+    }
+
+    /// The items of `LIBS`.
+    pub(crate) fn libs(&self) -> Option<String> {
+        let mut line = String::from_str(self.alloc, "LIBS").ok()?;
+        put_libs(
+            &mut line,
+            lib_names(self.alloc, &self.envs, self.env, &self.locals),
+        )?;
+        line.push_str("|\n").ok()?;
+        Some(line)
+    }
+
+    /// A command's text as the table has it, and then its lines as text and signed.
+    pub(crate) fn lines(&self, field: &str, text: &str) -> Option<String> {
+        let mut line = String::from_str(self.alloc, field).ok()?;
+        self.put_lines(&mut line, text, Mode::Text)?;
+        line.push_str("|signed").ok()?;
+        self.put_lines(&mut line, text, Mode::Signed)?;
+        line.push_str("|\n").ok()?;
+        Some(line)
+    }
+
+    fn put_lines(&self, line: &mut String, text: &str, mode: Mode) -> Option<()> {
+        let forms = lines(self.alloc, &self.envs, self.env, text, &self.locals, mode);
+        put_texts(line, forms)
+    }
+
+    /// The text of a path.
+    pub(crate) fn path(&self, field: &str, text: &str) -> Option<String> {
+        let mut line = String::from_str(self.alloc, field).ok()?;
+        let form = path_text(self.alloc, &self.envs, self.env, text, &self.locals);
+        put_form(&mut line, form)?;
         line.push_str("|\n").ok()?;
         Some(line)
     }

@@ -1,7 +1,7 @@
 //! How the table writes values: `nil`, `true`, `false`, a number `7`, a text `'a b'`, a word list `w[a,b]`, a list
 //! `['a b',7,<n.c>,A=1,B]` of a text, a number, a path and pairs with a value and without one, and a dict `{A:7,B:'x'}`.
-use env_vars::{EnvValue, Item, Items, Pairs};
-use scons_base::{PathText, Text, Texts};
+use env_vars::{EnvValue, Item};
+use scons_base::{Listing, PathText, Text, Texts};
 use std::alloc::Global;
 
 /// The value that is written so.
@@ -40,15 +40,15 @@ fn words_in(alloc: Global, text: &str) -> Option<Texts> {
     Some(Texts::new(words))
 }
 
-fn items_in(alloc: Global, text: &str) -> Option<Items> {
+fn items_in(alloc: Global, text: &str) -> Option<Listing<Item>> {
     let mut items = Vec::new(alloc);
     for part in text.split_terminator(',') {
         items.push(item(alloc, part)?).ok()?;
     }
-    Some(Items::new(items))
+    Some(Listing::new(items))
 }
 
-fn pairs_in(alloc: Global, text: &str) -> Option<Pairs> {
+fn pairs_in(alloc: Global, text: &str) -> Option<Listing<(Text, Item)>> {
     let mut pairs = Vec::new(alloc);
     for part in text.split_terminator(',') {
         let (name, value) = part.split_once(':')?;
@@ -56,7 +56,7 @@ fn pairs_in(alloc: Global, text: &str) -> Option<Pairs> {
             .push((Text::of(alloc, name).ok()?, item(alloc, value)?))
             .ok()?;
     }
-    Some(Pairs::new(pairs))
+    Some(Listing::new(pairs))
 }
 
 fn item(alloc: Global, text: &str) -> Option<Item> {

@@ -1,11 +1,12 @@
 -- Variant directories: each with the directory of its sources, and whether the sources are copied into it. The chapter
 -- on variant directories of the SCons User Guide tells what they are for; which of them may stand beside each other is
 -- this project's own.
-use Rattle.std.specs.Prelude.{◌≡◌, Bool, true, false, not, ℕ, List, [], ◌∷◌, ◌++◌, ◌&&◌, ◌||◌, Option, Some, None, if◌then◌else◌}
+use Rattle.std.specs.Prelude.{◌≡◌, Bool, true, false, not, ℕ, List, [], ◌∷◌, ◌++◌, ◌&&◌, ◌||◌, Option, Some, None, ⊤, if◌then◌else◌}
 use Rattle.std.specs.List.{list_any, find}
-use Rattle.std.specs.Option.{option_to_list}
+use Rattle.std.specs.Option.{option_to_list, option_map}
 use Rattle.std.specs.Str.{bytes_eq}
 use Rattle.scons_base.specs.Parts.{is_below, lies_in, moved_path}
+use Rattle.scons_base.specs.Resolve.{spelling, IsResolved}
 use Rattle.scons_base.specs.declared.fault.PathFault.{PathFault}
 use Rattle.variant_dirs.specs.declared.variants.Variant.{Variant}
 use Rattle.variant_dirs.specs.declared.fault.VariantFault.{VariantFault}
@@ -15,22 +16,28 @@ use Rattle.variant_dirs.specs.declared.fault.VariantFault.TheVariants.{Nested, T
 abbrev pub variant_of : List Variant → List ℕ → Option Variant
 variant_of variants path = find (λ v. lies_in path v.dir) variants
 
--- the path in the source directory that stands for a path in a variant directory
-abbrev pub source_in : List ℕ → Option Variant → Option (List ℕ)
-source_in path (Some v) = moved_path path v.dir v.source
-source_in path None = None
+-- the path in the source directory that stands for a path in a variant directory, in its one spelling where the top
+-- directory has the absolute path `top`
+abbrev pub source_in : List ℕ → List ℕ → Option Variant → Option (List ℕ)
+source_in top path (Some v) = option_map (spelling top) (moved_path path v.dir v.source)
+source_in top path None = None
 
 -- the source of a path, taken once: none where the path lies in no variant directory or its source would be too long
-abbrev pub source_of : List Variant → List ℕ → Option (List ℕ)
-source_of variants path = source_in path (variant_of variants path)
+abbrev pub source_of : List Variant → List ℕ → List ℕ → Option (List ℕ)
+source_of variants top path = source_in top path (variant_of variants path)
 
-abbrev pub uncopied_in : List ℕ → Option Variant → List (List ℕ)
-uncopied_in path (Some v) = if v.duplicate then [] else option_to_list (moved_path path v.dir v.source)
-uncopied_in path None = []
+-- a path that is found is its own one spelling
+abbrev pub IsSpelled : List ℕ → Option (List ℕ) → Type 0
+IsSpelled top None = ⊤
+IsSpelled top (Some path) = IsResolved top path
+
+abbrev pub uncopied_in : List ℕ → List ℕ → Option Variant → List (List ℕ)
+uncopied_in top path (Some v) = if v.duplicate then [] else option_to_list (source_in top path (Some v))
+uncopied_in top path None = []
 
 -- where a path is looked for: at itself, and then, where sources aren't copied, at its source
-abbrev pub searched : List Variant → List ℕ → List (List ℕ)
-searched variants path = path ∷ uncopied_in path (variant_of variants path)
+abbrev pub searched : List Variant → List ℕ → List ℕ → List (List ℕ)
+searched variants top path = path ∷ uncopied_in top path (variant_of variants path)
 
 -- whether this very variant directory is there
 abbrev pub is_there : List Variant → List ℕ → List ℕ → Bool → Bool

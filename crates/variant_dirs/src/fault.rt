@@ -1,3 +1,4 @@
+//! Why a variant directory is not added.
 use scons_base::{Memory as NoMemory, PathFault};
 
 /// Why a variant directory isn't added, or a name isn't searched.

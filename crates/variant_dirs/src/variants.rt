@@ -1,3 +1,4 @@
+//! The variant directories of a project.
 ghost use Rattle.std.specs.Prelude.{◌≡◌, IfOk};
 
 use crate::fault::VariantFault;
@@ -16,6 +17,9 @@ pub struct Variant {
 }
 
 impl Variant {
+    ghost use Rattle.std.specs.Prelude.{Some};
+    ghost use Rattle.variant_dirs.specs.Variants.{source_in, IsSpelled};
+
     pub fn copy(&self) -> Result<Variant, Memory>
         ensures { IfOk result (λ v. v ≡ self.now) }
     {
@@ -24,6 +28,17 @@ impl Variant {
             source: self.source.copy()?,
             duplicate: self.duplicate,
         })
+    }
+
+    /// The source of a path in this variant directory, in its one spelling.
+    fn source_of(&self, top: &PathText, path: &PathText) -> Result<Option<PathText>, Memory>
+        ensures path { IfOk result (λ p. p ≡ source_in top.now path.now (Some self.now)) }
+        ensures spelled { IfOk result (IsSpelled top.now) }
+    {
+        match path.moved(&self.dir, &self.source)? {
+            Some(source) => Ok(Some(source.spelled(top)?)),
+            None => Ok(None),
+        }
     }
 }
 
@@ -45,8 +60,8 @@ impl Model for Variants {
 impl Variants {
     ghost use Rattle.std.specs.Prelude.{◌≡◌, ◌≢◌, ◌++◌, ◌∷◌, [], None, Some, IfOk, IfErr, OnOk, OnErr, option_copied};
     ghost use Rattle.std.specs.Option.{option_to_list};
-    ghost use Rattle.scons_base.specs.Resolve.{resolved, resolve_fault};
-    ghost use Rattle.variant_dirs.specs.Variants.{variant_of, source_of, uncopied_in, searched, add_fault, added, IsBadName};
+    ghost use Rattle.scons_base.specs.Resolve.{spelling, resolved, resolve_fault};
+    ghost use Rattle.variant_dirs.specs.Variants.{variant_of, source_of, uncopied_in, searched, add_fault, added, IsBadName, IsSpelled};
 
     pub fn new(alloc: Global) -> Variants
         ensures { result ≡ [] }
@@ -119,13 +134,14 @@ impl Variants {
         variant_of(self.variants.as_slice(), path)
     }
 
-    /// The source of a path, taken once. There is none where the path lies in no variant directory, or where its
-    /// source would be too long for a path.
-    pub fn source_of(&self, path: &PathText) -> Result<Option<PathText>, Memory>
-        ensures { IfOk result (λ p. p ≡ source_of self.now path.now) }
+    /// The source of a path, taken once, in its one spelling where `top` is the top directory. There is none where the path
+    /// lies in no variant directory, or where its source would be too long for a path.
+    pub fn source_of(&self, top: &PathText, path: &PathText) -> Result<Option<PathText>, Memory>
+        ensures path { IfOk result (λ p. p ≡ source_of self.now top.now path.now) }
+        ensures spelled { IfOk result (IsSpelled top.now) }
     {
         match self.variant_of(path) {
-            Some(variant) => path.moved(&variant.dir, &variant.source),
+            Some(variant) => variant.source_of(top, path),
             None => Ok(None),
         }
     }
@@ -133,7 +149,7 @@ impl Variants {
     /// Where a name is looked for that stands in the directory `dir`: the path that it names, and then, in a variant
     /// directory without copies, the source of that path.
     pub fn search(&self, top: &PathText, dir: &PathText, name: &str) -> Result<Paths, VariantFault>
-        ensures ok { IfOk result (λ p. p ≡ searched self.now (resolved top.now dir.now name.now)) }
+        ensures ok { IfOk result (λ p. p ≡ searched self.now top.now (resolved top.now dir.now name.now)) }
         ensures no_fault { IfOk result (λ _. resolve_fault top.now dir.now name.now ≡ None) }
         ensures fault { IfErr result (λ e. e ≢ VariantFault.Memory
             → IsBadName (resolve_fault top.now dir.now name.now) e) }
@@ -144,14 +160,21 @@ impl Variants {
             Err(PathFault::Memory) => return Err(VariantFault::Memory),
             Err(fault) => return Err(VariantFault::BadName(fault)),
         };
-        Ok(self.searched(path)?)
+        Ok(self.with_source(top, path)?)
     }
 
-    /// Where a path is looked for: at itself, and then, in a variant directory without copies, at its source.
-    pub fn searched(&self, path: PathText) -> Result<Paths, Memory>
-        ensures { IfOk result (λ p. p ≡ searched self.now path) }
+    /// Where a path is looked for, in its one spelling: at itself, and then, in a variant directory without copies, at its
+    /// source.
+    pub fn searched(&self, top: &PathText, path: &PathText) -> Result<Paths, Memory>
+        ensures { IfOk result (λ p. p ≡ searched self.now top.now (spelling top.now path.now)) }
     {
-        let source = self.uncopied_source(&path)?;
+        self.with_source(top, path.spelled(top)?)
+    }
+
+    fn with_source(&self, top: &PathText, path: PathText) -> Result<Paths, Memory>
+        ensures { IfOk result (λ p. p ≡ searched self.now top.now path) }
+    {
+        let source = self.uncopied_source(top, &path)?;
         let mut paths = Paths::new(Vec::new(*self.variants.allocator()));
         paths.push(path)?;
         if let Some(source) = source {
@@ -160,11 +183,11 @@ impl Variants {
         Ok(paths)
     }
 
-    fn uncopied_source(&self, path: &PathText) -> Result<Option<PathText>, Memory>
-        ensures { IfOk result (λ p. option_to_list p ≡ uncopied_in path.now (variant_of self.now path.now)) }
+    fn uncopied_source(&self, top: &PathText, path: &PathText) -> Result<Option<PathText>, Memory>
+        ensures { IfOk result (λ p. option_to_list p ≡ uncopied_in top.now path.now (variant_of self.now path.now)) }
     {
         match self.variant_of(path) {
-            Some(variant) if !variant.duplicate => path.moved(&variant.dir, &variant.source),
+            Some(variant) if !variant.duplicate => variant.source_of(top, path),
             _ => Ok(None),
         }
     }

@@ -1,3 +1,4 @@
+//! Actions, jobs and how they end.
 ghost use Rattle.std.specs.Prelude.{◌≡◌, IfOk};
 
 use crate::lines::Lines;

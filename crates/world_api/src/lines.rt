@@ -1,3 +1,4 @@
+//! The lines of an action.
 ghost use Rattle.std.specs.Prelude.{◌≡◌, IfOk};
 
 use crate::job::Line;

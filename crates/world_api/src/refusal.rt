@@ -1,3 +1,4 @@
+//! Why the outside does not do what it is asked.
 ghost use Rattle.std.specs.Prelude.{◌≡◌};
 
 use scons_base::Memory;

@@ -1,3 +1,4 @@
+//! Where text is printed.
 ghost use Rattle.std.specs.Prelude.{◌≡◌, ◌<◌, ◌≤◌, ◌++◌, length, IfOk, OnOk, OnErr};
 ghost use Rattle.world_api.specs.Printed.{SinkMeaning, taken};
 ghost use Rattle.world_api.specs.Causes.{Rose};

@@ -1,3 +1,4 @@
+//! Files, and jobs that make files.
 ghost use Rattle.std.specs.Prelude.{◌≡◌, ◌≢◌, ◌<◌, ◌≤◌, List, ℕ, [], Some, None, length, IfOk, IfErr, IfSome, OnOk, OnErr, Contains};
 ghost use Rattle.world_api.specs.Around.{IsRunningTarget, IsUnused};
 ghost use Rattle.world_api.specs.Calls.{Asks, Removes, CanStart, IsOpen, Starts, Ends};

@@ -1,3 +1,4 @@
+//! How often each call was made, and which are to fail.
 ghost use Rattle.std.specs.Prelude.{◌≡◌, IsTrue, ◌↔◌, Contains};
 ghost use Rattle.world_mem.specs.declared.calls.Call.{Call};
 ghost use Rattle.world_mem.specs.CallCounts.{count_of, counted, IsListed};

@@ -1,3 +1,4 @@
+//! What happened, with the counts of then.
 use world_api::{Job, Outcome};
 
 /// How often the outside was at fault, since the world was made.

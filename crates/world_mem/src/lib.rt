@@ -24,6 +24,3 @@ pub use refusal::NewRefusal;
 pub use sink::MemSink;
 pub use table::{ActRow, ActTable, Made};
 pub use world::MemWorld;
-
-#[cfg(test)]
-mod tests;

@@ -1,3 +1,4 @@
+//! Why a world is not made.
 use scons_base::Memory;
 
 /// Why a world wasn't made: the file at this place is listed twice, or lies below or above one before it.

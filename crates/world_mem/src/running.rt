@@ -1,3 +1,4 @@
+//! A job that runs.
 ghost use Rattle.std.specs.Prelude.{◌≡◌, IfOk};
 
 use crate::contents::Contents;

@@ -1,3 +1,4 @@
+//! A sink in memory.
 ghost use Rattle.std.specs.Prelude.{◌≡◌, ◌≢◌, ◌+◌, ◌*◌, ◌-◌, ◌^◌, min, ◌<◌, ◌≤◌, ◌⊎◌, ◌↔◌, ℕ, List, [], ◌++◌, Ok, Err, length, IfOk, OnOk, OnErr, IsTrue, Contains, vec_len};
 ghost use Rattle.std.specs.Vec.{vec_capacity};
 

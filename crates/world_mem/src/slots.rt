@@ -1,3 +1,4 @@
+//! The tree as it is kept: a slot for each path.
 ghost use Rattle.std.specs.Prelude.{◌≡◌, List, ℕ, None, Some, IsTrue, ◌↔◌, IfOk, IfErr, OnOk, OnErr, if◌then◌else◌, IsSome, ◌<◌, length};
 ghost use Rattle.std.specs.Option.{option_copied, is_some};
 ghost use Rattle.std.specs.List.{slice_index_or};

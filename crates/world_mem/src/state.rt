@@ -1,3 +1,4 @@
+//! What stands in a world in memory.
 ghost use Rattle.std.specs.Prelude.{◌≡◌, ◌+◌, ◌<◌, ◌≤◌, ℕ, List, Some, IsTrue, Contains, vec_len, IfOk, IfErr, map, []};
 ghost use Rattle.std.specs.List.{slice_index_or, list_any};
 ghost use Rattle.std.specs.Str.{bytes_eq};

@@ -1,3 +1,4 @@
+//! What actions make, by a table.
 ghost use Rattle.std.specs.Prelude.{◌≡◌, List};
 ghost use Rattle.std.specs.Option.{option_copied};
 ghost use Rattle.world_mem.specs.Table.{fits, row_for};

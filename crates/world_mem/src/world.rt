@@ -1,3 +1,4 @@
+//! A world in memory, which keeps the clauses of `World`.
 ghost use Rattle.std.specs.Prelude.{◌≡◌, ◌≢◌, ◌++◌, ◌+◌, ◌*◌, ◌%◌, ◌<◌, ◌≤◌, ℕ, List, [], Some, None, Ok, Err, length, map, slice_index, IfOk, IfErr, IfSome, OnOk, OnErr, IsTrue, Contains, ◌↔◌, ◌⊎◌, pos};
 ghost use Rattle.std.specs.Option.{option_copied};
 ghost use Rattle.std.specs.List.{slice_index_or};

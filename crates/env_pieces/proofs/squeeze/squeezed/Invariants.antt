@@ -2,7 +2,7 @@ use Rattle.std.proofs.Common.{◌≡◌, length, string_bytes}
 use Rattle.std.specs.Prelude.{fold}
 use denote.Shadow.{shadow}
 use denote.Text.{Utf8}
-use Rattle.env_vars.specs.Words.{words_of}
+use Rattle.env_text.specs.White.{words_of}
 use Rattle.env_pieces.specs.Forms.{put_word, squeezed}
 use Rattle.env_pieces.proofs.squeeze.squeezed.Given as goal
 

@@ -6,6 +6,6 @@ use Rattle.env_subst.proofs.calls.affix.Goals as goal
 pub returns : goal.returns
 returns c =
     let l = c.args.setting.now.locals.now in
-    affix_step (setting_of c.args.setting.now) (tasks_of l c.args.desk.now.tasks.tasks.items) (tasks_of l c.push.new.stack.tasks.items) (tasks_of l c.push-2.new.stack.tasks.items) (tasks_of l c.push-3.new.stack.tasks.items)
+    affix_step (setting_of c.args.setting.now) (tasks_of l c.args.desk.now.tasks.tasks.items) (tasks_of l c.push_middle.new.stack.tasks.items) (tasks_of l c.push.new.stack.tasks.items)
     c.args.desk.now.names c.args.desk.now.pieces c.args.desk.now.references c.args.call (plain l c.args.middle) (c.requires c.args.desk.now.names)
-    ((c.in_ok-push.ensures {u = tt}) l) ((c.in_ok-push-2.ensures {u = tt}) l) ((c.in_ok-push-3.ensures {u = tt}) l)
+    ((c.in_ok-push_middle.ensures {u = tt}) l) ((c.in_ok-push.ensures {u = tt}) l)

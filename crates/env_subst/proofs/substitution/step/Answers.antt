@@ -2,6 +2,7 @@ use Rattle.std.proofs.Common.{ap}
 use Rattle.env_subst.specs.Settings.{setting_of}
 use Rattle.env_subst.specs.Desks.{tasks_of, resumes}
 use Rattle.env_subst.proofs.Doing.{put_leads}
+use Rattle.env_subst.proofs.CallSteps.{all_put}
 use Rattle.env_subst.proofs.substitution.step.Goals as goal
 
 pub returns-in-Put : goal.returns-in-Put
@@ -27,10 +28,17 @@ pub returns-in-Items : goal.returns-in-Items
 returns-in-Items c = rw c.in-Items.is c.more_items.ensures
 
 pub returns-in-Dirs : goal.returns-in-Dirs
-returns-in-Dirs c = rw c.in-Dirs.is c.more_dirs.ensures
+returns-in-Dirs c = rw c.in-Dirs.is c.put_dirs.ensures
 
-pub returns-in-Directory : goal.returns-in-Directory
-returns-in-Directory c = rw c.in-Directory.is c.put_read.ensures
+pub returns-in-Apart : goal.returns-in-Apart
+returns-in-Apart c = rw c.in-Apart.is c.put_read.ensures
+
+pub returns-in-PutAll : goal.returns-in-PutAll
+returns-in-PutAll c =
+    let l = c.args.setting.now.locals.now in
+    let d = c.args.desk.now in
+    rw c.in-PutAll.is (all_put (setting_of c.args.setting.now) (tasks_of l d.tasks.tasks.items) d.names d.pieces c.put_all.new.pieces d.references
+    c.in-PutAll.pieces.items c.as_slice.result.now c.put_all.result c.as_slice.ensures.value c.put_all.ensures.ok c.put_all.ensures.fault)
 
 pub returns-in-Close : goal.returns-in-Close
 returns-in-Close c =

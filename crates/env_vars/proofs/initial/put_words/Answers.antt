@@ -1,6 +1,6 @@
 use Rattle.std.proofs.Common.{List, [], ◌∷◌, ℕ, Bor, filter}
 use Rattle.env_vars.specs.declared.value.EnvValue.TheVariants as value
-use Rattle.env_vars.specs.Words.{is_word}
+use Rattle.env_text.specs.White.{is_word}
 use Rattle.env_vars.proofs.VarLemmas.{row_more}
 use Rattle.env_vars.proofs.initial.put_words.Goals as goal
 

@@ -1,7 +1,7 @@
 use Rattle.std.proofs.Common.{◌≡◌, [], ◌∷◌, map, take, filter}
 use Rattle.env_vars.specs.declared.value.EnvValue.TheVariants as value
 use Rattle.env_vars.specs.Vars.{put_all}
-use Rattle.env_vars.specs.Words.{is_word}
+use Rattle.env_text.specs.White.{is_word}
 use Rattle.env_vars.proofs.initial.put_words.Given as goal
 
 abbrev pub invariant-loop-name : goal.invariant-loop-name

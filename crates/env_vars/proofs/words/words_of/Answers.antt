@@ -1,5 +1,5 @@
 use Rattle.std.proofs.Common.{rules, ◌∙◌}
-use Rattle.env_vars.proofs.WordLemmas.{words_step, words_end}
+use Rattle.env_text.proofs.Whites.{words_step, words_end}
 use Rattle.env_vars.proofs.words.words_of.Goals as goal
 
 pub parts-preserved : goal.parts-preserved

@@ -1,7 +1,7 @@
 use Rattle.std.proofs.Common.{◌≡◌, ◌++◌, length}
 use denote.Shadow.{shadow}
 use denote.Text.{Utf8}
-use Rattle.env_vars.specs.Words.{words_of}
+use Rattle.env_text.specs.White.{words_of}
 use Rattle.env_vars.proofs.words.words_of.Given as goal
 
 -- with the words that are left these are the words of the text

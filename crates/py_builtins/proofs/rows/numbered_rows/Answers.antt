@@ -1,5 +1,5 @@
 use Rattle.std.proofs.Common.{arith, ◌≡◌, ◌++◌, ◌∷◌, [], w64, to_z, of_z}
-use Rattle.py_methods.specs.Iterables.{iterable_items}
+use Rattle.py_compare.specs.Iterables.{iterable_items}
 use Rattle.py_builtins.specs.Numbers.{counted}
 use Rattle.py_builtins.specs.Rows.{row_at, rows_from}
 use Rattle.py_builtins.proofs.RowTurns.{rows_more}

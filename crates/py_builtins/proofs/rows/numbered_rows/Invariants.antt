@@ -1,5 +1,5 @@
 use Rattle.std.proofs.Common.{◌≡◌, ◌++◌, ◌∷◌, [], ◌-◌}
-use Rattle.py_methods.specs.Iterables.{iterable_items}
+use Rattle.py_compare.specs.Iterables.{iterable_items}
 use Rattle.py_builtins.specs.Numbers.{counted}
 use Rattle.py_builtins.specs.Rows.{rows_from}
 use Rattle.py_builtins.proofs.rows.numbered_rows.Given as goal

@@ -1,7 +1,7 @@
 use Rattle.std.proofs.Common.{arith, ◌≡◌, ◌+◌, drop, get_or}
 use Rattle.std.proofs.lemmas.List.{drop_more}
 use Rattle.py_heap.specs.declared.value.Value.TheVariants as v
-use Rattle.py_methods.specs.Many.{total_length}
+use Rattle.py_compare.specs.Iterables.{total_length}
 use Rattle.py_builtins.specs.Rows.{zip_texts}
 use Rattle.py_builtins.proofs.Zipping.{bytes_more}
 use Rattle.py_builtins.proofs.zips.bytes_of.Goals as goal

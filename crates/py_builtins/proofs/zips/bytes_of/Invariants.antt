@@ -1,5 +1,5 @@
 use Rattle.std.proofs.Common.{◌≡◌, ◌+◌, drop}
-use Rattle.py_methods.specs.Many.{total_length}
+use Rattle.py_compare.specs.Iterables.{total_length}
 use Rattle.py_builtins.specs.Rows.{zip_texts}
 use Rattle.py_builtins.proofs.zips.bytes_of.Given as goal
 

@@ -1,5 +1,5 @@
 use Rattle.std.proofs.Common.{◌≡◌, ◌++◌, drop, map, length}
-use Rattle.py_methods.specs.Iterables.{iterable_items}
+use Rattle.py_compare.specs.Iterables.{iterable_items}
 use Rattle.py_builtins.specs.Rows.{zip_columns}
 use Rattle.py_builtins.proofs.zips.columns_of.Given as goal
 

@@ -1,5 +1,5 @@
 use Rattle.std.proofs.Common.{◌≡◌, ◌++◌, drop, map}
-use Rattle.py_methods.specs.Iterables.{iterable_items}
+use Rattle.py_compare.specs.Iterables.{iterable_items}
 use Rattle.py_builtins.specs.Rows.{row_at}
 use Rattle.py_builtins.proofs.zips.row_of.Given as goal
 

@@ -1,5 +1,5 @@
 use Rattle.std.proofs.Common.{arith, ◌≡◌, ◌∙◌, ◌++◌, ◌∷◌, [], map, ap}
-use Rattle.py_methods.specs.Iterables.{iterable_items}
+use Rattle.py_compare.specs.Iterables.{iterable_items}
 use Rattle.py_builtins.specs.Rows.{row_at, rows_from}
 use Rattle.py_builtins.proofs.RowTurns.{rows_more}
 use Rattle.py_builtins.proofs.zips.rows_of.Goals as goal

@@ -1,7 +1,7 @@
 use Rattle.std.proofs.Common.{◌≡◌, ◌∙◌, ◌++◌, length, map, Ok, refl, ap}
 use Rattle.py_heap.specs.Given.{next_list}
 use Rattle.py_heap.specs.Many.{with_texts, with_tuple_list}
-use Rattle.py_methods.specs.Iterables.{iterable_items}
+use Rattle.py_compare.specs.Iterables.{iterable_items}
 use Rattle.py_builtins.specs.Rows.{rows_from, zip_texts, zip_columns, paid_zip, zipped}
 use Rattle.py_builtins.proofs.Zipping.{zip_made}
 use Rattle.py_builtins.proofs.zips.zipped.Goals as goal

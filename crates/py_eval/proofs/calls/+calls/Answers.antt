@@ -40,7 +40,7 @@ run_script-returns-in-Ok-clause-over g t c =
 
 pub run_body-tasks-init : goal.run_body-tasks-init
 run_body-tasks-init g t c = record {
-  later = omega arith;
+  keeps = g.met.H.Host.kept.same c.args.host.now;
   leads = begins g.H.Host.meaning c.args.calls c.push.new.self c.args.lines (state_of c.args.machine.now c.args.frame.now) c.args.host.now (c.in_ok-push.ensures ∙ ap (λ (st : Stacks). record st { tasks = task.Lines c.args.lines ∷ st.tasks }) c.new-desk.ensures);
 }
 
@@ -87,13 +87,13 @@ run_body-tasks-preserved g t c =
     let before = left_at c.tasks.desk c.tasks.machine c.tasks.frame in
     let step = subst (λ q. FlowsOrHalts m c.args.calls q c.tasks.host (Ok c.in_ok-step.field-0) after s c.step.new.host) (sym (task_taken c.tasks.desk c.next.new.self c.in-Some.task (state_of c.tasks.machine c.tasks.frame) c.in-Some.ensures)) c.in_ok-step.ensures.flows in
     record {
-      later = omega (arith, c.tasks.invariant.later, c.step.ensures.later);
+      keeps = g.met.H.Host.kept.joins c.args.host.now c.tasks.host c.step.new.host c.tasks.invariant.keeps c.step.ensures.keeps;
       leads = λ r h3 d. c.tasks.invariant.leads r h3 ((subst (λ (w : Flow). FlowsOrHalts m c.args.calls before c.tasks.host (Ok w) after s c.step.new.host) c.in-GoesOn.is step) r h3 d);
     }
 
 pub step-returns-in_default : goal.step-returns-in_default
 step-returns-in_default g t c = record {
-  later = c.step.ensures.later;
+  keeps = c.step.ensures.keeps;
   flows = flows_by g.H.Host.meaning c.args.calls (left_with c.args.task c.args.desk.now c.args.machine.now c.args.frame.now) (left_at c.step.new.desk c.step.new.machine c.step.new.frame) c.args.host.now c.step.new.host (state_of c.step.new.machine c.step.new.frame) c.step.result (c.step.ensures.flows c.args.calls);
 }
 
@@ -339,7 +339,7 @@ call_object-returns-in_err-reply-clause-gives g t c =
 
 pub call_object-scripts-init : goal.call_object-scripts-init
 call_object-scripts-init g t c = record {
-  later = c.reply_to_call.ensures.later;
+  keeps = c.reply_to_call.ensures.keeps;
   leads = λ r h3 d. c.in_ok-reply.ensures.leads c.in_ok-inside.inside (λ a s1. goes (reply c.args.line a) s1) r h3 (whole r d);
 }
 
@@ -390,7 +390,7 @@ call_object-scripts-preserved g t c =
     let m = g.H.Host.meaning in
     let s2 = state_of c.scripts.machine c.args.frame.now in
     record {
-      later = omega (arith, c.scripts.invariant.later, c.run_inner.ensures.later);
+      keeps = g.met.H.Host.kept.joins c.args.host.now c.scripts.host c.run_inner.new.host c.scripts.invariant.keeps c.run_inner.ensures.keeps;
       leads = λ r h3 d. c.scripts.invariant.leads r h3 (script_replied m c.in_ok-inside.inside c.args.line (given_of c.scripts.reply) (script_tree c.in-Script.script) s2 c.scripts.host (ap given_of c.in-Script.is) r h3 (c.in_ok-reply-in-Script.ensures.leads r h3 d));
     }
 
@@ -457,6 +457,24 @@ run_inner-returns g t c =
     let kept = store_of c.run_script.new.machine in
     let s2 = state_of c.reply_to_end.new.machine c.args.frame.now in
     record {
-      later = omega (arith, c.run_script.ensures.later, c.reply_to_end.ensures.later);
+      keeps = g.met.H.Host.kept.joins c.args.host.now c.run_script.new.host c.reply_to_end.new.host c.run_script.ensures.keeps c.reply_to_end.ensures.keeps;
       leads = no_further m c.args.calls c.args.line ts s s2 c.in_ok-_exit._exit kept c.in_ok-number.number c.args.host.now c.run_script.new.host c.reply_to_end.new.host c.in_ok-reply.reply (lines_as m c.args.calls c.as_slice.result.now c.args.script.now.lines.items (state_by (store_of c.begin_script.new.self) (script_frame c.in_ok-number.number)) _ (Ok c.in_ok-_exit._exit) (store_of c.run_script.new.machine) c.args.host.now c.run_script.new.host c.as_slice.ensures.value begun_as c.in_ok-_exit.ensures.over) c.in_ok-number.ensures.ok c.in_default.not-Script (c.in_ok-reply.ensures.leads c.args.calls);
     }
+
+pub run_body-returns-in_err-step-clause-keeps : goal.run_body-returns-in_err-step-clause-keeps
+run_body-returns-in_err-step-clause-keeps g t c = g.met.H.Host.kept.joins c.args.host.now c.tasks.host c.step.new.host c.tasks.invariant.keeps c.step.ensures.keeps
+
+pub run_body-returns-in-Returns-clause-keeps : goal.run_body-returns-in-Returns-clause-keeps
+run_body-returns-in-Returns-clause-keeps g t c = g.met.H.Host.kept.joins c.args.host.now c.tasks.host c.step.new.host c.tasks.invariant.keeps c.step.ensures.keeps
+
+pub call_object-returns-in_err-reply-in-Script-clause-keeps : goal.call_object-returns-in_err-reply-in-Script-clause-keeps
+call_object-returns-in_err-reply-in-Script-clause-keeps g t c = g.met.H.Host.kept.joins c.args.host.now c.scripts.host c.run_inner.new.host c.scripts.invariant.keeps c.run_inner.ensures.keeps
+
+pub run_inner-returns-in_err-reply-clause-keeps : goal.run_inner-returns-in_err-reply-clause-keeps
+run_inner-returns-in_err-reply-clause-keeps g t c = g.met.H.Host.kept.joins c.args.host.now c.run_script.new.host c.reply_to_end.new.host c.run_script.ensures.keeps c.reply_to_end.ensures.keeps
+
+pub run_inner-returns-in_err-pay_script-clause-keeps : goal.run_inner-returns-in_err-pay_script-clause-keeps
+run_inner-returns-in_err-pay_script-clause-keeps g t c = g.met.H.Host.kept.joins c.args.host.now c.run_script.new.host c.reply_to_end.new.host c.run_script.ensures.keeps c.reply_to_end.ensures.keeps
+
+pub run_inner-returns-in-Script-clause-keeps : goal.run_inner-returns-in-Script-clause-keeps
+run_inner-returns-in-Script-clause-keeps g t c = g.met.H.Host.kept.joins c.args.host.now c.run_script.new.host c.reply_to_end.new.host c.run_script.ensures.keeps c.reply_to_end.ensures.keeps

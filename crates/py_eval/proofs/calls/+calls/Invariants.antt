@@ -1,5 +1,5 @@
 -- Each function goes down by the calls that may still be open, and for the same number by its place in the chain of calls.
-use Rattle.std.proofs.Common.{◌+◌, ◌*◌, ◌≤◌, [], map}
+use Rattle.std.proofs.Common.{◌+◌, ◌*◌, [], map}
 use Rattle.py_tree.specs.Tree.{trees, line_tree}
 use Rattle.py_heap.specs.declared.value.Value.TheVariants as v
 use Rattle.py_host.specs.Calls.{arguments_of, given_of}
@@ -36,16 +36,16 @@ decreases-run_script g l = 8 * l.calls + 5
 abbrev pub decreases-run_inner : goal.decreases-run_inner
 decreases-run_inner g l = 8 * l.calls + 6
 
--- what follows from what is left now, followed at the beginning, and the host's refusals only rise
+-- what follows from what is left now, followed at the beginning, and what the host keeps is kept
 abbrev pub invariant-run_body-tasks : goal.invariant-run_body-tasks
 invariant-run_body-tasks g l = record {
-  later : g.H.Host.meaning.refusals l.fn.host ≤ g.H.Host.meaning.refusals l.host;
+  keeps : g.H.Host.meaning.keeps l.fn.host l.host;
   leads : LeadsOn g.H.Host.meaning l.calls (first (exec_all (trees (map line_tree l.lines))) (state_of l.fn.machine l.fn.frame) (left [] [])) l.fn.host (left_at l.desk l.machine l.frame) l.host;
 }
 
 -- the same of the reply to the call
 abbrev pub invariant-call_object-scripts : goal.invariant-call_object-scripts
 invariant-call_object-scripts g l = record {
-  later : g.H.Host.meaning.refusals l.fn.host ≤ g.H.Host.meaning.refusals l.host;
+  keeps : g.H.Host.meaning.keeps l.fn.host l.host;
   leads : LeadsOn g.H.Host.meaning l.inside (plan_perform l.line (a_value (v.Object l.fn.object)) (arguments_of l.fn.args) (state_of l.fn.machine l.frame)) l.fn.host (plan (reply l.line (given_of l.reply)) (state_of l.machine l.frame)) l.host;
 }

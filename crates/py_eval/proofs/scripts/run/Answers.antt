@@ -12,7 +12,7 @@ returns-in-Ok-clause-only g c =
     let t = script_tree c.args.script.now in
     let s = state_by (store_of c.run_first-outcome.new.machine) c.in-Ok.ensures.exits.0 in
     let d = evaluates m t c.new-machine.result c.args.heap.now c.replace-own_heap.result c.args.budget.now c.replace-own_budget.result c.args.host.now c.run_first-outcome.new.host (Ok (exits c.in-Ok.exit s)) c.new-machine.ensures c.replace-own_heap.ensures.value c.replace-own_budget.ensures.value c.in-Ok.ensures.exits.1 in
-    exit_only m t c.args.heap.now c.args.budget.now c.args.host.now c.run_first-outcome.new.host c.in-Ok.exit s g.met.H.Host.determined d
+    exit_only m t c.args.heap.now c.args.budget.now c.args.host.now c.run_first-outcome.new.host c.in-Ok.exit s g.met.H.Host.kept g.met.H.Host.determined d
 
 pub returns-in-Err-Fault-clause-only : goal.returns-in-Err-Fault-clause-only
 returns-in-Err-Fault-clause-only g c =
@@ -20,7 +20,7 @@ returns-in-Err-Fault-clause-only g c =
     let t = script_tree c.args.script.now in
     let w = c.in-Err-Fault in
     let d = evaluates m t c.new-machine.result c.args.heap.now c.replace-own_heap.result c.args.budget.now c.replace-own_budget.result c.args.host.now c.run_first-outcome.new.host (told w.script w.line w.kind) c.new-machine.ensures c.replace-own_heap.ensures.value c.replace-own_budget.ensures.value (rw w.field-0-is at w.ensures.exits) in
-    fault_only m t c.args.heap.now c.args.budget.now c.args.host.now c.run_first-outcome.new.host w.script w.line w.kind g.met.H.Host.determined d
+    fault_only m t c.args.heap.now c.args.budget.now c.args.host.now c.run_first-outcome.new.host w.script w.line w.kind g.met.H.Host.kept g.met.H.Host.determined d
 
 pub returns-in-Err-Fault-clause-cause : goal.returns-in-Err-Fault-clause-cause
 returns-in-Err-Fault-clause-cause g c =
@@ -28,4 +28,10 @@ returns-in-Err-Fault-clause-cause g c =
     let t = script_tree c.args.script.now in
     let w = c.in-Err-Fault in
     let d = evaluates m t c.new-machine.result c.args.heap.now c.replace-own_heap.result c.args.budget.now c.replace-own_budget.result c.args.host.now c.run_first-outcome.new.host (told w.script w.line w.kind) c.new-machine.ensures c.replace-own_heap.ensures.value c.replace-own_budget.ensures.value (rw w.field-0-is at w.ensures.exits) in
-    fault_cause m t c.args.heap.now c.args.budget.now c.args.host.now c.run_first-outcome.new.host w.script w.line w.kind g.met.H.Host.counted d
+    fault_cause m t c.args.heap.now c.args.budget.now c.args.host.now c.run_first-outcome.new.host w.script w.line w.kind g.met.H.Host.kept d
+
+pub returns-in-Ok-clause-later : goal.returns-in-Ok-clause-later
+returns-in-Ok-clause-later g c = g.met.H.Host.kept.later c.args.host.now c.run_first-outcome.new.host c.run_first-outcome.ensures.keeps
+
+pub returns-in-Err-Fault-clause-later : goal.returns-in-Err-Fault-clause-later
+returns-in-Err-Fault-clause-later g c = g.met.H.Host.kept.later c.args.host.now c.run_first-outcome.new.host c.run_first-outcome.ensures.keeps

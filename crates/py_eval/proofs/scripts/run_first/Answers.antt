@@ -1,4 +1,4 @@
-use Rattle.std.proofs.Common.{arith, Result}
+use Rattle.std.proofs.Common.{Result}
 use Rattle.std.proofs.lemmas.Result.{err_from_is_err_and}
 use Rattle.py_tree.specs.Tree.{script_tree}
 use Rattle.py_meaning.specs.declared.fault.Exit.{Exit}
@@ -41,6 +41,9 @@ scripts-preserved g c =
     let runs = next_runs m call_limit p0 c.args.host.now c.scripts.host c.scripts.next c.in-Script.script s c.in-Script.is c.scripts.invariant.leads.1 in
     let next = c.in_ok-next-in-Script.ensures.leads f in
     record {
-      later = omega (arith, c.scripts.invariant.later, c.run_one-in-Script.ensures.later);
+      keeps = g.met.H.Host.kept.joins c.args.host.now c.scripts.host c.run_one-in-Script.new.host c.scripts.invariant.keeps c.run_one-in-Script.ensures.keeps;
       leads = (next.0, λ r h3 d. runs r h3 (next.1 r h3 d));
     }
+
+pub returns-in_err-next-in-Script-clause-keeps : goal.returns-in_err-next-in-Script-clause-keeps
+returns-in_err-next-in-Script-clause-keeps g c = g.met.H.Host.kept.joins c.args.host.now c.scripts.host c.run_one-in-Script.new.host c.scripts.invariant.keeps c.run_one-in-Script.ensures.keeps

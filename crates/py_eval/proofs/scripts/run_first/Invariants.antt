@@ -1,5 +1,4 @@
--- What follows from what is left behind a script followed from the first one, and the host's refusals only rise.
-use Rattle.std.proofs.Common.{◌≤◌}
+-- What follows from what is left behind a script followed from the first one, and what the host keeps is kept.
 use Rattle.py_tree.specs.Tree.{script_tree}
 use Rattle.py_meaning.specs.States.{Frame, script_frame}
 use Rattle.py_meaning.specs.Jobs.{first_scripts}
@@ -11,6 +10,6 @@ use Rattle.py_eval.proofs.scripts.run_first.Given as goal
 
 abbrev pub invariant-scripts : goal.invariant-scripts
 invariant-scripts g l = record {
-  later : g.H.Host.meaning.refusals l.fn.host ≤ g.H.Host.meaning.refusals l.host;
+  keeps : g.H.Host.meaning.keeps l.fn.host l.host;
   leads : (f : Frame) × LeadsOn g.H.Host.meaning call_limit (plan (first_scripts (script_tree l.fn.script)) (state_by (store_of l.fn.machine) (script_frame 0))) l.fn.host (next_plan l.next (state_by (store_of l.machine) f)) l.host;
 }

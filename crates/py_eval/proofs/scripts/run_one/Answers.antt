@@ -76,3 +76,15 @@ returns-clause-leads g c = λ f.
     let exit = c.in_ok-exit.exit in
     let kept3 = store_of c.pay_script.new.machine in
     further_paid m call_limit t c.in-Some.script s exit kept kept2 kept3 c.args.host.now c.run_script.new.host c.script_behind.new.host (tree_of c.in_ok-script.field-0) (lines_as m call_limit c.as_slice.result.now c.args.script.now.lines.items (state_by (store_of c.begin_script.new.self) (script_frame c.in_ok-number.number)) _ (Ok exit) (store_of c.run_script.new.machine) c.args.host.now c.run_script.new.host c.as_slice.ensures.value begun_as c.in_ok-exit.ensures.over) (ap tree_of c.in-Some.is) (c.in_ok-script.ensures.leads call_limit) c.in_ok-pay_script.ensures
+
+pub returns-in_err-script-clause-keeps : goal.returns-in_err-script-clause-keeps
+returns-in_err-script-clause-keeps g c = g.met.H.Host.kept.joins c.args.host.now c.run_script.new.host c.script_behind.new.host c.run_script.ensures.keeps c.script_behind.ensures.keeps
+
+pub returns-in_default-clause-keeps : goal.returns-in_default-clause-keeps
+returns-in_default-clause-keeps g c = g.met.H.Host.kept.joins c.args.host.now c.run_script.new.host c.script_behind.new.host c.run_script.ensures.keeps c.script_behind.ensures.keeps
+
+pub returns-in_err-pay_script-clause-keeps : goal.returns-in_err-pay_script-clause-keeps
+returns-in_err-pay_script-clause-keeps g c = g.met.H.Host.kept.joins c.args.host.now c.run_script.new.host c.script_behind.new.host c.run_script.ensures.keeps c.script_behind.ensures.keeps
+
+pub returns-clause-keeps : goal.returns-clause-keeps
+returns-clause-keeps g c = g.met.H.Host.kept.joins c.args.host.now c.run_script.new.host c.script_behind.new.host c.run_script.ensures.keeps c.script_behind.ensures.keeps

@@ -1,5 +1,5 @@
 use Rattle.std.proofs.Common.{◌≡◌, ◌+◌, drop, map, length}
-use Rattle.py_methods.specs.Many.{total_length}
+use Rattle.py_compare.specs.Iterables.{total_length}
 use Rattle.py_methods.proofs.many.units_of.Given as goal
 
 abbrev pub invariant-texts : goal.invariant-texts

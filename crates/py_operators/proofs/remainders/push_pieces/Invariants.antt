@@ -1,6 +1,6 @@
 use Rattle.std.proofs.Common.{◌≡◌, drop, map}
 use Rattle.py_text.specs.Views.{plain_piece}
-use Rattle.py_show.specs.Growing.{grown}
+use Rattle.py_compare.specs.Growing.{grown}
 use Rattle.py_operators.specs.Remainders.{pieces_onto}
 use Rattle.py_operators.proofs.remainders.push_pieces.Given as goal
 

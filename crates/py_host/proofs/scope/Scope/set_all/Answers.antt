@@ -4,14 +4,14 @@ use Rattle.py_host.specs.Names.{with_name, with_names}
 use Rattle.py_host.proofs.Setting.{set_more}
 use Rattle.py_heap.proofs.Turns.{taken_none}
 use Rattle.py_host.proofs.scope.Scope.set_all.Goals as goal
-use Rattle.py_host.proofs.scope.Scope.set_all.Goals.{in-Some+in_ok-copy+in_ok-set, in_default}
+use Rattle.py_host.proofs.scope.Scope.set_all.Goals.{in-Some+in_ok-of+in_ok-set, in_default}
 
 pub places-preserved : goal.places-preserved
 places-preserved c =
     elim c.match-at.branch [
-      | in-Some+in_ok-copy+in_ok-set w ↦
+      | in-Some+in_ok-of+in_ok-set w ↦
           let at : Some (w.in-Some.name.now, w.in-Some.value) ≡ slice_get c.args.more.now c.places.place = rw w.in-Some.is at c.at.ensures in
-          let name = w.in_ok-copy.ensures {u = tt} in
+          let name = w.in_ok-of.ensures {u = tt} in
           let new : w.set.new.self ≡ with_name c.places.self w.in-Some.name.now w.in-Some.value =
           (w.in_ok-set.ensures {u = tt}).ok ∙ ap (λ k. with_name c.places.self k w.in-Some.value) name in
           set_more c.args.self.now c.args.more.now c.places.self c.match-at.self c.places.place (w.in-Some.name.now, w.in-Some.value) (sym at) c.places.invariant (w.self-is ∙ new)

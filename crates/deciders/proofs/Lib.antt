@@ -1,0 +1,6 @@
+pub mod Loop
+pub mod Sizes
+pub mod Takings
+pub mod Parts
+pub mod RecordLaws
+pub mod Anys

@@ -1,0 +1,134 @@
+//! The spelling of a record.
+ghost use Rattle.std.specs.Prelude.{◌≡◌, ◌<◌, ◌≤◌, ◌^◌, ◌++◌, All, length, IfOk, OnOk};
+ghost use Rattle.std.specs.Int.{w32, to_be_bytes};
+ghost use Rattle.deciders.specs.Records.{IsValid};
+ghost use Rattle.deciders.specs.Spelling.{work_byte, sized, listed, digest_spelling, stamp_spelling, dep_spelling, spelling};
+
+use crate::content::Digest;
+use crate::recorded::{Dep, Rec};
+use scons_base::{Memory, PathText, Text};
+use std::alloc::Global;
+use world_api::Work;
+
+fn work_byte(work: Work) -> u8
+    ensures { result ≡ work_byte work }
+{
+    match work {
+        Work::Shell => 0,
+        Work::Copy => 1,
+        Work::Write => 2,
+    }
+}
+
+fn push_count(out: &mut Vec<u8>, count: usize) -> Result<(), Memory>
+    requires { count < 2 ^ 32 }
+    ensures { OnOk result (out.new.items ≡ out.old.items ++ to_be_bytes w32 count) }
+{
+    out.extend_from_slice(&(count as u32).to_be_bytes())?;
+    Ok(())
+}
+
+/// Its length, and the bytes.
+fn push_sized(out: &mut Vec<u8>, bytes: &[u8]) -> Result<(), Memory>
+    requires { length bytes.now < 2 ^ 32 }
+    ensures { OnOk result (out.new.items ≡ out.old.items ++ sized bytes.now) }
+{
+    push_count(out, bytes.len())?;
+    out.extend_from_slice(bytes)?;
+    Ok(())
+}
+
+/// Adds the spelling of a list of paths.
+pub fn push_paths(out: &mut Vec<u8>, paths: &[PathText]) -> Result<(), Memory>
+    requires count { length paths.now < 2 ^ 32 }
+    requires each { All (λ path. length path < 2 ^ 32) paths.now }
+    ensures { OnOk result (out.new.items ≡ out.old.items ++ listed sized paths.now) }
+{
+    push_count(out, paths.len())?;
+    for path in paths {
+        push_sized(out, path.as_str().as_bytes())?;
+    }
+    Ok(())
+}
+
+fn push_texts(out: &mut Vec<u8>, texts: &[Text]) -> Result<(), Memory>
+    requires count { length texts.now < 2 ^ 32 }
+    requires each { All (λ text. length text < 2 ^ 32) texts.now }
+    ensures { OnOk result (out.new.items ≡ out.old.items ++ listed sized texts.now) }
+{
+    push_count(out, texts.len())?;
+    for text in texts {
+        push_sized(out, text.as_str().as_bytes())?;
+    }
+    Ok(())
+}
+
+fn push_digest(out: &mut Vec<u8>, digest: Option<Digest>) -> Result<(), Memory>
+    ensures { OnOk result (out.new.items ≡ out.old.items ++ digest_spelling digest) }
+{
+    match digest {
+        None => out.push(0)?,
+        Some(digest) => {
+            let bytes = digest.0;
+            out.push(1)?;
+            out.extend_from_slice(&bytes)?;
+        }
+    }
+    Ok(())
+}
+
+fn push_stamp(out: &mut Vec<u8>, stamp: Option<u64>) -> Result<(), Memory>
+    ensures { OnOk result (out.new.items ≡ out.old.items ++ stamp_spelling stamp) }
+{
+    match stamp {
+        None => out.push(0)?,
+        Some(stamp) => {
+            out.push(1)?;
+            out.extend_from_slice(&stamp.to_be_bytes())?;
+        }
+    }
+    Ok(())
+}
+
+fn push_dep(out: &mut Vec<u8>, dep: &Dep) -> Result<(), Memory>
+    requires { length dep.now.name < 2 ^ 32 }
+    ensures { OnOk result (out.new.items ≡ out.old.items ++ dep_spelling dep.now) }
+{
+    push_sized(out, dep.name.as_str().as_bytes())?;
+    push_digest(out, dep.digest)?;
+    push_stamp(out, dep.stamp)
+}
+
+fn push_deps(out: &mut Vec<u8>, deps: &[Dep]) -> Result<(), Memory>
+    requires count { length deps.now < 2 ^ 32 }
+    requires each { All (λ dep. length dep.name < 2 ^ 32) deps.now }
+    ensures { OnOk result (out.new.items ≡ out.old.items ++ listed dep_spelling deps.now) }
+{
+    push_count(out, deps.len())?;
+    for dep in deps {
+        push_dep(out, dep)?;
+    }
+    Ok(())
+}
+
+/// Adds the one spelling of a record.
+pub fn push_record(out: &mut Vec<u8>, rec: &Rec) -> Result<(), Memory>
+    requires { length (spelling rec.now) < 2 ^ 32 }
+    ensures { OnOk result (out.new.items ≡ out.old.items ++ spelling rec.now) }
+{
+    out.push(work_byte(rec.work))?;
+    push_paths(out, rec.targets.as_slice())?;
+    push_texts(out, rec.signed.as_slice())?;
+    push_deps(out, rec.deps.as_slice())
+}
+
+/// The one spelling of a record.
+pub fn encode(alloc: Global, rec: &Rec) -> Result<Vec<u8>, Memory>
+    requires valid { IsValid rec.now }
+    requires fits { length (spelling rec.now) ≤ 4294967294 }
+    ensures { IfOk result (λ bytes. bytes.items ≡ spelling rec.now) }
+{
+    let mut out = Vec::new(alloc);
+    push_record(&mut out, rec)?;
+    Ok(out)
+}

@@ -1,0 +1,10 @@
+use Rattle.std.proofs.Common.{◌≡◌}
+use Rattle.env_subst.specs.Settings.{setting_of}
+use Rattle.env_subst.specs.Entries.{behind, dirs_of}
+use Rattle.env_subst.specs.Frames.{entries_left}
+use Rattle.env_subst.proofs.library.push_dirs.Given as goal
+
+-- with those that are left these are all
+abbrev pub invariant-entries : goal.invariant-entries
+invariant-entries l =
+    behind l.found (dirs_of (setting_of l.setting) (entries_left (setting_of l.setting) l.entries)) ≡ behind l.initial.found (dirs_of (setting_of l.setting) (entries_left (setting_of l.setting) l.initial.entries))

@@ -1,0 +1,159 @@
+//! Items of a call that are read apart first.
+ghost use Rattle.std.specs.Prelude.{◌≡◌, ◌≢◌, ◌++◌, ◌∷◌, [], Ok, OnOk, IfOk, IfErr, string_bytes, codes, if◌then◌else◌};
+ghost use Rattle.std.specs.Option.{option_map};
+ghost use Rattle.env_text.specs.Alone.{name_alone};
+ghost use Rattle.env_text.specs.Readings.{reading_of};
+ghost use Rattle.env_subst.specs.Expansions.{is_literal, text_item, puts_read, read_item, inner, call_of};
+ghost use Rattle.env_subst.specs.Desks.{deeper_of, Steps, PutsAll, CannotPut};
+
+use crate::calls::{put_between, put_known, put_parting};
+use crate::desk::{Desk, push, put, put_mark};
+use crate::fault::SubstFault;
+use crate::saying::Saying;
+use crate::setting::Setting;
+use crate::task::{Call, Task};
+use env_pieces::{Piece, Pieces, text_of};
+use env_text::name_alone;
+use scons_base::{Memory, Text};
+use std::alloc::Global;
+use std::mem;
+
+/// An item that is a text.
+pub(crate) fn put_apart<'a>(
+    setting: &Setting<'a>,
+    desk: &mut Desk<'a>,
+    call: Call,
+    text: Text,
+) -> Result<(), SubstFault>
+    ensures { Steps setting.now (λ w names. text_item w (deeper_of w names) names call text (name_alone (reading_of text))) desk.old desk.new result }
+{
+    match call_text(setting.alloc, &call, text.as_str())? {
+        Some(further) => read_apart(setting, desk, call, further, true),
+        None if is_literal(text.as_str()) => put_known(setting, desk, call, text),
+        None => read_apart(setting, desk, call, text, false),
+    }
+}
+
+/// A text without a `$`.
+pub(crate) fn is_literal(text: &str) -> bool
+    ensures { result ≡ is_literal text.now }
+{
+    text.as_bytes().iter().all(|byte| *byte != b'$')
+}
+
+/// The call with another variable in place of the list, where a text is the name of one alone.
+fn call_text(alloc: Global, call: &Call, text: &str) -> Result<Option<Text>, Memory>
+    ensures { IfOk result (λ o. o ≡ option_map (call_of call.now) (name_alone (reading_of text.now))) }
+{
+    match name_alone(text) {
+        Some(name) => Ok(Some(Text::new(call_of(alloc, call, name)?))),
+        None => Ok(None),
+    }
+}
+
+fn call_of(alloc: Global, call: &Call, name: &str) -> Result<String, Memory>
+    ensures { IfOk result (λ s. string_bytes s ≡ call_of call.now name.now) }
+{
+    let mut text = String::from_str(alloc, "${_concat(")?;
+    put_argument(&mut text, call.prefix.as_str())?;
+    put_argument(&mut text, name)?;
+    text.push_str(call.suffix.as_str())?;
+    text.push_str(call_end(call.directories))?;
+    Ok(text)
+}
+
+fn put_argument(text: &mut String, name: &str) -> Result<(), Memory>
+    ensures { OnOk result (string_bytes text.new ≡ string_bytes text.old ++ (name.now ++ 44 ∷ [])) }
+{
+    text.push_str(name)?;
+    text.push(',')?;
+    Ok(())
+}
+
+fn call_end(directories: bool) -> &'static str
+    ensures { result.now ≡ (if directories then codes ",__env__,RDirs)}" else codes ",__env__)}") }
+{
+    if directories {
+        ",__env__,RDirs)}"
+    } else {
+        ",__env__)}"
+    }
+}
+
+/// An item is read apart. The pieces that were read before are kept aside.
+fn read_apart<'a>(
+    setting: &Setting<'a>,
+    desk: &mut Desk<'a>,
+    call: Call,
+    text: Text,
+    alone: bool,
+) -> Result<(), SubstFault>
+    ensures { Steps setting.now (λ w names t. read_item w (deeper_of w names) names call alone t.sheet (deeper_of w names call.list text (inner t))) desk.old desk.new result }
+{
+    let name = call.list.copy()?;
+    let inner = desk.pieces.inner();
+    let outer = mem::replace(&mut desk.pieces, inner);
+    push(&mut desk.tasks, Task::Apart { outer, call, alone })?;
+    let saying = Saying::Read(text);
+    push(&mut desk.tasks, Task::Inside { name, saying })?;
+    Ok(())
+}
+
+/// What was read apart is an item of a call. The pieces that were read before come back.
+pub(crate) fn put_read<'a>(
+    setting: &Setting<'a>,
+    desk: &mut Desk<'a>,
+    outer: Pieces,
+    call: Call,
+    alone: bool,
+) -> Result<(), SubstFault>
+    ensures { Steps setting.now (λ w names s. read_item w (deeper_of w names) names call alone outer (Ok s)) desk.old desk.new result }
+{
+    let inner = mem::replace(&mut desk.pieces, outer);
+    let pieces = inner.finish()?;
+    let text = Text::new(text_of(setting.alloc, pieces.as_slice())?);
+    if call.directories && !alone {
+        return put_known(setting, desk, call, text);
+    }
+    if text.as_str().is_empty() {
+        return Ok(());
+    }
+    put_pieces(setting, desk, call, alone, pieces)
+}
+
+fn put_pieces<'a>(
+    setting: &Setting<'a>,
+    desk: &mut Desk<'a>,
+    call: Call,
+    alone: bool,
+    pieces: Vec<Piece>,
+) -> Result<(), SubstFault>
+    ensures { Steps setting.now (λ w names. puts_read w (deeper_of w names) names call alone pieces.items) desk.old desk.new result }
+{
+    if !alone {
+        return put_between(setting, desk, call, Task::PutAll(pieces));
+    }
+    put_parting(&mut desk.pieces, call.room)?;
+    put_all(&mut desk.pieces, pieces.as_slice())
+}
+
+/// Puts pieces behind what was read.
+pub(crate) fn put_all(pieces: &mut Pieces, more: &[Piece]) -> Result<(), SubstFault>
+    ensures ok { OnOk result (PutsAll more.now pieces.old pieces.new) }
+    ensures fault { IfErr result (λ e. e ≢ SubstFault.Memory → CannotPut more.now pieces.old e) }
+{
+    for piece in more {
+        put_piece(pieces, piece)?;
+    }
+    Ok(())
+}
+
+fn put_piece(pieces: &mut Pieces, piece: &Piece) -> Result<(), SubstFault>
+    ensures ok { OnOk result (PutsAll (piece.now ∷ []) pieces.old pieces.new) }
+    ensures fault { IfErr result (λ e. e ≢ SubstFault.Memory → CannotPut (piece.now ∷ []) pieces.old e) }
+{
+    match piece {
+        Piece::Text(text) => put(pieces, text.as_str()),
+        Piece::Mark(mark) => put_mark(pieces, *mark),
+    }
+}

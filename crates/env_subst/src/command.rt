@@ -1,0 +1,55 @@
+//! The lines of a command, and the texts of paths.
+ghost use Rattle.std.specs.Prelude.{◌≡◌, ◌≢◌, ◌<◌, Ok, Err, length, IfOk, IfErr, string_bytes};
+ghost use Rattle.env_subst.specs.Settings.{setting};
+ghost use Rattle.env_subst.specs.Results.{lines_of, path_text};
+
+use crate::apart::is_literal;
+use crate::fault::SubstFault;
+use crate::locals::Locals;
+use crate::substitution::{form_fault, pieces_of, subst};
+use env_pieces::{Mode, line_forms};
+use env_vars::Envs;
+use scons_base::{EnvId, Texts};
+use std::alloc::Global;
+
+/// The forms of the lines of a command: what a text stands for is cut at its line feeds before white space is made one space.
+/// A part between marks that goes over a line feed is closed there and opened again behind it.
+pub fn lines(
+    alloc: Global,
+    envs: &Envs,
+    env: EnvId,
+    text: &str,
+    locals: &Locals,
+    mode: Mode,
+) -> Result<Texts, SubstFault>
+    requires { env.0 < length envs.now }
+    ensures forms { IfOk result (λ t. lines_of (setting envs.now env.0 locals.now) mode text.now ≡ Ok t) }
+    ensures fault { IfErr result (λ e. e ≢ SubstFault.Memory
+        → lines_of (setting envs.now env.0 locals.now) mode text.now ≡ Err e) }
+{
+    let pieces = pieces_of(alloc, envs, env, text, locals)?;
+    match line_forms(alloc, pieces.as_slice(), mode) {
+        Ok(forms) => Ok(forms),
+        Err(fault) => Err(form_fault(fault)),
+    }
+}
+
+/// The text of a path: one without a `$` is taken as it stands, any other is what it stands for as text.
+pub fn path_text(
+    alloc: Global,
+    envs: &Envs,
+    env: EnvId,
+    text: &str,
+    locals: &Locals,
+) -> Result<String, SubstFault>
+    requires { env.0 < length envs.now }
+    ensures text { IfOk result (λ s. path_text (setting envs.now env.0 locals.now) text.now ≡ Ok (string_bytes s)) }
+    ensures fault { IfErr result (λ e. e ≢ SubstFault.Memory
+        → path_text (setting envs.now env.0 locals.now) text.now ≡ Err e) }
+{
+    if is_literal(text) {
+        Ok(String::from_str(alloc, text)?)
+    } else {
+        subst(alloc, envs, env, text, locals, Mode::Text)
+    }
+}

@@ -1,4 +1,0 @@
-pub mod Entries
-pub mod Growths
-pub mod ShownLimits
-pub mod Shows

@@ -1,0 +1,4 @@
+mod AliasLemmas
+mod Positions
+mod RuleLemmas
+mod GraphLemmas

@@ -1,5 +1,0 @@
-use Rattle.scons_top.proofs.LineParts.{command_ascii}
-use Rattle.scons_top.proofs.line_form.text_of.Goals as goal
-
-pub ascii-requires : goal.ascii-requires
-ascii-requires c = command_ascii c.args.line.now c.requires
