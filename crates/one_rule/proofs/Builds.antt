@@ -3,7 +3,7 @@ use Rattle.std.proofs.Common.{◌≡◌, ◌≢◌, ◌∙◌, ◌<◌, ◌≤�
 use Rattle.std.specs.Prelude.{Contains}
 use Rattle.world_api.specs.Act.{act}
 use Rattle.world_api.specs.Around.{Around, Tree, Running, Started, Finished, IsRunningTarget, given_of}
-use Rattle.world_api.specs.Calls.{Asks, Starts, Ends}
+use Rattle.world_api.specs.Calls.{Asks, Grows, Starts, Ends}
 use Rattle.world_api.specs.Counts.{Counts}
 use Rattle.world_api.specs.Reads.{IsOver}
 use Rattle.world_api.specs.declared.refusal.ReadRefusal.{ReadRefusal}
@@ -26,12 +26,16 @@ use Rattle.one_rule.proofs.Quiet.{no_target, same_file}
 pub no_change : (around : Around) → around.running ≡ [] → Unchanged around around
 no_change around idle = record { files = λ path. refl; running = idle; log = refl; met = λ bytes met. met; law = refl }
 
+-- what is the same has grown
+grown : (old new : List (List ℕ)) → new ≡ old → Grows old new
+grown old new same bytes met = subst (λ all. Contains all bytes) (sym same) met
+
 pub asked_only : (old new : Around) → old.running ≡ [] → Asks old new → Unchanged old new
 asked_only old new idle asks = record {
   files = λ path. same_file old new path idle asks;
   running = asks.running ∙ idle;
   log = asks.log;
-  met = asks.met;
+  met = grown old.met new.met asks.met;
   law = asks.law;
 }
 
@@ -134,7 +138,7 @@ module _ (rule : Rule) (counts : Counts) (sure : Type 0) (ended : Ended) (old mi
     files = λ path other. ends.files path (other_file path other) ∙ starts.files path (no_target old.running path idle) (λ made. other (sym (only_one rule.target path made)));
     running = ends.running ∙ cut.0;
     log = subst (Logs rule counts old.log) (sym run_logs) (ran ended.outcome);
-    met = λ bytes met. ends.met bytes (starts.met bytes met);
+    met = λ bytes met. ends.met bytes (grown old.met mid.met starts.met bytes met);
     law = ends.law ∙ starts.law;
   }
 

@@ -1,7 +1,7 @@
 -- What each step of a run is told and leaves, by how it ends.
 use Rattle.std.specs.Prelude.{◌≡◌, ◌⊎◌, Result, Ok, Err}
 use Rattle.world_api.specs.Around.{Around, Tree}
-use Rattle.world_api.specs.Causes.{ActionFails, Fails}
+use Rattle.world_api.specs.Causes.{ActionFails, TreeFails, StartFails}
 use Rattle.world_api.specs.Counts.{Counts}
 use Rattle.world_api.specs.Printed.{SinkMeaning}
 use Rattle.world_api.specs.declared.job.Outcome.TheVariants.{Done, Failed, Broken}
@@ -25,8 +25,8 @@ FaultCause (Usage place kind) old new = new ≡ old
 FaultCause (Reading file line kind) old new = new ≡ old
 FaultCause (Missing node target) old new = new ≡ old
 FaultCause (ActionFailed target code) old new = ActionFails old new
-FaultCause (TreeFault path) old new = Fails (λ counts. counts.tree_faults) old new
-FaultCause (StartFault target) old new = Fails (λ counts. counts.start_faults) old new
+FaultCause (TreeFault path) old new = TreeFails old new
+FaultCause (StartFault target) old new = StartFails old new
 FaultCause OutFault old new = ⊥
 FaultCause (TooLarge path size) old new = new ≡ old
 

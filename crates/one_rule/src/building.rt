@@ -12,11 +12,9 @@ use crate::report::Top;
 use crate::rule::Rule;
 use crate::stops::BuildStop;
 use crate::texts::{building_text, line_text, read_text};
-use scons_base::{Memory, Paths, Texts};
+use scons_base::{Listing, Memory, Paths, Texts};
 use std::alloc::Global;
-use world_api::{
-    AskRefusal, Content, Fault, Job, Line, Lines, Outcome, ReadRefusal, Sink, Work, World,
-};
+use world_api::{AskRefusal, Content, Fault, Job, Line, Outcome, ReadRefusal, Sink, Work, World};
 
 /// How many bytes a file that is read may have.
 const FILE_LIMIT: u64 = 67_108_864;
@@ -173,7 +171,7 @@ fn job_for(alloc: Global, rule: &Rule) -> Result<Job, Memory>
         id: 0,
         work: Work::Shell,
         targets: Paths::new(vec![in alloc; rule.target.copy()?]?),
-        lines: Lines::new(vec![in alloc; line]?),
+        lines: Listing::new(vec![in alloc; line]?),
         signed: Texts::new(vec![in alloc; rule.line.copy()?]?),
         deps: Paths::new(vec![in alloc; rule.source.copy()?]?),
     })

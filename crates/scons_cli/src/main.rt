@@ -1,19 +1,22 @@
-//! The program `scons`: the proved command over the real files, the shell and the two standard streams.
+//! The program `scons`: the command over the real files, the shell and the two standard streams.
 #![tactic(auto)]
 
-mod real_sink;
-mod real_world;
-#[cfg(test)]
-mod tests;
+mod streams;
 
-use one_rule::scons;
-use real_sink::RealSink;
-use real_world::RealWorld;
+use scons_top::scons;
+use real_world::{RealSink, RealWorld, Shell};
 use scons_base::Text;
 use std::alloc::Global;
 use std::env::Env;
+use std::io::ErrorKind;
 use std::process::ExitCode;
 use std::{env, io};
+
+/// The status of a faulty command line, and of any run with faults.
+const FAULTS: u8 = 2;
+
+/// The status of want of memory.
+const NO_MEMORY: u8 = 3;
 
 /// The words of the command line behind the program's own name.
 fn words(alloc: Global, rt: &(impl Env + AllocGlobal)) -> io::Result<Vec<Text>> {
@@ -24,12 +27,31 @@ fn words(alloc: Global, rt: &(impl Env + AllocGlobal)) -> io::Result<Vec<Text>> 
     Ok(words)
 }
 
-fn main(rt: HostRuntime) -> io::Result<ExitCode> {
+fn main(rt: HostRuntime) -> ExitCode {
+    streams::open_closed(&rt);
     let alloc = rt.alloc();
-    let words = words(alloc, &rt)?;
+    let words = match words(alloc, &rt) {
+        Ok(words) => words,
+        Err(error) if error.kind() == ErrorKind::OutOfMemory => return no_memory(&rt),
+        Err(_) => {
+            let _ = eprintln!(rt; "scons: *** A word of the command line is not UTF-8.");
+            return ExitCode::from(FAULTS);
+        }
+    };
     let mut out = RealSink::new(rt.stdout());
     let mut err = RealSink::new(rt.stderr());
-    let mut world = RealWorld::new(rt);
+    let Ok(mut world) = RealWorld::new(rt, Shell::new(rt)) else {
+        return no_memory(&rt);
+    };
     let report = scons(alloc, &words, &mut world, &mut out, &mut err);
-    Ok(ExitCode::from(report.status))
+    if report.status == NO_MEMORY {
+        return no_memory(&rt);
+    }
+    ExitCode::from(report.status)
+}
+
+/// Says that memory is short: the report of such a run has no text.
+fn no_memory(rt: &impl Eprint) -> ExitCode {
+    let _ = eprintln!(rt; "scons: *** No memory is left.");
+    ExitCode::from(NO_MEMORY)
 }

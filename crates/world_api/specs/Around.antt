@@ -1,5 +1,5 @@
--- The world at one moment, as a build sees it.
-use Rattle.std.specs.Prelude.{ℕ, List, [], ◌∷◌, Contains, map}
+-- The world at one moment, as a build sees it: all but the signature banks.
+use Rattle.std.specs.Prelude.{ℕ, Bool, List, [], ◌∷◌, Contains, map}
 use Rattle.world_api.specs.declared.job.Job.{Job}
 use Rattle.world_api.specs.declared.job.Outcome.{Outcome}
 use Rattle.world_api.specs.Act.{Content, Given, Law}
@@ -21,11 +21,17 @@ pub data Entry : Type 0 where
 
 pub record Around : Type 0 where
   pub tree : Tree
+  -- whether a directory stands
+  pub dirs : List ℕ → Bool
+  -- when a file last changed, in nanoseconds; of a path that is no file it says nothing
+  pub stamps : List ℕ → ℕ
   pub running : List Running
   pub log : List Entry
   -- every content that the tree has held outside the targets of running jobs
   pub met : List (List ℕ)
   pub law : Law
+  -- the absolute path of the top directory
+  pub top : List ℕ
 
 -- the jobs of a log, in the order of their starts
 abbrev pub started_of : List Entry → List Job

@@ -11,18 +11,35 @@ pub record Rose (before now : ℕ) : Type 0 where
 
 -- no count fell
 pub record Later (old new : Counts) : Type 0 where
+  pub disk : old.disk_faults ≤ new.disk_faults
   pub tree : old.tree_faults ≤ new.tree_faults
   pub start : old.start_faults ≤ new.start_faults
   pub action : old.action_failures ≤ new.action_failures
 
--- this count rose, and no action failed
-pub record Fails (count : Counts → ℕ) (old new : Counts) : Type 0 where
-  pub later : Later old new
-  pub rose : Rose (count old) (count new)
-  pub actions : new.action_failures ≡ old.action_failures
+-- a bank was at fault, and nothing else
+pub record DiskFails (old new : Counts) : Type 0 where
+  pub rose : Rose old.disk_faults new.disk_faults
+  pub tree : new.tree_faults ≡ old.tree_faults
+  pub start : new.start_faults ≡ old.start_faults
+  pub action : new.action_failures ≡ old.action_failures
 
--- an action failed, and nothing else was at fault
+-- the tree was at fault, and nothing else
+pub record TreeFails (old new : Counts) : Type 0 where
+  pub disk : new.disk_faults ≡ old.disk_faults
+  pub rose : Rose old.tree_faults new.tree_faults
+  pub start : new.start_faults ≡ old.start_faults
+  pub action : new.action_failures ≡ old.action_failures
+
+-- a start or the running of a job was at fault, and nothing else
+pub record StartFails (old new : Counts) : Type 0 where
+  pub disk : new.disk_faults ≡ old.disk_faults
+  pub tree : new.tree_faults ≡ old.tree_faults
+  pub rose : Rose old.start_faults new.start_faults
+  pub action : new.action_failures ≡ old.action_failures
+
+-- an action failed, and nothing was at fault
 pub record ActionFails (old new : Counts) : Type 0 where
+  pub disk : new.disk_faults ≡ old.disk_faults
   pub tree : new.tree_faults ≡ old.tree_faults
   pub start : new.start_faults ≡ old.start_faults
   pub rose : Rose old.action_failures new.action_failures
@@ -31,5 +48,5 @@ pub record ActionFails (old new : Counts) : Type 0 where
 abbrev pub HasOutcomeCause : Outcome → Counts → Counts → Type 0
 HasOutcomeCause Done old new = new ≡ old
 HasOutcomeCause (Failed code) old new = ActionFails old new
-HasOutcomeCause Broken old new = Fails (λ counts. counts.start_faults) old new
+HasOutcomeCause Broken old new = StartFails old new
 HasOutcomeCause NoMemory old new = new ≡ old

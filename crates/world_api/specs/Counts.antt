@@ -2,6 +2,7 @@
 use Rattle.std.specs.Prelude.{ℕ}
 
 pub record Counts : Type 0 where
+  pub disk_faults : ℕ
   pub tree_faults : ℕ
   pub start_faults : ℕ
   pub action_failures : ℕ

@@ -5,4 +5,5 @@ pub mod Act
 pub mod Around
 pub mod Calls
 pub mod Reads
+pub mod Banks
 pub mod Meaning

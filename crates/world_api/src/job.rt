@@ -1,8 +1,8 @@
-//! Actions, jobs and how they end.
-ghost use Rattle.std.specs.Prelude.{◌≡◌, IfOk};
+//! Actions, and how they end.
+ghost use Rattle.std.specs.Prelude.{◌≡◌, List, IfOk};
 
-use crate::lines::Lines;
-use scons_base::{Memory, Paths, Text, Texts};
+use scons_base::{Listing, Memory, Paths, Text, Texts};
+use std::alloc::Global;
 
 /// What an action is: a command for the shell, a copy of its first dependency, or its first signed text written out.
 #[derive(Clone, Copy, Debug, PartialEq, Eq)]
@@ -38,9 +38,35 @@ pub struct Job {
     pub id: u32,
     pub work: Work,
     pub targets: Paths,
-    pub lines: Lines,
+    pub lines: Listing<Line>,
     pub signed: Texts,
     pub deps: Paths,
+}
+
+impl Job {
+    pub fn copy(&self, alloc: Global) -> Result<Job, Memory>
+        ensures { IfOk result (λ job. job ≡ self.now) }
+    {
+        Ok(Job {
+            id: self.id,
+            work: self.work,
+            targets: self.targets.copy()?,
+            lines: copy_lines(alloc, &self.lines)?,
+            signed: self.signed.copy()?,
+            deps: self.deps.copy()?,
+        })
+    }
+}
+
+/// The same lines once more.
+pub fn copy_lines(alloc: Global, lines: &Listing<Line>) -> Result<Listing<Line>, Memory>
+    ensures { IfOk result (λ copied. copied ≡ lines.now) }
+{
+    let mut copied = Listing::empty(alloc);
+    for line in lines.as_slice() {
+        copied.push(line.copy()?)?;
+    }
+    Ok(copied)
 }
 
 /// How a job ended: well; by a status other than 0; without having run whole; or for want of memory.

@@ -1,4 +1,4 @@
-//! Why the outside does not do what it is asked.
+//! Why the outside refused.
 ghost use Rattle.std.specs.Prelude.{◌≡◌};
 
 use scons_base::Memory;

@@ -8,7 +8,7 @@ use Rattle.std.proofs.lemmas.List.{take-append-drop}
 use Rattle.std.proofs.lemmas.List.Elements.{Contains-push_cases}
 use Rattle.std.proofs.lemmas.Slice.Eq.{starts_is}
 use Rattle.std.proofs.Math.Seq.{take-append_seam, drop-append_seam, get_or-append_seam}
-use Rattle.world_mem.specs.Blocked.{LiesBelow, HasAbove, HasBelow, IsBlocked, AreBlocked, HasFile, IsRefused}
+use Rattle.world_mem.specs.Blocked.{LiesBelow, HasAbove, HasBelow, IsBlocked, HasFile, IsRefused}
 use Rattle.world_mem.specs.InSlots.{content_of, file_at, is_live, holds_live}
 use Rattle.world_mem.specs.declared.slots.Slot.{Slot}
 use Rattle.world_mem.specs.declared.slots.Slot.TheVariants.{Running, Settled}
@@ -48,13 +48,11 @@ put_live P target other slot old new put before here live = elim (cases_Bool (by
 pub live_of : (o : Option Slot) → is_some (content_of o) ≡ true → holds_live o ≡ true
 live_of None h = absurd (let e : false ≡ true = h in cc e)
 live_of (Some (Running id)) h = absurd (let e : false ≡ true = h in cc e)
-live_of (Some (Settled content)) h = h
+live_of (Some (Settled None)) h = absurd (let e : false ≡ true = h in cc e)
+live_of (Some (Settled (Some file))) h = refl
 
 pub weaker_blocked : (P Q : List ℕ → Type 0) (path : List ℕ) → ((other : List ℕ) → P other → Q other) → IsBlocked P path → IsBlocked Q path
 weaker_blocked P Q path weaker blocked = elim blocked [ inl h ↦ inl (h.0, weaker h.0 h.1, h.2) | inr h ↦ inr (h.0, weaker h.0 h.1, h.2) ]
-
-pub weaker_targets : (P Q : List ℕ → Type 0) (targets : List (List ℕ)) → ((other : List ℕ) → P other → Q other) → AreBlocked P targets → AreBlocked Q targets
-weaker_targets P Q targets weaker blocked = (blocked.0, blocked.1, elim blocked.2 [ inl h ↦ inl (weaker_blocked P Q blocked.0 weaker h) | inr h ↦ inr h ])
 
 -- where a path goes on behind one that it lies below
 pub above_at : (path other : List ℕ) → LiesBelow path other → (length other < length path) × (get_or path (length other) 0 ≡ 47) × (take (length other) path ≡ other)
@@ -94,9 +92,9 @@ apart_more before path own has free apart = λ one other here there below.
     ]
 
 -- paths of which none is blocked from outside and none lies below another
-pub none_blocked : (taken : List ℕ → Type 0) (paths : List (List ℕ)) → ((path : List ℕ) → Contains paths path → IsBlocked taken path → ⊥) → AreApart paths
-    → (path : List ℕ) → Contains paths path → IsBlocked taken path ⊎ IsBlocked (Contains paths) path → ⊥
-none_blocked taken paths free apart path here blocked = elim blocked [
+pub none_blocked : (barred : List ℕ → Type 0) (paths : List (List ℕ)) → ((path : List ℕ) → Contains paths path → barred path → ⊥) → AreApart paths
+    → (path : List ℕ) → Contains paths path → barred path ⊎ IsBlocked (Contains paths) path → ⊥
+none_blocked barred paths free apart path here blocked = elim blocked [
   | inl outside ↦ free path here outside
   | inr own ↦ elim own [ inl h ↦ apart path h.0 here h.1 h.2 | inr h ↦ apart h.0 path h.1 here h.2 ]
 ]
@@ -126,3 +124,6 @@ pub not_refused : (files : List (List ℕ × List ℕ)) (place : ℕ) (file : Li
 not_refused files place file is new free refused =
     let same : refused.0 ≡ file = sym refused.2 ∙ same_at files place refused.0 file refused.1 ∙ is in
     elim (subst (λ (f : List ℕ × List ℕ). HasFile (take place files) f.0 ⊎ IsBlocked (HasFile (take place files)) f.0) same refused.3) [ inl listed ↦ new listed | inr blocked ↦ free blocked ]
+
+pub above_weaker : (P Q : List ℕ → Type 0) (path : List ℕ) → ((other : List ℕ) → P other → Q other) → HasAbove P path → HasAbove Q path
+above_weaker P Q path weaker above = (above.0, weaker above.0 above.1, above.2)

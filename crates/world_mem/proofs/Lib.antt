@@ -1,5 +1,6 @@
 pub mod Keys
 pub mod Written
+pub mod Emptied
 pub mod Membership
 pub mod Below
 pub mod Directories
@@ -9,3 +10,8 @@ pub mod Owners
 pub mod Taken
 pub mod Plain
 pub mod Unmade
+pub mod Raised
+pub mod Fresh
+pub mod Backs
+pub mod Passing
+pub mod Writes

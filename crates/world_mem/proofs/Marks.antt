@@ -1,15 +1,17 @@
 -- Marks at the targets of a job, and what an ending leaves there.
-use Rattle.std.proofs.Common.{◌≡◌, ◌∙◌, ◌⊎◌, ◌<◌, sym, refl, ℕ, suc, zero, List, [], ◌∷◌, ◌++◌, Bool, true, false, cond, Option, Some, None, ap, map, length, get_or, inl, inr, arith, Contains, IsSome, is_some, IsTrue, ◌||◌, append-nil}
+use Rattle.std.proofs.Common.{◌≡◌, ◌∙◌, ◌⊎◌, ◌<◌, sym, refl, ℕ, suc, zero, List, [], ◌∷◌, ◌++◌, Bool, true, false, cond, Option, Some, None, ap, map, length, get_or, inl, inr, arith, Contains, IsSome, is_some, IsTrue, ◌||◌, append-nil, append_assoc}
 use Rattle.std.specs.Cmp.Lexicographic.{bytes_decides}
 use Rattle.std.specs.List.{list_any}
 use Rattle.std.specs.Option.{option_map, option_to_list}
 use Rattle.std.specs.Str.{bytes_eq}
 use Rattle.std.proofs.lemmas.Bool.{cases_Bool}
 use Rattle.std.proofs.lemmas.Grind.{flat_map-append}
+use Rattle.std.proofs.lemmas.List.Elements.{Contains-append_cases}
 use Rattle.world_api.specs.Act.{Content, Given}
+use Rattle.world_mem.specs.declared.slots.File.{File}
 use Rattle.world_mem.specs.declared.slots.Slot.{Slot}
 use Rattle.world_mem.specs.declared.slots.Slot.TheVariants.{Settled}
-use Rattle.world_mem.specs.InSlots.{file_at, written, marked, settled, content_of}
+use Rattle.world_mem.specs.InSlots.{file_at, file_of, file_with, written, marked, settled, content_of}
 use Rattle.world_mem.specs.Kept.{contents_in, met_of}
 
 pub in_front : (x : List ℕ) (xs : List (List ℕ)) (path : List ℕ) → x ≡ path → Contains (x ∷ xs) path
@@ -66,34 +68,39 @@ marked-empty [] slot path old bytes empty h = h
 marked-empty (x ∷ xs) slot path old bytes empty h = written_empty_if (bytes_eq x path) slot old bytes empty (marked-empty xs slot path (written x slot path old) bytes empty h)
 
 -- other paths keep their slots
-pub settled-off : (made : Given) (path : List ℕ) (old : Option Slot) → (Contains (map (λ entry. entry.0) made) path → ⊥) → settled made path old ≡ old
-settled-off [] path old off = refl
-settled-off (x ∷ xs) path old off =
-    written_off x.0 (Settled x.1) path (settled xs path old) (λ e. off (in_front x.0 (map (λ entry. entry.0) xs) path e))
-    ∙ settled-off xs path old (λ h. off (behind x.0 (map (λ entry. entry.0) xs) path h))
+pub settled-off : (stamp : ℕ) (made : Given) (path : List ℕ) (old : Option Slot) → (Contains (map (λ entry. entry.0) made) path → ⊥) → settled stamp made path old ≡ old
+settled-off stamp [] path old off = refl
+settled-off stamp (x ∷ xs) path old off =
+    written_off x.0 (Settled (file_with stamp x.0 x.1)) path (settled stamp xs path old) (λ e. off (in_front x.0 (map (λ entry. entry.0) xs) path e))
+    ∙ settled-off stamp xs path old (λ h. off (behind x.0 (map (λ entry. entry.0) xs) path h))
 
-settled-some : (made : Given) (path : List ℕ) (old : Option Slot) → IsSome old → IsSome (settled made path old)
-settled-some [] path old h = h
-settled-some (x ∷ xs) path old h = still_some (bytes_eq x.0 path) (Settled x.1) (settled xs path old) (settled-some xs path old h)
+settled-some : (stamp : ℕ) (made : Given) (path : List ℕ) (old : Option Slot) → IsSome old → IsSome (settled stamp made path old)
+settled-some stamp [] path old h = h
+settled-some stamp (x ∷ xs) path old h = still_some (bytes_eq x.0 path) (Settled (file_with stamp x.0 x.1)) (settled stamp xs path old) (settled-some stamp xs path old h)
 
 -- a target that had a slot has what was made for it
-pub settled-on : (f : List ℕ → Content) (targets : List (List ℕ)) (path : List ℕ) (old : Option Slot) → (k : ℕ) → k < length targets → get_or targets k path ≡ path → IsSome old → settled (map (λ target. (target, f target)) targets) path old ≡ Some (Settled (f path))
-settled-on f [] path old k lt e h = absurd (omega arith)
-settled-on f (x ∷ xs) path old zero lt e h =
-    let rest = settled (map (λ target. (target, f target)) xs) path old in
-    written_on_if (bytes_eq x path) (Settled (f x)) rest ((bytes_decides x path).1 e) (settled-some (map (λ target. (target, f target)) xs) path old h)
-    ∙ ap (λ p. Some (Settled (f p))) e
-settled-on f (x ∷ xs) path old (suc k) lt e h =
-    let ih = settled-on f xs path old k (omega arith) e h in
+pub settled-on : (stamp : ℕ) (f : List ℕ → Content) (targets : List (List ℕ)) (path : List ℕ) (old : Option Slot) → (k : ℕ) → k < length targets → get_or targets k path ≡ path → IsSome old → settled stamp (map (λ target. (target, f target)) targets) path old ≡ Some (Settled (file_with stamp path (f path)))
+settled-on stamp f [] path old k lt e h = absurd (omega arith)
+settled-on stamp f (x ∷ xs) path old zero lt e h =
+    let rest = settled stamp (map (λ target. (target, f target)) xs) path old in
+    written_on_if (bytes_eq x path) (Settled (file_with stamp x (f x))) rest ((bytes_decides x path).1 e) (settled-some stamp (map (λ target. (target, f target)) xs) path old h)
+    ∙ ap (λ p. Some (Settled (file_with stamp p (f p)))) e
+settled-on stamp f (x ∷ xs) path old (suc k) lt e h =
+    let ih = settled-on stamp f xs path old k (omega arith) e h in
     elim (cases_Bool (bytes_eq x path)) [
-      | inl y ↦ written_on_if (bytes_eq x path) (Settled (f x)) (settled (map (λ target. (target, f target)) xs) path old) y (settled-some (map (λ target. (target, f target)) xs) path old h) ∙ ap (λ p. Some (Settled (f p))) ((bytes_decides x path).0 y)
-      | inr n ↦ written_off_if (bytes_eq x path) (Settled (f x)) (settled (map (λ target. (target, f target)) xs) path old) (λ y. absurd (let e : true ≡ false = sym y ∙ n in cc e)) ∙ ih
+      | inl y ↦ written_on_if (bytes_eq x path) (Settled (file_with stamp x (f x))) (settled stamp (map (λ target. (target, f target)) xs) path old) y (settled-some stamp (map (λ target. (target, f target)) xs) path old h) ∙ ap (λ p. Some (Settled (file_with stamp p (f p)))) ((bytes_decides x path).0 y)
+      | inr n ↦ written_off_if (bytes_eq x path) (Settled (file_with stamp x (f x))) (settled stamp (map (λ target. (target, f target)) xs) path old) (λ y. absurd (let e : true ≡ false = sym y ∙ n in cc e)) ∙ ih
     ]
 
-written_content_if : (b : Bool) (content : Content) (old : Option Slot) (bytes : List ℕ) → content_of (cond b (option_map (λ _. Settled content) old) old) ≡ Some bytes → (content ≡ Some bytes) ⊎ (content_of old ≡ Some bytes)
-written_content_if true content None bytes h = inr h
-written_content_if true content (Some x) bytes h = inl h
-written_content_if false content old bytes h = inr h
+-- a file that is made of a content has it
+pub made_content : (stamp : ℕ) (path : List ℕ) (content : Content) → content_of (Some (Settled (file_with stamp path content))) ≡ content
+made_content stamp path None = refl
+made_content stamp path (Some bytes) = refl
+
+written_content_if : (b : Bool) (file : Option File) (old : Option Slot) (bytes : List ℕ) → content_of (cond b (option_map (λ _. Settled file) old) old) ≡ Some bytes → (content_of (Some (Settled file)) ≡ Some bytes) ⊎ (content_of old ≡ Some bytes)
+written_content_if true file None bytes h = inr h
+written_content_if true file (Some x) bytes h = inl h
+written_content_if false file old bytes h = inr h
 
 in_option : (content : Content) (rest : List (List ℕ)) (bytes : List ℕ) → content ≡ Some bytes → IsTrue (list_any (bytes_eq bytes) (option_to_list content ++ rest))
 in_option None rest bytes e = absurd (cc)
@@ -108,12 +115,12 @@ past_option (Some x) rest bytes h = or_right (bytes_eq bytes x) (list_any (bytes
     or_right false b h = h
 
 -- what stands after an ending was made by it, or stood before
-pub settled-content : (made : Given) (path : List ℕ) (old : Option Slot) (bytes : List ℕ) → content_of (settled made path old) ≡ Some bytes → (content_of old ≡ Some bytes) ⊎ (list_any (bytes_eq bytes) (contents_in made) ≡ true)
-settled-content [] path old bytes h = inl h
-settled-content (x ∷ xs) path old bytes h =
-    elim (written_content_if (bytes_eq x.0 path) x.1 (settled xs path old) bytes h) [
-      | inl here ↦ inr (in_option x.1 (contents_in xs) bytes here)
-      | inr there ↦ elim (settled-content xs path old bytes there) [ inl before ↦ inl before | inr found ↦ inr (past_option x.1 (contents_in xs) bytes found) ]
+pub settled-content : (stamp : ℕ) (made : Given) (path : List ℕ) (old : Option Slot) (bytes : List ℕ) → content_of (settled stamp made path old) ≡ Some bytes → (content_of old ≡ Some bytes) ⊎ (list_any (bytes_eq bytes) (contents_in made) ≡ true)
+settled-content stamp [] path old bytes h = inl h
+settled-content stamp (x ∷ xs) path old bytes h =
+    elim (written_content_if (bytes_eq x.0 path) (file_with stamp x.0 x.1) (settled stamp xs path old) bytes h) [
+      | inl here ↦ inr (in_option x.1 (contents_in xs) bytes (sym (made_content stamp x.0 x.1) ∙ here))
+      | inr there ↦ elim (settled-content stamp xs path old bytes there) [ inl before ↦ inl before | inr found ↦ inr (past_option x.1 (contents_in xs) bytes found) ]
     ]
 
 written_none : (at : List ℕ) (slot : Slot) (path : List ℕ) → written at slot path None ≡ None
@@ -181,14 +188,51 @@ file-push (x ∷ xs) file path h =
     (λ a b. none.0 ((bytes_decides x.0 file.0).1 ((bytes_decides x.0 path).0 a ∙ sym ((bytes_decides file.0 path).0 b))))
     (file-push xs file path none.1)
 
-content_cond : (b : Bool) (content : Content) (old : Option Slot) → content_of (cond b (Some (Settled content)) old) ≡ cond b content (content_of old)
-content_cond true content old = refl
-content_cond false content old = refl
+content_cond : (b : Bool) (file : Option File) (old : Option Slot) → content_of (cond b (Some (Settled file)) old) ≡ cond b (content_of (Some (Settled file))) (content_of old)
+content_cond true file old = refl
+content_cond false file old = refl
 
 -- a file put at a path that has none
-pub put-file : (files : List (List ℕ × List ℕ)) (file : List ℕ × List ℕ) (path : List ℕ) (old now : Option Slot) → file_at files file.0 ≡ None → content_of old ≡ file_at files path → now ≡ cond (bytes_eq file.0 path) (Some (Settled (Some file.1))) old → content_of now ≡ file_at (files ++ file ∷ []) path
-put-file files file path old now free is put =
-    ap content_of put ∙ content_cond (bytes_eq file.0 path) (Some file.1) old ∙ ap (cond (bytes_eq file.0 path) (Some file.1)) is ∙ sym (file-push files file path free)
+pub put-file : (files : List (List ℕ × List ℕ)) (put : File) (path : List ℕ) (old now : Option Slot) → file_at files put.name ≡ None → content_of old ≡ file_at files path → now ≡ cond (bytes_eq put.name path) (Some (Settled (Some put))) old → content_of now ≡ file_at (files ++ (put.name, put.bytes) ∷ []) path
+put-file files put path old now free is at =
+    ap content_of at ∙ content_cond (bytes_eq put.name path) (Some put) old ∙ ap (cond (bytes_eq put.name path) (Some put.bytes)) is ∙ sym (file-push files (put.name, put.bytes) path free)
+
+named_if : (b : Bool) (put file : File) (old : Option Slot) (at path : List ℕ) → (b ≡ true → at ≡ path) → put.name ≡ at → (file_of old ≡ Some file → file.name ≡ path)
+    → file_of (cond b (option_map (λ _. Settled (Some put)) old) old) ≡ Some file → file.name ≡ path
+named_if true put file None at path same name was h = absurd (let e : None ≡ Some file = h in cc e)
+named_if true put file (Some x) at path same name was h = let e : Some put ≡ Some file = h in let is : put ≡ file = cc e in ap (λ (f : File). f.name) (sym is) ∙ name ∙ same refl
+named_if false put file old at path same name was h = was h
+
+pub put_named : (b : Bool) (put file : File) (old : Option Slot) (path : List ℕ) → (b ≡ true → put.name ≡ path) → (file_of old ≡ Some file → file.name ≡ path)
+    → file_of (cond b (Some (Settled (Some put))) old) ≡ Some file → file.name ≡ path
+put_named true put file old path same was h = let e : Some put ≡ Some file = h in let is : put ≡ file = cc e in ap (λ (f : File). f.name) (sym is) ∙ same refl
+put_named false put file old path same was h = was h
+
+unnamed_if : (b : Bool) (file : File) (old : Option Slot) → file_of (cond b (option_map (λ _. Settled None) old) old) ≡ Some file → file_of old ≡ Some file
+unnamed_if true file None h = h
+unnamed_if true file (Some x) h = absurd (let e : None ≡ Some file = h in cc e)
+unnamed_if false file old h = h
+
+named_made : (stamp : ℕ) (b : Bool) (at : List ℕ) (content : Content) (file : File) (old : Option Slot) (path : List ℕ) → (b ≡ true → at ≡ path) → (file_of old ≡ Some file → file.name ≡ path)
+    → file_of (cond b (option_map (λ _. Settled (file_with stamp at content)) old) old) ≡ Some file → file.name ≡ path
+named_made stamp b at None file old path same was h = was (unnamed_if b file old h)
+named_made stamp b at (Some bytes) file old path same was h = named_if b (record { name = at; bytes = bytes; stamp = stamp }) file old at path same refl was h
+
+-- files that an ending makes have their names
+pub settled-named : (stamp : ℕ) (made : Given) (path : List ℕ) (old : Option Slot) (file : File) → (file_of old ≡ Some file → file.name ≡ path) → file_of (settled stamp made path old) ≡ Some file → file.name ≡ path
+settled-named stamp [] path old file was h = was h
+settled-named stamp (x ∷ xs) path old file was h =
+    named_made stamp (bytes_eq x.0 path) x.0 x.1 file (settled stamp xs path old) path (λ y. (bytes_decides x.0 path).0 y) (settled-named stamp xs path old file was) h
+
+-- a mark that holds no file brings none
+pub marked-named : (targets : List (List ℕ)) (slot : Slot) (path : List ℕ) (old : Option Slot) (file : File) → file_of (Some slot) ≡ None → file_of (marked targets slot path old) ≡ Some file → file_of old ≡ Some file
+marked-named [] slot path old file empty h = h
+marked-named (x ∷ xs) slot path old file empty h = fileless_if (bytes_eq x path) slot old file empty (marked-named xs slot path (written x slot path old) file empty h)
+  where
+    fileless_if : (b : Bool) (slot : Slot) (old : Option Slot) (file : File) → file_of (Some slot) ≡ None → file_of (cond b (option_map (λ _. slot) old) old) ≡ Some file → file_of old ≡ Some file
+    fileless_if true slot None file empty h = h
+    fileless_if true slot (Some x) file empty h = absurd (let e : None ≡ Some file = sym empty ∙ h in cc e)
+    fileless_if false slot old file empty h = h
 
 met_if : (b : Bool) (here bytes : List ℕ) (there : Content) (rest : List (List ℕ)) → cond b (Some here) there ≡ Some bytes → (there ≡ Some bytes → list_any (bytes_eq bytes) rest ≡ true) → (bytes_eq bytes here || list_any (bytes_eq bytes) rest) ≡ true
 met_if true here bytes there rest e f = let same : bytes ≡ here = cc in or_first (bytes_eq bytes here) (list_any (bytes_eq bytes) rest) ((bytes_decides bytes here).1 same)
@@ -207,3 +251,21 @@ file_met (x ∷ xs) path bytes h = met_if (bytes_eq x.0 path) x.1 bytes (file_at
 pub contents_in-files : (files : List (List ℕ × List ℕ)) → contents_in (map (λ file. (file.0, Some file.1)) files) ≡ map (λ file. file.1) files
 contents_in-files [] = refl
 contents_in-files (x ∷ xs) = ap (λ rest. x.1 ∷ rest) (contents_in-files xs)
+
+-- what is met of what is made is made at a target
+pub made_of : (f : List ℕ → Content) (targets : List (List ℕ)) (bytes : List ℕ) → Contains (contents_in (map (λ target. (target, f target)) targets)) bytes → (target : List ℕ) × Contains targets target × (f target ≡ Some bytes)
+made_of f [] bytes h = absurd (omega (arith, h.1))
+made_of f (x ∷ xs) bytes h = elim (Contains-append_cases (option_to_list (f x)) (contents_in (map (λ target. (target, f target)) xs)) bytes h) [
+  | inl here ↦ (x, in_front x xs x refl, one_of (f x) bytes here)
+  | inr there ↦ let later = made_of f xs bytes there in (later.0, behind x xs later.0 later.1, later.2)
+]
+  where
+    one_of : (content : Content) (bytes : List ℕ) → Contains (option_to_list content) bytes → content ≡ Some bytes
+    one_of None bytes h = absurd (omega (arith, h.1))
+    one_of (Some y) bytes (zero, lt, is) = ap Some is
+    one_of (Some y) bytes (suc k, lt, is) = absurd (omega (arith, lt))
+
+-- the files of one entry more
+pub files-push : (entries : Given) (entry : List ℕ × Content) → contents_in (entries ++ entry ∷ []) ≡ contents_in entries ++ option_to_list entry.1
+files-push [] entry = append-nil (option_to_list entry.1)
+files-push (x ∷ xs) entry = ap (λ rest. option_to_list x.1 ++ rest) (files-push xs entry) ∙ sym (append_assoc (option_to_list x.1) (contents_in xs) (option_to_list entry.1))

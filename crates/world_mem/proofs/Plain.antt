@@ -1,5 +1,7 @@
--- A table ends no job otherwise than done or failed.
-use Rattle.std.proofs.Common.{ℕ, List, Option, Some, None}
+-- How a job ends.
+use Rattle.std.proofs.Common.{◌≡◌, ◌≢◌, ◌⊎◌, inl, inr, refl, ℕ, List, Option, Some, None}
+use Rattle.world_api.specs.declared.job.Outcome.{Outcome}
+use Rattle.world_api.specs.declared.job.Outcome.TheVariants.{Done, Failed, Broken, NoMemory}
 use Rattle.world_api.specs.Act.{Given}
 use Rattle.world_api.specs.declared.job.Job.{Job}
 use Rattle.world_api.specs.declared.job.Work.{Work}
@@ -25,3 +27,9 @@ outcome_plain rows Write signed given = tt
 
 pub ends_plain : (rows : List ActRow) (job : Job) (given : Given) → IsPlain (ends rows job given)
 ends_plain rows job given = outcome_plain rows job.work job.signed given
+
+pub done_or_not : (outcome : Outcome) → (outcome ≡ Done) ⊎ (outcome ≢ Done)
+done_or_not Done = inl refl
+done_or_not (Failed code) = inr (λ e. absurd (cc e))
+done_or_not Broken = inr (λ e. absurd (cc e))
+done_or_not NoMemory = inr (λ e. absurd (cc e))

@@ -15,7 +15,8 @@ use Rattle.world_mem.proofs.Owners.{target_of}
 live_cases : (o : Option Slot) → holds_live o ≡ true → (is_some (content_of o) ≡ true) ⊎ ((id : ℕ) × (mark_of o ≡ Some id))
 live_cases None h = absurd (let e : false ≡ true = h in cc e)
 live_cases (Some (slot.Running id)) h = inr (id, refl)
-live_cases (Some (slot.Settled content)) h = inl h
+live_cases (Some (slot.Settled None)) h = absurd (let e : false ≡ true = h in cc e)
+live_cases (Some (slot.Settled (Some file))) h = inl refl
 
 pub taken : (state : State) (path : List ℕ) → Stands state.slots path → IsTaken (around_of state) path
 taken state path live = elim (live_cases (slot_at state.slots path) live) [

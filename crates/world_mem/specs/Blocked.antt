@@ -1,5 +1,5 @@
 -- Paths in the way of one another: a path with others below it is a directory, and a directory can't be a file.
-use Rattle.std.specs.Prelude.{◌≡◌, ◌++◌, ◌⊎◌, ℕ, List, ◌∷◌, IsSome, Contains, ◌<◌, length, take}
+use Rattle.std.specs.Prelude.{◌≡◌, ◌++◌, ◌⊎◌, ℕ, List, ◌∷◌, IsSome, IsTrue, Contains, ◌<◌, length, take}
 use Rattle.std.specs.List.{slice_index_or}
 use Rattle.world_api.specs.Around.{Around, IsRunningTarget}
 
@@ -23,9 +23,17 @@ IsBlocked taken path = HasAbove taken path ⊎ HasBelow taken path
 abbrev pub IsTaken : Around → List ℕ → Type 0
 IsTaken around path = IsSome (around.tree path) ⊎ IsRunningTarget around.running path
 
--- a target of a job can't be a file where these paths are, or where another target of the job is
-abbrev pub AreBlocked : (List ℕ → Type 0) → List (List ℕ) → Type 0
-AreBlocked taken targets = (target : List ℕ) × Contains targets target × (IsBlocked taken target ⊎ IsBlocked (Contains targets) target)
+-- a path can't be a file: a directory stands there, or a file or the target of a running job above it
+abbrev pub IsBarred : Around → List ℕ → Type 0
+IsBarred around path = IsTrue (around.dirs path) ⊎ HasAbove (IsTaken around) path
+
+-- a path can't be a directory: a file or the target of a running job stands there or above it
+abbrev pub IsInTheWay : Around → List ℕ → Type 0
+IsInTheWay around path = IsTaken around path ⊎ HasAbove (IsTaken around) path
+
+-- a target of a job can't be a file, or lies below or above another target of the job
+abbrev pub AreBlocked : Around → List (List ℕ) → Type 0
+AreBlocked around targets = (target : List ℕ) × Contains targets target × (IsBarred around target ⊎ IsBlocked (Contains targets) target)
 
 -- a list of files has one at a path
 abbrev pub HasFile : List (List ℕ × List ℕ) → List ℕ → Type 0

@@ -13,9 +13,12 @@ use Rattle.world_mem.specs.declared.event.Faults.{Faults}
 use Rattle.world_mem.specs.declared.running.RunningJob.{RunningJob}
 
 abbrev pub counts_of : Faults → Counts
-counts_of faults = record { tree_faults = faults.tree; start_faults = faults.start; action_failures = faults.action }
+counts_of faults = record { disk_faults = faults.disk; tree_faults = faults.tree; start_faults = faults.start; action_failures = faults.action }
 
 -- one fault more, and no other
+abbrev pub disk_fault : Counts → Counts
+disk_fault counts = record counts { disk_faults = next counts.disk_faults }
+
 abbrev pub tree_fault : Counts → Counts
 tree_fault counts = record counts { tree_faults = next counts.tree_faults }
 

@@ -1,15 +1,27 @@
 -- What a world in memory means: it tells all, and counts its faults.
-use Rattle.std.specs.Prelude.{[]}
+use Rattle.std.specs.Prelude.{[], ℕ, ◌-◌, max, length, reverse}
+use Rattle.mem_banks.specs.AsStore.{store_of}
+use Rattle.mem_banks.specs.Past.{bytes_in, IsImage}
 use Rattle.world_api.specs.Meaning.{Meaning}
 use Rattle.world_mem.specs.AsAround.{around_of}
+use Rattle.world_mem.specs.AsCourse.{course_of}
 use Rattle.world_mem.specs.Kept.{counts_of}
+use Rattle.world_mem.specs.Past.{Machine, IsMoment}
 use Rattle.world_mem.specs.declared.world.MemWorld.{MemWorld}
 
+abbrev pub machine_of : MemWorld → Machine
+machine_of world = record { course = course_of world.state; store = store_of world.banks }
+
+-- Its moments go back to when it was made, stopped or edited.
 abbrev pub world_meaning : Meaning MemWorld
 world_meaning = record {
   tells = λ w. Unit {0};
   sure = λ w. Unit {0};
-  closed = λ w. [];
+  seen = λ w bank. bytes_in (store_of w.banks) bank;
+  image = λ w bank bytes. IsImage (store_of w.banks) bank bytes;
   around = λ w. around_of w.state;
+  clock = λ w. length w.turns.items;
+  left_since = λ w time around banks. IsMoment (reverse w.turns.items) (machine_of w) (length w.turns.items - max time w.horizon) around banks;
+  closed = λ w. [];
   counts = λ w. counts_of w.faults;
 }

@@ -1,6 +1,7 @@
 //! Lists of paths with their contents.
-ghost use Rattle.std.specs.Prelude.{◌≡◌, IfOk, OnOk, OnErr, ◌++◌, ◌∷◌, [], List, ℕ, Option};
+ghost use Rattle.std.specs.Prelude.{◌≡◌, IfOk, OnOk, OnErr, ◌++◌, ◌∷◌, [], List, ℕ, Option, length};
 ghost use Rattle.std.specs.Option.{option_copied};
+ghost use Rattle.world_mem.specs.Kept.{contents_in};
 ghost use Rattle.world_mem.specs.Listed.{listed, same_given};
 
 use scons_base::{Blob, Memory, PathText};
@@ -8,7 +9,7 @@ use std::marker::Model;
 use world_api::Content;
 
 /// Paths with their contents, as a list of pairs.
-#[derive(Debug, Drop)]
+#[derive(Drop)]
 pub struct Contents {
     items: Vec<(PathText, Content)>,
 }
@@ -47,6 +48,19 @@ impl Contents {
     {
         self.items.push((path, content))?;
         Ok(())
+    }
+
+    /// How many of the contents are files.
+    pub fn files(&self) -> usize
+        ensures { result ≡ length (contents_in self.now) }
+    {
+        let mut count = 0;
+        for (_, content) in &self.items {
+            if content.is_some() {
+                count += 1;
+            }
+        }
+        count
     }
 
     /// Whether the lists are equal.

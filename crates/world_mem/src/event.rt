@@ -1,16 +1,43 @@
-//! What happened, with the counts of then.
+//! What the log of a world holds.
+ghost use Rattle.std.specs.Prelude.{◌≡◌};
+ghost use Rattle.world_mem.specs.Ending.{faults_after};
+
 use world_api::{Job, Outcome};
 
 /// How often the outside was at fault, since the world was made.
 #[derive(Clone, Copy, Debug)]
 pub struct Faults {
+    pub disk: u64,
     pub tree: u64,
     pub start: u64,
     pub action: u64,
 }
 
+impl Faults {
+    /// The counts after an ending.
+    pub fn after(&self, outcome: Outcome) -> Faults
+        ensures { result ≡ faults_after outcome self.now }
+    {
+        match outcome {
+            Outcome::Failed(_) => Faults {
+                disk: self.disk,
+                tree: self.tree,
+                start: self.start,
+                action: self.action.saturating_add(1),
+            },
+            Outcome::Broken => Faults {
+                disk: self.disk,
+                tree: self.tree,
+                start: self.start.saturating_add(1),
+                action: self.action,
+            },
+            Outcome::Done | Outcome::NoMemory => *self,
+        }
+    }
+}
+
 /// A start, with the counts at that moment, or the ending of the job of this id.
-#[derive(Debug, Drop)]
+#[derive(Drop)]
 pub enum Event {
     Started(Job, Faults),
     Finished(u32, Outcome),

@@ -1,12 +1,17 @@
-//! A world in memory, and a sink in memory. It tells all: its files, its jobs and its log.
+//! A world in memory, and a sink in memory. It tells all: its banks, its files, its jobs, its log and each moment since
+//! it was made or stopped.
 //!
-//! What a job makes is known as it starts, by a table of actions. It stands in the tree from the job's ending on.
+//! What a job makes is known as it starts, by a table of actions. It stands in the tree from the job's ending on. Calls
+//! fail where a list says so, or from some call on; a stop leaves one of the outcomes that it may have.
 #![tactic(auto)]
 
 mod calls;
 mod contents;
+mod dirs;
+mod disk;
 mod ending;
 mod event;
+mod past;
 mod plan;
 mod refusal;
 mod room;
@@ -14,13 +19,15 @@ mod running;
 mod sink;
 mod slots;
 mod state;
+mod stop;
 mod table;
 mod text;
+mod tree;
 mod world;
 
 pub use calls::Call;
 pub use contents::Contents;
-pub use refusal::NewRefusal;
+pub use refusal::{EditRefusal, NewRefusal};
 pub use sink::MemSink;
 pub use table::{ActRow, ActTable, Made};
-pub use world::MemWorld;
+pub use world::{Files, MemWorld};

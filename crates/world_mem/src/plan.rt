@@ -1,4 +1,4 @@
-//! What a job will come to, planned as it starts.
+//! What a job makes, and how it ends: known as it starts.
 ghost use Rattle.std.specs.Prelude.{◌≡◌, List, ℕ, IfOk, map};
 ghost use Rattle.std.specs.Option.{option_copied};
 ghost use Rattle.world_api.specs.Act.{Given, Law, act};

@@ -10,7 +10,7 @@ use world_api::{Fault, Sink};
 pub const SINK_ROOM: usize = 4_194_304;
 
 /// A sink in memory. The writes of the listed numbers, counted from 0, fail.
-#[derive(Debug, Drop)]
+#[derive(Drop)]
 pub struct MemSink {
     text: Vec<u8>,
     writes: u64,

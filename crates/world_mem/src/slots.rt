@@ -1,29 +1,39 @@
-//! The tree as it is kept: a slot for each path.
-ghost use Rattle.std.specs.Prelude.{◌≡◌, List, ℕ, None, Some, IsTrue, ◌↔◌, IfOk, IfErr, OnOk, OnErr, if◌then◌else◌, IsSome, ◌<◌, length};
+//! The tree as it is kept: a slot for each path that was ever a file or a target.
+ghost use Rattle.std.specs.Prelude.{◌≡◌, ◌≢◌, AllPairs, List, ℕ, None, Some, IsTrue, false, Contains, ◌↔◌, IfOk, IfErr, OnOk, OnErr, if◌then◌else◌, IsSome, ◌<◌, length};
 ghost use Rattle.std.specs.Option.{option_copied, is_some};
 ghost use Rattle.std.specs.List.{slice_index_or};
 ghost use Rattle.std.specs.Str.{bytes_eq};
+ghost use Rattle.scons_base.specs.Parts.{dir_of};
 ghost use Rattle.world_mem.specs.Blocked.{LiesBelow, HasAbove, HasBelow, IsBlocked, IsRefused, IsFirstRefused};
-ghost use Rattle.world_mem.specs.InSlots.{slot_at, content_of, mark_of, file_at, written, marked, settled, Stands, is_live, holds_live};
+ghost use Rattle.world_mem.specs.InSlots.{slot_at, file_of, file_with, content_of, mark_of, file_at, written, emptied, taken, marked, settled, Stands, is_live, holds_live};
 ghost use Rattle.world_mem.specs.declared.refusal.NewRefusal.{NewRefusal};
+ghost use Rattle.world_mem.specs.declared.slots.File.{File};
 ghost use Rattle.world_mem.specs.declared.slots.Slot.{Slot};
 
 use crate::contents::Contents;
 use crate::refusal::NewRefusal;
-use scons_base::{Blob, Memory, PathText, Paths};
+use scons_base::{Blob, Listing, Memory, PathText, Paths};
 use std::alloc::Global;
 use std::collections::BTreeMap;
 use world_api::Content;
 
+/// A file: its path, its bytes and when it last changed.
+#[derive(Drop)]
+pub struct File {
+    pub name: PathText,
+    pub bytes: Blob,
+    pub stamp: u64,
+}
+
 /// What stands at a path: a target of the running job of this id, or what is settled.
-#[derive(Debug, Drop)]
+#[derive(Drop)]
 pub enum Slot {
     Running(u32),
-    Settled(Content),
+    Settled(Option<File>),
 }
 
 /// A slot for each path that was ever a file or a target.
-#[derive(Debug, Drop)]
+#[derive(Drop)]
 pub struct Slots {
     slots: BTreeMap<Vec<u8>, Slot>,
 }
@@ -37,14 +47,63 @@ impl Slots {
         }
     }
 
+    /// The file at a path.
+    pub fn file(&self, path: &PathText) -> Option<&File>
+        ensures { option_copied result ≡ file_of (slot_at self.now path.now) }
+    {
+        match self.slots.get(path.as_str().as_bytes()) {
+            Some(Slot::Settled(file)) => file.as_ref(),
+            _ => None,
+        }
+    }
+
     /// The bytes of the file, or `None`.
     pub fn content(&self, path: &PathText) -> Option<&Blob>
         ensures { option_copied result ≡ content_of (slot_at self.now path.now) }
     {
-        match self.slots.get(path.as_str().as_bytes()) {
-            Some(Slot::Settled(content)) => content.as_ref(),
-            _ => None,
+        match self.file(path) {
+            Some(file) => Some(&file.bytes),
+            None => None,
         }
+    }
+
+    /// Takes away the file at a path.
+    pub fn take(&mut self, path: &PathText) -> Option<File>
+        ensures file { result ≡ file_of (slot_at self.old path.now) }
+        ensures slots { (other : List ℕ) → slot_at self.new other ≡ taken path.now other (slot_at self.old other) }
+    {
+        if let Some(place) = self.slots.get_mut(path.as_str().as_bytes()) {
+            return emptied(place);
+        }
+        None
+    }
+
+    /// The files directly in a directory.
+    pub fn list(&self, alloc: Global, dir: &PathText) -> Result<Paths, Memory>
+        requires { (path : List ℕ) (file : File) → file_of (slot_at self.now path) ≡ Some file → file.name ≡ path }
+        ensures each { IfOk result (λ paths. (path : List ℕ) → Contains paths path ↔ (IsSome (content_of (slot_at self.now path)) × (dir_of path ≡ dir.now))) }
+        ensures once { IfOk result (λ paths. AllPairs (λ one other. one ≢ other) paths) }
+    {
+        let mut paths = Paths::new(Vec::new(alloc));
+        for (_, slot) in &self.slots {
+            if let Slot::Settled(Some(file)) = slot {
+                if file.name.dir() == dir.as_str() {
+                    paths.push(file.name.copy()?)?;
+                }
+            }
+        }
+        Ok(paths)
+    }
+
+    /// All files.
+    pub fn files(&self, alloc: Global) -> Result<Listing<(PathText, Blob)>, Memory> {
+        let mut files = Listing::empty(alloc);
+        for (_, slot) in &self.slots {
+            if let Slot::Settled(Some(file)) = slot {
+                files.push((file.name.copy()?, file.bytes.copy()?))?;
+            }
+        }
+        Ok(files)
     }
 
     /// A copy of what the path holds.
@@ -63,7 +122,7 @@ impl Slots {
         self.content(path).is_some()
     }
 
-    fn stands(&self, path: &[u8]) -> bool
+    pub fn stands(&self, path: &[u8]) -> bool
         ensures { result ≡ holds_live (slot_at self.now path.now) }
     {
         match self.slots.get(path) {
@@ -72,7 +131,7 @@ impl Slots {
         }
     }
 
-    fn stands_above(&self, path: &[u8]) -> bool
+    pub fn stands_above(&self, path: &[u8]) -> bool
         ensures { IsTrue result ↔ HasAbove (Stands self.now) path.now }
     {
         for (place, byte) in path.iter().enumerate() {
@@ -113,6 +172,7 @@ impl Slots {
         requires { (path : List ℕ) → slot_at self.old path ≡ None }
         ensures files { OnOk result ((path : List ℕ) → content_of (slot_at self.new path) ≡ file_at files.now path) }
         ensures unmarked { OnOk result ((path : List ℕ) → mark_of (slot_at self.new path) ≡ None) }
+        ensures named { OnOk result ((path : List ℕ) (file : File) → file_of (slot_at self.new path) ≡ Some file → file.name ≡ path) }
         ensures stand { OnOk result ((place : ℕ) → IsRefused files.now place → ⊥) }
         ensures place { IfErr result (λ refusal. (place : ℕ) → refusal ≡ NewRefusal.Place place → IsFirstRefused files.now place) }
     {
@@ -120,7 +180,8 @@ impl Slots {
             if self.has_file(path) || self.is_blocked(alloc, path)? {
                 return Err(NewRefusal::Place(place));
             }
-            self.put(alloc, path, Slot::Settled(Some(bytes.copy()?)))?;
+            let file = copied(path, bytes)?;
+            self.put(alloc, path, Slot::Settled(Some(file)))?;
         }
         Ok(())
     }
@@ -148,6 +209,8 @@ impl Slots {
     pub fn make_place(&mut self, alloc: Global, path: &PathText) -> Result<(), Memory>
         ensures kept { (other : List ℕ) (slot : Slot) → slot_at self.old other ≡ Some slot → slot_at self.new other ≡ Some slot }
         ensures same { (other : List ℕ) → content_of (slot_at self.new other) ≡ content_of (slot_at self.old other) }
+        ensures files { (other : List ℕ) → file_of (slot_at self.new other) ≡ file_of (slot_at self.old other) }
+        ensures live { (other : List ℕ) → holds_live (slot_at self.new other) ≡ holds_live (slot_at self.old other) }
         ensures marks { (other : List ℕ) → mark_of (slot_at self.new other) ≡ mark_of (slot_at self.old other) }
         ensures stands { OnOk result (IsSome (slot_at self.new path.now)) }
     {
@@ -161,6 +224,8 @@ impl Slots {
     pub fn make_places(&mut self, alloc: Global, paths: &Paths) -> Result<(), Memory>
         ensures kept { (other : List ℕ) (slot : Slot) → slot_at self.old other ≡ Some slot → slot_at self.new other ≡ Some slot }
         ensures same { (other : List ℕ) → content_of (slot_at self.new other) ≡ content_of (slot_at self.old other) }
+        ensures files { (other : List ℕ) → file_of (slot_at self.new other) ≡ file_of (slot_at self.old other) }
+        ensures live { (other : List ℕ) → holds_live (slot_at self.new other) ≡ holds_live (slot_at self.old other) }
         ensures marks { (other : List ℕ) → mark_of (slot_at self.new other) ≡ mark_of (slot_at self.old other) }
         ensures stand { OnOk result ((k : ℕ) (d : List ℕ) → k < length paths.now → IsSome (slot_at self.new (slice_index_or paths.now k d))) }
     {
@@ -189,13 +254,53 @@ impl Slots {
     }
 
     /// Settles the slots of these paths.
-    pub fn settle(&mut self, made: Contents)
-        ensures { (path : List ℕ) → slot_at self.new path ≡ settled made path (slot_at self.old path) }
+    pub fn settle(&mut self, made: Contents, stamp: u64)
+        ensures { (path : List ℕ) → slot_at self.new path ≡ settled stamp made path (slot_at self.old path) }
     {
         let mut made = made.into_vec();
         while let Some((path, content)) = made.pop() {
-            self.write(&path, Slot::Settled(content));
+            self.settle_one(path, content, stamp);
         }
+    }
+
+    fn settle_one(&mut self, path: PathText, content: Content, stamp: u64)
+        ensures { (other : List ℕ) → slot_at self.new other ≡ written path (Slot.Settled (file_with stamp path content)) other (slot_at self.old other) }
+    {
+        if let Some(place) = self.slots.get_mut(path.as_str().as_bytes()) {
+            *place = Slot::Settled(file_with(path, content, stamp));
+        }
+    }
+}
+
+/// Takes the file out of a slot.
+fn emptied(place: &mut Slot) -> Option<File>
+    ensures file { result ≡ file_of (Some place.old) }
+    ensures slot { Some place.new ≡ emptied (Some place.old) }
+{
+    match place {
+        Slot::Settled(file) => file.take(),
+        Slot::Running(_) => None,
+    }
+}
+
+/// A file that never changed.
+fn copied(path: &PathText, bytes: &Blob) -> Result<File, Memory>
+    ensures { IfOk result (λ file. file ≡ record { name = path.now; bytes = bytes.now; stamp = 0 }) }
+{
+    Ok(File {
+        name: path.copy()?,
+        bytes: bytes.copy()?,
+        stamp: 0,
+    })
+}
+
+/// The file of this content.
+fn file_with(name: PathText, content: Content, stamp: u64) -> Option<File>
+    ensures { result ≡ file_with stamp name content }
+{
+    match content {
+        Some(bytes) => Some(File { name, bytes, stamp }),
+        None => None,
     }
 }
 

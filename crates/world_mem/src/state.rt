@@ -1,56 +1,86 @@
-//! What stands in a world in memory.
-ghost use Rattle.std.specs.Prelude.{◌≡◌, ◌+◌, ◌<◌, ◌≤◌, ℕ, List, Some, IsTrue, Contains, vec_len, IfOk, IfErr, map, []};
+//! The files, the jobs that run and the past.
+ghost use Rattle.std.specs.Prelude.{◌≡◌, ◌≢◌, ◌+◌, ◌-◌, ◌<◌, ◌≤◌, ℕ, List, Some, IsTrue, Contains, length, vec_len, IfOk, IfErr, map, []};
 ghost use Rattle.std.specs.List.{slice_index_or, list_any};
 ghost use Rattle.std.specs.Str.{bytes_eq};
 ghost use Rattle.std.specs.Vec.{vec_capacity};
-ghost use Rattle.world_mem.specs.InSlots.{slot_at, content_of, mark_of, file_at};
+ghost use Rattle.world_mem.specs.InSlots.{slot_at, file_of, content_of, mark_of, file_at};
 ghost use Rattle.world_mem.specs.Kept.{met_of, contents_in, IdsApart, is_target};
 ghost use Rattle.world_mem.specs.Planned.{makes, ends};
 ghost use Rattle.world_mem.specs.declared.running.RunningJob.{RunningJob};
+ghost use Rattle.world_mem.specs.declared.slots.File.{File};
 ghost use Rattle.world_mem.specs.declared.slots.Slot.TheVariants as slot;
 
 use crate::contents::Contents;
+use crate::dirs::Dirs;
 use crate::ending::conclude;
 use crate::event::{Event, Faults};
+use crate::past::{Change, Ending};
 use crate::plan::{given_of, made_by, outcome_of};
 use crate::refusal::NewRefusal;
-use crate::room::{add, take_room};
-use crate::running::{RunningJob, copy_job};
-use crate::slots::{Slot, Slots};
+use crate::room::{add, make_places, widen};
+use crate::running::RunningJob;
+use crate::slots::{File, Slot, Slots};
 use crate::table::ActTable;
+use mem_banks::CALL_ROOM;
 use scons_base::{Blob, Memory, PathText, Paths};
 use std::alloc::Global;
-use world_api::{Ended, Job, Outcome};
+use world_api::{Ended, Job, Kind, Outcome};
 
-/// The files, the jobs that run and the past. The ending of each running job has its room.
-#[derive(Debug, Drop)]
+/// How many changes have their room from the beginning: all removals that are recorded, and some starts and endings.
+const PAST_ROOM: usize = CALL_ROOM + 16_384;
+
+/// The files, the directories, the jobs that run and the past. The ending of each running job has its room, and so has
+/// each removal that is recorded.
+#[derive(Drop)]
 pub struct State {
-    slots: Slots,
-    running: Vec<RunningJob>,
-    log: Vec<Event>,
-    met: Vec<Contents>,
-    table: ActTable,
+    pub(crate) slots: Slots,
+    pub(crate) dirs: Dirs,
+    pub(crate) running: Vec<RunningJob>,
+    pub(crate) log: Vec<Event>,
+    pub(crate) jobs: Vec<Job>,
+    pub(crate) met: Vec<Contents>,
+    pub(crate) past: Vec<Change>,
+    pub(crate) removals: usize,
+    pub(crate) stamp: u64,
+    pub(crate) table: ActTable,
     ghost log_room: { vec_len log + vec_len running ≤ vec_capacity log },
     ghost met_room: { vec_len met + vec_len running ≤ vec_capacity met },
+    ghost removals_within: { removals ≤ 262144 },
+    ghost past_capacity: { 262144 ≤ vec_capacity past },
+    ghost past_room: { vec_len past + vec_len running + (262144 - removals) ≤ vec_capacity past },
     ghost owned: { (run : RunningJob) (path : List ℕ) → Contains running.items run → Contains run.job.targets path → slot_at slots path ≡ Some (slot.Running run.job.id) },
     ghost marks: { (path : List ℕ) (id : ℕ) → mark_of (slot_at slots path) ≡ Some id → IsTrue (is_target running.items path) },
     ghost apart: { IdsApart running.items },
     ghost planned: { (run : RunningJob) → Contains running.items run → run.made ≡ makes table run.job run.given },
     ghost kept: { (run : RunningJob) → Contains running.items run → run.kept ≡ run.made },
+    ghost gains: { (run : RunningJob) → Contains running.items run → run.gained ≡ length (contents_in run.made) },
     ghost ending: { (run : RunningJob) → Contains running.items run → run.outcome ≡ ends table run.job run.given },
     ghost held: { (path bytes : List ℕ) → content_of (slot_at slots path) ≡ Some bytes → IsTrue (list_any (bytes_eq bytes) (met_of met.items)) },
+    ghost named: { (path : List ℕ) (file : File) → file_of (slot_at slots path) ≡ Some file → file.name ≡ path },
+}
+
+/// What a job that is to run is entered with.
+#[derive(Drop)]
+pub struct Entering {
+    pub run: RunningJob,
+    pub event: Event,
+    pub job: Job,
+    pub dirs: Paths,
 }
 
 impl State {
-    ghost use Rattle.std.specs.Prelude.{◌∷◌, ◌++◌, ◌≢◌, ◌↔◌, OnOk, OnErr, IsSome, None, length, false, pos};
+    ghost use Rattle.std.specs.Prelude.{◌∷◌, ◌++◌, ◌↔◌, ◌⊎◌, ◌||◌, if◌then◌else◌, OnOk, OnErr, IsSome, None, false, unwrap_or, codes};
     ghost use Rattle.std.specs.Option.{option_copied};
     ghost use Rattle.world_api.specs.Around.{IsUnused, Running, given_of};
-    ghost use Rattle.world_api.specs.Calls.{Asks, Removes, CanStart, Starts, Ends};
+    ghost use Rattle.world_api.specs.Calls.{Asks, MakesDir, Removes, CanStart, Starts, Ends};
+    ghost use Rattle.world_api.specs.Reads.{IsListing, kind_of, stamp_of};
     ghost use Rattle.world_mem.specs.AsAround.{around_of};
-    ghost use Rattle.world_mem.specs.Blocked.{AreBlocked, IsRefused, IsFirstRefused, IsTaken};
+    ghost use Rattle.world_mem.specs.AsCourse.{course_of};
+    ghost use Rattle.world_mem.specs.Blocked.{AreBlocked, IsBarred, IsInTheWay, IsRefused, IsFirstRefused, LiesBelow};
     ghost use Rattle.world_mem.specs.declared.refusal.NewRefusal.{NewRefusal};
     ghost use Rattle.world_mem.specs.Kept.{counts_of};
-    ghost use Rattle.world_mem.specs.Planned.{IsPlain};
+    ghost use Rattle.world_mem.specs.Past.{before};
+    ghost use Rattle.world_mem.specs.Standing.{is_dir, is_in};
     ghost use Rattle.world_mem.specs.Table.{law_of};
 
     pub fn new(
@@ -60,22 +90,33 @@ impl State {
     ) -> Result<State, NewRefusal>
         ensures tree { IfOk result (λ state. (path : List ℕ) → (around_of state).tree path ≡ file_at files.now path) }
         ensures running { IfOk result (λ state. (around_of state).running ≡ []) }
+        ensures none { IfOk result (λ state. vec_len state.running ≡ 0) }
         ensures log { IfOk result (λ state. (around_of state).log ≡ []) }
         ensures met { IfOk result (λ state. (around_of state).met ≡ map (λ file. file.1) files.now) }
         ensures law { IfOk result (λ state. (around_of state).law ≡ law_of table) }
+        ensures past { IfOk result (λ state. state.past.items ≡ []) }
+        ensures removals { IfOk result (λ state. state.removals ≡ 0) }
         ensures stand { OnOk result ((place : ℕ) → IsRefused files.now place → ⊥) }
         ensures place { IfErr result (λ refusal. (place : ℕ) → refusal ≡ NewRefusal.Place place → IsFirstRefused files.now place) }
     {
         let mut slots = Slots::new(alloc);
         slots.fill(alloc, files)?;
+        let mut dirs = Dirs::new(alloc);
+        raise_above(alloc, &mut dirs, files)?;
         let group = contents_of(alloc, files)?;
-        let mut met = with_room(alloc)?;
+        let mut met = with_room(alloc, 1)?;
         add(&mut met, group);
+        let past = with_room(alloc, PAST_ROOM)?;
         Ok(State {
             slots,
+            dirs,
             running: Vec::new(alloc),
             log: Vec::new(alloc),
+            jobs: Vec::new(alloc),
             met,
+            past,
+            removals: 0,
+            stamp: 0,
             table,
         })
     }
@@ -86,19 +127,50 @@ impl State {
         self.slots.content(path)
     }
 
+    /// What stands at a path.
+    pub fn kind(&self, path: &PathText) -> Kind
+        ensures { result ≡ kind_of (around_of self.now) path.now }
+    {
+        if self.slots.content(path).is_some() {
+            return Kind::File;
+        }
+        if self.dirs.stands(path.as_str().as_bytes()) {
+            return Kind::Dir;
+        }
+        Kind::Absent
+    }
+
+    /// When the file at a path last changed.
+    pub fn stamp(&self, path: &PathText) -> Option<u64>
+        ensures { result ≡ stamp_of (around_of self.now) path.now }
+    {
+        match self.slots.file(path) {
+            Some(file) => Some(file.stamp),
+            None => None,
+        }
+    }
+
+    /// The files directly in a directory.
+    pub fn list(&self, alloc: Global, dir: &PathText) -> Result<Paths, Memory>
+        ensures { IfOk result (IsListing (around_of self.now) dir.now) }
+    {
+        self.slots.list(alloc, dir)
+    }
+
     pub fn running(&self) -> usize
         ensures { result ≡ length (around_of self.now).running }
     {
         self.running.len()
     }
 
-    /// Whether a target lies below or above a file, a target of a running job or another one of these.
+    /// Whether a target is a directory, lies below a file or the target of a running job, or lies below or above another
+    /// one of these.
     pub fn is_blocked(&self, alloc: Global, targets: &Paths) -> Result<bool, Memory>
-        ensures { IfOk result (λ blocked. IsTrue blocked ↔ AreBlocked (IsTaken (around_of self.now)) targets.now) }
+        ensures { IfOk result (λ blocked. IsTrue blocked ↔ AreBlocked (around_of self.now) targets.now) }
     {
         let mut own = Slots::new(alloc);
         for target in targets.as_slice() {
-            if self.slots.is_blocked(alloc, target)? || own.is_blocked(alloc, target)? {
+            if self.is_barred(target) || own.is_blocked(alloc, target)? {
                 return Ok(true);
             }
             own.put(alloc, target, Slot::Running(0))?;
@@ -106,131 +178,332 @@ impl State {
         Ok(false)
     }
 
-    /// Removes a file.
-    pub fn remove(&mut self, path: &PathText)
-        requires { IsUnused (around_of self.old).running path.now }
+    /// Whether a path can't be a file: a directory stands there, or a file or the target of a running job above it.
+    pub fn is_barred(&self, path: &PathText) -> bool
+        ensures { IsTrue result ↔ IsBarred (around_of self.now) path.now }
+    {
+        let bytes = path.as_str().as_bytes();
+        self.dirs.stands(bytes) || self.slots.stands_above(bytes)
+    }
+
+    /// Whether a path can't be a directory: a file or the target of a running job stands there or above it.
+    pub fn is_taken(&self, path: &PathText) -> bool
+        ensures { IsTrue result ↔ IsInTheWay (around_of self.now) path.now }
+    {
+        let bytes = path.as_str().as_bytes();
+        self.slots.stands(bytes) || self.slots.stands_above(bytes)
+    }
+
+    /// Removes a file. Says whether one stood there.
+    pub fn remove(&mut self, path: &PathText) -> bool
+        requires unused { IsUnused (around_of self.old).running path.now }
+        requires room { self.old.removals < 262144 }
         ensures removed { Removes path.now (around_of self.old) (around_of self.new) }
         ensures gone { (around_of self.new).tree path.now ≡ None }
-        ensures met { self.new.met.items ≡ self.old.met.items }
+        ensures back { IsTrue result → before (course_of self.new) ≡ course_of self.old }
+        ensures same { result ≡ false → course_of self.new ≡ course_of self.old }
+        ensures removals { self.new.removals ≡ self.old.removals + (if result then 1 else 0) }
+        ensures running { self.new.running.items ≡ self.old.running.items }
         ensures table { self.new.table ≡ self.old.table }
     {
-        self.slots.write(path, Slot::Settled(None));
+        match self.slots.take(path) {
+            Some(file) => {
+                self.removals += 1;
+                add(&mut self.past, Change::Removed(file));
+                true
+            }
+            None => false,
+        }
+    }
+
+    /// Removes a file. The past does not tell of it.
+    pub fn lose(&mut self, path: &PathText)
+        ensures removals { self.new.removals ≡ self.old.removals }
+        ensures running { vec_len self.new.running ≡ vec_len self.old.running }
+    {
+        let _ = self.slots.take(path);
+    }
+
+    /// Makes a directory and those above it.
+    pub fn make_dir(&mut self, alloc: Global, path: &PathText) -> Result<(), Memory>
+        ensures made { OnOk result (MakesDir path.now (around_of self.old) (around_of self.new)) }
+        ensures back { OnOk result (before (course_of self.new) ≡ course_of self.old) }
+        ensures same { OnErr result (course_of self.new ≡ course_of self.old) }
+        ensures removals { self.new.removals ≡ self.old.removals }
+        ensures running { self.new.running.items ≡ self.old.running.items }
+        ensures table { self.new.table ≡ self.old.table }
+    {
+        let mut fresh = Paths::new(Vec::new(alloc));
+        self.dirs.missing(alloc, path, &mut fresh)?;
+        let owed = self.running.len() + (CALL_ROOM - self.removals);
+        widen(&mut self.past, owed + 1)?;
+        self.dirs.make_places(alloc, &fresh)?;
+        self.dirs.raise(&fresh);
+        add(&mut self.past, Change::Made(fresh));
+        Ok(())
     }
 
     /// Starts a job.
     pub fn start(&mut self, alloc: Global, job: Job, faults: Faults) -> Result<(), Memory>
         requires { CanStart job (around_of self.old) }
         ensures ok { OnOk result (Starts job (counts_of faults) (around_of self.old) (around_of self.new)) }
-        ensures err { OnErr result (Asks (around_of self.old) (around_of self.new)) }
-        ensures met { self.new.met.items ≡ self.old.met.items }
+        ensures back { OnOk result (before (course_of self.new) ≡ course_of self.old) }
+        ensures same { OnErr result (course_of self.new ≡ course_of self.old) }
+        ensures removals { self.new.removals ≡ self.old.removals }
+        ensures more { OnOk result (vec_len self.new.running ≡ vec_len self.old.running + 1) }
+        ensures fewer { OnErr result (vec_len self.new.running ≡ vec_len self.old.running) }
         ensures table { self.new.table ≡ self.old.table }
     {
-        let event = Event::Started(copy_job(&job)?, faults);
-        let run = self.prepare(alloc, job)?;
-        self.make_room(alloc, &run.job.targets)?;
-        self.enter(run, event);
+        let entering = self.prepare(alloc, job, faults)?;
+        self.make_room(alloc, &entering)?;
+        self.enter(entering);
         Ok(())
     }
 
-    fn prepare(&self, alloc: Global, job: Job) -> Result<RunningJob, Memory>
+    fn prepare(&self, alloc: Global, job: Job, faults: Faults) -> Result<Entering, Memory>
+        ensures job { IfOk result (λ e. e.run.job ≡ job) }
+        ensures given { IfOk result (λ e. e.run.given ≡ given_of (around_of self.now).tree job.deps) }
+        ensures made { IfOk result (λ e. e.run.made ≡ makes self.now.table job e.run.given) }
+        ensures kept { IfOk result (λ e. e.run.kept ≡ e.run.made) }
+        ensures gains { IfOk result (λ e. e.run.gained ≡ length (contents_in e.run.made)) }
+        ensures outcome { IfOk result (λ e. e.run.outcome ≡ ends self.now.table job e.run.given) }
+        ensures event { IfOk result (λ e. e.event ≡ Event.Started job faults) }
+        ensures dirs { IfOk result (λ e. (dir : List ℕ) → Contains e.dirs dir ↔ (((target : List ℕ) × Contains job.targets target × LiesBelow target dir) × (is_dir self.now.dirs dir ≡ false))) }
+    {
+        let event = Event::Started(job.copy(alloc)?, faults);
+        let started = job.copy(alloc)?;
+        let mut dirs = Paths::new(Vec::new(alloc));
+        self.missing_above(alloc, &job.targets, &mut dirs)?;
+        let run = self.plan(alloc, job)?;
+        Ok(Entering {
+            run,
+            event,
+            job: started,
+            dirs,
+        })
+    }
+
+    fn missing_above(&self, alloc: Global, targets: &Paths, dirs: &mut Paths) -> Result<(), Memory>
+        requires { dirs.old ≡ [] }
+        ensures { OnOk result ((dir : List ℕ) → Contains dirs.new dir ↔ (((target : List ℕ) × Contains targets.now target × LiesBelow target dir) × (is_dir self.now.dirs dir ≡ false))) }
+    {
+        for target in targets.as_slice() {
+            self.dirs.missing_above(alloc, target, dirs)?;
+        }
+        Ok(())
+    }
+
+    fn plan(&self, alloc: Global, job: Job) -> Result<RunningJob, Memory>
         ensures job { IfOk result (λ run. run.job ≡ job) }
         ensures given { IfOk result (λ run. run.given ≡ given_of (around_of self.now).tree job.deps) }
         ensures made { IfOk result (λ run. run.made ≡ makes self.now.table job run.given) }
         ensures kept { IfOk result (λ run. run.kept ≡ run.made) }
+        ensures gains { IfOk result (λ run. run.gained ≡ length (contents_in run.made)) }
         ensures outcome { IfOk result (λ run. run.outcome ≡ ends self.now.table job run.given) }
     {
         let given = given_of(alloc, &self.slots, &job.deps)?;
         let made = made_by(alloc, &self.table, &job, &given)?;
         let kept = made.copy()?;
         let outcome = outcome_of(&self.table, &job, &given);
+        let gained = made.files();
         Ok(RunningJob {
             job,
             given,
             outcome,
             made,
             kept,
+            gained,
         })
     }
 
     /// Takes the room for a job, its start and its ending.
-    fn make_room(&mut self, alloc: Global, targets: &Paths) -> Result<(), Memory>
-        ensures tree { (path : List ℕ) → (around_of self.new).tree path ≡ (around_of self.old).tree path }
+    fn make_room(&mut self, alloc: Global, entering: &Entering) -> Result<(), Memory>
+        ensures course { course_of self.new ≡ course_of self.old }
         ensures running { self.new.running.items ≡ self.old.running.items }
+        ensures running_len { vec_len self.new.running ≡ vec_len self.old.running }
         ensures log { self.new.log.items ≡ self.old.log.items }
         ensures met { self.new.met.items ≡ self.old.met.items }
+        ensures past { self.new.past.items ≡ self.old.past.items }
+        ensures dirs { (dir : List ℕ) → is_dir self.new.dirs dir ≡ is_dir self.old.dirs dir }
         ensures table { self.new.table ≡ self.old.table }
-        ensures places { OnOk result ((k : ℕ) (d : List ℕ) → k < length targets.now → IsSome (slot_at self.new.slots (slice_index_or targets.now k d))) }
+        ensures removals { self.new.removals ≡ self.old.removals }
+        ensures places { OnOk result ((k : ℕ) (d : List ℕ) → k < length entering.now.run.job.targets → IsSome (slot_at self.new.slots (slice_index_or entering.now.run.job.targets k d))) }
+        ensures fresh { OnOk result ((k : ℕ) (d : List ℕ) → k < length entering.now.dirs → IsSome (slot_at self.new.dirs.slots (slice_index_or entering.now.dirs k d))) }
         ensures log_room { OnOk result (vec_len self.new.log + vec_len self.new.running + 2 ≤ vec_capacity self.new.log) }
         ensures met_room { OnOk result (vec_len self.new.met + vec_len self.new.running + 1 ≤ vec_capacity self.new.met) }
         ensures run_room { OnOk result (vec_len self.new.running + 1 ≤ vec_capacity self.new.running) }
+        ensures job_room { OnOk result (vec_len self.new.jobs + 1 ≤ vec_capacity self.new.jobs) }
+        ensures past_room { OnOk result (vec_len self.new.past + vec_len self.new.running + (262144 - self.new.removals) + 2 ≤ vec_capacity self.new.past) }
     {
-        take_room(
+        let jobs = self.running.len();
+        widen(&mut self.past, jobs + (CALL_ROOM - self.removals) + 2)?;
+        widen(&mut self.log, jobs + 2)?;
+        widen(&mut self.met, jobs + 1)?;
+        widen(&mut self.jobs, 1)?;
+        widen(&mut self.running, 1)?;
+        make_places(
             alloc,
             &mut self.slots,
-            &mut self.running,
-            &mut self.log,
-            &mut self.met,
-            targets,
+            &mut self.dirs,
+            &entering.run.job.targets,
+            &entering.dirs,
         )
     }
 
-    fn enter(&mut self, run: RunningJob, event: Event)
-        requires new_id { (other : RunningJob) → Contains self.old.running.items other → other.job.id ≢ run.job.id }
-        requires own_targets { (other : RunningJob) (path : List ℕ) → Contains self.old.running.items other → Contains run.job.targets path → Contains other.job.targets path → ⊥ }
-        requires made { run.made ≡ makes self.old.table run.job run.given }
-        requires kept { run.kept ≡ run.made }
-        requires outcome { run.outcome ≡ ends self.old.table run.job run.given }
-        requires places { (k : ℕ) (d : List ℕ) → k < length run.job.targets → IsSome (slot_at self.old.slots (slice_index_or run.job.targets k d)) }
+    fn enter(&mut self, entering: Entering)
+        requires new_id { (other : RunningJob) → Contains self.old.running.items other → other.job.id ≢ entering.run.job.id }
+        requires own_targets { (other : RunningJob) (path : List ℕ) → Contains self.old.running.items other → Contains entering.run.job.targets path → Contains other.job.targets path → ⊥ }
+        requires clear { (path : List ℕ) → Contains entering.run.job.targets path → content_of (slot_at self.old.slots path) ≡ None }
+        requires made { entering.run.made ≡ makes self.old.table entering.run.job entering.run.given }
+        requires kept { entering.run.kept ≡ entering.run.made }
+        requires gains { entering.run.gained ≡ length (contents_in entering.run.made) }
+        requires outcome { entering.run.outcome ≡ ends self.old.table entering.run.job entering.run.given }
+        requires places { (k : ℕ) (d : List ℕ) → k < length entering.run.job.targets → IsSome (slot_at self.old.slots (slice_index_or entering.run.job.targets k d)) }
+        requires fresh { (k : ℕ) (d : List ℕ) → k < length entering.dirs → IsSome (slot_at self.old.dirs.slots (slice_index_or entering.dirs k d)) }
+        requires absent { (dir : List ℕ) → Contains entering.dirs dir → is_dir self.old.dirs dir ≡ false }
         requires log_room { vec_len self.old.log + vec_len self.old.running + 2 ≤ vec_capacity self.old.log }
         requires met_room { vec_len self.old.met + vec_len self.old.running + 1 ≤ vec_capacity self.old.met }
         requires run_room { vec_len self.old.running + 1 ≤ vec_capacity self.old.running }
-        ensures others { (path : List ℕ) → (Contains run.job.targets path → ⊥) → (around_of self.new).tree path ≡ (around_of self.old).tree path }
-        ensures running { self.new.running.items ≡ self.old.running.items ++ run ∷ [] }
-        ensures log { self.new.log.items ≡ self.old.log.items ++ event ∷ [] }
+        requires job_room { vec_len self.old.jobs + 1 ≤ vec_capacity self.old.jobs }
+        requires past_room { vec_len self.old.past + vec_len self.old.running + (262144 - self.old.removals) + 2 ≤ vec_capacity self.old.past }
+        ensures others { (path : List ℕ) → (Contains entering.run.job.targets path → ⊥) → slot_at self.new.slots path ≡ slot_at self.old.slots path }
+        ensures dirs { (dir : List ℕ) → is_dir self.new.dirs dir ≡ (is_in entering.dirs dir || is_dir self.old.dirs dir) }
+        ensures running { self.new.running.items ≡ self.old.running.items ++ entering.run ∷ [] }
+        ensures running_len { vec_len self.new.running ≡ vec_len self.old.running + 1 }
+        ensures log { self.new.log.items ≡ self.old.log.items ++ entering.event ∷ [] }
         ensures met { self.new.met.items ≡ self.old.met.items }
+        ensures back { before (course_of self.new) ≡ course_of self.old }
         ensures table { self.new.table ≡ self.old.table }
+        ensures removals { self.new.removals ≡ self.old.removals }
     {
+        let Entering {
+            run,
+            event,
+            job,
+            dirs,
+        } = entering;
         self.slots.mark(&run.job.targets, run.job.id);
+        self.dirs.raise(&dirs);
         add(&mut self.running, run);
         add(&mut self.log, event);
+        add(&mut self.jobs, job);
+        add(&mut self.past, Change::Started(dirs));
     }
 
-    /// Ends the job at a place among those that run, the oldest at 0. It fails where it is to, or where its row says so.
-    pub fn end(&mut self, place: usize, fails: bool) -> Ended
-        requires { place < length (around_of self.old).running }
+    /// Ends the job at a place among those that run, the oldest at 0: as planned, or as it is cut.
+    pub fn end(&mut self, place: usize, cut: Option<Outcome>) -> Ended
+        requires place { place < length (around_of self.old).running }
+        requires cut { cut ≢ Some Outcome.Done }
         ensures ended { Ends (Unit {0}) result (around_of self.old) (around_of self.new) }
-        ensures plain { IsPlain result.outcome }
+        ensures back { before (course_of self.new) ≡ course_of self.old }
         ensures chosen { (d : Running) → result.id ≡ (slice_index_or (around_of self.old).running place d).job.id }
-        ensures fails { IsTrue fails → result.outcome ≡ Outcome.Failed (pos 1) }
-        ensures ends { (d : Running) → fails ≡ false → result.outcome ≡ ends self.old.table (slice_index_or (around_of self.old).running place d).job (slice_index_or (around_of self.old).running place d).given }
+        ensures outcome { (d : Running) → result.outcome ≡ unwrap_or cut (ends self.old.table (slice_index_or (around_of self.old).running place d).job (slice_index_or (around_of self.old).running place d).given) }
         ensures absent { (d : Running) (path : List ℕ) → result.outcome ≢ Outcome.Done → Contains (slice_index_or (around_of self.old).running place d).job.targets path → (around_of self.new).tree path ≡ None }
         ensures met { (d : Running) → result.outcome ≡ Outcome.Done → (around_of self.new).met ≡ (around_of self.old).met ++ contents_in (makes self.old.table (slice_index_or (around_of self.old).running place d).job (slice_index_or (around_of self.old).running place d).given) }
         ensures unmet { result.outcome ≢ Outcome.Done → (around_of self.new).met ≡ (around_of self.old).met }
+        ensures fewer { vec_len self.new.running + 1 ≡ vec_len self.old.running }
+        ensures removals { self.new.removals ≡ self.old.removals }
         ensures table { self.new.table ≡ self.old.table }
     {
         let RunningJob {
             job,
-            given: _,
+            given,
             outcome,
             made,
             kept,
+            gained,
         } = self.running.remove(place);
-        let outcome = if fails { Outcome::Failed(1) } else { outcome };
-        conclude(&mut self.slots, &mut self.met, &job, outcome, made, kept);
-        add(&mut self.log, Event::Finished(job.id, outcome));
-        Ended {
-            id: job.id,
+        let outcome = cut.unwrap_or(outcome);
+        self.stamp = self.stamp.saturating_add(1);
+        conclude(
+            &mut self.slots,
+            &mut self.met,
+            &job,
             outcome,
-        }
+            made,
+            kept,
+            self.stamp,
+        );
+        let gained = gained_by(outcome, gained);
+        let id = job.id;
+        add(&mut self.log, Event::Finished(id, outcome));
+        let ending = Ending {
+            place,
+            job,
+            given,
+            gained,
+        };
+        add(&mut self.past, Change::Ended(ending));
+        Ended { id, outcome }
+    }
+
+    /// Sets the bytes of a file.
+    pub fn edit(&mut self, alloc: Global, path: &PathText, bytes: &[u8]) -> Result<(), Memory>
+        ensures removals { self.new.removals ≡ self.old.removals }
+        ensures jobs { vec_len self.new.running ≡ vec_len self.old.running }
+    {
+        let stamp = self.stamp.saturating_add(1);
+        let file = File {
+            name: path.copy()?,
+            bytes: Blob::of(alloc, bytes)?,
+            stamp,
+        };
+        let mut group = Contents::new(Vec::new(alloc));
+        group.push(path.copy()?, Some(Blob::of(alloc, bytes)?))?;
+        let mut fresh = Paths::new(Vec::new(alloc));
+        self.dirs.missing_above(alloc, path, &mut fresh)?;
+        let owed = self.running.len() + 1;
+        widen(&mut self.met, owed)?;
+        self.dirs.make_places(alloc, &fresh)?;
+        self.slots.make_place(alloc, path)?;
+        self.stamp = stamp;
+        self.dirs.raise(&fresh);
+        self.slots.write(path, Slot::Settled(Some(file)));
+        add(&mut self.met, group);
+        Ok(())
+    }
+
+    /// What a stop leaves: these contents at the targets of the jobs that ran, which have been met from then on.
+    pub fn leave(&mut self, targets: Contents, kept: Contents)
+        ensures gone { self.new.removals ≡ 0 }
+        ensures idle { vec_len self.new.running ≡ 0 }
+    {
+        self.stamp = self.stamp.saturating_add(1);
+        self.slots.settle(targets, self.stamp);
+        self.running.clear();
+        self.log.clear();
+        self.jobs.clear();
+        self.past.clear();
+        self.removals = 0;
+        add(&mut self.met, kept);
     }
 }
 
-fn with_room(alloc: Global) -> Result<Vec<Contents>, Memory>
-    ensures empty { IfOk result (λ met. met.items ≡ []) }
-    ensures len { IfOk result (λ met. vec_len met ≡ 0) }
-    ensures room { IfOk result (λ met. 1 ≤ vec_capacity met) }
+/// How many contents are met by an ending.
+fn gained_by(outcome: Outcome, gained: usize) -> usize
+    ensures done { outcome ≡ Outcome.Done → result ≡ gained }
+    ensures other { outcome ≢ Outcome.Done → result ≡ 0 }
 {
-    Ok(Vec::with_capacity(alloc, 1)?)
+    if outcome == Outcome::Done { gained } else { 0 }
+}
+
+fn with_room<T: Drop>(alloc: Global, room: usize) -> Result<Vec<T>, Memory>
+    ensures empty { IfOk result (λ items. items.items ≡ []) }
+    ensures len { IfOk result (λ items. vec_len items ≡ 0) }
+    ensures room { IfOk result (λ items. vec_capacity items ≡ room) }
+{
+    Ok(Vec::with_capacity(alloc, room)?)
+}
+
+/// Lets the directories above the files stand.
+fn raise_above(alloc: Global, dirs: &mut Dirs, files: &[(PathText, Blob)]) -> Result<(), Memory> {
+    for (path, _) in files {
+        let mut fresh = Paths::new(Vec::new(alloc));
+        dirs.missing_above(alloc, path, &mut fresh)?;
+        dirs.make_places(alloc, &fresh)?;
+        dirs.raise(&fresh);
+    }
+    Ok(())
 }
 
 /// The files as contents.

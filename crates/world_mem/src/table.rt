@@ -1,4 +1,4 @@
-//! What actions make, by a table.
+//! The table of actions.
 ghost use Rattle.std.specs.Prelude.{◌≡◌, List};
 ghost use Rattle.std.specs.Option.{option_copied};
 ghost use Rattle.world_mem.specs.Table.{fits, row_for};
@@ -8,7 +8,7 @@ use scons_base::Texts;
 use std::marker::Model;
 
 /// What an action of a row does.
-#[derive(Debug, Drop)]
+#[derive(Drop)]
 pub enum Made {
     /// Each target has the content that is listed first for it, or isn't made.
     Files(Contents),
@@ -17,7 +17,7 @@ pub enum Made {
 }
 
 /// An action: its signed lines, what it is given where that counts, and what it does.
-#[derive(Debug, Drop)]
+#[derive(Drop)]
 pub struct ActRow {
     pub signed: Texts,
     pub given: Option<Contents>,
@@ -37,7 +37,7 @@ impl ActRow {
 }
 
 /// What the shell makes, as a table. The first row that fits counts.
-#[derive(Debug, Drop)]
+#[derive(Drop)]
 pub struct ActTable {
     rows: Vec<ActRow>,
 }

@@ -1,4 +1,4 @@
-//! What an action without a row makes.
+//! What the shell makes where no row fits.
 ghost use Rattle.std.specs.Prelude.{◌≡◌, ◌++◌, ◌∷◌, [], codes, IfOk, OnOk, string_bytes};
 ghost use Rattle.std.specs.List.{flat_map};
 ghost use Rattle.world_mem.specs.Default.{line, digest_text, dependency_line};

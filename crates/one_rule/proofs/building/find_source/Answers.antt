@@ -3,7 +3,7 @@ use Rattle.one_rule.proofs.building.find_source.Goals as goal
 
 pub returns-in-Ok-clause-gives : goal.returns-in-Ok-clause-gives
 returns-in-Ok-clause-gives g c told =
-    let around = g.W.World.meaning.around in
+    let around = g.W.Disk.meaning.around in
     let calls = c.in-Ok.ensures in
     rw c.with_source.ensures
     (source_read c.args.rule (around c.args.world.now) (around c.read_file.new.self) (c.requires (calls.told.told told)) (calls.around told)
@@ -11,7 +11,7 @@ returns-in-Ok-clause-gives g c told =
 
 pub returns-in-Err-clause-gives : goal.returns-in-Err-clause-gives
 returns-in-Err-clause-gives g c told =
-    let around = g.W.World.meaning.around in
+    let around = g.W.Disk.meaning.around in
     let calls = c.in-Err.ensures in
     rw c.unread.ensures
     (source_refused c.args.rule (around c.args.world.now) (around c.read_file.new.self) (c.requires (calls.told.told told)) (calls.around told)

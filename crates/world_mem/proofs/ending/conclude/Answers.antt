@@ -1,20 +1,20 @@
 use Rattle.std.proofs.Common.{◌≡◌, ◌∙◌, sym, ap, subst, inl, inr, ℕ, List, Contains, None, refl, true, Option}
 use Rattle.std.specs.List.{list_any}
 use Rattle.std.specs.Str.{bytes_eq}
-use Rattle.world_mem.specs.InSlots.{slot_at, content_of, mark_of}
+use Rattle.world_mem.specs.InSlots.{slot_at, file_of, content_of, mark_of, settled}
 use Rattle.world_mem.specs.Kept.{contents_in, met_of}
 use Rattle.world_mem.specs.declared.slots.Slot.TheVariants.{Settled}
-use Rattle.world_mem.proofs.Marks.{marked-off, marked-empty, marked-absent, settled-off, settled-content, met-push, found_in_push}
+use Rattle.world_mem.proofs.Marks.{marked-off, marked-empty, marked-absent, settled-off, settled-on, made_content, settled-content, settled-named, marked-named, met-push, found_in_push}
 use Rattle.world_mem.proofs.Owners.{fewer-marked, fewer-settled, unmarked-marked, unmarked-settled}
 use Rattle.world_mem.proofs.ending.conclude.Goals as goal
 
 pub returns-then-eq-clause-others : goal.returns-then-eq-clause-others
 returns-then-eq-clause-others c = λ path off.
-    c.settle.ensures path ∙ settled-off c.args.made path (slot_at c.args.slots.now path) (subst (λ (ts : List (List ℕ)). Contains ts path → ⊥) (sym c.requires.names) off)
+    c.settle.ensures path ∙ settled-off c.args.stamp c.args.made path (slot_at c.args.slots.now path) (subst (λ (ts : List (List ℕ)). Contains ts path → ⊥) (sym c.requires.names) off)
 
 pub returns-then-eq-clause-held : goal.returns-then-eq-clause-held
 returns-then-eq-clause-held c = λ path bytes h.
-    elim (settled-content c.args.made path (slot_at c.args.slots.now path) bytes (ap content_of (sym (c.settle.ensures path)) ∙ h)) [
+    elim (settled-content c.args.stamp c.args.made path (slot_at c.args.slots.now path) bytes (ap content_of (sym (c.settle.ensures path)) ∙ h)) [
       | inl before ↦ inl before
       | inr found ↦ inr (
           subst (λ groups. list_any (bytes_eq bytes) (met_of groups) ≡ true) (sym c.add.ensures.items)
@@ -39,13 +39,31 @@ returns-else-eq-clause-held c = λ path bytes h.
 
 pub returns-then-eq-clause-unmarked : goal.returns-then-eq-clause-unmarked
 returns-then-eq-clause-unmarked c = λ path own.
-    ap mark_of (c.settle.ensures path) ∙ unmarked-settled c.args.made path (slot_at c.args.slots.now path) (subst (λ (ts : List (List ℕ)). Contains ts path) (sym c.requires.names) own)
+    ap mark_of (c.settle.ensures path) ∙ unmarked-settled c.args.stamp c.args.made path (slot_at c.args.slots.now path) (subst (λ (ts : List (List ℕ)). Contains ts path) (sym c.requires.names) own)
 
 pub returns-then-eq-clause-marks : goal.returns-then-eq-clause-marks
-returns-then-eq-clause-marks c = λ path id h. fewer-settled c.args.made path (slot_at c.args.slots.now path) id (ap mark_of (sym (c.settle.ensures path)) ∙ h)
+returns-then-eq-clause-marks c = λ path id h. fewer-settled c.args.stamp c.args.made path (slot_at c.args.slots.now path) id (ap mark_of (sym (c.settle.ensures path)) ∙ h)
 
 pub returns-else-eq-clause-unmarked : goal.returns-else-eq-clause-unmarked
 returns-else-eq-clause-unmarked c = λ path own. ap mark_of (c.clear.ensures path) ∙ unmarked-marked c.args.job.now.targets None path (slot_at c.args.slots.now path) own
 
 pub returns-else-eq-clause-marks : goal.returns-else-eq-clause-marks
 returns-else-eq-clause-marks c = λ path id h. fewer-marked c.args.job.now.targets None path (slot_at c.args.slots.now path) id (ap mark_of (sym (c.clear.ensures path)) ∙ h)
+
+pub returns-then-eq-clause-named : goal.returns-then-eq-clause-named
+returns-then-eq-clause-named c = λ path file was h.
+    settled-named c.args.stamp c.args.made path (slot_at c.args.slots.now path) file was (ap file_of (sym (c.settle.ensures path)) ∙ h)
+
+pub returns-else-eq-clause-named : goal.returns-else-eq-clause-named
+returns-else-eq-clause-named c = λ path file was h.
+    was (marked-named c.args.job.now.targets (Settled None) path (slot_at c.args.slots.now path) file refl (ap file_of (sym (c.clear.ensures path)) ∙ h))
+
+pub returns-then-eq-clause-done : goal.returns-then-eq-clause-done
+returns-then-eq-clause-done c = λ _ makes is path own some.
+    let old = slot_at c.args.slots.now path in
+    let stamp = c.args.stamp in
+    ap content_of (
+    c.settle.ensures path
+    ∙ ap (λ (made : List (List ℕ × Option (List ℕ))). settled stamp made path old) is
+    ∙ settled-on stamp makes c.args.job.now.targets path old own.0 own.1 own.2 some)
+    ∙ made_content stamp path (makes path)

@@ -4,11 +4,13 @@ use Rattle.std.proofs.lemmas.List.{take_more}
 use Rattle.std.proofs.lemmas.List.Elements.{Contains-append_left, Contains-push, Contains-push_cases}
 use Rattle.world_mem.specs.declared.slots.Slot.TheVariants.{Settled}
 use Rattle.world_mem.specs.Blocked.{HasFile, IsRefused, IsFirstRefused}
-use Rattle.world_mem.specs.InSlots.{slot_at, content_of, mark_of, file_at, Stands}
+use Rattle.std.specs.Cmp.Lexicographic.{bytes_decides}
+use Rattle.world_mem.specs.declared.slots.File.{File}
+use Rattle.world_mem.specs.InSlots.{slot_at, file_of, content_of, mark_of, file_at, Stands}
 use Rattle.world_mem.proofs.Below.{put_live, live_after, live_of, not_refused, weaker_blocked, file_at-listed}
 use Rattle.world_mem.proofs.Owners.{put-unmarked}
 use Rattle.world_mem.proofs.Membership.{below_or_not}
-use Rattle.world_mem.proofs.Marks.{put-file, none_of}
+use Rattle.world_mem.proofs.Marks.{put-file, put_named, none_of}
 use Rattle.world_mem.proofs.slots.Slots.fill.Goals as goal
 use Rattle.world_mem.proofs.slots.Slots.fill.Goals.{then-has_file-via-then-has_file, then-has_file-via-else-has_file+in_ok-is_blocked+then-branch}
 
@@ -18,14 +20,15 @@ loop-place-preserved c =
     let place = c.loop-place.place in
     let file = c.index-files-place.result in
     let before = take place files in
+    let whole : File = record { name = file.0; bytes = file.1; stamp = 0 } in
     let free : content_of (slot_at c.loop-place.self file.0) ≡ None = none_of (content_of (slot_at c.loop-place.self file.0)) (sym c.has_file.ensures ∙ c.if-has_file.false) in
     let grown : take (place + 1) files ≡ before ++ file ∷ [] =
     take_more files place file c.loop-place-test.true ∙ ap (λ f. before ++ f ∷ []) (sym c.index-files-place.is) in
     record {
       files = λ path.
-          let put : slot_at c.put.new.self path ≡ cond (bytes_eq file.0 path) (Some (Settled (Some file.1))) (slot_at c.loop-place.self path) =
-          c.in_ok-put.ensures.ok path ∙ ap (λ (bytes : List ℕ). cond (bytes_eq file.0 path) (Some (Settled (Some bytes))) (slot_at c.loop-place.self path)) c.in_ok-copy.ensures in
-          put-file before file path (slot_at c.loop-place.self path) (slot_at c.put.new.self path) (sym (c.loop-place.invariant.files file.0) ∙ free) (c.loop-place.invariant.files path) put
+          let put : slot_at c.put.new.self path ≡ cond (bytes_eq file.0 path) (Some (Settled (Some whole))) (slot_at c.loop-place.self path) =
+          c.in_ok-put.ensures.ok path ∙ ap (λ (f : File). cond (bytes_eq file.0 path) (Some (Settled (Some f))) (slot_at c.loop-place.self path)) c.in_ok-file.ensures in
+          put-file before whole path (slot_at c.loop-place.self path) (slot_at c.put.new.self path) (sym (c.loop-place.invariant.files file.0) ∙ free) (c.loop-place.invariant.files path) put
           ∙ ap (λ files. file_at files path) (sym grown);
       only = λ path.
           put_live (λ path. (bytes : List ℕ) × Contains (take (place + 1) files) (path, bytes)) file.0 path _ (slot_at c.loop-place.self path) (slot_at c.put.new.self path) (c.in_ok-put.ensures.ok path)
@@ -40,6 +43,8 @@ loop-place-preserved c =
           ]);
       unmarked = λ path.
           ap mark_of (c.in_ok-put.ensures.ok path) ∙ put-unmarked (bytes_eq file.0 path) _ (slot_at c.loop-place.self path) (c.loop-place.invariant.unmarked path);
+      named = λ path f h. put_named (bytes_eq file.0 path) whole f (slot_at c.loop-place.self path) path (λ y. (bytes_decides file.0 path).0 y) (c.loop-place.invariant.named path f)
+          (ap file_of (sym (c.in_ok-put.ensures.ok path ∙ ap (λ (g : File). cond (bytes_eq file.0 path) (Some (Settled (Some g))) (slot_at c.loop-place.self path)) c.in_ok-file.ensures)) ∙ h);
       none = λ n lt refused. elim (below_or_not n place) [
         | inl earlier ↦ c.loop-place.invariant.none n earlier refused
         | inr late ↦

@@ -4,11 +4,10 @@ use Rattle.std.proofs.lemmas.List.Elements.{Contains-push_cases}
 use Rattle.world_mem.specs.Blocked.{IsTaken, IsBlocked, AreBlocked}
 use Rattle.world_mem.specs.AsAround.{around_of}
 use Rattle.world_mem.specs.InSlots.{slot_at, Stands}
-use Rattle.world_mem.proofs.Below.{AreApart, apart_more, none_blocked, weaker_blocked, weaker_targets, put_live, live_after}
+use Rattle.world_mem.proofs.Below.{AreApart, apart_more, none_blocked, weaker_blocked, put_live, live_after}
 use Rattle.world_mem.proofs.Membership.{push_all}
 use Rattle.world_mem.proofs.Taken.{taken, stands}
 use Rattle.world_mem.proofs.state.State.is_blocked.Goals as goal
-use Rattle.world_mem.proofs.state.State.is_blocked.Goals.{then-branch-via-then-branch, then-branch-via-else-branch+in_ok-is_blocked-2+then-branch-2}
 
 pub returns-then-branch : goal.returns-then-branch
 returns-then-branch c =

@@ -1,14 +1,7 @@
-use Rattle.std.proofs.Common.{◌≡◌, ℕ, List, subst}
-use Rattle.std.proofs.lemmas.Result.{err_from_is_err_and}
-use Rattle.world_mem.specs.Blocked.{IsRefused, IsFirstRefused}
-use Rattle.world_mem.specs.declared.refusal.NewRefusal.TheVariants.{Place}
+use Rattle.std.proofs.Common.{ap, length, arith}
+use Rattle.std.proofs.lemmas.Grind.{common_steps}
+use Rattle.world_mem.proofs.Unmade.{unmade_of}
 use Rattle.world_mem.proofs.world.MemWorld.new.Goals as goal
 
-pub returns-in_err-state-clause-place : goal.returns-in_err-state-clause-place
-returns-in_err-state-clause-place c =
-    let refusal = err_from_is_err_and c.from_residual.result c.from_residual.ensures.1 in
-    rw (refusal.1, refusal.2)
-    (subst (λ (files : List (List ℕ × List ℕ)). (place : ℕ) → c.in_err-state.field-0.0 ≡ Place place → IsFirstRefused files place) c.deref.ensures.value c.in_err-state.ensures.place)
-
-pub returns-clause-stand : goal.returns-clause-stand
-returns-clause-stand c = subst (λ (files : List (List ℕ × List ℕ)). (place : ℕ) → IsRefused files place → ⊥) c.deref.ensures.value c.in_ok-state.ensures.stand
+pub invariant_of-result-clause-unmade : goal.invariant_of-result-clause-unmade
+invariant_of-result-clause-unmade c = unmade_of c.in_ok-state.field-0

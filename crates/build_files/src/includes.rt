@@ -1,0 +1,174 @@
+//! The files that a file includes.
+
+use crate::end::ListEnd;
+use crate::inputs::Inputs;
+use crate::lookup::{path_of, rule_at};
+use c_scanner::Include;
+use indexmap::{IndexMap, IndexSet};
+use rule_graph::{Graph, Rule};
+use scons_base::{Listing, Memory, NodeId, PathText, Paths, RuleId, Text};
+use std::alloc::Global;
+use std::str;
+use variant_dirs::VariantFault;
+use world_api::World;
+
+/// A file that is scanned, and the directories in which what it includes is looked for, by the number of their list.
+#[derive(Clone, Copy, Debug, PartialEq, Eq, Hash)]
+pub(crate) struct Scan {
+    file: NodeId,
+    dirs: usize,
+}
+
+/// What was found by scans: a file that is scanned for many rules with the same directories is looked up once.
+#[derive(Drop)]
+pub(crate) struct Found {
+    /// The lists of directories, each as one text.
+    lists: IndexSet<Text>,
+    files: IndexMap<Scan, Vec<NodeId>>,
+    /// The rule that was scanned last, and the number of its list.
+    last: Option<(RuleId, usize)>,
+    alloc: Global,
+}
+
+impl Found {
+    pub(crate) fn new(alloc: Global) -> Found {
+        Found {
+            lists: IndexSet::new(alloc),
+            files: IndexMap::new(alloc),
+            last: None,
+            alloc,
+        }
+    }
+
+    /// The number of the list of directories of a rule.
+    fn list_of(&mut self, id: RuleId, rule: &Rule) -> Result<usize, Memory> {
+        if let Some((last, list)) = self.last
+            && last == id
+        {
+            return Ok(list);
+        }
+        let mut text = String::new(self.alloc);
+        for dir in rule.paths.as_slice() {
+            text.push_str(dir.as_str())?;
+            text.push('\0')?;
+        }
+        let (list, _) = self.lists.insert_full(Text::new(text))?;
+        self.last = Some((id, list));
+        Ok(list)
+    }
+}
+
+impl Inputs {
+    /// The files that a file includes as a rule finds them, in the order of the lines. Those without a known path are left
+    /// out.
+    pub(crate) fn scan<W: World>(
+        &mut self,
+        world: &mut W,
+        graph: &mut Graph,
+        rule: RuleId,
+        file: NodeId,
+    ) -> Result<Listing<NodeId>, ListEnd> {
+        let dirs = self.found.list_of(rule, rule_at(graph, rule)?)?;
+        let scan = Scan { file, dirs };
+        if let Some(found) = self.found.files.get(&scan) {
+            return Ok(Listing::new(Vec::from_slice(self.alloc, found.as_slice())?));
+        }
+        let found = self.look_up(world, graph, rule, file)?;
+        let copy = Vec::from_slice(self.alloc, found.as_slice())?;
+        let _ = self.found.files.insert(scan, found)?;
+        Ok(Listing::new(copy))
+    }
+
+    /// Looks up what a file includes.
+    fn look_up<W: World>(
+        &mut self,
+        world: &mut W,
+        graph: &mut Graph,
+        rule: RuleId,
+        file: NodeId,
+    ) -> Result<Vec<NodeId>, ListEnd> {
+        if self.seen(file)?.includes.is_none() {
+            let _ = self.read(world, path_of(graph, file)?, file, true)?;
+        }
+        let mut found = Vec::new(self.alloc);
+        if let Some(includes) = self.seen(file)?.includes.take() {
+            let dirs = Dirs::of(self.alloc, graph, rule, file)?;
+            for include in includes.as_slice() {
+                if let Some(node) = self.search(world, graph, &dirs, include)? {
+                    found.push(node)?;
+                }
+            }
+            self.seen(file)?.includes = Some(includes);
+        }
+        Ok(found)
+    }
+
+    /// The first known file among those that an include line may mean.
+    fn search<W: World>(
+        &mut self,
+        world: &mut W,
+        graph: &mut Graph,
+        dirs: &Dirs,
+        include: &Include,
+    ) -> Result<Option<NodeId>, ListEnd> {
+        let Ok(name) = str::from_utf8(include.name.as_slice()) else {
+            return Ok(None);
+        };
+        for dir in dirs.in_order(include.quoted) {
+            for path in places(self.alloc, graph, dir, name)?.as_slice() {
+                if let Some(node) = self.known(world, graph, path)? {
+                    return Ok(Some(node));
+                }
+            }
+        }
+        Ok(None)
+    }
+}
+
+/// Where a name may mean a file.
+fn places(alloc: Global, graph: &Graph, dir: &PathText, name: &str) -> Result<Paths, ListEnd> {
+    match graph.variants().search(graph.top(), dir, name) {
+        Ok(paths) => Ok(paths),
+        Err(VariantFault::Memory) => Err(ListEnd::Memory),
+        Err(_) => Ok(Paths::new(Vec::new(alloc))),
+    }
+}
+
+/// The directories in which included files are looked for: the one of the including file twice, in front of the search
+/// path and behind it.
+#[derive(Drop)]
+struct Dirs {
+    dirs: Vec<PathText>,
+}
+
+impl Dirs {
+    fn of(alloc: Global, graph: &Graph, rule: RuleId, file: NodeId) -> Result<Dirs, Memory> {
+        let mut dirs = Vec::new(alloc);
+        let own = path_of(graph, file)?.dir();
+        push_dir(&mut dirs, own)?;
+        for dir in rule_at(graph, rule)?.paths.as_slice() {
+            dirs.push(dir.copy()?)?;
+        }
+        push_dir(&mut dirs, own)?;
+        Ok(Dirs { dirs })
+    }
+
+    /// The directories in the order in which they are searched: the including file's one first for a name in quotes, else
+    /// last.
+    fn in_order(&self, quoted: bool) -> &[PathText] {
+        let dirs = self.dirs.as_slice();
+        match dirs.len() {
+            0 => dirs,
+            count if quoted => &dirs[..count - 1],
+            _ => &dirs[1..],
+        }
+    }
+}
+
+fn push_dir(dirs: &mut Vec<PathText>, dir: &str) -> Result<(), Memory> {
+    match PathText::read(*dirs.allocator(), dir) {
+        Ok(dir) => dirs.push(dir)?,
+        Err(_) => return Err(Memory),
+    }
+    Ok(())
+}

@@ -1,0 +1,144 @@
+//! The files of a build.
+
+use crate::end::ListEnd;
+use crate::includes::Found;
+use crate::lookup::path_of;
+use crate::seen::{Seen, UNSEEN};
+use c_scanner::includes;
+use deciders::{Digest, digest_of};
+use indexmap::IndexSet;
+use rule_graph::Graph;
+use scons_base::limits::FILE_LIMIT;
+use scons_base::{Listing, Memory, NodeId, PathText};
+use std::alloc::Global;
+use world_api::{Kind, World};
+
+/// What was found of the files of a build. A file that no rule makes stays as it is while the build runs, and one that a
+/// rule makes is asked for only once its rule is settled.
+#[derive(Drop)]
+pub struct Inputs {
+    /// By the numbers of their nodes.
+    pub(crate) seen: Vec<Seen>,
+    /// Paths that no rule makes and at which no file stands.
+    pub(crate) unknown: IndexSet<PathText>,
+    pub(crate) found: Found,
+    /// The rules whose files were looked at for copy rules, by their numbers.
+    pub(crate) looked_at: Vec<bool>,
+    pub(crate) alloc: Global,
+}
+
+impl Inputs {
+    pub fn new(alloc: Global) -> Inputs {
+        Inputs {
+            seen: Vec::new(alloc),
+            unknown: IndexSet::new(alloc),
+            found: Found::new(alloc),
+            looked_at: Vec::new(alloc),
+            alloc,
+        }
+    }
+
+    /// What was found of a file.
+    pub(crate) fn seen(&mut self, node: NodeId) -> Result<&mut Seen, Memory> {
+        let number = node.0 as usize;
+        for _ in self.seen.len()..number.saturating_add(1) {
+            self.seen.push(UNSEEN)?;
+        }
+        match self.seen.get_mut(number) {
+            Some(seen) => Ok(seen),
+            None => Err(Memory),
+        }
+    }
+
+    /// Whether a file stands at a path that no rule makes.
+    pub(crate) fn is_file<W: World>(
+        &mut self,
+        world: &mut W,
+        graph: &Graph,
+        node: NodeId,
+    ) -> Result<bool, ListEnd> {
+        if let Some(is_file) = self.seen(node)?.is_file {
+            return Ok(is_file);
+        }
+        let is_file = is_file_at(world, path_of(graph, node)?)?;
+        self.seen(node)?.is_file = Some(is_file);
+        Ok(is_file)
+    }
+
+    /// The digest of what a file holds, none where no file stands.
+    pub fn digest<W: World>(
+        &mut self,
+        world: &mut W,
+        graph: &Graph,
+        node: NodeId,
+    ) -> Result<Option<Digest>, ListEnd> {
+        match self.seen(node)?.digest {
+            Some(digest) => Ok(digest),
+            None => self.read(world, path_of(graph, node)?, node, false),
+        }
+    }
+
+    /// When a file last changed, none where no file stands.
+    pub fn stamp<W: World>(
+        &mut self,
+        world: &mut W,
+        graph: &Graph,
+        node: NodeId,
+    ) -> Result<Option<u64>, ListEnd> {
+        if let Some(stamp) = self.seen(node)?.stamp {
+            return Ok(stamp);
+        }
+        let path = path_of(graph, node)?;
+        match world.stamp(path) {
+            Ok(stamp) => {
+                self.seen(node)?.stamp = Some(stamp);
+                Ok(stamp)
+            }
+            Err(_) => Err(ListEnd::tree(path)),
+        }
+    }
+
+    /// Reads a file for its digest, and for what it includes where that is asked or its name says that it will be.
+    pub(crate) fn read<W: World>(
+        &mut self,
+        world: &mut W,
+        path: &PathText,
+        node: NodeId,
+        is_scanned: bool,
+    ) -> Result<Option<Digest>, ListEnd> {
+        let content = match world.read_file(path, FILE_LIMIT) {
+            Ok(content) => content,
+            Err(refusal) => return Err(ListEnd::read(path, refusal)),
+        };
+        let alloc = self.alloc;
+        let seen = self.seen(node)?;
+        match content {
+            Some(bytes) => {
+                let digest = digest_of(bytes.as_slice());
+                seen.digest = Some(Some(digest));
+                if is_scanned || is_header(path.suffix()) {
+                    seen.includes = Some(includes(alloc, bytes.as_slice())?);
+                }
+                Ok(Some(digest))
+            }
+            None => {
+                seen.digest = Some(None);
+                seen.includes = Some(Listing::empty(alloc));
+                Ok(None)
+            }
+        }
+    }
+}
+
+/// Whether a file stands at a path.
+pub(crate) fn is_file_at<W: World>(world: &mut W, path: &PathText) -> Result<bool, ListEnd> {
+    match world.kind(path) {
+        Ok(kind) => Ok(kind == Kind::File),
+        Err(_) => Err(ListEnd::tree(path)),
+    }
+}
+
+/// Whether a file with this suffix is likely to be scanned.
+fn is_header(suffix: &str) -> bool {
+    matches!(suffix, ".h" | ".H" | ".hh" | ".hpp" | ".hxx")
+}

@@ -1,0 +1,140 @@
+//! What a rule's record would be now, and whether the rule is stale.
+
+use crate::end::ListEnd;
+use crate::inputs::{Inputs, is_file_at};
+use crate::lookup::{path_of, rule_at};
+use deciders::{Dep, Rec, changed, rec_of};
+use rule_graph::Graph;
+use scons_base::{Listing, Memory, NodeId, PathText, Paths, RuleId};
+use sign_store::{Store, View};
+use std::alloc::Global;
+use world_api::{Decider, World};
+
+/// Where the records of former builds stand.
+pub trait Records {
+    fn record(&self, path: &PathText) -> Option<&Rec>;
+}
+
+impl Records for Store {
+    fn record(&self, path: &PathText) -> Option<&Rec> {
+        self.get(path)
+    }
+}
+
+impl Records for View {
+    fn record(&self, path: &PathText) -> Option<&Rec> {
+        self.get(path)
+    }
+}
+
+/// What a rule reads.
+#[derive(Drop)]
+pub enum Present {
+    Record(Rec),
+    /// This dependency has no rule, and is no file.
+    Lacks(NodeId),
+}
+
+impl Inputs {
+    /// The record of a rule over the files as they are, with these dependencies.
+    pub fn present<W: World>(
+        &mut self,
+        world: &mut W,
+        graph: &Graph,
+        rule: RuleId,
+        nodes: &[NodeId],
+    ) -> Result<Present, ListEnd> {
+        let mut deps = Vec::with_capacity(self.alloc, nodes.len())?;
+        let decider = rule_at(graph, rule)?.decider;
+        for node in nodes {
+            let dep = self.dep(world, graph, decider, *node)?;
+            if dep.digest.is_none() && graph.rule_of(*node).is_none() {
+                return Ok(Present::Lacks(*node));
+            }
+            deps.push(dep)?;
+        }
+        let named = rule_at(graph, rule)?;
+        let targets = paths_of(self.alloc, graph, named.targets.as_slice())?;
+        let signed = named.signed.copy()?;
+        let rec = rec_of(named.work, targets, signed, Listing::new(deps))?;
+        Ok(Present::Record(rec))
+    }
+
+    /// A dependency as it is now, with its time of change where the rule goes by times.
+    fn dep<W: World>(
+        &mut self,
+        world: &mut W,
+        graph: &Graph,
+        decider: Decider,
+        node: NodeId,
+    ) -> Result<Dep, ListEnd> {
+        let digest = self.digest(world, graph, node)?;
+        let stamp = match decider {
+            Decider::Content => None,
+            _ => self.stamp(world, graph, node)?,
+        };
+        Ok(Dep {
+            name: path_of(graph, node)?.copy()?,
+            digest,
+            stamp,
+        })
+    }
+}
+
+/// The paths of these nodes.
+fn paths_of(alloc: Global, graph: &Graph, nodes: &[NodeId]) -> Result<Paths, Memory> {
+    let mut paths = Vec::with_capacity(alloc, nodes.len())?;
+    for node in nodes {
+        paths.push(path_of(graph, *node)?.copy()?)?;
+    }
+    Ok(Paths::new(paths))
+}
+
+/// Whether a rule is to be built: it always is, a target is no file or has no record, or the record has changed.
+pub fn is_stale<W: World, R: Records>(
+    world: &mut W,
+    graph: &Graph,
+    records: &R,
+    rule: RuleId,
+    now: &Rec,
+) -> Result<bool, ListEnd> {
+    let rule = rule_at(graph, rule)?;
+    if rule.always {
+        return Ok(true);
+    }
+    let made = match rule.decider {
+        Decider::Newer => first_stamp(world, now.targets.as_slice())?,
+        _ => None,
+    };
+    for target in now.targets.as_slice() {
+        if !is_file_at(world, target)? || !has_record(records, target, rule.decider, now, made) {
+            return Ok(true);
+        }
+    }
+    Ok(false)
+}
+
+/// Whether a target has a record that hasn't changed.
+fn has_record<R: Records>(
+    records: &R,
+    target: &PathText,
+    decider: Decider,
+    now: &Rec,
+    made: Option<u64>,
+) -> bool {
+    match records.record(target) {
+        Some(old) => !changed(decider, old, now, made),
+        None => false,
+    }
+}
+
+/// When the first target last changed.
+fn first_stamp<W: World>(world: &mut W, targets: &[PathText]) -> Result<Option<u64>, ListEnd> {
+    let Some(target) = targets.first() else {
+        return Ok(None);
+    };
+    match world.stamp(target) {
+        Ok(stamp) => Ok(stamp),
+        Err(_) => Err(ListEnd::tree(target)),
+    }
+}

@@ -1,0 +1,119 @@
+//! Scripts to try, and what comes of their reading.
+use crate::graph_text::graph_text;
+use scons_base::{Blob, Memory, PathText, Text, Texts};
+use scons_host::{HostEnd, read_scripts};
+use scons_words::{Words, WordsFault, read_words};
+use std::alloc::Global;
+use world_mem::{ActTable, MemSink, MemWorld};
+
+#[derive(Drop)]
+pub struct Trial {
+    words: Vec<Text>,
+    /// The files behind the one whose lines are being added.
+    files: Vec<(PathText, Blob)>,
+    name: String,
+    text: String,
+}
+
+impl Trial {
+    /// A trial whose heading gives its name and its words.
+    pub fn of(alloc: Global, heading: &str) -> Result<Trial, Memory> {
+        let mut words = Vec::new(alloc);
+        for word in heading.split_whitespace().skip(2) {
+            words.push(Text::of(alloc, word)?)?;
+        }
+        Ok(Trial {
+            words,
+            files: Vec::new(alloc),
+            name: String::from_str(alloc, "SConstruct")?,
+            text: String::new(alloc),
+        })
+    }
+
+    /// A line of a file, or one that begins a further file.
+    pub fn add_line(&mut self, line: &str) -> Result<(), Memory> {
+        let alloc = *self.words.allocator();
+        match line.strip_prefix("--- ") {
+            Some(name) => {
+                self.end_file(alloc)?;
+                self.name = String::from_str(alloc, name)?;
+            }
+            None => {
+                self.text.push_str(line)?;
+                self.text.push('\n')?;
+            }
+        }
+        Ok(())
+    }
+
+    fn end_file(&mut self, alloc: Global) -> Result<(), Memory> {
+        if let Ok(path) = PathText::read(alloc, self.name.as_str()) {
+            let bytes = Vec::from_slice(alloc, self.text.as_bytes())?;
+            self.files.push((path, Blob::new(bytes)))?;
+        }
+        self.text = String::new(alloc);
+        Ok(())
+    }
+
+    /// What is printed, and the graph or the fault.
+    pub fn outcome(&mut self, alloc: Global) -> Result<String, Memory> {
+        self.end_file(alloc)?;
+        let mut world = match self.world(alloc)? {
+            Some(world) => world,
+            None => return Ok(String::from_str(alloc, "no such tree\n")?),
+        };
+        let mut sink = MemSink::new(alloc, Vec::new(alloc))?;
+        let mut shown = String::new(alloc);
+        let words = match read_words(alloc, self.words.as_slice()) {
+            Ok(words) => words,
+            Err(WordsFault::At(place, kind)) => {
+                let told = format!(in alloc; "word {place}: {}\n", kind.name())?;
+                shown.push_str(told.as_str())?;
+                return Ok(shown);
+            }
+            Err(WordsFault::Memory) => return Ok(String::from_str(alloc, "memory\n")?),
+        };
+        let told = read_told(alloc, &mut world, &mut sink, &words)?;
+        if let Ok(printed) = str::from_utf8(sink.text()) {
+            shown.push_str(printed)?;
+        }
+        shown.push_str(told.as_str())?;
+        Ok(shown)
+    }
+
+    /// The tree of the files, if it can be one.
+    fn world(&mut self, alloc: Global) -> Result<Option<MemWorld>, Memory> {
+        let mut files = Vec::new(alloc);
+        while let Some(file) = self.files.pop() {
+            files.push(file)?;
+        }
+        let table = ActTable::new(Vec::new(alloc));
+        match MemWorld::new(alloc, files, table, Vec::new(alloc), Vec::new(alloc)) {
+            Ok(world) => Ok(Some(world)),
+            Err(_) => Ok(None),
+        }
+    }
+}
+
+/// The graph, or the fault.
+fn read_told(
+    alloc: Global,
+    world: &mut MemWorld,
+    sink: &mut MemSink,
+    words: &Words,
+) -> Result<String, Memory> {
+    match read_scripts(alloc, world, sink, words) {
+        Ok(graph) => graph_text(alloc, &graph, &words.requested),
+        Err(HostEnd::Reading(path, line, kind)) => {
+            let kind = kind.text(alloc)?;
+            Ok(format!(in alloc; "{}, line {line}: {kind}\n", path.as_str())?)
+        }
+        Err(HostEnd::Tree(path)) => Ok(format!(in alloc; "TreeFault {}\n", path.as_str())?),
+        Err(HostEnd::Out) => Ok(String::from_str(alloc, "OutFault\n")?),
+        Err(HostEnd::TooLarge(path, size)) => {
+            Ok(format!(in alloc; "TooLarge {} {size}\n", path.as_str())?)
+        }
+        Err(HostEnd::TooMany(what, count)) => Ok(format!(in alloc; "TooMany {what:?} {count}\n")?),
+        Err(HostEnd::Memory) => Ok(String::from_str(alloc, "memory\n")?),
+    }
+}

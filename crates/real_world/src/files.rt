@@ -1,0 +1,165 @@
+//! The file tree, one call of the system for each kind of call.
+ghost use Rattle.std.specs.Prelude.{◌≡◌, ◌≢◌, ◌<◌, ◌≤◌, ℕ, length, IfOk, IfErr, IfSome};
+
+use scons_base::{Blob, PathFault, PathText, Paths};
+use std::alloc::Global;
+use std::fs::{File, Metadata};
+use std::io::{ErrorKind, Read};
+use std::rt::Files;
+use std::time::UNIX_EPOCH;
+use std::{fs, io};
+use world_api::{AskRefusal, Content, Kind, ReadRefusal};
+
+/// What the system says of a path; nothing where nothing stands there, or a link that leads nowhere.
+pub fn metadata_of<R: Files>(rt: &R, path: &PathText) -> io::Result<Option<Metadata>> {
+    match fs::metadata(rt, path.as_str()) {
+        Ok(metadata) => Ok(Some(metadata)),
+        Err(error) if is_absent(error.kind()) => Ok(None),
+        Err(error) => Err(error),
+    }
+}
+
+/// Whether the error says that nothing stands there.
+fn is_absent(kind: ErrorKind) -> bool {
+    matches!(kind, ErrorKind::NotFound | ErrorKind::NotADirectory)
+}
+
+/// A pipe, a socket or a device is neither a file nor a directory, and counts as nothing.
+pub fn kind_of<R: Files>(rt: &R, path: &PathText) -> io::Result<Kind> {
+    Ok(match metadata_of(rt, path)? {
+        Some(metadata) if metadata.is_file() => Kind::File,
+        Some(metadata) if metadata.is_dir() => Kind::Dir,
+        _ => Kind::Absent,
+    })
+}
+
+/// When a file last changed, in nanoseconds since 1970. A time before that counts as 0.
+pub fn stamp_of<R: Files>(rt: &R, path: &PathText) -> io::Result<Option<u64>> {
+    match metadata_of(rt, path)? {
+        Some(metadata) if metadata.is_file() => Ok(Some(nanoseconds(&metadata)?)),
+        _ => Ok(None),
+    }
+}
+
+fn nanoseconds(metadata: &Metadata) -> io::Result<u64> {
+    match metadata.modified()?.duration_since(UNIX_EPOCH) {
+        Ok(time) => Ok(u64::try_from(time.as_nanos()).unwrap_or(u64::MAX)),
+        Err(_) => Ok(0),
+    }
+}
+
+/// The bytes of a file that is there and isn't too large. No more than one byte over the limit is read, whatever size the system tells.
+pub fn content_of<R: Files<File = File>>(
+    rt: &R,
+    alloc: Global,
+    path: &PathText,
+    limit: u64,
+) -> Result<Content, ReadRefusal>
+    ensures within { IfOk result (λ content. IfSome content (λ bytes. length bytes ≤ limit)) }
+    ensures over { IfErr result (λ refusal. (size : ℕ) → refusal ≡ ReadRefusal.TooLarge size → limit < size) }
+{
+    match metadata_of(rt, path) {
+        Ok(Some(metadata)) if metadata.is_file() => {
+            if metadata.len() > limit {
+                return Err(ReadRefusal::TooLarge(metadata.len()));
+            }
+        }
+        Ok(_) => return Ok(None),
+        Err(error) => return Err(refusal_of(error.kind())),
+    }
+    match bytes_of(rt, alloc, path, limit) {
+        Ok(bytes) if bytes.len() as u64 > limit => Err(ReadRefusal::TooLarge(bytes.len() as u64)),
+        Ok(bytes) => Ok(Some(Blob::new(bytes))),
+        Err(error) if is_absent(error.kind()) => Ok(None),
+        Err(error) => Err(refusal_of(error.kind())),
+    }
+}
+
+fn bytes_of<R: Files<File = File>>(
+    rt: &R,
+    alloc: Global,
+    path: &PathText,
+    limit: u64,
+) -> io::Result<Vec<u8>> {
+    let file = File::open(rt, path.as_str())?;
+    let mut bytes = Vec::new(alloc);
+    file.take(limit.saturating_add(1)).read_to_end(&mut bytes)?;
+    Ok(bytes)
+}
+
+fn refusal_of(kind: ErrorKind) -> ReadRefusal
+    ensures { (size : ℕ) → result ≢ ReadRefusal.TooLarge size }
+{
+    match kind {
+        ErrorKind::OutOfMemory => ReadRefusal::Memory,
+        _ => ReadRefusal::Fault,
+    }
+}
+
+pub fn ask_refusal(kind: ErrorKind) -> AskRefusal {
+    match kind {
+        ErrorKind::OutOfMemory => AskRefusal::Memory,
+        _ => AskRefusal::Fault,
+    }
+}
+
+/// The files directly in a directory. A name that isn't UTF-8, or that no path can have, isn't listed.
+pub fn files_in<R: Files + AllocGlobal + Clone + Drop>(
+    rt: &R,
+    dir: &PathText,
+) -> Result<Paths, AskRefusal> {
+    let alloc = rt.alloc();
+    let entries = match fs::read_dir(rt, dir.as_str()) {
+        Ok(entries) => entries,
+        Err(error) if is_absent(error.kind()) => return Ok(Paths::new(Vec::new(alloc))),
+        Err(error) => return Err(ask_refusal(error.kind())),
+    };
+    let mut paths = Paths::new(Vec::new(alloc));
+    for entry in entries {
+        match entry {
+            Ok(entry) => add_file(rt, alloc, dir, entry.file_name(), &mut paths)?,
+            Err(error) if error.kind() == ErrorKind::InvalidData => {}
+            Err(error) => return Err(ask_refusal(error.kind())),
+        }
+    }
+    Ok(paths)
+}
+
+fn add_file<R: Files>(
+    rt: &R,
+    alloc: Global,
+    dir: &PathText,
+    name: &str,
+    paths: &mut Paths,
+) -> Result<(), AskRefusal> {
+    let Some(path) = path_in(alloc, dir, name)? else {
+        return Ok(());
+    };
+    match kind_of(rt, &path) {
+        Ok(Kind::File) => Ok(paths.push(path)?),
+        Ok(Kind::Dir | Kind::Absent) => Ok(()),
+        Err(error) => Err(ask_refusal(error.kind())),
+    }
+}
+
+/// The path of a name in a directory, where it has one.
+fn path_in(alloc: Global, dir: &PathText, name: &str) -> Result<Option<PathText>, AskRefusal> {
+    let text = match dir.as_str() {
+        "." => String::from_str(alloc, name)?,
+        "/" => format!(in alloc; "/{name}")?,
+        dir => format!(in alloc; "{dir}/{name}")?,
+    };
+    match PathText::read(alloc, text.as_str()) {
+        Ok(path) => Ok(Some(path)),
+        Err(PathFault::Memory) => Err(AskRefusal::Memory),
+        Err(_) => Ok(None),
+    }
+}
+
+/// Removes a file. Where none stands it is well too.
+pub fn remove<R: Files>(rt: &R, path: &PathText) -> io::Result<()> {
+    match fs::remove_file(rt, path.as_str()) {
+        Err(error) if is_absent(error.kind()) => Ok(()),
+        removed => removed,
+    }
+}

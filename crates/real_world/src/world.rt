@@ -1,0 +1,266 @@
+//! The real world: the traits over files, banks, and a pool of workers.
+ghost use Rattle.std.specs.Prelude.{◌≡◌, ◌≢◌, ◌<◌, ◌≤◌, ℕ, List, [], None, false, length, IsTrue, IfOk, IfErr, IfSome};
+ghost use Rattle.scons_base.specs.Parts.{is_absolute};
+
+use crate::bank::BankFiles;
+use crate::files;
+use crate::lock::locked;
+use crate::shell::LockHolder;
+use job_runner::{NoGate, Pool, Slip};
+use scons_base::{Memory, PathFault, PathText, Paths};
+use std::alloc::Global;
+use std::env::Env;
+use std::fs::File;
+use std::rt::Files;
+use std::sync::Wait;
+use std::thread::Threads;
+use std::{env, fs};
+use world_api::{
+    AskRefusal, Bank, Content, Disk, Ended, Fault, Job, Kind, Outcome, ReadRefusal, World,
+};
+
+/// The real files, banks and shell. Jobs run on worker threads, as many at once as have started.
+#[derive(Drop)]
+pub struct RealWorld<R, S> {
+    rt: R,
+    alloc: Global,
+    pool: Pool<R, S, NoGate>,
+    banks: BankFiles,
+    disk_faults: u64,
+    tree_faults: u64,
+    start_faults: u64,
+    action_failures: u64,
+}
+
+impl<R, S> RealWorld<R, S>
+where
+    R: AllocGlobal + Threads + Wait + Clone + Send + Sync + Drop + 'static,
+    S: LockHolder + Send + Sync + Drop + 'static,
+{
+    pub fn new(rt: R, shell: S) -> Result<RealWorld<R, S>, Memory> {
+        let alloc = rt.alloc();
+        let pool = Pool::new(alloc, copied(&rt)?, shell, NoGate)?;
+        Ok(RealWorld {
+            rt,
+            alloc,
+            pool,
+            banks: BankFiles::new(),
+            disk_faults: 0,
+            tree_faults: 0,
+            start_faults: 0,
+            action_failures: 0,
+        })
+    }
+}
+
+impl<R, S> RealWorld<R, S>
+where
+    R: Files<File = File> + AllocGlobal + Wait + Env + Eprint + Clone + Drop,
+    S: LockHolder + Drop,
+{
+    /// Takes the lock of this tree, unless this build has it, and says whether it has it now.
+    fn is_locked(&self) -> bool {
+        let shell = self.pool.runner();
+        if shell.has_lock() {
+            return true;
+        }
+        match locked(&self.rt) {
+            Ok(file) => shell.take_lock(file),
+            Err(_) => false,
+        }
+    }
+}
+
+/// A further handle of the runtime.
+fn copied<R: Clone>(rt: &R) -> Result<R, Memory> {
+    match rt.clone() {
+        Ok(handle) => Ok(handle),
+        Err(_) => Err(Memory),
+    }
+}
+
+impl<R, S> Disk for RealWorld<R, S>
+where
+    R: Files<File = File> + AllocGlobal + Wait + Env + Eprint + Clone + Drop,
+    S: LockHolder + Drop,
+{
+    ghost use Rattle.world_api.specs.Around.{Around};
+
+    ghost meaning = { record {
+      tells = λ w. ⊥;
+      sure = λ w. ⊥;
+      seen = λ w bank. [];
+      image = λ w bank bytes. ⊥;
+      around = λ w. record { tree = λ path. None; dirs = λ path. false; stamps = λ path. 0; running = []; log = []; met = []; law = λ signed targets given path. None; top = [] };
+      clock = λ w. 0;
+      left_since = λ w time around banks. ⊥;
+      closed = λ w. [];
+      counts = λ w. record { disk_faults = w.disk_faults; tree_faults = w.tree_faults; start_faults = w.start_faults; action_failures = w.action_failures };
+    } };
+
+    fn size(&mut self, bank: Bank) -> Result<u64, Fault> {
+        if self.is_locked() {
+            if let Ok(size) = self.banks.size(&self.rt, bank) {
+                return Ok(size);
+            }
+        }
+        self.disk_faults = self.disk_faults.saturating_add(1);
+        Err(Fault)
+    }
+
+    fn read_at(&mut self, bank: Bank, place: u64, into: &mut [u8]) -> Result<(), Fault> {
+        if self.is_locked() && self.banks.read_at(&self.rt, bank, place, into).is_ok() {
+            return Ok(());
+        }
+        self.disk_faults = self.disk_faults.saturating_add(1);
+        Err(Fault)
+    }
+
+    fn write_at(&mut self, bank: Bank, place: u64, bytes: &[u8]) -> Result<(), Fault> {
+        if self.is_locked() && self.banks.write_at(&self.rt, bank, place, bytes).is_ok() {
+            return Ok(());
+        }
+        self.disk_faults = self.disk_faults.saturating_add(1);
+        Err(Fault)
+    }
+
+    fn sync(&mut self, bank: Bank) -> Result<(), Fault> {
+        if self.is_locked() && self.banks.sync(&self.rt, bank).is_ok() {
+            return Ok(());
+        }
+        self.disk_faults = self.disk_faults.saturating_add(1);
+        Err(Fault)
+    }
+
+    ghost reads_as = { λ disk tells. absurd tells };
+
+    ghost counts_now = { λ disk tells time banks. absurd tells };
+
+    ghost only_now = { λ disk tells around banks. absurd tells };
+}
+
+impl<R, S> World for RealWorld<R, S>
+where
+    R: Files<File = File> + AllocGlobal + Wait + Env + Eprint + Clone + Drop,
+    S: LockHolder + Drop,
+{
+    fn top_path(&mut self) -> Result<PathText, AskRefusal> {
+        match top_of(&self.rt) {
+            Ok(path) => Ok(path),
+            Err(AskRefusal::Memory) => Err(AskRefusal::Memory),
+            Err(AskRefusal::Fault) => {
+                self.tree_faults = self.tree_faults.saturating_add(1);
+                Err(AskRefusal::Fault)
+            }
+        }
+    }
+
+    fn kind(&mut self, path: &PathText) -> Result<Kind, Fault> {
+        match files::kind_of(&self.rt, path) {
+            Ok(kind) => Ok(kind),
+            Err(_) => {
+                self.tree_faults = self.tree_faults.saturating_add(1);
+                Err(Fault)
+            }
+        }
+    }
+
+    fn read_file(&mut self, path: &PathText, limit: u64) -> Result<Content, ReadRefusal> {
+        let read = files::content_of(&self.rt, self.alloc, path, limit);
+        if matches!(read, Err(ReadRefusal::Fault)) {
+            self.tree_faults = self.tree_faults.saturating_add(1);
+        }
+        read
+    }
+
+    fn list(&mut self, dir: &PathText) -> Result<Paths, AskRefusal> {
+        let listed = files::files_in(&self.rt, dir);
+        if matches!(listed, Err(AskRefusal::Fault)) {
+            self.tree_faults = self.tree_faults.saturating_add(1);
+        }
+        listed
+    }
+
+    fn stamp(&mut self, path: &PathText) -> Result<Option<u64>, Fault> {
+        match files::stamp_of(&self.rt, path) {
+            Ok(stamp) => Ok(stamp),
+            Err(_) => {
+                self.tree_faults = self.tree_faults.saturating_add(1);
+                Err(Fault)
+            }
+        }
+    }
+
+    fn make_dir(&mut self, path: &PathText) -> Result<(), AskRefusal> {
+        match fs::create_dir_all(&self.rt, path.as_str()) {
+            Ok(()) => Ok(()),
+            Err(error) => {
+                let refusal = files::ask_refusal(error.kind());
+                if matches!(refusal, AskRefusal::Fault) {
+                    self.tree_faults = self.tree_faults.saturating_add(1);
+                }
+                Err(refusal)
+            }
+        }
+    }
+
+    fn remove(&mut self, path: &PathText) -> Result<(), Fault> {
+        match files::remove(&self.rt, path) {
+            Ok(()) => Ok(()),
+            Err(_) => {
+                self.tree_faults = self.tree_faults.saturating_add(1);
+                Err(Fault)
+            }
+        }
+    }
+
+    fn start(&mut self, job: Job) -> Result<(), AskRefusal> {
+        if !self.is_locked() {
+            self.start_faults = self.start_faults.saturating_add(1);
+            return Err(AskRefusal::Fault);
+        }
+        self.pool.hand_in(Slip { job, given: None })?;
+        Ok(())
+    }
+
+    fn wait(&mut self) -> Ended {
+        if self.pool.out() == 0 {
+            self.start_faults = self.start_faults.saturating_add(1);
+            return Ended {
+                id: 0,
+                outcome: Outcome::Broken,
+            };
+        }
+        let ending = self.pool.next_end();
+        let outcome = ending.outcome;
+        match outcome {
+            Outcome::Failed(_) => self.action_failures = self.action_failures.saturating_add(1),
+            Outcome::Broken => self.start_faults = self.start_faults.saturating_add(1),
+            Outcome::Done | Outcome::NoMemory => {}
+        }
+        Ended {
+            id: ending.slip.job.id,
+            outcome,
+        }
+    }
+
+    ghost held = { λ world tells path bytes. absurd tells };
+
+    ghost shut = { λ world tells path. absurd tells };
+}
+
+/// The current directory, where its path is UTF-8 and in normal form.
+fn top_of<R: Env + AllocGlobal>(rt: &R) -> Result<PathText, AskRefusal>
+    ensures { IfOk result (λ path. IsTrue (is_absolute path)) }
+{
+    let dir = match env::current_dir(rt) {
+        Ok(dir) => dir,
+        Err(error) => return Err(files::ask_refusal(error.kind())),
+    };
+    match PathText::read(rt.alloc(), dir.as_str()) {
+        Ok(path) if path.as_str().starts_with('/') => Ok(path),
+        Ok(_) => Err(AskRefusal::Fault),
+        Err(PathFault::Memory) => Err(AskRefusal::Memory),
+        Err(_) => Err(AskRefusal::Fault),
+    }
+}

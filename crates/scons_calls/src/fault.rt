@@ -1,0 +1,46 @@
+//! Why a call isn't taken.
+use scons_base::{Memory as NoMemory, Text};
+use std::alloc::{AllocError, AllocFailed};
+
+/// Why the arguments of a call are refused.
+#[derive(Drop)]
+pub enum CallFault {
+    /// A wrong number, name or kind of arguments.
+    Arguments,
+    /// A named argument on which SCons acts and that is left out here.
+    LeftOut(Text),
+    Memory,
+}
+
+impl From<NoMemory> for CallFault {
+    ghost use Rattle.std.specs.Prelude.{◌≡◌};
+    ghost use Rattle.scons_calls.specs.declared.fault.CallFault.TheVariants as fault;
+
+    ghost from_gives = { λ _ e. e ≡ fault.Memory };
+
+    fn from(_: NoMemory) -> Self {
+        CallFault::Memory
+    }
+}
+
+impl From<AllocError> for CallFault {
+    ghost use Rattle.std.specs.Prelude.{◌≡◌};
+    ghost use Rattle.scons_calls.specs.declared.fault.CallFault.TheVariants as fault;
+
+    ghost from_gives = { λ _ e. e ≡ fault.Memory };
+
+    fn from(_: AllocError) -> Self {
+        CallFault::Memory
+    }
+}
+
+impl<T: Drop> From<AllocFailed<T>> for CallFault {
+    ghost use Rattle.std.specs.Prelude.{◌≡◌};
+    ghost use Rattle.scons_calls.specs.declared.fault.CallFault.TheVariants as fault;
+
+    ghost from_gives = { λ _ e. e ≡ fault.Memory };
+
+    fn from(_: AllocFailed<T>) -> Self {
+        CallFault::Memory
+    }
+}

@@ -1,0 +1,39 @@
+//! From the arguments of a script to typed calls: which arguments each name of SCons takes, in which places, by which
+//! names, and of which kind each is.
+//!
+//! `signatures` is the table of the names, in the order of the manual. `bind` finds the arguments of a signature,
+//! `convert` and the files behind it turn the values of each into what its kind says, and `requests` makes of them what the
+//! host is asked. Refusals come in one order everywhere: a wrong number or name first, then the kinds in the order of the
+//! signature.
+#![tactic(auto)]
+
+mod argument;
+mod bind;
+mod convert;
+mod exports;
+mod fault;
+mod flattening;
+mod name;
+mod nodes;
+mod objects;
+mod request;
+mod requests;
+mod signature;
+mod signatures;
+mod texts;
+mod values;
+mod variables;
+mod words;
+
+pub use exports::Exports;
+pub use fault::CallFault;
+pub use flattening::flattened;
+pub use name::{Name, is_left_out};
+pub use objects::{Objects, Thing};
+pub use request::{Request, ScriptFiles};
+pub use requests::{own_request_of, request_of};
+pub use values::{
+    dict_value, given_value, list_value, nodes_value, text_value, texts_value, tuple_value,
+    variable_value,
+};
+pub use variables::{builder, is_identifier, variable_of};

@@ -1,0 +1,311 @@
+//! From a call's arguments to what the host is asked.
+use crate::argument::Argument;
+use crate::bind::{Arguments, bound, place_of};
+use crate::exports::Exports;
+use crate::fault::CallFault;
+use crate::name::Name;
+use crate::objects::Objects;
+use crate::request::{Request, ScriptFiles};
+use crate::signature::{Others, Signature};
+use crate::signatures::{own_builder_signature, signature};
+use crate::variables::{builders, variable_of};
+use env_subst::Mode;
+use py_heap::{Heap, Value};
+use py_host::{Args, Scope};
+use scons_base::{Listing, Memory, Text, Texts};
+use scons_decls::{Builder, Call, Change, Given, Maker, Nodes, Variables};
+use std::alloc::Global;
+
+/// What a call of a name asks.
+pub fn request_of(
+    heap: &Heap,
+    objects: &Objects,
+    name: Name,
+    args: &Args,
+) -> Result<Request, CallFault> {
+    let signature = signature(name);
+    let mut arguments = bound(heap, objects, &signature, args)?;
+    let variables = variables(heap, objects, &signature, args)?;
+    let alloc = heap.allocator();
+    match name {
+        Name::Object => built(alloc, Maker::Object, &mut arguments, variables),
+        Name::Program => built(alloc, Maker::Program, &mut arguments, variables),
+        Name::StaticLibrary | Name::Library => {
+            built(alloc, Maker::StaticLibrary, &mut arguments, variables)
+        }
+        Name::Export => {
+            let mut exports = exports(alloc, &mut arguments);
+            put_named(alloc, &mut exports.values, args)?;
+            Ok(Request::Export(exports))
+        }
+        name => made(alloc, name, &mut arguments, variables),
+    }
+}
+
+/// What a call of an environment's own builder asks.
+pub fn own_request_of(
+    heap: &Heap,
+    objects: &Objects,
+    name: &Text,
+    args: &Args,
+) -> Result<Request, CallFault> {
+    let signature = own_builder_signature();
+    let mut arguments = bound(heap, objects, &signature, args)?;
+    let variables = variables(heap, objects, &signature, args)?;
+    built(
+        heap.allocator(),
+        Maker::Own(name.copy()?),
+        &mut arguments,
+        variables,
+    )
+}
+
+/// The variables among the named arguments, in their order.
+fn variables(
+    heap: &Heap,
+    objects: &Objects,
+    signature: &Signature,
+    args: &Args,
+) -> Result<Variables, CallFault> {
+    let alloc = heap.allocator();
+    let mut variables = Variables {
+        values: Listing::empty(alloc),
+        builders: Listing::empty(alloc),
+    };
+    if !matches!(signature.others, Others::Variables) {
+        return Ok(variables);
+    }
+    for at in 0..args.named.len() {
+        if let Some((name, value)) = args.named.at(at) {
+            if place_of(signature, name).is_none() {
+                put_variable(heap, objects, name, value, &mut variables)?;
+            }
+        }
+    }
+    Ok(variables)
+}
+
+fn put_variable(
+    heap: &Heap,
+    objects: &Objects,
+    name: &str,
+    value: Value,
+    variables: &mut Variables,
+) -> Result<(), CallFault> {
+    if name == "BUILDERS" {
+        variables.builders = builders(heap, objects, value)?;
+        return Ok(());
+    }
+    let value = variable_of(heap, objects, name, value)?;
+    variables
+        .values
+        .push((Text::of(heap.allocator(), name)?, value))?;
+    Ok(())
+}
+
+/// Puts the named arguments of Export into a scope.
+fn put_named(alloc: Global, values: &mut Scope, args: &Args) -> Result<(), Memory> {
+    for at in 0..args.named.len() {
+        if let Some((name, value)) = args.named.at(at) {
+            if name != "names" {
+                values.set(Text::of(alloc, name)?, value)?;
+            }
+        }
+    }
+    Ok(())
+}
+
+/// A call of a builder. Where one list alone is given it is the sources.
+fn built(
+    alloc: Global,
+    maker: Maker,
+    arguments: &mut Arguments,
+    variables: Variables,
+) -> Result<Request, CallFault> {
+    let (targets, sources) = match (take(arguments), take(arguments)) {
+        (None, None) => return Err(CallFault::Arguments),
+        (targets, None) => (None, nodes_in(alloc, targets)),
+        (None, sources) => (None, nodes_in(alloc, sources)),
+        (targets, sources) => (Some(nodes_in(alloc, targets)), nodes_in(alloc, sources)),
+    };
+    Ok(Request::Declare(Call::Build {
+        maker,
+        targets,
+        sources,
+        variables,
+    }))
+}
+
+/// What the calls of all other names ask.
+fn made(
+    alloc: Global,
+    name: Name,
+    from: &mut Arguments,
+    variables: Variables,
+) -> Result<Request, CallFault> {
+    let call = match name {
+        Name::Environment => Call::Environment(variables),
+        Name::DefaultEnvironment => Call::DefaultEnvironment(variables),
+        Name::Clone => Call::Clone(variables),
+        Name::Append => Call::Change(Change::Append, variables),
+        Name::Prepend => Call::Change(Change::Prepend, variables),
+        Name::AppendUnique => Call::Change(Change::AppendUnique, variables),
+        Name::Replace => Call::Change(Change::Replace, variables),
+        Name::SetDefault => Call::Change(Change::SetDefault, variables),
+        Name::Subst => Call::Subst(text(alloc, from), mode(from)),
+        Name::Command => Call::Command {
+            targets: nodes(alloc, from),
+            sources: nodes(alloc, from),
+            action: texts(alloc, from),
+            variables,
+        },
+        Name::Builder => Call::NewBuilder(builder_of(alloc, from)),
+        Name::Decider => Call::Decider(text(alloc, from)),
+        Name::Help => Call::Help(text(alloc, from)),
+        name => return said(alloc, name, from),
+    };
+    Ok(Request::Declare(call))
+}
+
+/// What is asked by the names that say something of nodes.
+fn said(alloc: Global, name: Name, from: &mut Arguments) -> Result<Request, CallFault> {
+    let call = match name {
+        Name::Install => Call::Install {
+            dirs: nodes(alloc, from),
+            sources: nodes(alloc, from),
+        },
+        Name::InstallAs => Call::InstallAs {
+            targets: nodes(alloc, from),
+            sources: nodes(alloc, from),
+        },
+        Name::VariantDir => Call::VariantDir {
+            variant: place(from)?,
+            source: place(from)?,
+            duplicate: flag(from),
+        },
+        Name::Depends => Call::Depends {
+            targets: nodes(alloc, from),
+            nodes: nodes(alloc, from),
+        },
+        Name::Requires => Call::Requires {
+            targets: nodes(alloc, from),
+            nodes: nodes(alloc, from),
+        },
+        Name::Ignore => Call::Ignore {
+            targets: nodes(alloc, from),
+            nodes: nodes(alloc, from),
+        },
+        Name::AlwaysBuild => Call::AlwaysBuild(nodes(alloc, from)),
+        Name::Alias => Call::Alias {
+            names: nodes(alloc, from),
+            members: nodes(alloc, from),
+        },
+        Name::Default => Call::Default(nodes(alloc, from)),
+        Name::File => Call::File(place(from)?),
+        Name::Dir => Call::Dir(place(from)?),
+        name => return asked(alloc, name, from),
+    };
+    Ok(Request::Declare(call))
+}
+
+/// What is asked of the host alone.
+fn asked(alloc: Global, name: Name, from: &mut Arguments) -> Result<Request, CallFault> {
+    Ok(match name {
+        Name::Get => Request::Get(text(alloc, from), any(from)),
+        Name::Glob => Request::Glob(text(alloc, from)),
+        Name::SConscript => Request::Scripts(ScriptFiles {
+            files: nodes(alloc, from),
+            exports: exports(alloc, from),
+            variant: place(from).ok(),
+            duplicate: flag(from),
+        }),
+        Name::Import => Request::Import(texts(alloc, from)),
+        Name::Return => Request::Return(texts(alloc, from)),
+        Name::Split => Request::Split(any(from)),
+        Name::Flatten => Request::Flatten(any(from)),
+        _ => Request::Nothing,
+    })
+}
+
+fn builder_of(alloc: Global, from: &mut Arguments) -> Builder {
+    let action = texts(alloc, from);
+    let suffix = text(alloc, from);
+    let src_suffix = text(alloc, from);
+    let prefix = text(alloc, from);
+    Builder {
+        action,
+        prefix,
+        suffix,
+        src_suffix,
+    }
+}
+
+/// The next argument, if it is given.
+fn take(from: &mut Arguments) -> Option<Argument> {
+    from.pop_front().flatten()
+}
+
+/// The next argument as a text, empty where it isn't given.
+fn text(alloc: Global, from: &mut Arguments) -> Text {
+    match take(from) {
+        Some(Argument::Text(text)) => text,
+        _ => Text::new(String::new(alloc)),
+    }
+}
+
+fn nodes(alloc: Global, from: &mut Arguments) -> Nodes {
+    nodes_in(alloc, take(from))
+}
+
+fn nodes_in(alloc: Global, argument: Option<Argument>) -> Nodes {
+    match argument {
+        Some(Argument::Nodes(nodes)) => nodes,
+        _ => Listing::empty(alloc),
+    }
+}
+
+fn texts(alloc: Global, from: &mut Arguments) -> Texts {
+    match take(from) {
+        Some(Argument::Texts(texts)) => texts,
+        _ => Texts::new(Vec::new(alloc)),
+    }
+}
+
+fn place(from: &mut Arguments) -> Result<Given, CallFault> {
+    match take(from) {
+        Some(Argument::Place(given)) => Ok(given),
+        _ => Err(CallFault::Arguments),
+    }
+}
+
+fn exports(alloc: Global, from: &mut Arguments) -> Exports {
+    match take(from) {
+        Some(Argument::Exports(exports)) => exports,
+        _ => Exports {
+            names: Texts::new(Vec::new(alloc)),
+            values: Scope::new(alloc),
+        },
+    }
+}
+
+/// The next argument as a flag, which is true where it isn't given.
+fn flag(from: &mut Arguments) -> bool {
+    match take(from) {
+        Some(Argument::Flag(flag)) => flag,
+        _ => true,
+    }
+}
+
+fn mode(from: &mut Arguments) -> Mode {
+    match take(from) {
+        Some(Argument::Mode(mode)) => mode,
+        _ => Mode::Text,
+    }
+}
+
+fn any(from: &mut Arguments) -> Value {
+    match take(from) {
+        Some(Argument::Any(value)) => value,
+        _ => Value::Nil,
+    }
+}

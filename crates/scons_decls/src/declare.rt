@@ -1,0 +1,139 @@
+//! One call, declared.
+use crate::answer::Answer;
+use crate::build::build;
+use crate::call::Call;
+use crate::declarations::Declarations;
+use crate::environment_calls::{
+    change, change_default, clone_environment, get, new_environment, set, set_builder, set_decider,
+    subst,
+};
+use crate::expand::{dir_of, expanded, file_of};
+use crate::fault::NameFault;
+use crate::given::Given;
+use crate::install::{install, install_as};
+use crate::own::{command, new_builder};
+use crate::place::Place;
+use crate::said::{Saying, alias, ask, say};
+use crate::scripts::variant_dir;
+use crate::site::{plain_site, site_of};
+use env_subst::Mode;
+use scons_base::{EnvId, Listing, Text};
+
+/// Declares a call that stands at a place and is made in an environment.
+pub fn declare(
+    state: &mut Declarations,
+    env: EnvId,
+    place: Place,
+    call: &Call,
+) -> Result<Answer, NameFault> {
+    match call {
+        Call::Environment(variables) => new_environment(state, variables),
+        Call::DefaultEnvironment(variables) => change_default(state, variables),
+        Call::Clone(variables) => clone_environment(state, env, variables),
+        Call::Change(how, variables) => change(state, env, *how, variables),
+        Call::Set(name, value) => set(state, env, name, value),
+        Call::SetBuilder(name, builder) => set_builder(state, env, name, *builder),
+        Call::Get(name) => get(state, env, name),
+        Call::Subst(text, mode) => subst(state, env, text, *mode),
+        Call::Decider(name) => set_decider(state, env, name),
+        Call::NewBuilder(builder) => new_builder(state, builder),
+        Call::File(given) => file(state, env, given),
+        Call::Dir(given) => dir(state, env, given),
+        Call::Help(text) => help(state, env, text),
+        Call::Default(given) => ask(state, env, given.as_slice()),
+        Call::VariantDir {
+            variant,
+            source,
+            duplicate,
+        } => variant_dir(state, env, variant, source, *duplicate),
+        _ => declare_rules(state, env, place, call),
+    }
+}
+
+/// The calls that declare rules, or say something of targets.
+fn declare_rules(
+    state: &mut Declarations,
+    env: EnvId,
+    place: Place,
+    call: &Call,
+) -> Result<Answer, NameFault> {
+    match call {
+        Call::Build {
+            maker,
+            targets,
+            sources,
+            variables,
+        } => build(state, env, place, maker, targets, sources, variables),
+        Call::Command {
+            targets,
+            sources,
+            action,
+            variables,
+        } => {
+            let site = site_of(state, env, place, variables)?;
+            command(state, site, targets.as_slice(), sources.as_slice(), action)
+        }
+        Call::Install { dirs, sources } => {
+            let site = plain_site(state, env, place);
+            install(state, site, dirs.as_slice(), sources.as_slice())
+        }
+        Call::InstallAs { targets, sources } => {
+            let site = plain_site(state, env, place);
+            install_as(state, site, targets.as_slice(), sources.as_slice())
+        }
+        _ => declare_said(state, env, call),
+    }
+}
+
+/// The calls that say something of targets.
+fn declare_said(state: &mut Declarations, env: EnvId, call: &Call) -> Result<Answer, NameFault> {
+    let (saying, targets, nodes) = match call {
+        Call::Depends { targets, nodes } => (Saying::Depends, targets.as_slice(), nodes.as_slice()),
+        Call::Requires { targets, nodes } => (
+            Saying::Requires,
+            targets.as_slice(),
+            nodes.as_slice(),
+        ),
+        Call::Ignore { targets, nodes } => (Saying::Ignore, targets.as_slice(), nodes.as_slice()),
+        Call::Alias { names, members } => {
+            return alias(state, env, names.as_slice(), members.as_slice());
+        }
+        Call::AlwaysBuild(targets) => {
+            let none = Listing::empty(state.alloc);
+            return say(
+                state,
+                env,
+                Saying::Always,
+                targets.as_slice(),
+                none.as_slice(),
+            );
+        }
+        _ => return Ok(Answer::Nothing),
+    };
+    say(state, env, saying, targets, nodes)
+}
+
+/// `File(name)`
+fn file(state: &Declarations, env: EnvId, given: &Given) -> Result<Answer, NameFault> {
+    let path = file_of(state, env, given, "File")?;
+    one_node(state, Given::File(path))
+}
+
+/// `Dir(name)`
+fn dir(state: &Declarations, env: EnvId, given: &Given) -> Result<Answer, NameFault> {
+    let path = dir_of(state, env, given, "Dir")?;
+    one_node(state, Given::Dir(path))
+}
+
+fn one_node(state: &Declarations, node: Given) -> Result<Answer, NameFault> {
+    let mut nodes = Listing::empty(state.alloc);
+    nodes.push(node)?;
+    Ok(Answer::Targets(nodes))
+}
+
+/// `Help(text)`
+fn help(state: &mut Declarations, env: EnvId, text: &Text) -> Result<Answer, NameFault> {
+    let text = expanded(state, env, text.as_str(), Mode::Raw)?;
+    state.helps.push(text)?;
+    Ok(Answer::Nothing)
+}

@@ -1,0 +1,138 @@
+//! The calls on environments.
+use crate::answer::Answer;
+use crate::call::Change;
+use crate::declarations::Declarations;
+use crate::expand::{bad_argument, expanded};
+use crate::fault::NameFault;
+use crate::given::Variables;
+use crate::variables::{change_all, change_one, refuse_variable, refuse_variables, set_builders};
+use env_subst::Mode;
+use env_vars::EnvValue;
+use scons_base::{EnvId, Text};
+use world_api::Decider;
+
+/// `Environment(..)`
+pub(crate) fn new_environment(
+    state: &mut Declarations,
+    variables: &Variables,
+) -> Result<Answer, NameFault> {
+    refuse_variables(state.alloc, variables.values.as_slice())?;
+    let env = state.envs.make()?;
+    change(state, env, Change::Replace, variables)?;
+    Ok(Answer::Env(env))
+}
+
+/// `DefaultEnvironment(..)`: what is given is set in the one default environment.
+pub(crate) fn change_default(
+    state: &mut Declarations,
+    variables: &Variables,
+) -> Result<Answer, NameFault> {
+    let env = state.default_env();
+    change(state, env, Change::Replace, variables)?;
+    Ok(Answer::Env(env))
+}
+
+/// `env.Clone(..)`
+pub(crate) fn clone_environment(
+    state: &mut Declarations,
+    env: EnvId,
+    variables: &Variables,
+) -> Result<Answer, NameFault> {
+    refuse_variables(state.alloc, variables.values.as_slice())?;
+    let clone = state.envs.clone_of(env)?;
+    set_given(state, env, clone, variables.values.as_slice())?;
+    set_builders(state, clone, variables.builders.as_slice())?;
+    Ok(Answer::Env(clone))
+}
+
+/// Sets values that were given to a clone of an environment.
+fn set_given(
+    state: &mut Declarations,
+    env: EnvId,
+    clone: EnvId,
+    values: &[(Text, EnvValue)],
+) -> Result<(), NameFault> {
+    for (name, value) in values {
+        let value = state.envs.given(env, name, value)?;
+        change_one(state, clone, Change::Replace, name, &value)?;
+    }
+    Ok(())
+}
+
+/// `Append` and its kin, `Replace` and `SetDefault`.
+pub(crate) fn change(
+    state: &mut Declarations,
+    env: EnvId,
+    how: Change,
+    variables: &Variables,
+) -> Result<Answer, NameFault> {
+    refuse_variables(state.alloc, variables.values.as_slice())?;
+    change_all(state, env, how, variables.values.as_slice())?;
+    set_builders(state, env, variables.builders.as_slice())?;
+    Ok(Answer::Nothing)
+}
+
+/// `env['X'] = v`
+pub(crate) fn set(
+    state: &mut Declarations,
+    env: EnvId,
+    name: &Text,
+    value: &EnvValue,
+) -> Result<Answer, NameFault> {
+    refuse_variable(state.alloc, name.as_str())?;
+    change_one(state, env, Change::Replace, name, value)?;
+    Ok(Answer::Nothing)
+}
+
+/// `env['BUILDERS']['N'] = b`
+pub(crate) fn set_builder(
+    state: &mut Declarations,
+    env: EnvId,
+    name: &Text,
+    builder: u32,
+) -> Result<Answer, NameFault> {
+    state.envs.set_builder(env, name, builder)?;
+    Ok(Answer::Nothing)
+}
+
+/// `env['X']` and `env.get('X')`
+pub(crate) fn get(state: &Declarations, env: EnvId, name: &Text) -> Result<Answer, NameFault> {
+    let value = match state.envs.get(env, name.as_str()) {
+        Some(value) => Some(value.copy(state.alloc)?),
+        None => None,
+    };
+    Ok(Answer::Variable(value))
+}
+
+/// `env.subst(text, raw)`
+pub(crate) fn subst(
+    state: &Declarations,
+    env: EnvId,
+    text: &Text,
+    mode: Mode,
+) -> Result<Answer, NameFault> {
+    Ok(Answer::Text(expanded(state, env, text.as_str(), mode)?))
+}
+
+/// `Decider(name)`, for rules declared later in this environment.
+pub(crate) fn set_decider(
+    state: &mut Declarations,
+    env: EnvId,
+    name: &Text,
+) -> Result<Answer, NameFault> {
+    let Some(decider) = decider_named(name.as_str()) else {
+        return Err(bad_argument(state, "Decider"));
+    };
+    state.envs.set_decider(env, decider)?;
+    Ok(Answer::Nothing)
+}
+
+fn decider_named(name: &str) -> Option<Decider> {
+    match name.as_bytes() {
+        b"content" | b"MD5" => Some(Decider::Content),
+        b"timestamp-newer" | b"make" => Some(Decider::Newer),
+        b"timestamp-match" => Some(Decider::Match),
+        b"content-timestamp" | b"MD5-timestamp" => Some(Decider::ContentMatch),
+        _ => None,
+    }
+}

@@ -1,0 +1,265 @@
+//! The environments of a reading, each with its decider and the builders that scripts gave it.
+ghost use Rattle.std.specs.Prelude.{◌<◌, length};
+
+use crate::fault::NameFault;
+use crate::variables::refuse_variables;
+use env_subst::{LibItem, Locals, Mode, dirs, lib_names, lines, path_text, subst};
+use env_vars::{EnvFault, EnvValue, Envs};
+use indexmap::IndexMap;
+use scons_base::{EnvId, Listing, Memory, Paths, Text, Texts};
+use std::alloc::Global;
+use world_api::Decider;
+
+/// What an environment has beside its variables.
+#[derive(Drop)]
+struct Setting {
+    /// The decider that a script gave it.
+    decider: Option<Decider>,
+    /// The numbers of its own builders.
+    builders: IndexMap<String, u32>,
+}
+
+/// Environments by their numbers. The first is the default one, and a number that was never given stands for it.
+#[derive(Drop)]
+pub struct Environments {
+    alloc: Global,
+    envs: Envs,
+    last: EnvId,
+    settings: IndexMap<u64, Setting>,
+    ghost has_last: { last.0 < length envs },
+}
+
+impl Environments {
+    /// The default environment alone.
+    pub(crate) fn new(alloc: Global) -> Result<Environments, Memory> {
+        let mut envs = Envs::new(alloc);
+        let last = envs.make()?;
+        Ok(Environments {
+            alloc,
+            envs,
+            last,
+            settings: IndexMap::new(alloc),
+        })
+    }
+
+    /// This environment, or the default one in place of a number that was never given.
+    fn held(&self, env: EnvId) -> EnvId
+        ensures { result.0 < length self.now.envs }
+    {
+        if env.0 <= self.last.0 { env } else { EnvId(0) }
+    }
+
+    pub(crate) fn make(&mut self) -> Result<EnvId, NameFault> {
+        self.last = self.envs.make()?;
+        Ok(self.last)
+    }
+
+    /// A copy with the same decider and builders.
+    pub(crate) fn clone_of(&mut self, env: EnvId) -> Result<EnvId, NameFault> {
+        self.last = self.envs.clone_of(self.held(env))?;
+        let decider = self.own_decider(env);
+        let mut builders = IndexMap::new(self.alloc);
+        if let Some(setting) = self.settings.get(&env.0) {
+            copy_builders(self.alloc, &mut builders, &setting.builders)?;
+        }
+        self.settings
+            .insert(self.last.0, Setting { decider, builders })?;
+        Ok(self.last)
+    }
+
+    /// The environment of one call: the variables that the call gave, in front of its environment.
+    pub(crate) fn of_call(
+        &mut self,
+        env: EnvId,
+        values: &[(Text, EnvValue)],
+    ) -> Result<EnvId, NameFault> {
+        refuse_variables(self.alloc, values)?;
+        let env = self.held(env);
+        if values.is_empty() {
+            return Ok(env);
+        }
+        let names = self.given_all(env, values)?;
+        self.last = self.envs.overlay(env, names.as_slice())?;
+        Ok(self.last)
+    }
+
+    /// Values given to a clone of an environment or to one call, in which a variable's own name stands for its old value.
+    fn given_all(
+        &self,
+        env: EnvId,
+        values: &[(Text, EnvValue)],
+    ) -> Result<Vec<(Text, EnvValue)>, Memory> {
+        let mut names = Vec::new(self.alloc);
+        for (name, value) in values {
+            let given = self.given(env, name, value)?;
+            names.push((name.copy()?, given))?;
+        }
+        Ok(names)
+    }
+
+    /// One such value.
+    pub(crate) fn given(
+        &self,
+        env: EnvId,
+        name: &Text,
+        value: &EnvValue,
+    ) -> Result<EnvValue, Memory> {
+        self.envs
+            .given(self.held(env), name.as_str(), value.copy(self.alloc)?)
+    }
+
+    pub fn get(&self, env: EnvId, name: &str) -> Option<&EnvValue> {
+        self.envs.get(self.held(env), name)
+    }
+
+    pub(crate) fn set(&mut self, env: EnvId, name: &str, value: EnvValue) -> Result<(), EnvFault> {
+        self.envs.set(self.held(env), name, value)
+    }
+
+    pub(crate) fn append(
+        &mut self,
+        env: EnvId,
+        name: &str,
+        value: EnvValue,
+    ) -> Result<(), EnvFault> {
+        self.envs.append(self.held(env), name, value)
+    }
+
+    pub(crate) fn prepend(
+        &mut self,
+        env: EnvId,
+        name: &str,
+        value: EnvValue,
+    ) -> Result<(), EnvFault> {
+        self.envs.prepend(self.held(env), name, value)
+    }
+
+    pub(crate) fn append_unique(
+        &mut self,
+        env: EnvId,
+        name: &str,
+        value: EnvValue,
+    ) -> Result<(), EnvFault> {
+        self.envs.append_unique(self.held(env), name, value)
+    }
+
+    pub(crate) fn set_default(
+        &mut self,
+        env: EnvId,
+        name: &str,
+        value: EnvValue,
+    ) -> Result<(), EnvFault> {
+        self.envs.set_default(self.held(env), name, value)
+    }
+
+    /// What a text stands for in an environment.
+    pub fn subst(
+        &self,
+        env: EnvId,
+        text: &str,
+        locals: &Locals,
+        mode: Mode,
+    ) -> Result<Text, NameFault> {
+        let text = subst(self.alloc, &self.envs, self.held(env), text, locals, mode)?;
+        Ok(Text::new(text))
+    }
+
+    /// The lines of a command, cut where its expansion has a line feed.
+    pub fn lines(
+        &self,
+        env: EnvId,
+        text: &str,
+        locals: &Locals,
+        mode: Mode,
+    ) -> Result<Texts, NameFault> {
+        Ok(lines(self.alloc, &self.envs, self.held(env), text, locals, mode)?)
+    }
+
+    /// The text of a path.
+    pub(crate) fn path_text(
+        &self,
+        env: EnvId,
+        text: &str,
+        locals: &Locals,
+    ) -> Result<String, NameFault> {
+        Ok(path_text(self.alloc, &self.envs, self.held(env), text, locals)?)
+    }
+
+    /// The libraries that an environment names.
+    pub fn lib_names(&self, env: EnvId, locals: &Locals) -> Result<Listing<LibItem>, NameFault> {
+        Ok(lib_names(self.alloc, &self.envs, self.held(env), locals)?)
+    }
+
+    /// The directories of a search path.
+    pub fn dirs(&self, env: EnvId, name: &str, locals: &Locals) -> Result<Paths, NameFault> {
+        Ok(dirs(self.alloc, &self.envs, self.held(env), name, locals)?)
+    }
+
+    fn own_decider(&self, env: EnvId) -> Option<Decider> {
+        self.settings.get(&env.0)?.decider
+    }
+
+    /// The decider of an environment: its own, or else that of the default environment.
+    pub(crate) fn decider(&self, env: EnvId) -> Decider {
+        match self.own_decider(env) {
+            Some(decider) => decider,
+            None => self.own_decider(EnvId(0)).unwrap_or(Decider::Content),
+        }
+    }
+
+    pub(crate) fn set_decider(&mut self, env: EnvId, decider: Decider) -> Result<(), NameFault> {
+        match self.settings.get_mut(&env.0) {
+            Some(setting) => setting.decider = Some(decider),
+            None => {
+                let setting = Setting {
+                    decider: Some(decider),
+                    builders: IndexMap::new(self.alloc),
+                };
+                self.settings.insert(env.0, setting)?;
+            }
+        }
+        Ok(())
+    }
+
+    /// The number of the builder that an environment has under a name.
+    pub fn builder_of(&self, env: EnvId, name: &str) -> Option<u32> {
+        self.settings.get(&env.0)?.builders.get(name).copied()
+    }
+
+    pub(crate) fn set_builder(
+        &mut self,
+        env: EnvId,
+        name: &Text,
+        builder: u32,
+    ) -> Result<(), NameFault> {
+        let name = String::from_str(self.alloc, name.as_str())?;
+        match self.settings.get_mut(&env.0) {
+            Some(setting) => {
+                setting.builders.insert(name, builder)?;
+            }
+            None => {
+                let mut builders = IndexMap::new(self.alloc);
+                builders.insert(name, builder)?;
+                let setting = Setting {
+                    decider: None,
+                    builders,
+                };
+                self.settings.insert(env.0, setting)?;
+            }
+        }
+        Ok(())
+    }
+}
+
+fn copy_builders(
+    alloc: Global,
+    into: &mut IndexMap<String, u32>,
+    from: &IndexMap<String, u32>,
+) -> Result<(), Memory> {
+    'places: for place in 0..from.len() {
+        if let Some((name, builder)) = from.get_index(place) {
+            into.insert(String::from_str(alloc, name.as_str())?, *builder)?;
+        }
+    }
+    Ok(())
+}

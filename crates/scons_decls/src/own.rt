@@ -1,0 +1,140 @@
+//! Builders of a script's own, and Command.
+use crate::answer::Answer;
+use crate::builder::Builder;
+use crate::declarations::Declarations;
+use crate::expand::{bad_argument, files_of};
+use crate::fault::NameFault;
+use crate::given::Given;
+use crate::objects::{distinct_targets, named_source};
+use crate::rule::Recipe;
+use crate::site::{Site, as_answer, declare_rule, one_path};
+use crate::suffixes::{Affixes, affixes_of, dotted, target_of};
+use scons_base::{PathText, Paths, Text, Texts};
+
+/// A builder's affixes, expanded.
+#[derive(Drop)]
+struct Naming {
+    target: Affixes,
+    source: Affixes,
+}
+
+fn naming_of(state: &Declarations, site: Site, builder: u32) -> Result<Naming, NameFault> {
+    let Some(builder) = state.builders.get(builder as usize) else {
+        return Ok(Naming {
+            target: affixes_of(state, site.env, "", "")?,
+            source: affixes_of(state, site.env, "", "")?,
+        });
+    };
+    let suffix = dotted(state, &builder.suffix)?;
+    let src_suffix = dotted(state, &builder.src_suffix)?;
+    Ok(Naming {
+        target: affixes_of(state, site.env, builder.prefix.as_str(), suffix.as_str())?,
+        source: affixes_of(state, site.env, "", src_suffix.as_str())?,
+    })
+}
+
+/// `env.N(target, source)` and `env.N(source)`.
+pub(crate) fn own_rule(
+    state: &mut Declarations,
+    site: Site,
+    builder: u32,
+    name: &str,
+    targets: Option<&[Given]>,
+    sources: &[Given],
+) -> Result<Answer, NameFault> {
+    let naming = naming_of(state, site, builder)?;
+    let sources = own_sources(state, site, &naming.source, name, sources)?;
+    let targets = match targets {
+        Some(targets) => distinct_targets(state, site, &naming.target, name, targets)?,
+        None => default_target(state, &naming, sources.as_slice())?,
+    };
+    let answer = as_answer(state, targets.as_slice())?;
+    declare_rule(state, site, Recipe::Own(builder), targets, sources)?;
+    Ok(answer)
+}
+
+fn own_sources(
+    state: &Declarations,
+    site: Site,
+    affixes: &Affixes,
+    name: &str,
+    sources: &[Given],
+) -> Result<Paths, NameFault> {
+    let mut paths = Paths::new(Vec::new(state.alloc));
+    for source in sources {
+        paths.push(named_source(state, site, source, affixes, name)?)?;
+    }
+    Ok(paths)
+}
+
+fn default_target(
+    state: &Declarations,
+    naming: &Naming,
+    sources: &[PathText],
+) -> Result<Paths, NameFault> {
+    let Some(source) = sources.first() else {
+        return Err(NameFault::NoSource);
+    };
+    let known = naming.source.suffix.as_str();
+    let target = target_of(state, source, known, &naming.target)?;
+    one_path(state, &target)
+}
+
+/// `Command(target, source, action)`. It may have no source.
+pub(crate) fn command(
+    state: &mut Declarations,
+    site: Site,
+    targets: &[Given],
+    sources: &[Given],
+    action: &Texts,
+) -> Result<Answer, NameFault> {
+    let lines = lines_of(state, action.as_slice())?;
+    let plain = affixes_of(state, site.env, "", "")?;
+    let targets = distinct_targets(state, site, &plain, "Command", targets)?;
+    let sources = files_of(state, site.env, sources, "Command")?;
+    let answer = as_answer(state, targets.as_slice())?;
+    declare_rule(state, site, Recipe::Command(lines), targets, sources)?;
+    Ok(answer)
+}
+
+/// `Builder(..)`: the number of the new builder.
+pub(crate) fn new_builder(
+    state: &mut Declarations,
+    builder: &Builder,
+) -> Result<Answer, NameFault> {
+    let action = lines_of(state, builder.action.as_slice())?;
+    let number = state.builders.len();
+    if number >= u32::MAX as usize {
+        return Err(NameFault::Memory);
+    }
+    let copy = Builder {
+        action,
+        prefix: builder.prefix.copy()?,
+        suffix: builder.suffix.copy()?,
+        src_suffix: builder.src_suffix.copy()?,
+    };
+    state.builders.push(copy)?;
+    Ok(Answer::Builder(number as u32))
+}
+
+/// The lines of an action: each text is cut at line feeds.
+fn lines_of(state: &Declarations, action: &[Text]) -> Result<Texts, NameFault> {
+    let mut lines = Texts::new(Vec::new(state.alloc));
+    for text in action {
+        push_lines(state, &mut lines, text.as_str())?;
+    }
+    if lines.as_slice().iter().all(|line| line.as_str().is_empty()) {
+        return Err(NameFault::EmptyAction);
+    }
+    Ok(lines)
+}
+
+fn push_lines(state: &Declarations, lines: &mut Texts, text: &str) -> Result<(), NameFault> {
+    let mut rest = text;
+    'lines: while let Some((line, after)) = rest.split_once('\n') {
+        lines.push(Text::of(state.alloc, line)?)?;
+        rest = after;
+    }
+    lines.push(Text::of(state.alloc, rest)?)?;
+    Ok(())
+}

@@ -1,0 +1,90 @@
+//! Where a rule is declared.
+use crate::answer::Answer;
+use crate::declarations::Declarations;
+use crate::fault::NameFault;
+use crate::given::{Given, Nodes, Variables};
+use crate::place::Place;
+use crate::rule::{Declaration, Recipe};
+use scons_base::{EnvId, Listing, PathText, Paths};
+use world_api::Decider;
+
+/// The place of a call, the environment of its rules and their decider.
+#[derive(Clone, Copy)]
+pub(crate) struct Site {
+    pub(crate) place: Place,
+    pub(crate) env: EnvId,
+    pub(crate) decider: Decider,
+}
+
+/// A call in an environment, with variables of its own.
+pub(crate) fn site_of(
+    state: &mut Declarations,
+    env: EnvId,
+    place: Place,
+    variables: &Variables,
+) -> Result<Site, NameFault> {
+    let decider = state.envs.decider(env);
+    let env = state.envs.of_call(env, variables.values.as_slice())?;
+    Ok(Site {
+        place,
+        env,
+        decider,
+    })
+}
+
+/// Declares one rule.
+pub(crate) fn declare_rule(
+    state: &mut Declarations,
+    site: Site,
+    recipe: Recipe,
+    targets: Paths,
+    sources: Paths,
+) -> Result<(), NameFault> {
+    add_made(state, targets.as_slice())?;
+    let dir = state.locals.dir.copy()?;
+    state.rules.push(Declaration {
+        place: site.place,
+        env: site.env,
+        dir,
+        recipe,
+        decider: site.decider,
+        targets,
+        sources,
+    })?;
+    Ok(())
+}
+
+fn add_made(state: &mut Declarations, targets: &[PathText]) -> Result<(), NameFault> {
+    for target in targets {
+        state.made.add(state.alloc, target)?;
+    }
+    Ok(())
+}
+
+/// A call in an environment that gives no variables.
+pub(crate) fn plain_site(state: &Declarations, env: EnvId, place: Place) -> Site {
+    Site {
+        place,
+        env,
+        decider: state.envs.decider(env),
+    }
+}
+
+/// These paths as a call answers them.
+pub(crate) fn as_answer(state: &Declarations, paths: &[PathText]) -> Result<Answer, NameFault> {
+    Ok(Answer::Targets(as_nodes(state, paths)?))
+}
+
+pub(crate) fn as_nodes(state: &Declarations, paths: &[PathText]) -> Result<Nodes, NameFault> {
+    let mut nodes = Listing::empty(state.alloc);
+    for path in paths {
+        nodes.push(Given::File(path.copy()?))?;
+    }
+    Ok(nodes)
+}
+
+pub(crate) fn one_path(state: &Declarations, path: &PathText) -> Result<Paths, NameFault> {
+    let mut paths = Paths::new(Vec::new(state.alloc));
+    paths.push(path.copy()?)?;
+    Ok(paths)
+}

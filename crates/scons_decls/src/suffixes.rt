@@ -1,0 +1,117 @@
+//! Suffixes of sources, and the prefixes and suffixes that builders put round a name.
+use crate::declarations::Declarations;
+use crate::fault::NameFault;
+use env_subst::Mode;
+use scons_base::{EnvId, PathText, Text};
+
+/// What a source is, by its suffix.
+#[derive(Clone, Copy, Debug, PartialEq, Eq)]
+pub enum Language {
+    C,
+    CPlusPlus,
+}
+
+/// The language of a source, if it is one that compilers take.
+pub fn language_of(path: &PathText) -> Option<Language> {
+    match path.suffix().as_bytes() {
+        b".c" => Some(Language::C),
+        b".C" | b".cc" | b".cpp" | b".cxx" => Some(Language::CPlusPlus),
+        _ => None,
+    }
+}
+
+/// What a builder puts in front of names and behind them.
+#[derive(Drop)]
+pub(crate) struct Affixes {
+    pub(crate) prefix: Text,
+    pub(crate) suffix: Text,
+}
+
+/// The prefix and the suffix that two texts of an environment stand for.
+pub(crate) fn affixes_of(
+    state: &Declarations,
+    env: EnvId,
+    prefix: &str,
+    suffix: &str,
+) -> Result<Affixes, NameFault> {
+    let prefix = state.envs.subst(env, prefix, &state.locals, Mode::Text)?;
+    let suffix = state.envs.subst(env, suffix, &state.locals, Mode::Text)?;
+    Ok(Affixes { prefix, suffix })
+}
+
+/// A suffix as a builder was given it, with a dot where it begins with a letter.
+pub(crate) fn dotted(state: &Declarations, suffix: &Text) -> Result<Text, NameFault> {
+    let bytes = suffix.as_str().as_bytes();
+    match bytes.first() {
+        None | Some(b'.' | b'_' | b'$') => Ok(suffix.copy()?),
+        Some(_) => {
+            let mut text = String::from_str(state.alloc, ".")?;
+            text.push_str(suffix.as_str())?;
+            Ok(Text::new(text))
+        }
+    }
+}
+
+/// The path that a text names, with the prefix in front of its name and the suffix behind: the prefix where the name
+/// doesn't have it, the suffix where the name has none.
+pub(crate) fn affixed(
+    state: &Declarations,
+    path: &PathText,
+    affixes: &Affixes,
+) -> Result<PathText, NameFault> {
+    let name = path.name();
+    let prefix = affixes.prefix.as_str();
+    let mut text = String::new(state.alloc);
+    push_dir(&mut text, path.dir())?;
+    if name == prefix || !name.starts_with(prefix) {
+        text.push_str(prefix)?;
+    }
+    text.push_str(name)?;
+    if path.suffix().is_empty() && !name.ends_with(affixes.suffix.as_str()) {
+        text.push_str(affixes.suffix.as_str())?;
+    }
+    Ok(PathText::read(state.alloc, text.as_str())?)
+}
+
+/// The target that a source has where none was named: prefix, the name without `known` or its suffix, and suffix.
+pub(crate) fn target_of(
+    state: &Declarations,
+    source: &PathText,
+    known: &str,
+    affixes: &Affixes,
+) -> Result<PathText, NameFault> {
+    let mut text = String::new(state.alloc);
+    push_dir(&mut text, source.dir())?;
+    text.push_str(affixes.prefix.as_str())?;
+    text.push_str(bare_name(source, known))?;
+    text.push_str(affixes.suffix.as_str())?;
+    Ok(PathText::read(state.alloc, text.as_str())?)
+}
+
+fn bare_name<'a>(source: &'a PathText, known: &str) -> &'a str {
+    let name = source.name();
+    if !known.is_empty() {
+        if let Some(bare) = name.strip_suffix(known) {
+            if !bare.is_empty() {
+                return bare;
+            }
+        }
+    }
+    match name.strip_suffix(source.suffix()) {
+        Some(bare) => bare,
+        None => name,
+    }
+}
+
+/// What stands in front of a name that lies in a directory.
+fn push_dir(text: &mut String, dir: &str) -> Result<(), NameFault> {
+    match dir.as_bytes() {
+        b"." => {}
+        b"/" => text.push('/')?,
+        _ => {
+            text.push_str(dir)?;
+            text.push('/')?;
+        }
+    }
+    Ok(())
+}

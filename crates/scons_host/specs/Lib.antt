@@ -1,0 +1,3 @@
+pub mod Causes
+pub mod Looks
+pub mod Reading

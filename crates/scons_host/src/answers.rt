@@ -1,0 +1,83 @@
+//! What the host answers, as values.
+ghost use Rattle.py_host.specs.Extends.{Extends};
+
+use crate::state::State;
+use crate::stop::{Refusal, refused};
+use py_heap::{Heap, Value};
+use scons_base::Text;
+use scons_calls::{
+    Thing, flattened, given_value, list_value, nodes_value, text_value, texts_value, variable_value,
+};
+use scons_decls::{Answer, Call};
+
+/// Whether the answer to a call is one node, and no list.
+pub fn is_single(call: &Call) -> bool {
+    match call {
+        Call::File(_) | Call::Dir(_) => true,
+        Call::Alias { names, .. } => names.len() == 1,
+        _ => false,
+    }
+}
+
+/// The value of an answer. `single` says that one node is answered, and no list.
+#[tactic(auto, using(crate::proofs::Looking::looking))]
+pub fn answer_value(
+    state: &mut State,
+    heap: &mut Heap,
+    single: bool,
+    answer: Answer,
+) -> Result<Value, Refusal>
+    ensures { Extends heap.old heap.new }
+{
+    match answer {
+        Answer::Nothing | Answer::Variable(None) => Ok(Value::Nil),
+        Answer::Env(env) => Ok(Value::Object(state.objects.env(env)?)),
+        Answer::Targets(nodes) => match nodes.as_slice() {
+            [node] if single => Ok(given_value(heap, &mut state.objects, node)?),
+            nodes => Ok(nodes_value(heap, &mut state.objects, nodes)?),
+        },
+        Answer::Text(text) => Ok(text_value(heap, text.as_str())?),
+        Answer::Variable(Some(value)) => Ok(variable_value(heap, &mut state.objects, &value)?),
+        Answer::Builder(number) => Ok(Value::Object(state.objects.add(Thing::Builder(number))?)),
+    }
+}
+
+/// The words of a text, or a list as it is.
+#[tactic(auto, using(crate::proofs::Looking::looking))]
+pub fn split_value(heap: &mut Heap, value: Value) -> Result<Value, Refusal>
+    ensures { Extends heap.old heap.new }
+{
+    let mut words = Vec::new(heap.allocator());
+    match heap.text_of(value) {
+        Some(text) => {
+            for word in text.split_whitespace() {
+                words.push(Text::of(heap.allocator(), word)?)?;
+            }
+        }
+        None => return listed(heap, value),
+    }
+    Ok(texts_value(heap, words.as_slice())?)
+}
+
+/// A list as it is, or a list of what is none.
+#[tactic(auto, using(crate::proofs::Looking::looking))]
+fn listed(heap: &mut Heap, value: Value) -> Result<Value, Refusal>
+    ensures { Extends heap.old heap.new }
+{
+    match value {
+        Value::List(_) | Value::Tuple(_) => Ok(value),
+        value => Ok(list_value(heap, &[value])?),
+    }
+}
+
+/// One flat list of what lists and tuples hold.
+#[tactic(auto, using(crate::proofs::Looking::looking))]
+pub fn flat_value(heap: &mut Heap, value: Value) -> Result<Value, Refusal>
+    ensures { Extends heap.old heap.new }
+{
+    let mut items = Vec::new(heap.allocator());
+    if let Err(fault) = flattened(heap, &[value], &mut items) {
+        return Err(refused(heap.allocator(), "Flatten", fault));
+    }
+    Ok(list_value(heap, items.as_slice())?)
+}

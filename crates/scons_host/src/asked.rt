@@ -1,0 +1,263 @@
+//! Attributes and items of objects.
+ghost use Rattle.py_host.specs.Extends.{Extends};
+
+use crate::declaring::{declared, variable};
+use crate::end::ReadKind;
+use crate::state::State;
+use crate::stop::{Refusal, bad_argument, left_out, no_such_key, refused};
+use py_heap::{DictId, Heap, HostId, Value};
+use py_host::Place;
+use scons_base::{EnvId, PathText, Text};
+use scons_calls::{
+    Name, Thing, builder, is_identifier, is_left_out, text_value, variable_of, variable_value,
+};
+use scons_decls::{Call, NameFault};
+
+/// The builders of an environment, among its variables.
+const BUILDERS: &str = "BUILDERS";
+
+/// What an attribute tells of a path.
+enum Told {
+    Path,
+    Absolute,
+    Name,
+}
+
+/// What an object is, as far as its attributes and items go.
+enum Asked {
+    Env(EnvId),
+    Builders(EnvId),
+    Path(PathText),
+    Other,
+}
+
+fn asked(state: &State, object: HostId) -> Result<Asked, Refusal> {
+    Ok(match state.objects.thing(object) {
+        Some(Thing::Env(env)) => Asked::Env(*env),
+        Some(Thing::Builders(env)) => Asked::Builders(*env),
+        Some(Thing::File(path) | Thing::Dir(path)) => Asked::Path(path.copy()?),
+        _ => Asked::Other,
+    })
+}
+
+/// An attribute of an object.
+#[tactic(auto, using(crate::proofs::Looking::looking))]
+pub fn attribute(
+    state: &mut State,
+    heap: &mut Heap,
+    object: HostId,
+    name: &str,
+) -> Result<Value, Refusal>
+    ensures { Extends heap.old heap.new }
+{
+    match asked(state, object)? {
+        Asked::Env(env) => method(state, env, name),
+        Asked::Path(path) => told(state, heap, &path, name),
+        Asked::Builders(_) | Asked::Other => Err(bad_argument(state.alloc, name)),
+    }
+}
+
+/// The method of an environment: a name of SCons, or a builder that the environment has.
+fn method(state: &mut State, env: EnvId, name: &str) -> Result<Value, Refusal> {
+    let alloc = state.alloc;
+    if let Some(known) = Name::of_environments(name) {
+        let id = state.objects.method(env, name, Thing::Method(env, known))?;
+        return Ok(Value::Object(id));
+    }
+    let text = Text::of(alloc, name)?;
+    if state.declared.builder_of(env, name).is_some() {
+        let id = state
+            .objects
+            .method(env, name, Thing::OwnMethod(env, text))?;
+        return Ok(Value::Object(id));
+    }
+    if is_left_out(name) {
+        return Err(left_out(alloc, name));
+    }
+    Err(Refusal::Kind(ReadKind::Name(NameFault::UnknownBuilder(text))))
+}
+
+/// What an attribute tells of a node or directory.
+#[tactic(auto, using(crate::proofs::Looking::looking))]
+fn told(state: &State, heap: &mut Heap, path: &PathText, name: &str) -> Result<Value, Refusal>
+    ensures { Extends heap.old heap.new }
+{
+    let told = match name {
+        "path" => Told::Path,
+        "abspath" => Told::Absolute,
+        "name" => Told::Name,
+        _ => return Err(left_out(state.alloc, name)),
+    };
+    match told {
+        Told::Path => Ok(text_value(heap, path.as_str())?),
+        Told::Absolute => {
+            let text = absolute(state, path)?;
+            Ok(text_value(heap, text.as_str())?)
+        }
+        Told::Name => Ok(text_value(heap, path.name())?),
+    }
+}
+
+/// The absolute path of a path.
+fn absolute(state: &State, path: &PathText) -> Result<String, Refusal> {
+    let alloc = state.alloc;
+    let text = path.as_str();
+    if text.starts_with('/') {
+        return Ok(String::from_str(alloc, text)?);
+    }
+    let mut absolute = String::from_str(alloc, state.top.as_str())?;
+    if text == "." {
+        return Ok(absolute);
+    }
+    if absolute.as_str() != "/" {
+        absolute.push('/')?;
+    }
+    absolute.push_str(text)?;
+    Ok(absolute)
+}
+
+/// An item of an object.
+#[tactic(auto, using(crate::proofs::Looking::looking))]
+pub fn item(
+    state: &mut State,
+    heap: &mut Heap,
+    place: Place,
+    object: HostId,
+    key: Value,
+) -> Result<Value, Refusal>
+    ensures { Extends heap.old heap.new }
+{
+    let name = key_text(state, heap, object, key)?;
+    match asked(state, object)? {
+        Asked::Env(env) if name.as_str() == BUILDERS => {
+            let id = state.objects.method(env, BUILDERS, Thing::Builders(env))?;
+            Ok(Value::Object(id))
+        }
+        Asked::Env(env) => match variable(state, place, env, name)? {
+            Some(value) => Ok(variable_value(heap, &mut state.objects, &value)?),
+            None => Err(no_such_key()),
+        },
+        Asked::Builders(env) => match state.declared.builder_of(env, name.as_str()) {
+            Some(number) => Ok(Value::Object(state.objects.add(Thing::Builder(number))?)),
+            None => Err(no_such_key()),
+        },
+        Asked::Path(_) | Asked::Other => Err(not_indexed(state, heap, object)),
+    }
+}
+
+/// Sets an item of an object.
+#[tactic(auto, using(crate::proofs::Looking::looking))]
+pub fn set_item(
+    state: &mut State,
+    heap: &mut Heap,
+    place: Place,
+    object: HostId,
+    key: Value,
+    value: Value,
+) -> Result<(), Refusal>
+    ensures { Extends heap.old heap.new }
+{
+    let name = key_text(state, heap, object, key)?;
+    match asked(state, object)? {
+        Asked::Env(env) if name.as_str() == BUILDERS => {
+            set_builders(state, heap, place, env, value)
+        }
+        Asked::Env(env) => set_variable(state, heap, place, env, name, value),
+        Asked::Builders(env) => set_builder(state, heap, place, env, name, value),
+        Asked::Path(_) | Asked::Other => Err(not_indexed(state, heap, object)),
+    }
+}
+
+#[tactic(auto, using(crate::proofs::Looking::looking))]
+fn set_variable(
+    state: &mut State,
+    heap: &mut Heap,
+    place: Place,
+    env: EnvId,
+    name: Text,
+    value: Value,
+) -> Result<(), Refusal>
+    ensures { Extends heap.old heap.new }
+{
+    if !is_identifier(name.as_str()) {
+        return Err(bad_argument(state.alloc, name.as_str()));
+    }
+    let value = match variable_of(heap, &state.objects, name.as_str(), value) {
+        Ok(value) => value,
+        Err(fault) => return Err(refused(state.alloc, name.as_str(), fault)),
+    };
+    declared(state, heap, place, env, &Call::Set(name, value))?;
+    Ok(())
+}
+
+/// Adds the builders of a dict to those of an environment.
+#[tactic(auto, using(crate::proofs::Looking::looking))]
+fn set_builders(
+    state: &mut State,
+    heap: &mut Heap,
+    place: Place,
+    env: EnvId,
+    value: Value,
+) -> Result<(), Refusal>
+    ensures { Extends heap.old heap.new }
+{
+    let Value::Dict(dict) = value else {
+        return Err(left_out(state.alloc, BUILDERS));
+    };
+    for at in 0..heap.dict_len(dict) {
+        put_builder(state, heap, place, env, dict, at)?;
+    }
+    Ok(())
+}
+
+#[tactic(auto, using(crate::proofs::Looking::looking))]
+fn put_builder(
+    state: &mut State,
+    heap: &mut Heap,
+    place: Place,
+    env: EnvId,
+    dict: DictId,
+    at: usize,
+) -> Result<(), Refusal>
+    ensures { Extends heap.old heap.new }
+{
+    let Some((key, value)) = heap.pair_of(Value::Dict(dict), at as u64) else {
+        return Ok(());
+    };
+    let Some(name) = heap.text_of(key) else {
+        return Err(bad_argument(state.alloc, BUILDERS));
+    };
+    let name = Text::of(state.alloc, name)?;
+    set_builder(state, heap, place, env, name, value)
+}
+
+#[tactic(auto, using(crate::proofs::Looking::looking))]
+fn set_builder(
+    state: &mut State,
+    heap: &mut Heap,
+    place: Place,
+    env: EnvId,
+    name: Text,
+    value: Value,
+) -> Result<(), Refusal>
+    ensures { Extends heap.old heap.new }
+{
+    let number = match builder(heap, &state.objects, value) {
+        Ok(number) => number,
+        Err(fault) => return Err(refused(state.alloc, BUILDERS, fault)),
+    };
+    declared(state, heap, place, env, &Call::SetBuilder(name, number))?;
+    Ok(())
+}
+
+/// The text of a key.
+fn key_text(state: &State, heap: &Heap, object: HostId, key: Value) -> Result<Text, Refusal> {
+    match heap.text_of(key) {
+        Some(text) => Ok(Text::of(state.alloc, text)?),
+        None => Err(not_indexed(state, heap, object)),
+    }
+}
+
+fn not_indexed(state: &State, heap: &Heap, object: HostId) -> Refusal {
+    bad_argument(state.alloc, heap.shown_of(object).unwrap_or("env"))
+}

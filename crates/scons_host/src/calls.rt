@@ -1,0 +1,124 @@
+//! Calls of objects: names of SCons, methods of environments and builders.
+ghost use Rattle.std.specs.Prelude.{IfErr};
+ghost use Rattle.py_host.specs.Extends.{Extends};
+ghost use Rattle.scons_host.specs.Causes.{HasStopCause};
+ghost use Rattle.scons_host.specs.Looks.{Looks};
+
+use crate::answers::{flat_value, split_value};
+use crate::declaring::{declared, value_or};
+use crate::globbing::glob;
+use crate::scopes::{imported, put_exports, return_names};
+use crate::scripts::open_scripts;
+use crate::state::State;
+use crate::stop::{Refusal, Stop, bad_argument, left_out, refused};
+use py_heap::{Heap, HostId, Value};
+use py_host::{Args, Place, Reply, Scope};
+use scons_base::EnvId;
+use scons_calls::{CallFault, Request, Thing, own_request_of, request_of};
+use world_api::World;
+
+/// Where a call stands, and the names that it sees.
+#[derive(Clone, Copy)]
+pub struct Caller<'a> {
+    pub place: Place,
+    pub locals: &'a Scope,
+    pub globals: &'a Scope,
+}
+
+/// What a call of an object comes to.
+#[tactic(auto, using(crate::proofs::Looking::looking))]
+pub fn call<W: World>(
+    state: &mut State,
+    world: &mut W,
+    heap: &mut Heap,
+    caller: Caller<'_>,
+    object: HostId,
+    args: &Args,
+) -> Result<Reply, Stop>
+    ensures looks { Looks W.meaning world.old world.new }
+    ensures cause { IfErr result (HasStopCause (W.meaning.counts world.old) (W.meaning.counts world.new)) }
+    ensures stands { Extends heap.old heap.new }
+{
+    let (env, request) = requested(state, heap, object, args)?;
+    answered(state, world, heap, caller, env, request)
+}
+
+/// What is asked, and in which environment.
+fn requested(
+    state: &State,
+    heap: &Heap,
+    object: HostId,
+    args: &Args,
+) -> Result<(EnvId, Request), Refusal> {
+    let default = state.declared.default_env();
+    match state.objects.thing(object) {
+        Some(Thing::Name(name)) => {
+            let asked = request_of(heap, &state.objects, *name, args);
+            Ok((default, taken(state, name.text(), asked)?))
+        }
+        Some(Thing::Method(env, name)) => {
+            let asked = request_of(heap, &state.objects, *name, args);
+            Ok((*env, taken(state, name.text(), asked)?))
+        }
+        Some(Thing::OwnMethod(env, name)) => {
+            let asked = own_request_of(heap, &state.objects, name, args);
+            Ok((*env, taken(state, name.as_str(), asked)?))
+        }
+        Some(Thing::LeftOut(name)) => Err(left_out(state.alloc, name.as_str())),
+        _ => Err(bad_argument(state.alloc, heap.shown_of(object).unwrap_or(""))),
+    }
+}
+
+fn taken(state: &State, name: &str, asked: Result<Request, CallFault>) -> Result<Request, Refusal> {
+    match asked {
+        Ok(request) => Ok(request),
+        Err(fault) => Err(refused(state.alloc, name, fault)),
+    }
+}
+
+#[tactic(auto, using(crate::proofs::Looking::looking))]
+fn answered<W: World>(
+    state: &mut State,
+    world: &mut W,
+    heap: &mut Heap,
+    caller: Caller<'_>,
+    env: EnvId,
+    request: Request,
+) -> Result<Reply, Stop>
+    ensures looks { Looks W.meaning world.old world.new }
+    ensures cause { IfErr result (HasStopCause (W.meaning.counts world.old) (W.meaning.counts world.new)) }
+    ensures stands { Extends heap.old heap.new }
+{
+    match request {
+        Request::Declare(call) => Ok(Reply::Value(declared(
+            state,
+            heap,
+            caller.place,
+            env,
+            &call,
+        )?)),
+        Request::Get(name, default) => {
+            Ok(Reply::Value(value_or(state, heap, caller.place, env, name, default)?))
+        }
+        Request::Glob(pattern) => Ok(Reply::Value(glob(state, world, heap, env, &pattern)?)),
+        Request::Scripts(files) => open_scripts(state, world, heap, caller, env, files),
+        Request::Export(exports) => {
+            put_exports(
+                state.alloc,
+                &mut state.exports,
+                &exports,
+                caller.locals,
+                caller.globals,
+            )?;
+            Ok(Reply::Value(Value::Nil))
+        }
+        Request::Import(names) => Ok(Reply::Names(imported(state, &names)?)),
+        Request::Return(names) => {
+            return_names(state, heap, &names, caller.locals, caller.globals)?;
+            Ok(Reply::Return)
+        }
+        Request::Split(value) => Ok(Reply::Value(split_value(heap, value)?)),
+        Request::Flatten(value) => Ok(Reply::Value(flat_value(heap, value)?)),
+        Request::Nothing => Ok(Reply::Value(Value::Nil)),
+    }
+}

@@ -1,0 +1,65 @@
+//! Declarations on the plain state of the reading, and the values of their answers.
+ghost use Rattle.py_host.specs.Extends.{Extends};
+
+use crate::answers::{answer_value, is_single};
+use crate::state::State;
+use crate::stop::Refusal;
+use env_vars::EnvValue;
+use py_heap::{Heap, Value};
+use py_host::Place;
+use scons_base::{EnvId, Text};
+use scons_calls::variable_value;
+use scons_decls::{Answer, Call, declare};
+
+/// Declares a call, and gives the value of its answer.
+#[tactic(auto, using(crate::proofs::Looking::looking))]
+pub fn declared(
+    state: &mut State,
+    heap: &mut Heap,
+    place: Place,
+    env: EnvId,
+    call: &Call,
+) -> Result<Value, Refusal>
+    ensures { Extends heap.old heap.new }
+{
+    let answer = declare(&mut state.declared, env, place_of(place), call)?;
+    answer_value(state, heap, is_single(call), answer)
+}
+
+/// A copy of a variable's value, if there is one.
+pub fn variable(
+    state: &mut State,
+    place: Place,
+    env: EnvId,
+    name: Text,
+) -> Result<Option<EnvValue>, Refusal> {
+    match declare(&mut state.declared, env, place_of(place), &Call::Get(name))? {
+        Answer::Variable(value) => Ok(value),
+        _ => Ok(None),
+    }
+}
+
+/// The value of a variable, or another value where there is none.
+#[tactic(auto, using(crate::proofs::Looking::looking))]
+pub fn value_or(
+    state: &mut State,
+    heap: &mut Heap,
+    place: Place,
+    env: EnvId,
+    name: Text,
+    default: Value,
+) -> Result<Value, Refusal>
+    ensures { Extends heap.old heap.new }
+{
+    match variable(state, place, env, name)? {
+        Some(value) => Ok(variable_value(heap, &mut state.objects, &value)?),
+        None => Ok(default),
+    }
+}
+
+fn place_of(place: Place) -> scons_decls::Place {
+    scons_decls::Place {
+        script: place.script,
+        line: place.line,
+    }
+}

@@ -1,0 +1,145 @@
+//! The host: each of its calls is a function on the state of the reading, and what it refuses is kept there.
+ghost use Rattle.std.specs.Prelude.{◌≡◌, ◌≤◌};
+ghost use Rattle.py_host.specs.Meaning.{Rose as HostRose};
+ghost use Rattle.scons_host.specs.Causes.{KeepsEnd};
+
+use crate::asked::{attribute, item, set_item};
+use crate::calls::{Caller, call};
+use crate::kept::Kept;
+use crate::printing::print;
+use crate::scripts::{next_first, script_done};
+use crate::state::State;
+use crate::stop::Stop;
+use py_heap::{Heap, HostId, Value};
+use py_host::{Args, Host, HostRefusal, Place, Reply, Scope};
+use py_tree::Script;
+use world_api::{Sink, World};
+
+/// What stands behind the names of scripts while they are read.
+#[derive(Drop)]
+pub struct ReadingHost<'w, 'o, 's, 'k, W: World, O: Sink> {
+    pub world: &'w mut W,
+    pub out: &'o mut O,
+    pub state: &'s mut State,
+    pub kept: &'k mut Kept,
+}
+
+/// The place of a fault that no call is at.
+const NOWHERE: Place = Place { script: 0, line: 0 };
+
+/// Keeps why a call is refused that stands at a place.
+fn refuse(state: &State, kept: &mut Kept, place: Place, stop: Stop) -> HostRefusal
+    ensures end { KeepsEnd stop kept.old.end kept.new.end }
+    ensures later { kept.old.refusals ≤ kept.new.refusals }
+    ensures counted { result ≡ HostRefusal.Host → HostRose kept.old.refusals kept.new.refusals }
+{
+    match state.script_at(place.script) {
+        Ok(script) => kept.refuse(script, place.line, stop),
+        Err(_) => HostRefusal::Memory,
+    }
+}
+
+impl<W: World, O: Sink> Host for ReadingHost<'_, '_, '_, '_, W, O> {
+    ghost use Rattle.py_host.specs.Lent.{lent};
+    ghost use Rattle.py_host.proofs.Lending.{lent_kept, lent_determined};
+    ghost use Rattle.scons_host.specs.Reading.{seen, held, reading};
+    ghost use Rattle.scons_host.proofs.Laws.{reading_kept, reading_determined};
+
+    ghost meaning = { lent (λ h. seen h.world.now h.out.now h.kept.now) (λ h. held h.world.ghost_name h.out.ghost_name h.state.ghost_name h.kept.ghost_name) (reading W.meaning O.meaning) };
+
+    ghost kept = { lent_kept (λ h. seen h.world.now h.out.now h.kept.now) (λ h. held h.world.ghost_name h.out.ghost_name h.state.ghost_name h.kept.ghost_name) (reading W.meaning O.meaning) (reading_kept W.meaning O.meaning) };
+
+    ghost determined = { lent_determined (λ h. seen h.world.now h.out.now h.kept.now) (λ h. held h.world.ghost_name h.out.ghost_name h.state.ghost_name h.kept.ghost_name) (reading W.meaning O.meaning) (reading_determined W.meaning O.meaning) };
+
+    fn name(&mut self, name: &str) -> Option<Value> {
+        if name == "ARGUMENTS" {
+            return Some(self.state.arguments);
+        }
+        Some(Value::Object(self.state.objects.name(name)?))
+    }
+
+    fn call(
+        &mut self,
+        heap: &mut Heap,
+        place: Place,
+        locals: &Scope,
+        globals: &Scope,
+        object: HostId,
+        args: &Args,
+    ) -> Result<Reply, HostRefusal> {
+        let caller = Caller {
+            place,
+            locals,
+            globals,
+        };
+        match call(self.state, self.world, heap, caller, object, args) {
+            Ok(reply) => Ok(reply),
+            Err(stop) => Err(refuse(self.state, self.kept, place, stop)),
+        }
+    }
+
+    fn attribute(
+        &mut self,
+        heap: &mut Heap,
+        place: Place,
+        object: HostId,
+        name: &str,
+    ) -> Result<Value, HostRefusal> {
+        match attribute(self.state, heap, object, name) {
+            Ok(value) => Ok(value),
+            Err(refusal) => Err(refuse(self.state, self.kept, place, Stop::from(refusal))),
+        }
+    }
+
+    fn index(
+        &mut self,
+        heap: &mut Heap,
+        place: Place,
+        object: HostId,
+        key: Value,
+    ) -> Result<Value, HostRefusal> {
+        match item(self.state, heap, place, object, key) {
+            Ok(value) => Ok(value),
+            Err(refusal) => Err(refuse(self.state, self.kept, place, Stop::from(refusal))),
+        }
+    }
+
+    fn set_index(
+        &mut self,
+        heap: &mut Heap,
+        place: Place,
+        object: HostId,
+        key: Value,
+        value: Value,
+    ) -> Result<(), HostRefusal> {
+        match set_item(self.state, heap, place, object, key, value) {
+            Ok(()) => Ok(()),
+            Err(refusal) => Err(refuse(self.state, self.kept, place, Stop::from(refusal))),
+        }
+    }
+
+    fn print(&mut self, text: &str) -> Result<(), HostRefusal> {
+        match print(self.out, text) {
+            Ok(()) => Ok(()),
+            Err(_) => Err(refuse(self.state, self.kept, NOWHERE, Stop::Out)),
+        }
+    }
+
+    fn script_done(&mut self, heap: &mut Heap, _names: &Scope) -> Result<Reply, HostRefusal> {
+        let place = match self.state.open.last() {
+            Some(call) => call.place,
+            None => NOWHERE,
+        };
+        match script_done(self.state, self.world, heap) {
+            Ok(reply) => Ok(reply),
+            Err(stop) => Err(refuse(self.state, self.kept, place, stop)),
+        }
+    }
+
+    fn next_script(&mut self, _heap: &mut Heap) -> Result<Option<Script>, HostRefusal> {
+        match next_first(self.state, self.world) {
+            Ok(script) => Ok(script),
+            Err(stop) => Err(refuse(self.state, self.kept, NOWHERE, stop)),
+        }
+    }
+}

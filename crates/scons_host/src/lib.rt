@@ -1,0 +1,28 @@
+//! The host of scripts: what stands behind the names of SCons and their objects, and the reading of scripts.
+//!
+//! A call is looked up by its object, made a request of `scons_calls`, declared on the plain state of `scons_decls`, and
+//! its answer turned into values. The world is asked only for the files of a directory and the bytes of a script. The host
+//! owns no memory: it lends the world, the sink and the state of the reading.
+#![tactic(auto)]
+
+mod answers;
+mod asked;
+mod asks;
+mod calls;
+mod declaring;
+mod end;
+mod globbing;
+mod host;
+mod kept;
+mod kind_text;
+mod open;
+mod printing;
+mod reading;
+mod rules;
+mod scopes;
+mod scripts;
+mod state;
+mod stop;
+
+pub use end::{HostEnd, ReadKind};
+pub use reading::read_scripts;

@@ -1,0 +1,19 @@
+//! Printed text, written to the sink part by part.
+ghost use Rattle.std.specs.Prelude.{OnErr};
+ghost use Rattle.world_api.specs.Causes.{Rose};
+ghost use Rattle.scons_host.specs.Looks.{Prints};
+
+use world_api::{Fault, Sink};
+
+/// Prints a text whole, or up to where the sink refuses.
+pub fn print<S: Sink>(sink: &mut S, text: &str) -> Result<(), Fault>
+    ensures prints { Prints S.meaning sink.old sink.new }
+    ensures cause { OnErr result (Rose (S.meaning.faults sink.old) (S.meaning.faults sink.new)) }
+{
+    let mut rest = text.as_bytes();
+    while !rest.is_empty() {
+        let count = sink.write(rest)?;
+        rest = rest.split_at(count).1;
+    }
+    Ok(())
+}

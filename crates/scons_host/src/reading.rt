@@ -1,0 +1,190 @@
+//! The reading of all scripts, from the words of the command line to a graph.
+ghost use Rattle.std.specs.Prelude.{◌≡◌, ◌⊎◌, ℕ, Some, IfErr};
+ghost use Rattle.scons_host.specs.Causes.{HasStopCause, HasEndCause, IsEndOf, IsOwn};
+ghost use Rattle.scons_host.specs.Looks.{Looks, Prints};
+
+use crate::asks::{kind_of, top_of};
+use crate::end::{HostEnd, ReadKind};
+use crate::host::ReadingHost;
+use crate::kept::Kept;
+use crate::rules::graph_of;
+use crate::scripts::first;
+use crate::state::State;
+use crate::stop::Stop;
+use py_eval::{EvalFault, EvalKind, run};
+use py_heap::{Budget, Heap};
+use py_tree::Script;
+use rule_graph::Graph;
+use scons_base::limits::UNIT_LIMIT;
+use scons_base::{Memory, PathText};
+use scons_words::Words;
+use std::alloc::Global;
+use world_api::{AskRefusal, Kind, Sink, World};
+
+/// The names that a first script has where none is asked for.
+const FIRST: [&str; 3] = ["SConstruct", "Sconstruct", "sconstruct"];
+
+/// Reads all scripts: their graph, with what they print written to `out`.
+pub fn read_scripts<W: World, O: Sink>(
+    alloc: Global,
+    world: &mut W,
+    out: &mut O,
+    words: &Words,
+) -> Result<Graph, HostEnd>
+    ensures looks { Looks W.meaning world.old world.new }
+    ensures prints { Prints O.meaning out.old out.new }
+    ensures cause { IfErr result (HasEndCause (W.meaning.counts world.old) (W.meaning.counts world.new) (O.meaning.faults out.old) (O.meaning.faults out.new)) }
+{
+    let mut heap = Heap::new(alloc);
+    let (mut state, script) = match begun(alloc, world, &mut heap, words) {
+        Ok(begun) => begun,
+        Err(stop) => return Err(end_of(alloc, stop)),
+    };
+    run_all(world, out, &mut state, &mut heap, &script)?;
+    let State {
+        declared,
+        scripts,
+        ..
+    } = state;
+    match graph_of(alloc, world, declared, &scripts) {
+        Ok(graph) => Ok(graph),
+        Err(stop) => Err(end_of(alloc, stop)),
+    }
+}
+
+/// The state of the reading as the first script begins, and that script.
+#[tactic(auto, using(crate::proofs::Looking::looking))]
+fn begun<W: World>(
+    alloc: Global,
+    world: &mut W,
+    heap: &mut Heap,
+    words: &Words,
+) -> Result<(State, Script), Stop>
+    ensures looks { Looks W.meaning world.old world.new }
+    ensures cause { IfErr result (HasStopCause (W.meaning.counts world.old) (W.meaning.counts world.new)) }
+{
+    let top = top_path(alloc, world)?;
+    let mut state = State::new(alloc, heap, top, words)?;
+    let script = first_script(&mut state, world, words)?;
+    Ok((state, script))
+}
+
+#[tactic(auto, using(crate::proofs::Looking::looking))]
+fn top_path<W: World>(alloc: Global, world: &mut W) -> Result<PathText, Stop>
+    ensures looks { Looks W.meaning world.old world.new }
+    ensures cause { IfErr result (HasStopCause (W.meaning.counts world.old) (W.meaning.counts world.new)) }
+{
+    match top_of(world) {
+        Ok(path) => Ok(path),
+        Err(AskRefusal::Fault) => Err(Stop::Tree(read_path(alloc, ".")?)),
+        Err(AskRefusal::Memory) => Err(Stop::Memory),
+    }
+}
+
+/// The path of a name of the program's own.
+fn read_path(alloc: Global, text: &str) -> Result<PathText, Memory> {
+    PathText::read(alloc, text).map_err(|_| Memory)
+}
+
+/// The end of a reading that no script has begun.
+fn end_of(alloc: Global, stop: Stop) -> HostEnd
+    ensures { IsEndOf stop result }
+{
+    match stop {
+        Stop::Here(kind) => match read_path(alloc, FIRST[0]) {
+            Ok(path) => HostEnd::Reading(path, 0, kind),
+            Err(_) => HostEnd::Memory,
+        },
+        Stop::There(path, line, kind) => HostEnd::Reading(path, line, kind),
+        Stop::Tree(path) => HostEnd::Tree(path),
+        Stop::Out => HostEnd::Out,
+        Stop::TooLarge(path, size) => HostEnd::TooLarge(path, size),
+        Stop::TooMany(what, count) => HostEnd::TooMany(what, count),
+        Stop::Memory => HostEnd::Memory,
+    }
+}
+
+/// Begins the first script; those behind it wait.
+#[tactic(auto, using(crate::proofs::Looking::looking))]
+fn first_script<W: World>(state: &mut State, world: &mut W, words: &Words) -> Result<Script, Stop> {
+    match words.scripts.as_slice() {
+        [] => {
+            let path = standing(state.alloc, world)?;
+            first(state, world, path)
+        }
+        [path, further @ ..] => {
+            for path in further {
+                state.first.push_back(path.copy()?)?;
+            }
+            let path = path.copy()?;
+            first(state, world, path)
+        }
+    }
+}
+
+/// The first of the names of first scripts that is a file, or the first of all where none is.
+#[tactic(auto, using(crate::proofs::Looking::looking))]
+fn standing<W: World>(alloc: Global, world: &mut W) -> Result<PathText, Stop>
+    ensures looks { Looks W.meaning world.old world.new }
+    ensures cause { IfErr result (HasStopCause (W.meaning.counts world.old) (W.meaning.counts world.new)) }
+{
+    for name in FIRST {
+        let path = read_path(alloc, name)?;
+        match kind_of(world, &path) {
+            Ok(Kind::File) => return Ok(path),
+            Ok(_) => {}
+            Err(_) => return Err(Stop::Tree(path)),
+        }
+    }
+    Ok(read_path(alloc, FIRST[0])?)
+}
+
+/// Runs the scripts.
+fn run_all<W: World, O: Sink>(
+    world: &mut W,
+    out: &mut O,
+    state: &mut State,
+    heap: &mut Heap,
+    script: &Script,
+) -> Result<(), HostEnd>
+    ensures looks { Looks W.meaning world.old world.new }
+    ensures prints { Prints O.meaning out.old out.new }
+    ensures cause { IfErr result (HasEndCause (W.meaning.counts world.old) (W.meaning.counts world.new) (O.meaning.faults out.old) (O.meaning.faults out.new)) }
+{
+    let mut budget = Budget::new(UNIT_LIMIT);
+    let mut kept = Kept {
+        end: None,
+        refusals: 0,
+    };
+    let mut host = ReadingHost {
+        world,
+        out,
+        state: &mut *state,
+        kept: &mut kept,
+    };
+    let outcome = run(script, heap, &mut host, &mut budget);
+    match outcome {
+        Ok(_) => Ok(()),
+        Err(fault) => Err(ended(state, kept, fault)),
+    }
+}
+
+/// The end that a fault of the evaluator is.
+fn ended(state: &State, kept: Kept, fault: EvalFault) -> HostEnd
+    ensures { (kept.end ≡ Some result) ⊎ IsOwn result }
+{
+    match fault {
+        EvalFault::At {
+            kind: EvalKind::Host,
+            ..
+        } => match kept.end {
+            Some(end) => end,
+            None => HostEnd::Memory,
+        },
+        EvalFault::At { script, line, kind } => match state.script_at(script) {
+            Ok(path) => HostEnd::Reading(path, line, ReadKind::Eval(kind)),
+            Err(_) => HostEnd::Memory,
+        },
+        EvalFault::Memory => HostEnd::Memory,
+    }
+}

@@ -1,0 +1,124 @@
+//! After all scripts: the declared rules go into the graph, and the world is asked which libraries are files.
+ghost use Rattle.std.specs.Prelude.{IfErr};
+ghost use Rattle.scons_host.specs.Causes.{HasStopCause, IsInside};
+ghost use Rattle.scons_host.specs.Looks.{Looks};
+
+use crate::asks::kind_of;
+use crate::end::ReadKind;
+use crate::stop::Stop;
+use rule_graph::Graph;
+use scons_base::{Listing, PathText, Paths};
+use scons_decls::{Declarations, Place};
+use scons_rules::{RuleReadFault, RuleReading, Wanted};
+use std::alloc::Global;
+use world_api::{Kind, World};
+
+/// The graph of what was declared. `scripts` are the scripts by their numbers.
+#[tactic(auto, using(crate::proofs::Looking::looking))]
+pub fn graph_of<W: World>(
+    alloc: Global,
+    world: &mut W,
+    declared: Declarations,
+    scripts: &Paths,
+) -> Result<Graph, Stop>
+    ensures looks { Looks W.meaning world.old world.new }
+    ensures cause { IfErr result (HasStopCause (W.meaning.counts world.old) (W.meaning.counts world.new)) }
+{
+    let mut reading = RuleReading::new(alloc, declared)?;
+    for number in 0..reading.count() {
+        add(alloc, world, &mut reading, number, scripts)?;
+    }
+    match reading.finish() {
+        Ok(graph) => Ok(graph),
+        Err(fault) => Err(told(scripts, None, fault)),
+    }
+}
+
+/// Adds a rule, once the libraries that it names are found.
+#[tactic(auto, using(crate::proofs::Looking::looking))]
+fn add<W: World>(
+    alloc: Global,
+    world: &mut W,
+    reading: &mut RuleReading,
+    number: usize,
+    scripts: &Paths,
+) -> Result<(), Stop>
+    ensures looks { Looks W.meaning world.old world.new }
+    ensures cause { IfErr result (HasStopCause (W.meaning.counts world.old) (W.meaning.counts world.new)) }
+{
+    let place = reading.place(number);
+    let wanted = match reading.wanted(number) {
+        Ok(wanted) => wanted,
+        Err(fault) => return Err(told(scripts, place, fault)),
+    };
+    let libraries = found(alloc, world, &wanted)?;
+    match reading.add(number, &libraries) {
+        Ok(()) => Ok(()),
+        Err(fault) => Err(told(scripts, place, fault)),
+    }
+}
+
+/// The libraries that are found.
+#[tactic(auto, using(crate::proofs::Looking::looking))]
+fn found<W: World>(alloc: Global, world: &mut W, wanted: &Listing<Wanted>) -> Result<Paths, Stop>
+    ensures looks { Looks W.meaning world.old world.new }
+    ensures cause { IfErr result (HasStopCause (W.meaning.counts world.old) (W.meaning.counts world.new)) }
+{
+    let mut libraries = Paths::new(Vec::new(alloc));
+    for library in wanted.as_slice() {
+        find(world, library, &mut libraries)?;
+    }
+    Ok(libraries)
+}
+
+/// Puts the first file that may be a library and stands behind others, else the target that is one.
+#[tactic(auto, using(crate::proofs::Looking::looking))]
+fn find<W: World>(world: &mut W, wanted: &Wanted, libraries: &mut Paths) -> Result<(), Stop>
+    ensures looks { Looks W.meaning world.old world.new }
+    ensures cause { IfErr result (HasStopCause (W.meaning.counts world.old) (W.meaning.counts world.new)) }
+{
+    for asked in wanted.asked.as_slice() {
+        if is_file(world, &asked.file)? {
+            libraries.push(asked.library.copy()?)?;
+            return Ok(());
+        }
+    }
+    if let Some(known) = &wanted.known {
+        libraries.push(known.copy()?)?;
+    }
+    Ok(())
+}
+
+#[tactic(auto, using(crate::proofs::Looking::looking))]
+fn is_file<W: World>(world: &mut W, path: &PathText) -> Result<bool, Stop>
+    ensures looks { Looks W.meaning world.old world.new }
+    ensures cause { IfErr result (HasStopCause (W.meaning.counts world.old) (W.meaning.counts world.new)) }
+{
+    match kind_of(world, path) {
+        Ok(kind) => Ok(kind == Kind::File),
+        Err(_) => Err(Stop::Tree(path.copy()?)),
+    }
+}
+
+/// The stop that a fault of a rule is, on the line of the call that declared it.
+fn told(scripts: &Paths, place: Option<Place>, fault: RuleReadFault) -> Stop
+    ensures { IsInside result }
+{
+    let fault = match fault {
+        RuleReadFault::Name(fault) => fault,
+        RuleReadFault::TooMany(what, count) => return Stop::TooMany(what, count),
+        RuleReadFault::Memory => return Stop::Memory,
+    };
+    let Some(place) = place else {
+        return Stop::Here(ReadKind::Name(fault));
+    };
+    match script_at(scripts, place.script) {
+        Some(script) => Stop::There(script, place.line, ReadKind::Name(fault)),
+        None => Stop::Memory,
+    }
+}
+
+fn script_at(scripts: &Paths, number: u64) -> Option<PathText> {
+    let path = scripts.as_slice().get(number as usize)?;
+    path.copy().ok()
+}

@@ -1,0 +1,266 @@
+//! Scripts: the calls of SConscript, and the first scripts.
+ghost use Rattle.std.specs.Prelude.{IfErr};
+ghost use Rattle.py_host.specs.Extends.{Extends};
+ghost use Rattle.scons_host.specs.Causes.{HasStopCause, IsInside};
+ghost use Rattle.scons_host.specs.Looks.{Looks};
+
+use crate::asks::bytes_of;
+use crate::calls::Caller;
+use crate::end::ReadKind;
+use crate::open::OpenCall;
+use crate::scopes::put_exports;
+use crate::state::State;
+use crate::stop::{Refusal, Stop, bad_argument};
+use py_heap::{Heap, Value};
+use py_host::{Reply, Scope};
+use py_lex::{LexFault, lex};
+use py_parse::{ParseFault, parse};
+use py_tree::Script;
+use scons_base::limits::SCRIPT_LIMIT;
+use scons_base::{Blob, EnvId, PathText};
+use scons_calls::{ScriptFiles, tuple_value};
+use scons_decls::{Given, NameFault, ScriptPlace};
+use std::alloc::Global;
+use std::collections::VecDeque;
+use world_api::{ReadRefusal, World};
+
+/// Begins the scripts of a call of SConscript.
+#[tactic(auto, using(crate::proofs::Looking::looking))]
+pub fn open_scripts<W: World>(
+    state: &mut State,
+    world: &mut W,
+    heap: &mut Heap,
+    caller: Caller<'_>,
+    env: EnvId,
+    files: ScriptFiles,
+) -> Result<Reply, Stop>
+    ensures looks { Looks W.meaning world.old world.new }
+    ensures cause { IfErr result (HasStopCause (W.meaning.counts world.old) (W.meaning.counts world.new)) }
+    ensures stands { Extends heap.old heap.new }
+{
+    push_call(state, caller, env, files)?;
+    go_on(state, world, heap)
+}
+
+/// Puts a call in front of those whose scripts are being read.
+fn push_call(
+    state: &mut State,
+    caller: Caller<'_>,
+    env: EnvId,
+    files: ScriptFiles,
+) -> Result<(), Refusal> {
+    let alloc = state.alloc;
+    let ScriptFiles {
+        files,
+        exports,
+        variant,
+        duplicate,
+    } = files;
+    let count = files.len();
+    if variant.is_some() && count != 1 {
+        return Err(bad_argument(alloc, "SConscript"));
+    }
+    let mut names = Scope::new(alloc);
+    put_exports(alloc, &mut names, &exports, caller.locals, caller.globals)?;
+    state.open.push(OpenCall {
+        place: caller.place,
+        env,
+        files: queue(alloc, files.into_vec())?,
+        several: count != 1,
+        exports: names,
+        variant,
+        duplicate,
+        answers: Vec::new(alloc),
+        returned: Value::Nil,
+    })?;
+    Ok(())
+}
+
+fn queue(alloc: Global, files: Vec<Given>) -> Result<VecDeque<Given>, Refusal> {
+    let mut queue = VecDeque::new(alloc);
+    for file in files {
+        queue.push_back(file)?;
+    }
+    Ok(queue)
+}
+
+/// A script that a call of SConscript began has ended: the next one begins, or the call is answered.
+#[tactic(auto, using(crate::proofs::Looking::looking))]
+pub fn script_done<W: World>(
+    state: &mut State,
+    world: &mut W,
+    heap: &mut Heap,
+) -> Result<Reply, Stop>
+    ensures looks { Looks W.meaning world.old world.new }
+    ensures cause { IfErr result (HasStopCause (W.meaning.counts world.old) (W.meaning.counts world.new)) }
+    ensures stands { Extends heap.old heap.new }
+{
+    keep_returned(state)?;
+    go_on(state, world, heap)
+}
+
+/// Keeps what the script that has ended returned.
+fn keep_returned(state: &mut State) -> Result<(), Refusal> {
+    state.declared.end_script();
+    if let Some(call) = state.open.last_mut() {
+        let returned = call.returned;
+        call.returned = Value::Nil;
+        call.answers.push(returned)?;
+    }
+    Ok(())
+}
+
+/// Begins the next script of the innermost call, or answers that call.
+#[tactic(auto, using(crate::proofs::Looking::looking))]
+fn go_on<W: World>(state: &mut State, world: &mut W, heap: &mut Heap) -> Result<Reply, Stop>
+    ensures looks { Looks W.meaning world.old world.new }
+    ensures cause { IfErr result (HasStopCause (W.meaning.counts world.old) (W.meaning.counts world.new)) }
+    ensures stands { Extends heap.old heap.new }
+{
+    let next = match state.open.last_mut() {
+        Some(call) => call.files.pop_front(),
+        None => None,
+    };
+    match next {
+        Some(file) => Ok(Reply::Script(begun(state, world, &file)?)),
+        None => Ok(Reply::Value(ended(state, heap)?)),
+    }
+}
+
+/// What the innermost call answers, whose scripts have all ended.
+#[tactic(auto, using(crate::proofs::Looking::looking))]
+fn ended(state: &mut State, heap: &mut Heap) -> Result<Value, Refusal>
+    ensures { Extends heap.old heap.new }
+{
+    let Some(call) = state.open.pop() else {
+        return Ok(Value::Nil);
+    };
+    match call.answers.as_slice() {
+        [answer] if !call.several => Ok(*answer),
+        answers => Ok(tuple_value(heap, answers)?),
+    }
+}
+
+/// Finds and begins a script of the innermost call.
+#[tactic(auto, using(crate::proofs::Looking::looking))]
+fn begun<W: World>(state: &mut State, world: &mut W, file: &Given) -> Result<Script, Stop>
+    ensures looks { Looks W.meaning world.old world.new }
+    ensures cause { IfErr result (HasStopCause (W.meaning.counts world.old) (W.meaning.counts world.new)) }
+{
+    let place = found(state, file)?;
+    match opened(state, world, &place)? {
+        Some(script) => Ok(script),
+        None => Err(Stop::Here(ReadKind::NoScript)),
+    }
+}
+
+/// Where a script of the innermost call lies.
+fn found(state: &mut State, file: &Given) -> Result<ScriptPlace, Refusal> {
+    match state.open.last() {
+        Some(call) => Ok(
+            state
+                .declared
+                .find_script(call.env, file, call.variant.as_ref(), call.duplicate)?,
+        ),
+        None => Err(Refusal::Kind(ReadKind::NoScript)),
+    }
+}
+
+/// Reads and begins the first script of some candidates that stands.
+#[tactic(auto, using(crate::proofs::Looking::looking))]
+fn opened<W: World>(
+    state: &mut State,
+    world: &mut W,
+    place: &ScriptPlace,
+) -> Result<Option<Script>, Stop>
+    ensures looks { Looks W.meaning world.old world.new }
+    ensures cause { IfErr result (HasStopCause (W.meaning.counts world.old) (W.meaning.counts world.new)) }
+{
+    for path in place.candidates.as_slice() {
+        if let Some(bytes) = read(world, path)? {
+            let script = script_of(state.alloc, path, &bytes)?;
+            begin(state, path, &place.dir)?;
+            return Ok(Some(script));
+        }
+    }
+    Ok(None)
+}
+
+/// Notes that a script begins.
+fn begin(state: &mut State, path: &PathText, dir: &PathText) -> Result<(), Refusal> {
+    state.declared.begin_script(dir)?;
+    state.scripts.push(path.copy()?)?;
+    Ok(())
+}
+
+/// The bytes of a script, if it stands.
+#[tactic(auto, using(crate::proofs::Looking::looking))]
+fn read<W: World>(world: &mut W, path: &PathText) -> Result<Option<Blob>, Stop>
+    ensures looks { Looks W.meaning world.old world.new }
+    ensures cause { IfErr result (HasStopCause (W.meaning.counts world.old) (W.meaning.counts world.new)) }
+{
+    match bytes_of(world, path, SCRIPT_LIMIT) {
+        Ok(content) => Ok(content),
+        Err(ReadRefusal::Fault) => Err(Stop::Tree(path.copy()?)),
+        Err(ReadRefusal::TooLarge(size)) => Err(Stop::TooLarge(path.copy()?, size)),
+        Err(ReadRefusal::Memory) => Err(Stop::Memory),
+    }
+}
+
+/// The script that bytes are.
+fn script_of(alloc: Global, path: &PathText, bytes: &Blob) -> Result<Script, Stop>
+    ensures { IfErr result IsInside }
+{
+    let tokens = match lex(alloc, bytes.as_slice()) {
+        Ok(tokens) => tokens,
+        Err(LexFault::At { line, kind }) => {
+            return Err(Stop::There(path.copy()?, line, ReadKind::Lex(kind)));
+        }
+        Err(LexFault::Memory) => return Err(Stop::Memory),
+    };
+    match parse(alloc, &tokens) {
+        Ok(script) => Ok(script),
+        Err(ParseFault::At { line, kind, .. }) => {
+            Err(Stop::There(path.copy()?, line, ReadKind::Parse(kind)))
+        }
+        Err(ParseFault::Memory) => Err(Stop::Memory),
+    }
+}
+
+/// Begins the next first script, if there is a further one.
+#[tactic(auto, using(crate::proofs::Looking::looking))]
+pub fn next_first<W: World>(state: &mut State, world: &mut W) -> Result<Option<Script>, Stop>
+    ensures looks { Looks W.meaning world.old world.new }
+    ensures cause { IfErr result (HasStopCause (W.meaning.counts world.old) (W.meaning.counts world.new)) }
+{
+    let Some(path) = state.first.pop_front() else {
+        return Ok(None);
+    };
+    state.declared.end_script();
+    Ok(Some(first(state, world, path)?))
+}
+
+/// Begins a first script.
+#[tactic(auto, using(crate::proofs::Looking::looking))]
+pub fn first<W: World>(state: &mut State, world: &mut W, path: PathText) -> Result<Script, Stop>
+    ensures looks { Looks W.meaning world.old world.new }
+    ensures cause { IfErr result (HasStopCause (W.meaning.counts world.old) (W.meaning.counts world.new)) }
+{
+    match read(world, &path)? {
+        Some(bytes) => {
+            let script = script_of(state.alloc, &path, &bytes)?;
+            let dir = dir_of(state.alloc, &path)?;
+            begin(state, &path, &dir)?;
+            Ok(script)
+        }
+        None => Err(Stop::There(path, 0, ReadKind::NoScript)),
+    }
+}
+
+/// The directory that a first script lies in.
+fn dir_of(alloc: Global, path: &PathText) -> Result<PathText, Refusal> {
+    match PathText::read(alloc, path.dir()) {
+        Ok(dir) => Ok(dir),
+        Err(fault) => Err(Refusal::from(NameFault::from(fault))),
+    }
+}

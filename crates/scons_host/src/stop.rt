@@ -1,0 +1,138 @@
+//! Why a call of the host isn't answered.
+use crate::end::ReadKind;
+use py_eval::EvalKind;
+use py_heap::ValueFault;
+use rule_graph::What;
+use scons_base::{Memory as NoMemory, PathText, Text};
+use scons_calls::CallFault;
+use scons_decls::NameFault;
+use std::alloc::{AllocError, AllocFailed, Global};
+
+/// Why the line that is run is refused, where nothing outside was asked.
+#[derive(Drop)]
+pub enum Refusal {
+    Kind(ReadKind),
+    Memory,
+}
+
+/// Why it is refused where the world or the sink was asked.
+#[derive(Drop)]
+pub enum Stop {
+    /// A fault of the line that is run.
+    Here(ReadKind),
+    /// A fault of another script, which that line reads.
+    There(PathText, u32, ReadKind),
+    Tree(PathText),
+    Out,
+    TooLarge(PathText, u64),
+    TooMany(What, u64),
+    Memory,
+}
+
+/// The refusal of a call that isn't taken, by the name that is called.
+pub fn refused(alloc: Global, name: &str, fault: CallFault) -> Refusal {
+    match fault {
+        CallFault::Arguments => bad_argument(alloc, name),
+        CallFault::LeftOut(name) => Refusal::Kind(ReadKind::Name(NameFault::OutOfProfile(name))),
+        CallFault::Memory => Refusal::Memory,
+    }
+}
+
+pub fn bad_argument(alloc: Global, name: &str) -> Refusal {
+    match Text::of(alloc, name) {
+        Ok(name) => Refusal::Kind(ReadKind::Name(NameFault::BadArgument(name))),
+        Err(_) => Refusal::Memory,
+    }
+}
+
+/// The refusal of a name that is left out.
+pub fn left_out(alloc: Global, name: &str) -> Refusal {
+    match Text::of(alloc, name) {
+        Ok(name) => Refusal::Kind(ReadKind::Name(NameFault::OutOfProfile(name))),
+        Err(_) => Refusal::Memory,
+    }
+}
+
+/// The refusal of something that there isn't, as Python tells it of a dict.
+pub fn no_such_key() -> Refusal {
+    Refusal::Kind(ReadKind::Eval(EvalKind::Value(ValueFault::Key)))
+}
+
+impl From<NameFault> for Refusal {
+    fn from(fault: NameFault) -> Self {
+        match fault {
+            NameFault::Memory => Refusal::Memory,
+            fault => Refusal::Kind(ReadKind::Name(fault)),
+        }
+    }
+}
+
+impl From<ValueFault> for Refusal {
+    fn from(fault: ValueFault) -> Self {
+        match fault {
+            ValueFault::Memory => Refusal::Memory,
+            fault => Refusal::Kind(ReadKind::Eval(EvalKind::Value(fault))),
+        }
+    }
+}
+
+impl From<NoMemory> for Refusal {
+    fn from(_: NoMemory) -> Self {
+        Refusal::Memory
+    }
+}
+
+impl From<AllocError> for Refusal {
+    fn from(_: AllocError) -> Self {
+        Refusal::Memory
+    }
+}
+
+impl<T: Drop> From<AllocFailed<T>> for Refusal {
+    fn from(_: AllocFailed<T>) -> Self {
+        Refusal::Memory
+    }
+}
+
+impl From<Refusal> for Stop {
+    ghost use Rattle.scons_host.specs.Causes.{IsInside};
+
+    ghost from_gives = { λ _ e. IsInside e };
+
+    fn from(refusal: Refusal) -> Self {
+        match refusal {
+            Refusal::Kind(kind) => Stop::Here(kind),
+            Refusal::Memory => Stop::Memory,
+        }
+    }
+}
+
+impl From<NoMemory> for Stop {
+    ghost use Rattle.scons_host.specs.Causes.{IsInside};
+
+    ghost from_gives = { λ _ e. IsInside e };
+
+    fn from(_: NoMemory) -> Self {
+        Stop::Memory
+    }
+}
+
+impl From<AllocError> for Stop {
+    ghost use Rattle.scons_host.specs.Causes.{IsInside};
+
+    ghost from_gives = { λ _ e. IsInside e };
+
+    fn from(_: AllocError) -> Self {
+        Stop::Memory
+    }
+}
+
+impl<T: Drop> From<AllocFailed<T>> for Stop {
+    ghost use Rattle.scons_host.specs.Causes.{IsInside};
+
+    ghost from_gives = { λ _ e. IsInside e };
+
+    fn from(_: AllocFailed<T>) -> Self {
+        Stop::Memory
+    }
+}

@@ -1,0 +1,153 @@
+//! One declared rule, put into the graph.
+use crate::fault::RuleReadFault;
+use crate::interning::nodes_of;
+use crate::line::lines_of;
+use crate::reading::{RuleReading, is_cplusplus_source};
+use crate::said::OfRule;
+use crate::sources::all_settled;
+use rule_graph::Rule;
+use scons_base::{Listing, Memory, NodeId, PathText, Paths, Text, Texts};
+use scons_decls::{Declaration, Recipe};
+use world_api::{Decider, Work};
+
+/// The nodes that a rule names.
+#[derive(Drop)]
+struct RuleNodes {
+    targets: Listing<NodeId>,
+    sources: Listing<NodeId>,
+    libs: Listing<NodeId>,
+    depends: Listing<NodeId>,
+    required: Listing<NodeId>,
+    ignored: Listing<NodeId>,
+}
+
+impl RuleReading {
+    /// Puts a rule into the graph, with the libraries that were found.
+    pub fn add(&mut self, number: usize, libraries: &Paths) -> Result<(), RuleReadFault> {
+        let Some(declaration) = self.state.rules.get(number) else {
+            return Ok(());
+        };
+        let targets = declaration.targets.copy()?;
+        let said = self.said.of_rule(self.alloc, targets.as_slice())?;
+        let sources = self.sources_of(declaration)?;
+        let always = said.always;
+        let nodes = self.rule_nodes(&targets, &sources, libraries, &said)?;
+        let rule = self.rule_of(number, nodes, always)?;
+        self.graph.add_rule(rule)?;
+        Ok(())
+    }
+
+    fn rule_nodes(
+        &mut self,
+        targets: &Paths,
+        sources: &Paths,
+        libraries: &Paths,
+        said: &OfRule,
+    ) -> Result<RuleNodes, RuleReadFault> {
+        Ok(RuleNodes {
+            targets: nodes_of(self.alloc, &mut self.graph, targets.as_slice())?,
+            sources: nodes_of(self.alloc, &mut self.graph, sources.as_slice())?,
+            libs: nodes_of(self.alloc, &mut self.graph, libraries.as_slice())?,
+            depends: self.settled_nodes(&said.depends)?,
+            required: self.settled_nodes(&said.required)?,
+            ignored: self.settled_nodes(&said.ignored)?,
+        })
+    }
+
+    pub(crate) fn settled_nodes(
+        &mut self,
+        paths: &Paths,
+    ) -> Result<Listing<NodeId>, RuleReadFault> {
+        let files = all_settled(self.alloc, &self.state, paths.as_slice())?;
+        nodes_of(self.alloc, &mut self.graph, files.as_slice())
+    }
+
+    fn rule_of(
+        &self,
+        number: usize,
+        nodes: RuleNodes,
+        always: bool,
+    ) -> Result<Rule, RuleReadFault> {
+        let Some(declaration) = self.state.rules.get(number) else {
+            return Err(RuleReadFault::Memory);
+        };
+        let texts = self.texts_of(declaration)?;
+        let lines = lines_of(self.alloc, &self.state, declaration.env, texts.as_slice())?;
+        let work = work_of(declaration);
+        let paths = match work {
+            Work::Shell => self
+                .state
+                .envs
+                .dirs(declaration.env, "CPPPATH", &self.state.locals)?,
+            _ => Paths::new(Vec::new(self.alloc)),
+        };
+        Ok(Rule {
+            work,
+            targets: nodes.targets,
+            sources: nodes.sources,
+            libs: nodes.libs,
+            depends: nodes.depends,
+            required: nodes.required,
+            ignored: nodes.ignored,
+            lines: lines.lines,
+            signed: lines.signed,
+            paths,
+            scans: matches!(work, Work::Shell),
+            always,
+            decider: declaration.decider,
+            builder: self.builder_of(declaration)?,
+        })
+    }
+
+    /// The texts whose expansions are the lines.
+    fn texts_of(&self, declaration: &Declaration) -> Result<Texts, Memory> {
+        match &declaration.recipe {
+            Recipe::Object => {
+                if is_cplusplus_source(declaration.sources.as_slice()) {
+                    self.texts(&["$CXXCOM"])
+                } else {
+                    self.texts(&["$CCCOM"])
+                }
+            }
+            Recipe::Program => self.texts(&["$LINKCOM"]),
+            Recipe::StaticLibrary => self.texts(&["$ARCOM", "$RANLIBCOM"]),
+            Recipe::Command(lines) => lines.copy(),
+            Recipe::Own(number) => match self.state.builders.get(*number as usize) {
+                Some(builder) => builder.action.copy(),
+                None => self.texts(&[]),
+            },
+            Recipe::Install | Recipe::InstallAs => self.texts(&[]),
+        }
+    }
+
+    fn texts(&self, words: &[&str]) -> Result<Texts, Memory> {
+        let mut texts = Texts::new(Vec::new(self.alloc));
+        for word in words {
+            texts.push(Text::of(self.alloc, word)?)?;
+        }
+        Ok(texts)
+    }
+
+    /// The name of a rule's builder: of one of a script's own its number.
+    fn builder_of(&self, declaration: &Declaration) -> Result<Text, Memory> {
+        let name = match &declaration.recipe {
+            Recipe::Object => "Object",
+            Recipe::Program => "Program",
+            Recipe::StaticLibrary => "StaticLibrary",
+            Recipe::Command(_) => "Command",
+            Recipe::Install => "Install",
+            Recipe::InstallAs => "InstallAs",
+            Recipe::Own(number) => {
+                return Ok(Text::new(format!(in self.alloc; "{number}")?));
+            }
+        };
+        Text::of(self.alloc, name)
+    }
+}
+
+fn work_of(declaration: &Declaration) -> Work {
+    match declaration.recipe {
+        Recipe::Install | Recipe::InstallAs => Work::Copy,
+        _ => Work::Shell,
+    }
+}

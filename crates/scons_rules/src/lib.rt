@@ -1,0 +1,20 @@
+//! What comes after all scripts: each declared rule, with its sources, libraries and lines, goes into the graph.
+//!
+//! `RuleReading` goes over the declarations in their order. It asks nothing of the file tree: of the libraries that a rule
+//! may name it tells which files would be one (`Wanted`), and is told which were found.
+#![tactic(auto)]
+
+mod adding;
+mod aliases;
+mod fault;
+mod finish;
+mod interning;
+mod libraries;
+mod line;
+mod reading;
+mod said;
+mod sources;
+
+pub use fault::RuleReadFault;
+pub use libraries::{AskedFile, Wanted};
+pub use reading::RuleReading;

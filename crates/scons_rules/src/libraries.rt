@@ -1,0 +1,125 @@
+//! The libraries that a program names.
+use crate::fault::RuleReadFault;
+use crate::sources::settled;
+use env_subst::{LibItem, Mode};
+use scons_base::{EnvId, Listing, PathText, Paths, Text};
+use scons_decls::Declarations;
+use std::alloc::Global;
+
+/// A file that would be a library.
+#[derive(Drop)]
+pub struct AskedFile {
+    pub file: PathText,
+    pub library: PathText,
+}
+
+/// One library that a rule names: that of the first asked file that is there, else the known one, if there is one.
+#[derive(Drop)]
+pub struct Wanted {
+    pub asked: Listing<AskedFile>,
+    pub known: Option<PathText>,
+}
+
+/// The libraries of an environment.
+pub(crate) fn wanted_by(
+    alloc: Global,
+    state: &Declarations,
+    env: EnvId,
+) -> Result<Listing<Wanted>, RuleReadFault> {
+    let names = state.envs.lib_names(env, &state.locals)?;
+    let mut wanted = Listing::empty(alloc);
+    if names.is_empty() {
+        return Ok(wanted);
+    }
+    let dirs = state.envs.dirs(env, "LIBPATH", &state.locals)?;
+    for name in names.as_slice() {
+        wanted.push(wanted_one(alloc, state, env, dirs.as_slice(), name)?)?;
+    }
+    Ok(wanted)
+}
+
+fn wanted_one(
+    alloc: Global,
+    state: &Declarations,
+    env: EnvId,
+    dirs: &[PathText],
+    item: &LibItem,
+) -> Result<Wanted, RuleReadFault> {
+    match item {
+        LibItem::Node(path) => Ok(Wanted {
+            asked: Listing::empty(alloc),
+            known: Some(settled(state, path)?),
+        }),
+        LibItem::Name(name) => {
+            let file = file_name(state, env, name)?;
+            candidates(alloc, state, dirs, file.as_str())
+        }
+    }
+}
+
+/// The name of a library's file: prefix, name and suffix.
+fn file_name(state: &Declarations, env: EnvId, name: &Text) -> Result<Text, RuleReadFault> {
+    let locals = &state.locals;
+    let prefix = state.envs.subst(env, "$LIBPREFIX", locals, Mode::Text)?;
+    let suffix = state.envs.subst(env, "$LIBSUFFIX", locals, Mode::Text)?;
+    let mut text = prefix.into_string();
+    text.push_str(name.as_str())?;
+    text.push_str(suffix.as_str())?;
+    Ok(Text::new(text))
+}
+
+/// The places of a file, up to the first that is a target.
+fn candidates(
+    alloc: Global,
+    state: &Declarations,
+    dirs: &[PathText],
+    file: &str,
+) -> Result<Wanted, RuleReadFault> {
+    let mut wanted = Wanted {
+        asked: Listing::empty(alloc),
+        known: None,
+    };
+    for dir in dirs {
+        let Ok(path) = PathText::resolve(alloc, &state.locals.top, dir, file) else {
+            continue;
+        };
+        if state.made.contains(&path) {
+            wanted.known = Some(path);
+            return Ok(wanted);
+        }
+        if let Some(known) = ask(state, &mut wanted, path)? {
+            wanted.known = Some(known);
+            return Ok(wanted);
+        }
+    }
+    Ok(wanted)
+}
+
+/// Asks for a file, and for its source where that would be copied. A source that is a target makes it known.
+fn ask(
+    state: &Declarations,
+    wanted: &mut Wanted,
+    path: PathText,
+) -> Result<Option<PathText>, RuleReadFault> {
+    let variants = &state.locals.variants;
+    let is_copied = match variants.variant_of(&path) {
+        Some(variant) => variant.duplicate,
+        None => false,
+    };
+    let source = variants.source_of(&state.locals.top, &path)?;
+    wanted.asked.push(AskedFile {
+        file: path.copy()?,
+        library: path.copy()?,
+    })?;
+    match source {
+        Some(source) if is_copied && state.made.contains(&source) => Ok(Some(path)),
+        Some(source) if is_copied => {
+            wanted.asked.push(AskedFile {
+                file: source,
+                library: path,
+            })?;
+            Ok(None)
+        }
+        _ => Ok(None),
+    }
+}

@@ -1,0 +1,84 @@
+//! The lines of a rule.
+ghost use Rattle.std.specs.Prelude.{◌<◌, length, IfSome};
+
+use crate::fault::RuleReadFault;
+use env_subst::Mode;
+use scons_base::{EnvId, Listing, Memory, Text, Texts};
+use scons_decls::Declarations;
+use std::alloc::Global;
+use world_api::Line;
+
+/// What a rule's lines say: for the shell, and in records.
+#[derive(Drop)]
+pub(crate) struct RuleLines {
+    pub(crate) lines: Listing<Line>,
+    pub(crate) signed: Texts,
+}
+
+/// The expanded lines of these texts.
+pub(crate) fn lines_of(
+    alloc: Global,
+    state: &Declarations,
+    env: EnvId,
+    texts: &[Text],
+) -> Result<RuleLines, RuleReadFault> {
+    let mut lines = RuleLines {
+        lines: Listing::empty(alloc),
+        signed: Texts::new(Vec::new(alloc)),
+    };
+    for text in texts {
+        add_lines(alloc, state, env, &mut lines, text.as_str())?;
+    }
+    Ok(lines)
+}
+
+fn add_lines(
+    alloc: Global,
+    state: &Declarations,
+    env: EnvId,
+    lines: &mut RuleLines,
+    text: &str,
+) -> Result<(), RuleReadFault> {
+    let plain = state.envs.lines(env, text, &state.locals, Mode::Text)?;
+    let signed = state.envs.lines(env, text, &state.locals, Mode::Signed)?;
+    for line in plain.as_slice() {
+        add_line(alloc, &mut lines.lines, line.as_str())?;
+    }
+    for line in signed.as_slice() {
+        lines.signed.push(line.copy()?)?;
+    }
+    Ok(())
+}
+
+/// Adds a line without its marks. An empty one is left out.
+fn add_line(alloc: Global, lines: &mut Listing<Line>, text: &str) -> Result<(), Memory> {
+    let mut quiet = false;
+    let mut ignore = false;
+    let mut rest = text;
+    'marks: while let Some((mark, after)) = first_mark(rest) {
+        quiet = quiet || mark == b'@';
+        ignore = ignore || mark == b'-';
+        rest = after;
+    }
+    if rest.is_empty() {
+        return Ok(());
+    }
+    lines.push(Line {
+        text: Text::of(alloc, rest)?,
+        quiet,
+        ignore,
+    })
+}
+
+/// The mark or white space that a line begins with, and the rest.
+fn first_mark(text: &str) -> Option<(u8, &str)>
+    ensures { IfSome result (λ part. length part.1.now < length text.now) }
+{
+    let (first, after) = text.split_at_checked(1)?;
+    let mark = *first.as_bytes().first()?;
+    if matches!(mark, b'@' | b'-' | b' ' | 9..=13) {
+        Some((mark, after))
+    } else {
+        None
+    }
+}

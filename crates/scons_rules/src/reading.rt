@@ -1,0 +1,120 @@
+//! The declarations, gone over in their order.
+use crate::fault::RuleReadFault;
+use crate::libraries::{Wanted, wanted_by};
+use crate::said::SaidOf;
+use crate::sources::{all_settled, named_all};
+use indexmap::IndexSet;
+use rule_graph::Graph;
+use scons_base::{Listing, Memory, PathText, Paths, Text};
+use scons_decls::{Declaration, Declarations, Language, Place, Recipe, language_of};
+use std::alloc::Global;
+
+/// The rules of a reading on their way into the graph.
+#[derive(Drop)]
+pub struct RuleReading {
+    pub(crate) alloc: Global,
+    pub(crate) state: Declarations,
+    pub(crate) graph: Graph,
+    pub(crate) said: SaidOf,
+    /// The objects that are made of C++ sources.
+    cplusplus: IndexSet<PathText>,
+}
+
+impl RuleReading {
+    /// Nothing is in the graph yet.
+    pub fn new(alloc: Global, state: Declarations) -> Result<RuleReading, Memory> {
+        let said = SaidOf::new(alloc, &state)?;
+        let cplusplus = cplusplus_objects(alloc, state.rules.as_slice())?;
+        let graph = Graph::new(alloc, state.locals.top.copy()?)?;
+        Ok(RuleReading {
+            alloc,
+            state,
+            graph,
+            said,
+            cplusplus,
+        })
+    }
+
+    /// How many rules were declared.
+    pub fn count(&self) -> usize {
+        self.state.rules.len()
+    }
+
+    /// Where a rule was declared.
+    pub fn place(&self, number: usize) -> Option<Place> {
+        Some(self.state.rules.get(number)?.place)
+    }
+
+    /// The libraries that a rule names: only a program names any.
+    pub fn wanted(&mut self, number: usize) -> Result<Listing<Wanted>, RuleReadFault> {
+        if !self.begin(number)? {
+            return Ok(Listing::empty(self.alloc));
+        }
+        match self.state.rules.get(number) {
+            Some(declaration) => wanted_by(self.alloc, &self.state, declaration.env),
+            None => Ok(Listing::empty(self.alloc)),
+        }
+    }
+
+    /// Makes a rule the one whose lines are expanded; tells whether it links a program.
+    fn begin(&mut self, number: usize) -> Result<bool, RuleReadFault> {
+        let Some(declaration) = self.state.rules.get(number) else {
+            return Ok(false);
+        };
+        let is_program = matches!(declaration.recipe, Recipe::Program);
+        let dir = declaration.dir.copy()?;
+        let smartlink = self.smartlink_of(declaration)?;
+        let sources = self.sources_of(declaration)?;
+        let sources = named_all(self.alloc, &self.state, sources.as_slice())?;
+        let targets = named_all(self.alloc, &self.state, declaration.targets.as_slice())?;
+        let locals = &mut self.state.locals;
+        locals.dir = dir;
+        locals.smartlink = smartlink;
+        locals.sources = sources;
+        locals.targets = targets;
+        Ok(is_program)
+    }
+
+    /// The files that a rule's sources are.
+    pub(crate) fn sources_of(&self, declaration: &Declaration) -> Result<Paths, Memory> {
+        all_settled(self.alloc, &self.state, declaration.sources.as_slice())
+    }
+
+    fn smartlink_of(&self, declaration: &Declaration) -> Result<Text, Memory> {
+        let sources = declaration.sources.as_slice();
+        let is_cplusplus = sources.iter().any(|source| self.is_cplusplus(source));
+        Text::of(self.alloc, if is_cplusplus { "$CXX" } else { "$CC" })
+    }
+
+    fn is_cplusplus(&self, source: &PathText) -> bool {
+        language_of(source) == Some(Language::CPlusPlus) || self.cplusplus.contains(source)
+    }
+}
+
+fn cplusplus_objects(alloc: Global, rules: &[Declaration]) -> Result<IndexSet<PathText>, Memory> {
+    let mut objects = IndexSet::new(alloc);
+    for rule in rules {
+        if is_cplusplus_object(rule) {
+            add_all(&mut objects, rule.targets.as_slice())?;
+        }
+    }
+    Ok(objects)
+}
+
+fn is_cplusplus_object(rule: &Declaration) -> bool {
+    matches!(rule.recipe, Recipe::Object) && is_cplusplus_source(rule.sources.as_slice())
+}
+
+pub(crate) fn is_cplusplus_source(sources: &[PathText]) -> bool {
+    match sources.first() {
+        Some(source) => language_of(source) == Some(Language::CPlusPlus),
+        None => false,
+    }
+}
+
+fn add_all(objects: &mut IndexSet<PathText>, paths: &[PathText]) -> Result<(), Memory> {
+    for path in paths {
+        objects.insert(path.copy()?)?;
+    }
+    Ok(())
+}

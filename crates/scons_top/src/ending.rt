@@ -1,0 +1,153 @@
+//! How a run ends: its last lines and its report.
+
+use crate::printed::{say, tell};
+use crate::report::{Report, Top};
+use crate::requests::Request;
+use crate::stop::Stop;
+use crate::texts::top_text;
+use rule_graph::{BuildFault, Graph};
+use scons_base::{Listing, Memory, NodeId, PathText, RuleId};
+use scons_report::{
+    done_text, done_with_errors_text, fault_text, nothing_text, print, terminated_text,
+    up_to_date_text,
+};
+use scons_words::Words;
+use std::alloc::Global;
+use world_api::Sink;
+
+/// A report with these faults.
+pub(crate) fn report(
+    faults: Listing<Top>,
+    skipped: Listing<(PathText, PathText)>,
+    memory: bool,
+) -> Report {
+    let status = match memory {
+        true => 3,
+        false if faults.is_empty() => 0,
+        false => 2,
+    };
+    Report {
+        status,
+        faults,
+        skipped,
+    }
+}
+
+/// The report of a run without a fault.
+pub(crate) fn good(alloc: Global) -> Report {
+    report(Listing::empty(alloc), Listing::empty(alloc), false)
+}
+
+/// The report of a run that one fault ended: it is printed, and, where standard error refuses, so is that.
+pub(crate) fn ended<E: Sink>(alloc: Global, stop: Stop, err: &mut E) -> Report {
+    let mut faults = Listing::empty(alloc);
+    let memory = match stop {
+        Stop::Fault(fault) => {
+            let text = top_text(alloc, &fault);
+            keep(err, fault, text, &mut faults).is_err()
+        }
+        Stop::Build(fault) => {
+            let text = fault_text(alloc, &fault);
+            keep(err, Top::from(fault), text, &mut faults).is_err()
+        }
+        Stop::Memory => true,
+    };
+    report(faults, Listing::empty(alloc), memory)
+}
+
+/// Prints the text of a fault and keeps the fault.
+fn keep<E: Sink>(
+    err: &mut E,
+    fault: Top,
+    text: Result<String, Memory>,
+    faults: &mut Listing<Top>,
+) -> Result<(), Memory> {
+    faults.push(fault)?;
+    if print(err, text?.as_str()).is_err() {
+        faults.push(Top::OutFault)?;
+    }
+    Ok(())
+}
+
+/// Writes the last lines of a run without a fault: what was up to date, and that it is done.
+pub(crate) fn tell_done<O: Sink>(
+    alloc: Global,
+    graph: &Graph,
+    words: &Words,
+    requests: &[Request],
+    started: &[RuleId],
+    out: &mut O,
+) -> Result<(), Stop> {
+    let marks = marks_of(alloc, graph, started)?;
+    for request in requests {
+        let word = request.word.as_str();
+        if request.is_plain {
+            tell(out, words, nothing_text(alloc, word))?;
+        } else if !has_marked(graph, marks.as_slice(), request.nodes.as_slice()) {
+            tell(out, words, up_to_date_text(alloc, word))?;
+        }
+    }
+    say(out, words, done_text(alloc))
+}
+
+/// Which rules were started, by their numbers.
+fn marks_of(alloc: Global, graph: &Graph, started: &[RuleId]) -> Result<Vec<bool>, Memory> {
+    let mut marks = Vec::from_elem(alloc, false, graph.rules() as usize)?;
+    for rule in started {
+        if let Some(mark) = marks.get_mut(rule.0 as usize) {
+            *mark = true;
+        }
+    }
+    Ok(marks)
+}
+
+/// Whether the rule of one of these nodes was started.
+fn has_marked(graph: &Graph, marks: &[bool], nodes: &[NodeId]) -> bool {
+    nodes.iter().any(|node| match graph.rule_of(*node) {
+        Some(rule) => marks.get(rule.0 as usize) == Some(&true),
+        None => false,
+    })
+}
+
+/// Writes the last line of a run with faults.
+pub(crate) fn tell_faulty<O: Sink>(
+    alloc: Global,
+    words: &Words,
+    faults: &[BuildFault],
+    out: &mut O,
+) -> Result<(), Stop> {
+    if words.keep && faults.iter().all(goes_on) {
+        say(out, words, done_with_errors_text(alloc))
+    } else {
+        say(out, words, terminated_text(alloc))
+    }
+}
+
+/// Whether a build may go on after a fault.
+fn goes_on(fault: &BuildFault) -> bool {
+    matches!(
+        fault,
+        BuildFault::ActionFailed { .. } | BuildFault::Missing { .. } | BuildFault::Cycle(_)
+    )
+}
+
+/// The report of a build or a dry run, whose last line was written or not.
+pub(crate) fn closed(
+    alloc: Global,
+    found: Listing<BuildFault>,
+    skipped: Listing<(PathText, PathText)>,
+    memory: bool,
+    written: Result<(), Stop>,
+) -> Report {
+    let mut faults = Listing::empty(alloc);
+    let mut wants = memory;
+    for fault in found.into_vec() {
+        wants |= faults.push(Top::from(fault)).is_err();
+    }
+    match written {
+        Ok(()) => {}
+        Err(Stop::Memory) => wants = true,
+        Err(_) => wants |= faults.push(Top::OutFault).is_err(),
+    }
+    report(faults, skipped, wants)
+}

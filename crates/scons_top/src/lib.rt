@@ -1,0 +1,21 @@
+//! The command: its words, the reading of scripts, what is requested, and then cleaning, a dry run or a build.
+//!
+//! `scons` goes through the steps of a run in turn. The first fault of the steps before building ends it; the faults of a
+//! build stand in the order in which they were found.
+#![tactic(auto)]
+
+mod build_step;
+mod clean_step;
+mod dry_step;
+mod ending;
+mod load_step;
+mod printed;
+mod reading;
+mod report;
+mod requests;
+mod stop;
+mod texts;
+mod top;
+
+pub use report::{Report, Top};
+pub use top::scons;

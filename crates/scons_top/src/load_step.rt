@@ -1,0 +1,98 @@
+//! A large run over a world in memory: so many rules in chains of ten, built, and built again after an edit of the first
+//! source.
+
+use crate::ending::good;
+use crate::report::Report;
+use crate::stop::Stop;
+use crate::top::run;
+use scons_base::{Blob, Listing, Memory, PathText, Paths, Texts};
+use scons_report::{load_text, print};
+use scons_words::Words;
+use std::alloc::Global;
+use world_api::Sink;
+use world_mem::{ActTable, MemSink, MemWorld};
+
+/// Builds twice, and says how many rules were started.
+pub(crate) fn load<O: Sink>(
+    alloc: Global,
+    words: &Words,
+    rules: u32,
+    out: &mut O,
+) -> Result<Report, Stop> {
+    let inner = build_words(alloc, words.jobs)?;
+    let files = files_of(alloc, rules)?;
+    let table = ActTable::new(Vec::new(alloc));
+    let made = MemWorld::new(alloc, files, table, Vec::new(alloc), Vec::new(alloc));
+    let Ok(mut world) = made else {
+        return Err(Stop::Memory);
+    };
+    build_once(alloc, &inner, &mut world)?;
+    if world
+        .edit(&path_of(alloc, "s0")?, b"edited".as_slice())
+        .is_err()
+    {
+        return Err(Stop::Memory);
+    }
+    build_once(alloc, &inner, &mut world)?;
+    print(out, load_text(alloc, rules)?.as_str())?;
+    Ok(good(alloc))
+}
+
+/// A build over a world that refuses nothing: only memory may be wanting.
+fn build_once(alloc: Global, words: &Words, world: &mut MemWorld) -> Result<(), Stop> {
+    let mut out = MemSink::new(alloc, Vec::new(alloc))?;
+    let mut err = MemSink::new(alloc, Vec::new(alloc))?;
+    let report = run(alloc, words, world, &mut out, &mut err)?;
+    match report.status {
+        0 => Ok(()),
+        _ => Err(Stop::Memory),
+    }
+}
+
+/// The words of a silent build with so many jobs.
+fn build_words(alloc: Global, jobs: u32) -> Result<Words, Memory> {
+    let script = path_of(alloc, "SConstruct")?;
+    Ok(Words {
+        scripts: Paths::new(vec![in alloc; script]?),
+        arguments: Listing::empty(alloc),
+        requested: Texts::new(Vec::new(alloc)),
+        jobs,
+        keep: false,
+        dry: false,
+        clean: false,
+        quiet: true,
+        silent: true,
+        help: false,
+        load: None,
+    })
+}
+
+/// The script, and a source for each rule that holds its own name.
+fn files_of(alloc: Global, rules: u32) -> Result<Vec<(PathText, Blob)>, Memory> {
+    let mut files = Vec::new(alloc);
+    let script = script_text(alloc, rules)?;
+    files.push((
+        path_of(alloc, "SConstruct")?,
+        Blob::of(alloc, script.as_bytes())?,
+    ))?;
+    for number in 0..rules {
+        let name = format!(in alloc; "s{number}")?;
+        let path = path_of(alloc, name.as_str())?;
+        files.push((path, Blob::of(alloc, name.as_bytes())?))?;
+    }
+    Ok(files)
+}
+
+/// The script with its number of rules.
+fn script_text(alloc: Global, rules: u32) -> Result<String, Memory> {
+    Ok(format!(in alloc;
+        "for i in range({rules}):\n    d = ['s%d' % i]\n    if i % 10 != 0:\n        d.append('o%d' % (i - 1))\n    Command('o%d' % i, d, 'mk%d' % i)\n"
+    )?)
+}
+
+fn path_of(alloc: Global, text: &str) -> Result<PathText, Memory> {
+    match PathText::read(alloc, text) {
+        Ok(path) => Ok(path),
+        Err(_) => Err(Memory),
+    }
+}

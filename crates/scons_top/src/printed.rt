@@ -1,0 +1,31 @@
+//! What a run writes on standard output besides the lines of rules.
+
+use crate::stop::Stop;
+use scons_base::Memory;
+use scons_report::print;
+use scons_words::Words;
+use world_api::Sink;
+
+/// Writes a line on the progress of the run, unless the words ask for none.
+pub(crate) fn say<O: Sink>(
+    out: &mut O,
+    words: &Words,
+    text: Result<String, Memory>,
+) -> Result<(), Stop> {
+    if !words.quiet && !words.silent {
+        print(out, text?.as_str())?;
+    }
+    Ok(())
+}
+
+/// Writes a line that `-Q` leaves.
+pub(crate) fn tell<O: Sink>(
+    out: &mut O,
+    words: &Words,
+    text: Result<String, Memory>,
+) -> Result<(), Stop> {
+    if !words.silent {
+        print(out, text?.as_str())?;
+    }
+    Ok(())
+}

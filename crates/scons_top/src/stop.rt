@@ -1,0 +1,97 @@
+//! Why a run ended before its last step.
+
+use crate::report::Top;
+use build_files::ListEnd;
+use node_tree::NodeRefusal;
+use rule_graph::{BuildFault, What};
+use scons_base::Memory;
+use scons_host::HostEnd;
+use scons_words::WordsFault;
+use sign_store::StoreRefusal;
+use std::alloc::{AllocError, AllocFailed};
+use world_api::Fault;
+
+#[derive(Drop)]
+pub(crate) enum Stop {
+    /// A fault, with its text for standard error.
+    Fault(Top),
+    /// A fault of a step whose text is that of a build.
+    Build(BuildFault),
+    Memory,
+}
+
+impl From<Memory> for Stop {
+    fn from(_: Memory) -> Self {
+        Stop::Memory
+    }
+}
+
+impl From<AllocError> for Stop {
+    fn from(_: AllocError) -> Self {
+        Stop::Memory
+    }
+}
+
+impl<T: Drop> From<AllocFailed<T>> for Stop {
+    fn from(_: AllocFailed<T>) -> Self {
+        Stop::Memory
+    }
+}
+
+/// A sink refused.
+impl From<Fault> for Stop {
+    fn from(_: Fault) -> Self {
+        Stop::Build(BuildFault::OutFault)
+    }
+}
+
+impl From<ListEnd> for Stop {
+    fn from(end: ListEnd) -> Self {
+        match end {
+            ListEnd::Fault(fault) => Stop::Build(fault),
+            ListEnd::Memory => Stop::Memory,
+        }
+    }
+}
+
+impl From<NodeRefusal> for Stop {
+    fn from(refusal: NodeRefusal) -> Self {
+        match refusal {
+            NodeRefusal::Full(count) => Stop::Build(BuildFault::TooMany(What::Nodes, count)),
+            NodeRefusal::Memory => Stop::Memory,
+        }
+    }
+}
+
+impl From<WordsFault> for Stop {
+    fn from(fault: WordsFault) -> Self {
+        match fault {
+            WordsFault::At(place, kind) => Stop::Fault(Top::Usage(place, kind)),
+            WordsFault::Memory => Stop::Memory,
+        }
+    }
+}
+
+impl From<HostEnd> for Stop {
+    fn from(end: HostEnd) -> Self {
+        match end {
+            HostEnd::Reading(file, line, kind) => Stop::Fault(Top::Reading(file, line, kind)),
+            HostEnd::Tree(path) => Stop::Build(BuildFault::TreeFault(path)),
+            HostEnd::Out => Stop::Build(BuildFault::OutFault),
+            HostEnd::TooLarge(path, size) => Stop::Build(BuildFault::TooLarge(path, size)),
+            HostEnd::TooMany(what, count) => Stop::Build(BuildFault::TooMany(what, count)),
+            HostEnd::Memory => Stop::Memory,
+        }
+    }
+}
+
+impl From<StoreRefusal> for Stop {
+    fn from(refusal: StoreRefusal) -> Self {
+        match refusal {
+            StoreRefusal::Fault => Stop::Build(BuildFault::StoreFault),
+            StoreRefusal::Foreign(bank) => Stop::Fault(Top::StoreForeign(bank)),
+            StoreRefusal::Large(size) => Stop::Build(BuildFault::TooMany(What::StoreBytes, size)),
+            StoreRefusal::Memory => Stop::Memory,
+        }
+    }
+}

@@ -1,0 +1,5 @@
+pub mod Numbers
+pub mod Values
+pub mod Switches
+pub mod Arguments
+pub mod Readings

@@ -1,0 +1,13 @@
+-- A number of a command line, or why the word is none.
+use Rattle.std.specs.Prelude.{ℕ, List, Option, Some, None, Result, Ok, Err}
+use Rattle.scons_words.specs.declared.fault.Refusal.{Refusal}
+use Rattle.scons_words.specs.declared.fault.Refusal.TheVariants as refusal
+use Rattle.scons_words.specs.declared.fault.UsageKind.TheVariants as kind
+use Rattle.scons_words.specs.Numbers.{number_up_to}
+
+abbrev found : Option ℕ → Result ℕ Refusal
+found (Some n) = Ok n
+found None = Err (refusal.Kind kind.BadNumber)
+
+abbrev pub number_named : ℕ → List ℕ → Result ℕ Refusal
+number_named limit text = found (number_up_to limit text)

@@ -1,0 +1,13 @@
+use Rattle.std.proofs.Common.{◌≡◌, ◌≤◌, ◌-◌, length, drop}
+use Rattle.sign_store.specs.Maps.{map_in}
+use Rattle.sign_store.specs.Images.{after_entries}
+use Rattle.sign_store.proofs.entries.apply_all.Given as goal
+
+abbrev pub invariant-loop-change : goal.invariant-loop-change
+invariant-loop-change l = record {
+  fits : l.len ≤ length l.body;
+  so_far : after_entries (length (drop l.len l.body)) (map_in l.map) (drop l.len l.body) ≡ after_entries (length l.body) (map_in l.initial.map) l.body;
+}
+
+abbrev pub decreases-loop-change : goal.decreases-loop-change
+decreases-loop-change l = length l.body - l.len

@@ -1,0 +1,46 @@
+-- The head of a bank, and which bank counts.
+--
+-- gate          one byte, 1 where the bank is live
+-- mark          `SCONSIG1`
+-- generation    64 bits, big-endian
+use Rattle.std.specs.Prelude.{ℕ, List, ◌==◌, nat_le, nat_lt, length, take, drop, slice_index, codes, if◌then◌else◌}
+use Rattle.std.specs.Int.{w64, from_be_bytes}
+use Rattle.std.specs.Str.{bytes_eq}
+use Rattle.world_api.specs.declared.disk.Bank.{Bank}
+use Rattle.world_api.specs.declared.disk.Bank.TheVariants.{A, B}
+use Rattle.sign_store.specs.declared.head.Head.{Head}
+use Rattle.sign_store.specs.declared.head.Head.TheVariants.{Short, Closed, Foreign, Live}
+use Rattle.sign_store.specs.declared.head.Choice.{Choice}
+use Rattle.sign_store.specs.declared.head.Choice.TheVariants as choice
+
+abbrev pub gate_of : List ℕ → ℕ
+gate_of bank = slice_index bank 0
+
+abbrev pub mark_of : List ℕ → List ℕ
+mark_of bank = take 8 (drop 1 bank)
+
+abbrev pub generation_of : List ℕ → ℕ
+generation_of bank = from_be_bytes w64 (take 8 (drop 9 bank))
+
+-- a bank under 18 bytes, or whose gate isn't open, is blank; one with another mark is foreign
+abbrev pub head_of : List ℕ → Head
+head_of bank =
+    if nat_le (length bank) 17 then Short
+    else (if gate_of bank == 1 then (if bytes_eq (mark_of bank) (codes "SCONSIG1") then Live (generation_of bank) else Foreign)
+    else Closed)
+
+-- the live bank of the greater generation, A at a tie; a foreign bank is refused, A first
+abbrev pub chosen : Head → Head → Choice
+chosen Foreign b = choice.Foreign A
+chosen Short Foreign = choice.Foreign B
+chosen Closed Foreign = choice.Foreign B
+chosen (Live g) Foreign = choice.Foreign B
+chosen (Live g) (Live h) = if nat_lt g h then choice.Live B h else choice.Live A g
+chosen (Live g) Short = choice.Live A g
+chosen (Live g) Closed = choice.Live A g
+chosen Short (Live h) = choice.Live B h
+chosen Closed (Live h) = choice.Live B h
+chosen Short Short = choice.None
+chosen Short Closed = choice.None
+chosen Closed Short = choice.None
+chosen Closed Closed = choice.None

@@ -1,0 +1,158 @@
+//! Reading and writing the banks of a disk.
+ghost use Rattle.std.specs.Prelude.{◌≡◌, ◌≢◌, ◌≤◌, ◌<◌, ◌+◌, ◌^◌, ℕ, length, max, vec_len, IfOk, IfErr, OnOk, OnErr};
+ghost use Rattle.world_api.specs.Banks.{Holds};
+ghost use Rattle.world_api.specs.Causes.{DiskFails};
+ghost use Rattle.world_api.specs.Meaning.{Told};
+ghost use Rattle.world_api.specs.declared.disk.Bank.{Bank};
+ghost use Rattle.world_api.specs.declared.disk.Bank.TheVariants as side;
+ghost use Rattle.sign_store.specs.Reached.{HasFaultCause};
+
+use crate::head::{HEAD_LEN, Head, head_of};
+use crate::refusals::StoreRefusal;
+use scons_base::limits::BANK_LIMIT;
+use std::alloc::Global;
+use world_api::{Bank, Disk, Fault};
+
+/// How many bytes each bank has.
+#[derive(Clone, Copy)]
+pub(crate) struct Sizes {
+    pub a: u64,
+    pub b: u64,
+}
+
+/// The sizes of the banks, neither of which is too large.
+pub(crate) fn sizes_of<W: Disk>(world: &mut W) -> Result<Sizes, StoreRefusal>
+    ensures a { W.meaning.tells world.new → IfOk result (λ sizes. sizes.a ≡ length (W.meaning.seen world.new side.A)) }
+    ensures b { W.meaning.tells world.new → IfOk result (λ sizes. sizes.b ≡ length (W.meaning.seen world.new side.B)) }
+    ensures small { IfOk result (λ sizes. (sizes.a ≤ 2 ^ 40) × (sizes.b ≤ 2 ^ 40)) }
+    ensures cause { HasFaultCause W.meaning world.old world.new result }
+    ensures seen { W.meaning.tells world.new → (each : Bank) → W.meaning.seen world.new each ≡ W.meaning.seen world.old each }
+    ensures told { Told W.meaning world.old world.new }
+{
+    let a = world.size(Bank::A)?;
+    let b = world.size(Bank::B)?;
+    if a > BANK_LIMIT {
+        return Err(StoreRefusal::Large(a));
+    }
+    if b > BANK_LIMIT {
+        return Err(StoreRefusal::Large(b));
+    }
+    Ok(Sizes { a, b })
+}
+
+/// The head of a bank of this size.
+pub(crate) fn read_head<W: Disk>(world: &mut W, bank: Bank, size: u64) -> Result<Head, Fault>
+    requires { W.meaning.tells world.old → size ≡ length (W.meaning.seen world.old bank) }
+    ensures closed { IfOk result (λ head. head ≡ Head.Closed → 17 < size) }
+    ensures kept { OnOk result (W.meaning.counts world.new ≡ W.meaning.counts world.old) }
+    ensures rose { OnErr result (DiskFails (W.meaning.counts world.old) (W.meaning.counts world.new)) }
+    ensures seen { W.meaning.tells world.new → (each : Bank) → W.meaning.seen world.new each ≡ W.meaning.seen world.old each }
+    ensures told { Told W.meaning world.old world.new }
+{
+    if size <= HEAD_LEN as u64 {
+        return Ok(Head::Short);
+    }
+    let mut front = [0; HEAD_LEN + 1];
+    world.read_at(bank, 0, &mut front)?;
+    Ok(head_of(&front))
+}
+
+/// What stands behind the head of a bank of this size.
+pub(crate) fn read_body<W: Disk>(
+    alloc: Global,
+    world: &mut W,
+    bank: Bank,
+    size: u64,
+) -> Result<Vec<u8>, StoreRefusal>
+    requires { W.meaning.tells world.old → size ≡ length (W.meaning.seen world.old bank) }
+    ensures len { IfOk result (λ body. vec_len body + 17 ≡ max size 17) }
+    ensures cause { HasFaultCause W.meaning world.old world.new result }
+    ensures seen { W.meaning.tells world.new → (each : Bank) → W.meaning.seen world.new each ≡ W.meaning.seen world.old each }
+    ensures told { Told W.meaning world.old world.new }
+{
+    if size <= HEAD_LEN as u64 {
+        return Ok(Vec::new(alloc));
+    }
+    let len = (size - HEAD_LEN as u64) as usize;
+    let mut body = vec![in alloc; 0; len]?;
+    world.read_at(bank, HEAD_LEN as u64, body.as_mut_slice())?;
+    Ok(body)
+}
+
+/// Writes bytes at a place of a bank, and syncs it.
+pub(crate) fn write_synced<W: Disk>(
+    world: &mut W,
+    bank: Bank,
+    place: u64,
+    bytes: &[u8],
+) -> Result<(), Fault>
+    requires within { W.meaning.tells world.old → place ≤ length (W.meaning.seen world.old bank) }
+    requires small { place + length bytes.now ≤ 2 ^ 41 }
+    ensures written { W.meaning.tells world.new → OnOk result (Holds (W.meaning.seen world.old bank) place bytes.now (W.meaning.seen world.new bank)) }
+    ensures told { Told W.meaning world.old world.new }
+    ensures kept { OnOk result (W.meaning.counts world.new ≡ W.meaning.counts world.old) }
+    ensures rose { OnErr result (DiskFails (W.meaning.counts world.old) (W.meaning.counts world.new)) }
+{
+    world.write_at(bank, place, bytes)?;
+    world.sync(bank)
+}
+
+/// Adds an entry at the closed gate where the entries end: what stands behind its gate first, and then the gate is
+/// opened.
+pub(crate) fn append<W: Disk>(
+    world: &mut W,
+    bank: Bank,
+    end: u64,
+    entry: &[u8],
+) -> Result<(), Fault>
+    requires within { W.meaning.tells world.old → end < length (W.meaning.seen world.old bank) }
+    requires small { end + 1 + length entry.now ≤ 2 ^ 41 }
+    ensures end { W.meaning.tells world.new → OnOk result (end + length entry.now < length (W.meaning.seen world.new bank)) }
+    ensures told { Told W.meaning world.old world.new }
+    ensures kept { OnOk result (W.meaning.counts world.new ≡ W.meaning.counts world.old) }
+    ensures rose { OnErr result (DiskFails (W.meaning.counts world.old) (W.meaning.counts world.new)) }
+{
+    write_synced(world, bank, end + 1, entry)?;
+    write_synced(world, bank, end, &[1])
+}
+
+/// Fills a bank that isn't live with what stands behind its gate, and then opens the gate. A gate that is closed already
+/// stays as it is, since torn bytes may stand behind it.
+pub(crate) fn fill<W: Disk>(world: &mut W, bank: Bank, form: &[u8]) -> Result<(), Fault>
+    requires { 1 + length form.now ≤ 2 ^ 41 }
+    ensures len { W.meaning.tells world.new → OnOk result (length form.now < length (W.meaning.seen world.new bank)) }
+    ensures told { Told W.meaning world.old world.new }
+    ensures kept { OnOk result (W.meaning.counts world.new ≡ W.meaning.counts world.old) }
+    ensures rose { OnErr result (DiskFails (W.meaning.counts world.old) (W.meaning.counts world.new)) }
+{
+    close(world, bank)?;
+    fill_closed(world, bank, form)
+}
+
+/// Closes the gate of a bank, where it is open or the bank is too short for one to count.
+fn close<W: Disk>(world: &mut W, bank: Bank) -> Result<(), Fault>
+    ensures gate { W.meaning.tells world.new → OnOk result (0 < length (W.meaning.seen world.new bank)) }
+    ensures told { Told W.meaning world.old world.new }
+    ensures kept { OnOk result (W.meaning.counts world.new ≡ W.meaning.counts world.old) }
+    ensures rose { OnErr result (DiskFails (W.meaning.counts world.old) (W.meaning.counts world.new)) }
+{
+    let size = world.size(bank)?;
+    let head = read_head(world, bank, size)?;
+    if head == Head::Closed {
+        return Ok(());
+    }
+    write_synced(world, bank, 0, &[0])
+}
+
+/// The same of a bank whose gate is closed.
+fn fill_closed<W: Disk>(world: &mut W, bank: Bank, form: &[u8]) -> Result<(), Fault>
+    requires gate { W.meaning.tells world.old → 0 < length (W.meaning.seen world.old bank) }
+    requires small { 1 + length form.now ≤ 2 ^ 41 }
+    ensures len { W.meaning.tells world.new → OnOk result (length form.now < length (W.meaning.seen world.new bank)) }
+    ensures told { Told W.meaning world.old world.new }
+    ensures kept { OnOk result (W.meaning.counts world.new ≡ W.meaning.counts world.old) }
+    ensures rose { OnErr result (DiskFails (W.meaning.counts world.old) (W.meaning.counts world.new)) }
+{
+    write_synced(world, bank, 1, form)?;
+    write_synced(world, bank, 0, &[1])
+}

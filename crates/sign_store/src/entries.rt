@@ -1,0 +1,128 @@
+//! The entries of a bank.
+ghost use Rattle.std.specs.Prelude.{◌≡◌, ◌≢◌, ◌+◌, ◌≤◌, ◌<◌, None, Some, length, MatchOption, IfOk, IfSome, OnOk};
+ghost use Rattle.sign_store.specs.Maps.{map_in};
+ghost use Rattle.sign_store.specs.Images.{payload_in, change_in, entry_in, applied, after_entries, entries_map};
+
+use crate::map::RecordMap;
+use deciders::{Rec, decode, decode_paths};
+use scons_base::{Memory, Paths};
+use std::alloc::Global;
+
+/// What an entry does.
+#[derive(Drop)]
+enum Change {
+    /// Gives each target of the record this record.
+    Put(Rec),
+    /// Takes away the records of these paths.
+    Withdraw(Paths),
+}
+
+/// The gate at which the entries of a bank end.
+#[derive(Clone, Copy, PartialEq, Eq)]
+pub(crate) enum EndGate {
+    Closed,
+    /// The entry behind it can't be read.
+    Open,
+    /// It isn't there: the bank ends.
+    Missing,
+}
+
+/// What the entries of a bank stand for, and how many bytes they take.
+#[derive(Drop)]
+pub(crate) struct Loaded {
+    pub map: RecordMap,
+    pub len: usize,
+    pub gate: EndGate,
+}
+
+/// Reads entries up to where they end. `body` is what stands behind the head of a bank.
+pub(crate) fn load(alloc: Global, body: &[u8]) -> Result<Loaded, Memory>
+    ensures map { IfOk result (λ loaded. map_in loaded.map ≡ entries_map body.now) }
+    ensures len { IfOk result (λ loaded. loaded.len ≤ length body.now) }
+    ensures inside { IfOk result (λ loaded. loaded.gate ≢ EndGate.Missing → loaded.len < length body.now) }
+{
+    let mut map = RecordMap::new(alloc);
+    let len = apply_all(&mut map, alloc, body)?;
+    let gate = gate_at(body, len);
+    Ok(Loaded { map, len, gate })
+}
+
+fn gate_at(body: &[u8], place: usize) -> EndGate
+    ensures { result ≢ EndGate.Missing → place < length body.now }
+{
+    if place >= body.len() {
+        return EndGate::Missing;
+    }
+    if body[place] == 1 {
+        EndGate::Open
+    } else {
+        EndGate::Closed
+    }
+}
+
+/// Applies one entry after the other, and says how many bytes they take.
+fn apply_all(map: &mut RecordMap, alloc: Global, body: &[u8]) -> Result<usize, Memory>
+    ensures map { OnOk result (map_in map.new ≡ after_entries (length body.now) (map_in map.old) body.now) }
+    ensures len { IfOk result (λ len. len ≤ length body.now) }
+{
+    let mut len = 0;
+    while let Some((change, size)) = first_entry(alloc, &body[len..])? {
+        apply(map, change)?;
+        len += size;
+    }
+    Ok(len)
+}
+
+fn apply(map: &mut RecordMap, change: Change) -> Result<(), Memory>
+    ensures { OnOk result (map_in map.new ≡ applied change (map_in map.old)) }
+{
+    match change {
+        Change::Put(rec) => {
+            let number = map.add(rec)?;
+            map.set(number);
+        }
+        Change::Withdraw(paths) => map.remove(paths.as_slice()),
+    }
+    Ok(())
+}
+
+/// The entry in front and its size, if one stands there whole.
+fn first_entry(alloc: Global, bytes: &[u8]) -> Result<Option<(Change, usize)>, Memory>
+    ensures entry { IfOk result (λ found. found ≡ entry_in bytes.now) }
+    ensures within { IfOk result (λ found. IfSome found (λ entry. (0 < entry.1) × (entry.1 ≤ length bytes.now))) }
+{
+    let Some(payload) = first_payload(bytes) else {
+        return Ok(None);
+    };
+    let size = payload.len() + 5;
+    match change_of(alloc, payload)? {
+        Some(change) => Ok(Some((change, size))),
+        None => Ok(None),
+    }
+}
+
+/// The payload behind an open gate and a length, if all of it is there.
+fn first_payload(bytes: &[u8]) -> Option<&[u8]>
+    ensures payload { MatchOption result (payload_in bytes.now ≡ None) (λ payload. payload_in bytes.now ≡ Some payload.now) }
+    ensures within { IfSome result (λ payload. length payload.now + 5 ≤ length bytes.now) }
+{
+    if bytes.len() < 5 || bytes[0] != 1 {
+        return None;
+    }
+    let len = u32::from_be_bytes([bytes[1], bytes[2], bytes[3], bytes[4]]) as usize;
+    let rest = &bytes[5..];
+    if len > rest.len() {
+        return None;
+    }
+    Some(&rest[..len])
+}
+
+fn change_of(alloc: Global, payload: &[u8]) -> Result<Option<Change>, Memory>
+    ensures { IfOk result (λ found. found ≡ change_in payload.now) }
+{
+    match payload {
+        [1, rest @ ..] => Ok(decode(alloc, rest)?.map(Change::Put)),
+        [2, rest @ ..] => Ok(decode_paths(alloc, rest)?.map(Change::Withdraw)),
+        _ => Ok(None),
+    }
+}

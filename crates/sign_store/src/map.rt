@@ -1,0 +1,155 @@
+//! Records by their targets. A record is kept once, whatever the number of its targets; a look-up is one by hash.
+ghost use Rattle.std.specs.Prelude.{◌≡◌, ◌<◌, ◌+◌, ℕ, List, None, Some, [], ◌++◌, ◌∷◌, true, false, vec_len, slice_get, option_copied, OnErr, OnOk, IfOk};
+ghost use Rattle.std.specs.List.{list_any};
+ghost use Rattle.std.specs.Option.{is_some};
+ghost use Rattle.std.specs.Str.{bytes_eq};
+ghost use Rattle.sign_store.specs.Tables.{number_in, place_in, overwritten, nothing, with_each, WritesEach, Enters};
+
+use deciders::Rec;
+use indexmap::IndexMap;
+use scons_base::{Memory, PathText};
+use std::alloc::Global;
+
+/// A path that was met has a place in the table, with the number of its record where it has one.
+#[derive(Drop)]
+pub(crate) struct RecordMap {
+    table: IndexMap<PathText, Option<usize>>,
+    records: Vec<Rec>,
+    ghost known: { (path : List ℕ) (number : ℕ) → number_in table path ≡ Some number → number < vec_len records },
+}
+
+impl RecordMap {
+    ghost use Rattle.sign_store.specs.Maps.{map_in, HasRecord};
+
+    pub(crate) fn new(alloc: Global) -> RecordMap
+        ensures { map_in result ≡ nothing }
+    {
+        RecordMap {
+            table: IndexMap::new(alloc),
+            records: Vec::new(alloc),
+        }
+    }
+
+    /// The record of a path.
+    pub(crate) fn get(&self, path: &PathText) -> Option<&Rec>
+        ensures { option_copied result ≡ map_in self.now path.now }
+    {
+        let number = (*self.table.get(path)?)?;
+        self.records.get(number)
+    }
+
+    pub(crate) fn records(&self) -> &[Rec] {
+        self.records.as_slice()
+    }
+
+    /// Whether the record of this number is the path's.
+    pub(crate) fn holds(&self, path: &PathText, number: usize) -> bool {
+        match self.table.get(path) {
+            Some(held) => *held == Some(number),
+            None => false,
+        }
+    }
+
+    /// Keeps a record, and enters its targets: none of them has it yet. Gives the record's number.
+    pub(crate) fn add(&mut self, rec: Rec) -> Result<usize, Memory>
+        ensures same { map_in self.new ≡ map_in self.old }
+        ensures record { IfOk result (HasRecord self.new rec) }
+        ensures keeps { (other : Rec) (number : ℕ) → HasRecord self.old other number → HasRecord self.new other number }
+    {
+        enter_each(&mut self.table, rec.targets.as_slice())?;
+        let number = self.records.len();
+        self.records.push(rec)?;
+        Ok(number)
+    }
+
+    /// Gives each target of a record this record.
+    pub(crate) fn set(&mut self, number: usize)
+        ensures map { (rec : Rec) → HasRecord self.old rec number → map_in self.new ≡ with_each rec.targets (Some rec) (map_in self.old) }
+        ensures keeps { (rec : Rec) (number : ℕ) → HasRecord self.old rec number → HasRecord self.new rec number }
+    {
+        let Some(rec) = self.records.get(number) else {
+            return;
+        };
+        write_each(&mut self.table, rec.targets.as_slice(), Some(number));
+    }
+
+    /// Takes away what record each target of a record has.
+    pub(crate) fn unset(&mut self, number: usize)
+        ensures map { (rec : Rec) → HasRecord self.old rec number → map_in self.new ≡ with_each rec.targets None (map_in self.old) }
+        ensures keeps { (rec : Rec) (number : ℕ) → HasRecord self.old rec number → HasRecord self.new rec number }
+    {
+        let Some(rec) = self.records.get(number) else {
+            return;
+        };
+        write_each(&mut self.table, rec.targets.as_slice(), None);
+    }
+
+    /// Takes away the records of these paths.
+    pub(crate) fn remove(&mut self, paths: &[PathText])
+        ensures { map_in self.new ≡ with_each paths.now None (map_in self.old) }
+    {
+        write_each(&mut self.table, paths, None);
+    }
+
+    /// Whether a target of a record has a record.
+    pub(crate) fn has_any(&self, number: usize) -> bool
+        ensures { (rec : Rec) → HasRecord self.now rec number → result ≡ list_any (λ path. is_some (map_in self.now path)) rec.targets }
+    {
+        match self.records.get(number) {
+            Some(rec) => rec.targets.as_slice().iter().any(|path| self.has(path)),
+            None => false,
+        }
+    }
+
+    pub(crate) fn has(&self, path: &PathText) -> bool
+        ensures { result ≡ is_some (map_in self.now path.now) }
+    {
+        self.get(path).is_some()
+    }
+}
+
+/// Enters the paths that have no place, without a record.
+fn enter_each(
+    table: &mut IndexMap<PathText, Option<usize>>,
+    paths: &[PathText],
+) -> Result<(), Memory>
+    ensures same { (path : List ℕ) → number_in table.new path ≡ number_in table.old path }
+    ensures places { OnOk result (Enters paths.now table.new) }
+{
+    for path in paths {
+        enter(table, path)?;
+    }
+    Ok(())
+}
+
+fn enter(table: &mut IndexMap<PathText, Option<usize>>, path: &PathText) -> Result<(), Memory>
+    ensures same { (other : List ℕ) → number_in table.new other ≡ number_in table.old other }
+    ensures place { OnOk result (is_some (place_in table.new path.now) ≡ true) }
+    ensures stay { (other : List ℕ) → is_some (place_in table.old other) ≡ true → is_some (place_in table.new other) ≡ true }
+{
+    if !table.contains_key(path) {
+        table.insert(path.copy()?, None)?;
+    }
+    Ok(())
+}
+
+/// Writes the value of each path that has a place.
+fn write_each(
+    table: &mut IndexMap<PathText, Option<usize>>,
+    paths: &[PathText],
+    value: Option<usize>,
+)
+    ensures { WritesEach paths.now value table.old table.new }
+{
+    for path in paths {
+        write(table, path, value);
+    }
+}
+
+fn write(table: &mut IndexMap<PathText, Option<usize>>, path: &PathText, value: Option<usize>)
+    ensures { (other : List ℕ) → place_in table.new other ≡ overwritten (bytes_eq path.now other) value (place_in table.old other) }
+{
+    if let Some(held) = table.get_mut(path) {
+        *held = value;
+    }
+}

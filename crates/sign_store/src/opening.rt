@@ -1,0 +1,203 @@
+//! Reading and beginning: which bank counts, its entries, the mending of its end, and compaction.
+ghost use Rattle.std.specs.Prelude.{◌≡◌, ◌≤◌, ◌<◌, ◌≢◌, ◌+◌, ◌^◌, length, IfOk, OnOk, OnErr};
+ghost use Rattle.world_api.specs.Causes.{DiskFails};
+ghost use Rattle.world_api.specs.Meaning.{Told};
+ghost use Rattle.world_api.specs.declared.disk.Bank.TheVariants as side;
+ghost use Rattle.sign_store.specs.Reached.{HasFaultCause};
+
+use crate::banks::{Sizes, fill, read_body, read_head, sizes_of, write_synced};
+use crate::compact::{FIRST_GENERATION, compact_form, compact_len, empty_form, is_worth};
+use crate::entries::{EndGate, Loaded, load};
+use crate::head::{Choice, HEAD_LEN, chosen, other};
+use crate::map::RecordMap;
+use crate::refusals::StoreRefusal;
+use std::alloc::Global;
+use world_api::{Bank, Disk, Fault};
+
+/// A live bank, and what its entries stand for.
+#[derive(Drop)]
+pub(crate) struct Opened {
+    pub map: RecordMap,
+    pub bank: Bank,
+    pub generation: u64,
+    /// The place of the last gate.
+    pub end: u64,
+}
+
+/// A bank that was read: its map, and the place at which its entries end.
+#[derive(Drop)]
+pub(crate) struct Read {
+    pub map: RecordMap,
+    pub gate: EndGate,
+    pub end: u64,
+}
+
+/// The sizes of the banks, and which bank counts.
+fn look<W: Disk>(world: &mut W) -> Result<(Sizes, Choice), StoreRefusal>
+    ensures a { W.meaning.tells world.new → IfOk result (λ seen. seen.0.a ≡ length (W.meaning.seen world.new side.A)) }
+    ensures b { W.meaning.tells world.new → IfOk result (λ seen. seen.0.b ≡ length (W.meaning.seen world.new side.B)) }
+    ensures small { IfOk result (λ seen. (seen.0.a ≤ 2 ^ 40) × (seen.0.b ≤ 2 ^ 40)) }
+    ensures cause { HasFaultCause W.meaning world.old world.new result }
+    ensures told { Told W.meaning world.old world.new }
+{
+    let sizes = sizes_of(world)?;
+    let a = read_head(world, Bank::A, sizes.a)?;
+    let b = read_head(world, Bank::B, sizes.b)?;
+    Ok((sizes, chosen(a, b)))
+}
+
+/// What the entries of a live bank of this size stand for.
+fn read_bank<W: Disk>(
+    alloc: Global,
+    world: &mut W,
+    bank: Bank,
+    size: u64,
+) -> Result<Read, StoreRefusal>
+    requires { W.meaning.tells world.old → size ≡ length (W.meaning.seen world.old bank) }
+    ensures end { IfOk result (λ read. read.end ≤ size) }
+    ensures inside { IfOk result (λ read. read.gate ≢ EndGate.Missing → read.end < size) }
+    ensures size { W.meaning.tells world.new → size ≡ length (W.meaning.seen world.new bank) }
+    ensures cause { HasFaultCause W.meaning world.old world.new result }
+    ensures told { Told W.meaning world.old world.new }
+{
+    let body = read_body(alloc, world, bank, size)?;
+    let Loaded { map, len, gate } = load(alloc, body.as_slice())?;
+    let end = match gate {
+        EndGate::Missing => size,
+        _ => HEAD_LEN as u64 + len as u64,
+    };
+    Ok(Read { map, gate, end })
+}
+
+/// The map of the banks, without a change of theirs.
+pub(crate) fn read_map<W: Disk>(alloc: Global, world: &mut W) -> Result<RecordMap, StoreRefusal>
+    ensures cause { HasFaultCause W.meaning world.old world.new result }
+    ensures told { Told W.meaning world.old world.new }
+{
+    let (sizes, choice) = look(world)?;
+    match choice {
+        Choice::None => Ok(RecordMap::new(alloc)),
+        Choice::Foreign(bank) => Err(StoreRefusal::Foreign(bank)),
+        Choice::Live(Bank::A, _) => Ok(read_bank(alloc, world, Bank::A, sizes.a)?.map),
+        Choice::Live(Bank::B, _) => Ok(read_bank(alloc, world, Bank::B, sizes.b)?.map),
+    }
+}
+
+/// Makes a stop leave the banks as they read.
+fn settle<W: Disk>(world: &mut W) -> Result<(), Fault>
+    ensures told { Told W.meaning world.old world.new }
+    ensures kept { OnOk result (W.meaning.counts world.new ≡ W.meaning.counts world.old) }
+    ensures rose { OnErr result (DiskFails (W.meaning.counts world.old) (W.meaning.counts world.new)) }
+{
+    world.sync(Bank::A)?;
+    world.sync(Bank::B)
+}
+
+/// The map of the banks, with a live bank that ends at a closed gate.
+pub(crate) fn open<W: Disk>(alloc: Global, world: &mut W) -> Result<Opened, StoreRefusal>
+    ensures end { IfOk result (λ opened. opened.end ≤ 2 ^ 40) }
+    ensures stands { W.meaning.tells world.new → IfOk result (λ opened. opened.end < length (W.meaning.seen world.new opened.bank)) }
+    ensures cause { HasFaultCause W.meaning world.old world.new result }
+    ensures told { Told W.meaning world.old world.new }
+{
+    settle(world)?;
+    let (sizes, choice) = look(world)?;
+    match choice {
+        Choice::None => start(alloc, world),
+        Choice::Foreign(bank) => Err(StoreRefusal::Foreign(bank)),
+        Choice::Live(Bank::A, generation) => reopen(alloc, world, Bank::A, sizes.a, generation),
+        Choice::Live(Bank::B, generation) => reopen(alloc, world, Bank::B, sizes.b, generation),
+    }
+}
+
+/// Makes bank A live, with no entry.
+fn start<W: Disk>(alloc: Global, world: &mut W) -> Result<Opened, StoreRefusal>
+    ensures end { IfOk result (λ opened. opened.end ≤ 2 ^ 40) }
+    ensures stands { W.meaning.tells world.new → IfOk result (λ opened. opened.end < length (W.meaning.seen world.new opened.bank)) }
+    ensures cause { HasFaultCause W.meaning world.old world.new result }
+    ensures told { Told W.meaning world.old world.new }
+{
+    let form = empty_form(alloc)?;
+    fill(world, Bank::A, form.as_slice())?;
+    Ok(Opened {
+        map: RecordMap::new(alloc),
+        bank: Bank::A,
+        generation: FIRST_GENERATION,
+        end: form.len() as u64,
+    })
+}
+
+/// Reads a live bank, mends its end, and goes over to the other bank where that is worth it.
+fn reopen<W: Disk>(
+    alloc: Global,
+    world: &mut W,
+    bank: Bank,
+    size: u64,
+    generation: u64,
+) -> Result<Opened, StoreRefusal>
+    requires size { W.meaning.tells world.old → size ≡ length (W.meaning.seen world.old bank) }
+    requires small { size ≤ 2 ^ 40 }
+    ensures end { IfOk result (λ opened. opened.end ≤ 2 ^ 40) }
+    ensures stands { W.meaning.tells world.new → IfOk result (λ opened. opened.end < length (W.meaning.seen world.new opened.bank)) }
+    ensures cause { HasFaultCause W.meaning world.old world.new result }
+    ensures told { Told W.meaning world.old world.new }
+{
+    let read = read_bank(alloc, world, bank, size)?;
+    mend(world, bank, read.gate, read.end)?;
+    let opened = Opened {
+        map: read.map,
+        bank,
+        generation,
+        end: read.end,
+    };
+    compact(alloc, world, opened)
+}
+
+/// Closes the gate at which the entries of a bank ended, where it isn't closed.
+fn mend<W: Disk>(world: &mut W, bank: Bank, gate: EndGate, end: u64) -> Result<(), Fault>
+    requires within { W.meaning.tells world.old → end ≤ length (W.meaning.seen world.old bank) }
+    requires inside { W.meaning.tells world.old → gate ≢ EndGate.Missing → end < length (W.meaning.seen world.old bank) }
+    requires small { end ≤ 2 ^ 40 }
+    ensures stands { W.meaning.tells world.new → OnOk result (end < length (W.meaning.seen world.new bank)) }
+    ensures told { Told W.meaning world.old world.new }
+    ensures kept { OnOk result (W.meaning.counts world.new ≡ W.meaning.counts world.old) }
+    ensures rose { OnErr result (DiskFails (W.meaning.counts world.old) (W.meaning.counts world.new)) }
+{
+    match gate {
+        EndGate::Closed => Ok(()),
+        _ => write_synced(world, bank, end, &[0]),
+    }
+}
+
+/// Goes over to the other bank with the compact form of the map, where that is worth it.
+fn compact<W: Disk>(alloc: Global, world: &mut W, opened: Opened) -> Result<Opened, StoreRefusal>
+    requires end { opened.end ≤ 2 ^ 40 }
+    requires stands { W.meaning.tells world.old → opened.end < length (W.meaning.seen world.old opened.bank) }
+    ensures end { IfOk result (λ opened. opened.end ≤ 2 ^ 40) }
+    ensures stands { W.meaning.tells world.new → IfOk result (λ opened. opened.end < length (W.meaning.seen world.new opened.bank)) }
+    ensures cause { HasFaultCause W.meaning world.old world.new result }
+    ensures told { Told W.meaning world.old world.new }
+{
+    let live = opened.end + 1;
+    if opened.generation == u64::MAX || !is_worth(live, compact_len(&opened.map)) {
+        return Ok(opened);
+    }
+    let form = compact_form(alloc, &opened.map, opened.generation + 1)?;
+    if !is_worth(live, form.len() as u64 + 1) {
+        return Ok(opened);
+    }
+    let Opened {
+        map,
+        bank,
+        generation,
+        end: _,
+    } = opened;
+    let bank = other(bank);
+    fill(world, bank, form.as_slice())?;
+    Ok(Opened {
+        map,
+        bank,
+        generation: generation + 1,
+        end: form.len() as u64,
+    })
+}

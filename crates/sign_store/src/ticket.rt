@@ -1,0 +1,63 @@
+//! The entries of a record, made beforehand.
+ghost use Rattle.std.specs.Prelude.{◌≡◌, ◌≤◌, ◌<◌, ◌^◌, ◌+◌, ◌++◌, ◌∷◌, [], length, IfOk, OnOk};
+ghost use Rattle.deciders.specs.Spelling.{sized, listed, spelling};
+ghost use Rattle.sign_store.specs.Entries.{entry_of, put_payload, withdraw_payload};
+
+use deciders::{Rec, paths_len, push_paths, push_record, spelled_len};
+use scons_base::{Memory, PathText};
+use std::alloc::Global;
+
+/// The leave to withdraw the record of a rule, and to put it once the rule is done.
+#[derive(Drop)]
+pub struct Ticket {
+    /// The number of the record.
+    pub(crate) number: usize,
+    /// What stands behind the gate of its put: length, payload and the next gate, closed.
+    pub(crate) put: Vec<u8>,
+    /// The same of its withdrawal.
+    pub(crate) withdrawal: Vec<u8>,
+}
+
+/// The entry that puts a record, without its gate and with the next one.
+pub(crate) fn put_entry(alloc: Global, rec: &Rec) -> Result<Vec<u8>, Memory>
+    requires { length (spelling rec.now) ≤ 4294967294 }
+    ensures { IfOk result (λ entry. entry.items ≡ entry_of (put_payload rec.now) ++ 0 ∷ []) }
+{
+    let mut entry = Vec::new(alloc);
+    push_put(&mut entry, rec)?;
+    entry.push(0)?;
+    Ok(entry)
+}
+
+/// The entry that withdraws the records of some paths, likewise.
+pub(crate) fn withdraw_entry(alloc: Global, paths: &[PathText]) -> Result<Vec<u8>, Memory>
+    requires { length (listed sized paths.now) ≤ 4294967294 }
+    ensures { IfOk result (λ entry. entry.items ≡ entry_of (withdraw_payload paths.now) ++ 0 ∷ []) }
+{
+    let mut entry = Vec::new(alloc);
+    push_withdraw(&mut entry, paths)?;
+    entry.push(0)?;
+    Ok(entry)
+}
+
+/// Adds what stands between the gates of a put: its length and its payload.
+pub(crate) fn push_put(out: &mut Vec<u8>, rec: &Rec) -> Result<(), Memory>
+    requires { length (spelling rec.now) ≤ 4294967294 }
+    ensures { OnOk result (out.new.items ≡ out.old.items ++ entry_of (put_payload rec.now)) }
+{
+    let len = spelled_len(rec) as u32 + 1;
+    out.extend_from_slice(&len.to_be_bytes())?;
+    out.push(1)?;
+    push_record(out, rec)
+}
+
+/// The same of a withdrawal.
+pub(crate) fn push_withdraw(out: &mut Vec<u8>, paths: &[PathText]) -> Result<(), Memory>
+    requires { length (listed sized paths.now) ≤ 4294967294 }
+    ensures { OnOk result (out.new.items ≡ out.old.items ++ entry_of (withdraw_payload paths.now)) }
+{
+    let len = paths_len(paths) as u32 + 1;
+    out.extend_from_slice(&len.to_be_bytes())?;
+    out.push(2)?;
+    push_paths(out, paths)
+}

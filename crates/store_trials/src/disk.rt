@@ -1,0 +1,95 @@
+//! Two banks in memory. Their contracts tell nothing of them.
+ghost use Rattle.std.specs.Prelude.{ℕ, ◌≡◌, ◌+◌, ◌-◌, ◌^◌, min};
+ghost use Rattle.store_trials.specs.Silent.{silent};
+
+use std::alloc::Global;
+use world_api::{Bank, Disk, Fault};
+
+#[derive(Drop)]
+pub struct Banks {
+    a: Vec<u8>,
+    b: Vec<u8>,
+    faults: u64,
+}
+
+impl Banks {
+    pub fn new(alloc: Global) -> Banks {
+        Banks {
+            a: Vec::new(alloc),
+            b: Vec::new(alloc),
+            faults: 0,
+        }
+    }
+
+    pub fn bytes(&self, bank: Bank) -> &[u8] {
+        match bank {
+            Bank::A => self.a.as_slice(),
+            Bank::B => self.b.as_slice(),
+        }
+    }
+
+    pub fn set(&mut self, bank: Bank, bytes: Vec<u8>) {
+        match bank {
+            Bank::A => self.a = bytes,
+            Bank::B => self.b = bytes,
+        }
+    }
+
+    fn fails(&mut self) -> Fault {
+        self.faults = self.faults.saturating_add(1);
+        Fault
+    }
+}
+
+/// Writes bytes at a place that isn't behind the end.
+fn write(bank: &mut Vec<u8>, place: usize, bytes: &[u8]) -> Result<(), Fault> {
+    let mut at = place;
+    for byte in bytes {
+        match bank.get_mut(at) {
+            Some(held) => *held = *byte,
+            None => bank.push(*byte).map_err(|_| Fault)?,
+        }
+        at = at.saturating_add(1);
+    }
+    Ok(())
+}
+
+impl Disk for Banks {
+    ghost meaning = { silent (λ disk. disk.faults) };
+
+    ghost reads_as = { λ disk tells. absurd tells };
+
+    ghost counts_now = { λ disk tells. absurd tells };
+
+    ghost only_now = { λ disk tells. absurd tells };
+
+    fn size(&mut self, bank: Bank) -> Result<u64, Fault> {
+        Ok(self.bytes(bank).len() as u64)
+    }
+
+    fn read_at(&mut self, bank: Bank, place: u64, into: &mut [u8]) -> Result<(), Fault> {
+        let held = self.bytes(bank);
+        let place = place as usize;
+        if held.len() < place || held.len() - place < into.len() {
+            return Err(self.fails());
+        }
+        let len = into.len();
+        into.copy_from_slice(&held[place..place + len]);
+        Ok(())
+    }
+
+    fn write_at(&mut self, bank: Bank, place: u64, bytes: &[u8]) -> Result<(), Fault> {
+        let held = match bank {
+            Bank::A => &mut self.a,
+            Bank::B => &mut self.b,
+        };
+        if write(held, place as usize, bytes).is_err() {
+            return Err(self.fails());
+        }
+        Ok(())
+    }
+
+    fn sync(&mut self, _: Bank) -> Result<(), Fault> {
+        Ok(())
+    }
+}

@@ -1,0 +1,219 @@
+//! The rows of the table.
+use crate::disk::Banks;
+use crate::record::{decider_of, record_of};
+use crate::shown::{bytes_text, includes_text, record_text};
+use anyhow::{Result, anyhow};
+use c_scanner::includes;
+use deciders::{changed, decode, encode};
+use scons_base::PathText;
+use sign_store::{PrepareRefusal, Store, StoreRefusal, Ticket, recorded};
+use std::alloc::Global;
+use world_api::Bank;
+
+/// The banks, the store that was begun over them, and the ticket that is out.
+#[derive(Drop)]
+pub struct Rows {
+    banks: Banks,
+    store: Option<Store>,
+    ticket: Option<Ticket>,
+}
+
+impl Rows {
+    pub fn new(alloc: Global) -> Rows {
+        Rows {
+            banks: Banks::new(alloc),
+            store: None,
+            ticket: None,
+        }
+    }
+
+    /// What a row gives, in lines of its own.
+    pub fn answer(&mut self, alloc: Global, row: &str) -> Result<String> {
+        let (verb, rest) = match row.split_once(' ') {
+            Some(parts) => parts,
+            None => (row, ""),
+        };
+        match verb {
+            "" | "#" => Ok(String::new(alloc)),
+            "includes" => includes_row(alloc, rest),
+            "encode" => encode_row(alloc, rest),
+            "decode" => decode_row(alloc, rest),
+            "changed" => changed_row(alloc, rest),
+            "recorded" => self.recorded_row(alloc, rest),
+            "A" => self.bank_row(alloc, Bank::A, rest),
+            "B" => self.bank_row(alloc, Bank::B, rest),
+            "banks" => self.banks_text(alloc),
+            _ => self.store_row(alloc, verb, rest),
+        }
+    }
+
+    fn store_row(&mut self, alloc: Global, verb: &str, rest: &str) -> Result<String> {
+        match verb {
+            "read" => self.read_row(alloc, rest),
+            "begin" => self.begin_row(alloc),
+            "get" => self.get_row(alloc, rest),
+            "prepare" => self.prepare_row(alloc, rest),
+            "withdraw" => self.withdraw_row(alloc),
+            "put" => self.put_row(alloc),
+            "give_up" => self.give_up_row(alloc),
+            _ => Err(anyhow!("no row begins with {verb}")),
+        }
+    }
+
+    fn bank_row(&mut self, alloc: Global, bank: Bank, text: &str) -> Result<String> {
+        self.banks.set(bank, hex::decode(alloc, text)?);
+        Ok(String::new(alloc))
+    }
+
+    fn banks_text(&self, alloc: Global) -> Result<String> {
+        let a = hex::encode(alloc, self.banks.bytes(Bank::A))?;
+        let b = hex::encode(alloc, self.banks.bytes(Bank::B))?;
+        Ok(format!(in alloc; "A {a}\nB {b}\n")?)
+    }
+
+    fn recorded_row(&self, alloc: Global, path: &str) -> Result<String> {
+        let path = PathText::read(alloc, path)?;
+        let (a, b) = (self.banks.bytes(Bank::A), self.banks.bytes(Bank::B));
+        let found = recorded(alloc, a, b, &path).map_err(|_| anyhow!("memory ran out"))?;
+        Ok(format!(in alloc; "{found}\n")?)
+    }
+
+    fn read_row(&mut self, alloc: Global, path: &str) -> Result<String> {
+        let path = PathText::read(alloc, path)?;
+        match Store::read(alloc, &mut self.banks) {
+            Ok(view) => match view.get(&path) {
+                Some(rec) => record_text(alloc, rec),
+                None => Ok(String::from_str(alloc, "none\n")?),
+            },
+            Err(refusal) => refusal_text(alloc, refusal),
+        }
+    }
+
+    fn begin_row(&mut self, alloc: Global) -> Result<String> {
+        self.ticket = None;
+        match Store::begin(alloc, &mut self.banks) {
+            Ok(store) => {
+                self.store = Some(store);
+                self.banks_text(alloc)
+            }
+            Err(refusal) => {
+                self.store = None;
+                refusal_text(alloc, refusal)
+            }
+        }
+    }
+
+    fn get_row(&self, alloc: Global, path: &str) -> Result<String> {
+        let path = PathText::read(alloc, path)?;
+        match &self.store {
+            Some(store) => match store.get(&path) {
+                Some(rec) => record_text(alloc, rec),
+                None => Ok(String::from_str(alloc, "none\n")?),
+            },
+            None => Err(anyhow!("no store was begun")),
+        }
+    }
+
+    fn prepare_row(&mut self, alloc: Global, text: &str) -> Result<String> {
+        let rec = record_of(alloc, text)?;
+        let Some(store) = &mut self.store else {
+            return Err(anyhow!("no store was begun"));
+        };
+        match store.prepare(rec) {
+            Ok(ticket) => {
+                self.ticket = Some(ticket);
+                Ok(String::new(alloc))
+            }
+            Err(PrepareRefusal::Full(len)) => Ok(format!(in alloc; "full {len}\n")?),
+            Err(PrepareRefusal::Memory) => Err(anyhow!("memory ran out")),
+        }
+    }
+
+    fn withdraw_row(&mut self, alloc: Global) -> Result<String> {
+        match (&mut self.store, &self.ticket) {
+            (Some(store), Some(ticket)) => {
+                if store.withdraw(&mut self.banks, ticket).is_err() {
+                    return Ok(String::from_str(alloc, "fault\n")?);
+                }
+                self.banks_text(alloc)
+            }
+            _ => Err(anyhow!("no ticket is out")),
+        }
+    }
+
+    fn put_row(&mut self, alloc: Global) -> Result<String> {
+        match (&mut self.store, self.ticket.take()) {
+            (Some(store), Some(ticket)) => {
+                if store.put(&mut self.banks, ticket).is_err() {
+                    return Ok(String::from_str(alloc, "fault\n")?);
+                }
+                self.banks_text(alloc)
+            }
+            _ => Err(anyhow!("no ticket is out")),
+        }
+    }
+
+    fn give_up_row(&mut self, alloc: Global) -> Result<String> {
+        match (&mut self.store, self.ticket.take()) {
+            (Some(store), Some(ticket)) => {
+                store.give_up(ticket);
+                self.banks_text(alloc)
+            }
+            _ => Err(anyhow!("no ticket is out")),
+        }
+    }
+}
+
+fn refusal_text(alloc: Global, refusal: StoreRefusal) -> Result<String> {
+    match refusal {
+        StoreRefusal::Fault => Ok(String::from_str(alloc, "fault\n")?),
+        StoreRefusal::Foreign(Bank::A) => Ok(String::from_str(alloc, "foreign A\n")?),
+        StoreRefusal::Foreign(Bank::B) => Ok(String::from_str(alloc, "foreign B\n")?),
+        StoreRefusal::Large(size) => Ok(format!(in alloc; "large {size}\n")?),
+        StoreRefusal::Memory => Err(anyhow!("memory ran out")),
+    }
+}
+
+/// In a file `\n` stands for a line feed, `\r` and `\t` for those bytes.
+fn includes_row(alloc: Global, text: &str) -> Result<String> {
+    let text = text.replace(alloc, "\\n", "\n")?;
+    let text = text.as_str().replace(alloc, "\\r", "\r")?;
+    let text = text.as_str().replace(alloc, "\\t", "\t")?;
+    let found = includes(alloc, text.as_bytes()).map_err(|_| anyhow!("memory ran out"))?;
+    includes_text(alloc, found.as_slice())
+}
+
+fn encode_row(alloc: Global, text: &str) -> Result<String> {
+    let rec = record_of(alloc, text)?;
+    let bytes = encode(alloc, &rec).map_err(|_| anyhow!("memory ran out"))?;
+    bytes_text(alloc, bytes.as_slice())
+}
+
+fn decode_row(alloc: Global, text: &str) -> Result<String> {
+    let bytes = hex::decode(alloc, text)?;
+    match decode(alloc, bytes.as_slice()).map_err(|_| anyhow!("memory ran out"))? {
+        Some(rec) => record_text(alloc, &rec),
+        None => Ok(String::from_str(alloc, "none\n")?),
+    }
+}
+
+/// `DECIDER STAMP RECORD => RECORD`: the stamp of the first target is `-` where it is no file.
+fn changed_row(alloc: Global, text: &str) -> Result<String> {
+    let Some((decider, rest)) = text.split_once(' ') else {
+        return Err(anyhow!("no decider stands in {text}"));
+    };
+    let Some((stamp, rest)) = rest.split_once(' ') else {
+        return Err(anyhow!("no stamp stands in {text}"));
+    };
+    let Some((old, now)) = rest.split_once(" => ") else {
+        return Err(anyhow!("no second record stands in {text}"));
+    };
+    let target = match stamp {
+        "-" => None,
+        stamp => Some(stamp.parse::<u64>()?),
+    };
+    let old = record_of(alloc, old)?;
+    let now = record_of(alloc, now)?;
+    let answer = changed(decider_of(decider)?, &old, &now, target);
+    Ok(format!(in alloc; "{answer}\n")?)
+}

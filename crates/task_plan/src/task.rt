@@ -1,0 +1,97 @@
+//! What the plan keeps of a rule.
+
+use crate::reach::{Growth, Reach};
+use indexmap::IndexSet;
+use scons_base::{Memory, NodeId};
+use std::alloc::Global;
+
+/// How far a rule is.
+#[derive(Clone, Copy, Debug, PartialEq, Eq)]
+pub(crate) enum State {
+    /// No requested node needs it, as far as files were scanned.
+    Unneeded,
+    Waiting,
+    Running,
+    Settled,
+    Failed,
+    /// A dependency of it has no rule and is no file.
+    Lacking,
+}
+
+#[derive(Drop)]
+pub(crate) struct Task {
+    pub(crate) state: State,
+    pub(crate) targets: Vec<NodeId>,
+    /// What has to be settled before it, and is no dependency.
+    pub(crate) required: Vec<NodeId>,
+    /// The dependencies, in order, by the files scanned so far.
+    pub(crate) deps: IndexSet<NodeId>,
+    /// How many of the dependencies the rule itself names.
+    pub(crate) named: usize,
+    pub(crate) reach: Reach,
+    /// How many of the required files and the dependencies have a rule that isn't settled.
+    pub(crate) unsettled: usize,
+    /// Its place in the depth-first order.
+    pub(crate) number: usize,
+}
+
+/// The number of a rule that has no place yet.
+pub(crate) const UNNUMBERED: usize = usize::MAX;
+
+impl Task {
+    pub(crate) fn new(alloc: Global) -> Task {
+        Task {
+            state: State::Unneeded,
+            targets: Vec::new(alloc),
+            required: Vec::new(alloc),
+            deps: IndexSet::new(alloc),
+            named: 0,
+            reach: Reach::new(alloc),
+            unsettled: 0,
+            number: UNNUMBERED,
+        }
+    }
+
+    /// Whether nothing stands before the question if the rule is stale.
+    pub(crate) fn is_decidable(&self) -> bool {
+        self.state == State::Waiting && self.unsettled == 0 && self.reach.is_scanned()
+    }
+
+    /// How many files it needs, the required ones first.
+    pub(crate) fn needs(&self) -> usize {
+        self.required.len().saturating_add(self.deps.len())
+    }
+
+    /// The needed file at this place.
+    pub(crate) fn need(&self, place: usize) -> Option<NodeId> {
+        match place.checked_sub(self.required.len()) {
+            Some(place) => self.deps.get_index(place).copied(),
+            None => self.required.get(place).copied(),
+        }
+    }
+
+    /// Takes over what a scan changed.
+    pub(crate) fn grow(&mut self, growth: &Growth) -> Result<(), Memory> {
+        if growth.in_order {
+            add_all(&mut self.deps, growth.new.as_slice())
+        } else {
+            self.deps.truncate(self.named);
+            add_all(&mut self.deps, self.reach.files.as_slice())
+        }
+    }
+
+    /// Whether this dependency came by a scan alone.
+    pub(crate) fn is_found(&self, node: NodeId) -> bool {
+        match self.deps.get_index_of(&node) {
+            Some(place) => place >= self.named,
+            None => false,
+        }
+    }
+}
+
+fn add_all(deps: &mut IndexSet<NodeId>, nodes: &[NodeId]) -> Result<(), Memory> {
+    for node in nodes {
+        let _ = deps.insert(*node)?;
+    }
+    Ok(())
+}

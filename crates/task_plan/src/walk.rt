@@ -1,0 +1,27 @@
+//! The steps of a walk over rules and what they need.
+
+use crate::files::Files;
+use crate::task::Task;
+use scons_base::{Memory, RuleId};
+
+/// A step of a walk.
+#[derive(Clone, Copy, Debug)]
+pub(crate) enum Step {
+    Enter(RuleId),
+    Leave(RuleId),
+}
+
+/// Puts the rules that a rule needs on the steps, the first on top.
+pub(crate) fn enter_needs(task: &Task, files: &Files, steps: &mut Vec<Step>) -> Result<(), Memory> {
+    for place in (0..task.needs()).rev() {
+        if let Some(rule) = rule_needed(task, files, place) {
+            steps.push(Step::Enter(rule))?;
+        }
+    }
+    Ok(())
+}
+
+/// The rule of the file that a rule needs at this place.
+fn rule_needed(task: &Task, files: &Files, place: usize) -> Option<RuleId> {
+    files.rule_of(task.need(place)?)
+}

@@ -1,0 +1,41 @@
+-- A slot whose file was taken away, and every other.
+use Rattle.std.proofs.Common.{◌≡◌, sym, refl, subst, cond, ℕ, List, Bool, true, false, Option, Some, None}
+use Rattle.std.specs.Str.{bytes_eq}
+use Rattle.world_mem.specs.InSlots.{content_of, file_of, mark_of, emptied, taken}
+use Rattle.world_mem.specs.declared.slots.File.{File}
+use Rattle.world_mem.specs.declared.slots.Slot.{Slot}
+use Rattle.world_mem.specs.declared.slots.Slot.TheVariants.{Running, Settled}
+
+mark_by : (b : Bool) (old : Option Slot) → mark_of (cond b (emptied old) old) ≡ mark_of old
+mark_by false old = refl
+mark_by true None = refl
+mark_by true (Some (Running id)) = refl
+mark_by true (Some (Settled file)) = refl
+
+pub taken-mark : (at path : List ℕ) (old : Option Slot) → mark_of (taken at path old) ≡ mark_of old
+taken-mark at path old = mark_by (bytes_eq at path) old
+
+file_by : (b : Bool) (old : Option Slot) (file : File) → file_of (cond b (emptied old) old) ≡ Some file → file_of old ≡ Some file
+file_by false old file h = h
+file_by true None file h = h
+file_by true (Some (Running id)) file h = h
+file_by true (Some (Settled was)) file h = absurd (let e : None ≡ Some file = h in cc e)
+
+pub taken-file : (at path : List ℕ) (old : Option Slot) (file : File) → file_of (taken at path old) ≡ Some file → file_of old ≡ Some file
+taken-file at path old file h = file_by (bytes_eq at path) old file h
+
+content_by : (b : Bool) (old : Option Slot) (bytes : List ℕ) → content_of (cond b (emptied old) old) ≡ Some bytes → content_of old ≡ Some bytes
+content_by false old bytes h = h
+content_by true None bytes h = h
+content_by true (Some (Running id)) bytes h = h
+content_by true (Some (Settled was)) bytes h = absurd (let e : None ≡ Some bytes = h in cc e)
+
+pub taken-content : (at path : List ℕ) (old : Option Slot) (bytes : List ℕ) → content_of (taken at path old) ≡ Some bytes → content_of old ≡ Some bytes
+taken-content at path old bytes h = content_by (bytes_eq at path) old bytes h
+
+running_by : (b : Bool) (id : ℕ) → cond b (emptied (Some (Running id))) (Some (Running id)) ≡ Some (Running id)
+running_by true id = refl
+running_by false id = refl
+
+pub taken-running : (at path : List ℕ) (old : Option Slot) (id : ℕ) → old ≡ Some (Running id) → taken at path old ≡ Some (Running id)
+taken-running at path old id is = subst (λ (o : Option Slot). taken at path o ≡ Some (Running id)) (sym is) (running_by (bytes_eq at path) id)

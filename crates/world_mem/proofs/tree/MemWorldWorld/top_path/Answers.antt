@@ -1,0 +1,9 @@
+use Rattle.std.proofs.Common.{refl}
+use Rattle.world_mem.proofs.Passing.{idle_recalls, idle_tree}
+use Rattle.world_mem.proofs.tree.MemWorldWorld.top_path.Goals as goal
+
+pub returns-then-ne-clause-recalls : goal.returns-then-ne-clause-recalls
+returns-then-ne-clause-recalls c = idle_recalls _ _ (record { turns = refl; horizon = refl; machine = refl })
+
+pub returns-then-ne-clause-time : goal.returns-then-ne-clause-time
+returns-then-ne-clause-time c = idle_tree _ _ (record { turns = refl; horizon = refl; machine = refl })

@@ -1,0 +1,5 @@
+use Rattle.world_mem.proofs.Unmade.{unmade_of}
+use Rattle.world_mem.proofs.world.MemWorld.go_on.Goals as goal
+
+pub invariant_of-self-clause-unmade : goal.invariant_of-self-clause-unmade
+invariant_of-self-clause-unmade c = unmade_of c.leave.new.self

@@ -1,0 +1,107 @@
+//! Which directories stand.
+ghost use Rattle.std.specs.Prelude.{◌≡◌, ◌⊎◌, ◌||◌, ◌↔◌, ◌<◌, List, ℕ, false, IsSome, IfOk, OnOk, Contains, length};
+ghost use Rattle.std.specs.List.{slice_index_or};
+ghost use Rattle.world_mem.specs.Blocked.{LiesBelow};
+ghost use Rattle.world_mem.specs.InSlots.{slot_at};
+ghost use Rattle.world_mem.specs.Standing.{is_dir, is_in, is_always};
+ghost use Rattle.world_mem.specs.declared.slots.Slot.{Slot};
+
+use crate::slots::{Slot, Slots};
+use scons_base::{Memory, PathText, Paths};
+use std::alloc::Global;
+use std::str;
+
+/// The directories, as targets of the job 0. The top directory and the root stand always. A place that was made and not
+/// raised is none.
+#[derive(Drop)]
+pub struct Dirs {
+    slots: Slots,
+}
+
+impl Dirs {
+    pub fn new(alloc: Global) -> Dirs
+        ensures { (dir : List ℕ) → is_dir result dir ≡ is_always dir }
+    {
+        Dirs {
+            slots: Slots::new(alloc),
+        }
+    }
+
+    pub fn stands(&self, path: &[u8]) -> bool
+        ensures { result ≡ is_dir self.now path.now }
+    {
+        is_always(path) || self.slots.stands(path)
+    }
+
+    /// Adds those above a path that don't stand.
+    pub fn missing_above(
+        &self,
+        alloc: Global,
+        path: &PathText,
+        fresh: &mut Paths,
+    ) -> Result<(), Memory>
+        ensures { OnOk result ((dir : List ℕ) → Contains fresh.new dir ↔ (Contains fresh.old dir ⊎ (LiesBelow path.now dir × (is_dir self.now dir ≡ false)))) }
+    {
+        let bytes = path.as_str().as_bytes();
+        for (place, byte) in bytes.iter().enumerate() {
+            if *byte == b'/' {
+                self.note(alloc, &bytes[..place], fresh)?;
+            }
+        }
+        Ok(())
+    }
+
+    /// Adds a path and those above it that don't stand.
+    pub fn missing(&self, alloc: Global, path: &PathText, fresh: &mut Paths) -> Result<(), Memory>
+        ensures { OnOk result ((dir : List ℕ) → Contains fresh.new dir ↔ (Contains fresh.old dir ⊎ (((path.now ≡ dir) ⊎ LiesBelow path.now dir) × (is_dir self.now dir ≡ false)))) }
+    {
+        self.missing_above(alloc, path, fresh)?;
+        self.note(alloc, path.as_str().as_bytes(), fresh)
+    }
+
+    /// Adds a directory that doesn't stand.
+    fn note(&self, alloc: Global, dir: &[u8], fresh: &mut Paths) -> Result<(), Memory>
+        ensures { OnOk result ((other : List ℕ) → Contains fresh.new other ↔ (Contains fresh.old other ⊎ ((dir.now ≡ other) × (is_dir self.now other ≡ false)))) }
+    {
+        if self.stands(dir) {
+            return Ok(());
+        }
+        fresh.push(path_of(alloc, dir)?)
+    }
+
+    /// Makes a place for each of these.
+    pub fn make_places(&mut self, alloc: Global, fresh: &Paths) -> Result<(), Memory>
+        ensures same { (dir : List ℕ) → is_dir self.new dir ≡ is_dir self.old dir }
+        ensures places { OnOk result ((k : ℕ) (d : List ℕ) → k < length fresh.now → IsSome (slot_at self.new.slots (slice_index_or fresh.now k d))) }
+    {
+        self.slots.make_places(alloc, fresh)
+    }
+
+    /// Lets these stand, which have their places.
+    pub fn raise(&mut self, fresh: &Paths)
+        requires { (k : ℕ) (d : List ℕ) → k < length fresh.now → IsSome (slot_at self.old.slots (slice_index_or fresh.now k d)) }
+        ensures { (dir : List ℕ) → is_dir self.new dir ≡ (is_in fresh.now dir || is_dir self.old dir) }
+    {
+        self.slots.mark(fresh, 0);
+    }
+}
+
+/// The top directory, the root, and the empty text in front of it.
+fn is_always(path: &[u8]) -> bool
+    ensures { result ≡ is_always path.now }
+{
+    matches!(path, b"." | b"/" | b"")
+}
+
+/// The path of these bytes, which are a part of one.
+fn path_of(alloc: Global, bytes: &[u8]) -> Result<PathText, Memory>
+    ensures { IfOk result (λ path. path ≡ bytes.now) }
+{
+    match str::from_utf8(bytes) {
+        Ok(text) => match PathText::read(alloc, text) {
+            Ok(path) => Ok(path),
+            Err(_) => Err(Memory),
+        },
+        Err(_) => Err(Memory),
+    }
+}

@@ -1,0 +1,108 @@
+//! The world in memory as a disk.
+ghost use Rattle.std.specs.Prelude.{◌≡◌, ◌+◌, ◌<◌, ◌≤◌, ◌++◌, ◌∷◌, [], IsTrue, ◌↔◌, length};
+
+use crate::calls::{Call, Verdict};
+use crate::past::Turn;
+use crate::world::{MemWorld, push};
+use mem_banks::{BANK_ROOM, WRITTEN_ROOM};
+use world_api::{Bank, Disk, Fault};
+
+impl Disk for MemWorld {
+    ghost use Rattle.world_mem.specs.Means.{world_meaning};
+    ghost use Rattle.world_mem.specs.Laws.{reads_as_of, counts_now_of, only_now_of};
+
+    ghost meaning = { world_meaning };
+
+    ghost reads_as = { λ w told. reads_as_of w };
+
+    ghost counts_now = { λ w told time banks at image. counts_now_of w time banks image };
+
+    ghost only_now = { λ w told around banks left. only_now_of w around banks left };
+
+    fn size(&mut self, bank: Bank) -> Result<u64, Fault> {
+        if self.calls.next(Call::Size) != Verdict::Goes {
+            self.faults.disk = self.faults.disk.saturating_add(1);
+            return Err(Fault);
+        }
+        Ok(self.banks.bytes(bank).len() as u64)
+    }
+
+    fn read_at(&mut self, bank: Bank, place: u64, into: &mut [u8]) -> Result<(), Fault> {
+        if self.calls.next(Call::ReadAt) != Verdict::Goes {
+            self.faults.disk = self.faults.disk.saturating_add(1);
+            return Err(Fault);
+        }
+        let place = place as usize;
+        let end = place + into.len();
+        into.copy_from_slice(&self.banks.bytes(bank)[place..end]);
+        Ok(())
+    }
+
+    /// Writes all bytes. Where the call is listed as one that fails it writes the first half of them.
+    fn write_at(&mut self, bank: Bank, place: u64, bytes: &[u8]) -> Result<(), Fault> {
+        let verdict = self.calls.next(Call::WriteAt);
+        if verdict == Verdict::Goes && bytes.is_empty() {
+            return Ok(());
+        }
+        let fits = self.has_room(place, bytes.len());
+        let room = fits && !bytes.is_empty();
+        if verdict == Verdict::Spent || !room {
+            self.faults.disk = self.faults.disk.saturating_add(1);
+            return Err(Fault);
+        }
+        if verdict == Verdict::Listed {
+            let half = bytes.len() / 2;
+            self.faults.disk = self.faults.disk.saturating_add(1);
+            self.put(bank, place as usize, &bytes[..half], bytes.len());
+            return Err(Fault);
+        }
+        self.put(bank, place as usize, bytes, bytes.len());
+        Ok(())
+    }
+
+    fn sync(&mut self, bank: Bank) -> Result<(), Fault> {
+        let goes = self.calls.next(Call::Sync) == Verdict::Goes;
+        let full = self.is_full();
+        if !goes || full {
+            self.faults.disk = self.faults.disk.saturating_add(1);
+            return Err(Fault);
+        }
+        self.banks.sync(bank);
+        push(&mut self.turns, Turn::Disk);
+        Ok(())
+    }
+}
+
+impl MemWorld {
+    ghost use Rattle.std.specs.Prelude.{false};
+    ghost use Rattle.mem_banks.specs.AsStore.{store_of};
+    ghost use Rattle.mem_banks.specs.Past.{bytes_in, wrote};
+    ghost use Rattle.world_mem.specs.Room.{HasRoom};
+
+    /// Whether a bank and the record have room for a write.
+    fn has_room(&self, place: u64, count: usize) -> bool
+        ensures { IsTrue result ↔ HasRoom self.now place count }
+    {
+        !self.is_full()
+            && place <= BANK_ROOM as u64
+            && count <= BANK_ROOM - place as usize
+            && count <= WRITTEN_ROOM - self.banks.written()
+    }
+
+    /// Writes, and records it.
+    fn put(&mut self, bank: Bank, place: usize, bytes: &[u8], count: usize)
+        requires within { place ≤ length (bytes_in (store_of self.old.banks) bank) }
+        requires count { length bytes.now ≤ count }
+        requires room { HasRoom self.old place count }
+        ensures banks { store_of self.new.banks ≡ wrote bank place bytes.now count (store_of self.old.banks) }
+        ensures turns { self.new.turns.items ≡ self.old.turns.items ++ Turn.Disk ∷ [] }
+        ensures state { self.new.state ≡ self.old.state }
+        ensures horizon { self.new.horizon ≡ self.old.horizon }
+        ensures calls { self.new.calls ≡ self.old.calls }
+        ensures faults { self.new.faults ≡ self.old.faults }
+        ensures orders { self.new.orders ≡ self.old.orders }
+    {
+        self.banks.write(bank, place, bytes, count);
+        push(&mut self.turns, Turn::Disk);
+    }
+}

@@ -1,0 +1,195 @@
+//! The world in memory as a world.
+ghost use Rattle.std.specs.Prelude.{◌≡◌, ◌≢◌, ◌%◌, ◌<◌, ◌≤◌, ℕ, Some, Err, length, slice_index, IfOk, IfErr, IfSome};
+ghost use Rattle.std.specs.Option.{option_copied};
+ghost use Rattle.world_api.specs.Reads.{IsOver};
+ghost use Rattle.world_mem.specs.Ending.{cut_of};
+
+use crate::calls::{Call, Verdict};
+use crate::past::Turn;
+use crate::room::widen;
+use crate::world::{MemWorld, push};
+use mem_banks::CALL_ROOM;
+use scons_base::{Blob, PathText, Paths};
+use world_api::{AskRefusal, Content, Ended, Fault, Job, Kind, Outcome, ReadRefusal, World};
+
+/// The place of the job that ends: the order of this number, modulo the number of jobs; past the orders the oldest.
+fn place_of(orders: &[u32], number: u64, jobs: usize) -> usize
+    requires { 0 < jobs }
+    ensures value { result ≡ slice_index orders.now number % jobs }
+    ensures within { result < jobs }
+{
+    match orders.get(number as usize) {
+        Some(order) => *order as usize % jobs,
+        None => 0,
+    }
+}
+
+/// The content of a file, unless it is over the limit.
+fn within(content: Option<&Blob>, limit: u64) -> Result<Content, ReadRefusal>
+    ensures content { IfOk result (λ read. read ≡ option_copied content.entry) }
+    ensures within { IfOk result (λ read. IfSome read (λ bytes. length bytes ≤ limit)) }
+    ensures large { IfErr result (IsOver (option_copied content.entry)) }
+    ensures over { IfErr result (λ refusal. (size : ℕ) → refusal ≡ ReadRefusal.TooLarge size → limit < size) }
+    ensures no_fault { result ≢ Err ReadRefusal.Fault }
+{
+    match content {
+        Some(bytes) => {
+            let size = bytes.as_slice().len() as u64;
+            if size > limit {
+                return Err(ReadRefusal::TooLarge(size));
+            }
+            Ok(Some(bytes.copy()?))
+        }
+        None => Ok(None),
+    }
+}
+
+/// How a job that ends is cut.
+fn cut_of(verdict: Verdict) -> Option<Outcome>
+    ensures { result ≡ cut_of verdict }
+{
+    match verdict {
+        Verdict::Goes => None,
+        Verdict::Listed => Some(Outcome::Failed(1)),
+        Verdict::Spent => Some(Outcome::Broken),
+    }
+}
+
+impl World for MemWorld {
+    ghost use Rattle.world_mem.specs.Held.{held_of};
+    ghost use Rattle.world_mem.specs.Laws.{none_closed};
+
+    ghost held = { λ w told path bytes is off. held_of w.state path bytes is };
+
+    ghost shut = { λ w told path closed. none_closed path closed };
+
+    fn top_path(&mut self) -> Result<PathText, AskRefusal> {
+        if self.calls.next(Call::TopPath) != Verdict::Goes {
+            self.faults.tree = self.faults.tree.saturating_add(1);
+            return Err(AskRefusal::Fault);
+        }
+        match PathText::read(self.alloc, "/top") {
+            Ok(top) => Ok(top),
+            Err(_) => Err(AskRefusal::Memory),
+        }
+    }
+
+    fn kind(&mut self, path: &PathText) -> Result<Kind, Fault> {
+        if self.calls.next(Call::Kind) != Verdict::Goes {
+            self.faults.tree = self.faults.tree.saturating_add(1);
+            return Err(Fault);
+        }
+        Ok(self.state.kind(path))
+    }
+
+    fn read_file(&mut self, path: &PathText, limit: u64) -> Result<Content, ReadRefusal> {
+        if self.calls.next(Call::ReadFile) != Verdict::Goes {
+            self.faults.tree = self.faults.tree.saturating_add(1);
+            return Err(ReadRefusal::Fault);
+        }
+        within(self.state.content(path), limit)
+    }
+
+    fn list(&mut self, dir: &PathText) -> Result<Paths, AskRefusal> {
+        if self.calls.next(Call::List) != Verdict::Goes {
+            self.faults.tree = self.faults.tree.saturating_add(1);
+            return Err(AskRefusal::Fault);
+        }
+        Ok(self.state.list(self.alloc, dir)?)
+    }
+
+    fn stamp(&mut self, path: &PathText) -> Result<Option<u64>, Fault> {
+        if self.calls.next(Call::Stamp) != Verdict::Goes {
+            self.faults.tree = self.faults.tree.saturating_add(1);
+            return Err(Fault);
+        }
+        Ok(self.state.stamp(path))
+    }
+
+    fn make_dir(&mut self, path: &PathText) -> Result<(), AskRefusal> {
+        let goes = self.calls.next(Call::MakeDir) == Verdict::Goes;
+        let taken = self.state.is_taken(path);
+        if !goes || taken {
+            self.faults.tree = self.faults.tree.saturating_add(1);
+            return Err(AskRefusal::Fault);
+        }
+        let owed = self.state.running() + (CALL_ROOM - self.recorded());
+        widen(&mut self.turns, owed + 1)?;
+        self.state.make_dir(self.alloc, path)?;
+        push(&mut self.turns, Turn::Tree);
+        Ok(())
+    }
+
+    /// Removes a file. Where the call is listed as one that fails, with an odd number, the file is gone nevertheless.
+    fn remove(&mut self, path: &PathText) -> Result<(), Fault> {
+        let odd = self.calls.count(Call::Remove) % 2 == 1;
+        let verdict = self.calls.next(Call::Remove);
+        let full = self.is_full();
+        if full || verdict == Verdict::Spent || (verdict == Verdict::Listed && !odd) {
+            self.faults.tree = self.faults.tree.saturating_add(1);
+            return Err(Fault);
+        }
+        self.take(path);
+        if verdict == Verdict::Listed {
+            self.faults.tree = self.faults.tree.saturating_add(1);
+            return Err(Fault);
+        }
+        Ok(())
+    }
+
+    fn start(&mut self, job: Job) -> Result<(), AskRefusal> {
+        let goes = self.calls.next(Call::Start) == Verdict::Goes;
+        if !goes || self.state.is_blocked(self.alloc, &job.targets)? {
+            self.faults.start = self.faults.start.saturating_add(1);
+            return Err(AskRefusal::Fault);
+        }
+        let owed = self.state.running() + (CALL_ROOM - self.recorded());
+        widen(&mut self.turns, owed + 2)?;
+        self.state.start(self.alloc, job, self.faults)?;
+        push(&mut self.turns, Turn::Tree);
+        Ok(())
+    }
+
+    fn wait(&mut self) -> Ended {
+        let place = place_of(
+            &self.orders,
+            self.calls.count(Call::Wait),
+            self.state.running(),
+        );
+        let cut = cut_of(self.calls.next(Call::Wait));
+        let ended = self.state.end(place, cut);
+        push(&mut self.turns, Turn::Tree);
+        self.faults = self.faults.after(ended.outcome);
+        ended
+    }
+}
+
+impl MemWorld {
+    ghost use Rattle.world_api.specs.Around.{IsUnused};
+    ghost use Rattle.world_api.specs.Calls.{Removes};
+    ghost use Rattle.world_api.specs.Meaning.{Recalls, Throughout, Meanwhile};
+    ghost use Rattle.world_mem.specs.AsAround.{around_of};
+    ghost use Rattle.world_mem.specs.Means.{world_meaning};
+    ghost use Rattle.world_mem.specs.Room.{recorded};
+    ghost use Rattle.std.specs.Prelude.{None};
+
+    /// Removes a file, and records it where one stood there.
+    fn take(&mut self, path: &PathText)
+        requires unused { IsUnused (around_of self.old.state).running path.now }
+        requires room { recorded self.old < 262144 }
+        ensures removed { Removes path.now (around_of self.old.state) (around_of self.new.state) }
+        ensures gone { (around_of self.new.state).tree path.now ≡ None }
+        ensures recalls { Recalls world_meaning self.old self.new }
+        ensures time { Throughout world_meaning self.old self.new (Meanwhile world_meaning self.old self.new) }
+        ensures banks { self.new.banks ≡ self.old.banks }
+        ensures faults { self.new.faults ≡ self.old.faults }
+        ensures calls { self.new.calls ≡ self.old.calls }
+        ensures orders { self.new.orders ≡ self.old.orders }
+        ensures table { self.new.state.table ≡ self.old.state.table }
+    {
+        if !self.state.remove(path) {
+            return;
+        }
+        push(&mut self.turns, Turn::Tree);
+    }
+}
