@@ -12,7 +12,7 @@ use scons_calls::variable_value;
 use scons_decls::{Answer, Call, declare};
 
 /// Declares a call, and gives the value of its answer.
-#[tactic(auto, using(crate::proofs::Looking::looking))]
+#[tactic(auto, using(crate::specs::Looking::looking))]
 pub fn declared(
     state: &mut State,
     heap: &mut Heap,
@@ -40,7 +40,7 @@ pub fn variable(
 }
 
 /// The value of a variable, or another value where there is none.
-#[tactic(auto, using(crate::proofs::Looking::looking))]
+#[tactic(auto, using(crate::specs::Looking::looking))]
 pub fn value_or(
     state: &mut State,
     heap: &mut Heap,
