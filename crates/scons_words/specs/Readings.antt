@@ -1,7 +1,6 @@
 -- What the words of a command line say: they are read from left to right, and the first that is refused ends the reading.
-use Rattle.std.specs.Prelude.{◌≡◌, ℕ, ◌+◌, ◌-◌, Bool, true, false, ◌&&◌, ◌||◌, ◌==◌, List, [], ◌∷◌, ◌++◌, Option, Some, None, Result, Ok, Err, is_some, length, take, drop, codes, if◌then◌else◌}
-use Rattle.std.specs.List.{before_first, after_first, list_any, starts_with}
-use Rattle.std.specs.Str.{bytes_eq}
+use Rattle.std.specs.Prelude.{ℕ, ◌+◌, ◌-◌, Bool, true, false, ◌&&◌, ◌||◌, ◌==◌, List, [], ◌∷◌, ◌++◌, Option, Some, None, Result, Ok, Err, is_some, length, drop, codes, nat_lt, if◌then◌else◌}
+use Rattle.std.specs.List.{before_first, after_first, position_or_len, starts_with}
 use Rattle.scons_base.specs.PathFaults.{fault_in}
 use Rattle.scons_base.specs.declared.fault.PathFault.{PathFault}
 use Rattle.scons_words.specs.declared.fault.UsageKind.{UsageKind}
@@ -65,11 +64,11 @@ abbrev pub first_switch : List ℕ → Option Switch
 first_switch [] = None
 first_switch (b ∷ bs) = short_switch b
 
-abbrev flagged : Reading → Option Switch → Reading
+abbrev pub flagged : Reading → Option Switch → Reading
 flagged r (Some (switch.Flag f)) = record r { flags = with_flag r.flags f }
 flagged r other = r
 
-abbrev behind_letter : Reading → Option Switch → List ℕ → Outcome → Outcome
+abbrev pub behind_letter : Reading → Option Switch → List ℕ → Outcome → Outcome
 behind_letter r None bs rest = Err kind.Unknown
 behind_letter r (Some (switch.Valued v)) bs rest = valued_by r v bs
 behind_letter r (Some (switch.Flag f)) bs rest = rest
@@ -81,54 +80,70 @@ behind_dash r (b ∷ bs) = behind_letter r (short_switch b) bs (behind_dash (fla
 
 -- long spellings
 
-abbrev is_equals : ℕ → Bool
+abbrev pub is_equals : ℕ → Bool
 is_equals b = b == 61
+
+-- whether an `=` stands in a text
+abbrev pub has_equals : List ℕ → Bool
+has_equals text = nat_lt (position_or_len is_equals text) (length text)
 
 abbrev pub name_of : List ℕ → List ℕ
 name_of long = before_first is_equals long
 
-abbrev plain_long : Reading → Option Switch → Outcome
+abbrev pub plain_long : Reading → Option Switch → Outcome
 plain_long r None = Err kind.Unknown
 plain_long r (Some (switch.Valued v)) = Ok (record r { waiting = Some v })
 plain_long r (Some (switch.Flag f)) = Ok (record r { flags = with_flag r.flags f })
 
-abbrev valued_long : Reading → Option Switch → List ℕ → Outcome
+abbrev pub valued_long : Reading → Option Switch → List ℕ → Outcome
 valued_long r (Some (switch.Valued v)) value = with_value r v value
 valued_long r other value = Err kind.Unknown
 
 -- a long spelling behind two dashes, with its value behind `=` or without one
 abbrev pub behind_dashes : Reading → List ℕ → Outcome
 behind_dashes r long =
-    if list_any is_equals long then valued_long r (long_switch (name_of long)) (after_first is_equals long)
+    if has_equals long then valued_long r (long_switch (name_of long)) (after_first is_equals long)
     else plain_long r (long_switch long)
 
 -- other words
 
-abbrev requested_by : Reading → List ℕ → Option PathFault → Outcome
+abbrev pub requested_by : Reading → List ℕ → Option PathFault → Outcome
 requested_by r word None = Ok (record r { requested = r.requested ++ word ∷ [] })
 requested_by r word (Some fault) = Err kind.BadTarget
 
-abbrev argument_by : Reading → List ℕ → List ℕ → Outcome
-argument_by r [] value = Err kind.BadArgument
-argument_by r (b ∷ bs) value = Ok (record r { arguments = with_argument r.arguments (b ∷ bs, value) })
+abbrev pub argument_by : Reading → List ℕ → List ℕ → Outcome
+argument_by r name value = if length name == 0 then Err kind.BadArgument else Ok (record r { arguments = with_argument r.arguments (name, value) })
 
 -- a word that is no option
 abbrev pub operand : Reading → List ℕ → Outcome
 operand r word =
-    if list_any is_equals word then argument_by r (before_first is_equals word) (after_first is_equals word)
+    if has_equals word then argument_by r (before_first is_equals word) (after_first is_equals word)
     else requested_by r word (fault_in word)
 
-abbrev after_dashes : Reading → List ℕ → Outcome
-after_dashes r [] = Ok (record r { options = false })
-after_dashes r (b ∷ bs) = behind_dashes r (b ∷ bs)
+-- what stands behind a dash, if a word begins with one
+abbrev pub undashed : List ℕ → Option (List ℕ)
+undashed [] = None
+undashed (b ∷ bs) = if b == 45 then Some bs else None
 
-abbrev after_dash : Reading → List ℕ → Outcome
-after_dash r [] = Err kind.Unknown
-after_dash r (b ∷ bs) = if b == 45 then after_dashes r bs else behind_dash r (b ∷ bs)
+-- behind two dashes
+abbrev pub after_dashes : Reading → List ℕ → Outcome
+after_dashes r long = if length long == 0 then Ok (record r { options = false }) else behind_dashes r long
 
-abbrev option_word : Reading → List ℕ → Outcome
-option_word r [] = operand r []
-option_word r (b ∷ bs) = if b == 45 then after_dash r bs else operand r (b ∷ bs)
+abbrev after_dash_by : Reading → List ℕ → Option (List ℕ) → Outcome
+after_dash_by r rest None = behind_dash r rest
+after_dash_by r rest (Some long) = after_dashes r long
+
+-- behind one dash
+abbrev pub after_dash : Reading → List ℕ → Outcome
+after_dash r rest = if length rest == 0 then Err kind.Unknown else after_dash_by r rest (undashed rest)
+
+abbrev option_by : Reading → List ℕ → Option (List ℕ) → Outcome
+option_by r word None = operand r word
+option_by r word (Some rest) = after_dash r rest
+
+-- a word that may be an option
+abbrev pub option_word : Reading → List ℕ → Outcome
+option_word r word = option_by r word (undashed word)
 
 abbrev unvalued_word : Reading → List ℕ → Outcome
 unvalued_word r word = if r.options then option_word r word else operand r word
@@ -208,14 +223,14 @@ abbrev pub ended : ℕ → Reading → Result Words WordsFault
 ended count r =
     if is_some r.waiting then Err (fault_at (mixed r) (count - 1) kind.NeedsValue) else unmixed (mixed r) r
 
-abbrev pub read_from : ℕ → Reading → List (List ℕ) → Result Words WordsFault
+abbrev pub on_read : (Reading → Result Words WordsFault) → Result Reading WordsFault → Result Words WordsFault
+on_read more (Ok r) = more r
+on_read more (Err fault) = Err fault
 
-abbrev pub read_on : ℕ → List (List ℕ) → Result Reading WordsFault → Result Words WordsFault
 -- the words from a place on
+abbrev pub read_from : ℕ → Reading → List (List ℕ) → Result Words WordsFault
 read_from place r [] = ended place r
-read_from place r (word ∷ words) = read_on place words (step place r word)
-read_on place words (Ok r) = read_from (place + 1) r words
-read_on place words (Err fault) = Err fault
+read_from place r (word ∷ words) = on_read (λ s. read_from (place + 1) s words) (step place r word)
 
 -- what all words say, or the first that is refused
 abbrev pub read : List (List ℕ) → Result Words WordsFault

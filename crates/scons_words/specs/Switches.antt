@@ -6,7 +6,6 @@ use Rattle.scons_words.specs.declared.switch.Switch.{Switch}
 use Rattle.scons_words.specs.declared.switch.Switch.TheVariants as switch
 use Rattle.scons_words.specs.declared.switch.Flag.{Flag}
 use Rattle.scons_words.specs.declared.switch.Flag.TheVariants as flag
-use Rattle.scons_words.specs.declared.switch.Valued.{Valued}
 use Rattle.scons_words.specs.declared.switch.Valued.TheVariants as valued
 use Rattle.scons_words.specs.declared.flags.Flags.{Flags}
 

@@ -1,6 +1,6 @@
 //! Numbers of a command line.
 ghost use Rattle.std.specs.Prelude.{◌≡◌};
-ghost use Rattle.scons_words.specs.Numbers.{number_up_to};
+ghost use Rattle.scons_words.specs.Numbers.{number_up_to, digits_up_to, with_digit};
 
 /// The number that decimal digits spell, without a sign or a leading zero, if it is from 1 to the limit.
 pub(crate) fn number_up_to(text: &str, limit: u32) -> Option<u32>

@@ -1,9 +1,12 @@
 //! Reading words from left to right.
-ghost use Rattle.std.specs.Prelude.{◌≡◌, ◌≢◌, Ok, Err, None, IfOk, IfErr, OnOk, IsTrue, is_some};
+ghost use Rattle.std.specs.Prelude.{◌≡◌, ◌≢◌, ◌<◌, length, true, false, Ok, Err, Some, None, IfOk, IfErr, OnOk, MatchOption, IfNone, IfSome, IsTrue, is_some};
+ghost use Rattle.std.specs.List.{before_first, after_first};
 ghost use Rattle.scons_base.specs.PathFaults.{fault_in};
 ghost use Rattle.scons_words.specs.Values.{number_named};
-ghost use Rattle.scons_words.specs.Readings.{start_reading, mixed, fault_at, with_value, valued_by, first_switch, behind_dash, name_of, behind_dashes, operand, word_read, is_number_switch, is_long_number, stands_with_load, step, words_of, ended, read};
+ghost use Rattle.scons_words.specs.Switches.{long_switch};
+ghost use Rattle.scons_words.specs.Readings.{start_reading, mixed, fault_at, with_value, valued_by, first_switch, behind_dash, behind_letter, flagged, is_equals, has_equals, name_of, plain_long, valued_long, behind_dashes, undashed, after_dashes, after_dash, option_word, argument_by, requested_by, operand, word_read, is_number_switch, is_long_number, stands_with_load, step, words_of, ended, read};
 ghost use Rattle.scons_words.specs.declared.fault.UsageKind.{UsageKind};
+ghost use Rattle.scons_words.specs.declared.reading.Reading.{Reading};
 
 use crate::arguments::Arguments;
 use crate::fault::{Refusal, UsageKind, WordsFault};
@@ -42,7 +45,10 @@ pub fn read_words(alloc: Global, words: &[Text]) -> Result<Words, WordsFault>
 {
     let mut reading = Reading::new(alloc);
     for (place, word) in words.iter().enumerate() {
-        reading.read_at(alloc, place as u64, word)?;
+        match reading.read_at(alloc, place as u64, word) {
+            Ok(()) => {}
+            Err(fault) => return Err(fault),
+        }
     }
     reading.ended(words.len() as u64)
 }
@@ -122,18 +128,44 @@ impl Reading {
         if !self.options {
             return self.read_operand(alloc, word);
         }
-        match word.as_str().strip_prefix('-') {
+        self.read_option(alloc, word)
+    }
+
+    /// A word that may be an option.
+    fn read_option(&mut self, alloc: Global, word: &Text) -> Result<(), Refusal>
+        ensures ok { OnOk result (option_word self.old word.now ≡ Ok self.new) }
+        ensures fault { (k : UsageKind) → result ≡ Err (Refusal.Kind k) → option_word self.old word.now ≡ Err k }
+    {
+        match undashed(word.as_str()) {
             None => self.read_operand(alloc, word),
-            Some("") => Err(Refusal::Kind(UsageKind::Unknown)),
-            Some(rest) => match rest.strip_prefix('-') {
-                None => self.read_letters(alloc, rest),
-                Some("") => {
-                    self.options = false;
-                    Ok(())
-                }
-                Some(long) => self.read_long(alloc, long),
-            },
+            Some(rest) => self.read_dashed(alloc, rest),
         }
+    }
+
+    /// What stands behind one `-`.
+    fn read_dashed(&mut self, alloc: Global, rest: &str) -> Result<(), Refusal>
+        ensures ok { OnOk result (after_dash self.old rest.now ≡ Ok self.new) }
+        ensures fault { (k : UsageKind) → result ≡ Err (Refusal.Kind k) → after_dash self.old rest.now ≡ Err k }
+    {
+        if rest.is_empty() {
+            return Err(Refusal::Kind(UsageKind::Unknown));
+        }
+        match undashed(rest) {
+            None => self.read_letters(alloc, rest),
+            Some(long) => self.read_dashes(alloc, long),
+        }
+    }
+
+    /// What stands behind `--`. Behind those alone no word is an option.
+    fn read_dashes(&mut self, alloc: Global, long: &str) -> Result<(), Refusal>
+        ensures ok { OnOk result (after_dashes self.old long.now ≡ Ok self.new) }
+        ensures fault { (k : UsageKind) → result ≡ Err (Refusal.Kind k) → after_dashes self.old long.now ≡ Err k }
+    {
+        if long.is_empty() {
+            self.options = false;
+            return Ok(());
+        }
+        self.read_long(alloc, long)
     }
 
     /// A cluster of letters behind one `-`.
@@ -142,19 +174,19 @@ impl Reading {
         ensures fault { (k : UsageKind) → result ≡ Err (Refusal.Kind k) → behind_dash self.old letters.now ≡ Err k }
     {
         let mut rest = letters;
-        'letters: while let Some((letter, after)) = rest.split_at_checked(1) {
-            match switch_of(letter) {
+        'letters: while !rest.is_empty() {
+            match first_letter(rest) {
                 None => return Err(Refusal::Kind(UsageKind::Unknown)),
-                Some(Switch::Valued(valued)) => return self.take_rest(alloc, valued, after),
-                Some(Switch::Flag(flag)) => self.flags.set(flag),
+                Some((Switch::Valued(valued), after)) => return self.take_rest(
+                    alloc, valued, after,
+                ),
+                Some((Switch::Flag(flag), after)) => {
+                    self.flags.set(flag);
+                    rest = after;
+                }
             }
-            rest = after;
         }
-        if rest.is_empty() {
-            Ok(())
-        } else {
-            Err(Refusal::Kind(UsageKind::Unknown))
-        }
+        Ok(())
     }
 
     /// The value of an option in the rest of its word, or else in the next word.
@@ -169,27 +201,43 @@ impl Reading {
         self.take_value(alloc, valued, rest)
     }
 
-    /// What stands behind `--`.
+    /// A long spelling.
     fn read_long(&mut self, alloc: Global, long: &str) -> Result<(), Refusal>
         ensures ok { OnOk result (behind_dashes self.old long.now ≡ Ok self.new) }
         ensures fault { (k : UsageKind) → result ≡ Err (Refusal.Kind k) → behind_dashes self.old long.now ≡ Err k }
     {
-        match long.split_once('=') {
-            Some((name, value)) => match long_switch(name) {
-                Some(Switch::Valued(valued)) => self.take_value(alloc, valued, value),
-                _ => Err(Refusal::Kind(UsageKind::Unknown)),
-            },
-            None => match long_switch(long) {
-                None => Err(Refusal::Kind(UsageKind::Unknown)),
-                Some(Switch::Valued(valued)) => {
-                    self.waiting = Some(valued);
-                    Ok(())
-                }
-                Some(Switch::Flag(flag)) => {
-                    self.flags.set(flag);
-                    Ok(())
-                }
-            },
+        match parted(long) {
+            Some((name, value)) => self.read_valued(alloc, name, value),
+            None => self.read_plain(long),
+        }
+    }
+
+    /// A long spelling with a value behind `=`.
+    fn read_valued(&mut self, alloc: Global, name: &str, value: &str) -> Result<(), Refusal>
+        ensures ok { OnOk result (valued_long self.old (long_switch name.now) value.now ≡ Ok self.new) }
+        ensures fault { (k : UsageKind) → result ≡ Err (Refusal.Kind k) → valued_long self.old (long_switch name.now) value.now ≡ Err k }
+    {
+        match long_switch(name) {
+            Some(Switch::Valued(valued)) => self.take_value(alloc, valued, value),
+            _ => Err(Refusal::Kind(UsageKind::Unknown)),
+        }
+    }
+
+    /// A long spelling without a value.
+    fn read_plain(&mut self, long: &str) -> Result<(), Refusal>
+        ensures ok { OnOk result (plain_long self.old (long_switch long.now) ≡ Ok self.new) }
+        ensures fault { (k : UsageKind) → result ≡ Err (Refusal.Kind k) → plain_long self.old (long_switch long.now) ≡ Err k }
+    {
+        match long_switch(long) {
+            None => Err(Refusal::Kind(UsageKind::Unknown)),
+            Some(Switch::Valued(valued)) => {
+                self.waiting = Some(valued);
+                Ok(())
+            }
+            Some(Switch::Flag(flag)) => {
+                self.flags.set(flag);
+                Ok(())
+            }
         }
     }
 
@@ -210,17 +258,31 @@ impl Reading {
         ensures ok { OnOk result (operand self.old word.now ≡ Ok self.new) }
         ensures fault { (k : UsageKind) → result ≡ Err (Refusal.Kind k) → operand self.old word.now ≡ Err k }
     {
-        match word.as_str().split_once('=') {
-            Some(("", _)) => return Err(Refusal::Kind(UsageKind::BadArgument)),
-            Some((name, value)) => {
-                let name = Text::of(alloc, name)?;
-                self.arguments.put(name, Text::of(alloc, value)?)?;
-            }
-            None => {
-                path_named(alloc, word.as_str())?;
-                self.requested.push(word.copy()?)?;
-            }
+        match parted(word.as_str()) {
+            Some((name, value)) => self.read_argument(alloc, name, value),
+            None => self.request(alloc, word),
         }
+    }
+
+    fn read_argument(&mut self, alloc: Global, name: &str, value: &str) -> Result<(), Refusal>
+        ensures ok { OnOk result (argument_by self.old name.now value.now ≡ Ok self.new) }
+        ensures fault { (k : UsageKind) → result ≡ Err (Refusal.Kind k) → argument_by self.old name.now value.now ≡ Err k }
+    {
+        if name.is_empty() {
+            return Err(Refusal::Kind(UsageKind::BadArgument));
+        }
+        let name = Text::of(alloc, name)?;
+        let value = Text::of(alloc, value)?;
+        self.arguments.put(name, value)?;
+        Ok(())
+    }
+
+    fn request(&mut self, alloc: Global, word: &Text) -> Result<(), Refusal>
+        ensures ok { OnOk result (requested_by self.old word.now (fault_in word.now) ≡ Ok self.new) }
+        ensures fault { (k : UsageKind) → result ≡ Err (Refusal.Kind k) → requested_by self.old word.now (fault_in word.now) ≡ Err k }
+    {
+        path_named(alloc, word.as_str())?;
+        self.requested.push(word.copy()?)?;
         Ok(())
     }
 
@@ -277,6 +339,20 @@ fn is_long_number(word: &str) -> bool
     }
 }
 
+/// What stands behind a dash, if a word begins with one.
+fn undashed(word: &str) -> Option<&str>
+    ensures { MatchOption result (undashed word.now ≡ None) (λ rest. undashed word.now ≡ Some rest.now) }
+{
+    word.strip_prefix('-')
+}
+
+/// What stands in front of the first `=` of a text and behind it.
+fn parted(text: &str) -> Option<(&str, &str)>
+    ensures { MatchOption result (has_equals text.now ≡ false) (λ p. (has_equals text.now ≡ true) × (p.0.now ≡ before_first is_equals text.now) × (p.1.now ≡ after_first is_equals text.now)) }
+{
+    text.split_once('=')
+}
+
 /// What stands in front of a long option's value.
 fn name_of(long: &str) -> &str
     ensures { result.now ≡ name_of long.now }
@@ -291,6 +367,19 @@ fn is_number_switch(switch: Option<Switch>) -> bool
     ensures { result ≡ is_number_switch switch }
 {
     matches!(switch, Some(Switch::Valued(Valued::Jobs | Valued::Load)))
+}
+
+/// The option of the first letter, and the letters behind it.
+fn first_letter(letters: &str) -> Option<(Switch, &str)>
+    requires { 0 < length letters.now }
+    ensures none { IfNone result ((r : Reading) → behind_dash r letters.now ≡ Err UsageKind.Unknown) }
+    ensures some { IfSome result (λ p. (r : Reading) → behind_dash r letters.now ≡ behind_letter r (Some p.0) p.1.now (behind_dash (flagged r (Some p.0)) p.1.now)) }
+    ensures shorter { IfSome result (λ p. length p.1.now < length letters.now) }
+{
+    match letters.split_at_checked(1) {
+        None => None,
+        Some((letter, after)) => Some((switch_of(letter)?, after)),
+    }
 }
 
 fn switch_of(letter: &str) -> Option<Switch>
