@@ -1,5 +1,5 @@
 -- The host of scripts keeps what every host keeps to.
-use Rattle.std.specs.Prelude.{◌≡◌, ◌≤◌, ◌+◌, ◌-◌, ◌^◌, ◌⊎◌, ℕ, List, [], ◌++◌, Option, Some, min, Result, Ok, Err, OnOk, OnErr}
+use Rattle.std.specs.Prelude.{◌≡◌, ◌≤◌, ◌+◌, ◌-◌, ◌^◌, ◌⊎◌, ℕ, List, [], ◌++◌, Option, Some, min, Result, Ok, Err, IfErr, OnOk, OnErr}
 use Rattle.std.proofs.Common.{arith, refl, sym, ap, subst, ◌∙◌, inl, inr, append_assoc, append-nil}
 use Rattle.py_host.specs.Meaning.{IsKept, IsDetermined}
 use Rattle.world_api.specs.Causes.{Rose}
@@ -89,6 +89,10 @@ stop_back a b c (stop.There path line kind) more cause = cause
 stop_back a b c (stop.TooLarge path size) more cause = cause
 stop_back a b c (stop.TooMany what count) more cause = cause
 stop_back a b c stop.Memory more cause = cause
+
+pub result_back : {X : Type 0} (a b c : Counts) (r : Result X Stop) → IsTreeAlone a b → IfErr r (HasStopCause b c) → IfErr r (HasStopCause a c)
+result_back a b c (Ok x) more cause = tt
+result_back a b c (Err s) more cause = stop_back a b c s more cause
 
 pub prints_same : {S : Type 0} (p : SinkMeaning S) (s : S) → Prints p s s
 prints_same p s = record { told = λ t. t; text = λ t. ([], sym (append-nil (p.text s))); faults = omega arith }

@@ -10,7 +10,7 @@ use crate::kept::Kept;
 use crate::rules::graph_of;
 use crate::scripts::first;
 use crate::state::State;
-use crate::stop::Stop;
+use crate::stop::{Refusal, Stop};
 use py_eval::{EvalFault, EvalKind, run};
 use py_heap::{Budget, Heap};
 use py_tree::Script;
@@ -106,20 +106,32 @@ fn end_of(alloc: Global, stop: Stop) -> HostEnd
 
 /// Begins the first script; those behind it wait.
 #[tactic(auto, using(crate::specs::Looking::looking))]
-fn first_script<W: World>(state: &mut State, world: &mut W, words: &Words) -> Result<Script, Stop> {
+fn first_script<W: World>(state: &mut State, world: &mut W, words: &Words) -> Result<Script, Stop>
+    ensures looks { Looks W.meaning world.old world.new }
+    ensures cause { IfErr result (HasStopCause (W.meaning.counts world.old) (W.meaning.counts world.new)) }
+{
+    let path = first_path(state, world, words)?;
+    first(state, world, path)
+}
+
+/// The path of the first script, with those behind it put where they wait.
+#[tactic(auto, using(crate::specs::Looking::looking))]
+fn first_path<W: World>(state: &mut State, world: &mut W, words: &Words) -> Result<PathText, Stop>
+    ensures looks { Looks W.meaning world.old world.new }
+    ensures cause { IfErr result (HasStopCause (W.meaning.counts world.old) (W.meaning.counts world.new)) }
+{
     match words.scripts.as_slice() {
-        [] => {
-            let path = standing(state.alloc, world)?;
-            first(state, world, path)
-        }
-        [path, further @ ..] => {
-            for path in further {
-                state.first.push_back(path.copy()?)?;
-            }
-            let path = path.copy()?;
-            first(state, world, path)
-        }
+        [] => standing(state.alloc, world),
+        [path, further @ ..] => Ok(named(state, path, further)?),
     }
+}
+
+/// The path of a script that was named, with those behind it put where they wait.
+fn named(state: &mut State, path: &PathText, further: &[PathText]) -> Result<PathText, Refusal> {
+    for path in further {
+        state.first.push_back(path.copy()?)?;
+    }
+    Ok(path.copy()?)
 }
 
 /// The first of the names of first scripts that is a file, or the first of all where none is.
