@@ -1,4 +1,6 @@
 //! The build of what was requested.
+ghost use Rattle.std.specs.Prelude.{IfOk};
+ghost use Rattle.scons_top.specs.Statuses.{HasStatus};
 
 use crate::ending::{closed, tell_done, tell_faulty};
 use crate::printed::say;
@@ -23,7 +25,9 @@ pub(crate) fn build_requests<W: World, O: Sink, E: Sink>(
     world: &mut W,
     out: &mut O,
     err: &mut E,
-) -> Result<Report, Stop> {
+) -> Result<Report, Stop>
+    ensures status { IfOk result (λ report. HasStatus report.status report.faults) }
+{
     let nodes = nodes_of(alloc, requests)?;
     let mut store = Store::begin(alloc, world)?;
     say(out, words, building_text(alloc))?;

@@ -1,4 +1,6 @@
 //! Cleaning: the targets of what was requested are removed.
+ghost use Rattle.std.specs.Prelude.{IfOk};
+ghost use Rattle.scons_top.specs.Statuses.{HasStatus};
 
 use crate::build_step::nodes_of;
 use crate::ending::good;
@@ -22,7 +24,9 @@ pub(crate) fn clean_requests<W: World, O: Sink>(
     requests: &[Request],
     world: &mut W,
     out: &mut O,
-) -> Result<Report, Stop> {
+) -> Result<Report, Stop>
+    ensures status { IfOk result (λ report. HasStatus report.status report.faults) }
+{
     let nodes = nodes_of(alloc, requests)?;
     say(out, words, cleaning_text(alloc))?;
     for rule in clean_list(alloc, graph, nodes.as_slice())?.as_slice() {

@@ -1,4 +1,6 @@
 //! A dry run: what a build would start is listed.
+ghost use Rattle.std.specs.Prelude.{IfOk};
+ghost use Rattle.scons_top.specs.Statuses.{HasStatus};
 
 use crate::build_step::nodes_of;
 use crate::ending::{closed, ended, tell_done, tell_faulty};
@@ -23,7 +25,9 @@ pub(crate) fn list_requests<W: World, O: Sink, E: Sink>(
     world: &mut W,
     out: &mut O,
     err: &mut E,
-) -> Result<Report, Stop> {
+) -> Result<Report, Stop>
+    ensures status { IfOk result (λ report. HasStatus report.status report.faults) }
+{
     let nodes = nodes_of(alloc, requests)?;
     let view = Store::read(alloc, world)?;
     say(out, words, building_text(alloc))?;
@@ -54,7 +58,9 @@ fn end_with<O: Sink, E: Sink>(
     fault: BuildFault,
     out: &mut O,
     err: &mut E,
-) -> Result<Report, Stop> {
+) -> Result<Report, Stop>
+    ensures status { IfOk result (λ report. HasStatus report.status report.faults) }
+{
     let mut faults = Listing::empty(alloc);
     let is_printed = print(err, fault_text(alloc, &fault)?.as_str()).is_ok();
     faults.push(fault)?;

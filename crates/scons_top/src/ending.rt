@@ -1,4 +1,5 @@
 //! How a run ends: its last lines and its report.
+ghost use Rattle.scons_top.specs.Statuses.{HasStatus};
 
 use crate::printed::{say, tell};
 use crate::report::{Report, Top};
@@ -20,7 +21,9 @@ pub(crate) fn report(
     faults: Listing<Top>,
     skipped: Listing<(PathText, PathText)>,
     memory: bool,
-) -> Report {
+) -> Report
+    ensures status { HasStatus result.status result.faults }
+{
     let status = match memory {
         true => 3,
         false if faults.is_empty() => 0,
@@ -34,12 +37,16 @@ pub(crate) fn report(
 }
 
 /// The report of a run without a fault.
-pub(crate) fn good(alloc: Global) -> Report {
+pub(crate) fn good(alloc: Global) -> Report
+    ensures status { HasStatus result.status result.faults }
+{
     report(Listing::empty(alloc), Listing::empty(alloc), false)
 }
 
 /// The report of a run that one fault ended: it is printed, and, where standard error refuses, so is that.
-pub(crate) fn ended<E: Sink>(alloc: Global, stop: Stop, err: &mut E) -> Report {
+pub(crate) fn ended<E: Sink>(alloc: Global, stop: Stop, err: &mut E) -> Report
+    ensures status { HasStatus result.status result.faults }
+{
     let mut faults = Listing::empty(alloc);
     let memory = match stop {
         Stop::Fault(fault) => {
@@ -138,7 +145,9 @@ pub(crate) fn closed(
     skipped: Listing<(PathText, PathText)>,
     memory: bool,
     written: Result<(), Stop>,
-) -> Report {
+) -> Report
+    ensures status { HasStatus result.status result.faults }
+{
     let mut faults = Listing::empty(alloc);
     let mut wants = memory;
     for fault in found.into_vec() {

@@ -1,5 +1,7 @@
 //! A large run over a world in memory: so many rules in chains of ten, built, and built again after an edit of the first
 //! source.
+ghost use Rattle.std.specs.Prelude.{IfOk};
+ghost use Rattle.scons_top.specs.Statuses.{HasStatus};
 
 use crate::ending::good;
 use crate::report::Report;
@@ -18,7 +20,9 @@ pub(crate) fn load<O: Sink>(
     words: &Words,
     rules: u32,
     out: &mut O,
-) -> Result<Report, Stop> {
+) -> Result<Report, Stop>
+    ensures status { IfOk result (λ report. HasStatus report.status report.faults) }
+{
     let inner = build_words(alloc, words.jobs)?;
     let files = files_of(alloc, rules)?;
     let table = ActTable::new(Vec::new(alloc));

@@ -66,6 +66,7 @@ fn request_of<W: World>(
     let Ok(path) = PathText::read(alloc, word.as_str()) else {
         return Err(Stop::Fault(Top::UnknownTarget(word.copy()?)));
     };
+    let path = path.spelled(graph.top())?;
     if has_rule(world, graph, &path)? {
         let nodes = vec![in alloc; graph.intern(&path)?]?;
         return made(word, nodes, false);

@@ -1,4 +1,6 @@
 //! The steps of a run.
+ghost use Rattle.std.specs.Prelude.{IfOk};
+ghost use Rattle.scons_top.specs.Statuses.{HasStatus};
 
 use crate::build_step::build_requests;
 use crate::clean_step::clean_requests;
@@ -22,7 +24,9 @@ pub fn scons<W: World, O: Sink, E: Sink>(
     world: &mut W,
     out: &mut O,
     err: &mut E,
-) -> Report {
+) -> Report
+    ensures status { HasStatus result.status result.faults }
+{
     match take_words(alloc, words, world, out, err) {
         Ok(report) => report,
         Err(stop) => ended(alloc, stop, err),
@@ -35,7 +39,9 @@ fn take_words<W: World, O: Sink, E: Sink>(
     world: &mut W,
     out: &mut O,
     err: &mut E,
-) -> Result<Report, Stop> {
+) -> Result<Report, Stop>
+    ensures status { IfOk result (λ report. HasStatus report.status report.faults) }
+{
     let words = read_words(alloc, words)?;
     match words.load {
         Some(rules) => load(alloc, &words, rules, out),
@@ -50,7 +56,9 @@ pub(crate) fn run<W: World, O: Sink, E: Sink>(
     world: &mut W,
     out: &mut O,
     err: &mut E,
-) -> Result<Report, Stop> {
+) -> Result<Report, Stop>
+    ensures status { IfOk result (λ report. HasStatus report.status report.faults) }
+{
     let mut graph = read(alloc, world, out, words)?;
     if words.help {
         print(out, help_text(alloc, &graph)?.as_str())?;
