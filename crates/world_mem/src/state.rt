@@ -17,7 +17,7 @@ use crate::event::{Event, Faults};
 use crate::past::{Change, Ending};
 use crate::plan::{given_of, made_by, outcome_of};
 use crate::refusal::NewRefusal;
-use crate::room::{add, make_places, widen};
+use crate::room::{add, make_places, widen, widen_all};
 use crate::running::RunningJob;
 use crate::slots::{File, Slot, Slots};
 use crate::table::ActTable;
@@ -335,18 +335,53 @@ impl State {
         ensures job_room { OnOk result (vec_len self.new.jobs + 1 ≤ vec_capacity self.new.jobs) }
         ensures past_room { OnOk result (vec_len self.new.past + vec_len self.new.running + (262144 - self.new.removals) + 2 ≤ vec_capacity self.new.past) }
     {
-        let jobs = self.running.len();
-        widen(&mut self.past, jobs + (CALL_ROOM - self.removals) + 2)?;
-        widen(&mut self.log, jobs + 2)?;
-        widen(&mut self.met, jobs + 1)?;
-        widen(&mut self.jobs, 1)?;
-        widen(&mut self.running, 1)?;
-        make_places(
-            alloc,
-            &mut self.slots,
-            &mut self.dirs,
-            &entering.run.job.targets,
-            &entering.dirs,
+        self.make_places(alloc, &entering.run.job.targets, &entering.dirs)?;
+        self.widen()?;
+        Ok(())
+    }
+
+    /// Makes the places of a job's targets, and of the directories above them.
+    fn make_places(&mut self, alloc: Global, targets: &Paths, fresh: &Paths) -> Result<(), Memory>
+        ensures course { course_of self.new ≡ course_of self.old }
+        ensures running { self.new.running ≡ self.old.running }
+        ensures log { self.new.log ≡ self.old.log }
+        ensures met { self.new.met ≡ self.old.met }
+        ensures past { self.new.past ≡ self.old.past }
+        ensures dirs { (dir : List ℕ) → is_dir self.new.dirs dir ≡ is_dir self.old.dirs dir }
+        ensures table { self.new.table ≡ self.old.table }
+        ensures removals { self.new.removals ≡ self.old.removals }
+        ensures places { OnOk result ((k : ℕ) (d : List ℕ) → k < length targets.now → IsSome (slot_at self.new.slots (slice_index_or targets.now k d))) }
+        ensures fresh { OnOk result ((k : ℕ) (d : List ℕ) → k < length fresh.now → IsSome (slot_at self.new.dirs.slots (slice_index_or fresh.now k d))) }
+    {
+        make_places(alloc, &mut self.slots, &mut self.dirs, targets, fresh)
+    }
+
+    /// Takes the room for one job more in what is listed.
+    fn widen(&mut self) -> Result<(), Memory>
+        ensures course { course_of self.new ≡ course_of self.old }
+        ensures running { self.new.running.items ≡ self.old.running.items }
+        ensures running_len { vec_len self.new.running ≡ vec_len self.old.running }
+        ensures log { self.new.log.items ≡ self.old.log.items }
+        ensures met { self.new.met.items ≡ self.old.met.items }
+        ensures past { self.new.past.items ≡ self.old.past.items }
+        ensures slots { self.new.slots ≡ self.old.slots }
+        ensures dirs { self.new.dirs ≡ self.old.dirs }
+        ensures table { self.new.table ≡ self.old.table }
+        ensures removals { self.new.removals ≡ self.old.removals }
+        ensures log_room { OnOk result (vec_len self.new.log + vec_len self.new.running + 2 ≤ vec_capacity self.new.log) }
+        ensures met_room { OnOk result (vec_len self.new.met + vec_len self.new.running + 1 ≤ vec_capacity self.new.met) }
+        ensures run_room { OnOk result (vec_len self.new.running + 1 ≤ vec_capacity self.new.running) }
+        ensures job_room { OnOk result (vec_len self.new.jobs + 1 ≤ vec_capacity self.new.jobs) }
+        ensures past_room { OnOk result (vec_len self.new.past + vec_len self.new.running + (262144 - self.new.removals) + 2 ≤ vec_capacity self.new.past) }
+    {
+        let changes = self.running.len() + (CALL_ROOM - self.removals) + 2;
+        widen_all(
+            &mut self.past,
+            &mut self.log,
+            &mut self.met,
+            &mut self.jobs,
+            &mut self.running,
+            changes,
         )
     }
 
