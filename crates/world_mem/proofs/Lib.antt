@@ -15,3 +15,4 @@ pub mod Fresh
 pub mod Backs
 pub mod Passing
 pub mod Writes
+pub mod Listing
