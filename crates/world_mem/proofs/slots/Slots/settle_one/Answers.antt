@@ -1,7 +1,7 @@
 use Rattle.std.proofs.Common.{rules, ◌≡◌, ◌∙◌, sym, subst, List, ℕ, Option, Some}
 use Rattle.world_mem.proofs.Keys.{updated_at}
 use Rattle.world_mem.proofs.Written.{written_at}
-use Rattle.world_mem.specs.InSlots.{slot_at, written, file_with}
+use Rattle.world_mem.specs.InSlots.{slot_at, written}
 use Rattle.world_mem.specs.declared.slots.File.{File}
 use Rattle.world_mem.specs.declared.slots.Slot.TheVariants.{Settled}
 use Rattle.world_mem.proofs.slots.Slots.settle_one.Goals as goal

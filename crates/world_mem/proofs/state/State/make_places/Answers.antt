@@ -1,6 +1,5 @@
-use Rattle.std.proofs.Common.{◌≡◌, ◌∙◌, sym, ap, refl}
-use Rattle.world_mem.specs.AsCourse.{course_of}
-use Rattle.world_mem.specs.InSlots.{slot_at, stamp_in, content_of, file_of, mark_of}
+use Rattle.std.proofs.Common.{◌∙◌, sym, ap, refl}
+use Rattle.world_mem.specs.InSlots.{stamp_in}
 use Rattle.world_mem.specs.declared.slots.Slot.TheVariants.{Running}
 use Rattle.world_mem.proofs.Backs.{same_around, same_course}
 use Rattle.world_mem.proofs.state.State.make_places.Goals as goal

@@ -1,7 +1,6 @@
-use Rattle.std.proofs.Common.{◌≡◌, ◌∙◌, sym, ap, subst, ℕ, List, Contains, ◌∷◌, [], None, refl, reverse}
+use Rattle.std.proofs.Common.{◌∙◌, sym, ap, refl, reverse}
 use Rattle.world_mem.specs.AsCourse.{course_of}
-use Rattle.world_mem.specs.InSlots.{slot_at, file_of, content_of, mark_of}
-use Rattle.world_mem.specs.Kept.{running_of}
+use Rattle.world_mem.specs.InSlots.{slot_at}
 use Rattle.world_mem.specs.declared.past.Change.TheVariants.{Removed}
 use Rattle.world_mem.proofs.Backs.{pushed, newest, same_around, file_back, stamp_back}
 use Rattle.world_mem.proofs.Emptied.{still_owned, still_marks, still_held, still_named}

@@ -1,7 +1,6 @@
-use Rattle.std.proofs.Common.{◌≡◌, ◌∙◌, sym, ap, subst, refl, List, ℕ, Contains, map, reverse, true}
+use Rattle.std.proofs.Common.{◌≡◌, sym, ap, subst, refl, List, Contains, map, reverse, true}
 use Rattle.std.specs.List.{list_any}
 use Rattle.std.specs.Str.{bytes_eq}
-use Rattle.world_mem.specs.AsCourse.{course_of}
 use Rattle.world_mem.specs.Kept.{met_of, running_of, entry_of, IdsApart, is_target}
 use Rattle.world_mem.specs.declared.running.RunningJob.{RunningJob}
 use Rattle.world_mem.proofs.Backs.{same_around, same_course}
