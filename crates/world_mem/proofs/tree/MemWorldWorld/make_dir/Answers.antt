@@ -3,7 +3,7 @@ use Rattle.mem_banks.specs.AsStore.{store_of}
 use Rattle.world_mem.specs.Past.{Course}
 use Rattle.world_mem.specs.declared.past.Turn.{Turn}
 use Rattle.world_mem.specs.declared.past.Turn.TheVariants.{Tree}
-use Rattle.world_mem.proofs.Passing.{asks, idle_tree, turn_recalls, turn_tree}
+use Rattle.world_mem.proofs.Passing.{refused, idle_tree, turn_recalls, turn_tree}
 use Rattle.world_mem.proofs.Unmade.{unmade_of}
 use Rattle.world_mem.proofs.tree.MemWorldWorld.make_dir.Goals as goal
 
@@ -14,7 +14,7 @@ pub invariant_of-self-in-Break-branch-2-clause-unmade : goal.invariant_of-self-i
 invariant_of-self-in-Break-branch-2-clause-unmade c = unmade_of c.make_dir.new.self
 
 pub returns-in_err-make_dir-clause-refused : goal.returns-in_err-make_dir-clause-refused
-returns-in_err-make_dir-clause-refused c = λ told. asks _ _ (ap (λ (course : Course). course.around) c.in_err-make_dir.ensures.same)
+returns-in_err-make_dir-clause-refused c = λ told. refused _ _ _ (ap (λ (course : Course). course.around) c.in_err-make_dir.ensures.same)
 
 pub returns-in_err-make_dir-clause-time : goal.returns-in_err-make_dir-clause-time
 returns-in_err-make_dir-clause-time c = idle_tree _ _ (record { turns = c.in_ok-widen.ensures.items; horizon = refl; machine = λ i. record { course = c.in_err-make_dir.ensures.same i; store = store_of c.args.self.now.banks } })
