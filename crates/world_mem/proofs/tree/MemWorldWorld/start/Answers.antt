@@ -10,8 +10,8 @@ use Rattle.world_mem.proofs.tree.MemWorldWorld.start.Goals as goal
 pub returns-in_err-widen-clause-time : goal.returns-in_err-widen-clause-time
 returns-in_err-widen-clause-time c = idle_tree _ _ (record { turns = c.in_err-widen.ensures.items; horizon = refl; machine = refl })
 
-pub invariant_of-self-in-Break-branch-3-clause-unmade : goal.invariant_of-self-in-Break-branch-3-clause-unmade
-invariant_of-self-in-Break-branch-3-clause-unmade c = unmade_of c.start.new.self
+pub invariant_of-self-in-Break-branch-3 : goal.invariant_of-self-in-Break-branch-3
+invariant_of-self-in-Break-branch-3 c = record { unmade = unmade_of c.start.new.self; turns_room = ?; since = ?; recorded_within = ?; turns_capacity = ? }
 
 pub returns-in_err-start-clause-refused : goal.returns-in_err-start-clause-refused
 returns-in_err-start-clause-refused c = λ told. refused _ _ _ (ap (λ (course : Course). course.around) c.in_err-start.ensures.same)
