@@ -103,7 +103,7 @@ written_content_if true file None bytes h = inr h
 written_content_if true file (Some x) bytes h = inl h
 written_content_if false file old bytes h = inr h
 
-in_option : (content : Content) (rest : List (List ℕ)) (bytes : List ℕ) → content ≡ Some bytes → IsTrue (list_any (bytes_eq bytes) (option_to_list content ++ rest))
+pub in_option : (content : Content) (rest : List (List ℕ)) (bytes : List ℕ) → content ≡ Some bytes → IsTrue (list_any (bytes_eq bytes) (option_to_list content ++ rest))
 in_option None rest bytes e = absurd (cc)
 in_option (Some x) rest bytes e = let same : bytes ≡ x = cc in simp ((bytes_decides bytes x).1 same) refl
 
@@ -294,3 +294,10 @@ files-one_more entries k entry lt is some = files-more entries k entry lt is ∙
 pub files-none_more : (entries : Given) (k : ℕ) (entry : List ℕ × Content) → k < length entries → entry ≡ get_or entries k entry → is_some entry.1 ≡ false
     → length (contents_in (take (k + 1) entries)) ≡ length (contents_in (take k entries))
 files-none_more entries k entry lt is none = files-more entries k entry lt is ∙ ap (λ n. length (contents_in (take k entries)) + n) (none_if entry.1 none) ∙ add-zero (length (contents_in (take k entries)))
+
+-- a file that is written stands there, or what stood before
+pub written-content : (at : List ℕ) (file : Option File) (path : List ℕ) (old : Option Slot) (bytes : List ℕ) → content_of (written at (Settled file) path old) ≡ Some bytes → (content_of (Some (Settled file)) ≡ Some bytes) ⊎ (content_of old ≡ Some bytes)
+written-content at file path old bytes h = written_content_if (bytes_eq at path) file old bytes h
+
+pub written-named : (at : List ℕ) (put : File) (path : List ℕ) (old : Option Slot) (file : File) → put.name ≡ at → (file_of old ≡ Some file → file.name ≡ path) → file_of (written at (Settled (Some put)) path old) ≡ Some file → file.name ≡ path
+written-named at put path old file name was h = named_if (bytes_eq at path) put file old at path (λ y. (bytes_decides at path).0 y) name was h

@@ -122,6 +122,16 @@ impl Slots {
         self.content(path).is_some()
     }
 
+    /// Whether the path is kept for a running job.
+    pub fn is_kept(&self, path: &PathText) -> bool
+        ensures { result ≡ is_some (mark_of (slot_at self.now path.now)) }
+    {
+        match self.slots.get(path.as_str().as_bytes()) {
+            Some(slot) => is_running(slot),
+            None => false,
+        }
+    }
+
     pub fn stands(&self, path: &[u8]) -> bool
         ensures { result ≡ holds_live (slot_at self.now path.now) }
     {
@@ -309,6 +319,13 @@ fn is_live(slot: &Slot) -> bool
     ensures { result ≡ is_live slot.now }
 {
     !matches!(slot, Slot::Settled(None))
+}
+
+/// Whether a running job makes what stands there.
+fn is_running(slot: &Slot) -> bool
+    ensures { result ≡ is_some (mark_of (Some slot.now)) }
+{
+    matches!(slot, Slot::Running(_))
 }
 
 fn is_below(path: &[u8], dir: &[u8]) -> bool
