@@ -16,3 +16,4 @@ pub mod Fresh
 pub mod Backs
 pub mod Passing
 pub mod Writes
+pub mod Listing

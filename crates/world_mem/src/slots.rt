@@ -1,11 +1,11 @@
 //! The tree as it is kept: a slot for each path that was ever a file or a target.
-ghost use Rattle.std.specs.Prelude.{◌≡◌, ◌≢◌, AllPairs, List, ℕ, None, Some, IsTrue, false, Contains, ◌↔◌, IfOk, IfErr, OnOk, OnErr, if◌then◌else◌, IsSome, ◌<◌, length};
+ghost use Rattle.std.specs.Prelude.{◌≡◌, ◌≢◌, AllPairs, List, ℕ, None, Some, IsTrue, false, Contains, ◌↔◌, IfOk, IfErr, OnOk, OnErr, if◌then◌else◌, IsSome, ◌<◌, ◌++◌, length};
 ghost use Rattle.std.specs.Option.{option_copied, is_some};
 ghost use Rattle.std.specs.List.{slice_index_or};
 ghost use Rattle.std.specs.Str.{bytes_eq};
 ghost use Rattle.scons_base.specs.Parts.{dir_of};
 ghost use Rattle.world_mem.specs.Blocked.{LiesBelow, HasAbove, HasBelow, IsBlocked, IsRefused, IsFirstRefused};
-ghost use Rattle.world_mem.specs.InSlots.{slot_at, file_of, file_with, content_of, mark_of, file_at, written, emptied, taken, marked, settled, Stands, is_live, holds_live};
+ghost use Rattle.world_mem.specs.InSlots.{slot_at, file_of, file_with, content_of, mark_of, file_at, name_in, written, emptied, taken, marked, settled, Stands, is_live, holds_live};
 ghost use Rattle.world_mem.specs.declared.refusal.NewRefusal.{NewRefusal};
 ghost use Rattle.world_mem.specs.declared.slots.File.{File};
 ghost use Rattle.world_mem.specs.declared.slots.Slot.{Slot};
@@ -86,11 +86,7 @@ impl Slots {
     {
         let mut paths = Paths::new(Vec::new(alloc));
         for (_, slot) in &self.slots {
-            if let Slot::Settled(Some(file)) = slot {
-                if file.name.dir() == dir.as_str() {
-                    paths.push(file.name.copy()?)?;
-                }
-            }
+            add_name(slot, dir, &mut paths)?;
         }
         Ok(paths)
     }
@@ -291,6 +287,19 @@ fn emptied(place: &mut Slot) -> Option<File>
         Slot::Settled(file) => file.take(),
         Slot::Running(_) => None,
     }
+}
+
+/// Adds the path of the file in a slot, where it lies directly in a directory.
+fn add_name(slot: &Slot, dir: &PathText, paths: &mut Paths) -> Result<(), Memory>
+    ensures { OnOk result (paths.new ≡ paths.old ++ name_in dir.now (file_of (Some slot.now))) }
+{
+    let Slot::Settled(Some(file)) = slot else {
+        return Ok(());
+    };
+    if file.name.dir() != dir.as_str() {
+        return Ok(());
+    }
+    paths.push(file.name.copy()?)
 }
 
 /// A file that never changed.

@@ -11,11 +11,11 @@ loop-content-preserved c =
     let lt = c.loop-content-test.true in
     elim c.if-is_some.branch [
       | then-is_some w ↦ record {
-          counted = w.count-is ∙ ap (λ n. n + 1) c.loop-content.invariant.counted ∙ sym (files-one_more items index entry lt c.loop-content-item.is (sym c.is_some.ensures ∙ w.if-is_some.true));
-          small = omega (arith, w.count-is, c.loop-content.invariant.small);
-        }
+        counted = w.count-is ∙ ap (λ n. n + 1) c.loop-content.invariant.counted ∙ sym (files-one_more items index entry lt c.loop-content-item.is (sym c.is_some.ensures ∙ w.if-is_some.true));
+        small = omega (arith, w.count-is, c.loop-content.invariant.small);
+      }
       | else-is_some w ↦ record {
-          counted = w.count-is ∙ c.loop-content.invariant.counted ∙ sym (files-none_more items index entry lt c.loop-content-item.is (sym c.is_some.ensures ∙ w.if-is_some.false));
-          small = omega (arith, w.count-is, c.loop-content.invariant.small);
-        }
+        counted = w.count-is ∙ c.loop-content.invariant.counted ∙ sym (files-none_more items index entry lt c.loop-content-item.is (sym c.is_some.ensures ∙ w.if-is_some.false));
+        small = omega (arith, w.count-is, c.loop-content.invariant.small);
+      }
     ]
