@@ -20,7 +20,7 @@ pub covers : (rows : List ActRow) (running : List RunningJob) (given : Given)
     → names given ≡ flat_map (λ (run : RunningJob). names run.made) running → Cover running given
 covers rows running given planned are run path here own =
     let made : names run.made ≡ run.job.targets =
-        ap names (planned run here)
-        ∙ names_of_pairs (λ target. act (law_of rows) run.job.work run.job.signed run.job.targets run.given target) run.job.targets in
+    ap names (planned run here)
+    ∙ names_of_pairs (λ target. act (law_of rows) run.job.work run.job.signed run.job.targets run.given target) run.job.targets in
     let in_made : Contains (names run.made) path = subst (λ (ns : List (List ℕ)). Contains ns path) (sym made) own in
     subst (λ (ns : List (List ℕ)). Contains ns path) (sym are) (in_flat (λ (run : RunningJob). names run.made) running run path here in_made)

@@ -1,5 +1,5 @@
 -- The files directly in a directory, from the entries of a map of slots.
-use Rattle.std.proofs.Common.{◌≡◌, ◌≢◌, ◌∙◌, ◌<◌, ◌↔◌, sym, refl, ap, cond, subst, ℕ, suc, zero, List, [], ◌∷◌, ◌++◌, Bool, true, false, Option, Some, None, IsSome, is_some, inl, inr, arith, Contains, length}
+use Rattle.std.proofs.Common.{◌≡◌, ◌≢◌, ◌∙◌, ◌<◌, ◌↔◌, sym, refl, ap, cond, subst, ℕ, suc, zero, List, [], ◌∷◌, ◌++◌, Bool, true, false, Option, Some, None, IsSome, is_some, inl, inr, arith, Contains}
 use Rattle.std.specs.BTreeMap.{is_at}
 use Rattle.std.specs.Cmp.Lexicographic.{slice_cmp, bytes_decides}
 use Rattle.std.specs.Global.{Vec}
@@ -21,7 +21,7 @@ use Rattle.world_mem.specs.declared.slots.File.{File}
 use Rattle.world_mem.specs.declared.slots.Slot.{Slot}
 use Rattle.world_mem.specs.declared.slots.Slots.{Slots}
 use Rattle.world_mem.proofs.Directories.{key_cmp}
-use Rattle.world_mem.proofs.Marks.{in_front, behind}
+use Rattle.world_mem.proofs.Marks.{in_front}
 
 abbrev pub Entry : Type 0
 Entry = Vec ℕ × Slot

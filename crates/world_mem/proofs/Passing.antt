@@ -1,7 +1,6 @@
 -- One call more: the moments are those before it, and the present one.
-use Rattle.std.proofs.Common.{◌≡◌, ◌∙◌, ◌⊎◌, ◌<◌, ◌≤◌, ◌-◌, ◌+◌, inl, inr, ℕ, zero, suc, List, [], ◌∷◌, ◌++◌, max, length, reverse, subst, sym, ap, refl, arith, length-append, Result, Ok, Err, OnErr}
+use Rattle.std.proofs.Common.{◌≡◌, ◌∙◌, ◌⊎◌, ◌≤◌, ◌-◌, ◌+◌, inl, inr, ℕ, suc, List, [], ◌∷◌, ◌++◌, max, length, reverse, subst, sym, ap, refl, arith, length-append, Result, Ok, Err, OnErr}
 use Rattle.std.proofs.lemmas.List.{reverse-append}
-use Rattle.mem_banks.specs.AsStore.{store_of}
 use Rattle.world_api.specs.Around.{Around}
 use Rattle.world_api.specs.Banks.{Banks}
 use Rattle.world_api.specs.Calls.{Asks}

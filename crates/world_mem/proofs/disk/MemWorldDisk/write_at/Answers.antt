@@ -1,8 +1,5 @@
-use Rattle.std.proofs.Common.{refl, sym, subst, arith}
+use Rattle.std.proofs.Common.{arith}
 use Rattle.std.proofs.lemmas.Grind.{common_steps}
-use Rattle.world_api.specs.Causes.{DiskFails}
-use Rattle.world_mem.specs.Kept.{counts_of}
-use Rattle.world_mem.specs.declared.event.Faults.{Faults}
 use Rattle.world_mem.proofs.Writes.{store_cut, store_image, write_other, write_recalls, write_time}
 use Rattle.world_mem.proofs.disk.MemWorldDisk.write_at.Goals as goal
 

@@ -1,4 +1,4 @@
-use Rattle.std.proofs.Common.{refl, ap, ◌≡◌, ◌∙◌, ◌++◌, ◌∷◌, [], List, length, arith, subst, sym, ◌≤◌}
+use Rattle.std.proofs.Common.{refl, ap, ◌∙◌, ◌++◌, ◌∷◌, [], List, length, arith, subst, sym, ◌≤◌}
 use Rattle.mem_banks.specs.AsStore.{store_of}
 use Rattle.world_mem.specs.Past.{Course}
 use Rattle.world_mem.specs.declared.past.Turn.{Turn}
@@ -11,7 +11,8 @@ pub returns-in_err-widen-clause-time : goal.returns-in_err-widen-clause-time
 returns-in_err-widen-clause-time c = idle_tree _ _ (record { turns = c.in_err-widen.ensures.items; horizon = refl; machine = refl })
 
 pub invariant_of-self-in-Break-branch-2 : goal.invariant_of-self-in-Break-branch-2
-invariant_of-self-in-Break-branch-2 c = record { unmade = unmade_of c.make_dir.new.self; 
+invariant_of-self-in-Break-branch-2 c = record {
+  unmade = unmade_of c.make_dir.new.self;
   turns_room = let e = ap length c.make_dir.ensures.running in omega (arith, e, c.make_dir.ensures.removals, c.make_dir.new.self.running.ok.0, c.args.self.now.state.running.ok.0, c.in_ok-widen.ensures.len, c.in_ok-widen.ensures.capacity);
   since = subst (λ (t : List Turn). c.args.self.now.horizon ≤ length t) (sym c.in_ok-widen.ensures.items) c.args.self.now.since;
   recorded_within = omega (arith, c.make_dir.ensures.removals);

@@ -1,4 +1,4 @@
-use Rattle.std.proofs.Common.{refl, ap, ◌≡◌, ◌∙◌, ◌++◌, ◌∷◌, [], List, length, arith, subst, sym, ◌≤◌}
+use Rattle.std.proofs.Common.{refl, ap, ◌∙◌, ◌++◌, ◌∷◌, [], List, length, arith, subst, sym, ◌≤◌}
 use Rattle.mem_banks.specs.AsStore.{store_of}
 use Rattle.world_mem.specs.Past.{Course}
 use Rattle.world_mem.specs.declared.past.Turn.{Turn}
@@ -11,7 +11,8 @@ pub returns-in_err-widen-clause-time : goal.returns-in_err-widen-clause-time
 returns-in_err-widen-clause-time c = idle_tree _ _ (record { turns = c.in_err-widen.ensures.items; horizon = refl; machine = refl })
 
 pub invariant_of-self-in-Break-branch-3 : goal.invariant_of-self-in-Break-branch-3
-invariant_of-self-in-Break-branch-3 c = record { unmade = unmade_of c.start.new.self; 
+invariant_of-self-in-Break-branch-3 c = record {
+  unmade = unmade_of c.start.new.self;
   turns_room = omega (arith, c.in_err-start.ensures.fewer, c.start.ensures.removals, c.in_ok-widen.ensures.len, c.in_ok-widen.ensures.capacity);
   since = subst (λ (t : List Turn). c.args.self.now.horizon ≤ length t) (sym c.in_ok-widen.ensures.items) c.args.self.now.since;
   recorded_within = omega (arith, c.start.ensures.removals);
