@@ -1,5 +1,5 @@
 -- Calls of a world, counted, and those that are to fail.
-use Rattle.std.specs.Prelude.{◌≡◌, ℕ, Bool, true, false, List, ◌+◌, ◌-◌, ◌^◌, ◌==◌, ◌&&◌, min, Option, Some, None, Contains, slice_index, slice_set, option_map, if◌then◌else◌}
+use Rattle.std.specs.Prelude.{ℕ, Bool, List, ◌+◌, ◌-◌, ◌^◌, ◌==◌, ◌&&◌, min, Option, Some, None, slice_index, slice_set, option_map, if◌then◌else◌}
 use Rattle.std.specs.List.{list_any}
 use Rattle.world_mem.specs.declared.calls.Call.{Call}
 use Rattle.world_mem.specs.declared.calls.Call.TheVariants.{Size, ReadAt, WriteAt, Sync, TopPath, Kind, ReadFile, List as Lists, Stamp, MakeDir, Remove, Start, Wait}

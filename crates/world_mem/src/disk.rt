@@ -52,8 +52,8 @@ impl Disk for MemWorld {
         }
         if verdict == Verdict::Listed {
             let half = bytes.len() / 2;
-            self.faults.disk = self.faults.disk.saturating_add(1);
             self.put(bank, place as usize, &bytes[..half], bytes.len());
+            self.faults.disk = self.faults.disk.saturating_add(1);
             return Err(Fault);
         }
         self.put(bank, place as usize, bytes, bytes.len());

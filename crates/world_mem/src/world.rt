@@ -91,7 +91,7 @@ impl MemWorld {
 
     /// Sets the bytes of a file, and lets the directories above it stand. The record of moments begins anew.
     pub fn edit(&mut self, path: &PathText, bytes: &[u8]) -> Result<(), EditRefusal> {
-        if self.state.is_barred(path) {
+        if self.state.is_made(path) || self.state.is_barred(path) {
             return Err(EditRefusal::Place);
         }
         self.state.edit(self.alloc, path, bytes)?;

@@ -1,7 +1,5 @@
-use Rattle.std.proofs.Common.{ap, length, arith}
-use Rattle.std.proofs.lemmas.Grind.{common_steps}
 use Rattle.world_mem.proofs.Unmade.{unmade_of}
 use Rattle.world_mem.proofs.world.MemWorld.new.Goals as goal
 
 pub invariant_of-result-clause-unmade : goal.invariant_of-result-clause-unmade
-invariant_of-result-clause-unmade c = unmade_of c.in_ok-state.field-0
+invariant_of-result-clause-unmade c = unmade_of c.in_ok-state.state

@@ -3,6 +3,3 @@ use Rattle.world_mem.proofs.world.MemWorld.remove_file.Goals as goal
 
 pub invariant_of-self-clause-unmade : goal.invariant_of-self-clause-unmade
 invariant_of-self-clause-unmade c = unmade_of c.lose.new.self
-
-pub invariant_of-self-2-clause-unmade : goal.invariant_of-self-2-clause-unmade
-invariant_of-self-2-clause-unmade c = unmade_of c.lose.new.self

@@ -1,0 +1,26 @@
+-- What a stop leaves is left at every target of a running job.
+use Rattle.std.proofs.Common.{◌≡◌, ◌∙◌, sym, ap, subst, ℕ, suc, zero, List, [], ◌∷◌, arith, Contains}
+use Rattle.std.specs.List.{flat_map}
+use Rattle.std.proofs.lemmas.List.Elements.{Contains-append_left, Contains-append_right}
+use Rattle.world_api.specs.Act.{Given, act}
+use Rattle.world_mem.specs.Left.{names, Cover}
+use Rattle.world_mem.specs.Planned.{makes}
+use Rattle.world_mem.specs.Table.{law_of}
+use Rattle.world_mem.specs.declared.running.RunningJob.{RunningJob}
+use Rattle.world_mem.specs.declared.table.ActRow.{ActRow}
+use Rattle.world_mem.proofs.Membership.{names_of_pairs}
+
+in_flat : {X : Type 0} (f : X → List (List ℕ)) (xs : List X) (x : X) (path : List ℕ) → Contains xs x → Contains (f x) path → Contains (flat_map f xs) path
+in_flat f [] x path h p = absurd (omega (arith, h.1))
+in_flat f (y ∷ xs) x path (zero, lt, at) p = Contains-append_left (f y) (flat_map f xs) path (subst (λ z. Contains (f z) path) (sym at) p)
+in_flat f (y ∷ xs) x path (suc k, lt, at) p = Contains-append_right (f y) (flat_map f xs) path (in_flat f xs x path (k, omega (arith, lt), at) p)
+
+pub covers : (rows : List ActRow) (running : List RunningJob) (given : Given)
+    → ((run : RunningJob) → Contains running run → run.made ≡ makes rows run.job run.given)
+    → names given ≡ flat_map (λ (run : RunningJob). names run.made) running → Cover running given
+covers rows running given planned are run path here own =
+    let made : names run.made ≡ run.job.targets =
+    ap names (planned run here)
+    ∙ names_of_pairs (λ target. act (law_of rows) run.job.work run.job.signed run.job.targets run.given target) run.job.targets in
+    let in_made : Contains (names run.made) path = subst (λ (ns : List (List ℕ)). Contains ns path) (sym made) own in
+    subst (λ (ns : List (List ℕ)). Contains ns path) (sym are) (in_flat (λ (run : RunningJob). names run.made) running run path here in_made)
