@@ -89,6 +89,7 @@ pub(crate) fn write_synced<W: Disk>(
     requires within { W.meaning.tells world.old → place ≤ length (W.meaning.seen world.old bank) }
     requires small { place + length bytes.now ≤ 2 ^ 41 }
     ensures written { W.meaning.tells world.new → OnOk result (Holds (W.meaning.seen world.old bank) place bytes.now (W.meaning.seen world.new bank)) }
+    ensures around { W.meaning.tells world.new → W.meaning.around world.new ≡ W.meaning.around world.old }
     ensures told { Told W.meaning world.old world.new }
     ensures kept { OnOk result (W.meaning.counts world.new ≡ W.meaning.counts world.old) }
     ensures rose { OnErr result (DiskFails (W.meaning.counts world.old) (W.meaning.counts world.new)) }
@@ -108,6 +109,7 @@ pub(crate) fn append<W: Disk>(
     requires within { W.meaning.tells world.old → end < length (W.meaning.seen world.old bank) }
     requires small { end + 1 + length entry.now ≤ 2 ^ 41 }
     ensures end { W.meaning.tells world.new → OnOk result (end + length entry.now < length (W.meaning.seen world.new bank)) }
+    ensures around { W.meaning.tells world.new → W.meaning.around world.new ≡ W.meaning.around world.old }
     ensures told { Told W.meaning world.old world.new }
     ensures kept { OnOk result (W.meaning.counts world.new ≡ W.meaning.counts world.old) }
     ensures rose { OnErr result (DiskFails (W.meaning.counts world.old) (W.meaning.counts world.new)) }

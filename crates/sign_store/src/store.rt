@@ -144,6 +144,7 @@ impl Store {
         ensures stands { W.meaning.tells world.new → OnOk result (IsStoredIn (W.meaning.seen world.new) self.new) }
         ensures live { OnOk result (is_live self.new ≡ is_live self.old) }
         ensures dead { OnErr result (is_live self.new ≡ false) }
+        ensures around { W.meaning.tells world.new → W.meaning.around world.new ≡ W.meaning.around world.old }
         ensures told { Told W.meaning world.old world.new }
         ensures kept { OnOk result (W.meaning.counts world.new ≡ W.meaning.counts world.old) }
         ensures rose { OnErr result (DiskFails (W.meaning.counts world.old) (W.meaning.counts world.new)) }
@@ -164,6 +165,7 @@ impl Store {
         ensures stands { W.meaning.tells world.new → OnOk result (IsStoredIn (W.meaning.seen world.new) self.new) }
         ensures live { OnOk result (is_live self.new ≡ is_live self.old) }
         ensures dead { OnErr result (is_live self.new ≡ false) }
+        ensures around { W.meaning.tells world.new → W.meaning.around world.new ≡ W.meaning.around world.old }
         ensures told { Told W.meaning world.old world.new }
         ensures kept { OnOk result (W.meaning.counts world.new ≡ W.meaning.counts world.old) }
         ensures rose { OnErr result (DiskFails (W.meaning.counts world.old) (W.meaning.counts world.new)) }
@@ -212,6 +214,7 @@ impl Store {
         ensures stands { W.meaning.tells world.new → OnOk result (IsStoredIn (W.meaning.seen world.new) self.new) }
         ensures live { OnOk result (is_live self.new ≡ is_live self.old) }
         ensures dead { OnErr result (is_live self.new ≡ false) }
+        ensures around { W.meaning.tells world.new → W.meaning.around world.new ≡ W.meaning.around world.old }
         ensures told { Told W.meaning world.old world.new }
         ensures kept { OnOk result (W.meaning.counts world.new ≡ W.meaning.counts world.old) }
         ensures rose { OnErr result (DiskFails (W.meaning.counts world.old) (W.meaning.counts world.new)) }
