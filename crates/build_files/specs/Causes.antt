@@ -40,3 +40,7 @@ HasLookCause old new (Err e) = HasEndCause old new e
 -- an end for which nothing outside is at fault
 abbrev pub IsInside : ListEnd → Type 0
 IsInside e = (counts : Counts) → HasEndCause counts counts e
+
+-- a result for which nothing outside is at fault
+abbrev pub IsQuiet : {T : Type 0} → Result T ListEnd → Type 0
+IsQuiet result = (counts : Counts) → HasLookCause counts counts result

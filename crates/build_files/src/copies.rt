@@ -1,7 +1,7 @@
 //! The copy rules of variant directories, added as their paths come up.
-ghost use Rattle.std.specs.Prelude.{◌<◌, ℕ, length, IfOk, IfErr};
+ghost use Rattle.std.specs.Prelude.{◌<◌, ℕ, length, IfOk};
 ghost use Rattle.rule_graph.specs.Rules.{IsRule};
-ghost use Rattle.build_files.specs.Causes.{HasLookCause, IsInside};
+ghost use Rattle.build_files.specs.Causes.{HasLookCause, IsQuiet};
 ghost use Rattle.build_files.specs.Looks.{Looks};
 
 use crate::end::ListEnd;
@@ -69,14 +69,43 @@ impl Inputs {
         }
         let mut rules = Vec::new(self.alloc);
         self.add_each_copy(world, graph, nodes, &mut rules)?;
+        self.add_rest(world, graph, &mut rules)
+    }
+
+    /// Adds the copy rules of the files that these rules name, and puts the rules of those behind.
+    #[tactic(auto, using(crate::proofs::Looking::looking))]
+    fn add_rest<W: World>(
+        &mut self,
+        world: &mut W,
+        graph: &mut Graph,
+        rules: &mut Vec<RuleId>,
+    ) -> Result<(), ListEnd>
+        ensures looks { Looks W.meaning world.old world.new }
+        ensures cause { HasLookCause (W.meaning.counts world.old) (W.meaning.counts world.new) result }
+    {
         for place in 0..RULE_LIMIT as usize {
             let Some(rule) = rules.get(place).copied() else {
                 return Ok(());
             };
-            let nodes = files_named(self.alloc, rule_at(graph, rule)?)?;
-            self.add_each_copy(world, graph, nodes.as_slice(), &mut rules)?;
+            self.add_named(world, graph, rule, rules)?;
         }
         Ok(())
+    }
+
+    /// Adds the copy rules of the files that a rule names.
+    #[tactic(auto, using(crate::proofs::Looking::looking))]
+    fn add_named<W: World>(
+        &mut self,
+        world: &mut W,
+        graph: &mut Graph,
+        rule: RuleId,
+        rules: &mut Vec<RuleId>,
+    ) -> Result<(), ListEnd>
+        ensures looks { Looks W.meaning world.old world.new }
+        ensures cause { HasLookCause (W.meaning.counts world.old) (W.meaning.counts world.new) result }
+    {
+        let nodes = files_named(self.alloc, rule_at(graph, rule)?)?;
+        self.add_each_copy(world, graph, nodes.as_slice(), rules)
     }
 
     /// Adds the copy rules of these files, and puts those of their rules behind that weren't looked at.
@@ -162,6 +191,7 @@ impl Inputs {
 }
 
 /// Adds the rule that copies a file from a path.
+#[tactic(auto, using(crate::proofs::Looking::looking))]
 fn add_copy_rule(
     alloc: Global,
     graph: &mut Graph,
@@ -169,7 +199,7 @@ fn add_copy_rule(
     source: &PathText,
 ) -> Result<(), ListEnd>
     requires { node.0 < length graph.old.nodes }
-    ensures { IfErr result IsInside }
+    ensures { IsQuiet result }
 {
     let source = graph.intern(source)?;
     let rule = copy_rule(alloc, node, source)?;

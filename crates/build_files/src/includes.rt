@@ -139,9 +139,8 @@ impl Inputs {
     {
         let mut found = Vec::new(self.alloc);
         for include in includes {
-            if let Some(node) = self.search(world, graph, dirs, include)? {
-                found.push(node)?;
-            }
+            let node = self.search(world, graph, dirs, include)?;
+            push_found(&mut found, node)?;
         }
         Ok(found)
     }
@@ -162,8 +161,9 @@ impl Inputs {
             return Ok(None);
         };
         for dir in dirs.in_order(include.quoted) {
-            if let Some(node) = self.search_dir(world, graph, dir, name)? {
-                return Ok(Some(node));
+            let node = self.search_dir(world, graph, dir, name)?;
+            if node.is_some() {
+                return Ok(node);
             }
         }
         Ok(None)
@@ -183,12 +183,20 @@ impl Inputs {
     {
         let places = places(self.alloc, graph, dir, name)?;
         for path in places.as_slice() {
-            if let Some(node) = self.known(world, graph, path)? {
-                return Ok(Some(node));
+            let node = self.known(world, graph, path)?;
+            if node.is_some() {
+                return Ok(node);
             }
         }
         Ok(None)
     }
+}
+
+fn push_found(found: &mut Vec<NodeId>, node: Option<NodeId>) -> Result<(), Memory> {
+    if let Some(node) = node {
+        found.push(node)?;
+    }
+    Ok(())
 }
 
 /// Where a name may mean a file.

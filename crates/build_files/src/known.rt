@@ -1,6 +1,5 @@
 //! Which paths are known: those that a rule makes, and those at which a file stands.
-ghost use Rattle.std.specs.Prelude.{IfErr};
-ghost use Rattle.build_files.specs.Causes.{HasLookCause, IsInside};
+ghost use Rattle.build_files.specs.Causes.{HasLookCause, IsQuiet};
 ghost use Rattle.build_files.specs.Looks.{Looks};
 
 use crate::end::ListEnd;
@@ -68,22 +67,28 @@ impl Inputs {
             return Ok(None);
         }
         if is_file_at(world, path)? {
-            return Ok(Some(self.note(graph, path, true)?));
+            return self.note(graph, path, true);
         }
         if has_copy_rule(world, graph, path)? {
-            return Ok(Some(self.note(graph, path, false)?));
+            return self.note(graph, path, false);
         }
         let _ = self.unknown.insert(path.copy()?)?;
         Ok(None)
     }
 
     /// Gives a path a node, and notes whether a file stands there.
-    fn note(&mut self, graph: &mut Graph, path: &PathText, is_file: bool) -> Result<NodeId, ListEnd>
-        ensures { IfErr result IsInside }
+    #[tactic(auto, using(crate::proofs::Looking::looking))]
+    fn note(
+        &mut self,
+        graph: &mut Graph,
+        path: &PathText,
+        is_file: bool,
+    ) -> Result<Option<NodeId>, ListEnd>
+        ensures { IsQuiet result }
     {
         let node = graph.intern(path)?;
         self.seen(node)?.is_file = Some(is_file);
-        Ok(node)
+        Ok(Some(node))
     }
 }
 

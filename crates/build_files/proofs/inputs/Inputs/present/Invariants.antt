@@ -1,6 +1,6 @@
 use Rattle.std.proofs.Common.{◌≡◌}
 use Rattle.build_files.specs.Looks.{Looks}
-use Rattle.build_files.proofs.copies.Inputs.add_each_copy.Given as goal
+use Rattle.build_files.proofs.inputs.Inputs.present.Given as goal
 
 abbrev pub invariant-loop-node : goal.invariant-loop-node
 invariant-loop-node g l = record {

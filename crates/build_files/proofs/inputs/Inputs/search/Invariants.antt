@@ -1,6 +1,6 @@
 use Rattle.std.proofs.Common.{◌≡◌}
 use Rattle.build_files.specs.Looks.{Looks}
-use Rattle.build_files.proofs.includes.Inputs.search.Given as goal
+use Rattle.build_files.proofs.inputs.Inputs.search.Given as goal
 
 abbrev pub invariant-loop-dir : goal.invariant-loop-dir
 invariant-loop-dir g l = record {

@@ -1,6 +1,6 @@
 use Rattle.std.proofs.Common.{◌≡◌}
 use Rattle.build_files.specs.Looks.{Looks}
-use Rattle.build_files.proofs.copies.Inputs.add_copies.Given as goal
+use Rattle.build_files.proofs.inputs.Inputs.add_rest.Given as goal
 
 abbrev pub invariant-loop-place : goal.invariant-loop-place
 invariant-loop-place g l = record {

@@ -1,6 +1,6 @@
 use Rattle.std.proofs.Common.{◌≡◌}
 use Rattle.build_files.specs.Looks.{Looks}
-use Rattle.build_files.proofs.includes.Inputs.search_each.Given as goal
+use Rattle.build_files.proofs.inputs.Inputs.search_each.Given as goal
 
 abbrev pub invariant-loop-include : goal.invariant-loop-include
 invariant-loop-include g l = record {
