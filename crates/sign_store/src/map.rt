@@ -95,10 +95,17 @@ impl RecordMap {
     pub(crate) fn has_any(&self, number: usize) -> bool
         ensures { (rec : Rec) → HasRecord self.now rec number → result ≡ list_any (λ path. is_some (map_in self.now path)) rec.targets }
     {
-        match self.records.get(number) {
+        match self.record_at(number) {
             Some(rec) => self.has_some(rec.targets.as_slice()),
             None => false,
         }
+    }
+
+    /// The record of a number.
+    fn record_at(&self, number: usize) -> Option<&Rec>
+        ensures { option_copied result ≡ slice_get self.now.records.items number }
+    {
+        self.records.get(number)
     }
 
     /// Whether one of these paths has a record.

@@ -1,4 +1,4 @@
-use Rattle.std.proofs.Common.{◌≡◌, List, ℕ, drop, sym, ap, ◌∙◌}
+use Rattle.std.proofs.Common.{drop, ap, ◌∙◌}
 use Rattle.std.proofs.lemmas.List.{drop_min, take_rest}
 use Rattle.std.specs.Option.{is_some}
 use Rattle.sign_store.specs.Images.{entries_map}
