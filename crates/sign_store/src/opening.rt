@@ -3,7 +3,7 @@ ghost use Rattle.std.specs.Prelude.{◌≡◌, ◌≤◌, ◌<◌, ◌≢◌, �
 ghost use Rattle.world_api.specs.Causes.{DiskFails};
 ghost use Rattle.world_api.specs.Meaning.{Told};
 ghost use Rattle.world_api.specs.declared.disk.Bank.TheVariants as side;
-ghost use Rattle.sign_store.specs.Reached.{HasFaultCause};
+ghost use Rattle.sign_store.specs.Reached.{HasFaultCause, Looks};
 
 use crate::banks::{Sizes, fill, read_body, read_head, sizes_of, write_synced};
 use crate::compact::{FIRST_GENERATION, compact_form, compact_len, empty_form, is_worth};
@@ -33,11 +33,13 @@ pub(crate) struct Read {
 }
 
 /// The sizes of the banks, and which bank counts.
+#[tactic(auto, using(crate::proofs::DiskLemmas::calls))]
 fn look<W: Disk>(world: &mut W) -> Result<(Sizes, Choice), StoreRefusal>
     ensures a { W.meaning.tells world.new → IfOk result (λ seen. seen.0.a ≡ length (W.meaning.seen world.new side.A)) }
     ensures b { W.meaning.tells world.new → IfOk result (λ seen. seen.0.b ≡ length (W.meaning.seen world.new side.B)) }
     ensures small { IfOk result (λ seen. (seen.0.a ≤ 2 ^ 40) × (seen.0.b ≤ 2 ^ 40)) }
     ensures cause { HasFaultCause W.meaning world.old world.new result }
+    ensures looks { Looks W.meaning world.old world.new }
     ensures told { Told W.meaning world.old world.new }
 {
     let sizes = sizes_of(world)?;
@@ -47,6 +49,7 @@ fn look<W: Disk>(world: &mut W) -> Result<(Sizes, Choice), StoreRefusal>
 }
 
 /// What the entries of a live bank of this size stand for.
+#[tactic(auto, using(crate::proofs::DiskLemmas::calls))]
 fn read_bank<W: Disk>(
     alloc: Global,
     world: &mut W,
@@ -58,6 +61,7 @@ fn read_bank<W: Disk>(
     ensures inside { IfOk result (λ read. read.gate ≢ EndGate.Missing → read.end < size) }
     ensures size { W.meaning.tells world.new → size ≡ length (W.meaning.seen world.new bank) }
     ensures cause { HasFaultCause W.meaning world.old world.new result }
+    ensures looks { Looks W.meaning world.old world.new }
     ensures told { Told W.meaning world.old world.new }
 {
     let body = read_body(alloc, world, bank, size)?;
@@ -70,8 +74,10 @@ fn read_bank<W: Disk>(
 }
 
 /// The map of the banks, without a change of theirs.
+#[tactic(auto, using(crate::proofs::DiskLemmas::calls))]
 pub(crate) fn read_map<W: Disk>(alloc: Global, world: &mut W) -> Result<RecordMap, StoreRefusal>
     ensures cause { HasFaultCause W.meaning world.old world.new result }
+    ensures looks { Looks W.meaning world.old world.new }
     ensures told { Told W.meaning world.old world.new }
 {
     let (sizes, choice) = look(world)?;
