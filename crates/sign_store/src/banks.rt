@@ -133,6 +133,7 @@ pub(crate) fn append<W: Disk>(
 pub(crate) fn fill<W: Disk>(world: &mut W, bank: Bank, form: &[u8]) -> Result<(), Fault>
     requires { 1 + length form.now ≤ 2 ^ 41 }
     ensures len { W.meaning.tells world.new → OnOk result (length form.now < length (W.meaning.seen world.new bank)) }
+    ensures around { W.meaning.tells world.new → W.meaning.around world.new ≡ W.meaning.around world.old }
     ensures told { Told W.meaning world.old world.new }
     ensures kept { OnOk result (W.meaning.counts world.new ≡ W.meaning.counts world.old) }
     ensures rose { OnErr result (DiskFails (W.meaning.counts world.old) (W.meaning.counts world.new)) }
@@ -144,6 +145,7 @@ pub(crate) fn fill<W: Disk>(world: &mut W, bank: Bank, form: &[u8]) -> Result<()
 /// Closes the gate of a bank, where it is open or the bank is too short for one to count.
 fn close<W: Disk>(world: &mut W, bank: Bank) -> Result<(), Fault>
     ensures gate { W.meaning.tells world.new → OnOk result (0 < length (W.meaning.seen world.new bank)) }
+    ensures around { W.meaning.tells world.new → W.meaning.around world.new ≡ W.meaning.around world.old }
     ensures told { Told W.meaning world.old world.new }
     ensures kept { OnOk result (W.meaning.counts world.new ≡ W.meaning.counts world.old) }
     ensures rose { OnErr result (DiskFails (W.meaning.counts world.old) (W.meaning.counts world.new)) }
@@ -161,6 +163,7 @@ fn fill_closed<W: Disk>(world: &mut W, bank: Bank, form: &[u8]) -> Result<(), Fa
     requires gate { W.meaning.tells world.old → 0 < length (W.meaning.seen world.old bank) }
     requires small { 1 + length form.now ≤ 2 ^ 41 }
     ensures len { W.meaning.tells world.new → OnOk result (length form.now < length (W.meaning.seen world.new bank)) }
+    ensures around { W.meaning.tells world.new → W.meaning.around world.new ≡ W.meaning.around world.old }
     ensures told { Told W.meaning world.old world.new }
     ensures kept { OnOk result (W.meaning.counts world.new ≡ W.meaning.counts world.old) }
     ensures rose { OnErr result (DiskFails (W.meaning.counts world.old) (W.meaning.counts world.new)) }

@@ -91,6 +91,7 @@ pub(crate) fn read_map<W: Disk>(alloc: Global, world: &mut W) -> Result<RecordMa
 
 /// Makes a stop leave the banks as they read.
 fn settle<W: Disk>(world: &mut W) -> Result<(), Fault>
+    ensures around { W.meaning.tells world.new → W.meaning.around world.new ≡ W.meaning.around world.old }
     ensures told { Told W.meaning world.old world.new }
     ensures kept { OnOk result (W.meaning.counts world.new ≡ W.meaning.counts world.old) }
     ensures rose { OnErr result (DiskFails (W.meaning.counts world.old) (W.meaning.counts world.new)) }
@@ -104,6 +105,7 @@ pub(crate) fn open<W: Disk>(alloc: Global, world: &mut W) -> Result<Opened, Stor
     ensures end { IfOk result (λ opened. opened.end ≤ 2 ^ 40) }
     ensures stands { W.meaning.tells world.new → IfOk result (λ opened. opened.end < length (W.meaning.seen world.new opened.bank)) }
     ensures cause { HasFaultCause W.meaning world.old world.new result }
+    ensures around { W.meaning.tells world.new → W.meaning.around world.new ≡ W.meaning.around world.old }
     ensures told { Told W.meaning world.old world.new }
 {
     settle(world)?;
@@ -121,6 +123,7 @@ fn start<W: Disk>(alloc: Global, world: &mut W) -> Result<Opened, StoreRefusal>
     ensures end { IfOk result (λ opened. opened.end ≤ 2 ^ 40) }
     ensures stands { W.meaning.tells world.new → IfOk result (λ opened. opened.end < length (W.meaning.seen world.new opened.bank)) }
     ensures cause { HasFaultCause W.meaning world.old world.new result }
+    ensures around { W.meaning.tells world.new → W.meaning.around world.new ≡ W.meaning.around world.old }
     ensures told { Told W.meaning world.old world.new }
 {
     let form = empty_form(alloc)?;
@@ -146,6 +149,7 @@ fn reopen<W: Disk>(
     ensures end { IfOk result (λ opened. opened.end ≤ 2 ^ 40) }
     ensures stands { W.meaning.tells world.new → IfOk result (λ opened. opened.end < length (W.meaning.seen world.new opened.bank)) }
     ensures cause { HasFaultCause W.meaning world.old world.new result }
+    ensures around { W.meaning.tells world.new → W.meaning.around world.new ≡ W.meaning.around world.old }
     ensures told { Told W.meaning world.old world.new }
 {
     let read = read_bank(alloc, world, bank, size)?;
@@ -165,6 +169,7 @@ fn mend<W: Disk>(world: &mut W, bank: Bank, gate: EndGate, end: u64) -> Result<(
     requires inside { W.meaning.tells world.old → gate ≢ EndGate.Missing → end < length (W.meaning.seen world.old bank) }
     requires small { end ≤ 2 ^ 40 }
     ensures stands { W.meaning.tells world.new → OnOk result (end < length (W.meaning.seen world.new bank)) }
+    ensures around { W.meaning.tells world.new → W.meaning.around world.new ≡ W.meaning.around world.old }
     ensures told { Told W.meaning world.old world.new }
     ensures kept { OnOk result (W.meaning.counts world.new ≡ W.meaning.counts world.old) }
     ensures rose { OnErr result (DiskFails (W.meaning.counts world.old) (W.meaning.counts world.new)) }
@@ -182,6 +187,7 @@ fn compact<W: Disk>(alloc: Global, world: &mut W, opened: Opened) -> Result<Open
     ensures end { IfOk result (λ opened. opened.end ≤ 2 ^ 40) }
     ensures stands { W.meaning.tells world.new → IfOk result (λ opened. opened.end < length (W.meaning.seen world.new opened.bank)) }
     ensures cause { HasFaultCause W.meaning world.old world.new result }
+    ensures around { W.meaning.tells world.new → W.meaning.around world.new ≡ W.meaning.around world.old }
     ensures told { Told W.meaning world.old world.new }
 {
     let live = opened.end + 1;

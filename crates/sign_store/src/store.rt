@@ -55,6 +55,7 @@ impl Store {
         ensures live { IfOk result (λ store. is_live store ≡ true) }
         ensures stands { W.meaning.tells world.new → IfOk result (IsStoredIn (W.meaning.seen world.new)) }
         ensures cause { HasFaultCause W.meaning world.old world.new result }
+        ensures around { W.meaning.tells world.new → W.meaning.around world.new ≡ W.meaning.around world.old }
         ensures told { Told W.meaning world.old world.new }
     {
         let opened = open(alloc, world)?;
