@@ -14,7 +14,7 @@ use variant_dirs::Variants;
 /// What scripts have declared, in the order of their calls.
 #[derive(Drop)]
 pub struct Declarations {
-    pub(crate) alloc: Global,
+    pub alloc: Global,
     pub envs: Environments,
     /// The directory of the script that runs, and the variant directories: what texts are expanded with.
     pub locals: Locals,

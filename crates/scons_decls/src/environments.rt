@@ -2,7 +2,7 @@
 ghost use Rattle.std.specs.Prelude.{◌<◌, length};
 
 use crate::fault::NameFault;
-use crate::variables::refuse_variables;
+use crate::profile::refuse_variables;
 use env_subst::{LibItem, Locals, Mode, dirs, lib_names, lines, path_text, subst};
 use env_vars::{EnvFault, EnvValue, Envs};
 use indexmap::IndexMap;
@@ -49,14 +49,15 @@ impl Environments {
         if env.0 <= self.last.0 { env } else { EnvId(0) }
     }
 
-    pub(crate) fn make(&mut self) -> Result<EnvId, NameFault> {
+    pub fn make(&mut self) -> Result<EnvId, NameFault> {
         self.last = self.envs.make()?;
         Ok(self.last)
     }
 
     /// A copy with the same decider and builders.
-    pub(crate) fn clone_of(&mut self, env: EnvId) -> Result<EnvId, NameFault> {
-        self.last = self.envs.clone_of(self.held(env))?;
+    pub fn clone_of(&mut self, env: EnvId) -> Result<EnvId, NameFault> {
+        let held = self.held(env);
+        self.last = self.envs.clone_of(held)?;
         let decider = self.own_decider(env);
         let mut builders = IndexMap::new(self.alloc);
         if let Some(setting) = self.settings.get(&env.0) {
@@ -68,11 +69,7 @@ impl Environments {
     }
 
     /// The environment of one call: the variables that the call gave, in front of its environment.
-    pub(crate) fn of_call(
-        &mut self,
-        env: EnvId,
-        values: &[(Text, EnvValue)],
-    ) -> Result<EnvId, NameFault> {
+    pub fn of_call(&mut self, env: EnvId, values: &[(Text, EnvValue)]) -> Result<EnvId, NameFault> {
         refuse_variables(self.alloc, values)?;
         let env = self.held(env);
         if values.is_empty() {
@@ -98,12 +95,7 @@ impl Environments {
     }
 
     /// One such value.
-    pub(crate) fn given(
-        &self,
-        env: EnvId,
-        name: &Text,
-        value: &EnvValue,
-    ) -> Result<EnvValue, Memory> {
+    pub fn given(&self, env: EnvId, name: &Text, value: &EnvValue) -> Result<EnvValue, Memory> {
         self.envs
             .given(self.held(env), name.as_str(), value.copy(self.alloc)?)
     }
@@ -112,44 +104,34 @@ impl Environments {
         self.envs.get(self.held(env), name)
     }
 
-    pub(crate) fn set(&mut self, env: EnvId, name: &str, value: EnvValue) -> Result<(), EnvFault> {
-        self.envs.set(self.held(env), name, value)
+    pub fn set(&mut self, env: EnvId, name: &str, value: EnvValue) -> Result<(), EnvFault> {
+        let env = self.held(env);
+        self.envs.set(env, name, value)
     }
 
-    pub(crate) fn append(
+    pub fn append(&mut self, env: EnvId, name: &str, value: EnvValue) -> Result<(), EnvFault> {
+        let env = self.held(env);
+        self.envs.append(env, name, value)
+    }
+
+    pub fn prepend(&mut self, env: EnvId, name: &str, value: EnvValue) -> Result<(), EnvFault> {
+        let env = self.held(env);
+        self.envs.prepend(env, name, value)
+    }
+
+    pub fn append_unique(
         &mut self,
         env: EnvId,
         name: &str,
         value: EnvValue,
     ) -> Result<(), EnvFault> {
-        self.envs.append(self.held(env), name, value)
+        let env = self.held(env);
+        self.envs.append_unique(env, name, value)
     }
 
-    pub(crate) fn prepend(
-        &mut self,
-        env: EnvId,
-        name: &str,
-        value: EnvValue,
-    ) -> Result<(), EnvFault> {
-        self.envs.prepend(self.held(env), name, value)
-    }
-
-    pub(crate) fn append_unique(
-        &mut self,
-        env: EnvId,
-        name: &str,
-        value: EnvValue,
-    ) -> Result<(), EnvFault> {
-        self.envs.append_unique(self.held(env), name, value)
-    }
-
-    pub(crate) fn set_default(
-        &mut self,
-        env: EnvId,
-        name: &str,
-        value: EnvValue,
-    ) -> Result<(), EnvFault> {
-        self.envs.set_default(self.held(env), name, value)
+    pub fn set_default(&mut self, env: EnvId, name: &str, value: EnvValue) -> Result<(), EnvFault> {
+        let env = self.held(env);
+        self.envs.set_default(env, name, value)
     }
 
     /// What a text stands for in an environment.
@@ -176,12 +158,7 @@ impl Environments {
     }
 
     /// The text of a path.
-    pub(crate) fn path_text(
-        &self,
-        env: EnvId,
-        text: &str,
-        locals: &Locals,
-    ) -> Result<String, NameFault> {
+    pub fn path_text(&self, env: EnvId, text: &str, locals: &Locals) -> Result<String, NameFault> {
         Ok(path_text(self.alloc, &self.envs, self.held(env), text, locals)?)
     }
 
@@ -200,14 +177,14 @@ impl Environments {
     }
 
     /// The decider of an environment: its own, or else that of the default environment.
-    pub(crate) fn decider(&self, env: EnvId) -> Decider {
+    pub fn decider(&self, env: EnvId) -> Decider {
         match self.own_decider(env) {
             Some(decider) => decider,
             None => self.own_decider(EnvId(0)).unwrap_or(Decider::Content),
         }
     }
 
-    pub(crate) fn set_decider(&mut self, env: EnvId, decider: Decider) -> Result<(), NameFault> {
+    pub fn set_decider(&mut self, env: EnvId, decider: Decider) -> Result<(), NameFault> {
         match self.settings.get_mut(&env.0) {
             Some(setting) => setting.decider = Some(decider),
             None => {
@@ -226,12 +203,7 @@ impl Environments {
         self.settings.get(&env.0)?.builders.get(name).copied()
     }
 
-    pub(crate) fn set_builder(
-        &mut self,
-        env: EnvId,
-        name: &Text,
-        builder: u32,
-    ) -> Result<(), NameFault> {
+    pub fn set_builder(&mut self, env: EnvId, name: &Text, builder: u32) -> Result<(), NameFault> {
         let name = String::from_str(self.alloc, name.as_str())?;
         match self.settings.get_mut(&env.0) {
             Some(setting) => {

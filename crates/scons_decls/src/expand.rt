@@ -1,12 +1,14 @@
 //! Texts of a script, expanded, and read as paths from the script's directory.
+ghost use Rattle.std.specs.Prelude.{◌≡◌, length, IfOk};
+
 use crate::declarations::Declarations;
 use crate::fault::NameFault;
-use crate::given::Given;
+use crate::given::{Given, Nodes};
 use env_subst::Mode;
-use scons_base::{EnvId, PathText, Paths, Text};
+use scons_base::{EnvId, Listing, PathText, Paths, Text};
 
 /// What a text stands for in an environment.
-pub(crate) fn expanded(
+pub fn expanded(
     state: &Declarations,
     env: EnvId,
     text: &str,
@@ -16,22 +18,19 @@ pub(crate) fn expanded(
 }
 
 /// The path that an expanded text names.
-pub(crate) fn path_at(state: &Declarations, text: &str) -> Result<PathText, NameFault> {
+pub fn path_at(state: &Declarations, text: &str) -> Result<PathText, NameFault> {
     let locals = &state.locals;
     Ok(PathText::resolve(state.alloc, &locals.top, &locals.dir, text)?)
 }
 
 /// The path that a text names.
-pub(crate) fn path_of(
-    state: &Declarations,
-    env: EnvId,
-    text: &Text,
-) -> Result<PathText, NameFault> {
+pub fn path_of(state: &Declarations, env: EnvId, text: &Text) -> Result<PathText, NameFault> {
     let text = state.envs.path_text(env, text.as_str(), &state.locals)?;
     path_at(state, text.as_str())
 }
 
-pub(crate) fn bad_argument(state: &Declarations, name: &str) -> NameFault {
+/// The fault of a call whose arguments are wrong.
+pub fn bad_argument(state: &Declarations, name: &str) -> NameFault {
     match Text::of(state.alloc, name) {
         Ok(name) => NameFault::BadArgument(name),
         Err(_) => NameFault::Memory,
@@ -39,7 +38,7 @@ pub(crate) fn bad_argument(state: &Declarations, name: &str) -> NameFault {
 }
 
 /// The file that an argument of the call `name` stands for.
-pub(crate) fn file_of(
+pub fn file_of(
     state: &Declarations,
     env: EnvId,
     given: &Given,
@@ -53,7 +52,7 @@ pub(crate) fn file_of(
 }
 
 /// The directory that an argument of the call `name` stands for.
-pub(crate) fn dir_of(
+pub fn dir_of(
     state: &Declarations,
     env: EnvId,
     given: &Given,
@@ -67,7 +66,7 @@ pub(crate) fn dir_of(
 }
 
 /// The files that arguments stand for, in order.
-pub(crate) fn files_of(
+pub fn files_of(
     state: &Declarations,
     env: EnvId,
     given: &[Given],
@@ -81,10 +80,21 @@ pub(crate) fn files_of(
 }
 
 /// A copy of a list of paths.
-pub(crate) fn listed(state: &Declarations, paths: &[PathText]) -> Result<Paths, NameFault> {
+pub fn listed(state: &Declarations, paths: &[PathText]) -> Result<Paths, NameFault>
+    ensures { IfOk result (λ p. length p ≡ length paths.now) }
+{
     let mut list = Paths::new(Vec::new(state.alloc));
     for path in paths {
         list.push(path.copy()?)?;
     }
     Ok(list)
+}
+
+/// Files as a call answers them.
+pub fn as_nodes(state: &Declarations, paths: &[PathText]) -> Result<Nodes, NameFault> {
+    let mut nodes = Listing::empty(state.alloc);
+    for path in paths {
+        nodes.push(Given::File(path.copy()?))?;
+    }
+    Ok(nodes)
 }

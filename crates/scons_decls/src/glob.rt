@@ -1,10 +1,9 @@
 //! Glob: the files and targets of one directory whose names fit a pattern.
 use crate::declarations::Declarations;
-use crate::expand::{bad_argument, expanded, path_at};
+use crate::expand::{as_nodes, bad_argument, expanded, path_at};
 use crate::fault::NameFault;
 use crate::given::Nodes;
 use crate::pattern::{Pattern, has_wildcard};
-use crate::site::as_nodes;
 use env_subst::Mode;
 use indexmap::IndexSet;
 use scons_base::{EnvId, PathText, Paths, Text};

@@ -27,7 +27,8 @@ impl Made {
         Some(self.by_dir.get(dir.as_str())?.as_slice())
     }
 
-    pub(crate) fn add(&mut self, alloc: Global, path: &PathText) -> Result<(), Memory> {
+    /// Notes a target.
+    pub fn add(&mut self, alloc: Global, path: &PathText) -> Result<(), Memory> {
         if self.targets.contains(path) {
             return Ok(());
         }

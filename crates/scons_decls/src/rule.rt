@@ -1,4 +1,6 @@
 //! A rule as it was declared.
+ghost use Rattle.std.specs.Prelude.{◌<◌, length};
+
 use crate::place::Place;
 use scons_base::{EnvId, PathText, Paths, Texts};
 use world_api::Decider;
@@ -30,4 +32,5 @@ pub struct Declaration {
     pub targets: Paths,
     /// A source that was named twice stands here twice.
     pub sources: Paths,
+    ghost has_target: { 0 < length targets },
 }

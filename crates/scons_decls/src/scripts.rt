@@ -1,5 +1,4 @@
 //! Scripts that read scripts, and variant directories.
-use crate::answer::Answer;
 use crate::declarations::Declarations;
 use crate::expand::{dir_of, file_of};
 use crate::fault::NameFault;
@@ -13,20 +12,6 @@ pub struct ScriptPlace {
     pub dir: PathText,
     /// The files that may be the script: the first that is there is read.
     pub candidates: Paths,
-}
-
-/// `VariantDir(variant, source, duplicate)`
-pub(crate) fn variant_dir(
-    state: &mut Declarations,
-    env: EnvId,
-    variant: &Given,
-    source: &Given,
-    duplicate: bool,
-) -> Result<Answer, NameFault> {
-    let variant = dir_of(state, env, variant, "VariantDir")?;
-    let source = dir_of(state, env, source, "VariantDir")?;
-    state.locals.variants.add(&variant, &source, duplicate)?;
-    Ok(Answer::Nothing)
 }
 
 impl Declarations {

@@ -9,7 +9,8 @@ use py_heap::{Heap, Value};
 use py_host::Place;
 use scons_base::{EnvId, Text};
 use scons_calls::variable_value;
-use scons_decls::{Answer, Call, declare};
+use scons_declare::declare;
+use scons_decls::{Answer, Call};
 
 /// Declares a call, and gives the value of its answer.
 #[tactic(auto, using(crate::proofs::Looking::looking))]

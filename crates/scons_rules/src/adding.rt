@@ -1,4 +1,8 @@
 //! One declared rule, put into the graph.
+ghost use Rattle.std.specs.Prelude.{◌≡◌, ◌<◌, ◌≤◌, true, length, IfOk};
+ghost use Rattle.rule_graph.specs.Rules.{are_below, IsRule};
+ghost use Rattle.scons_rules.specs.Numbers.{AreNodes};
+
 use crate::fault::RuleReadFault;
 use crate::interning::nodes_of;
 use crate::line::lines_of;
@@ -43,21 +47,33 @@ impl RuleReading {
         sources: &Paths,
         libraries: &Paths,
         said: &OfRule,
-    ) -> Result<RuleNodes, RuleReadFault> {
+    ) -> Result<RuleNodes, RuleReadFault>
+        requires { 0 < length targets.now }
+        ensures { IfOk result (λ n. AreNodes (length self.new.graph.nodes) n) }
+    {
+        let targets = nodes_of(self.alloc, &mut self.graph, targets.as_slice())?;
+        let sources = nodes_of(self.alloc, &mut self.graph, sources.as_slice())?;
+        let libs = nodes_of(self.alloc, &mut self.graph, libraries.as_slice())?;
+        let depends = self.settled_nodes(&said.depends)?;
+        let required = self.settled_nodes(&said.required)?;
+        let ignored = self.settled_nodes(&said.ignored)?;
         Ok(RuleNodes {
-            targets: nodes_of(self.alloc, &mut self.graph, targets.as_slice())?,
-            sources: nodes_of(self.alloc, &mut self.graph, sources.as_slice())?,
-            libs: nodes_of(self.alloc, &mut self.graph, libraries.as_slice())?,
-            depends: self.settled_nodes(&said.depends)?,
-            required: self.settled_nodes(&said.required)?,
-            ignored: self.settled_nodes(&said.ignored)?,
+            targets,
+            sources,
+            libs,
+            depends,
+            required,
+            ignored,
         })
     }
 
     pub(crate) fn settled_nodes(
         &mut self,
         paths: &Paths,
-    ) -> Result<Listing<NodeId>, RuleReadFault> {
+    ) -> Result<Listing<NodeId>, RuleReadFault>
+        ensures below { IfOk result (λ n. are_below (length self.new.graph.nodes) n ≡ true) }
+        ensures keeps { length self.old.graph.nodes ≤ length self.new.graph.nodes }
+    {
         let files = all_settled(self.alloc, &self.state, paths.as_slice())?;
         nodes_of(self.alloc, &mut self.graph, files.as_slice())
     }
@@ -67,7 +83,10 @@ impl RuleReading {
         number: usize,
         nodes: RuleNodes,
         always: bool,
-    ) -> Result<Rule, RuleReadFault> {
+    ) -> Result<Rule, RuleReadFault>
+        requires { AreNodes (length self.now.graph.nodes) nodes }
+        ensures { IfOk result (λ r. IsRule (length self.now.graph.nodes) r) }
+    {
         let Some(declaration) = self.state.rules.get(number) else {
             return Err(RuleReadFault::Memory);
         };

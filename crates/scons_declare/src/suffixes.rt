@@ -1,24 +1,7 @@
-//! Suffixes of sources, and the prefixes and suffixes that builders put round a name.
-use crate::declarations::Declarations;
-use crate::fault::NameFault;
+//! The prefixes and suffixes that builders put round a name.
 use env_subst::Mode;
 use scons_base::{EnvId, PathText, Text};
-
-/// What a source is, by its suffix.
-#[derive(Clone, Copy, Debug, PartialEq, Eq)]
-pub enum Language {
-    C,
-    CPlusPlus,
-}
-
-/// The language of a source, if it is one that compilers take.
-pub fn language_of(path: &PathText) -> Option<Language> {
-    match path.suffix().as_bytes() {
-        b".c" => Some(Language::C),
-        b".C" | b".cc" | b".cpp" | b".cxx" => Some(Language::CPlusPlus),
-        _ => None,
-    }
-}
+use scons_decls::{Declarations, NameFault};
 
 /// What a builder puts in front of names and behind them.
 #[derive(Drop)]

@@ -1,11 +1,10 @@
 //! Where a rule is declared.
-use crate::answer::Answer;
-use crate::declarations::Declarations;
-use crate::fault::NameFault;
-use crate::given::{Given, Nodes, Variables};
-use crate::place::Place;
-use crate::rule::{Declaration, Recipe};
+ghost use Rattle.std.specs.Prelude.{◌<◌, length, IfOk};
+
 use scons_base::{EnvId, Listing, PathText, Paths};
+use scons_decls::{
+    Answer, Declaration, Declarations, Given, NameFault, Nodes, Place, Recipe, Variables, as_nodes,
+};
 use world_api::Decider;
 
 /// The place of a call, the environment of its rules and their decider.
@@ -39,7 +38,9 @@ pub(crate) fn declare_rule(
     recipe: Recipe,
     targets: Paths,
     sources: Paths,
-) -> Result<(), NameFault> {
+) -> Result<(), NameFault>
+    requires { 0 < length targets }
+{
     add_made(state, targets.as_slice())?;
     let dir = state.locals.dir.copy()?;
     state.rules.push(Declaration {
@@ -75,15 +76,9 @@ pub(crate) fn as_answer(state: &Declarations, paths: &[PathText]) -> Result<Answ
     Ok(Answer::Targets(as_nodes(state, paths)?))
 }
 
-pub(crate) fn as_nodes(state: &Declarations, paths: &[PathText]) -> Result<Nodes, NameFault> {
-    let mut nodes = Listing::empty(state.alloc);
-    for path in paths {
-        nodes.push(Given::File(path.copy()?))?;
-    }
-    Ok(nodes)
-}
-
-pub(crate) fn one_path(state: &Declarations, path: &PathText) -> Result<Paths, NameFault> {
+pub(crate) fn one_path(state: &Declarations, path: &PathText) -> Result<Paths, NameFault>
+    ensures { IfOk result (λ p. 0 < length p) }
+{
     let mut paths = Paths::new(Vec::new(state.alloc));
     paths.push(path.copy()?)?;
     Ok(paths)

@@ -1,12 +1,7 @@
 //! Install and InstallAs: rules that copy.
-use crate::answer::Answer;
-use crate::declarations::Declarations;
-use crate::expand::{bad_argument, dir_of, files_of};
-use crate::fault::NameFault;
-use crate::given::Given;
-use crate::rule::Recipe;
 use crate::site::{Site, as_answer, declare_rule, one_path};
 use scons_base::{PathText, Paths, joined};
+use scons_decls::{Answer, Declarations, Given, NameFault, Recipe, bad_argument, dir_of, files_of};
 
 /// `Install(dir, source)`: each source is copied into each directory under its own name.
 pub(crate) fn install(

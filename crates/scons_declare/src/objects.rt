@@ -1,15 +1,14 @@
 //! Objects, and what is linked of them.
-use crate::answer::Answer;
-use crate::declarations::Declarations;
-use crate::expand::{bad_argument, file_of, listed};
-use crate::fault::NameFault;
-use crate::given::Given;
-use crate::rule::Recipe;
+ghost use Rattle.std.specs.Prelude.{◌<◌, length, IfOk};
+
 use crate::site::{Site, as_answer, declare_rule, one_path};
-use crate::suffixes::{Affixes, affixed, affixes_of, language_of, target_of};
+use crate::suffixes::{Affixes, affixed, affixes_of, target_of};
 use env_subst::Mode;
 use indexmap::IndexSet;
 use scons_base::{PathText, Paths, Text};
+use scons_decls::{
+    Answer, Declarations, Given, NameFault, Recipe, bad_argument, file_of, language_of, listed,
+};
 
 /// `Object(source)` and `Object(target, source)`.
 pub(crate) fn objects(
@@ -156,7 +155,9 @@ fn linked_targets(
     name: &str,
     targets: Option<&[Given]>,
     sources: &[Given],
-) -> Result<Paths, NameFault> {
+) -> Result<Paths, NameFault>
+    ensures { IfOk result (λ p. 0 < length p) }
+{
     let Some(targets) = targets else {
         let Some(first) = sources.first() else {
             return Err(NameFault::NoSource);
@@ -175,7 +176,9 @@ pub(crate) fn distinct_targets(
     affixes: &Affixes,
     name: &str,
     targets: &[Given],
-) -> Result<Paths, NameFault> {
+) -> Result<Paths, NameFault>
+    ensures { IfOk result (λ p. 0 < length p) }
+{
     let mut paths = IndexSet::new(state.alloc);
     for target in targets {
         paths.insert(named_target(state, site, target, affixes, name)?)?;

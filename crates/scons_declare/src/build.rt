@@ -1,15 +1,9 @@
 //! The calls of builders.
-use crate::answer::Answer;
-use crate::call::Maker;
-use crate::declarations::Declarations;
-use crate::fault::NameFault;
-use crate::given::{Given, Nodes, Variables};
 use crate::objects::{linked, objects};
 use crate::own::own_rule;
-use crate::place::Place;
-use crate::rule::Recipe;
 use crate::site::site_of;
 use scons_base::{EnvId, Text};
+use scons_decls::{Answer, Declarations, Given, Maker, NameFault, Nodes, Place, Recipe, Variables};
 
 /// Calls a builder.
 pub(crate) fn build(

@@ -1,14 +1,12 @@
 //! The calls on environments.
-use crate::answer::Answer;
-use crate::call::Change;
-use crate::declarations::Declarations;
-use crate::expand::{bad_argument, expanded};
-use crate::fault::NameFault;
-use crate::given::Variables;
-use crate::variables::{change_all, change_one, refuse_variable, refuse_variables, set_builders};
+use crate::variables::{change_all, change_one, set_builders};
 use env_subst::Mode;
 use env_vars::EnvValue;
 use scons_base::{EnvId, Text};
+use scons_decls::{
+    Answer, Change, Declarations, NameFault, Variables, bad_argument, expanded, refuse_variable,
+    refuse_variables,
+};
 use world_api::Decider;
 
 /// `Environment(..)`

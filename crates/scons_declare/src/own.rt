@@ -1,15 +1,13 @@
 //! Builders of a script's own, and Command.
-use crate::answer::Answer;
-use crate::builder::Builder;
-use crate::declarations::Declarations;
-use crate::expand::{bad_argument, files_of};
-use crate::fault::NameFault;
-use crate::given::Given;
+ghost use Rattle.std.specs.Prelude.{◌<◌, length, IfOk};
+
 use crate::objects::{distinct_targets, named_source};
-use crate::rule::Recipe;
 use crate::site::{Site, as_answer, declare_rule, one_path};
 use crate::suffixes::{Affixes, affixes_of, dotted, target_of};
 use scons_base::{PathText, Paths, Text, Texts};
+use scons_decls::{
+    Answer, Builder, Declarations, Given, NameFault, Recipe, bad_argument, files_of,
+};
 
 /// A builder's affixes, expanded.
 #[derive(Drop)]
@@ -44,10 +42,7 @@ pub(crate) fn own_rule(
 ) -> Result<Answer, NameFault> {
     let naming = naming_of(state, site, builder)?;
     let sources = own_sources(state, site, &naming.source, name, sources)?;
-    let targets = match targets {
-        Some(targets) => distinct_targets(state, site, &naming.target, name, targets)?,
-        None => default_target(state, &naming, sources.as_slice())?,
-    };
+    let targets = own_targets(state, site, &naming, name, targets, sources.as_slice())?;
     let answer = as_answer(state, targets.as_slice())?;
     declare_rule(state, site, Recipe::Own(builder), targets, sources)?;
     Ok(answer)
@@ -67,11 +62,29 @@ fn own_sources(
     Ok(paths)
 }
 
+fn own_targets(
+    state: &Declarations,
+    site: Site,
+    naming: &Naming,
+    name: &str,
+    targets: Option<&[Given]>,
+    sources: &[PathText],
+) -> Result<Paths, NameFault>
+    ensures { IfOk result (λ p. 0 < length p) }
+{
+    match targets {
+        Some(targets) => distinct_targets(state, site, &naming.target, name, targets),
+        None => default_target(state, naming, sources),
+    }
+}
+
 fn default_target(
     state: &Declarations,
     naming: &Naming,
     sources: &[PathText],
-) -> Result<Paths, NameFault> {
+) -> Result<Paths, NameFault>
+    ensures { IfOk result (λ p. 0 < length p) }
+{
     let Some(source) = sources.first() else {
         return Err(NameFault::NoSource);
     };

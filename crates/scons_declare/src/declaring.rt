@@ -1,23 +1,18 @@
 //! One call, declared.
-use crate::answer::Answer;
 use crate::build::build;
-use crate::call::Call;
-use crate::declarations::Declarations;
 use crate::environment_calls::{
     change, change_default, clone_environment, get, new_environment, set, set_builder, set_decider,
     subst,
 };
-use crate::expand::{dir_of, expanded, file_of};
-use crate::fault::NameFault;
-use crate::given::Given;
 use crate::install::{install, install_as};
 use crate::own::{command, new_builder};
-use crate::place::Place;
-use crate::said::{Saying, alias, ask, say};
-use crate::scripts::variant_dir;
+use crate::said::{alias, ask, say};
 use crate::site::{plain_site, site_of};
 use env_subst::Mode;
 use scons_base::{EnvId, Listing, Text};
+use scons_decls::{
+    Answer, Call, Declarations, Given, NameFault, Place, Saying, dir_of, expanded, file_of,
+};
 
 /// Declares a call that stands at a place and is made in an environment.
 pub fn declare(
@@ -135,5 +130,19 @@ fn one_node(state: &Declarations, node: Given) -> Result<Answer, NameFault> {
 fn help(state: &mut Declarations, env: EnvId, text: &Text) -> Result<Answer, NameFault> {
     let text = expanded(state, env, text.as_str(), Mode::Raw)?;
     state.helps.push(text)?;
+    Ok(Answer::Nothing)
+}
+
+/// `VariantDir(variant, source, duplicate)`
+fn variant_dir(
+    state: &mut Declarations,
+    env: EnvId,
+    variant: &Given,
+    source: &Given,
+    duplicate: bool,
+) -> Result<Answer, NameFault> {
+    let variant = dir_of(state, env, variant, "VariantDir")?;
+    let source = dir_of(state, env, source, "VariantDir")?;
+    state.locals.variants.add(&variant, &source, duplicate)?;
     Ok(Answer::Nothing)
 }

@@ -1,0 +1,163 @@
+//! The calls that say something of nodes: Depends, Requires, Ignore, AlwaysBuild; Alias and Default.
+use env_subst::Mode;
+use scons_base::{EnvId, Listing, Paths, Text};
+use scons_decls::{
+    Answer, Asked, Declarations, Given, NameFault, Nodes, Said, Saying, bad_argument, expanded,
+    file_of, path_at,
+};
+
+/// `Depends(targets, nodes)` and its kin. They answer the targets.
+pub(crate) fn say(
+    state: &mut Declarations,
+    env: EnvId,
+    saying: Saying,
+    targets: &[Given],
+    nodes: &[Given],
+) -> Result<Answer, NameFault> {
+    let nodes = members_of(state, env, nodes, saying.name(), false)?;
+    let mut files = Paths::new(Vec::new(state.alloc));
+    let mut answer = Listing::empty(state.alloc);
+    for target in targets {
+        answer.push(say_of(state, env, saying, &mut files, target, nodes.as_slice())?)?;
+    }
+    state.said.push(Said {
+        saying,
+        targets: files,
+        nodes,
+    })?;
+    Ok(Answer::Targets(answer))
+}
+
+/// One target: a file is noted; what an alias depends on, or requires, is a member of it.
+fn say_of(
+    state: &mut Declarations,
+    env: EnvId,
+    saying: Saying,
+    files: &mut Paths,
+    target: &Given,
+    nodes: &[Given],
+) -> Result<Given, NameFault> {
+    if let Given::Alias(name) = target {
+        match saying {
+            Saying::Depends | Saying::Requires => add_members(state, name, nodes)?,
+            Saying::Ignore => return Err(bad_argument(state, "Ignore")),
+            Saying::Always => {}
+        }
+        return Ok(Given::Alias(name.copy()?));
+    }
+    let path = file_of(state, env, target, saying.name())?;
+    if path.as_str() == "." {
+        return Err(bad_argument(state, saying.name()));
+    }
+    files.push(path.copy()?)?;
+    Ok(Given::File(path))
+}
+
+/// The nodes that arguments stand for. A directory is one where `dirs` says so.
+fn members_of(
+    state: &Declarations,
+    env: EnvId,
+    given: &[Given],
+    name: &str,
+    dirs: bool,
+) -> Result<Nodes, NameFault> {
+    let mut members = Listing::empty(state.alloc);
+    for one in given {
+        members.push(member_of(state, env, one, name, dirs)?)?;
+    }
+    Ok(members)
+}
+
+fn member_of(
+    state: &Declarations,
+    env: EnvId,
+    given: &Given,
+    name: &str,
+    dirs: bool,
+) -> Result<Given, NameFault> {
+    match given {
+        Given::Alias(alias) => Ok(Given::Alias(alias.copy()?)),
+        Given::Dir(path) if dirs => Ok(Given::Dir(path.copy()?)),
+        _ => Ok(Given::File(file_of(state, env, given, name)?)),
+    }
+}
+
+/// `Alias(names, members)`. It answers the aliases.
+pub(crate) fn alias(
+    state: &mut Declarations,
+    env: EnvId,
+    names: &[Given],
+    members: &[Given],
+) -> Result<Answer, NameFault> {
+    let members = members_of(state, env, members, "Alias", true)?;
+    let mut answer = Listing::empty(state.alloc);
+    for name in names {
+        let name = alias_name(state, env, name)?;
+        add_members(state, &name, members.as_slice())?;
+        answer.push(Given::Alias(name))?;
+    }
+    if answer.is_empty() {
+        return Err(bad_argument(state, "Alias"));
+    }
+    Ok(Answer::Targets(answer))
+}
+
+fn alias_name(state: &Declarations, env: EnvId, given: &Given) -> Result<Text, NameFault> {
+    match given {
+        Given::Text(text) => expanded(state, env, text.as_str(), Mode::Text),
+        Given::Alias(name) => Ok(name.copy()?),
+        Given::File(_) | Given::Dir(_) => Err(bad_argument(state, "Alias")),
+    }
+}
+
+fn add_members(state: &mut Declarations, name: &Text, members: &[Given]) -> Result<(), NameFault> {
+    let copies = copies_of(state, members)?;
+    match state.aliases.get_mut(name.as_str()) {
+        Some(there) => push_all(there, copies)?,
+        None => {
+            let name = String::from_str(state.alloc, name.as_str())?;
+            state.aliases.insert(name, copies)?;
+        }
+    }
+    Ok(())
+}
+
+fn copies_of(state: &Declarations, members: &[Given]) -> Result<Vec<Given>, NameFault> {
+    let mut copies = Vec::new(state.alloc);
+    for member in members {
+        copies.push(member.copy()?)?;
+    }
+    Ok(copies)
+}
+
+fn push_all(there: &mut Vec<Given>, more: Vec<Given>) -> Result<(), NameFault> {
+    for member in more {
+        there.push(member)?;
+    }
+    Ok(())
+}
+
+/// `Default(targets)`
+pub(crate) fn ask(
+    state: &mut Declarations,
+    env: EnvId,
+    given: &[Given],
+) -> Result<Answer, NameFault> {
+    for one in given {
+        let asked = asked_by(state, env, one)?;
+        state.defaults.push(asked)?;
+    }
+    Ok(Answer::Nothing)
+}
+
+fn asked_by(state: &Declarations, env: EnvId, given: &Given) -> Result<Asked, NameFault> {
+    match given {
+        Given::Text(text) => {
+            let text = expanded(state, env, text.as_str(), Mode::Text)?;
+            let path = path_at(state, text.as_str())?;
+            Ok(Asked::Text { text, path })
+        }
+        Given::File(path) | Given::Dir(path) => Ok(Asked::Path(path.copy()?)),
+        Given::Alias(name) => Ok(Asked::Alias(name.copy()?)),
+    }
+}
