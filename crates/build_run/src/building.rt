@@ -1,10 +1,14 @@
-//! The loop over what the plan wants.
+//! A build from its first look to its answer.
+ghost use Rattle.std.specs.Prelude.{◌≡◌, [], IfOk};
+ghost use Rattle.world_api.specs.Causes.{Later};
+ghost use Rattle.world_api.specs.Meaning.{Told};
+ghost use Rattle.sign_store.specs.Stores.{IsStoredIn};
+ghost use Rattle.build_run.specs.Goings.{Stays};
 
 use crate::account::Account;
-use crate::decide::decide;
 use crate::end::BuildEnd;
-use crate::ending::take_ending;
 use crate::tickets::Tickets;
+use crate::turns::go_on;
 use build_files::{Inputs, ListEnd, first_target};
 use indexmap::IndexSet;
 use rule_graph::Graph;
@@ -12,7 +16,7 @@ use scons_base::{Listing, Memory, NodeId, PathText, RuleId};
 use scons_report::cycle_fault;
 use sign_store::Store;
 use std::alloc::Global;
-use task_plan::{Plan, PlanEvent, Want};
+use task_plan::Plan;
 use world_api::{Sink, World};
 
 /// How a build is to be done.
@@ -36,7 +40,7 @@ pub(crate) struct Run {
     pub(crate) dirs: IndexSet<PathText>,
 }
 
-/// Makes the requested nodes, and all that they need, as far as it is stale.
+/// Makes the requested nodes, and all that they need, as far as it is stale. When it returns nothing runs.
 pub fn build<W: World, O: Sink, E: Sink>(
     alloc: Global,
     graph: &mut Graph,
@@ -46,7 +50,14 @@ pub fn build<W: World, O: Sink, E: Sink>(
     out: &mut O,
     err: &mut E,
     options: &Options,
-) -> BuildEnd {
+) -> BuildEnd
+    requires unclosed { W.meaning.closed world.old ≡ [] }
+    requires idle { W.meaning.tells world.old → (W.meaning.around world.old).running ≡ [] }
+    requires stored { W.meaning.tells world.old → IsStoredIn (W.meaning.seen world.old) store.old }
+    ensures told { Told W.meaning world.old world.new }
+    ensures later { Later (W.meaning.counts world.old) (W.meaning.counts world.new) }
+    ensures idle { W.meaning.tells world.new → (W.meaning.around world.new).running ≡ [] }
+{
     let mut account = Account::new(alloc);
     match begin(alloc, graph, requested, world) {
         Ok(mut run) => {
@@ -74,7 +85,10 @@ fn begin<W: World>(
     graph: &mut Graph,
     requested: &[NodeId],
     world: &mut W,
-) -> Result<Run, ListEnd> {
+) -> Result<Run, ListEnd>
+    ensures stays { Stays W.meaning world.old world.new }
+    ensures none { IfOk result (λ run. run.tickets ≡ []) }
+{
     let mut inputs = Inputs::new(alloc);
     inputs.add_copies(world, graph, requested)?;
     let plan = Plan::new(alloc, graph, requested)?;
@@ -86,67 +100,7 @@ fn begin<W: World>(
     })
 }
 
-/// Does what the plan wants until it rests.
-fn go_on<W: World, O: Sink, E: Sink>(
-    graph: &mut Graph,
-    run: &mut Run,
-    account: &mut Account,
-    store: &mut Store,
-    world: &mut W,
-    out: &mut O,
-    err: &mut E,
-    options: &Options,
-) {
-    for _ in 0..u64::MAX {
-        let done = match want(run, options) {
-            Want::Scan(rule, file) => match run.inputs.scanned(world, graph, rule, file) {
-                Ok(found) => Ok(PlanEvent::Scanned(rule, found)),
-                Err(end) => Err(end),
-            },
-            Want::Decide(rule) => {
-                decide(graph, run, account, store, world, out, err, options, rule)
-            }
-            Want::Wait => Ok(take_ending(graph, run, account, store, world, err, options)),
-            Want::Rest => break,
-        };
-        tell(graph, run, account, err, done);
-    }
-}
-
-/// What is to be done next: where all jobs are taken, to wait.
-fn want(run: &Run, options: &Options) -> Want {
-    let running = run.tickets.len();
-    if running >= options.jobs as usize {
-        return Want::Wait;
-    }
-    match run.plan.next() {
-        Want::Wait if running == 0 => Want::Rest,
-        want => want,
-    }
-}
-
-/// Tells the plan what came of its want.
-fn tell<E: Sink>(
-    graph: &Graph,
-    run: &mut Run,
-    account: &mut Account,
-    err: &mut E,
-    done: Result<PlanEvent, ListEnd>,
-) {
-    match done {
-        Ok(event) => {
-            if run.plan.step(graph, event).is_err() {
-                account.want_memory();
-            }
-        }
-        Err(end) => account.end(err, end),
-    }
-    if account.is_ended {
-        let _ = run.plan.step(graph, PlanEvent::Halt);
-    }
-}
-
-/// Looks for rules that wait for themselves, and says which rules were held back.
+/// Stays for rules that wait for themselves, and says which rules were held back.
 fn close<E: Sink>(
     alloc: Global,
     graph: &Graph,
