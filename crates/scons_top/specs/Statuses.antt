@@ -1,5 +1,5 @@
 -- The statuses of a run.
-use Rattle.std.specs.Prelude.{◌≡◌, ◌≢◌, ◌⊎◌, ◌×◌, ℕ, List, []}
+use Rattle.std.specs.Prelude.{◌≡◌, ◌≢◌, ◌⊎◌, ℕ, List, []}
 use Rattle.scons_top.specs.declared.report.Top.{Top}
 
 -- status 0 with no fault, 2 with some, or 3 for want of memory
