@@ -302,6 +302,17 @@ fn add_name(slot: &Slot, dir: &PathText, paths: &mut Paths) -> Result<(), Memory
     paths.push(file.name.copy()?)
 }
 
+/// A file with these bytes.
+pub fn file_of(alloc: Global, path: &PathText, bytes: &[u8], stamp: u64) -> Result<File, Memory>
+    ensures { IfOk result (λ file. file ≡ record { name = path.now; bytes = bytes.now; stamp = stamp }) }
+{
+    Ok(File {
+        name: path.copy()?,
+        bytes: Blob::of(alloc, bytes)?,
+        stamp,
+    })
+}
+
 /// A file that never changed.
 fn copied(path: &PathText, bytes: &Blob) -> Result<File, Memory>
     ensures { IfOk result (λ file. file ≡ record { name = path.now; bytes = bytes.now; stamp = 0 }) }

@@ -10,7 +10,7 @@ ghost use Rattle.world_mem.specs.declared.running.RunningJob.{RunningJob};
 ghost use Rattle.world_mem.specs.declared.slots.File.{File};
 ghost use Rattle.world_mem.specs.declared.slots.Slot.TheVariants as slot;
 
-use crate::contents::Contents;
+use crate::contents::{Contents, group_of};
 use crate::dirs::Dirs;
 use crate::ending::conclude;
 use crate::event::{Event, Faults};
@@ -19,7 +19,7 @@ use crate::plan::{given_of, made_by, outcome_of};
 use crate::refusal::NewRefusal;
 use crate::room::{add, make_places, widen, widen_all};
 use crate::running::RunningJob;
-use crate::slots::{File, Slot, Slots};
+use crate::slots::{File, Slot, Slots, file_of};
 use crate::table::ActTable;
 use mem_banks::CALL_ROOM;
 use scons_base::{Blob, Memory, PathText, Paths};
@@ -551,26 +551,6 @@ fn gained_by(outcome: Outcome, gained: usize) -> usize
     ensures other { outcome ≢ Outcome.Done → result ≡ 0 }
 {
     if outcome == Outcome::Done { gained } else { 0 }
-}
-
-/// A file with these bytes.
-fn file_of(alloc: Global, path: &PathText, bytes: &[u8], stamp: u64) -> Result<File, Memory>
-    ensures { IfOk result (λ file. file ≡ record { name = path.now; bytes = bytes.now; stamp = stamp }) }
-{
-    Ok(File {
-        name: path.copy()?,
-        bytes: Blob::of(alloc, bytes)?,
-        stamp,
-    })
-}
-
-/// A file as contents.
-fn group_of(alloc: Global, path: &PathText, bytes: &[u8]) -> Result<Contents, Memory>
-    ensures { IfOk result (λ group. group ≡ (path.now, Some bytes.now) ∷ []) }
-{
-    let mut group = Contents::new(Vec::new(alloc));
-    group.push(path.copy()?, Some(Blob::of(alloc, bytes)?))?;
-    Ok(group)
 }
 
 fn with_room<T: Drop>(alloc: Global, room: usize) -> Result<Vec<T>, Memory>
