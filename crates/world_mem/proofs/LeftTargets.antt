@@ -1,8 +1,11 @@
--- What a stop leaves is left at every target of a running job.
+-- What a stop leaves is left at every target of a running job, and of each bank.
 use Rattle.std.proofs.Common.{◌≡◌, ◌∙◌, sym, ap, subst, ℕ, suc, zero, List, [], ◌∷◌, arith, Contains}
 use Rattle.std.specs.List.{flat_map}
 use Rattle.std.proofs.lemmas.List.Elements.{Contains-append_left, Contains-append_right}
+use Rattle.mem_banks.specs.Past.{one_of}
 use Rattle.world_api.specs.Act.{Given, act}
+use Rattle.world_api.specs.declared.disk.Bank.{Bank}
+use Rattle.world_api.specs.declared.disk.Bank.TheVariants.{A, B}
 use Rattle.world_mem.specs.Left.{names, Cover}
 use Rattle.world_mem.specs.Planned.{makes}
 use Rattle.world_mem.specs.Table.{law_of}
@@ -24,3 +27,8 @@ covers rows running given planned are run path here own =
     ∙ names_of_pairs (λ target. act (law_of rows) run.job.work run.job.signed run.job.targets run.given target) run.job.targets in
     let in_made : Contains (names run.made) path = subst (λ (ns : List (List ℕ)). Contains ns path) (sym made) own in
     subst (λ (ns : List (List ℕ)). Contains ns path) (sym are) (in_flat (λ (run : RunningJob). names run.made) running run path here in_made)
+
+-- what holds of either bank
+pub of_either : (P : Bank → List ℕ → Type 0) (a b : List ℕ) → P A a → P B b → (bank : Bank) → P bank (one_of bank a b)
+of_either P a b of_a of_b A = of_a
+of_either P a b of_a of_b B = of_b
