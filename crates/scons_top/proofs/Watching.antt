@@ -1,5 +1,5 @@
 -- Steps of a run put together.
-use Rattle.std.proofs.Common.{◌≡◌, ◌∙◌, ap, subst, sym, refl, List, [], arith}
+use Rattle.std.proofs.Common.{◌≡◌, ◌∙◌, subst, sym, refl, [], arith}
 use Rattle.std.specs.Prelude.{Result, Ok, Err}
 use Rattle.world_api.specs.Around.{Around}
 use Rattle.world_api.specs.Calls.{Asks}
@@ -20,7 +20,7 @@ use Rattle.build_files.proofs.Looking.{looks_same, looks_joined}
 use Rattle.scons_report.specs.Causes.{HasListCause, HasFaultCause as HasListFault}
 use Rattle.scons_host.specs.Looks.{Looks as Asking}
 use Rattle.build_run.specs.Goings.{Passes, Goes, Stays}
-use Rattle.build_run.proofs.Goings.{passes_on, goes_on, stays_on}
+use Rattle.build_run.proofs.Goings.{passes_on}
 use Rattle.scons_top.specs.Watching.{Watches}
 
 pub later_same : (a b : Counts) → b ≡ a → Later a b
