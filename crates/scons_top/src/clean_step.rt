@@ -1,8 +1,9 @@
 //! Cleaning: the targets of what was requested are removed.
-ghost use Rattle.std.specs.Prelude.{◌≡◌, [], IfOk, IfErr};
+ghost use Rattle.std.specs.Prelude.{◌≡◌, [], IfOk, IfErr, IsTrue};
 ghost use Rattle.build_run.specs.Goings.{Stays};
 ghost use Rattle.scons_top.specs.Faults.{IsLateStop};
 ghost use Rattle.scons_top.specs.Statuses.{HasStatus};
+ghost use Rattle.scons_top.specs.Watching.{Watches};
 
 use crate::build_step::nodes_of;
 use crate::ending::good;
@@ -29,6 +30,7 @@ pub(crate) fn clean_requests<W: World, O: Sink>(
 ) -> Result<Report, Stop>
     requires idle { W.meaning.tells world.old → (W.meaning.around world.old).running ≡ [] }
     ensures stays { Stays W.meaning world.old world.new }
+    ensures dry { IsTrue words.now.dry → Watches W.meaning world.old world.new }
     ensures late { IfErr result IsLateStop }
     ensures faults { IfOk result (λ report. report.faults ≡ []) }
     ensures status { IfOk result (λ report. HasStatus report.status report.faults) }
@@ -51,6 +53,7 @@ fn clean_rules<W: World, O: Sink>(
 ) -> Result<(), Stop>
     requires idle { W.meaning.tells world.old → (W.meaning.around world.old).running ≡ [] }
     ensures stays { Stays W.meaning world.old world.new }
+    ensures dry { IsTrue words.now.dry → Watches W.meaning world.old world.new }
     ensures late { IfErr result IsLateStop }
 {
     for rule in rules {
@@ -70,6 +73,7 @@ fn clean_all<W: World, O: Sink>(
 ) -> Result<(), Stop>
     requires idle { W.meaning.tells world.old → (W.meaning.around world.old).running ≡ [] }
     ensures stays { Stays W.meaning world.old world.new }
+    ensures dry { IsTrue words.now.dry → Watches W.meaning world.old world.new }
     ensures late { IfErr result IsLateStop }
 {
     for target in targets {
@@ -88,6 +92,7 @@ fn clean<W: World, O: Sink>(
 ) -> Result<(), Stop>
     requires idle { W.meaning.tells world.old → (W.meaning.around world.old).running ≡ [] }
     ensures stays { Stays W.meaning world.old world.new }
+    ensures dry { IsTrue words.now.dry → Watches W.meaning world.old world.new }
     ensures late { IfErr result IsLateStop }
 {
     if is_removed(words, world, path)? {
@@ -100,6 +105,7 @@ fn clean<W: World, O: Sink>(
 fn is_removed<W: World>(words: &Words, world: &mut W, path: &PathText) -> Result<bool, ListEnd>
     requires idle { W.meaning.tells world.old → (W.meaning.around world.old).running ≡ [] }
     ensures stays { Stays W.meaning world.old world.new }
+    ensures dry { IsTrue words.now.dry → Watches W.meaning world.old world.new }
 {
     if kind_of(world, path)? != Kind::File {
         return Ok(false);

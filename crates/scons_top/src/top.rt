@@ -1,10 +1,12 @@
 //! The steps of a run.
-ghost use Rattle.std.specs.Prelude.{◌≡◌, [], IfOk, IfErr, Contains};
+ghost use Rattle.std.specs.Prelude.{◌≡◌, [], Ok, IfOk, IfErr, Contains, IsTrue};
 ghost use Rattle.build_files.specs.Looks.{Looks};
 ghost use Rattle.build_run.specs.Goings.{Passes};
 ghost use Rattle.scons_top.specs.Faults.{IsEarly, IsEarlyStop, EarlyOnlyIf};
 ghost use Rattle.scons_top.specs.Statuses.{HasStatus};
 ghost use Rattle.scons_top.specs.declared.report.Top.{Top};
+ghost use Rattle.scons_words.specs.Readings.{read};
+ghost use Rattle.scons_words.specs.declared.words.Words.{Words};
 ghost use Rattle.world_api.specs.Causes.{Later};
 ghost use Rattle.world_api.specs.Meaning.{Told};
 
@@ -25,7 +27,7 @@ use std::alloc::Global;
 use world_api::{Sink, World};
 
 /// The command: takes its words, reads the scripts, and cleans, lists or builds what is requested. A run whose words or
-/// scripts are at fault, or that is asked for what there isn't, leaves the world as it was.
+/// scripts are at fault, or that is asked for what there isn't, leaves the world as it was; and so do `-n` and `-h`.
 pub fn scons<W: World, O: Sink, E: Sink>(
     alloc: Global,
     words: &[Text],
@@ -38,6 +40,8 @@ pub fn scons<W: World, O: Sink, E: Sink>(
     ensures told { Told W.meaning world.old world.new }
     ensures later { Later (W.meaning.counts world.old) (W.meaning.counts world.new) }
     ensures idle { W.meaning.tells world.new → (W.meaning.around world.new).running ≡ [] }
+    ensures dry { (said : Words) → read words.now ≡ Ok said → IsTrue said.dry → Looks W.meaning world.old world.new }
+    ensures help { (said : Words) → read words.now ≡ Ok said → IsTrue said.help → Looks W.meaning world.old world.new }
     ensures unchanged { (fault : Top) → Contains result.faults fault → IsEarly fault → Looks W.meaning world.old world.new }
     ensures status { HasStatus result.status result.faults }
 {
@@ -58,6 +62,8 @@ fn take_words<W: World, O: Sink, E: Sink>(
     requires idle { W.meaning.tells world.old → (W.meaning.around world.old).running ≡ [] }
     ensures passes { Passes W.meaning world.old world.new }
     ensures idle { W.meaning.tells world.new → (W.meaning.around world.new).running ≡ [] }
+    ensures dry { (said : Words) → read words.now ≡ Ok said → IsTrue said.dry → Looks W.meaning world.old world.new }
+    ensures help { (said : Words) → read words.now ≡ Ok said → IsTrue said.help → Looks W.meaning world.old world.new }
     ensures early { IfErr result (λ stop. IsEarlyStop stop → Looks W.meaning world.old world.new) }
     ensures late { IfOk result (λ report. EarlyOnlyIf ⊥ report.faults) }
     ensures status { IfOk result (λ report. HasStatus report.status report.faults) }
@@ -81,6 +87,8 @@ pub(crate) fn run<W: World, O: Sink, E: Sink>(
     requires idle { W.meaning.tells world.old → (W.meaning.around world.old).running ≡ [] }
     ensures passes { Passes W.meaning world.old world.new }
     ensures idle { W.meaning.tells world.new → (W.meaning.around world.new).running ≡ [] }
+    ensures dry { IsTrue words.now.dry → Looks W.meaning world.old world.new }
+    ensures help { IsTrue words.now.help → Looks W.meaning world.old world.new }
     ensures early { IfErr result (λ stop. IsEarlyStop stop → Looks W.meaning world.old world.new) }
     ensures late { IfOk result (λ report. EarlyOnlyIf ⊥ report.faults) }
     ensures status { IfOk result (λ report. HasStatus report.status report.faults) }
@@ -124,6 +132,7 @@ fn serve<W: World, O: Sink, E: Sink>(
     requires idle { W.meaning.tells world.old → (W.meaning.around world.old).running ≡ [] }
     ensures passes { Passes W.meaning world.old world.new }
     ensures idle { W.meaning.tells world.new → (W.meaning.around world.new).running ≡ [] }
+    ensures dry { IsTrue words.now.dry → Looks W.meaning world.old world.new }
     ensures early { IfErr result (λ stop. IsEarlyStop stop → Looks W.meaning world.old world.new) }
     ensures late { IfOk result (λ report. EarlyOnlyIf ⊥ report.faults) }
     ensures status { IfOk result (λ report. HasStatus report.status report.faults) }
