@@ -1,5 +1,3 @@
-use Rattle.std.proofs.Common.{arith}
-use Rattle.node_tree.specs.Nodes.{Interns}
 use Rattle.build_files.proofs.Looking.{interned_below}
 use Rattle.build_files.proofs.copies.add_copy_rule.Goals as goal
 
