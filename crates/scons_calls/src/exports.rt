@@ -3,7 +3,7 @@ use crate::fault::CallFault;
 use crate::flattening::flattened;
 use crate::texts::push_names;
 use crate::variables::is_identifier;
-use py_heap::{Heap, Value};
+use py_heap::{DictId, Heap, Value};
 use py_host::Scope;
 use scons_base::{Text, Texts};
 
@@ -25,7 +25,7 @@ pub fn exports_of(heap: &Heap, values: &[Value]) -> Result<Exports, CallFault> {
     };
     for item in &items {
         match *item {
-            Value::Dict(_) => put_pairs(heap, *item, &mut exports.values)?,
+            Value::Dict(dict) => put_pairs(heap, dict, &mut exports.values)?,
             item => push_names(heap, item, &mut exports.names)?,
         }
     }
@@ -33,17 +33,19 @@ pub fn exports_of(heap: &Heap, values: &[Value]) -> Result<Exports, CallFault> {
 }
 
 /// Puts the pairs of a dict into a scope.
-fn put_pairs(heap: &Heap, dict: Value, scope: &mut Scope) -> Result<(), CallFault> {
-    let mut place = 0;
-    while let Some((key, value)) = heap.pair_of(dict, place) {
-        let Some(name) = heap.text_of(key) else {
-            return Err(CallFault::Arguments);
-        };
-        if !is_identifier(name) {
-            return Err(CallFault::Arguments);
+fn put_pairs(heap: &Heap, dict: DictId, scope: &mut Scope) -> Result<(), CallFault> {
+    for place in 0..heap.dict_len(dict) {
+        if let Some((key, value)) = heap.pair_of(Value::Dict(dict), place as u64) {
+            scope.set(identifier(heap, key)?, value)?;
         }
-        scope.set(Text::of(heap.allocator(), name)?, value)?;
-        place += 1;
     }
     Ok(())
+}
+
+/// The name that a key of a dict is.
+fn identifier(heap: &Heap, key: Value) -> Result<Text, CallFault> {
+    match heap.text_of(key) {
+        Some(name) if is_identifier(name) => Ok(Text::of(heap.allocator(), name)?),
+        _ => Err(CallFault::Arguments),
+    }
 }

@@ -1,3 +1,5 @@
 pub mod Causes
+pub mod Laws
+pub mod Looking
 pub mod Looks
 pub mod Reading

@@ -20,7 +20,7 @@ pub fn is_single(call: &Call) -> bool {
 }
 
 /// The value of an answer. `single` says that one node is answered, and no list.
-#[tactic(auto, using(crate::proofs::Looking::looking))]
+#[tactic(auto, using(crate::specs::Looking::looking))]
 pub fn answer_value(
     state: &mut State,
     heap: &mut Heap,
@@ -43,7 +43,7 @@ pub fn answer_value(
 }
 
 /// The words of a text, or a list as it is.
-#[tactic(auto, using(crate::proofs::Looking::looking))]
+#[tactic(auto, using(crate::specs::Looking::looking))]
 pub fn split_value(heap: &mut Heap, value: Value) -> Result<Value, Refusal>
     ensures { Extends heap.old heap.new }
 {
@@ -60,7 +60,7 @@ pub fn split_value(heap: &mut Heap, value: Value) -> Result<Value, Refusal>
 }
 
 /// A list as it is, or a list of what is none.
-#[tactic(auto, using(crate::proofs::Looking::looking))]
+#[tactic(auto, using(crate::specs::Looking::looking))]
 fn listed(heap: &mut Heap, value: Value) -> Result<Value, Refusal>
     ensures { Extends heap.old heap.new }
 {
@@ -71,7 +71,7 @@ fn listed(heap: &mut Heap, value: Value) -> Result<Value, Refusal>
 }
 
 /// One flat list of what lists and tuples hold.
-#[tactic(auto, using(crate::proofs::Looking::looking))]
+#[tactic(auto, using(crate::specs::Looking::looking))]
 pub fn flat_value(heap: &mut Heap, value: Value) -> Result<Value, Refusal>
     ensures { Extends heap.old heap.new }
 {

@@ -17,31 +17,31 @@ use scons_decls::{Call, NameFault};
 const BUILDERS: &str = "BUILDERS";
 
 /// What an attribute tells of a path.
-enum Told {
+enum PathPart {
     Path,
     Absolute,
     Name,
 }
 
 /// What an object is, as far as its attributes and items go.
-enum Asked {
+enum Subject {
     Env(EnvId),
     Builders(EnvId),
     Path(PathText),
     Other,
 }
 
-fn asked(state: &State, object: HostId) -> Result<Asked, Refusal> {
+fn subject_of(state: &State, object: HostId) -> Result<Subject, Refusal> {
     Ok(match state.objects.thing(object) {
-        Some(Thing::Env(env)) => Asked::Env(*env),
-        Some(Thing::Builders(env)) => Asked::Builders(*env),
-        Some(Thing::File(path) | Thing::Dir(path)) => Asked::Path(path.copy()?),
-        _ => Asked::Other,
+        Some(Thing::Env(env)) => Subject::Env(*env),
+        Some(Thing::Builders(env)) => Subject::Builders(*env),
+        Some(Thing::File(path) | Thing::Dir(path)) => Subject::Path(path.copy()?),
+        _ => Subject::Other,
     })
 }
 
 /// An attribute of an object.
-#[tactic(auto, using(crate::proofs::Looking::looking))]
+#[tactic(auto, using(crate::specs::Looking::looking))]
 pub fn attribute(
     state: &mut State,
     heap: &mut Heap,
@@ -50,10 +50,10 @@ pub fn attribute(
 ) -> Result<Value, Refusal>
     ensures { Extends heap.old heap.new }
 {
-    match asked(state, object)? {
-        Asked::Env(env) => method(state, env, name),
-        Asked::Path(path) => told(state, heap, &path, name),
-        Asked::Builders(_) | Asked::Other => Err(bad_argument(state.alloc, name)),
+    match subject_of(state, object)? {
+        Subject::Env(env) => method(state, env, name),
+        Subject::Path(path) => told(state, heap, &path, name),
+        Subject::Builders(_) | Subject::Other => Err(bad_argument(state.alloc, name)),
     }
 }
 
@@ -78,23 +78,23 @@ fn method(state: &mut State, env: EnvId, name: &str) -> Result<Value, Refusal> {
 }
 
 /// What an attribute tells of a node or directory.
-#[tactic(auto, using(crate::proofs::Looking::looking))]
+#[tactic(auto, using(crate::specs::Looking::looking))]
 fn told(state: &State, heap: &mut Heap, path: &PathText, name: &str) -> Result<Value, Refusal>
     ensures { Extends heap.old heap.new }
 {
-    let told = match name {
-        "path" => Told::Path,
-        "abspath" => Told::Absolute,
-        "name" => Told::Name,
+    let part = match name {
+        "path" => PathPart::Path,
+        "abspath" => PathPart::Absolute,
+        "name" => PathPart::Name,
         _ => return Err(left_out(state.alloc, name)),
     };
-    match told {
-        Told::Path => Ok(text_value(heap, path.as_str())?),
-        Told::Absolute => {
+    match part {
+        PathPart::Path => Ok(text_value(heap, path.as_str())?),
+        PathPart::Absolute => {
             let text = absolute(state, path)?;
             Ok(text_value(heap, text.as_str())?)
         }
-        Told::Name => Ok(text_value(heap, path.name())?),
+        PathPart::Name => Ok(text_value(heap, path.name())?),
     }
 }
 
@@ -117,7 +117,7 @@ fn absolute(state: &State, path: &PathText) -> Result<String, Refusal> {
 }
 
 /// An item of an object.
-#[tactic(auto, using(crate::proofs::Looking::looking))]
+#[tactic(auto, using(crate::specs::Looking::looking))]
 pub fn item(
     state: &mut State,
     heap: &mut Heap,
@@ -128,25 +128,25 @@ pub fn item(
     ensures { Extends heap.old heap.new }
 {
     let name = key_text(state, heap, object, key)?;
-    match asked(state, object)? {
-        Asked::Env(env) if name.as_str() == BUILDERS => {
+    match subject_of(state, object)? {
+        Subject::Env(env) if name.as_str() == BUILDERS => {
             let id = state.objects.method(env, BUILDERS, Thing::Builders(env))?;
             Ok(Value::Object(id))
         }
-        Asked::Env(env) => match variable(state, place, env, name)? {
+        Subject::Env(env) => match variable(state, place, env, name)? {
             Some(value) => Ok(variable_value(heap, &mut state.objects, &value)?),
             None => Err(no_such_key()),
         },
-        Asked::Builders(env) => match state.declared.builder_of(env, name.as_str()) {
+        Subject::Builders(env) => match state.declared.builder_of(env, name.as_str()) {
             Some(number) => Ok(Value::Object(state.objects.add(Thing::Builder(number))?)),
             None => Err(no_such_key()),
         },
-        Asked::Path(_) | Asked::Other => Err(not_indexed(state, heap, object)),
+        Subject::Path(_) | Subject::Other => Err(not_indexed(state, heap, object)),
     }
 }
 
 /// Sets an item of an object.
-#[tactic(auto, using(crate::proofs::Looking::looking))]
+#[tactic(auto, using(crate::specs::Looking::looking))]
 pub fn set_item(
     state: &mut State,
     heap: &mut Heap,
@@ -158,17 +158,17 @@ pub fn set_item(
     ensures { Extends heap.old heap.new }
 {
     let name = key_text(state, heap, object, key)?;
-    match asked(state, object)? {
-        Asked::Env(env) if name.as_str() == BUILDERS => {
+    match subject_of(state, object)? {
+        Subject::Env(env) if name.as_str() == BUILDERS => {
             set_builders(state, heap, place, env, value)
         }
-        Asked::Env(env) => set_variable(state, heap, place, env, name, value),
-        Asked::Builders(env) => set_builder(state, heap, place, env, name, value),
-        Asked::Path(_) | Asked::Other => Err(not_indexed(state, heap, object)),
+        Subject::Env(env) => set_variable(state, heap, place, env, name, value),
+        Subject::Builders(env) => set_builder(state, heap, place, env, name, value),
+        Subject::Path(_) | Subject::Other => Err(not_indexed(state, heap, object)),
     }
 }
 
-#[tactic(auto, using(crate::proofs::Looking::looking))]
+#[tactic(auto, using(crate::specs::Looking::looking))]
 fn set_variable(
     state: &mut State,
     heap: &mut Heap,
@@ -191,7 +191,7 @@ fn set_variable(
 }
 
 /// Adds the builders of a dict to those of an environment.
-#[tactic(auto, using(crate::proofs::Looking::looking))]
+#[tactic(auto, using(crate::specs::Looking::looking))]
 fn set_builders(
     state: &mut State,
     heap: &mut Heap,
@@ -210,7 +210,7 @@ fn set_builders(
     Ok(())
 }
 
-#[tactic(auto, using(crate::proofs::Looking::looking))]
+#[tactic(auto, using(crate::specs::Looking::looking))]
 fn put_builder(
     state: &mut State,
     heap: &mut Heap,
@@ -231,7 +231,7 @@ fn put_builder(
     set_builder(state, heap, place, env, name, value)
 }
 
-#[tactic(auto, using(crate::proofs::Looking::looking))]
+#[tactic(auto, using(crate::specs::Looking::looking))]
 fn set_builder(
     state: &mut State,
     heap: &mut Heap,

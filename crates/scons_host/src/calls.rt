@@ -26,7 +26,7 @@ pub struct Caller<'a> {
 }
 
 /// What a call of an object comes to.
-#[tactic(auto, using(crate::proofs::Looking::looking))]
+#[tactic(auto, using(crate::specs::Looking::looking))]
 pub fn call<W: World>(
     state: &mut State,
     world: &mut W,
@@ -76,7 +76,7 @@ fn taken(state: &State, name: &str, asked: Result<Request, CallFault>) -> Result
     }
 }
 
-#[tactic(auto, using(crate::proofs::Looking::looking))]
+#[tactic(auto, using(crate::specs::Looking::looking))]
 fn answered<W: World>(
     state: &mut State,
     world: &mut W,

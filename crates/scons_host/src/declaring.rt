@@ -13,7 +13,7 @@ use scons_declare::declare;
 use scons_decls::{Answer, Call};
 
 /// Declares a call, and gives the value of its answer.
-#[tactic(auto, using(crate::proofs::Looking::looking))]
+#[tactic(auto, using(crate::specs::Looking::looking))]
 pub fn declared(
     state: &mut State,
     heap: &mut Heap,
@@ -41,7 +41,7 @@ pub fn variable(
 }
 
 /// The value of a variable, or another value where there is none.
-#[tactic(auto, using(crate::proofs::Looking::looking))]
+#[tactic(auto, using(crate::specs::Looking::looking))]
 pub fn value_or(
     state: &mut State,
     heap: &mut Heap,

@@ -13,7 +13,7 @@ use scons_calls::nodes_value;
 use world_api::{AskRefusal, World};
 
 /// The list of the nodes that a pattern matches.
-#[tactic(auto, using(crate::proofs::Looking::looking))]
+#[tactic(auto, using(crate::specs::Looking::looking))]
 pub fn glob<W: World>(
     state: &mut State,
     world: &mut W,
@@ -39,7 +39,7 @@ fn dirs_of(state: &State, env: EnvId, pattern: &Text) -> Result<Paths, Refusal> 
 }
 
 /// The nodes that a pattern matches among these files and the declared targets.
-#[tactic(auto, using(crate::proofs::Looking::looking))]
+#[tactic(auto, using(crate::specs::Looking::looking))]
 fn matched(
     state: &mut State,
     heap: &mut Heap,
@@ -54,7 +54,7 @@ fn matched(
 }
 
 /// Puts the files of a directory behind others.
-#[tactic(auto, using(crate::proofs::Looking::looking))]
+#[tactic(auto, using(crate::specs::Looking::looking))]
 fn list<W: World>(world: &mut W, dir: &PathText, files: &mut Paths) -> Result<(), Stop>
     ensures looks { Looks W.meaning world.old world.new }
     ensures cause { IfErr result (HasStopCause (W.meaning.counts world.old) (W.meaning.counts world.new)) }

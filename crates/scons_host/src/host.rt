@@ -43,7 +43,7 @@ impl<W: World, O: Sink> Host for ReadingHost<'_, '_, '_, '_, W, O> {
     ghost use Rattle.py_host.specs.Lent.{lent};
     ghost use Rattle.py_host.proofs.Lending.{lent_kept, lent_determined};
     ghost use Rattle.scons_host.specs.Reading.{seen, held, reading};
-    ghost use Rattle.scons_host.proofs.Laws.{reading_kept, reading_determined};
+    ghost use Rattle.scons_host.specs.Laws.{reading_kept, reading_determined};
 
     ghost meaning = { lent (λ h. seen h.world.now h.out.now h.kept.now) (λ h. held h.world.ghost_name h.out.ghost_name h.state.ghost_name h.kept.ghost_name) (reading W.meaning O.meaning) };
 

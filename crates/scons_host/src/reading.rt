@@ -53,7 +53,7 @@ pub fn read_scripts<W: World, O: Sink>(
 }
 
 /// The state of the reading as the first script begins, and that script.
-#[tactic(auto, using(crate::proofs::Looking::looking))]
+#[tactic(auto, using(crate::specs::Looking::looking))]
 fn begun<W: World>(
     alloc: Global,
     world: &mut W,
@@ -69,7 +69,7 @@ fn begun<W: World>(
     Ok((state, script))
 }
 
-#[tactic(auto, using(crate::proofs::Looking::looking))]
+#[tactic(auto, using(crate::specs::Looking::looking))]
 fn top_path<W: World>(alloc: Global, world: &mut W) -> Result<PathText, Stop>
     ensures looks { Looks W.meaning world.old world.new }
     ensures cause { IfErr result (HasStopCause (W.meaning.counts world.old) (W.meaning.counts world.new)) }
@@ -105,7 +105,7 @@ fn end_of(alloc: Global, stop: Stop) -> HostEnd
 }
 
 /// Begins the first script; those behind it wait.
-#[tactic(auto, using(crate::proofs::Looking::looking))]
+#[tactic(auto, using(crate::specs::Looking::looking))]
 fn first_script<W: World>(state: &mut State, world: &mut W, words: &Words) -> Result<Script, Stop> {
     match words.scripts.as_slice() {
         [] => {
@@ -123,7 +123,7 @@ fn first_script<W: World>(state: &mut State, world: &mut W, words: &Words) -> Re
 }
 
 /// The first of the names of first scripts that is a file, or the first of all where none is.
-#[tactic(auto, using(crate::proofs::Looking::looking))]
+#[tactic(auto, using(crate::specs::Looking::looking))]
 fn standing<W: World>(alloc: Global, world: &mut W) -> Result<PathText, Stop>
     ensures looks { Looks W.meaning world.old world.new }
     ensures cause { IfErr result (HasStopCause (W.meaning.counts world.old) (W.meaning.counts world.new)) }

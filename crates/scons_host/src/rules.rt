@@ -14,7 +14,7 @@ use std::alloc::Global;
 use world_api::{Kind, World};
 
 /// The graph of what was declared. `scripts` are the scripts by their numbers.
-#[tactic(auto, using(crate::proofs::Looking::looking))]
+#[tactic(auto, using(crate::specs::Looking::looking))]
 pub fn graph_of<W: World>(
     alloc: Global,
     world: &mut W,
@@ -35,7 +35,7 @@ pub fn graph_of<W: World>(
 }
 
 /// Adds a rule, once the libraries that it names are found.
-#[tactic(auto, using(crate::proofs::Looking::looking))]
+#[tactic(auto, using(crate::specs::Looking::looking))]
 fn add<W: World>(
     alloc: Global,
     world: &mut W,
@@ -59,7 +59,7 @@ fn add<W: World>(
 }
 
 /// The libraries that are found.
-#[tactic(auto, using(crate::proofs::Looking::looking))]
+#[tactic(auto, using(crate::specs::Looking::looking))]
 fn found<W: World>(alloc: Global, world: &mut W, wanted: &Listing<Wanted>) -> Result<Paths, Stop>
     ensures looks { Looks W.meaning world.old world.new }
     ensures cause { IfErr result (HasStopCause (W.meaning.counts world.old) (W.meaning.counts world.new)) }
@@ -72,7 +72,7 @@ fn found<W: World>(alloc: Global, world: &mut W, wanted: &Listing<Wanted>) -> Re
 }
 
 /// Puts the first file that may be a library and stands behind others, else the target that is one.
-#[tactic(auto, using(crate::proofs::Looking::looking))]
+#[tactic(auto, using(crate::specs::Looking::looking))]
 fn find<W: World>(world: &mut W, wanted: &Wanted, libraries: &mut Paths) -> Result<(), Stop>
     ensures looks { Looks W.meaning world.old world.new }
     ensures cause { IfErr result (HasStopCause (W.meaning.counts world.old) (W.meaning.counts world.new)) }
@@ -89,7 +89,7 @@ fn find<W: World>(world: &mut W, wanted: &Wanted, libraries: &mut Paths) -> Resu
     Ok(())
 }
 
-#[tactic(auto, using(crate::proofs::Looking::looking))]
+#[tactic(auto, using(crate::specs::Looking::looking))]
 fn is_file<W: World>(world: &mut W, path: &PathText) -> Result<bool, Stop>
     ensures looks { Looks W.meaning world.old world.new }
     ensures cause { IfErr result (HasStopCause (W.meaning.counts world.old) (W.meaning.counts world.new)) }

@@ -77,7 +77,7 @@ fn exported(state: &State, name: &Text) -> Result<Value, Refusal> {
 }
 
 /// Keeps what a script returns. A first script returns it to no one.
-#[tactic(auto, using(crate::proofs::Looking::looking))]
+#[tactic(auto, using(crate::specs::Looking::looking))]
 pub fn return_names(
     state: &mut State,
     heap: &mut Heap,

@@ -25,7 +25,7 @@ use std::collections::VecDeque;
 use world_api::{ReadRefusal, World};
 
 /// Begins the scripts of a call of SConscript.
-#[tactic(auto, using(crate::proofs::Looking::looking))]
+#[tactic(auto, using(crate::specs::Looking::looking))]
 pub fn open_scripts<W: World>(
     state: &mut State,
     world: &mut W,
@@ -85,7 +85,7 @@ fn queue(alloc: Global, files: Vec<Given>) -> Result<VecDeque<Given>, Refusal> {
 }
 
 /// A script that a call of SConscript began has ended: the next one begins, or the call is answered.
-#[tactic(auto, using(crate::proofs::Looking::looking))]
+#[tactic(auto, using(crate::specs::Looking::looking))]
 pub fn script_done<W: World>(
     state: &mut State,
     world: &mut W,
@@ -111,7 +111,7 @@ fn keep_returned(state: &mut State) -> Result<(), Refusal> {
 }
 
 /// Begins the next script of the innermost call, or answers that call.
-#[tactic(auto, using(crate::proofs::Looking::looking))]
+#[tactic(auto, using(crate::specs::Looking::looking))]
 fn go_on<W: World>(state: &mut State, world: &mut W, heap: &mut Heap) -> Result<Reply, Stop>
     ensures looks { Looks W.meaning world.old world.new }
     ensures cause { IfErr result (HasStopCause (W.meaning.counts world.old) (W.meaning.counts world.new)) }
@@ -128,7 +128,7 @@ fn go_on<W: World>(state: &mut State, world: &mut W, heap: &mut Heap) -> Result<
 }
 
 /// What the innermost call answers, whose scripts have all ended.
-#[tactic(auto, using(crate::proofs::Looking::looking))]
+#[tactic(auto, using(crate::specs::Looking::looking))]
 fn ended(state: &mut State, heap: &mut Heap) -> Result<Value, Refusal>
     ensures { Extends heap.old heap.new }
 {
@@ -142,7 +142,7 @@ fn ended(state: &mut State, heap: &mut Heap) -> Result<Value, Refusal>
 }
 
 /// Finds and begins a script of the innermost call.
-#[tactic(auto, using(crate::proofs::Looking::looking))]
+#[tactic(auto, using(crate::specs::Looking::looking))]
 fn begun<W: World>(state: &mut State, world: &mut W, file: &Given) -> Result<Script, Stop>
     ensures looks { Looks W.meaning world.old world.new }
     ensures cause { IfErr result (HasStopCause (W.meaning.counts world.old) (W.meaning.counts world.new)) }
@@ -167,7 +167,7 @@ fn found(state: &mut State, file: &Given) -> Result<ScriptPlace, Refusal> {
 }
 
 /// Reads and begins the first script of some candidates that stands.
-#[tactic(auto, using(crate::proofs::Looking::looking))]
+#[tactic(auto, using(crate::specs::Looking::looking))]
 fn opened<W: World>(
     state: &mut State,
     world: &mut W,
@@ -194,7 +194,7 @@ fn begin(state: &mut State, path: &PathText, dir: &PathText) -> Result<(), Refus
 }
 
 /// The bytes of a script, if it stands.
-#[tactic(auto, using(crate::proofs::Looking::looking))]
+#[tactic(auto, using(crate::specs::Looking::looking))]
 fn read<W: World>(world: &mut W, path: &PathText) -> Result<Option<Blob>, Stop>
     ensures looks { Looks W.meaning world.old world.new }
     ensures cause { IfErr result (HasStopCause (W.meaning.counts world.old) (W.meaning.counts world.new)) }
@@ -228,7 +228,7 @@ fn script_of(alloc: Global, path: &PathText, bytes: &Blob) -> Result<Script, Sto
 }
 
 /// Begins the next first script, if there is a further one.
-#[tactic(auto, using(crate::proofs::Looking::looking))]
+#[tactic(auto, using(crate::specs::Looking::looking))]
 pub fn next_first<W: World>(state: &mut State, world: &mut W) -> Result<Option<Script>, Stop>
     ensures looks { Looks W.meaning world.old world.new }
     ensures cause { IfErr result (HasStopCause (W.meaning.counts world.old) (W.meaning.counts world.new)) }
@@ -241,7 +241,7 @@ pub fn next_first<W: World>(state: &mut State, world: &mut W) -> Result<Option<S
 }
 
 /// Begins a first script.
-#[tactic(auto, using(crate::proofs::Looking::looking))]
+#[tactic(auto, using(crate::specs::Looking::looking))]
 pub fn first<W: World>(state: &mut State, world: &mut W, path: PathText) -> Result<Script, Stop>
     ensures looks { Looks W.meaning world.old world.new }
     ensures cause { IfErr result (HasStopCause (W.meaning.counts world.old) (W.meaning.counts world.new)) }

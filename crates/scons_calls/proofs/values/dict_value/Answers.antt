@@ -2,4 +2,4 @@ use Rattle.scons_calls.proofs.Standing.{dict_stands}
 use Rattle.scons_calls.proofs.values.dict_value.Goals as goal
 
 pub returns : goal.returns
-returns c = dict_stands _ _ _ _ c.dict.ensures.ok c.dict.ensures.err
+returns c = dict_stands _ _ c.args.pairs.now _ c.dict.ensures.ok c.dict.ensures.err

@@ -1,5 +1,5 @@
 use Rattle.std.proofs.Common.{refl, ◌∙◌}
-use Rattle.scons_host.proofs.Laws.{prints_same, prints_joined, prints_write}
+use Rattle.scons_host.specs.Laws.{prints_same, prints_joined, prints_write}
 use Rattle.scons_host.proofs.printing.print.Goals as goal
 
 pub loop-rest-init : goal.loop-rest-init

@@ -15,7 +15,7 @@ use Rattle.scons_host.specs.declared.stop.Stop.TheVariants as stop
 use Rattle.scons_host.specs.Causes.{HasEndCause, HasStopCause, IsInside, IsEndOf, KeepsEnd}
 use Rattle.scons_host.specs.Looks.{IsTreeAlone, Looks, Prints}
 use Rattle.scons_host.specs.Reading.{Seen, seen, Keeps, reading}
-use Rattle.scons_host.proofs.Looking.{looks_same, looks_joined}
+use Rattle.scons_host.specs.Looking.{looks_same, looks_joined}
 
 out_is_no_tree : (path : List ℕ) → stop.Out ≡ stop.Tree path → ⊥
 out_is_no_tree path e = cc
@@ -95,8 +95,8 @@ prints_same p s = record { told = λ t. t; text = λ t. ([], sym (append-nil (p.
 
 -- a write, taken or refused
 pub prints_write : {S : Type 0} (p : SinkMeaning S) (a b : S) (bytes : List ℕ) (r : Result ℕ Fault) → (p.tells b → p.tells a) → (p.tells b → p.text b ≡ p.text a ++ taken r bytes) → OnOk r (p.faults b ≡ p.faults a) → OnErr r (Rose (p.faults a) (p.faults b)) → Prints p a b
-prints_write p a b bytes (Ok n) told printed kept rose = record { told = told; text = λ t. (taken (Ok n) bytes, printed t); faults = omega (arith, kept) }
-prints_write p a b bytes (Err e) told printed kept rose = let up = rose.later in record { told = told; text = λ t. (taken (Err e) bytes, printed t); faults = up }
+prints_write p a b bytes (Ok n) told printed kept rose = record { told = told; text = λ t. (taken {E = Fault} (Ok n) bytes, printed t); faults = omega (arith, kept) }
+prints_write p a b bytes (Err e) told printed kept rose = let up = rose.later in record { told = told; text = λ t. (taken {E = Fault} (Err e) bytes, printed t); faults = up }
 
 pub prints_joined : {S : Type 0} (p : SinkMeaning S) (a b c : S) → Prints p a b → Prints p b c → Prints p a c
 prints_joined p a b c f g = record {
@@ -123,9 +123,9 @@ module _ {W S : Type 0} (m : Meaning W) (p : SinkMeaning S) where
     cause = λ e is. elim (g.cause e is) [
       | inl was ↦ elim (f.cause e was) [
         | inl before ↦ inl before
-        | inr cause ↦ inr (cause_on _ _ _ _ _ _ e g.looks.counts g.prints.faults cause)
+        | inr cause ↦ inr (cause_on (m.counts a.world) (m.counts b.world) (m.counts c.world) (p.faults a.out) (p.faults b.out) (p.faults c.out) e g.looks.counts g.prints.faults cause)
       ]
-      | inr cause ↦ inr (cause_back _ _ _ _ _ _ e f.looks.counts f.prints.faults cause)
+      | inr cause ↦ inr (cause_back (m.counts a.world) (m.counts b.world) (m.counts c.world) (p.faults a.out) (p.faults b.out) (p.faults c.out) e f.looks.counts f.prints.faults cause)
     ];
   }
 
@@ -146,7 +146,7 @@ module _ {W S : Type 0} (m : Meaning W) (p : SinkMeaning S) where
     later = later;
     cause = λ e is. elim (ends e is) [
       | inl was ↦ inl was
-      | inr of ↦ inr (end_caused _ _ _ _ s e of cause)
+      | inr of ↦ inr (end_caused (m.counts w) (m.counts w2) (p.faults o) (p.faults o) s e of cause)
     ];
   }
 
@@ -166,7 +166,7 @@ module _ {W S : Type 0} (m : Meaning W) (p : SinkMeaning S) where
     later = later;
     cause = λ e is. elim (ends e is) [
       | inl was ↦ inl was
-      | inr of ↦ inr (out_caused _ _ _ _ e of rose)
+      | inr of ↦ inr (out_caused (m.counts w) (m.counts w) (p.faults o) (p.faults o2) e of rose)
     ];
   }
 
