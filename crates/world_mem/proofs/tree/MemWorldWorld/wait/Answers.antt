@@ -1,4 +1,7 @@
-use Rattle.std.proofs.Common.{refl}
+use Rattle.std.proofs.Common.{◌≡◌, ◌%◌, refl, sym, subst, ℕ, length, slice_index, slice_index_or, Contains}
+use Rattle.world_mem.specs.AsAround.{around_of}
+use Rattle.world_mem.specs.CallCounts.{count_of}
+use Rattle.world_mem.specs.declared.calls.Call.TheVariants.{Wait}
 use Rattle.mem_banks.specs.AsStore.{store_of}
 use Rattle.world_mem.specs.declared.past.Turn.TheVariants.{Tree}
 use Rattle.world_mem.proofs.Passing.{turn_recalls, turn_tree}
@@ -16,3 +19,9 @@ returns-clause-recalls c = turn_recalls Tree _ _ (record { turns = c.push.ensure
 
 pub returns-clause-time : goal.returns-clause-time
 returns-clause-time c = turn_tree Tree _ _ (record { turns = c.push.ensures.items; horizon = refl; since = c.args.self.now.since; machine = λ i. record { course = c.end-ended.ensures.back i; store = store_of c.args.self.now.banks } })
+
+pub returns-clause-absent : goal.returns-clause-absent
+returns-clause-absent c = λ d path bad own.
+    let running = (around_of c.args.self.now.state).running in
+    let place : c.place_of-place.result ≡ slice_index c.args.self.now.orders.items (count_of Wait c.args.self.now.calls) % length running = cc in
+    c.end-ended.ensures.absent d path bad (subst (λ (n : ℕ). Contains (slice_index_or running n d).job.targets path) (sym place) own)
