@@ -10,6 +10,7 @@ pub mod Owners
 pub mod Taken
 pub mod Plain
 pub mod Unmade
+pub mod Idle
 pub mod LeftTargets
 pub mod Raised
 pub mod Fresh

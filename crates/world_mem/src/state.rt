@@ -533,6 +533,9 @@ impl State {
         requires covers { (run : RunningJob) (path : List ℕ) → Contains self.old.running.items run → Contains run.job.targets path → Contains (map (λ entry. entry.0) targets) path }
         ensures gone { self.new.removals ≡ 0 }
         ensures idle { vec_len self.new.running ≡ 0 }
+        ensures others { (path : List ℕ) → (Contains (map (λ entry. entry.0) targets) path → ⊥) → slot_at self.new.slots path ≡ slot_at self.old.slots path }
+        ensures dirs { self.new.dirs ≡ self.old.dirs }
+        ensures table { self.new.table ≡ self.old.table }
     {
         self.stamp = self.stamp.saturating_add(1);
         self.slots.settle(targets, self.stamp);

@@ -68,8 +68,23 @@ fn left_targets(alloc: Global, state: &State, pick: u32) -> Result<Contents, Mem
 }
 
 impl MemWorld {
+    ghost use Rattle.std.specs.Prelude.{ℕ, List, Contains};
+    ghost use Rattle.mem_banks.specs.Past.{one_of};
+    ghost use Rattle.world_api.specs.Around.{IsRunningTarget};
+    ghost use Rattle.world_api.specs.declared.disk.Bank.{Bank};
+    ghost use Rattle.world_mem.specs.AsAround.{around_of};
+    ghost use Rattle.world_mem.specs.InSlots.{slot_at};
+    ghost use Rattle.world_mem.specs.Means.{world_meaning};
+
     /// One outcome of a stop at this moment, chosen by `pick`: nothing runs, the log is empty, and no call is to fail.
-    pub fn stop(self, pick: u32) -> Result<MemWorld, (MemWorld, Memory)> {
+    pub fn stop(self, pick: u32) -> Result<MemWorld, (MemWorld, Memory)>
+        ensures image { IfOk result (λ world. (bank : Bank) → world_meaning.image self bank (world_meaning.seen world bank)) }
+        ensures idle { IfOk result (λ world. vec_len world.state.running ≡ 0) }
+        ensures clock { IfOk result (λ world. world_meaning.clock world ≡ 0) }
+        ensures others { IfOk result (λ world. (path : List ℕ) → (IsRunningTarget (around_of self.state).running path → ⊥) → (around_of world.state).tree path ≡ (around_of self.state).tree path) }
+        ensures dirs { IfOk result (λ world. world.state.dirs ≡ self.state.dirs) }
+        ensures table { IfOk result (λ world. world.state.table ≡ self.state.table) }
+    {
         let mut world = self;
         match world.left_by(pick) {
             Ok(left) => {
@@ -82,8 +97,13 @@ impl MemWorld {
 
     /// What a stop leaves, and room to keep it.
     fn left_by(&mut self, pick: u32) -> Result<Left, Memory>
+        ensures image { IfOk result (λ left. (bank : Bank) → world_meaning.image self.old bank (one_of bank left.a.items left.b.items)) }
         ensures covers { IfOk result (λ left. Cover self.new.state.running.items left.targets) }
+        ensures only { IfOk result (λ left. (path : List ℕ) → Contains (names left.targets) path → IsRunningTarget (around_of self.old.state).running path) }
         ensures room { OnOk result (vec_len self.new.state.met < vec_capacity self.new.state.met) }
+        ensures slots { self.new.state.slots ≡ self.old.state.slots }
+        ensures dirs { self.new.state.dirs ≡ self.old.state.dirs }
+        ensures table { self.new.state.table ≡ self.old.state.table }
     {
         let owed = self.state.running.len() + 1;
         widen(&mut self.state.met, owed)?;
@@ -103,6 +123,12 @@ impl MemWorld {
     fn go_on(&mut self, left: Left)
         requires covers { Cover self.old.state.running.items left.targets }
         requires room { vec_len self.old.state.met < vec_capacity self.old.state.met }
+        ensures seen { (bank : Bank) → world_meaning.seen self.new bank ≡ one_of bank left.a.items left.b.items }
+        ensures idle { vec_len self.new.state.running ≡ 0 }
+        ensures clock { world_meaning.clock self.new ≡ 0 }
+        ensures others { (path : List ℕ) → (Contains (names left.targets) path → ⊥) → slot_at self.new.state.slots path ≡ slot_at self.old.state.slots path }
+        ensures dirs { self.new.state.dirs ≡ self.old.state.dirs }
+        ensures table { self.new.state.table ≡ self.old.state.table }
     {
         let Left {
             a,

@@ -123,7 +123,13 @@ impl MemWorld {
     }
 
     /// Sets the bytes of a file, and lets the directories above it stand. The record of moments begins anew.
-    pub fn edit(&mut self, path: &PathText, bytes: &[u8]) -> Result<(), EditRefusal> {
+    pub fn edit(&mut self, path: &PathText, bytes: &[u8]) -> Result<(), EditRefusal>
+        ensures idle { (around_of self.old.state).running ≡ [] → (around_of self.new.state).running ≡ [] }
+        ensures banks { self.new.banks ≡ self.old.banks }
+        ensures faults { self.new.faults ≡ self.old.faults }
+        ensures calls { self.new.calls ≡ self.old.calls }
+        ensures orders { self.new.orders ≡ self.old.orders }
+    {
         if self.state.is_made(path) || self.state.is_barred(path) {
             return Err(EditRefusal::Place);
         }
@@ -133,7 +139,13 @@ impl MemWorld {
     }
 
     /// Removes a file. The record of moments begins anew.
-    pub fn remove_file(&mut self, path: &PathText) {
+    pub fn remove_file(&mut self, path: &PathText)
+        ensures idle { (around_of self.old.state).running ≡ [] → (around_of self.new.state).running ≡ [] }
+        ensures banks { self.new.banks ≡ self.old.banks }
+        ensures faults { self.new.faults ≡ self.old.faults }
+        ensures calls { self.new.calls ≡ self.old.calls }
+        ensures orders { self.new.orders ≡ self.old.orders }
+    {
         self.state.lose(path);
         self.horizon = self.turns.len();
     }
