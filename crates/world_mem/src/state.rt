@@ -218,6 +218,8 @@ impl State {
 
     /// Removes a file. The past does not tell of it.
     pub fn lose(&mut self, path: &PathText)
+        ensures gone { (around_of self.new).tree path.now ≡ None }
+        ensures others { (other : List ℕ) → other ≢ path.now → (around_of self.new).tree other ≡ (around_of self.old).tree other }
         ensures removals { self.new.removals ≡ self.old.removals }
         ensures running { vec_len self.new.running ≡ vec_len self.old.running }
     {
@@ -482,6 +484,9 @@ impl State {
     /// Sets the bytes of a file that no running job makes.
     pub fn edit(&mut self, alloc: Global, path: &PathText, bytes: &[u8]) -> Result<(), Memory>
         requires { IsRunningTarget (around_of self.old).running path.now → ⊥ }
+        ensures file { OnOk result ((around_of self.new).tree path.now ≡ Some bytes.now) }
+        ensures others { (other : List ℕ) → other ≢ path.now → (around_of self.new).tree other ≡ (around_of self.old).tree other }
+        ensures same { OnErr result ((other : List ℕ) → (around_of self.new).tree other ≡ (around_of self.old).tree other) }
         ensures removals { self.new.removals ≡ self.old.removals }
         ensures jobs { vec_len self.new.running ≡ vec_len self.old.running }
     {
@@ -515,8 +520,11 @@ impl State {
         requires free { IsRunningTarget (around_of self.old).running path.now → ⊥ }
         requires name { file.name ≡ path.now }
         requires group { group ≡ (path.now, Some file.bytes) ∷ [] }
+        requires place { IsSome (slot_at self.old.slots path.now) }
         requires places { (k : ℕ) (d : List ℕ) → k < length fresh.now → IsSome (slot_at self.old.dirs.slots (slice_index_or fresh.now k d)) }
         requires room { vec_len self.old.met + vec_len self.old.running + 1 ≤ vec_capacity self.old.met }
+        ensures file { (around_of self.new).tree path.now ≡ Some file.bytes }
+        ensures others { (other : List ℕ) → other ≢ path.now → (around_of self.new).tree other ≡ (around_of self.old).tree other }
         ensures removals { self.new.removals ≡ self.old.removals }
         ensures jobs { vec_len self.new.running ≡ vec_len self.old.running }
     {

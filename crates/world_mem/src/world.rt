@@ -37,12 +37,13 @@ pub struct MemWorld {
 }
 
 impl MemWorld {
-    ghost use Rattle.std.specs.Prelude.{nat_le, map, not, IfErr, OnOk, IsTrue};
+    ghost use Rattle.std.specs.Prelude.{◌≢◌, ◌⊎◌, nat_le, map, not, Err, IfErr, OnOk, OnErr, IsTrue};
     ghost use Rattle.mem_banks.specs.AsStore.{store_of};
     ghost use Rattle.mem_banks.specs.Past.{is_dirty};
     ghost use Rattle.world_api.specs.Meaning.{IsSettled};
     ghost use Rattle.world_api.specs.declared.disk.Bank.{Bank};
-    ghost use Rattle.world_mem.specs.Blocked.{IsRefused, IsFirstRefused};
+    ghost use Rattle.world_api.specs.Around.{IsRunningTarget};
+    ghost use Rattle.world_mem.specs.Blocked.{IsBarred, IsRefused, IsFirstRefused};
     ghost use Rattle.world_mem.specs.CallCounts.{count_of};
     ghost use Rattle.world_mem.specs.InSlots.{file_at};
     ghost use Rattle.world_mem.specs.Kept.{counts_of};
@@ -124,6 +125,10 @@ impl MemWorld {
 
     /// Sets the bytes of a file, and lets the directories above it stand. The record of moments begins anew.
     pub fn edit(&mut self, path: &PathText, bytes: &[u8]) -> Result<(), EditRefusal>
+        ensures file { OnOk result ((around_of self.new.state).tree path.now ≡ Some bytes.now) }
+        ensures others { (other : List ℕ) → other ≢ path.now → (around_of self.new.state).tree other ≡ (around_of self.old.state).tree other }
+        ensures same { OnErr result ((other : List ℕ) → (around_of self.new.state).tree other ≡ (around_of self.old.state).tree other) }
+        ensures refused { result ≡ Err EditRefusal.Place → IsRunningTarget (around_of self.old.state).running path.now ⊎ IsBarred (around_of self.old.state) path.now }
         ensures idle { (around_of self.old.state).running ≡ [] → (around_of self.new.state).running ≡ [] }
         ensures banks { self.new.banks ≡ self.old.banks }
         ensures faults { self.new.faults ≡ self.old.faults }
@@ -140,6 +145,8 @@ impl MemWorld {
 
     /// Removes a file. The record of moments begins anew.
     pub fn remove_file(&mut self, path: &PathText)
+        ensures gone { (around_of self.new.state).tree path.now ≡ None }
+        ensures others { (other : List ℕ) → other ≢ path.now → (around_of self.new.state).tree other ≡ (around_of self.old.state).tree other }
         ensures idle { (around_of self.old.state).running ≡ [] → (around_of self.new.state).running ≡ [] }
         ensures banks { self.new.banks ≡ self.old.banks }
         ensures faults { self.new.faults ≡ self.old.faults }
