@@ -1,4 +1,4 @@
-//! Two banks in memory. Their contracts tell nothing of them.
+//! Two banks in memory, which may claim to be larger than they are. Their contracts tell nothing of them.
 ghost use Rattle.std.specs.Prelude.{ℕ, ◌≡◌, ◌+◌, ◌-◌, ◌^◌, min};
 ghost use Rattle.store_trials.specs.Silent.{silent};
 
@@ -9,6 +9,8 @@ use world_api::{Bank, Disk, Fault};
 pub struct Banks {
     a: Vec<u8>,
     b: Vec<u8>,
+    /// The size that a bank says it has, in place of its own.
+    claim: Option<(Bank, u64)>,
     faults: u64,
 }
 
@@ -17,6 +19,7 @@ impl Banks {
         Banks {
             a: Vec::new(alloc),
             b: Vec::new(alloc),
+            claim: None,
             faults: 0,
         }
     }
@@ -28,11 +31,18 @@ impl Banks {
         }
     }
 
+    /// Puts other bytes into a bank. No bank claims another size from then on.
     pub fn set(&mut self, bank: Bank, bytes: Vec<u8>) {
+        self.claim = None;
         match bank {
             Bank::A => self.a = bytes,
             Bank::B => self.b = bytes,
         }
+    }
+
+    /// Lets a bank say that it has so many bytes.
+    pub fn claim(&mut self, bank: Bank, size: u64) {
+        self.claim = Some((bank, size));
     }
 
     fn fails(&mut self) -> Fault {
@@ -64,7 +74,10 @@ impl Disk for Banks {
     ghost only_now = { λ disk tells. absurd tells };
 
     fn size(&mut self, bank: Bank) -> Result<u64, Fault> {
-        Ok(self.bytes(bank).len() as u64)
+        match self.claim {
+            Some((claiming, size)) if claiming == bank => Ok(size),
+            _ => Ok(self.bytes(bank).len() as u64),
+        }
     }
 
     fn read_at(&mut self, bank: Bank, place: u64, into: &mut [u8]) -> Result<(), Fault> {
