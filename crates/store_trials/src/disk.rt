@@ -1,6 +1,7 @@
 //! Two banks in memory, which may claim to be larger than they are. Their contracts tell nothing of them.
 ghost use Rattle.std.specs.Prelude.{ℕ, ◌≡◌, ◌+◌, ◌-◌, ◌^◌, min};
-ghost use Rattle.store_trials.specs.Silent.{silent};
+ghost use Rattle.world_api.specs.Causes.{DiskFails};
+ghost use Rattle.store_trials.specs.Silent.{silent, counts_of};
 
 use std::alloc::Global;
 use world_api::{Bank, Disk, Fault};
@@ -45,13 +46,31 @@ impl Banks {
         self.claim = Some((bank, size));
     }
 
-    fn fails(&mut self) -> Fault {
+    fn size_of(&self, bank: Bank) -> u64 {
+        match self.claim {
+            Some((claiming, size)) if claiming == bank => size,
+            _ => self.bytes(bank).len() as u64,
+        }
+    }
+
+    /// Writes bytes at a place of a bank that isn't behind its end.
+    fn write(&mut self, bank: Bank, place: usize, bytes: &[u8]) -> Result<(), Fault>
+        ensures { self.new.faults ≡ self.old.faults }
+    {
+        match bank {
+            Bank::A => write(&mut self.a, place, bytes),
+            Bank::B => write(&mut self.b, place, bytes),
+        }
+    }
+
+    fn fails(&mut self) -> Fault
+        ensures { DiskFails (counts_of self.old.faults) (counts_of self.new.faults) }
+    {
         self.faults = self.faults.saturating_add(1);
         Fault
     }
 }
 
-/// Writes bytes at a place that isn't behind the end.
 fn write(bank: &mut Vec<u8>, place: usize, bytes: &[u8]) -> Result<(), Fault> {
     let mut at = place;
     for byte in bytes {
@@ -74,10 +93,7 @@ impl Disk for Banks {
     ghost only_now = { λ disk tells. absurd tells };
 
     fn size(&mut self, bank: Bank) -> Result<u64, Fault> {
-        match self.claim {
-            Some((claiming, size)) if claiming == bank => Ok(size),
-            _ => Ok(self.bytes(bank).len() as u64),
-        }
+        Ok(self.size_of(bank))
     }
 
     fn read_at(&mut self, bank: Bank, place: u64, into: &mut [u8]) -> Result<(), Fault> {
@@ -92,11 +108,7 @@ impl Disk for Banks {
     }
 
     fn write_at(&mut self, bank: Bank, place: u64, bytes: &[u8]) -> Result<(), Fault> {
-        let held = match bank {
-            Bank::A => &mut self.a,
-            Bank::B => &mut self.b,
-        };
-        if write(held, place as usize, bytes).is_err() {
+        if self.write(bank, place as usize, bytes).is_err() {
             return Err(self.fails());
         }
         Ok(())

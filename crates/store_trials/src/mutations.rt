@@ -21,7 +21,7 @@ pub fn spoil(
 ) -> Result<()> {
     let mut a = Vec::from_slice(alloc, a)?;
     let mut b = Vec::from_slice(alloc, b)?;
-    let times = 1 + draws.below(3);
+    let times = draws.below(3).saturating_add(1);
     for _ in 0..times {
         match draws.below(2) {
             0 => spoil_bank(alloc, draws, &mut a)?,

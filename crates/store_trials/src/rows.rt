@@ -6,8 +6,9 @@ use crate::spoilt::{cuts_text, flips_text};
 use crate::tally::Tally;
 use anyhow::{Result, anyhow};
 use c_scanner::includes;
-use deciders::{Rec, changed, decode, encode};
-use scons_base::PathText;
+use deciders::{Rec, changed, decode, encode, push_record, spelled_len};
+use scons_base::limits::PAYLOAD_LIMIT;
+use scons_base::{Memory, PathText};
 use sign_store::{PrepareRefusal, Store, StoreRefusal, Ticket, recorded};
 use std::alloc::Global;
 use world_api::Bank;
@@ -282,8 +283,23 @@ fn includes_row(alloc: Global, text: &str) -> Result<String> {
 
 fn encode_row(alloc: Global, text: &str) -> Result<String> {
     let rec = record_of(alloc, text)?;
-    let bytes = encode(alloc, &rec).map_err(|_| anyhow!("memory ran out"))?;
-    bytes_text(alloc, bytes.as_slice())
+    match spelling_of(alloc, &rec).map_err(|_| anyhow!("memory ran out"))? {
+        Some(bytes) => bytes_text(alloc, bytes.as_slice()),
+        None => Ok(String::from_str(alloc, "none\n")?),
+    }
+}
+
+/// The spelling of a record, where it has one that is read as a record again.
+fn spelling_of(alloc: Global, rec: &Rec) -> Result<Option<Vec<u8>>, Memory> {
+    if spelled_len(rec) >= PAYLOAD_LIMIT {
+        return Ok(None);
+    }
+    let mut bytes = Vec::new(alloc);
+    push_record(&mut bytes, rec)?;
+    match decode(alloc, bytes.as_slice())? {
+        Some(read) => Ok(Some(encode(alloc, &read)?)),
+        None => Ok(None),
+    }
 }
 
 fn decode_row(alloc: Global, text: &str) -> Result<String> {

@@ -2,7 +2,7 @@
 use crate::disk::Banks;
 use crate::draws::Draws;
 use crate::mutations::spoil;
-use anyhow::{Result, anyhow};
+use anyhow::Result;
 use deciders::{Rec, same};
 use scons_base::PathText;
 use sign_store::{Store, StoreRefusal, View};
@@ -50,34 +50,31 @@ impl Tally {
         let mut names = Vec::new(alloc);
         add_names(alloc, banks.bytes(Bank::A), &mut names)?;
         add_names(alloc, banks.bytes(Bank::B), &mut names)?;
-        match (Store::read(alloc, banks), Store::begin(alloc, banks)) {
-            (Ok(view), Ok(store)) => {
-                let after = Store::read(alloc, banks).map_err(|_| anyhow!(
-                    "a begun store can't be read"
-                ))?;
-                self.count_map(&view, &store, &after, names.as_slice());
-            }
-            (Err(StoreRefusal::Foreign(first)), Err(StoreRefusal::Foreign(second)))
-                if first == second => {
-                self.foreign = self.foreign.saturating_add(1);
-            }
-            (Err(StoreRefusal::Large(first)), Err(StoreRefusal::Large(second)))
-                if first == second => {
-                self.large = self.large.saturating_add(1);
-            }
-            _ => self.differing = self.differing.saturating_add(1),
+        match Store::read(alloc, banks) {
+            Ok(view) => self.begin_map(alloc, banks, &view, names.as_slice()),
+            Err(refusal) => self.refuse(alloc, banks, refusal),
         }
         Ok(())
     }
 
-    fn count_map(&mut self, view: &View, store: &Store, after: &View, names: &[PathText]) {
+    fn begin_map(&mut self, alloc: Global, banks: &mut Banks, view: &View, names: &[PathText]) {
         self.maps = self.maps.saturating_add(1);
         if names.iter().any(|name| view.get(name).is_some()) {
             self.filled = self.filled.saturating_add(1);
         }
-        if !names.iter().all(|name| is_one(view.get(name), store.get(name))
-            && is_one(view.get(name), after.get(name)))
-        {
+        if !is_begun_as(alloc, banks, view, names) {
+            self.differing = self.differing.saturating_add(1);
+        }
+    }
+
+    fn refuse(&mut self, alloc: Global, banks: &mut Banks, refusal: StoreRefusal) {
+        let counter = match refusal {
+            StoreRefusal::Foreign(_) => &mut self.foreign,
+            StoreRefusal::Large(_) => &mut self.large,
+            _ => &mut self.differing,
+        };
+        *counter = counter.saturating_add(1);
+        if !is_refused_as(alloc, banks, refusal) {
             self.differing = self.differing.saturating_add(1);
         }
     }
@@ -93,6 +90,25 @@ impl Tally {
         Ok(format!(in alloc;
             "{maps} maps, {filled} with a record; {foreign} foreign; {large} large; {differing} differ\n"
         )?)
+    }
+}
+
+/// Whether the store of the banks is the map that was read, and is read again.
+fn is_begun_as(alloc: Global, banks: &mut Banks, view: &View, names: &[PathText]) -> bool {
+    let Ok(store) = Store::begin(alloc, banks) else {
+        return false;
+    };
+    let Ok(after) = Store::read(alloc, banks) else {
+        return false;
+    };
+    names.iter().all(|name| is_one(view.get(name), store.get(name))
+        && is_one(view.get(name), after.get(name)))
+}
+
+fn is_refused_as(alloc: Global, banks: &mut Banks, refusal: StoreRefusal) -> bool {
+    match Store::begin(alloc, banks) {
+        Ok(_) => false,
+        Err(other) => other == refusal,
     }
 }
 
