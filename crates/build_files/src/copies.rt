@@ -1,4 +1,8 @@
 //! The copy rules of variant directories, added as their paths come up.
+ghost use Rattle.std.specs.Prelude.{◌<◌, ℕ, length, IfOk};
+ghost use Rattle.rule_graph.specs.Rules.{IsRule};
+ghost use Rattle.build_files.specs.Causes.{HasLookCause, IsQuiet};
+ghost use Rattle.build_files.specs.Looks.{Looks};
 
 use crate::end::ListEnd;
 use crate::inputs::Inputs;
@@ -7,70 +11,134 @@ use crate::lookup::{path_of, rule_at};
 use indexmap::IndexSet;
 use rule_graph::{Graph, Rule};
 use scons_base::limits::RULE_LIMIT;
-use scons_base::{Listing, Memory, NodeId, Paths, RuleId, Text, Texts};
+use scons_base::{Listing, Memory, NodeId, PathText, Paths, RuleId, Text, Texts};
 use std::alloc::Global;
 use world_api::{Decider, Work, World};
 
 impl Inputs {
     /// The files that a file includes as a rule finds them. Their copy rules are added, but for those that the rule leaves
     /// out.
+    #[tactic(auto, using(crate::proofs::Looking::looking))]
     pub fn scanned<W: World>(
         &mut self,
         world: &mut W,
         graph: &mut Graph,
         rule: RuleId,
         file: NodeId,
-    ) -> Result<Listing<NodeId>, ListEnd> {
+    ) -> Result<Listing<NodeId>, ListEnd>
+        ensures looks { Looks W.meaning world.old world.new }
+        ensures cause { HasLookCause (W.meaning.counts world.old) (W.meaning.counts world.new) result }
+    {
         let found = self.scan(world, graph, rule, file)?;
-        if has_copies(graph) {
-            let mut left_out = IndexSet::new(self.alloc);
-            let named = rule_at(graph, rule)?;
-            insert_all(&mut left_out, named.ignored.as_slice())?;
-            insert_all(&mut left_out, named.targets.as_slice())?;
-            let mut met = Vec::new(self.alloc);
-            add_kept(&mut met, &found, &left_out)?;
-            self.add_copies(world, graph, met.as_slice())?;
-        }
+        self.add_found(world, graph, rule, &found)?;
         Ok(found)
     }
 
+    /// Adds the copy rules of included files, but for those that the rule leaves out.
+    #[tactic(auto, using(crate::proofs::Looking::looking))]
+    fn add_found<W: World>(
+        &mut self,
+        world: &mut W,
+        graph: &mut Graph,
+        rule: RuleId,
+        found: &Listing<NodeId>,
+    ) -> Result<(), ListEnd>
+        ensures looks { Looks W.meaning world.old world.new }
+        ensures cause { HasLookCause (W.meaning.counts world.old) (W.meaning.counts world.new) result }
+    {
+        if !has_copies(graph) {
+            return Ok(());
+        }
+        let kept = files_kept(self.alloc, rule_at(graph, rule)?, found)?;
+        self.add_copies(world, graph, kept.as_slice())
+    }
+
     /// Adds the copy rules of these files and of all that the rules of these need, as far as they name it.
+    #[tactic(auto, using(crate::proofs::Looking::looking))]
     pub fn add_copies<W: World>(
         &mut self,
         world: &mut W,
         graph: &mut Graph,
         nodes: &[NodeId],
-    ) -> Result<(), ListEnd> {
+    ) -> Result<(), ListEnd>
+        ensures looks { Looks W.meaning world.old world.new }
+        ensures cause { HasLookCause (W.meaning.counts world.old) (W.meaning.counts world.new) result }
+    {
         if !has_copies(graph) {
             return Ok(());
         }
         let mut rules = Vec::new(self.alloc);
         self.add_each_copy(world, graph, nodes, &mut rules)?;
+        self.add_rest(world, graph, &mut rules)
+    }
+
+    /// Adds the copy rules of the files that these rules name, and puts the rules of those behind.
+    #[tactic(auto, using(crate::proofs::Looking::looking))]
+    fn add_rest<W: World>(
+        &mut self,
+        world: &mut W,
+        graph: &mut Graph,
+        rules: &mut Vec<RuleId>,
+    ) -> Result<(), ListEnd>
+        ensures looks { Looks W.meaning world.old world.new }
+        ensures cause { HasLookCause (W.meaning.counts world.old) (W.meaning.counts world.new) result }
+    {
         for place in 0..RULE_LIMIT as usize {
             let Some(rule) = rules.get(place).copied() else {
-                break;
+                return Ok(());
             };
-            let nodes = files_named(self.alloc, rule_at(graph, rule)?)?;
-            self.add_each_copy(world, graph, nodes.as_slice(), &mut rules)?;
+            self.add_named(world, graph, rule, rules)?;
         }
         Ok(())
     }
 
+    /// Adds the copy rules of the files that a rule names.
+    #[tactic(auto, using(crate::proofs::Looking::looking))]
+    fn add_named<W: World>(
+        &mut self,
+        world: &mut W,
+        graph: &mut Graph,
+        rule: RuleId,
+        rules: &mut Vec<RuleId>,
+    ) -> Result<(), ListEnd>
+        ensures looks { Looks W.meaning world.old world.new }
+        ensures cause { HasLookCause (W.meaning.counts world.old) (W.meaning.counts world.new) result }
+    {
+        let nodes = files_named(self.alloc, rule_at(graph, rule)?)?;
+        self.add_each_copy(world, graph, nodes.as_slice(), rules)
+    }
+
     /// Adds the copy rules of these files, and puts those of their rules behind that weren't looked at.
+    #[tactic(auto, using(crate::proofs::Looking::looking))]
     fn add_each_copy<W: World>(
         &mut self,
         world: &mut W,
         graph: &mut Graph,
         nodes: &[NodeId],
         rules: &mut Vec<RuleId>,
-    ) -> Result<(), ListEnd> {
+    ) -> Result<(), ListEnd>
+        ensures looks { Looks W.meaning world.old world.new }
+        ensures cause { HasLookCause (W.meaning.counts world.old) (W.meaning.counts world.new) result }
+    {
         for node in nodes {
             self.add_copy(world, graph, *node)?;
-            if let Some(rule) = graph.rule_of(*node)
-                && self.look_at(rule)?
-            {
-                rules.push(rule)?;
-            }
+            self.add_rule(graph, *node, rules)?;
+        }
+        Ok(())
+    }
+
+    /// Puts the rule of a file behind others, unless it was looked at.
+    fn add_rule(
+        &mut self,
+        graph: &Graph,
+        node: NodeId,
+        rules: &mut Vec<RuleId>,
+    ) -> Result<(), Memory> {
+        let Some(rule) = graph.rule_of(node) else {
+            return Ok(());
+        };
+        if self.look_at(rule)? {
+            rules.push(rule)?;
         }
         Ok(())
     }
@@ -91,23 +159,62 @@ impl Inputs {
     }
 
     /// Adds the copy rule of a file, where it has one.
+    #[tactic(auto, using(crate::proofs::Looking::looking))]
     fn add_copy<W: World>(
         &mut self,
         world: &mut W,
         graph: &mut Graph,
         node: NodeId,
-    ) -> Result<(), ListEnd> {
-        if graph.rule_of(node).is_some() || self.seen(node)?.is_settled {
+    ) -> Result<(), ListEnd>
+        ensures looks { Looks W.meaning world.old world.new }
+        ensures cause { HasLookCause (W.meaning.counts world.old) (W.meaning.counts world.new) result }
+    {
+        if graph.rule_of(node).is_some() {
             return Ok(());
         }
-        self.seen(node)?.is_settled = true;
-        if let Some(source) = copied_from(world, graph, path_of(graph, node)?)? {
-            let source = graph.intern(&source)?;
-            let rule = copy_rule(self.alloc, node, source)?;
-            let _ = graph.add_rule(rule)?;
+        if !self.settle(node)? {
+            return Ok(());
         }
-        Ok(())
+        match copied_from(world, graph, path_of(graph, node)?)? {
+            Some(source) => add_copy_rule(self.alloc, graph, node, &source),
+            None => Ok(()),
+        }
     }
+
+    /// Notes that the copy rule of a file was looked for, and says whether it wasn't before.
+    fn settle(&mut self, node: NodeId) -> Result<bool, Memory> {
+        let seen = self.seen(node)?;
+        let is_new = !seen.is_settled;
+        seen.is_settled = true;
+        Ok(is_new)
+    }
+}
+
+/// Adds the rule that copies a file from a path.
+#[tactic(auto, using(crate::proofs::Looking::looking))]
+fn add_copy_rule(
+    alloc: Global,
+    graph: &mut Graph,
+    node: NodeId,
+    source: &PathText,
+) -> Result<(), ListEnd>
+    requires { node.0 < length graph.old.nodes }
+    ensures { IsQuiet result }
+{
+    let source = graph.intern(source)?;
+    let rule = copy_rule(alloc, node, source)?;
+    let _ = graph.add_rule(rule)?;
+    Ok(())
+}
+
+/// The files that a rule doesn't leave out: neither its ignored ones nor its targets.
+fn files_kept(alloc: Global, rule: &Rule, found: &Listing<NodeId>) -> Result<Vec<NodeId>, Memory> {
+    let mut left_out = IndexSet::new(alloc);
+    insert_all(&mut left_out, rule.ignored.as_slice())?;
+    insert_all(&mut left_out, rule.targets.as_slice())?;
+    let mut kept = Vec::new(alloc);
+    add_kept(&mut kept, found, &left_out)?;
+    Ok(kept)
 }
 
 /// The files that a rule names and that count: all but the ignored ones, and the sources of a copy in any case.
@@ -156,7 +263,9 @@ fn add_kept(
 }
 
 /// The rule that copies a file. It has no line, and none is printed for it.
-fn copy_rule(alloc: Global, target: NodeId, source: NodeId) -> Result<Rule, Memory> {
+fn copy_rule(alloc: Global, target: NodeId, source: NodeId) -> Result<Rule, Memory>
+    ensures { (nodes : ℕ) → target.0 < nodes → source.0 < nodes → IfOk result (IsRule nodes) }
+{
     let mut targets = Listing::empty(alloc);
     targets.push(target)?;
     let mut sources = Listing::empty(alloc);

@@ -1,4 +1,6 @@
 //! The files that a file includes.
+ghost use Rattle.build_files.specs.Causes.{HasLookCause};
+ghost use Rattle.build_files.specs.Looks.{Looks};
 
 use crate::end::ListEnd;
 use crate::inputs::Inputs;
@@ -42,10 +44,10 @@ impl Found {
 
     /// The number of the list of directories of a rule.
     fn list_of(&mut self, id: RuleId, rule: &Rule) -> Result<usize, Memory> {
-        if let Some((last, list)) = self.last
-            && last == id
-        {
-            return Ok(list);
+        if let Some((last, list)) = self.last {
+            if last == id {
+                return Ok(list);
+            }
         }
         let mut text = String::new(self.alloc);
         for dir in rule.paths.as_slice() {
@@ -61,13 +63,17 @@ impl Found {
 impl Inputs {
     /// The files that a file includes as a rule finds them, in the order of the lines. Those without a known path are left
     /// out.
+    #[tactic(auto, using(crate::proofs::Looking::looking))]
     pub(crate) fn scan<W: World>(
         &mut self,
         world: &mut W,
         graph: &mut Graph,
         rule: RuleId,
         file: NodeId,
-    ) -> Result<Listing<NodeId>, ListEnd> {
+    ) -> Result<Listing<NodeId>, ListEnd>
+        ensures looks { Looks W.meaning world.old world.new }
+        ensures cause { HasLookCause (W.meaning.counts world.old) (W.meaning.counts world.new) result }
+    {
         let dirs = self.found.list_of(rule, rule_at(graph, rule)?)?;
         let scan = Scan { file, dirs };
         if let Some(found) = self.found.files.get(&scan) {
@@ -80,56 +86,124 @@ impl Inputs {
     }
 
     /// Looks up what a file includes.
+    #[tactic(auto, using(crate::proofs::Looking::looking))]
     fn look_up<W: World>(
         &mut self,
         world: &mut W,
         graph: &mut Graph,
         rule: RuleId,
         file: NodeId,
-    ) -> Result<Vec<NodeId>, ListEnd> {
-        if self.seen(file)?.includes.is_none() {
-            let _ = self.read(world, path_of(graph, file)?, file, true)?;
+    ) -> Result<Vec<NodeId>, ListEnd>
+        ensures looks { Looks W.meaning world.old world.new }
+        ensures cause { HasLookCause (W.meaning.counts world.old) (W.meaning.counts world.new) result }
+    {
+        self.read_once(world, graph, file)?;
+        let Some(includes) = self.seen(file)?.includes.take() else {
+            return Ok(Vec::new(self.alloc));
+        };
+        let dirs = Dirs::of(self.alloc, graph, rule, file)?;
+        let found = self.search_each(world, graph, &dirs, includes.as_slice())?;
+        self.seen(file)?.includes = Some(includes);
+        Ok(found)
+    }
+
+    /// Reads a file for what it includes, where that isn't known.
+    #[tactic(auto, using(crate::proofs::Looking::looking))]
+    fn read_once<W: World>(
+        &mut self,
+        world: &mut W,
+        graph: &Graph,
+        file: NodeId,
+    ) -> Result<(), ListEnd>
+        ensures looks { Looks W.meaning world.old world.new }
+        ensures cause { HasLookCause (W.meaning.counts world.old) (W.meaning.counts world.new) result }
+    {
+        if self.seen(file)?.includes.is_some() {
+            return Ok(());
         }
+        let _ = self.read(world, path_of(graph, file)?, file, true)?;
+        Ok(())
+    }
+
+    /// The known files that some include lines mean.
+    #[tactic(auto, using(crate::proofs::Looking::looking))]
+    fn search_each<W: World>(
+        &mut self,
+        world: &mut W,
+        graph: &mut Graph,
+        dirs: &Dirs,
+        includes: &[Include],
+    ) -> Result<Vec<NodeId>, ListEnd>
+        ensures looks { Looks W.meaning world.old world.new }
+        ensures cause { HasLookCause (W.meaning.counts world.old) (W.meaning.counts world.new) result }
+    {
         let mut found = Vec::new(self.alloc);
-        if let Some(includes) = self.seen(file)?.includes.take() {
-            let dirs = Dirs::of(self.alloc, graph, rule, file)?;
-            for include in includes.as_slice() {
-                if let Some(node) = self.search(world, graph, &dirs, include)? {
-                    found.push(node)?;
-                }
-            }
-            self.seen(file)?.includes = Some(includes);
+        for include in includes {
+            let node = self.search(world, graph, dirs, include)?;
+            push_found(&mut found, node)?;
         }
         Ok(found)
     }
 
     /// The first known file among those that an include line may mean.
+    #[tactic(auto, using(crate::proofs::Looking::looking))]
     fn search<W: World>(
         &mut self,
         world: &mut W,
         graph: &mut Graph,
         dirs: &Dirs,
         include: &Include,
-    ) -> Result<Option<NodeId>, ListEnd> {
+    ) -> Result<Option<NodeId>, ListEnd>
+        ensures looks { Looks W.meaning world.old world.new }
+        ensures cause { HasLookCause (W.meaning.counts world.old) (W.meaning.counts world.new) result }
+    {
         let Ok(name) = str::from_utf8(include.name.as_slice()) else {
             return Ok(None);
         };
         for dir in dirs.in_order(include.quoted) {
-            for path in places(self.alloc, graph, dir, name)?.as_slice() {
-                if let Some(node) = self.known(world, graph, path)? {
-                    return Ok(Some(node));
-                }
+            let node = self.search_dir(world, graph, dir, name)?;
+            if node.is_some() {
+                return Ok(node);
+            }
+        }
+        Ok(None)
+    }
+
+    /// The first known file among those that a name may mean in a directory.
+    #[tactic(auto, using(crate::proofs::Looking::looking))]
+    fn search_dir<W: World>(
+        &mut self,
+        world: &mut W,
+        graph: &mut Graph,
+        dir: &PathText,
+        name: &str,
+    ) -> Result<Option<NodeId>, ListEnd>
+        ensures looks { Looks W.meaning world.old world.new }
+        ensures cause { HasLookCause (W.meaning.counts world.old) (W.meaning.counts world.new) result }
+    {
+        let places = places(self.alloc, graph, dir, name)?;
+        for path in places.as_slice() {
+            let node = self.known(world, graph, path)?;
+            if node.is_some() {
+                return Ok(node);
             }
         }
         Ok(None)
     }
 }
 
+fn push_found(found: &mut Vec<NodeId>, node: Option<NodeId>) -> Result<(), Memory> {
+    if let Some(node) = node {
+        found.push(node)?;
+    }
+    Ok(())
+}
+
 /// Where a name may mean a file.
-fn places(alloc: Global, graph: &Graph, dir: &PathText, name: &str) -> Result<Paths, ListEnd> {
+fn places(alloc: Global, graph: &Graph, dir: &PathText, name: &str) -> Result<Paths, Memory> {
     match graph.variants().search(graph.top(), dir, name) {
         Ok(paths) => Ok(paths),
-        Err(VariantFault::Memory) => Err(ListEnd::Memory),
+        Err(VariantFault::Memory) => Err(Memory),
         Err(_) => Ok(Paths::new(Vec::new(alloc))),
     }
 }
@@ -157,10 +231,13 @@ impl Dirs {
     /// last.
     fn in_order(&self, quoted: bool) -> &[PathText] {
         let dirs = self.dirs.as_slice();
-        match dirs.len() {
-            0 => dirs,
-            count if quoted => &dirs[..count - 1],
-            _ => &dirs[1..],
+        if dirs.is_empty() {
+            return dirs;
+        }
+        if quoted {
+            &dirs[..dirs.len() - 1]
+        } else {
+            &dirs[1..]
         }
     }
 }

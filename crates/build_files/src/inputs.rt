@@ -1,4 +1,6 @@
 //! The files of a build.
+ghost use Rattle.build_files.specs.Causes.{HasLookCause};
+ghost use Rattle.build_files.specs.Looks.{Looks};
 
 use crate::end::ListEnd;
 use crate::includes::Found;
@@ -11,7 +13,7 @@ use rule_graph::Graph;
 use scons_base::limits::FILE_LIMIT;
 use scons_base::{Listing, Memory, NodeId, PathText};
 use std::alloc::Global;
-use world_api::{Kind, World};
+use world_api::{Content, Kind, World};
 
 /// What was found of the files of a build. A file that no rule makes stays as it is while the build runs, and one that a
 /// rule makes is asked for only once its rule is settled.
@@ -50,28 +52,36 @@ impl Inputs {
         }
     }
 
-    /// Whether a file stands at a path that no rule makes.
+    /// Whether a file stands at the path of a node that no rule makes.
+    #[tactic(auto, using(crate::proofs::Looking::looking))]
     pub(crate) fn is_file<W: World>(
         &mut self,
         world: &mut W,
-        graph: &Graph,
+        path: &PathText,
         node: NodeId,
-    ) -> Result<bool, ListEnd> {
+    ) -> Result<bool, ListEnd>
+        ensures looks { Looks W.meaning world.old world.new }
+        ensures cause { HasLookCause (W.meaning.counts world.old) (W.meaning.counts world.new) result }
+    {
         if let Some(is_file) = self.seen(node)?.is_file {
             return Ok(is_file);
         }
-        let is_file = is_file_at(world, path_of(graph, node)?)?;
+        let is_file = is_file_at(world, path)?;
         self.seen(node)?.is_file = Some(is_file);
         Ok(is_file)
     }
 
     /// The digest of what a file holds, none where no file stands.
+    #[tactic(auto, using(crate::proofs::Looking::looking))]
     pub fn digest<W: World>(
         &mut self,
         world: &mut W,
         graph: &Graph,
         node: NodeId,
-    ) -> Result<Option<Digest>, ListEnd> {
+    ) -> Result<Option<Digest>, ListEnd>
+        ensures looks { Looks W.meaning world.old world.new }
+        ensures cause { HasLookCause (W.meaning.counts world.old) (W.meaning.counts world.new) result }
+    {
         match self.seen(node)?.digest {
             Some(digest) => Ok(digest),
             None => self.read(world, path_of(graph, node)?, node, false),
@@ -79,37 +89,48 @@ impl Inputs {
     }
 
     /// When a file last changed, none where no file stands.
+    #[tactic(auto, using(crate::proofs::Looking::looking))]
     pub fn stamp<W: World>(
         &mut self,
         world: &mut W,
         graph: &Graph,
         node: NodeId,
-    ) -> Result<Option<u64>, ListEnd> {
+    ) -> Result<Option<u64>, ListEnd>
+        ensures looks { Looks W.meaning world.old world.new }
+        ensures cause { HasLookCause (W.meaning.counts world.old) (W.meaning.counts world.new) result }
+    {
         if let Some(stamp) = self.seen(node)?.stamp {
             return Ok(stamp);
         }
-        let path = path_of(graph, node)?;
-        match world.stamp(path) {
-            Ok(stamp) => {
-                self.seen(node)?.stamp = Some(stamp);
-                Ok(stamp)
-            }
-            Err(_) => Err(ListEnd::tree(path)),
-        }
+        let stamp = stamp_at(world, path_of(graph, node)?)?;
+        self.seen(node)?.stamp = Some(stamp);
+        Ok(stamp)
     }
 
     /// Reads a file for its digest, and for what it includes where that is asked or its name says that it will be.
+    #[tactic(auto, using(crate::proofs::Looking::looking))]
     pub(crate) fn read<W: World>(
         &mut self,
         world: &mut W,
         path: &PathText,
         node: NodeId,
         is_scanned: bool,
-    ) -> Result<Option<Digest>, ListEnd> {
-        let content = match world.read_file(path, FILE_LIMIT) {
-            Ok(content) => content,
-            Err(refusal) => return Err(ListEnd::read(path, refusal)),
-        };
+    ) -> Result<Option<Digest>, ListEnd>
+        ensures looks { Looks W.meaning world.old world.new }
+        ensures cause { HasLookCause (W.meaning.counts world.old) (W.meaning.counts world.new) result }
+    {
+        let content = content_at(world, path)?;
+        Ok(self.keep(path, node, is_scanned, content)?)
+    }
+
+    /// Keeps what was read of a file.
+    fn keep(
+        &mut self,
+        path: &PathText,
+        node: NodeId,
+        is_scanned: bool,
+        content: Content,
+    ) -> Result<Option<Digest>, Memory> {
         let alloc = self.alloc;
         let seen = self.seen(node)?;
         match content {
@@ -131,10 +152,38 @@ impl Inputs {
 }
 
 /// Whether a file stands at a path.
-pub(crate) fn is_file_at<W: World>(world: &mut W, path: &PathText) -> Result<bool, ListEnd> {
+#[tactic(auto, using(crate::proofs::Looking::looking))]
+pub(crate) fn is_file_at<W: World>(world: &mut W, path: &PathText) -> Result<bool, ListEnd>
+    ensures looks { Looks W.meaning world.old world.new }
+    ensures cause { HasLookCause (W.meaning.counts world.old) (W.meaning.counts world.new) result }
+{
     match world.kind(path) {
         Ok(kind) => Ok(kind == Kind::File),
         Err(_) => Err(ListEnd::tree(path)),
+    }
+}
+
+/// When the file at a path last changed, none where no file stands.
+#[tactic(auto, using(crate::proofs::Looking::looking))]
+pub(crate) fn stamp_at<W: World>(world: &mut W, path: &PathText) -> Result<Option<u64>, ListEnd>
+    ensures looks { Looks W.meaning world.old world.new }
+    ensures cause { HasLookCause (W.meaning.counts world.old) (W.meaning.counts world.new) result }
+{
+    match world.stamp(path) {
+        Ok(stamp) => Ok(stamp),
+        Err(_) => Err(ListEnd::tree(path)),
+    }
+}
+
+/// What the file at a path holds.
+#[tactic(auto, using(crate::proofs::Looking::looking))]
+fn content_at<W: World>(world: &mut W, path: &PathText) -> Result<Content, ListEnd>
+    ensures looks { Looks W.meaning world.old world.new }
+    ensures cause { HasLookCause (W.meaning.counts world.old) (W.meaning.counts world.new) result }
+{
+    match world.read_file(path, FILE_LIMIT) {
+        Ok(content) => Ok(content),
+        Err(refusal) => Err(ListEnd::read(path, refusal)),
     }
 }
 

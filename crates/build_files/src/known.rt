@@ -1,4 +1,6 @@
 //! Which paths are known: those that a rule makes, and those at which a file stands.
+ghost use Rattle.build_files.specs.Causes.{HasLookCause, IsQuiet};
+ghost use Rattle.build_files.specs.Looks.{Looks};
 
 use crate::end::ListEnd;
 use crate::inputs::{Inputs, is_file_at};
@@ -9,52 +11,81 @@ use world_api::World;
 
 impl Inputs {
     /// The node of a path, where the path is known.
+    #[tactic(auto, using(crate::proofs::Looking::looking))]
     pub(crate) fn known<W: World>(
         &mut self,
         world: &mut W,
         graph: &mut Graph,
         path: &PathText,
-    ) -> Result<Option<NodeId>, ListEnd> {
-        match graph.find(path) {
-            Some(node) => {
-                if self.is_known(world, graph, node)? {
-                    Ok(Some(node))
-                } else {
-                    Ok(None)
-                }
-            }
-            None => self.newly_known(world, graph, path),
+    ) -> Result<Option<NodeId>, ListEnd>
+        ensures looks { Looks W.meaning world.old world.new }
+        ensures cause { HasLookCause (W.meaning.counts world.old) (W.meaning.counts world.new) result }
+    {
+        let Some(node) = graph.find(path) else {
+            return self.newly_known(world, graph, path);
+        };
+        if self.is_known(world, graph, node)? {
+            Ok(Some(node))
+        } else {
+            Ok(None)
         }
     }
 
     /// Whether a file has a rule, its copy rule counted, or stands.
+    #[tactic(auto, using(crate::proofs::Looking::looking))]
     fn is_known<W: World>(
         &mut self,
         world: &mut W,
         graph: &Graph,
         node: NodeId,
-    ) -> Result<bool, ListEnd> {
-        if graph.rule_of(node).is_some() || self.is_file(world, graph, node)? {
+    ) -> Result<bool, ListEnd>
+        ensures looks { Looks W.meaning world.old world.new }
+        ensures cause { HasLookCause (W.meaning.counts world.old) (W.meaning.counts world.new) result }
+    {
+        if graph.rule_of(node).is_some() {
             return Ok(true);
         }
-        Ok(copied_from(world, graph, path_of(graph, node)?)?.is_some())
+        let path = path_of(graph, node)?;
+        if self.is_file(world, path, node)? {
+            return Ok(true);
+        }
+        has_copy_rule(world, graph, path)
     }
 
     /// The node of a path that no rule names, where the path is known.
+    #[tactic(auto, using(crate::proofs::Looking::looking))]
     fn newly_known<W: World>(
         &mut self,
         world: &mut W,
         graph: &mut Graph,
         path: &PathText,
-    ) -> Result<Option<NodeId>, ListEnd> {
+    ) -> Result<Option<NodeId>, ListEnd>
+        ensures looks { Looks W.meaning world.old world.new }
+        ensures cause { HasLookCause (W.meaning.counts world.old) (W.meaning.counts world.new) result }
+    {
         if self.unknown.contains(path) {
             return Ok(None);
         }
-        let is_file = is_file_at(world, path)?;
-        if !is_file && copied_from(world, graph, path)?.is_none() {
-            let _ = self.unknown.insert(path.copy()?)?;
-            return Ok(None);
+        if is_file_at(world, path)? {
+            return self.note(graph, path, true);
         }
+        if has_copy_rule(world, graph, path)? {
+            return self.note(graph, path, false);
+        }
+        let _ = self.unknown.insert(path.copy()?)?;
+        Ok(None)
+    }
+
+    /// Gives a path a node, and notes whether a file stands there.
+    #[tactic(auto, using(crate::proofs::Looking::looking))]
+    fn note(
+        &mut self,
+        graph: &mut Graph,
+        path: &PathText,
+        is_file: bool,
+    ) -> Result<Option<NodeId>, ListEnd>
+        ensures { IsQuiet result }
+    {
         let node = graph.intern(path)?;
         self.seen(node)?.is_file = Some(is_file);
         Ok(Some(node))
@@ -62,21 +93,29 @@ impl Inputs {
 }
 
 /// Whether a path without a declared rule has a copy rule.
+#[tactic(auto, using(crate::proofs::Looking::looking))]
 pub fn has_copy_rule<W: World>(
     world: &mut W,
     graph: &Graph,
     path: &PathText,
-) -> Result<bool, ListEnd> {
+) -> Result<bool, ListEnd>
+    ensures looks { Looks W.meaning world.old world.new }
+    ensures cause { HasLookCause (W.meaning.counts world.old) (W.meaning.counts world.new) result }
+{
     Ok(copied_from(world, graph, path)?.is_some())
 }
 
 /// The path that a path without a declared rule is copied from: it lies in a variant directory with copies, and its source
 /// has a rule, or is a file outside such directories.
+#[tactic(auto, using(crate::proofs::Looking::looking))]
 pub(crate) fn copied_from<W: World>(
     world: &mut W,
     graph: &Graph,
     path: &PathText,
-) -> Result<Option<PathText>, ListEnd> {
+) -> Result<Option<PathText>, ListEnd>
+    ensures looks { Looks W.meaning world.old world.new }
+    ensures cause { HasLookCause (W.meaning.counts world.old) (W.meaning.counts world.new) result }
+{
     if !is_copied(graph, path) {
         return Ok(None);
     }
@@ -86,10 +125,14 @@ pub(crate) fn copied_from<W: World>(
     if is_declared(graph, &source) {
         return Ok(Some(source));
     }
-    if !is_copied(graph, &source) && is_file_at(world, &source)? {
-        return Ok(Some(source));
+    if is_copied(graph, &source) {
+        return Ok(None);
     }
-    Ok(None)
+    if is_file_at(world, &source)? {
+        Ok(Some(source))
+    } else {
+        Ok(None)
+    }
 }
 
 /// Whether a path lies in a variant directory with copies.

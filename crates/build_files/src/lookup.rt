@@ -1,11 +1,16 @@
 //! Nodes and rules by their numbers.
+ghost use Rattle.std.specs.Prelude.{◌≡◌, ◌<◌, Some, length, slice_get, IfOk};
+ghost use Rattle.rule_graph.specs.Rules.{IsRule};
 
 use rule_graph::{Graph, Rule};
 use scons_base::{Memory, NodeId, PathText, RuleId};
 
 /// The path of a node. A plan names nodes of its graph alone, so no other comes up; one would be answered as want of
 /// memory is.
-pub fn path_of(graph: &Graph, node: NodeId) -> Result<&PathText, Memory> {
+pub fn path_of(graph: &Graph, node: NodeId) -> Result<&PathText, Memory>
+    ensures at { IfOk result (λ path. slice_get graph.now.nodes node.0 ≡ Some path.now) }
+    ensures known { IfOk result (λ path. node.0 < length graph.now.nodes) }
+{
     if node.0 < graph.len() {
         Ok(graph.path(node))
     } else {
@@ -14,7 +19,10 @@ pub fn path_of(graph: &Graph, node: NodeId) -> Result<&PathText, Memory> {
 }
 
 /// The rule of a number, as `path_of` gives paths.
-pub fn rule_at(graph: &Graph, rule: RuleId) -> Result<&Rule, Memory> {
+pub fn rule_at(graph: &Graph, rule: RuleId) -> Result<&Rule, Memory>
+    ensures at { IfOk result (λ found. slice_get graph.now.rules rule.0 ≡ Some found.now) }
+    ensures valid { IfOk result (λ found. IsRule (length graph.now.nodes) found.now) }
+{
     if rule.0 < graph.rules() {
         Ok(graph.rule(rule))
     } else {

@@ -1,7 +1,9 @@
 //! What a rule's record would be now, and whether the rule is stale.
+ghost use Rattle.build_files.specs.Causes.{HasLookCause};
+ghost use Rattle.build_files.specs.Looks.{Looks};
 
 use crate::end::ListEnd;
-use crate::inputs::{Inputs, is_file_at};
+use crate::inputs::{Inputs, is_file_at, stamp_at};
 use crate::lookup::{path_of, rule_at};
 use deciders::{Dep, Rec, changed, rec_of};
 use rule_graph::Graph;
@@ -37,13 +39,17 @@ pub enum Present {
 
 impl Inputs {
     /// The record of a rule over the files as they are, with these dependencies.
+    #[tactic(auto, using(crate::proofs::Looking::looking))]
     pub fn present<W: World>(
         &mut self,
         world: &mut W,
         graph: &Graph,
         rule: RuleId,
         nodes: &[NodeId],
-    ) -> Result<Present, ListEnd> {
+    ) -> Result<Present, ListEnd>
+        ensures looks { Looks W.meaning world.old world.new }
+        ensures cause { HasLookCause (W.meaning.counts world.old) (W.meaning.counts world.new) result }
+    {
         let mut deps = Vec::with_capacity(self.alloc, nodes.len())?;
         let decider = rule_at(graph, rule)?.decider;
         for node in nodes {
@@ -61,23 +67,42 @@ impl Inputs {
     }
 
     /// A dependency as it is now, with its time of change where the rule goes by times.
+    #[tactic(auto, using(crate::proofs::Looking::looking))]
     fn dep<W: World>(
         &mut self,
         world: &mut W,
         graph: &Graph,
         decider: Decider,
         node: NodeId,
-    ) -> Result<Dep, ListEnd> {
+    ) -> Result<Dep, ListEnd>
+        ensures looks { Looks W.meaning world.old world.new }
+        ensures cause { HasLookCause (W.meaning.counts world.old) (W.meaning.counts world.new) result }
+    {
         let digest = self.digest(world, graph, node)?;
-        let stamp = match decider {
-            Decider::Content => None,
-            _ => self.stamp(world, graph, node)?,
-        };
+        let stamp = self.stamp_for(world, graph, decider, node)?;
         Ok(Dep {
             name: path_of(graph, node)?.copy()?,
             digest,
             stamp,
         })
+    }
+
+    /// When a file last changed, where the rule goes by times.
+    #[tactic(auto, using(crate::proofs::Looking::looking))]
+    fn stamp_for<W: World>(
+        &mut self,
+        world: &mut W,
+        graph: &Graph,
+        decider: Decider,
+        node: NodeId,
+    ) -> Result<Option<u64>, ListEnd>
+        ensures looks { Looks W.meaning world.old world.new }
+        ensures cause { HasLookCause (W.meaning.counts world.old) (W.meaning.counts world.new) result }
+    {
+        match decider {
+            Decider::Content => Ok(None),
+            _ => self.stamp(world, graph, node),
+        }
     }
 }
 
@@ -91,23 +116,27 @@ fn paths_of(alloc: Global, graph: &Graph, nodes: &[NodeId]) -> Result<Paths, Mem
 }
 
 /// Whether a rule is to be built: it always is, a target is no file or has no record, or the record has changed.
+#[tactic(auto, using(crate::proofs::Looking::looking))]
 pub fn is_stale<W: World, R: Records>(
     world: &mut W,
     graph: &Graph,
     records: &R,
     rule: RuleId,
     now: &Rec,
-) -> Result<bool, ListEnd> {
+) -> Result<bool, ListEnd>
+    ensures looks { Looks W.meaning world.old world.new }
+    ensures cause { HasLookCause (W.meaning.counts world.old) (W.meaning.counts world.new) result }
+{
     let rule = rule_at(graph, rule)?;
     if rule.always {
         return Ok(true);
     }
-    let made = match rule.decider {
-        Decider::Newer => first_stamp(world, now.targets.as_slice())?,
-        _ => None,
-    };
+    let made = made_at(world, rule.decider, now.targets.as_slice())?;
     for target in now.targets.as_slice() {
-        if !is_file_at(world, target)? || !has_record(records, target, rule.decider, now, made) {
+        if !is_file_at(world, target)? {
+            return Ok(true);
+        }
+        if !has_record(records, target, rule.decider, now, made) {
             return Ok(true);
         }
     }
@@ -128,13 +157,30 @@ fn has_record<R: Records>(
     }
 }
 
+/// When the first target last changed, where the rule goes by that.
+#[tactic(auto, using(crate::proofs::Looking::looking))]
+fn made_at<W: World>(
+    world: &mut W,
+    decider: Decider,
+    targets: &[PathText],
+) -> Result<Option<u64>, ListEnd>
+    ensures looks { Looks W.meaning world.old world.new }
+    ensures cause { HasLookCause (W.meaning.counts world.old) (W.meaning.counts world.new) result }
+{
+    match decider {
+        Decider::Newer => first_stamp(world, targets),
+        _ => Ok(None),
+    }
+}
+
 /// When the first target last changed.
-fn first_stamp<W: World>(world: &mut W, targets: &[PathText]) -> Result<Option<u64>, ListEnd> {
+#[tactic(auto, using(crate::proofs::Looking::looking))]
+fn first_stamp<W: World>(world: &mut W, targets: &[PathText]) -> Result<Option<u64>, ListEnd>
+    ensures looks { Looks W.meaning world.old world.new }
+    ensures cause { HasLookCause (W.meaning.counts world.old) (W.meaning.counts world.new) result }
+{
     let Some(target) = targets.first() else {
         return Ok(None);
     };
-    match world.stamp(target) {
-        Ok(stamp) => Ok(stamp),
-        Err(_) => Err(ListEnd::tree(target)),
-    }
+    stamp_at(world, target)
 }

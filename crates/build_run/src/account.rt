@@ -1,4 +1,5 @@
 //! What a build has to report.
+ghost use Rattle.std.specs.Prelude.{◌≡◌, false};
 
 use build_files::ListEnd;
 use rule_graph::BuildFault;
@@ -24,7 +25,9 @@ pub(crate) struct Account {
 }
 
 impl Account {
-    pub(crate) fn new(alloc: Global) -> Account {
+    pub(crate) fn new(alloc: Global) -> Account
+        ensures { result.is_store_shut ≡ false }
+    {
         Account {
             faults: Vec::new(alloc),
             faulty: Vec::new(alloc),
@@ -39,7 +42,9 @@ impl Account {
     }
 
     /// Nothing new starts any more.
-    pub(crate) fn end<E: Sink>(&mut self, err: &mut E, end: ListEnd) {
+    pub(crate) fn end<E: Sink>(&mut self, err: &mut E, end: ListEnd)
+        ensures { self.new.is_store_shut ≡ self.old.is_store_shut }
+    {
         self.is_ended = true;
         match end {
             ListEnd::Fault(fault) => self.report(err, fault),
@@ -54,7 +59,9 @@ impl Account {
         rule: RuleId,
         fault: BuildFault,
         goes_on: bool,
-    ) {
+    )
+        ensures { self.new.is_store_shut ≡ self.old.is_store_shut }
+    {
         if self.faulty.push(rule).is_err() {
             self.want_memory();
         }
@@ -65,7 +72,9 @@ impl Account {
     }
 
     /// Prints a fault and keeps it.
-    pub(crate) fn report<E: Sink>(&mut self, err: &mut E, fault: BuildFault) {
+    pub(crate) fn report<E: Sink>(&mut self, err: &mut E, fault: BuildFault)
+        ensures { self.new.is_store_shut ≡ self.old.is_store_shut }
+    {
         let is_printed = self.is_err_shut || self.is_printed(err, &fault);
         self.keep(fault);
         if !is_printed {
@@ -76,7 +85,9 @@ impl Account {
     }
 
     /// Prints a fault, and says whether the sink took it. Want of memory is noted.
-    fn is_printed<E: Sink>(&mut self, err: &mut E, fault: &BuildFault) -> bool {
+    fn is_printed<E: Sink>(&mut self, err: &mut E, fault: &BuildFault) -> bool
+        ensures { self.new.is_store_shut ≡ self.old.is_store_shut }
+    {
         match fault_text(self.alloc, fault) {
             Ok(text) => print(err, text.as_str()).is_ok(),
             Err(_) => {
@@ -86,18 +97,24 @@ impl Account {
         }
     }
 
-    fn keep(&mut self, fault: BuildFault) {
+    fn keep(&mut self, fault: BuildFault)
+        ensures { self.new.is_store_shut ≡ self.old.is_store_shut }
+    {
         if self.faults.push(fault).is_err() {
             self.want_memory();
         }
     }
 
-    pub(crate) fn want_memory(&mut self) {
+    pub(crate) fn want_memory(&mut self)
+        ensures { self.new.is_store_shut ≡ self.old.is_store_shut }
+    {
         self.memory = true;
         self.is_ended = true;
     }
 
-    pub(crate) fn note_start(&mut self, rule: RuleId) {
+    pub(crate) fn note_start(&mut self, rule: RuleId)
+        ensures { self.new.is_store_shut ≡ self.old.is_store_shut }
+    {
         if self.started.push(rule).is_err() {
             self.want_memory();
         }

@@ -1,38 +1,92 @@
 //! What follows from the ending of an action.
+ghost use Rattle.std.specs.Prelude.{◌≡◌, ◌≤◌, ◌<◌, ◌+◌, length};
+ghost use Rattle.build_run.specs.Goings.{Passes, Goes, IsJoined, IsStored};
+ghost use Rattle.build_run.specs.Holds.{without};
+ghost use Rattle.world_api.specs.Meaning.{BanksKept};
 
 use crate::account::Account;
-use crate::build::{Options, Run};
+use crate::building::Options;
 use crate::start::give_up;
+use crate::tickets::{Busy, Tickets};
 use build_files::{ListEnd, first_target};
 use rule_graph::{BuildFault, Graph};
 use scons_base::RuleId;
 use sign_store::{Store, Ticket};
 use task_plan::PlanEvent;
-use world_api::{Outcome, Sink, World};
+use world_api::{Ended, Outcome, Sink, World};
 
 /// Waits for an action to end. A rule whose action ended well gets its record.
 pub(crate) fn take_ending<W: World, E: Sink>(
     graph: &Graph,
-    run: &mut Run,
+    tickets: &mut Tickets,
     account: &mut Account,
     store: &mut Store,
     world: &mut W,
     err: &mut E,
     options: &Options,
-) -> PlanEvent {
-    let ended = world.wait();
-    let Some(running) = run.tickets.take(ended.id) else {
+) -> PlanEvent
+    requires some { 0 < length tickets.old }
+    requires joined { IsJoined W.meaning world.old tickets.old }
+    requires stored { IsStored W.meaning world.old store.old account.old.is_store_shut }
+    ensures passes { Passes W.meaning world.old world.new }
+    ensures joined { IsJoined W.meaning world.new tickets.new }
+    ensures fewer { W.meaning.tells world.new → length tickets.new + 1 ≡ length tickets.old }
+    ensures no_more { length tickets.new ≤ length tickets.old }
+    ensures stored { IsStored W.meaning world.new store.new account.new.is_store_shut }
+{
+    let ended = wait(world, tickets);
+    let Some(busy) = tickets.take(ended.id) else {
         account.is_ended = true;
         return PlanEvent::Halt;
     };
-    let rule = running.rule;
-    match ended.outcome {
+    settle(
+        graph,
+        account,
+        store,
+        world,
+        err,
+        options,
+        busy,
+        ended.outcome,
+    )
+}
+
+/// Waits until a job ends.
+fn wait<W: World>(world: &mut W, tickets: &Tickets) -> Ended
+    requires some { 0 < length tickets.now }
+    requires joined { IsJoined W.meaning world.old tickets.now }
+    ensures passes { Passes W.meaning world.old world.new }
+    ensures joined { IsJoined W.meaning world.new (without result.id tickets.now) }
+    ensures fewer { W.meaning.tells world.new → length (without result.id tickets.now) + 1 ≡ length tickets.now }
+    ensures banks { W.meaning.tells world.new → BanksKept W.meaning world.old world.new }
+{
+    world.wait()
+}
+
+/// Puts the record of a rule whose action ended well, and reports one whose action didn't.
+fn settle<W: World, E: Sink>(
+    graph: &Graph,
+    account: &mut Account,
+    store: &mut Store,
+    world: &mut W,
+    err: &mut E,
+    options: &Options,
+    busy: Busy,
+    outcome: Outcome,
+) -> PlanEvent
+    requires { IsStored W.meaning world.old store.old account.old.is_store_shut }
+    ensures goes { Goes W.meaning world.old world.new }
+    ensures stored { IsStored W.meaning world.new store.new account.new.is_store_shut }
+{
+    let Busy { hold, ticket } = busy;
+    let rule = hold.rule;
+    match outcome {
         Outcome::Done => {
-            put(account, store, world, err, running.ticket);
+            put(account, store, world, err, ticket);
             PlanEvent::DoneOk(rule)
         }
         outcome => {
-            give_up(account, store, running.ticket);
+            give_up(account.is_store_shut, store, ticket);
             not_done(graph, account, err, options, rule, outcome);
             PlanEvent::DoneFailed(rule)
         }
@@ -46,10 +100,20 @@ fn put<W: World, E: Sink>(
     world: &mut W,
     err: &mut E,
     ticket: Ticket,
-) {
-    if !account.is_store_shut && store.put(world, ticket).is_err() {
-        account.is_store_shut = true;
-        account.end(err, ListEnd::Fault(BuildFault::StoreFault));
+)
+    requires { IsStored W.meaning world.old store.old account.old.is_store_shut }
+    ensures goes { Goes W.meaning world.old world.new }
+    ensures stored { IsStored W.meaning world.new store.new account.new.is_store_shut }
+{
+    if account.is_store_shut {
+        return;
+    }
+    match store.put(world, ticket) {
+        Ok(()) => {}
+        Err(_) => {
+            account.is_store_shut = true;
+            account.end(err, ListEnd::Fault(BuildFault::StoreFault));
+        }
     }
 }
 
@@ -61,7 +125,9 @@ fn not_done<E: Sink>(
     options: &Options,
     rule: RuleId,
     outcome: Outcome,
-) {
+)
+    ensures { account.new.is_store_shut ≡ account.old.is_store_shut }
+{
     let Ok(target) = first_target(graph, rule) else {
         account.want_memory();
         return;

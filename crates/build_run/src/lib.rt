@@ -6,12 +6,15 @@
 #![tactic(auto)]
 
 mod account;
-mod build;
+mod building;
+mod clear;
 mod decide;
 mod end;
 mod ending;
+mod launch;
 mod start;
 mod tickets;
+mod turns;
 
-pub use build::{Options, build};
+pub use building::{Options, build};
 pub use end::BuildEnd;

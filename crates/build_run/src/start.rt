@@ -1,21 +1,30 @@
 //! How the action of a stale rule starts.
+ghost use Rattle.std.specs.Prelude.{◌≡◌, ◌<◌, ◌≤◌, [], length};
+ghost use Rattle.build_run.specs.Goings.{Passes, IsJoined, IsStored};
+ghost use Rattle.sign_store.specs.Stores.{KeepsBanks};
 
 use crate::account::Account;
-use crate::build::{Options, Run};
-use build_files::{ListEnd, first_target, rule_at};
+use crate::building::Options;
+use crate::launch::launch;
+use crate::tickets::{Hold, Tickets};
+use build_files::{ListEnd, rule_at};
 use deciders::Rec;
 use indexmap::IndexSet;
-use rule_graph::{BuildFault, Graph, What};
+use rule_graph::{Graph, What};
 use scons_base::{Memory, PathText, Paths, RuleId};
-use scons_report::{print, rule_text};
+use scons_report::rule_text;
 use sign_store::{PrepareRefusal, Store, Ticket};
 use std::alloc::Global;
-use world_api::{AskRefusal, Job, Sink, World, copy_lines};
+use world_api::{Job, Sink, World, copy_lines};
 
 /// Starts the action of a rule with this record. All memory is taken before anything of the rule is touched.
+///
+/// A plan gives each rule once, and after those that make what it reads. So no job comes up that gets in the way of one
+/// that runs; such a one would be answered as want of memory is.
 pub(crate) fn start<W: World, O: Sink>(
     graph: &Graph,
-    run: &mut Run,
+    tickets: &mut Tickets,
+    dirs: &mut IndexSet<PathText>,
     account: &mut Account,
     store: &mut Store,
     world: &mut W,
@@ -23,102 +32,80 @@ pub(crate) fn start<W: World, O: Sink>(
     options: &Options,
     rule: RuleId,
     now: Rec,
-) -> Result<(), ListEnd> {
-    let text = match options.silent {
-        true => String::new(account.alloc),
-        false => rule_text(account.alloc, graph, rule)?,
-    };
+) -> Result<(), ListEnd>
+    requires unclosed { W.meaning.closed world.old ≡ [] }
+    requires room { length tickets.old < 64 }
+    requires joined { IsJoined W.meaning world.old tickets.old }
+    requires stored { IsStored W.meaning world.old store.old account.old.is_store_shut }
+    ensures passes { Passes W.meaning world.old world.new }
+    ensures room { length tickets.new ≤ 64 }
+    ensures joined { IsJoined W.meaning world.new tickets.new }
+    ensures stored { IsStored W.meaning world.new store.new account.new.is_store_shut }
+{
+    let text = shown_text(account.alloc, graph, options, rule)?;
     let job = job_of(account.alloc, graph, rule, &now)?;
+    let hold = Hold::of(&job)?;
+    if !tickets.are_apart(&job) {
+        return Err(ListEnd::Memory);
+    }
     let ticket = prepare(store, now)?;
-    let targets = job.targets.copy()?;
-    match clear(run, account, store, world, targets.as_slice(), &ticket) {
-        Ok(()) => {}
-        Err(end) => {
-            give_up(account, store, ticket);
-            return Err(end);
-        }
-    }
-    if print(out, text.as_str()).is_err() {
-        account.is_out_shut = true;
-        give_up(account, store, ticket);
-        return Err(ListEnd::Fault(BuildFault::OutFault));
-    }
-    match world.start(job) {
+    match launch(
+        graph,
+        tickets,
+        dirs,
+        account,
+        store,
+        world,
+        out,
+        text.as_str(),
+        job,
+        &ticket,
+    ) {
         Ok(()) => {
-            run.tickets.add(rule, ticket);
+            tickets.add(hold, ticket);
             Ok(())
         }
-        Err(refusal) => {
-            give_up(account, store, ticket);
-            match refusal {
-                AskRefusal::Fault => {
-                    Err(ListEnd::Fault(BuildFault::StartFault(first_target(graph, rule)?)))
-                }
-                AskRefusal::Memory => Err(ListEnd::Memory),
-            }
+        Err(end) => {
+            give_up(account.is_store_shut, store, ticket);
+            Err(end)
         }
+    }
+}
+
+/// What is printed of a rule as it starts.
+fn shown_text(
+    alloc: Global,
+    graph: &Graph,
+    options: &Options,
+    rule: RuleId,
+) -> Result<String, Memory> {
+    if options.silent {
+        return Ok(String::new(alloc));
+    }
+    if rule.0 < graph.rules() {
+        rule_text(alloc, graph, rule)
+    } else {
+        Err(Memory)
     }
 }
 
 /// A ticket is given up, unless the store has refused: then it isn't called again.
-pub(crate) fn give_up(account: &Account, store: &mut Store, ticket: Ticket) {
-    if !account.is_store_shut {
+pub(crate) fn give_up(is_store_shut: bool, store: &mut Store, ticket: Ticket)
+    ensures { KeepsBanks store.old store.new }
+{
+    if !is_store_shut {
         store.give_up(ticket);
     }
 }
 
-fn prepare(store: &mut Store, now: Rec) -> Result<Ticket, ListEnd> {
+fn prepare(store: &mut Store, now: Rec) -> Result<Ticket, ListEnd>
+    ensures { KeepsBanks store.old store.new }
+{
     match store.prepare(now) {
         Ok(ticket) => Ok(ticket),
         Err(PrepareRefusal::Full(count)) => Err(ListEnd::too_many(What::StoreBytes, count)),
         Err(PrepareRefusal::Memory) => Err(ListEnd::Memory),
     }
-}
-
-/// Makes the directories of the targets, withdraws the records, and removes the targets.
-fn clear<W: World>(
-    run: &mut Run,
-    account: &mut Account,
-    store: &mut Store,
-    world: &mut W,
-    targets: &[PathText],
-    ticket: &Ticket,
-) -> Result<(), ListEnd> {
-    for target in targets {
-        make_dir(account.alloc, world, &mut run.dirs, target)?;
-    }
-    if store.withdraw(world, ticket).is_err() {
-        account.is_store_shut = true;
-        return Err(ListEnd::Fault(BuildFault::StoreFault));
-    }
-    for target in targets {
-        if world.remove(target).is_err() {
-            return Err(ListEnd::tree(target));
-        }
-    }
-    Ok(())
-}
-
-/// Makes the directory of a target, unless that was done before.
-fn make_dir<W: World>(
-    alloc: Global,
-    world: &mut W,
-    dirs: &mut IndexSet<PathText>,
-    target: &PathText,
-) -> Result<(), ListEnd> {
-    let Ok(dir) = PathText::read(alloc, target.dir()) else {
-        return Err(ListEnd::Memory);
-    };
-    if dirs.contains(&dir) {
-        return Ok(());
-    }
-    match world.make_dir(&dir) {
-        Ok(()) => {}
-        Err(AskRefusal::Fault) => return Err(ListEnd::tree(&dir)),
-        Err(AskRefusal::Memory) => return Err(ListEnd::Memory),
-    }
-    let _ = dirs.insert(dir)?;
-    Ok(())
 }
 
 /// The job of a rule. Its number is the rule's.

@@ -2,10 +2,12 @@
 //!
 //! A line `== NAME` begins a trial with a tree of its own. Lines that begin with `-- ` are its steps, in order: `file` puts
 //! a file whose content follows on the line or on the lines below, `gone` removes one, `act` and `fail` say what a command
-//! makes, `orders` which running job ends at each wait, `large` puts a file of so many bytes, `cut` and `mark` spoil the
-//! signature file, `run` is the command with these words, and `show` writes a file.
+//! makes, `orders` which running job ends at each wait, `fails` which call of the outside fails, `large` puts a file of so
+//! many bytes, `cut` and `mark` spoil the signature file, `run` is the command with these words, and `show` writes a file.
+//! `failures` builds once with each failure of the outside, and once more without it.
 #![tactic(auto)]
 
+mod failures;
 mod steps;
 mod trial;
 

@@ -1,13 +1,14 @@
 //! One trial: its world, and what its runs wrote.
 
+use crate::failures::{Begin, call_of, failures_text};
 use crate::steps::{Block, number_of, path_of, signed_of, word_of, words_of};
 use anyhow::{Context, Result, bail};
 use scons_base::{Blob, PathText};
 use scons_top::{Report, scons};
 use std::alloc::Global;
 use std::str;
-use world_api::{Bank, Disk, World};
-use world_mem::{ActRow, ActTable, Contents, Made, MemSink, MemWorld};
+use world_api::{Bank, World};
+use world_mem::{ActRow, ActTable, Call, Contents, Made, MemSink, MemWorld};
 
 /// A world from its first run on, and before that what it begins with.
 #[derive(Drop)]
@@ -15,6 +16,7 @@ pub struct Trial {
     files: Vec<(PathText, Blob)>,
     rows: Vec<ActRow>,
     orders: Vec<u32>,
+    failing: Vec<(Call, u32)>,
     world: Option<MemWorld>,
     alloc: Global,
 }
@@ -25,6 +27,7 @@ impl Trial {
             files: Vec::new(alloc),
             rows: Vec::new(alloc),
             orders: Vec::new(alloc),
+            failing: Vec::new(alloc),
             world: None,
             alloc,
         }
@@ -45,46 +48,71 @@ impl Trial {
                 let path = path_of(alloc, rest)?;
                 self.world()?.remove_file(&path);
             }
-            "act" => {
-                let made = Made::Files(Contents::new(block.contents(alloc)?));
-                self.add_row(rest, None, made)?;
-            }
-            "fail" => {
+            "act" | "fail" => self.add_action(word, block, rest)?,
+            "orders" | "fails" | "large" => self.begin_with(word, rest)?,
+            "cut" | "mark" => self.spoil(word, rest)?,
+            "run" => return self.run(rest),
+            "show" => return self.show(rest),
+            "failures" => return self.failures(rest),
+            _ => bail!("{word} is no step"),
+        }
+        Ok(String::new(alloc))
+    }
+
+    /// What a command makes, or that it fails where sources hold this.
+    fn add_action(&mut self, word: &str, block: &Block, rest: &str) -> Result<()> {
+        let contents = Contents::new(block.contents(self.alloc)?);
+        match word {
+            "act" => self.add_row(rest, None, Made::Files(contents)),
+            _ => {
                 let (code, line) = word_of(rest);
-                let given = Contents::new(block.contents(alloc)?);
-                let made = Made::Fail(number_of(code)? as i32);
-                self.add_row(line, Some(given), made)?;
+                self.add_row(line, Some(contents), Made::Fail(number_of(code)? as i32))
             }
+        }
+    }
+
+    /// What the world begins with beside small files.
+    fn begin_with(&mut self, word: &str, rest: &str) -> Result<()> {
+        let alloc = self.alloc;
+        match word {
             "orders" => {
                 for order in words_of(alloc, rest)? {
                     self.orders.push(number_of(order.as_str())?)?;
                 }
             }
-            "large" => {
+            "fails" => {
+                let (call, number) = word_of(rest);
+                self.failing.push((call_of(call)?, number_of(number)?))?;
+            }
+            _ => {
                 let (path, size) = word_of(rest);
                 let bytes = Vec::from_elem(alloc, b'a', number_of(size)? as usize)?;
                 self.files.push((path_of(alloc, path)?, Blob::new(bytes)))?;
             }
-            "cut" => {
-                let size = number_of(rest)? as usize;
-                let mut bank = Vec::from_slice(alloc, self.world()?.bank(Bank::A))?;
-                bank.truncate(size);
-                self.begin_with(bank.as_slice())?;
-            }
-            "mark" => {
-                let mut bank = Vec::from_slice(alloc, self.world()?.bank(Bank::A))?;
-                for (place, byte) in rest.as_bytes().iter().take(1).enumerate() {
-                    if let Some(last) = bank.get_mut(place + 8) {
-                        *last = *byte;
-                    }
-                }
-                self.begin_with(bank.as_slice())?;
-            }
-            "run" => return self.run(rest),
-            "show" => return self.show(rest),
-            _ => bail!("{word} is no step"),
         }
-        Ok(String::new(alloc))
+        Ok(())
+    }
+
+    /// Goes on with the files as they are, and with a first signature bank that is cut or has another mark.
+    fn spoil(&mut self, word: &str, rest: &str) -> Result<()> {
+        let alloc = self.alloc;
+        let begin = Begin::of(alloc, self.world()?)?;
+        let mut bank = Vec::from_slice(alloc, self.world()?.bank(Bank::A))?;
+        match word {
+            "cut" => bank.truncate(number_of(rest)? as usize),
+            _ => set_mark(bank.as_mut_slice(), rest.as_bytes()),
+        }
+        self.world = Some(begin.with_bank(bank).world(alloc, Vec::new(alloc))?);
+        Ok(())
+    }
+
+    /// Builds with one failure after the other: `NUMBERS WORDS`, where each call fails at each number below that.
+    fn failures(&mut self, rest: &str) -> Result<String> {
+        let alloc = self.alloc;
+        let (numbers, words) = word_of(rest);
+        let words = words_of(alloc, words)?;
+        let begin = Begin::of(alloc, self.world()?)?;
+        failures_text(alloc, &begin, words.as_slice(), number_of(numbers)?)
     }
 
     fn add_row(&mut self, line: &str, given: Option<Contents>, made: Made) -> Result<()> {
@@ -127,28 +155,12 @@ impl Trial {
             let files = std::mem::replace(&mut self.files, Vec::new(alloc));
             let rows = std::mem::replace(&mut self.rows, Vec::new(alloc));
             let orders = std::mem::replace(&mut self.orders, Vec::new(alloc));
+            let failing = std::mem::replace(&mut self.failing, Vec::new(alloc));
             let table = ActTable::new(rows);
-            let made = MemWorld::new(alloc, files, table, orders, Vec::new(alloc));
+            let made = MemWorld::new(alloc, files, table, orders, failing);
             self.world = made.ok();
         }
         self.world.as_mut().context(format_args!("no world"))
-    }
-
-    /// A new world with the files of this one, and these bytes in its first signature bank.
-    fn begin_with(&mut self, bank: &[u8]) -> Result<()> {
-        let alloc = self.alloc;
-        let files = self.world()?.files().ok().context(format_args!("memory"))?;
-        let table = ActTable::new(Vec::new(alloc));
-        let orders = Vec::new(alloc);
-        let made = MemWorld::new(alloc, files.into_vec(), table, orders, Vec::new(alloc));
-        let mut world = made.ok().context(format_args!("no world"))?;
-        world
-            .write_at(Bank::A, 0, bank)
-            .ok()
-            .context(format_args!("a fault"))?;
-        world.sync(Bank::A).ok().context(format_args!("a fault"))?;
-        self.world = Some(world);
-        Ok(())
     }
 
     fn show(&mut self, text: &str) -> Result<String> {
@@ -227,4 +239,11 @@ fn write_report(
         text.push_str(format!(in alloc; "skipped {held} for {by}\n")?.as_str())?;
     }
     Ok(())
+}
+
+/// Sets the last byte of a bank's mark.
+fn set_mark(bank: &mut [u8], bytes: &[u8]) {
+    if let (Some(last), Some(byte)) = (bank.get_mut(8), bytes.first()) {
+        *last = *byte;
+    }
 }

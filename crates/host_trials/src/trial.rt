@@ -83,10 +83,7 @@ impl Trial {
 
     /// The tree of the files, if it can be one.
     fn world(&mut self, alloc: Global) -> Result<Option<MemWorld>, Memory> {
-        let mut files = Vec::new(alloc);
-        while let Some(file) = self.files.pop() {
-            files.push(file)?;
-        }
+        let files = std::mem::replace(&mut self.files, Vec::new(alloc));
         let table = ActTable::new(Vec::new(alloc));
         match MemWorld::new(alloc, files, table, Vec::new(alloc), Vec::new(alloc)) {
             Ok(world) => Ok(Some(world)),

@@ -1,20 +1,22 @@
 -- An outcome step by step, from the newest change back.
-use Rattle.std.proofs.Common.{◌≡◌, ◌⊎◌, ◌∙◌, sym, refl, ap, subst, inl, inr, arith, ℕ, Bool, true, false, List, [], ◌∷◌, ◌++◌, ◌+◌, ◌-◌, ◌<◌, ◌≤◌, length, take, drop, reverse, get_or, Result, Ok, Err, OnOk}
+use Rattle.std.proofs.Common.{◌≡◌, ◌∙◌, sym, refl, ap, subst, inl, inr, arith, ℕ, true, false, List, [], ◌∷◌, ◌+◌, ◌-◌, ◌<◌, ◌≤◌, length, take, reverse, get_or, Result, Ok, Err, OnOk}
 use Rattle.std.proofs.lemmas.List.{reverse-append, take_more, take-take, length-take-le}
+use Rattle.std.proofs.lemmas.Bool.{cases_Bool}
 use Rattle.world_api.specs.declared.disk.Bank.{Bank}
 use Rattle.world_api.specs.declared.disk.Bank.TheVariants.{A, B}
 use Rattle.world_api.specs.Banks.{Torn}
 use Rattle.mem_banks.specs.declared.change.Change.{Change}
 use Rattle.mem_banks.specs.declared.change.Change.TheVariants.{Wrote, Synced}
 use Rattle.mem_banks.specs.declared.change.Write.{Write}
-use Rattle.mem_banks.specs.Past.{Store, bytes_in, same_bank, choice, Either, restored, without_last, IsLeft, IsWhole, IsAt, Stands}
+use Rattle.mem_banks.specs.Past.{bytes_in, same_bank, choice, restored, without_last, IsLeft, IsWhole, IsAt, Stands}
 use Rattle.mem_banks.proofs.Images.{either_true, either_false, either_by, chosen, other_chosen, only_one}
 use Rattle.mem_banks.proofs.Splices.{torn_same}
 
 -- what is whole is so of each bank
 pub at_of : (changes : List Change) (a b saved : List ℕ) (bank : Bank) → IsWhole changes a b saved
     → IsAt bank changes (bytes_in (record { a = a; b = b; changes = changes; saved = saved }) bank) saved
-at_of [] a b saved bank whole = tt
+at_of [] a b saved A whole = whole.0
+at_of [] a b saved B whole = whole.1
 at_of (Synced other ∷ older) a b saved A whole = at_of older a b saved A whole
 at_of (Synced other ∷ older) a b saved B whole = at_of older a b saved B whole
 at_of (Wrote w ∷ older) a b saved A whole =
@@ -85,3 +87,36 @@ shorter saved end kept within =
 pub on_ok : {T E : Type 0} (r : Result T E) (P Q : Type 0) → (P → Q) → OnOk r P → OnOk r Q
 on_ok (Ok x) P Q f p = f p
 on_ok (Err e) P Q f p = tt
+
+-- what stands in a bank has room in it
+pub at_small : (bank : Bank) (changes : List Change) (bytes saved : List ℕ) → IsAt bank changes bytes saved → length bytes ≤ 4194304
+at_small bank [] bytes saved at = at
+at_small bank (Synced other ∷ older) bytes saved at = at_small bank older bytes saved at
+at_small bank (Wrote w ∷ older) bytes saved at = elim (cases_Bool (same_bank w.bank bank)) [
+  | inl y ↦
+      let here = either_true (same_bank w.bank bank) _ _ y at.1 in
+      let before = at_small bank older (restored w bytes saved) (without_last w.kept saved) here.1 in
+      let longer = here.0.torn.no_longer in
+      let room = here.0.room in
+      omega (arith, before, longer, room)
+  | inr n ↦ at_small bank older bytes (without_last w.kept saved) (either_false (same_bank w.bank bank) _ _ n at.1)
+]
+
+-- and so has whatever a stop leaves of it
+pub left_small : (bank : Bank) (changes : List Change) (bytes saved c : List ℕ) → IsAt bank changes bytes saved
+    → IsLeft bank changes bytes saved c → length c ≤ 4194304
+left_small bank [] bytes saved c at left = subst (λ x. length x ≤ 4194304) (sym left) at
+left_small bank (Synced other ∷ older) bytes saved c at left = elim (cases_Bool (same_bank other bank)) [
+  | inl y ↦ subst (λ x. length x ≤ 4194304) (sym (either_true (same_bank other bank) _ _ y left)) (at_small bank older bytes saved at)
+  | inr n ↦ left_small bank older bytes saved c at (either_false (same_bank other bank) _ _ n left)
+]
+left_small bank (Wrote w ∷ older) bytes saved c at left = elim (cases_Bool (same_bank w.bank bank)) [
+  | inl y ↦
+      let here = either_true (same_bank w.bank bank) _ _ y at.1 in
+      let cut = either_true (same_bank w.bank bank) _ _ y left in
+      let before = left_small bank older (restored w bytes saved) (without_last w.kept saved) cut.0 here.1 cut.1 in
+      let longer = cut.2.no_longer in
+      let room = here.0.room in
+      omega (arith, before, longer, room)
+  | inr n ↦ left_small bank older bytes (without_last w.kept saved) c (either_false (same_bank w.bank bank) _ _ n at.1) (either_false (same_bank w.bank bank) _ _ n left)
+]

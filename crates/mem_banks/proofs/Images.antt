@@ -1,15 +1,15 @@
 -- What a stop may leave, over what it could leave before.
-use Rattle.std.proofs.Common.{◌≡◌, ◌≢◌, ◌∙◌, sym, refl, ap, subst, inl, inr, ℕ, Bool, true, false, List, [], ◌∷◌, ◌++◌, ◌≤◌, length, drop, length-append, length-drop, arith, cond}
+use Rattle.std.proofs.Common.{◌≡◌, ◌≢◌, ◌∙◌, sym, refl, ap, subst, inl, inr, ℕ, Bool, true, false, List, [], ◌∷◌, ◌++◌, ◌≤◌, length, drop, length-append, length-drop, arith, cond, ◌+◌}
 use Rattle.std.proofs.lemmas.Bool.{cases_Bool}
 use Rattle.std.proofs.lemmas.List.{length-take}
 use Rattle.world_api.specs.declared.disk.Bank.{Bank}
 use Rattle.world_api.specs.declared.disk.Bank.TheVariants.{A, B}
-use Rattle.world_api.specs.Banks.{Torn, Only}
+use Rattle.world_api.specs.Banks.{Torn}
 use Rattle.mem_banks.specs.declared.change.Change.{Change}
 use Rattle.mem_banks.specs.declared.change.Change.TheVariants.{Wrote, Synced}
 use Rattle.mem_banks.specs.declared.change.Write.{Write}
 use Rattle.mem_banks.specs.Past.{Store, bytes_in, same_bank, choice, Either, restored, without_last, overwritten, spliced, write_of, wrote, synced, back, IsLeft, IsImage, IsWhole, Stands, is_dirty}
-use Rattle.mem_banks.proofs.Splices.{undone, without_last_append, splice_torn, torn_same}
+use Rattle.mem_banks.proofs.Splices.{undone, without_last_append, splice_torn}
 
 pub either_true : (b : Bool) (P Q : Type 0) → b ≡ true → Either b P Q → P
 either_true true P Q is h = h
@@ -154,24 +154,25 @@ pub synced_bytes : (bank : Bank) (s : Store) (other : Bank) → bytes_in (synced
 synced_bytes bank s A = refl
 synced_bytes bank s B = refl
 
-stands : (bank : Bank) (place : ℕ) (xs : List ℕ) (count : ℕ) (s : Store) → place ≤ length (bytes_in s bank) → length xs ≤ count
+stands : (bank : Bank) (place : ℕ) (xs : List ℕ) (count : ℕ) (s : Store) → place ≤ length (bytes_in s bank) → length xs ≤ count → place + count ≤ 4194304
     → Stands (write_of bank place xs count (bytes_in s bank)) (spliced place xs (bytes_in s bank)) (s.saved ++ overwritten place xs (bytes_in s bank))
-stands bank place xs count s within small =
+stands bank place xs count s within small room =
     let old = bytes_in s bank in let over = overwritten place xs old in
     let torn = splice_torn old xs place within count small in
     let a = length-append s.saved over in let b = length-take (length xs) (drop place old) in let d = length-drop place old in
     let more = torn.no_shorter in record {
       kept = omega (arith, a);
       count = omega (arith, b, small);
+      room = room;
       size = omega (arith, b, d, within);
       within = more;
       torn = subst (λ bytes. Torn place count bytes (spliced place xs old)) (sym (undone old xs place within s.saved)) torn;
     }
 
 -- a write keeps the record whole
-pub wrote_whole : (bank : Bank) (place : ℕ) (xs : List ℕ) (count : ℕ) (s : Store) → place ≤ length (bytes_in s bank) → length xs ≤ count
+pub wrote_whole : (bank : Bank) (place : ℕ) (xs : List ℕ) (count : ℕ) (s : Store) → place ≤ length (bytes_in s bank) → length xs ≤ count → place + count ≤ 4194304
     → IsWhole s.changes s.a s.b s.saved → let new = wrote bank place xs count s in IsWhole new.changes new.a new.b new.saved
-wrote_whole A place xs count s within small whole = let P : Store → Type 0 = λ t. IsWhole t.changes t.a t.b t.saved in
-    (stands A place xs count s within small, subst P (sym (back_wrote A place xs count s within)) whole)
-wrote_whole B place xs count s within small whole = let P : Store → Type 0 = λ t. IsWhole t.changes t.a t.b t.saved in
-    (stands B place xs count s within small, subst P (sym (back_wrote B place xs count s within)) whole)
+wrote_whole A place xs count s within small room whole = let P : Store → Type 0 = λ t. IsWhole t.changes t.a t.b t.saved in
+    (stands A place xs count s within small room, subst P (sym (back_wrote A place xs count s within)) whole)
+wrote_whole B place xs count s within small room whole = let P : Store → Type 0 = λ t. IsWhole t.changes t.a t.b t.saved in
+    (stands B place xs count s within small room, subst P (sym (back_wrote B place xs count s within)) whole)

@@ -109,17 +109,22 @@ is_dirty bank [] = false
 is_dirty bank (Synced other ∷ older) = if same_bank other bank then false else is_dirty bank older
 is_dirty bank (Wrote write ∷ older) = if same_bank write.bank bank then true else is_dirty bank older
 
+-- the bytes have room in a bank
+abbrev pub HaveRoom : List ℕ → Type 0
+HaveRoom bytes = length bytes ≤ 4194304
+
 -- a write that stands at the end of a bank and of what was saved
 pub record Stands (write : Write) (bytes saved : List ℕ) : Type 0 where
   pub kept : write.kept ≤ length saved
   pub count : write.kept ≤ write.count
+  pub room : write.place + write.count ≤ 4194304
   pub size : write.place + write.kept ≤ write.size
   pub within : write.size ≤ length bytes
   pub torn : Torn write.place write.count (restored write bytes saved) bytes
 
--- each change stands where the later ones are taken back
+-- each change stands where the later ones are taken back, and what was there at first has room
 abbrev pub IsWhole : List Change → List ℕ → List ℕ → List ℕ → Type 0
-IsWhole [] a b saved = Unit {0}
+IsWhole [] a b saved = HaveRoom a × HaveRoom b
 IsWhole (Synced bank ∷ older) a b saved = IsWhole older a b saved
 IsWhole (Wrote write ∷ older) a b saved =
     Stands write (choice (same_bank write.bank A) a b) saved
@@ -127,7 +132,7 @@ IsWhole (Wrote write ∷ older) a b saved =
 
 -- the same of one bank
 abbrev pub IsAt : Bank → List Change → List ℕ → List ℕ → Type 0
-IsAt bank [] bytes saved = Unit {0}
+IsAt bank [] bytes saved = HaveRoom bytes
 IsAt bank (Synced other ∷ older) bytes saved = IsAt bank older bytes saved
 IsAt bank (Wrote write ∷ older) bytes saved = (write.kept ≤ length saved) × Either (same_bank write.bank bank)
     (Stands write bytes saved × IsAt bank older (restored write bytes saved) (without_last write.kept saved))

@@ -151,6 +151,7 @@ impl MemBanks {
     /// What a stop may leave of a bank: one outcome, chosen by `pick`.
     pub fn outcome(&self, alloc: Global, bank: Bank, pick: u32) -> Result<Vec<u8>, Memory>
         ensures image { IfOk result (λ bytes. IsImage (store_of self.now) bank bytes.items) }
+        ensures small { IfOk result (λ bytes. vec_len bytes ≤ 4194304) }
     {
         let mut bytes = Vec::from_slice(alloc, self.bytes(bank))?;
         leave(

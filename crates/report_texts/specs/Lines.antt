@@ -17,11 +17,14 @@ shown false (byte ∷ bytes) = line_text (byte ∷ bytes)
 abbrev pub lines_text : List Line → List ℕ
 lines_text lines = flat_map (λ line. shown line.quiet line.text) lines
 
+abbrev pub install_line : List ℕ → List ℕ → List ℕ
+install_line source target = line_text (codes "Install file: \"" ++ source ++ codes "\" as \"" ++ target ++ codes "\"")
+
 -- which file is put where
 abbrev pub install_text : List (List ℕ) → List NodeId → List NodeId → List ℕ
 install_text nodes [] targets = []
 install_text nodes (source ∷ sources) [] = []
-install_text nodes (source ∷ sources) (target ∷ targets) = line_text (codes "Install file: \"" ++ path_of nodes source ++ codes "\" as \"" ++ path_of nodes target ++ codes "\"")
+install_text nodes (source ∷ sources) (target ∷ targets) = install_line (path_of nodes source) (path_of nodes target)
 
 -- a copy that no script names prints nothing
 abbrev copy_text : List ℕ → List ℕ → List ℕ

@@ -39,13 +39,14 @@ removed_text path = line_text (codes "Removed " ++ path)
 unfoldable pub cleaned_text : List ℕ
 cleaned_text = line_text (codes "scons: done cleaning targets.")
 
+-- a text that isn't empty gets a line feed
+abbrev pub ended : List ℕ → List ℕ
+ended [] = []
+ended (byte ∷ bytes) = line_text (byte ∷ bytes)
+
 -- the help texts one behind the other, as one text of lines
 abbrev pub help_text : List (List ℕ) → List ℕ
 help_text texts = ended (flat_map (λ text. text) texts)
-
-abbrev ended : List ℕ → List ℕ
-ended [] = []
-ended (byte ∷ bytes) = line_text (byte ∷ bytes)
 
 -- the rules of a large run, and how many of them stand on its first source
 abbrev pub load_text : ℕ → List ℕ

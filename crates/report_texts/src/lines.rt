@@ -2,10 +2,10 @@
 ghost use Rattle.std.specs.Prelude.{◌≡◌, ◌<◌, ◌++◌, ℕ, length, slice_get, Some, IfOk, IfSome, OnOk, IsTrue, string_bytes};
 ghost use Rattle.rule_graph.specs.Rules.{are_below};
 ghost use Rattle.rule_graph.specs.declared.rule.Rule.{Rule};
-ghost use Rattle.report_texts.specs.Lines.{rule_text, lines_text, install_text, shown};
+ghost use Rattle.report_texts.specs.Lines.{rule_text, lines_text, install_line, install_text, shown};
 
 use rule_graph::{Graph, Rule};
-use scons_base::{Memory, NodeId, RuleId};
+use scons_base::{Memory, NodeId, PathText, RuleId};
 use std::alloc::Global;
 use world_api::{Line, Work};
 
@@ -64,10 +64,16 @@ fn install_text(
 {
     match (sources, targets) {
         ([source, ..], [target, ..]) => {
-            let source = graph.path(*source).as_str();
-            let target = graph.path(*target).as_str();
-            Ok(format!(in alloc; "Install file: \"{source}\" as \"{target}\"\n")?)
+            install_line(alloc, graph.path(*source), graph.path(*target))
         }
         _ => Ok(String::new(alloc)),
     }
+}
+
+fn install_line(alloc: Global, source: &PathText, target: &PathText) -> Result<String, Memory>
+    ensures { IfOk result (λ text. string_bytes text ≡ install_line source.now target.now) }
+{
+    let source = source.as_str();
+    let target = target.as_str();
+    Ok(format!(in alloc; "Install file: \"{source}\" as \"{target}\"\n")?)
 }

@@ -1,6 +1,6 @@
 //! The lines on standard output that are the same for every rule.
 ghost use Rattle.std.specs.Prelude.{◌≡◌, IfOk, string_bytes};
-ghost use Rattle.report_texts.specs.Texts.{reading_text, read_text, building_text, up_to_date_text, nothing_text, done_text, terminated_text, done_with_errors_text, cleaning_text, removed_text, cleaned_text, help_text, load_text};
+ghost use Rattle.report_texts.specs.Texts.{reading_text, read_text, building_text, up_to_date_text, nothing_text, done_text, terminated_text, done_with_errors_text, cleaning_text, removed_text, cleaned_text, help_text, ended, load_text};
 
 use rule_graph::Graph;
 use scons_base::{Memory, PathText};
@@ -103,9 +103,17 @@ pub fn help_text(alloc: Global, graph: &Graph) -> Result<String, Memory>
     for help in graph.helps() {
         text.push_str(help.as_str())?;
     }
-    if text.len() > 0 {
-        text.push_str("\n")?;
+    ended(text)
+}
+
+/// A text that isn't empty gets a line feed.
+fn ended(mut text: String) -> Result<String, Memory>
+    ensures { IfOk result (λ whole. string_bytes whole ≡ ended (string_bytes text)) }
+{
+    if text.is_empty() {
+        return Ok(text);
     }
+    text.push_str("\n")?;
     Ok(text)
 }
 
@@ -114,7 +122,7 @@ pub fn help_text(alloc: Global, graph: &Graph) -> Result<String, Memory>
 pub fn load_text(alloc: Global, rules: u32) -> Result<String, Memory>
     ensures { IfOk result (λ text. string_bytes text ≡ load_text rules) }
 {
-    let again = if rules < CHAIN { rules } else { CHAIN };
+    let again = rules.min(CHAIN);
     Ok(format!(in alloc; "load: {rules} rules, {rules} started, {again} started after the edit\n")?)
 }
 

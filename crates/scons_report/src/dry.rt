@@ -1,7 +1,10 @@
 //! The rules that a dry run lists.
-ghost use Rattle.std.specs.Prelude.{◌≤◌, length};
+ghost use Rattle.std.specs.Prelude.{◌≤◌, length, IfSome};
+ghost use Rattle.build_files.specs.Looks.{Looks};
+ghost use Rattle.scons_report.specs.Causes.{HasListCause, IsInside};
 
 use build_files::{Inputs, ListEnd, Present, first_target, is_stale, path_of};
+use deciders::Rec;
 use rule_graph::{BuildFault, Graph, What};
 use scons_base::limits::DEP_LIMIT;
 use scons_base::{Listing, Memory, NodeId, PathText, Paths, RuleId};
@@ -20,62 +23,152 @@ struct Listed {
 
 /// The rules that would be started over the files as they are, in the order of a build at one job: those that are always
 /// built, lack a target, depend on a listed rule, or have another record than the one of now.
+#[tactic(auto, using(crate::proofs::Ending::ending))]
 pub fn dry_list<W: World>(
     alloc: Global,
     graph: &mut Graph,
     requested: &[NodeId],
     view: &View,
     world: &mut W,
-) -> Result<Listing<RuleId>, ListEnd> {
+) -> Result<Listing<RuleId>, ListEnd>
+    ensures looks { Looks W.meaning world.old world.new }
+    ensures cause { HasListCause (W.meaning.counts world.old) (W.meaning.counts world.new) result }
+{
     let mut inputs = Inputs::new(alloc);
     inputs.add_copies(world, graph, requested)?;
-    let mut plan = Plan::new(alloc, graph, requested)?;
+    let plan = Plan::new(alloc, graph, requested)?;
+    let (plan, rules) = go_over(alloc, graph, inputs, plan, view, world)?;
+    match cycle_of(alloc, graph, &plan) {
+        Some(end) => Err(end),
+        None => Ok(Listing::new(rules)),
+    }
+}
+
+/// Goes over the rules of a plan, and gives those that are listed.
+#[tactic(auto, using(crate::proofs::Ending::ending))]
+fn go_over<W: World>(
+    alloc: Global,
+    graph: &mut Graph,
+    mut inputs: Inputs,
+    mut plan: Plan,
+    view: &View,
+    world: &mut W,
+) -> Result<(Plan, Vec<RuleId>), ListEnd>
+    ensures looks { Looks W.meaning world.old world.new }
+    ensures cause { HasListCause (W.meaning.counts world.old) (W.meaning.counts world.new) result }
+{
     let mut listed = Listed {
         rules: Vec::new(alloc),
         is_listed: Vec::new(alloc),
     };
-    for _ in 0..u64::MAX {
-        let event = match plan.next() {
-            Want::Scan(rule, file) => {
-                let found = inputs.scanned(world, graph, rule, file)?;
-                PlanEvent::Scanned(rule, found)
-            }
-            Want::Decide(rule) => {
-                look_at(world, graph, &mut inputs, view, &plan, rule, &mut listed)?;
-                PlanEvent::Fresh(rule)
-            }
-            Want::Wait | Want::Rest => break,
-        };
+    for _turn in 0..u64::MAX {
+        let wanted = plan.next();
+        if matches!(wanted, Want::Wait | Want::Rest) {
+            break;
+        }
+        let event = take_turn(world, graph, &mut inputs, view, &plan, wanted, &mut listed)?;
         plan.step(graph, event)?;
     }
-    match plan.cycle()? {
-        Some(rules) => Err(ListEnd::Fault(cycle_fault(alloc, graph, rules.as_slice())?)),
-        None => Ok(Listing::new(listed.rules)),
+    let Listed { rules, .. } = listed;
+    Ok((plan, rules))
+}
+
+/// Does what is wanted; each rule counts as made.
+#[tactic(auto, using(crate::proofs::Ending::ending))]
+fn take_turn<W: World>(
+    world: &mut W,
+    graph: &mut Graph,
+    inputs: &mut Inputs,
+    view: &View,
+    plan: &Plan,
+    wanted: Want,
+    listed: &mut Listed,
+) -> Result<PlanEvent, ListEnd>
+    ensures looks { Looks W.meaning world.old world.new }
+    ensures cause { HasListCause (W.meaning.counts world.old) (W.meaning.counts world.new) result }
+{
+    match wanted {
+        Want::Scan(rule, file) => {
+            let found = inputs.scanned(world, graph, rule, file)?;
+            Ok(PlanEvent::Scanned(rule, found))
+        }
+        Want::Decide(rule) => {
+            look_at(world, graph, inputs, view, plan.deps(rule), rule, listed)?;
+            Ok(PlanEvent::Fresh(rule))
+        }
+        Want::Wait | Want::Rest => Ok(PlanEvent::Halt),
     }
 }
 
 /// Lists a rule where it would be started.
+#[tactic(auto, using(crate::proofs::Ending::ending))]
 fn look_at<W: World>(
     world: &mut W,
     graph: &Graph,
     inputs: &mut Inputs,
     view: &View,
-    plan: &Plan,
+    deps: &[NodeId],
     rule: RuleId,
     listed: &mut Listed,
-) -> Result<(), ListEnd> {
-    let deps = plan.deps(rule);
+) -> Result<(), ListEnd>
+    ensures looks { Looks W.meaning world.old world.new }
+    ensures cause { HasListCause (W.meaning.counts world.old) (W.meaning.counts world.new) result }
+{
     if deps.len() > DEP_LIMIT as usize {
-        return Err(ListEnd::too_many(What::Deps, DEP_LIMIT as u64 + 1));
+        return Err(too_many_deps());
     }
-    let now = match inputs.present(world, graph, rule, deps)? {
-        Present::Record(now) => now,
-        Present::Lacks(node) => return Err(missing(graph, rule, node)?),
-    };
-    if depends_on_listed(graph, deps, listed) || is_stale(world, graph, view, rule, &now)? {
+    match inputs.present(world, graph, rule, deps)? {
+        Present::Record(now) => list_stale(world, graph, view, deps, rule, &now, listed),
+        Present::Lacks(node) => Err(missing(graph, rule, node)),
+    }
+}
+
+/// The fault that a rule has too many dependencies.
+#[tactic(auto, using(crate::proofs::Ending::ending))]
+fn too_many_deps() -> ListEnd
+    ensures { IsInside result }
+{
+    ListEnd::Fault(BuildFault::TooMany(What::Deps, DEP_LIMIT as u64 + 1))
+}
+
+/// Lists a rule with this record where it depends on a listed one or is stale.
+#[tactic(auto, using(crate::proofs::Ending::ending))]
+fn list_stale<W: World>(
+    world: &mut W,
+    graph: &Graph,
+    view: &View,
+    deps: &[NodeId],
+    rule: RuleId,
+    now: &Rec,
+    listed: &mut Listed,
+) -> Result<(), ListEnd>
+    ensures looks { Looks W.meaning world.old world.new }
+    ensures cause { HasListCause (W.meaning.counts world.old) (W.meaning.counts world.new) result }
+{
+    if is_due(world, graph, view, deps, rule, now, listed)? {
         list(listed, rule)?;
     }
     Ok(())
+}
+
+/// Whether a rule depends on a listed one or is stale.
+#[tactic(auto, using(crate::proofs::Ending::ending))]
+fn is_due<W: World>(
+    world: &mut W,
+    graph: &Graph,
+    view: &View,
+    deps: &[NodeId],
+    rule: RuleId,
+    now: &Rec,
+    listed: &Listed,
+) -> Result<bool, ListEnd>
+    ensures looks { Looks W.meaning world.old world.new }
+    ensures cause { HasListCause (W.meaning.counts world.old) (W.meaning.counts world.new) result }
+{
+    if depends_on_listed(graph, deps, listed) {
+        return Ok(true);
+    }
+    Ok(is_stale(world, graph, view, rule, now)?)
 }
 
 /// Whether the rule of some dependency is listed.
@@ -99,15 +192,48 @@ fn list(listed: &mut Listed, rule: RuleId) -> Result<(), Memory> {
 }
 
 /// The fault that a dependency of a rule has no rule and is no file.
-fn missing(graph: &Graph, rule: RuleId, node: NodeId) -> Result<ListEnd, Memory> {
-    Ok(ListEnd::Fault(BuildFault::Missing {
-        node: path_of(graph, node)?.copy()?,
-        target: first_target(graph, rule)?,
-    }))
+#[tactic(auto, using(crate::proofs::Ending::ending))]
+fn missing(graph: &Graph, rule: RuleId, node: NodeId) -> ListEnd
+    ensures { IsInside result }
+{
+    match (path_copied(graph, node), first_target(graph, rule)) {
+        (Ok(node), Ok(target)) => ListEnd::Fault(BuildFault::Missing { node, target }),
+        _ => ListEnd::Memory,
+    }
+}
+
+fn path_copied(graph: &Graph, node: NodeId) -> Result<PathText, Memory> {
+    path_of(graph, node)?.copy()
+}
+
+/// Whether rules wait for themselves, as a fault.
+#[tactic(auto, using(crate::proofs::Ending::ending))]
+fn cycle_of(alloc: Global, graph: &Graph, plan: &Plan) -> Option<ListEnd>
+    ensures { IfSome result IsInside }
+{
+    match plan.cycle() {
+        Ok(Some(rules)) => Some(cycle_end(alloc, graph, rules.as_slice())),
+        Ok(None) => None,
+        Err(_) => Some(ListEnd::Memory),
+    }
+}
+
+#[tactic(auto, using(crate::proofs::Ending::ending))]
+fn cycle_end(alloc: Global, graph: &Graph, rules: &[RuleId]) -> ListEnd
+    ensures { IsInside result }
+{
+    match cycle_paths(alloc, graph, rules) {
+        Ok(paths) => ListEnd::Fault(BuildFault::Cycle(paths)),
+        Err(_) => ListEnd::Memory,
+    }
 }
 
 /// The fault of rules that wait for themselves: their first targets, from the least on.
 pub fn cycle_fault(alloc: Global, graph: &Graph, rules: &[RuleId]) -> Result<BuildFault, Memory> {
+    Ok(BuildFault::Cycle(cycle_paths(alloc, graph, rules)?))
+}
+
+fn cycle_paths(alloc: Global, graph: &Graph, rules: &[RuleId]) -> Result<Paths, Memory> {
     let mut paths: Vec<PathText> = Vec::new(alloc);
     for rule in rules {
         paths.push(first_target(graph, *rule)?)?;
@@ -117,7 +243,7 @@ pub fn cycle_fault(alloc: Global, graph: &Graph, rules: &[RuleId]) -> Result<Bui
     for path in paths {
         ordered.push(path)?;
     }
-    Ok(BuildFault::Cycle(Paths::new(ordered)))
+    Ok(Paths::new(ordered))
 }
 
 /// The place of the least of some paths.

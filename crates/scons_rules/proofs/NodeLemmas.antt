@@ -1,6 +1,6 @@
 -- Nodes of a rule: numbers below a count, each once.
-use Rattle.std.proofs.Common.{arith, ◌≡◌, ◌<◌, ◌≤◌, ◌∙◌, ℕ, ◌+◌, List, [], ◌∷◌, ◌++◌, ◌&&◌, ◌||◌, Bool, true, false, not, ap, sym, refl, length, map, Some, None, Option}
-use Rattle.std.specs.Prelude.{nat_eq, nat_lt, MatchOption, if◌then◌else◌}
+use Rattle.std.proofs.Common.{arith, ◌≡◌, ◌<◌, ◌≤◌, ◌∙◌, ℕ, List, [], ◌∷◌, ◌++◌, ◌&&◌, ◌||◌, Bool, true, false, not, ap, sym, refl, length, map, Some, None, Option}
+use Rattle.std.specs.Prelude.{nat_eq, nat_lt, MatchOption}
 use Rattle.std.specs.List.{list_any}
 use Rattle.std.proofs.lemmas.Bool.{ltb-true, lt-ltb}
 use Rattle.std.proofs.lemmas.Bool.Decides.{nat_tests}
@@ -105,3 +105,10 @@ interns_keeps old path id new = by (number_of old path)
     by : (o : Option ℕ) → MatchOption o ((id ≡ length old) × (new ≡ old ++ path ∷ [])) (λ number. (id ≡ number) × (new ≡ old)) → length old ≤ length new
     by None h = rw h.1 (omega (arith, length-append old (path ∷ [])))
     by (Some number) h = rw h.1 (omega arith)
+
+pub absent_from : (inserted there : Bool) → inserted ≡ not there → inserted ≡ true → there ≡ false
+absent_from inserted true e f = absurd (cc)
+absent_from inserted false e f = refl
+
+pub some_from : (slice targets : List (List ℕ)) (nodes : List NodeId) → slice ≡ targets → 0 < length targets → (0 < length slice → 0 < length nodes) → 0 < length nodes
+some_from slice targets nodes e some more = more (rw e some)

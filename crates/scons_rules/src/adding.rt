@@ -6,7 +6,7 @@ ghost use Rattle.scons_rules.specs.Numbers.{AreNodes};
 use crate::fault::RuleReadFault;
 use crate::interning::nodes_of;
 use crate::line::lines_of;
-use crate::reading::{RuleReading, is_cplusplus_source};
+use crate::reading::{RuleReading, is_cplusplus_source, sources_of};
 use crate::said::OfRule;
 use crate::sources::all_settled;
 use rule_graph::Rule;
@@ -28,12 +28,13 @@ struct RuleNodes {
 impl RuleReading {
     /// Puts a rule into the graph, with the libraries that were found.
     pub fn add(&mut self, number: usize, libraries: &Paths) -> Result<(), RuleReadFault> {
-        let Some(declaration) = self.state.rules.get(number) else {
+        let state = &self.state;
+        let Some(declaration) = state.rules.get(number) else {
             return Ok(());
         };
         let targets = declaration.targets.copy()?;
         let said = self.said.of_rule(self.alloc, targets.as_slice())?;
-        let sources = self.sources_of(declaration)?;
+        let sources = sources_of(self.alloc, state, declaration)?;
         let always = said.always;
         let nodes = self.rule_nodes(&targets, &sources, libraries, &said)?;
         let rule = self.rule_of(number, nodes, always)?;
@@ -67,10 +68,7 @@ impl RuleReading {
         })
     }
 
-    pub(crate) fn settled_nodes(
-        &mut self,
-        paths: &Paths,
-    ) -> Result<Listing<NodeId>, RuleReadFault>
+    fn settled_nodes(&mut self, paths: &Paths) -> Result<Listing<NodeId>, RuleReadFault>
         ensures below { IfOk result (λ n. are_below (length self.new.graph.nodes) n ≡ true) }
         ensures keeps { length self.old.graph.nodes ≤ length self.new.graph.nodes }
     {
@@ -78,12 +76,7 @@ impl RuleReading {
         nodes_of(self.alloc, &mut self.graph, files.as_slice())
     }
 
-    fn rule_of(
-        &self,
-        number: usize,
-        nodes: RuleNodes,
-        always: bool,
-    ) -> Result<Rule, RuleReadFault>
+    fn rule_of(&self, number: usize, nodes: RuleNodes, always: bool) -> Result<Rule, RuleReadFault>
         requires { AreNodes (length self.now.graph.nodes) nodes }
         ensures { IfOk result (λ r. IsRule (length self.now.graph.nodes) r) }
     {

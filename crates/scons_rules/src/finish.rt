@@ -6,18 +6,27 @@ use crate::reading::RuleReading;
 use crate::sources::settled;
 use rule_graph::{Graph, Wish};
 use scons_base::{Memory, Paths};
-use scons_decls::{Asked, Given, NameFault};
+use scons_decls::{Asked, Declarations, Given, NameFault};
+use std::alloc::Global;
 
 impl RuleReading {
     /// The graph, with aliases, defaults, help texts and variant directories.
     pub fn finish(self) -> Result<Graph, RuleReadFault> {
         let mut reading = self;
-        reading.add_variants()?;
-        reading.add_aliases()?;
-        reading.add_defaults()?;
-        reading.add_helps()?;
-        let RuleReading { graph, .. } = reading;
-        Ok(graph)
+        reading.add_rest()?;
+        Ok(reading.into_graph())
+    }
+
+    fn into_graph(self) -> Graph {
+        let RuleReading { graph, .. } = self;
+        graph
+    }
+
+    fn add_rest(&mut self) -> Result<(), RuleReadFault> {
+        self.add_variants()?;
+        self.add_aliases()?;
+        self.add_defaults()?;
+        self.add_helps()
     }
 
     fn add_variants(&mut self) -> Result<(), RuleReadFault> {
@@ -40,27 +49,16 @@ impl RuleReading {
     }
 
     fn add_alias(&mut self, place: usize) -> Result<(), RuleReadFault> {
-        let Some((name, members)) = self.state.aliases.get_index(place) else {
+        let state = &self.state;
+        let Some((name, members)) = state.aliases.get_index(place) else {
             return Ok(());
         };
-        let members = flattened(self.alloc, &self.state, members.as_slice())?;
+        let members = flattened(self.alloc, state, members.as_slice())?;
         let name = name.clone()?;
-        let paths = self.member_paths(members.as_slice())?;
+        let paths = member_paths(self.alloc, state, members.as_slice())?;
         let nodes = nodes_of(self.alloc, &mut self.graph, paths.as_slice())?;
         self.graph.add_alias(name.as_str(), nodes.as_slice())?;
         Ok(())
-    }
-
-    fn member_paths(&self, members: &[Given]) -> Result<Paths, Memory> {
-        let mut paths = Paths::new(Vec::new(self.alloc));
-        for member in members {
-            match member {
-                Given::File(path) => paths.push(settled(&self.state, path)?)?,
-                Given::Dir(path) => paths.push(path.copy()?)?,
-                Given::Text(_) | Given::Alias(_) => {}
-            }
-        }
-        Ok(paths)
     }
 
     fn add_defaults(&mut self) -> Result<(), RuleReadFault> {
@@ -84,4 +82,17 @@ impl RuleReading {
         }
         Ok(())
     }
+}
+
+/// The files and directories among members.
+fn member_paths(alloc: Global, state: &Declarations, members: &[Given]) -> Result<Paths, Memory> {
+    let mut paths = Paths::new(Vec::new(alloc));
+    for member in members {
+        match member {
+            Given::File(path) => paths.push(settled(state, path)?)?,
+            Given::Dir(path) => paths.push(path.copy()?)?,
+            Given::Text(_) | Given::Alias(_) => {}
+        }
+    }
+    Ok(paths)
 }

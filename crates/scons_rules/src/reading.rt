@@ -50,23 +50,25 @@ impl RuleReading {
         if !self.begin(number)? {
             return Ok(Listing::empty(self.alloc));
         }
-        match self.state.rules.get(number) {
-            Some(declaration) => wanted_by(self.alloc, &self.state, declaration.env),
+        let state = &self.state;
+        match state.rules.get(number) {
+            Some(declaration) => wanted_by(self.alloc, state, declaration.env),
             None => Ok(Listing::empty(self.alloc)),
         }
     }
 
     /// Makes a rule the one whose lines are expanded; tells whether it links a program.
     fn begin(&mut self, number: usize) -> Result<bool, RuleReadFault> {
-        let Some(declaration) = self.state.rules.get(number) else {
+        let state = &self.state;
+        let Some(declaration) = state.rules.get(number) else {
             return Ok(false);
         };
         let is_program = matches!(declaration.recipe, Recipe::Program);
         let dir = declaration.dir.copy()?;
-        let smartlink = self.smartlink_of(declaration)?;
-        let sources = self.sources_of(declaration)?;
-        let sources = named_all(self.alloc, &self.state, sources.as_slice())?;
-        let targets = named_all(self.alloc, &self.state, declaration.targets.as_slice())?;
+        let smartlink = smartlink_of(self.alloc, &self.cplusplus, declaration)?;
+        let sources = sources_of(self.alloc, state, declaration)?;
+        let sources = named_all(self.alloc, state, sources.as_slice())?;
+        let targets = named_all(self.alloc, state, declaration.targets.as_slice())?;
         let locals = &mut self.state.locals;
         locals.dir = dir;
         locals.smartlink = smartlink;
@@ -74,21 +76,34 @@ impl RuleReading {
         locals.targets = targets;
         Ok(is_program)
     }
+}
 
-    /// The files that a rule's sources are.
-    pub(crate) fn sources_of(&self, declaration: &Declaration) -> Result<Paths, Memory> {
-        all_settled(self.alloc, &self.state, declaration.sources.as_slice())
-    }
+/// The files that a rule's sources are.
+pub(crate) fn sources_of(
+    alloc: Global,
+    state: &Declarations,
+    declaration: &Declaration,
+) -> Result<Paths, Memory> {
+    all_settled(alloc, state, declaration.sources.as_slice())
+}
 
-    fn smartlink_of(&self, declaration: &Declaration) -> Result<Text, Memory> {
-        let sources = declaration.sources.as_slice();
-        let is_cplusplus = sources.iter().any(|source| self.is_cplusplus(source));
-        Text::of(self.alloc, if is_cplusplus { "$CXX" } else { "$CC" })
-    }
+fn smartlink_of(
+    alloc: Global,
+    objects: &IndexSet<PathText>,
+    declaration: &Declaration,
+) -> Result<Text, Memory> {
+    let is_cplusplus = has_cplusplus(objects, declaration.sources.as_slice());
+    Text::of(alloc, if is_cplusplus { "$CXX" } else { "$CC" })
+}
 
-    fn is_cplusplus(&self, source: &PathText) -> bool {
-        language_of(source) == Some(Language::CPlusPlus) || self.cplusplus.contains(source)
+/// Whether one of these is a C++ source or an object of one.
+fn has_cplusplus(objects: &IndexSet<PathText>, sources: &[PathText]) -> bool {
+    for source in sources {
+        if language_of(source) == Some(Language::CPlusPlus) || objects.contains(source) {
+            return true;
+        }
     }
+    false
 }
 
 fn cplusplus_objects(alloc: Global, rules: &[Declaration]) -> Result<IndexSet<PathText>, Memory> {

@@ -1,4 +1,9 @@
 //! The build of what was requested.
+ghost use Rattle.std.specs.Prelude.{◌≡◌, [], IfOk, IfErr};
+ghost use Rattle.build_run.specs.Goings.{Passes, Goes};
+ghost use Rattle.scons_top.specs.Faults.{IsLateStop, EarlyOnlyIf};
+ghost use Rattle.scons_top.specs.Statuses.{HasStatus};
+ghost use Rattle.sign_store.specs.Stores.{IsStoredIn};
 
 use crate::ending::{closed, tell_done, tell_faulty};
 use crate::printed::say;
@@ -23,9 +28,17 @@ pub(crate) fn build_requests<W: World, O: Sink, E: Sink>(
     world: &mut W,
     out: &mut O,
     err: &mut E,
-) -> Result<Report, Stop> {
+) -> Result<Report, Stop>
+    requires unclosed { W.meaning.closed world.old ≡ [] }
+    requires idle { W.meaning.tells world.old → (W.meaning.around world.old).running ≡ [] }
+    ensures passes { Passes W.meaning world.old world.new }
+    ensures idle { W.meaning.tells world.new → (W.meaning.around world.new).running ≡ [] }
+    ensures late { IfErr result IsLateStop }
+    ensures faults { IfOk result (λ report. EarlyOnlyIf ⊥ report.faults) }
+    ensures status { IfOk result (λ report. HasStatus report.status report.faults) }
+{
     let nodes = nodes_of(alloc, requests)?;
-    let mut store = Store::begin(alloc, world)?;
+    let mut store = begin_store(alloc, world)?;
     say(out, words, building_text(alloc))?;
     let options = Options {
         jobs: words.jobs,
@@ -44,6 +57,18 @@ pub(crate) fn build_requests<W: World, O: Sink, E: Sink>(
     );
     let written = tell_end(alloc, graph, words, requests, &end, out);
     Ok(closed(alloc, end.faults, end.skipped, end.memory, written))
+}
+
+#[tactic(auto, using(crate::proofs::Watching::watching))]
+fn begin_store<W: World>(alloc: Global, world: &mut W) -> Result<Store, Stop>
+    ensures goes { Goes W.meaning world.old world.new }
+    ensures stands { W.meaning.tells world.new → IfOk result (IsStoredIn (W.meaning.seen world.new)) }
+    ensures late { IfErr result IsLateStop }
+{
+    match Store::begin(alloc, world) {
+        Ok(store) => Ok(store),
+        Err(refusal) => Err(Stop::from(refusal)),
+    }
 }
 
 /// The requested nodes, in order.

@@ -1,14 +1,19 @@
 //! Cleaning: the targets of what was requested are removed.
+ghost use Rattle.std.specs.Prelude.{◌≡◌, [], IfOk, IfErr, IsTrue};
+ghost use Rattle.build_run.specs.Goings.{Stays};
+ghost use Rattle.scons_top.specs.Faults.{IsLateStop};
+ghost use Rattle.scons_top.specs.Statuses.{HasStatus};
+ghost use Rattle.scons_top.specs.Watching.{Watches};
 
 use crate::build_step::nodes_of;
 use crate::ending::good;
 use crate::printed::{say, tell};
 use crate::report::Report;
-use crate::requests::Request;
+use crate::requests::{Request, kind_of};
 use crate::stop::Stop;
 use build_files::{path_of, rule_at};
 use rule_graph::Graph;
-use scons_base::{NodeId, PathText};
+use scons_base::{NodeId, PathText, RuleId};
 use scons_report::{ListEnd, clean_list, cleaned_text, cleaning_text, removed_text};
 use scons_words::Words;
 use std::alloc::Global;
@@ -22,21 +27,40 @@ pub(crate) fn clean_requests<W: World, O: Sink>(
     requests: &[Request],
     world: &mut W,
     out: &mut O,
-) -> Result<Report, Stop> {
+) -> Result<Report, Stop>
+    requires idle { W.meaning.tells world.old → (W.meaning.around world.old).running ≡ [] }
+    ensures stays { Stays W.meaning world.old world.new }
+    ensures dry { IsTrue words.now.dry → Watches W.meaning world.old world.new }
+    ensures late { IfErr result IsLateStop }
+    ensures faults { IfOk result (λ report. report.faults ≡ []) }
+    ensures status { IfOk result (λ report. HasStatus report.status report.faults) }
+{
     let nodes = nodes_of(alloc, requests)?;
     say(out, words, cleaning_text(alloc))?;
-    for rule in clean_list(alloc, graph, nodes.as_slice())?.as_slice() {
-        clean_all(
-            alloc,
-            graph,
-            words,
-            rule_at(graph, *rule)?.targets.as_slice(),
-            world,
-            out,
-        )?;
-    }
+    let rules = clean_list(alloc, graph, nodes.as_slice())?;
+    clean_rules(alloc, graph, words, rules.as_slice(), world, out)?;
     say(out, words, cleaned_text(alloc))?;
     Ok(good(alloc))
+}
+
+fn clean_rules<W: World, O: Sink>(
+    alloc: Global,
+    graph: &Graph,
+    words: &Words,
+    rules: &[RuleId],
+    world: &mut W,
+    out: &mut O,
+) -> Result<(), Stop>
+    requires idle { W.meaning.tells world.old → (W.meaning.around world.old).running ≡ [] }
+    ensures stays { Stays W.meaning world.old world.new }
+    ensures dry { IsTrue words.now.dry → Watches W.meaning world.old world.new }
+    ensures late { IfErr result IsLateStop }
+{
+    for rule in rules {
+        let targets = rule_at(graph, *rule)?.targets.as_slice();
+        clean_all(alloc, graph, words, targets, world, out)?;
+    }
+    Ok(())
 }
 
 fn clean_all<W: World, O: Sink>(
@@ -46,25 +70,60 @@ fn clean_all<W: World, O: Sink>(
     targets: &[NodeId],
     world: &mut W,
     out: &mut O,
-) -> Result<(), Stop> {
+) -> Result<(), Stop>
+    requires idle { W.meaning.tells world.old → (W.meaning.around world.old).running ≡ [] }
+    ensures stays { Stays W.meaning world.old world.new }
+    ensures dry { IsTrue words.now.dry → Watches W.meaning world.old world.new }
+    ensures late { IfErr result IsLateStop }
+{
     for target in targets {
-        let path = path_of(graph, *target)?;
-        if is_removed(words, world, path)? {
-            tell(out, words, removed_text(alloc, path))?;
-        }
+        clean(alloc, words, path_of(graph, *target)?, world, out)?;
     }
     Ok(())
 }
 
-/// Removes a target that is a file, and says whether it was one.
-fn is_removed<W: World>(words: &Words, world: &mut W, path: &PathText) -> Result<bool, ListEnd> {
-    match world.kind(path) {
-        Ok(Kind::File) if words.dry => Ok(true),
-        Ok(Kind::File) => match world.remove(path) {
-            Ok(()) => Ok(true),
-            Err(_) => Err(ListEnd::tree(path)),
-        },
-        Ok(_) => Ok(false),
+/// Removes a target that is a file, and says so.
+fn clean<W: World, O: Sink>(
+    alloc: Global,
+    words: &Words,
+    path: &PathText,
+    world: &mut W,
+    out: &mut O,
+) -> Result<(), Stop>
+    requires idle { W.meaning.tells world.old → (W.meaning.around world.old).running ≡ [] }
+    ensures stays { Stays W.meaning world.old world.new }
+    ensures dry { IsTrue words.now.dry → Watches W.meaning world.old world.new }
+    ensures late { IfErr result IsLateStop }
+{
+    if is_removed(words, world, path)? {
+        tell(out, words, removed_text(alloc, path))?;
+    }
+    Ok(())
+}
+
+/// Removes a target that is a file, and says whether it was one. With `-n` it isn't removed.
+fn is_removed<W: World>(words: &Words, world: &mut W, path: &PathText) -> Result<bool, ListEnd>
+    requires idle { W.meaning.tells world.old → (W.meaning.around world.old).running ≡ [] }
+    ensures stays { Stays W.meaning world.old world.new }
+    ensures dry { IsTrue words.now.dry → Watches W.meaning world.old world.new }
+{
+    if kind_of(world, path)? != Kind::File {
+        return Ok(false);
+    }
+    if words.dry {
+        return Ok(true);
+    }
+    remove(world, path)?;
+    Ok(true)
+}
+
+#[tactic(auto, using(crate::proofs::Watching::watching))]
+fn remove<W: World>(world: &mut W, path: &PathText) -> Result<(), ListEnd>
+    requires idle { W.meaning.tells world.old → (W.meaning.around world.old).running ≡ [] }
+    ensures stays { Stays W.meaning world.old world.new }
+{
+    match world.remove(path) {
+        Ok(()) => Ok(()),
         Err(_) => Err(ListEnd::tree(path)),
     }
 }

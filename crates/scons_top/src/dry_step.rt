@@ -1,16 +1,20 @@
 //! A dry run: what a build would start is listed.
+ghost use Rattle.std.specs.Prelude.{IfOk};
+ghost use Rattle.scons_top.specs.Faults.{EarlyOnlyIf};
+ghost use Rattle.scons_top.specs.Statuses.{HasStatus};
+ghost use Rattle.scons_top.specs.Watching.{Watches};
 
 use crate::build_step::nodes_of;
-use crate::ending::{closed, ended, tell_done, tell_faulty};
+use crate::ending::{closed, good, tell_done, tell_faulty};
 use crate::printed::{say, tell};
 use crate::report::Report;
 use crate::requests::Request;
 use crate::stop::Stop;
 use rule_graph::{BuildFault, Graph};
-use scons_base::{Listing, Memory};
+use scons_base::{Listing, Memory, NodeId, RuleId};
 use scons_report::{ListEnd, building_text, dry_list, fault_text, print, rule_text};
 use scons_words::Words;
-use sign_store::Store;
+use sign_store::{Store, StoreRefusal, View};
 use std::alloc::Global;
 use world_api::{Sink, World};
 
@@ -23,27 +27,68 @@ pub(crate) fn list_requests<W: World, O: Sink, E: Sink>(
     world: &mut W,
     out: &mut O,
     err: &mut E,
-) -> Result<Report, Stop> {
+) -> Result<Report, Stop>
+    ensures watches { Watches W.meaning world.old world.new }
+    ensures faults { IfOk result (λ report. EarlyOnlyIf ⊥ report.faults) }
+    ensures status { IfOk result (λ report. HasStatus report.status report.faults) }
+{
     let nodes = nodes_of(alloc, requests)?;
-    let view = Store::read(alloc, world)?;
+    let view = view_of(alloc, world)?;
     say(out, words, building_text(alloc))?;
-    match dry_list(alloc, graph, nodes.as_slice(), &view, world) {
-        Ok(rules) => {
-            let rules = rules.as_slice();
-            for rule in rules {
-                tell(out, words, rule_text(alloc, graph, *rule))?;
-            }
-            tell_done(alloc, graph, words, requests, rules, out)?;
-            Ok(closed(
-                alloc,
-                Listing::empty(alloc),
-                Listing::empty(alloc),
-                false,
-                Ok(()),
-            ))
-        }
+    match list_of(alloc, graph, nodes.as_slice(), &view, world) {
+        Ok(rules) => tell_rules(alloc, graph, words, requests, rules.as_slice(), out),
         Err(ListEnd::Memory) => Err(Stop::Memory),
         Err(ListEnd::Fault(fault)) => end_with(alloc, words, fault, out, err),
+    }
+}
+
+/// What the store holds.
+#[tactic(auto, using(crate::proofs::Watching::watching))]
+fn view_of<W: World>(alloc: Global, world: &mut W) -> Result<View, StoreRefusal>
+    ensures watches { Watches W.meaning world.old world.new }
+{
+    Store::read(alloc, world)
+}
+
+/// The rules that would be started.
+#[tactic(auto, using(crate::proofs::Watching::watching))]
+fn list_of<W: World>(
+    alloc: Global,
+    graph: &mut Graph,
+    nodes: &[NodeId],
+    view: &View,
+    world: &mut W,
+) -> Result<Listing<RuleId>, ListEnd>
+    ensures watches { Watches W.meaning world.old world.new }
+{
+    dry_list(alloc, graph, nodes, view, world)
+}
+
+/// Writes the lines of these rules, and those of the end.
+fn tell_rules<O: Sink>(
+    alloc: Global,
+    graph: &Graph,
+    words: &Words,
+    requests: &[Request],
+    rules: &[RuleId],
+    out: &mut O,
+) -> Result<Report, Stop>
+    ensures faults { IfOk result (λ report. EarlyOnlyIf ⊥ report.faults) }
+    ensures status { IfOk result (λ report. HasStatus report.status report.faults) }
+{
+    for rule in rules {
+        tell(out, words, lines_of(alloc, graph, *rule))?;
+    }
+    tell_done(alloc, graph, words, requests, rules, out)?;
+    Ok(good(alloc))
+}
+
+/// The lines of a rule. A list names rules of its graph alone; another would be answered as want of memory is.
+fn lines_of(alloc: Global, graph: &Graph, rule: RuleId) -> Result<String, Memory> {
+    if rule.0 < graph.rules() {
+        rule_text(alloc, graph, rule)
+    } else {
+        Err(Memory)
     }
 }
 
@@ -54,7 +99,10 @@ fn end_with<O: Sink, E: Sink>(
     fault: BuildFault,
     out: &mut O,
     err: &mut E,
-) -> Result<Report, Stop> {
+) -> Result<Report, Stop>
+    ensures faults { IfOk result (λ report. EarlyOnlyIf ⊥ report.faults) }
+    ensures status { IfOk result (λ report. HasStatus report.status report.faults) }
+{
     let mut faults = Listing::empty(alloc);
     let is_printed = print(err, fault_text(alloc, &fault)?.as_str()).is_ok();
     faults.push(fault)?;

@@ -1,4 +1,7 @@
 //! How a run ends: its last lines and its report.
+ghost use Rattle.std.specs.Prelude.{◌≡◌, [], IfErr};
+ghost use Rattle.scons_top.specs.Faults.{IsEarly, IsEarlyStop, IsLate, IsLateStop, EarlyOnlyIf};
+ghost use Rattle.scons_top.specs.Statuses.{HasStatus};
 
 use crate::printed::{say, tell};
 use crate::report::{Report, Top};
@@ -20,7 +23,10 @@ pub(crate) fn report(
     faults: Listing<Top>,
     skipped: Listing<(PathText, PathText)>,
     memory: bool,
-) -> Report {
+) -> Report
+    ensures faults { result.faults ≡ faults }
+    ensures status { HasStatus result.status result.faults }
+{
     let status = match memory {
         true => 3,
         false if faults.is_empty() => 0,
@@ -34,24 +40,38 @@ pub(crate) fn report(
 }
 
 /// The report of a run without a fault.
-pub(crate) fn good(alloc: Global) -> Report {
+pub(crate) fn good(alloc: Global) -> Report
+    ensures faults { result.faults ≡ [] }
+    ensures status { HasStatus result.status result.faults }
+{
     report(Listing::empty(alloc), Listing::empty(alloc), false)
 }
 
 /// The report of a run that one fault ended: it is printed, and, where standard error refuses, so is that.
-pub(crate) fn ended<E: Sink>(alloc: Global, stop: Stop, err: &mut E) -> Report {
-    let mut faults = Listing::empty(alloc);
-    let memory = match stop {
+pub(crate) fn ended<E: Sink>(alloc: Global, stop: Stop, err: &mut E) -> Report
+    ensures early { EarlyOnlyIf (IsEarlyStop stop) result.faults }
+    ensures status { HasStatus result.status result.faults }
+{
+    match stop {
         Stop::Fault(fault) => {
             let text = top_text(alloc, &fault);
-            keep(err, fault, text, &mut faults).is_err()
+            kept(alloc, err, fault, text)
         }
         Stop::Build(fault) => {
             let text = fault_text(alloc, &fault);
-            keep(err, Top::from(fault), text, &mut faults).is_err()
+            kept(alloc, err, Top::from(fault), text)
         }
-        Stop::Memory => true,
-    };
+        Stop::Memory => report(Listing::empty(alloc), Listing::empty(alloc), true),
+    }
+}
+
+/// Prints the text of a fault and reports the fault.
+fn kept<E: Sink>(alloc: Global, err: &mut E, fault: Top, text: Result<String, Memory>) -> Report
+    ensures early { EarlyOnlyIf (IsEarly fault) result.faults }
+    ensures status { HasStatus result.status result.faults }
+{
+    let mut faults = Listing::empty(alloc);
+    let memory = keep(err, fault, text, &mut faults).is_err();
     report(faults, Listing::empty(alloc), memory)
 }
 
@@ -61,7 +81,9 @@ fn keep<E: Sink>(
     fault: Top,
     text: Result<String, Memory>,
     faults: &mut Listing<Top>,
-) -> Result<(), Memory> {
+) -> Result<(), Memory>
+    ensures early { EarlyOnlyIf (IsEarly fault) faults.old → EarlyOnlyIf (IsEarly fault) faults.new }
+{
     faults.push(fault)?;
     if print(err, text?.as_str()).is_err() {
         faults.push(Top::OutFault)?;
@@ -77,7 +99,9 @@ pub(crate) fn tell_done<O: Sink>(
     requests: &[Request],
     started: &[RuleId],
     out: &mut O,
-) -> Result<(), Stop> {
+) -> Result<(), Stop>
+    ensures { IfErr result IsLateStop }
+{
     let marks = marks_of(alloc, graph, started)?;
     for request in requests {
         let word = request.word.as_str();
@@ -115,7 +139,9 @@ pub(crate) fn tell_faulty<O: Sink>(
     words: &Words,
     faults: &[BuildFault],
     out: &mut O,
-) -> Result<(), Stop> {
+) -> Result<(), Stop>
+    ensures { IfErr result IsLateStop }
+{
     if words.keep && faults.iter().all(goes_on) {
         say(out, words, done_with_errors_text(alloc))
     } else {
@@ -138,16 +164,42 @@ pub(crate) fn closed(
     skipped: Listing<(PathText, PathText)>,
     memory: bool,
     written: Result<(), Stop>,
-) -> Report {
+) -> Report
+    ensures late { EarlyOnlyIf ⊥ result.faults }
+    ensures status { HasStatus result.status result.faults }
+{
     let mut faults = Listing::empty(alloc);
-    let mut wants = memory;
+    let lacks = add_all(&mut faults, found);
+    let lost = add_unwritten(&mut faults, written);
+    report(faults, skipped, memory || lacks || lost)
+}
+
+/// Adds the faults of a build, and says whether memory was wanting.
+fn add_all(faults: &mut Listing<Top>, found: Listing<BuildFault>) -> bool
+    ensures { EarlyOnlyIf ⊥ faults.old → EarlyOnlyIf ⊥ faults.new }
+{
+    let mut lacks = false;
     for fault in found.into_vec() {
-        wants |= faults.push(Top::from(fault)).is_err();
+        lacks |= add(faults, Top::from(fault));
     }
+    lacks
+}
+
+/// Adds the fault that a last line wasn't written, and says whether memory was wanting.
+fn add_unwritten(faults: &mut Listing<Top>, written: Result<(), Stop>) -> bool
+    ensures { EarlyOnlyIf ⊥ faults.old → EarlyOnlyIf ⊥ faults.new }
+{
     match written {
-        Ok(()) => {}
-        Err(Stop::Memory) => wants = true,
-        Err(_) => wants |= faults.push(Top::OutFault).is_err(),
+        Ok(()) => false,
+        Err(Stop::Memory) => true,
+        Err(_) => add(faults, Top::OutFault),
     }
-    report(faults, skipped, wants)
+}
+
+/// Adds a fault, and says whether memory was wanting.
+fn add(faults: &mut Listing<Top>, fault: Top) -> bool
+    requires { IsLate fault }
+    ensures { EarlyOnlyIf ⊥ faults.old → EarlyOnlyIf ⊥ faults.new }
+{
+    faults.push(fault).is_err()
 }

@@ -1,5 +1,8 @@
 //! A large run over a world in memory: so many rules in chains of ten, built, and built again after an edit of the first
 //! source.
+ghost use Rattle.std.specs.Prelude.{◌≡◌, [], IfOk};
+ghost use Rattle.scons_top.specs.Statuses.{HasStatus};
+ghost use Rattle.world_mem.specs.AsAround.{around_of};
 
 use crate::ending::good;
 use crate::report::Report;
@@ -18,28 +21,48 @@ pub(crate) fn load<O: Sink>(
     words: &Words,
     rules: u32,
     out: &mut O,
-) -> Result<Report, Stop> {
+) -> Result<Report, Stop>
+    ensures faults { IfOk result (λ report. report.faults ≡ []) }
+    ensures status { IfOk result (λ report. HasStatus report.status report.faults) }
+{
     let inner = build_words(alloc, words.jobs)?;
-    let files = files_of(alloc, rules)?;
-    let table = ActTable::new(Vec::new(alloc));
-    let made = MemWorld::new(alloc, files, table, Vec::new(alloc), Vec::new(alloc));
-    let Ok(mut world) = made else {
-        return Err(Stop::Memory);
-    };
+    let mut world = world_of(alloc, rules)?;
     build_once(alloc, &inner, &mut world)?;
-    if world
-        .edit(&path_of(alloc, "s0")?, b"edited".as_slice())
-        .is_err()
-    {
-        return Err(Stop::Memory);
-    }
+    edit(alloc, &mut world)?;
     build_once(alloc, &inner, &mut world)?;
     print(out, load_text(alloc, rules)?.as_str())?;
     Ok(good(alloc))
 }
 
+/// The world with the script and the sources.
+fn world_of(alloc: Global, rules: u32) -> Result<MemWorld, Memory>
+    ensures { IfOk result (λ world. (around_of world.state).running ≡ []) }
+{
+    let files = files_of(alloc, rules)?;
+    let table = ActTable::new(Vec::new(alloc));
+    match MemWorld::new(alloc, files, table, Vec::new(alloc), Vec::new(alloc)) {
+        Ok(world) => Ok(world),
+        Err(_) => Err(Memory),
+    }
+}
+
+/// Edits the first source.
+fn edit(alloc: Global, world: &mut MemWorld) -> Result<(), Memory>
+    requires { (around_of world.old.state).running ≡ [] }
+    ensures { (around_of world.new.state).running ≡ [] }
+{
+    let path = path_of(alloc, "s0")?;
+    match world.edit(&path, b"edited".as_slice()) {
+        Ok(()) => Ok(()),
+        Err(_) => Err(Memory),
+    }
+}
+
 /// A build over a world that refuses nothing: only memory may be wanting.
-fn build_once(alloc: Global, words: &Words, world: &mut MemWorld) -> Result<(), Stop> {
+fn build_once(alloc: Global, words: &Words, world: &mut MemWorld) -> Result<(), Stop>
+    requires { (around_of world.old.state).running ≡ [] }
+    ensures { (around_of world.new.state).running ≡ [] }
+{
     let mut out = MemSink::new(alloc, Vec::new(alloc))?;
     let mut err = MemSink::new(alloc, Vec::new(alloc))?;
     let report = run(alloc, words, world, &mut out, &mut err)?;

@@ -1,4 +1,6 @@
 //! What a run writes on standard output besides the lines of rules.
+ghost use Rattle.std.specs.Prelude.{IfErr};
+ghost use Rattle.scons_top.specs.Faults.{IsLateStop};
 
 use crate::stop::Stop;
 use scons_base::Memory;
@@ -11,7 +13,9 @@ pub(crate) fn say<O: Sink>(
     out: &mut O,
     words: &Words,
     text: Result<String, Memory>,
-) -> Result<(), Stop> {
+) -> Result<(), Stop>
+    ensures { IfErr result IsLateStop }
+{
     if !words.quiet && !words.silent {
         print(out, text?.as_str())?;
     }
@@ -23,7 +27,9 @@ pub(crate) fn tell<O: Sink>(
     out: &mut O,
     words: &Words,
     text: Result<String, Memory>,
-) -> Result<(), Stop> {
+) -> Result<(), Stop>
+    ensures { IfErr result IsLateStop }
+{
     if !words.silent {
         print(out, text?.as_str())?;
     }

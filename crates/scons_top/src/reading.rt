@@ -1,10 +1,11 @@
 //! The reading of the scripts.
+ghost use Rattle.scons_top.specs.Watching.{Watches};
 
 use crate::printed::say;
 use crate::stop::Stop;
 use rule_graph::{BuildFault, Graph};
 use scons_base::PathText;
-use scons_host::read_scripts;
+use scons_host::{HostEnd, read_scripts};
 use scons_report::{read_text, reading_text};
 use scons_words::Words;
 use std::alloc::Global;
@@ -16,22 +17,45 @@ pub(crate) fn read<W: World, O: Sink>(
     world: &mut W,
     out: &mut O,
     words: &Words,
-) -> Result<Graph, Stop> {
+) -> Result<Graph, Stop>
+    ensures watches { Watches W.meaning world.old world.new }
+{
     ask_for_top(alloc, world)?;
     say(out, words, reading_text(alloc))?;
-    let graph = read_scripts(alloc, world, out, words)?;
+    let graph = graph_of(alloc, world, out, words)?;
     say(out, words, read_text(alloc))?;
     Ok(graph)
 }
 
+/// What the scripts declare.
+#[tactic(auto, using(crate::proofs::Watching::watching))]
+fn graph_of<W: World, O: Sink>(
+    alloc: Global,
+    world: &mut W,
+    out: &mut O,
+    words: &Words,
+) -> Result<Graph, HostEnd>
+    ensures watches { Watches W.meaning world.old world.new }
+{
+    read_scripts(alloc, world, out, words)
+}
+
 /// Sees that the top directory can be named.
-fn ask_for_top<W: World>(alloc: Global, world: &mut W) -> Result<(), Stop> {
+#[tactic(auto, using(crate::proofs::Watching::watching))]
+fn ask_for_top<W: World>(alloc: Global, world: &mut W) -> Result<(), Stop>
+    ensures watches { Watches W.meaning world.old world.new }
+{
     match world.top_path() {
         Ok(_) => Ok(()),
         Err(AskRefusal::Memory) => Err(Stop::Memory),
-        Err(AskRefusal::Fault) => match PathText::read(alloc, ".") {
-            Ok(top) => Err(Stop::Build(BuildFault::TreeFault(top))),
-            Err(_) => Err(Stop::Memory),
-        },
+        Err(AskRefusal::Fault) => Err(no_top(alloc)),
+    }
+}
+
+/// The fault that the top directory can't be named.
+fn no_top(alloc: Global) -> Stop {
+    match PathText::read(alloc, ".") {
+        Ok(top) => Stop::Build(BuildFault::TreeFault(top)),
+        Err(_) => Stop::Memory,
     }
 }

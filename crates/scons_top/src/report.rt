@@ -1,4 +1,5 @@
 //! What a run answers.
+ghost use Rattle.scons_top.specs.Faults.{IsLate};
 
 use rule_graph::{BuildFault, What};
 use scons_base::{Listing, PathText, Paths, Text};
@@ -38,6 +39,8 @@ pub enum Top {
 }
 
 impl From<BuildFault> for Top {
+    ghost from_gives = { λ _ fault. IsLate fault };
+
     fn from(fault: BuildFault) -> Self {
         match fault {
             BuildFault::Missing { node, target } => Top::Missing { node, target },

@@ -1,4 +1,5 @@
 //! What the words ask for.
+ghost use Rattle.scons_top.specs.Watching.{Watches};
 
 use crate::report::Top;
 use crate::stop::Stop;
@@ -24,13 +25,26 @@ pub(crate) fn requests_of<W: World>(
     world: &mut W,
     graph: &mut Graph,
     words: &Words,
-) -> Result<Vec<Request>, Stop> {
+) -> Result<Vec<Request>, Stop>
+    ensures watches { Watches W.meaning world.old world.new }
+{
     let asked = match words.requested.as_slice() {
         [] => defaults_of(alloc, graph)?,
         _ => words.requested.copy()?,
     };
+    requests_for(alloc, world, graph, asked.as_slice())
+}
+
+fn requests_for<W: World>(
+    alloc: Global,
+    world: &mut W,
+    graph: &mut Graph,
+    asked: &[Text],
+) -> Result<Vec<Request>, Stop>
+    ensures watches { Watches W.meaning world.old world.new }
+{
     let mut requests = Vec::new(alloc);
-    for word in asked.as_slice() {
+    for word in asked {
         requests.push(request_of(alloc, world, graph, word)?)?;
     }
     Ok(requests)
@@ -58,31 +72,64 @@ fn request_of<W: World>(
     world: &mut W,
     graph: &mut Graph,
     word: &Text,
-) -> Result<Request, Stop> {
+) -> Result<Request, Stop>
+    ensures watches { Watches W.meaning world.old world.new }
+{
     if let Some(members) = graph.alias(word.as_str()) {
         let nodes = Vec::from_slice(alloc, members)?;
         return made(word, nodes, false);
     }
     let Ok(path) = PathText::read(alloc, word.as_str()) else {
-        return Err(Stop::Fault(Top::UnknownTarget(word.copy()?)));
+        return Err(unknown(word));
     };
+    let path = path.spelled(graph.top())?;
     if has_rule(world, graph, &path)? {
-        let nodes = vec![in alloc; graph.intern(&path)?]?;
-        return made(word, nodes, false);
+        return node_request(alloc, graph, word, &path, false);
     }
-    let kind = match world.kind(&path) {
-        Ok(kind) => kind,
-        Err(_) => return Err(Stop::from(ListEnd::tree(&path))),
-    };
-    if kind == Kind::File {
-        let nodes = vec![in alloc; graph.intern(&path)?]?;
-        return made(word, nodes, true);
+    file_request(alloc, world, graph, word, &path)
+}
+
+/// What a word stands for that is a path without a rule.
+fn file_request<W: World>(
+    alloc: Global,
+    world: &mut W,
+    graph: &mut Graph,
+    word: &Text,
+    path: &PathText,
+) -> Result<Request, Stop>
+    ensures watches { Watches W.meaning world.old world.new }
+{
+    match kind_of(world, path)? {
+        Kind::File => node_request(alloc, graph, word, path, true),
+        Kind::Dir => made(word, targets_below(alloc, graph, path)?, false),
+        Kind::Absent => absent_request(alloc, graph, word, path),
     }
-    let below = targets_below(alloc, graph, &path)?;
-    if kind == Kind::Absent && below.is_empty() {
-        return Err(Stop::Fault(Top::UnknownTarget(word.copy()?)));
+}
+
+/// What a word stands for that is a path where nothing stands: the targets below it.
+fn absent_request(
+    alloc: Global,
+    graph: &Graph,
+    word: &Text,
+    path: &PathText,
+) -> Result<Request, Stop> {
+    let below = targets_below(alloc, graph, path)?;
+    if below.is_empty() {
+        return Err(unknown(word));
     }
     made(word, below, false)
+}
+
+/// The request of one node.
+fn node_request(
+    alloc: Global,
+    graph: &mut Graph,
+    word: &Text,
+    path: &PathText,
+    is_plain: bool,
+) -> Result<Request, Stop> {
+    let nodes = vec![in alloc; graph.intern(path)?]?;
+    made(word, nodes, is_plain)
 }
 
 fn made(word: &Text, nodes: Vec<NodeId>, is_plain: bool) -> Result<Request, Stop> {
@@ -93,11 +140,33 @@ fn made(word: &Text, nodes: Vec<NodeId>, is_plain: bool) -> Result<Request, Stop
     })
 }
 
+/// The fault that a word stands for nothing.
+fn unknown(word: &Text) -> Stop {
+    match word.copy() {
+        Ok(word) => Stop::Fault(Top::UnknownTarget(word)),
+        Err(_) => Stop::Memory,
+    }
+}
+
 /// Whether a path has a declared rule or a copy rule.
-fn has_rule<W: World>(world: &mut W, graph: &Graph, path: &PathText) -> Result<bool, ListEnd> {
+#[tactic(auto, using(crate::proofs::Watching::watching))]
+fn has_rule<W: World>(world: &mut W, graph: &Graph, path: &PathText) -> Result<bool, ListEnd>
+    ensures watches { Watches W.meaning world.old world.new }
+{
     match graph.find(path) {
         Some(node) if graph.rule_of(node).is_some() => Ok(true),
         _ => has_copy_rule(world, graph, path),
+    }
+}
+
+/// What stands at a path.
+#[tactic(auto, using(crate::proofs::Watching::watching))]
+pub(crate) fn kind_of<W: World>(world: &mut W, path: &PathText) -> Result<Kind, ListEnd>
+    ensures watches { Watches W.meaning world.old world.new }
+{
+    match world.kind(path) {
+        Ok(kind) => Ok(kind),
+        Err(_) => Err(ListEnd::tree(path)),
     }
 }
 

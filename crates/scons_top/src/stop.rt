@@ -1,4 +1,5 @@
 //! Why a run ended before its last step.
+ghost use Rattle.scons_top.specs.Faults.{IsLateStop};
 
 use crate::report::Top;
 use build_files::ListEnd;
@@ -11,6 +12,7 @@ use sign_store::StoreRefusal;
 use std::alloc::{AllocError, AllocFailed};
 use world_api::Fault;
 
+/// Why there is no report yet.
 #[derive(Drop)]
 pub(crate) enum Stop {
     /// A fault, with its text for standard error.
@@ -21,18 +23,24 @@ pub(crate) enum Stop {
 }
 
 impl From<Memory> for Stop {
+    ghost from_gives = { λ _ stop. IsLateStop stop };
+
     fn from(_: Memory) -> Self {
         Stop::Memory
     }
 }
 
 impl From<AllocError> for Stop {
+    ghost from_gives = { λ _ stop. IsLateStop stop };
+
     fn from(_: AllocError) -> Self {
         Stop::Memory
     }
 }
 
 impl<T: Drop> From<AllocFailed<T>> for Stop {
+    ghost from_gives = { λ _ stop. IsLateStop stop };
+
     fn from(_: AllocFailed<T>) -> Self {
         Stop::Memory
     }
@@ -40,12 +48,16 @@ impl<T: Drop> From<AllocFailed<T>> for Stop {
 
 /// A sink refused.
 impl From<Fault> for Stop {
+    ghost from_gives = { λ _ stop. IsLateStop stop };
+
     fn from(_: Fault) -> Self {
         Stop::Build(BuildFault::OutFault)
     }
 }
 
 impl From<ListEnd> for Stop {
+    ghost from_gives = { λ _ stop. IsLateStop stop };
+
     fn from(end: ListEnd) -> Self {
         match end {
             ListEnd::Fault(fault) => Stop::Build(fault),
@@ -86,6 +98,8 @@ impl From<HostEnd> for Stop {
 }
 
 impl From<StoreRefusal> for Stop {
+    ghost from_gives = { λ _ stop. IsLateStop stop };
+
     fn from(refusal: StoreRefusal) -> Self {
         match refusal {
             StoreRefusal::Fault => Stop::Build(BuildFault::StoreFault),

@@ -1,4 +1,14 @@
 //! The steps of a run.
+ghost use Rattle.std.specs.Prelude.{◌≡◌, [], Ok, IfOk, IfErr, Contains, IsTrue};
+ghost use Rattle.build_files.specs.Looks.{Looks};
+ghost use Rattle.build_run.specs.Goings.{Passes};
+ghost use Rattle.scons_top.specs.Faults.{IsEarly, IsEarlyStop, EarlyOnlyIf};
+ghost use Rattle.scons_top.specs.Statuses.{HasStatus};
+ghost use Rattle.scons_top.specs.declared.report.Top.{Top};
+ghost use Rattle.scons_words.specs.Readings.{read};
+ghost use Rattle.scons_words.specs.declared.words.Words.{Words};
+ghost use Rattle.world_api.specs.Causes.{Later};
+ghost use Rattle.world_api.specs.Meaning.{Told};
 
 use crate::build_step::build_requests;
 use crate::clean_step::clean_requests;
@@ -7,22 +17,34 @@ use crate::ending::{ended, good};
 use crate::load_step::load;
 use crate::reading::read;
 use crate::report::Report;
-use crate::requests::requests_of;
+use crate::requests::{Request, requests_of};
 use crate::stop::Stop;
+use rule_graph::Graph;
 use scons_base::Text;
 use scons_report::{help_text, print};
 use scons_words::{Words, read_words};
 use std::alloc::Global;
 use world_api::{Sink, World};
 
-/// The command: takes its words, reads the scripts, and cleans, lists or builds what is requested.
+/// The command: takes its words, reads the scripts, and cleans, lists or builds what is requested. A run whose words or
+/// scripts are at fault, or that is asked for what there isn't, leaves the world as it was; and so do `-n` and `-h`.
 pub fn scons<W: World, O: Sink, E: Sink>(
     alloc: Global,
     words: &[Text],
     world: &mut W,
     out: &mut O,
     err: &mut E,
-) -> Report {
+) -> Report
+    requires unclosed { W.meaning.closed world.old ≡ [] }
+    requires idle { W.meaning.tells world.old → (W.meaning.around world.old).running ≡ [] }
+    ensures told { Told W.meaning world.old world.new }
+    ensures later { Later (W.meaning.counts world.old) (W.meaning.counts world.new) }
+    ensures idle { W.meaning.tells world.new → (W.meaning.around world.new).running ≡ [] }
+    ensures dry { (said : Words) → read words.now ≡ Ok said → IsTrue said.dry → Looks W.meaning world.old world.new }
+    ensures help { (said : Words) → read words.now ≡ Ok said → IsTrue said.help → Looks W.meaning world.old world.new }
+    ensures unchanged { (fault : Top) → Contains result.faults fault → IsEarly fault → Looks W.meaning world.old world.new }
+    ensures status { HasStatus result.status result.faults }
+{
     match take_words(alloc, words, world, out, err) {
         Ok(report) => report,
         Err(stop) => ended(alloc, stop, err),
@@ -35,12 +57,22 @@ fn take_words<W: World, O: Sink, E: Sink>(
     world: &mut W,
     out: &mut O,
     err: &mut E,
-) -> Result<Report, Stop> {
+) -> Result<Report, Stop>
+    requires unclosed { W.meaning.closed world.old ≡ [] }
+    requires idle { W.meaning.tells world.old → (W.meaning.around world.old).running ≡ [] }
+    ensures passes { Passes W.meaning world.old world.new }
+    ensures idle { W.meaning.tells world.new → (W.meaning.around world.new).running ≡ [] }
+    ensures dry { (said : Words) → read words.now ≡ Ok said → IsTrue said.dry → Looks W.meaning world.old world.new }
+    ensures help { (said : Words) → read words.now ≡ Ok said → IsTrue said.help → Looks W.meaning world.old world.new }
+    ensures early { IfErr result (λ stop. IsEarlyStop stop → Looks W.meaning world.old world.new) }
+    ensures late { IfOk result (λ report. EarlyOnlyIf ⊥ report.faults) }
+    ensures status { IfOk result (λ report. HasStatus report.status report.faults) }
+{
     let words = read_words(alloc, words)?;
-    match words.load {
-        Some(rules) => load(alloc, &words, rules, out),
-        None => run(alloc, &words, world, out, err),
+    if let Some(rules) = words.load {
+        return load(alloc, &words, rules, out);
     }
+    run(alloc, &words, world, out, err)
 }
 
 /// What these words ask for.
@@ -50,19 +82,66 @@ pub(crate) fn run<W: World, O: Sink, E: Sink>(
     world: &mut W,
     out: &mut O,
     err: &mut E,
-) -> Result<Report, Stop> {
+) -> Result<Report, Stop>
+    requires unclosed { W.meaning.closed world.old ≡ [] }
+    requires idle { W.meaning.tells world.old → (W.meaning.around world.old).running ≡ [] }
+    ensures passes { Passes W.meaning world.old world.new }
+    ensures idle { W.meaning.tells world.new → (W.meaning.around world.new).running ≡ [] }
+    ensures dry { IsTrue words.now.dry → Looks W.meaning world.old world.new }
+    ensures help { IsTrue words.now.help → Looks W.meaning world.old world.new }
+    ensures early { IfErr result (λ stop. IsEarlyStop stop → Looks W.meaning world.old world.new) }
+    ensures late { IfOk result (λ report. EarlyOnlyIf ⊥ report.faults) }
+    ensures status { IfOk result (λ report. HasStatus report.status report.faults) }
+{
     let mut graph = read(alloc, world, out, words)?;
     if words.help {
-        print(out, help_text(alloc, &graph)?.as_str())?;
-        return Ok(good(alloc));
+        return help(alloc, &graph, out);
     }
     let requests = requests_of(alloc, world, &mut graph, words)?;
-    let requests = requests.as_slice();
+    serve(
+        alloc,
+        &mut graph,
+        words,
+        requests.as_slice(),
+        world,
+        out,
+        err,
+    )
+}
+
+/// Writes the help texts of the scripts.
+fn help<O: Sink>(alloc: Global, graph: &Graph, out: &mut O) -> Result<Report, Stop>
+    ensures faults { IfOk result (λ report. report.faults ≡ []) }
+    ensures status { IfOk result (λ report. HasStatus report.status report.faults) }
+{
+    print(out, help_text(alloc, graph)?.as_str())?;
+    Ok(good(alloc))
+}
+
+/// Cleans, lists or builds what is requested.
+fn serve<W: World, O: Sink, E: Sink>(
+    alloc: Global,
+    graph: &mut Graph,
+    words: &Words,
+    requests: &[Request],
+    world: &mut W,
+    out: &mut O,
+    err: &mut E,
+) -> Result<Report, Stop>
+    requires unclosed { W.meaning.closed world.old ≡ [] }
+    requires idle { W.meaning.tells world.old → (W.meaning.around world.old).running ≡ [] }
+    ensures passes { Passes W.meaning world.old world.new }
+    ensures idle { W.meaning.tells world.new → (W.meaning.around world.new).running ≡ [] }
+    ensures dry { IsTrue words.now.dry → Looks W.meaning world.old world.new }
+    ensures early { IfErr result (λ stop. IsEarlyStop stop → Looks W.meaning world.old world.new) }
+    ensures late { IfOk result (λ report. EarlyOnlyIf ⊥ report.faults) }
+    ensures status { IfOk result (λ report. HasStatus report.status report.faults) }
+{
     if words.clean {
-        clean_requests(alloc, &graph, words, requests, world, out)
-    } else if words.dry {
-        list_requests(alloc, &mut graph, words, requests, world, out, err)
-    } else {
-        build_requests(alloc, &mut graph, words, requests, world, out, err)
+        return clean_requests(alloc, graph, words, requests, world, out);
     }
+    if words.dry {
+        return list_requests(alloc, graph, words, requests, world, out, err);
+    }
+    build_requests(alloc, graph, words, requests, world, out, err)
 }

@@ -1,7 +1,7 @@
 -- Writes of a table of paths, one after another, and what they mean for a map.
 use Rattle.std.proofs.Common.{◌≡◌, ℕ, zero, suc, ◌<◌, ◌+◌, Bool, true, false, cond, ◌||◌, List, [], ◌∷◌, ◌++◌, length, Option, Some, None, refl, sym, ap, subst, ◌∙◌, inl, inr, arith}
 use Rattle.std.specs.Prelude.{slice_get, ◌⊎◌}
-use Rattle.std.specs.Option.{option_and_then, option_map, is_some}
+use Rattle.std.specs.Option.{option_and_then, is_some}
 use Rattle.std.specs.List.{list_any}
 use Rattle.std.specs.Str.{bytes_eq}
 use Rattle.std.proofs.lemmas.Slice.Eq.{bytes_eq-Decides}
@@ -166,3 +166,17 @@ none_at map targets path false among none = refl
 -- where none of these has a record, nothing is taken away
 pub none_among : (map : Map) (targets : List (List ℕ)) → list_any (λ path. is_some (map path)) targets ≡ false → with_each targets None map ≡ map
 none_among map targets none = λ i. λ path. none_at map targets path (is_among targets path) refl none i
+
+-- the records that a table's paths had they have, where each has the number that it had
+pub same_numbers : (records : List Rec) (old new : Table) → ((path : List ℕ) → number_in new path ≡ number_in old path) → (path : List ℕ)
+    → option_and_then (slice_get records) (number_in new path) ≡ option_and_then (slice_get records) (number_in old path)
+same_numbers records old new same path = ap (option_and_then (slice_get records)) (same path)
+
+-- a record keeps its number where one more is put behind
+pub stands_on : (records : List Rec) (rec other : Rec) (n : ℕ) → slice_get records n ≡ Some other → slice_get (records ++ rec ∷ []) n ≡ Some other
+stands_on [] rec other n e = absurd cc
+stands_on (first ∷ records) rec other zero e = e
+stands_on (first ∷ records) rec other (suc n) e = stands_on records rec other n e
+
+pub enters_on : (targets : List (List ℕ)) (old new : Table) → ((path : List ℕ) → is_some (place_in old path) ≡ true → is_some (place_in new path) ≡ true) → Enters targets old → Enters targets new
+enters_on targets old new stay entered = record { at = λ path among. stay path (entered.at path among) }

@@ -6,7 +6,6 @@
 use Rattle.std.specs.Prelude.{ℕ, List, ◌==◌, nat_le, nat_lt, length, take, drop, slice_index, codes, if◌then◌else◌}
 use Rattle.std.specs.Int.{w64, from_be_bytes}
 use Rattle.std.specs.Str.{bytes_eq}
-use Rattle.world_api.specs.declared.disk.Bank.{Bank}
 use Rattle.world_api.specs.declared.disk.Bank.TheVariants.{A, B}
 use Rattle.sign_store.specs.declared.head.Head.{Head}
 use Rattle.sign_store.specs.declared.head.Head.TheVariants.{Short, Closed, Foreign, Live}

@@ -1,7 +1,8 @@
 -- What the calls over a disk leave.
 use Rattle.std.specs.Prelude.{◌≡◌, ◌≢◌, Result, Err}
 use Rattle.world_api.specs.Causes.{DiskFails}
-use Rattle.world_api.specs.Meaning.{Meaning}
+use Rattle.world_api.specs.Meaning.{Meaning, Told, Recalls, BankKept, BanksKept}
+use Rattle.world_api.specs.declared.disk.Bank.{Bank}
 use Rattle.sign_store.specs.declared.refusals.StoreRefusal.{StoreRefusal}
 use Rattle.sign_store.specs.declared.refusals.StoreRefusal.TheVariants as refusal
 
@@ -9,3 +10,17 @@ use Rattle.sign_store.specs.declared.refusals.StoreRefusal.TheVariants as refusa
 pub record HasFaultCause {W T : Type 0} (meaning : Meaning W) (old new : W) (result : Result T StoreRefusal) : Type 0 where
   pub kept : result ≢ Err refusal.Fault → meaning.counts new ≡ meaning.counts old
   pub rose : result ≡ Err refusal.Fault → DiskFails (meaning.counts old) (meaning.counts new)
+
+-- the disk was read and no more: its banks and all around are as they were
+pub record Looks {W : Type 0} (m : Meaning W) (old new : W) : Type 0 where
+  pub told : Told m old new
+  pub recalls : Recalls m old new
+  pub around : m.tells new → m.around new ≡ m.around old
+  pub banks : m.tells new → BanksKept m old new
+
+-- one bank was written at most: the other and all around are as they were
+pub record Writes {W : Type 0} (m : Meaning W) (bank : Bank) (old new : W) : Type 0 where
+  pub told : Told m old new
+  pub recalls : Recalls m old new
+  pub around : m.tells new → m.around new ≡ m.around old
+  pub other : m.tells new → (other : Bank) → other ≢ bank → BankKept m other old new

@@ -4,6 +4,7 @@ use Rattle.world_api.specs.Banks.{Banks}
 use Rattle.deciders.specs.declared.recorded.Rec.{Rec}
 use Rattle.sign_store.specs.declared.store.Store.{Store}
 use Rattle.sign_store.specs.declared.ticket.Ticket.{Ticket}
+use Rattle.sign_store.specs.declared.view.View.{View}
 use Rattle.sign_store.specs.Entries.{entry_of, put_payload, withdraw_payload}
 use Rattle.sign_store.specs.Maps.{map_in, HasRecord}
 use Rattle.sign_store.specs.Tables.{Map}
@@ -24,6 +25,9 @@ is_live store = store.live
 -- the records of paths
 abbrev pub map_of : Store → Map
 map_of store = map_in store.map
+
+abbrev pub map_of_view : View → Map
+map_of_view view = map_in view.map
 
 -- the store's ticket for this record
 pub record IsTicket (store : Store) (rec : Rec) (ticket : Ticket) : Type 0 where

@@ -5,7 +5,7 @@ ghost use Rattle.world_api.specs.Causes.{DiskFails};
 ghost use Rattle.world_api.specs.Meaning.{Told};
 ghost use Rattle.world_api.specs.declared.disk.Bank.{Bank};
 ghost use Rattle.world_api.specs.declared.disk.Bank.TheVariants as side;
-ghost use Rattle.sign_store.specs.Reached.{HasFaultCause};
+ghost use Rattle.sign_store.specs.Reached.{HasFaultCause, Looks, Writes};
 
 use crate::head::{HEAD_LEN, Head, head_of};
 use crate::refusals::StoreRefusal;
@@ -21,12 +21,14 @@ pub(crate) struct Sizes {
 }
 
 /// The sizes of the banks, neither of which is too large.
+#[tactic(auto, using(crate::proofs::DiskLemmas::calls))]
 pub(crate) fn sizes_of<W: Disk>(world: &mut W) -> Result<Sizes, StoreRefusal>
     ensures a { W.meaning.tells world.new → IfOk result (λ sizes. sizes.a ≡ length (W.meaning.seen world.new side.A)) }
     ensures b { W.meaning.tells world.new → IfOk result (λ sizes. sizes.b ≡ length (W.meaning.seen world.new side.B)) }
     ensures small { IfOk result (λ sizes. (sizes.a ≤ 2 ^ 40) × (sizes.b ≤ 2 ^ 40)) }
     ensures cause { HasFaultCause W.meaning world.old world.new result }
     ensures seen { W.meaning.tells world.new → (each : Bank) → W.meaning.seen world.new each ≡ W.meaning.seen world.old each }
+    ensures looks { Looks W.meaning world.old world.new }
     ensures told { Told W.meaning world.old world.new }
 {
     let a = world.size(Bank::A)?;
@@ -41,12 +43,14 @@ pub(crate) fn sizes_of<W: Disk>(world: &mut W) -> Result<Sizes, StoreRefusal>
 }
 
 /// The head of a bank of this size.
+#[tactic(auto, using(crate::proofs::DiskLemmas::calls))]
 pub(crate) fn read_head<W: Disk>(world: &mut W, bank: Bank, size: u64) -> Result<Head, Fault>
     requires { W.meaning.tells world.old → size ≡ length (W.meaning.seen world.old bank) }
     ensures closed { IfOk result (λ head. head ≡ Head.Closed → 17 < size) }
     ensures kept { OnOk result (W.meaning.counts world.new ≡ W.meaning.counts world.old) }
     ensures rose { OnErr result (DiskFails (W.meaning.counts world.old) (W.meaning.counts world.new)) }
     ensures seen { W.meaning.tells world.new → (each : Bank) → W.meaning.seen world.new each ≡ W.meaning.seen world.old each }
+    ensures looks { Looks W.meaning world.old world.new }
     ensures told { Told W.meaning world.old world.new }
 {
     if size <= HEAD_LEN as u64 {
@@ -58,6 +62,7 @@ pub(crate) fn read_head<W: Disk>(world: &mut W, bank: Bank, size: u64) -> Result
 }
 
 /// What stands behind the head of a bank of this size.
+#[tactic(auto, using(crate::proofs::DiskLemmas::calls))]
 pub(crate) fn read_body<W: Disk>(
     alloc: Global,
     world: &mut W,
@@ -68,6 +73,7 @@ pub(crate) fn read_body<W: Disk>(
     ensures len { IfOk result (λ body. vec_len body + 17 ≡ max size 17) }
     ensures cause { HasFaultCause W.meaning world.old world.new result }
     ensures seen { W.meaning.tells world.new → (each : Bank) → W.meaning.seen world.new each ≡ W.meaning.seen world.old each }
+    ensures looks { Looks W.meaning world.old world.new }
     ensures told { Told W.meaning world.old world.new }
 {
     if size <= HEAD_LEN as u64 {
@@ -80,6 +86,7 @@ pub(crate) fn read_body<W: Disk>(
 }
 
 /// Writes bytes at a place of a bank, and syncs it.
+#[tactic(auto, using(crate::proofs::DiskLemmas::calls))]
 pub(crate) fn write_synced<W: Disk>(
     world: &mut W,
     bank: Bank,
@@ -89,6 +96,8 @@ pub(crate) fn write_synced<W: Disk>(
     requires within { W.meaning.tells world.old → place ≤ length (W.meaning.seen world.old bank) }
     requires small { place + length bytes.now ≤ 2 ^ 41 }
     ensures written { W.meaning.tells world.new → OnOk result (Holds (W.meaning.seen world.old bank) place bytes.now (W.meaning.seen world.new bank)) }
+    ensures around { W.meaning.tells world.new → W.meaning.around world.new ≡ W.meaning.around world.old }
+    ensures writes { Writes W.meaning bank world.old world.new }
     ensures told { Told W.meaning world.old world.new }
     ensures kept { OnOk result (W.meaning.counts world.new ≡ W.meaning.counts world.old) }
     ensures rose { OnErr result (DiskFails (W.meaning.counts world.old) (W.meaning.counts world.new)) }
@@ -99,6 +108,7 @@ pub(crate) fn write_synced<W: Disk>(
 
 /// Adds an entry at the closed gate where the entries end: what stands behind its gate first, and then the gate is
 /// opened.
+#[tactic(auto, using(crate::proofs::DiskLemmas::calls))]
 pub(crate) fn append<W: Disk>(
     world: &mut W,
     bank: Bank,
@@ -108,6 +118,8 @@ pub(crate) fn append<W: Disk>(
     requires within { W.meaning.tells world.old → end < length (W.meaning.seen world.old bank) }
     requires small { end + 1 + length entry.now ≤ 2 ^ 41 }
     ensures end { W.meaning.tells world.new → OnOk result (end + length entry.now < length (W.meaning.seen world.new bank)) }
+    ensures around { W.meaning.tells world.new → W.meaning.around world.new ≡ W.meaning.around world.old }
+    ensures writes { Writes W.meaning bank world.old world.new }
     ensures told { Told W.meaning world.old world.new }
     ensures kept { OnOk result (W.meaning.counts world.new ≡ W.meaning.counts world.old) }
     ensures rose { OnErr result (DiskFails (W.meaning.counts world.old) (W.meaning.counts world.new)) }
@@ -121,6 +133,7 @@ pub(crate) fn append<W: Disk>(
 pub(crate) fn fill<W: Disk>(world: &mut W, bank: Bank, form: &[u8]) -> Result<(), Fault>
     requires { 1 + length form.now ≤ 2 ^ 41 }
     ensures len { W.meaning.tells world.new → OnOk result (length form.now < length (W.meaning.seen world.new bank)) }
+    ensures around { W.meaning.tells world.new → W.meaning.around world.new ≡ W.meaning.around world.old }
     ensures told { Told W.meaning world.old world.new }
     ensures kept { OnOk result (W.meaning.counts world.new ≡ W.meaning.counts world.old) }
     ensures rose { OnErr result (DiskFails (W.meaning.counts world.old) (W.meaning.counts world.new)) }
@@ -132,6 +145,7 @@ pub(crate) fn fill<W: Disk>(world: &mut W, bank: Bank, form: &[u8]) -> Result<()
 /// Closes the gate of a bank, where it is open or the bank is too short for one to count.
 fn close<W: Disk>(world: &mut W, bank: Bank) -> Result<(), Fault>
     ensures gate { W.meaning.tells world.new → OnOk result (0 < length (W.meaning.seen world.new bank)) }
+    ensures around { W.meaning.tells world.new → W.meaning.around world.new ≡ W.meaning.around world.old }
     ensures told { Told W.meaning world.old world.new }
     ensures kept { OnOk result (W.meaning.counts world.new ≡ W.meaning.counts world.old) }
     ensures rose { OnErr result (DiskFails (W.meaning.counts world.old) (W.meaning.counts world.new)) }
@@ -149,6 +163,7 @@ fn fill_closed<W: Disk>(world: &mut W, bank: Bank, form: &[u8]) -> Result<(), Fa
     requires gate { W.meaning.tells world.old → 0 < length (W.meaning.seen world.old bank) }
     requires small { 1 + length form.now ≤ 2 ^ 41 }
     ensures len { W.meaning.tells world.new → OnOk result (length form.now < length (W.meaning.seen world.new bank)) }
+    ensures around { W.meaning.tells world.new → W.meaning.around world.new ≡ W.meaning.around world.old }
     ensures told { Told W.meaning world.old world.new }
     ensures kept { OnOk result (W.meaning.counts world.new ≡ W.meaning.counts world.old) }
     ensures rose { OnErr result (DiskFails (W.meaning.counts world.old) (W.meaning.counts world.new)) }

@@ -23,7 +23,7 @@ pub fn recorded(alloc: Global, a: &[u8], b: &[u8], path: &PathText) -> Result<bo
 fn has_record(alloc: Global, bank: &[u8], path: &PathText) -> Result<bool, Memory>
     ensures { IfOk result (λ found. found ≡ is_some (entries_map (body_of bank.now) path.now)) }
 {
-    let start = bank.len().min(HEAD_LEN);
+    let start = HEAD_LEN.min(bank.len());
     let loaded = load(alloc, &bank[start..])?;
     Ok(loaded.map.has(path))
 }

@@ -95,10 +95,24 @@ impl RecordMap {
     pub(crate) fn has_any(&self, number: usize) -> bool
         ensures { (rec : Rec) → HasRecord self.now rec number → result ≡ list_any (λ path. is_some (map_in self.now path)) rec.targets }
     {
-        match self.records.get(number) {
-            Some(rec) => rec.targets.as_slice().iter().any(|path| self.has(path)),
+        match self.record_at(number) {
+            Some(rec) => self.has_some(rec.targets.as_slice()),
             None => false,
         }
+    }
+
+    /// The record of a number.
+    fn record_at(&self, number: usize) -> Option<&Rec>
+        ensures { option_copied result ≡ slice_get self.now.records.items number }
+    {
+        self.records.get(number)
+    }
+
+    /// Whether one of these paths has a record.
+    fn has_some(&self, paths: &[PathText]) -> bool
+        ensures { result ≡ list_any (λ path. is_some (map_in self.now path)) paths.now }
+    {
+        paths.iter().any(|path| self.has(path))
     }
 
     pub(crate) fn has(&self, path: &PathText) -> bool
@@ -115,6 +129,7 @@ fn enter_each(
 ) -> Result<(), Memory>
     ensures same { (path : List ℕ) → number_in table.new path ≡ number_in table.old path }
     ensures places { OnOk result (Enters paths.now table.new) }
+    ensures stay { (path : List ℕ) → is_some (place_in table.old path) ≡ true → is_some (place_in table.new path) ≡ true }
 {
     for path in paths {
         enter(table, path)?;

@@ -3,7 +3,7 @@ ghost use Rattle.std.specs.Prelude.{◌≡◌, ◌≤◌, ◌<◌, ◌≢◌, �
 ghost use Rattle.world_api.specs.Causes.{DiskFails};
 ghost use Rattle.world_api.specs.Meaning.{Told};
 ghost use Rattle.world_api.specs.declared.disk.Bank.TheVariants as side;
-ghost use Rattle.sign_store.specs.Reached.{HasFaultCause};
+ghost use Rattle.sign_store.specs.Reached.{HasFaultCause, Looks};
 
 use crate::banks::{Sizes, fill, read_body, read_head, sizes_of, write_synced};
 use crate::compact::{FIRST_GENERATION, compact_form, compact_len, empty_form, is_worth};
@@ -33,11 +33,13 @@ pub(crate) struct Read {
 }
 
 /// The sizes of the banks, and which bank counts.
+#[tactic(auto, using(crate::proofs::DiskLemmas::calls))]
 fn look<W: Disk>(world: &mut W) -> Result<(Sizes, Choice), StoreRefusal>
     ensures a { W.meaning.tells world.new → IfOk result (λ seen. seen.0.a ≡ length (W.meaning.seen world.new side.A)) }
     ensures b { W.meaning.tells world.new → IfOk result (λ seen. seen.0.b ≡ length (W.meaning.seen world.new side.B)) }
     ensures small { IfOk result (λ seen. (seen.0.a ≤ 2 ^ 40) × (seen.0.b ≤ 2 ^ 40)) }
     ensures cause { HasFaultCause W.meaning world.old world.new result }
+    ensures looks { Looks W.meaning world.old world.new }
     ensures told { Told W.meaning world.old world.new }
 {
     let sizes = sizes_of(world)?;
@@ -47,6 +49,7 @@ fn look<W: Disk>(world: &mut W) -> Result<(Sizes, Choice), StoreRefusal>
 }
 
 /// What the entries of a live bank of this size stand for.
+#[tactic(auto, using(crate::proofs::DiskLemmas::calls))]
 fn read_bank<W: Disk>(
     alloc: Global,
     world: &mut W,
@@ -58,6 +61,7 @@ fn read_bank<W: Disk>(
     ensures inside { IfOk result (λ read. read.gate ≢ EndGate.Missing → read.end < size) }
     ensures size { W.meaning.tells world.new → size ≡ length (W.meaning.seen world.new bank) }
     ensures cause { HasFaultCause W.meaning world.old world.new result }
+    ensures looks { Looks W.meaning world.old world.new }
     ensures told { Told W.meaning world.old world.new }
 {
     let body = read_body(alloc, world, bank, size)?;
@@ -70,8 +74,10 @@ fn read_bank<W: Disk>(
 }
 
 /// The map of the banks, without a change of theirs.
+#[tactic(auto, using(crate::proofs::DiskLemmas::calls))]
 pub(crate) fn read_map<W: Disk>(alloc: Global, world: &mut W) -> Result<RecordMap, StoreRefusal>
     ensures cause { HasFaultCause W.meaning world.old world.new result }
+    ensures looks { Looks W.meaning world.old world.new }
     ensures told { Told W.meaning world.old world.new }
 {
     let (sizes, choice) = look(world)?;
@@ -85,6 +91,7 @@ pub(crate) fn read_map<W: Disk>(alloc: Global, world: &mut W) -> Result<RecordMa
 
 /// Makes a stop leave the banks as they read.
 fn settle<W: Disk>(world: &mut W) -> Result<(), Fault>
+    ensures around { W.meaning.tells world.new → W.meaning.around world.new ≡ W.meaning.around world.old }
     ensures told { Told W.meaning world.old world.new }
     ensures kept { OnOk result (W.meaning.counts world.new ≡ W.meaning.counts world.old) }
     ensures rose { OnErr result (DiskFails (W.meaning.counts world.old) (W.meaning.counts world.new)) }
@@ -98,6 +105,7 @@ pub(crate) fn open<W: Disk>(alloc: Global, world: &mut W) -> Result<Opened, Stor
     ensures end { IfOk result (λ opened. opened.end ≤ 2 ^ 40) }
     ensures stands { W.meaning.tells world.new → IfOk result (λ opened. opened.end < length (W.meaning.seen world.new opened.bank)) }
     ensures cause { HasFaultCause W.meaning world.old world.new result }
+    ensures around { W.meaning.tells world.new → W.meaning.around world.new ≡ W.meaning.around world.old }
     ensures told { Told W.meaning world.old world.new }
 {
     settle(world)?;
@@ -115,6 +123,7 @@ fn start<W: Disk>(alloc: Global, world: &mut W) -> Result<Opened, StoreRefusal>
     ensures end { IfOk result (λ opened. opened.end ≤ 2 ^ 40) }
     ensures stands { W.meaning.tells world.new → IfOk result (λ opened. opened.end < length (W.meaning.seen world.new opened.bank)) }
     ensures cause { HasFaultCause W.meaning world.old world.new result }
+    ensures around { W.meaning.tells world.new → W.meaning.around world.new ≡ W.meaning.around world.old }
     ensures told { Told W.meaning world.old world.new }
 {
     let form = empty_form(alloc)?;
@@ -140,6 +149,7 @@ fn reopen<W: Disk>(
     ensures end { IfOk result (λ opened. opened.end ≤ 2 ^ 40) }
     ensures stands { W.meaning.tells world.new → IfOk result (λ opened. opened.end < length (W.meaning.seen world.new opened.bank)) }
     ensures cause { HasFaultCause W.meaning world.old world.new result }
+    ensures around { W.meaning.tells world.new → W.meaning.around world.new ≡ W.meaning.around world.old }
     ensures told { Told W.meaning world.old world.new }
 {
     let read = read_bank(alloc, world, bank, size)?;
@@ -159,6 +169,7 @@ fn mend<W: Disk>(world: &mut W, bank: Bank, gate: EndGate, end: u64) -> Result<(
     requires inside { W.meaning.tells world.old → gate ≢ EndGate.Missing → end < length (W.meaning.seen world.old bank) }
     requires small { end ≤ 2 ^ 40 }
     ensures stands { W.meaning.tells world.new → OnOk result (end < length (W.meaning.seen world.new bank)) }
+    ensures around { W.meaning.tells world.new → W.meaning.around world.new ≡ W.meaning.around world.old }
     ensures told { Told W.meaning world.old world.new }
     ensures kept { OnOk result (W.meaning.counts world.new ≡ W.meaning.counts world.old) }
     ensures rose { OnErr result (DiskFails (W.meaning.counts world.old) (W.meaning.counts world.new)) }
@@ -176,6 +187,7 @@ fn compact<W: Disk>(alloc: Global, world: &mut W, opened: Opened) -> Result<Open
     ensures end { IfOk result (λ opened. opened.end ≤ 2 ^ 40) }
     ensures stands { W.meaning.tells world.new → IfOk result (λ opened. opened.end < length (W.meaning.seen world.new opened.bank)) }
     ensures cause { HasFaultCause W.meaning world.old world.new result }
+    ensures around { W.meaning.tells world.new → W.meaning.around world.new ≡ W.meaning.around world.old }
     ensures told { Told W.meaning world.old world.new }
 {
     let live = opened.end + 1;

@@ -5,7 +5,7 @@ ghost use Rattle.world_api.specs.Causes.{DiskFails};
 ghost use Rattle.world_api.specs.Meaning.{Told};
 ghost use Rattle.deciders.specs.declared.recorded.Rec.{Rec};
 ghost use Rattle.sign_store.specs.Tables.{with_each};
-ghost use Rattle.sign_store.specs.Reached.{HasFaultCause};
+ghost use Rattle.sign_store.specs.Reached.{HasFaultCause, Looks, Writes};
 
 use crate::banks::append;
 use crate::map::RecordMap;
@@ -40,8 +40,10 @@ impl Store {
     ghost use Rattle.sign_store.specs.Stores.{IsStoredIn, IsTicket, is_live, map_of, KeepsBanks, KeepsTickets};
 
     /// What the banks stand for. Nothing is written.
+    #[tactic(auto, using(crate::proofs::DiskLemmas::calls))]
     pub fn read<W: Disk>(alloc: Global, world: &mut W) -> Result<View, StoreRefusal>
         ensures cause { HasFaultCause W.meaning world.old world.new result }
+        ensures looks { Looks W.meaning world.old world.new }
         ensures told { Told W.meaning world.old world.new }
     {
         let map = read_map(alloc, world)?;
@@ -53,6 +55,7 @@ impl Store {
         ensures live { IfOk result (λ store. is_live store ≡ true) }
         ensures stands { W.meaning.tells world.new → IfOk result (IsStoredIn (W.meaning.seen world.new)) }
         ensures cause { HasFaultCause W.meaning world.old world.new result }
+        ensures around { W.meaning.tells world.new → W.meaning.around world.new ≡ W.meaning.around world.old }
         ensures told { Told W.meaning world.old world.new }
     {
         let opened = open(alloc, world)?;
@@ -137,6 +140,7 @@ impl Store {
     }
 
     /// Takes the records of a ticket's targets away. Where none of them has one the disk isn't called.
+    #[tactic(auto, using(crate::proofs::DiskLemmas::calls))]
     pub fn withdraw<W: Disk>(&mut self, world: &mut W, ticket: &Ticket) -> Result<(), Fault>
         requires { W.meaning.tells world.old → IsStoredIn (W.meaning.seen world.old) self.old }
         ensures map { (rec : Rec) → IsTicket self.old rec ticket.now → OnOk result (map_of self.new ≡ with_each rec.targets None (map_of self.old)) }
@@ -144,6 +148,8 @@ impl Store {
         ensures stands { W.meaning.tells world.new → OnOk result (IsStoredIn (W.meaning.seen world.new) self.new) }
         ensures live { OnOk result (is_live self.new ≡ is_live self.old) }
         ensures dead { OnErr result (is_live self.new ≡ false) }
+        ensures around { W.meaning.tells world.new → W.meaning.around world.new ≡ W.meaning.around world.old }
+        ensures writes { Writes W.meaning self.old.bank world.old world.new }
         ensures told { Told W.meaning world.old world.new }
         ensures kept { OnOk result (W.meaning.counts world.new ≡ W.meaning.counts world.old) }
         ensures rose { OnErr result (DiskFails (W.meaning.counts world.old) (W.meaning.counts world.new)) }
@@ -157,6 +163,7 @@ impl Store {
     }
 
     /// Gives each target of a ticket its record.
+    #[tactic(auto, using(crate::proofs::DiskLemmas::calls))]
     pub fn put<W: Disk>(&mut self, world: &mut W, ticket: Ticket) -> Result<(), Fault>
         requires { W.meaning.tells world.old → IsStoredIn (W.meaning.seen world.old) self.old }
         ensures map { (rec : Rec) → IsTicket self.old rec ticket → OnOk result (map_of self.new ≡ with_each rec.targets (Some rec) (map_of self.old)) }
@@ -164,6 +171,8 @@ impl Store {
         ensures stands { W.meaning.tells world.new → OnOk result (IsStoredIn (W.meaning.seen world.new) self.new) }
         ensures live { OnOk result (is_live self.new ≡ is_live self.old) }
         ensures dead { OnErr result (is_live self.new ≡ false) }
+        ensures around { W.meaning.tells world.new → W.meaning.around world.new ≡ W.meaning.around world.old }
+        ensures writes { Writes W.meaning self.old.bank world.old world.new }
         ensures told { Told W.meaning world.old world.new }
         ensures kept { OnOk result (W.meaning.counts world.new ≡ W.meaning.counts world.old) }
         ensures rose { OnErr result (DiskFails (W.meaning.counts world.old) (W.meaning.counts world.new)) }
@@ -206,12 +215,15 @@ impl Store {
 
     /// Adds an entry. The bytes of a ticket's entries are reserved, so one that isn't reserved is no ticket's of this store,
     /// and is left out.
+    #[tactic(auto, using(crate::proofs::DiskLemmas::calls))]
     fn append<W: Disk>(&mut self, world: &mut W, entry: &[u8]) -> Result<(), Fault>
         requires { W.meaning.tells world.old → IsStoredIn (W.meaning.seen world.old) self.old }
         ensures map { self.new.map ≡ self.old.map }
         ensures stands { W.meaning.tells world.new → OnOk result (IsStoredIn (W.meaning.seen world.new) self.new) }
         ensures live { OnOk result (is_live self.new ≡ is_live self.old) }
         ensures dead { OnErr result (is_live self.new ≡ false) }
+        ensures around { W.meaning.tells world.new → W.meaning.around world.new ≡ W.meaning.around world.old }
+        ensures writes { Writes W.meaning self.old.bank world.old world.new }
         ensures told { Told W.meaning world.old world.new }
         ensures kept { OnOk result (W.meaning.counts world.new ≡ W.meaning.counts world.old) }
         ensures rose { OnErr result (DiskFails (W.meaning.counts world.old) (W.meaning.counts world.new)) }

@@ -1,4 +1,5 @@
 //! The map of the banks, for those that only read it.
+ghost use Rattle.std.specs.Prelude.{◌≡◌, option_copied};
 
 use crate::map::RecordMap;
 use deciders::Rec;
@@ -11,8 +12,12 @@ pub struct View {
 }
 
 impl View {
+    ghost use Rattle.sign_store.specs.Stores.{map_of_view};
+
     /// The record of a path.
-    pub fn get(&self, path: &PathText) -> Option<&Rec> {
+    pub fn get(&self, path: &PathText) -> Option<&Rec>
+        ensures { option_copied result ≡ map_of_view self.now path.now }
+    {
         self.map.get(path)
     }
 }

@@ -1,6 +1,7 @@
 -- A disk that tells nothing but how often it was at fault.
 use Rattle.std.specs.Prelude.{ℕ, List, [], Bool, false, None}
 use Rattle.world_api.specs.Around.{Around}
+use Rattle.world_api.specs.Counts.{Counts}
 use Rattle.world_api.specs.Meaning.{Meaning}
 
 -- nothing stands and nothing runs
@@ -16,6 +17,9 @@ nothing = record {
   top = [];
 }
 
+abbrev pub counts_of : ℕ → Counts
+counts_of faults = record { disk_faults = faults; tree_faults = 0; start_faults = 0; action_failures = 0 }
+
 abbrev pub silent : {D : Type 0} → (D → ℕ) → Meaning D
 silent faults = record {
   tells = λ disk. ⊥;
@@ -26,5 +30,5 @@ silent faults = record {
   clock = λ disk. 0;
   left_since = λ disk time around banks. ⊥;
   closed = λ disk. [];
-  counts = λ disk. record { disk_faults = faults disk; tree_faults = 0; start_faults = 0; action_failures = 0 };
+  counts = λ disk. counts_of (faults disk);
 }

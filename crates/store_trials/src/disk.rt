@@ -1,6 +1,7 @@
-//! Two banks in memory. Their contracts tell nothing of them.
+//! Two banks in memory, which may claim to be larger than they are. Their contracts tell nothing of them.
 ghost use Rattle.std.specs.Prelude.{ℕ, ◌≡◌, ◌+◌, ◌-◌, ◌^◌, min};
-ghost use Rattle.store_trials.specs.Silent.{silent};
+ghost use Rattle.world_api.specs.Causes.{DiskFails};
+ghost use Rattle.store_trials.specs.Silent.{silent, counts_of};
 
 use std::alloc::Global;
 use world_api::{Bank, Disk, Fault};
@@ -9,6 +10,8 @@ use world_api::{Bank, Disk, Fault};
 pub struct Banks {
     a: Vec<u8>,
     b: Vec<u8>,
+    /// The size that a bank says it has, in place of its own.
+    claim: Option<(Bank, u64)>,
     faults: u64,
 }
 
@@ -17,6 +20,7 @@ impl Banks {
         Banks {
             a: Vec::new(alloc),
             b: Vec::new(alloc),
+            claim: None,
             faults: 0,
         }
     }
@@ -28,20 +32,45 @@ impl Banks {
         }
     }
 
+    /// Puts other bytes into a bank. No bank claims another size from then on.
     pub fn set(&mut self, bank: Bank, bytes: Vec<u8>) {
+        self.claim = None;
         match bank {
             Bank::A => self.a = bytes,
             Bank::B => self.b = bytes,
         }
     }
 
-    fn fails(&mut self) -> Fault {
+    /// Lets a bank say that it has so many bytes.
+    pub fn claim(&mut self, bank: Bank, size: u64) {
+        self.claim = Some((bank, size));
+    }
+
+    fn size_of(&self, bank: Bank) -> u64 {
+        match self.claim {
+            Some((claiming, size)) if claiming == bank => size,
+            _ => self.bytes(bank).len() as u64,
+        }
+    }
+
+    /// Writes bytes at a place of a bank that isn't behind its end.
+    fn write(&mut self, bank: Bank, place: usize, bytes: &[u8]) -> Result<(), Fault>
+        ensures { self.new.faults ≡ self.old.faults }
+    {
+        match bank {
+            Bank::A => write(&mut self.a, place, bytes),
+            Bank::B => write(&mut self.b, place, bytes),
+        }
+    }
+
+    fn fails(&mut self) -> Fault
+        ensures { DiskFails (counts_of self.old.faults) (counts_of self.new.faults) }
+    {
         self.faults = self.faults.saturating_add(1);
         Fault
     }
 }
 
-/// Writes bytes at a place that isn't behind the end.
 fn write(bank: &mut Vec<u8>, place: usize, bytes: &[u8]) -> Result<(), Fault> {
     let mut at = place;
     for byte in bytes {
@@ -64,7 +93,7 @@ impl Disk for Banks {
     ghost only_now = { λ disk tells. absurd tells };
 
     fn size(&mut self, bank: Bank) -> Result<u64, Fault> {
-        Ok(self.bytes(bank).len() as u64)
+        Ok(self.size_of(bank))
     }
 
     fn read_at(&mut self, bank: Bank, place: u64, into: &mut [u8]) -> Result<(), Fault> {
@@ -79,11 +108,7 @@ impl Disk for Banks {
     }
 
     fn write_at(&mut self, bank: Bank, place: u64, bytes: &[u8]) -> Result<(), Fault> {
-        let held = match bank {
-            Bank::A => &mut self.a,
-            Bank::B => &mut self.b,
-        };
-        if write(held, place as usize, bytes).is_err() {
+        if self.write(bank, place as usize, bytes).is_err() {
             return Err(self.fails());
         }
         Ok(())

@@ -1,15 +1,22 @@
 //! Works out the rows on its standard input, one a line, and writes each row with what it gives below it.
 //!
 //! A row is a verb and what it is about. `includes` has the bytes of a file, `encode` and `changed` have records, `decode`
-//! has bytes. The other verbs act on a store over two banks in memory. A record is written `WORK TARGETS; SIGNED; DEPS`:
-//! targets and dependencies stand between spaces, signed lines between `|`, a dependency as `NAME=CONTENT` or, where no
-//! file stands there, as `NAME`, with `@STAMP` behind it where it has a stamp. Bytes are hexadecimal.
+//! has bytes. The other verbs act on a store over two banks in memory: `A` and `B` put bytes into a bank, `size` lets one
+//! claim a size, `banks` and `sizes` show both, `show` one of them; `open` begins as `begin` does and shows sizes alone;
+//! `again` puts a record many times; `cuts`, `flips` and `mutate` spoil the banks in many ways. A record is written
+//! `WORK TARGETS; SIGNED; DEPS`: targets and dependencies stand between spaces, signed lines between `|`, a dependency as
+//! `NAME=CONTENT` or, where no file stands there, as `NAME`, with `@STAMP` behind it where it has a stamp. Bytes are
+//! hexadecimal.
 #![tactic(auto)]
 
 mod disk;
+mod draws;
+mod mutations;
 mod record;
 mod rows;
 mod shown;
+mod spoilt;
+mod tally;
 
 use anyhow::Result;
 use rows::Rows;

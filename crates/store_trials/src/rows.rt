@@ -2,10 +2,13 @@
 use crate::disk::Banks;
 use crate::record::{decider_of, record_of};
 use crate::shown::{bytes_text, includes_text, record_text};
+use crate::spoilt::{cuts_text, flips_text};
+use crate::tally::Tally;
 use anyhow::{Result, anyhow};
 use c_scanner::includes;
-use deciders::{changed, decode, encode};
-use scons_base::PathText;
+use deciders::{Rec, changed, decode, encode, push_record, spelled_len};
+use scons_base::limits::PAYLOAD_LIMIT;
+use scons_base::{Memory, PathText};
 use sign_store::{PrepareRefusal, Store, StoreRefusal, Ticket, recorded};
 use std::alloc::Global;
 use world_api::Bank;
@@ -42,7 +45,13 @@ impl Rows {
             "recorded" => self.recorded_row(alloc, rest),
             "A" => self.bank_row(alloc, Bank::A, rest),
             "B" => self.bank_row(alloc, Bank::B, rest),
+            "size" => self.size_row(alloc, rest),
             "banks" => self.banks_text(alloc),
+            "sizes" => self.sizes_text(alloc),
+            "show" => self.show_row(alloc, rest),
+            "cuts" => self.cuts_row(alloc, rest),
+            "flips" => self.flips_row(alloc, rest),
+            "mutate" => self.mutate_row(alloc, rest),
             _ => self.store_row(alloc, verb, rest),
         }
     }
@@ -51,11 +60,13 @@ impl Rows {
         match verb {
             "read" => self.read_row(alloc, rest),
             "begin" => self.begin_row(alloc),
+            "open" => self.open_row(alloc),
             "get" => self.get_row(alloc, rest),
             "prepare" => self.prepare_row(alloc, rest),
             "withdraw" => self.withdraw_row(alloc),
             "put" => self.put_row(alloc),
             "give_up" => self.give_up_row(alloc),
+            "again" => self.again_row(alloc, rest),
             _ => Err(anyhow!("no row begins with {verb}")),
         }
     }
@@ -69,6 +80,47 @@ impl Rows {
         let a = hex::encode(alloc, self.banks.bytes(Bank::A))?;
         let b = hex::encode(alloc, self.banks.bytes(Bank::B))?;
         Ok(format!(in alloc; "A {a}\nB {b}\n")?)
+    }
+
+    fn size_row(&mut self, alloc: Global, text: &str) -> Result<String> {
+        let (bank, size) = pair_of(text)?;
+        self.banks.claim(bank_of(bank)?, size.parse::<u64>()?);
+        Ok(String::new(alloc))
+    }
+
+    fn sizes_text(&self, alloc: Global) -> Result<String> {
+        let a = self.banks.bytes(Bank::A).len();
+        let b = self.banks.bytes(Bank::B).len();
+        Ok(format!(in alloc; "A {a} bytes, B {b} bytes\n")?)
+    }
+
+    fn show_row(&self, alloc: Global, bank: &str) -> Result<String> {
+        bytes_text(alloc, self.banks.bytes(bank_of(bank)?))
+    }
+
+    fn cuts_row(&self, alloc: Global, path: &str) -> Result<String> {
+        let path = PathText::read(alloc, path)?;
+        cuts_text(alloc, self.banks.bytes(Bank::A), &path)
+    }
+
+    /// `MASK PATH`, where the mask has the bits that change.
+    fn flips_row(&self, alloc: Global, text: &str) -> Result<String> {
+        let (mask, path) = pair_of(text)?;
+        let path = PathText::read(alloc, path)?;
+        flips_text(alloc, self.banks.bytes(Bank::A), mask.parse::<u8>()?, &path)
+    }
+
+    /// `COUNT SEED`.
+    fn mutate_row(&self, alloc: Global, text: &str) -> Result<String> {
+        let (count, seed) = pair_of(text)?;
+        let mut tally = Tally::new();
+        tally.run(
+            alloc,
+            &self.banks,
+            count.parse::<u64>()?,
+            seed.parse::<u64>()?,
+        )?;
+        tally.text(alloc)
     }
 
     fn recorded_row(&self, alloc: Global, path: &str) -> Result<String> {
@@ -89,17 +141,26 @@ impl Rows {
         }
     }
 
-    fn begin_row(&mut self, alloc: Global) -> Result<String> {
+    /// Begins a store over the banks in place of the one before.
+    fn begin(&mut self, alloc: Global) -> Result<(), StoreRefusal> {
         self.ticket = None;
-        match Store::begin(alloc, &mut self.banks) {
-            Ok(store) => {
-                self.store = Some(store);
-                self.banks_text(alloc)
-            }
-            Err(refusal) => {
-                self.store = None;
-                refusal_text(alloc, refusal)
-            }
+        self.store = None;
+        let store = Store::begin(alloc, &mut self.banks)?;
+        self.store = Some(store);
+        Ok(())
+    }
+
+    fn begin_row(&mut self, alloc: Global) -> Result<String> {
+        match self.begin(alloc) {
+            Ok(()) => self.banks_text(alloc),
+            Err(refusal) => refusal_text(alloc, refusal),
+        }
+    }
+
+    fn open_row(&mut self, alloc: Global) -> Result<String> {
+        match self.begin(alloc) {
+            Ok(()) => self.sizes_text(alloc),
+            Err(refusal) => refusal_text(alloc, refusal),
         }
     }
 
@@ -153,6 +214,18 @@ impl Rows {
         }
     }
 
+    /// `COUNT RECORD`: the record is put so many times, withdrawn before each.
+    fn again_row(&mut self, alloc: Global, text: &str) -> Result<String> {
+        let (count, text) = pair_of(text)?;
+        let Some(store) = &mut self.store else {
+            return Err(anyhow!("no store was begun"));
+        };
+        for _ in 0..count.parse::<u32>()? {
+            put_anew(store, &mut self.banks, record_of(alloc, text)?)?;
+        }
+        Ok(String::new(alloc))
+    }
+
     fn give_up_row(&mut self, alloc: Global) -> Result<String> {
         match (&mut self.store, self.ticket.take()) {
             (Some(store), Some(ticket)) => {
@@ -161,6 +234,31 @@ impl Rows {
             }
             _ => Err(anyhow!("no ticket is out")),
         }
+    }
+}
+
+fn put_anew(store: &mut Store, banks: &mut Banks, rec: Rec) -> Result<()> {
+    let Ok(ticket) = store.prepare(rec) else {
+        return Err(anyhow!("the bank is full"));
+    };
+    if store.withdraw(banks, &ticket).is_err() || store.put(banks, ticket).is_err() {
+        return Err(anyhow!("a bank refused"));
+    }
+    Ok(())
+}
+
+fn bank_of(text: &str) -> Result<Bank> {
+    match text {
+        "A" => Ok(Bank::A),
+        "B" => Ok(Bank::B),
+        _ => Err(anyhow!("no bank is called {text}")),
+    }
+}
+
+fn pair_of(text: &str) -> Result<(&str, &str)> {
+    match text.split_once(' ') {
+        Some(parts) => Ok(parts),
+        None => Err(anyhow!("two words are wanted in {text}")),
     }
 }
 
@@ -185,8 +283,23 @@ fn includes_row(alloc: Global, text: &str) -> Result<String> {
 
 fn encode_row(alloc: Global, text: &str) -> Result<String> {
     let rec = record_of(alloc, text)?;
-    let bytes = encode(alloc, &rec).map_err(|_| anyhow!("memory ran out"))?;
-    bytes_text(alloc, bytes.as_slice())
+    match spelling_of(alloc, &rec).map_err(|_| anyhow!("memory ran out"))? {
+        Some(bytes) => bytes_text(alloc, bytes.as_slice()),
+        None => Ok(String::from_str(alloc, "none\n")?),
+    }
+}
+
+/// The spelling of a record, where it has one that is read as a record again.
+fn spelling_of(alloc: Global, rec: &Rec) -> Result<Option<Vec<u8>>, Memory> {
+    if spelled_len(rec) >= PAYLOAD_LIMIT {
+        return Ok(None);
+    }
+    let mut bytes = Vec::new(alloc);
+    push_record(&mut bytes, rec)?;
+    match decode(alloc, bytes.as_slice())? {
+        Some(read) => Ok(Some(encode(alloc, &read)?)),
+        None => Ok(None),
+    }
 }
 
 fn decode_row(alloc: Global, text: &str) -> Result<String> {

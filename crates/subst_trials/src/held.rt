@@ -1,7 +1,10 @@
 //! What variables hold after a call, each in a new environment.
+ghost use Rattle.std.specs.Prelude.{◌<◌, ◌≤◌, length, IfSome};
+
 use crate::values::value;
 use crate::written::put_value;
 use env_vars::{EnvFault, EnvValue, Envs};
+use scons_base::{EnvId, Text};
 use std::alloc::Global;
 
 /// What a variable may hold before it is set: what a new environment has, or a value of each kind.
@@ -129,21 +132,9 @@ fn put_after(
 pub(crate) fn apart(alloc: Global) -> Option<String> {
     let mut envs = Envs::new(alloc);
     let env = envs.make().ok()?;
-    envs.set(env, "CCFLAGS", value(alloc, "'-O'")?).ok()?;
-    let clone = envs.clone_of(env).ok()?;
-    envs.append(clone, "CCFLAGS", value(alloc, "' -g'")?).ok()?;
-    envs.set(env, "X", EnvValue::Int(1)).ok()?;
-    let mut names = Vec::new(alloc);
-    names
-        .push((
-            scons_base::Text::of(alloc, "CC").ok()?,
-            value(alloc, "'tcc'")?,
-        ))
-        .ok()?;
-    let overlay = envs.overlay(env, names.as_slice()).ok()?;
-    let front = envs.overlay(overlay, &[]).ok()?;
-    envs.append(front, "CC", value(alloc, "' -m'")?).ok()?;
-    envs.set_default(front, "X", EnvValue::Int(2)).ok()?;
+    let clone = changed_clone(alloc, &mut envs, env)?;
+    let overlay = overlaid(alloc, &mut envs, env)?;
+    let front = changed_overlay(alloc, &mut envs, overlay)?;
     let flat = envs.clone_of(front).ok()?;
     envs.set(env, "X", EnvValue::Int(3)).ok()?;
     let mut lines = String::new(alloc);
@@ -156,4 +147,42 @@ pub(crate) fn apart(alloc: Global) -> Option<String> {
         lines.push_str("|\n").ok()?;
     }
     Some(lines)
+}
+
+/// A clone whose flags are added to, of an environment with flags.
+fn changed_clone(alloc: Global, envs: &mut Envs, env: EnvId) -> Option<EnvId>
+    requires { env.0 < length envs.old }
+    ensures kept { length envs.old ≤ length envs.new }
+    ensures made { IfSome result (λ id. id.0 < length envs.new) }
+{
+    envs.set(env, "CCFLAGS", value(alloc, "'-O'")?).ok()?;
+    let clone = envs.clone_of(env).ok()?;
+    envs.append(clone, "CCFLAGS", value(alloc, "' -g'")?).ok()?;
+    Some(clone)
+}
+
+/// An overlay with a compiler of its own, of an environment that gets a number.
+fn overlaid(alloc: Global, envs: &mut Envs, env: EnvId) -> Option<EnvId>
+    requires { env.0 < length envs.old }
+    ensures kept { length envs.old ≤ length envs.new }
+    ensures made { IfSome result (λ id. id.0 < length envs.new) }
+{
+    let mut names = Vec::new(alloc);
+    names
+        .push((Text::of(alloc, "CC").ok()?, value(alloc, "'tcc'")?))
+        .ok()?;
+    envs.set(env, "X", EnvValue::Int(1)).ok()?;
+    envs.overlay(env, names.as_slice()).ok()
+}
+
+/// An overlay of an overlay, in which the compiler is added to and a number set that shows behind it.
+fn changed_overlay(alloc: Global, envs: &mut Envs, overlay: EnvId) -> Option<EnvId>
+    requires { overlay.0 < length envs.old }
+    ensures kept { length envs.old ≤ length envs.new }
+    ensures made { IfSome result (λ id. id.0 < length envs.new) }
+{
+    let front = envs.overlay(overlay, &[]).ok()?;
+    envs.append(front, "CC", value(alloc, "' -m'")?).ok()?;
+    envs.set_default(front, "X", EnvValue::Int(2)).ok()?;
+    Some(front)
 }

@@ -2,7 +2,7 @@
 
 use crate::files::Files;
 use crate::task::{State, Task};
-use crate::walk::{Step, enter_needs};
+use crate::walk::{Step, enter_needs, step_limit};
 use scons_base::{Memory, RuleId};
 use std::alloc::Global;
 
@@ -38,7 +38,7 @@ pub(crate) fn cycle_of(
     for root in roots {
         walk.steps.push(Step::Enter(*root))?;
     }
-    for _ in 0..u64::MAX {
+    for _ in 0..step_limit(tasks, roots) {
         match walk.steps.pop() {
             Some(Step::Enter(rule)) => {
                 if walk.enter(tasks, files, rule)? {

@@ -2,7 +2,7 @@
 
 use crate::files::Files;
 use crate::task::Task;
-use crate::walk::{Step, enter_needs};
+use crate::walk::{Step, enter_needs, step_limit};
 use scons_base::{Memory, RuleId};
 use std::alloc::Global;
 
@@ -20,7 +20,7 @@ pub(crate) fn depth_first(
     for root in roots.iter().rev() {
         steps.push(Step::Enter(*root))?;
     }
-    for _ in 0..u64::MAX {
+    for _ in 0..step_limit(tasks, roots) {
         match steps.pop() {
             Some(Step::Enter(rule)) => enter(rule, tasks, files, &mut seen, &mut steps)?,
             Some(Step::Leave(rule)) => order.push(rule)?,

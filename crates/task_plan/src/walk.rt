@@ -11,6 +11,16 @@ pub(crate) enum Step {
     Leave(RuleId),
 }
 
+/// More steps than a walk from so many roots has: it enters each root and each need of a rule once at most, and leaves
+/// each rule once.
+pub(crate) fn step_limit(tasks: &[Task], roots: &[RuleId]) -> usize {
+    let mut limit = roots.len().saturating_add(1);
+    for task in tasks {
+        limit = limit.saturating_add(task.needs()).saturating_add(1);
+    }
+    limit
+}
+
 /// Puts the rules that a rule needs on the steps, the first on top.
 pub(crate) fn enter_needs(task: &Task, files: &Files, steps: &mut Vec<Step>) -> Result<(), Memory> {
     for place in (0..task.needs()).rev() {

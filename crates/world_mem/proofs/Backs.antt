@@ -1,13 +1,12 @@
 -- A change, taken back, gives what was before it.
-use Rattle.std.proofs.Common.{◌≡◌, ◌∙◌, sym, refl, ap, subst, inl, inr, arith, ℕ, suc, List, [], ◌∷◌, ◌++◌, ◌+◌, ◌-◌, ◌<◌, Bool, true, false, cond, not, ◌&&◌, ◌||◌, Option, Some, None, Contains, length, take, drop, map, get_or, reverse, length-append, insert}
+use Rattle.std.proofs.Common.{◌≡◌, ◌∙◌, sym, refl, ap, inl, inr, arith, ℕ, suc, List, [], ◌∷◌, ◌++◌, ◌-◌, ◌<◌, Bool, true, false, cond, not, ◌&&◌, ◌||◌, Option, Some, None, Contains, length, take, drop, map, get_or, reverse, length-append, insert}
 use Rattle.std.specs.List.{remove}
 use Rattle.std.specs.Str.{bytes_eq}
 use Rattle.std.specs.Option.{option_map}
 use Rattle.std.specs.Cmp.Lexicographic.{bytes_decides}
 use Rattle.std.proofs.lemmas.Bool.{cases_Bool}
 use Rattle.std.proofs.lemmas.List.{take_at, drop_at, take_all, map-append, length-take-le, length-map, reverse-append}
-use Rattle.world_api.specs.Act.{Content, Law}
-use Rattle.world_api.specs.Around.{Around, Entry, Running}
+use Rattle.world_api.specs.Around.{Around}
 use Rattle.world_mem.specs.InSlots.{file_of, content_of, stamp_at, stamp_in, taken, emptied, marked}
 use Rattle.world_mem.specs.Past.{Course, before, before_by}
 use Rattle.world_mem.specs.Standing.{is_in}

@@ -1,5 +1,6 @@
 -- Directories that don't stand yet, as they are gathered.
-use Rattle.std.proofs.Common.{◌≡◌, ◌≢◌, ◌∙◌, ◌⊎◌, ◌↔◌, sym, refl, ap, subst, inl, inr, arith, ℕ, List, [], ◌∷◌, ◌++◌, ◌+◌, ◌<◌, Bool, true, false, Contains, length, take, get_or}
+use Rattle.std.proofs.Common.{◌≡◌, ◌∙◌, ◌⊎◌, ◌↔◌, sym, ap, subst, inl, inr, arith, ℕ, List, [], ◌∷◌, ◌++◌, ◌+◌, ◌<◌, Bool, true, false, Contains, length, take, get_or}
+use Rattle.std.proofs.lemmas.List.{take_more}
 use Rattle.std.proofs.lemmas.List.Elements.{Contains-push, Contains-push_cases, Contains-append_left}
 use Rattle.world_mem.specs.Blocked.{LiesBelow}
 use Rattle.world_mem.proofs.Below.{above, above_at}
@@ -101,3 +102,29 @@ from_nothing old new dir X none each = (
   ],
   λ x. each.1 (inr x),
 )
+
+-- one of these paths lies below a directory
+abbrev pub SomeBelow : List (List ℕ) → List ℕ → Type 0
+SomeBelow paths dir = (path : List ℕ) × Contains paths path × LiesBelow path dir
+
+pub none_gathered : (old : List (List ℕ)) (dir : List ℕ) (absent : Type 0) → old ≡ [] → Contains old dir ↔ (SomeBelow [] dir × absent)
+none_gathered old dir absent none = (
+  λ h. absurd (let at : Contains [] dir = subst (λ (l : List (List ℕ)). Contains l dir) none h in let lt : at.0 < 0 = at.1 in omega (arith, lt)),
+  λ h. absurd (let lt : h.0.1.0 < 0 = h.0.1.1 in omega (arith, lt)),
+)
+
+-- those above one path more are gathered
+pub one_more : (paths : List (List ℕ)) (k : ℕ) (path dir : List ℕ) (old new : List (List ℕ)) (absent : Type 0) → k < length paths → path ≡ get_or paths k path → (Contains old dir ↔ (SomeBelow (take k paths) dir × absent)) → (Contains new dir ↔ (Contains old dir ⊎ (LiesBelow path dir × absent)))
+    → Contains new dir ↔ (SomeBelow (take (k + 1) paths) dir × absent)
+one_more paths k path dir old new absent lt is first second =
+    let grown : take (k + 1) paths ≡ take k paths ++ path ∷ [] = take_more paths k path lt ∙ ap (λ p. take k paths ++ p ∷ []) (sym is) in
+    subst (λ (ps : List (List ℕ)). Contains new dir ↔ (SomeBelow ps dir × absent)) (sym grown) (
+      λ h. elim (second.0 h) [
+        | inl o ↦ let was = first.0 o in ((was.0.0, Contains-append_left (take k paths) (path ∷ []) was.0.0 was.0.1, was.0.2), was.1)
+        | inr b ↦ ((path, Contains-push (take k paths) path, b.0), b.1)
+      ],
+      λ h. second.1 (elim (Contains-push_cases (take k paths) path h.0.0 h.0.1) [
+        | inl before ↦ inl (first.1 ((h.0.0, before, h.0.2), h.1))
+        | inr e ↦ inr (subst (λ (p : List ℕ). LiesBelow p dir) (sym e) h.0.2, h.1)
+      ]),
+    )

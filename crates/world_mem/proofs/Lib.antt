@@ -10,8 +10,11 @@ pub mod Owners
 pub mod Taken
 pub mod Plain
 pub mod Unmade
+pub mod Idle
+pub mod LeftTargets
 pub mod Raised
 pub mod Fresh
 pub mod Backs
 pub mod Passing
 pub mod Writes
+pub mod Listing

@@ -1,11 +1,12 @@
 -- Marks at the targets of a job, and what an ending leaves there.
-use Rattle.std.proofs.Common.{◌≡◌, ◌∙◌, ◌⊎◌, ◌<◌, sym, refl, ℕ, suc, zero, List, [], ◌∷◌, ◌++◌, Bool, true, false, cond, Option, Some, None, ap, map, length, get_or, inl, inr, arith, Contains, IsSome, is_some, IsTrue, ◌||◌, append-nil, append_assoc}
+use Rattle.std.proofs.Common.{◌≡◌, ◌∙◌, ◌⊎◌, ◌<◌, ◌+◌, take, length-append, add-zero, sym, refl, ℕ, suc, zero, List, [], ◌∷◌, ◌++◌, Bool, true, false, cond, Option, Some, None, ap, map, length, get_or, inl, inr, arith, Contains, IsSome, is_some, IsTrue, ◌||◌, append-nil, append_assoc}
 use Rattle.std.specs.Cmp.Lexicographic.{bytes_decides}
 use Rattle.std.specs.List.{list_any}
 use Rattle.std.specs.Option.{option_map, option_to_list}
 use Rattle.std.specs.Str.{bytes_eq}
 use Rattle.std.proofs.lemmas.Bool.{cases_Bool}
 use Rattle.std.proofs.lemmas.Grind.{flat_map-append}
+use Rattle.std.proofs.lemmas.List.{take_more}
 use Rattle.std.proofs.lemmas.List.Elements.{Contains-append_cases}
 use Rattle.world_api.specs.Act.{Content, Given}
 use Rattle.world_mem.specs.declared.slots.File.{File}
@@ -102,7 +103,7 @@ written_content_if true file None bytes h = inr h
 written_content_if true file (Some x) bytes h = inl h
 written_content_if false file old bytes h = inr h
 
-in_option : (content : Content) (rest : List (List ℕ)) (bytes : List ℕ) → content ≡ Some bytes → IsTrue (list_any (bytes_eq bytes) (option_to_list content ++ rest))
+pub in_option : (content : Content) (rest : List (List ℕ)) (bytes : List ℕ) → content ≡ Some bytes → IsTrue (list_any (bytes_eq bytes) (option_to_list content ++ rest))
 in_option None rest bytes e = absurd (cc)
 in_option (Some x) rest bytes e = let same : bytes ≡ x = cc in simp ((bytes_decides bytes x).1 same) refl
 
@@ -269,3 +270,34 @@ made_of f (x ∷ xs) bytes h = elim (Contains-append_cases (option_to_list (f x)
 pub files-push : (entries : Given) (entry : List ℕ × Content) → contents_in (entries ++ entry ∷ []) ≡ contents_in entries ++ option_to_list entry.1
 files-push [] entry = append-nil (option_to_list entry.1)
 files-push (x ∷ xs) entry = ap (λ rest. option_to_list x.1 ++ rest) (files-push xs entry) ∙ sym (append_assoc (option_to_list x.1) (contents_in xs) (option_to_list entry.1))
+
+-- how many files there are among the first of these entries, with one entry more
+files-more : (entries : Given) (k : ℕ) (entry : List ℕ × Content) → k < length entries → entry ≡ get_or entries k entry
+    → length (contents_in (take (k + 1) entries)) ≡ length (contents_in (take k entries)) + length (option_to_list entry.1)
+files-more entries k entry lt is =
+    ap (λ es. length (contents_in es)) (take_more entries k entry lt ∙ ap (λ e. take k entries ++ e ∷ []) (sym is))
+    ∙ ap length (files-push (take k entries) entry)
+    ∙ length-append (contents_in (take k entries)) (option_to_list entry.1)
+
+one_if : (content : Content) → is_some content ≡ true → length (option_to_list content) ≡ 1
+one_if None h = absurd (let e : false ≡ true = h in cc e)
+one_if (Some bytes) h = refl
+
+none_if : (content : Content) → is_some content ≡ false → length (option_to_list content) ≡ 0
+none_if None h = refl
+none_if (Some bytes) h = absurd (let e : true ≡ false = h in cc e)
+
+pub files-one_more : (entries : Given) (k : ℕ) (entry : List ℕ × Content) → k < length entries → entry ≡ get_or entries k entry → is_some entry.1 ≡ true
+    → length (contents_in (take (k + 1) entries)) ≡ length (contents_in (take k entries)) + 1
+files-one_more entries k entry lt is some = files-more entries k entry lt is ∙ ap (λ n. length (contents_in (take k entries)) + n) (one_if entry.1 some)
+
+pub files-none_more : (entries : Given) (k : ℕ) (entry : List ℕ × Content) → k < length entries → entry ≡ get_or entries k entry → is_some entry.1 ≡ false
+    → length (contents_in (take (k + 1) entries)) ≡ length (contents_in (take k entries))
+files-none_more entries k entry lt is none = files-more entries k entry lt is ∙ ap (λ n. length (contents_in (take k entries)) + n) (none_if entry.1 none) ∙ add-zero (length (contents_in (take k entries)))
+
+-- a file that is written stands there, or what stood before
+pub written-content : (at : List ℕ) (file : Option File) (path : List ℕ) (old : Option Slot) (bytes : List ℕ) → content_of (written at (Settled file) path old) ≡ Some bytes → (content_of (Some (Settled file)) ≡ Some bytes) ⊎ (content_of old ≡ Some bytes)
+written-content at file path old bytes h = written_content_if (bytes_eq at path) file old bytes h
+
+pub written-named : (at : List ℕ) (put : File) (path : List ℕ) (old : Option Slot) (file : File) → put.name ≡ at → (file_of old ≡ Some file → file.name ≡ path) → file_of (written at (Settled (Some put)) path old) ≡ Some file → file.name ≡ path
+written-named at put path old file name was h = named_if (bytes_eq at path) put file old at path (λ y. (bytes_decides at path).0 y) name was h

@@ -1,7 +1,6 @@
 -- One call more: the moments are those before it, and the present one.
-use Rattle.std.proofs.Common.{◌≡◌, ◌∙◌, ◌⊎◌, ◌<◌, ◌≤◌, ◌-◌, ◌+◌, inl, inr, ℕ, zero, suc, List, [], ◌∷◌, ◌++◌, max, length, reverse, subst, sym, ap, refl, arith, length-append}
+use Rattle.std.proofs.Common.{◌≡◌, ◌∙◌, ◌⊎◌, ◌≤◌, ◌-◌, ◌+◌, inl, inr, ℕ, suc, List, [], ◌∷◌, ◌++◌, max, length, reverse, subst, sym, ap, refl, arith, length-append, Result, Ok, Err, OnErr}
 use Rattle.std.proofs.lemmas.List.{reverse-append}
-use Rattle.mem_banks.specs.AsStore.{store_of}
 use Rattle.world_api.specs.Around.{Around}
 use Rattle.world_api.specs.Banks.{Banks}
 use Rattle.world_api.specs.Calls.{Asks}
@@ -134,6 +133,11 @@ asks_same a = record {
 
 pub asks : (old new : Around) → new ≡ old → Asks old new
 asks old new is = subst (Asks old) (sym is) (asks_same old)
+
+-- a call that failed and changed nothing
+pub refused : {T E : Type 0} (result : Result T E) (old new : Around) → new ≡ old → OnErr result (Asks old new)
+refused (Ok x) old new is = tt
+refused (Err e) old new is = asks old new is
 
 pub tree_time : (old new : MemWorld) → NothingElse old new → Throughout world_meaning old new (Meanwhile world_meaning old new)
 tree_time old new else = passes old new (Meanwhile world_meaning old new) else

@@ -1,6 +1,6 @@
 -- Directories that come to stand.
-use Rattle.std.proofs.Common.{◌≡◌, ◌∙◌, ◌⊎◌, ◌↔◌, sym, refl, ap, subst, inl, inr, arith, ℕ, suc, zero, List, [], ◌∷◌, ◌++◌, ◌<◌, Bool, true, false, cond, not, ◌||◌, ◌&&◌, ◌==◌, Option, Some, None, IsSome, Contains, length, take, drop, get_or, eq-eqb}
-use Rattle.std.specs.List.{list_any, slice_index_or, starts_with}
+use Rattle.std.proofs.Common.{◌≡◌, ◌∙◌, ◌⊎◌, ◌↔◌, sym, refl, ap, inl, inr, ℕ, List, [], ◌∷◌, ◌++◌, ◌<◌, Bool, true, false, cond, not, ◌||◌, ◌&&◌, Option, IsSome, Contains, length, take, drop, get_or}
+use Rattle.std.specs.List.{starts_with}
 use Rattle.std.specs.Str.{bytes_eq}
 use Rattle.std.specs.Cmp.Lexicographic.{bytes_decides}
 use Rattle.std.proofs.lemmas.Bool.{cases_Bool}
@@ -19,7 +19,7 @@ use Rattle.world_mem.specs.InSlots.{slot_at, holds_live, marked}
 use Rattle.world_mem.specs.Standing.{is_always, is_dir, is_in}
 use Rattle.world_mem.specs.declared.slots.Slot.{Slot}
 use Rattle.world_mem.specs.declared.slots.Slot.TheVariants.{Running}
-use Rattle.world_mem.proofs.Below.{above, above_at, front_of_below}
+use Rattle.world_mem.proofs.Below.{front_of_below}
 use Rattle.world_mem.proofs.Marks.{marked-on, marked-off}
 use Rattle.world_mem.proofs.Owners.{any_of}
 

@@ -1,15 +1,14 @@
 -- What a write or a sync of a bank tells.
-use Rattle.std.proofs.Common.{◌≡◌, ◌≢◌, ◌∙◌, ◌≤◌, ◌++◌, ◌∷◌, [], ◌+◌, sym, refl, ap, subst, ℕ, List, length}
+use Rattle.std.proofs.Common.{◌≡◌, ◌≢◌, ◌∙◌, ◌≤◌, ◌++◌, ◌∷◌, [], sym, ap, subst, ℕ, List, length}
 use Rattle.mem_banks.specs.AsStore.{store_of}
 use Rattle.mem_banks.specs.Past.{Store, bytes_in, spliced, wrote, synced, back, IsImage}
 use Rattle.mem_banks.proofs.Images.{back_wrote, image_wrote, image_other, wrote_here, wrote_other, image_synced, images_synced, synced_bytes}
 use Rattle.mem_banks.proofs.Splices.{splice_torn}
-use Rattle.world_api.specs.Banks.{Holds, Torn, Follows}
+use Rattle.world_api.specs.Banks.{Torn, Follows}
 use Rattle.world_api.specs.Meaning.{BankKept, BanksKept, IsSettled, Recalls, Throughout, AtEither}
 use Rattle.world_api.specs.declared.disk.Bank.{Bank}
 use Rattle.world_mem.specs.AsCourse.{course_of}
-use Rattle.world_mem.specs.Means.{machine_of, world_meaning}
-use Rattle.world_mem.specs.Past.{Machine}
+use Rattle.world_mem.specs.Means.{world_meaning}
 use Rattle.world_mem.specs.declared.past.Turn.TheVariants.{Disk}
 use Rattle.world_mem.specs.declared.world.MemWorld.{MemWorld}
 use Rattle.world_mem.specs.AsAround.{around_of}

@@ -1,5 +1,5 @@
 -- Calls of a world, counted, and those that are to fail.
-use Rattle.std.specs.Prelude.{◌≡◌, ℕ, Bool, true, false, List, ◌+◌, ◌-◌, ◌^◌, ◌==◌, ◌&&◌, min, Option, Some, None, Contains, slice_index, slice_set, option_map, if◌then◌else◌}
+use Rattle.std.specs.Prelude.{◌≢◌, ℕ, Bool, List, ◌+◌, ◌-◌, ◌^◌, ◌==◌, ◌&&◌, min, Option, Some, None, slice_index, slice_set, option_map, if◌then◌else◌}
 use Rattle.std.specs.List.{list_any}
 use Rattle.world_mem.specs.declared.calls.Call.{Call}
 use Rattle.world_mem.specs.declared.calls.Call.TheVariants.{Size, ReadAt, WriteAt, Sync, TopPath, Kind, ReadFile, List as Lists, Stamp, MakeDir, Remove, Start, Wait}
@@ -48,3 +48,7 @@ verdict_by (Some left) listed = if left == 0 then Spent else (if listed then Lis
 -- what becomes of the next call of this kind
 abbrev pub verdict_of : Call → Calls → Verdict
 verdict_of call calls = verdict_by calls.fuse (is_listed calls.failing.items call (count_of call calls))
+
+-- the next call of this kind fails
+abbrev pub Fails : Call → Calls → Type 0
+Fails call calls = verdict_of call calls ≢ Goes

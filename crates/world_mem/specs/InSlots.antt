@@ -5,6 +5,7 @@ use Rattle.std.specs.Cmp.Lexicographic.{slice_cmp}
 use Rattle.std.specs.Option.{option_map, is_some}
 use Rattle.std.specs.Ordering.{nat_cmp}
 use Rattle.std.specs.Str.{bytes_eq}
+use Rattle.scons_base.specs.Parts.{dir_of}
 use Rattle.world_api.specs.Act.{Content, Given}
 use Rattle.world_mem.specs.declared.slots.File.{File}
 use Rattle.world_mem.specs.declared.slots.Slot.{Slot}
@@ -81,6 +82,11 @@ marked (at ∷ rest) slot path old = marked rest slot path (written at slot path
 abbrev pub settled : ℕ → Given → List ℕ → Option Slot → Option Slot
 settled stamp [] path old = old
 settled stamp (entry ∷ rest) path old = written entry.0 (Settled (file_with stamp entry.0 entry.1)) path (settled stamp rest path old)
+
+-- the path of a file that lies directly in a directory
+abbrev pub name_in : List ℕ → Option File → List (List ℕ)
+name_in dir None = []
+name_in dir (Some file) = if bytes_eq (dir_of file.name) dir then file.name ∷ [] else []
 
 -- what a list of files has at a path
 abbrev pub file_at : List (List ℕ × List ℕ) → List ℕ → Content

@@ -1,8 +1,7 @@
 -- The laws of a disk and a world, for a world in memory.
-use Rattle.std.proofs.Common.{◌≡◌, ◌<◌, ◌-◌, inl, inr, ℕ, zero, suc, List, [], ◌∷◌, max, length, reverse, subst, sym, ap, refl, arith}
+use Rattle.std.proofs.Common.{◌≡◌, ◌<◌, ◌-◌, inl, ℕ, zero, suc, List, [], ◌∷◌, max, length, reverse, subst, refl, arith}
 use Rattle.mem_banks.specs.AsStore.{store_of}
 use Rattle.mem_banks.proofs.Images.{reads_store}
-use Rattle.mem_banks.specs.Past.{IsImage}
 use Rattle.world_api.specs.Around.{Around}
 use Rattle.world_api.specs.Banks.{Banks}
 use Rattle.world_api.specs.Calls.{IsClosed}

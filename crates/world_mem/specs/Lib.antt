@@ -10,6 +10,7 @@ pub mod Planned
 pub mod Kept
 pub mod AsAround
 pub mod Held
+pub mod Left
 pub mod Undone
 pub mod Past
 pub mod AsCourse

@@ -1,5 +1,5 @@
 -- What a world in memory means: it tells all, and counts its faults.
-use Rattle.std.specs.Prelude.{[], ℕ, ◌-◌, max, length, reverse}
+use Rattle.std.specs.Prelude.{[], ◌-◌, max, length, reverse}
 use Rattle.mem_banks.specs.AsStore.{store_of}
 use Rattle.mem_banks.specs.Past.{bytes_in, IsImage}
 use Rattle.world_api.specs.Meaning.{Meaning}

@@ -1,8 +1,8 @@
 -- What was around before a change, from what is around after it.
-use Rattle.std.specs.Prelude.{ℕ, Bool, List, [], ◌∷◌, ◌-◌, ◌&&◌, not, None, Some, length, take, insert, if◌then◌else◌}
+use Rattle.std.specs.Prelude.{ℕ, Bool, List, ◌-◌, ◌&&◌, not, None, Some, length, take, insert, if◌then◌else◌}
 use Rattle.std.specs.Str.{bytes_eq}
 use Rattle.world_api.specs.Act.{Content}
-use Rattle.world_api.specs.Around.{Around, Running}
+use Rattle.world_api.specs.Around.{Around}
 use Rattle.world_mem.specs.Standing.{is_in}
 use Rattle.world_mem.specs.declared.past.Change.{Change}
 use Rattle.world_mem.specs.declared.past.Change.TheVariants.{Removed, Made, Started, Ended}

@@ -1,10 +1,11 @@
 //! Lists of paths with their contents.
-ghost use Rattle.std.specs.Prelude.{◌≡◌, IfOk, OnOk, OnErr, ◌++◌, ◌∷◌, [], List, ℕ, Option, length};
+ghost use Rattle.std.specs.Prelude.{◌≡◌, IfOk, OnOk, OnErr, ◌++◌, ◌∷◌, [], List, ℕ, Option, Some, length};
 ghost use Rattle.std.specs.Option.{option_copied};
 ghost use Rattle.world_mem.specs.Kept.{contents_in};
 ghost use Rattle.world_mem.specs.Listed.{listed, same_given};
 
 use scons_base::{Blob, Memory, PathText};
+use std::alloc::Global;
 use std::marker::Model;
 use world_api::Content;
 
@@ -101,4 +102,13 @@ pub fn copy_content(content: &Content) -> Result<Content, Memory>
         Some(bytes) => Ok(Some(bytes.copy()?)),
         None => Ok(None),
     }
+}
+
+/// A file as contents.
+pub fn group_of(alloc: Global, path: &PathText, bytes: &[u8]) -> Result<Contents, Memory>
+    ensures { IfOk result (λ group. group ≡ (path.now, Some bytes.now) ∷ []) }
+{
+    let mut group = Contents::new(Vec::new(alloc));
+    group.push(path.copy()?, Some(Blob::of(alloc, bytes)?))?;
+    Ok(group)
 }

@@ -8,8 +8,16 @@ use mem_banks::{BANK_ROOM, WRITTEN_ROOM};
 use world_api::{Bank, Disk, Fault};
 
 impl Disk for MemWorld {
-    ghost use Rattle.world_mem.specs.Means.{world_meaning};
+    ghost use Rattle.std.specs.Prelude.{◌⊎◌, OnOk, OnErr};
+    ghost use Rattle.world_api.specs.Causes.{DiskFails};
+    ghost use Rattle.world_api.specs.Meaning.{IsSettled, Told, Recalls, BanksKept, Throughout, AtEither};
+    ghost use Rattle.world_mem.specs.CallCounts.{Fails, counted};
+    ghost use Rattle.world_mem.specs.Kept.{disk_fault};
     ghost use Rattle.world_mem.specs.Laws.{reads_as_of, counts_now_of, only_now_of};
+    ghost use Rattle.world_mem.specs.Means.{world_meaning};
+    ghost use Rattle.world_mem.specs.Room.{recorded};
+    ghost use Rattle.world_mem.specs.Waits.{Keeps};
+    ghost use Rattle.world_mem.specs.declared.calls.Call.{Call};
 
     ghost meaning = { world_meaning };
 
@@ -52,15 +60,29 @@ impl Disk for MemWorld {
         }
         if verdict == Verdict::Listed {
             let half = bytes.len() / 2;
-            self.faults.disk = self.faults.disk.saturating_add(1);
             self.put(bank, place as usize, &bytes[..half], bytes.len());
+            self.faults.disk = self.faults.disk.saturating_add(1);
             return Err(Fault);
         }
         self.put(bank, place as usize, bytes, bytes.len());
         Ok(())
     }
 
-    fn sync(&mut self, bank: Bank) -> Result<(), Fault> {
+    fn sync(&mut self, bank: Bank) -> Result<(), Fault>
+        ensures durable { world_meaning.tells self.new → OnOk result (IsSettled world_meaning self.new bank) }
+        ensures banks { world_meaning.tells self.new → BanksKept world_meaning self.old self.new }
+        ensures around { world_meaning.tells self.new → world_meaning.around self.new ≡ world_meaning.around self.old }
+        ensures told { Told world_meaning self.old self.new }
+        ensures recalls { Recalls world_meaning self.old self.new }
+        ensures time { Throughout world_meaning self.old self.new (AtEither world_meaning self.old self.new) }
+        ensures kept { OnOk result (world_meaning.counts self.new ≡ world_meaning.counts self.old) }
+        ensures rose { OnErr result (DiskFails (world_meaning.counts self.old) (world_meaning.counts self.new)) }
+        ensures once { OnErr result (world_meaning.counts self.new ≡ disk_fault (world_meaning.counts self.old)) }
+        ensures fails { OnErr result (Fails Call.Sync self.old.calls ⊎ (262144 ≤ recorded self.old)) }
+        ensures goes { OnOk result (Fails Call.Sync self.old.calls → ⊥) }
+        ensures counted { self.new.calls ≡ counted Call.Sync self.old.calls }
+        ensures keeps { Keeps self.old self.new }
+    {
         let goes = self.calls.next(Call::Sync) == Verdict::Goes;
         let full = self.is_full();
         if !goes || full {

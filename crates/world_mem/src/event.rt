@@ -1,6 +1,8 @@
 //! What the log of a world holds.
 ghost use Rattle.std.specs.Prelude.{◌≡◌};
+ghost use Rattle.world_api.specs.Causes.{HasOutcomeCause};
 ghost use Rattle.world_mem.specs.Ending.{faults_after};
+ghost use Rattle.world_mem.specs.Kept.{counts_of};
 
 use world_api::{Job, Outcome};
 
@@ -16,7 +18,8 @@ pub struct Faults {
 impl Faults {
     /// The counts after an ending.
     pub fn after(&self, outcome: Outcome) -> Faults
-        ensures { result ≡ faults_after outcome self.now }
+        ensures counts { result ≡ faults_after outcome self.now }
+        ensures cause { HasOutcomeCause outcome (counts_of self.now) (counts_of result) }
     {
         match outcome {
             Outcome::Failed(_) => Faults {

@@ -19,7 +19,7 @@ impl From<Memory> for NewRefusal {
     }
 }
 
-/// Why a file wasn't edited: a directory stands there, or a file above it.
+/// Why a file wasn't edited: a directory stands there, a file above it, or a running job makes it.
 #[derive(Clone, Copy, Debug, PartialEq, Eq)]
 pub enum EditRefusal {
     Place,

@@ -6,10 +6,15 @@ ghost use Rattle.world_mem.specs.InSlots.{slot_at, content_of, file_of, mark_of}
 ghost use Rattle.world_mem.specs.Standing.{is_dir};
 ghost use Rattle.world_mem.specs.declared.slots.Slot.{Slot};
 
+use crate::contents::Contents;
 use crate::dirs::Dirs;
+use crate::event::Event;
+use crate::past::Change;
+use crate::running::RunningJob;
 use crate::slots::Slots;
 use scons_base::{Memory, Paths};
 use std::alloc::Global;
+use world_api::Job;
 
 /// Puts an item at the end of a vector that has the room.
 pub fn add<T: Drop>(items: &mut Vec<T>, item: T)
@@ -29,6 +34,41 @@ pub fn widen<T: Drop>(items: &mut Vec<T>, more: usize) -> Result<(), Memory>
     ensures room { OnOk result (vec_len items.new + more ≤ vec_capacity items.new) }
 {
     items.reserve(more)?;
+    Ok(())
+}
+
+/// Takes room for so many further changes, and for one job more in what is listed of those that run.
+pub fn widen_all(
+    past: &mut Vec<Change>,
+    log: &mut Vec<Event>,
+    met: &mut Vec<Contents>,
+    jobs: &mut Vec<Job>,
+    running: &mut Vec<RunningJob>,
+    changes: usize,
+) -> Result<(), Memory>
+    ensures past { past.new.items ≡ past.old.items }
+    ensures past_len { vec_len past.new ≡ vec_len past.old }
+    ensures past_capacity { vec_capacity past.old ≤ vec_capacity past.new }
+    ensures past_room { OnOk result (vec_len past.new + changes ≤ vec_capacity past.new) }
+    ensures log { log.new.items ≡ log.old.items }
+    ensures log_len { vec_len log.new ≡ vec_len log.old }
+    ensures log_capacity { vec_capacity log.old ≤ vec_capacity log.new }
+    ensures log_room { OnOk result (vec_len log.new + (vec_len running.new + 2) ≤ vec_capacity log.new) }
+    ensures met { met.new.items ≡ met.old.items }
+    ensures met_len { vec_len met.new ≡ vec_len met.old }
+    ensures met_capacity { vec_capacity met.old ≤ vec_capacity met.new }
+    ensures met_room { OnOk result (vec_len met.new + (vec_len running.new + 1) ≤ vec_capacity met.new) }
+    ensures job_room { OnOk result (vec_len jobs.new + 1 ≤ vec_capacity jobs.new) }
+    ensures running { running.new.items ≡ running.old.items }
+    ensures running_len { vec_len running.new ≡ vec_len running.old }
+    ensures run_room { OnOk result (vec_len running.new + 1 ≤ vec_capacity running.new) }
+{
+    let runs = running.len();
+    widen(past, changes)?;
+    widen(log, runs + 2)?;
+    widen(met, runs + 1)?;
+    widen(jobs, 1)?;
+    widen(running, 1)?;
     Ok(())
 }
 

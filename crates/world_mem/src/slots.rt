@@ -1,11 +1,11 @@
 //! The tree as it is kept: a slot for each path that was ever a file or a target.
-ghost use Rattle.std.specs.Prelude.{◌≡◌, ◌≢◌, AllPairs, List, ℕ, None, Some, IsTrue, false, Contains, ◌↔◌, IfOk, IfErr, OnOk, OnErr, if◌then◌else◌, IsSome, ◌<◌, length};
+ghost use Rattle.std.specs.Prelude.{◌≡◌, ◌≢◌, AllPairs, List, ℕ, None, Some, IsTrue, false, Contains, ◌↔◌, IfOk, IfErr, OnOk, OnErr, if◌then◌else◌, IsSome, ◌<◌, ◌++◌, length};
 ghost use Rattle.std.specs.Option.{option_copied, is_some};
 ghost use Rattle.std.specs.List.{slice_index_or};
 ghost use Rattle.std.specs.Str.{bytes_eq};
 ghost use Rattle.scons_base.specs.Parts.{dir_of};
 ghost use Rattle.world_mem.specs.Blocked.{LiesBelow, HasAbove, HasBelow, IsBlocked, IsRefused, IsFirstRefused};
-ghost use Rattle.world_mem.specs.InSlots.{slot_at, file_of, file_with, content_of, mark_of, file_at, written, emptied, taken, marked, settled, Stands, is_live, holds_live};
+ghost use Rattle.world_mem.specs.InSlots.{slot_at, file_of, file_with, content_of, mark_of, file_at, name_in, written, emptied, taken, marked, settled, Stands, is_live, holds_live};
 ghost use Rattle.world_mem.specs.declared.refusal.NewRefusal.{NewRefusal};
 ghost use Rattle.world_mem.specs.declared.slots.File.{File};
 ghost use Rattle.world_mem.specs.declared.slots.Slot.{Slot};
@@ -86,11 +86,7 @@ impl Slots {
     {
         let mut paths = Paths::new(Vec::new(alloc));
         for (_, slot) in &self.slots {
-            if let Slot::Settled(Some(file)) = slot {
-                if file.name.dir() == dir.as_str() {
-                    paths.push(file.name.copy()?)?;
-                }
-            }
+            add_name(slot, dir, &mut paths)?;
         }
         Ok(paths)
     }
@@ -120,6 +116,16 @@ impl Slots {
         ensures { result ≡ is_some (content_of (slot_at self.now path.now)) }
     {
         self.content(path).is_some()
+    }
+
+    /// Whether the path is kept for a running job.
+    pub fn is_kept(&self, path: &PathText) -> bool
+        ensures { result ≡ is_some (mark_of (slot_at self.now path.now)) }
+    {
+        match self.slots.get(path.as_str().as_bytes()) {
+            Some(slot) => is_running(slot),
+            None => false,
+        }
     }
 
     pub fn stands(&self, path: &[u8]) -> bool
@@ -283,6 +289,30 @@ fn emptied(place: &mut Slot) -> Option<File>
     }
 }
 
+/// Adds the path of the file in a slot, where it lies directly in a directory.
+fn add_name(slot: &Slot, dir: &PathText, paths: &mut Paths) -> Result<(), Memory>
+    ensures { OnOk result (paths.new ≡ paths.old ++ name_in dir.now (file_of (Some slot.now))) }
+{
+    let Slot::Settled(Some(file)) = slot else {
+        return Ok(());
+    };
+    if file.name.dir() != dir.as_str() {
+        return Ok(());
+    }
+    paths.push(file.name.copy()?)
+}
+
+/// A file with these bytes.
+pub fn file_of(alloc: Global, path: &PathText, bytes: &[u8], stamp: u64) -> Result<File, Memory>
+    ensures { IfOk result (λ file. file ≡ record { name = path.now; bytes = bytes.now; stamp = stamp }) }
+{
+    Ok(File {
+        name: path.copy()?,
+        bytes: Blob::of(alloc, bytes)?,
+        stamp,
+    })
+}
+
 /// A file that never changed.
 fn copied(path: &PathText, bytes: &Blob) -> Result<File, Memory>
     ensures { IfOk result (λ file. file ≡ record { name = path.now; bytes = bytes.now; stamp = 0 }) }
@@ -309,6 +339,13 @@ fn is_live(slot: &Slot) -> bool
     ensures { result ≡ is_live slot.now }
 {
     !matches!(slot, Slot::Settled(None))
+}
+
+/// Whether a running job makes what stands there.
+fn is_running(slot: &Slot) -> bool
+    ensures { result ≡ is_some (mark_of (Some slot.now)) }
+{
+    matches!(slot, Slot::Running(_))
 }
 
 fn is_below(path: &[u8], dir: &[u8]) -> bool

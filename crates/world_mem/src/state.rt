@@ -1,5 +1,5 @@
 //! The files, the jobs that run and the past.
-ghost use Rattle.std.specs.Prelude.{◌≡◌, ◌≢◌, ◌+◌, ◌-◌, ◌<◌, ◌≤◌, ℕ, List, Some, IsTrue, Contains, length, vec_len, IfOk, IfErr, map, []};
+ghost use Rattle.std.specs.Prelude.{◌≡◌, ◌≢◌, ◌+◌, ◌-◌, ◌<◌, ◌≤◌, ℕ, List, Some, IsTrue, Contains, length, vec_len, IfOk, IfErr, map, [], ◌∷◌};
 ghost use Rattle.std.specs.List.{slice_index_or, list_any};
 ghost use Rattle.std.specs.Str.{bytes_eq};
 ghost use Rattle.std.specs.Vec.{vec_capacity};
@@ -10,16 +10,16 @@ ghost use Rattle.world_mem.specs.declared.running.RunningJob.{RunningJob};
 ghost use Rattle.world_mem.specs.declared.slots.File.{File};
 ghost use Rattle.world_mem.specs.declared.slots.Slot.TheVariants as slot;
 
-use crate::contents::Contents;
+use crate::contents::{Contents, group_of};
 use crate::dirs::Dirs;
 use crate::ending::conclude;
 use crate::event::{Event, Faults};
 use crate::past::{Change, Ending};
 use crate::plan::{given_of, made_by, outcome_of};
 use crate::refusal::NewRefusal;
-use crate::room::{add, make_places, widen};
+use crate::room::{add, make_places, widen, widen_all};
 use crate::running::RunningJob;
-use crate::slots::{File, Slot, Slots};
+use crate::slots::{File, Slot, Slots, file_of};
 use crate::table::ActTable;
 use mem_banks::CALL_ROOM;
 use scons_base::{Blob, Memory, PathText, Paths};
@@ -69,9 +69,9 @@ pub struct Entering {
 }
 
 impl State {
-    ghost use Rattle.std.specs.Prelude.{◌∷◌, ◌++◌, ◌↔◌, ◌⊎◌, ◌||◌, if◌then◌else◌, OnOk, OnErr, IsSome, None, false, unwrap_or, codes};
+    ghost use Rattle.std.specs.Prelude.{◌++◌, ◌↔◌, ◌⊎◌, ◌||◌, if◌then◌else◌, OnOk, OnErr, IsSome, None, false, unwrap_or, codes};
     ghost use Rattle.std.specs.Option.{option_copied};
-    ghost use Rattle.world_api.specs.Around.{IsUnused, Running, given_of};
+    ghost use Rattle.world_api.specs.Around.{IsUnused, IsRunningTarget, Running, given_of};
     ghost use Rattle.world_api.specs.Calls.{Asks, MakesDir, Removes, CanStart, Starts, Ends};
     ghost use Rattle.world_api.specs.Reads.{IsListing, kind_of, stamp_of};
     ghost use Rattle.world_mem.specs.AsAround.{around_of};
@@ -218,6 +218,8 @@ impl State {
 
     /// Removes a file. The past does not tell of it.
     pub fn lose(&mut self, path: &PathText)
+        ensures gone { (around_of self.new).tree path.now ≡ None }
+        ensures others { (other : List ℕ) → other ≢ path.now → (around_of self.new).tree other ≡ (around_of self.old).tree other }
         ensures removals { self.new.removals ≡ self.old.removals }
         ensures running { vec_len self.new.running ≡ vec_len self.old.running }
     {
@@ -335,18 +337,53 @@ impl State {
         ensures job_room { OnOk result (vec_len self.new.jobs + 1 ≤ vec_capacity self.new.jobs) }
         ensures past_room { OnOk result (vec_len self.new.past + vec_len self.new.running + (262144 - self.new.removals) + 2 ≤ vec_capacity self.new.past) }
     {
-        let jobs = self.running.len();
-        widen(&mut self.past, jobs + (CALL_ROOM - self.removals) + 2)?;
-        widen(&mut self.log, jobs + 2)?;
-        widen(&mut self.met, jobs + 1)?;
-        widen(&mut self.jobs, 1)?;
-        widen(&mut self.running, 1)?;
-        make_places(
-            alloc,
-            &mut self.slots,
-            &mut self.dirs,
-            &entering.run.job.targets,
-            &entering.dirs,
+        self.make_places(alloc, &entering.run.job.targets, &entering.dirs)?;
+        self.widen()?;
+        Ok(())
+    }
+
+    /// Makes the places of a job's targets, and of the directories above them.
+    fn make_places(&mut self, alloc: Global, targets: &Paths, fresh: &Paths) -> Result<(), Memory>
+        ensures course { course_of self.new ≡ course_of self.old }
+        ensures running { self.new.running ≡ self.old.running }
+        ensures log { self.new.log ≡ self.old.log }
+        ensures met { self.new.met ≡ self.old.met }
+        ensures past { self.new.past ≡ self.old.past }
+        ensures dirs { (dir : List ℕ) → is_dir self.new.dirs dir ≡ is_dir self.old.dirs dir }
+        ensures table { self.new.table ≡ self.old.table }
+        ensures removals { self.new.removals ≡ self.old.removals }
+        ensures places { OnOk result ((k : ℕ) (d : List ℕ) → k < length targets.now → IsSome (slot_at self.new.slots (slice_index_or targets.now k d))) }
+        ensures fresh { OnOk result ((k : ℕ) (d : List ℕ) → k < length fresh.now → IsSome (slot_at self.new.dirs.slots (slice_index_or fresh.now k d))) }
+    {
+        make_places(alloc, &mut self.slots, &mut self.dirs, targets, fresh)
+    }
+
+    /// Takes the room for one job more in what is listed.
+    fn widen(&mut self) -> Result<(), Memory>
+        ensures course { course_of self.new ≡ course_of self.old }
+        ensures running { self.new.running.items ≡ self.old.running.items }
+        ensures running_len { vec_len self.new.running ≡ vec_len self.old.running }
+        ensures log { self.new.log.items ≡ self.old.log.items }
+        ensures met { self.new.met.items ≡ self.old.met.items }
+        ensures past { self.new.past.items ≡ self.old.past.items }
+        ensures slots { self.new.slots ≡ self.old.slots }
+        ensures dirs { self.new.dirs ≡ self.old.dirs }
+        ensures table { self.new.table ≡ self.old.table }
+        ensures removals { self.new.removals ≡ self.old.removals }
+        ensures log_room { OnOk result (vec_len self.new.log + vec_len self.new.running + 2 ≤ vec_capacity self.new.log) }
+        ensures met_room { OnOk result (vec_len self.new.met + vec_len self.new.running + 1 ≤ vec_capacity self.new.met) }
+        ensures run_room { OnOk result (vec_len self.new.running + 1 ≤ vec_capacity self.new.running) }
+        ensures job_room { OnOk result (vec_len self.new.jobs + 1 ≤ vec_capacity self.new.jobs) }
+        ensures past_room { OnOk result (vec_len self.new.past + vec_len self.new.running + (262144 - self.new.removals) + 2 ≤ vec_capacity self.new.past) }
+    {
+        let changes = self.running.len() + (CALL_ROOM - self.removals) + 2;
+        widen_all(
+            &mut self.past,
+            &mut self.log,
+            &mut self.met,
+            &mut self.jobs,
+            &mut self.running,
+            changes,
         )
     }
 
@@ -437,36 +474,76 @@ impl State {
         Ended { id, outcome }
     }
 
-    /// Sets the bytes of a file.
+    /// Whether a running job makes a path.
+    pub fn is_made(&self, path: &PathText) -> bool
+        ensures { IsTrue result ↔ IsRunningTarget (around_of self.now).running path.now }
+    {
+        self.slots.is_kept(path)
+    }
+
+    /// Sets the bytes of a file that no running job makes.
     pub fn edit(&mut self, alloc: Global, path: &PathText, bytes: &[u8]) -> Result<(), Memory>
+        requires { IsRunningTarget (around_of self.old).running path.now → ⊥ }
+        ensures file { OnOk result ((around_of self.new).tree path.now ≡ Some bytes.now) }
+        ensures others { (other : List ℕ) → other ≢ path.now → (around_of self.new).tree other ≡ (around_of self.old).tree other }
+        ensures same { OnErr result ((other : List ℕ) → (around_of self.new).tree other ≡ (around_of self.old).tree other) }
         ensures removals { self.new.removals ≡ self.old.removals }
         ensures jobs { vec_len self.new.running ≡ vec_len self.old.running }
     {
         let stamp = self.stamp.saturating_add(1);
-        let file = File {
-            name: path.copy()?,
-            bytes: Blob::of(alloc, bytes)?,
-            stamp,
-        };
-        let mut group = Contents::new(Vec::new(alloc));
-        group.push(path.copy()?, Some(Blob::of(alloc, bytes)?))?;
+        let file = file_of(alloc, path, bytes, stamp)?;
+        let group = group_of(alloc, path, bytes)?;
+        let mut own = Paths::new(Vec::new(alloc));
+        own.push(path.copy()?)?;
         let mut fresh = Paths::new(Vec::new(alloc));
         self.dirs.missing_above(alloc, path, &mut fresh)?;
+        self.make_places(alloc, &own, &fresh)?;
+        self.widen_met()?;
+        self.put(path, file, group, &fresh);
+        Ok(())
+    }
+
+    /// Takes the room for one group more that is met.
+    fn widen_met(&mut self) -> Result<(), Memory>
+        ensures running { self.new.running ≡ self.old.running }
+        ensures slots { self.new.slots ≡ self.old.slots }
+        ensures dirs { self.new.dirs ≡ self.old.dirs }
+        ensures removals { self.new.removals ≡ self.old.removals }
+        ensures room { OnOk result (vec_len self.new.met + vec_len self.new.running + 1 ≤ vec_capacity self.new.met) }
+    {
         let owed = self.running.len() + 1;
-        widen(&mut self.met, owed)?;
-        self.dirs.make_places(alloc, &fresh)?;
-        self.slots.make_place(alloc, path)?;
-        self.stamp = stamp;
-        self.dirs.raise(&fresh);
+        widen(&mut self.met, owed)
+    }
+
+    /// Puts a file at its place, and lets these directories stand. The file has been met from then on, by this group.
+    fn put(&mut self, path: &PathText, file: File, group: Contents, fresh: &Paths)
+        requires free { IsRunningTarget (around_of self.old).running path.now → ⊥ }
+        requires name { file.name ≡ path.now }
+        requires group { group ≡ (path.now, Some file.bytes) ∷ [] }
+        requires place { IsSome (slot_at self.old.slots path.now) }
+        requires places { (k : ℕ) (d : List ℕ) → k < length fresh.now → IsSome (slot_at self.old.dirs.slots (slice_index_or fresh.now k d)) }
+        requires room { vec_len self.old.met + vec_len self.old.running + 1 ≤ vec_capacity self.old.met }
+        ensures file { (around_of self.new).tree path.now ≡ Some file.bytes }
+        ensures others { (other : List ℕ) → other ≢ path.now → (around_of self.new).tree other ≡ (around_of self.old).tree other }
+        ensures removals { self.new.removals ≡ self.old.removals }
+        ensures jobs { vec_len self.new.running ≡ vec_len self.old.running }
+    {
+        self.stamp = file.stamp;
+        self.dirs.raise(fresh);
         self.slots.write(path, Slot::Settled(Some(file)));
         add(&mut self.met, group);
-        Ok(())
     }
 
     /// What a stop leaves: these contents at the targets of the jobs that ran, which have been met from then on.
     pub fn leave(&mut self, targets: Contents, kept: Contents)
+        requires room { vec_len self.old.met < vec_capacity self.old.met }
+        requires same { kept ≡ targets }
+        requires covers { (run : RunningJob) (path : List ℕ) → Contains self.old.running.items run → Contains run.job.targets path → Contains (map (λ entry. entry.0) targets) path }
         ensures gone { self.new.removals ≡ 0 }
         ensures idle { vec_len self.new.running ≡ 0 }
+        ensures others { (path : List ℕ) → (Contains (map (λ entry. entry.0) targets) path → ⊥) → slot_at self.new.slots path ≡ slot_at self.old.slots path }
+        ensures dirs { self.new.dirs ≡ self.old.dirs }
+        ensures table { self.new.table ≡ self.old.table }
     {
         self.stamp = self.stamp.saturating_add(1);
         self.slots.settle(targets, self.stamp);

@@ -56,8 +56,22 @@ fn cut_of(verdict: Verdict) -> Option<Outcome>
 }
 
 impl World for MemWorld {
+    ghost use Rattle.std.specs.Prelude.{◌↔◌, ◌⊎◌, ◌++◌, [], List, None, Contains, OnOk, OnErr, unwrap_or};
+    ghost use Rattle.world_api.specs.Around.{IsUnused, Running};
+    ghost use Rattle.world_api.specs.Calls.{Asks, Removes, CanStart, IsClosed, IsOpen, Starts, Ends};
+    ghost use Rattle.world_api.specs.Causes.{TreeFails, StartFails, HasOutcomeCause};
+    ghost use Rattle.world_api.specs.Meaning.{Told, Recalls, BanksKept, Throughout, Meanwhile};
+    ghost use Rattle.world_mem.specs.AsAround.{around_of};
+    ghost use Rattle.world_mem.specs.Blocked.{AreBlocked};
+    ghost use Rattle.world_mem.specs.CallCounts.{Fails, counted, verdict_of};
+    ghost use Rattle.world_mem.specs.Ending.{faults_after};
     ghost use Rattle.world_mem.specs.Held.{held_of};
+    ghost use Rattle.world_mem.specs.Kept.{tree_fault, start_fault};
     ghost use Rattle.world_mem.specs.Laws.{none_closed};
+    ghost use Rattle.world_mem.specs.Means.{world_meaning};
+    ghost use Rattle.world_mem.specs.Room.{recorded};
+    ghost use Rattle.world_mem.specs.Waits.{Keeps, ended_by, row_ending, row_contents};
+    ghost use Rattle.world_mem.specs.declared.calls.Call.{Call};
 
     ghost held = { λ w told path bytes is off. held_of w.state path bytes is };
 
@@ -82,7 +96,24 @@ impl World for MemWorld {
         Ok(self.state.kind(path))
     }
 
-    fn read_file(&mut self, path: &PathText, limit: u64) -> Result<Content, ReadRefusal> {
+    fn read_file(&mut self, path: &PathText, limit: u64) -> Result<Content, ReadRefusal>
+        ensures content { world_meaning.tells self.new → IfOk result (λ content. content ≡ (world_meaning.around self.new).tree path.now) }
+        ensures within { IfOk result (λ content. IfSome content (λ bytes. length bytes ≤ limit)) }
+        ensures large { world_meaning.tells self.new → IfErr result (IsOver ((world_meaning.around self.new).tree path.now)) }
+        ensures over { IfErr result (λ refusal. (size : ℕ) → refusal ≡ ReadRefusal.TooLarge size → limit < size) }
+        ensures shut { IsClosed (world_meaning.closed self.old) path.now → IfOk result (λ content. content ≡ None) }
+        ensures around { world_meaning.tells self.new → Asks (world_meaning.around self.old) (world_meaning.around self.new) }
+        ensures banks { world_meaning.tells self.new → BanksKept world_meaning self.old self.new }
+        ensures told { Told world_meaning self.old self.new }
+        ensures recalls { Recalls world_meaning self.old self.new }
+        ensures time { Throughout world_meaning self.old self.new (Meanwhile world_meaning self.old self.new) }
+        ensures kept { result ≢ Err ReadRefusal.Fault → world_meaning.counts self.new ≡ world_meaning.counts self.old }
+        ensures rose { result ≡ Err ReadRefusal.Fault → TreeFails (world_meaning.counts self.old) (world_meaning.counts self.new) }
+        ensures once { result ≡ Err ReadRefusal.Fault → world_meaning.counts self.new ≡ tree_fault (world_meaning.counts self.old) }
+        ensures exactly { result ≡ Err ReadRefusal.Fault ↔ Fails Call.ReadFile self.old.calls }
+        ensures counted { self.new.calls ≡ counted Call.ReadFile self.old.calls }
+        ensures keeps { Keeps self.old self.new }
+    {
         if self.calls.next(Call::ReadFile) != Verdict::Goes {
             self.faults.tree = self.faults.tree.saturating_add(1);
             return Err(ReadRefusal::Fault);
@@ -121,7 +152,22 @@ impl World for MemWorld {
     }
 
     /// Removes a file. Where the call is listed as one that fails, with an odd number, the file is gone nevertheless.
-    fn remove(&mut self, path: &PathText) -> Result<(), Fault> {
+    fn remove(&mut self, path: &PathText) -> Result<(), Fault>
+        requires { world_meaning.tells self.old → IsUnused (world_meaning.around self.old).running path.now }
+        ensures gone { world_meaning.tells self.new → OnOk result ((world_meaning.around self.new).tree path.now ≡ None) }
+        ensures around { world_meaning.tells self.new → Removes path.now (world_meaning.around self.old) (world_meaning.around self.new) }
+        ensures banks { world_meaning.tells self.new → BanksKept world_meaning self.old self.new }
+        ensures told { Told world_meaning self.old self.new }
+        ensures recalls { Recalls world_meaning self.old self.new }
+        ensures time { Throughout world_meaning self.old self.new (Meanwhile world_meaning self.old self.new) }
+        ensures kept { OnOk result (world_meaning.counts self.new ≡ world_meaning.counts self.old) }
+        ensures rose { OnErr result (TreeFails (world_meaning.counts self.old) (world_meaning.counts self.new)) }
+        ensures once { OnErr result (world_meaning.counts self.new ≡ tree_fault (world_meaning.counts self.old)) }
+        ensures fails { OnErr result (Fails Call.Remove self.old.calls ⊎ (262144 ≤ recorded self.old)) }
+        ensures goes { OnOk result (Fails Call.Remove self.old.calls → ⊥) }
+        ensures counted { self.new.calls ≡ counted Call.Remove self.old.calls }
+        ensures keeps { Keeps self.old self.new }
+    {
         let odd = self.calls.count(Call::Remove) % 2 == 1;
         let verdict = self.calls.next(Call::Remove);
         let full = self.is_full();
@@ -137,7 +183,25 @@ impl World for MemWorld {
         Ok(())
     }
 
-    fn start(&mut self, job: Job) -> Result<(), AskRefusal> {
+    /// Starts a job, unless the call is listed as one that fails, or a target can't be a file.
+    fn start(&mut self, job: Job) -> Result<(), AskRefusal>
+        requires free { world_meaning.tells self.old → CanStart job (world_meaning.around self.old) }
+        requires reachable { IsOpen (world_meaning.closed self.old) job }
+        ensures started { world_meaning.tells self.new → OnOk result (Starts job (world_meaning.counts self.old) (world_meaning.around self.old) (world_meaning.around self.new)) }
+        ensures refused { world_meaning.tells self.new → OnErr result (Asks (world_meaning.around self.old) (world_meaning.around self.new)) }
+        ensures banks { world_meaning.tells self.new → BanksKept world_meaning self.old self.new }
+        ensures told { Told world_meaning self.old self.new }
+        ensures recalls { Recalls world_meaning self.old self.new }
+        ensures time { Throughout world_meaning self.old self.new (Meanwhile world_meaning self.old self.new) }
+        ensures kept { result ≢ Err AskRefusal.Fault → world_meaning.counts self.new ≡ world_meaning.counts self.old }
+        ensures rose { result ≡ Err AskRefusal.Fault → StartFails (world_meaning.counts self.old) (world_meaning.counts self.new) }
+        ensures once { result ≡ Err AskRefusal.Fault → world_meaning.counts self.new ≡ start_fault (world_meaning.counts self.old) }
+        ensures listed { Fails Call.Start self.old.calls → result ≡ Err AskRefusal.Fault }
+        ensures only { result ≡ Err AskRefusal.Fault → Fails Call.Start self.old.calls ⊎ AreBlocked (world_meaning.around self.old) job.targets }
+        ensures clear { OnOk result (AreBlocked (world_meaning.around self.old) job.targets → ⊥) }
+        ensures counted { self.new.calls ≡ counted Call.Start self.old.calls }
+        ensures keeps { Keeps self.old self.new }
+    {
         let goes = self.calls.next(Call::Start) == Verdict::Goes;
         if !goes || self.state.is_blocked(self.alloc, &job.targets)? {
             self.faults.start = self.faults.start.saturating_add(1);
@@ -150,7 +214,24 @@ impl World for MemWorld {
         Ok(())
     }
 
-    fn wait(&mut self) -> Ended {
+    /// Ends the job that the orders choose: as the table says, or as the call is listed.
+    fn wait(&mut self) -> Ended
+        requires { world_meaning.tells self.old → (world_meaning.around self.old).running ≢ [] }
+        ensures around { world_meaning.tells self.new → Ends (world_meaning.sure self.new) result (world_meaning.around self.old) (world_meaning.around self.new) }
+        ensures banks { world_meaning.tells self.new → BanksKept world_meaning self.old self.new }
+        ensures told { Told world_meaning self.old self.new }
+        ensures recalls { Recalls world_meaning self.old self.new }
+        ensures time { Throughout world_meaning self.old self.new (Meanwhile world_meaning self.old self.new) }
+        ensures cause { HasOutcomeCause result.outcome (world_meaning.counts self.old) (world_meaning.counts self.new) }
+        ensures once { self.new.faults ≡ faults_after result.outcome self.old.faults }
+        ensures chosen { (d : Running) → result.id ≡ (ended_by self.old d).job.id }
+        ensures ends { (d : Running) → result.outcome ≡ unwrap_or (cut_of (verdict_of Call.Wait self.old.calls)) (row_ending self.old (ended_by self.old d)) }
+        ensures absent { (d : Running) (path : List ℕ) → result.outcome ≢ Outcome.Done → Contains (ended_by self.old d).job.targets path → (around_of self.new.state).tree path ≡ None }
+        ensures met { (d : Running) → result.outcome ≡ Outcome.Done → (around_of self.new.state).met ≡ (around_of self.old.state).met ++ row_contents self.old (ended_by self.old d) }
+        ensures unmet { result.outcome ≢ Outcome.Done → (around_of self.new.state).met ≡ (around_of self.old.state).met }
+        ensures counted { self.new.calls ≡ counted Call.Wait self.old.calls }
+        ensures keeps { Keeps self.old self.new }
+    {
         let place = place_of(
             &self.orders,
             self.calls.count(Call::Wait),

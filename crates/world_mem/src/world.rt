@@ -1,5 +1,5 @@
 //! The world in memory, and its calls that are no calls of a world.
-ghost use Rattle.std.specs.Prelude.{◌≡◌, ◌+◌, ◌-◌, ◌<◌, ◌≤◌, ◌++◌, ◌∷◌, [], ℕ, List, None, Contains, IfOk, length, vec_len};
+ghost use Rattle.std.specs.Prelude.{◌≡◌, ◌+◌, ◌-◌, ◌<◌, ◌≤◌, ◌++◌, ◌∷◌, [], ℕ, List, None, Some, Contains, IfOk, length, vec_len};
 ghost use Rattle.std.specs.Vec.{vec_capacity};
 ghost use Rattle.world_api.specs.Around.{Running};
 ghost use Rattle.world_mem.specs.AsAround.{around_of};
@@ -37,8 +37,21 @@ pub struct MemWorld {
 }
 
 impl MemWorld {
-    ghost use Rattle.std.specs.Prelude.{nat_le};
+    ghost use Rattle.std.specs.Prelude.{◌≢◌, ◌⊎◌, nat_le, map, not, Err, IfErr, OnOk, OnErr, IsTrue};
+    ghost use Rattle.mem_banks.specs.AsStore.{store_of};
+    ghost use Rattle.mem_banks.specs.Past.{is_dirty};
+    ghost use Rattle.world_api.specs.Meaning.{IsSettled};
+    ghost use Rattle.world_api.specs.declared.disk.Bank.{Bank};
+    ghost use Rattle.world_api.specs.Around.{IsRunningTarget};
+    ghost use Rattle.world_mem.specs.Blocked.{IsBarred, IsRefused, IsFirstRefused};
+    ghost use Rattle.world_mem.specs.CallCounts.{count_of};
+    ghost use Rattle.world_mem.specs.InSlots.{file_at};
+    ghost use Rattle.world_mem.specs.Kept.{counts_of};
+    ghost use Rattle.world_mem.specs.Means.{world_meaning};
     ghost use Rattle.world_mem.specs.Room.{recorded};
+    ghost use Rattle.world_mem.specs.Table.{law_of};
+    ghost use Rattle.world_mem.specs.declared.calls.Call.{Call};
+    ghost use Rattle.world_mem.specs.declared.refusal.NewRefusal.{NewRefusal};
 
     /// A world with these files in which nothing has run or failed. The pair of a call and a number makes the call of
     /// that number fail, counted from 0; the orders say which of the running jobs ends at each wait.
@@ -48,7 +61,21 @@ impl MemWorld {
         table: ActTable,
         orders: Vec<u32>,
         failing: Vec<(Call, u32)>,
-    ) -> Result<MemWorld, NewRefusal> {
+    ) -> Result<MemWorld, NewRefusal>
+        ensures tree { IfOk result (λ world. (path : List ℕ) → (around_of world.state).tree path ≡ file_at files.items path) }
+        ensures running { IfOk result (λ world. (around_of world.state).running ≡ []) }
+        ensures log { IfOk result (λ world. (around_of world.state).log ≡ []) }
+        ensures met { IfOk result (λ world. (around_of world.state).met ≡ map (λ file. file.1) files.items) }
+        ensures law { IfOk result (λ world. (around_of world.state).law ≡ law_of table) }
+        ensures seen { IfOk result (λ world. (bank : Bank) → world_meaning.seen world bank ≡ []) }
+        ensures clock { IfOk result (λ world. world_meaning.clock world ≡ 0) }
+        ensures counts { IfOk result (λ world. counts_of world.faults ≡ record { disk_faults = 0; tree_faults = 0; start_faults = 0; action_failures = 0 }) }
+        ensures calls { IfOk result (λ world. (call : Call) → count_of call world.calls ≡ 0) }
+        ensures orders { IfOk result (λ world. world.orders ≡ orders) }
+        ensures failing { IfOk result (λ world. world.calls.failing ≡ failing) }
+        ensures stand { OnOk result ((place : ℕ) → IsRefused files.items place → ⊥) }
+        ensures place { IfErr result (λ refusal. (place : ℕ) → refusal ≡ NewRefusal.Place place → IsFirstRefused files.items place) }
+    {
         let state = State::new(alloc, &files, table)?;
         let banks = MemBanks::new(alloc)?;
         let turns = room_for_turns(alloc)?;
@@ -70,17 +97,24 @@ impl MemWorld {
     }
 
     /// The bytes of a bank. This is no call of a disk.
-    pub fn bank(&self, bank: Bank) -> &[u8] {
+    pub fn bank(&self, bank: Bank) -> &[u8]
+        ensures { result.now ≡ world_meaning.seen self.now bank }
+    {
         self.banks.bytes(bank)
     }
 
     /// Whether a stop leaves the bank as it reads. This is no call of a disk.
-    pub fn synced(&self, bank: Bank) -> bool {
+    pub fn synced(&self, bank: Bank) -> bool
+        ensures settled { IsTrue result → IsSettled world_meaning self.now bank }
+        ensures exactly { result ≡ not (is_dirty bank (store_of self.now.banks).changes) }
+    {
         self.banks.is_synced(bank)
     }
 
     /// The jobs that started, in order.
-    pub fn jobs(&self) -> &[Job] {
+    pub fn jobs(&self) -> &[Job]
+        ensures { result.now ≡ self.now.state.jobs.items }
+    {
         self.state.jobs.as_slice()
     }
 
@@ -90,8 +124,18 @@ impl MemWorld {
     }
 
     /// Sets the bytes of a file, and lets the directories above it stand. The record of moments begins anew.
-    pub fn edit(&mut self, path: &PathText, bytes: &[u8]) -> Result<(), EditRefusal> {
-        if self.state.is_barred(path) {
+    pub fn edit(&mut self, path: &PathText, bytes: &[u8]) -> Result<(), EditRefusal>
+        ensures file { OnOk result ((around_of self.new.state).tree path.now ≡ Some bytes.now) }
+        ensures others { (other : List ℕ) → other ≢ path.now → (around_of self.new.state).tree other ≡ (around_of self.old.state).tree other }
+        ensures same { OnErr result ((other : List ℕ) → (around_of self.new.state).tree other ≡ (around_of self.old.state).tree other) }
+        ensures refused { result ≡ Err EditRefusal.Place → IsRunningTarget (around_of self.old.state).running path.now ⊎ IsBarred (around_of self.old.state) path.now }
+        ensures idle { (around_of self.old.state).running ≡ [] → (around_of self.new.state).running ≡ [] }
+        ensures banks { self.new.banks ≡ self.old.banks }
+        ensures faults { self.new.faults ≡ self.old.faults }
+        ensures calls { self.new.calls ≡ self.old.calls }
+        ensures orders { self.new.orders ≡ self.old.orders }
+    {
+        if self.state.is_made(path) || self.state.is_barred(path) {
             return Err(EditRefusal::Place);
         }
         self.state.edit(self.alloc, path, bytes)?;
@@ -100,13 +144,29 @@ impl MemWorld {
     }
 
     /// Removes a file. The record of moments begins anew.
-    pub fn remove_file(&mut self, path: &PathText) {
+    pub fn remove_file(&mut self, path: &PathText)
+        ensures gone { (around_of self.new.state).tree path.now ≡ None }
+        ensures others { (other : List ℕ) → other ≢ path.now → (around_of self.new.state).tree other ≡ (around_of self.old.state).tree other }
+        ensures idle { (around_of self.old.state).running ≡ [] → (around_of self.new.state).running ≡ [] }
+        ensures banks { self.new.banks ≡ self.old.banks }
+        ensures faults { self.new.faults ≡ self.old.faults }
+        ensures calls { self.new.calls ≡ self.old.calls }
+        ensures orders { self.new.orders ≡ self.old.orders }
+    {
         self.state.lose(path);
         self.horizon = self.turns.len();
     }
 
     /// After so many further calls of a disk or a world every call fails; a job that runs then ends broken.
-    pub fn fuse(&mut self, calls: u32) {
+    pub fn fuse(&mut self, calls: u32)
+        ensures fuse { self.new.calls ≡ record self.old.calls { fuse = Some calls } }
+        ensures state { self.new.state ≡ self.old.state }
+        ensures banks { self.new.banks ≡ self.old.banks }
+        ensures turns { self.new.turns ≡ self.old.turns }
+        ensures horizon { self.new.horizon ≡ self.old.horizon }
+        ensures faults { self.new.faults ≡ self.old.faults }
+        ensures orders { self.new.orders ≡ self.old.orders }
+    {
         self.calls.set_fuse(calls);
     }
 

@@ -1,4 +1,4 @@
-use Rattle.std.proofs.Common.{rules, ◌≡◌, ◌∙◌, ◌+◌, ◌-◌, ◌∷◌, sym, subst, ap, arith, take, reverse, List, ℕ, true, get_or, length, ◌<◌}
+use Rattle.std.proofs.Common.{rules, ◌≡◌, ◌∙◌, ◌+◌, ◌-◌, ◌∷◌, sym, subst, ap, arith, take, reverse, List, true, get_or, length, ◌<◌}
 use Rattle.mem_banks.specs.declared.change.Change.{Change}
 use Rattle.mem_banks.specs.declared.change.Change.TheVariants.{Wrote}
 use Rattle.mem_banks.specs.Past.{IsLeft, IsAt, same_bank}

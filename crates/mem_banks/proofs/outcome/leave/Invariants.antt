@@ -1,4 +1,4 @@
-use Rattle.std.proofs.Common.{◌≡◌, ◌≤◌, ℕ, List, length, take, reverse}
+use Rattle.std.proofs.Common.{◌≤◌, ℕ, List, length, take, reverse}
 use Rattle.mem_banks.specs.Past.{IsLeft, IsAt}
 use Rattle.mem_banks.proofs.outcome.leave.Given as goal
 

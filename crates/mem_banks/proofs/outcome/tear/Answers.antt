@@ -1,4 +1,4 @@
-use Rattle.std.proofs.Common.{rules, ◌≡◌, ◌≤◌, sym, subst, arith, List, ℕ, length}
+use Rattle.std.proofs.Common.{rules, ◌≤◌, sym, subst, length}
 use Rattle.world_api.specs.Banks.{Torn}
 use Rattle.mem_banks.proofs.Splices.{splice_torn}
 use Rattle.mem_banks.proofs.outcome.tear.Goals as goal

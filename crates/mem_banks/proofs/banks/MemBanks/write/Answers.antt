@@ -1,11 +1,10 @@
-use Rattle.std.proofs.Common.{rules, ◌≡◌, ◌∙◌, sym, subst, reverse, ap, [], ◌∷◌, ◌++◌, List, ℕ, true, cond, length}
+use Rattle.std.proofs.Common.{◌≡◌, ◌∙◌, sym, subst, reverse, ap, [], ◌∷◌, ◌++◌, List, ℕ, true, cond, length}
 use Rattle.std.proofs.lemmas.List.{reverse-append}
 use Rattle.world_api.specs.declared.disk.Bank.{Bank}
 use Rattle.world_api.specs.declared.disk.Bank.TheVariants.{A, B}
 use Rattle.mem_banks.specs.declared.change.Change.{Change}
 use Rattle.mem_banks.specs.declared.change.Change.TheVariants.{Wrote}
-use Rattle.mem_banks.specs.declared.change.Write.{Write}
-use Rattle.mem_banks.specs.Past.{Store, IsWhole, wrote, write_of, same_bank, is_dirty, bytes_in, overwritten}
+use Rattle.mem_banks.specs.Past.{Store, IsWhole, wrote, same_bank, is_dirty, bytes_in, overwritten}
 use Rattle.mem_banks.specs.AsStore.{store_of}
 use Rattle.mem_banks.proofs.Images.{wrote_whole}
 use Rattle.mem_banks.proofs.banks.MemBanks.write.Goals as goal
@@ -30,7 +29,7 @@ invariant_of-self-clause-whole c =
       saved = c.put-kept.ensures.saved i;
     } in
     let P : Store → Type 0 = λ t. IsWhole t.changes t.a t.b t.saved in
-    subst P (sym same) (wrote_whole c.args.bank c.args.place c.args.bytes.now c.args.count old c.requires.within c.requires.count c.args.self.now.whole)
+    subst P (sym same) (wrote_whole c.args.bank c.args.place c.args.bytes.now c.args.count old c.requires.within c.requires.count c.requires.room c.args.self.now.whole)
 
 pub invariant_of-self-clause-clean_a : goal.invariant_of-self-clause-clean_a
 invariant_of-self-clause-clean_a c =

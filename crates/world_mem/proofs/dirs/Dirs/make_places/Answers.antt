@@ -1,4 +1,4 @@
-use Rattle.std.proofs.Common.{◌≡◌, ap, List, ℕ, ◌||◌}
+use Rattle.std.proofs.Common.{ap, ◌||◌}
 use Rattle.world_mem.specs.Standing.{is_always}
 use Rattle.world_mem.proofs.dirs.Dirs.make_places.Goals as goal
 

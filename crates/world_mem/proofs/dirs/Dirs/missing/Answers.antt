@@ -1,4 +1,4 @@
-use Rattle.std.proofs.Common.{◌≡◌, ◌∙◌, ◌⊎◌, ◌↔◌, subst, sym, List, ℕ, false, Contains}
+use Rattle.std.proofs.Common.{◌≡◌, ◌∙◌, ◌⊎◌, ◌↔◌, subst, List, ℕ, false, Contains}
 use Rattle.mem_banks.proofs.Cuts.{on_ok}
 use Rattle.world_mem.specs.Standing.{is_dir}
 use Rattle.world_mem.proofs.Fresh.{both_added}

@@ -1,4 +1,4 @@
-use Rattle.std.proofs.Common.{◌≡◌, ◌∙◌, sym, ap, subst, List, ℕ}
+use Rattle.std.proofs.Common.{◌∙◌, sym}
 use Rattle.mem_banks.proofs.Cuts.{on_ok}
 use Rattle.world_mem.specs.Standing.{is_dir}
 use Rattle.world_mem.proofs.Fresh.{added}

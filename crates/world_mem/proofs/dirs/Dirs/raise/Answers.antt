@@ -1,4 +1,4 @@
-use Rattle.std.proofs.Common.{◌≡◌, ◌∙◌, ap, subst, List, ℕ, IsSome, ◌||◌}
+use Rattle.std.proofs.Common.{◌∙◌, ap, subst, List, ℕ, IsSome, ◌||◌}
 use Rattle.world_mem.specs.InSlots.{slot_at, holds_live}
 use Rattle.world_mem.specs.Standing.{is_always}
 use Rattle.world_mem.proofs.Raised.{raised_dirs}

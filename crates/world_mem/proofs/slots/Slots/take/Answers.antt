@@ -1,4 +1,4 @@
-use Rattle.std.proofs.Common.{rules, ◌≡◌, ◌∙◌, ap, sym, subst, List, ℕ, Some}
+use Rattle.std.proofs.Common.{rules, ◌≡◌, ◌∙◌, ap, subst, List, ℕ, Some}
 use Rattle.world_mem.proofs.Keys.{updated_at}
 use Rattle.world_mem.proofs.Written.{taken_at}
 use Rattle.world_mem.specs.InSlots.{slot_at, taken, emptied}

@@ -1,4 +1,4 @@
-use Rattle.std.proofs.Common.{◌≡◌, ◌∙◌, sym, ap, subst, inl, inr, ◌<◌, ℕ, List, Some, Option, Contains, ◌∷◌, ◌++◌, length, map, take, drop, suc, refl, true, is_some, false, None, reverse, insert, unwrap_or}
+use Rattle.std.proofs.Common.{◌≡◌, ◌∙◌, sym, ap, subst, inl, inr, ◌<◌, ℕ, List, Some, Option, Contains, ◌∷◌, ◌++◌, length, map, take, drop, suc, refl, true, is_some, None, reverse, insert, unwrap_or}
 use Rattle.std.specs.List.{slice_index_or, list_any, remove}
 use Rattle.std.specs.Str.{bytes_eq}
 use Rattle.world_mem.specs.InSlots.{slot_at, content_of, stamp_at}

@@ -1,6 +1,6 @@
-use Rattle.std.proofs.Common.{◌≡◌, ◌⊎◌, ◌∙◌, sym, ap, subst, inl, inr, refl, ℕ, List, true, false}
+use Rattle.std.proofs.Common.{◌≡◌, ◌∙◌, sym, subst, inl, inr, true, false}
 use Rattle.world_mem.specs.AsAround.{around_of}
-use Rattle.world_mem.specs.Blocked.{IsTaken, IsBarred, HasAbove}
+use Rattle.world_mem.specs.Blocked.{IsTaken, IsBarred}
 use Rattle.world_mem.specs.InSlots.{Stands}
 use Rattle.world_mem.proofs.Below.{above_weaker}
 use Rattle.world_mem.proofs.Taken.{taken, stands}

@@ -1,7 +1,7 @@
-use Rattle.std.proofs.Common.{◌≡◌, ◌⊎◌, ◌∙◌, sym, ap, subst, inl, inr, refl, ℕ, List, true, false}
+use Rattle.std.proofs.Common.{◌≡◌, ◌∙◌, sym, subst, inl, inr, true, false}
 use Rattle.world_mem.specs.AsAround.{around_of}
-use Rattle.world_mem.specs.Blocked.{IsTaken, IsInTheWay, HasAbove}
-use Rattle.world_mem.specs.InSlots.{slot_at, holds_live, Stands}
+use Rattle.world_mem.specs.Blocked.{IsTaken, IsInTheWay}
+use Rattle.world_mem.specs.InSlots.{Stands}
 use Rattle.world_mem.proofs.Below.{above_weaker}
 use Rattle.world_mem.proofs.Taken.{taken, stands}
 use Rattle.world_mem.proofs.state.State.is_taken.Goals as goal

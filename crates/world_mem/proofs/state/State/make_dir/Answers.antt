@@ -1,4 +1,4 @@
-use Rattle.std.proofs.Common.{◌≡◌, ◌∙◌, ◌||◌, ap, refl, reverse, ℕ, List, ◌++◌, ◌∷◌, []}
+use Rattle.std.proofs.Common.{◌∙◌, ◌||◌, ap, refl, reverse, ◌++◌, ◌∷◌, []}
 use Rattle.world_mem.specs.AsCourse.{course_of}
 use Rattle.world_mem.specs.Standing.{is_dir, is_in}
 use Rattle.world_mem.specs.declared.past.Change.TheVariants.{Made}

@@ -23,3 +23,6 @@ returns-clause-met c =
     ∙ ap (λ (groups : List (List (List ℕ × Option (List ℕ)))). met_of groups ++ contents_in group) c.in_ok-met.ensures.empty
     ∙ ap contents_in c.in_ok-group.ensures
     ∙ contents_in-files c.args.files.now
+
+pub invariant_of-result-clause-named : goal.invariant_of-result-clause-named
+invariant_of-result-clause-named c = λ path file h. c.in_ok-fill.ensures.named path file h

@@ -1,10 +1,9 @@
-use Rattle.std.proofs.Common.{◌≡◌, ◌∙◌, sym, ap, subst, ℕ, List, Contains, ◌∷◌, [], None, refl, reverse}
+use Rattle.std.proofs.Common.{◌∙◌, sym, ap, refl, reverse}
 use Rattle.world_mem.specs.AsCourse.{course_of}
-use Rattle.world_mem.specs.InSlots.{slot_at, file_of, content_of, mark_of}
-use Rattle.world_mem.specs.Kept.{running_of}
+use Rattle.world_mem.specs.InSlots.{slot_at}
 use Rattle.world_mem.specs.declared.past.Change.TheVariants.{Removed}
 use Rattle.world_mem.proofs.Backs.{pushed, newest, same_around, file_back, stamp_back}
-use Rattle.world_mem.proofs.Membership.{contains_map}
+use Rattle.world_mem.proofs.Emptied.{still_owned, still_marks, still_held, still_named}
 use Rattle.world_mem.proofs.state.State.remove.Goals as goal
 
 pub returns-in-Some-clause-back : goal.returns-in-Some-clause-back
@@ -20,3 +19,27 @@ returns-in-Some-clause-back c = λ _.
     (λ _. refl)
     (stamp_back path file (slot_at old.slots) (slot_at c.take.new.self) c.take.ensures.slots is name)
     refl refl refl refl refl)
+
+pub invariant_of-self-clause-owned : goal.invariant_of-self-clause-owned
+invariant_of-self-clause-owned c = still_owned c.args.self.now c.args.path.now c.take.new.self c.take.ensures.slots
+
+pub invariant_of-self-clause-marks : goal.invariant_of-self-clause-marks
+invariant_of-self-clause-marks c = still_marks c.args.self.now c.args.path.now c.take.new.self c.take.ensures.slots
+
+pub invariant_of-self-clause-held : goal.invariant_of-self-clause-held
+invariant_of-self-clause-held c = still_held c.args.self.now c.args.path.now c.take.new.self c.take.ensures.slots
+
+pub invariant_of-self-clause-named : goal.invariant_of-self-clause-named
+invariant_of-self-clause-named c = still_named c.args.self.now c.args.path.now c.take.new.self c.take.ensures.slots
+
+pub invariant_of-self-in-None-clause-owned : goal.invariant_of-self-in-None-clause-owned
+invariant_of-self-in-None-clause-owned c = still_owned c.args.self.now c.args.path.now c.take.new.self c.take.ensures.slots
+
+pub invariant_of-self-in-None-clause-marks : goal.invariant_of-self-in-None-clause-marks
+invariant_of-self-in-None-clause-marks c = still_marks c.args.self.now c.args.path.now c.take.new.self c.take.ensures.slots
+
+pub invariant_of-self-in-None-clause-held : goal.invariant_of-self-in-None-clause-held
+invariant_of-self-in-None-clause-held c = still_held c.args.self.now c.args.path.now c.take.new.self c.take.ensures.slots
+
+pub invariant_of-self-in-None-clause-named : goal.invariant_of-self-in-None-clause-named
+invariant_of-self-in-None-clause-named c = still_named c.args.self.now c.args.path.now c.take.new.self c.take.ensures.slots

@@ -3,14 +3,12 @@ use Rattle.std.proofs.lemmas.List.{map-append}
 use Rattle.world_api.specs.Around.{given_of}
 use Rattle.world_api.specs.declared.job.Job.{Job}
 use Rattle.world_mem.specs.AsAround.{around_of}
-use Rattle.world_mem.specs.AsCourse.{course_of}
 use Rattle.world_mem.specs.InSlots.{content_of, stamp_at}
 use Rattle.world_mem.specs.Kept.{met_of, running_of, entry_of}
 use Rattle.world_mem.specs.Past.{Course}
 use Rattle.world_mem.specs.Standing.{is_dir, is_in}
 use Rattle.world_mem.specs.Table.{law_of}
 use Rattle.world_mem.specs.declared.event.Event.{Event}
-use Rattle.world_mem.specs.declared.event.Event.TheVariants as events
 use Rattle.world_mem.specs.declared.running.RunningJob.{RunningJob}
 use Rattle.world_mem.proofs.Membership.{contains_map}
 use Rattle.world_mem.proofs.Raised.{gained_dirs, not_always}

@@ -8,6 +8,9 @@ use Rattle.world_mem.proofs.world.MemWorld.take.Goals as goal
 pub invariant_of-self-clause-unmade : goal.invariant_of-self-clause-unmade
 invariant_of-self-clause-unmade c = unmade_of c.remove.new.self
 
+pub invariant_of-self-2-clause-unmade : goal.invariant_of-self-2-clause-unmade
+invariant_of-self-2-clause-unmade c = unmade_of c.remove.new.self
+
 pub returns-then-not-remove-clause-recalls : goal.returns-then-not-remove-clause-recalls
 returns-then-not-remove-clause-recalls c = idle_recalls _ _ (record { turns = refl; horizon = refl; machine = λ i. record { course = c.remove.ensures.same c.if-not-remove.true i; store = store_of c.args.self.now.banks } })
 

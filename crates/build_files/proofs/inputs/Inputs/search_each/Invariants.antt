@@ -1,0 +1,9 @@
+use Rattle.std.proofs.Common.{◌≡◌}
+use Rattle.build_files.specs.Looks.{Looks}
+use Rattle.build_files.proofs.inputs.Inputs.search_each.Given as goal
+
+abbrev pub invariant-loop-include : goal.invariant-loop-include
+invariant-loop-include g l = record {
+  looks : Looks g.W.Disk.meaning l.fn.world l.world;
+  counts : g.W.Disk.meaning.counts l.world ≡ g.W.Disk.meaning.counts l.fn.world;
+}

@@ -1,0 +1,18 @@
+use Rattle.std.proofs.Common.{◌∙◌}
+use Rattle.build_files.proofs.Looking.{looks_joined}
+use Rattle.build_files.proofs.record.is_stale.Goals as goal
+
+pub returns-in_err-is_file_at-clause-looks : goal.returns-in_err-is_file_at-clause-looks
+returns-in_err-is_file_at-clause-looks g c = looks_joined _ _ _ _ c.loop-target.invariant.looks c.is_file_at.ensures.looks
+
+pub returns-then-not-branch-clause-looks : goal.returns-then-not-branch-clause-looks
+returns-then-not-branch-clause-looks g c = looks_joined _ _ _ _ c.loop-target.invariant.looks c.is_file_at.ensures.looks
+
+pub returns-then-not-has_record-clause-looks : goal.returns-then-not-has_record-clause-looks
+returns-then-not-has_record-clause-looks g c = looks_joined _ _ _ _ c.loop-target.invariant.looks c.is_file_at.ensures.looks
+
+pub loop-target-preserved : goal.loop-target-preserved
+loop-target-preserved g c = record {
+  looks = looks_joined _ _ _ _ c.loop-target.invariant.looks c.is_file_at.ensures.looks;
+  counts = c.in_ok-is_file_at.ensures.cause ∙ c.loop-target.invariant.counts;
+}

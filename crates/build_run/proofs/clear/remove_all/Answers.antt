@@ -1,0 +1,23 @@
+use Rattle.std.proofs.Common.{arith}
+use Rattle.build_run.proofs.Goings.{stays_on, unused_still, unused_in, gone_still}
+use Rattle.build_run.proofs.clear.remove_all.Goals as goal
+
+pub remove-requires : goal.remove-requires
+remove-requires g c = λ t.
+    let p = c.loop-target.invariant.stays.goes in
+    unused_still c.args.targets.now c.loop-target.target-index c.target-item.result (omega arith) c.target-item.is (p.runs t) (c.requires (p.passes.told.told t))
+
+pub returns-in_err-remove-clause-stays : goal.returns-in_err-remove-clause-stays
+returns-in_err-remove-clause-stays g c = stays_on g.W.Disk.meaning _ _ _ c.loop-target.invariant.stays c.remove.ensures.stays
+
+pub loop-target-preserved : goal.loop-target-preserved
+loop-target-preserved g c =
+    let m = g.W.Disk.meaning in
+    let p = c.loop-target.invariant.stays.goes in
+    let q = c.remove.ensures.stays.goes.passes in
+    record {
+      stays = stays_on m _ _ _ c.loop-target.invariant.stays c.remove.ensures.stays;
+      gone = λ t. gone_still (m.around c.loop-target.world) (m.around c.remove.new.world) c.args.targets.now c.loop-target.target-index c.target-item.result (omega arith) c.target-item.is
+          (λ path h. let before = q.told.told t in unused_in (p.runs before) (c.requires (p.passes.told.told before) path h))
+          (c.loop-target.invariant.gone (q.told.told t)) (c.in_ok-remove.ensures.gone t) (c.in_ok-remove.ensures.others t);
+    }

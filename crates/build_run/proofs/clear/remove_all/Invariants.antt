@@ -1,0 +1,11 @@
+use Rattle.std.proofs.Common.{◌≡◌, ℕ, ◌<◌, List, None, get_or}
+use Rattle.build_run.specs.Goings.{Stays}
+use Rattle.build_run.proofs.clear.remove_all.Given as goal
+
+abbrev pub invariant-loop-target : goal.invariant-loop-target
+invariant-loop-target g l =
+    let m = g.W.Disk.meaning in
+    record {
+      stays : Stays m l.fn.world l.world;
+      gone : m.tells l.world → (k : ℕ) (d : List ℕ) → k < l.target-index → (m.around l.world).tree (get_or l.targets k d) ≡ None;
+    }

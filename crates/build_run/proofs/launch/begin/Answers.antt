@@ -1,0 +1,8 @@
+use Rattle.build_run.proofs.Goings.{can_start, joined_started}
+use Rattle.build_run.proofs.launch.begin.Goals as goal
+
+pub start-requires-clause-free : goal.start-requires-clause-free
+start-requires-clause-free g c = λ t. can_start c.args.job (g.W.Disk.meaning.around c.args.world.now) c.args.tickets.now (c.requires.joined.runs t) c.requires.apart (c.requires.clear t)
+
+pub returns-in-Ok-clause-started : goal.returns-in-Ok-clause-started
+returns-in-Ok-clause-started g c = joined_started g.W.Disk.meaning c.args.world.now c.start.new.self c.args.tickets.now c.args.job c.start.ensures.told.told (λ t. c.in-Ok.ensures.started t) c.requires.apart c.requires.joined

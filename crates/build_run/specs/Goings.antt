@@ -1,0 +1,37 @@
+-- What goes on while a build makes its calls.
+use Rattle.std.specs.Prelude.{◌≡◌, ◌≢◌, Bool, false, ℕ, List, None}
+use Rattle.world_api.specs.Around.{Around, IsRunningTarget}
+use Rattle.world_api.specs.Causes.{Later}
+use Rattle.world_api.specs.Meaning.{Meaning, Told, BanksKept}
+use Rattle.sign_store.specs.Stores.{IsStoredIn}
+use Rattle.sign_store.specs.declared.store.Store.{Store}
+use Rattle.build_run.specs.declared.tickets.Hold.{Hold}
+use Rattle.build_run.specs.Holds.{holds_of, AreApart}
+
+-- any calls: who tells now told before, no directory was closed, and no count fell
+pub record Passes {W : Type 0} (m : Meaning W) (old new : W) : Type 0 where
+  pub told : Told m old new
+  pub later : Later (m.counts old) (m.counts new)
+
+-- calls that neither start a job nor wait for one
+pub record Goes {W : Type 0} (m : Meaning W) (old new : W) : Type 0 where
+  pub passes : Passes m old new
+  pub runs : m.tells new → (m.around new).running ≡ (m.around old).running
+
+-- the same, and no bank was written
+pub record Stays {W : Type 0} (m : Meaning W) (old new : W) : Type 0 where
+  pub goes : Goes m old new
+  pub banks : m.tells new → BanksKept m old new
+
+-- the running jobs are those of the tickets, and no two have one number
+pub record IsJoined {W : Type 0} (m : Meaning W) (world : W) (holds : List Hold) : Type 0 where
+  pub apart : AreApart holds
+  pub runs : m.tells world → holds_of (m.around world).running ≡ holds
+
+-- the store stands in the banks, unless the disk has refused
+abbrev pub IsStored : {W : Type 0} → Meaning W → W → Store → Bool → Type 0
+IsStored m world store shut = shut ≡ false → m.tells world → IsStoredIn (m.seen world) store
+
+-- what was no file and isn't a target of a running job is none still
+abbrev pub Leaves : List ℕ → Around → Around → Type 0
+Leaves path old new = (other : List ℕ) → other ≢ path → (IsRunningTarget old.running other → ⊥) → old.tree other ≡ None → new.tree other ≡ None

@@ -1,0 +1,135 @@
+//! Clearing the way of an action: the directories of its targets stand, their records are withdrawn, and they are removed.
+ghost use Rattle.std.specs.Prelude.{◌≡◌, [], None, List, ℕ, Contains, OnOk};
+ghost use Rattle.build_run.specs.Goings.{Goes, Stays, IsJoined, IsStored, Leaves};
+ghost use Rattle.build_run.specs.Holds.{KeepsApart};
+ghost use Rattle.build_run.specs.declared.tickets.Hold.{Hold};
+ghost use Rattle.world_api.specs.Around.{IsUnused};
+
+use crate::account::Account;
+use crate::tickets::Tickets;
+use build_files::ListEnd;
+use indexmap::IndexSet;
+use rule_graph::BuildFault;
+use scons_base::PathText;
+use sign_store::{Store, Ticket};
+use std::alloc::Global;
+use world_api::{AskRefusal, Job, World};
+
+/// Makes the directories of a job's targets, withdraws their records, and removes them.
+pub(crate) fn clear<W: World>(
+    dirs: &mut IndexSet<PathText>,
+    account: &mut Account,
+    store: &mut Store,
+    world: &mut W,
+    job: &Job,
+    ticket: &Ticket,
+    tickets: &Tickets,
+) -> Result<(), ListEnd>
+    requires unclosed { W.meaning.closed world.old ≡ [] }
+    requires joined { IsJoined W.meaning world.old tickets.now }
+    requires stored { IsStored W.meaning world.old store.old account.old.is_store_shut }
+    requires apart { (hold : Hold) → Contains tickets.now hold → KeepsApart job.now hold }
+    ensures goes { Goes W.meaning world.old world.new }
+    ensures stored { IsStored W.meaning world.new store.new account.new.is_store_shut }
+    ensures gone { W.meaning.tells world.new → OnOk result ((path : List ℕ) → Contains job.now.targets path → (W.meaning.around world.new).tree path ≡ None) }
+{
+    let targets = job.targets.as_slice();
+    make_dirs(account.alloc, world, dirs, targets)?;
+    withdraw(account, store, world, ticket)?;
+    remove_all(world, targets)
+}
+
+/// Withdraws the records of a ticket. A store that refuses is noted.
+fn withdraw<W: World>(
+    account: &mut Account,
+    store: &mut Store,
+    world: &mut W,
+    ticket: &Ticket,
+) -> Result<(), ListEnd>
+    requires { IsStored W.meaning world.old store.old account.old.is_store_shut }
+    ensures goes { Goes W.meaning world.old world.new }
+    ensures stored { IsStored W.meaning world.new store.new account.new.is_store_shut }
+{
+    if account.is_store_shut {
+        return Err(ListEnd::Fault(BuildFault::StoreFault));
+    }
+    match store.withdraw(world, ticket) {
+        Ok(()) => Ok(()),
+        Err(_) => {
+            account.is_store_shut = true;
+            Err(ListEnd::Fault(BuildFault::StoreFault))
+        }
+    }
+}
+
+/// Removes the targets.
+fn remove_all<W: World>(world: &mut W, targets: &[PathText]) -> Result<(), ListEnd>
+    requires { W.meaning.tells world.old → (path : List ℕ) → Contains targets.now path → IsUnused (W.meaning.around world.old).running path }
+    ensures stays { Stays W.meaning world.old world.new }
+    ensures gone { W.meaning.tells world.new → OnOk result ((path : List ℕ) → Contains targets.now path → (W.meaning.around world.new).tree path ≡ None) }
+{
+    for target in targets {
+        remove(world, target)?;
+    }
+    Ok(())
+}
+
+fn remove<W: World>(world: &mut W, target: &PathText) -> Result<(), ListEnd>
+    requires { W.meaning.tells world.old → IsUnused (W.meaning.around world.old).running target.now }
+    ensures stays { Stays W.meaning world.old world.new }
+    ensures gone { W.meaning.tells world.new → OnOk result ((W.meaning.around world.new).tree target.now ≡ None) }
+    ensures others { W.meaning.tells world.new → Leaves target.now (W.meaning.around world.old) (W.meaning.around world.new) }
+{
+    match world.remove(target) {
+        Ok(()) => Ok(()),
+        Err(_) => Err(ListEnd::tree(target)),
+    }
+}
+
+/// Makes the directories of some targets.
+fn make_dirs<W: World>(
+    alloc: Global,
+    world: &mut W,
+    dirs: &mut IndexSet<PathText>,
+    targets: &[PathText],
+) -> Result<(), ListEnd>
+    requires { W.meaning.closed world.old ≡ [] }
+    ensures { Stays W.meaning world.old world.new }
+{
+    for target in targets {
+        make_dir(alloc, world, dirs, target)?;
+    }
+    Ok(())
+}
+
+/// Makes the directory of a target, unless that was done before.
+fn make_dir<W: World>(
+    alloc: Global,
+    world: &mut W,
+    dirs: &mut IndexSet<PathText>,
+    target: &PathText,
+) -> Result<(), ListEnd>
+    requires { W.meaning.closed world.old ≡ [] }
+    ensures { Stays W.meaning world.old world.new }
+{
+    let Ok(dir) = PathText::read(alloc, target.dir()) else {
+        return Err(ListEnd::Memory);
+    };
+    if dirs.contains(&dir) {
+        return Ok(());
+    }
+    raise_dir(world, &dir)?;
+    let _ = dirs.insert(dir)?;
+    Ok(())
+}
+
+fn raise_dir<W: World>(world: &mut W, dir: &PathText) -> Result<(), ListEnd>
+    requires { W.meaning.closed world.old ≡ [] }
+    ensures { Stays W.meaning world.old world.new }
+{
+    match world.make_dir(dir) {
+        Ok(()) => Ok(()),
+        Err(AskRefusal::Fault) => Err(ListEnd::tree(dir)),
+        Err(AskRefusal::Memory) => Err(ListEnd::Memory),
+    }
+}

@@ -1,0 +1,84 @@
+//! Starting a job.
+ghost use Rattle.std.specs.Prelude.{◌≡◌, ◌++◌, ◌∷◌, [], None, List, ℕ, Contains, OnOk, OnErr};
+ghost use Rattle.build_run.specs.Goings.{Passes, IsJoined, IsStored};
+ghost use Rattle.build_run.specs.Holds.{hold_for, KeepsApart};
+ghost use Rattle.build_run.specs.declared.tickets.Hold.{Hold};
+ghost use Rattle.world_api.specs.Meaning.{BanksKept};
+
+use crate::account::Account;
+use crate::clear::clear;
+use crate::tickets::Tickets;
+use build_files::{ListEnd, first_target};
+use indexmap::IndexSet;
+use rule_graph::{BuildFault, Graph};
+use scons_base::{PathText, RuleId};
+use scons_report::print;
+use sign_store::{Store, Ticket};
+use world_api::{AskRefusal, Job, Sink, World};
+
+/// Clears the way of a job, prints its text and starts it.
+pub(crate) fn launch<W: World, O: Sink>(
+    graph: &Graph,
+    tickets: &Tickets,
+    dirs: &mut IndexSet<PathText>,
+    account: &mut Account,
+    store: &mut Store,
+    world: &mut W,
+    out: &mut O,
+    text: &str,
+    job: Job,
+    ticket: &Ticket,
+) -> Result<(), ListEnd>
+    requires unclosed { W.meaning.closed world.old ≡ [] }
+    requires joined { IsJoined W.meaning world.old tickets.now }
+    requires stored { IsStored W.meaning world.old store.old account.old.is_store_shut }
+    requires apart { (hold : Hold) → Contains tickets.now hold → KeepsApart job hold }
+    ensures passes { Passes W.meaning world.old world.new }
+    ensures started { OnOk result (IsJoined W.meaning world.new (tickets.now ++ hold_for job ∷ [])) }
+    ensures refused { OnErr result (IsJoined W.meaning world.new tickets.now) }
+    ensures stored { IsStored W.meaning world.new store.new account.new.is_store_shut }
+{
+    clear(dirs, account, store, world, &job, ticket, tickets)?;
+    show(account, out, text)?;
+    begin(graph, world, job, tickets)
+}
+
+/// Prints the text of a rule. A sink that refuses is noted.
+fn show<O: Sink>(account: &mut Account, out: &mut O, text: &str) -> Result<(), ListEnd>
+    ensures { account.new.is_store_shut ≡ account.old.is_store_shut }
+{
+    match print(out, text) {
+        Ok(()) => Ok(()),
+        Err(_) => {
+            account.is_out_shut = true;
+            Err(ListEnd::Fault(BuildFault::OutFault))
+        }
+    }
+}
+
+/// Starts a job.
+fn begin<W: World>(graph: &Graph, world: &mut W, job: Job, tickets: &Tickets) -> Result<(), ListEnd>
+    requires unclosed { W.meaning.closed world.old ≡ [] }
+    requires joined { IsJoined W.meaning world.old tickets.now }
+    requires apart { (hold : Hold) → Contains tickets.now hold → KeepsApart job hold }
+    requires clear { W.meaning.tells world.old → (path : List ℕ) → Contains job.targets path → (W.meaning.around world.old).tree path ≡ None }
+    ensures passes { Passes W.meaning world.old world.new }
+    ensures banks { W.meaning.tells world.new → BanksKept W.meaning world.old world.new }
+    ensures started { OnOk result (IsJoined W.meaning world.new (tickets.now ++ hold_for job ∷ [])) }
+    ensures refused { OnErr result (IsJoined W.meaning world.new tickets.now) }
+{
+    let rule = RuleId(job.id);
+    match world.start(job) {
+        Ok(()) => Ok(()),
+        Err(AskRefusal::Fault) => Err(unstarted(graph, rule)),
+        Err(AskRefusal::Memory) => Err(ListEnd::Memory),
+    }
+}
+
+/// The fault that the action of a rule wasn't started.
+fn unstarted(graph: &Graph, rule: RuleId) -> ListEnd {
+    match first_target(graph, rule) {
+        Ok(target) => ListEnd::Fault(BuildFault::StartFault(target)),
+        Err(_) => ListEnd::Memory,
+    }
+}

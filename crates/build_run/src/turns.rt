@@ -1,0 +1,194 @@
+//! The turns of a build: what the plan wants is done, and the plan is told what came of it.
+ghost use Rattle.std.specs.Prelude.{◌≡◌, ◌≤◌, ◌<◌, [], length};
+ghost use Rattle.build_run.specs.Goings.{Stays, Passes, IsJoined, IsStored};
+ghost use Rattle.scons_base.specs.declared.ids.RuleId.{RuleId};
+
+use crate::account::Account;
+use crate::building::{Options, Run};
+use crate::decide::decide;
+use crate::ending::take_ending;
+use build_files::{Inputs, ListEnd};
+use rule_graph::Graph;
+use scons_base::limits::JOB_LIMIT;
+use scons_base::{NodeId, RuleId};
+use sign_store::Store;
+use task_plan::{PlanEvent, Want};
+use world_api::{Sink, World};
+
+/// Does what the plan wants until it rests, and waits for what runs still.
+pub(crate) fn go_on<W: World, O: Sink, E: Sink>(
+    graph: &mut Graph,
+    run: &mut Run,
+    account: &mut Account,
+    store: &mut Store,
+    world: &mut W,
+    out: &mut O,
+    err: &mut E,
+    options: &Options,
+)
+    requires unclosed { W.meaning.closed world.old ≡ [] }
+    requires none { run.old.tickets ≡ [] }
+    requires joined { IsJoined W.meaning world.old run.old.tickets }
+    requires stored { IsStored W.meaning world.old store.old account.old.is_store_shut }
+    ensures passes { Passes W.meaning world.old world.new }
+    ensures idle { W.meaning.tells world.new → (W.meaning.around world.new).running ≡ [] }
+{
+    take_turns(graph, run, account, store, world, out, err, options);
+    wait_for_all(graph, run, account, store, world, err, options);
+}
+
+fn take_turns<W: World, O: Sink, E: Sink>(
+    graph: &mut Graph,
+    run: &mut Run,
+    account: &mut Account,
+    store: &mut Store,
+    world: &mut W,
+    out: &mut O,
+    err: &mut E,
+    options: &Options,
+)
+    requires unclosed { W.meaning.closed world.old ≡ [] }
+    requires none { run.old.tickets ≡ [] }
+    requires joined { IsJoined W.meaning world.old run.old.tickets }
+    requires stored { IsStored W.meaning world.old store.old account.old.is_store_shut }
+    ensures passes { Passes W.meaning world.old world.new }
+    ensures joined { IsJoined W.meaning world.new run.new.tickets }
+    ensures stored { IsStored W.meaning world.new store.new account.new.is_store_shut }
+{
+    for _turn in 0..u64::MAX {
+        let wanted = want(run, options);
+        if wanted == Want::Rest {
+            break;
+        }
+        let done = take_turn(graph, run, account, store, world, out, err, options, wanted);
+        tell(graph, run, account, err, done);
+    }
+}
+
+/// Waits for the jobs that run still.
+fn wait_for_all<W: World, E: Sink>(
+    graph: &Graph,
+    run: &mut Run,
+    account: &mut Account,
+    store: &mut Store,
+    world: &mut W,
+    err: &mut E,
+    options: &Options,
+)
+    requires joined { IsJoined W.meaning world.old run.old.tickets }
+    requires stored { IsStored W.meaning world.old store.old account.old.is_store_shut }
+    ensures passes { Passes W.meaning world.old world.new }
+    ensures idle { W.meaning.tells world.new → (W.meaning.around world.new).running ≡ [] }
+{
+    let running = run.tickets.len();
+    for _turn in 0..running {
+        if run.tickets.len() == 0 {
+            break;
+        }
+        let event = take_ending(graph, &mut run.tickets, account, store, world, err, options);
+        tell(graph, run, account, err, Ok(event));
+    }
+}
+
+/// Does what is wanted.
+fn take_turn<W: World, O: Sink, E: Sink>(
+    graph: &mut Graph,
+    run: &mut Run,
+    account: &mut Account,
+    store: &mut Store,
+    world: &mut W,
+    out: &mut O,
+    err: &mut E,
+    options: &Options,
+    wanted: Want,
+) -> Result<PlanEvent, ListEnd>
+    requires unclosed { W.meaning.closed world.old ≡ [] }
+    requires some { wanted ≡ Want.Wait → 0 < length run.old.tickets }
+    requires room { (rule : RuleId) → wanted ≡ Want.Decide rule → length run.old.tickets < 64 }
+    requires limit { length run.old.tickets ≤ 64 }
+    requires joined { IsJoined W.meaning world.old run.old.tickets }
+    requires stored { IsStored W.meaning world.old store.old account.old.is_store_shut }
+    ensures passes { Passes W.meaning world.old world.new }
+    ensures limit { length run.new.tickets ≤ 64 }
+    ensures joined { IsJoined W.meaning world.new run.new.tickets }
+    ensures stored { IsStored W.meaning world.new store.new account.new.is_store_shut }
+{
+    match wanted {
+        Want::Scan(rule, file) => scan(graph, &mut run.inputs, world, rule, file),
+        Want::Decide(rule) => decide(
+            graph,
+            &run.plan,
+            &mut run.inputs,
+            &mut run.tickets,
+            &mut run.dirs,
+            account,
+            store,
+            world,
+            out,
+            err,
+            options,
+            rule,
+        ),
+        Want::Wait => Ok(take_ending(graph, &mut run.tickets, account, store, world, err, options)),
+        Want::Rest => Ok(PlanEvent::Halt),
+    }
+}
+
+/// Scans a file for a rule.
+fn scan<W: World>(
+    graph: &mut Graph,
+    inputs: &mut Inputs,
+    world: &mut W,
+    rule: RuleId,
+    file: NodeId,
+) -> Result<PlanEvent, ListEnd>
+    ensures { Stays W.meaning world.old world.new }
+{
+    let found = inputs.scanned(world, graph, rule, file)?;
+    Ok(PlanEvent::Scanned(rule, found))
+}
+
+/// What is to be done next: where all jobs are taken, to wait.
+fn want(run: &Run, options: &Options) -> Want
+    ensures some { result ≡ Want.Wait → 0 < length run.now.tickets }
+    ensures room { (rule : RuleId) → result ≡ Want.Decide rule → length run.now.tickets ≤ 64 → length run.now.tickets < 64 }
+{
+    let running = run.tickets.len();
+    if running > 0 && running >= options.jobs.min(JOB_LIMIT) as usize {
+        return Want::Wait;
+    }
+    match run.plan.next() {
+        Want::Wait | Want::Rest if running == 0 => Want::Rest,
+        Want::Wait | Want::Rest => Want::Wait,
+        wanted => wanted,
+    }
+}
+
+/// Tells the plan what came of its want.
+fn tell<E: Sink>(
+    graph: &Graph,
+    run: &mut Run,
+    account: &mut Account,
+    err: &mut E,
+    done: Result<PlanEvent, ListEnd>,
+)
+    ensures tickets { run.new.tickets ≡ run.old.tickets }
+    ensures shut { account.new.is_store_shut ≡ account.old.is_store_shut }
+{
+    match done {
+        Ok(event) => step(graph, run, account, event),
+        Err(end) => account.end(err, end),
+    }
+    if account.is_ended {
+        let _ = run.plan.step(graph, PlanEvent::Halt);
+    }
+}
+
+fn step(graph: &Graph, run: &mut Run, account: &mut Account, event: PlanEvent)
+    ensures tickets { run.new.tickets ≡ run.old.tickets }
+    ensures shut { account.new.is_store_shut ≡ account.old.is_store_shut }
+{
+    if run.plan.step(graph, event).is_err() {
+        account.want_memory();
+    }
+}

@@ -1,0 +1,15 @@
+use Rattle.std.proofs.Common.{◌∙◌}
+use Rattle.build_files.proofs.Looking.{looks_joined}
+use Rattle.scons_report.proofs.dry.go_over.Goals as goal
+
+pub returns-in_err-event-clause-looks : goal.returns-in_err-event-clause-looks
+returns-in_err-event-clause-looks g c = looks_joined g.W.Disk.meaning _ _ _ c.loop-turn.invariant.looks c.take_turn.ensures.looks
+
+pub returns-in_err-step-clause-looks : goal.returns-in_err-step-clause-looks
+returns-in_err-step-clause-looks g c = looks_joined g.W.Disk.meaning _ _ _ c.loop-turn.invariant.looks c.take_turn.ensures.looks
+
+pub loop-turn-preserved : goal.loop-turn-preserved
+loop-turn-preserved g c = record {
+  looks = looks_joined g.W.Disk.meaning _ _ _ c.loop-turn.invariant.looks c.take_turn.ensures.looks;
+  counts = c.in_ok-event.ensures.cause ∙ c.loop-turn.invariant.counts;
+}

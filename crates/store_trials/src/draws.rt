@@ -1,0 +1,26 @@
+//! Numbers that follow from a seed, one after the other.
+
+/// A generator by one product and one sum.
+#[derive(Drop)]
+pub struct Draws {
+    state: u64,
+}
+
+impl Draws {
+    pub fn new(seed: u64) -> Draws {
+        Draws { state: seed }
+    }
+
+    /// The next number below a bound, 0 where nothing is below it.
+    pub fn below(&mut self, bound: usize) -> usize {
+        self.state = self
+            .state
+            .wrapping_mul(6_364_136_223_846_793_005)
+            .wrapping_add(1_442_695_040_888_963_407);
+        let drawn = (self.state >> 33) as usize;
+        if bound == 0 {
+            return 0;
+        }
+        drawn % bound
+    }
+}
