@@ -62,6 +62,15 @@ end_caused a b x y s (end.TooLarge path size) is cause = tt
 end_caused a b x y s (end.TooMany what count) is cause = tt
 end_caused a b x y s end.Memory is cause = tt
 
+-- the same of what gives an end
+pub end_back : {X : Type 0} (a b c : Counts) (x y : ℕ) (r : Result X HostEnd) → IsTreeAlone a b → IfErr r (HasEndCause b c x y) → IfErr r (HasEndCause a c x y)
+end_back a b c x y (Ok v) more cause = tt
+end_back a b c x y (Err e) more cause = cause_back a b c x x y e more (omega arith) cause
+
+pub end_of_all : {X : Type 0} (a b c : Counts) (x y : ℕ) (r : Result X HostEnd) → IsTreeAlone a b → IfErr r (λ e. (faults more : ℕ) → HasEndCause b c faults more e) → IfErr r (HasEndCause a c x y)
+end_of_all a b c x y (Ok v) more cause = tt
+end_of_all a b c x y (Err e) more cause = cause_back a b c x x y e more (omega arith) (cause x y)
+
 -- the end of a refused print
 pub out_caused : (a b : Counts) (x y : ℕ) (e : HostEnd) → IsEndOf stop.Out e → Rose x y → HasEndCause a b x y e
 out_caused a b x y (end.Tree path) is rose = absurd (out_is_no_tree path is)

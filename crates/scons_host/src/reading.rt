@@ -36,11 +36,36 @@ pub fn read_scripts<W: World, O: Sink>(
     ensures cause { IfErr result (HasEndCause (W.meaning.counts world.old) (W.meaning.counts world.new) (O.meaning.faults out.old) (O.meaning.faults out.new)) }
 {
     let mut heap = Heap::new(alloc);
-    let (mut state, script) = match begun(alloc, world, &mut heap, words) {
-        Ok(begun) => begun,
-        Err(stop) => return Err(end_of(alloc, stop)),
-    };
-    run_all(world, out, &mut state, &mut heap, &script)?;
+    match begun(alloc, world, &mut heap, words) {
+        Ok((state, script)) => read_on(alloc, world, out, &mut heap, state, &script),
+        Err(stop) => Err(end_of(alloc, stop)),
+    }
+}
+
+/// Reads all scripts from the first on, which has begun.
+fn read_on<W: World, O: Sink>(
+    alloc: Global,
+    world: &mut W,
+    out: &mut O,
+    heap: &mut Heap,
+    mut state: State,
+    script: &Script,
+) -> Result<Graph, HostEnd>
+    ensures looks { Looks W.meaning world.old world.new }
+    ensures prints { Prints O.meaning out.old out.new }
+    ensures cause { IfErr result (HasEndCause (W.meaning.counts world.old) (W.meaning.counts world.new) (O.meaning.faults out.old) (O.meaning.faults out.new)) }
+{
+    match run_all(world, out, &mut state, heap, script) {
+        Ok(()) => graph_end(alloc, world, state),
+        Err(end) => Err(end),
+    }
+}
+
+/// The graph of what all scripts have declared.
+fn graph_end<W: World>(alloc: Global, world: &mut W, state: State) -> Result<Graph, HostEnd>
+    ensures looks { Looks W.meaning world.old world.new }
+    ensures cause { IfErr result (λ e. (faults more : ℕ) → HasEndCause (W.meaning.counts world.old) (W.meaning.counts world.new) faults more e) }
+{
     let State {
         declared,
         scripts,
