@@ -10,7 +10,7 @@ use py_host::Place;
 use scons_base::{EnvId, Text};
 use scons_calls::variable_value;
 use scons_declare::declare;
-use scons_decls::{Answer, Call};
+use scons_decls::{Answer, Call, NameFault};
 
 /// Declares a call, and gives the value of its answer.
 #[tactic(auto, using(crate::specs::Looking::looking))]
@@ -57,8 +57,8 @@ pub fn variable(
 }
 
 /// What a call answers.
-fn answer(state: &mut State, place: Place, env: EnvId, call: Call) -> Result<Answer, Refusal> {
-    Ok(declare(&mut state.declared, env, place_of(place), &call)?)
+fn answer(state: &mut State, place: Place, env: EnvId, call: Call) -> Result<Answer, NameFault> {
+    declare(&mut state.declared, env, place_of(place), &call)
 }
 
 /// The value of a variable, or another value where there is none.
