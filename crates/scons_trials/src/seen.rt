@@ -1,7 +1,9 @@
 //! What a trial's run left, as text.
+ghost use Rattle.std.specs.Prelude.{◌≡◌, [], IfOk};
+ghost use Rattle.world_mem.specs.AsAround.{around_of};
 
 use crate::trial::Trial;
-use anyhow::{Context, Result};
+use anyhow::{Context, Result, bail};
 use one_rule::{Report, scons};
 use scons_base::{Blob, PathText, Text, Texts};
 use std::alloc::Global;
@@ -21,13 +23,16 @@ pub fn run(alloc: Global, trial: &Trial) -> Result<String> {
     Ok(text)
 }
 
-fn world_of(alloc: Global, trial: &Trial) -> Result<MemWorld> {
+fn world_of(alloc: Global, trial: &Trial) -> Result<MemWorld>
+    ensures { IfOk result (λ world. (around_of world.state).running ≡ []) }
+{
     let files = files_of(alloc, trial)?;
     let table = table_of(alloc, trial.action)?;
     let calls = Vec::from_slice(alloc, trial.calls.as_slice())?;
-    MemWorld::new(alloc, files, table, Vec::new(alloc), calls)
-        .ok()
-        .context(format_args!("no world"))
+    match MemWorld::new(alloc, files, table, Vec::new(alloc), calls) {
+        Ok(world) => Ok(world),
+        Err(_) => bail!("no world"),
+    }
 }
 
 /// The script, the source, and an old target.
@@ -76,7 +81,9 @@ fn failing_row(alloc: Global, status: i32) -> Result<ActRow> {
     })
 }
 
-fn add_run(alloc: Global, trial: &Trial, world: &mut MemWorld, text: &mut String) -> Result<()> {
+fn add_run(alloc: Global, trial: &Trial, world: &mut MemWorld, text: &mut String) -> Result<()>
+    requires { (around_of world.old.state).running ≡ [] }
+{
     let mut out = sink_of(alloc, trial.out.as_slice())?;
     let mut err = sink_of(alloc, trial.err.as_slice())?;
     let report = scons(alloc, trial.words.as_slice(), world, &mut out, &mut err);
