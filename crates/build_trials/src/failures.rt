@@ -1,11 +1,11 @@
 //! One failure of the outside at a time: what a build says of it, and what the next build makes.
+use crate::idle::IdleWorld;
+use crate::runs::Ran;
 use anyhow::{Context, Result, bail};
 use scons_base::{Blob, PathText, Text};
-use scons_top::scons;
 use std::alloc::Global;
-use std::str;
-use world_api::{Bank, Disk, World};
-use world_mem::{ActTable, Call, Files, MemSink, MemWorld};
+use world_api::Bank;
+use world_mem::{ActTable, Call, Files};
 
 const CALLS: [&str; 13] = [
     "size",
@@ -22,13 +22,6 @@ const CALLS: [&str; 13] = [
     "start",
     "wait",
 ];
-
-/// What a build left, and the first line that it wrote on standard error, without its mark.
-#[derive(Drop)]
-struct Built {
-    status: u8,
-    fault: String,
-}
 
 pub fn call_of(name: &str) -> Result<Call> {
     Ok(match name {
@@ -59,9 +52,9 @@ pub struct Begin {
 
 impl Begin {
     /// What another world has now.
-    pub fn of(alloc: Global, world: &MemWorld) -> Result<Begin> {
+    pub fn of(alloc: Global, world: &IdleWorld) -> Result<Begin> {
         Ok(Begin {
-            files: files_of(world)?.into_vec(),
+            files: world.files()?.into_vec(),
             a: Vec::from_slice(alloc, world.bank(Bank::A))?,
             b: Vec::from_slice(alloc, world.bank(Bank::B))?,
         })
@@ -86,25 +79,18 @@ impl Begin {
     }
 
     /// A world that has this, in which these calls fail.
-    pub fn world(&self, alloc: Global, failing: Vec<(Call, u32)>) -> Result<MemWorld> {
+    pub fn world(&self, alloc: Global, failing: Vec<(Call, u32)>) -> Result<IdleWorld> {
         let files = copies(alloc, self.files.as_slice())?;
         let table = ActTable::new(Vec::new(alloc));
-        let mut world = MemWorld::new(alloc, files, table, Vec::new(alloc), failing)
-            .ok()
-            .context(format_args!("no world"))?;
-        fill(&mut world, Bank::A, self.a.as_slice())?;
-        fill(&mut world, Bank::B, self.b.as_slice())?;
+        let mut world = IdleWorld::new(alloc, files, table, Vec::new(alloc), failing)?;
+        self.fill(&mut world)?;
         Ok(world)
     }
-}
 
-/// Puts bytes into an empty bank, by one write and one sync.
-fn fill(world: &mut MemWorld, bank: Bank, bytes: &[u8]) -> Result<()> {
-    world
-        .write_at(bank, 0, bytes)
-        .ok()
-        .context(format_args!("a fault"))?;
-    world.sync(bank).ok().context(format_args!("a fault"))
+    fn fill(&self, world: &mut IdleWorld) -> Result<()> {
+        world.fill(Bank::A, self.a.as_slice())?;
+        world.fill(Bank::B, self.b.as_slice())
+    }
 }
 
 /// The failure of a build's call of this number. The writes and syncs that fill the banks come before it.
@@ -116,45 +102,87 @@ fn failure(alloc: Global, call: Call, number: u32) -> Result<Vec<(Call, u32)>> {
     Ok(vec![in alloc; (call, number)]?)
 }
 
-/// A line for each call and each number below `numbers`: how a build ends in which that call fails, how the next build
-/// ends without it, and whether that leaves the files that a build without banks leaves.
-pub fn failures_text(alloc: Global, begin: &Begin, words: &[Text], numbers: u32) -> Result<String> {
-    let mut clean = begin.without_banks(alloc)?.world(alloc, Vec::new(alloc))?;
-    build(alloc, &mut clean, words)?;
-    let mut text = String::new(alloc);
-    for name in CALLS {
-        for number in 0..numbers {
-            let failing = failure(alloc, call_of(name)?, number)?;
-            let mut world = begin.world(alloc, failing)?;
-            let first = build(alloc, &mut world, words)?;
-            let line = format!(in alloc; "{name} {number}: {} {}", first.status, first.fault)?;
-            text.push_str(line.as_str().trim_end())?;
-            let second = rebuilt(alloc, &world, &mut clean, words)?;
-            text.push_str(second.as_str())?;
-        }
-    }
-    Ok(text)
-}
-
-/// Builds again, without failures.
-fn rebuilt(
+/// Builds that begin with the same, and the files that such a build leaves without banks.
+#[derive(Drop)]
+pub struct Failures<'a> {
+    begin: Begin,
+    words: &'a [Text],
+    clean: Files,
     alloc: Global,
-    world: &MemWorld,
-    clean: &mut MemWorld,
+}
+
+impl<'a> Failures<'a> {
+    pub fn new(alloc: Global, begin: Begin, words: &'a [Text]) -> Result<Failures<'a>> {
+        let clean = clean_files(alloc, &begin, words)?;
+        Ok(Failures {
+            begin,
+            words,
+            clean,
+            alloc,
+        })
+    }
+
+    /// Adds a line for each call and each number below `numbers`: how a build ends in which that call fails, how the next
+    /// build ends without it, and whether that leaves the files that a build without banks leaves.
+    pub fn add_lines(&self, numbers: u32, text: &mut String) -> Result<()> {
+        for name in CALLS {
+            for number in 0..numbers {
+                self.add_line(name, number, text)?;
+            }
+        }
+        Ok(())
+    }
+
+    fn add_line(&self, name: &str, number: u32, text: &mut String) -> Result<()> {
+        let failing = failure(self.alloc, call_of(name)?, number)?;
+        let mut world = self.begin.world(self.alloc, failing)?;
+        add_first(self.alloc, &mut world, self.words, text, name, number)?;
+        self.add_second(&world, text)
+    }
+
+    /// Builds again, without failures.
+    fn add_second(&self, world: &IdleWorld, text: &mut String) -> Result<()> {
+        let begin = Begin::of(self.alloc, world)?;
+        let mut next = begin.world(self.alloc, Vec::new(self.alloc))?;
+        let status = status_of(self.alloc, &mut next, self.words)?;
+        let found = self.found_text(&next)?;
+        text.push_str(format!(in self.alloc; "; then {status} {found}\n")?.as_str())?;
+        Ok(())
+    }
+
+    fn found_text(&self, world: &IdleWorld) -> Result<&'static str> {
+        let files = world.files()?;
+        if are_same(files.as_slice(), self.clean.as_slice()) {
+            return Ok("as clean");
+        }
+        Ok("other files")
+    }
+}
+
+fn clean_files(alloc: Global, begin: &Begin, words: &[Text]) -> Result<Files> {
+    let begin = begin.without_banks(alloc)?;
+    let mut world = begin.world(alloc, Vec::new(alloc))?;
+    status_of(alloc, &mut world, words)?;
+    world.files()
+}
+
+fn status_of(alloc: Global, world: &mut IdleWorld, words: &[Text]) -> Result<u8> {
+    Ok(Ran::of(alloc, world, words)?.report.status)
+}
+
+/// Builds in a world in which a call fails, and says how that ends.
+fn add_first(
+    alloc: Global,
+    world: &mut IdleWorld,
     words: &[Text],
-) -> Result<String> {
-    let mut next = Begin::of(alloc, world)?.world(alloc, Vec::new(alloc))?;
-    let built = build(alloc, &mut next, words)?;
-    let found = found_text(has_files_of(&next, clean)?);
-    Ok(format!(in alloc; "; then {} {found}\n", built.status)?)
-}
-
-fn found_text(is_clean: bool) -> &'static str {
-    if is_clean { "as clean" } else { "other files" }
-}
-
-fn files_of(world: &MemWorld) -> Result<Files> {
-    world.files().ok().context(format_args!("memory"))
+    text: &mut String,
+    name: &str,
+    number: u32,
+) -> Result<()> {
+    let ran = Ran::of(alloc, world, words)?;
+    let line = format!(in alloc; "{name} {number}: {} {}", ran.report.status, ran.fault()?)?;
+    text.push_str(line.as_str().trim_end())?;
+    Ok(())
 }
 
 fn copies(alloc: Global, files: &[(PathText, Blob)]) -> Result<Vec<(PathText, Blob)>> {
@@ -167,40 +195,16 @@ fn copies(alloc: Global, files: &[(PathText, Blob)]) -> Result<Vec<(PathText, Bl
     Ok(copies)
 }
 
-fn build(alloc: Global, world: &mut MemWorld, words: &[Text]) -> Result<Built> {
-    let mut out = sink(alloc)?;
-    let mut err = sink(alloc)?;
-    let report = scons(alloc, words, world, &mut out, &mut err);
-    let told = str::from_utf8(err.text())
-        .ok()
-        .context(format_args!("no text"))?;
-    let line = told.lines().next().unwrap_or("");
-    let line = line.strip_prefix("scons: *** ").unwrap_or(line);
-    Ok(Built {
-        status: report.status,
-        fault: String::from_str(alloc, line)?,
-    })
-}
-
-fn sink(alloc: Global) -> Result<MemSink> {
-    MemSink::new(alloc, Vec::new(alloc))
-        .ok()
-        .context(format_args!("memory"))
-}
-
-/// Whether two worlds have the same files.
-fn has_files_of(world: &MemWorld, other: &mut MemWorld) -> Result<bool> {
-    let files = files_of(world)?;
-    if files.len() != files_of(other)?.len() {
-        return Ok(false);
+/// Whether these are the same files, in the same order.
+fn are_same(files: &[(PathText, Blob)], others: &[(PathText, Blob)]) -> bool {
+    if files.len() != others.len() {
+        return false;
     }
-    for (path, bytes) in files.as_slice() {
-        let Ok(Some(there)) = other.read_file(path, bytes.as_slice().len() as u64) else {
-            return Ok(false);
-        };
-        if there != *bytes {
-            return Ok(false);
+    for (place, (path, bytes)) in files.iter().enumerate() {
+        match others.get(place) {
+            Some((name, held)) if name == path && held == bytes => {}
+            _ => return false,
         }
     }
-    Ok(true)
+    true
 }

@@ -8,6 +8,8 @@
 #![tactic(auto)]
 
 mod failures;
+mod idle;
+mod runs;
 mod steps;
 mod trial;
 

@@ -102,3 +102,9 @@ pub fn number_of(text: &str) -> Result<u32> {
         .ok()
         .context(format_args!("{text} is no number"))
 }
+
+pub fn code_of(text: &str) -> Result<i32> {
+    text.parse::<i32>()
+        .ok()
+        .context(format_args!("{text} is no code"))
+}

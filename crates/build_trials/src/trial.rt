@@ -1,14 +1,16 @@
 //! One trial: its world, and what its runs wrote.
 
-use crate::failures::{Begin, call_of, failures_text};
-use crate::steps::{Block, number_of, path_of, signed_of, word_of, words_of};
+use crate::failures::{Begin, Failures, call_of};
+use crate::idle::IdleWorld;
+use crate::runs::Ran;
+use crate::steps::{Block, code_of, number_of, path_of, signed_of, word_of, words_of};
 use anyhow::{Context, Result, bail};
-use scons_base::{Blob, PathText};
-use scons_top::{Report, scons};
+use scons_base::{Blob, PathText, Text};
+use scons_top::Report;
 use std::alloc::Global;
 use std::str;
-use world_api::{Bank, World};
-use world_mem::{ActRow, ActTable, Call, Contents, Made, MemSink, MemWorld};
+use world_api::{Bank, Job};
+use world_mem::{ActRow, ActTable, Call, Contents, Made};
 
 /// A world from its first run on, and before that what it begins with.
 #[derive(Drop)]
@@ -17,7 +19,7 @@ pub struct Trial {
     rows: Vec<ActRow>,
     orders: Vec<u32>,
     failing: Vec<(Call, u32)>,
-    world: Option<MemWorld>,
+    world: Option<IdleWorld>,
     alloc: Global,
 }
 
@@ -66,7 +68,7 @@ impl Trial {
             "act" => self.add_row(rest, None, Made::Files(contents)),
             _ => {
                 let (code, line) = word_of(rest);
-                self.add_row(line, Some(contents), Made::Fail(number_of(code)? as i32))
+                self.add_row(line, Some(contents), Made::Fail(code_of(code)?))
             }
         }
     }
@@ -112,7 +114,10 @@ impl Trial {
         let (numbers, words) = word_of(rest);
         let words = words_of(alloc, words)?;
         let begin = Begin::of(alloc, self.world()?)?;
-        failures_text(alloc, &begin, words.as_slice(), number_of(numbers)?)
+        let mut text = String::new(alloc);
+        let mut failures = Failures::new(alloc, begin, words.as_slice())?;
+        failures.add_lines(number_of(numbers)?, &mut text)?;
+        Ok(text)
     }
 
     fn add_row(&mut self, line: &str, given: Option<Contents>, made: Made) -> Result<()> {
@@ -129,97 +134,86 @@ impl Trial {
     fn put(&mut self, block: &Block, rest: &str) -> Result<()> {
         let alloc = self.alloc;
         let (path, text) = word_of(rest);
+        let path = path_of(alloc, path)?;
         let text = match text {
             "" => block.body(alloc)?,
             text => String::from_str(alloc, text)?,
         };
-        let path = path_of(alloc, path)?;
         match &mut self.world {
-            Some(world) => {
-                world
-                    .edit(&path, text.as_bytes())
-                    .ok()
-                    .context(format_args!("no place for a file"))
-            }
+            Some(world) => world.edit(&path, text.as_bytes()),
             None => {
-                self.files.push((path, Blob::new(Vec::from_slice(alloc, text.as_bytes())?)))?;
+                let bytes = Vec::from_slice(alloc, text.as_bytes())?;
+                self.files.push((path, Blob::new(bytes)))?;
                 Ok(())
             }
         }
     }
 
     /// The world, which is made at its first use.
-    fn world(&mut self) -> Result<&mut MemWorld> {
-        let alloc = self.alloc;
+    fn world(&mut self) -> Result<&mut IdleWorld> {
         if self.world.is_none() {
-            let files = std::mem::replace(&mut self.files, Vec::new(alloc));
-            let rows = std::mem::replace(&mut self.rows, Vec::new(alloc));
-            let orders = std::mem::replace(&mut self.orders, Vec::new(alloc));
-            let failing = std::mem::replace(&mut self.failing, Vec::new(alloc));
-            let table = ActTable::new(rows);
-            let made = MemWorld::new(alloc, files, table, orders, failing);
-            self.world = made.ok();
+            let world = self.new_world()?;
+            self.world = Some(world);
         }
         self.world.as_mut().context(format_args!("no world"))
+    }
+
+    /// A world of what was said so far.
+    fn new_world(&mut self) -> Result<IdleWorld> {
+        let alloc = self.alloc;
+        let files = std::mem::replace(&mut self.files, Vec::new(alloc));
+        let rows = std::mem::replace(&mut self.rows, Vec::new(alloc));
+        let orders = std::mem::replace(&mut self.orders, Vec::new(alloc));
+        let failing = std::mem::replace(&mut self.failing, Vec::new(alloc));
+        IdleWorld::new(alloc, files, ActTable::new(rows), orders, failing)
     }
 
     fn show(&mut self, text: &str) -> Result<String> {
         let alloc = self.alloc;
         let path = path_of(alloc, text)?;
-        let content = self
-            .world()?
-            .read_file(&path, 100000)
-            .ok()
-            .context(format_args!("a fault"))?;
-        match content {
-            Some(bytes) => {
-                let found = str::from_utf8(bytes.as_slice())
-                    .ok()
-                    .context(format_args!("no text"))?;
-                let end = if found.ends_with("\n") { "" } else { "\n" };
-                Ok(format!(in alloc; "{text}: {found}{end}")?)
-            }
+        let files = self.world()?.files()?;
+        match content(files.as_slice(), &path) {
+            Some(bytes) => shown(alloc, text, bytes.as_slice()),
             None => Ok(format!(in alloc; "{text} is no file\n")?),
         }
     }
 
     fn run(&mut self, words: &str) -> Result<String> {
         let alloc = self.alloc;
-        let mut out = MemSink::new(alloc, Vec::new(alloc))
-            .ok()
-            .context(format_args!("memory"))?;
-        let mut err = MemSink::new(alloc, Vec::new(alloc))
-            .ok()
-            .context(format_args!("memory"))?;
         let list = words_of(alloc, words)?;
-        let world = self.world()?;
-        let before = world.jobs().len();
-        let report = scons(alloc, list.as_slice(), world, &mut out, &mut err);
         let mut text = format!(in alloc; "$ scons {words}\n")?;
-        text.push_str(
-            str::from_utf8(out.text())
-                .ok()
-                .context(format_args!("no text"))?,
-        )?;
-        for line in str::from_utf8(err.text())
-            .ok()
-            .context(format_args!("no text"))?
-            .lines()
-        {
-            text.push_str("! ")?;
-            text.push_str(line)?;
-            text.push_str("\n")?;
-        }
-        write_report(alloc, &report, world, before, &mut text)?;
+        add_run(alloc, self.world()?, list.as_slice(), &mut text)?;
         Ok(text)
     }
+}
+
+fn content<'a>(files: &'a [(PathText, Blob)], path: &PathText) -> Option<&'a Blob> {
+    for (name, bytes) in files {
+        if name == path {
+            return Some(bytes);
+        }
+    }
+    None
+}
+
+fn shown(alloc: Global, name: &str, bytes: &[u8]) -> Result<String> {
+    let text = str::from_utf8(bytes).ok().context(format_args!("no text"))?;
+    let end = if text.ends_with("\n") { "" } else { "\n" };
+    Ok(format!(in alloc; "{name}: {text}{end}")?)
+}
+
+fn add_run(alloc: Global, world: &mut IdleWorld, words: &[Text], text: &mut String) -> Result<()> {
+    let before = world.jobs().len();
+    let ran = Ran::of(alloc, world, words)?;
+    ran.add_told(text)?;
+    write_report(alloc, &ran.report, world, before, text)
 }
 
 /// Writes the status, the first targets of what was started, and the rules that were skipped.
 fn write_report(
     alloc: Global,
     report: &Report,
-    world: &MemWorld,
+    world: &IdleWorld,
     before: usize,
     text: &mut String,
 ) -> Result<()> {
@@ -227,23 +221,29 @@ fn write_report(
     let faults = report.faults.len();
     text.push_str(format!(in alloc; "status {status}, {faults} faults, started:")?.as_str())?;
     for job in world.jobs().iter().skip(before) {
-        if let Some(target) = job.targets.as_slice().first() {
-            text.push_str(" ")?;
-            text.push_str(target.as_str())?;
-        }
+        write_started(job, text)?;
     }
     text.push_str("\n")?;
     for (held, by) in report.skipped.as_slice() {
-        let held = held.as_str();
-        let by = by.as_str();
+        let (held, by) = (held.as_str(), by.as_str());
         text.push_str(format!(in alloc; "skipped {held} for {by}\n")?.as_str())?;
+    }
+    Ok(())
+}
+
+fn write_started(job: &Job, text: &mut String) -> Result<()> {
+    if let Some(target) = job.targets.as_slice().first() {
+        text.push_str(" ")?;
+        text.push_str(target.as_str())?;
     }
     Ok(())
 }
 
 /// Sets the last byte of a bank's mark.
 fn set_mark(bank: &mut [u8], bytes: &[u8]) {
-    if let (Some(last), Some(byte)) = (bank.get_mut(8), bytes.first()) {
-        *last = *byte;
+    for byte in bytes.iter().take(1) {
+        if let Some(last) = bank.get_mut(8) {
+            *last = *byte;
+        }
     }
 }

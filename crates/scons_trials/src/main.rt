@@ -16,21 +16,32 @@ use std::io::{BufRead, BufReader};
 
 fn main(rt: HostRuntime) -> Result<()> {
     let alloc = rt.alloc();
-    let mut trial = None;
+    let mut last = None;
     for line in BufReader::new(alloc, rt.reader())?.lines(alloc) {
         let line = line?;
-        match (line.as_str().strip_prefix("== "), &mut trial) {
-            (Some(name), _) => {
-                if let Some(last) = trial.replace(Trial::new(alloc, name)?) {
-                    rt.print(run(alloc, last)?.as_str())?;
-                }
+        match line.as_str().strip_prefix("== ") {
+            Some(name) => {
+                end(&rt, &last)?;
+                last = Some(Trial::new(alloc, name)?);
             }
-            (None, Some(trial)) => trial.take(line.as_str())?,
-            (None, None) => {}
+            None => take(&mut last, line.as_str())?,
         }
     }
-    if let Some(last) = trial {
-        rt.print(run(alloc, last)?.as_str())?;
+    end(&rt, &last)
+}
+
+/// Gives a line to the trial that it stands in.
+fn take(trial: &mut Option<Trial>, line: &str) -> Result<()> {
+    match trial {
+        Some(trial) => trial.take(line),
+        None => Ok(()),
+    }
+}
+
+/// Runs a trial whose lines were taken, if there is one.
+fn end(rt: &HostRuntime, trial: &Option<Trial>) -> Result<()> {
+    if let Some(trial) = trial {
+        rt.print(run(rt.alloc(), trial)?.as_str())?;
     }
     Ok(())
 }

@@ -58,7 +58,7 @@ impl Trial {
                 let bytes = Vec::from_elem(alloc, b'a', number(rest)? as usize)?;
                 self.source = Some(Blob::new(bytes));
             }
-            "action" => self.action = Some(number(rest)? as i32),
+            "action" => self.action = Some(code(rest)?),
             "call" => {
                 let (call, place) = split(rest);
                 self.calls.push((call_of(call)?, number(place)?))?;
@@ -83,6 +83,12 @@ fn number(text: &str) -> Result<u32> {
     text.parse::<u32>()
         .ok()
         .context(format_args!("{text} is no number"))
+}
+
+fn code(text: &str) -> Result<i32> {
+    text.parse::<i32>()
+        .ok()
+        .context(format_args!("{text} is no code"))
 }
 
 fn blob(alloc: Global, text: &str) -> Result<Blob> {
