@@ -2,6 +2,7 @@
 ghost use Rattle.std.specs.Prelude.{◌≡◌, ◌⊎◌, ℕ, Some, IfErr};
 ghost use Rattle.scons_host.specs.Causes.{HasStopCause, HasEndCause, IsEndOf, IsOwn};
 ghost use Rattle.scons_host.specs.Looks.{Looks, Prints};
+ghost use Rattle.world_api.specs.Counts.{Counts};
 
 use crate::asks::{kind_of, top_of};
 use crate::end::{HostEnd, ReadKind};
@@ -38,7 +39,7 @@ pub fn read_scripts<W: World, O: Sink>(
     let mut heap = Heap::new(alloc);
     match begun(alloc, world, &mut heap, words) {
         Ok((state, script)) => read_on(alloc, world, out, &mut heap, state, &script),
-        Err(stop) => Err(end_of(alloc, stop)),
+        Err(stop) => ended_by(alloc, Err(stop)),
     }
 }
 
@@ -64,14 +65,21 @@ fn read_on<W: World, O: Sink>(
 /// The graph of what all scripts have declared.
 fn graph_end<W: World>(alloc: Global, world: &mut W, state: State) -> Result<Graph, HostEnd>
     ensures looks { Looks W.meaning world.old world.new }
-    ensures cause { IfErr result (λ e. (faults more : ℕ) → HasEndCause (W.meaning.counts world.old) (W.meaning.counts world.new) faults more e) }
+    ensures cause { (faults more : ℕ) → IfErr result (HasEndCause (W.meaning.counts world.old) (W.meaning.counts world.new) faults more) }
 {
     let State {
         declared,
         scripts,
         ..
     } = state;
-    match graph_of(alloc, world, declared, &scripts) {
+    ended_by(alloc, graph_of(alloc, world, declared, &scripts))
+}
+
+/// The graph, or the end that a stop gives.
+fn ended_by(alloc: Global, graph: Result<Graph, Stop>) -> Result<Graph, HostEnd>
+    ensures cause { (old new : Counts) (faults more : ℕ) → IfErr graph (HasStopCause old new) → IfErr result (HasEndCause old new faults more) }
+{
+    match graph {
         Ok(graph) => Ok(graph),
         Err(stop) => Err(end_of(alloc, stop)),
     }
@@ -90,8 +98,18 @@ fn begun<W: World>(
 {
     let top = top_path(alloc, world)?;
     let mut state = State::new(alloc, heap, top, words)?;
-    let script = first_script(&mut state, world, words)?;
-    Ok((state, script))
+    let script = first_script(&mut state, world, words);
+    joined(state, script)
+}
+
+/// The state beside its first script.
+fn joined(state: State, script: Result<Script, Stop>) -> Result<(State, Script), Stop>
+    ensures cause { (old new : Counts) → IfErr script (HasStopCause old new) → IfErr result (HasStopCause old new) }
+{
+    match script {
+        Ok(script) => Ok((state, script)),
+        Err(stop) => Err(stop),
+    }
 }
 
 #[tactic(auto, using(crate::specs::Looking::looking))]

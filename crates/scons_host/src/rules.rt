@@ -2,6 +2,7 @@
 ghost use Rattle.std.specs.Prelude.{IfErr};
 ghost use Rattle.scons_host.specs.Causes.{HasStopCause, IsInside};
 ghost use Rattle.scons_host.specs.Looks.{Looks};
+ghost use Rattle.world_api.specs.Counts.{Counts};
 
 use crate::asks::kind_of;
 use crate::end::ReadKind;
@@ -25,7 +26,24 @@ pub fn graph_of<W: World>(
     ensures cause { IfErr result (HasStopCause (W.meaning.counts world.old) (W.meaning.counts world.new)) }
 {
     let mut reading = RuleReading::new(alloc, declared)?;
-    add_all(alloc, world, &mut reading, scripts)?;
+    let added = add_all(alloc, world, &mut reading, scripts);
+    finished(reading, scripts, added)
+}
+
+/// The graph, where all rules were added.
+fn finished(reading: RuleReading, scripts: &Paths, added: Result<(), Stop>) -> Result<Graph, Stop>
+    ensures cause { (old new : Counts) → IfErr added (HasStopCause old new) → IfErr result (HasStopCause old new) }
+{
+    match added {
+        Ok(()) => made(reading, scripts),
+        Err(stop) => Err(stop),
+    }
+}
+
+/// The graph of the rules that were added.
+fn made(reading: RuleReading, scripts: &Paths) -> Result<Graph, Stop>
+    ensures inside { (old new : Counts) → IfErr result (HasStopCause old new) }
+{
     match reading.finish() {
         Ok(graph) => Ok(graph),
         Err(fault) => Err(told(scripts, None, fault)),

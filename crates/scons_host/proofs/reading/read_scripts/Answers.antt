@@ -1,5 +1,5 @@
 use Rattle.scons_host.specs.Looking.{looks_joined}
-use Rattle.scons_host.specs.Laws.{end_back, end_caused, prints_same}
+use Rattle.scons_host.specs.Laws.{end_back}
 use Rattle.scons_host.proofs.reading.read_scripts.Goals as goal
 
 pub returns-in-Ok-clause-looks : goal.returns-in-Ok-clause-looks
@@ -11,11 +11,8 @@ returns-in-Ok-clause-cause g c =
     let p = g.O.Sink.meaning in
     end_back (m.counts c.args.world.now) (m.counts c.begun.new.world) (m.counts c.read_on.new.world) (p.faults c.args.out.now) (p.faults c.read_on.new.out) c.read_on.result c.begun.ensures.looks.counts c.read_on.ensures.cause
 
-pub returns-in-Err-clause-prints : goal.returns-in-Err-clause-prints
-returns-in-Err-clause-prints g c = prints_same g.O.Sink.meaning c.args.out.now
-
-pub returns-in-Err-clause-cause : goal.returns-in-Err-clause-cause
-returns-in-Err-clause-cause g c =
+pub returns-clause-cause : goal.returns-clause-cause
+returns-clause-cause g c =
     let m = g.W.Disk.meaning in
-    let p = g.O.Sink.meaning in
-    end_caused (m.counts c.args.world.now) (m.counts c.begun.new.world) (p.faults c.args.out.now) (p.faults c.args.out.now) c.in-Err.stop c.end_of.result c.end_of.ensures c.in-Err.ensures.cause
+    let faults = g.O.Sink.meaning.faults c.args.out.now in
+    c.ended_by.ensures.cause (m.counts c.args.world.now) (m.counts c.begun.new.world) faults faults c.in-Err.ensures.cause
