@@ -3,9 +3,9 @@
 
 mod streams;
 
-use scons_top::scons;
 use real_world::{RealSink, RealWorld, Shell};
 use scons_base::Text;
+use scons_top::scons;
 use std::alloc::Global;
 use std::env::Env;
 use std::io::ErrorKind;

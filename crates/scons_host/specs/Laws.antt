@@ -1,5 +1,5 @@
 -- The host of scripts keeps what every host keeps to.
-use Rattle.std.specs.Prelude.{◌≡◌, ◌≤◌, ◌+◌, ◌-◌, ◌^◌, ◌⊎◌, ℕ, List, [], ◌++◌, Option, Some, min, Result, Ok, Err, OnOk, OnErr}
+use Rattle.std.specs.Prelude.{◌≡◌, ◌≤◌, ◌+◌, ◌-◌, ◌^◌, ◌⊎◌, ℕ, List, [], ◌++◌, Option, Some, min, Result, Ok, Err, IfErr, OnOk, OnErr}
 use Rattle.std.proofs.Common.{arith, refl, sym, ap, subst, ◌∙◌, inl, inr, append_assoc, append-nil}
 use Rattle.py_host.specs.Meaning.{IsKept, IsDetermined}
 use Rattle.world_api.specs.Causes.{Rose}
@@ -62,6 +62,15 @@ end_caused a b x y s (end.TooLarge path size) is cause = tt
 end_caused a b x y s (end.TooMany what count) is cause = tt
 end_caused a b x y s end.Memory is cause = tt
 
+-- the same of what gives an end
+pub end_back : {X : Type 0} (a b c : Counts) (x y : ℕ) (r : Result X HostEnd) → IsTreeAlone a b → IfErr r (HasEndCause b c x y) → IfErr r (HasEndCause a c x y)
+end_back a b c x y (Ok v) more cause = tt
+end_back a b c x y (Err e) more cause = cause_back a b c x x y e more (omega arith) cause
+
+pub end_of_all : {X : Type 0} (a b c : Counts) (x y : ℕ) (r : Result X HostEnd) → IsTreeAlone a b → IfErr r (λ e. (faults more : ℕ) → HasEndCause b c faults more e) → IfErr r (HasEndCause a c x y)
+end_of_all a b c x y (Ok v) more cause = tt
+end_of_all a b c x y (Err e) more cause = cause_back a b c x x y e more (omega arith) (cause x y)
+
 -- the end of a refused print
 pub out_caused : (a b : Counts) (x y : ℕ) (e : HostEnd) → IsEndOf stop.Out e → Rose x y → HasEndCause a b x y e
 out_caused a b x y (end.Tree path) is rose = absurd (out_is_no_tree path is)
@@ -89,6 +98,10 @@ stop_back a b c (stop.There path line kind) more cause = cause
 stop_back a b c (stop.TooLarge path size) more cause = cause
 stop_back a b c (stop.TooMany what count) more cause = cause
 stop_back a b c stop.Memory more cause = cause
+
+pub result_back : {X : Type 0} (a b c : Counts) (r : Result X Stop) → IsTreeAlone a b → IfErr r (HasStopCause b c) → IfErr r (HasStopCause a c)
+result_back a b c (Ok x) more cause = tt
+result_back a b c (Err s) more cause = stop_back a b c s more cause
 
 pub prints_same : {S : Type 0} (p : SinkMeaning S) (s : S) → Prints p s s
 prints_same p s = record { told = λ t. t; text = λ t. ([], sym (append-nil (p.text s))); faults = omega arith }

@@ -1,10 +1,11 @@
 //! Attributes and items of objects.
 ghost use Rattle.py_host.specs.Extends.{Extends};
 
-use crate::declaring::{declared, variable};
+use crate::declaring::{made, variable};
 use crate::end::ReadKind;
 use crate::state::State;
 use crate::stop::{Refusal, bad_argument, left_out, no_such_key, refused};
+use env_vars::EnvValue;
 use py_heap::{DictId, Heap, HostId, Value};
 use py_host::Place;
 use scons_base::{EnvId, PathText, Text};
@@ -179,15 +180,24 @@ fn set_variable(
 ) -> Result<(), Refusal>
     ensures { Extends heap.old heap.new }
 {
-    if !is_identifier(name.as_str()) {
-        return Err(bad_argument(state.alloc, name.as_str()));
+    let value = variable_value_of(state, heap, name.as_str(), value)?;
+    made(state, heap, place, env, Call::Set(name, value))
+}
+
+/// The value that a script gives a variable.
+fn variable_value_of(
+    state: &State,
+    heap: &Heap,
+    name: &str,
+    value: Value,
+) -> Result<EnvValue, Refusal> {
+    if !is_identifier(name) {
+        return Err(bad_argument(state.alloc, name));
     }
-    let value = match variable_of(heap, &state.objects, name.as_str(), value) {
-        Ok(value) => value,
-        Err(fault) => return Err(refused(state.alloc, name.as_str(), fault)),
-    };
-    declared(state, heap, place, env, &Call::Set(name, value))?;
-    Ok(())
+    match variable_of(heap, &state.objects, name, value) {
+        Ok(value) => Ok(value),
+        Err(fault) => Err(refused(state.alloc, name, fault)),
+    }
 }
 
 /// Adds the builders of a dict to those of an environment.
@@ -242,12 +252,16 @@ fn set_builder(
 ) -> Result<(), Refusal>
     ensures { Extends heap.old heap.new }
 {
-    let number = match builder(heap, &state.objects, value) {
-        Ok(number) => number,
-        Err(fault) => return Err(refused(state.alloc, BUILDERS, fault)),
-    };
-    declared(state, heap, place, env, &Call::SetBuilder(name, number))?;
-    Ok(())
+    let number = builder_of(state, heap, value)?;
+    made(state, heap, place, env, Call::SetBuilder(name, number))
+}
+
+/// The number of a builder that a script gives a name.
+fn builder_of(state: &State, heap: &Heap, value: Value) -> Result<u32, Refusal> {
+    match builder(heap, &state.objects, value) {
+        Ok(number) => Ok(number),
+        Err(fault) => Err(refused(state.alloc, BUILDERS, fault)),
+    }
 }
 
 /// The text of a key.

@@ -13,8 +13,8 @@ use crate::state::State;
 use crate::stop::{Refusal, Stop, bad_argument, left_out, refused};
 use py_heap::{Heap, HostId, Value};
 use py_host::{Args, Place, Reply, Scope};
-use scons_base::EnvId;
-use scons_calls::{CallFault, Request, Thing, own_request_of, request_of};
+use scons_base::{EnvId, Texts};
+use scons_calls::{CallFault, Exports, Request, Thing, own_request_of, request_of};
 use world_api::World;
 
 /// Where a call stands, and the names that it sees.
@@ -90,35 +90,78 @@ fn answered<W: World>(
     ensures stands { Extends heap.old heap.new }
 {
     match request {
-        Request::Declare(call) => Ok(Reply::Value(declared(
-            state,
-            heap,
-            caller.place,
-            env,
-            &call,
-        )?)),
-        Request::Get(name, default) => {
-            Ok(Reply::Value(value_or(state, heap, caller.place, env, name, default)?))
-        }
         Request::Glob(pattern) => Ok(Reply::Value(glob(state, world, heap, env, &pattern)?)),
         Request::Scripts(files) => open_scripts(state, world, heap, caller, env, files),
-        Request::Export(exports) => {
-            put_exports(
-                state.alloc,
-                &mut state.exports,
-                &exports,
-                caller.locals,
-                caller.globals,
-            )?;
-            Ok(Reply::Value(Value::Nil))
-        }
-        Request::Import(names) => Ok(Reply::Names(imported(state, &names)?)),
-        Request::Return(names) => {
-            return_names(state, heap, &names, caller.locals, caller.globals)?;
-            Ok(Reply::Return)
-        }
-        Request::Split(value) => Ok(Reply::Value(split_value(heap, value)?)),
-        Request::Flatten(value) => Ok(Reply::Value(flat_value(heap, value)?)),
-        Request::Nothing => Ok(Reply::Value(Value::Nil)),
+        request => Ok(answered_alone(state, heap, caller, env, request)?),
     }
+}
+
+/// What is answered where the world isn't asked.
+#[tactic(auto, using(crate::specs::Looking::looking))]
+fn answered_alone(
+    state: &mut State,
+    heap: &mut Heap,
+    caller: Caller<'_>,
+    env: EnvId,
+    request: Request,
+) -> Result<Reply, Refusal>
+    ensures { Extends heap.old heap.new }
+{
+    match request {
+        Request::Export(exports) => exported(state, caller, exports),
+        Request::Import(names) => import(state, names),
+        Request::Return(names) => returned(state, heap, caller, names),
+        request => Ok(Reply::Value(value_of(state, heap, caller.place, env, request)?)),
+    }
+}
+
+/// The value that a request gives.
+#[tactic(auto, using(crate::specs::Looking::looking))]
+fn value_of(
+    state: &mut State,
+    heap: &mut Heap,
+    place: Place,
+    env: EnvId,
+    request: Request,
+) -> Result<Value, Refusal>
+    ensures { Extends heap.old heap.new }
+{
+    match request {
+        Request::Declare(call) => declared(state, heap, place, env, call),
+        Request::Get(name, default) => value_or(state, heap, place, env, name, default),
+        Request::Split(value) => split_value(heap, value),
+        Request::Flatten(value) => flat_value(heap, value),
+        _ => Ok(Value::Nil),
+    }
+}
+
+/// Exports names to all scripts.
+fn exported(state: &mut State, caller: Caller<'_>, exports: Exports) -> Result<Reply, Refusal> {
+    let alloc = state.alloc;
+    put_exports(
+        alloc,
+        &mut state.exports,
+        &exports,
+        caller.locals,
+        caller.globals,
+    )?;
+    Ok(Reply::Value(Value::Nil))
+}
+
+fn import(state: &State, names: Texts) -> Result<Reply, Refusal> {
+    Ok(Reply::Names(imported(state, &names)?))
+}
+
+/// Ends a script that returns the values of names.
+#[tactic(auto, using(crate::specs::Looking::looking))]
+fn returned(
+    state: &mut State,
+    heap: &mut Heap,
+    caller: Caller<'_>,
+    names: Texts,
+) -> Result<Reply, Refusal>
+    ensures { Extends heap.old heap.new }
+{
+    return_names(state, heap, &names, caller.locals, caller.globals)?;
+    Ok(Reply::Return)
 }

@@ -10,7 +10,7 @@ use py_host::Place;
 use scons_base::{EnvId, Text};
 use scons_calls::variable_value;
 use scons_declare::declare;
-use scons_decls::{Answer, Call};
+use scons_decls::{Answer, Call, NameFault};
 
 /// Declares a call, and gives the value of its answer.
 #[tactic(auto, using(crate::specs::Looking::looking))]
@@ -19,12 +19,28 @@ pub fn declared(
     heap: &mut Heap,
     place: Place,
     env: EnvId,
-    call: &Call,
+    call: Call,
 ) -> Result<Value, Refusal>
     ensures { Extends heap.old heap.new }
 {
-    let answer = declare(&mut state.declared, env, place_of(place), call)?;
-    answer_value(state, heap, is_single(call), answer)
+    let single = is_single(&call);
+    let answer = answer(state, place, env, call)?;
+    answer_value(state, heap, single, answer)
+}
+
+/// Declares a call that answers nothing.
+#[tactic(auto, using(crate::specs::Looking::looking))]
+pub fn made(
+    state: &mut State,
+    heap: &mut Heap,
+    place: Place,
+    env: EnvId,
+    call: Call,
+) -> Result<(), Refusal>
+    ensures { Extends heap.old heap.new }
+{
+    declared(state, heap, place, env, call)?;
+    Ok(())
 }
 
 /// A copy of a variable's value, if there is one.
@@ -34,10 +50,15 @@ pub fn variable(
     env: EnvId,
     name: Text,
 ) -> Result<Option<EnvValue>, Refusal> {
-    match declare(&mut state.declared, env, place_of(place), &Call::Get(name))? {
+    match answer(state, place, env, Call::Get(name))? {
         Answer::Variable(value) => Ok(value),
         _ => Ok(None),
     }
+}
+
+/// What a call answers.
+fn answer(state: &mut State, place: Place, env: EnvId, call: Call) -> Result<Answer, NameFault> {
+    declare(&mut state.declared, env, place_of(place), &call)
 }
 
 /// The value of a variable, or another value where there is none.

@@ -10,7 +10,7 @@ use crate::kept::Kept;
 use crate::rules::graph_of;
 use crate::scripts::first;
 use crate::state::State;
-use crate::stop::Stop;
+use crate::stop::{Refusal, Stop};
 use py_eval::{EvalFault, EvalKind, run};
 use py_heap::{Budget, Heap};
 use py_tree::Script;
@@ -36,11 +36,36 @@ pub fn read_scripts<W: World, O: Sink>(
     ensures cause { IfErr result (HasEndCause (W.meaning.counts world.old) (W.meaning.counts world.new) (O.meaning.faults out.old) (O.meaning.faults out.new)) }
 {
     let mut heap = Heap::new(alloc);
-    let (mut state, script) = match begun(alloc, world, &mut heap, words) {
-        Ok(begun) => begun,
-        Err(stop) => return Err(end_of(alloc, stop)),
-    };
-    run_all(world, out, &mut state, &mut heap, &script)?;
+    match begun(alloc, world, &mut heap, words) {
+        Ok((state, script)) => read_on(alloc, world, out, &mut heap, state, &script),
+        Err(stop) => Err(end_of(alloc, stop)),
+    }
+}
+
+/// Reads all scripts from the first on, which has begun.
+fn read_on<W: World, O: Sink>(
+    alloc: Global,
+    world: &mut W,
+    out: &mut O,
+    heap: &mut Heap,
+    mut state: State,
+    script: &Script,
+) -> Result<Graph, HostEnd>
+    ensures looks { Looks W.meaning world.old world.new }
+    ensures prints { Prints O.meaning out.old out.new }
+    ensures cause { IfErr result (HasEndCause (W.meaning.counts world.old) (W.meaning.counts world.new) (O.meaning.faults out.old) (O.meaning.faults out.new)) }
+{
+    match run_all(world, out, &mut state, heap, script) {
+        Ok(()) => graph_end(alloc, world, state),
+        Err(end) => Err(end),
+    }
+}
+
+/// The graph of what all scripts have declared.
+fn graph_end<W: World>(alloc: Global, world: &mut W, state: State) -> Result<Graph, HostEnd>
+    ensures looks { Looks W.meaning world.old world.new }
+    ensures cause { IfErr result (λ e. (faults more : ℕ) → HasEndCause (W.meaning.counts world.old) (W.meaning.counts world.new) faults more e) }
+{
     let State {
         declared,
         scripts,
@@ -106,20 +131,32 @@ fn end_of(alloc: Global, stop: Stop) -> HostEnd
 
 /// Begins the first script; those behind it wait.
 #[tactic(auto, using(crate::specs::Looking::looking))]
-fn first_script<W: World>(state: &mut State, world: &mut W, words: &Words) -> Result<Script, Stop> {
+fn first_script<W: World>(state: &mut State, world: &mut W, words: &Words) -> Result<Script, Stop>
+    ensures looks { Looks W.meaning world.old world.new }
+    ensures cause { IfErr result (HasStopCause (W.meaning.counts world.old) (W.meaning.counts world.new)) }
+{
+    let path = first_path(state, world, words)?;
+    first(state, world, path)
+}
+
+/// The path of the first script, with those behind it put where they wait.
+#[tactic(auto, using(crate::specs::Looking::looking))]
+fn first_path<W: World>(state: &mut State, world: &mut W, words: &Words) -> Result<PathText, Stop>
+    ensures looks { Looks W.meaning world.old world.new }
+    ensures cause { IfErr result (HasStopCause (W.meaning.counts world.old) (W.meaning.counts world.new)) }
+{
     match words.scripts.as_slice() {
-        [] => {
-            let path = standing(state.alloc, world)?;
-            first(state, world, path)
-        }
-        [path, further @ ..] => {
-            for path in further {
-                state.first.push_back(path.copy()?)?;
-            }
-            let path = path.copy()?;
-            first(state, world, path)
-        }
+        [] => standing(state.alloc, world),
+        [path, further @ ..] => Ok(named(state, path, further)?),
     }
+}
+
+/// The path of a script that was named, with those behind it put where they wait.
+fn named(state: &mut State, path: &PathText, further: &[PathText]) -> Result<PathText, Refusal> {
+    for path in further {
+        state.first.push_back(path.copy()?)?;
+    }
+    Ok(path.copy()?)
 }
 
 /// The first of the names of first scripts that is a file, or the first of all where none is.

@@ -25,13 +25,28 @@ pub fn graph_of<W: World>(
     ensures cause { IfErr result (HasStopCause (W.meaning.counts world.old) (W.meaning.counts world.new)) }
 {
     let mut reading = RuleReading::new(alloc, declared)?;
-    for number in 0..reading.count() {
-        add(alloc, world, &mut reading, number, scripts)?;
-    }
+    add_all(alloc, world, &mut reading, scripts)?;
     match reading.finish() {
         Ok(graph) => Ok(graph),
         Err(fault) => Err(told(scripts, None, fault)),
     }
+}
+
+/// Adds all rules.
+#[tactic(auto, using(crate::specs::Looking::looking))]
+fn add_all<W: World>(
+    alloc: Global,
+    world: &mut W,
+    reading: &mut RuleReading,
+    scripts: &Paths,
+) -> Result<(), Stop>
+    ensures looks { Looks W.meaning world.old world.new }
+    ensures cause { IfErr result (HasStopCause (W.meaning.counts world.old) (W.meaning.counts world.new)) }
+{
+    for number in 0..reading.count() {
+        add(alloc, world, reading, number, scripts)?;
+    }
+    Ok(())
 }
 
 /// Adds a rule, once the libraries that it names are found.
