@@ -1,6 +1,6 @@
 //! The steps of a trial, as they stand in the text.
 
-use anyhow::{Context, Result};
+use anyhow::{Context, Result, bail};
 use scons_base::{Blob, PathText, Text, Texts};
 use std::alloc::Global;
 
@@ -47,12 +47,19 @@ impl Block {
         let mut contents = Vec::new(alloc);
         for line in &self.lines {
             if !line.as_str().is_empty() {
-                let (path, text) = word_of(line.as_str());
-                let blob = Blob::new(Vec::from_slice(alloc, text.as_bytes())?);
-                contents.push((path_of(alloc, path)?, Some(blob)))?;
+                contents.push(content_of(alloc, line.as_str())?)?;
             }
         }
         Ok(contents)
+    }
+}
+
+fn content_of(alloc: Global, line: &str) -> Result<(PathText, Option<Blob>)> {
+    let (path, text) = word_of(line);
+    let path = path_of(alloc, path)?;
+    match Blob::of(alloc, text.as_bytes()) {
+        Ok(bytes) => Ok((path, Some(bytes))),
+        Err(_) => bail!("memory ran out"),
     }
 }
 

@@ -58,27 +58,20 @@ impl Trial {
     /// What is printed, and the graph or the fault.
     pub fn outcome(&mut self, alloc: Global) -> Result<String, Memory> {
         self.end_file(alloc)?;
-        let mut world = match self.world(alloc)? {
-            Some(world) => world,
-            None => return Ok(String::from_str(alloc, "no such tree\n")?),
-        };
-        let mut sink = MemSink::new(alloc, Vec::new(alloc))?;
-        let mut shown = String::new(alloc);
-        let words = match read_words(alloc, self.words.as_slice()) {
-            Ok(words) => words,
+        match read_words(alloc, self.words.as_slice()) {
+            Ok(words) => self.reading(alloc, &words),
             Err(WordsFault::At(place, kind)) => {
-                let told = format!(in alloc; "word {place}: {}\n", kind.name())?;
-                shown.push_str(told.as_str())?;
-                return Ok(shown);
+                Ok(format!(in alloc; "word {place}: {}\n", kind.name())?)
             }
-            Err(WordsFault::Memory) => return Ok(String::from_str(alloc, "memory\n")?),
-        };
-        let told = read_told(alloc, &mut world, &mut sink, &words)?;
-        if let Ok(printed) = str::from_utf8(sink.text()) {
-            shown.push_str(printed)?;
+            Err(WordsFault::Memory) => Ok(String::from_str(alloc, "memory\n")?),
         }
-        shown.push_str(told.as_str())?;
-        Ok(shown)
+    }
+
+    fn reading(&mut self, alloc: Global, words: &Words) -> Result<String, Memory> {
+        match self.world(alloc)? {
+            Some(mut world) => shown(alloc, &mut world, words),
+            None => Ok(String::from_str(alloc, "no such tree\n")?),
+        }
     }
 
     /// The tree of the files, if it can be one.
@@ -90,6 +83,22 @@ impl Trial {
             Err(_) => Ok(None),
         }
     }
+}
+
+/// What the scripts print, and the graph or the fault.
+fn shown(alloc: Global, world: &mut MemWorld, words: &Words) -> Result<String, Memory> {
+    let mut sink = MemSink::new(alloc, Vec::new(alloc))?;
+    let told = read_told(alloc, world, &mut sink, words)?;
+    joined(alloc, sink.text(), told.as_str())
+}
+
+fn joined(alloc: Global, printed: &[u8], told: &str) -> Result<String, Memory> {
+    let mut text = String::new(alloc);
+    if let Ok(printed) = str::from_utf8(printed) {
+        text.push_str(printed)?;
+    }
+    text.push_str(told)?;
+    Ok(text)
 }
 
 /// The graph, or the fault.
