@@ -5,10 +5,10 @@ use Rattle.build_model.specs.Rules.{Path, Rule, Among, here, there, Unique}
 use Rattle.build_model.specs.Reach.{has, unseen}
 
 pub true_false : {A : Type 0} → true ≡ false → A
-true_false {A} e = absurd (subst (λ b. if b then Unit {0} else ⊥) e tt)
+true_false e = cc e
 
 pub none_some : {A : Type 0} {B : Type 0} {x : A} → None ≡ Some x → B
-none_some e = absurd (subst (λ o. (elim o [ None ↦ Unit {0} | Some y ↦ ⊥ ])) e tt)
+none_some e = cc e
 
 some_or : {A : Type 0} → A → Option A → A
 some_or x None = x
@@ -19,7 +19,7 @@ unfolding some_or
 some_same {A} {x} e = ap (some_or x) e
 
 pub nil_cons : {A : Type 0} {B : Type 0} {x : A} {xs : List A} → [] ≡ x ∷ xs → B
-nil_cons e = absurd (subst (λ l. (elim l [ [] ↦ Unit {0} | y ∷ ys ↦ ⊥ ])) e tt)
+nil_cons e = cc e
 
 head_or : {A : Type 0} → A → List A → A
 head_or x [] = x
@@ -66,15 +66,15 @@ pub has_among : (p : Path) (ps : List Path) → has p ps ≡ true → Among p ps
 has_among p [] h = true_false (sym h)
 has_among p (q ∷ qs) h = has_step (bytes_eq p q) (bytes_eq-Decides p q).0 h (has_among p qs)
 
-if_true : {b c : Bool} → b ≡ true → (if b then true else c) ≡ true
-if_true {b} {c} e = ap (λ x. if x then true else c) e
+if_true : (b c : Bool) → b ≡ true → (if b then true else c) ≡ true
+if_true b c e = ap (λ x. if x then true else c) e
 
 if_other : (b : Bool) {c : Bool} → c ≡ true → (if b then true else c) ≡ true
 if_other true e = refl
 if_other false e = e
 
 pub among_has : {p : Path} {ps : List Path} → Among p ps → has p ps ≡ true
-among_has {p} here = if_true ((bytes_eq-Decides p p).1 refl)
+among_has {p} here = if_true (bytes_eq p p) _ ((bytes_eq-Decides p p).1 refl)
 among_has {p} {ps = q ∷ qs} (there h) = if_other (bytes_eq p q) (among_has h)
 
 pub not_has : {p : Path} {ps : List Path} → has p ps ≡ false → Among p ps → ⊥
@@ -94,23 +94,24 @@ pub unseen_in : {q : Path} (seen ps : List Path) → Among q (unseen seen ps) �
 unseen_in seen [] h = elim h [ ]
 unseen_in seen (p ∷ ps) h = unseen_step (has p seen) refl h (unseen_in seen ps) (unseen_in (p ∷ seen) ps)
 
-first_seen : {p : Path} {seen ps : List Path} (b : Bool) → has p seen ≡ b →
+first_seen : {p : Path} {seen : List Path} (ps : List Path) (b : Bool) → has p seen ≡ b →
     Among p seen ⊎ Among p (if b then unseen seen ps else p ∷ unseen (p ∷ seen) ps)
-first_seen {p} {seen} true e = inl (has_among p seen e)
-first_seen false e = inr here
+first_seen {p} {seen} ps true e = inl (has_among p seen e)
+first_seen ps false e = inr here
 
-later_seen : {q p : Path} {seen ps : List Path} (b : Bool) → Among q seen ⊎ Among q (unseen seen ps) →
+later_seen : {q p : Path} {seen : List Path} (ps : List Path) (b : Bool) → Among q seen ⊎ Among q (unseen seen ps) →
     Among q (p ∷ seen) ⊎ Among q (unseen (p ∷ seen) ps) →
     Among q seen ⊎ Among q (if b then unseen seen ps else p ∷ unseen (p ∷ seen) ps)
-later_seen true f g = f
-later_seen false f (inl here) = inr here
-later_seen false f (inl (there s)) = inl s
-later_seen false f (inr u) = inr (there u)
+later_seen ps true f g = f
+later_seen ps false f (inl here) = inr here
+later_seen ps false f (inl (there s)) = inl s
+later_seen ps false f (inr u) = inr (there u)
 
 -- what stands in the list was seen or is unseen
 pub unseen_all : {q : Path} (seen ps : List Path) → Among q ps → Among q seen ⊎ Among q (unseen seen ps)
-unseen_all seen (p ∷ ps) here = first_seen (has p seen) refl
-unseen_all seen (p ∷ ps) (there h) = later_seen (has p seen) (unseen_all seen ps h) (unseen_all (p ∷ seen) ps h)
+unseen_all seen [] h = elim h [ ]
+unseen_all seen (p ∷ ps) here = first_seen ps (has p seen) refl
+unseen_all seen (p ∷ ps) (there h) = later_seen ps (has p seen) (unseen_all seen ps h) (unseen_all (p ∷ seen) ps h)
 
 pub same_map : {A B : Type 0} (f g : A → B) (xs : List A) → ((x : A) → Among x xs → f x ≡ g x) → map f xs ≡ map g xs
 same_map f g [] h = refl

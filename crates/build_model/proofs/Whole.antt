@@ -4,8 +4,8 @@ use Rattle.build_model.specs.Rules.{Path, Rule, Among, here, there}
 use Rattle.build_model.specs.Reach.{unseen, breadth_first, declared, left_out, reach, Reaches, is_declared, is_found}
 use Rattle.build_model.proofs.Lists.{among_left, among_right, among_either, unseen_in, unseen_all}
 
-shorter : {A : Type 0} {x : A} {xs : List A} {n : ℕ} → length (x ∷ xs) < suc n → length xs < n
-shorter h = omega arith
+shorter : {A : Type 0} (x : A) (xs : List A) {n : ℕ} → length (x ∷ xs) < suc n → length xs < n
+shorter x xs h = omega arith
 
 not_shorter : {A : Type 0} {n : ℕ} → n < 0 → A
 not_shorter h = absurd (omega arith)
@@ -14,15 +14,16 @@ module _ (f : Path → List Path) where
   pub waiting_in : {p : Path} (n : ℕ) (seen waiting : List Path) → length (breadth_first f n seen waiting) < n →
       Among p waiting → Among p (breadth_first f n seen waiting)
   waiting_in zero seen waiting short h = not_shorter short
+  waiting_in (suc n) seen [] short h = elim h [ ]
   waiting_in (suc n) seen (a ∷ waiting) short here = here
   waiting_in (suc n) seen (a ∷ waiting) short (there h) =
-      there (waiting_in n (unseen seen (f a) ++ seen) (waiting ++ unseen seen (f a)) (shorter short) (among_left (unseen seen (f a)) h))
+      there (waiting_in n (unseen seen (f a) ++ seen) (waiting ++ unseen seen (f a)) (shorter a _ short) (among_left (unseen seen (f a)) h))
 
   closed_first : {p a : Path} (n : ℕ) (seen waiting : List Path) → length (breadth_first f (suc n) seen (a ∷ waiting)) < suc n →
       Among p seen ⊎ Among p (unseen seen (f a)) → Among p (breadth_first f (suc n) seen (a ∷ waiting)) ⊎ Among p seen
   closed_first n seen waiting short (inl s) = inr s
   closed_first {p} {a} n seen waiting short (inr u) =
-      inl (there (waiting_in n (unseen seen (f a) ++ seen) (waiting ++ unseen seen (f a)) (shorter short) (among_right waiting u)))
+      inl (there (waiting_in n (unseen seen (f a) ++ seen) (waiting ++ unseen seen (f a)) (shorter a _ short) (among_right waiting u)))
 
   closed_later : {p a : Path} (n : ℕ) (seen waiting : List Path) → length (breadth_first f (suc n) seen (a ∷ waiting)) < suc n →
       Among p (breadth_first f n (unseen seen (f a) ++ seen) (waiting ++ unseen seen (f a))) ⊎ Among p (unseen seen (f a) ++ seen) →
@@ -39,7 +40,7 @@ module _ (f : Path → List Path) where
   closed (suc n) seen (a ∷ waiting) short here i = closed_first n seen waiting short (unseen_all seen (f a) i)
   closed (suc n) seen (a ∷ waiting) short (there m) i =
       closed_later n seen waiting short
-      (closed n (unseen seen (f a) ++ seen) (waiting ++ unseen seen (f a)) (shorter short) m i)
+      (closed n (unseen seen (f a) ++ seen) (waiting ++ unseen seen (f a)) (shorter a _ short) m i)
 
   more_waiting : {r : Rule} {a p : Path} (seen waiting : List Path) → ((q : Path) → Among q (a ∷ waiting) → Reaches f r q) →
       ((q : Path) → Among q (left_out r) → Among q seen) → Among p waiting ⊎ Among p (unseen seen (f a)) → Reaches f r p
@@ -60,16 +61,16 @@ module _ (f : Path → List Path) where
   reach_reaches {r} limit m =
       only_reached limit (declared r ++ left_out r) (declared r) (λ q d. is_declared d) (λ q o. among_right (declared r) o) m
 
-  found_in_reach : {r : Rule} {p : Path} (limit : ℕ) → length (reach limit f r) < limit → (Among p (left_out r) → ⊥) →
+  found_in_reach : (r : Rule) {p : Path} (limit : ℕ) → length (reach limit f r) < limit → (Among p (left_out r) → ⊥) →
       Among p (reach limit f r) ⊎ Among p (declared r ++ left_out r) → Among p (reach limit f r)
-  found_in_reach limit short out (inl m) = m
-  found_in_reach {r} limit short out (inr m) =
+  found_in_reach r limit short out (inl m) = m
+  found_in_reach r limit short out (inr m) =
       ⊎_elim (λ d. waiting_in limit (declared r ++ left_out r) (declared r) short d) (λ o. absurd (out o)) (among_either (declared r) m)
 
   pub reaches_in : {r : Rule} {p : Path} (limit : ℕ) → length (reach limit f r) < limit → Reaches f r p → Among p (reach limit f r)
   reaches_in {r} limit short (is_declared d) = waiting_in limit (declared r ++ left_out r) (declared r) short d
   reaches_in {r} limit short (is_found q h m out) =
-      found_in_reach limit short out
+      found_in_reach r limit short out
       (closed limit (declared r ++ left_out r) (declared r) short (reaches_in limit short h) m)
 
 -- what is reached stays so where more is included

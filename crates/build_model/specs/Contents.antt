@@ -73,3 +73,8 @@ pub record IsLawful (s : Setting) : Type 0 where
 abbrev pub height : List Rule → ℕ
 height [] = 0
 height (r ∷ rs) = if r.copies then height rs else suc (suc (height rs))
+
+-- A path is known: it has a rule or is a file.
+pub data IsKnown (s : Setting) (t : Tree) (p : Path) : Type 0 where
+  has_rule : (r : Rule) → s.rule_of p ≡ Some r → IsKnown s t p
+  is_file : (bytes : Bytes) → t p ≡ Some bytes → IsKnown s t p

@@ -8,3 +8,5 @@ pub mod Steps
 pub mod Moments
 pub mod Graphs
 pub mod Laws
+pub mod Headline
+pub mod Resting

@@ -1,6 +1,6 @@
 -- When a rule has to be carried out.
 use Rattle.std.specs.Prelude.{◌≡◌, ◌≢◌, ◌⊎◌, ℕ, ◌<◌, Bool, true, false, List, [], ◌∷◌, map, Option, Some, None, ⊤}
-use Rattle.build_model.specs.Rules.{Path, Bytes, Tree, Stamps, Decider, content, timestamp_newer, timestamp_match, content_timestamp, Rule, Dependency, Record, Records, Setting, Among}
+use Rattle.build_model.specs.Rules.{Path, Bytes, Tree, Stamps, Decider, content, timestamp_newer, timestamp_match, content_timestamp, Rule, Dependency, Record, Records, Among}
 
 abbrev pub name_of : Dependency → Path
 name_of d = d.name
@@ -72,12 +72,3 @@ pub record IsKept (t : Tree) (m : Records) (now : Record) (p : Path) : Type 0 wh
 pub record IsUpToDate (t : Tree) (m : Records) (r : Rule) (now : Record) : Type 0 where
   pub not_always : r.always ≡ false
   pub targets : (p : Path) → Among p r.targets → IsKept t m now p
-
--- The setting's test finds a rule due exactly where it is; by content, where it isn't, the rule is up to date.
-pub record TestsDue (s : Setting) : Type 0 where
-  pub due : (r : Rule) (t : Tree) (stamps : Stamps) (m : Records) (now : Record) →
-      s.is_due r t stamps m now ≡ true → IsDue t stamps m r now
-  pub spared : (r : Rule) (t : Tree) (stamps : Stamps) (m : Records) (now : Record) →
-      s.is_due r t stamps m now ≡ false → IsDue t stamps m r now → ⊥
-  pub kept : (r : Rule) (t : Tree) (stamps : Stamps) (m : Records) (now : Record) → r.decider ≡ content →
-      s.is_due r t stamps m now ≡ false → IsUpToDate t m r now

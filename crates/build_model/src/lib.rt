@@ -1,6 +1,10 @@
-//! What a build is: definitions that all promises about builds are stated by, and the laws that follow from them alone.
+//! What a build is, and what follows from that alone: the definitions by which promises about builds are stated, over plain
+//! lists and functions, and the laws that join the steps of a build to what a build from sources alone would make.
 #![tactic(auto)]
 
 mod laws;
 
-pub use laws::nothing;
+pub use laws::{
+    again_little, any_decider, courses_are_builds, each_step, graphs_are_lawful, high_enough, incremental_is_clean, none_over_cycle, only_once,
+    rests_rightly, settled_before_start,
+};
