@@ -90,7 +90,7 @@ module _ (s : Setting) (b : Build) (lawful : IsLawful s) (sources : (p : Path) �
     lower r rules low = let le = height_more r rules in omega (arith, le, low)
 
     pub settled_clean : (past : List Step) → IsRun s b past → height (settled past) < top → AreClean (settled past)
-    settled_clean [] run low r m p n = elim m [ ]
+    settled_clean [] run low = λ r m p n. elim m [ ]
     settled_clean (Fresh x ∷ past) run low =
         let less = lower x (settled past) low in
         let all = settled_clean past run.1 less in

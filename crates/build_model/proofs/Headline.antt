@@ -1,5 +1,5 @@
 -- A build of a graph that ended well equals a clean build, and the next one starts little.
-use Rattle.std.proofs.Common.{◌≡◌, ◌≢◌, ◌<◌, ◌≤◌, ◌+◌, ◌*◌, ℕ, zero, suc, Bool, true, false, if◌then◌else◌, List, [], ◌∷◌, ◌++◌, map, length, Option, Some, None, refl, sym, subst, ap, ap₂, ◌∙◌, inl, inr, ◌⊎◌, ⊎_elim}
+use Rattle.std.proofs.Common.{◌≡◌, ◌≢◌, ◌<◌, ◌≤◌, ◌+◌, ◌*◌, ℕ, zero, suc, Bool, true, false, if◌then◌else◌, List, [], ◌∷◌, ◌++◌, map, length, Option, Some, None, refl, sym, subst, ap, ap₂, ◌∙◌, inl, inr, ◌⊎◌, ⊎_elim, arith}
 use Rattle.build_model.specs.Rules.{Path, Content, Tree, Stamps, Decider, content, Rule, Record, Setting, Among, here, there}
 use Rattle.build_model.specs.Needs.{IsCycle, is_requested}
 use Rattle.build_model.specs.Contents.{View, found_in, dependencies, source_content, by_rule, made, clean, IsKnown, has_rule, is_file, height}

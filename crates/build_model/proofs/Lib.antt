@@ -11,3 +11,4 @@ mod Placed
 mod Headline
 mod Staying
 mod Resting
+mod Examples

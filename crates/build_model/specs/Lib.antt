@@ -10,3 +10,4 @@ pub mod Graphs
 pub mod Laws
 pub mod Headline
 pub mod Resting
+pub mod Examples

@@ -2,6 +2,7 @@
 ghost use Rattle.build_model.specs.Laws.{EachStepIsClean, HoldsForAnyDecider, EachOnlyOnce, SettledBeforeStart, NoneOverCycle, CoursesAreBuilds};
 ghost use Rattle.build_model.specs.Headline.{GraphsAreLawful, HighEnough, IncrementalIsClean, AgainLittle};
 ghost use Rattle.build_model.specs.Resting.{RestsRightly};
+ghost use Rattle.build_model.specs.Examples.{AreMet};
 
 /// At any status: what was found up to date or made has the clean content, dependencies and record; and what was started was
 /// needed and stale.
@@ -67,5 +68,11 @@ pub fn again_little()
 /// Where nothing is left to do, each needed rule is settled, faulty, skipped or held.
 pub fn rests_rightly()
     ensures { RestsRightly }
+{
+}
+
+/// What the headline asks is met: by a build of a source with a generated header from nothing, and by the next one.
+pub fn premises_are_met()
+    ensures { AreMet }
 {
 }
