@@ -1,8 +1,8 @@
 -- What agrees on the dependencies of a rule gives the same dependencies, contents and record.
-use Rattle.std.proofs.Common.{◌≡◌, ◌<◌, ◌≤◌, ℕ, zero, suc, Bool, true, false, if◌then◌else◌, List, [], ◌∷◌, ◌++◌, length, Option, Some, None, map, refl, sym, subst, ap, ◌∙◌, inl, inr, ◌⊎◌}
-use Rattle.build_model.specs.Rules.{Path, Content, Tree, Stamps, Rule, Setting, Among, here, there}
-use Rattle.build_model.specs.Reach.{unseen, breadth_first, declared, left_out, reach}
-use Rattle.build_model.specs.Contents.{Known, View, in_tree, found_in, includes_of, dependencies, contents_in, with_known, act_on, made}
+use Rattle.std.proofs.Common.{◌≡◌, ℕ, zero, suc, if◌then◌else◌, List, [], ◌∷◌, ◌++◌, Some, map, refl, sym, ap, ◌∙◌}
+use Rattle.build_model.specs.Rules.{Path, Tree, Stamps, Rule, Setting, Among, here, there}
+use Rattle.build_model.specs.Reach.{unseen, breadth_first, declared, left_out}
+use Rattle.build_model.specs.Contents.{View, in_tree, found_in, includes_of, dependencies, contents_in, with_known, act_on, made}
 use Rattle.build_model.specs.Records.{record_of, dependency_of, known_digest, stamp_kept}
 use Rattle.build_model.specs.Steps.{contents_of}
 use Rattle.build_model.proofs.Lists.{same_map}

@@ -1,17 +1,17 @@
 -- What a settled rule makes is the clean content, at a height that counts the settled rules.
-use Rattle.std.proofs.Common.{◌≡◌, ◌<◌, ◌≤◌, ℕ, zero, suc, Bool, true, false, if◌then◌else◌, List, [], ◌∷◌, ◌++◌, map, Option, Some, None, refl, sym, subst, ap, ◌∙◌, inl, inr, ◌⊎◌, arith, le_refl}
-use Rattle.build_model.specs.Rules.{Path, Bytes, Content, Tree, content, Rule, Record, Setting, Among, here, there}
-use Rattle.build_model.specs.Contents.{Known, View, in_tree, found_in, includes_of, dependencies, made, by_rule, source_content, clean, height, IsLawful}
+use Rattle.std.proofs.Common.{◌≡◌, ◌<◌, ◌≤◌, ℕ, zero, suc, Bool, true, false, if◌then◌else◌, List, [], ◌∷◌, ◌++◌, Some, None, refl, sym, subst, ap, ◌∙◌, inl, inr, ◌⊎◌, arith}
+use Rattle.build_model.specs.Rules.{Path, Bytes, Rule, Setting, Among, here, there}
+use Rattle.build_model.specs.Contents.{in_tree, found_in, includes_of, dependencies, made, by_rule, source_content, clean, height, IsLawful}
 use Rattle.build_model.specs.Reach.{declared, left_out}
 use Rattle.build_model.specs.Records.{record_of}
 use Rattle.build_model.specs.Stale.{IsStale, IsUpToDate}
 use Rattle.build_model.specs.Steps.{Step, Fresh, Began, Ended, Lacks, Halts, Build, settled, began, IsReady, is_source, is_made, IsMissing, IsFirstMissing, IsWanted, IsPrepared, IsFresh, IsMade, IsRun, present_dependencies, present_record}
 use Rattle.build_model.specs.Laws.{IsByContent, NeededIn, IsClean, IsFirstStuck, EachStep, IsBuild}
-use Rattle.build_model.proofs.Lists.{none_some, some_same, among_either, among_same}
+use Rattle.build_model.proofs.Lists.{among_either, among_same}
 use Rattle.build_model.proofs.Agree.{breadth_first_agrees, same_made, made_in_tree}
 use Rattle.build_model.proofs.Heights.{higher_le, level, level_le, level_more, height_more}
 use Rattle.build_model.proofs.Ready.{needed_place, Agrees, wanted_needed, prepared_dependencies, prepared_record}
-use Rattle.build_model.proofs.Runs.{begun_prepared, settled_prepared, began_due, fresh_of, fresh_settled, needs_before}
+use Rattle.build_model.proofs.Runs.{begun_prepared, settled_prepared, began_due, fresh_of, fresh_settled}
 use Rattle.build_model.proofs.Made.{fresh_made, fresh_not_stale, due_stale}
 
 module _ (s : Setting) (b : Build) (lawful : IsLawful s) (sources : (p : Path) → s.rule_of p ≡ None → b.before p ≡ b.after p) where

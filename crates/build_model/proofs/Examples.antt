@@ -1,17 +1,17 @@
 -- The two builds meet what the headline asks.
-use Rattle.std.proofs.Common.{◌≡◌, ◌<◌, ◌≤◌, ℕ, Bool, true, false, if◌then◌else◌, List, [], ◌∷◌, ◌++◌, length, Option, Some, None, bytes_eq, refl, sym, subst, ap, ◌∙◌, inl, inr, ◌⊎◌, arith}
+use Rattle.std.proofs.Common.{◌≡◌, ◌<◌, ℕ, Bool, true, false, if◌then◌else◌, List, [], ◌∷◌, Option, Some, None, bytes_eq, refl, sym, subst, ap, ◌∙◌, inl, inr, ◌⊎◌, arith}
 use Rattle.std.proofs.lemmas.Slice.Eq.{bytes_eq-Decides}
 use Rattle.build_model.specs.Rules.{Path, Bytes, Content, Tree, content, Rule, Record, Records, Setting, Among, here, there}
 use Rattle.build_model.specs.Reach.{has, left_out, is_declared, is_found}
 use Rattle.build_model.specs.Needs.{Found, Needed, is_requested, is_needed, as_dependency}
-use Rattle.build_model.specs.Contents.{in_tree, found_in, dependencies}
-use Rattle.build_model.specs.Records.{IsMet, AreDistinct, AreSound, IsMadeBy}
+use Rattle.build_model.specs.Contents.{in_tree, found_in}
+use Rattle.build_model.specs.Records.{IsMet, IsMadeBy}
 use Rattle.build_model.specs.Stale.{IsDue, IsUpToDate, IsKept}
-use Rattle.build_model.specs.Steps.{Step, Fresh, Began, Ended, Build, settled, IsReady, is_source, is_made, IsFound, IsWanted, IsPrepared, IsDecided, IsFresh, IsStart, IsRunning, IsMade, IsRun, Succeeds, present_record}
-use Rattle.build_model.specs.Graphs.{Graph, IsGraph, declared_rule, or_copy, setting, rule_at, clean_build}
-use Rattle.build_model.specs.Laws.{NeededIn, TestsDue, IsByContent}
+use Rattle.build_model.specs.Steps.{Build, IsReady, is_source, is_made, IsFound, IsPrepared, IsRun, present_record}
+use Rattle.build_model.specs.Graphs.{IsGraph, declared_rule, or_copy, setting, rule_at}
+use Rattle.build_model.specs.Laws.{TestsDue}
 use Rattle.build_model.specs.Headline.{BuildsByContent, clean_record}
-use Rattle.build_model.specs.Examples.{notes, header, source, object, header_rule, object_rule, graph, sources_alone, all_made, first_build, first_steps, second_build, second_steps, records_kept, MeetsPremises, AreMet}
+use Rattle.build_model.specs.Examples.{notes, header, source, object, header_rule, object_rule, graph, sources_alone, all_made, first_build, first_steps, second_build, second_steps, records_kept, AreMet}
 use Rattle.build_model.proofs.Lists.{none_some, some_same, true_false, not_has}
 use Rattle.build_model.proofs.Ready.{needed_place}
 use Rattle.build_model.proofs.Made.{fresh_not_stale, due_stale}
@@ -73,9 +73,10 @@ module _ (t : Tree) (m : Records) where
   found_cases r p false false copies e = inl refl
   found_cases {rules} r p false true copies e =
       inr (subst (λ q. IsReady set all_made rules q × ((header ∷ []) ≡ found_in set (in_tree all_made) r q))
-      (sym ((bytes_eq-Decides p source).0 e))
-      (is_source (2 ∷ []) refl refl,
-      ap (λ c. if (if c then false else bytes_eq source source) then header ∷ [] else []) (sym copies)))
+      (sym ((bytes_eq-Decides p source).0 e)) (
+        is_source (2 ∷ []) refl refl,
+        ap (λ c. if (if c then false else bytes_eq source source) then header ∷ [] else []) (sym copies),
+      ))
 
   is_found_so : (rules : List Rule) → IsFound set all_made rules found
   unfolding found
@@ -118,13 +119,25 @@ below_one : {n : ℕ} → n ≡ 0 → n < 1
 below_one e = omega arith
 
 first_run : IsRun (setting graph sources_alone) first_build first_steps
-first_run =
-    ((record { began = here; not_done = not_header }, λ p n. one (λ q. all_made q ≡ Some (2 ∷ 1 ∷ [])) refl n),
-    ((record { goes_on = refl; not_began = not_header; not_done = not_header; prepared = object_prepared sources_alone (λ p. None) },
-    record { due = refl; room = below_one refl }),
-    ((record { began = here; not_done = λ n. elim n [ ] }, λ p n. one (λ q. all_made q ≡ Some (1 ∷ [])) refl n),
-    ((record { goes_on = refl; not_began = λ n. elim n [ ]; not_done = λ n. elim n [ ]; prepared = header_prepared sources_alone (λ p. None) },
-    record { due = refl; room = below_one refl }), tt))))
+first_run = (
+  (record { began = here; not_done = not_header }, λ p n. one (λ q. all_made q ≡ Some (2 ∷ 1 ∷ [])) refl n),
+  (
+    (
+      record { goes_on = refl; not_began = not_header; not_done = not_header; prepared = object_prepared sources_alone (λ p. None) },
+      record { due = refl; room = below_one refl },
+    ),
+    (
+      (record { began = here; not_done = λ n. elim n [ ] }, λ p n. one (λ q. all_made q ≡ Some (1 ∷ [])) refl n),
+      (
+        (
+          record { goes_on = refl; not_began = λ n. elim n [ ]; not_done = λ n. elim n [ ]; prepared = header_prepared sources_alone (λ p. None) },
+          record { due = refl; room = below_one refl },
+        ),
+        tt,
+      ),
+    ),
+  ),
+)
 
 missing_tested : (r : Rule) (p : Path) → Among p r.targets → sources_alone p ≡ None →
     graph.is_due r sources_alone (λ q. None) (λ q. None) (present_record (setting graph sources_alone) first_build r) ≡ true →
@@ -155,11 +168,19 @@ object_met p (there here) = here
 object_met p (there (there n)) = elim n [ ]
 
 second_run : IsRun (setting graph all_made) second_build second_steps
-second_run =
-    ((record { goes_on = refl; not_began = λ n. elim n [ ]; not_done = not_header; prepared = object_prepared all_made records_kept },
-    record { not_due = refl; each_met = object_met; same = λ p n. refl }),
-    ((record { goes_on = refl; not_began = λ n. elim n [ ]; not_done = λ n. elim n [ ]; prepared = header_prepared all_made records_kept },
-    record { not_due = refl; each_met = λ p n. one (λ q. IsMet first_build.met (all_made q)) here n; same = λ p n. refl }), tt))
+second_run = (
+  (
+    record { goes_on = refl; not_began = λ n. elim n [ ]; not_done = not_header; prepared = object_prepared all_made records_kept },
+    record { not_due = refl; each_met = object_met; same = λ p n. refl },
+  ),
+  (
+    (
+      record { goes_on = refl; not_began = λ n. elim n [ ]; not_done = λ n. elim n [ ]; prepared = header_prepared all_made records_kept },
+      record { not_due = refl; each_met = λ p n. one (λ q. IsMet first_build.met (all_made q)) here n; same = λ p n. refl },
+    ),
+    tt,
+  ),
+)
 
 -- which record is kept
 kept_rule : (p : Path) (r : Record) (h o : Bool) → bytes_eq p header ≡ h → bytes_eq p object ≡ o →

@@ -1,13 +1,12 @@
 -- A build of a graph that ended well equals a clean build, and the next one starts little.
-use Rattle.std.proofs.Common.{◌≡◌, ◌≢◌, ◌<◌, ◌≤◌, ◌+◌, ◌*◌, ℕ, zero, suc, Bool, true, false, if◌then◌else◌, List, [], ◌∷◌, ◌++◌, map, length, Option, Some, None, refl, sym, subst, ap, ap₂, ◌∙◌, inl, inr, ◌⊎◌, ⊎_elim, arith}
-use Rattle.build_model.specs.Rules.{Path, Content, Tree, Stamps, Decider, content, Rule, Record, Setting, Among, here, there}
-use Rattle.build_model.specs.Needs.{IsCycle, is_requested}
-use Rattle.build_model.specs.Contents.{View, found_in, dependencies, source_content, by_rule, made, clean, IsKnown, has_rule, is_file, height}
+use Rattle.std.proofs.Common.{◌≡◌, ◌<◌, ◌≤◌, ◌+◌, ◌*◌, ℕ, zero, suc, true, false, if◌then◌else◌, List, length, Option, Some, None, refl, sym, subst, ap, ◌∙◌, inl, inr, ◌⊎◌, arith}
+use Rattle.build_model.specs.Rules.{Path, Content, Tree, Stamps, content, Rule, Record, Setting, Among}
+use Rattle.build_model.specs.Contents.{View, dependencies, source_content, by_rule, made, clean, IsKnown, has_rule, is_file, height}
 use Rattle.build_model.specs.Records.{record_of, dependency_of, known_digest, stamp_kept}
 use Rattle.build_model.specs.Stale.{IsStale}
-use Rattle.build_model.specs.Steps.{Step, Fresh, Began, Build, settled, began, IsRun, Succeeds, present_record}
-use Rattle.build_model.specs.Graphs.{Graph, IsGraph, setting, rule_at, clean_build, or_copy, copy_at, copy_of_source, copy_of_file, declared_rule}
-use Rattle.build_model.specs.Laws.{NeededIn, NeedsIn, IsBuild, IsByContent, EachStep, StartsExactly}
+use Rattle.build_model.specs.Steps.{Step, Fresh, Build, settled, began, IsRun, Succeeds}
+use Rattle.build_model.specs.Graphs.{Graph, setting, rule_at, clean_build, or_copy, copy_at, copy_of_source, copy_of_file, declared_rule}
+use Rattle.build_model.specs.Laws.{NeededIn, EachStep}
 use Rattle.build_model.specs.Headline.{no_stamps, clean_record, IsNeeded, IsStaleBefore, BuildsByContent, IsBuilt, IsAgain}
 use Rattle.build_model.proofs.Lists.{none_some, some_same, same_map}
 use Rattle.build_model.proofs.Heights.{higher_le}
@@ -128,8 +127,13 @@ module _ (g : Graph) (t u : Tree) (sources : (p : Path) → rule_at g t p ≡ No
   same_setting : setting g t ≡ setting g u
   same_setting =
       ap (λ f. record {
-        rule_of = f; scans = λ r p. if r.copies then false else g.scans r p; includes = g.includes; act = g.act;
-        digest = g.digest; is_due = g.is_due; limit = g.limit;
+        rule_of = f;
+        scans = λ r p. if r.copies then false else g.scans r p;
+        includes = g.includes;
+        act = g.act;
+        digest = g.digest;
+        is_due = g.is_due;
+        limit = g.limit;
       }) same_rule_at
 
   same_source : (p : Path) (o : Option Rule) (f : Rule → Option Content) → rule_at g t p ≡ o →

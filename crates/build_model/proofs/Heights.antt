@@ -1,5 +1,5 @@
 -- What isn't stuck at a height is the same at every greater one.
-use Rattle.std.proofs.Common.{◌≡◌, ◌<◌, ◌≤◌, ℕ, zero, suc, Bool, true, false, if◌then◌else◌, List, [], ◌∷◌, Option, Some, None, refl, sym, subst, ap, ◌∙◌, inl, inr, ◌⊎◌, ⊎_elim, arith}
+use Rattle.std.proofs.Common.{◌≡◌, ◌≤◌, ℕ, zero, suc, Bool, true, false, if◌then◌else◌, List, [], ◌∷◌, Option, Some, None, refl, sym, subst, ◌∙◌, ◌⊎◌, ⊎_elim, arith}
 use Rattle.build_model.specs.Rules.{Path, Content, Tree, Rule, Setting, Among, here, there}
 use Rattle.build_model.specs.Contents.{Known, View, dependencies, contents_in, with_known, act_on, made, by_rule, source_content, clean, height}
 use Rattle.build_model.proofs.Lists.{none_some}

@@ -1,11 +1,11 @@
 -- What was found up to date is what its action makes of what stands in the tree: its record names the present contents,
 -- and tells of bytes made of contents with those digests.
-use Rattle.std.proofs.Common.{◌≡◌, ◌≢◌, ◌<◌, ◌≤◌, ℕ, zero, suc, Bool, true, false, if◌then◌else◌, List, [], ◌∷◌, ◌++◌, map, Option, Some, None, refl, sym, subst, ap, ap₂, ◌∙◌, inl, inr, ◌⊎◌, true≢false}
-use Rattle.build_model.specs.Rules.{Path, Bytes, Digest, Content, Tree, Stamps, Decider, content, Rule, Dependency, Record, Records, Setting, Among, here, there}
-use Rattle.build_model.specs.Contents.{View, in_tree, dependencies}
-use Rattle.build_model.specs.Records.{record_of, dependency_of, digest_of, known_digest, IsMet, AreDistinct, named_digest, digested, IsMadeBy, AreSound}
-use Rattle.build_model.specs.Stale.{IsDue, IsStale, IsUpToDate, IsKept, HasChanged, first_stamp}
-use Rattle.build_model.specs.Steps.{Build, IsFresh, IsMade, contents_of, with_content, present_dependencies, present_record}
+use Rattle.std.proofs.Common.{◌≡◌, List, [], ◌∷◌, map, Some, None, refl, sym, subst, ap, ap₂, ◌∙◌}
+use Rattle.build_model.specs.Rules.{Path, Bytes, Content, Tree, Stamps, content, Rule, Record, Records, Setting, Among, here, there}
+use Rattle.build_model.specs.Contents.{in_tree}
+use Rattle.build_model.specs.Records.{dependency_of, digest_of, IsMet, AreDistinct, named_digest, digested, AreSound}
+use Rattle.build_model.specs.Stale.{IsDue, IsStale, IsUpToDate, HasChanged, first_stamp}
+use Rattle.build_model.specs.Steps.{Build, IsFresh, IsMade, contents_of, present_dependencies, present_record}
 use Rattle.build_model.proofs.Lists.{none_some, some_same, nil_cons, same_head, same_tail, true_false}
 
 module _ (s : Setting) where
@@ -38,7 +38,7 @@ module _ (s : Setting) where
       let k = kept.targets p m in
       let by = sound.true_of_files p (present_record s b r) k.bytes k.has_record k.is_file in
       let same : by.given ≡ contents_of b.after (present_dependencies s b r) =
-          one_given b.met b.after r b.stamps_after distinct by.given (present_dependencies s b r) by.each_met fresh.each_met by.digests in
+      one_given b.met b.after r b.stamps_after distinct by.given (present_dependencies s b r) by.each_met fresh.each_met by.digests in
       sym (fresh.same p m) ∙ k.is_file ∙ sym by.made ∙ ap (λ l. s.act r.work r.signed r.targets l p) same
 
 -- what is up to date isn't stale

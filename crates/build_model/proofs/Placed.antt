@@ -1,11 +1,11 @@
 -- The rules of a graph have their places, and no more of them stand on one another than are declared.
-use Rattle.std.proofs.Common.{◌≡◌, ◌<◌, ◌≤◌, ◌+◌, ◌*◌, ℕ, zero, suc, Bool, true, false, if◌then◌else◌, List, [], ◌∷◌, ◌++◌, length, Option, Some, None, refl, sym, subst, ap, ◌∙◌, inl, inr, ◌⊎◌, ⊎_elim, arith}
-use Rattle.build_model.specs.Rules.{Path, Content, Tree, Rule, Setting, Among, here, there, Unique}
-use Rattle.build_model.specs.Reach.{has, declared, Reaches, is_declared, is_found}
+use Rattle.std.proofs.Common.{◌≡◌, ◌<◌, ◌≤◌, ◌+◌, ◌*◌, ℕ, suc, Bool, true, false, if◌then◌else◌, List, [], ◌∷◌, length, Option, Some, None, refl, sym, subst, ap, ◌∙◌, inl, inr, ◌⊎◌, arith}
+use Rattle.build_model.specs.Rules.{Path, Content, Tree, Rule, Among, here, there, Unique}
+use Rattle.build_model.specs.Reach.{has, Reaches, is_declared, is_found}
 use Rattle.build_model.specs.Contents.{View, found_in, dependencies, IsLawful, height}
 use Rattle.build_model.specs.Graphs.{Graph, IsGraph, declared_rule, copy_rule, copy_of_file, copy_of_source, copy_at, or_copy, rule_at, setting}
 use Rattle.build_model.specs.Steps.{Step, Build, settled, IsRun}
-use Rattle.build_model.proofs.Lists.{none_some, some_same, true_false, has_among, among_has}
+use Rattle.build_model.proofs.Lists.{none_some, some_same, true_false, has_among}
 use Rattle.build_model.proofs.Whole.{reach_reaches}
 use Rattle.build_model.proofs.Ready.{needed_place}
 use Rattle.build_model.proofs.Runs.{settled_prepared, settled_once}
@@ -160,5 +160,5 @@ pub high_enough : (g : Graph) (b : Build) (steps : List Step) → IsGraph g → 
     height (settled steps) < 2 * length g.rules + 1
 high_enough g b steps graph run =
     let le = height_bounded (settled steps) g.rules (settled_once (setting g b.before) b steps run)
-        (settled_declared g b.before graph b steps run) in
+    (settled_declared g b.before graph b steps run) in
     omega (arith, le)

@@ -1,11 +1,10 @@
 -- What a rule that may be decided stands on: its files wait for nothing, and all that it needs is settled.
-use Rattle.std.proofs.Common.{◌≡◌, ◌<◌, ◌≤◌, ℕ, zero, suc, Bool, true, false, if◌then◌else◌, List, [], ◌∷◌, ◌++◌, length, Option, Some, None, refl, sym, subst, ap, ◌∙◌, inl, inr, ◌⊎◌, ⊎_elim}
-use Rattle.build_model.specs.Rules.{Path, Content, Tree, Stamps, Rule, Setting, Among, here, there}
-use Rattle.build_model.specs.Reach.{Reaches, is_declared, is_found, reach}
+use Rattle.std.proofs.Common.{◌≡◌, ◌<◌, if◌then◌else◌, List, [], length, Some, refl, sym, subst, ap, ◌∙◌, inl, inr, ◌⊎◌}
+use Rattle.build_model.specs.Rules.{Path, Tree, Rule, Setting, Among}
 use Rattle.build_model.specs.Needs.{RuleOf, Found, Needs, as_required, as_dependency, Needed, is_requested, is_needed}
-use Rattle.build_model.specs.Contents.{Known, View, in_tree, found_in, includes_of, dependencies, IsLawful}
+use Rattle.build_model.specs.Contents.{View, in_tree, found_in, includes_of, dependencies}
 use Rattle.build_model.specs.Records.{record_of}
-use Rattle.build_model.specs.Steps.{Build, IsReady, is_source, is_made, IsFound, IsWanted, IsPrepared, present_dependencies, present_record}
+use Rattle.build_model.specs.Steps.{Build, IsReady, is_source, is_made, IsWanted, IsPrepared, present_dependencies, present_record}
 use Rattle.build_model.specs.Laws.{NeededIn, NeedsIn}
 use Rattle.build_model.proofs.Lists.{none_some, some_same, among_same}
 use Rattle.build_model.proofs.Whole.{reaches_in, reaches_more}

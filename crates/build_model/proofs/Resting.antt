@@ -1,16 +1,16 @@
 -- Where nothing is left to do, each rule that isn't settled leads to a fault or to a cycle.
-use Rattle.std.proofs.Common.{◌≡◌, ◌<◌, ◌≤◌, ℕ, zero, suc, Bool, true, false, List, [], ◌∷◌, ◌++◌, length, Option, Some, None, refl, sym, subst, ap, ◌∙◌, inl, inr, ◌⊎◌, ⊎_elim, arith}
-use Rattle.build_model.specs.Rules.{Path, Rule, Record, Setting, Among, here, there}
+use Rattle.std.proofs.Common.{◌≡◌, ℕ, zero, suc, true, false, List, [], ◌∷◌, length, refl, sym, subst, inl, inr, ◌⊎◌, ⊎_elim, arith}
+use Rattle.build_model.specs.Rules.{Path, Rule, Setting, Among, here, there}
 use Rattle.build_model.specs.Needs.{Found, Needs, NeedsThrough, directly, through, Needed, is_needed}
 use Rattle.build_model.specs.Contents.{in_tree, found_in}
 use Rattle.build_model.specs.Stale.{IsDue}
 use Rattle.build_model.specs.Steps.{Step, Fresh, Began, Ended, Lacks, Halts, Build, settled, began, done, IsReady, IsPrepared, IsRun, present_record}
 use Rattle.build_model.specs.Laws.{TestsDue}
-use Rattle.build_model.specs.Resting.{IsFaulty, has_failed, lacks_one, IsFoundWhole, IsLeft, is_settled, is_faulty, waits, IsAtRest, IsSkipped, IsHeld, in_cycle, behind_cycle, EndsUp, as_settled, as_faulty, as_skipped, as_held, LeavesAtRest}
+use Rattle.build_model.specs.Resting.{IsFaulty, has_failed, lacks_one, IsLeft, is_settled, is_faulty, waits, IsAtRest, IsSkipped, IsHeld, in_cycle, behind_cycle, EndsUp, as_settled, as_faulty, as_skipped, as_held, LeavesAtRest}
 use Rattle.build_model.proofs.Lists.{among_same}
 use Rattle.build_model.proofs.Ready.{needs_more, tree_agrees}
 use Rattle.build_model.proofs.Runs.{settled_done, begun_prepared, settled_prepared, fresh_of, fresh_or_began, decided_through, no_loop}
-use Rattle.build_model.proofs.Placed.{Without, without}
+use Rattle.build_model.proofs.Placed.{without}
 
 failed_done : {r : Rule} {past : List Step} → Among (Ended r false) past → Among r (done past)
 failed_done here = here

@@ -1,8 +1,8 @@
 -- What holds of each rule that was started or settled.
-use Rattle.std.proofs.Common.{◌≡◌, ◌<◌, ◌≤◌, ℕ, zero, suc, Bool, true, false, if◌then◌else◌, List, [], ◌∷◌, ◌++◌, length, Option, Some, None, refl, sym, subst, ap, ◌∙◌, inl, inr, ◌⊎◌, ⊎_elim}
-use Rattle.build_model.specs.Rules.{Path, Content, Tree, Rule, Setting, Among, here, there, Unique}
-use Rattle.build_model.specs.Needs.{Needs, NeedsThrough, directly, through, Needed, is_requested, is_needed, IsChain, IsCycle}
-use Rattle.build_model.specs.Contents.{View, in_tree, found_in}
+use Rattle.std.proofs.Common.{◌≡◌, true, false, List, [], ◌∷◌, ◌++◌, inl, inr, ◌⊎◌}
+use Rattle.build_model.specs.Rules.{Rule, Setting, Among, here, there, Unique}
+use Rattle.build_model.specs.Needs.{NeedsThrough, directly, through, is_requested, is_needed, IsChain, IsCycle}
+use Rattle.build_model.specs.Contents.{View, found_in}
 use Rattle.build_model.specs.Steps.{Step, Fresh, Began, Ended, Lacks, Halts, Build, settled, began, done, IsPrepared, IsFresh, IsRun, Succeeds, present_record}
 use Rattle.build_model.specs.Laws.{NeededIn, NeedsIn, OnlyOnce}
 use Rattle.build_model.proofs.Ready.{Within, prepared_more, Agrees, agrees_less, needs_among}

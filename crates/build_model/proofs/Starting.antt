@@ -1,15 +1,13 @@
 -- A build that ended well settled each rule that is needed, and started exactly those that are due.
-use Rattle.std.proofs.Common.{◌≡◌, ◌<◌, ◌≤◌, ℕ, zero, suc, Bool, true, false, List, [], ◌∷◌, ◌++◌, Option, Some, None, refl, sym, subst, ap, ◌∙◌, inl, inr, ◌⊎◌, ⊎_elim}
-use Rattle.build_model.specs.Rules.{Path, Rule, Record, Setting, Among, content}
-use Rattle.build_model.specs.Contents.{View, in_tree, clean, height, found_in}
+use Rattle.std.proofs.Common.{List, ◌∷◌, inl, inr, ◌⊎◌}
+use Rattle.build_model.specs.Rules.{Rule, Setting, Among}
+use Rattle.build_model.specs.Contents.{in_tree, found_in}
 use Rattle.build_model.specs.Needs.{IsCycle}
-use Rattle.build_model.specs.Records.{record_of}
-use Rattle.build_model.specs.Stale.{IsDue, IsStale}
-use Rattle.build_model.specs.Steps.{Step, Fresh, Began, Build, settled, began, IsRun, Succeeds, present_record}
-use Rattle.build_model.specs.Laws.{TestsDue, IsBuild, IsByContent, NeededIn, NeedsIn, EachStep, StartsExactly, AnyDecider}
-use Rattle.build_model.proofs.Ready.{Agrees, tree_agrees, wanted_needed}
-use Rattle.build_model.proofs.Runs.{begun_prepared, began_due, fresh_of, fresh_or_began, began_once, needs_before, needed_settled, no_cycle}
-use Rattle.build_model.proofs.Clean.{each_step_is_clean}
+use Rattle.build_model.specs.Stale.{IsDue}
+use Rattle.build_model.specs.Steps.{Step, Fresh, Build, settled, began, Succeeds, present_record}
+use Rattle.build_model.specs.Laws.{TestsDue, IsBuild, NeededIn, AnyDecider}
+use Rattle.build_model.proofs.Ready.{tree_agrees, wanted_needed}
+use Rattle.build_model.proofs.Runs.{begun_prepared, began_due, fresh_of, fresh_or_began, began_once, needed_settled, no_cycle}
 
 module _ (s : Setting) (b : Build) (steps : List Step) (build : IsBuild s b steps) where
   tree_needed : {r : Rule} → Among r (began steps) → NeededIn s b (in_tree b.after) r

@@ -1,10 +1,10 @@
 -- What is settled doesn't change any more: so the steps of a build are legal by every later tree.
-use Rattle.std.proofs.Common.{◌≡◌, ◌<◌, ◌≤◌, ℕ, zero, suc, Bool, true, false, if◌then◌else◌, List, [], ◌∷◌, ◌++◌, map, length, Option, Some, None, refl, sym, subst, ap, ap₂, ◌∙◌, inl, inr, ◌⊎◌, ⊎_elim}
-use Rattle.build_model.specs.Rules.{Path, Bytes, Content, Tree, Stamps, Rule, Record, Setting, Among, here, there}
+use Rattle.std.proofs.Common.{◌≡◌, ◌<◌, Bool, true, false, if◌then◌else◌, List, [], ◌∷◌, length, Some, None, refl, sym, subst, ap, ◌∙◌, inl, inr, ◌⊎◌}
+use Rattle.build_model.specs.Rules.{Path, Content, Tree, Stamps, Rule, Setting, Among, here, there}
 use Rattle.build_model.specs.Needs.{Found}
-use Rattle.build_model.specs.Contents.{View, in_tree, found_in, includes_of, dependencies, IsLawful}
+use Rattle.build_model.specs.Contents.{in_tree, found_in, includes_of, dependencies, IsLawful}
 use Rattle.build_model.specs.Records.{record_of, dependency_of, known_digest, stamp_kept, IsMet}
-use Rattle.build_model.specs.Steps.{Step, Fresh, Began, Ended, Lacks, Halts, Build, settled, began, done, IsReady, is_source, is_made, IsMissing, contents_of, with_content, IsFound, IsWanted, IsPrepared, IsDecided, IsFresh, IsStart, IsMade, IsFirstMissing, IsLacking, IsRun}
+use Rattle.build_model.specs.Steps.{Step, Fresh, Began, Ended, Lacks, Halts, Build, settled, began, IsReady, is_source, is_made, IsMissing, contents_of, with_content, IsWanted, IsPrepared, IsDecided, IsFresh, IsStart, IsMade, IsFirstMissing, IsLacking, IsRun}
 use Rattle.build_model.specs.Moments.{Job, so_far, MayWrite, Changes, HasMade, IsCourse, begins, changes, finds, starts, makes, fails, lacks, halts}
 use Rattle.build_model.specs.Laws.{IsBuild}
 use Rattle.build_model.proofs.Lists.{none_some, some_same, same_map, among_same, among_either}
@@ -168,9 +168,10 @@ module _ (s : Setting) (b : Build) (lawful : IsLawful s) (t u : Tree) (stamps la
   pub run_stays : (past : List Step) → Stays s (settled past) t u stamps later → IsRun s At past → IsRun s Later past
   run_stays [] stays run = tt
   run_stays (Fresh r ∷ past) stays run =
-      let less = stays_less (settled_later (Fresh r) past) stays in
-      ((decided_stays less run.0.0, fresh_stays (settled past) less run.0.0.prepared (targets_stay stays here run.0.0.prepared) run.0.1),
-      run_stays past less run.1)
+      let less = stays_less (settled_later (Fresh r) past) stays in (
+        (decided_stays less run.0.0, fresh_stays (settled past) less run.0.0.prepared (targets_stay stays here run.0.0.prepared) run.0.1),
+        run_stays past less run.1,
+      )
   run_stays (Began r ∷ past) stays run =
       ((decided_stays stays run.0.0, start_stays (settled past) stays run.0.0.prepared run.0.1), run_stays past stays run.1)
   run_stays (Ended r true ∷ past) stays run =

@@ -1,5 +1,5 @@
 -- A list of dependencies that isn't cut short has all that its rule reaches, and nothing else.
-use Rattle.std.proofs.Common.{◌≡◌, ◌<◌, ◌≤◌, ℕ, zero, suc, Bool, true, false, if◌then◌else◌, List, [], ◌∷◌, ◌++◌, length, refl, sym, subst, ap, ◌∙◌, inl, inr, ◌⊎◌, ⊎_elim, arith}
+use Rattle.std.proofs.Common.{◌<◌, ℕ, zero, suc, List, [], ◌∷◌, ◌++◌, length, inl, inr, ◌⊎◌, ⊎_elim, arith}
 use Rattle.build_model.specs.Rules.{Path, Rule, Among, here, there}
 use Rattle.build_model.specs.Reach.{unseen, breadth_first, declared, left_out, reach, Reaches, is_declared, is_found}
 use Rattle.build_model.proofs.Lists.{among_left, among_right, among_either, unseen_in, unseen_all}

@@ -1,5 +1,5 @@
 -- What a build from sources alone makes.
-use Rattle.std.specs.Prelude.{◌≡◌, ℕ, zero, suc, Bool, true, false, List, [], ◌∷◌, Option, Some, None, if◌then◌else◌}
+use Rattle.std.specs.Prelude.{◌≡◌, ℕ, zero, suc, true, false, List, [], ◌∷◌, Option, Some, None, if◌then◌else◌}
 use Rattle.build_model.specs.Rules.{Path, Bytes, Content, Tree, Rule, Setting, Among}
 use Rattle.build_model.specs.Reach.{reach}
 use Rattle.build_model.specs.Needs.{Found}

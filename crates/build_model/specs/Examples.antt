@@ -1,7 +1,7 @@
 -- Two builds of which the headline speaks: a source that includes a generated header, built from nothing, and then again.
-use Rattle.std.specs.Prelude.{◌≡◌, ℕ, ◌++◌, Bool, true, false, List, [], ◌∷◌, Option, Some, None, if◌then◌else◌, is_none}
+use Rattle.std.specs.Prelude.{◌++◌, Bool, true, false, List, [], ◌∷◌, Some, None, if◌then◌else◌, is_none}
 use Rattle.std.specs.Str.{bytes_eq}
-use Rattle.build_model.specs.Rules.{Path, Bytes, Content, Tree, Stamps, content, Rule, Record, Records, Setting}
+use Rattle.build_model.specs.Rules.{Path, Content, Tree, content, Rule, Records}
 use Rattle.build_model.specs.Steps.{Step, Fresh, Began, Ended, Build, Succeeds}
 use Rattle.build_model.specs.Graphs.{Graph, setting}
 use Rattle.build_model.specs.Headline.{clean_record, BuildsByContent}

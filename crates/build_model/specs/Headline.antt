@@ -1,6 +1,6 @@
 -- An incremental build equals a clean build: what one that ended well leaves and did, by content, for a graph with copies.
-use Rattle.std.specs.Prelude.{◌≡◌, ◌⊎◌, ℕ, ◌+◌, ◌*◌, ◌<◌, ◌++◌, Bool, true, false, List, [], ◌∷◌, length, Option, Some, None}
-use Rattle.build_model.specs.Rules.{Path, Tree, Stamps, Rule, Record, Setting, Among}
+use Rattle.std.specs.Prelude.{◌≡◌, ◌⊎◌, ◌+◌, ◌*◌, ◌<◌, ◌++◌, true, List, ◌∷◌, length, Some, None}
+use Rattle.build_model.specs.Rules.{Path, Tree, Stamps, Rule, Record, Among}
 use Rattle.build_model.specs.Needs.{IsCycle}
 use Rattle.build_model.specs.Contents.{IsKnown, found_in, IsLawful, height}
 use Rattle.build_model.specs.Records.{record_of}

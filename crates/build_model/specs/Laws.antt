@@ -1,11 +1,11 @@
 -- What follows from the steps of a build alone.
-use Rattle.std.specs.Prelude.{◌≡◌, ◌⊎◌, ℕ, ◌+◌, ◌*◌, ◌<◌, ◌++◌, Bool, true, false, List, [], ◌∷◌, length, Option, Some, None, ⊤}
-use Rattle.build_model.specs.Rules.{Path, Bytes, Content, Tree, Stamps, content, Rule, Record, Setting, Among, Unique}
-use Rattle.build_model.specs.Needs.{Needs, NeedsThrough, Needed, IsCycle}
+use Rattle.std.specs.Prelude.{◌≡◌, ℕ, ◌<◌, ◌++◌, true, false, List, ◌∷◌, Some, None}
+use Rattle.build_model.specs.Rules.{Path, Content, Tree, Stamps, content, Rule, Setting, Among, Unique}
+use Rattle.build_model.specs.Needs.{Needs, Needed, IsCycle}
 use Rattle.build_model.specs.Contents.{View, in_tree, found_in, dependencies, clean, IsLawful, height}
 use Rattle.build_model.specs.Records.{record_of, AreDistinct, AreSound}
 use Rattle.build_model.specs.Stale.{IsDue, IsStale, IsUpToDate}
-use Rattle.build_model.specs.Steps.{Step, Fresh, Began, Ended, Lacks, Build, settled, began, present_dependencies, present_record, IsMissing, IsRun, Succeeds}
+use Rattle.build_model.specs.Steps.{Step, Fresh, Began, Lacks, Build, settled, began, present_dependencies, present_record, IsRun, Succeeds}
 use Rattle.build_model.specs.Moments.{Job, so_far, IsCourse}
 
 -- a build of which no more is known than its steps: whatever its deciders, records and digests are

@@ -1,8 +1,8 @@
 -- A build by what stands in the tree at each moment, as a program sees it.
-use Rattle.std.specs.Prelude.{◌≡◌, ℕ, ◌<◌, Bool, true, false, List, [], ◌∷◌, Option, Some, None}
+use Rattle.std.specs.Prelude.{◌≡◌, true, false, List, [], ◌∷◌}
 use Rattle.build_model.specs.Rules.{Path, Content, Tree, Stamps, Rule, Setting, Among}
 use Rattle.build_model.specs.Contents.{in_tree, dependencies}
-use Rattle.build_model.specs.Steps.{Step, Fresh, Began, Ended, Lacks, Halts, Build, settled, done, contents_of, IsDecided, IsFresh, IsStart, IsRunning, IsLacking, IsRun}
+use Rattle.build_model.specs.Steps.{Step, Fresh, Began, Ended, Lacks, Halts, Build, done, contents_of, IsDecided, IsFresh, IsStart, IsRunning, IsLacking}
 
 -- an action that was started, with the contents that it was given
 pub record Job : Type 0 where

@@ -1,7 +1,7 @@
 -- The record of a rule over some contents, and when the records that are kept tell the truth.
-use Rattle.std.specs.Prelude.{◌≡◌, List, [], ◌∷◌, map, Option, Some, None, ⊤}
+use Rattle.std.specs.Prelude.{◌≡◌, List, map, Option, Some, None, ⊤}
 use Rattle.build_model.specs.Rules.{Path, Bytes, Digest, Content, Tree, Stamps, Decider, content, timestamp_newer, timestamp_match, content_timestamp, Rule, Dependency, Record, Records, Setting, Among}
-use Rattle.build_model.specs.Contents.{Known, View, in_tree, dependencies}
+use Rattle.build_model.specs.Contents.{Known, View, dependencies}
 
 abbrev pub digest_of : Setting → Content → Option Digest
 digest_of s None = None

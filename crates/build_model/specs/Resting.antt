@@ -1,6 +1,6 @@
 -- A build that goes on after faults, where nothing is left to do: why each rule that isn't settled then isn't.
-use Rattle.std.specs.Prelude.{◌≡◌, ◌⊎◌, Bool, true, false, List, [], ◌∷◌, Option, Some, None}
-use Rattle.build_model.specs.Rules.{Path, Record, Rule, Setting, Among}
+use Rattle.std.specs.Prelude.{◌≡◌, ◌⊎◌, false, List, []}
+use Rattle.build_model.specs.Rules.{Path, Rule, Setting, Among}
 use Rattle.build_model.specs.Needs.{Found, Needs, NeedsThrough, Needed}
 use Rattle.build_model.specs.Contents.{in_tree, found_in}
 use Rattle.build_model.specs.Stale.{IsDue}

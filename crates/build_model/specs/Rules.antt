@@ -1,5 +1,5 @@
 -- What a build is about: paths and contents, rules, and the records that are kept of rules.
-use Rattle.std.specs.Prelude.{ℕ, Bool, true, false, List, [], ◌∷◌, Option, Some, None}
+use Rattle.std.specs.Prelude.{ℕ, Bool, List, [], ◌∷◌, Option}
 
 abbrev pub Path : Type 0
 Path = List ℕ

@@ -1,5 +1,5 @@
 -- When a rule has to be carried out.
-use Rattle.std.specs.Prelude.{◌≡◌, ◌≢◌, ◌⊎◌, ℕ, ◌<◌, Bool, true, false, List, [], ◌∷◌, map, Option, Some, None, ⊤}
+use Rattle.std.specs.Prelude.{◌≡◌, ◌≢◌, ◌⊎◌, ℕ, ◌<◌, true, false, List, [], ◌∷◌, map, Option, Some, None}
 use Rattle.build_model.specs.Rules.{Path, Bytes, Tree, Stamps, Decider, content, timestamp_newer, timestamp_match, content_timestamp, Rule, Dependency, Record, Records, Among}
 
 abbrev pub name_of : Dependency → Path

@@ -1,9 +1,9 @@
 -- A build as the list of its steps, the latest first: which step may come after which others. Contents are those of the
 -- tree at the end. A source doesn't change in a build, and neither does what a settled rule makes, so what was looked at
 -- earlier is what stands there then.
-use Rattle.std.specs.Prelude.{◌≡◌, ◌⊎◌, ℕ, suc, pred, ◌<◌, ◌++◌, Bool, true, false, List, [], ◌∷◌, map, length, Option, Some, None, ⊤, if◌then◌else◌}
+use Rattle.std.specs.Prelude.{◌≡◌, ◌⊎◌, ℕ, suc, pred, ◌<◌, ◌++◌, Bool, true, false, List, [], ◌∷◌, map, length, Some, None, ⊤, if◌then◌else◌}
 use Rattle.build_model.specs.Rules.{Path, Bytes, Content, Tree, Stamps, Rule, Record, Records, Setting, Among}
-use Rattle.build_model.specs.Needs.{RuleOf, Found, Needed}
+use Rattle.build_model.specs.Needs.{Found, Needed}
 use Rattle.build_model.specs.Contents.{in_tree, found_in, dependencies}
 use Rattle.build_model.specs.Records.{record_of, IsMet}
 
