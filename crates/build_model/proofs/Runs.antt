@@ -1,9 +1,9 @@
 -- What holds of each rule that was started or settled.
-use Rattle.std.proofs.Common.{◌≡◌, true, false, List, [], ◌∷◌, ◌++◌, inl, inr, ◌⊎◌}
+use Rattle.std.proofs.Common.{◌≡◌, ◌≤◌, ℕ, pred, true, false, List, [], ◌∷◌, ◌++◌, inl, inr, ◌⊎◌, arith}
 use Rattle.build_model.specs.Rules.{Rule, Setting, Among, here, there, Unique}
 use Rattle.build_model.specs.Needs.{NeedsThrough, directly, through, is_requested, is_needed, IsChain, IsCycle}
 use Rattle.build_model.specs.Contents.{View, found_in}
-use Rattle.build_model.specs.Steps.{Step, Fresh, Began, Ended, Lacks, Halts, Build, settled, began, done, IsPrepared, IsFresh, IsRun, Succeeds, present_record}
+use Rattle.build_model.specs.Steps.{Step, Fresh, Began, Ended, Lacks, Halts, Build, settled, began, done, running, IsPrepared, IsFresh, IsRun, Succeeds, present_record}
 use Rattle.build_model.specs.Laws.{NeededIn, NeedsIn, OnlyOnce}
 use Rattle.build_model.proofs.Ready.{Within, prepared_more, Agrees, agrees_less, needs_among}
 
@@ -99,6 +99,17 @@ module _ (s : Setting) (b : Build) where
   fresh_or_began (Ended x false ∷ past) run m = later_fresh_or_began (Ended x false) past (fresh_or_began past run.1 m)
   fresh_or_began (Lacks x p ∷ past) run m = later_fresh_or_began (Lacks x p) past (fresh_or_began past run.1 m)
   fresh_or_began (Halts ∷ past) run m = later_fresh_or_began Halts past (fresh_or_began past run.1 m)
+
+  one_less : (n : ℕ) {m : ℕ} → n ≤ m → pred n ≤ m
+  one_less n le = omega arith
+
+  pub running_few : (past : List Step) → IsRun s b past → running past ≤ b.jobs
+  running_few [] run = omega arith
+  running_few (Fresh x ∷ past) run = running_few past run.1
+  running_few (Began x ∷ past) run = run.0.1.room
+  running_few (Ended x well ∷ past) run = one_less (running past) (running_few past run.1)
+  running_few (Lacks x p ∷ past) run = running_few past run.1
+  running_few (Halts ∷ past) run = running_few past run.1
 
   pub began_once : (past : List Step) → IsRun s b past → Unique (began past)
   began_once [] run = tt

@@ -6,7 +6,7 @@ use Rattle.build_model.specs.Contents.{in_tree, found_in, includes_of, dependenc
 use Rattle.build_model.specs.Records.{record_of, dependency_of, known_digest, stamp_kept, IsMet}
 use Rattle.build_model.specs.Steps.{Step, Fresh, Began, Ended, Lacks, Halts, Build, settled, began, IsReady, is_source, is_made, IsMissing, contents_of, with_content, IsWanted, IsPrepared, IsDecided, IsFresh, IsStart, IsMade, IsFirstMissing, IsLacking, IsRun}
 use Rattle.build_model.specs.Moments.{Job, so_far, MayWrite, Changes, HasMade, IsCourse, begins, changes, finds, starts, makes, fails, lacks, halts}
-use Rattle.build_model.specs.Laws.{IsBuild}
+use Rattle.build_model.specs.Laws.{IsBuild, IsSeenSo}
 use Rattle.build_model.proofs.Lists.{none_some, some_same, same_map, among_same, among_either}
 use Rattle.build_model.proofs.Agree.{same_dependencies, same_record}
 use Rattle.build_model.proofs.Ready.{Within, needed_place}
@@ -272,3 +272,22 @@ module _ (s : Setting) (b : Build) (lawful : IsLawful s) where
       IsBuild s (so_far b t stamps) past
   course_is_build course =
       let h = course_holds course in record { lawful = lawful; sources = h.sources; run = h.run }
+
+  abbrev Untouched : Tree → List Step → Path → Type 0
+  Untouched t past p = ((r : Rule) → Among r (began past) → Among p r.targets → ⊥) → b.before p ≡ t p
+
+  untouched : {jobs : List Job} {t : Tree} {stamps : Stamps} {past : List Step} → IsCourse s b jobs t stamps past → (p : Path) → Untouched t past p
+  untouched begins p out = refl
+  untouched (changes u later c course) p out =
+      let h = course_holds course in
+      untouched course p out ∙ c.contents p (λ w. out w.job.rule (h.started w.job w.started) w.target)
+  untouched (finds r decided fresh course) p out = untouched course p out
+  untouched (starts r decided start course) p out = untouched course p (λ x m n. out x (there m) n)
+  untouched (makes j m running made_there course) p out = untouched course p out
+  untouched (fails r running course) p out = untouched course p out
+  untouched (lacks r q lacking course) p out = untouched course p out
+  untouched (halts course) p out = untouched course p out
+
+  pub course_is_seen_so : {jobs : List Job} {t : Tree} {stamps : Stamps} {past : List Step} → IsCourse s b jobs t stamps past →
+      IsSeenSo s b t stamps past
+  course_is_seen_so course = record { build = course_is_build course; untouched = λ p out. untouched course p out }

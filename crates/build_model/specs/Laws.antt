@@ -1,11 +1,11 @@
 -- What follows from the steps of a build alone.
-use Rattle.std.specs.Prelude.{◌≡◌, ℕ, ◌<◌, ◌++◌, true, false, List, ◌∷◌, Some, None}
+use Rattle.std.specs.Prelude.{◌≡◌, ℕ, ◌<◌, ◌≤◌, ◌++◌, true, false, List, ◌∷◌, Some, None}
 use Rattle.build_model.specs.Rules.{Path, Content, Tree, Stamps, content, Rule, Setting, Among, Unique}
 use Rattle.build_model.specs.Needs.{Needs, Needed, IsCycle}
 use Rattle.build_model.specs.Contents.{View, in_tree, found_in, dependencies, clean, IsLawful, height}
 use Rattle.build_model.specs.Records.{record_of, AreDistinct, AreSound}
 use Rattle.build_model.specs.Stale.{IsDue, IsStale, IsUpToDate}
-use Rattle.build_model.specs.Steps.{Step, Fresh, Began, Lacks, Build, settled, began, present_dependencies, present_record, IsRun, Succeeds}
+use Rattle.build_model.specs.Steps.{Step, Fresh, Began, Lacks, Build, settled, began, running, present_dependencies, present_record, IsRun, Succeeds}
 use Rattle.build_model.specs.Moments.{Job, so_far, IsCourse}
 
 -- a build of which no more is known than its steps: whatever its deciders, records and digests are
@@ -100,8 +100,17 @@ abbrev pub NoneOverCycle : Type 0
 NoneOverCycle = (s : Setting) (b : Build) (steps : List Step) (r : Rule) (rs : List Rule) → IsBuild s b steps → Succeeds s b steps →
     NeededIn s b (in_tree b.after) r → IsCycle s.rule_of (found_in s (in_tree b.after)) (r ∷ rs) → ⊥
 
+-- At any status and at any place of the build no more actions run than may.
+abbrev pub AtMostJobs : Type 0
+AtMostJobs = (s : Setting) (b : Build) (later past : List Step) → IsRun s b (later ++ past) → running past ≤ b.jobs
+
+-- the steps are those of a build that ends with this tree, and only targets of rules that were started are changed
+pub record IsSeenSo (s : Setting) (b : Build) (t : Tree) (stamps : Stamps) (past : List Step) : Type 0 where
+  pub build : IsBuild s (so_far b t stamps) past
+  pub untouched : (p : Path) → ((r : Rule) → Among r (began past) → Among p r.targets → ⊥) → b.before p ≡ t p
+
 -- What was seen at each moment is what stands there at the end: the steps of a course are those of a build, also if it
 -- ended at this moment.
 abbrev pub CoursesAreBuilds : Type 0
 CoursesAreBuilds = (s : Setting) (b : Build) (jobs : List Job) (t : Tree) (stamps : Stamps) (past : List Step) → IsLawful s →
-    IsCourse s b jobs t stamps past → IsBuild s (so_far b t stamps) past
+    IsCourse s b jobs t stamps past → IsSeenSo s b t stamps past

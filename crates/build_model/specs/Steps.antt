@@ -7,8 +7,8 @@ use Rattle.build_model.specs.Needs.{Found, Needed}
 use Rattle.build_model.specs.Contents.{in_tree, found_in, dependencies}
 use Rattle.build_model.specs.Records.{record_of, IsMet}
 
--- A rule is found up to date; its action is started; it ends, well or not; the rule lacks a dependency; or the build
--- goes on with nothing new, for a fault or a refusal outside.
+-- A rule is found up to date; its action begins, and from here on its targets may change; it ends well, or otherwise,
+-- also where it couldn't be started; the rule lacks a dependency; or nothing further is decided, for a refusal outside.
 pub data Step : Type 0 where
   Fresh : Rule → Step
   Began : Rule → Step

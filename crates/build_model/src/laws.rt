@@ -1,5 +1,5 @@
 //! The laws: each is the contract of a function that does nothing.
-ghost use Rattle.build_model.specs.Laws.{EachStepIsClean, HoldsForAnyDecider, EachOnlyOnce, SettledBeforeStart, NoneOverCycle, CoursesAreBuilds};
+ghost use Rattle.build_model.specs.Laws.{EachStepIsClean, HoldsForAnyDecider, EachOnlyOnce, SettledBeforeStart, NoneOverCycle, AtMostJobs, CoursesAreBuilds};
 ghost use Rattle.build_model.specs.Headline.{GraphsAreLawful, HighEnough, IncrementalIsClean, AgainLittle};
 ghost use Rattle.build_model.specs.Resting.{RestsRightly};
 ghost use Rattle.build_model.specs.Examples.{AreMet};
@@ -28,6 +28,11 @@ pub fn settled_before_start()
 /// No build ends well over a cycle of needed rules.
 pub fn none_over_cycle()
     ensures { NoneOverCycle }
+{}
+
+/// No more actions run than may.
+pub fn at_most_jobs()
+    ensures { AtMostJobs }
 {}
 
 /// What was seen at each moment is what stands at the end.
