@@ -12,3 +12,4 @@ mod Headline
 mod Staying
 mod Resting
 mod Examples
+mod GoingOn
