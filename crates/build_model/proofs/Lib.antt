@@ -13,3 +13,5 @@ mod Staying
 mod Resting
 mod Examples
 mod GoingOn
+mod Ordering
+mod OneJob

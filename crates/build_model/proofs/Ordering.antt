@@ -12,24 +12,24 @@ use Rattle.build_model.proofs.Ready.{Within}
 pub data First (needs : Rule → List Rule) (done : List Rule) : List Rule → Rule → Type 0 where
   skips : {r x : Rule} {rules : List Rule} → Among r done → First needs done rules x → First needs done (r ∷ rules) x
   stands : {r : Rule} {rules : List Rule} → (Among r done → ⊥) → Within (needs r) done → First needs done (r ∷ rules) r
-  below : {r x : Rule} {rules : List Rule} → (Among r done → ⊥) → First needs done (needs r) x → First needs done (r ∷ rules) x
+  goes_down : {r x : Rule} {rules : List Rule} → (Among r done → ⊥) → First needs done (needs r) x → First needs done (r ∷ rules) x
 
 pub first_new : {needs : Rule → List Rule} {done rules : List Rule} {x : Rule} → First needs done rules x → Among x done → ⊥
 first_new (skips m f) = first_new f
 first_new (stands out all) = out
-first_new (below out f) = first_new f
+first_new (goes_down out f) = first_new f
 
 pub first_all : {needs : Rule → List Rule} {done rules : List Rule} {x : Rule} → First needs done rules x → Within (needs x) done
 first_all (skips m f) = first_all f
 first_all (stands out all) = all
-first_all (below out f) = first_all f
+first_all (goes_down out f) = first_all f
 
 -- what holds of these rules, and with each rule of all that it needs, holds of the first one
 pub first_among : {needs : Rule → List Rule} {done rules all : List Rule} {x : Rule} → Within rules all →
     ((r q : Rule) → Among r all → Among q (needs r) → Among q all) → First needs done rules x → Among x all
 first_among w closed (skips m f) = first_among (λ r n. w r (there n)) closed f
 first_among w closed (stands out inside) = w _ here
-first_among w closed (below out f) = first_among (λ q n. closed _ q (w _ here) n) closed f
+first_among w closed (goes_down out f) = first_among (λ q n. closed _ q (w _ here) n) closed f
 
 -- rules at some paths
 with_rule_among : {q : Rule} (o : Option Rule) (rules : List Rule) → Among q (with_rule o rules) → (o ≡ Some q) ⊎ Among q rules
@@ -54,6 +54,11 @@ rule_at_path [] m = elim m [ ]
 rule_at_path {rule_of} (p ∷ ps) m =
     at_first (⊎_elim (λ e. inl e) (λ n. inr (rule_at_path ps n)) (with_rule_among (rule_of p) (rules_at rule_of ps) m))
 
+-- what holds of the rule of each path holds of each rule
+pub rules_within : {rule_of : RuleOf} {all : List Rule} (ps : List Path) →
+    ((p : Path) (q : Rule) → Among p ps → rule_of p ≡ Some q → Among q all) → Within (rules_at rule_of ps) all
+rules_within ps h q m = let a = rule_at_path ps m in h a.path q a.stands_there a.is_rule
+
 with_rule_here : {q : Rule} (o : Option Rule) (rules : List Rule) → o ≡ Some q → Among q (with_rule o rules)
 with_rule_here None rules e = none_some e
 with_rule_here (Some x) rules e = subst (λ y. Among y (x ∷ rules)) (some_same e) here
@@ -62,10 +67,10 @@ with_rule_there : {q : Rule} (o : Option Rule) (rules : List Rule) → Among q r
 with_rule_there None rules m = m
 with_rule_there (Some x) rules m = there m
 
-pub path_rule : {rule_of : RuleOf} {p : Path} {q : Rule} (ps : List Path) → Among p ps → rule_of p ≡ Some q → Among q (rules_at rule_of ps)
-path_rule [] m e = elim m [ ]
-path_rule {rule_of} (p ∷ ps) here e = with_rule_here (rule_of p) (rules_at rule_of ps) e
-path_rule {rule_of} (p ∷ ps) (there m) e = with_rule_there (rule_of p) (rules_at rule_of ps) (path_rule ps m e)
+pub path_rule : (rule_of : RuleOf) {p : Path} {q : Rule} (ps : List Path) → Among p ps → rule_of p ≡ Some q → Among q (rules_at rule_of ps)
+path_rule rule_of [] m e = elim m [ ]
+path_rule rule_of (p ∷ ps) here e = with_rule_here (rule_of p) (rules_at rule_of ps) e
+path_rule rule_of (p ∷ ps) (there m) e = with_rule_there (rule_of p) (rules_at rule_of ps) (path_rule rule_of ps m e)
 
 module _ (rule_of : RuleOf) (limit : ℕ) where
   needs_by_path : {found : Found} {r q : Rule} (h : At rule_of (r.required ++ reach limit (found r) r) q) →
@@ -83,9 +88,9 @@ module _ (rule_of : RuleOf) (limit : ℕ) where
   pub needs_in_order_of : {found : Found} {r q : Rule} → length (reach limit (found r) r) < limit → Needs rule_of found r q →
       Among q (needs_in_order rule_of limit found r)
   needs_in_order_of {found} {r} short (as_required p m e) =
-      path_rule (r.required ++ reach limit (found r) r) (among_left (reach limit (found r) r) m) e
+      path_rule rule_of (r.required ++ reach limit (found r) r) (among_left (reach limit (found r) r) m) e
   needs_in_order_of {found} {r} short (as_dependency p reached e) =
-      path_rule (r.required ++ reach limit (found r) r) (among_right r.required (reaches_in (found r) limit short reached)) e
+      path_rule rule_of (r.required ++ reach limit (found r) r) (among_right r.required (reaches_in (found r) limit short reached)) e
 
 -- Two lists of rules, the same up to one that isn't settled.
 pub data AreAlike (done : List Rule) : List Rule → List Rule → Type 0 where
@@ -98,7 +103,7 @@ alike_same [] = ends
 alike_same (x ∷ xs) = both x (alike_same xs)
 
 pub alike_all : {done xs ys : List Rule} → AreAlike done xs ys → Within xs done → Within ys done
-alike_all ends w = w
+alike_all ends w q m = elim m [ ]
 alike_all (both r a) w q here = w r here
 alike_all (both r a) w q (there m) = alike_all a (λ x n. w x (there n)) q m
 alike_all (parts r out) w q m = absurd (out (w r here))
@@ -111,10 +116,10 @@ first_alike alike closed (skips m f) (both r a) w = skips m (first_alike alike c
 first_alike alike closed (skips m f) (parts r out) w = absurd (out m)
 first_alike alike closed (stands out all) (both r a) w = stands out (alike_all (alike r (w r here)) all)
 first_alike alike closed (stands out all) (parts r out2) w = stands out (alike_all (alike r (w r here)) all)
-first_alike alike closed (below out f) (both r a) w =
-    below out (first_alike alike closed f (alike r (w r here)) (λ q n. closed r q (w r here) n))
-first_alike alike closed (below out f) (parts r out2) w =
-    below out (first_alike alike closed f (alike r (w r here)) (λ q n. closed r q (w r here) n))
+first_alike alike closed (goes_down out f) (both r a) w =
+    goes_down out (first_alike alike closed f (alike r (w r here)) (λ q n. closed r q (w r here) n))
+first_alike alike closed (goes_down out f) (parts r out2) w =
+    goes_down out (first_alike alike closed f (alike r (w r here)) (λ q n. closed r q (w r here) n))
 
 -- what is visited from settled rules alone
 pub record AllDone (done met after order : List Rule) : Type 0 where
@@ -189,14 +194,15 @@ module _ (rule_of : RuleOf) (limit : ℕ) (found : Found) (done all : List Rule)
   below_way way y here = inr (λ z n. directly (in_order_needs rule_of limit n))
   below_way way y (there m) = down_way (way y m)
 
+  behind_cases : {r y : Rule} {met rules : List Rule} → Among r done → IsOnWay met (r ∷ rules) → Among y (r ∷ met) ⊎ Among y done →
+      Among y done ⊎ ((z : Rule) → Among z rules → Leads y z)
+  behind_cases m way (inl here) = inl m
+  behind_cases {y = y} m way (inl (there k)) = less_way (way y k)
+  behind_cases m way (inr k) = inl k
+
   behind_way : {r : Rule} {met between rules : List Rule} → Among r done →
       ((z : Rule) → Among z between → Among z (r ∷ met) ⊎ Among z done) → IsOnWay met (r ∷ rules) → IsOnWay between rules
-  behind_way {r} {met} {between} {rules} m later way y n = cases (later y n)
-    where
-      cases : Among y (r ∷ met) ⊎ Among y done → Among y done ⊎ ((z : Rule) → Among z rules → Leads y z)
-      cases (inl here) = inl m
-      cases (inl (there k)) = less_way (way y k)
-      cases (inr k) = inl k
+  behind_way m later way y n = behind_cases m way (later y n)
 
   front_done : {r y : Rule} {low front : List Rule} → Among r done → Within low done → Within front done →
       Among y low ⊎ Among y (r ∷ front) → Among y done
@@ -210,7 +216,7 @@ module _ (rule_of : RuleOf) (limit : ℕ) (found : Found) (done all : List Rule)
   located nothing_left f way w = elim f [ ]
   located (met_again m v) (skips d f) way w = located v f (λ y n. less_way (way y n)) (λ q n. w q (there n))
   located (met_again {r = r} m v) (stands out inner) way w = absurd (not_met out (w r here) way m)
-  located (met_again {r = r} m v) (below out f) way w = absurd (not_met out (w r here) way m)
+  located (met_again {r = r} m v) (goes_down out f) way w = absurd (not_met out (w r here) way m)
   located (met_first {below = low} {behind = high} {r = r} out v1 v2) (skips d f) way w =
       let first = visits_done (needs_in_order rule_of limit found) done closed v1 (closed r d) in
       let second = located v2 f (behind_way d first.later way) (λ q n. w q (there n)) in
@@ -223,7 +229,7 @@ module _ (rule_of : RuleOf) (limit : ℕ) (found : Found) (done all : List Rule)
   located (met_first {below = low} {behind = high} {r = r} out v1 v2) (stands new inner) way w =
       let first = visits_done (needs_in_order rule_of limit found) done closed v1 inner in
       record { front = low; behind = high; parts = refl; all_done = first.placed }
-  located (met_first {below = low} {behind = high} {r = r} out v1 v2) (below new f) way w =
+  located (met_first {below = low} {behind = high} {r = r} out v1 v2) (goes_down new f) way w =
       let first = located v1 f (below_way way) (λ q n. inside r q (w r here) n) in
       record {
         front = first.front;
@@ -232,15 +238,16 @@ module _ (rule_of : RuleOf) (limit : ℕ) (found : Found) (done all : List Rule)
         all_done = first.all_done;
       }
 
+deeper : {x y a b : Rule} {front more : List Rule} → (x ≡ y) ⊎ (Among y front ⊎ Among x more) →
+    (x ≡ y) ⊎ (Among y (a ∷ front) ⊎ Among x (b ∷ more))
+deeper (inl same) = inl same
+deeper (inr (inl m)) = inr (inl (there m))
+deeper (inr (inr m)) = inr (inr (there m))
+
 -- an order that is cut twice
-pub same_cut : {x y : Rule} (front more : List Rule) {behind rest : List Rule} → front ++ x ∷ behind ≡ more ++ y ∷ rest →
+pub same_cut : {x y : Rule} (front more behind rest : List Rule) → front ++ x ∷ behind ≡ more ++ y ∷ rest →
     (x ≡ y) ⊎ (Among y front ⊎ Among x more)
-same_cut [] [] e = inl (same_head e)
-same_cut {x} {y} [] (b ∷ more) e = inr (inr (subst (λ z. Among x (z ∷ more)) (same_head e) here))
-same_cut {x} {y} (a ∷ front) [] e = inr (inl (subst (λ z. Among y (z ∷ front)) (sym (same_head e)) here))
-same_cut (a ∷ front) (b ∷ more) e = deeper (same_cut front more (same_tail e))
-  where
-    deeper : {x y : Rule} → (x ≡ y) ⊎ (Among y front ⊎ Among x more) → (x ≡ y) ⊎ (Among y (a ∷ front) ⊎ Among x (b ∷ more))
-    deeper (inl same) = inl same
-    deeper (inr (inl m)) = inr (inl (there m))
-    deeper (inr (inr m)) = inr (inr (there m))
+same_cut [] [] behind rest e = inl (same_head e)
+same_cut {x} {y} [] (b ∷ more) behind rest e = inr (inr (subst (λ z. Among x (z ∷ more)) (same_head e) here))
+same_cut {x} {y} (a ∷ front) [] behind rest e = inr (inl (subst (λ z. Among y (z ∷ front)) (sym (same_head e)) here))
+same_cut (a ∷ front) (b ∷ more) behind rest e = deeper (same_cut front more behind rest (same_tail e))

@@ -10,4 +10,5 @@ pub mod Graphs
 pub mod Laws
 pub mod Headline
 pub mod Resting
+pub mod OneJob
 pub mod Examples

@@ -2,6 +2,7 @@
 ghost use Rattle.build_model.specs.Laws.{EachStepIsClean, HoldsForAnyDecider, EachOnlyOnce, SettledBeforeStart, NoneOverCycle, AtMostJobs, CoursesAreBuilds};
 ghost use Rattle.build_model.specs.Headline.{GraphsAreLawful, HighEnough, IncrementalIsClean, AgainLittle};
 ghost use Rattle.build_model.specs.Resting.{RestsRightly, KeepsGoing};
+ghost use Rattle.build_model.specs.OneJob.{AtOneJob};
 ghost use Rattle.build_model.specs.Examples.{AreMet};
 
 /// At any status: what was found up to date or made has the clean content, dependencies and record; and what was started was
@@ -33,6 +34,11 @@ pub fn none_over_cycle()
 /// No more actions run than may.
 pub fn at_most_jobs()
     ensures { AtMostJobs }
+{}
+
+/// At one job a build that ended well followed the build order.
+pub fn at_one_job()
+    ensures { AtOneJob }
 {}
 
 /// What was seen at each moment is what stands at the end.
