@@ -1,14 +1,14 @@
 -- By the clean contents with the targets of hindered rules taken out, nothing more is needed than at rest.
-use Rattle.std.proofs.Common.{◌≡◌, ◌<◌, ℕ, Bool, true, false, if◌then◌else◌, List, [], ◌∷◌, Option, Some, None, refl, sym, subst, ap, ◌∙◌, inl, inr, ◌⊎◌, ⊎_elim}
+use Rattle.std.proofs.Common.{◌≡◌, ◌<◌, ℕ, Bool, true, false, if◌then◌else◌, List, [], Option, Some, None, refl, sym, ap, ◌∙◌, inl, inr, ◌⊎◌}
 use Rattle.build_model.specs.Rules.{Path, Content, Rule, Setting, Among}
 use Rattle.build_model.specs.Reach.{Reaches, is_declared, is_found}
 use Rattle.build_model.specs.Needs.{Found, Needs, as_required, as_dependency, NeedsThrough, directly, through, Needed, is_requested, is_needed}
-use Rattle.build_model.specs.Contents.{View, in_tree, found_in, includes_of, clean, height}
+use Rattle.build_model.specs.Contents.{in_tree, found_in, includes_of, clean, height}
 use Rattle.build_model.specs.Records.{record_of}
 use Rattle.build_model.specs.Stale.{IsStale}
 use Rattle.build_model.specs.Steps.{Step, Fresh, Build, settled, began, IsReady, is_source, is_made, IsMissing}
 use Rattle.build_model.specs.Laws.{IsBuild, IsByContent, EachStep}
-use Rattle.build_model.specs.Resting.{IsFaulty, IsAtRest, IsSkipped, IsHindered, IsOut, IsTakenOut, GoesOn}
+use Rattle.build_model.specs.Resting.{IsAtRest, IsHindered, IsOut, IsTakenOut, GoesOn}
 use Rattle.build_model.proofs.Lists.{among_same}
 use Rattle.build_model.proofs.Ready.{Agrees}
 use Rattle.build_model.proofs.Runs.{fresh_or_began}

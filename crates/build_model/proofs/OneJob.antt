@@ -1,21 +1,21 @@
 -- At one job each rule that begins is the first of the build order that isn't settled.
-use Rattle.std.proofs.Common.{◌≡◌, ◌<◌, ◌≤◌, ℕ, zero, suc, pred, Bool, true, false, if◌then◌else◌, List, [], ◌∷◌, ◌++◌, length, Option, Some, None, refl, sym, subst, ap, ◌∙◌, inl, inr, ◌⊎◌, ⊎_elim, arith, append_assoc}
+use Rattle.std.proofs.Common.{◌≡◌, ◌<◌, ℕ, zero, suc, pred, true, false, if◌then◌else◌, List, [], ◌∷◌, ◌++◌, length, Option, Some, None, refl, sym, subst, ap, ◌∙◌, inl, inr, ◌⊎◌, arith, append_assoc}
 use Rattle.build_model.specs.Rules.{Path, Rule, Setting, Among, here, there}
-use Rattle.build_model.specs.Reach.{Reaches, unseen, breadth_first, declared, left_out, reach}
-use Rattle.build_model.specs.Needs.{Found, Needs, as_required, as_dependency, NeedsThrough, directly, through, with_rule, rules_at, needs_in_order, Visits, IsBuildOrder, is_requested}
+use Rattle.build_model.specs.Reach.{unseen, breadth_first, declared, left_out, reach}
+use Rattle.build_model.specs.Needs.{Found, Needs, NeedsThrough, directly, through, with_rule, rules_at, needs_in_order, IsBuildOrder}
 use Rattle.build_model.specs.Contents.{View, in_tree, found_in, includes_of, dependencies}
 use Rattle.build_model.specs.Steps.{Step, Fresh, Began, Ended, Lacks, Halts, Build, settled, began, done, running, IsReady, is_source, is_made, IsPrepared, IsRunning, IsRun, Succeeds}
 use Rattle.build_model.specs.Laws.{NeedsIn}
 use Rattle.build_model.specs.Resting.{IsFaulty, has_failed, lacks_one, IsFoundWhole}
-use Rattle.build_model.specs.OneJob.{IsPassed, is_settled, is_running, is_faulty, waits, IsTakenFirst, TakesFirst, SeesReady, StandsBehind, StandsBefore, FollowsOrder}
-use Rattle.build_model.proofs.Lists.{none_some, some_same, among_left, among_right, among_either, among_same}
+use Rattle.build_model.specs.OneJob.{IsPassed, is_settled, is_running, is_faulty, waits, TakesFirst, SeesReady, StandsBehind, StandsBefore, FollowsOrder}
+use Rattle.build_model.proofs.Lists.{none_some, among_right, among_either, among_same}
 use Rattle.build_model.proofs.Whole.{reach_reaches, reaches_in, reaches_more}
 use Rattle.build_model.proofs.Agree.{breadth_first_agrees}
-use Rattle.build_model.proofs.Ready.{Within, needs_more, ready_more, Agrees, agrees_less, tree_agrees, prepared_dependencies, needs_among}
+use Rattle.build_model.proofs.Ready.{Within, needs_more, Agrees, agrees_less, tree_agrees, prepared_dependencies, needs_among}
 use Rattle.build_model.proofs.Runs.{settled_done, settled_after, began_later, run_before, begun_prepared, settled_prepared, needs_settled, no_loop}
-use Rattle.build_model.proofs.Placed.{Without, without}
+use Rattle.build_model.proofs.Placed.{without}
 use Rattle.build_model.proofs.Resting.{faulty_unsettled}
-use Rattle.build_model.proofs.Ordering.{First, skips, stands, goes_down, first_new, first_all, first_among, path_rule, rules_within, in_order_needs, needs_in_order_of, AreAlike, ends, both, parts, alike_same, alike_all, first_alike, AllDone, visits_done, Located, located, same_cut}
+use Rattle.build_model.proofs.Ordering.{First, skips, stands, goes_down, first_new, first_all, first_among, path_rule, rules_within, in_order_needs, needs_in_order_of, AreAlike, ends, both, parts, alike_same, first_alike, visits_done, Located, located, same_cut}
 
 -- the rules whose action runs
 record AllRunning (past : List Step) : Type 0 where

@@ -1,10 +1,10 @@
 -- The first rule of a build order that isn't settled: go down from what is requested, at each rule to the first that it
 -- needs and that isn't settled. What was found so far shows the way as far as it is gone.
-use Rattle.std.proofs.Common.{◌≡◌, ◌<◌, ℕ, zero, suc, List, [], ◌∷◌, ◌++◌, length, Option, Some, None, refl, sym, subst, ap, ◌∙◌, inl, inr, ◌⊎◌, ⊎_elim, append_assoc}
-use Rattle.build_model.specs.Rules.{Path, Rule, Setting, Among, here, there}
-use Rattle.build_model.specs.Reach.{Reaches, unseen, breadth_first, declared, left_out, reach}
+use Rattle.std.proofs.Common.{◌≡◌, ◌<◌, ℕ, List, [], ◌∷◌, ◌++◌, length, Option, Some, None, refl, sym, subst, ap, ◌∙◌, inl, inr, ◌⊎◌, ⊎_elim, append_assoc}
+use Rattle.build_model.specs.Rules.{Path, Rule, Among, here, there}
+use Rattle.build_model.specs.Reach.{reach}
 use Rattle.build_model.specs.Needs.{RuleOf, Found, Needs, as_required, as_dependency, NeedsThrough, directly, through, with_rule, rules_at, needs_in_order, Visits, nothing_left, met_again, met_first}
-use Rattle.build_model.proofs.Lists.{among_left, among_right, among_either, among_same, none_some, some_same, same_head, same_tail, nil_cons}
+use Rattle.build_model.proofs.Lists.{among_left, among_right, among_either, none_some, some_same, same_head, same_tail}
 use Rattle.build_model.proofs.Whole.{reach_reaches, reaches_in}
 use Rattle.build_model.proofs.Ready.{Within}
 

@@ -1,5 +1,5 @@
 -- At one job a build follows the build order.
-use Rattle.std.specs.Prelude.{◌≡◌, ◌++◌, true, false, List, [], ◌∷◌, Some, ⊤}
+use Rattle.std.specs.Prelude.{◌≡◌, ◌++◌, List, [], ◌∷◌, Some, ⊤}
 use Rattle.build_model.specs.Rules.{Path, Rule, Setting, Among}
 use Rattle.build_model.specs.Needs.{Found, Needs, IsBuildOrder}
 use Rattle.build_model.specs.Contents.{View, found_in}
