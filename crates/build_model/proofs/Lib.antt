@@ -15,3 +15,5 @@ mod Examples
 mod GoingOn
 mod Ordering
 mod OneJob
+mod TakenOut
+mod Waiting

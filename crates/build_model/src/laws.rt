@@ -3,6 +3,7 @@ ghost use Rattle.build_model.specs.Laws.{EachStepIsClean, HoldsForAnyDecider, Ea
 ghost use Rattle.build_model.specs.Headline.{GraphsAreLawful, HighEnough, IncrementalIsClean, AgainLittle};
 ghost use Rattle.build_model.specs.Resting.{RestsRightly, KeepsGoing};
 ghost use Rattle.build_model.specs.OneJob.{AtOneJob};
+ghost use Rattle.build_model.specs.Waiting.{BusyAtEachEnding};
 ghost use Rattle.build_model.specs.Examples.{AreMet};
 
 /// At any status: what was found up to date or made has the clean content, dependencies and record; and what was started was
@@ -39,6 +40,12 @@ pub fn at_most_jobs()
 /// At one job a build that ended well followed the build order.
 pub fn at_one_job()
     ensures { AtOneJob }
+{}
+
+/// Before each ending of a build that ended well as many actions run as may, or whatever is stale and could be started waits
+/// for a stale rule that hasn't ended.
+pub fn busy_at_each_ending()
+    ensures { BusyAtEachEnding }
 {}
 
 /// What was seen at each moment is what stands at the end.
