@@ -12,12 +12,10 @@ use crate::report::Top;
 use crate::rule::Rule;
 use crate::stops::BuildStop;
 use crate::texts::{building_text, line_text, read_text};
+use scons_base::limits::FILE_LIMIT;
 use scons_base::{Listing, Memory, Paths, Texts};
 use std::alloc::Global;
 use world_api::{AskRefusal, Content, Fault, Job, Line, Outcome, ReadRefusal, Sink, Work, World};
-
-/// How many bytes a file that is read may have.
-const FILE_LIMIT: u64 = 67_108_864;
 
 /// Builds the target of the rule: looks for its source, removes the target, prints the line, and runs it.
 pub fn build<W: World, O: Sink>(

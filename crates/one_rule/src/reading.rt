@@ -12,12 +12,10 @@ use crate::report::{ReadKind, Top};
 use crate::rule::Rule;
 use crate::stops::ReadStop;
 use crate::texts::reading_text;
+use scons_base::limits::SCRIPT_LIMIT;
 use scons_base::{Memory, PathFault, PathText};
 use std::alloc::Global;
 use world_api::{Content, ReadRefusal, Sink, World};
-
-/// How many bytes a script may have.
-const SCRIPT_LIMIT: u64 = 1_048_576;
 
 /// Reads the script, and prints that it does.
 pub fn read_rule<W: World, O: Sink>(

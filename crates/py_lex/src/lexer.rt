@@ -10,11 +10,9 @@ use crate::bytes::NO_TEXT;
 use crate::fault::{LexFault, LexKind};
 use crate::reader::{self, Step, next_step};
 use py_token::Tokens;
+use scons_base::limits::SCRIPT_LIMIT;
 use std::alloc::Global;
 use std::str;
-
-/// How many bytes a script may have.
-pub const LIMIT: usize = 1_048_576;
 
 /// Cuts a script into its tokens, or says where it first can't be cut, and why.
 pub fn lex(alloc: Global, bytes: &[u8]) -> Result<Tokens, LexFault>
@@ -28,7 +26,7 @@ pub fn lex(alloc: Global, bytes: &[u8]) -> Result<Tokens, LexFault>
 fn lex_bytes(alloc: Global, bytes: &[u8]) -> Result<Tokens, LexFault>
     ensures { Agrees result (IsRead bytes.now) }
 {
-    if bytes.len() > LIMIT {
+    if bytes.len() as u64 > SCRIPT_LIMIT {
         let line = 1;
         let kind = LexKind::TooLong;
         return Err(LexFault::At { line, kind });
