@@ -15,8 +15,8 @@ use Rattle.py_lex.specs.Texts.{piece_at, closing, kept, kept_line, kept_byte, es
 abbrev Reader : Type 0
 Reader = List ℕ → Piece × List ℕ
 
-abbrev two : Bool → Piece × List ℕ → Piece × List ℕ → Piece × List ℕ
-two t x y = if t then x else y
+abbrev chosen : Bool → Piece × List ℕ → Piece × List ℕ → Piece × List ℕ
+chosen t x y = if t then x else y
 
 -- the bytes that a piece takes, and the same piece in front of any shorter rest
 record Takes (f : Reader) (bytes : List ℕ) (p : Piece × List ℕ) : Type 0 where
@@ -66,7 +66,7 @@ module _ (q : ℕ) (w : Bool) where
   long_cuts (a ∷ b ∷ rest) = by_test (a == q && b == q) refl
     where
       by_test : (t : Bool) → (a == q && b == q) ≡ t → Cuts (closing long) (a ∷ b ∷ rest) (if t then (Closes, rest) else (Stands (Byte q), a ∷ b ∷ rest))
-      by_test true e = record { cut = record { used = a ∷ b ∷ []; parts = refl; alone = ap (λ t. two t (Closes, []) (Stands (Byte q), a ∷ b ∷ [])) e } }
+      by_test true e = record { cut = record { used = a ∷ b ∷ []; parts = refl; alone = ap (λ t. chosen t (Closes, []) (Stands (Byte q), a ∷ b ∷ [])) e } }
       by_test false e = stays (closing long) (a ∷ b ∷ rest) (Byte q) two
         where
           two : (x : ℕ) (more back : List ℕ) → a ∷ b ∷ rest ≡ (x ∷ more) ++ back → closing long (x ∷ more) ≡ (Stands (Byte q), x ∷ more)
@@ -75,7 +75,7 @@ module _ (q : ℕ) (w : Bool) where
               let first : a ≡ x = cc in
               let second : b ≡ m = cc in
               let tests : (x == q && m == q) ≡ false = ap (λ y. y == q && m == q) (sym first) ∙ ap (λ y. a == q && y == q) (sym second) ∙ e in
-              ap (λ t. two t (Closes, ms) (Stands (Byte q), x ∷ m ∷ ms)) tests
+              ap (λ t. chosen t (Closes, ms) (Stands (Byte q), x ∷ m ∷ ms)) tests
 
   brief_cuts : (bytes : List ℕ) → Cuts (closing brief) bytes (closing brief bytes)
   brief_cuts [] = record { cut = record { used = []; parts = refl; alone = refl } }
@@ -116,16 +116,20 @@ ends_line_at (b ∷ more) rest e = by_tests (b == 10) (b == 13) refl refl e
         record { first = 13; tail = 10 ∷ []; parts = ap (λ n. n ∷ more) (eqb-true b 13 y) ∙ ap (λ n. 13 ∷ n) (feed_at more rest e); whatever = λ z. refl }
     by_tests false false x y e = cc
 
+-- a line end by the tests of its first byte
+abbrev line_by : Bool → Bool → List ℕ → Option (List ℕ) → Option (List ℕ)
+line_by s t rest feed = if s then Some rest else (if t then feed else None)
+
 -- where no line ends, none ends in what is cut off
 no_end : (bytes : List ℕ) (x : ℕ) (more back : List ℕ) → after_line_end bytes ≡ None → bytes ≡ x ∷ (more ++ back) → after_line_end (x ∷ more) ≡ None
 no_end bytes x more back n e = by_more more (sym (ap (λ y. after_line_end y) e) ∙ n)
   where
-    by_last : (s t : Bool) (l : List ℕ) (o : Option (List ℕ)) → (if s then Some l else (if t then o else None)) ≡ None → (if s then Some [] else (if t then None else None)) ≡ None
+    by_last : (s t : Bool) (l : List ℕ) (o : Option (List ℕ)) → line_by s t l o ≡ None → line_by s t [] None ≡ None
     by_last true t l o h = cc
     by_last false true l o h = refl
     by_last false false l o h = refl
 
-    by_two : (m : ℕ) (ms : List ℕ) (s t u : Bool) → (if s then Some (m ∷ (ms ++ back)) else (if t then (if u then Some (ms ++ back) else None) else None)) ≡ None → (if s then Some (m ∷ ms) else (if t then (if u then Some ms else None) else None)) ≡ None
+    by_two : (m : ℕ) (ms : List ℕ) (s t u : Bool) → line_by s t (m ∷ (ms ++ back)) (if u then Some (ms ++ back) else None) ≡ None → line_by s t (m ∷ ms) (if u then Some ms else None) ≡ None
     by_two m ms true t u h = cc
     by_two m ms false true true h = cc
     by_two m ms false true false h = refl
@@ -205,12 +209,12 @@ kept_byte_cuts (b ∷ rest) = by_test (b == 255) refl
         no_text x more back s =
             let first : b ≡ x = cc in
             let test : (x == 255) ≡ true = ap (λ y. y == 255) (sym first) ∙ e in
-            ap (λ t. two t (Stands (Byte 92), x ∷ more) (Stands (Kept x), more)) test
+            ap (λ t. chosen t (Stands (Byte 92), x ∷ more) (Stands (Kept x), more)) test
     by_test false e = record {
       cut = record {
         used = b ∷ [];
         parts = refl;
-        short = λ x more back s. ap (λ t. two t (Stands (Byte 92), b ∷ x ∷ more) (Stands (Kept b), x ∷ more)) e;
+        short = λ x more back s. ap (λ t. chosen t (Stands (Byte 92), b ∷ x ∷ more) (Stands (Kept b), x ∷ more)) e;
       };
     }
 
@@ -273,7 +277,7 @@ module _ (style : Style) (b : ℕ) where
   plain_cuts : (rest : List ℕ) → Cuts plain_at rest (plain_at rest)
   plain_cuts rest = by_end (after_line_end (b ∷ rest)) refl
     where
-      ends : (next : List ℕ) (l : EndsLineAt (b ∷ rest) next) (t : Bool) → style.long ≡ t → Cuts plain_at rest (two t (EndsLine (Byte 10), next) (Unclosed, b ∷ rest))
+      ends : (next : List ℕ) (l : EndsLineAt (b ∷ rest) next) (t : Bool) → style.long ≡ t → Cuts plain_at rest (chosen t (EndsLine (Byte 10), next) (Unclosed, b ∷ rest))
       ends next l true e = record {
         cut = record {
           used = l.tail;
@@ -281,7 +285,7 @@ module _ (style : Style) (b : ℕ) where
           short = λ x more back s.
               let first : l.first ≡ b = let p = l.parts in cc in
               let ended : after_line_end (b ∷ (l.tail ++ x ∷ more)) ≡ Some (x ∷ more) = subst (λ y. after_line_end (y ∷ (l.tail ++ x ∷ more)) ≡ Some (x ∷ more)) first (l.whatever (x ∷ more)) in
-              ap (λ o. plain style b (l.tail ++ x ∷ more) o) ended ∙ ap (λ t. two t (EndsLine (Byte 10), x ∷ more) (Unclosed, b ∷ (l.tail ++ x ∷ more))) e;
+              ap (λ o. plain style b (l.tail ++ x ∷ more) o) ended ∙ ap (λ t. chosen t (EndsLine (Byte 10), x ∷ more) (Unclosed, b ∷ (l.tail ++ x ∷ more))) e;
         };
       }
       ends next l false e = record { cut = tt }
@@ -323,8 +327,8 @@ TakesSpelling style bytes (refused kind lines) = Unit {0}
 
 -- a piece takes its first byte at least
 first_of : (style : Style) (used : List ℕ) → piece_at style used ≡ (Closes, []) → (first : ℕ) × (more : List ℕ) × (used ≡ first ∷ more)
-first_of style [] e = cc
-first_of style (x ∷ xs) e = (x, (xs, refl))
+first_of style [] e = let same : Unclosed ≡ Closes = ap (λ p. p.0) e in absurd (cc)
+first_of style (x ∷ xs) e = (x, xs, refl)
 
 text_closes : (style : Style) (bytes rest : List ℕ) → TakesEnd (piece_at style) bytes rest → TakesText style bytes [] 0 rest
 text_closes style bytes rest c =
@@ -338,8 +342,8 @@ text_closes style bytes rest c =
 
 -- one more piece in front of a text
 front_of : (used : List ℕ) (x : ℕ) (xs : List ℕ) → (first : ℕ) × (more : List ℕ) × (used ++ x ∷ xs ≡ first ∷ more)
-front_of [] x xs = (x, (xs, refl))
-front_of (u ∷ us) x xs = (u, (us ++ x ∷ xs, refl))
+front_of [] x xs = (x, xs, refl)
+front_of (u ∷ us) x xs = (u, us ++ x ∷ xs, refl)
 
 module _ (style : Style) (bytes rest value : List ℕ) (lines : ℕ) (after : List ℕ) (t : TakesText style rest value lines after) where
   whole : (used : List ℕ) → bytes ≡ used ++ rest → bytes ≡ (used ++ t.first ∷ t.more) ++ after

@@ -1,6 +1,6 @@
 -- What is read of a script is written as its tokens are, with gaps between.
 use Rattle.std.proofs.Common.{◌≡◌, ℕ, zero, suc, ◌+◌, ◌-◌, Bool, true, false, ◌&&◌, ◌||◌, ◌==◌, nat_eq, List, [], ◌∷◌, ◌++◌, length, take, drop, refl, sym, ap, ◌∙◌, subst, append_assoc, add-one, Option, Some, None, inl, inr}
-use Rattle.std.specs.Prelude.{if◌then◌else◌, ◌⊎◌, nat_lt}
+use Rattle.std.specs.Prelude.{if◌then◌else◌, ◌⊎◌, nat_lt, Result, Ok, Err, IfOk}
 use Rattle.std.specs.List.{list_all, prefix_len, starts_with}
 use Rattle.std.specs.Cmp.Lexicographic.{pointwise, same_text}
 use Rattle.std.proofs.lemmas.List.{take-append-drop, append-nil}
@@ -13,6 +13,8 @@ use Rattle.py_token.specs.Marks.{mark_text}
 use Rattle.py_token.specs.declared.token.Token.{Token}
 use Rattle.py_token.specs.declared.token.TokenKind.{TokenKind}
 use Rattle.py_token.specs.declared.token.TokenKind.TheVariants as token
+use Rattle.py_token.specs.declared.token.Tokens.{Tokens}
+use Rattle.py_lex.specs.declared.fault.LexFault.{LexFault}
 use Rattle.py_lex.specs.declared.gap.Gap.{Gap}
 use Rattle.py_lex.specs.declared.gap.Gap.TheVariants.{Blanks, Comment, LineEnd, Joined, Nothing}
 use Rattle.py_lex.specs.declared.levels.Level.{Level}
@@ -32,8 +34,8 @@ use Rattle.py_lex.specs.Numbers.{number_of}
 use Rattle.py_lex.specs.Texts.{Spelling, closed, unclosed, refused, Spells, opening}
 use Rattle.py_lex.specs.Tokens.{Read, takes, refuses, class_of, lead_of, quoted, is_r, is_b_or_f, named, word_or, text_read, is_float, integer_read, is_fraction, mark_read, TextAt, LeadAt, QuotedAt, ClassAt, TokenAt}
 use Rattle.py_lex.specs.Steps.{State, Move, goes, ends, stops, token_at, text_behind, with_text, added, dedents, next_line, line_end, level_move, finish, read_move, TokenMove, GapMove, RestMove, Steps, start}
-use Rattle.py_lex.specs.Lexes.{Outcome, lexed, faulty, Reads, goes_on, ends_with, stops_at, ReadIf, Lexes, marked, without_order_mark}
-use Rattle.py_lex.specs.Written.{IsLineEnd, IsGap, blanks, comment, joined, IsPrefix, IsLiteral, IsSpelling, Written, nothing, gap, spelled, joined_text}
+use Rattle.py_lex.specs.Lexes.{Outcome, lexed, faulty, Reads, goes_on, ends_with, stops_at, ReadIf, IsRead, Agrees, Lexes, marked, without_order_mark}
+use Rattle.py_lex.specs.Written.{IsLineEnd, IsGap, blanks, comment, joined, IsPrefix, IsLiteral, IsWord, IsSpelling, Written, nothing, gap, spelled, joined_text}
 use Rattle.py_lex.specs.Written as written
 use Rattle.py_lex.proofs.Runs.{run_passes}
 use Rattle.py_lex.proofs.Signs.{find_passes}
@@ -46,7 +48,7 @@ record Front (P : List ℕ → Type 0) (bytes rest : List ℕ) : Type 0 where
   parts : bytes ≡ front ++ rest
   is : P front
 
-run_front : (p : ℕ → Bool) (xs : List ℕ) → Front (λ g. list_all p g ≡ true) xs (after_run p xs)
+abbrev run_front : (p : ℕ → Bool) (xs : List ℕ) → Front (λ g. list_all p g ≡ true) xs (after_run p xs)
 run_front p xs = record { front = front_run p xs; parts = sym (take-append-drop (prefix_len p xs) xs); is = run_passes p xs }
 
 end_front : (bytes rest : List ℕ) → after_line_end bytes ≡ Some rest → Front IsLineEnd bytes rest
@@ -167,13 +169,13 @@ if_read : (t : Bool) (X Y : Read) (bytes : List ℕ) → ReadIs X bytes → Read
 if_read true X Y bytes x y = x
 if_read false X Y bytes x y = y
 
-integer_front : (depth : ℕ) (bytes spelling rest : List ℕ) (r : Option ℕ) → bytes ≡ spelling ++ rest → number_of spelling ≡ r → ReadIs (integer_read depth rest r) bytes
-integer_front depth bytes spelling rest (Some value) p e = record { front = spelling; parts = p; is = e }
-integer_front depth bytes spelling rest None p e = tt
+integer_front : (depth : ℕ) (bytes spelling rest : List ℕ) (r : Option ℕ) → IsWord spelling → bytes ≡ spelling ++ rest → number_of spelling ≡ r → ReadIs (integer_read depth rest r) bytes
+integer_front depth bytes spelling rest (Some value) w p e = record { front = spelling; parts = p; is = (w, e) }
+integer_front depth bytes spelling rest None w p e = tt
 
-name_is : (name : List ℕ) (r : Option Keyword) → keyword_of name ≡ r → IsSpelling (word_or name r) name
-name_is name (Some k) e = sym (same_text (word_of k) name (sym (find_passes (λ x. pointwise nat_eq (word_of x) name) keywords k e)))
-name_is name None e = refl
+name_is : (name : List ℕ) (r : Option Keyword) → IsWord name → keyword_of name ≡ r → IsSpelling (word_or name r) name
+name_is name (Some k) w e = sym (same_text (word_of k) name (sym (find_passes (λ x. pointwise nat_eq (word_of x) name) keywords k e)))
+name_is name None w e = (w, refl)
 
 raw_prefix : (name : List ℕ) → lead_of name ≡ lead.Raw → IsPrefix true name
 raw_prefix [] e = cc
@@ -184,7 +186,7 @@ raw_prefix (a ∷ []) e = by_test (is_r a) refl e
     other false e = cc
 
     by_test : (t : Bool) → is_r a ≡ t → (if t then lead.Raw else (if is_b_or_f a || (a == 117 || a == 85) then lead.Refused else lead.Name)) ≡ lead.Raw → IsPrefix true (a ∷ [])
-    by_test true t e = (a, (t, refl))
+    by_test true t e = (a, t, refl)
     by_test false t e = absurd (other _ e)
 raw_prefix (a ∷ b ∷ []) e = absurd (other _ e)
   where
@@ -195,18 +197,17 @@ raw_prefix (a ∷ b ∷ c ∷ rest) e = cc
 
 quote_behind : (bytes : List ℕ) (q : ℕ) (inside : List ℕ) → quoted bytes ≡ Some (q, inside) → (bytes ≡ q ∷ inside) × ((q == 39 || q == 34) ≡ true)
 quote_behind [] q inside e = cc
-quote_behind (b ∷ rest) q inside e = by_test (b == 39 || b == 34) refl e
+quote_behind (b ∷ rest) q inside e = by_test (b == 39 || b == 34) (b, rest) (q, inside) refl e
   where
-    by_test : (t : Bool) → (b == 39 || b == 34) ≡ t → (if t then Some (b, rest) else None) ≡ Some (q, inside) → (b ∷ rest ≡ q ∷ inside) × ((q == 39 || q == 34) ≡ true)
-    by_test true t e =
-        let one : b ≡ q = cc in
-        let two : rest ≡ inside = cc in
-        (ap (λ x. x ∷ rest) one ∙ ap (λ x. q ∷ x) two, subst (λ x. (x == 39 || x == 34) ≡ true) one t)
-    by_test false t e = cc
+    by_test : (t : Bool) (p r : ℕ × List ℕ) → (p.0 == 39 || p.0 == 34) ≡ t → (if t then Some p else None) ≡ Some r → (p.0 ∷ p.1 ≡ r.0 ∷ r.1) × ((r.0 == 39 || r.0 == 34) ≡ true)
+    by_test true p r t e =
+        let same : p ≡ r = cc in
+        (ap (λ x. x.0 ∷ x.1) same, subst (λ x. (x.0 == 39 || x.0 == 34) ≡ true) same t)
+    by_test false p r t e = cc
 
-module _ (depth : ℕ) (bytes name rest : List ℕ) (parts : bytes ≡ name ++ rest) where
+module _ (depth : ℕ) (bytes name rest : List ℕ) (word : IsWord name) (parts : bytes ≡ name ++ rest) where
   named_front : (t : Read) → t ≡ takes (named name) 0 depth rest → ReadIs t bytes
-  named_front t x = subst (λ r. ReadIs r bytes) (sym x) (record { front = name; parts = parts; is = name_is name (keyword_of name) refl })
+  named_front t x = subst (λ r. ReadIs r bytes) (sym x) (record { front = name; parts = parts; is = name_is name (keyword_of name) word refl })
 
   lead_front : (l : Lead) (q : ℕ) (inside : List ℕ) (t : Read) → lead_of name ≡ l → rest ≡ q ∷ inside → (q == 39 || q == 34) ≡ true → LeadAt l depth q inside name rest t → ReadIs t bytes
   lead_front lead.Raw q inside t l e quotes x = subst (λ b. ReadIs t b) (sym (parts ∙ ap (λ r. name ++ r) e)) (text_front true q depth inside name (raw_prefix name l) quotes t x)
@@ -238,10 +239,10 @@ class_front : (k : Class) (depth b : ℕ) (rest : List ℕ) (t : Read) → class
 class_front Quote depth b rest t e x = text_front false b depth rest [] refl (is_quote b e) t x
 class_front Digit depth b rest t e x =
     let n = run_front is_name_byte (b ∷ rest) in
-    subst (λ r. ReadIs r (b ∷ rest)) (sym x) (if_read (is_float (front_run is_name_byte (b ∷ rest)) (after_run is_name_byte (b ∷ rest))) _ _ (b ∷ rest) tt (integer_front depth (b ∷ rest) (front_run is_name_byte (b ∷ rest)) (after_run is_name_byte (b ∷ rest)) (number_of (front_run is_name_byte (b ∷ rest))) n.parts refl))
+    subst (λ r. ReadIs r (b ∷ rest)) (sym x) (if_read (is_float (front_run is_name_byte (b ∷ rest)) (after_run is_name_byte (b ∷ rest))) _ _ (b ∷ rest) tt (integer_front depth (b ∷ rest) (front_run is_name_byte (b ∷ rest)) (after_run is_name_byte (b ∷ rest)) (number_of (front_run is_name_byte (b ∷ rest))) n.is n.parts refl))
 class_front Letter depth b rest t e x =
     let n = run_front is_name_byte (b ∷ rest) in
-    quoted_front depth (b ∷ rest) (front_run is_name_byte (b ∷ rest)) (after_run is_name_byte (b ∷ rest)) n.parts (quoted (after_run is_name_byte (b ∷ rest))) t refl x
+    quoted_front depth (b ∷ rest) (front_run is_name_byte (b ∷ rest)) (after_run is_name_byte (b ∷ rest)) n.is n.parts (quoted (after_run is_name_byte (b ∷ rest))) t refl x
 class_front NoText depth b rest t e x = subst (λ r. ReadIs r (b ∷ rest)) (sym x) tt
 class_front Sign depth b rest t e x = subst (λ r. ReadIs r (b ∷ rest)) (sym x) (if_read (is_fraction (b ∷ rest)) _ _ (b ∷ rest) tt (mark_front depth (b ∷ rest) (mark_at (b ∷ rest)) refl))
 
@@ -250,14 +251,14 @@ token_front depth [] t x = absurd x
 token_front depth (b ∷ rest) t x = class_front (class_of b) depth b rest t refl x
 
 -- tokens behind tokens
-silent : {tokens : List Token} {bytes : List ℕ} (t : Token) → IsSpelling t.kind [] → Written tokens bytes → Written (tokens ++ t ∷ []) bytes
-silent {tokens = tokens} {bytes = bytes} t s w = subst (λ b. Written (tokens ++ t ∷ []) b) (append-nil bytes) (spelled t [] s w)
+silent : (tokens : List Token) (bytes : List ℕ) (t : Token) → IsSpelling t.kind [] → Written tokens bytes → Written (tokens ++ t ∷ []) bytes
+silent tokens bytes t s w = subst (λ b. Written (tokens ++ t ∷ []) b) (append-nil bytes) (spelled tokens t bytes [] s w)
 
 dedents_written : (line n : ℕ) (tokens : List Token) (bytes : List ℕ) → Written tokens bytes → Written (tokens ++ dedents line n) bytes
 dedents_written line zero tokens bytes w = subst (λ ts. Written ts bytes) (sym (append-nil tokens)) w
 dedents_written line (suc n) tokens bytes w =
     subst (λ ts. Written ts bytes) (dedents_more line n tokens ∙ ap (λ k. tokens ++ dedents line k) (add-one n))
-    (silent (token_at line token.Dedent) refl (dedents_written line n tokens bytes w))
+    (silent (tokens ++ dedents line n) bytes (token_at line token.Dedent) refl (dedents_written line n tokens bytes w))
 
 record Last (tokens : List Token) : Type 0 where
   front : List Token
@@ -275,10 +276,10 @@ last_of (t ∷ ts) = by_last (last_of ts)
 
 module _ (line : ℕ) (value spelling : List ℕ) (is : IsLiteral value spelling) (bytes : List ℕ) where
   apart : (front : List Token) (t : Token) → Written (front ++ t ∷ []) bytes → Written (front ++ t ∷ token_at line (token.Text value) ∷ []) (bytes ++ spelling)
-  apart front t w = subst (λ ts. Written ts (bytes ++ spelling)) (append_assoc front (t ∷ []) (token_at line (token.Text value) ∷ [])) (spelled (token_at line (token.Text value)) spelling is w)
+  apart front t w = subst (λ ts. Written ts (bytes ++ spelling)) (append_assoc front (t ∷ []) (token_at line (token.Text value) ∷ [])) (spelled (front ++ t ∷ []) (token_at line (token.Text value)) bytes spelling is w)
 
   behind_written : (front : List Token) (l : ℕ) (kind : TokenKind) → Written (front ++ token_at l kind ∷ []) bytes → Written (front ++ text_behind kind (token_at l kind) line value) (bytes ++ spelling)
-  behind_written front l (token.Text text) w = joined_text l text value spelling is w
+  behind_written front l (token.Text text) w = joined_text front l text value bytes spelling is w
   behind_written front l (token.Name n) w = apart front (token_at l (token.Name n)) w
   behind_written front l (token.Integer n) w = apart front (token_at l (token.Integer n)) w
   behind_written front l (token.Word k) w = apart front (token_at l (token.Word k)) w
@@ -288,7 +289,7 @@ module _ (line : ℕ) (value spelling : List ℕ) (is : IsLiteral value spelling
   behind_written front l token.Dedent w = apart front (token_at l token.Dedent) w
 
   text_written : (tokens : List Token) → (tokens ≡ []) ⊎ Last tokens → Written tokens bytes → Written (with_text tokens line value) (bytes ++ spelling)
-  text_written tokens (inl e) w = subst (λ ts. Written (with_text ts line value) (bytes ++ spelling)) (sym e) (spelled (token_at line (token.Text value)) spelling is (subst (λ ts. Written ts bytes) e w))
+  text_written tokens (inl e) w = subst (λ ts. Written (with_text ts line value) (bytes ++ spelling)) (sym e) (spelled [] (token_at line (token.Text value)) bytes spelling is (subst (λ ts. Written ts bytes) e w))
   text_written tokens (inr l) w =
       subst (λ ts. Written (with_text ts line value) (bytes ++ spelling)) (sym l.is)
       (subst (λ ts. Written ts (bytes ++ spelling)) (sym (with_text-append l.front (token_at l.line l.kind) line value))
@@ -296,13 +297,13 @@ module _ (line : ℕ) (value spelling : List ℕ) (is : IsLiteral value spelling
 
 added_written : (kind : TokenKind) (tokens : List Token) (line : ℕ) (bytes spelling : List ℕ) → IsSpelling kind spelling → Written tokens bytes → Written (added kind tokens line) (bytes ++ spelling)
 added_written (token.Text value) tokens line bytes spelling is w = text_written line value spelling is bytes tokens (last_of tokens) w
-added_written (token.Name n) tokens line bytes spelling is w = spelled (token_at line (token.Name n)) spelling is w
-added_written (token.Integer n) tokens line bytes spelling is w = spelled (token_at line (token.Integer n)) spelling is w
-added_written (token.Word k) tokens line bytes spelling is w = spelled (token_at line (token.Word k)) spelling is w
-added_written (token.Mark m) tokens line bytes spelling is w = spelled (token_at line (token.Mark m)) spelling is w
-added_written token.Newline tokens line bytes spelling is w = spelled (token_at line token.Newline) spelling is w
-added_written token.Indent tokens line bytes spelling is w = spelled (token_at line token.Indent) spelling is w
-added_written token.Dedent tokens line bytes spelling is w = spelled (token_at line token.Dedent) spelling is w
+added_written (token.Name n) tokens line bytes spelling is w = spelled tokens (token_at line (token.Name n)) bytes spelling is w
+added_written (token.Integer n) tokens line bytes spelling is w = spelled tokens (token_at line (token.Integer n)) bytes spelling is w
+added_written (token.Word k) tokens line bytes spelling is w = spelled tokens (token_at line (token.Word k)) bytes spelling is w
+added_written (token.Mark m) tokens line bytes spelling is w = spelled tokens (token_at line (token.Mark m)) bytes spelling is w
+added_written token.Newline tokens line bytes spelling is w = spelled tokens (token_at line token.Newline) bytes spelling is w
+added_written token.Indent tokens line bytes spelling is w = spelled tokens (token_at line token.Indent) bytes spelling is w
+added_written token.Dedent tokens line bytes spelling is w = spelled tokens (token_at line token.Dedent) bytes spelling is w
 
 -- what is read so far, and what is left
 record WrittenTo (script : List ℕ) (s : State) : Type 0 where
@@ -329,22 +330,22 @@ cut_on script front rest more after p q = p ∙ ap (λ r. front ++ r) q ∙ sym 
 next_written : (script : List ℕ) (s : State) (after front : List ℕ) → script ≡ front ++ after → Written s.tokens front → WrittenTo script (next_line s after)
 next_written script s after front p w =
     let b = run_front is_blank after in
-    record { front = front ++ b.front; parts = cut_on script front after b.front (after_run is_blank after) p b.parts; is = gap b.front (blanks b.is) w }
+    record { front = front ++ b.front; parts = cut_on script front after b.front (after_run is_blank after) p b.parts; is = gap s.tokens front b.front (blanks b.is) w }
 
 module _ (script : List ℕ) (s : State) (w : WrittenTo script s) where
   gap_written : (after : List ℕ) (f : Front IsGap s.rest after) → script ≡ (w.front ++ f.front) ++ after
   gap_written after f = cut_on script w.front s.rest f.front after w.parts f.parts
 
   end_written : (p : Place) (after : List ℕ) → Front IsLineEnd s.rest after → WrittenTo script (line_end p s after)
-  end_written LineStart after f = next_written script s after (w.front ++ f.front) (cut_on script w.front s.rest f.front after w.parts f.parts) (gap f.front (written.line_end f.is) w.is)
+  end_written LineStart after f = next_written script s after (w.front ++ f.front) (cut_on script w.front s.rest f.front after w.parts f.parts) (gap s.tokens w.front f.front (written.line_end f.is) w.is)
   end_written (Inside depth) after f =
       if_state (depth == 0) script _ _
-      (next_written script (record s { tokens = s.tokens ++ token_at s.line token.Newline ∷ [] }) after (w.front ++ f.front) (cut_on script w.front s.rest f.front after w.parts f.parts) (spelled (token_at s.line token.Newline) f.front (inl f.is) w.is))
-      (record { front = w.front ++ f.front; parts = cut_on script w.front s.rest f.front after w.parts f.parts; is = gap f.front (written.line_end f.is) w.is })
+      (next_written script (record s { tokens = s.tokens ++ token_at s.line token.Newline ∷ [] }) after (w.front ++ f.front) (cut_on script w.front s.rest f.front after w.parts f.parts) (spelled s.tokens (token_at s.line token.Newline) w.front f.front (inl f.is) w.is))
+      (record { front = w.front ++ f.front; parts = cut_on script w.front s.rest f.front after w.parts f.parts; is = gap s.tokens w.front f.front (written.line_end f.is) w.is })
 
   level_written : (l : Level) → MoveIs script (level_move l s)
   level_written (level.Closes count) = record { front = w.front; parts = w.parts; is = dedents_written s.line count s.tokens w.front w.is }
-  level_written level.Opens = record { front = w.front; parts = w.parts; is = silent (token_at s.line token.Indent) refl w.is }
+  level_written level.Opens = record { front = w.front; parts = w.parts; is = silent s.tokens w.front (token_at s.line token.Indent) refl w.is }
   level_written (level.Refused kind) = tt
 
   read_written : (t : Read) → ReadIs t s.rest → MoveIs script (read_move s t)
@@ -360,9 +361,9 @@ module _ (script : List ℕ) (s : State) (w : WrittenTo script s) where
   token_written (Inside depth) m x = subst (λ n. MoveIs script n) (sym x.1.1) (read_written x.0 (token_front depth s.rest x.0 x.1.0))
 
   gap_move_written : (g : Gap) (after : List ℕ) (m : Move) → FrontGap g s.rest after → GapMove g after s m → MoveIs script m
-  gap_move_written Blanks after m f x = subst (λ n. MoveIs script n) (sym x) (record { front = w.front ++ f.front; parts = gap_written after f; is = gap f.front f.is w.is })
-  gap_move_written Comment after m f x = subst (λ n. MoveIs script n) (sym x) (record { front = w.front ++ f.front; parts = gap_written after f; is = gap f.front f.is w.is })
-  gap_move_written Joined after m f x = subst (λ n. MoveIs script n) (sym x) (record { front = w.front ++ f.front; parts = gap_written after f; is = gap f.front f.is w.is })
+  gap_move_written Blanks after m f x = subst (λ n. MoveIs script n) (sym x) (record { front = w.front ++ f.front; parts = gap_written after f; is = gap s.tokens w.front f.front f.is w.is })
+  gap_move_written Comment after m f x = subst (λ n. MoveIs script n) (sym x) (record { front = w.front ++ f.front; parts = gap_written after f; is = gap s.tokens w.front f.front f.is w.is })
+  gap_move_written Joined after m f x = subst (λ n. MoveIs script n) (sym x) (record { front = w.front ++ f.front; parts = gap_written after f; is = gap s.tokens w.front f.front f.is w.is })
   gap_move_written LineEnd after m f x = subst (λ n. MoveIs script n) (sym x) (end_written s.place after f)
   gap_move_written Nothing after m f x = token_written s.place m x
 
@@ -372,7 +373,7 @@ module _ (script : List ℕ) (s : State) (w : WrittenTo script s) where
   finish_written : (p : Place) → s.rest ≡ [] → MoveIs script (finish p s)
   finish_written LineStart e = dedents_written s.line (length s.levels - 1) s.tokens script (all_read e)
   finish_written (Inside depth) e =
-      if_move (depth == 0) script _ _ (dedents_written s.line (length s.levels - 1) (s.tokens ++ token_at s.line token.Newline ∷ []) script (silent (token_at s.line token.Newline) (inr refl) (all_read e))) tt
+      if_move (depth == 0) script _ _ (dedents_written s.line (length s.levels - 1) (s.tokens ++ token_at s.line token.Newline ∷ []) script (silent s.tokens script (token_at s.line token.Newline) (inr refl) (all_read e))) tt
 
   rest_written : (rest : List ℕ) (m : Move) → s.rest ≡ rest → RestMove rest s m → MoveIs script m
   rest_written [] m e x = subst (λ n. MoveIs script n) (sym x) (finish_written s.place e)
@@ -393,11 +394,15 @@ reads_written script {s = s} (ends_with tokens x) w = step_written script s w (e
 reads_written script (stops_at line kind x) w = tt
 
 begins_written : (script : List ℕ) → WrittenTo script (start script)
-begins_written script = let b = run_front is_blank script in record { front = b.front; parts = b.parts; is = gap b.front (blanks b.is) nothing }
+begins_written script = let b = run_front is_blank script in record { front = b.front; parts = b.parts; is = gap [] [] b.front (blanks b.is) nothing }
 
 read_if_written : (long : Bool) (bytes : List ℕ) (tokens : List Token) → ReadIf long bytes (lexed tokens) → Written tokens (marked (without_order_mark bytes))
 read_if_written true bytes tokens e = cc
 read_if_written false bytes tokens r = reads_written (marked (without_order_mark bytes)) r (begins_written (marked (without_order_mark bytes)))
 
-pub lexes_written : (bytes : List ℕ) (tokens : List Token) → Lexes bytes tokens → Written tokens (marked (without_order_mark bytes))
+lexes_written : (bytes : List ℕ) (tokens : List Token) → Lexes bytes tokens → Written tokens (marked (without_order_mark bytes))
 lexes_written bytes tokens l = read_if_written (nat_lt SCRIPT_LIMIT (length bytes)) bytes tokens l
+
+pub written_at : (bytes : List ℕ) (r : Result Tokens LexFault) → Agrees r (IsRead bytes) → IfOk r (λ tokens. Written tokens (marked (without_order_mark bytes)))
+written_at bytes (Ok tokens) found = lexes_written bytes tokens found
+written_at bytes (Err fault) found = tt

@@ -41,11 +41,15 @@ pub record IsLiteral (value bytes : List ℕ) : Type 0 where
   pub quotes : (quote == 39 || quote == 34) ≡ true
   pub stands_for : Spells (opening raw quote inside).0 (opening raw quote inside).1 (closed value lines [])
 
+-- letters, digits and underscores (2.3, 2.4.5)
+abbrev pub IsWord : List ℕ → Type 0
+IsWord bytes = list_all is_name_byte bytes ≡ true
+
 -- how a token is written. The end of a line is written as a line end, and as nothing where the script ends; where a block
 -- begins or ends nothing is written (2.1.8).
 abbrev pub IsSpelling : TokenKind → List ℕ → Type 0
-IsSpelling (token.Name name) bytes = bytes ≡ name
-IsSpelling (token.Integer value) bytes = number_of bytes ≡ Some value
+IsSpelling (token.Name name) bytes = IsWord bytes × (bytes ≡ name)
+IsSpelling (token.Integer value) bytes = IsWord bytes × (number_of bytes ≡ Some value)
 IsSpelling (token.Text value) bytes = IsLiteral value bytes
 IsSpelling (token.Word keyword) bytes = bytes ≡ word_of keyword
 IsSpelling (token.Mark mark) bytes = bytes ≡ mark_text mark
@@ -57,6 +61,6 @@ IsSpelling token.Dedent bytes = bytes ≡ []
 -- text (2.4.2)
 pub data Written : List Token → List ℕ → Type 0 where
   nothing : Written [] []
-  gap : {tokens : List Token} {bytes : List ℕ} (between : List ℕ) → IsGap between → Written tokens bytes → Written tokens (bytes ++ between)
-  spelled : {tokens : List Token} {bytes : List ℕ} (t : Token) (spelling : List ℕ) → IsSpelling t.kind spelling → Written tokens bytes → Written (tokens ++ t ∷ []) (bytes ++ spelling)
-  joined_text : {tokens : List Token} {bytes : List ℕ} (line : ℕ) (front value spelling : List ℕ) → IsLiteral value spelling → Written (tokens ++ token_at line (token.Text front) ∷ []) bytes → Written (tokens ++ token_at line (token.Text (front ++ value)) ∷ []) (bytes ++ spelling)
+  gap : (tokens : List Token) (bytes between : List ℕ) → IsGap between → Written tokens bytes → Written tokens (bytes ++ between)
+  spelled : (tokens : List Token) (t : Token) (bytes spelling : List ℕ) → IsSpelling t.kind spelling → Written tokens bytes → Written (tokens ++ t ∷ []) (bytes ++ spelling)
+  joined_text : (tokens : List Token) (line : ℕ) (front value bytes spelling : List ℕ) → IsLiteral value spelling → Written (tokens ++ token_at line (token.Text front) ∷ []) bytes → Written (tokens ++ token_at line (token.Text (front ++ value)) ∷ []) (bytes ++ spelling)
