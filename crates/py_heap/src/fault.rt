@@ -24,7 +24,7 @@ pub enum ValueFault {
     NoMethod,
     /// A text of so many bytes or a list of so many items is over the limit.
     TooBig(u64),
-    /// More levels than the limit of values inside one another.
+    /// Over 100 levels.
     Deep,
     /// A charge that would pass the total after so many units.
     Budget(u64),
