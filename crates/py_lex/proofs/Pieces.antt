@@ -1,16 +1,15 @@
 -- A piece of a text is read alike where the text is cut off behind its end.
 use Rattle.std.proofs.Common.{◌≡◌, ℕ, ◌+◌, Bool, true, false, ◌&&◌, ◌||◌, ◌==◌, List, [], ◌∷◌, ◌++◌, refl, sym, ap, ◌∙◌, subst, append_assoc, Option, Some, None}
-use Rattle.std.specs.Prelude.{if◌then◌else◌, ◌⊎◌}
+use Rattle.std.specs.Prelude.{if◌then◌else◌}
 use Rattle.std.specs.Char.{is_ascii_digit}
-use Rattle.std.proofs.Common.{inl, inr}
 use Rattle.std.proofs.lemmas.Bool.{eqb-true}
 use Rattle.py_lex.specs.declared.piece.Style.{Style}
 use Rattle.py_lex.specs.declared.piece.Chars.{Chars}
-use Rattle.py_lex.specs.declared.piece.Chars.TheVariants.{Nothing, Byte, Kept, Char}
+use Rattle.py_lex.specs.declared.piece.Chars.TheVariants.{Nothing, Byte, Kept}
 use Rattle.py_lex.specs.declared.piece.Piece.{Piece}
 use Rattle.py_lex.specs.declared.piece.Piece.TheVariants.{Closes, Unclosed, BadEscape, NotUtf8, Stands, EndsLine}
 use Rattle.py_lex.specs.Bytes.{after_line_end, after_feed}
-use Rattle.py_lex.specs.Texts.{piece_at, closing, kept, kept_line, kept_byte, escape, escape_line, escape_byte, hex_escape, hex_char, hex_digit, simple_escape, simple_or, plain, bytes_of, Spelling, closed, unclosed, refused, behind, Spells, opening, closes, has_no_end, has_bad_escape, is_not_utf8, stands, ends_line}
+use Rattle.py_lex.specs.Texts.{piece_at, closing, kept, kept_line, kept_byte, escape, escape_line, escape_byte, hex_escape, hex_char, hex_digit, simple_escape, simple_or, plain, bytes_of, Spelling, closed, unclosed, refused, behind, Spells, closes, has_no_end, has_bad_escape, is_not_utf8, stands, ends_line}
 
 abbrev Reader : Type 0
 Reader = List ℕ → Piece × List ℕ
