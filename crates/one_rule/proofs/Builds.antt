@@ -19,7 +19,7 @@ use Rattle.one_rule.specs.declared.stops.BuildStop.TheVariants as build
 use Rattle.one_rule.specs.declared.report.Top.{Top}
 use Rattle.one_rule.specs.declared.report.Top.TheVariants.{Usage, Reading, Missing, ActionFailed, TreeFault, StartFault, OutFault, TooLarge}
 use Rattle.one_rule.specs.Course.{Failed as Fails}
-use Rattle.one_rule.specs.Building.{Idles, Unchanged, Leaves, Logs, nothing, ran, HasLog, HasSource, MayBuild, no_source, large_source, unreadable_source, kept_target, not_started, failed, built, clean_content, job_of, FILE_LIMIT}
+use Rattle.one_rule.specs.Building.{Idles, Unchanged, Leaves, Logs, nothing, ran, HasLog, HasSource, MayBuild, no_source, large_source, unreadable_source, kept_target, not_started, failed, built, clean_content, job_of}
 use Rattle.one_rule.specs.BuildSteps.{IsFailStop, StepGives, source_result, unread_stop, ended_result}
 use Rattle.one_rule.specs.Ends.{BuildGives, BuildMakes, FailLogs}
 use Rattle.one_rule.proofs.Quiet.{no_target, same_file}
