@@ -14,3 +14,4 @@ pub mod TextUtf8
 pub mod StepUtf8
 pub mod Pieces
 pub mod Writing
+pub mod Unmarked

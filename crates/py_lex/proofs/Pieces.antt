@@ -11,25 +11,25 @@ use Rattle.py_lex.specs.declared.piece.Piece.TheVariants.{Closes, Unclosed, BadE
 use Rattle.py_lex.specs.Bytes.{after_line_end, after_feed}
 use Rattle.py_lex.specs.Texts.{piece_at, closing, kept, kept_line, kept_byte, escape, escape_line, escape_byte, hex_escape, hex_char, hex_digit, simple_escape, simple_or, plain, bytes_of, Spelling, closed, unclosed, refused, behind, Spells, closes, has_no_end, has_bad_escape, is_not_utf8, stands, ends_line}
 
-abbrev Reader : Type 0
+abbrev pub Reader : Type 0
 Reader = List ℕ → Piece × List ℕ
 
-abbrev chosen : Bool → Piece × List ℕ → Piece × List ℕ → Piece × List ℕ
+abbrev pub chosen : Bool → Piece × List ℕ → Piece × List ℕ → Piece × List ℕ
 chosen t x y = if t then x else y
 
 -- the bytes that a piece takes, and the same piece in front of any shorter rest
-record Takes (f : Reader) (bytes : List ℕ) (p : Piece × List ℕ) : Type 0 where
-  used : List ℕ
-  parts : bytes ≡ used ++ p.1
+pub record Takes (f : Reader) (bytes : List ℕ) (p : Piece × List ℕ) : Type 0 where
+  pub used : List ℕ
+  pub parts : bytes ≡ used ++ p.1
   short : (x : ℕ) (more back : List ℕ) → p.1 ≡ (x ∷ more) ++ back → f (used ++ x ∷ more) ≡ (p.0, x ∷ more)
 
 -- the bytes behind the first closing quote, and the same end in front of nothing
-record TakesEnd (f : Reader) (bytes rest : List ℕ) : Type 0 where
+pub record TakesEnd (f : Reader) (bytes rest : List ℕ) : Type 0 where
   used : List ℕ
   parts : bytes ≡ used ++ rest
   alone : f used ≡ (Closes, [])
 
-abbrev TakesPiece : Reader → List ℕ → Piece → List ℕ → Type 0
+abbrev pub TakesPiece : Reader → List ℕ → Piece → List ℕ → Type 0
 TakesPiece f bytes Closes rest = TakesEnd f bytes rest
 TakesPiece f bytes (Stands c) rest = Takes f bytes (Stands c, rest)
 TakesPiece f bytes (EndsLine c) rest = Takes f bytes (EndsLine c, rest)
@@ -95,7 +95,7 @@ pub record EndsLineAt (bytes rest : List ℕ) : Type 0 where
   pub parts : bytes ≡ first ∷ (tail ++ rest)
   pub whatever : (z : List ℕ) → after_line_end (first ∷ (tail ++ z)) ≡ Some z
 
-feed_at : (bytes rest : List ℕ) → after_feed bytes ≡ Some rest → bytes ≡ 10 ∷ rest
+pub feed_at : (bytes rest : List ℕ) → after_feed bytes ≡ Some rest → bytes ≡ 10 ∷ rest
 feed_at [] rest e = cc
 feed_at (b ∷ more) rest e = by_test (b == 10) refl e
   where
@@ -309,7 +309,7 @@ piece_cuts : (style : Style) (bytes : List ℕ) → Cuts (piece_at style) bytes 
 piece_cuts style [] = record { cut = tt }
 piece_cuts style (b ∷ rest) = cuts_behind (piece_at style) (λ r. piece_at style (b ∷ r)) b (λ r. refl) rest (piece_at style (b ∷ rest)) (behind_first_cuts style b rest)
 
-cuts_at : (style : Style) (bytes : List ℕ) (piece : Piece) (rest : List ℕ) → piece_at style bytes ≡ (piece, rest) → TakesPiece (piece_at style) bytes piece rest
+pub cuts_at : (style : Style) (bytes : List ℕ) (piece : Piece) (rest : List ℕ) → piece_at style bytes ≡ (piece, rest) → TakesPiece (piece_at style) bytes piece rest
 cuts_at style bytes piece rest e = let c = piece_cuts style bytes in subst (λ p. TakesPiece (piece_at style) bytes p.0 p.1) e c.cut
 
 -- what a text takes behind its opening quotes, which is the same text alone

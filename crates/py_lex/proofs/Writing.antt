@@ -1,6 +1,8 @@
 -- What is read of a script is written as its tokens are, with gaps between.
 use Rattle.std.proofs.Common.{◌≡◌, ℕ, zero, suc, ◌-◌, Bool, true, false, ◌&&◌, ◌||◌, ◌==◌, nat_eq, List, [], ◌∷◌, ◌++◌, length, take, drop, refl, sym, ap, ◌∙◌, subst, append_assoc, add-one, Option, Some, None, inl, inr}
 use Rattle.std.specs.Prelude.{if◌then◌else◌, ◌⊎◌, nat_lt, Result, Ok, Err, IfOk}
+use Rattle.std.specs.Str.{is_utf8}
+use Rattle.std.specs.Str.Lossy.{utf8_valid_len}
 use Rattle.std.specs.List.{list_all, prefix_len, starts_with}
 use Rattle.std.specs.Cmp.Lexicographic.{pointwise, same_text}
 use Rattle.std.proofs.lemmas.List.{take-append-drop, append-nil}
@@ -40,6 +42,7 @@ use Rattle.py_lex.specs.Written as written
 use Rattle.py_lex.proofs.Runs.{run_passes}
 use Rattle.py_lex.proofs.Signs.{find_passes}
 use Rattle.py_lex.proofs.TokenLists.{dedents_more, with_text-append}
+use Rattle.py_lex.proofs.Unmarked.{written_is}
 use Rattle.py_lex.proofs.Pieces.{ends_line_at, text_taken}
 
 -- what stands in front of the rest
@@ -396,13 +399,20 @@ reads_written script (stops_at line kind x) w = tt
 begins_written : (script : List ℕ) → WrittenTo script (start script)
 begins_written script = let b = run_front is_blank script in record { front = b.front; parts = b.parts; is = gap [] [] b.front (blanks b.is) nothing }
 
-read_if_written : (long : Bool) (bytes : List ℕ) (tokens : List Token) → ReadIf long bytes (lexed tokens) → Written tokens (marked (without_order_mark bytes))
-read_if_written true bytes tokens e = cc
-read_if_written false bytes tokens r = reads_written (marked (without_order_mark bytes)) r (begins_written (marked (without_order_mark bytes)))
+-- a script that has tokens holds no mark
+unmarked_written : (utf8 : Bool) (bytes front : List ℕ) (tokens : List Token) → Written tokens (if utf8 then bytes else front ++ 255 ∷ []) → Written tokens bytes
+unmarked_written true bytes front tokens w = w
+unmarked_written false bytes front tokens w = absurd (written_is w front refl)
 
-lexes_written : (bytes : List ℕ) (tokens : List Token) → Lexes bytes tokens → Written tokens (marked (without_order_mark bytes))
+read_if_written : (long : Bool) (bytes : List ℕ) (tokens : List Token) → ReadIf long bytes (lexed tokens) → Written tokens (without_order_mark bytes)
+read_if_written true bytes tokens e = cc
+read_if_written false bytes tokens r =
+    let script = without_order_mark bytes in
+    unmarked_written (is_utf8 script) script (take (utf8_valid_len script) script) tokens (reads_written (marked script) r (begins_written (marked script)))
+
+lexes_written : (bytes : List ℕ) (tokens : List Token) → Lexes bytes tokens → Written tokens (without_order_mark bytes)
 lexes_written bytes tokens l = read_if_written (nat_lt SCRIPT_LIMIT (length bytes)) bytes tokens l
 
-pub written_at : (bytes : List ℕ) (r : Result Tokens LexFault) → Agrees r (IsRead bytes) → IfOk r (λ tokens. Written tokens (marked (without_order_mark bytes)))
+pub written_at : (bytes : List ℕ) (r : Result Tokens LexFault) → Agrees r (IsRead bytes) → IfOk r (λ tokens. Written tokens (without_order_mark bytes))
 written_at bytes (Ok tokens) found = lexes_written bytes tokens found
 written_at bytes (Err fault) found = tt

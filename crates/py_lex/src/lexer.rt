@@ -4,7 +4,7 @@ ghost use Rattle.py_token.specs.declared.token.Token.{Token};
 ghost use Rattle.py_lex.specs.declared.fault.LexKind.{LexKind};
 ghost use Rattle.py_lex.specs.Steps.{start};
 ghost use Rattle.py_lex.specs.Utf8.{IsClean};
-ghost use Rattle.py_lex.specs.Lexes.{Lexes, FaultAt, FaultsAt, Gives, Tells, Agrees, IsRead, Reads, marked, without_order_mark};
+ghost use Rattle.py_lex.specs.Lexes.{Lexes, FaultAt, FaultsAt, Gives, Tells, Agrees, IsRead, Reads, without_order_mark};
 ghost use Rattle.py_lex.specs.Written.{Written};
 
 use crate::bytes::NO_TEXT;
@@ -20,7 +20,7 @@ pub fn lex(alloc: Global, bytes: &[u8]) -> Result<Tokens, LexFault>
     ensures found { MatchResult result (Lexes bytes.now) (FaultsAt bytes.now) }
     ensures only { (tokens : List Token) → Lexes bytes.now tokens → Gives result tokens }
     ensures refused { (line : ℕ) (kind : LexKind) → FaultAt bytes.now line kind → Tells result line kind }
-    ensures written { IfOk result (λ tokens. Written tokens (marked (without_order_mark bytes.now))) }
+    ensures written { IfOk result (λ tokens. Written tokens (without_order_mark bytes.now)) }
 {
     lex_bytes(alloc, bytes)
 }
