@@ -1,0 +1,14 @@
+mod Lists
+mod Whole
+mod Agree
+mod Heights
+mod Ready
+mod Runs
+mod Made
+mod Clean
+mod Starting
+mod Placed
+mod Headline
+mod Staying
+mod Resting
+mod Examples

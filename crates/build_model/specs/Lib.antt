@@ -1,0 +1,13 @@
+pub mod Rules
+pub mod Reach
+pub mod Needs
+pub mod Contents
+pub mod Records
+pub mod Stale
+pub mod Steps
+pub mod Moments
+pub mod Graphs
+pub mod Laws
+pub mod Headline
+pub mod Resting
+pub mod Examples

@@ -1,0 +1,44 @@
+-- The dependencies of a rule: its sources, what the script says it depends on, its libraries, and then the files that
+-- are found, breadth first. What a file includes is a parameter: so one definition serves what was found so far, what
+-- stands in the tree, and what a clean build would find.
+use Rattle.std.specs.Prelude.{ℕ, zero, suc, Bool, true, false, List, [], ◌∷◌, ◌++◌, if◌then◌else◌}
+use Rattle.std.specs.Str.{bytes_eq}
+use Rattle.build_model.specs.Rules.{Path, Rule, Among}
+
+-- whether a path stands in a list
+abbrev pub has : Path → List Path → Bool
+has p [] = false
+has p (q ∷ qs) = if bytes_eq p q then true else has p qs
+
+-- the paths that weren't seen, each once, in order
+abbrev pub unseen : List Path → List Path → List Path
+unseen seen [] = []
+unseen seen (p ∷ ps) = if has p seen then unseen seen ps else p ∷ unseen (p ∷ seen) ps
+
+-- At most so many paths, breadth first: those that wait, and behind them what each includes that wasn't seen.
+abbrev pub breadth_first : (Path → List Path) → ℕ → List Path → List Path → List Path
+breadth_first includes zero seen waiting = []
+breadth_first includes (suc room) seen [] = []
+breadth_first includes (suc room) seen (p ∷ waiting) =
+    p ∷ breadth_first includes room (unseen seen (includes p) ++ seen) (waiting ++ unseen seen (includes p))
+
+-- A rule's sources less what it ignores; one that copies or writes keeps them all.
+abbrev pub kept_sources : Rule → List Path
+kept_sources r = unseen (if r.keeps_sources then [] else r.ignored) r.sources
+
+-- what the graph alone says that a rule depends on
+abbrev pub declared : Rule → List Path
+declared r = kept_sources r ++ unseen (kept_sources r ++ r.ignored) (r.depends ++ r.libraries)
+
+-- what is never found: what a rule ignores, and its own targets
+abbrev pub left_out : Rule → List Path
+left_out r = r.targets ++ r.ignored
+
+-- The dependencies of a rule, at most so many. A list that is as long as the limit may be cut short.
+abbrev pub reach : ℕ → (Path → List Path) → Rule → List Path
+reach limit includes r = breadth_first includes limit (declared r ++ left_out r) (declared r)
+
+-- A path is a dependency of the rule: the same without order and limit.
+pub data Reaches (includes : Path → List Path) (r : Rule) : Path → Type 0 where
+  is_declared : {p : Path} → Among p (declared r) → Reaches includes r p
+  is_found : {p : Path} (q : Path) → Reaches includes r q → Among p (includes q) → (Among p (left_out r) → ⊥) → Reaches includes r p

@@ -1,0 +1,65 @@
+-- A build that goes on after faults, where nothing is left to do: why each rule that isn't settled then isn't.
+use Rattle.std.specs.Prelude.{◌≡◌, ◌⊎◌, false, List, []}
+use Rattle.build_model.specs.Rules.{Path, Rule, Setting, Among}
+use Rattle.build_model.specs.Needs.{Found, Needs, NeedsThrough, Needed}
+use Rattle.build_model.specs.Contents.{in_tree, found_in}
+use Rattle.build_model.specs.Stale.{IsDue}
+use Rattle.build_model.specs.Steps.{Step, Ended, Lacks, Build, settled, began, IsReady, IsRun, present_record}
+use Rattle.build_model.specs.Laws.{TestsDue}
+
+-- a rule's action ended otherwise than well, or the rule lacks a dependency
+pub data IsFaulty (steps : List Step) (r : Rule) : Type 0 where
+  has_failed : Among (Ended r false) steps → IsFaulty steps r
+  lacks_one : (p : Path) → Among (Lacks r p) steps → IsFaulty steps r
+
+-- All that can be scanned is: a file that waits for nothing gave what it includes, and any other one nothing. So the
+-- dependencies of a rule are those with the targets of what isn't settled taken out: reported, and not scanned.
+abbrev pub IsFoundWhole : Setting → Build → List Step → Found → Type 0
+IsFoundWhole s b steps found = (r : Rule) (p : Path) →
+    (IsReady s b.after (settled steps) p × (found r p ≡ found_in s (in_tree b.after) r p))
+    ⊎ ((IsReady s b.after (settled steps) p → ⊥) × (found r p ≡ []))
+
+-- a rule where nothing is left to do: it is settled or faulty, or needs one that isn't settled
+pub data IsLeft (s : Setting) (steps : List Step) (found : Found) (r : Rule) : Type 0 where
+  is_settled : Among r (settled steps) → IsLeft s steps found r
+  is_faulty : IsFaulty steps r → IsLeft s steps found r
+  waits : (q : Rule) → Needs s.rule_of found r q → (Among q (settled steps) → ⊥) → IsLeft s steps found r
+
+-- Nothing is left to do for any of the needed rules, of which there are finitely many.
+pub record IsAtRest (s : Setting) (b : Build) (steps : List Step) (found : Found) : Type 0 where
+  pub found_whole : IsFoundWhole s b steps found
+  pub rules : List Rule
+  pub all : (r : Rule) → Needed s.rule_of found b.requested r → Among r rules
+  pub left : (r : Rule) → Needed s.rule_of found b.requested r → IsLeft s steps found r
+
+-- a rule is skipped for another one: it needs it, directly or through others, and that one is faulty
+pub record IsSkipped (s : Setting) (steps : List Step) (found : Found) (r : Rule) : Type 0 where
+  pub other : Rule
+  pub needs : NeedsThrough s.rule_of found r other
+  pub faulty : IsFaulty steps other
+
+-- a rule is held: it stands in a cycle, or needs a rule that does
+pub data IsHeld (s : Setting) (found : Found) (r : Rule) : Type 0 where
+  in_cycle : NeedsThrough s.rule_of found r r → IsHeld s found r
+  behind_cycle : (x : Rule) → NeedsThrough s.rule_of found r x → NeedsThrough s.rule_of found x x → IsHeld s found r
+
+-- what became of a rule
+pub data EndsUp (s : Setting) (steps : List Step) (found : Found) (r : Rule) : Type 0 where
+  as_settled : Among r (settled steps) → EndsUp s steps found r
+  as_faulty : IsFaulty steps r → EndsUp s steps found r
+  as_skipped : IsSkipped s steps found r → EndsUp s steps found r
+  as_held : IsHeld s found r → EndsUp s steps found r
+
+-- What is left at rest: each needed rule is settled, faulty, skipped or held; one that is due was started, unless it is
+-- one of the latter; and what is faulty, skipped or held is not settled, nor was what is skipped or held started.
+pub record LeavesAtRest (s : Setting) (b : Build) (steps : List Step) (found : Found) : Type 0 where
+  pub ends_up : (r : Rule) → Needed s.rule_of found b.requested r → EndsUp s steps found r
+  pub due_began : (r : Rule) → Among r (settled steps) → TestsDue s b r →
+      IsDue b.before b.stamps_before b.records r (present_record s b r) → Among r (began steps)
+  pub faulty : (r : Rule) → IsFaulty steps r → Among r (settled steps) → ⊥
+  pub skipped : (r : Rule) → IsSkipped s steps found r → (Among r (began steps) → ⊥) × (Among r (settled steps) → ⊥)
+  pub held : (r : Rule) → IsHeld s found r → (Among r (began steps) → ⊥) × (Among r (settled steps) → ⊥)
+
+abbrev pub RestsRightly : Type 0
+RestsRightly = (s : Setting) (b : Build) (steps : List Step) (found : Found) → IsRun s b steps → IsAtRest s b steps found →
+    LeavesAtRest s b steps found

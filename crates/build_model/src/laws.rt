@@ -1,0 +1,71 @@
+//! The laws: each is the contract of a function that does nothing.
+ghost use Rattle.build_model.specs.Laws.{EachStepIsClean, HoldsForAnyDecider, EachOnlyOnce, SettledBeforeStart, NoneOverCycle, AtMostJobs, CoursesAreBuilds};
+ghost use Rattle.build_model.specs.Headline.{GraphsAreLawful, HighEnough, IncrementalIsClean, AgainLittle};
+ghost use Rattle.build_model.specs.Resting.{RestsRightly};
+ghost use Rattle.build_model.specs.Examples.{AreMet};
+
+/// At any status: what was found up to date or made has the clean content, dependencies and record; and what was started was
+/// needed and stale.
+pub fn each_step()
+    ensures { EachStepIsClean }
+{}
+
+/// Whatever the deciders are, a build that ended well settled what is needed, and started exactly what is due.
+pub fn any_decider()
+    ensures { HoldsForAnyDecider }
+{}
+
+/// A rule is started at most once.
+pub fn only_once()
+    ensures { EachOnlyOnce }
+{}
+
+/// All that a rule needs is settled when it is started.
+pub fn settled_before_start()
+    ensures { SettledBeforeStart }
+{}
+
+/// No build ends well over a cycle of needed rules.
+pub fn none_over_cycle()
+    ensures { NoneOverCycle }
+{}
+
+/// No more actions run than may.
+pub fn at_most_jobs()
+    ensures { AtMostJobs }
+{}
+
+/// What was seen at each moment is what stands at the end.
+pub fn courses_are_builds()
+    ensures { CoursesAreBuilds }
+{}
+
+/// Each rule of a graph has its place, a copy rule too.
+pub fn graphs_are_lawful()
+    ensures { GraphsAreLawful }
+{}
+
+/// A clean build is taken high enough.
+pub fn high_enough()
+    ensures { HighEnough }
+{}
+
+/// A build that ended well leaves what a build from sources alone makes, and started exactly what was stale, each once.
+pub fn incremental_is_clean()
+    ensures { IncrementalIsClean }
+{}
+
+/// The same build again starts only what is always carried out, and what doesn't make all its targets.
+pub fn again_little()
+    ensures { AgainLittle }
+{}
+
+/// Where nothing is left to do, each needed rule is settled, faulty, skipped or held.
+pub fn rests_rightly()
+    ensures { RestsRightly }
+{}
+
+/// What the headline asks is met: by a build of a source with a generated header from nothing, and by the next one.
+pub fn premises_are_met()
+    ensures { AreMet }
+{}

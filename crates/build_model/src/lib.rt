@@ -1,0 +1,11 @@
+//! What a build is, and what follows from that alone: the definitions by which promises about builds are stated, over plain
+//! lists and functions, and the laws that join the steps of a build to what a build from sources alone would make.
+#![tactic(auto)]
+
+mod laws;
+
+pub use laws::{
+    again_little, any_decider, at_most_jobs, courses_are_builds, each_step, graphs_are_lawful, high_enough,
+    incremental_is_clean, none_over_cycle, only_once, premises_are_met, rests_rightly,
+    settled_before_start,
+};
