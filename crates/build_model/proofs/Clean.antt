@@ -144,7 +144,7 @@ module _ (s : Setting) (b : Build) (lawful : IsLawful s) (sources : (p : Path) �
     no_file_before : {p : Path} → IsMissing s b.after p → b.before p ≡ None
     no_file_before {p} h = sources p h.no_rule ∙ h.no_file
 
-    missing_stuck : {p : Path} → IsMissing s b.after p → clean s b.before top p ≡ None
+    pub missing_stuck : {p : Path} → IsMissing s b.after p → clean s b.before top p ≡ None
     missing_stuck {p} h = source_stuck top p h.no_rule (no_file_before h)
 
     module _ (rules : List Rule) (agrees : Agrees s b rules (clean s b.before top)) (r : Rule) where

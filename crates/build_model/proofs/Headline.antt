@@ -14,6 +14,7 @@ use Rattle.build_model.proofs.Ready.{Agrees}
 use Rattle.build_model.proofs.Runs.{fresh_or_began, began_once, needs_before, needed_settled, no_cycle}
 use Rattle.build_model.proofs.Clean.{each_step_is_clean, settled_agrees}
 use Rattle.build_model.proofs.Placed.{lawful, high_enough}
+use Rattle.build_model.proofs.OneJob.{follows_order}
 
 unstamped_dependency : (s : Setting) (r : Rule) (view : View) (stamps : Stamps) (p : Path) → r.decider ≡ content →
     dependency_of s r view stamps p ≡ dependency_of s r view no_stamps p
@@ -95,6 +96,8 @@ module _ (g : Graph) (b : Build) (steps : List Step) (builds : BuildsByContent g
           (subst (λ l. Agrees Set b (settled l) (clean_build g b.before)) e agrees)
           (subst (λ l. IsRun Set b l) e builds.run) needs;
       no_cycle = λ r rs needed cycle. no_cycle Set b (clean_build g b.before) steps r rs builds.run agrees succeeds needed cycle;
+      one_job = λ one takes order is_order.
+          follows_order Set b (clean_build g b.before) steps order builds.run succeeds one takes agrees is_order;
     }
 
 -- The rules of a path are the same before and after a build, since it changes files of targets alone.

@@ -12,3 +12,6 @@ mod Headline
 mod Staying
 mod Resting
 mod Examples
+mod GoingOn
+mod Ordering
+mod OneJob

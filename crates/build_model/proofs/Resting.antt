@@ -6,7 +6,7 @@ use Rattle.build_model.specs.Contents.{in_tree, found_in}
 use Rattle.build_model.specs.Stale.{IsDue}
 use Rattle.build_model.specs.Steps.{Step, Fresh, Began, Ended, Lacks, Halts, Build, settled, began, done, IsReady, IsPrepared, IsRun, present_record}
 use Rattle.build_model.specs.Laws.{TestsDue}
-use Rattle.build_model.specs.Resting.{IsFaulty, has_failed, lacks_one, IsLeft, is_settled, is_faulty, waits, IsAtRest, IsSkipped, IsHeld, in_cycle, behind_cycle, EndsUp, as_settled, as_faulty, as_skipped, as_held, LeavesAtRest}
+use Rattle.build_model.specs.Resting.{IsFaulty, has_failed, lacks_one, IsLeft, is_settled, is_faulty, waits, IsAtRest, IsSkipped, IsHeld, in_cycle, behind_cycle, IsHindered, by_fault, by_skip, by_cycle, LeavesAtRest}
 use Rattle.build_model.proofs.Lists.{among_same}
 use Rattle.build_model.proofs.Ready.{needs_more, tree_agrees}
 use Rattle.build_model.proofs.Runs.{settled_done, begun_prepared, settled_prepared, fresh_of, fresh_or_began, decided_through, no_loop}
@@ -105,25 +105,28 @@ module _ (s : Setting) (b : Build) where
     moved {q = q} others needs (inr (inl e)) = inr (inr (directly (subst (λ y. Needs s.rule_of found y q) (sym e) needs)))
     moved others needs (inr (inr t)) = inr (inr (through_more t needs))
 
-    passed_on : {r q : Rule} → Needs s.rule_of found r q → (Among q (settled steps) → ⊥) → EndsUp s steps found q → EndsUp s steps found r
-    passed_on needs unsettled (as_settled m) = absurd (unsettled m)
-    passed_on {q = q} needs unsettled (as_faulty f) = as_skipped (record { other = q; needs = directly needs; faulty = f })
-    passed_on {q = q} needs unsettled (as_skipped h) =
-        as_skipped (record { other = h.other; needs = through q needs h.needs; faulty = h.faulty })
-    passed_on {q = q} needs unsettled (as_held (in_cycle c)) = as_held (behind_cycle q (directly needs) c)
-    passed_on {q = q} needs unsettled (as_held (behind_cycle x t c)) = as_held (behind_cycle x (through q needs t) c)
+    abbrev pub EndsUp : Rule → Type 0
+    EndsUp r = Among r (settled steps) ⊎ IsHindered s steps found r
+
+    passed_on : {r q : Rule} → Needs s.rule_of found r q → (Among q (settled steps) → ⊥) → EndsUp q → EndsUp r
+    passed_on needs unsettled (inl m) = absurd (unsettled m)
+    passed_on {q = q} needs unsettled (inr (by_fault f)) = inr (by_skip (record { other = q; needs = directly needs; faulty = f }))
+    passed_on {q = q} needs unsettled (inr (by_skip h)) =
+        inr (by_skip (record { other = h.other; needs = through q needs h.needs; faulty = h.faulty }))
+    passed_on {q = q} needs unsettled (inr (by_cycle (in_cycle c))) = inr (by_cycle (behind_cycle q (directly needs) c))
+    passed_on {q = q} needs unsettled (inr (by_cycle (behind_cycle x t c))) = inr (by_cycle (behind_cycle x (through q needs t) c))
 
     waiting_for : {r : Rule} (q : Rule) (l : List Rule) → Needs s.rule_of found r q → (Among q (settled steps) → ⊥) →
-        (Among q l → EndsUp s steps found q) → Among q l ⊎ ((q ≡ r) ⊎ Through q r) → EndsUp s steps found r
+        (Among q l → EndsUp q) → Among q l ⊎ ((q ≡ r) ⊎ Through q r) → EndsUp r
     waiting_for q l needs unsettled next (inl m) = passed_on needs unsettled (next m)
     waiting_for {r} q l needs unsettled next (inr (inl e)) =
-        as_held (in_cycle (directly (subst (λ y. Needs s.rule_of found r y) e needs)))
-    waiting_for q l needs unsettled next (inr (inr t)) = as_held (in_cycle (through q needs t))
+        inr (by_cycle (in_cycle (directly (subst (λ y. Needs s.rule_of found r y) e needs))))
+    waiting_for q l needs unsettled next (inr (inr t)) = inr (by_cycle (in_cycle (through q needs t)))
 
     left_over : {r : Rule} (l : List Rule) → IsNeeded r → ((q : Rule) → IsNeeded q → Among q l ⊎ ((q ≡ r) ⊎ Through q r)) →
-        ((q : Rule) → IsNeeded q → Needs s.rule_of found r q → Among q l → EndsUp s steps found q) → IsLeft s steps found r → EndsUp s steps found r
-    left_over l needed place next (is_settled m) = as_settled m
-    left_over l needed place next (is_faulty f) = as_faulty f
+        ((q : Rule) → IsNeeded q → Needs s.rule_of found r q → Among q l → EndsUp q) → IsLeft s steps found r → EndsUp r
+    left_over l needed place next (is_settled m) = inl m
+    left_over l needed place next (is_faulty f) = inr (by_fault f)
     left_over {r} l needed place next (waits q needs unsettled) =
         let needed_too = is_needed r needed needs in
         waiting_for q l needs unsettled (next q needed_too needs) (place q needed_too)
@@ -134,7 +137,7 @@ module _ (s : Setting) (b : Build) where
 
     -- Follow what isn't settled: each rule on the way is new, until one is faulty, or the way comes back to itself.
     followed : (n : ℕ) (l : List Rule) → length l ≡ n → (r : Rule) → IsNeeded r →
-        ((q : Rule) → IsNeeded q → Among q l ⊎ ((q ≡ r) ⊎ Through q r)) → EndsUp s steps found r
+        ((q : Rule) → IsNeeded q → Among q l ⊎ ((q ≡ r) ⊎ Through q r)) → EndsUp r
     followed zero l e r needed place =
         left_over l needed place (λ q needed_too needs m. none_there e m) (rest.left r needed)
     followed (suc n) l e r needed place =
@@ -145,7 +148,7 @@ module _ (s : Setting) (b : Build) where
         shorter : {a c d : ℕ} → a ≡ suc c → a ≡ suc d → d ≡ c
         shorter x y = omega arith
 
-    ends_up : (r : Rule) → IsNeeded r → EndsUp s steps found r
+    pub ends_up : (r : Rule) → IsNeeded r → EndsUp r
     ends_up r needed = followed (length rest.rules) rest.rules refl r needed (λ q q_needed. inl (rest.all q q_needed))
 
     began_if_due : {r : Rule} → TestsDue s b r → IsDue b.before b.stamps_before b.records r (present_record s b r) →

@@ -1,13 +1,14 @@
 -- An incremental build equals a clean build: what one that ended well leaves and did, by content, for a graph with copies.
 use Rattle.std.specs.Prelude.{◌≡◌, ◌⊎◌, ◌+◌, ◌*◌, ◌<◌, ◌++◌, true, List, ◌∷◌, length, Some, None}
 use Rattle.build_model.specs.Rules.{Path, Tree, Stamps, Rule, Record, Among}
-use Rattle.build_model.specs.Needs.{IsCycle}
+use Rattle.build_model.specs.Needs.{IsCycle, IsBuildOrder}
 use Rattle.build_model.specs.Contents.{IsKnown, found_in, IsLawful, height}
 use Rattle.build_model.specs.Records.{record_of}
 use Rattle.build_model.specs.Stale.{IsStale}
 use Rattle.build_model.specs.Steps.{Step, Began, Build, settled, present_record, IsRun, Succeeds}
 use Rattle.build_model.specs.Graphs.{Graph, IsGraph, setting, rule_at, clean_build}
 use Rattle.build_model.specs.Laws.{NeededIn, NeedsIn, IsByContent, StartsExactly}
+use Rattle.build_model.specs.OneJob.{TakesFirst, FollowsOrder}
 
 abbrev pub no_stamps : Stamps
 no_stamps p = None
@@ -31,6 +32,7 @@ pub record BuildsByContent (g : Graph) (b : Build) (steps : List Step) : Type 0 
   pub sources : (p : Path) → rule_at g b.before p ≡ None → b.before p ≡ b.after p
   pub run : IsRun (setting g b.before) b steps
 
+-- What such a build left and did.
 pub record IsBuilt (g : Graph) (b : Build) (steps : List Step) : Type 0 where
   -- each target of a needed rule is as in the clean build, and so is each requested path that is known
   pub targets : (r : Rule) → IsNeeded g b r → (p : Path) → Among p r.targets → clean_build g b.before p ≡ Some (b.after p)
@@ -45,6 +47,10 @@ pub record IsBuilt (g : Graph) (b : Build) (steps : List Step) : Type 0 where
   -- and no needed rule waits for itself
   pub no_cycle : (r : Rule) (rs : List Rule) → IsNeeded g b r →
       IsCycle (rule_at g b.before) (found_in (setting g b.before) (clean_build g b.before)) (r ∷ rs) → ⊥
+  -- at one job rules began in the build order
+  pub one_job : b.jobs ≡ 1 → TakesFirst (setting g b.before) b steps → (order : List Rule) →
+      IsBuildOrder (rule_at g b.before) g.limit (found_in (setting g b.before) (clean_build g b.before)) b.requested order →
+      FollowsOrder order steps
 
 abbrev pub IncrementalIsClean : Type 0
 IncrementalIsClean = (g : Graph) (b : Build) (steps : List Step) → BuildsByContent g b steps → Succeeds (setting g b.before) b steps →

@@ -8,6 +8,7 @@ pub mod Steps
 pub mod Moments
 pub mod Graphs
 pub mod Laws
-pub mod Headline
 pub mod Resting
+pub mod OneJob
+pub mod Headline
 pub mod Examples

@@ -1,11 +1,12 @@
 -- A build that goes on after faults, where nothing is left to do: why each rule that isn't settled then isn't.
-use Rattle.std.specs.Prelude.{◌≡◌, ◌⊎◌, false, List, []}
+use Rattle.std.specs.Prelude.{◌≡◌, ◌⊎◌, ℕ, ◌<◌, false, List, [], Some}
 use Rattle.build_model.specs.Rules.{Path, Rule, Setting, Among}
 use Rattle.build_model.specs.Needs.{Found, Needs, NeedsThrough, Needed}
-use Rattle.build_model.specs.Contents.{in_tree, found_in}
-use Rattle.build_model.specs.Stale.{IsDue}
+use Rattle.build_model.specs.Contents.{View, in_tree, found_in, clean, height}
+use Rattle.build_model.specs.Records.{record_of}
+use Rattle.build_model.specs.Stale.{IsDue, IsStale}
 use Rattle.build_model.specs.Steps.{Step, Ended, Lacks, Build, settled, began, IsReady, IsRun, present_record}
-use Rattle.build_model.specs.Laws.{TestsDue}
+use Rattle.build_model.specs.Laws.{TestsDue, IsBuild, IsByContent}
 
 -- a rule's action ended otherwise than well, or the rule lacks a dependency
 pub data IsFaulty (steps : List Step) (r : Rule) : Type 0 where
@@ -43,17 +44,16 @@ pub data IsHeld (s : Setting) (found : Found) (r : Rule) : Type 0 where
   in_cycle : NeedsThrough s.rule_of found r r → IsHeld s found r
   behind_cycle : (x : Rule) → NeedsThrough s.rule_of found r x → NeedsThrough s.rule_of found x x → IsHeld s found r
 
--- what became of a rule
-pub data EndsUp (s : Setting) (steps : List Step) (found : Found) (r : Rule) : Type 0 where
-  as_settled : Among r (settled steps) → EndsUp s steps found r
-  as_faulty : IsFaulty steps r → EndsUp s steps found r
-  as_skipped : IsSkipped s steps found r → EndsUp s steps found r
-  as_held : IsHeld s found r → EndsUp s steps found r
+-- what keeps a rule from being settled
+pub data IsHindered (s : Setting) (steps : List Step) (found : Found) (r : Rule) : Type 0 where
+  by_fault : IsFaulty steps r → IsHindered s steps found r
+  by_skip : IsSkipped s steps found r → IsHindered s steps found r
+  by_cycle : IsHeld s found r → IsHindered s steps found r
 
 -- What is left at rest: each needed rule is settled, faulty, skipped or held; one that is due was started, unless it is
 -- one of the latter; and what is faulty, skipped or held is not settled, nor was what is skipped or held started.
 pub record LeavesAtRest (s : Setting) (b : Build) (steps : List Step) (found : Found) : Type 0 where
-  pub ends_up : (r : Rule) → Needed s.rule_of found b.requested r → EndsUp s steps found r
+  pub ends_up : (r : Rule) → Needed s.rule_of found b.requested r → Among r (settled steps) ⊎ IsHindered s steps found r
   pub due_began : (r : Rule) → Among r (settled steps) → TestsDue s b r →
       IsDue b.before b.stamps_before b.records r (present_record s b r) → Among r (began steps)
   pub faulty : (r : Rule) → IsFaulty steps r → Among r (settled steps) → ⊥
@@ -63,3 +63,30 @@ pub record LeavesAtRest (s : Setting) (b : Build) (steps : List Step) (found : F
 abbrev pub RestsRightly : Type 0
 RestsRightly = (s : Setting) (b : Build) (steps : List Step) (found : Found) → IsRun s b steps → IsAtRest s b steps found →
     LeavesAtRest s b steps found
+
+-- a target of a rule that is hindered
+pub record IsOut (s : Setting) (steps : List Step) (found : Found) (p : Path) : Type 0 where
+  pub rule : Rule
+  pub is_rule : s.rule_of p ≡ Some rule
+  pub why : IsHindered s steps found rule
+
+-- What files include where the contents are these, with the targets of hindered rules taken out: they aren't scanned.
+abbrev pub IsTakenOut : Setting → View → List Step → Found → Found → Type 0
+IsTakenOut s view steps found taken = (r : Rule) (p : Path) →
+    (IsOut s steps found p × (taken r p ≡ [])) ⊎ ((IsOut s steps found p → ⊥) × (taken r p ≡ found_in s view r p))
+
+-- A build that went on after faults and came to rest, by the clean contents with the targets of hindered rules taken out.
+pub record GoesOn (s : Setting) (b : Build) (view : View) (steps : List Step) (found taken : Found) : Type 0 where
+  -- what is needed so was needed at rest
+  pub needed : (r : Rule) → Needed s.rule_of taken b.requested r → Needed s.rule_of found b.requested r
+  -- one that is stale was started, or is faulty, skipped or held
+  pub stale : (r : Rule) → Needed s.rule_of taken b.requested r → IsStale b.before b.records r (record_of s r view b.stamps_after) →
+      Among r (began steps) ⊎ IsHindered s steps found r
+  -- and one that needs a faulty rule so is skipped
+  pub skipped : (r q : Rule) → Needed s.rule_of taken b.requested r → NeedsThrough s.rule_of taken r q → IsFaulty steps q →
+      IsSkipped s steps found r
+
+abbrev pub KeepsGoing : Type 0
+KeepsGoing = (s : Setting) (b : Build) (steps : List Step) (found taken : Found) (top : ℕ) → IsBuild s b steps → IsByContent s b top →
+    height (settled steps) < top → IsAtRest s b steps found → IsTakenOut s (clean s b.before top) steps found taken →
+    GoesOn s b (clean s b.before top) steps found taken

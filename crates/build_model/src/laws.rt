@@ -1,7 +1,8 @@
 //! The laws: each is the contract of a function that does nothing.
 ghost use Rattle.build_model.specs.Laws.{EachStepIsClean, HoldsForAnyDecider, EachOnlyOnce, SettledBeforeStart, NoneOverCycle, AtMostJobs, CoursesAreBuilds};
 ghost use Rattle.build_model.specs.Headline.{GraphsAreLawful, HighEnough, IncrementalIsClean, AgainLittle};
-ghost use Rattle.build_model.specs.Resting.{RestsRightly};
+ghost use Rattle.build_model.specs.Resting.{RestsRightly, KeepsGoing};
+ghost use Rattle.build_model.specs.OneJob.{AtOneJob};
 ghost use Rattle.build_model.specs.Examples.{AreMet};
 
 /// At any status: what was found up to date or made has the clean content, dependencies and record; and what was started was
@@ -35,6 +36,11 @@ pub fn at_most_jobs()
     ensures { AtMostJobs }
 {}
 
+/// At one job a build that ended well followed the build order.
+pub fn at_one_job()
+    ensures { AtOneJob }
+{}
+
 /// What was seen at each moment is what stands at the end.
 pub fn courses_are_builds()
     ensures { CoursesAreBuilds }
@@ -63,6 +69,12 @@ pub fn again_little()
 /// Where nothing is left to do, each needed rule is settled, faulty, skipped or held.
 pub fn rests_rightly()
     ensures { RestsRightly }
+{}
+
+/// A build that goes on after faults: by the clean contents with the targets of hindered rules taken out, each rule that is
+/// needed and stale was started, or is faulty, skipped or held.
+pub fn keeps_going()
+    ensures { KeepsGoing }
 {}
 
 /// What the headline asks is met: by a build of a source with a generated header from nothing, and by the next one.
