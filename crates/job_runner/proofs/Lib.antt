@@ -1,0 +1,4 @@
+pub mod Same
+pub mod Replays
+pub mod Places
+pub mod Found

@@ -1,0 +1,4 @@
+pub mod Seats
+pub mod Replay
+pub mod Slips
+pub mod Lists
