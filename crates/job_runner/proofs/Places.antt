@@ -5,7 +5,7 @@ use Rattle.std.specs.Prelude.{◌&&◌, ◌⊎◌}
 use Rattle.std.proofs.lemmas.Bool.{cases_order, and_parts}
 use Rattle.job_runner.specs.Seats.{Seats, End, times, times_ended, places_of, EachOnce, no_slips, outcome_eq}
 use Rattle.job_runner.specs.Replay.{behind, without, behind_end, after, after_some, replay_on, replay_of}
-use Rattle.job_runner.specs.declared.entry.Taken as taken
+use Rattle.job_runner.specs.declared.entry.Numbered as taken
 use Rattle.job_runner.specs.declared.change.Change.{Change}
 use Rattle.job_runner.specs.declared.change.Change.TheVariants.{HandedIn, Taken, Ended, Picked}
 
@@ -115,16 +115,16 @@ pub each_once : (cs : List Change) (t : Seats) → replay_of cs ≡ Some t → E
 unfolding places_of replay_of
 each_once cs t e = replay_once cs (Some no_slips) t (λ s f. let empty : no_slips ≡ s = cc in subst EachOnce empty (λ m. rw (le-ltb m 0 (omega arith)) refl)) e
 
-abbrev numbers_of : List taken.Taken → List ℕ
-numbers_of t = map (λ (x : taken.Taken). x.number) t
+abbrev numbers_of : List taken.Numbered → List ℕ
+numbers_of t = map (λ (x : taken.Numbered). x.number) t
 
-stands : (n : ℕ) (t : List taken.Taken) (k : ℕ) (d : taken.Taken) → k < length t → (get_or t k d).number ≡ n → 0 < times n (numbers_of t)
+stands : (n : ℕ) (t : List taken.Numbered) (k : ℕ) (d : taken.Numbered) → k < length t → (get_or t k d).number ≡ n → 0 < times n (numbers_of t)
 stands n [] k d inside at = absurd (omega arith)
 stands n (x ∷ t) zero d inside at = rw (eq-eqb x.number n at) (omega arith)
 stands n (x ∷ t) (suc k) d inside at = let later = stands n t k d (omega arith) at in omega arith
 
 -- a number that stands in a list once at most has one place there
-pub one_place : (n : ℕ) (t : List taken.Taken) (j k : ℕ) (d : taken.Taken) → times n (numbers_of t) ≤ 1 → j < length t → k < length t
+pub one_place : (n : ℕ) (t : List taken.Numbered) (j k : ℕ) (d : taken.Numbered) → times n (numbers_of t) ≤ 1 → j < length t → k < length t
     → (get_or t j d).number ≡ n → (get_or t k d).number ≡ n → j ≡ k
 one_place n [] j k d few in_j in_k at_j at_k = absurd (omega arith)
 one_place n (x ∷ t) zero zero d few in_j in_k at_j at_k = refl

@@ -13,7 +13,7 @@ use Rattle.job_runner.specs.Slips.{seats_of, end_of}
 use Rattle.job_runner.specs.declared.change.Change.{Change}
 use Rattle.job_runner.specs.declared.change.Change.TheVariants.{HandedIn, Taken, Ended, Picked}
 use Rattle.job_runner.specs.declared.entry.Waiting as waiting
-use Rattle.job_runner.specs.declared.entry.Taken as taken
+use Rattle.job_runner.specs.declared.entry.Numbered as taken
 use Rattle.job_runner.specs.declared.entry.Ended as ended
 
 replay_on_snoc : (s : Option Seats) (cs : List Change) (c : Change) → replay_on s (cs ++ c ∷ []) ≡ after_some c (replay_on s cs)
@@ -36,7 +36,7 @@ number_snoc : (w : List waiting.Waiting) (entry : waiting.Waiting) (n : ℕ) →
 number_snoc [] entry n is = ap (λ k. k ∷ []) is
 number_snoc (x ∷ w) entry n is = ap (λ (ks : List ℕ). x.number ∷ ks) (number_snoc w entry n is)
 
-taken_snoc : (w : List taken.Taken) (entry : taken.Taken) (n : ℕ) → entry.number ≡ n → map (λ (x : taken.Taken). x.number) (w ++ entry ∷ []) ≡ map (λ (x : taken.Taken). x.number) w ++ n ∷ []
+taken_snoc : (w : List taken.Numbered) (entry : taken.Numbered) (n : ℕ) → entry.number ≡ n → map (λ (x : taken.Numbered). x.number) (w ++ entry ∷ []) ≡ map (λ (x : taken.Numbered). x.number) w ++ n ∷ []
 taken_snoc [] entry n is = ap (λ k. k ∷ []) is
 taken_snoc (x ∷ w) entry n is = ap (λ (ks : List ℕ). x.number ∷ ks) (taken_snoc w entry n is)
 
@@ -48,14 +48,14 @@ unpicked : (cs : List Change) (c : Change) → pick_of c ≡ [] → picked_of (c
 unpicked cs c none = picked_next cs c ∙ (ap (λ (xs : List End). picked_of cs ++ xs) none ∙ append-nil (picked_of cs))
 
 -- a slip was handed in
-pub handed_in_next : (n : ℕ) (w : List waiting.Waiting) (t : List taken.Taken) (e : List ended.Ended) (cs : List Change) (entry : waiting.Waiting) → replay_of cs ≡ Some (seats_of n w t e cs)
+pub handed_in_next : (n : ℕ) (w : List waiting.Waiting) (t : List taken.Numbered) (e : List ended.Ended) (cs : List Change) (entry : waiting.Waiting) → replay_of cs ≡ Some (seats_of n w t e cs)
     → entry.number ≡ n → replay_of (cs ++ HandedIn n ∷ []) ≡ Some (seats_of (n + 1) (w ++ entry ∷ []) t e (cs ++ HandedIn n ∷ []))
 handed_in_next n w t e cs entry r is =
     replay_next cs (HandedIn n) (seats_of n w t e cs) (seats_of (n + 1) (w ++ entry ∷ []) t e (cs ++ HandedIn n ∷ [])) r
     (rw (number_snoc w entry n is, unpicked cs (HandedIn n) refl, eq-eqb n n refl) refl)
 
 -- the oldest slip was taken
-pub taken_next : (n h : ℕ) (w w' : List waiting.Waiting) (t : List taken.Taken) (e : List ended.Ended) (cs : List Change) (oldest : waiting.Waiting) (entry : taken.Taken)
+pub taken_next : (n h : ℕ) (w w' : List waiting.Waiting) (t : List taken.Numbered) (e : List ended.Ended) (cs : List Change) (oldest : waiting.Waiting) (entry : taken.Numbered)
     → replay_of cs ≡ Some (seats_of h w t e cs) → w ≡ oldest ∷ w' → oldest.number ≡ n → entry.number ≡ n
     → replay_of (cs ++ Taken n ∷ []) ≡ Some (seats_of h w' (t ++ entry ∷ []) e (cs ++ Taken n ∷ []))
 taken_next n h w w' t e cs oldest entry r front is is' =
@@ -69,7 +69,7 @@ outcome_same Broken = refl
 outcome_same NoMemory = refl
 
 -- the oldest ending was picked
-pub picked_end_next : (n h : ℕ) (o : Outcome) (w : List waiting.Waiting) (t : List taken.Taken) (e e' : List ended.Ended) (cs : List Change) (oldest : ended.Ended)
+pub picked_end_next : (n h : ℕ) (o : Outcome) (w : List waiting.Waiting) (t : List taken.Numbered) (e e' : List ended.Ended) (cs : List Change) (oldest : ended.Ended)
     → replay_of cs ≡ Some (seats_of h w t e cs) → e ≡ oldest ∷ e' → oldest.number ≡ n → oldest.ending.outcome ≡ o
     → replay_of (cs ++ Picked n o ∷ []) ≡ Some (seats_of h w t e' (cs ++ Picked n o ∷ []))
 picked_end_next n h o w t e e' cs oldest r front is as_ended =
@@ -77,15 +77,15 @@ picked_end_next n h o w t e e' cs oldest r front is as_ended =
     (rw (picked_next cs (Picked n o), front, is, as_ended, eq-eqb n n refl, outcome_same o) refl)
 
 -- a taken slip, found by its number, is taken out
-without_at : (n : ℕ) (t : List taken.Taken) (place : ℕ) (d : taken.Taken) → place < length t → (get_or t place d).number ≡ n → ((k : ℕ) → k < place → (get_or t k d).number ≢ n)
-    → without n (map (λ (x : taken.Taken). x.number) t) ≡ Some (map (λ (x : taken.Taken). x.number) (remove t place))
+without_at : (n : ℕ) (t : List taken.Numbered) (place : ℕ) (d : taken.Numbered) → place < length t → (get_or t place d).number ≡ n → ((k : ℕ) → k < place → (get_or t k d).number ≢ n)
+    → without n (map (λ (x : taken.Numbered). x.number) t) ≡ Some (map (λ (x : taken.Numbered). x.number) (remove t place))
 without_at n [] place d inside is none = absurd (omega arith)
 without_at n (x ∷ t) zero d inside is none = rw (eq-eqb x.number n is) refl
 without_at n (x ∷ t) (suc k) d inside is none =
     rw (ne_eqb x.number n (none 0 (omega arith)), without_at n t k d (omega arith) is (λ j lt. none (suc j) (omega arith))) refl
 
 -- an ending took the place of its slip
-pub ended_next : (n h : ℕ) (o : Outcome) (w : List waiting.Waiting) (t : List taken.Taken) (e : List ended.Ended) (cs : List Change) (place : ℕ) (d : taken.Taken) (entry : ended.Ended)
+pub ended_next : (n h : ℕ) (o : Outcome) (w : List waiting.Waiting) (t : List taken.Numbered) (e : List ended.Ended) (cs : List Change) (place : ℕ) (d : taken.Numbered) (entry : ended.Ended)
     → replay_of cs ≡ Some (seats_of h w t e cs) → place < length t → (get_or t place d).number ≡ n → ((k : ℕ) → k < place → (get_or t k d).number ≢ n)
     → entry.number ≡ n → entry.ending.outcome ≡ o
     → replay_of (cs ++ Ended n o ∷ []) ≡ Some (seats_of h w (remove t place) (e ++ entry ∷ []) (cs ++ Ended n o ∷ []))

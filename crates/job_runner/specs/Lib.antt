@@ -2,3 +2,5 @@ pub mod Seats
 pub mod Replay
 pub mod Slips
 pub mod Lists
+pub mod Answers
+pub mod Outs

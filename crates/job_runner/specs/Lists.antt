@@ -2,6 +2,7 @@
 use Rattle.std.specs.Prelude.{◌≡◌, ◌+◌, ℕ, List, [], ◌∷◌, ◌++◌, Some, map, slice_get}
 use Rattle.std.specs.Arc.{arc_value}
 use Rattle.std.specs.List.{remove}
+use Rattle.job_runner.specs.Slips.{slip_of}
 use Rattle.job_runner.specs.declared.slip.Slip.{Slip}
 use Rattle.job_runner.specs.declared.slip.Ending.{Ending}
 use Rattle.job_runner.specs.declared.change.Change.{Change}
@@ -20,7 +21,7 @@ abbrev pub lists_of : Board → Lists
 lists_of board = record {
   handed_in = board.handed_in;
   waiting = map (λ entry. (entry.number, arc_value entry.slip)) board.waiting.items;
-  taken = map (λ entry. (entry.number, arc_value entry.slip)) board.taken.items;
+  taken = map slip_of board.taken.items;
   ended = map (λ entry. (entry.number, entry.ending)) board.ended.items;
   history = board.history.items;
 }

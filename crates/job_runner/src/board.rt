@@ -1,5 +1,5 @@
 //! The board of one thread: slips that wait, slips that are taken, and endings that wait, with the history of its changes.
-ghost use Rattle.std.specs.Prelude.{◌≡◌, ◌==◌, ◌+◌, ◌*◌, ◌≤◌, Some, position, vec_len};
+ghost use Rattle.std.specs.Prelude.{◌≡◌, ◌+◌, ◌*◌, ◌≤◌, Some, vec_len};
 ghost use Rattle.std.specs.Vec.{vec_capacity};
 ghost use Rattle.std.specs.VecDeque.{deque_len, deque_capacity};
 ghost use Rattle.job_runner.specs.Replay.{replay_of};
@@ -7,7 +7,7 @@ ghost use Rattle.job_runner.specs.Seats.{EachOnce};
 ghost use Rattle.job_runner.specs.Slips.{seats_of};
 
 use crate::change::Change;
-use crate::entry::{Ended, Taken, Waiting};
+use crate::entry::{Ended, Numbered, Waiting, place_of_number};
 use crate::room::{add, add_last};
 use crate::slip::{Ending, Slip};
 use scons_base::Memory;
@@ -22,7 +22,7 @@ use std::sync::Arc;
 #[derive(Drop)]
 pub struct Board {
     waiting: VecDeque<Waiting>,
-    taken: Vec<Taken>,
+    taken: Vec<Numbered>,
     ended: VecDeque<Ended>,
     handed_in: u64,
     history: Vec<Change>,
@@ -38,7 +38,6 @@ impl Board {
     ghost use Rattle.std.specs.Prelude.{◌≢◌, ◌++◌, ◌∷◌, ◌<◌, [], ℕ, None, IfOk, IfErr, IfNone, IfSome, OnOk, OnErr, MatchOption, Contains, slice_get};
     ghost use Rattle.std.specs.Arc.{arc_value};
     ghost use Rattle.job_runner.specs.Lists.{lists_of, HandsIn, Takes, Puts, Picks};
-    ghost use Rattle.job_runner.specs.declared.entry.Taken.{Taken};
 
     #[tactic(auto, using(crate::proofs::Replays::replay_none_yet, crate::proofs::Places::each_once))]
     pub fn new(alloc: Global) -> Board
@@ -113,7 +112,7 @@ impl Board {
             slip,
             handle,
         } = oldest;
-        add(&mut self.taken, Taken { number, slip });
+        add(&mut self.taken, Numbered { number, slip });
         add(&mut self.history, Change::Taken(number));
         Some((number, handle))
     }
@@ -169,11 +168,4 @@ impl Board {
         add(&mut self.history, Change::Picked(number, ending.outcome));
         Some((number, ending))
     }
-}
-
-/// The first place of a taken slip with this number.
-fn place_of_number(taken: &[Taken], number: u64) -> Option<usize>
-    ensures { result ≡ position (λ entry. entry.number == number) taken.now }
-{
-    taken.iter().position(|entry| entry.number == number)
 }

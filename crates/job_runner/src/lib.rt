@@ -6,6 +6,7 @@
 
 mod board;
 mod change;
+mod desk;
 mod entry;
 mod pool;
 mod room;
