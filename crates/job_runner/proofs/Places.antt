@@ -9,7 +9,6 @@ use Rattle.job_runner.specs.declared.entry.Numbered as taken
 use Rattle.job_runner.specs.declared.change.Change.{Change}
 use Rattle.job_runner.specs.declared.change.Change.TheVariants.{HandedIn, Taken, Ended, Picked}
 
-
 abbrev hit : ℕ → ℕ → ℕ
 hit x n = cond (eqb x n) 1 0
 
@@ -64,9 +63,9 @@ below_more m h =
     elim (cases_order m h) [
       | inl same ↦ rw (lt-ltb m (h + 1) (omega arith), le-ltb m h (omega arith), eq-eqb h m (sym same)) refl
       | inr apart ↦ elim apart [
-          | inl less ↦ rw (lt-ltb m (h + 1) (omega arith), lt-ltb m h less, ne_eqb h m (omega arith)) refl
-          | inr more ↦ rw (le-ltb m (h + 1) (omega arith), le-ltb m h (omega arith), ne_eqb h m (omega arith)) refl
-        ]
+        | inl less ↦ rw (lt-ltb m (h + 1) (omega arith), lt-ltb m h less, ne_eqb h m (omega arith)) refl
+        | inr more ↦ rw (le-ltb m (h + 1) (omega arith), le-ltb m h (omega arith), ne_eqb h m (omega arith)) refl
+      ]
     ]
 
 at_most_one : (b : Bool) → cond b 1 0 ≤ 1
@@ -85,7 +84,7 @@ after_once (HandedIn n) s t once e =
     let same = eqb-true n s.handed_in parts.0 in
     subst EachOnce parts.1
     (λ m. let was = once m in let more = times_snoc m s.waiting n in let bound = below_more m s.handed_in in
-      let hits : hit n m ≡ hit s.handed_in m = ap (λ k. hit k m) same in omega arith)
+    let hits : hit n m ≡ hit s.handed_in m = ap (λ k. hit k m) same in omega arith)
 after_once (Taken n) s t once e =
     let parts = mapped (λ rest. record s { waiting = rest; taken = s.taken ++ n ∷ [] }) (behind n s.waiting) t e in
     subst EachOnce parts.2

@@ -10,7 +10,10 @@ use std::io;
 fn main(rt: HostRuntime) -> io::Result<()> {
     let alloc = rt.alloc();
     match rounds::run(alloc, rt) {
-        Ok(tally) => println!(rt; "{} endings, {} of them not their job's own", tally.endings, tally.strange)?,
+        Ok(tally) => println!(rt;
+            "{} endings, {} of them not their job's own",
+            tally.endings, tally.strange
+        )?,
         Err(_) => println!(rt; "rounds: out of memory")?,
     }
     match meeting::run(alloc, rt) {

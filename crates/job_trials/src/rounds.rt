@@ -10,7 +10,9 @@ use std::thread::Threads;
 use world_api::{Job, Outcome, Work};
 
 const ROUNDS: u32 = 100;
+
 const JOBS: u32 = 1000;
+
 const MOST: usize = 64;
 
 /// How many endings came, and how many of them were another job's, came twice or had another outcome.
@@ -93,11 +95,7 @@ fn round<T: Wait>(
     Ok(())
 }
 
-fn take_one<T: Wait>(
-    pool: &mut Pool<T, Teller, NoGate>,
-    seen: &mut Vec<bool>,
-    tally: &mut Tally,
-) {
+fn take_one<T: Wait>(pool: &mut Pool<T, Teller, NoGate>, seen: &mut Vec<bool>, tally: &mut Tally) {
     let ending = pool.next_end();
     let id = ending.slip.job.id;
     tally.endings = tally.endings.saturating_add(1);

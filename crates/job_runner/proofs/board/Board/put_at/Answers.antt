@@ -13,7 +13,7 @@ invariant_of-self-clause-replays c =
     let few = one_taken _ c.args.number board.once in
     rw (c.remove.ensures.items, c.add_last.ensures.items, c.add.ensures.items)
     (ended_next c.args.number _ _ board.waiting.items board.taken.items board.ended.items board.history.items c.args.place c.remove.result _ board.replays inside at
-      (none_before board.taken.items c.args.place c.args.number c.remove.result few inside at) refl refl)
+    (none_before board.taken.items c.args.place c.args.number c.remove.result few inside at) refl refl)
 
 pub invariant_of-self-clause-once : goal.invariant_of-self-clause-once
 invariant_of-self-clause-once c = each_once _ _ (invariant_of-self-clause-replays c)
