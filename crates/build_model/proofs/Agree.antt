@@ -1,13 +1,14 @@
 -- What agrees on the dependencies of a rule gives the same dependencies, contents and record.
-use Rattle.std.proofs.Common.{◌≡◌, ℕ, zero, suc, if◌then◌else◌, List, [], ◌∷◌, ◌++◌, Some, map, refl, sym, ap, ◌∙◌}
+use Rattle.std.proofs.Common.{◌≡◌, ℕ, zero, suc, List, [], ◌∷◌, ◌++◌, Some, map, refl, sym, ap, ◌∙◌}
 use Rattle.build_model.specs.Rules.{Path, Tree, Stamps, Rule, Setting, Among, here, there}
-use Rattle.build_model.specs.Reach.{unseen, breadth_first, declared, left_out}
-use Rattle.build_model.specs.Contents.{View, in_tree, found_in, includes_of, dependencies, contents_in, with_known, act_on, made}
+use Rattle.build_model.specs.Reach.{unseen, breadth_first, declared, left_out, first_scanned, scan_list, reach}
+use Rattle.build_model.specs.Contents.{View, in_tree, found_in, includes_of, scanned_files, dependencies, contents_in, with_known, act_on, made}
 use Rattle.build_model.specs.Records.{record_of, dependency_of, known_digest, stamp_kept}
 use Rattle.build_model.specs.Steps.{contents_of}
 use Rattle.build_model.proofs.Lists.{same_map}
+use Rattle.build_model.proofs.Whole.{listed_in_reach}
 
-pub breadth_first_agrees : (f g : Path → List Path) (n : ℕ) (seen waiting : List Path) →
+breadth_first_agrees : (f g : Path → List Path) (n : ℕ) (seen waiting : List Path) →
     ((p : Path) → Among p (breadth_first f n seen waiting) → f p ≡ g p) → breadth_first g n seen waiting ≡ breadth_first f n seen waiting
 breadth_first_agrees f g zero seen waiting h = refl
 breadth_first_agrees f g (suc n) seen [] h = refl
@@ -24,11 +25,25 @@ pub contents_in_tree : (t : Tree) (ps : List Path) → contents_in (in_tree t) p
 contents_in_tree t [] = refl
 contents_in_tree t (p ∷ ps) = ap (with_known p (Some (t p))) (contents_in_tree t ps)
 
+-- what agrees on the dependencies of a rule gives the same files that are scanned, and the same dependencies
+pub same_scan : (limit : ℕ) (f g : Path → List Path) (r : Rule) → ((p : Path) → Among p (reach limit f r) → f p ≡ g p) →
+    scan_list limit g r ≡ scan_list limit f r
+same_scan limit f g r h =
+    breadth_first_agrees f g limit (first_scanned r ++ left_out r) (first_scanned r) (λ p m. h p (listed_in_reach f r limit m))
+
+pub same_reach : (limit : ℕ) (f g : Path → List Path) (r : Rule) → ((p : Path) → Among p (reach limit f r) → f p ≡ g p) →
+    reach limit g r ≡ reach limit f r
+same_reach limit f g r h = ap (λ l. declared r ++ unseen (declared r ++ left_out r) l) (same_scan limit f g r h)
+
 module _ (s : Setting) (r : Rule) (v w : View) (h : (p : Path) → Among p (dependencies s v r) → v p ≡ w p) where
+  same_found_in : (p : Path) → Among p (dependencies s v r) → found_in s v r p ≡ found_in s w r p
+  same_found_in p m = ap (includes_of (s.includes r p)) (h p m)
+
+  pub same_scanned : scanned_files s w r ≡ scanned_files s v r
+  same_scanned = same_scan s.limit (found_in s v r) (found_in s w r) r same_found_in
+
   pub same_dependencies : dependencies s w r ≡ dependencies s v r
-  same_dependencies =
-      breadth_first_agrees (found_in s v r) (found_in s w r) s.limit (declared r ++ left_out r) (declared r)
-      (λ p m. ap (λ x. if s.scans r p then includes_of (s.includes r p) x else []) (h p m))
+  same_dependencies = same_reach s.limit (found_in s v r) (found_in s w r) r same_found_in
 
   pub same_made : (p : Path) → made s w r p ≡ made s v r p
   same_made p =

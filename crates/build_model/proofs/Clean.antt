@@ -1,14 +1,13 @@
 -- What a settled rule makes is the clean content, at a height that counts the settled rules.
-use Rattle.std.proofs.Common.{◌≡◌, ◌<◌, ◌≤◌, ℕ, zero, suc, Bool, true, false, if◌then◌else◌, List, [], ◌∷◌, ◌++◌, Some, None, refl, sym, subst, ap, ◌∙◌, inl, inr, ◌⊎◌, arith}
+use Rattle.std.proofs.Common.{◌≡◌, ◌<◌, ◌≤◌, ℕ, zero, suc, Bool, true, false, if◌then◌else◌, List, [], ◌∷◌, Some, None, refl, sym, subst, ap, ◌∙◌, inl, inr, ◌⊎◌, arith}
 use Rattle.build_model.specs.Rules.{Path, Bytes, Rule, Setting, Among, here, there}
 use Rattle.build_model.specs.Contents.{in_tree, found_in, includes_of, dependencies, made, by_rule, source_content, clean, height, IsLawful}
-use Rattle.build_model.specs.Reach.{declared, left_out}
 use Rattle.build_model.specs.Records.{record_of}
 use Rattle.build_model.specs.Stale.{IsStale, IsUpToDate}
 use Rattle.build_model.specs.Steps.{Step, Fresh, Began, Ended, Lacks, Halts, Build, settled, began, IsReady, is_source, is_made, IsMissing, IsFirstMissing, IsWanted, IsPrepared, IsFresh, IsMade, IsRun, present_dependencies, present_record}
 use Rattle.build_model.specs.Laws.{IsByContent, NeededIn, IsClean, IsFirstStuck, EachStep, IsBuild}
 use Rattle.build_model.proofs.Lists.{among_either, among_same}
-use Rattle.build_model.proofs.Agree.{breadth_first_agrees, same_made, made_in_tree}
+use Rattle.build_model.proofs.Agree.{same_reach, same_made, made_in_tree}
 use Rattle.build_model.proofs.Heights.{higher_le, level, level_le, level_more, height_more}
 use Rattle.build_model.proofs.Ready.{needed_place, Agrees, wanted_needed, prepared_dependencies, prepared_record}
 use Rattle.build_model.proofs.Runs.{begun_prepared, settled_prepared, began_due, fresh_of, fresh_settled}
@@ -150,10 +149,10 @@ module _ (s : Setting) (b : Build) (lawful : IsLawful s) (sources : (p : Path) �
     module _ (rules : List Rule) (agrees : Agrees s b rules (clean s b.before top)) (r : Rule) where
       same_found : {q : Path} → IsReady s b.after rules q ⊎ IsMissing s b.after q →
           found_in s (in_tree b.after) r q ≡ found_in s (clean s b.before top) r q
-      same_found {q} (inl ready) = ap (λ k. if s.scans r q then includes_of (s.includes r q) k else []) (sym (agrees q ready))
+      same_found {q} (inl ready) = ap (λ k. includes_of (s.includes r q) k) (sym (agrees q ready))
       same_found {q} (inr missing) =
-          ap (λ c. if s.scans r q then includes_of (s.includes r q) (Some c) else []) missing.no_file
-          ∙ ap (λ k. if s.scans r q then includes_of (s.includes r q) k else []) (sym (missing_stuck missing))
+          ap (λ c. includes_of (s.includes r q) (Some c)) missing.no_file
+          ∙ ap (λ k. includes_of (s.includes r q) k) (sym (missing_stuck missing))
 
       behind_first : {p q : Path} (h : IsFirstMissing s b.after rules r p) → Among q (p ∷ h.rest) → IsReady s b.after rules q ⊎ IsMissing s b.after q
       behind_first h here = inr h.is_missing
@@ -166,7 +165,7 @@ module _ (s : Setting) (b : Build) (lawful : IsLawful s) (sources : (p : Path) �
 
       lacking_dependencies : {p : Path} → IsFirstMissing s b.after rules r p → dependencies s (clean s b.before top) r ≡ present_dependencies s b r
       lacking_dependencies h =
-          breadth_first_agrees (found_in s (in_tree b.after) r) (found_in s (clean s b.before top) r) s.limit (declared r ++ left_out r) (declared r)
+          same_reach s.limit (found_in s (in_tree b.after) r) (found_in s (clean s b.before top) r) r
           (λ q m. same_found (member_cases h (among_either h.front (among_same h.parts m))))
 
       first_stuck : {p : Path} → IsWanted s b rules r → IsFirstMissing s b.after rules r p → IsFirstStuck s b (clean s b.before top) r p

@@ -2,7 +2,7 @@
 use Rattle.std.proofs.Common.{◌≡◌, ◌<◌, ℕ, Bool, true, false, if◌then◌else◌, List, [], ◌∷◌, Option, Some, None, bytes_eq, refl, sym, subst, ap, ◌∙◌, inl, inr, ◌⊎◌, arith}
 use Rattle.std.proofs.lemmas.Slice.Eq.{bytes_eq-Decides}
 use Rattle.build_model.specs.Rules.{Path, Bytes, Content, Tree, content, Rule, Record, Records, Setting, Among, here, there}
-use Rattle.build_model.specs.Reach.{has, left_out, is_declared, is_found}
+use Rattle.build_model.specs.Reach.{has, left_out, scans_source, scans_found, is_scanned}
 use Rattle.build_model.specs.Needs.{Found, Needed, is_requested, is_needed, as_dependency}
 use Rattle.build_model.specs.Contents.{in_tree, found_in}
 use Rattle.build_model.specs.Records.{IsMet, IsMadeBy}
@@ -56,7 +56,7 @@ not_header m = true_false (sym (one (λ r. has header r.targets ≡ true) refl m
 
 -- what the source includes
 found : Found
-found r p = if r.copies then [] else (if bytes_eq p source then header ∷ [] else [])
+found r p = if bytes_eq p source then header ∷ [] else []
 
 -- what holds whichever tree a build begins with
 module _ (t : Tree) (m : Records) where
@@ -66,21 +66,17 @@ module _ (t : Tree) (m : Records) where
   abbrev from : Build
   from = record first_build { before = t; records = m }
 
-  found_cases : {rules : List Rule} (r : Rule) (p : Path) (c b : Bool) → r.copies ≡ c → bytes_eq p source ≡ b →
-      ((if c then [] else (if b then header ∷ [] else [])) ≡ []) ⊎
-      (IsReady set all_made rules p × ((if c then [] else (if b then header ∷ [] else [])) ≡ found_in set (in_tree all_made) r p))
-  found_cases r p true b copies e = inl refl
-  found_cases r p false false copies e = inl refl
-  found_cases {rules} r p false true copies e =
+  found_cases : {rules : List Rule} (r : Rule) (p : Path) (c : Bool) → bytes_eq p source ≡ c →
+      ((if c then header ∷ [] else []) ≡ []) ⊎
+      (IsReady set all_made rules p × ((if c then header ∷ [] else []) ≡ found_in set (in_tree all_made) r p))
+  found_cases r p false e = inl refl
+  found_cases {rules} r p true e =
       inr (subst (λ q. IsReady set all_made rules q × ((header ∷ []) ≡ found_in set (in_tree all_made) r q))
-      (sym ((bytes_eq-Decides p source).0 e)) (
-        is_source (2 ∷ []) refl refl,
-        ap (λ c. if (if c then false else bytes_eq source source) then header ∷ [] else []) (sym copies),
-      ))
+      (sym ((bytes_eq-Decides p source).0 e)) (is_source (2 ∷ []) refl refl, refl))
 
   is_found_so : (rules : List Rule) → IsFound set all_made rules found
   unfolding found
-  is_found_so rules r p = found_cases r p r.copies (bytes_eq p source) refl refl
+  is_found_so rules r p = found_cases r p (bytes_eq p source) refl
 
   object_needed : Needed (rule_at graph t) found (object ∷ []) object_rule
   object_needed = is_requested object here refl
@@ -89,7 +85,7 @@ module _ (t : Tree) (m : Records) where
   unfolding found
   header_needed =
       is_needed object_rule object_needed
-      (as_dependency header (is_found source (is_declared here) here (not_has {p = header} {ps = left_out object_rule} refl)) refl)
+      (as_dependency header (is_scanned (scans_found source (scans_source here) here (not_has {p = header} {ps = left_out object_rule} refl))) refl)
 
   header_prepared : IsPrepared set from [] header_rule
   header_prepared = record {

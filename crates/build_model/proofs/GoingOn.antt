@@ -1,7 +1,7 @@
 -- By the clean contents with the targets of hindered rules taken out, nothing more is needed than at rest.
-use Rattle.std.proofs.Common.{◌≡◌, ◌<◌, ℕ, Bool, true, false, if◌then◌else◌, List, [], Option, Some, None, refl, sym, ap, ◌∙◌, inl, inr, ◌⊎◌}
+use Rattle.std.proofs.Common.{◌≡◌, ◌<◌, ℕ, List, [], Option, Some, None, refl, sym, ap, ◌∙◌, inl, inr, ◌⊎◌}
 use Rattle.build_model.specs.Rules.{Path, Content, Rule, Setting, Among}
-use Rattle.build_model.specs.Reach.{Reaches, is_declared, is_found}
+use Rattle.build_model.specs.Reach.{IsScanned, scans_source, scans_found, Reaches, is_declared, is_scanned}
 use Rattle.build_model.specs.Needs.{Found, Needs, as_required, as_dependency, NeedsThrough, directly, through, Needed, is_requested, is_needed}
 use Rattle.build_model.specs.Contents.{in_tree, found_in, includes_of, clean, height}
 use Rattle.build_model.specs.Records.{record_of}
@@ -26,17 +26,11 @@ module _ (s : Setting) (b : Build) (steps : List Step) (found taken : Found) (to
   ready_found : (r : Rule) (p : Path) → IsReady s b.after (settled steps) p → found r p ≡ found_in s (in_tree b.after) r p →
       found_in s (clean s b.before top) r p ≡ found r p
   ready_found r p ready same =
-      ap (λ k. if s.scans r p then includes_of (s.includes r p) k else []) (agrees p ready) ∙ sym same
-
-  nothing_stuck : (c : Bool) (lines : List ℕ → List Path) {q : Path} → Among q (if c then includes_of lines None else []) → ⊥
-  nothing_stuck true lines m = elim m [ ]
-  nothing_stuck false lines m = elim m [ ]
+      ap (λ k. includes_of (s.includes r p) k) (agrees p ready) ∙ sym same
 
   missing_includes : (r : Rule) (p q : Path) → IsMissing s b.after p → Among q (found_in s (clean s b.before top) r p) → ⊥
   missing_includes r p q missing m =
-      nothing_stuck (s.scans r p) (s.includes r p)
-      (among_same (ap (λ k. if s.scans r p then includes_of (s.includes r p) k else [])
-      (missing_stuck s b build.lawful build.sources top by missing)) m)
+      elim (among_same (ap (includes_of (s.includes r p)) (missing_stuck s b build.lawful build.sources top by missing)) m) [ ]
 
   -- a dependency that isn't ready is a target of a hindered rule, or missing
   unready_source : (r : Rule) {p q : Path} (c : Content) → s.rule_of p ≡ None → b.after p ≡ c → (IsReady s b.after (settled steps) p → ⊥) →
@@ -68,10 +62,14 @@ module _ (s : Setting) (b : Build) (steps : List Step) (found taken : Found) (to
   found_too needed reached (inl h) m = elim (among_same h.1 m) [ ]
   found_too {r} {p} needed reached (inr h) m = in_found needed reached h.0 (rest.found_whole r p) (among_same h.1 m)
 
+  scanned_too : {r : Rule} {p : Path} → IsNeeded r → IsScanned (taken r) r p → IsScanned (found r) r p
+  scanned_too needed (scans_source m) = scans_source m
+  scanned_too {r} needed (scans_found q h m left) =
+      let found_so = scanned_too needed h in scans_found q found_so (found_too needed (is_scanned found_so) (out r q) m) left
+
   reached_too : {r : Rule} {p : Path} → IsNeeded r → Reaches (taken r) r p → Reaches (found r) r p
   reached_too needed (is_declared m) = is_declared m
-  reached_too {r} needed (is_found q h m left) =
-      let reached = reached_too needed h in is_found q reached (found_too needed reached (out r q) m) left
+  reached_too needed (is_scanned h) = is_scanned (scanned_too needed h)
 
   needs_too : {r q : Rule} → IsNeeded r → Needs s.rule_of taken r q → Needs s.rule_of found r q
   needs_too needed (as_required p m e) = as_required p m e

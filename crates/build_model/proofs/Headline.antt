@@ -1,5 +1,5 @@
 -- A build of a graph that ended well equals a clean build, and the next one starts little.
-use Rattle.std.proofs.Common.{◌≡◌, ◌<◌, ◌≤◌, ◌+◌, ◌*◌, ℕ, zero, suc, true, false, if◌then◌else◌, List, length, Option, Some, None, refl, sym, subst, ap, ◌∙◌, inl, inr, ◌⊎◌, arith}
+use Rattle.std.proofs.Common.{◌≡◌, ◌<◌, ◌≤◌, ◌+◌, ◌*◌, ℕ, zero, suc, true, List, length, Option, Some, None, refl, sym, subst, ap, ◌∙◌, inl, inr, ◌⊎◌, arith}
 use Rattle.build_model.specs.Rules.{Path, Content, Tree, Stamps, content, Rule, Record, Setting, Among}
 use Rattle.build_model.specs.Contents.{View, dependencies, source_content, by_rule, made, clean, IsKnown, has_rule, is_file, height}
 use Rattle.build_model.specs.Records.{record_of, dependency_of, known_digest, stamp_kept}
@@ -131,7 +131,6 @@ module _ (g : Graph) (t u : Tree) (sources : (p : Path) → rule_at g t p ≡ No
   same_setting =
       ap (λ f. record {
         rule_of = f;
-        scans = λ r p. if r.copies then false else g.scans r p;
         includes = g.includes;
         act = g.act;
         digest = g.digest;

@@ -1,17 +1,17 @@
 -- At one job each rule that begins is the first of the build order that isn't settled.
-use Rattle.std.proofs.Common.{◌≡◌, ◌<◌, ℕ, zero, suc, pred, true, false, if◌then◌else◌, List, [], ◌∷◌, ◌++◌, length, Option, Some, None, refl, sym, subst, ap, ◌∙◌, inl, inr, ◌⊎◌, arith, append_assoc}
+use Rattle.std.proofs.Common.{◌≡◌, ◌<◌, ℕ, zero, suc, pred, true, false, if◌then◌else◌, List, [], ◌∷◌, ◌++◌, length, Option, Some, None, refl, sym, subst, ap, ◌∙◌, inl, inr, ◌⊎◌, arith, append_assoc, Bool, ⊎_elim}
 use Rattle.build_model.specs.Rules.{Path, Rule, Setting, Among, here, there}
-use Rattle.build_model.specs.Reach.{unseen, breadth_first, declared, left_out, reach}
+use Rattle.build_model.specs.Reach.{has, unseen, breadth_first, declared, left_out, first_scanned, scan_list, reach}
 use Rattle.build_model.specs.Needs.{Found, Needs, NeedsThrough, directly, through, with_rule, rules_at, needs_in_order, IsBuildOrder}
-use Rattle.build_model.specs.Contents.{View, in_tree, found_in, includes_of, dependencies}
+use Rattle.build_model.specs.Contents.{View, in_tree, found_in, includes_of, dependencies, scanned_files}
 use Rattle.build_model.specs.Steps.{Step, Fresh, Began, Ended, Lacks, Halts, Build, settled, began, done, running, IsReady, is_source, is_made, IsPrepared, IsRunning, IsRun, Succeeds}
 use Rattle.build_model.specs.Laws.{NeedsIn}
 use Rattle.build_model.specs.Resting.{IsFaulty, has_failed, lacks_one, IsFoundWhole}
 use Rattle.build_model.specs.OneJob.{IsPassed, is_settled, is_running, is_faulty, waits, TakesFirst, SeesReady, StandsBehind, StandsBefore, FollowsOrder}
-use Rattle.build_model.proofs.Lists.{none_some, among_right, among_either, among_same}
-use Rattle.build_model.proofs.Whole.{reach_reaches, reaches_in, reaches_more}
-use Rattle.build_model.proofs.Agree.{breadth_first_agrees}
-use Rattle.build_model.proofs.Ready.{Within, needs_more, Agrees, agrees_less, tree_agrees, prepared_dependencies, needs_among}
+use Rattle.build_model.proofs.Lists.{none_some, among_right, among_either, among_same, has_among}
+use Rattle.build_model.proofs.Whole.{reach_reaches, reaches_in, reaches_more, left_cases, listed_scanned}
+use Rattle.build_model.proofs.Agree.{same_scan}
+use Rattle.build_model.proofs.Ready.{Within, needs_more, Agrees, agrees_less, tree_agrees, prepared_dependencies, needs_among, prepared_short}
 use Rattle.build_model.proofs.Runs.{settled_done, settled_after, began_later, run_before, begun_prepared, settled_prepared, needs_settled, no_loop}
 use Rattle.build_model.proofs.Placed.{without}
 use Rattle.build_model.proofs.Resting.{faulty_unsettled}
@@ -120,10 +120,8 @@ module _ (s : Setting) (b : Build) (view : View) (later past : List Step) (run :
       let prepared = settled_prepared s b (later ++ past) run m in
       prepared.dependencies _ (among_same (prepared_dependencies s b r prepared view sees) n)
 
-  is_short : {r : Rule} → Among r all → length (dependencies s view r) < s.limit
-  is_short {r} m =
-      let prepared = settled_prepared s b (later ++ past) run m in
-      subst (λ l. length l < s.limit) (sym (prepared_dependencies s b r prepared view sees)) prepared.whole
+  is_short : {r : Rule} → Among r all → length (scanned_files s view r) < s.limit
+  is_short {r} m = prepared_short s b r (settled_prepared s b (later ++ past) run m) view sees
 
   -- a path without a rule that is a dependency at the end waits for nothing
   source_now : {p : Path} → s.rule_of p ≡ None → IsReady s b.after all p → ReadyNow p
@@ -146,7 +144,7 @@ module _ (s : Setting) (b : Build) (view : View) (later past : List Step) (run :
       where
         cases : (ReadyNow p × (found r p ≡ found_in s (in_tree b.after) r p)) ⊎ ((ReadyNow p → ⊥) × (found r p ≡ [])) →
             (ReadyNow p × (found r p ≡ by_view r p)) ⊎ ((ReadyNow p → ⊥) × (found r p ≡ []))
-        cases (inl h) = inl (h.0, h.1 ∙ ap (λ k. if s.scans r p then includes_of (s.includes r p) k else []) (sym (sees_now p h.0)))
+        cases (inl h) = inl (h.0, h.1 ∙ ap (λ k. includes_of (s.includes r p) k) (sym (sees_now p h.0)))
         cases (inr h) = inr h
 
     less_found_cases : (r : Rule) (p : Path) {y : Path} → (ReadyNow p × (found r p ≡ by_view r p)) ⊎ ((ReadyNow p → ⊥) × (found r p ≡ [])) →
@@ -209,10 +207,73 @@ module _ (s : Setting) (b : Build) (view : View) (later past : List Step) (run :
     required_alike ps qs [] a = a
     required_alike ps qs (p ∷ front) a = with_alike (s.rule_of p) (required_alike ps qs front a)
 
+    -- a path that waits and was seen, where two lists part
+    record Parting (seen listed : List Path) : Type 0 where
+      path : Path
+      unready : ReadyNow path → ⊥
+      is_seen : Among path seen
+      is_listed : Among path listed
+
+    listed_later : {p : Path} {seen listed : List Path} → Parting seen listed → Parting seen (p ∷ listed)
+    listed_later c = record { path = c.path; unready = c.unready; is_seen = c.is_seen; is_listed = there c.is_listed }
+
+    first_cases : {p q : Path} {seen listed : List Path} (xs ys : List Path) → Among q (p ∷ seen) → (ReadyNow q → ⊥) →
+        Among q listed → AlikePaths ReadyNow (p ∷ xs) (p ∷ ys) ⊎ Parting seen (p ∷ listed)
+    first_cases {p} xs ys here w l = inl (both_wait p w)
+    first_cases {q = q} xs ys (there m) w l = inr (record { path = q; unready = w; is_seen = m; is_listed = there l })
+
+    unseen_first : {p : Path} {seen listed : List Path} (xs ys : List Path) → AlikePaths ReadyNow xs ys ⊎ Parting (p ∷ seen) listed →
+        AlikePaths ReadyNow (p ∷ xs) (p ∷ ys) ⊎ Parting seen (p ∷ listed)
+    unseen_first {p} xs ys (inl a) = inl (both_have p a)
+    unseen_first xs ys (inr c) = first_cases xs ys c.is_seen c.unready c.is_listed
+
+    unseen_have : {p : Path} {seen : List Path} (ps qs : List Path) (c : Bool) →
+        AlikePaths ReadyNow (unseen seen ps) (unseen seen qs) ⊎ Parting seen qs →
+        AlikePaths ReadyNow (unseen (p ∷ seen) ps) (unseen (p ∷ seen) qs) ⊎ Parting (p ∷ seen) qs →
+        AlikePaths ReadyNow (if c then unseen seen ps else p ∷ unseen (p ∷ seen) ps) (if c then unseen seen qs else p ∷ unseen (p ∷ seen) qs)
+        ⊎ Parting seen (p ∷ qs)
+    unseen_have ps qs true (inl a) b = inl a
+    unseen_have ps qs true (inr c) b = inr (listed_later c)
+    unseen_have {p} {seen} ps qs false a b = unseen_first (unseen (p ∷ seen) ps) (unseen (p ∷ seen) qs) b
+
+    unseen_wait : {p : Path} {seen : List Path} (ps qs : List Path) (c : Bool) → has p seen ≡ c → (ReadyNow p → ⊥) →
+        AlikePaths ReadyNow (if c then unseen seen ps else p ∷ unseen (p ∷ seen) ps) (if c then unseen seen qs else p ∷ unseen (p ∷ seen) qs)
+        ⊎ Parting seen (p ∷ qs)
+    unseen_wait {p} {seen} ps qs true e w = inr (record { path = p; unready = w; is_seen = has_among p seen e; is_listed = here })
+    unseen_wait {p} ps qs false e w = inl (both_wait p w)
+
+    unseen_alike : {ps qs : List Path} (seen : List Path) → AlikePaths ReadyNow ps qs →
+        AlikePaths ReadyNow (unseen seen ps) (unseen seen qs) ⊎ Parting seen qs
+    unseen_alike seen paths_end = inl paths_end
+    unseen_alike seen (both_have {ps = ps} {qs = qs} p a) =
+        unseen_have ps qs (has p seen) (unseen_alike seen a) (unseen_alike (p ∷ seen) a)
+    unseen_alike seen (both_wait {ps = ps} {qs = qs} p w) = unseen_wait ps qs (has p seen) refl w
+
+    front_alike : {xs ys : List Path} (front : List Path) → AlikePaths ReadyNow xs ys → AlikePaths ReadyNow (front ++ xs) (front ++ ys)
+    front_alike [] a = a
+    front_alike (p ∷ front) a = both_have p (front_alike front a)
+
+    front_waits : {p : Path} (xs ys : List Path) {front : List Path} → Among p front → (ReadyNow p → ⊥) →
+        AlikePaths ReadyNow (front ++ xs) (front ++ ys)
+    front_waits {p} xs ys here w = both_wait p w
+    front_waits xs ys (there {y = y} m) w = both_have y (front_waits xs ys m w)
+
+    reach_alike : (r : Rule) → AlikePaths ReadyNow (unseen (declared r ++ left_out r) (scan_list s.limit (found r) r))
+        (unseen (declared r ++ left_out r) (scan_list s.limit (by_view r) r))
+        ⊎ Parting (declared r ++ left_out r) (scan_list s.limit (by_view r) r) →
+        AlikePaths ReadyNow (reach s.limit (found r) r) (reach s.limit (by_view r) r)
+    reach_alike r (inl a) = front_alike (declared r) a
+    reach_alike r (inr c) =
+        front_waits (unseen (declared r ++ left_out r) (scan_list s.limit (found r) r))
+        (unseen (declared r ++ left_out r) (scan_list s.limit (by_view r) r))
+        (⊎_elim (λ d. d) (λ o. left_cases (by_view r) r (listed_scanned (by_view r) r s.limit c.is_listed) o)
+        (among_either (declared r) c.is_seen)) c.unready
+
     needs_alike : (r : Rule) → Among r all → AreAlike now (needs_found r) (needs_in_order s.rule_of s.limit by_view r)
     needs_alike r m =
         required_alike (reach s.limit (found r) r) (reach s.limit (by_view r) r) r.required
-        (rules_alike (alike_lists r s.limit (declared r ++ left_out r) (declared r)) (λ p n. at_end m n))
+        (rules_alike (reach_alike r (unseen_alike (declared r ++ left_out r)
+        (alike_lists r s.limit (first_scanned r ++ left_out r) (first_scanned r)))) (λ p n. at_end m n))
 
     abbrev roots : List Rule
     roots = rules_at s.rule_of b.requested
@@ -290,14 +351,14 @@ module _ (s : Setting) (b : Build) (view : View) (later past : List Step) (run :
       member_found (inl h) ready = h.1
       member_found (inr h) ready = absurd (h.0 ready)
 
-      same_reach : reach s.limit (by_view x) x ≡ reach s.limit (found x) x
-      same_reach =
-          breadth_first_agrees (found x) (by_view x) s.limit (declared x ++ left_out x) (declared x)
+      same_list : scan_list s.limit (by_view x) x ≡ scan_list s.limit (found x) x
+      same_list =
+          same_scan s.limit (found x) (by_view x) x
           (λ p m. member_found (compare x p) (member_ready (s.rule_of p) refl m))
 
       needs_now : (q : Rule) → Needs s.rule_of found x q → Among q now
       needs_now q needs =
-          inner q (needs_in_order_of s.rule_of s.limit {found = found} (subst (λ l. length l < s.limit) same_reach (is_short x_all)) needs)
+          inner q (needs_in_order_of s.rule_of s.limit {found = found} (subst (λ l. length l < s.limit) same_list (is_short x_all)) needs)
 
     passed_not : {x : Rule} → ((y : Rule) → IsRunning past y → ⊥) → First needs_found now roots x → IsPassed s past found x → ⊥
     passed_not none f (is_settled m) = first_new f m

@@ -2,7 +2,7 @@
 -- needs and that isn't settled. What was found so far shows the way as far as it is gone.
 use Rattle.std.proofs.Common.{◌≡◌, ◌<◌, ℕ, List, [], ◌∷◌, ◌++◌, length, Option, Some, None, refl, sym, subst, ap, ◌∙◌, inl, inr, ◌⊎◌, ⊎_elim, append_assoc}
 use Rattle.build_model.specs.Rules.{Path, Rule, Among, here, there}
-use Rattle.build_model.specs.Reach.{reach}
+use Rattle.build_model.specs.Reach.{reach, scan_list}
 use Rattle.build_model.specs.Needs.{RuleOf, Found, Needs, as_required, as_dependency, NeedsThrough, directly, through, with_rule, rules_at, needs_in_order, Visits, nothing_left, met_again, met_first}
 use Rattle.build_model.proofs.Lists.{among_left, among_right, among_either, none_some, some_same, same_head, same_tail}
 use Rattle.build_model.proofs.Whole.{reach_reaches, reaches_in}
@@ -85,7 +85,7 @@ module _ (rule_of : RuleOf) (limit : ℕ) where
       needs_by_path {found = found} {r = r} h (among_either r.required h.stands_there)
 
   -- and the other way round, where the dependencies aren't cut short
-  pub needs_in_order_of : {found : Found} {r q : Rule} → length (reach limit (found r) r) < limit → Needs rule_of found r q →
+  pub needs_in_order_of : {found : Found} {r q : Rule} → length (scan_list limit (found r) r) < limit → Needs rule_of found r q →
       Among q (needs_in_order rule_of limit found r)
   needs_in_order_of {found} {r} short (as_required p m e) =
       path_rule rule_of (r.required ++ reach limit (found r) r) (among_left (reach limit (found r) r) m) e

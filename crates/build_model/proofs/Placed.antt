@@ -1,7 +1,7 @@
 -- The rules of a graph have their places, and no more of them stand on one another than are declared.
 use Rattle.std.proofs.Common.{◌≡◌, ◌<◌, ◌≤◌, ◌+◌, ◌*◌, ℕ, suc, Bool, true, false, if◌then◌else◌, List, [], ◌∷◌, length, Option, Some, None, refl, sym, subst, ap, ◌∙◌, inl, inr, ◌⊎◌, arith}
 use Rattle.build_model.specs.Rules.{Path, Content, Tree, Rule, Among, here, there, Unique}
-use Rattle.build_model.specs.Reach.{has, Reaches, is_declared, is_found}
+use Rattle.build_model.specs.Reach.{has, IsScanned, scans_source, scans_found, Reaches, is_declared, is_scanned}
 use Rattle.build_model.specs.Contents.{View, found_in, dependencies, IsLawful, height}
 use Rattle.build_model.specs.Graphs.{Graph, IsGraph, declared_rule, copy_rule, copy_of_file, copy_of_source, copy_at, or_copy, rule_at, setting}
 use Rattle.build_model.specs.Steps.{Step, Build, settled, IsRun}
@@ -68,9 +68,13 @@ module _ (g : Graph) (t : Tree) where
     alone_there {p} {r} (is_copy_of o none deeper) is q m = subst (λ x. rule_at g t x ≡ Some (copy_rule p o)) (only_one m) is
 
     -- what a copy depends on
+    copy_unscanned : {f : Path → List Path} {p o q : Path} → IsScanned f (copy_rule p o) q → ⊥
+    copy_unscanned (scans_source m) = elim m [ ]
+    copy_unscanned (scans_found x h m out) = copy_unscanned h
+
     copy_depends : (view : View) (p : Path) {o q : Path} → Reaches (found_in (setting g t) view (copy_rule p o)) (copy_rule p o) q → o ≡ q
     copy_depends view p (is_declared m) = only_one m
-    copy_depends view p (is_found x h m out) = elim m [ ]
+    copy_depends view p (is_scanned h) = absurd (copy_unscanned h)
 
     declared_plain : (p : Path) {r : Rule} → declared_rule g.rules p ≡ Some r → r.copies ≡ false
     declared_plain p {r} e = graph.no_copies r (declared_there g.rules e).0

@@ -1,14 +1,14 @@
 -- What a rule that may be decided stands on: its files wait for nothing, and all that it needs is settled.
-use Rattle.std.proofs.Common.{◌≡◌, ◌<◌, if◌then◌else◌, List, [], length, Some, refl, sym, subst, ap, ◌∙◌, inl, inr, ◌⊎◌}
+use Rattle.std.proofs.Common.{◌≡◌, ◌<◌, List, [], length, Some, refl, sym, subst, ap, ◌∙◌, inl, inr, ◌⊎◌}
 use Rattle.build_model.specs.Rules.{Path, Tree, Rule, Setting, Among}
 use Rattle.build_model.specs.Needs.{RuleOf, Found, Needs, as_required, as_dependency, Needed, is_requested, is_needed}
-use Rattle.build_model.specs.Contents.{View, in_tree, found_in, includes_of, dependencies}
+use Rattle.build_model.specs.Contents.{View, in_tree, found_in, includes_of, dependencies, scanned_files}
 use Rattle.build_model.specs.Records.{record_of}
 use Rattle.build_model.specs.Steps.{Build, IsReady, is_source, is_made, IsWanted, IsPrepared, present_dependencies, present_record}
 use Rattle.build_model.specs.Laws.{NeededIn, NeedsIn}
 use Rattle.build_model.proofs.Lists.{none_some, some_same, among_same}
 use Rattle.build_model.proofs.Whole.{reaches_in, reaches_more}
-use Rattle.build_model.proofs.Agree.{same_dependencies, same_record}
+use Rattle.build_model.proofs.Agree.{same_dependencies, same_record, same_scanned}
 
 abbrev pub Within : List Rule → List Rule → Type 0
 Within rules more = (r : Rule) → Among r rules → Among r more
@@ -78,6 +78,11 @@ module _ (s : Setting) (b : Build) where
     pub prepared_dependencies : dependencies s view r ≡ present_dependencies s b r
     prepared_dependencies = same_dependencies s r (in_tree b.after) view prepared_agrees
 
+    -- the list of files that are scanned isn't cut short
+    pub prepared_short : length (scanned_files s view r) < s.limit
+    prepared_short =
+        subst (λ l. length l < s.limit) (sym (same_scanned s r (in_tree b.after) view prepared_agrees)) prepared.whole
+
     pub prepared_record : record_of s r view b.stamps_after ≡ present_record s b r
     prepared_record = same_record s r (in_tree b.after) view prepared_agrees b.stamps_after
 
@@ -90,14 +95,14 @@ module _ (s : Setting) (b : Build) where
     needs_among {q} (as_required p m e) = prepared.required p q m e
     needs_among (as_dependency p reached e) =
         made_among e (prepared.dependencies p (among_same prepared_dependencies
-        (reaches_in (found_in s view r) s.limit (subst (λ l. length l < s.limit) (sym prepared_dependencies) prepared.whole) reached)))
+        (reaches_in (found_in s view r) s.limit prepared_short reached)))
 
   found_there : {rules : List Rule} (view : View) (found : Found) (x : Rule) (p : Path) {y : Path} → Agrees rules view →
       (found x p ≡ []) ⊎ (IsReady s b.after rules p × (found x p ≡ found_in s (in_tree b.after) x p)) →
       Among y (found x p) → Among y (found_in s view x p)
   found_there view found x p agrees (inl none) m = elim (among_same none m) [ ]
   found_there view found x p agrees (inr h) m =
-      among_same (h.1 ∙ ap (λ k. if s.scans x p then includes_of (s.includes x p) k else []) (sym (agrees p h.0))) m
+      among_same (h.1 ∙ ap (λ k. includes_of (s.includes x p) k) (sym (agrees p h.0))) m
 
   -- what is needed by what was found so far is needed
   pub wanted_needed : {rules : List Rule} {view : View} {r : Rule} → IsWanted s b rules r → Agrees rules view → NeededIn s b view r

@@ -1,14 +1,14 @@
 -- What is settled doesn't change any more: so the steps of a build are legal by every later tree.
-use Rattle.std.proofs.Common.{◌≡◌, ◌<◌, Bool, true, false, if◌then◌else◌, List, [], ◌∷◌, length, Some, None, refl, sym, subst, ap, ◌∙◌, inl, inr, ◌⊎◌}
+use Rattle.std.proofs.Common.{◌≡◌, ◌<◌, Bool, true, false, List, [], ◌∷◌, length, Some, None, refl, sym, subst, ap, ◌∙◌, inl, inr, ◌⊎◌}
 use Rattle.build_model.specs.Rules.{Path, Content, Tree, Stamps, Rule, Setting, Among, here, there}
 use Rattle.build_model.specs.Needs.{Found}
-use Rattle.build_model.specs.Contents.{in_tree, found_in, includes_of, dependencies, IsLawful}
+use Rattle.build_model.specs.Contents.{in_tree, found_in, includes_of, dependencies, IsLawful, scanned_files}
 use Rattle.build_model.specs.Records.{record_of, dependency_of, known_digest, stamp_kept, IsMet}
 use Rattle.build_model.specs.Steps.{Step, Fresh, Began, Ended, Lacks, Halts, Build, settled, began, IsReady, is_source, is_made, IsMissing, contents_of, with_content, IsWanted, IsPrepared, IsDecided, IsFresh, IsStart, IsMade, IsFirstMissing, IsLacking, IsRun}
 use Rattle.build_model.specs.Moments.{Job, so_far, MayWrite, Changes, HasMade, IsCourse, begins, changes, finds, starts, makes, fails, lacks, halts}
 use Rattle.build_model.specs.Laws.{IsBuild, IsSeenSo}
 use Rattle.build_model.proofs.Lists.{none_some, some_same, same_map, among_same, among_either}
-use Rattle.build_model.proofs.Agree.{same_dependencies, same_record}
+use Rattle.build_model.proofs.Agree.{same_dependencies, same_record, same_scanned}
 use Rattle.build_model.proofs.Ready.{Within, needed_place}
 use Rattle.build_model.proofs.Runs.{settled_later, settled_done, begun_prepared}
 
@@ -49,7 +49,7 @@ module _ (s : Setting) (b : Build) (lawful : IsLawful s) (t u : Tree) (stamps la
         (found r p ≡ []) ⊎ (IsReady s u rules p × (found r p ≡ found_in s (in_tree u) r p))
     found_stays_cases found r p (inl e) = inl e
     found_stays_cases found r p (inr h) =
-        inr (ready_stays h.0, h.1 ∙ ap (λ c. if s.scans r p then includes_of (s.includes r p) (Some c) else []) (same_ready h.0).0)
+        inr (ready_stays h.0, h.1 ∙ ap (λ c. includes_of (s.includes r p) (Some c)) (same_ready h.0).0)
 
     wanted_stays : {r : Rule} → IsWanted s At rules r → IsWanted s Later rules r
     wanted_stays h = record {
@@ -62,6 +62,9 @@ module _ (s : Setting) (b : Build) (lawful : IsLawful s) (t u : Tree) (stamps la
     module _ (r : Rule) (same : (p : Path) → Among p (dependencies s (in_tree t) r) → Same t u stamps later p) where
       dependencies_stay : dependencies s (in_tree u) r ≡ dependencies s (in_tree t) r
       dependencies_stay = same_dependencies s r (in_tree t) (in_tree u) (λ p m. ap Some (same p m).0)
+
+      scanned_stay : scanned_files s (in_tree u) r ≡ scanned_files s (in_tree t) r
+      scanned_stay = same_scanned s r (in_tree t) (in_tree u) (λ p m. ap Some (same p m).0)
 
       stamped : record_of s r (in_tree t) later ≡ record_of s r (in_tree t) stamps
       stamped =
@@ -90,7 +93,7 @@ module _ (s : Setting) (b : Build) (lawful : IsLawful s) (t u : Tree) (stamps la
     prepared_stays : {r : Rule} → IsPrepared s At rules r → IsPrepared s Later rules r
     prepared_stays {r} h = record {
       wanted = wanted_stays h.wanted;
-      whole = subst (λ l. length l < s.limit) (sym (dependencies_stay r (prepared_same h))) h.whole;
+      whole = subst (λ l. length l < s.limit) (sym (scanned_stay r (prepared_same h))) h.whole;
       dependencies = λ p m. ready_stays (h.dependencies p (among_same (dependencies_stay r (prepared_same h)) m));
       required = h.required;
     }
@@ -154,7 +157,7 @@ module _ (s : Setting) (b : Build) (lawful : IsLawful s) (t u : Tree) (stamps la
     not_began = h.not_began;
     not_done = h.not_done;
     wanted = wanted_stays (settled past) stays h.wanted;
-    whole = subst (λ l. length l < s.limit) (sym (dependencies_stay (settled past) stays r (lacking_same (settled past) stays h.first_missing))) h.whole;
+    whole = subst (λ l. length l < s.limit) (sym (scanned_stay (settled past) stays r (lacking_same (settled past) stays h.first_missing))) h.whole;
     first_missing = first_missing_stays (settled past) stays h.first_missing;
     required = h.required;
   }

@@ -1,7 +1,7 @@
 -- What a build from sources alone makes.
 use Rattle.std.specs.Prelude.{◌≡◌, ℕ, zero, suc, true, false, List, [], ◌∷◌, Option, Some, None, if◌then◌else◌}
 use Rattle.build_model.specs.Rules.{Path, Bytes, Content, Tree, Rule, Setting, Among}
-use Rattle.build_model.specs.Reach.{reach}
+use Rattle.build_model.specs.Reach.{reach, scan_list}
 use Rattle.build_model.specs.Needs.{Found}
 
 -- What is known of a path's content: none where it is stuck.
@@ -21,9 +21,13 @@ includes_of lines None = []
 includes_of lines (Some None) = []
 includes_of lines (Some (Some bytes)) = lines bytes
 
--- What a file includes for a rule. One that is stuck or absent isn't scanned.
+-- What a file includes for a rule. One that is stuck or absent includes nothing.
 abbrev pub found_in : Setting → View → Found
-found_in s view r p = if s.scans r p then includes_of (s.includes r p) (view p) else []
+found_in s view r p = includes_of (s.includes r p) (view p)
+
+-- the files that are scanned for a rule where the contents are these
+abbrev pub scanned_files : Setting → View → Rule → List Path
+scanned_files s view r = scan_list s.limit (found_in s view r) r
 
 -- the dependencies of a rule where the contents are these
 abbrev pub dependencies : Setting → View → Rule → List Path

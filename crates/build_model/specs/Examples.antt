@@ -18,14 +18,15 @@ source = 99 ∷ []
 abbrev pub object : Path
 object = 111 ∷ []
 
-abbrev pub making : Path → Path → Rule
-making target from = record {
+abbrev pub making : Path → Path → List Path → Rule
+making target from scanned = record {
   copies = false;
   keeps_sources = false;
   work = 0;
   signed = [];
   targets = target ∷ [];
   sources = from ∷ [];
+  scanned = scanned;
   depends = [];
   libraries = [];
   ignored = [];
@@ -36,10 +37,10 @@ making target from = record {
 
 -- the header is made of the notes, and the object of the source
 abbrev pub header_rule : Rule
-header_rule = making header notes
+header_rule = making header notes []
 
 abbrev pub object_rule : Rule
-object_rule = making object source
+object_rule = making object source (source ∷ [])
 
 abbrev pub appended : Content → Content → Content
 appended None rest = rest
@@ -60,8 +61,7 @@ abbrev pub graph : Graph
 graph = record {
   rules = header_rule ∷ object_rule ∷ [];
   source_of = λ p. None;
-  scans = λ r p. bytes_eq p source;
-  includes = λ r p bytes. header ∷ [];
+  includes = λ r p bytes. if bytes_eq p source then header ∷ [] else [];
   act = λ work signed targets given p. joined given;
   digest = λ bytes. bytes;
   is_due = λ r t stamps m now. first_missing t r.targets;

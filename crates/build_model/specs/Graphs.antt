@@ -9,7 +9,6 @@ pub record Graph : Type 0 where
   -- the path in the source directory, where a path lies in a duplicating variant directory
   pub source_of : Path → Option Path
   -- the rest is as in a setting
-  pub scans : Rule → Path → Bool
   pub includes : Rule → Path → Bytes → List Path
   pub act : ℕ → List Bytes → List Path → List (Path × Content) → Path → Content
   pub digest : Bytes → List ℕ
@@ -30,6 +29,7 @@ copy_rule p q = record {
   signed = [];
   targets = p ∷ [];
   sources = q ∷ [];
+  scanned = [];
   depends = [];
   libraries = [];
   ignored = [];
@@ -65,7 +65,6 @@ rule_at g t p = or_copy g t p (declared_rule g.rules p)
 abbrev pub setting : Graph → Tree → Setting
 setting g t = record {
   rule_of = rule_at g t;
-  scans = λ r p. if r.copies then false else g.scans r p;
   includes = g.includes;
   act = g.act;
   digest = g.digest;

@@ -1,5 +1,5 @@
 -- The dependencies of a rule: its sources, what the script says it depends on, its libraries, and then the files that
--- are found, breadth first. What a file includes is a parameter: so one definition serves what was found so far, what
+-- are found from scanned sources on, breadth first. What a file includes is a parameter: so one definition serves what was found so far, what
 -- stands in the tree, and what a clean build would find.
 use Rattle.std.specs.Prelude.{ℕ, zero, suc, Bool, true, false, List, [], ◌∷◌, ◌++◌, if◌then◌else◌}
 use Rattle.std.specs.Str.{bytes_eq}
@@ -34,11 +34,30 @@ declared r = kept_sources r ++ unseen (kept_sources r ++ r.ignored) (r.depends +
 abbrev pub left_out : Rule → List Path
 left_out r = r.targets ++ r.ignored
 
--- The dependencies of a rule, at most so many. A list that is as long as the limit may be cut short.
-abbrev pub reach : ℕ → (Path → List Path) → Rule → List Path
-reach limit includes r = breadth_first includes limit (declared r ++ left_out r) (declared r)
+-- those that are among the wanted ones
+abbrev pub those : List Path → List Path → List Path
+those wanted [] = []
+those wanted (p ∷ ps) = if has p wanted then p ∷ those wanted ps else those wanted ps
 
--- A path is a dependency of the rule: the same without order and limit.
-pub data Reaches (includes : Path → List Path) (r : Rule) : Path → Type 0 where
-  is_declared : {p : Path} → Among p (declared r) → Reaches includes r p
-  is_found : {p : Path} (q : Path) → Reaches includes r q → Among p (includes q) → (Among p (left_out r) → ⊥) → Reaches includes r p
+-- the sources that are scanned
+abbrev pub first_scanned : Rule → List Path
+first_scanned r = those r.scanned (kept_sources r)
+
+-- The files that are scanned, at most so many: sources, and what is found, breadth first in order of first finding.
+abbrev pub scan_list : ℕ → (Path → List Path) → Rule → List Path
+scan_list limit includes r = breadth_first includes limit (first_scanned r ++ left_out r) (first_scanned r)
+
+-- The dependencies of a rule: what the graph says, and then the files that are found, each once.
+abbrev pub reach : ℕ → (Path → List Path) → Rule → List Path
+reach limit includes r = declared r ++ unseen (declared r ++ left_out r) (scan_list limit includes r)
+
+-- A file is scanned for the rule: the same without order and limit.
+pub data IsScanned (includes : Path → List Path) (r : Rule) : Path → Type 0 where
+  scans_source : {p : Path} → Among p (first_scanned r) → IsScanned includes r p
+  scans_found : {p : Path} (q : Path) → IsScanned includes r q → Among p (includes q) → (Among p (left_out r) → ⊥) →
+      IsScanned includes r p
+
+-- a path is a dependency of the rule
+pub data Reaches (includes : Path → List Path) (r : Rule) (p : Path) : Type 0 where
+  is_declared : Among p (declared r) → Reaches includes r p
+  is_scanned : IsScanned includes r p → Reaches includes r p

@@ -37,6 +37,8 @@ pub record Rule : Type 0 where
   pub signed : List Bytes
   pub targets : List Path
   pub sources : List Path
+  -- those of the sources that are scanned for what they include
+  pub scanned : List Path
   pub depends : List Path
   pub libraries : List Path
   pub ignored : List Path
@@ -65,8 +67,6 @@ Records = Path → Option Record
 pub record Setting : Type 0 where
   -- the rule that makes a path, a copy rule among them
   pub rule_of : Path → Option Rule
-  -- whether a rule's dependencies are scanned for what they include, at this path
-  pub scans : Rule → Path → Bool
   -- the files that are found for the include lines of these bytes at this path, in order
   pub includes : Rule → Path → Bytes → List Path
   -- what an action makes at a path of contents that it is given: its work, signed lines and targets alone count
@@ -74,7 +74,7 @@ pub record Setting : Type 0 where
   pub digest : Bytes → Digest
   -- the test by which a rule is found due: by the tree, stamps and records before the build, and its record of now
   pub is_due : Rule → Tree → Stamps → Records → Record → Bool
-  -- one more than a rule may have dependencies
+  -- more than the files that are scanned for a rule
   pub limit : ℕ
 
 -- stands in the list

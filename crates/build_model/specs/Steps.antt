@@ -4,7 +4,7 @@
 use Rattle.std.specs.Prelude.{◌≡◌, ◌⊎◌, ℕ, suc, pred, ◌<◌, ◌++◌, Bool, true, false, List, [], ◌∷◌, map, length, Some, None, ⊤, if◌then◌else◌}
 use Rattle.build_model.specs.Rules.{Path, Bytes, Content, Tree, Stamps, Rule, Record, Records, Setting, Among}
 use Rattle.build_model.specs.Needs.{Found, Needed}
-use Rattle.build_model.specs.Contents.{in_tree, found_in, dependencies}
+use Rattle.build_model.specs.Contents.{in_tree, found_in, scanned_files, dependencies}
 use Rattle.build_model.specs.Records.{record_of, IsMet}
 
 -- A rule is found up to date; its action begins, and from here on its targets may change; it ends well, or otherwise,
@@ -114,7 +114,7 @@ pub record IsWanted (s : Setting) (b : Build) (rules : List Rule) (r : Rule) : T
 -- file without a rule holds back nothing.
 pub record IsPrepared (s : Setting) (b : Build) (rules : List Rule) (r : Rule) : Type 0 where
   pub wanted : IsWanted s b rules r
-  pub whole : length (present_dependencies s b r) < s.limit
+  pub whole : length (scanned_files s (in_tree b.after) r) < s.limit
   pub dependencies : (p : Path) → Among p (present_dependencies s b r) → IsReady s b.after rules p
   pub required : (p : Path) (q : Rule) → Among p r.required → s.rule_of p ≡ Some q → Among q rules
 
@@ -156,7 +156,7 @@ pub record IsLacking (s : Setting) (b : Build) (past : List Step) (r : Rule) (p 
   pub not_began : Among r (began past) → ⊥
   pub not_done : Among r (done past) → ⊥
   pub wanted : IsWanted s b (settled past) r
-  pub whole : length (present_dependencies s b r) < s.limit
+  pub whole : length (scanned_files s (in_tree b.after) r) < s.limit
   pub first_missing : IsFirstMissing s b.after (settled past) r p
   pub required : (q : Path) (x : Rule) → Among q r.required → s.rule_of q ≡ Some x → Among x (settled past)
 
