@@ -1,6 +1,7 @@
 //! The programs that `bench/` times, each under a word: `benches WORD [ARGUMENT..]`. They promise nothing.
 #![tactic(auto)]
 
+mod costs;
 mod lines;
 mod nodes;
 mod scripts;
@@ -22,6 +23,7 @@ fn main(rt: HostRuntime) -> Result<()> {
         "parse" => lines::parse_file(&rt, first),
         "eval" => scripts::run_file(&rt, first),
         "nodes" => nodes::intern_and_find(&rt),
+        "costs" => costs::expand(&rt, first, second),
         "subst" => substitution::expand(&rt, first, second),
         "values" => values::time_operations(&rt),
         _ => bail!("no bench of that name: {word}"),

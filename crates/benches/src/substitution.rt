@@ -26,7 +26,7 @@ pub fn expand(rt: &HostRuntime, turns: Option<String>, times: Option<String>) ->
 }
 
 /// The number that an argument gives, or 1.
-fn number(argument: Option<String>) -> Result<u32> {
+pub(crate) fn number(argument: Option<String>) -> Result<u32> {
     match argument {
         Some(number) => Ok(number.as_str().parse::<u32>()?),
         None => Ok(1),
@@ -88,7 +88,7 @@ fn defines(alloc: Global, count: u32) -> Option<Listing<Item>> {
 }
 
 /// A rule at the top with one target and one source.
-fn locals(alloc: Global) -> Option<Locals> {
+pub(crate) fn locals(alloc: Global) -> Option<Locals> {
     let mut targets = Vec::new(alloc);
     targets.push(named(alloc, "build/main.o")?).ok()?;
     let mut sources = Vec::new(alloc);

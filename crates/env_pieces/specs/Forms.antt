@@ -66,7 +66,7 @@ signed_part keep (suc depth) number (piece.Mark End ∷ pieces) = signed_part ke
 abbrev pub text_of : List Piece → List ℕ
 text_of pieces = squeezed (texts_of pieces)
 
-abbrev squeezed_part : Result (List ℕ) ℕ → Result (List ℕ) ℕ
+abbrev pub squeezed_part : Result (List ℕ) ℕ → Result (List ℕ) ℕ
 squeezed_part (Ok text) = Ok (squeezed text)
 squeezed_part (Err place) = Err place
 

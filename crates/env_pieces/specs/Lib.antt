@@ -1,4 +1,5 @@
 pub mod Pieces
 pub mod Forms
 pub mod Lines
+pub mod Inside
 pub mod Steps

@@ -1,6 +1,7 @@
 //! The forms in which pieces are shown.
 ghost use Rattle.std.specs.Prelude.{◌≡◌, ◌≢◌, ◌<◌, ◌≤◌, ◌^◌, ◌-◌, ◌+◌, ◌++◌, ◌==◌, ⊤, Ok, Err, length, filter, IfOk, IfErr, OnOk, MatchOption, string_bytes};
 ghost use Rattle.env_pieces.specs.Forms.{text_of, texts_of, raw_of, raw_piece, feeds, signed_part, shown, FaultIs};
+ghost use Rattle.env_pieces.specs.Inside.{HidesInside};
 ghost use Rattle.env_pieces.specs.Steps.{Goes};
 
 use crate::piece::{Mark, Piece};
@@ -54,6 +55,7 @@ pub fn form_of(alloc: Global, pieces: &[Piece], mode: Mode) -> Result<String, Fo
     requires { length pieces.now < 2 ^ 32 }
     ensures shown { IfOk result (λ s. shown mode pieces.now ≡ Ok (string_bytes s)) }
     ensures fault { IfErr result (λ e. e ≢ FormFault.Memory → FaultIs e (shown mode pieces.now)) }
+    ensures hidden { IfOk result (λ s. mode ≡ Mode.Signed → HidesInside pieces.now (string_bytes s)) }
 {
     match mode {
         Mode::Text => Ok(text_of(alloc, pieces)?),

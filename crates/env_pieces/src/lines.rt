@@ -1,6 +1,7 @@
 //! The forms of lines: pieces are cut at line feeds before white space is made one space.
 ghost use Rattle.std.specs.Prelude.{◌≡◌, ◌≢◌, ◌<◌, ◌++◌, ◌^◌, Ok, length, IfOk, IfErr, OnOk, string_bytes};
 ghost use Rattle.env_pieces.specs.Forms.{FaultIs};
+ghost use Rattle.env_pieces.specs.Inside.{LinesHideInside};
 ghost use Rattle.env_pieces.specs.Lines.{flat, line_form, lines_in, line_forms};
 
 use crate::form::{FormFault, Mode, raw_of, signed_part, texts_of};
@@ -14,6 +15,7 @@ pub fn line_forms(alloc: Global, pieces: &[Piece], mode: Mode) -> Result<Texts, 
     requires { length pieces.now < 2 ^ 32 }
     ensures forms { IfOk result (λ t. line_forms mode pieces.now ≡ Ok t) }
     ensures fault { IfErr result (λ e. e ≢ FormFault.Memory → FaultIs e (line_forms mode pieces.now)) }
+    ensures hidden { IfOk result (λ t. mode ≡ Mode.Signed → LinesHideInside pieces.now t) }
 {
     let flat = flat(alloc, pieces, mode)?;
     let mut forms = Texts::new(Vec::new(alloc));

@@ -12,7 +12,7 @@ use std::mem;
 /// Why a piece isn't taken.
 #[derive(Clone, Copy, Debug, PartialEq, Eq)]
 pub enum PieceFault {
-    /// The pieces would have more than 1,048,576 bytes.
+    /// The pieces would have more bytes than one substitution may have.
     TooLong,
     Memory,
 }
@@ -50,7 +50,8 @@ impl<T: Drop> From<AllocFailed<T>> for PieceFault {
     }
 }
 
-/// The pieces that are read so far. Texts one behind another are one piece. After a refusal they aren't used any more.
+/// The pieces that are read so far. Texts one behind another are one piece. What is too long leaves them as they are; where
+/// memory is short they aren't used any more.
 #[derive(Debug, Drop)]
 pub struct Pieces {
     done: Vec<Piece>,
@@ -60,19 +61,20 @@ pub struct Pieces {
 
 impl Model for Pieces {
     ghost use Rattle.std.specs.Prelude.{◌+◌, ◌≤◌, length, string_bytes};
+    ghost use Rattle.scons_base.specs.declared.limits.TheConstants.{SUBST_LIMIT};
     ghost use Rattle.env_pieces.specs.Pieces.{Sheet};
 
     ghost Value = { Sheet };
 
     ghost view = { λ p. record { done = p.done.items; text = string_bytes p.text; room = p.room } };
 
-    ghost invariant = { λ p. length p.done.items + length (string_bytes p.text) + p.room ≤ 1048576 };
+    ghost invariant = { λ p. length p.done.items + length (string_bytes p.text) + p.room ≤ SUBST_LIMIT };
 }
 
 impl Pieces {
     /// No pieces yet, with room for as many bytes as one substitution may have.
     pub fn new(alloc: Global) -> Pieces
-        ensures { result ≡ blank 1048576 }
+        ensures { result ≡ blank SUBST_LIMIT }
     {
         Pieces {
             done: Vec::new(alloc),
@@ -104,6 +106,7 @@ impl Pieces {
         ensures ok { OnOk result (with_text text.now self.old ≡ Some self.new) }
         ensures fault { IfErr result (λ e. e ≢ PieceFault.Memory
             → (e ≡ PieceFault.TooLong) × (with_text text.now self.old ≡ None)) }
+        ensures unchanged { IfErr result (λ e. e ≡ PieceFault.TooLong → self.new ≡ self.old) }
     {
         let len = text.len();
         if len > self.room {
@@ -119,6 +122,7 @@ impl Pieces {
         ensures ok { OnOk result (with_mark mark self.old ≡ Some self.new) }
         ensures fault { IfErr result (λ e. e ≢ PieceFault.Memory
             → (e ≡ PieceFault.TooLong) × (with_mark mark self.old ≡ None)) }
+        ensures unchanged { IfErr result (λ e. e ≡ PieceFault.TooLong → self.new ≡ self.old) }
     {
         if self.room < 2 {
             return Err(PieceFault::TooLong);
@@ -134,7 +138,7 @@ impl Pieces {
     #[tactic(auto, using(crate::proofs::Sizes::piece_count))]
     pub fn finish(self) -> Result<Vec<Piece>, Memory>
         ensures pieces { IfOk result (λ v. v.items ≡ pieces_of self) }
-        ensures count { IfOk result (λ v. length v.items ≤ 1048576) }
+        ensures count { IfOk result (λ v. length v.items ≤ SUBST_LIMIT) }
     {
         let Pieces {
             mut done,

@@ -19,7 +19,7 @@ use Rattle.env_subst.specs.Contents.{Content, nothing, content_at, taken, said, 
 use Rattle.env_subst.specs.Attributes.{attribute_named}
 use Rattle.env_subst.specs.declared.attribute.Attribute.{Attribute}
 use Rattle.env_subst.specs.Expansions.{State, Answer, and_then, sheet_or_fault, puts, marks, spaces, refers, Reader, says_one, says_more, says_all, Names, is_open, content_in, Deeper, expands, says_or_fault, refers_to, reads_part, reads, meaning, height, text_at}
-use Rattle.env_subst.specs.Desks.{PlainTask, with_open, read, say, close, deeper_of, outer_names, does, names_after, resumes, Desk, left_of, Leads, behind_all}
+use Rattle.env_subst.specs.Desks.{PlainTask, with_open, read, say, close, deeper_of, and_rest, outer_names, does, names_after, resumes, Desk, left_of, Leads, behind_all}
 
 abbrev pub desk : List PlainTask → Names → Sheet → ℕ → Desk
 desk tasks names sheet n = record { tasks = tasks; names = names; state = record { sheet = sheet; references = n } }
@@ -184,13 +184,11 @@ module _ (w : Setting) (names : Names) (owner t bytes : List ℕ) (place : ℕ) 
   pub read_fails : (d : Desk) → reading_from bytes place ≡ bad_brace place → behind_all w (reads w (deeper_of w names) names owner (reading_from t place)) d ≡ Err (BadBrace owner place)
   read_fails d e = ap (λ r. behind_all w (reads w (deeper_of w names) names owner r) d) (the_reading (bad_brace place) e)
 
-  pub read_step : (tasks more : List PlainTask) (sheet : Sheet) (n : ℕ) (p q : PlainPart) (next : ℕ) (copy : List ℕ)
-      → reading_from bytes place ≡ part_at place q (reading_from bytes next) → p ≡ q → copy ≡ owner → more ≡ read copy t next ∷ tasks
-      → behind_all w (reads_part w (deeper_of w names) names owner place p) (desk more names sheet n) ≡ behind_all w (reads w (deeper_of w names) names owner (reading_from t place)) (desk tasks names sheet n)
-  read_step tasks more sheet n p q next copy e h c m =
-      upon w tasks more names sheet n (read owner t next) (reads_part w (deeper_of w names) names owner place p) refl (m ∙ ap (λ y. read y t next ∷ tasks) c)
-      ∙ ap (λ y. behind_all w (reads w (deeper_of w names) names owner (part_at place y (reading_from t next))) (desk tasks names sheet n)) h
-      ∙ ap (λ r. behind_all w (reads w (deeper_of w names) names owner r) (desk tasks names sheet n))
+  pub read_step : (d : Desk) (p q : PlainPart) (next : ℕ) → reading_from bytes place ≡ part_at place q (reading_from bytes next) → p ≡ q
+      → behind_all w (and_rest w names owner t next (reads_part w (deeper_of w names) names owner place p)) d ≡ behind_all w (reads w (deeper_of w names) names owner (reading_from t place)) d
+  read_step d p q next e h =
+      ap (λ y. behind_all w (reads w (deeper_of w names) names owner (part_at place y (reading_from t next))) d) h
+      ∙ ap (λ r. behind_all w (reads w (deeper_of w names) names owner r) d)
       (ap (λ x. part_at place q (reading_from x next)) (sym same) ∙ sym e ∙ ap (λ x. reading_from x place) same)
 
 -- a reference counts
@@ -204,6 +202,26 @@ pub refers_fails : (w : Setting) (tasks : List PlainTask) (names : Names) (sheet
     → behind_all w (λ s. and_then (refers s) f) (desk tasks names sheet n) ≡ Err e
 refers_fails w tasks names sheet n f e h =
     ap (λ b. and_then (and_then (if b then Ok (at sheet (n + 1)) else Err (TooMany 100001)) f) (resumes w tasks names)) h.0 ∙ ap (λ x. Err x) (sym h.1)
+
+-- the rest of a text is left to do
+pub rest_left : (w : Setting) (tasks more : List PlainTask) (names : Names) (sheet : Sheet) (n : ℕ) (owner t : List ℕ) (place : ℕ) (f : State → Answer) → more ≡ read owner t place ∷ tasks
+    → behind_all w f (desk more names sheet n) ≡ behind_all w (and_rest w names owner t place f) (desk tasks names sheet n)
+rest_left w tasks more names sheet n owner t place f m = upon w tasks more names sheet n (read owner t place) f refl m
+
+-- a reference counts, and the rest of a text is left to do
+module _ (w : Setting) (tasks : List PlainTask) (names : Names) (sheet : Sheet) (n : ℕ) (owner t : List ℕ) (place : ℕ) (f : State → Answer) where
+  pub refers_on : (more : List PlainTask) (next : ℕ) → (nat_lt n 100000 ≡ true) × (next ≡ n + 1) → more ≡ read owner t place ∷ tasks
+      → behind_all w f (desk more names sheet next) ≡ behind_all w (and_rest w names owner t place (λ s. and_then (refers s) f)) (desk tasks names sheet n)
+  refers_on more next h m =
+      rest_left w tasks more names sheet next owner t place f m
+      ∙ refers_step w tasks names sheet n next (λ s. and_then (f s) (does w names (read owner t place))) h
+      ∙ ap (λ a. and_then a (resumes w tasks names)) (sym (and_then-assoc (refers (at sheet n)) f (does w names (read owner t place))))
+
+  pub refers_no_more : (e : SubstFault) → (nat_lt n 100000 ≡ false) × (e ≡ TooMany 100001)
+      → behind_all w (and_rest w names owner t place (λ s. and_then (refers s) f)) (desk tasks names sheet n) ≡ Err e
+  refers_no_more e h =
+      ap (λ a. and_then a (resumes w tasks names)) (and_then-assoc (refers (at sheet n)) f (does w names (read owner t place)))
+      ∙ refers_fails w tasks names sheet n (λ s. and_then (f s) (does w names (read owner t place))) e h
 
 -- what a reference says
 module _ (w : Setting) (d : Desk) (owner : List ℕ) (place : ℕ) (name : List ℕ) (selection : Selection) (attribute : Option (List ℕ)) (held held_taken : Content)

@@ -1,5 +1,6 @@
 -- What is left to do while a text is read: the same as tasks, one upon another.
-use Rattle.std.specs.Prelude.{◌≡◌, ◌≢◌, ℕ, Bool, ◌-◌, ◌==◌, None, Some, List, [], ◌∷◌, ◌++◌, map, take, drop, reverse, length, Result, Ok, Err, MatchResult, if◌then◌else◌}
+use Rattle.std.specs.Prelude.{◌≡◌, ◌≢◌, ℕ, Bool, ◌+◌, ◌-◌, ◌==◌, None, Some, List, [], ◌∷◌, ◌++◌, map, take, drop, reverse, length, Result, Ok, Err, MatchResult, if◌then◌else◌}
+use Rattle.scons_base.specs.declared.limits.TheConstants.{SUBST_LIMIT}
 use Rattle.env_text.specs.Readings.{reading_from}
 use Rattle.env_pieces.specs.declared.piece.Piece.{Piece}
 use Rattle.env_pieces.specs.declared.pieces.PieceFault.{PieceFault}
@@ -16,11 +17,11 @@ use Rattle.env_subst.specs.declared.desk.Desk as code
 use Rattle.env_subst.specs.declared.setting.Setting as code_setting
 use Rattle.env_subst.specs.Settings.{Setting, setting_of}
 use Rattle.env_subst.specs.Sayings.{sayings_of}
-use Rattle.env_subst.specs.Expansions.{State, Answer, and_then, Deeper, Names, is_open, puts, says_one, says_more, expands, all_dirs, puts_all, read_item, items_all, reads, text_at}
+use Rattle.env_subst.specs.Expansions.{State, Answer, and_then, Deeper, Names, is_open, puts, says_one, says_more, expands, all_dirs, puts_all, read_item, items_all, reads, text_at, inner, started}
 
 -- what a refused piece is for the whole
 abbrev pub piece_fault : PieceFault → SubstFault
-piece_fault piece.TooLong = TooLong 1048577
+piece_fault piece.TooLong = TooLong (SUBST_LIMIT + 1)
 piece_fault piece.Memory = Memory
 
 pub data PlainTask : Type 0 where
@@ -59,6 +60,14 @@ plain locals task.Close = close
 -- the texts of the variables that stand in the innermost one
 abbrev pub deeper_of : Setting → Names → Deeper
 deeper_of w names name t s = if is_open name names then Ok s else text_at w (names ++ name ∷ []) name t s
+
+-- a text that is read apart as an item of a call
+abbrev pub reads_apart : Setting → Names → Call → Bool → List ℕ → State → Answer
+reads_apart w names call alone t s = read_item w (deeper_of w names) names call alone s.sheet (deeper_of w names call.list t (inner s))
+
+-- something that a text of `owner` begins with, and then the rest of the text from a place on
+abbrev pub and_rest : Setting → Names → List ℕ → List ℕ → ℕ → (State → Answer) → State → Answer
+and_rest w names owner t at first s = and_then (first s) (reads w (deeper_of w names) names owner (reading_from t at))
 
 -- without the innermost one
 abbrev pub outer_names : Names → Names
@@ -108,6 +117,10 @@ desk_of locals d = record {
   state = record { sheet = d.pieces; references = d.references };
 }
 
+-- nothing is left to do and nothing is read
+abbrev pub idle : Names → ℕ → Desk
+idle names references = record { tasks = []; names = names; state = started references }
+
 abbrev pub left_of : Setting → Desk → Answer
 left_of w d = resumes w d.tasks d.names d.state
 
@@ -138,7 +151,7 @@ Parted room old new = (if old.room == room then Some old else with_text (32 ∷ 
 
 -- and can't be
 abbrev pub CannotPart : ℕ → Sheet → SubstFault → Type 0
-CannotPart room old fault = (fault ≡ TooLong 1048577) × ((if old.room == room then Some old else with_text (32 ∷ []) old) ≡ None)
+CannotPart room old fault = (fault ≡ TooLong (SUBST_LIMIT + 1)) × ((if old.room == room then Some old else with_text (32 ∷ []) old) ≡ None)
 
 -- pieces are put, whatever the references are; and can't be
 abbrev pub PutsAll : List Piece → Sheet → Sheet → Type 0

@@ -5,6 +5,7 @@ use Rattle.env_text.specs.Alone.{name_alone}
 use Rattle.env_text.specs.Readings.{reading_of}
 use Rattle.env_pieces.specs.Pieces.{pieces_of}
 use Rattle.env_pieces.specs.Forms.{text_of}
+use Rattle.scons_base.specs.declared.limits.TheConstants.{REFERENCE_LIMIT}
 use Rattle.scons_base.specs.Resolve.{spelling}
 use Rattle.variant_dirs.specs.Variants.{searched}
 use Rattle.env_subst.specs.declared.fault.SubstFault.{SubstFault}
@@ -32,7 +33,7 @@ read_entry (Ok s) rest = named (text_of (pieces_of s.sheet)) (rest s.references)
 read_entry (Err fault) rest = fails fault
 
 abbrev pub variable_entries : (List ℕ → ℕ → (ℕ → Entries) → Entries) → List ℕ → ℕ → (ℕ → Entries) → Entries
-variable_entries spread name n rest = if nat_lt n 100000 then spread name (n + 1) rest else fails (TooMany 100001)
+variable_entries spread name n rest = if nat_lt n REFERENCE_LIMIT then spread name (n + 1) rest else fails (TooMany (REFERENCE_LIMIT + 1))
 
 -- a text of a variable's value: one name alone stands for the entries of that variable, a text without a `$` for itself
 abbrev pub text_entry : Setting → (List ℕ → ℕ → (ℕ → Entries) → Entries) → Names → List ℕ → List ℕ → Option (List ℕ) → ℕ → (ℕ → Entries) → Entries
@@ -55,7 +56,7 @@ entries_with w spread names owner (x ∷ xs) n rest =
 
 -- the entries of a variable, where these are open and so many may stand in each other
 unfoldable pub spread : Setting → ℕ → Names → List ℕ → ℕ → (ℕ → Entries) → Entries
-spread w zero names name n rest = fails (TooMany 100001)
+spread w zero names name n rest = fails (TooMany (REFERENCE_LIMIT + 1))
 spread w (suc more) names name n rest =
     entries_with w (spread w more (names ++ name ∷ [])) (names ++ name ∷ []) name (sayings_in w names name) n rest
 

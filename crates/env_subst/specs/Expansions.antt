@@ -3,6 +3,7 @@ use Rattle.std.specs.Prelude.{ℕ, zero, suc, ◌+◌, ◌-◌, ◌==◌, ◌&&�
 use Rattle.std.specs.List.{list_any, list_all}
 use Rattle.std.specs.Str.{bytes_eq}
 use Rattle.scons_base.specs.declared.fault.PathFault.{PathFault}
+use Rattle.scons_base.specs.declared.limits.TheConstants.{SUBST_LIMIT, REFERENCE_LIMIT}
 use Rattle.scons_base.specs.Resolve.{spelling, resolved, resolve_fault}
 use Rattle.variant_dirs.specs.Variants.{searched}
 use Rattle.env_text.specs.Alone.{name_alone}
@@ -39,7 +40,7 @@ and_then (Err fault) next = Err fault
 
 abbrev pub sheet_or_fault : ℕ → Option Sheet → Answer
 sheet_or_fault references (Some sheet) = Ok (record { sheet = sheet; references = references })
-sheet_or_fault references None = Err (TooLong 1048577)
+sheet_or_fault references None = Err (TooLong (SUBST_LIMIT + 1))
 
 -- a text or a mark is put, unless all would be too long
 abbrev pub puts : List ℕ → State → Answer
@@ -52,10 +53,10 @@ marks mark s = sheet_or_fault s.references (with_mark mark s.sheet)
 abbrev pub spaces : State → Answer
 spaces s = puts (32 ∷ []) s
 
--- a reference counts, up to 100,000
+-- a reference counts, up to their limit
 abbrev pub refers : State → Answer
 refers s =
-    if nat_lt s.references 100000 then Ok (record { sheet = s.sheet; references = s.references + 1 }) else Err (TooMany 100001)
+    if nat_lt s.references REFERENCE_LIMIT then Ok (record { sheet = s.sheet; references = s.references + 1 }) else Err (TooMany (REFERENCE_LIMIT + 1))
 
 -- how a text is read
 abbrev pub Reader : Type 0
@@ -237,14 +238,14 @@ reads w deeper names owner (bad_brace at) s = Err (BadBrace owner at)
 -- What comes of a text of the value of `owner`, where these variables are open and so many texts may stand in each other.
 -- The given text has no name.
 unfoldable pub meaning : Setting → ℕ → Names → List ℕ → Reader
-meaning w zero names owner t s = Err (TooMany 100001)
+meaning w zero names owner t s = Err (TooMany (REFERENCE_LIMIT + 1))
 meaning w (suc more) names owner t s =
     reads w (λ name u v. if is_open name names then Ok v else meaning w more (names ++ name ∷ []) name u v) names owner (reading_of t) s
 
 -- how many texts may stand in each other: the given one, that of a variable whose directories are asked for, and one for each
 -- reference, so that no reading comes to an end here
 unfoldable pub height : ℕ
-height = 100002
+height = REFERENCE_LIMIT + 2
 
 -- a text of the innermost of these variables
 abbrev pub text_at : Setting → Names → Deeper
@@ -252,7 +253,7 @@ text_at w names owner = meaning w (height - length names) names owner
 
 -- nothing is read yet, behind so many references
 abbrev pub started : ℕ → State
-started n = record { sheet = blank 1048576; references = n }
+started n = record { sheet = blank SUBST_LIMIT; references = n }
 
 abbrev pub start : State
 start = started 0

@@ -1,5 +1,5 @@
 -- What is left of the entries of a list variable, as frames of variables that are open.
-use Rattle.std.specs.Prelude.{◌≡◌, ◌≢◌, ◌==◌, ℕ, List, [], ◌∷◌, map, reverse, length, Result, Ok, Err, if◌then◌else◌}
+use Rattle.std.specs.Prelude.{◌≡◌, ◌≢◌, ◌==◌, ℕ, List, [], ◌∷◌, ◌++◌, map, reverse, length, Result, Ok, Err, MatchResult, if◌then◌else◌}
 use Rattle.env_subst.specs.declared.entries.Frame as code_frame
 use Rattle.env_subst.specs.declared.entries.Entries as code
 use Rattle.env_subst.specs.declared.entries.EntryStep.{EntryStep}
@@ -8,14 +8,15 @@ use Rattle.env_subst.specs.declared.entries.Found.{Found}
 use Rattle.env_subst.specs.declared.entries.Found.TheVariants as found
 use Rattle.env_subst.specs.declared.fault.SubstFault.{SubstFault}
 use Rattle.env_subst.specs.declared.fault.SubstFault.TheVariants.{Memory}
+use Rattle.env_subst.specs.declared.library.LibItem.{LibItem}
 use Rattle.env_subst.specs.declared.library.LibItem.TheVariants.{Name}
 use Rattle.env_subst.specs.declared.locals.Locals.{Locals}
 use Rattle.env_subst.specs.declared.saying.Saying.{Saying}
 use Rattle.env_subst.specs.Settings.{Setting}
 use Rattle.env_subst.specs.Sayings.{sayings_of}
-use Rattle.env_subst.specs.Expansions.{Names}
+use Rattle.env_subst.specs.Expansions.{Names, start}
 use Rattle.env_subst.specs.Desks.{outer_names}
-use Rattle.env_subst.specs.Entries.{Entries, over, fails, entry, variable_entries, entries_with, entries_at}
+use Rattle.env_subst.specs.Entries.{Entries, over, fails, entry, variable_entries, first_entry, entries_with, entries_at, entry_dirs}
 
 -- a variable, and what it still says
 abbrev pub Frame : Type 0
@@ -56,3 +57,15 @@ abbrev pub Finds : Setting → Names → Entries → (ℕ → Entries) → Found
 Finds w names whole rest (found.Nothing, n) = whole ≡ rest n
 Finds w names whole rest (found.Entry x, n) = whole ≡ entry x (rest n)
 Finds w names whole rest (found.Variable name, n) = whole ≡ variable_entries (entries_at w names) name n rest
+
+-- this is what comes first of what the innermost variable says, or its fault
+abbrev pub FindsFirst : Setting → Names → List ℕ → Saying → ℕ → Result (Found × ℕ) SubstFault → Type 0
+FindsFirst w names name saying n r = (rest : ℕ → Entries) →
+    MatchResult r (Finds w names (first_entry w (entries_at w names) names name saying n rest) rest)
+    (λ e. e ≢ Memory → first_entry w (entries_at w names) names name saying n rest ≡ fails e)
+
+-- the directories of an entry are put behind others, or the entry has this fault
+abbrev pub PutsDirs : {U : Type 0} → Setting → LibItem → List (List ℕ) → List (List ℕ) → Result U SubstFault → Type 0
+PutsDirs w x old new r =
+    MatchResult r (λ _. (dirs : List (List ℕ)) × (entry_dirs w x ≡ Ok (dirs, start)) × (new ≡ old ++ dirs))
+    (λ e. e ≢ Memory → entry_dirs w x ≡ Err e)

@@ -48,7 +48,11 @@ sayings_of locals (sayings.Text text) = Read text.now ∷ []
 sayings_of locals (sayings.One saying) = saying ∷ []
 sayings_of locals sayings.Over = []
 
+-- the first thing and the others
+abbrev pub first_and_rest : Locals → First → List Saying
+first_and_rest locals first = first.saying ∷ sayings_of locals first.rest
+
 -- the first of these things and the others, or nothing where there is none
 abbrev pub Begins : Locals → List Saying → Option First → Type 0
 Begins locals says None = says ≡ []
-Begins locals says (Some first) = says ≡ first.saying ∷ sayings_of locals first.rest
+Begins locals says (Some first) = says ≡ first_and_rest locals first

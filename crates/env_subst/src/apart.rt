@@ -3,8 +3,8 @@ ghost use Rattle.std.specs.Prelude.{◌≡◌, ◌≢◌, ◌++◌, ◌∷◌, [
 ghost use Rattle.std.specs.Option.{option_map};
 ghost use Rattle.env_text.specs.Alone.{name_alone};
 ghost use Rattle.env_text.specs.Readings.{reading_of};
-ghost use Rattle.env_subst.specs.Expansions.{is_literal, text_item, puts_read, read_item, inner, call_of};
-ghost use Rattle.env_subst.specs.Desks.{deeper_of, Steps, PutsAll, CannotPut};
+ghost use Rattle.env_subst.specs.Expansions.{is_literal, text_item, puts_read, read_item, call_of};
+ghost use Rattle.env_subst.specs.Desks.{deeper_of, reads_apart, Steps, PutsAll, CannotPut};
 
 use crate::calls::{put_between, put_known, put_parting};
 use crate::desk::{Desk, push, put, put_mark};
@@ -88,7 +88,7 @@ fn read_apart<'a>(
     text: Text,
     alone: bool,
 ) -> Result<(), SubstFault>
-    ensures { Steps setting.now (λ w names t. read_item w (deeper_of w names) names call alone t.sheet (deeper_of w names call.list text (inner t))) desk.old desk.new result }
+    ensures { Steps setting.now (λ w names. reads_apart w names call alone text) desk.old desk.new result }
 {
     let name = call.list.copy()?;
     let inner = desk.pieces.inner();

@@ -1,8 +1,9 @@
 //! Calls of `_concat`.
 ghost use Rattle.std.specs.Prelude.{◌≡◌, ◌≢◌, ◌<◌, ◌+◌, ◌^◌, ⊤, [], ◌∷◌, Ok, Err, OnOk, IfErr, MatchOption, MatchResult, IfOk, drop};
+ghost use Rattle.variant_dirs.specs.Variants.{AreSpelled};
 ghost use Rattle.env_subst.specs.declared.locals.Locals.{Locals};
 ghost use Rattle.env_subst.specs.Settings.{setting_of};
-ghost use Rattle.env_subst.specs.Sayings.{sayings_of};
+ghost use Rattle.env_subst.specs.Sayings.{sayings_of, first_and_rest};
 ghost use Rattle.env_subst.specs.Expansions.{State, Names, dirs_named, affixed, puts_item, all_dirs, puts_found, known_item, node_item, item, items_all, calls};
 ghost use Rattle.env_subst.specs.Desks.{items, dirs, expand, deeper_of, does, plain, tasks_of, names_after, Parted, CannotPart, Steps};
 
@@ -67,7 +68,7 @@ fn put_items<'a>(
     call: Call,
     first: First<'a>,
 ) -> Result<(), SubstFault>
-    ensures { Steps setting.now (λ w names. items_all w (deeper_of w names) names call (first.entry.saying ∷ sayings_of w.locals first.entry.rest)) desk.old desk.new result }
+    ensures { Steps setting.now (λ w names. items_all w (deeper_of w names) names call (first_and_rest w.locals first.entry)) desk.old desk.new result }
 {
     let First { saying, rest } = first;
     push_items(&mut desk.tasks, &call, rest)?;
@@ -153,7 +154,8 @@ fn put_named<'a>(
 
 /// The directories that a text names.
 pub(crate) fn dirs_named(setting: &Setting<'_>, text: &str) -> Result<Paths, SubstFault>
-    ensures { (s : State) → MatchResult result (λ p. dirs_named (setting_of setting.now) text.now s ≡ Ok (p, s))
+    ensures spelled { IfOk result (AreSpelled setting.now.locals.now.top) }
+    ensures dirs { (s : State) → MatchResult result (λ p. dirs_named (setting_of setting.now) text.now s ≡ Ok (p, s))
         (λ e. e ≢ SubstFault.Memory → dirs_named (setting_of setting.now) text.now s ≡ Err e) }
 {
     let locals = setting.locals;

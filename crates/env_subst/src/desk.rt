@@ -46,7 +46,7 @@ pub(crate) fn pop<'a>(stack: &mut Stack<'a>) -> Option<Task<'a>>
 pub(crate) fn put(pieces: &mut Pieces, text: &str) -> Result<(), SubstFault>
     ensures ok { OnOk result (with_text text.now pieces.old ≡ Some pieces.new) }
     ensures fault { IfErr result (λ e. e ≢ SubstFault.Memory
-        → (e ≡ SubstFault.TooLong 1048577) × (with_text text.now pieces.old ≡ None)) }
+        → (e ≡ SubstFault.TooLong (SUBST_LIMIT + 1)) × (with_text text.now pieces.old ≡ None)) }
 {
     match pieces.put_text(text) {
         Ok(()) => Ok(()),
@@ -57,7 +57,7 @@ pub(crate) fn put(pieces: &mut Pieces, text: &str) -> Result<(), SubstFault>
 pub(crate) fn put_mark(pieces: &mut Pieces, mark: Mark) -> Result<(), SubstFault>
     ensures ok { OnOk result (with_mark mark pieces.old ≡ Some pieces.new) }
     ensures fault { IfErr result (λ e. e ≢ SubstFault.Memory
-        → (e ≡ SubstFault.TooLong 1048577) × (with_mark mark pieces.old ≡ None)) }
+        → (e ≡ SubstFault.TooLong (SUBST_LIMIT + 1)) × (with_mark mark pieces.old ≡ None)) }
 {
     match pieces.put_mark(mark) {
         Ok(()) => Ok(()),
@@ -76,8 +76,8 @@ fn piece_fault(fault: PieceFault) -> SubstFault
 
 /// Counts one more reference.
 pub(crate) fn refer(references: usize) -> Result<usize, SubstFault>
-    ensures { MatchResult result (λ n. (nat_lt references 100000 ≡ true) × (n ≡ references + 1))
-        (λ e. (nat_lt references 100000 ≡ false) × (e ≡ SubstFault.TooMany 100001)) }
+    ensures { MatchResult result (λ n. (nat_lt references REFERENCE_LIMIT ≡ true) × (n ≡ references + 1))
+        (λ e. (nat_lt references REFERENCE_LIMIT ≡ false) × (e ≡ SubstFault.TooMany (REFERENCE_LIMIT + 1))) }
 {
     if references < REFERENCE_LIMIT as usize {
         Ok(references + 1)

@@ -4,7 +4,7 @@ ghost use Rattle.env_subst.specs.Settings.{setting_of};
 ghost use Rattle.env_subst.specs.Sayings.{sayings_of};
 ghost use Rattle.env_subst.specs.Entries as spec;
 ghost use Rattle.env_subst.specs.declared.locals.Locals.{Locals};
-ghost use Rattle.env_subst.specs.Frames.{frame_of, frames_of, left_of, entries_left, opened, found_of, Steps, Finds};
+ghost use Rattle.env_subst.specs.Frames.{frame_of, frames_of, left_of, entries_left, opened, found_of, Steps, FindsFirst};
 
 use crate::apart::is_literal;
 use crate::content::said;
@@ -186,9 +186,7 @@ fn found_in(
     saying: Saying,
     references: usize,
 ) -> Result<(Found, usize), SubstFault>
-    ensures { let w = setting_of setting.now in (rest : ℕ → spec.Entries) →
-        MatchResult result (Finds w names.now (spec.first_entry w (spec.entries_at w names.now) names.now name.now saying references rest) rest)
-        (λ e. e ≢ SubstFault.Memory → spec.first_entry w (spec.entries_at w names.now) names.now name.now saying references rest ≡ spec.fails e) }
+    ensures { FindsFirst (setting_of setting.now) names.now name.now saying references result }
 {
     match saying {
         Saying::Path(path) => Ok((Found::Entry(LibItem::Node(path)), references)),
@@ -204,9 +202,7 @@ fn text_found(
     text: Text,
     references: usize,
 ) -> Result<(Found, usize), SubstFault>
-    ensures { let w = setting_of setting.now in (rest : ℕ → spec.Entries) →
-        MatchResult result (Finds w names.now (spec.first_entry w (spec.entries_at w names.now) names.now name.now (Saying.Read text) references rest) rest)
-        (λ e. e ≢ SubstFault.Memory → spec.first_entry w (spec.entries_at w names.now) names.now name.now (Saying.Read text) references rest ≡ spec.fails e) }
+    ensures { FindsFirst (setting_of setting.now) names.now name.now (Saying.Read text) references result }
 {
     match name_alone(text.as_str()) {
         Some(variable) => {

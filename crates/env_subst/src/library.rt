@@ -1,9 +1,10 @@
 //! The libraries and the search paths that variables hold.
 ghost use Rattle.std.specs.Prelude.{◌≡◌, ◌≢◌, ◌<◌, ◌++◌, ℕ, List, Ok, Err, OnOk, length, IfOk, IfErr, MatchResult};
+ghost use Rattle.variant_dirs.specs.Variants.{AreSpelled};
 ghost use Rattle.env_subst.specs.Settings.{setting, setting_of};
 ghost use Rattle.env_subst.specs.Expansions.{start};
 ghost use Rattle.env_subst.specs.Entries.{items_of, more_items, lib_items, behind, entry_dirs, dirs_of, search_path};
-ghost use Rattle.env_subst.specs.Frames.{entries_left};
+ghost use Rattle.env_subst.specs.Frames.{entries_left, PutsDirs};
 
 use crate::calls::dirs_named;
 use crate::entries::{Entries, EntryStep, entries_of, step};
@@ -65,7 +66,7 @@ fn push_names<'a>(
     Err(SubstFault::Memory)
 }
 
-/// The search path that a variable holds, as directories.
+/// The search path that a variable holds, as directories, each in its one spelling.
 pub fn dirs(
     alloc: Global,
     envs: &Envs,
@@ -77,6 +78,7 @@ pub fn dirs(
     ensures dirs { IfOk result (λ p. search_path (setting envs.now env.0 locals.now) name.now ≡ Ok p) }
     ensures fault { IfErr result (λ e. e ≢ SubstFault.Memory
         → search_path (setting envs.now env.0 locals.now) name.now ≡ Err e) }
+    ensures spelled { IfOk result (AreSpelled locals.now.top) }
 {
     let setting = Setting {
         alloc,
@@ -96,7 +98,9 @@ fn push_dirs<'a>(
     entries: &mut Entries<'a>,
     found: &mut Paths,
 ) -> Result<(), SubstFault>
-    ensures { let w = setting_of setting.now in let more = dirs_of w (entries_left w entries.old) in
+    ensures spelled { let top = setting.now.locals.now.top in
+        AreSpelled top found.old → OnOk result (AreSpelled top found.new) }
+    ensures dirs { let w = setting_of setting.now in let more = dirs_of w (entries_left w entries.old) in
         MatchResult result (λ _. behind found.old more ≡ Ok found.new) (λ e. e ≢ SubstFault.Memory → more ≡ Err e) }
 {
     'entries: for _ in 0..u64::MAX {
@@ -110,9 +114,11 @@ fn push_dirs<'a>(
 }
 
 /// Puts the directories of an entry behind others.
+#[tactic(auto, using(crate::proofs::Spelled::all_spelled))]
 fn put_dirs(setting: &Setting<'_>, found: &mut Paths, entry: LibItem) -> Result<(), SubstFault>
-    ensures { MatchResult result (λ _. (dirs : List (List ℕ)) × (entry_dirs (setting_of setting.now) entry ≡ Ok (dirs, start)) × (found.new ≡ found.old ++ dirs))
-        (λ e. e ≢ SubstFault.Memory → entry_dirs (setting_of setting.now) entry ≡ Err e) }
+    ensures dirs { PutsDirs (setting_of setting.now) entry found.old found.new result }
+    ensures spelled { let top = setting.now.locals.now.top in
+        AreSpelled top found.old → OnOk result (AreSpelled top found.new) }
 {
     let dirs = dirs_at(setting, entry)?;
     push_all(found, dirs.as_slice())?;
@@ -121,7 +127,8 @@ fn put_dirs(setting: &Setting<'_>, found: &mut Paths, entry: LibItem) -> Result<
 
 /// The directories of an entry.
 fn dirs_at(setting: &Setting<'_>, entry: LibItem) -> Result<Paths, SubstFault>
-    ensures { MatchResult result (λ p. entry_dirs (setting_of setting.now) entry ≡ Ok (p, start))
+    ensures spelled { IfOk result (AreSpelled setting.now.locals.now.top) }
+    ensures dirs { MatchResult result (λ p. entry_dirs (setting_of setting.now) entry ≡ Ok (p, start))
         (λ e. e ≢ SubstFault.Memory → entry_dirs (setting_of setting.now) entry ≡ Err e) }
 {
     match entry {
@@ -135,6 +142,7 @@ fn dirs_at(setting: &Setting<'_>, entry: LibItem) -> Result<Paths, SubstFault>
     }
 }
 
+/// Puts copies of paths behind others.
 fn push_all(found: &mut Paths, more: &[PathText]) -> Result<(), Memory>
     ensures { OnOk result (found.new ≡ found.old ++ more.now) }
 {

@@ -5,9 +5,9 @@ ghost use Rattle.env_subst.specs.Settings.{setting_of};
 ghost use Rattle.env_subst.specs.Contents.{content_of, said_by};
 ghost use Rattle.env_subst.specs.declared.locals.Locals.{Locals};
 ghost use Rattle.env_subst.specs.Parts.{owned_part};
-ghost use Rattle.env_subst.specs.Sayings.{sayings_of};
-ghost use Rattle.env_subst.specs.Expansions.{is_open, content_in, refers_to, reads_part, reads, says_one, says_more, says_all, expands, text_at};
-ghost use Rattle.env_subst.specs.Desks.{say, deeper_of, with_open, tasks_of, desk_of, Steps};
+ghost use Rattle.env_subst.specs.Sayings.{sayings_of, first_and_rest};
+ghost use Rattle.env_subst.specs.Expansions.{and_then, is_open, content_in, refers, refers_to, calls, reads_part, reads, says_one, says_more, says_all, expands, text_at};
+ghost use Rattle.env_subst.specs.Desks.{read, say, deeper_of, and_rest, with_open, tasks_of, desk_of, Steps};
 
 use crate::calls::call_items;
 use crate::content::{Holding, held_by, said, said_by, taken};
@@ -18,7 +18,7 @@ use crate::part::{OwnedPart, owned};
 use crate::place::Place;
 use crate::saying::{First, Saying, Sayings, first_of};
 use crate::setting::Setting;
-use crate::task::Task;
+use crate::task::{Call, Task};
 use env_text::{Selection, Step, next_part};
 use scons_base::limits::REFERENCE_LIMIT;
 use scons_base::{Memory, Text};
@@ -41,41 +41,63 @@ pub(crate) fn read_on<'a>(
         }),
         Step::Part(part, next) => {
             let part = owned(setting.alloc, part)?;
-            let task = Task::Read {
-                owner: owner.copy()?,
-                place: Place { text, at: next },
-            };
-            push(&mut desk.tasks, task)?;
-            read_part(setting, desk, owner, at, part)
+            let rest = Place { text, at: next };
+            read_part(setting, desk, owner, at, rest, part)
         }
     }
 }
 
+/// Reads a part of a text of the variable `owner`, and leaves the rest of the text to do.
 fn read_part<'a>(
     setting: &Setting<'a>,
     desk: &mut Desk<'a>,
     owner: Text,
     at: usize,
+    rest: Place,
     part: OwnedPart,
 ) -> Result<(), SubstFault>
-    ensures { Steps setting.now (λ w names. reads_part w (deeper_of w names) names owner at (owned_part part)) desk.old desk.new result }
+    ensures { Steps setting.now (λ w names. and_rest w names owner rest.text rest.at
+        (reads_part w (deeper_of w names) names owner at (owned_part part))) desk.old desk.new result }
 {
     match part {
-        OwnedPart::Text(text) => put(&mut desk.pieces, text.as_str()),
-        OwnedPart::Mark(mark) => put_mark(&mut desk.pieces, mark),
+        OwnedPart::Text(text) => {
+            push_rest(&mut desk.tasks, owner, rest)?;
+            put(&mut desk.pieces, text.as_str())
+        }
+        OwnedPart::Mark(mark) => {
+            push_rest(&mut desk.tasks, owner, rest)?;
+            put_mark(&mut desk.pieces, mark)
+        }
         OwnedPart::Variable {
             name,
             selection,
             attribute,
-        } => {
-            desk.references = refer(desk.references)?;
-            read_variable(setting, desk, owner, at, name, selection, attribute)
-        }
-        OwnedPart::Call(call) => {
-            desk.references = refer(desk.references)?;
-            call_items(setting, desk, call)
-        }
+        } => read_variable(setting, desk, owner, at, rest, name, selection, attribute),
+        OwnedPart::Call(call) => read_call(setting, desk, owner, rest, call),
     }
+}
+
+/// The rest of a text is left to do.
+fn push_rest<'a>(stack: &mut Stack<'a>, owner: Text, rest: Place) -> Result<(), Memory>
+    ensures { OnOk result ((locals : Locals) → tasks_of locals stack.new.tasks.items
+        ≡ read owner rest.text rest.at ∷ tasks_of locals stack.old.tasks.items) }
+{
+    push(stack, Task::Read { owner, place: rest })
+}
+
+fn read_call<'a>(
+    setting: &Setting<'a>,
+    desk: &mut Desk<'a>,
+    owner: Text,
+    rest: Place,
+    call: Call,
+) -> Result<(), SubstFault>
+    ensures { Steps setting.now (λ w names. and_rest w names owner rest.text rest.at
+        (λ s. and_then (refers s) (calls w (deeper_of w names) names call))) desk.old desk.new result }
+{
+    desk.references = refer(desk.references)?;
+    push_rest(&mut desk.tasks, owner, rest)?;
+    call_items(setting, desk, call)
 }
 
 fn read_variable<'a>(
@@ -83,16 +105,23 @@ fn read_variable<'a>(
     desk: &mut Desk<'a>,
     owner: Text,
     at: usize,
+    rest: Place,
     name: Text,
     selection: Selection,
     attribute: Option<Text>,
 ) -> Result<(), SubstFault>
-    ensures { Steps setting.now (λ w names. refers_to w (deeper_of w names) names owner at name selection attribute) desk.old desk.new result }
+    ensures { Steps setting.now (λ w names. and_rest w names owner rest.text rest.at
+        (λ s. and_then (refers s) (refers_to w (deeper_of w names) names owner at name selection attribute)))
+        desk.old desk.new result }
 {
+    desk.references = refer(desk.references)?;
     let held = held_in(setting, &desk.names, &name)?;
     let holding = taken(held, selection);
     match said_as(holding, &attribute) {
-        Some(sayings) => say_all(setting, desk, name, sayings),
+        Some(sayings) => {
+            push_rest(&mut desk.tasks, owner, rest)?;
+            say_all(setting, desk, name, sayings)
+        }
         None => Err(SubstFault::BadAttr {
             name: owner,
             at: at as u64,
@@ -177,7 +206,7 @@ fn say_first<'a>(
     name: Text,
     first: First<'a>,
 ) -> Result<(), SubstFault>
-    ensures { Steps setting.now (λ w names. says_all (text_at w names name) (first.entry.saying ∷ sayings_of w.locals first.entry.rest)) desk.old desk.new result }
+    ensures { Steps setting.now (λ w names. says_all (text_at w names name) (first_and_rest w.locals first.entry)) desk.old desk.new result }
 {
     let First { saying, rest } = first;
     push_sayings(&mut desk.tasks, &name, rest)?;

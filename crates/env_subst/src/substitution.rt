@@ -1,12 +1,13 @@
 //! Substitution: a text is read, and its pieces are shown in a form.
 ghost use Rattle.std.specs.Prelude.{◌≡◌, ◌≢◌, ◌<◌, ◌≤◌, [], Ok, Err, length, IfOk, IfErr, MatchResult, string_bytes};
-ghost use Rattle.env_pieces.specs.Pieces.{blank, pieces_of};
+ghost use Rattle.scons_base.specs.declared.limits.TheConstants.{SUBST_LIMIT};
+ghost use Rattle.env_pieces.specs.Pieces.{pieces_of};
 ghost use Rattle.env_pieces.specs.Forms.{text_of};
 ghost use Rattle.env_subst.specs.Settings.{setting, setting_of};
 ghost use Rattle.env_subst.specs.declared.locals.Locals.{Locals};
 ghost use Rattle.env_subst.specs.Expansions.{State, text_at, started};
 ghost use Rattle.env_subst.specs.Results.{form_fault, expansion, substituted};
-ghost use Rattle.env_subst.specs.Desks.{plain, desk_of, left_of, with_task, Leads};
+ghost use Rattle.env_subst.specs.Desks.{plain, desk_of, idle, left_of, with_task, Leads};
 
 use crate::apart::{put_all, put_read};
 use crate::calls::{more_items, put_dirs};
@@ -64,7 +65,7 @@ pub(crate) fn pieces_of(
     ensures pieces { IfOk result (λ v. expansion (setting envs.now env.0 locals.now) text.now ≡ Ok v.items) }
     ensures fault { IfErr result (λ e. e ≢ SubstFault.Memory
         → expansion (setting envs.now env.0 locals.now) text.now ≡ Err e) }
-    ensures count { IfOk result (λ v. length v.items ≤ 1048576) }
+    ensures count { IfOk result (λ v. length v.items ≤ SUBST_LIMIT) }
 {
     let setting = Setting {
         alloc,
@@ -122,7 +123,7 @@ fn read_pieces(
 
 /// Nothing is left to do and nothing is read.
 fn desk_with<'a>(alloc: Global, names: Names, references: usize) -> Desk<'a>
-    ensures { (locals : Locals) → desk_of locals result ≡ record { tasks = []; names = names; state = record { sheet = blank 1048576; references = references } } }
+    ensures { (locals : Locals) → desk_of locals result ≡ idle names references }
 {
     Desk {
         tasks: Stack {

@@ -1,10 +1,11 @@
 -- What the code holds, as the definitions say it.
-use Rattle.std.specs.Prelude.{◌≡◌, ℕ, ◌<◌, ◌+◌, false, List, [], ◌∷◌, Option, None, Some, length, ⊤}
+use Rattle.std.specs.Prelude.{◌≡◌, ℕ, ◌<◌, ◌+◌, false, List, [], ◌∷◌, Option, None, Some, length, MatchOption, ⊤}
 use Rattle.std.specs.Borrow.{Bor}
 use Rattle.std.specs.Option.{option_map, option_copied}
 use Rattle.std.specs.Str.{IsCharBoundary}
 use Rattle.env_text.specs.declared.part.Part.{Part}
 use Rattle.env_text.specs.declared.part.Part.TheVariants as part
+use Rattle.env_text.specs.declared.part.Selection.{Selection}
 use Rattle.env_text.specs.declared.reader.Front.{Front}
 use Rattle.env_text.specs.declared.reader.Front.TheVariants as front
 use Rattle.env_text.specs.declared.reader.Step.{Step}
@@ -54,6 +55,10 @@ names_from n more = option_map (λ names. n ∷ names) (further_names more)
 abbrev pub GoesShorter : Option (Bor (List ℕ)) → List ℕ → Type 0
 GoesShorter None bytes = ⊤
 GoesShorter (Some more) bytes = length more.now < length bytes
+
+-- what is told of a selection and of what follows it, and none where nothing is told
+abbrev pub Selects : Option (Selection × List PlainWord) → Option (Selection × Bor (List ℕ)) → Type 0
+Selects told result = MatchOption result (told ≡ None) (λ p. told ≡ Some (p.0, words_of p.1.now))
 
 abbrev pub beginning_of : Front → Beginning
 beginning_of (front.Takes p more) = takes (plain p) more

@@ -3,7 +3,7 @@ ghost use Rattle.std.specs.Prelude.{◌≡◌, ◌<◌, ◌∷◌, [], ◌↔◌
 ghost use Rattle.std.specs.Option.{option_map, option_copied};
 ghost use Rattle.env_text.specs.Words.{words_of, name};
 ghost use Rattle.env_text.specs.References.{end_of, inside_brackets, closed, selection_of, attribute_of, variable_of, names_of, concat_of, call_of, reference_of, begins_with_rdirs, BeginsNoName};
-ghost use Rattle.env_text.specs.Views.{plain, further_names, names_from, GoesShorter};
+ghost use Rattle.env_text.specs.Views.{plain, further_names, names_from, GoesShorter, Selects};
 
 use crate::part::{Index, Part, Selection};
 use crate::word::{Word, behind, next_word};
@@ -53,7 +53,7 @@ fn variable_of<'a>(name: &'a str, words: &'a [u8]) -> Option<Part<'a>>
 
 /// What is selected and what follows it.
 fn selection_of(words: &[u8]) -> Option<(Selection, &[u8])>
-    ensures { MatchOption result (selection_of (words_of words.now) ≡ None) (λ p. selection_of (words_of words.now) ≡ Some (p.0, words_of p.1.now)) }
+    ensures { Selects (selection_of (words_of words.now)) result }
 {
     match behind(b'[', words) {
         Some(inside) => inside_brackets(inside),
@@ -62,7 +62,7 @@ fn selection_of(words: &[u8]) -> Option<(Selection, &[u8])>
 }
 
 fn inside_brackets(words: &[u8]) -> Option<(Selection, &[u8])>
-    ensures { MatchOption result (inside_brackets (end_of (words_of words.now)) ≡ None) (λ p. inside_brackets (end_of (words_of words.now)) ≡ Some (p.0, words_of p.1.now)) }
+    ensures { Selects (inside_brackets (end_of (words_of words.now))) result }
 {
     let (from, rest) = end_of(words);
     match behind(b':', rest) {
@@ -89,7 +89,7 @@ fn end_of(words: &[u8]) -> (Option<Index>, &[u8])
 }
 
 fn closed(selection: Selection, words: &[u8]) -> Option<(Selection, &[u8])>
-    ensures { MatchOption result (closed selection (words_of words.now) ≡ None) (λ p. closed selection (words_of words.now) ≡ Some (p.0, words_of p.1.now)) }
+    ensures { Selects (closed selection (words_of words.now)) result }
 {
     let rest = behind(b']', words)?;
     Some((selection, rest))

@@ -5,12 +5,17 @@
 #![tactic(auto)]
 
 mod board;
+mod change;
+mod desk;
+mod entry;
 mod pool;
+mod room;
 mod runner;
 mod slip;
 mod worker;
 
 pub use board::Board;
+pub use change::Change;
 pub use pool::Pool;
 pub use runner::{Gate, NoGate, Runner};
 pub use slip::{Ending, Slip};

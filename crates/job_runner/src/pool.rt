@@ -1,30 +1,29 @@
 //! A pool of workers round a board. Its caller alone hands slips in and is given their endings.
-ghost use Rattle.std.specs.Prelude.{◌<◌, length, IfSome};
+ghost use Rattle.std.specs.Prelude.{◌≡◌, ◌<◌, ◌++◌, ◌∷◌, [], ℕ, Some, IfSome, OnOk, OnErr, length, map, slice_get, vec_len};
+ghost use Rattle.std.specs.Arc.{arc_value};
+ghost use Rattle.job_runner.specs.Answers.{IsAnswer};
+ghost use Rattle.job_runner.specs.Outs.{Returns};
+ghost use Rattle.job_runner.specs.Slips.{slip_of};
 
-use crate::board::Board;
+use crate::desk::Desk;
+use crate::entry::{Numbered, place_of_number};
+use crate::room::add;
 use crate::runner::{Gate, Runner};
 use crate::slip::{Ending, Slip};
-use crate::worker::{Desk, Found, Shared, start_workers};
+use crate::worker::{Found, Shared, start_workers};
 use scons_base::Memory;
 use std::alloc::Global;
 use std::sync::{Arc, Condvar, Mutex, Wait};
 use std::thread;
 use std::thread::Threads;
 
-/// A slip that is out, by its number.
-#[derive(Drop)]
-struct Out {
-    number: u64,
-    slip: Arc<Slip, Global>,
-}
-
 /// No call ends the workers: one that has nothing to do waits until the program ends.
 #[derive(Drop)]
-pub struct Pool<T, R, G> {
+pub struct Pool<T, R: Runner, G> {
     rt: T,
     alloc: Global,
     shared: Arc<Shared<R, G>, Global>,
-    out: Vec<Out>,
+    out: Vec<Numbered>,
 }
 
 impl<T, R, G> Pool<T, R, G>
@@ -41,7 +40,7 @@ where
             return Err(Memory);
         };
         if thread::spawn(&rt, move || start_workers(&handle, &theirs)).is_err() {
-            shared.desk.lock(&rt).refused = true;
+            shared.desk.lock(&rt).refuse();
         }
         Ok(Pool {
             rt,
@@ -52,14 +51,9 @@ where
     }
 }
 
-fn shared_of<R, G>(alloc: Global, runner: R, gate: G) -> Shared<R, G> {
+fn shared_of<R: Runner, G>(alloc: Global, runner: R, gate: G) -> Shared<R, G> {
     Shared {
-        desk: Mutex::new(Desk {
-            board: Board::new(alloc),
-            wanted: 0,
-            started: 0,
-            refused: false,
-        }),
+        desk: Mutex::new(Desk::new(alloc)),
         handed_in: Condvar::new(),
         wanted: Condvar::new(),
         ended: Condvar::new(),
@@ -70,7 +64,9 @@ fn shared_of<R, G>(alloc: Global, runner: R, gate: G) -> Shared<R, G> {
 
 impl<T: Wait, R: Runner, G: Gate> Pool<T, R, G> {
     /// How many jobs are out.
-    pub fn out(&self) -> usize {
+    pub fn out(&self) -> usize
+        ensures { result ≡ vec_len self.now.out }
+    {
         self.out.len()
     }
 
@@ -79,19 +75,27 @@ impl<T: Wait, R: Runner, G: Gate> Pool<T, R, G> {
     }
 
     /// Hands a slip in, and has a further worker started where more jobs are out than there are workers. A refusal drops the slip.
-    pub fn hand_in(&mut self, slip: Slip) -> Result<(), Memory> {
+    pub fn hand_in(&mut self, slip: Slip) -> Result<(), Memory>
+        ensures ok { OnOk result ((number : ℕ) × (map slip_of self.new.out.items ≡ map slip_of self.old.out.items ++ (number, slip) ∷ [])) }
+        ensures err { OnErr result (self.new.out.items ≡ self.old.out.items) }
+    {
         let slip = Arc::new(self.alloc, slip)?;
         let kept = Arc::try_clone(&slip)?;
         self.out.reserve(1)?;
         let wanted = self.out.len().saturating_add(1);
         let number = put_on(&self.shared, &self.rt, slip, wanted)?;
-        self.out.push(Out { number, slip: kept })?;
+        add(&mut self.out, Numbered { number, slip: kept });
         Ok(())
     }
 
     /// Waits for the ending of a slip that is out. Where no worker could be started a waiting slip is run here.
-    pub fn next_end(&mut self) -> Ending {
-        next_of(&self.rt, &self.shared, &mut self.out)
+    pub fn next_end(&mut self) -> Ending
+        ensures out { Returns result (map slip_of self.old.out.items) (map slip_of self.new.out.items) }
+        ensures own { IsAnswer R.answer result }
+    {
+        let (place, ending) = next_of(&self.rt, &self.shared, self.out.as_slice());
+        let _ = self.out.remove(place);
+        ending
     }
 }
 
@@ -103,41 +107,44 @@ fn put_on<T: Wait, R: Runner, G: Gate>(
     wanted: usize,
 ) -> Result<u64, Memory> {
     let mut desk = shared.desk.lock(rt);
-    let number = desk.board.hand_in(slip)?;
-    if !desk.refused && desk.wanted < wanted {
-        desk.wanted = wanted;
-    }
+    let number = desk.hand_in(slip)?;
+    desk.ask(wanted);
     drop(desk);
     shared.wanted.notify_one();
     shared.handed_in.notify_one();
     Ok(number)
 }
 
+/// Waits for an ending of a slip that is out, and gives the place of that slip too.
 fn next_of<T: Wait, R: Runner, G: Gate>(
     rt: &T,
     shared: &Shared<R, G>,
-    out: &mut Vec<Out>,
-) -> Ending {
+    out: &[Numbered],
+) -> (usize, Ending)
+    ensures inside { result.0 < length out.now }
+    ensures out { (number : ℕ) × (slice_get (map slip_of out.now) result.0 ≡ Some (number, arc_value result.1.slip)) }
+    ensures own { IsAnswer R.answer result.1 }
+{
     for _ in rt.forever() {
         match shared.find(rt) {
             Found::Ended(number, ending) => {
-                if let Some(place) = place_of(out, number, &ending) {
-                    let _ = out.remove(place);
-                    return ending;
+                if let Some(place) = place_of(out, number, &ending.slip) {
+                    return (place, ending);
                 }
             }
-            Found::Deserted(number, slip) => shared.run(rt, number, slip),
+            Found::Deserted(turn, slip) => shared.run(rt, turn, slip),
         }
     }
     unreachable!()
 }
 
-/// The place of the slip with this number on the list of what is out, where it is the ending's.
-fn place_of(out: &[Out], number: u64, ending: &Ending) -> Option<usize>
-    ensures { IfSome result (λ place. place < length out.now) }
+/// The place of the slip with this number on the list of what is out, where it is this one.
+fn place_of(out: &[Numbered], number: u64, slip: &Slip) -> Option<usize>
+    ensures inside { IfSome result (λ place. place < length out.now) }
+    ensures own { IfSome result (λ place. slice_get (map slip_of out.now) place ≡ Some (number, slip.now)) }
 {
-    let place = out.iter().position(|out| out.number == number)?;
-    if out[place].slip.is_equal(&ending.slip) {
+    let place = place_of_number(out, number)?;
+    if out[place].slip.is_equal(slip) {
         Some(place)
     } else {
         None

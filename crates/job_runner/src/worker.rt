@@ -1,6 +1,11 @@
 //! What the threads do. A worker waits for a slip, takes it, passes the gate, runs it, and puts its ending; one thread more starts
 //! workers as they are wanted.
-use crate::board::Board;
+ghost use Rattle.std.specs.Prelude.{◌≡◌, ℕ};
+ghost use Rattle.std.specs.Arc.{arc_value};
+ghost use Rattle.job_runner.specs.Answers.{IsAnswer};
+ghost use Rattle.job_runner.specs.declared.slip.Ending.{Ending};
+
+use crate::desk::{Desk, Turn};
 use crate::runner::{Gate, Runner};
 use crate::slip::{Ending, Slip};
 use std::alloc::Global;
@@ -8,27 +13,10 @@ use std::sync::{Arc, Condvar, Mutex, Wait};
 use std::thread;
 use std::thread::Threads;
 
-/// The board, with how many workers it has and how many it should have.
-#[derive(Drop)]
-pub struct Desk {
-    pub board: Board,
-    pub wanted: usize,
-    pub started: usize,
-    /// A thread couldn't be started.
-    pub refused: bool,
-}
-
-impl Desk {
-    /// Whether the caller has to do the work itself.
-    fn is_deserted(&self) -> bool {
-        self.refused && self.started == 0
-    }
-}
-
 /// What the threads and the caller share.
 #[derive(Drop)]
-pub struct Shared<R, G> {
-    pub desk: Mutex<Desk>,
+pub struct Shared<R: Runner, G> {
+    pub desk: Mutex<Desk<R>>,
     /// A slip waits.
     pub handed_in: Condvar,
     /// More workers are wanted.
@@ -40,27 +28,27 @@ pub struct Shared<R, G> {
 }
 
 /// What the caller finds: an ending, or a slip that it has to run itself.
-#[derive(Drop)]
 pub enum Found {
     Ended(u64, Ending),
-    Deserted(u64, Arc<Slip, Global>),
+    Deserted(Turn, Arc<Slip, Global>),
 }
 
 impl<R: Runner, G: Gate> Shared<R, G> {
     /// Works until the program ends.
     fn work<T: Wait>(&self, rt: &T) {
         for _ in rt.forever() {
-            let (number, slip) = self.next_slip(rt);
-            self.run(rt, number, slip);
+            let (turn, slip) = self.next_slip(rt);
+            self.run(rt, turn, slip);
         }
     }
 
     /// Waits for a slip, and takes it.
-    fn next_slip<T: Wait>(&self, rt: &T) -> (u64, Arc<Slip, Global>) {
+    fn next_slip<T: Wait>(&self, rt: &T) -> (Turn, Arc<Slip, Global>) {
         let mut desk = self.desk.lock(rt);
         for _ in rt.forever() {
-            if let Some(taken) = desk.board.take() {
-                return taken;
+            match desk.take() {
+                Some(taken) => return taken,
+                None => {}
             }
             desk = self.handed_in.wait(rt, desk);
         }
@@ -68,24 +56,25 @@ impl<R: Runner, G: Gate> Shared<R, G> {
     }
 
     /// Runs a slip that was taken, and puts its ending.
-    pub fn run<T: Wait>(&self, rt: &T, number: u64, slip: Arc<Slip, Global>) {
+    pub fn run<T: Wait>(&self, rt: &T, turn: Turn, slip: Arc<Slip, Global>) {
         self.gate.pass(slip.job.id);
         let ending = self.runner.run(slip);
-        let _ = self.desk.lock(rt).board.put_end(number, ending);
+        let _ = self.desk.lock(rt).put_end(turn, ending);
         self.ended.notify_one();
     }
 
     /// Waits for an ending, whichever, or for a slip that no worker will run.
-    pub fn find<T: Wait>(&self, rt: &T) -> Found {
+    pub fn find<T: Wait>(&self, rt: &T) -> Found
+        ensures { (number : ℕ) (ending : Ending) → result ≡ Found.Ended number ending → IsAnswer R.answer ending }
+    {
         let mut desk = self.desk.lock(rt);
         for _ in rt.forever() {
-            if let Some((number, ending)) = desk.board.pick_end() {
+            if let Some((number, ending)) = desk.pick_end() {
                 return Found::Ended(number, ending);
             }
-            if desk.is_deserted() {
-                if let Some((number, slip)) = desk.board.take() {
-                    return Found::Deserted(number, slip);
-                }
+            match desk.take_deserted() {
+                Some((turn, slip)) => return Found::Deserted(turn, slip),
+                None => {}
             }
             desk = self.ended.wait(rt, desk);
         }
@@ -96,8 +85,7 @@ impl<R: Runner, G: Gate> Shared<R, G> {
     fn next_worker<T: Wait>(&self, rt: &T) {
         let mut desk = self.desk.lock(rt);
         for _ in rt.forever() {
-            if desk.started < desk.wanted {
-                desk.started = desk.started.saturating_add(1);
+            if desk.start_worker() {
                 return;
             }
             desk = self.wanted.wait(rt, desk);
@@ -106,11 +94,7 @@ impl<R: Runner, G: Gate> Shared<R, G> {
 
     /// Takes a worker back that couldn't be started. No further one is tried.
     fn refuse<T: Wait>(&self, rt: &T) {
-        let mut desk = self.desk.lock(rt);
-        desk.started = desk.started.saturating_sub(1);
-        desk.refused = true;
-        desk.wanted = 0;
-        drop(desk);
+        self.desk.lock(rt).lose_worker();
         self.ended.notify_one();
     }
 }

@@ -86,6 +86,13 @@ back_over (Wrote write ∷ older) store = record {
 abbrev pub back : Store → Store
 back store = back_over store.changes store
 
+-- the bytes of a bank at its last sync, or at first
+abbrev pub synced_bytes : Bank → List Change → List ℕ → List ℕ → List ℕ
+synced_bytes bank [] bytes saved = bytes
+synced_bytes bank (Synced other ∷ older) bytes saved = choice (same_bank other bank) bytes (synced_bytes bank older bytes saved)
+synced_bytes bank (Wrote write ∷ older) bytes saved =
+    synced_bytes bank older (choice (same_bank write.bank bank) (restored write bytes saved) bytes) (without_last write.kept saved)
+
 abbrev pub Either : Bool → Type 0 → Type 0 → Type 0
 Either true P Q = P
 Either false P Q = Q
@@ -102,6 +109,10 @@ IsLeft bank (Wrote write ∷ older) bytes saved outcome = Either (same_bank writ
 
 abbrev pub IsImage : Store → Bank → List ℕ → Type 0
 IsImage store bank outcome = IsLeft bank store.changes (bytes_in store bank) store.saved outcome
+
+-- what stands of a bank where no write since its last sync does
+abbrev pub synced_in : Store → Bank → List ℕ
+synced_in store bank = synced_bytes bank store.changes (bytes_in store bank) store.saved
 
 -- the bank was written since it was last synced
 abbrev pub is_dirty : Bank → List Change → Bool

@@ -1,7 +1,8 @@
 //! One of the outcomes that a stop may have.
-ghost use Rattle.std.specs.Prelude.{◌≡◌, ◌+◌, ◌≤◌, length, reverse, vec_len, IfOk, OnOk};
+ghost use Rattle.std.specs.Prelude.{◌≡◌, ◌+◌, ◌≤◌, ◌%◌, length, reverse, vec_len, IfOk, OnOk};
 ghost use Rattle.std.specs.Vec.{vec_capacity};
-ghost use Rattle.mem_banks.specs.Past.{IsLeft, IsAt, Stands, restored};
+ghost use Rattle.mem_banks.specs.Past.{IsLeft, IsAt, Stands, restored, synced_bytes};
+ghost use Rattle.mem_banks.specs.declared.outcome.Cut.{Cut};
 ghost use Rattle.world_api.specs.Banks.{Torn};
 
 use crate::change::{Change, Write, is_same};
@@ -24,7 +25,12 @@ enum Cut {
     Junk,
 }
 
-fn cut_of(pick: u32) -> Cut {
+fn cut_of(pick: u32) -> Cut
+    ensures stands { pick % 4 ≡ 0 → result ≡ Cut.Stands }
+    ensures lost { pick % 4 ≡ 1 → result ≡ Cut.Lost }
+    ensures half { pick % 4 ≡ 2 → result ≡ Cut.Half }
+    ensures junk { pick % 4 ≡ 3 → result ≡ Cut.Junk }
+{
     match pick % 4 {
         0 => Cut::Stands,
         1 => Cut::Lost,
@@ -33,7 +39,7 @@ fn cut_of(pick: u32) -> Cut {
     }
 }
 
-/// Makes the bytes of a bank what a stop leaves of it.
+/// Makes the bytes of a bank what a stop leaves of it. By pick 0 every write stands, by 1 none that wasn't synced.
 pub fn leave(
     alloc: Global,
     bytes: &mut Vec<u8>,
@@ -43,7 +49,9 @@ pub fn leave(
     pick: u32,
 ) -> Result<(), Memory>
     requires { IsAt bank (reverse changes.now) bytes.old.items saved.now }
-    ensures { OnOk result (IsLeft bank (reverse changes.now) bytes.old.items saved.now bytes.new.items) }
+    ensures left { OnOk result (IsLeft bank (reverse changes.now) bytes.old.items saved.now bytes.new.items) }
+    ensures stands { pick ≡ 0 → OnOk result (bytes.new.items ≡ bytes.old.items) }
+    ensures lost { pick % 4 ≡ 1 → OnOk result (bytes.new.items ≡ synced_bytes bank (reverse changes.now) bytes.old.items saved.now) }
 {
     let cut = cut_of(pick);
     let mut lost = pick / 4;

@@ -1,5 +1,5 @@
 //! A number for each path.
-ghost use Rattle.std.specs.Prelude.{◌≡◌, ◌≢◌, ◌==◌, ◌<◌, ◌≤◌, [], List, ℕ, Some, None, IfOk, IfErr, OnErr, OnOk, length, slice_get};
+ghost use Rattle.std.specs.Prelude.{◌≡◌, ◌≢◌, ◌==◌, ◌<◌, ◌≤◌, ◌+◌, [], List, ℕ, Some, None, IfOk, IfErr, OnErr, OnOk, length, slice_get};
 ghost use Rattle.std.specs.Option.{option_map};
 ghost use Rattle.node_tree.specs.Nodes.{number_of, Interns};
 
@@ -50,7 +50,9 @@ impl Model for Nodes {
 
     ghost view = { λ n. n.paths.keys };
 
-    ghost invariant = { λ n. length n.paths.keys ≤ 100000 };
+    ghost use Rattle.scons_base.specs.declared.limits.TheConstants.{NODE_LIMIT};
+
+    ghost invariant = { λ n. length n.paths.keys ≤ NODE_LIMIT };
 }
 
 impl Nodes {
@@ -65,9 +67,9 @@ impl Nodes {
     /// The number of a path, which is the next one for a path that had none.
     pub fn intern(&mut self, path: &PathText) -> Result<NodeId, NodeRefusal>
         ensures ok { IfOk result (λ id. Interns self.old path.now id.0 self.new) }
-        ensures limit { OnOk result (length self.new ≤ 100000) }
-        ensures full { IfErr result (λ e. e ≢ NodeRefusal.Memory → (e ≡ NodeRefusal.Full 100001)
-            × (length self.old ≡ 100000) × (number_of self.old path.now ≡ None)) }
+        ensures limit { OnOk result (length self.new ≤ NODE_LIMIT) }
+        ensures full { IfErr result (λ e. e ≢ NodeRefusal.Memory → (e ≡ NodeRefusal.Full (NODE_LIMIT + 1))
+            × (length self.old ≡ NODE_LIMIT) × (number_of self.old path.now ≡ None)) }
         ensures err { OnErr result (self.new ≡ self.old) }
     {
         if self.len() == NODE_LIMIT {
@@ -99,7 +101,7 @@ impl Nodes {
     /// How many paths have a number.
     pub fn len(&self) -> u32
         ensures len { result ≡ length self.now }
-        ensures limit { length self.now ≤ 100000 }
+        ensures limit { length self.now ≤ NODE_LIMIT }
     {
         self.paths.len() as u32
     }

@@ -1,6 +1,7 @@
 -- What the steps of building leave, one after the other.
 use Rattle.std.proofs.Common.{◌≡◌, ◌≢◌, ◌∙◌, ◌<◌, ◌≤◌, ℕ, zero, suc, List, [], ◌∷◌, ◌++◌, length, sym, ap, subst, refl, inl, inr, arith, Some, None, Option, Result, Ok, Err, IfSome, IfErr}
 use Rattle.std.specs.Prelude.{Contains}
+use Rattle.scons_base.specs.declared.limits.TheConstants.{FILE_LIMIT}
 use Rattle.world_api.specs.Act.{act}
 use Rattle.world_api.specs.Around.{Around, Tree, Running, Started, Finished, IsRunningTarget, given_of}
 use Rattle.world_api.specs.Calls.{Asks, Grows, Starts, Ends}
@@ -18,7 +19,7 @@ use Rattle.one_rule.specs.declared.stops.BuildStop.TheVariants as build
 use Rattle.one_rule.specs.declared.report.Top.{Top}
 use Rattle.one_rule.specs.declared.report.Top.TheVariants.{Usage, Reading, Missing, ActionFailed, TreeFault, StartFault, OutFault, TooLarge}
 use Rattle.one_rule.specs.Course.{Failed as Fails}
-use Rattle.one_rule.specs.Building.{Idles, Unchanged, Leaves, Logs, nothing, ran, HasLog, HasSource, MayBuild, no_source, large_source, unreadable_source, kept_target, not_started, failed, built, clean_content, job_of, file_limit}
+use Rattle.one_rule.specs.Building.{Idles, Unchanged, Leaves, Logs, nothing, ran, HasLog, HasSource, MayBuild, no_source, large_source, unreadable_source, kept_target, not_started, failed, built, clean_content, job_of}
 use Rattle.one_rule.specs.BuildSteps.{IsFailStop, StepGives, source_result, unread_stop, ended_result}
 use Rattle.one_rule.specs.Ends.{BuildGives, BuildMakes, FailLogs}
 use Rattle.one_rule.proofs.Quiet.{no_target, same_file}
@@ -82,15 +83,15 @@ module _ (rule : Rule) where
     at_source : old.tree rule.source ≡ new.tree rule.source
     at_source = sym (same_file old new rule.source idle asks)
 
-    pub source_read : (content : Option (List ℕ)) → content ≡ new.tree rule.source → IfSome content (λ bytes. length bytes ≤ file_limit) → StepGives old.tree rule (source_result rule content)
+    pub source_read : (content : Option (List ℕ)) → content ≡ new.tree rule.source → IfSome content (λ bytes. length bytes ≤ FILE_LIMIT) → StepGives old.tree rule (source_result rule content)
     source_read None is small = no_source (at_source ∙ sym is)
     source_read (Some bytes) is small = record { bytes = bytes; is = at_source ∙ sym is; small = small }
 
-    pub source_refused : (why : ReadRefusal) → IsOver (new.tree rule.source) why → ((size : ℕ) → why ≡ refusal.TooLarge size → file_limit < size) → StepGives old.tree rule (Err (unread_stop rule why))
+    pub source_refused : (why : ReadRefusal) → IsOver (new.tree rule.source) why → ((size : ℕ) → why ≡ refusal.TooLarge size → FILE_LIMIT < size) → StepGives old.tree rule (Err (unread_stop rule why))
     source_refused refusal.Fault over above = unreadable_source
     source_refused (refusal.TooLarge size) over above =
         subst (λ n. StepGives old.tree rule (Err (unread_stop rule (refusal.TooLarge n)))) over.2
-        (large_source over.0 (at_source ∙ over.1) (subst (λ n. file_limit < n) (sym over.2) (above size refl)))
+        (large_source over.0 (at_source ∙ over.1) (subst (λ n. FILE_LIMIT < n) (sym over.2) (above size refl)))
     source_refused refusal.Memory over above = tt
 
 -- an element of a list of one

@@ -8,6 +8,7 @@ use Rattle.std.proofs.lemmas.List.{get_or_default}
 use mathlib.Core.Bool.{or-true}
 use Rattle.std.proofs.lemmas.List.Sums.{AllPass-from_list_all, position_or_len_is}
 use Rattle.std.proofs.lemmas.List.Splits.{slice_split_none}
+use Rattle.scons_base.specs.declared.limits.TheConstants.{PATH_LIMIT, FILE_NAME_LIMIT}
 use Rattle.scons_base.specs.Normal.{is_name, is_normal, is_top, is_root, slash, below_root, parts_of as path_parts}
 use Rattle.scons_base.specs.PathFaults.{fault_in}
 use Rattle.one_rule.specs.declared.rule.Rule.{Rule}
@@ -54,7 +55,7 @@ pub command_ascii : (line : List ℕ) → is_command line ≡ true → IsAscii l
 unfolding is_command
 command_ascii line h i = at_each (λ b. b < 128) line i (omega arith) (λ k l. command_byte (get_or line k 0) (AllPass-from_list_all is_command_byte line (grind (arith, nat_tests)) k 0 l))
 
-short_name : (name : List ℕ) → is_file_name name ≡ true → (length name ≤ 255) × (is_name name ≡ true)
+short_name : (name : List ℕ) → is_file_name name ≡ true → (length name ≤ FILE_NAME_LIMIT) × (is_name name ≡ true)
 unfolding is_file_name
 short_name name h = (grind (arith, nat_tests), grind (arith, nat_tests))
 
@@ -90,7 +91,7 @@ name_is_path (b ∷ bs) h =
     let each = each_name_byte (b ∷ bs) h in
     let no_zero = no_place (λ c. c == 0) (b ∷ bs) (λ k l. let other = (each k l).1 in grind (arith, nat_tests)) in
     let within = short.0 in
-    let small : nat_lt 4096 (length (b ∷ bs)) ≡ false = grind (arith, nat_tests) in
+    let small : nat_lt PATH_LIMIT (length (b ∷ bs)) ≡ false = grind (arith, nat_tests) in
     let normal = normal_name (b ∷ bs) short.1 (one_part (b ∷ bs) (λ k l. (each k l).2)) in
     let some : (length (b ∷ bs) == 0) ≡ false = grind (arith, nat_tests) in
     rw (no_zero, small, normal, some) refl

@@ -1,5 +1,6 @@
 -- How the one rule of a script is built.
 use Rattle.std.specs.Prelude.{◌≡◌, ◌≢◌, ◌⊎◌, ℕ, ◌<◌, ◌≤◌, ℤ, List, [], ◌∷◌, ◌++◌, length, Some, None, false}
+use Rattle.scons_base.specs.declared.limits.TheConstants.{FILE_LIMIT}
 use Rattle.world_api.specs.Act.{Content, Law, act}
 use Rattle.world_api.specs.Around.{Around, Tree, Entry, Started, Finished, given_of}
 use Rattle.world_api.specs.Calls.{Grows}
@@ -10,9 +11,6 @@ use Rattle.world_api.specs.declared.job.Work.TheVariants.{Shell}
 use Rattle.one_rule.specs.declared.rule.Rule.{Rule}
 use Rattle.one_rule.specs.Course.{Course, Stopped, Failed as Fails, Built}
 use Rattle.one_rule.specs.declared.report.Top.TheVariants.{Missing, ActionFailed, TreeFault, StartFault, TooLarge}
-
-abbrev pub file_limit : ℕ
-file_limit = 67108864
 
 -- the job that makes a rule's target of its source
 abbrev pub job_of : Rule → Job
@@ -34,12 +32,12 @@ clean_content law tree rule = act law Shell (rule.line ∷ []) (rule.target ∷ 
 pub record HasSource (tree : Tree) (rule : Rule) : Type 0 where
   pub bytes : List ℕ
   pub is : tree rule.source ≡ Some bytes
-  pub small : length bytes ≤ file_limit
+  pub small : length bytes ≤ FILE_LIMIT
 
 -- The courses that building may take: which faults of the files come, and which of the outside may.
 pub data MayBuild (tree : Tree) (rule : Rule) : Course → Type 0 where
   no_source : tree rule.source ≡ None → MayBuild tree rule (Stopped (Missing rule.source rule.target))
-  large_source : (bytes : List ℕ) → tree rule.source ≡ Some bytes → file_limit < length bytes → MayBuild tree rule (Stopped (TooLarge rule.source (length bytes)))
+  large_source : (bytes : List ℕ) → tree rule.source ≡ Some bytes → FILE_LIMIT < length bytes → MayBuild tree rule (Stopped (TooLarge rule.source (length bytes)))
   unreadable_source : MayBuild tree rule (Stopped (TreeFault rule.source))
   kept_target : HasSource tree rule → MayBuild tree rule (Stopped (TreeFault rule.target))
   not_started : HasSource tree rule → MayBuild tree rule (Fails rule (StartFault rule.target))

@@ -2,6 +2,7 @@
 -- this project's first form of a script, and an SConstruct that SCons reads too (SCons User Guide, "The Command Builder").
 use Rattle.std.specs.Prelude.{◌≡◌, ◌≢◌, ℕ, Bool, true, false, List, [], ◌∷◌, ◌==◌, ◌||◌, ◌&&◌, not, nat_le, length, IsTrue, codes, ◌⊎◌}
 use Rattle.std.specs.List.{slice_split, list_all, before_first, after_first}
+use Rattle.scons_base.specs.declared.limits.TheConstants.{FILE_NAME_LIMIT, COMMAND_LIMIT}
 use Rattle.scons_base.specs.Normal.{is_name, dot}
 use Rattle.one_rule.specs.declared.rule.Rule.{Rule}
 
@@ -19,9 +20,9 @@ unfoldable pub is_file_name_byte : ℕ → Bool
 is_file_name_byte b =
     (nat_le 97 b && nat_le b 122) || (nat_le 65 b && nat_le b 90) || (nat_le 48 b && nat_le b 57) || b == 95 || b == dot
 
--- 1 to 255 such bytes, other than `.` and `..`
+-- such bytes, no more than the limit, other than nothing, `.` and `..`
 unfoldable pub is_file_name : List ℕ → Bool
-is_file_name name = nat_le (length name) 255 && list_all is_file_name_byte name && is_name name
+is_file_name name = nat_le (length name) FILE_NAME_LIMIT && list_all is_file_name_byte name && is_name name
 
 -- printable ASCII without `\` and `$`
 unfoldable pub is_command_byte : ℕ → Bool
@@ -36,10 +37,10 @@ unfoldable pub begins_as_command : List ℕ → Bool
 begins_as_command [] = false
 begins_as_command (b ∷ rest) = not (b == 64) && not (b == 45)
 
--- up to 1,000 bytes of words with single spaces between them
+-- bytes of words with single spaces between them, no more than the limit
 unfoldable pub is_command : List ℕ → Bool
 is_command line =
-    nat_le (length line) 1000 && list_all is_command_byte line && begins_as_command line && list_all is_word (slice_split (λ b. b == space) line)
+    nat_le (length line) COMMAND_LIMIT && list_all is_command_byte line && begins_as_command line && list_all is_word (slice_split (λ b. b == space) line)
 
 -- what stands round the quotes of the line
 abbrev pub parts_of : Rule → List (List ℕ)

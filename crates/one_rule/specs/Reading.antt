@@ -1,5 +1,6 @@
 -- What a script says: its rule, or the fault of reading it.
 use Rattle.std.specs.Prelude.{◌≡◌, ℕ, ◌<◌, ◌≤◌, List, length, Some, None, codes}
+use Rattle.scons_base.specs.declared.limits.TheConstants.{SCRIPT_LIMIT}
 use Rattle.world_api.specs.Around.{Tree}
 use Rattle.one_rule.specs.declared.rule.Rule.{Rule}
 use Rattle.one_rule.specs.declared.report.Top.{Top}
@@ -10,14 +11,10 @@ use Rattle.one_rule.specs.LineForm.{Declares, IsFaultLine}
 abbrev pub script : List ℕ
 script = codes "SConstruct"
 
--- the greatest script, and the greatest other file, in bytes
-abbrev pub script_limit : ℕ
-script_limit = 1048576
-
 -- the script is a file of these bytes, not too large
 pub record HasScript (tree : Tree) (bytes : List ℕ) : Type 0 where
   pub is : tree script ≡ Some bytes
-  pub small : length bytes ≤ script_limit
+  pub small : length bytes ≤ SCRIPT_LIMIT
 
 -- the tree's script declares the rule
 pub record Reads (tree : Tree) (rule : Rule) : Type 0 where
@@ -29,6 +26,6 @@ pub record Reads (tree : Tree) (rule : Rule) : Type 0 where
 -- the file tree refuses to read it.
 pub data Misreads (tree : Tree) : Top → Type 0 where
   no_script : tree script ≡ None → Misreads tree (Reading script 0 NoScript)
-  large_script : (bytes : List ℕ) → tree script ≡ Some bytes → script_limit < length bytes → Misreads tree (TooLarge script (length bytes))
+  large_script : (bytes : List ℕ) → tree script ≡ Some bytes → SCRIPT_LIMIT < length bytes → Misreads tree (TooLarge script (length bytes))
   not_in_form : (bytes : List ℕ) (line : ℕ) → HasScript tree bytes → IsFaultLine bytes line → Misreads tree (Reading script line LineForm)
   unreadable : Misreads tree (TreeFault script)

@@ -9,6 +9,7 @@ ghost use Rattle.one_rule.specs.LineForm.{is_file_name, is_file_name_byte, is_co
 ghost use Rattle.one_rule.specs.Fields.{fields_of, is_frame, rule_fields};
 
 use crate::rule::Rule;
+use scons_base::limits::{COMMAND_LIMIT, FILE_NAME_LIMIT};
 use scons_base::{Memory, PathFault, PathText, Text};
 use std::alloc::Global;
 use std::str;
@@ -142,7 +143,7 @@ impl Fields<'_> {
 fn is_file_name(name: &[u8]) -> bool
     ensures { result ≡ is_file_name name.now }
 {
-    name.len() <= 255 && has_file_name_bytes(name) && is_name(name)
+    name.len() <= FILE_NAME_LIMIT && has_file_name_bytes(name) && is_name(name)
 }
 
 fn has_file_name_bytes(name: &[u8]) -> bool
@@ -169,7 +170,7 @@ fn is_name(part: &[u8]) -> bool
 fn is_command(line: &[u8]) -> bool
     ensures { result ≡ is_command line.now }
 {
-    line.len() <= 1000
+    line.len() <= COMMAND_LIMIT
         && has_command_bytes(line)
         && begins_as_command(line)
         && has_single_spaces(line)

@@ -7,17 +7,14 @@ ghost use Rattle.one_rule.specs.Reading.{script};
 ghost use Rattle.one_rule.specs.ReadSteps.{IsRuleIn, misread_stop, refused_stop};
 
 use crate::line_form::{LineFault, read_line_form};
-use crate::printing::print;
 use crate::report::{ReadKind, Top};
 use crate::rule::Rule;
 use crate::stops::ReadStop;
 use crate::texts::reading_text;
+use scons_base::limits::SCRIPT_LIMIT;
 use scons_base::{Memory, PathFault, PathText};
 use std::alloc::Global;
-use world_api::{Content, ReadRefusal, Sink, World};
-
-/// How many bytes a script may have.
-const SCRIPT_LIMIT: u64 = 1_048_576;
+use world_api::{Content, ReadRefusal, Sink, World, print};
 
 /// Reads the script, and prints that it does.
 pub fn read_rule<W: World, O: Sink>(

@@ -9,11 +9,10 @@ use Rattle.py_heap.specs.declared.dict.Entry.{Entry}
 use Rattle.py_heap.specs.declared.fault.ValueFault.{ValueFault}
 use Rattle.py_heap.specs.declared.fault.ValueFault.TheVariants as fault
 use Rattle.py_heap.specs.Heap.{Objects, list_at, tuple_at, dict_at}
-use Rattle.scons_base.specs.declared.limits.TheConstants.{TEXT_LIMIT}
+use Rattle.scons_base.specs.declared.limits.TheConstants.{TEXT_LIMIT, VALUE_DEPTH_LIMIT}
 use Rattle.py_heap.specs.Units.{Units, charged, limited, told_length}
 use Rattle.py_heap.proofs.Rooms.{limited_passes}
 use Rattle.py_compare.specs.Outcomes.{then_by}
-use Rattle.py_compare.specs.declared.equal.TheConstants.{LEVEL_LIMIT}
 use Rattle.py_compare.specs.Growing.{Growth, not_begun, grown, whole_of}
 use Rattle.py_compare.specs.Showing.{Shown, separator, tuple_end, flat_text, entries_of, onto_items, onto_entry, onto_entries, closed, shown_by, show_at, behind, show_of}
 
@@ -183,12 +182,12 @@ whole-grow text = by (nat_le (length text) TEXT_LIMIT) refl
         ap whole_of (grow_is text false e) ∙ limited_passes {X = List ℕ} TEXT_LIMIT (told_length (length text)) [] big ∙ ap too_big same ∙ sym (limited_passes TEXT_LIMIT (length text) text passes)
 
 module _ (h : Objects) (u : Units) (x : Value) (q : Bool) where
-  told : (r : Shown Growth) → show_at grown LEVEL_LIMIT h q not_begun u x ≡ r → told_of (show_at behind LEVEL_LIMIT h q [] u x) ≡ r
-  told r e = sym (show_told LEVEL_LIMIT h q [] u x) ∙ ap (λ g. show_at grown LEVEL_LIMIT h q g u x) grow_nothing ∙ e
+  told : (r : Shown Growth) → show_at grown VALUE_DEPTH_LIMIT h q not_begun u x ≡ r → told_of (show_at behind VALUE_DEPTH_LIMIT h q [] u x) ≡ r
+  told r e = sym (show_told VALUE_DEPTH_LIMIT h q [] u x) ∙ ap (λ g. show_at grown VALUE_DEPTH_LIMIT h q g u x) grow_nothing ∙ e
 
-  pub shown_whole : (g : Growth) (left : Units) (s : List ℕ) → show_at grown LEVEL_LIMIT h q not_begun u x ≡ Ok (g, left) → whole_of g ≡ Ok s → show_of h u x q ≡ Ok (s, left)
+  pub shown_whole : (g : Growth) (left : Units) (s : List ℕ) → show_at grown VALUE_DEPTH_LIMIT h q not_begun u x ≡ Ok (g, left) → whole_of g ≡ Ok s → show_of h u x q ≡ Ok (s, left)
   unfolding told_of
-  shown_whole g left s e w = by (show_at behind LEVEL_LIMIT h q [] u x) (told (Ok (g, left)) e)
+  shown_whole g left s e w = by (show_at behind VALUE_DEPTH_LIMIT h q [] u x) (told (Ok (g, left)) e)
     where
       by : (o : Shown (List ℕ)) → told_of o ≡ Ok (g, left) → then_by o (λ s. limited TEXT_LIMIT (length s.0) s) ≡ Ok (s, left)
       by (Ok t) p =
@@ -199,9 +198,9 @@ module _ (h : Objects) (u : Units) (x : Value) (q : Bool) where
           limited_with (length t.0) t.0 s t.1 (sym (whole-grow t.0) ∙ ap whole_of same ∙ w) ∙ ap with_text units
       by (Err k) p = absurd (cc)
 
-  pub shown_too_big : (g : Growth) (left : Units) (k : ValueFault) → show_at grown LEVEL_LIMIT h q not_begun u x ≡ Ok (g, left) → whole_of g ≡ Err k → show_of h u x q ≡ Err k
+  pub shown_too_big : (g : Growth) (left : Units) (k : ValueFault) → show_at grown VALUE_DEPTH_LIMIT h q not_begun u x ≡ Ok (g, left) → whole_of g ≡ Err k → show_of h u x q ≡ Err k
   unfolding told_of
-  shown_too_big g left k e w = by (show_at behind LEVEL_LIMIT h q [] u x) (told (Ok (g, left)) e)
+  shown_too_big g left k e w = by (show_at behind VALUE_DEPTH_LIMIT h q [] u x) (told (Ok (g, left)) e)
     where
       by : (o : Shown (List ℕ)) → told_of o ≡ Ok (g, left) → then_by o (λ s. limited TEXT_LIMIT (length s.0) s) ≡ Err k
       by (Ok t) p =
@@ -210,9 +209,9 @@ module _ (h : Objects) (u : Units) (x : Value) (q : Bool) where
           limited_fails (length t.0) t.0 t.1 k (sym (whole-grow t.0) ∙ ap whole_of same ∙ w)
       by (Err k') p = absurd (cc)
 
-  pub shown_not : (k : ValueFault) → show_at grown LEVEL_LIMIT h q not_begun u x ≡ Err k → show_of h u x q ≡ Err k
+  pub shown_not : (k : ValueFault) → show_at grown VALUE_DEPTH_LIMIT h q not_begun u x ≡ Err k → show_of h u x q ≡ Err k
   unfolding told_of
-  shown_not k e = by (show_at behind LEVEL_LIMIT h q [] u x) (told (Err k) e)
+  shown_not k e = by (show_at behind VALUE_DEPTH_LIMIT h q [] u x) (told (Err k) e)
     where
       by : (o : Shown (List ℕ)) → told_of o ≡ Err k → then_by o (λ s. limited TEXT_LIMIT (length s.0) s) ≡ Err k
       by (Ok t) p = absurd (cc)

@@ -1,6 +1,7 @@
 -- Equality by content: section 6.10.1 ("Value comparisons") of the Python language reference. Units and levels are own.
 use Rattle.std.specs.Prelude.{ℕ, zero, suc, ℤ, pos, Bool, true, false, List, [], ◌∷◌, ◌==◌, nat_eq, Option, Some, None, Result, Ok, Err, if◌then◌else◌, length, map}
 use Rattle.std.specs.Option.{option_map}
+use Rattle.scons_base.specs.declared.limits.TheConstants.{VALUE_DEPTH_LIMIT}
 use Rattle.py_heap.specs.declared.key.Key.{Key}
 use Rattle.std.specs.Ordering.{int_eq}
 use Rattle.std.specs.Str.{bytes_eq}
@@ -15,7 +16,6 @@ use Rattle.py_heap.specs.Heap.{Objects, Entries, text_at, list_at, tuple_at, dic
 use Rattle.py_heap.specs.Dicts.{entry_at}
 use Rattle.py_heap.specs.Units.{Units, charged}
 use Rattle.py_compare.specs.Outcomes.{then_by}
-use Rattle.py_compare.specs.declared.equal.TheConstants.{LEVEL_LIMIT}
 
 -- whether two things are equal, with the units left after it was found out
 abbrev pub Verdict : Type 0
@@ -156,7 +156,7 @@ entries_at zero h u es other = Err fault.Deep
 entries_at (suc levels) h u es other = equal_dicts (equal_at levels h) u es other
 
 abbrev pub equal_of : Objects → Units → Value → Value → Verdict
-equal_of h u x y = equal_at LEVEL_LIMIT h u x y
+equal_of h u x y = equal_at VALUE_DEPTH_LIMIT h u x y
 
 -- the place of the first item equal to a value, if there is one: the item stands at the left
 abbrev pub place_from : ℕ → Objects → Units → List Value → Value → Result (Option ℕ × Units) ValueFault

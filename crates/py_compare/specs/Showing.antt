@@ -10,10 +10,9 @@ use Rattle.py_heap.specs.declared.dict.Entry.{Entry}
 use Rattle.py_heap.specs.declared.fault.ValueFault.{ValueFault}
 use Rattle.py_heap.specs.declared.fault.ValueFault.TheVariants as fault
 use Rattle.py_heap.specs.Heap.{Objects, Entries, text_at, list_at, tuple_at, dict_at, shown_of}
-use Rattle.scons_base.specs.declared.limits.TheConstants.{TEXT_LIMIT}
+use Rattle.scons_base.specs.declared.limits.TheConstants.{TEXT_LIMIT, VALUE_DEPTH_LIMIT}
 use Rattle.py_heap.specs.Units.{Units, charged, limited}
 use Rattle.py_compare.specs.Outcomes.{then_by}
-use Rattle.py_compare.specs.declared.equal.TheConstants.{LEVEL_LIMIT}
 
 -- a text with what was shown behind it, and the units left then
 abbrev pub Shown : Type 0 → Type 0
@@ -101,4 +100,4 @@ behind text piece = text ++ piece
 
 -- what a value shows: no longer than a text may be
 abbrev pub show_of : Objects → Units → Value → Bool → Shown (List ℕ)
-show_of h u x quoted = then_by (show_at behind LEVEL_LIMIT h quoted [] u x) (λ s. limited TEXT_LIMIT (length s.0) s)
+show_of h u x quoted = then_by (show_at behind VALUE_DEPTH_LIMIT h quoted [] u x) (λ s. limited TEXT_LIMIT (length s.0) s)

@@ -3,9 +3,10 @@ ghost use Rattle.std.specs.Prelude.{◌≡◌, ◌≢◌, Ok, Err, IfOk, IfErr};
 ghost use Rattle.py_compare.specs.Comparisons.{ordered, within_of, is_constant, is_among};
 ghost use Rattle.py_compare.specs.Equality.{is_nil, equal_of};
 
-use crate::equal::{LEVEL_LIMIT, equal, place_of};
+use crate::equal::{equal, place_of};
 use crate::order::order_of;
 use py_heap::{Budget, Heap, Value, ValueFault};
+use scons_base::limits::VALUE_DEPTH_LIMIT;
 use std::cmp::Ordering;
 
 /// How two values are ordered, once their meeting is charged for.
@@ -85,5 +86,5 @@ pub fn same(heap: &Heap, budget: &mut Budget, a: Value, b: Value) -> Result<bool
     ensures ok { IfOk result (λ x. equal_of heap.now budget.old a b ≡ Ok (x, budget.new)) }
     ensures fault { IfErr result (λ e. e ≢ ValueFault.Memory → equal_of heap.now budget.old a b ≡ Err e) }
 {
-    equal(heap, budget, LEVEL_LIMIT, a, b)
+    equal(heap, budget, VALUE_DEPTH_LIMIT, a, b)
 }

@@ -6,9 +6,7 @@ ghost use Rattle.py_heap.specs.Heap.{dict_at};
 ghost use Rattle.py_heap.specs.Dicts.{entry_at};
 
 use py_heap::{Budget, Builtin, DictId, Heap, Key, Value, ValueFault};
-
-/// Lists, tuples and dicts inside one another, as far as they are looked into.
-pub const LEVEL_LIMIT: u32 = 100;
+use scons_base::limits::VALUE_DEPTH_LIMIT;
 
 /// The number that a value is: True is 1 and False is 0.
 pub(crate) fn number_of(value: Value) -> Option<i64>
@@ -240,7 +238,7 @@ pub fn place_of(
     ensures fault { IfErr result (λ e. e ≢ ValueFault.Memory → place_from 0 heap.now budget.old items.now value ≡ Err e) }
 {
     'items: for (place, item) in items.iter().enumerate() {
-        let same = equal(heap, budget, LEVEL_LIMIT, *item, value)?;
+        let same = equal(heap, budget, VALUE_DEPTH_LIMIT, *item, value)?;
         if same {
             return Ok(Some(place));
         }

@@ -17,7 +17,7 @@ mod sorting;
 
 pub use comparisons::{is_constant, ordered, same, within};
 pub use copies::copied_dict;
-pub use equal::{LEVEL_LIMIT, place_of};
+pub use equal::place_of;
 pub use growing::GrowingText;
 pub use iterables::{
     iterable_bytes, iterable_items, iterable_length, iterable_texts, needed_length,

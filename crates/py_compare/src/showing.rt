@@ -6,9 +6,9 @@ ghost use Rattle.py_heap.specs.Heap.{dict_at};
 ghost use Rattle.py_compare.specs.Growing.{grown};
 ghost use Rattle.py_compare.specs.Showing.{separator, onto_entry, tuple_end, flat_text, entries_of, shown_by, show_at, items_shown, entries_shown, show_of};
 
-use crate::equal::LEVEL_LIMIT;
 use crate::growing::GrowingText;
 use py_heap::{Budget, DictId, Entry, Heap, Value, ValueFault, settled};
+use scons_base::limits::VALUE_DEPTH_LIMIT;
 use scons_base::{Memory, Text};
 
 /// What a value shows; in quotes where it is a text and is to stand in them. Where it fails, the units are as they were.
@@ -29,7 +29,7 @@ fn show_of(heap: &Heap, budget: &mut Budget, a: Value, quoted: bool) -> Result<T
     ensures fault { IfErr result (λ e. e ≢ ValueFault.Memory → show_of heap.now budget.old a quoted ≡ Err e) }
 {
     let mut text = GrowingText::new(heap.allocator());
-    show_onto(heap, budget, LEVEL_LIMIT, quoted, &mut text, a)?;
+    show_onto(heap, budget, VALUE_DEPTH_LIMIT, quoted, &mut text, a)?;
     let shown = text.into_text()?;
     Ok(shown)
 }

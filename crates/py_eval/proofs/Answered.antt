@@ -10,7 +10,8 @@ use Rattle.py_meaning.specs.declared.fault.EvalFault.TheVariants as fault
 use Rattle.py_meaning.specs.declared.fault.Exit.{Exit}
 use Rattle.py_meaning.specs.States.{State, Out, Fault, exits, script_frame}
 use Rattle.py_meaning.specs.Jobs.{first_scripts}
-use Rattle.py_meaning.specs.Evaluates.{Follows, Evaluates, plan, start, call_limit}
+use Rattle.py_meaning.specs.Evaluates.{Follows, Evaluates, plan, start}
+use Rattle.scons_base.specs.declared.limits.TheConstants.{CALL_DEPTH_LIMIT}
 use Rattle.py_meaning.proofs.Counting.{CountedFault, counted}
 use Rattle.py_meaning.proofs.One.{one, by_same}
 use Rattle.py_state.specs.Stores.{Store, store_of, state_by}
@@ -19,11 +20,11 @@ use Rattle.py_steps.specs.Leads.{told}
 use Rattle.py_eval.specs.Answers.{Gives, IsOnly, HasCause}
 
 -- before anything has run
-pub evaluates : {H : Type 0} (m : Meaning H) (t : Tree) (own : Machine) (o o1 : Objects) (u u1 : Units) (h h2 : H) (r : Result Out Fault) → store_of own ≡ record { objects = o1; units = u1; globals = []; functions = [] } → o1 ≡ o → u1 ≡ u → Follows m call_limit (plan (first_scripts t) (state_by (store_of own) (script_frame 0))) h r h2 → Evaluates m t o u h r h2
+pub evaluates : {H : Type 0} (m : Meaning H) (t : Tree) (own : Machine) (o o1 : Objects) (u u1 : Units) (h h2 : H) (r : Result Out Fault) → store_of own ≡ record { objects = o1; units = u1; globals = []; functions = [] } → o1 ≡ o → u1 ≡ u → Follows m CALL_DEPTH_LIMIT (plan (first_scripts t) (state_by (store_of own) (script_frame 0))) h r h2 → Evaluates m t o u h r h2
 evaluates m t own o o1 u u1 h h2 r e f g d =
     let same : state_by (store_of own) (script_frame 0) ≡ start o u =
     ap (λ (x : Store). state_by x (script_frame 0)) e ∙ ap (λ x. start x u1) f ∙ ap (start o) g in
-    subst (λ s. Follows m call_limit (plan (first_scripts t) s) h r h2) same d
+    subst (λ s. Follows m CALL_DEPTH_LIMIT (plan (first_scripts t) s) h r h2) same d
 
 pub exit_only : {H : Type 0} (m : Meaning H) (t : Tree) (o : Objects) (u : Units) (h h2 : H) (exit : Exit) (s : State) → IsKept m → IsDetermined m → Evaluates m t o u h (Ok (exits exit s)) h2 → IsOnly m t o u h (Ok exit) h2
 exit_only m t o u h h2 exit s i d e = λ t1 r k k2 t2 a e2.

@@ -3,7 +3,7 @@ ghost use Rattle.std.specs.Prelude.{◌≤◌, IfErr, MatchResult};
 ghost use Rattle.py_tree.specs.Tree.{script_tree};
 ghost use Rattle.py_meaning.specs.States.{Frame, script_frame};
 ghost use Rattle.py_meaning.specs.Jobs.{first_scripts};
-ghost use Rattle.py_meaning.specs.Evaluates.{plan, call_limit};
+ghost use Rattle.py_meaning.specs.Evaluates.{plan};
 ghost use Rattle.py_state.specs.Stores.{store_of, state_by};
 ghost use Rattle.py_eval.specs.Answers.{Exits, Faults, IsOnly, HasCause};
 ghost use Rattle.py_eval.specs.Bodies.{LeadsToNext, ExitsOrStops};
@@ -15,10 +15,8 @@ use py_host::Host;
 use py_meaning::{EvalFault, Exit};
 use py_state::{Machine, Stop};
 use py_tree::Script;
+use scons_base::limits::CALL_DEPTH_LIMIT;
 use std::mem;
-
-/// The calls that may be open at once.
-const CALL_LIMIT: u32 = 200;
 
 /// Runs a script, and then each further first script that the host gives.
 pub fn run<H: Host>(
@@ -64,7 +62,7 @@ enum Next {
 
 fn run_first<H: Host>(machine: &mut Machine, host: &mut H, script: &Script) -> Result<Exit, Stop>
     ensures keeps { H.meaning.keeps host.old host.new }
-    ensures exits { ExitsOrStops H.meaning call_limit (plan (first_scripts (script_tree script.now)) (state_by (store_of machine.old) (script_frame 0))) host.old result (store_of machine.new) host.new }
+    ensures exits { ExitsOrStops H.meaning CALL_DEPTH_LIMIT (plan (first_scripts (script_tree script.now)) (state_by (store_of machine.old) (script_frame 0))) host.old result (store_of machine.new) host.new }
 {
     let mut next = run_one(machine, host, script)?;
     'scripts: for _ in 0..u64::MAX {
@@ -79,10 +77,16 @@ fn run_first<H: Host>(machine: &mut Machine, host: &mut H, script: &Script) -> R
 /// Runs a first script from its beginning. A script behind it is paid for.
 fn run_one<H: Host>(machine: &mut Machine, host: &mut H, script: &Script) -> Result<Next, Stop>
     ensures keeps { H.meaning.keeps host.old host.new }
-    ensures leads { (f : Frame) → LeadsToNext H.meaning call_limit (plan (first_scripts (script_tree script.now)) (state_by (store_of machine.old) f)) host.old result (store_of machine.new) host.new }
+    ensures leads { (f : Frame) → LeadsToNext H.meaning CALL_DEPTH_LIMIT (plan (first_scripts (script_tree script.now)) (state_by (store_of machine.old) f)) host.old result (store_of machine.new) host.new }
 {
     let number = machine.begin_script()?;
-    let exit = run_script(machine, host, CALL_LIMIT, number, script.lines.as_slice())?;
+    let exit = run_script(
+        machine,
+        host,
+        CALL_DEPTH_LIMIT,
+        number,
+        script.lines.as_slice(),
+    )?;
     let Some(script) = script_behind(machine, host)? else {
         return Ok(Next::Exit(exit));
     };

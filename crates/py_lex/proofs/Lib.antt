@@ -12,3 +12,6 @@ pub mod Whole
 pub mod Clean
 pub mod TextUtf8
 pub mod StepUtf8
+pub mod Pieces
+pub mod Writing
+pub mod Unmarked

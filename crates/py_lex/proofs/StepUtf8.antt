@@ -141,7 +141,7 @@ integer_is depth rest (Some value) clean = clean
 integer_is depth rest None clean = tt
 
 -- by the table
-mark_is_ascii : (m : Mark) → list_all (λ b. nat_lt b 128) (mark_text m) ≡ true
+pub mark_is_ascii : (m : Mark) → list_all (λ b. nat_lt b 128) (mark_text m) ≡ true
 mark_is_ascii OpenParen = refl
 mark_is_ascii CloseParen = refl
 mark_is_ascii OpenBracket = refl

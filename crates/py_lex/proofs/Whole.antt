@@ -5,6 +5,7 @@ use Rattle.std.specs.Str.{IsUtf8, is_utf8}
 use Rattle.std.specs.Str.Lossy.{utf8_valid_len}
 use Rattle.std.proofs.lemmas.Str.{IsUtf8-from_is_utf8, is_utf8-from_IsUtf8}
 use Rattle.std.proofs.lemmas.Bool.Decides.{nat_tests}
+use Rattle.scons_base.specs.declared.limits.TheConstants.{SCRIPT_LIMIT}
 use Rattle.py_token.specs.declared.token.Tokens.{Tokens}
 use Rattle.py_lex.specs.declared.fault.LexFault.{LexFault}
 use Rattle.py_lex.specs.declared.fault.LexFault.TheVariants.{At, Memory}
@@ -16,10 +17,10 @@ agrees_too (Ok tokens) P Q h = λ p. h _ p
 agrees_too (Err (At line kind)) P Q h = λ p. h _ p
 agrees_too (Err Memory) P Q h = λ p. tt
 
-within : (n : ℕ) → n ≤ 1048576 → nat_lt 1048576 n ≡ false
+within : (n : ℕ) → n ≤ SCRIPT_LIMIT → nat_lt SCRIPT_LIMIT n ≡ false
 within n h = grind (arith, nat_tests)
 
-pub read_whole : (bytes script : List ℕ) → length bytes ≤ 1048576 → script ≡ marked (without_order_mark bytes) → (o : Outcome) → Reads (start script) o → IsRead bytes o
+pub read_whole : (bytes script : List ℕ) → length bytes ≤ SCRIPT_LIMIT → script ≡ marked (without_order_mark bytes) → (o : Outcome) → Reads (start script) o → IsRead bytes o
 read_whole bytes script h is o r =
     subst (λ b. ReadIf b bytes o) (sym (within (length bytes) h)) (subst (λ x. Reads (start x) o) is r)
 

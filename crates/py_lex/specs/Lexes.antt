@@ -3,6 +3,7 @@ use Rattle.std.specs.Prelude.{◌≡◌, ℕ, Bool, true, false, nat_eq, nat_lt,
 use Rattle.std.specs.List.{starts_with}
 use Rattle.std.specs.Str.{is_utf8}
 use Rattle.std.specs.Str.Lossy.{utf8_valid_len}
+use Rattle.scons_base.specs.declared.limits.TheConstants.{SCRIPT_LIMIT}
 use Rattle.py_token.specs.declared.token.Token.{Token}
 use Rattle.py_token.specs.declared.token.Tokens.{Tokens}
 use Rattle.py_lex.specs.declared.bytes.TheConstants.{NO_TEXT}
@@ -10,7 +11,6 @@ use Rattle.py_lex.specs.declared.fault.LexFault.{LexFault}
 use Rattle.py_lex.specs.declared.fault.LexFault.TheVariants.{At, Memory}
 use Rattle.py_lex.specs.declared.fault.LexKind.{LexKind}
 use Rattle.py_lex.specs.declared.fault.LexKind.TheVariants as kinds
-use Rattle.py_lex.specs.declared.lexer.TheConstants.{LIMIT}
 use Rattle.py_lex.specs.Steps.{State, goes, ends, stops, Steps, start}
 
 -- the tokens of a script, or the line and the kind of its first fault
@@ -39,7 +39,7 @@ ReadIf false bytes o = Reads (start (marked (without_order_mark bytes))) o
 
 -- what comes of a script
 abbrev pub IsRead : List ℕ → Outcome → Type 0
-IsRead bytes o = ReadIf (nat_lt LIMIT (length bytes)) bytes o
+IsRead bytes o = ReadIf (nat_lt SCRIPT_LIMIT (length bytes)) bytes o
 
 -- the script has these tokens
 abbrev pub Lexes : List ℕ → List Token → Type 0

@@ -10,3 +10,4 @@ pub mod Lexes
 pub mod Views
 pub mod Sizes
 pub mod Utf8
+pub mod Written

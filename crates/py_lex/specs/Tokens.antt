@@ -82,7 +82,7 @@ abbrev pub quoted : List ℕ → Option (ℕ × List ℕ)
 quoted [] = None
 quoted (b ∷ rest) = if b == 39 || b == 34 then Some (b, rest) else None
 
-abbrev word_or : List ℕ → Option Keyword → TokenKind
+abbrev pub word_or : List ℕ → Option Keyword → TokenKind
 word_or name (Some keyword) = token.Word keyword
 word_or name None = token.Name name
 

@@ -1,26 +1,26 @@
 //! A script, cut into its tokens.
-ghost use Rattle.std.specs.Prelude.{◌≡◌, ◌<◌, ◌≤◌, ◌-◌, ◌^◌, ℕ, List, length, MatchResult};
+ghost use Rattle.std.specs.Prelude.{◌≡◌, ◌<◌, ◌≤◌, ◌-◌, ◌^◌, ℕ, List, length, IfOk, MatchResult};
 ghost use Rattle.py_token.specs.declared.token.Token.{Token};
 ghost use Rattle.py_lex.specs.declared.fault.LexKind.{LexKind};
 ghost use Rattle.py_lex.specs.Steps.{start};
 ghost use Rattle.py_lex.specs.Utf8.{IsClean};
 ghost use Rattle.py_lex.specs.Lexes.{Lexes, FaultAt, FaultsAt, Gives, Tells, Agrees, IsRead, Reads, without_order_mark};
+ghost use Rattle.py_lex.specs.Written.{Written};
 
 use crate::bytes::NO_TEXT;
 use crate::fault::{LexFault, LexKind};
 use crate::reader::{self, Step, next_step};
 use py_token::Tokens;
+use scons_base::limits::SCRIPT_LIMIT;
 use std::alloc::Global;
 use std::str;
-
-/// How many bytes a script may have.
-pub const LIMIT: usize = 1_048_576;
 
 /// Cuts a script into its tokens, or says where it first can't be cut, and why.
 pub fn lex(alloc: Global, bytes: &[u8]) -> Result<Tokens, LexFault>
     ensures found { MatchResult result (Lexes bytes.now) (FaultsAt bytes.now) }
     ensures only { (tokens : List Token) → Lexes bytes.now tokens → Gives result tokens }
     ensures refused { (line : ℕ) (kind : LexKind) → FaultAt bytes.now line kind → Tells result line kind }
+    ensures written { IfOk result (λ tokens. Written tokens (without_order_mark bytes.now)) }
 {
     lex_bytes(alloc, bytes)
 }
@@ -28,7 +28,7 @@ pub fn lex(alloc: Global, bytes: &[u8]) -> Result<Tokens, LexFault>
 fn lex_bytes(alloc: Global, bytes: &[u8]) -> Result<Tokens, LexFault>
     ensures { Agrees result (IsRead bytes.now) }
 {
-    if bytes.len() > LIMIT {
+    if bytes.len() as u64 > SCRIPT_LIMIT {
         let line = 1;
         let kind = LexKind::TooLong;
         return Err(LexFault::At { line, kind });

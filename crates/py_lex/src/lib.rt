@@ -19,4 +19,4 @@ mod text;
 mod token;
 
 pub use fault::{LexFault, LexKind};
-pub use lexer::{LIMIT, lex};
+pub use lexer::lex;

@@ -1,5 +1,5 @@
--- Calls: section 6.3.4 ("Calls") of the Python language reference. Each call costs one unit, and no more than 200 are open at
--- once (own). First what is called is looked at, then its arguments, then how many calls are open.
+-- Calls: section 6.3.4 ("Calls") of the Python language reference. Each call costs one unit, and no more than the limit
+-- are open at once (own). First what is called is looked at, then its arguments, then how many calls are open.
 use Rattle.std.specs.Prelude.{ℕ, suc, zero, Bool, true, false, ◌&&◌, ◌==◌, List, [], ◌∷◌, ◌++◌, Option, Some, None, Result, Ok, Err, length, slice_get, if◌then◌else◌, codes}
 use Rattle.py_tree.specs.Tree.{Tree}
 use Rattle.py_heap.specs.declared.value.Value.{Value}

@@ -1,5 +1,6 @@
 -- What scripts come to.
 use Rattle.std.specs.Prelude.{ℕ, zero, suc, List, [], Option, Result, Ok, Err}
+use Rattle.scons_base.specs.declared.limits.TheConstants.{CALL_DEPTH_LIMIT}
 use Rattle.py_tree.specs.Tree.{Tree, absent}
 use Rattle.py_heap.specs.Heap.{Objects}
 use Rattle.py_heap.specs.Units.{Units}
@@ -61,14 +62,10 @@ pub data Follows {H : Type 0} (m : Meaning H) : ℕ → Plan → H → Result Ou
   asked : {c : ℕ} {q : Question} {s : State} {place : Place} {k : Answer q → State → Plan} {r : Result Out Fault} {h h2 : H} (a : Answer q) (h1 : H) (objects : Objects) → m.replies q h s.objects (answers a) h1 objects → Follows m c (k a (with_objects s objects)) h1 r h2 → Follows m c (asks q s place k) h r h2
   refused : {c : ℕ} {q : Question} {s : State} {place : Place} {k : Answer q → State → Plan} {h h1 : H} (objects : Objects) → m.replies q h s.objects refuses h1 objects → Follows m c (asks q s place k) h (fault_at place kind.Host) h1
 
--- the calls that may be open at once
-abbrev pub call_limit : ℕ
-call_limit = 200
-
 -- before anything has run
 abbrev pub start : Objects → Units → State
 start h u = record { objects = h; units = u; globals = []; functions = []; frame = script_frame 0 }
 
 -- what the reading that begins with a script comes to: from a heap, units and a host, to an outcome and the host after it
 abbrev pub Evaluates : {H : Type 0} → Meaning H → Tree → Objects → Units → H → Result Out Fault → H → Type 0
-Evaluates m t objects units h r h2 = Follows m call_limit (plan (first_scripts t) (start objects units)) h r h2
+Evaluates m t objects units h r h2 = Follows m CALL_DEPTH_LIMIT (plan (first_scripts t) (start objects units)) h r h2

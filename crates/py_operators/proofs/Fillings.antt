@@ -8,11 +8,10 @@ use Rattle.py_heap.specs.declared.value.Value.TheVariants as v
 use Rattle.py_heap.specs.declared.fault.ValueFault.{ValueFault}
 use Rattle.py_heap.specs.declared.fault.ValueFault.TheVariants as fault
 use Rattle.py_heap.specs.Heap.{Objects}
-use Rattle.scons_base.specs.declared.limits.TheConstants.{TEXT_LIMIT}
+use Rattle.scons_base.specs.declared.limits.TheConstants.{TEXT_LIMIT, VALUE_DEPTH_LIMIT}
 use Rattle.py_heap.specs.Units.{Units, room}
 use Rattle.py_heap.proofs.Rooms.{room-told_length, room_passes}
 use Rattle.py_compare.specs.Outcomes.{then_by, paid_text}
-use Rattle.py_compare.specs.declared.equal.TheConstants.{LEVEL_LIMIT}
 use Rattle.py_compare.specs.Growing.{Growth, not_begun, grown}
 use Rattle.py_compare.specs.Showing.{Shown, show_at, behind}
 use Rattle.py_compare.proofs.Growths.{grow, grow_is, grow-behind, grow_nothing, told_of, show_told}
@@ -29,7 +28,7 @@ onto_told (Err e) xs = refl
 
 integer_told : (h : Objects) (t : List ℕ) (u : Units) (x : Value) → integer_shown grown h (grow t) u x ≡ told_of (integer_shown behind h t u x)
 unfolding told_of
-integer_told h t u (v.Int n) = show_told LEVEL_LIMIT h false t u (v.Int n)
+integer_told h t u (v.Int n) = show_told VALUE_DEPTH_LIMIT h false t u (v.Int n)
 integer_told h t u v.Nil = refl
 integer_told h t u (v.Bool b) = refl
 integer_told h t u (v.Text id) = refl
@@ -48,7 +47,7 @@ unfolding filling_of
 piece_told h t u (literal s) xs = ap (λ g. with_text xs u g) (sym (grow-behind t s))
 piece_told h t u percent xs = ap (λ g. with_text xs u g) (sym (grow-behind t (codes "%")))
 piece_told h t u any_value [] = refl
-piece_told h t u any_value (x ∷ xs) = ap (λ o. then_by o (λ s. Ok (xs, s.0, s.1))) (show_told LEVEL_LIMIT h false t u x) ∙ onto_told (show_at behind LEVEL_LIMIT h false t u x) xs
+piece_told h t u any_value (x ∷ xs) = ap (λ o. then_by o (λ s. Ok (xs, s.0, s.1))) (show_told VALUE_DEPTH_LIMIT h false t u x) ∙ onto_told (show_at behind VALUE_DEPTH_LIMIT h false t u x) xs
 piece_told h t u integer [] = refl
 piece_told h t u integer (x ∷ xs) = ap (λ o. then_by o (λ s. Ok (xs, s.0, s.1))) (integer_told h t u x) ∙ onto_told (integer_shown behind h t u x) xs
 

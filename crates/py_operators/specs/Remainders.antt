@@ -1,6 +1,7 @@
 -- `%`: the remainder of two integers (section 6.7 of the Python language reference), and a text with values put in the places
 -- of `%s` and `%d` ("printf-style String Formatting" in the library reference, cut down).
 use Rattle.std.specs.Prelude.{ℕ, ℤ, false, List, [], ◌∷◌, Option, Some, None, Result, Ok, Err, codes}
+use Rattle.scons_base.specs.declared.limits.TheConstants.{VALUE_DEPTH_LIMIT}
 use Rattle.py_text.specs.Formatting.{FormatPiece, literal, percent, any_value, integer, pieces_of}
 use Rattle.py_heap.specs.declared.value.Value.{Value}
 use Rattle.py_heap.specs.declared.value.Value.TheVariants as v
@@ -11,7 +12,6 @@ use Rattle.py_heap.specs.Given.{next_text}
 use Rattle.py_heap.specs.Units.{Units}
 use Rattle.py_compare.specs.Outcomes.{Outcome, then_by, number, mismatch, paid_text}
 use Rattle.py_compare.specs.Numbers.{remainder}
-use Rattle.py_compare.specs.declared.equal.TheConstants.{LEVEL_LIMIT}
 use Rattle.py_compare.specs.Showing.{Shown, show_at, behind}
 
 -- a text so far, the values that are left, and the units
@@ -20,7 +20,7 @@ Filling T = Result (List Value × T × Units) ValueFault
 
 module _ {T : Type 0} (put : T → List ℕ → T) where
   abbrev shown_onto : Objects → T → Units → Value → List Value → Filling T
-  shown_onto h text u x xs = then_by (show_at put LEVEL_LIMIT h false text u x) (λ s. Ok (xs, s.0, s.1))
+  shown_onto h text u x xs = then_by (show_at put VALUE_DEPTH_LIMIT h false text u x) (λ s. Ok (xs, s.0, s.1))
 
   abbrev any_onto : Objects → T → Units → List Value → Filling T
   any_onto h text u [] = Err fault.BadText
@@ -28,7 +28,7 @@ module _ {T : Type 0} (put : T → List ℕ → T) where
 
   -- `%d` needs an integer
   abbrev pub integer_shown : Objects → T → Units → Value → Shown T
-  integer_shown h text u (v.Int n) = show_at put LEVEL_LIMIT h false text u (v.Int n)
+  integer_shown h text u (v.Int n) = show_at put VALUE_DEPTH_LIMIT h false text u (v.Int n)
   integer_shown h text u x = mismatch x x
 
   abbrev integer_onto : Objects → T → Units → List Value → Filling T

@@ -6,10 +6,11 @@ ghost use Rattle.py_heap.specs.Heap.{text_at};
 ghost use Rattle.py_compare.specs.Growing.{grown};
 ghost use Rattle.py_operators.specs.Remainders.{integer_shown, piece_onto, pieces_onto, filled, values_in, format_of, rest_of};
 
-use py_compare::{GrowingText, LEVEL_LIMIT, floor_rem, show_onto};
+use py_compare::{GrowingText, floor_rem, show_onto};
 use py_heap::{Budget, Heap, TextId, Value, ValueFault, text_room};
 use py_text::{FormatFault, Piece};
 use scons_base::Text;
+use scons_base::limits::VALUE_DEPTH_LIMIT;
 use std::alloc::Global;
 
 /// `%`
@@ -136,7 +137,7 @@ fn push_piece<'a>(
         }
         Piece::Any => match values {
             [value, left @ ..] => {
-                show_onto(heap, budget, LEVEL_LIMIT, false, text, *value)?;
+                show_onto(heap, budget, VALUE_DEPTH_LIMIT, false, text, *value)?;
                 Ok(left)
             }
             _ => Err(ValueFault::BadText),
@@ -162,7 +163,7 @@ fn push_integer(
     ensures fault { IfErr result (λ e. e ≢ ValueFault.Memory → integer_shown grown heap.now text.old budget.old value ≡ Err e) }
 {
     match value {
-        Value::Int(_) => show_onto(heap, budget, LEVEL_LIMIT, false, text, value),
+        Value::Int(_) => show_onto(heap, budget, VALUE_DEPTH_LIMIT, false, text, value),
         _ => Err(ValueFault::Mismatch(value.kind(), value.kind())),
     }
 }

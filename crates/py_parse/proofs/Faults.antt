@@ -1,5 +1,6 @@
 -- A fault of reading is the fault of the tokens, with its place and its kind, and tokens have one fault or a tree.
 use Rattle.std.proofs.Common.{◌≡◌, ℕ, zero, suc, ◌+◌, List, [], ◌∷◌, ◌++◌, refl, sym, ap, subst, ◌∙◌, append_assoc, arith, ◌⊎◌, inl, inr}
+use Rattle.scons_base.specs.declared.limits.TheConstants.{SYNTAX_DEPTH_LIMIT}
 use Rattle.py_token.specs.declared.token.Token.{Token}
 use Rattle.py_tree.specs.Tree.{Tree}
 use Rattle.py_parse.specs.declared.fault.ParseKind.{ParseKind}
@@ -22,9 +23,9 @@ pub record Stopped (ts rest : List Token) (w : Why) : Type 0 where
   pub parts : ts ≡ front ++ rest
   pub begins : BeginsScript front
   pub ends : NoMore front rest
-  pub moves : (r : List Token) → SameHead rest r → Reads 100 (reads script gives) (front ++ r) (fault w r)
+  pub moves : (r : List Token) → SameHead rest r → Reads SYNTAX_DEPTH_LIMIT (reads script gives) (front ++ r) (fault w r)
 
-pub stopped_at : {ts rest : List Token} {w : Why} → Reads 100 (reads script gives) ts (fault w rest) → Stopped ts rest w
+pub stopped_at : {ts rest : List Token} {w : Why} → Reads SYNTAX_DEPTH_LIMIT (reads script gives) ts (fault w rest) → Stopped ts rest w
 stopped_at {ts = ts} {rest = rest} {w = w} r =
     let l = local r in
     let v = begins_script ts rest w r in
@@ -43,7 +44,7 @@ more_levels zero {d = d} {e = e} q r h = let p : e ≡ d = omega arith in rw p r
 more_levels (suc n) {d = d} {e = e} q r h = more_levels n {d = suc d} {e = e} (omega arith) (one_more r h) h
 
 -- what is refused as too deep would go on with one more level
-pub deep_is : (front rest : List Token) → Reads 100 (reads script gives) (front ++ rest) (fault deep rest) → IsTooDeep front rest
+pub deep_is : (front rest : List Token) → Reads SYNTAX_DEPTH_LIMIT (reads script gives) (front ++ rest) (fault deep rest) → IsTooDeep front rest
 deep_is front rest r =
     let g = levels.too_deep (front ++ rest) rest r in
     let e : g.front ≡ front = same_fronts (front ++ rest) g.front front rest g.parts refl in
@@ -52,15 +53,15 @@ deep_is front rest r =
     subst (λ l. IsTooDeep front l) (sym g.rest_is) i
 
 -- what is refused as such is refused at every limit
-pub unfit_is : (front rest : List Token) → Reads 100 (reads script gives) (front ++ rest) (fault unfit rest) → IsTooDeep front rest → ⊥
+pub unfit_is : (front rest : List Token) → Reads SYNTAX_DEPTH_LIMIT (reads script gives) (front ++ rest) (fault unfit rest) → IsTooDeep front rest → ⊥
 unfit_is front [] r h = h
 unfit_is front (x ∷ rest) r h =
     let s = stopped_at r in
     let e : s.front ≡ front = same_fronts (front ++ x ∷ rest) s.front front (x ∷ rest) s.parts refl in
-    let stops : Reads 100 (reads script gives) (front ++ x ∷ h.1) (fault unfit (x ∷ h.1)) = rw e at (s.moves (x ∷ h.1) (λ v. refl)) in
+    let stops : Reads SYNTAX_DEPTH_LIMIT (reads script gives) (front ++ x ∷ h.1) (fault unfit (x ∷ h.1)) = rw e at (s.moves (x ∷ h.1) (λ v. refl)) in
     let whole : (front ++ x ∷ []) ++ h.1 ≡ front ++ x ∷ h.1 = append_assoc (front) (x ∷ []) h.1 in
     let goes = rw (with_nothing, whole) at (complete_script h.0 ((front ++ x ∷ []) ++ h.1) h.2 h.3) in
-    let both = Reads-one (more_levels h.0 {e = h.0 + 100} refl stops tt) (more_levels 100 {e = h.0 + 100} (omega arith) goes tt) in
+    let both = Reads-one (more_levels h.0 {e = h.0 + SYNTAX_DEPTH_LIMIT} refl stops tt) (more_levels SYNTAX_DEPTH_LIMIT {e = h.0 + SYNTAX_DEPTH_LIMIT} (omega arith) goes tt) in
     cc
 
 -- of two fronts of the same tokens one goes on where the other ends

@@ -3,6 +3,7 @@ use Rattle.std.proofs.Common.{◌≡◌, ℕ, suc, ◌-◌, List, [], ◌∷◌,
 use Rattle.std.specs.Prelude.{Result, Ok, Err, ◌==◌, ◌↔◌, IsTrue, MatchResult}
 use Rattle.std.proofs.lemmas.Bool.Decides.{nat_tests}
 use Rattle.std.proofs.Math.Seq.{take-append_seam, drop-append_seam}
+use Rattle.scons_base.specs.declared.limits.TheConstants.{SYNTAX_DEPTH_LIMIT}
 use Rattle.py_token.specs.declared.token.Token.{Token}
 use Rattle.py_tree.specs.Tree.{Tree, script_tree}
 use Rattle.py_tree.specs.declared.line.Script.{Script}
@@ -18,7 +19,7 @@ use Rattle.py_parse.proofs.Top.{with_nothing, tree_of, one_tree}
 use Rattle.py_parse.proofs.Faults.{Stopped, stopped_at, one_fault, not_both}
 
 fault_here : (ts rest : List Token) (w : Why) (kind : ParseKind) (s : Stopped ts rest w) →
-    (Reads 100 (reads script gives) (s.front ++ rest) (fault w rest) → IsKind s.front rest kind) →
+    (Reads SYNTAX_DEPTH_LIMIT (reads script gives) (s.front ++ rest) (fault w rest) → IsKind s.front rest kind) →
     FaultAt ts (line_of s.front rest) (number_of s.front) kind
 fault_here ts rest w kind s h = record {
   place = length s.front;
@@ -38,21 +39,21 @@ cut_rest : (ts f r : List Token) → ts ≡ f ++ r → drop (length ts - length 
 cut_rest ts f r p = ap (λ n. drop n ts) (cut_length ts f r p) ∙ ap (λ l. drop (length f) l) p ∙ drop-append_seam f r
 
 -- where reading stops is the fault, if its kind is known there
-pub fault_found : (ts rest front back : List Token) (w : Why) (kind : ParseKind) → Reads 100 (reads script gives) ts (fault w rest) →
+pub fault_found : (ts rest front back : List Token) (w : Why) (kind : ParseKind) → Reads SYNTAX_DEPTH_LIMIT (reads script gives) ts (fault w rest) →
     front ≡ take (length ts - length rest) ts → back ≡ drop (length ts - length rest) ts →
-    (Reads 100 (reads script gives) (front ++ back) (fault w back) → IsKind front back kind) →
+    (Reads SYNTAX_DEPTH_LIMIT (reads script gives) (front ++ back) (fault w back) → IsKind front back kind) →
     FaultAt ts (line_of front back) (number_of front) kind
 fault_found ts rest front back w kind r p q h =
     let s = stopped_at r in
     let f : s.front ≡ front = sym (p ∙ cut_front ts s.front rest s.parts) in
     let b : rest ≡ back = sym (q ∙ cut_rest ts s.front rest s.parts) in
-    let i = subst (λ g. Reads 100 (reads script gives) (s.front ++ g) (fault w g) → IsKind s.front g kind) (sym b)
-    (subst (λ g. Reads 100 (reads script gives) (g ++ back) (fault w back) → IsKind g back kind) (sym f) h) in
+    let i = subst (λ g. Reads SYNTAX_DEPTH_LIMIT (reads script gives) (s.front ++ g) (fault w g) → IsKind s.front g kind) (sym b)
+    (subst (λ g. Reads SYNTAX_DEPTH_LIMIT (reads script gives) (g ++ back) (fault w back) → IsKind g back kind) (sym f) h) in
     let a = fault_here ts rest w kind s i in
     subst (λ g. FaultAt ts (line_of front g) (number_of front) kind) b (subst (λ g. FaultAt ts (line_of g rest) (number_of g) kind) f a)
 
 -- a script is the front of one
-pub begins_if_read : (ts : List Token) (t : Tree) → Reads 100 (reads script gives) ts (ok t []) → BeginsScript ts
+pub begins_if_read : (ts : List Token) (t : Tree) → Reads SYNTAX_DEPTH_LIMIT (reads script gives) ts (ok t []) → BeginsScript ts
 begins_if_read ts t r = ([], t, subst (λ l. Parses l t) (sym (with_nothing ts)) (tree_of ts t r))
 
 some_left : (n : ℕ) → (suc n == 0) ≡ true → ⊥
@@ -69,7 +70,7 @@ done_when_begins ts (x ∷ rest) w s b =
     let e : ts ++ b.0 ≡ s.front ++ x ∷ (rest ++ b.0) = ap (λ l. l ++ b.0) s.parts ∙ append_assoc s.front (x ∷ rest) b.0 in
     absurd (s.ends (rest ++ b.0) b.1 (subst (λ l. Parses l b.1) e b.2))
 
-pub begins_if_done : (ts rest : List Token) (w : Why) → Reads 100 (reads script gives) ts (fault w rest) → IsTrue (length rest == 0) ↔ BeginsScript ts
+pub begins_if_done : (ts rest : List Token) (w : Why) → Reads SYNTAX_DEPTH_LIMIT (reads script gives) ts (fault w rest) → IsTrue (length rest == 0) ↔ BeginsScript ts
 begins_if_done ts rest w r = let s = stopped_at r in (begins_when_done ts rest w s, done_when_begins ts rest w s)
 
 pub only_at : (ts : List Token) (r : Result Script ParseFault) → MatchResult r (IsTree ts) (FaultsAt ts) → (t : Tree) → Parses ts t → Gives r t

@@ -1,5 +1,6 @@
 -- With one more level of nesting, what was refused as such is refused still, and what was refused as too deep goes on.
 use Rattle.std.proofs.Common.{◌≡◌, ℕ, zero, suc, List, [], ◌∷◌, ◌++◌, true, refl, ap, append_assoc}
+use Rattle.scons_base.specs.declared.limits.TheConstants.{SYNTAX_DEPTH_LIMIT}
 use Rattle.py_token.specs.declared.token.Token.{Token}
 use Rattle.py_tree.specs.Tree.{Tree}
 use Rattle.py_parse.specs.Terminals.{Want, fits, heads}
@@ -174,5 +175,5 @@ goes_on (r_nested {d = d} {p = p} {k = k} {ts = ts} {o = o} u rest r s) = on_dee
 goes_on (r_nested_fault {d = d} {p = p} {k = k} {ts = ts} {rest = rest} {w = w} r) = on_deeper_fault d p k ts rest w (goes_on r)
 
 -- what is too deep is too deep alone: with one more level the tokens up to it begin a script
-pub too_deep : (ts rest : List Token) → Reads 100 (reads script gives) ts (fault deep rest) → GoesOn 100 (reads script gives) ts rest
+pub too_deep : (ts rest : List Token) → Reads SYNTAX_DEPTH_LIMIT (reads script gives) ts (fault deep rest) → GoesOn SYNTAX_DEPTH_LIMIT (reads script gives) ts rest
 too_deep ts rest r = goes_on r

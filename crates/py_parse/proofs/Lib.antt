@@ -16,6 +16,10 @@ pub mod Viable
 pub mod Follow
 pub mod Complete
 pub mod First
+pub mod Wants
+pub mod Beginnings
+pub mod Endings
+pub mod Orders
 pub mod Table
 pub mod Top
 pub mod Local

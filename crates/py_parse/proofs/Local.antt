@@ -1,6 +1,7 @@
 -- Reading looks one token ahead: other tokens behind that one change nothing. So where reading stops, no tokens that go on
 -- with the next one are a script.
 use Rattle.std.proofs.Common.{◌≡◌, ℕ, suc, ◌+◌, List, [], ◌∷◌, ◌++◌, true, refl, sym, ap, ◌∙◌, append_assoc, length, length-append, arith, ◌⊎◌, inl, inr}
+use Rattle.scons_base.specs.declared.limits.TheConstants.{SYNTAX_DEPTH_LIMIT}
 use Rattle.py_token.specs.declared.token.Token.{Token}
 use Rattle.py_tree.specs.Tree.{Tree, nil}
 use Rattle.py_parse.specs.Terminals.{Want, one, fits, heads}
@@ -120,7 +121,7 @@ local (r_part_fault {d = d} {p = p} {k = k} {ts = ts} {rest = rest} {w = w} r) =
 local (r_nested {d = d} {p = p} {k = k} {ts = ts} {o = o} u rest r s) = local_deeper d p k u ts rest o (local r) (local s)
 local (r_nested_fault {d = d} {p = p} {k = k} {ts = ts} {rest = rest} {w = w} r) = local_deeper_fault d p k ts rest w (local r)
 
-pub no_more_at : (front rest : List Token) (w : Why) → ((r : List Token) → SameHead rest r → Reads 100 (reads script gives) (front ++ r) (fault w r)) → NoMore front rest
+pub no_more_at : (front rest : List Token) (w : Why) → ((r : List Token) → SameHead rest r → Reads SYNTAX_DEPTH_LIMIT (reads script gives) (front ++ r) (fault w r)) → NoMore front rest
 no_more_at front [] w m = λ t p. no_tree (front ++ []) [] t w (m [] (λ v. refl)) (rw with_nothing p)
 no_more_at front (x ∷ rest) w m = λ more t p. no_tree (front ++ x ∷ more) (x ∷ more) t w (m (x ∷ more) (λ v. refl)) p
 
@@ -145,12 +146,12 @@ same_fronts ts a b r p q =
 nothing_begins : BeginsScript []
 nothing_begins = ([], nil, read (gives nil) [] [] (there here) given given)
 
-pub begun : (front : List Token) → (front ≡ []) ⊎ Begins 100 (reads script gives) front → BeginsScript front
+pub begun : (front : List Token) → (front ≡ []) ⊎ Begins SYNTAX_DEPTH_LIMIT (reads script gives) front → BeginsScript front
 begun front (inl e) = rw e nothing_begins
 begun front (inr b) = (b.more, b.tree, b.spelling)
 
 -- where reading stops is the first token that no continuation allows
-pub first_fault : (ts rest : List Token) (w : Why) → Reads 100 (reads script gives) ts (fault w rest) →
+pub first_fault : (ts rest : List Token) (w : Why) → Reads SYNTAX_DEPTH_LIMIT (reads script gives) ts (fault w rest) →
     (place : ℕ) × (place + length rest ≡ length ts) × IsFirstFault ts place
 first_fault ts rest w r =
     let l = local r in

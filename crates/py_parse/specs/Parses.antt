@@ -1,5 +1,6 @@
 -- Which tokens spell a tree, and the first token that no continuation allows. Both speak of the grammar alone.
 use Rattle.std.specs.Prelude.{◌≡◌, ℕ, suc, List, [], ◌∷◌, ◌++◌, true, length}
+use Rattle.scons_base.specs.declared.limits.TheConstants.{SYNTAX_DEPTH_LIMIT}
 use Rattle.py_token.specs.declared.token.Token.{Token}
 use Rattle.py_tree.specs.Tree.{Tree}
 use Rattle.py_parse.specs.Terminals.{Want, fits}
@@ -28,7 +29,7 @@ ParsesWithin d tokens t = Spells d (reads script gives) tokens t
 
 -- The limit is the project's own.
 abbrev pub Parses : List Token → Tree → Type 0
-Parses tokens t = ParsesWithin 100 tokens t
+Parses tokens t = ParsesWithin SYNTAX_DEPTH_LIMIT tokens t
 
 -- These tokens are the front of a script.
 abbrev pub BeginsScript : List Token → Type 0

@@ -10,19 +10,17 @@ use crate::site::Site;
 use crate::stop::Stop;
 use py_token::Token;
 use py_tree::Script;
+use scons_base::limits::SYNTAX_DEPTH_LIMIT;
 use std::alloc::Global;
-
-/// So many levels of brackets, unary operators and blocks may stand inside each other.
-const LEVELS: u32 = 100;
 
 /// The script that all these tokens are.
 pub fn read_script<'a>(alloc: Global, tokens: &'a [Token]) -> Result<Script, Stop<'a>>
-    ensures { Agrees (λ s. ok (script_tree s) []) result (Reads 100 (grammar.reads grammar.script grammar.gives) tokens.now) }
+    ensures { Agrees (λ s. ok (script_tree s) []) result (Reads SYNTAX_DEPTH_LIMIT (grammar.reads grammar.script grammar.gives) tokens.now) }
 {
     let mut lines = Vec::new(alloc);
     let mut rest = tokens;
     'lines: while !rest.is_empty() {
-        let (line, after) = parse_line(alloc, Site::top(), LEVELS, rest)?;
+        let (line, after) = parse_line(alloc, Site::top(), SYNTAX_DEPTH_LIMIT, rest)?;
         lines.push(line)?;
         rest = after;
     }

@@ -1,4 +1,6 @@
 //! What a worker does with a job: it runs the lines by the shell, copies, or writes.
+ghost use Rattle.std.specs.Prelude.{None};
+
 use job_runner::{Ending, Runner, Slip};
 use scons_base::{PathText, Text};
 use std::alloc::{AllocError, Global};
@@ -52,6 +54,8 @@ impl<R: Files + AllocGlobal + Processes + Eprint + Drop> LockHolder for Shell<R>
 }
 
 impl<R: Files + AllocGlobal + Processes + Eprint + Drop> Runner for Shell<R> {
+    ghost answer = { λ slip. None };
+
     fn run(&self, slip: Arc<Slip, Global>) -> Ending {
         let job = &slip.job;
         let outcome = match job.work {

@@ -6,7 +6,7 @@ use crate::bank::BankFiles;
 use crate::files;
 use crate::lock::locked;
 use crate::shell::LockHolder;
-use job_runner::{NoGate, Pool, Slip};
+use job_runner::{NoGate, Pool, Runner, Slip};
 use scons_base::{Memory, PathFault, PathText, Paths};
 use std::alloc::Global;
 use std::env::Env;
@@ -21,7 +21,7 @@ use world_api::{
 
 /// The real files, banks and shell. Jobs run on worker threads, as many at once as have started.
 #[derive(Drop)]
-pub struct RealWorld<R, S> {
+pub struct RealWorld<R, S: Runner> {
     rt: R,
     alloc: Global,
     pool: Pool<R, S, NoGate>,

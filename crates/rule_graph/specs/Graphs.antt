@@ -1,7 +1,8 @@
 -- A graph: what scripts have declared.
-use Rattle.std.specs.Prelude.{◌≡◌, Bool, ℕ, List, [], ◌∷◌, ◌++◌, Option, Some, None, length, slice_get, unwrap_or, nat_lt, is_some, true, if◌then◌else◌, MatchOption}
+use Rattle.std.specs.Prelude.{◌≡◌, ◌+◌, Bool, ℕ, List, [], ◌∷◌, ◌++◌, Option, Some, None, length, slice_get, unwrap_or, nat_lt, is_some, true, if◌then◌else◌, MatchOption}
 use Rattle.std.specs.List.{list_all}
 use Rattle.scons_base.specs.declared.ids.NodeId.{NodeId}
+use Rattle.scons_base.specs.declared.limits.TheConstants.{RULE_LIMIT}
 use Rattle.variant_dirs.specs.declared.variants.Variant.{Variant}
 use Rattle.rule_graph.specs.declared.rule.Rule.{Rule}
 use Rattle.rule_graph.specs.declared.wish.Wish.{Wish}
@@ -29,7 +30,7 @@ abbrev pub path_of : List (List ℕ) → NodeId → List ℕ
 path_of nodes id = unwrap_or (slice_get nodes id.0) []
 
 abbrev full_fault : RuleGraph → Option RuleFault
-full_fault g = if nat_lt (length g.rules) 50000 then None else Some (Full 50001)
+full_fault g = if nat_lt (length g.rules) RULE_LIMIT then None else Some (Full (RULE_LIMIT + 1))
 
 abbrev taken_fault : RuleGraph → Option NodeId → Option RuleFault
 taken_fault g (Some target) = Some (TwoRules (path_of g.nodes target))

@@ -4,6 +4,7 @@ use Rattle.std.specs.List.{list_any, list_all, find}
 use Rattle.std.specs.Option.{option_map, option_and_then}
 use Rattle.std.specs.Str.{bytes_eq}
 use Rattle.std.specs.Cmp.Lexicographic.{pointwise}
+use Rattle.scons_base.specs.declared.limits.TheConstants.{RULE_LIMIT}
 use Rattle.scons_base.specs.declared.ids.NodeId.{NodeId}
 use Rattle.scons_base.specs.declared.ids.RuleId.{RuleId}
 use Rattle.rule_graph.specs.declared.rule.Rule.{Rule}
@@ -68,4 +69,4 @@ rule_at table n = option_map (λ id. id.0) (option_and_then (λ r. r) (slice_get
 pub record IsTable (table : List (Option RuleId)) (rules : List Rule) : Type 0 where
   pub agrees : (n : ℕ) → rule_at table n ≡ rule_of rules n
   pub single : (i n : ℕ) (r : Rule) → slice_get rules i ≡ Some r → is_target_of r.targets n ≡ true → rule_of rules n ≡ Some i
-  pub limit : length rules ≤ 50000
+  pub limit : length rules ≤ RULE_LIMIT

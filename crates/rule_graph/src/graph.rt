@@ -1,6 +1,7 @@
 //! The graph of a reading.
-ghost use Rattle.std.specs.Prelude.{◌≡◌, ◌≢◌, ◌==◌, ◌<◌, ◌≤◌, ◌++◌, ◌∷◌, [], ℕ, Some, None, length, slice_get, IfOk, IfErr, OnOk, OnErr, IfSome, option_copied, true};
+ghost use Rattle.std.specs.Prelude.{◌≡◌, ◌≢◌, ◌==◌, ◌<◌, ◌≤◌, ◌+◌, ◌++◌, ◌∷◌, [], ℕ, Some, None, length, slice_get, IfOk, IfErr, OnOk, OnErr, IfSome, option_copied, true};
 ghost use Rattle.std.specs.Option.{option_map};
+ghost use Rattle.scons_base.specs.declared.limits.TheConstants.{NODE_LIMIT};
 ghost use Rattle.node_tree.specs.Nodes.{number_of, Interns};
 ghost use Rattle.variant_dirs.specs.Variants.{add_fault, added};
 ghost use Rattle.rule_graph.specs.Rules.{rule_of, are_below, IsRule};
@@ -79,8 +80,8 @@ impl Graph {
         ensures ok { IfOk result (λ id. Interns self.old.nodes path.now id.0 self.new.nodes
             × (id.0 < length self.new.nodes)) }
         ensures rest { self.new ≡ record self.old { nodes = self.new.nodes } }
-        ensures full { IfErr result (λ e. e ≢ NodeRefusal.Memory → (e ≡ NodeRefusal.Full 100001)
-            × (length self.old.nodes ≡ 100000) × (number_of self.old.nodes path.now ≡ None)) }
+        ensures full { IfErr result (λ e. e ≢ NodeRefusal.Memory → (e ≡ NodeRefusal.Full (NODE_LIMIT + 1))
+            × (length self.old.nodes ≡ NODE_LIMIT) × (number_of self.old.nodes path.now ≡ None)) }
         ensures err { OnErr result (self.new ≡ self.old) }
     {
         self.nodes.intern(path)
@@ -105,7 +106,7 @@ impl Graph {
     /// How many paths have a number.
     pub fn len(&self) -> u32
         ensures len { result ≡ length self.now.nodes }
-        ensures limit { length self.now.nodes ≤ 100000 }
+        ensures limit { length self.now.nodes ≤ NODE_LIMIT }
     {
         self.nodes.len()
     }
@@ -172,7 +173,7 @@ impl Graph {
     /// How many rules there are.
     pub fn rules(&self) -> u32
         ensures len { result ≡ length self.now.rules }
-        ensures limit { length self.now.rules ≤ 50000 }
+        ensures limit { length self.now.rules ≤ RULE_LIMIT }
     {
         self.rules.len()
     }

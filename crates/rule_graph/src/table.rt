@@ -41,13 +41,13 @@ impl RuleTable {
 
     pub(crate) fn len(&self) -> u32
         ensures len { result ≡ length self.now }
-        ensures limit { length self.now ≤ 50000 }
+        ensures limit { length self.now ≤ RULE_LIMIT }
     {
         self.rules.len() as u32
     }
 
     pub(crate) fn has_room(&self) -> bool
-        ensures { result ≡ nat_lt (length self.now) 50000 }
+        ensures { result ≡ nat_lt (length self.now) RULE_LIMIT }
     {
         self.len() < RULE_LIMIT
     }
@@ -115,7 +115,7 @@ impl RuleTable {
 
     pub(crate) fn push(&mut self, rule: Rule) -> Result<RuleId, Memory>
         requires free { taken self.old rule.targets ≡ None }
-        requires room { length self.old < 50000 }
+        requires room { length self.old < RULE_LIMIT }
         ensures ok { IfOk result (λ id. (id.0 ≡ length self.old) × (self.new ≡ self.old ++ rule ∷ [])) }
         ensures err { OnErr result (self.new ≡ self.old) }
     {

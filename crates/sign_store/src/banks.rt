@@ -5,7 +5,7 @@ ghost use Rattle.world_api.specs.Causes.{DiskFails};
 ghost use Rattle.world_api.specs.Meaning.{Told};
 ghost use Rattle.world_api.specs.declared.disk.Bank.{Bank};
 ghost use Rattle.world_api.specs.declared.disk.Bank.TheVariants as side;
-ghost use Rattle.sign_store.specs.Reached.{HasFaultCause, Looks, Writes};
+ghost use Rattle.sign_store.specs.Reached.{HasFaultCause, ReadsBanks, Writes};
 
 use crate::head::{HEAD_LEN, Head, head_of};
 use crate::refusals::StoreRefusal;
@@ -28,7 +28,7 @@ pub(crate) fn sizes_of<W: Disk>(world: &mut W) -> Result<Sizes, StoreRefusal>
     ensures small { IfOk result (λ sizes. (sizes.a ≤ 2 ^ 40) × (sizes.b ≤ 2 ^ 40)) }
     ensures cause { HasFaultCause W.meaning world.old world.new result }
     ensures seen { W.meaning.tells world.new → (each : Bank) → W.meaning.seen world.new each ≡ W.meaning.seen world.old each }
-    ensures looks { Looks W.meaning world.old world.new }
+    ensures looks { ReadsBanks W.meaning world.old world.new }
     ensures told { Told W.meaning world.old world.new }
 {
     let a = world.size(Bank::A)?;
@@ -50,7 +50,7 @@ pub(crate) fn read_head<W: Disk>(world: &mut W, bank: Bank, size: u64) -> Result
     ensures kept { OnOk result (W.meaning.counts world.new ≡ W.meaning.counts world.old) }
     ensures rose { OnErr result (DiskFails (W.meaning.counts world.old) (W.meaning.counts world.new)) }
     ensures seen { W.meaning.tells world.new → (each : Bank) → W.meaning.seen world.new each ≡ W.meaning.seen world.old each }
-    ensures looks { Looks W.meaning world.old world.new }
+    ensures looks { ReadsBanks W.meaning world.old world.new }
     ensures told { Told W.meaning world.old world.new }
 {
     if size <= HEAD_LEN as u64 {
@@ -73,7 +73,7 @@ pub(crate) fn read_body<W: Disk>(
     ensures len { IfOk result (λ body. vec_len body + 17 ≡ max size 17) }
     ensures cause { HasFaultCause W.meaning world.old world.new result }
     ensures seen { W.meaning.tells world.new → (each : Bank) → W.meaning.seen world.new each ≡ W.meaning.seen world.old each }
-    ensures looks { Looks W.meaning world.old world.new }
+    ensures looks { ReadsBanks W.meaning world.old world.new }
     ensures told { Told W.meaning world.old world.new }
 {
     if size <= HEAD_LEN as u64 {

@@ -3,7 +3,7 @@ ghost use Rattle.std.specs.Prelude.{◌≡◌, ◌≤◌, ◌<◌, ◌≢◌, �
 ghost use Rattle.world_api.specs.Causes.{DiskFails};
 ghost use Rattle.world_api.specs.Meaning.{Told};
 ghost use Rattle.world_api.specs.declared.disk.Bank.TheVariants as side;
-ghost use Rattle.sign_store.specs.Reached.{HasFaultCause, Looks};
+ghost use Rattle.sign_store.specs.Reached.{HasFaultCause, ReadsBanks};
 
 use crate::banks::{Sizes, fill, read_body, read_head, sizes_of, write_synced};
 use crate::compact::{FIRST_GENERATION, compact_form, compact_len, empty_form, is_worth};
@@ -39,7 +39,7 @@ fn look<W: Disk>(world: &mut W) -> Result<(Sizes, Choice), StoreRefusal>
     ensures b { W.meaning.tells world.new → IfOk result (λ seen. seen.0.b ≡ length (W.meaning.seen world.new side.B)) }
     ensures small { IfOk result (λ seen. (seen.0.a ≤ 2 ^ 40) × (seen.0.b ≤ 2 ^ 40)) }
     ensures cause { HasFaultCause W.meaning world.old world.new result }
-    ensures looks { Looks W.meaning world.old world.new }
+    ensures looks { ReadsBanks W.meaning world.old world.new }
     ensures told { Told W.meaning world.old world.new }
 {
     let sizes = sizes_of(world)?;
@@ -61,7 +61,7 @@ fn read_bank<W: Disk>(
     ensures inside { IfOk result (λ read. read.gate ≢ EndGate.Missing → read.end < size) }
     ensures size { W.meaning.tells world.new → size ≡ length (W.meaning.seen world.new bank) }
     ensures cause { HasFaultCause W.meaning world.old world.new result }
-    ensures looks { Looks W.meaning world.old world.new }
+    ensures looks { ReadsBanks W.meaning world.old world.new }
     ensures told { Told W.meaning world.old world.new }
 {
     let body = read_body(alloc, world, bank, size)?;
@@ -77,7 +77,7 @@ fn read_bank<W: Disk>(
 #[tactic(auto, using(crate::proofs::DiskLemmas::calls))]
 pub(crate) fn read_map<W: Disk>(alloc: Global, world: &mut W) -> Result<RecordMap, StoreRefusal>
     ensures cause { HasFaultCause W.meaning world.old world.new result }
-    ensures looks { Looks W.meaning world.old world.new }
+    ensures looks { ReadsBanks W.meaning world.old world.new }
     ensures told { Told W.meaning world.old world.new }
 {
     let (sizes, choice) = look(world)?;

@@ -5,7 +5,7 @@ ghost use Rattle.world_api.specs.Causes.{DiskFails};
 ghost use Rattle.world_api.specs.Meaning.{Told};
 ghost use Rattle.deciders.specs.declared.recorded.Rec.{Rec};
 ghost use Rattle.sign_store.specs.Tables.{with_each};
-ghost use Rattle.sign_store.specs.Reached.{HasFaultCause, Looks, Writes};
+ghost use Rattle.sign_store.specs.Reached.{HasFaultCause, ReadsBanks, Writes};
 
 use crate::banks::append;
 use crate::map::RecordMap;
@@ -43,7 +43,7 @@ impl Store {
     #[tactic(auto, using(crate::proofs::DiskLemmas::calls))]
     pub fn read<W: Disk>(alloc: Global, world: &mut W) -> Result<View, StoreRefusal>
         ensures cause { HasFaultCause W.meaning world.old world.new result }
-        ensures looks { Looks W.meaning world.old world.new }
+        ensures looks { ReadsBanks W.meaning world.old world.new }
         ensures told { Told W.meaning world.old world.new }
     {
         let map = read_map(alloc, world)?;

@@ -54,14 +54,18 @@ impl Model for Variants {
 
     ghost Value = { List Variant };
 
+    ghost use Rattle.variant_dirs.specs.Variants.{AreApart};
+
     ghost view = { λ v. v.variants.items };
+
+    ghost invariant = { λ v. AreApart v.variants.items };
 }
 
 impl Variants {
-    ghost use Rattle.std.specs.Prelude.{◌≡◌, ◌≢◌, ◌++◌, ◌∷◌, [], None, Some, IfOk, IfErr, OnOk, OnErr, option_copied};
+    ghost use Rattle.std.specs.Prelude.{◌≡◌, ◌≢◌, ◌++◌, ◌∷◌, [], None, Some, true, IfOk, IfErr, OnOk, OnErr, option_copied};
     ghost use Rattle.std.specs.Option.{option_to_list};
-    ghost use Rattle.scons_base.specs.Resolve.{spelling, resolved, resolve_fault};
-    ghost use Rattle.variant_dirs.specs.Variants.{variant_of, source_of, uncopied_in, searched, add_fault, added, IsBadName, IsSpelled};
+    ghost use Rattle.scons_base.specs.Resolve.{spelling, resolved, resolve_fault, IsResolved};
+    ghost use Rattle.variant_dirs.specs.Variants.{variant_of, variants_with, source_of, uncopied_in, searched, add_fault, added, is_apart_from, IsBadName, IsSpelled, AreSpelled};
 
     pub fn new(alloc: Global) -> Variants
         ensures { result ≡ [] }
@@ -88,6 +92,7 @@ impl Variants {
     }
 
     /// Makes a directory the variant directory of another one. An equal one again changes nothing.
+    #[tactic(auto, using(crate::proofs::Apart::is_apart))]
     pub fn add(
         &mut self,
         dir: &PathText,
@@ -114,7 +119,9 @@ impl Variants {
         Ok(())
     }
 
+    #[tactic(auto, using(crate::proofs::Apart::stay_apart))]
     fn push(&mut self, dir: &PathText, source: &PathText, duplicate: bool) -> Result<(), Memory>
+        requires { is_apart_from self.old dir.now ≡ true }
         ensures ok { OnOk result (self.new
             ≡ self.old ++ record { dir = dir.now; source = source.now; duplicate = duplicate } ∷ []) }
         ensures err { OnErr result (self.new ≡ self.old) }
@@ -127,9 +134,10 @@ impl Variants {
         Ok(())
     }
 
-    /// The variant directory that a path lies in: the directory itself lies in it too.
+    /// The variant directory that a path lies in: the directory itself lies in it too. A path lies in one at most.
     pub fn variant_of(&self, path: &PathText) -> Option<&Variant>
-        ensures { option_copied result ≡ variant_of self.now path.now }
+        ensures first { option_copied result ≡ variant_of self.now path.now }
+        ensures only { option_to_list (option_copied result) ≡ variants_with self.now path.now }
     {
         variant_of(self.variants.as_slice(), path)
     }
@@ -153,6 +161,7 @@ impl Variants {
         ensures no_fault { IfOk result (λ _. resolve_fault top.now dir.now name.now ≡ None) }
         ensures fault { IfErr result (λ e. e ≢ VariantFault.Memory
             → IsBadName (resolve_fault top.now dir.now name.now) e) }
+        ensures spelled { IfOk result (AreSpelled top.now) }
     {
         let alloc = *self.variants.allocator();
         let path = match PathText::resolve(alloc, top, dir, name) {
@@ -166,13 +175,16 @@ impl Variants {
     /// Where a path is looked for, in its one spelling: at itself, and then, in a variant directory without copies, at its
     /// source.
     pub fn searched(&self, top: &PathText, path: &PathText) -> Result<Paths, Memory>
-        ensures { IfOk result (λ p. p ≡ searched self.now top.now (spelling top.now path.now)) }
+        ensures paths { IfOk result (λ p. p ≡ searched self.now top.now (spelling top.now path.now)) }
+        ensures spelled { IfOk result (AreSpelled top.now) }
     {
         self.with_source(top, path.spelled(top)?)
     }
 
     fn with_source(&self, top: &PathText, path: PathText) -> Result<Paths, Memory>
-        ensures { IfOk result (λ p. p ≡ searched self.now top.now path) }
+        requires { IsResolved top.now path }
+        ensures paths { IfOk result (λ p. p ≡ searched self.now top.now path) }
+        ensures spelled { IfOk result (AreSpelled top.now) }
     {
         let source = self.uncopied_source(top, &path)?;
         let mut paths = Paths::new(Vec::new(*self.variants.allocator()));
@@ -184,7 +196,8 @@ impl Variants {
     }
 
     fn uncopied_source(&self, top: &PathText, path: &PathText) -> Result<Option<PathText>, Memory>
-        ensures { IfOk result (λ p. option_to_list p ≡ uncopied_in top.now path.now (variant_of self.now path.now)) }
+        ensures path { IfOk result (λ p. option_to_list p ≡ uncopied_in top.now path.now (variant_of self.now path.now)) }
+        ensures spelled { IfOk result (IsSpelled top.now) }
     {
         match self.variant_of(path) {
             Some(variant) if !variant.duplicate => variant.source_of(top, path),

@@ -5,14 +5,14 @@ use Rattle.mem_banks.specs.Past.{IsLeft, IsAt, same_bank}
 use Rattle.mem_banks.proofs.Cuts.{one_more, cut_short, left_at, on_ok}
 use Rattle.mem_banks.proofs.outcome.leave.Goals as goal
 
-pub returns-then-eq : goal.returns-then-eq
-returns-then-eq c =
+pub returns-then-eq-clause-left : goal.returns-then-eq-clause-left
+returns-then-eq-clause-left c =
     let left = reverse (take c.loop-left.left c.args.changes.now) in
     let saved = take c.loop-left.end c.args.saved.now in
     c.loop-left.invariant.leads c.loop-left.bytes.items (left_at c.args.bank left c.loop-left.bytes.items saved c.loop-left.invariant.at)
 
-pub returns-then-ne : goal.returns-then-ne
-returns-then-ne c =
+pub returns-then-ne-clause-left : goal.returns-then-ne-clause-left
+returns-then-ne-clause-left c =
     let changes = c.args.changes.now in
     let w = c.in-Wrote.write in
     let k = c.loop-left.left - 1 in

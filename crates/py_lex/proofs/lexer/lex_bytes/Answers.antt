@@ -11,7 +11,7 @@ lex_script-requires-clause-clean c = record { good = c.without_order_mark-script
 pub returns-in-Ok : goal.returns-in-Ok
 returns-in-Ok c =
     let is = sym (marked_text c.without_order_mark-script.result.now c.in-Ok.ensures.cases.1) ∙ ap (λ x. marked x) c.without_order_mark-script.ensures.rest in
-    agrees_too c.lex_script.result _ (IsRead c.args.bytes.now) (read_whole c.args.bytes.now _ c.if-bytes-gt-LIMIT.false is) c.lex_script.ensures
+    agrees_too c.lex_script.result _ (IsRead c.args.bytes.now) (read_whole c.args.bytes.now _ c.if-bytes-gt-SCRIPT_LIMIT.false is) c.lex_script.ensures
 
 pub lex_script-requires-in-Err-clause-clean : goal.lex_script-requires-in-Err-clause-clean
 lex_script-requires-in-Err-clause-clean c =
@@ -31,4 +31,4 @@ returns-in_ok-push-in-Err c =
     let front : c.in_ok-marked-in-Err.marked.items ≡ take (utf8_valid_len script) script = c.in_ok-marked-in-Err.ensures.items ∙ ap (λ n. take n script) count in
     let is : c.as_slice.result.now ≡ marked (without_order_mark c.args.bytes.now) =
     c.as_slice.ensures.value ∙ c.in_ok-push-in-Err.ensures.items ∙ ap (λ x. x ++ 255 ∷ []) front ∙ sym (marked_other script c.in-Err.ensures.cases.0) ∙ ap (λ x. marked x) c.without_order_mark-script.ensures.rest in
-    agrees_too c.lex_script-in-Err.result _ (IsRead c.args.bytes.now) (read_whole c.args.bytes.now _ c.if-bytes-gt-LIMIT.false is) c.lex_script-in-Err.ensures
+    agrees_too c.lex_script-in-Err.result _ (IsRead c.args.bytes.now) (read_whole c.args.bytes.now _ c.if-bytes-gt-SCRIPT_LIMIT.false is) c.lex_script-in-Err.ensures

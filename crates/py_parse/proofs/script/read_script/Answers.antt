@@ -1,4 +1,5 @@
 use Rattle.std.proofs.Common.{◌≡◌, length, refl, arith}
+use Rattle.scons_base.specs.declared.limits.TheConstants.{SYNTAX_DEPTH_LIMIT}
 use Rattle.py_tree.specs.Tree.{line_tree}
 use Rattle.py_parse.specs.Grammar as grammar
 use Rattle.py_parse.specs.Reading.{Reads, pick}
@@ -13,7 +14,7 @@ lines-init c = continues_start _ _ _ _ (rw c.new-lines.ensures.items refl)
 pub returns-in_err-line : goal.returns-in_err-line
 returns-in_err-line c =
     let r = rw c.top.ensures at c.in_err-line.ensures in
-    stopped_by _ _ (Reads 100 (pick (grammar.line grammar.top) c.lines.rest.now) c.lines.rest.now) (Reads 100 (grammar.reads grammar.script grammar.gives) c.args.tokens.now)
+    stopped_by _ _ (Reads SYNTAX_DEPTH_LIMIT (pick (grammar.line grammar.top) c.lines.rest.now) c.lines.rest.now) (Reads SYNTAX_DEPTH_LIMIT (grammar.reads grammar.script grammar.gives) c.args.tokens.now)
     c.in_err-line.field-0.0 c.from_residual.ensures.1
     (λ w rest q. reads_gives (continues_fault _ _ _ _ _ _ _ c.lines.invariant (script_fault _ _ _ _ (not_empty _ _ refl c.lines-test.ensures) q))) r
 

@@ -23,5 +23,5 @@ leave-requires c =
 pub returns-clause-small : goal.returns-clause-small
 returns-clause-small c =
     let at = at_kept c.args.self.now c.args.bank c.in_ok-bytes.bytes.items c.as_slice.result.now c.as_slice-2.result.now (c.in_ok-bytes.ensures.items ∙ c.bytes.ensures) c.as_slice.ensures.value c.as_slice-2.ensures.value in
-    let small : length c.leave.new.bytes.items ≤ 4194304 = left_small c.args.bank (reverse c.as_slice.result.now) c.in_ok-bytes.bytes.items c.as_slice-2.result.now c.leave.new.bytes.items at c.in_ok-leave.ensures in
+    let small : length c.leave.new.bytes.items ≤ 4194304 = left_small c.args.bank (reverse c.as_slice.result.now) c.in_ok-bytes.bytes.items c.as_slice-2.result.now c.leave.new.bytes.items at c.in_ok-leave.ensures.left in
     omega (arith, small, c.leave.new.bytes.ok.0)

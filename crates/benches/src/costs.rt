@@ -1,0 +1,111 @@
+//! What substitution costs: texts and variables of a size, each expanded to text.
+ghost use Rattle.std.specs.Prelude.{◌<◌, length, IfSome};
+
+use crate::substitution::{locals, number};
+use anyhow::Result;
+use env_subst::{Mode, subst};
+use env_vars::{EnvValue, Envs, Item};
+use scons_base::limits::TEXT_LIMIT;
+use scons_base::{EnvId, Listing, Text};
+use std::alloc::Global;
+
+/// Expands what the first argument names, in the size that the second says.
+pub fn expand(rt: &HostRuntime, what: Option<String>, size: Option<String>) -> Result<()> {
+    let size = number(size)?;
+    let what = what.unwrap_or(String::new(rt.alloc()));
+    match expanded(rt.alloc(), what.as_str(), size) {
+        Some(len) => println!(rt; "{len} bytes")?,
+        None => println!(rt; "refused")?,
+    }
+    Ok(())
+}
+
+/// How many bytes the expansion has.
+fn expanded(alloc: Global, what: &str, size: u32) -> Option<usize> {
+    let mut envs = Envs::new(alloc);
+    let env = envs.make().ok()?;
+    let text = prepared(alloc, &mut envs, env, what, size)?;
+    let locals = locals(alloc)?;
+    Some(
+        subst(alloc, &envs, env, text.as_str(), &locals, Mode::Text)
+            .ok()?
+            .len(),
+    )
+}
+
+/// The text to be expanded, and the variables that it needs.
+fn prepared(alloc: Global, envs: &mut Envs, env: EnvId, what: &str, size: u32) -> Option<String>
+    requires { env.0 < length envs.old }
+    ensures { IfSome result (λ _. env.0 < length envs.new) }
+{
+    match what {
+        "items" => items(alloc, envs, env, size),
+        "references" => references(alloc, envs, env, size),
+        "names" => names(alloc, envs, env, size),
+        "dollars" => repeated(alloc, "$$", size),
+        "marks" => repeated(alloc, "$(a$)", size),
+        "calls" => calls(alloc, envs, env, size),
+        _ => None,
+    }
+}
+
+/// A list of so many items.
+fn items(alloc: Global, envs: &mut Envs, env: EnvId, size: u32) -> Option<String>
+    requires { env.0 < length envs.old }
+    ensures { IfSome result (λ _. env.0 < length envs.new) }
+{
+    let mut items = Listing::empty(alloc);
+    for _ in 0..size {
+        items.push(Item::Text(Text::of(alloc, "x").ok()?)).ok()?;
+    }
+    envs.set(env, "ITEMS", EnvValue::List(items)).ok()?;
+    repeated(alloc, "$ITEMS", 1)
+}
+
+/// So many references to a character of the longest text that a script may hold.
+fn references(alloc: Global, envs: &mut Envs, env: EnvId, size: u32) -> Option<String>
+    requires { env.0 < length envs.old }
+    ensures { IfSome result (λ _. env.0 < length envs.new) }
+{
+    let long = repeated(alloc, "0123456789abcdef", (TEXT_LIMIT / 16) as u32)?;
+    envs.set(env, "T", EnvValue::Text(Text::new(long))).ok()?;
+    repeated(alloc, "${T[0]}", size)
+}
+
+/// A variable with a name of so many characters, whose value has so many parts.
+fn names(alloc: Global, envs: &mut Envs, env: EnvId, size: u32) -> Option<String>
+    requires { env.0 < length envs.old }
+    ensures { IfSome result (λ _. env.0 < length envs.new) }
+{
+    let name = repeated(alloc, "N", size)?;
+    let value = repeated(alloc, "a$$", size)?;
+    envs.set(env, name.as_str(), EnvValue::Text(Text::new(value)))
+        .ok()?;
+    format!(in alloc; "${name}").ok()
+}
+
+/// Calls in each other, so many: each list has an item, and then the name of the next list.
+fn calls(alloc: Global, envs: &mut Envs, env: EnvId, size: u32) -> Option<String>
+    requires { env.0 < length envs.old }
+    ensures { IfSome result (λ _. env.0 < length envs.new) }
+{
+    'lists: for i in 0..size {
+        let mut items = Listing::empty(alloc);
+        items.push(Item::Text(Text::of(alloc, "x").ok()?)).ok()?;
+        let next = i.saturating_add(1);
+        let further = format!(in alloc; "$L{next}").ok()?;
+        items.push(Item::Text(Text::new(further))).ok()?;
+        let name = format!(in alloc; "L{i}").ok()?;
+        envs.set(env, name.as_str(), EnvValue::List(items)).ok()?;
+    }
+    repeated(alloc, "${_concat(P, L0, S, __env__)}", 1)
+}
+
+/// A text so many times.
+fn repeated(alloc: Global, text: &str, times: u32) -> Option<String> {
+    let mut repeated = String::new(alloc);
+    for _ in 0..times {
+        repeated.push_str(text).ok()?;
+    }
+    Some(repeated)
+}

@@ -1,0 +1,6 @@
+use Rattle.std.proofs.lemmas.Slice.Eq.{slice_eq-Decides}
+use Rattle.job_runner.proofs.Same.{content_eq-Decides}
+use Rattle.job_runner.proofs.slip.are_same_contents.Goals as goal
+
+pub returns : goal.returns
+returns c = slice_eq-Decides content_eq-Decides c.args.a.now c.args.b.now c.eq.result c.eq.ensures

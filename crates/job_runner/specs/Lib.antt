@@ -1,0 +1,6 @@
+pub mod Seats
+pub mod Replay
+pub mod Slips
+pub mod Lists
+pub mod Answers
+pub mod Outs

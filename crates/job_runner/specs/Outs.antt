@@ -1,0 +1,13 @@
+-- The slips that are out of a pool, and how one comes back.
+use Rattle.std.specs.Prelude.{◌≡◌, ℕ, List, Some, slice_get}
+use Rattle.std.specs.Arc.{arc_value}
+use Rattle.std.specs.List.{remove}
+use Rattle.job_runner.specs.declared.slip.Slip.{Slip}
+use Rattle.job_runner.specs.declared.slip.Ending.{Ending}
+
+-- a slip that is out under some number is the ending's own, and it is out no more
+pub record Returns (ending : Ending) (old new : List (ℕ × Slip)) : Type 0 where
+  pub place : ℕ
+  pub number : ℕ
+  pub own : slice_get old place ≡ Some (number, arc_value ending.slip)
+  pub rest : new ≡ remove old place

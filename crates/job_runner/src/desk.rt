@@ -1,0 +1,146 @@
+//! What lies under the lock: the board, whose endings are the runner's own answers, and how many workers there are.
+ghost use Rattle.job_runner.specs.Answers.{AreAnswers};
+ghost use Rattle.job_runner.specs.Lists.{lists_of};
+
+use crate::board::Board;
+use crate::runner::Runner;
+use crate::slip::{Ending, Slip};
+use scons_base::Memory;
+use std::alloc::Global;
+use std::marker::PhantomData;
+use std::sync::Arc;
+
+/// The duty to put the ending of the slip of this number, which was taken. It has no other end than that, since it can't be dropped.
+pub struct Turn {
+    number: u64,
+}
+
+/// The board, with how many workers it has and how many it should have. Each ending on it is what the definition of the runner's
+/// type gives for the ending's own slip, or want of memory.
+#[derive(Drop)]
+pub struct Desk<R: Runner> {
+    board: Board,
+    wanted: usize,
+    started: usize,
+    /// A thread couldn't be started.
+    refused: bool,
+    of: PhantomData<R>,
+    ghost own: { AreAnswers R.answer (lists_of board).ended },
+}
+
+impl<R: Runner> Desk<R> {
+    ghost use Rattle.std.specs.Prelude.{◌≡◌, ◌+◌, ◌-◌, ◌≤◌, [], true, false, nat_lt, if◌then◌else◌, IfOk, IfErr, IfNone, IfSome, OnOk, OnErr, Contains};
+    ghost use Rattle.std.specs.Arc.{arc_value};
+    ghost use Rattle.job_runner.specs.Answers.{IsAnswer};
+    ghost use Rattle.job_runner.specs.Lists.{HandsIn, Takes, Puts, Picks};
+
+    pub fn new(alloc: Global) -> Desk<R> {
+        Desk {
+            board: Board::new(alloc),
+            wanted: 0,
+            started: 0,
+            refused: false,
+            of: PhantomData,
+        }
+    }
+
+    /// Puts a slip on the board.
+    pub fn hand_in(&mut self, slip: Arc<Slip, Global>) -> Result<u64, Memory>
+        ensures ok { IfOk result (λ number. HandsIn number (arc_value slip) (lists_of self.old.board) (lists_of self.new.board)) }
+        ensures err { OnErr result (lists_of self.new.board ≡ lists_of self.old.board) }
+    {
+        self.board.hand_in(slip)
+    }
+
+    /// Asks for so many workers, unless none can be started.
+    pub fn ask(&mut self, wanted: usize)
+        ensures wanted { self.old.refused ≡ false → wanted ≤ self.new.wanted }
+        ensures started { self.new.started ≡ self.old.started }
+        ensures refused { self.new.refused ≡ self.old.refused }
+        ensures board { self.new.board ≡ self.old.board }
+    {
+        if !self.refused && self.wanted < wanted {
+            self.wanted = wanted;
+        }
+    }
+
+    /// Takes the oldest slip that waits.
+    pub fn take(&mut self) -> Option<(Turn, Arc<Slip, Global>)>
+        ensures none { IfNone result ((lists_of self.old.board).waiting ≡ []) }
+        ensures same { IfNone result (lists_of self.new.board ≡ lists_of self.old.board) }
+        ensures some { IfSome result (λ taken. Takes taken.0.number (arc_value taken.1) (lists_of self.old.board) (lists_of self.new.board)) }
+    {
+        match self.board.take() {
+            Some((number, slip)) => Some((Turn { number }, slip)),
+            None => None,
+        }
+    }
+
+    /// Takes the oldest slip that waits, where there is no worker to run it.
+    pub fn take_deserted(&mut self) -> Option<(Turn, Arc<Slip, Global>)>
+        ensures same { IfNone result (lists_of self.new.board ≡ lists_of self.old.board) }
+        ensures some { IfSome result (λ taken. Takes taken.0.number (arc_value taken.1) (lists_of self.old.board) (lists_of self.new.board)) }
+    {
+        if self.refused && self.started == 0 {
+            self.take()
+        } else {
+            None
+        }
+    }
+
+    /// Puts the ending of a slip that is taken, or gives it back.
+    pub fn put_end(&mut self, turn: Turn, ending: Ending) -> Result<(), Ending>
+        requires { IsAnswer R.answer ending }
+        ensures ok { OnOk result (Puts turn.number ending (lists_of self.old.board) (lists_of self.new.board)) }
+        ensures back { IfErr result (λ back. back ≡ ending) }
+        ensures err { OnErr result (lists_of self.new.board ≡ lists_of self.old.board) }
+        ensures refused { OnErr result (Contains (lists_of self.old.board).taken (turn.number, arc_value ending.slip) → ⊥) }
+    {
+        let Turn { number } = turn;
+        self.board.put_end(number, ending)
+    }
+
+    /// Takes the oldest ending that waits.
+    pub fn pick_end(&mut self) -> Option<(u64, Ending)>
+        ensures none { IfNone result ((lists_of self.old.board).ended ≡ []) }
+        ensures same { IfNone result (lists_of self.new.board ≡ lists_of self.old.board) }
+        ensures some { IfSome result (λ picked. Picks picked.0 picked.1 (lists_of self.old.board) (lists_of self.new.board)) }
+        ensures own { IfSome result (λ picked. IsAnswer R.answer picked.1) }
+    {
+        self.board.pick_end()
+    }
+
+    /// Counts a further worker as started, where one is wanted.
+    pub fn start_worker(&mut self) -> bool
+        ensures wanted { result ≡ nat_lt self.old.started self.old.wanted }
+        ensures started { self.new.started ≡ self.old.started + (if result then 1 else 0) }
+        ensures board { self.new.board ≡ self.old.board }
+    {
+        if self.started < self.wanted {
+            self.started += 1;
+            return true;
+        }
+        false
+    }
+
+    /// Takes a worker back that couldn't be started. No further one is tried.
+    pub fn lose_worker(&mut self)
+        ensures started { self.new.started ≡ self.old.started - 1 }
+        ensures refused { self.new.refused ≡ true }
+        ensures board { self.new.board ≡ self.old.board }
+    {
+        self.started = self.started.saturating_sub(1);
+        self.refuse();
+    }
+
+    /// No worker is started any more.
+    pub fn refuse(&mut self)
+        ensures started { self.new.started ≡ self.old.started }
+        ensures wanted { self.new.wanted ≡ 0 }
+        ensures refused { self.new.refused ≡ true }
+        ensures board { self.new.board ≡ self.old.board }
+    {
+        self.refused = true;
+        self.wanted = 0;
+    }
+}
