@@ -17,3 +17,4 @@ mod Ordering
 mod OneJob
 mod TakenOut
 mod Waiting
+mod Leaving

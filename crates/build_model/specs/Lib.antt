@@ -12,4 +12,5 @@ pub mod Resting
 pub mod OneJob
 pub mod Waiting
 pub mod Headline
+pub mod Leaving
 pub mod Examples

@@ -4,6 +4,7 @@ ghost use Rattle.build_model.specs.Headline.{GraphsAreLawful, HighEnough, Increm
 ghost use Rattle.build_model.specs.Resting.{RestsRightly, KeepsGoing};
 ghost use Rattle.build_model.specs.OneJob.{AtOneJob};
 ghost use Rattle.build_model.specs.Waiting.{BusyAtEachEnding};
+ghost use Rattle.build_model.specs.Leaving.{StaysSound, IsAgainAfter};
 ghost use Rattle.build_model.specs.Examples.{AreMet};
 
 /// At any status: what was found up to date or made has the clean content, dependencies and record; and what was started was
@@ -71,6 +72,16 @@ pub fn incremental_is_clean()
 /// The same build again starts only what is always carried out, and what doesn't make all its targets.
 pub fn again_little()
     ensures { AgainLittle }
+{}
+
+/// Records that told the truth before a build tell it after, at any status.
+pub fn stays_sound()
+    ensures { StaysSound }
+{}
+
+/// After a build that ended well the same build may begin again.
+pub fn is_again_after()
+    ensures { IsAgainAfter }
 {}
 
 /// Where nothing is left to do, each needed rule is settled, faulty, skipped or held.
