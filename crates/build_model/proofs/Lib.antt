@@ -18,3 +18,4 @@ mod OneJob
 mod TakenOut
 mod Waiting
 mod Leaving
+mod Histories

@@ -13,4 +13,5 @@ pub mod OneJob
 pub mod Waiting
 pub mod Headline
 pub mod Leaving
+pub mod Histories
 pub mod Examples

@@ -5,6 +5,7 @@ ghost use Rattle.build_model.specs.Resting.{RestsRightly, KeepsGoing};
 ghost use Rattle.build_model.specs.OneJob.{AtOneJob};
 ghost use Rattle.build_model.specs.Waiting.{BusyAtEachEnding};
 ghost use Rattle.build_model.specs.Leaving.{StaysSound, IsAgainAfter};
+ghost use Rattle.build_model.specs.Histories.{HistoriesEndClean};
 ghost use Rattle.build_model.specs.Examples.{AreMet};
 
 /// At any status: what was found up to date or made has the clean content, dependencies and record; and what was started was
@@ -82,6 +83,11 @@ pub fn stays_sound()
 /// After a build that ended well the same build may begin again.
 pub fn is_again_after()
     ensures { IsAgainAfter }
+{}
+
+/// After any list of edits, failed builds and stopped builds, a build by content that ends well equals a clean build.
+pub fn histories_end_clean()
+    ensures { HistoriesEndClean }
 {}
 
 /// Where nothing is left to do, each needed rule is settled, faulty, skipped or held.
