@@ -5,3 +5,4 @@ pub mod EndLemmas
 pub mod WriteLemmas
 pub mod TicketLemmas
 pub mod ReadLemmas
+pub mod Keeping

@@ -180,8 +180,13 @@ out_beside old new rec ticket out own map rooms here = record {
     inside = let inside = out.room.inside in omega (arith, inside, rooms);
     enough =
         let enough = out.room.enough in
-        omega (arith, enough, here, owed_less (has_any (map_of new) rec.targets) (has_any (map_of old) rec.targets) (length ticket.put.items) (length ticket.withdrawal.items)
-        (λ some. subst (λ (m : Map). has_any m rec.targets ≡ true) map some));
+        omega (
+          arith,
+          enough,
+          here,
+          owed_less (has_any (map_of new) rec.targets) (has_any (map_of old) rec.targets) (length ticket.put.items) (length ticket.withdrawal.items)
+              (λ some. subst (λ (m : Map). has_any m rec.targets ≡ true) map some),
+        );
   };
 }
 
@@ -192,8 +197,10 @@ owed_is map rec put withdrawal payload payload-is put-is withdrawal-is = by (has
   where
     put-len : length put ≡ 5 + payload
     put-len = omega (arith, ap length put-is, length-append (entry_of (put_payload rec)) (0 ∷ []), length-append (to_be_bytes w32 (length (put_payload rec))) (put_payload rec), wide32.len (length (put_payload rec)), payload-is)
+
     withdrawal-len : length withdrawal ≡ 6 + length (listed sized rec.targets)
     withdrawal-len = omega (arith, ap length withdrawal-is, length-append (entry_of (withdraw_payload rec.targets)) (0 ∷ []), length-append (to_be_bytes w32 (length (withdraw_payload rec.targets))) (withdraw_payload rec.targets), wide32.len (length (withdraw_payload rec.targets)))
+
     by : (b : Bool) → length put + cond b (length withdrawal) 0 ≡ cond b (length (listed sized rec.targets) + (5 + payload + 6)) (5 + payload)
     by true = omega (arith, put-len, withdrawal-len)
     by false = omega (arith, put-len)

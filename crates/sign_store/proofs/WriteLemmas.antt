@@ -119,14 +119,14 @@ gate_moments m old mid new bank place change bytes map entry keeps first settled
     chains m old mid new (IsEither (m.around old) map (applied change map)) (behind_moments m old mid bank place (length bytes) map (applied change map) keeps first)
     (weakens m mid new (IsTornFrom m mid bank place 1) (IsEither (m.around old) map (applied change map)) second
     (λ told a banks torn.
-        let told_mid = second.told told in
-        let is : torn.was ≡ m.seen mid bank = settled told_mid torn.was torn.stood in
-        let stands = (behind_keeps m old mid bank place (length bytes) map keeps first).each told_mid (with_bank bank torn.was banks) (image_with m mid bank torn.was banks torn.others torn.stood) in
-        let behind = ap (drop (place + 1)) is ∙ held_behind place (m.seen old bank) (m.seen mid bank) bytes (inside told_mid) (holds told_mid) ∙ ap (λ (x : List ℕ). x ++ drop (place + 1 + length bytes) (m.seen old bank)) entry.spelt in
-        record {
-          same = torn.same ∙ around told_mid;
-          map = torn_gate bank place map torn.was (drop (place + 1 + length bytes) (m.seen old bank)) banks change entry.payload stands behind entry.fits entry.says torn.torn;
-        }))
+    let told_mid = second.told told in
+    let is : torn.was ≡ m.seen mid bank = settled told_mid torn.was torn.stood in
+    let stands = (behind_keeps m old mid bank place (length bytes) map keeps first).each told_mid (with_bank bank torn.was banks) (image_with m mid bank torn.was banks torn.others torn.stood) in
+    let behind = ap (drop (place + 1)) is ∙ held_behind place (m.seen old bank) (m.seen mid bank) bytes (inside told_mid) (holds told_mid) ∙ ap (λ (x : List ℕ). x ++ drop (place + 1 + length bytes) (m.seen old bank)) entry.spelt in
+    record {
+      same = torn.same ∙ around told_mid;
+      map = torn_gate bank place map torn.was (drop (place + 1 + length bytes) (m.seen old bank)) banks change entry.payload stands behind entry.fits entry.says torn.torn;
+    }))
 
 -- what stands after the whole
 pub entry_keeps : {W : Type 0} (m : Meaning W) (old mid new : W) (bank : Bank) (place : ℕ) (change : Change) (bytes : List ℕ) (map : Map) → IsEntry change bytes → KeepsAt m old bank place map
@@ -143,6 +143,6 @@ entry_keeps m old mid new bank place change bytes map entry keeps first back ins
       let behind = held_behind place (m.seen old bank) was bytes (let i = inside_old told_mid in omega (arith, i)) (holds told_mid) ∙ ap (λ (x : List ℕ). x ++ drop (place + 1 + length bytes) (m.seen old bank)) entry.spelt in
       let open_gate = held_gate place was (m.seen new bank) (held_inside place (m.seen old bank) was bytes (inside_old told_mid) (holds told_mid)) (gate told) in
       let now = gate_opened bank place map was (drop (place + 1 + length bytes) (m.seen old bank)) banks change entry.payload stands behind entry.fits entry.says
-          (ap (take place) is ∙ open_gate.front) (ap (drop (place + 1)) is ∙ open_gate.behind) (subst (λ (x : List ℕ). place < length x) (sym is) open_gate.inside) (ap (λ (x : List ℕ). slice_index x place) is ∙ open_gate.gate) in
+      (ap (take place) is ∙ open_gate.front) (ap (drop (place + 1)) is ∙ open_gate.behind) (subst (λ (x : List ℕ). place < length x) (sym is) open_gate.inside) (ap (λ (x : List ℕ). slice_index x place) is ∙ open_gate.gate) in
       subst (λ (n : ℕ). StandsAt bank (place + n) (applied change map) banks) (sym (ap length entry.spelt)) now;
 }

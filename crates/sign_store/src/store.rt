@@ -20,8 +20,8 @@ use crate::refusals::{PrepareRefusal, StoreRefusal};
 use crate::ticket::{Ticket, put_entry, withdraw_entry};
 use crate::view::View;
 use deciders::{Rec, paths_len, spelled_len};
-use scons_base::{Memory, PathText};
 use scons_base::limits::{BANK_LIMIT, PAYLOAD_LIMIT};
+use scons_base::{Memory, PathText};
 use std::alloc::Global;
 use world_api::{Bank, Disk, Fault};
 

@@ -21,6 +21,6 @@ returns-clause-moments g c = λ change map entry keeps.
 pub returns-clause-keeps : goal.returns-clause-keeps
 returns-clause-keeps g c = λ change map entry keeps.
     both_ok c.write_synced-2.result c.write_synced-2.ensures.written c.write_synced-2.ensures.settled (λ written settled.
-        entry_keeps g.W.Disk.meaning c.args.world.now c.write_synced.new.world c.write_synced-2.new.world c.args.bank c.args.end change c.args.entry.now map entry keeps
-        c.write_synced.ensures.moments c.write_synced-2.ensures.told.told (λ told. c.requires.within (c.write_synced.ensures.told.told told))
-        (g.met.W.Disk.reads_as c.write_synced.new.world) c.in_ok-write_synced.ensures.written settled written c.write_synced-2.ensures.writes.other)
+    entry_keeps g.W.Disk.meaning c.args.world.now c.write_synced.new.world c.write_synced-2.new.world c.args.bank c.args.end change c.args.entry.now map entry keeps
+    c.write_synced.ensures.moments c.write_synced-2.ensures.told.told (λ told. c.requires.within (c.write_synced.ensures.told.told told))
+    (g.met.W.Disk.reads_as c.write_synced.new.world) c.in_ok-write_synced.ensures.written settled written c.write_synced-2.ensures.writes.other)

@@ -28,9 +28,9 @@ pub returns-clause-keeps : goal.returns-clause-keeps
 returns-clause-keeps g c = λ rec out keeps.
     let bytes = c.as_slice.ensures.value in
     let kept = c.in_ok-append.ensures.keeps (Put rec)
-        (subst (λ (x : List ℕ). HasRoom c.args.self.now c.args.ticket.room (length x)) (sym bytes) (put_has_room c.args.self.now rec c.args.ticket out))
-        (subst (IsEntry (Put rec)) (sym bytes) (put_says rec c.args.ticket.put.items out.spells out.fits out.own.put))
-        keeps in
+    (subst (λ (x : List ℕ). HasRoom c.args.self.now c.args.ticket.room (length x)) (sym bytes) (put_has_room c.args.self.now rec c.args.ticket out))
+    (subst (IsEntry (Put rec)) (sym bytes) (put_says rec c.args.ticket.put.items out.spells out.fits out.own.put))
+    keeps in
     let same : c.free.new.self.map ≡ c.args.self.now.map = c.free.ensures.map ∙ c.append.ensures.map in
     let held : HasRecord c.free.new.self.map rec c.args.ticket.number = subst (λ (map : RecordMap). HasRecord map rec c.args.ticket.number) (sym same) out.own.held in
     let map : map_in c.set.new.self ≡ with_each rec.targets (Some rec) (map_in c.args.self.now.map) = c.set.ensures.map rec held ∙ ap (λ (m : RecordMap). with_each rec.targets (Some rec) (map_in m)) same in

@@ -40,9 +40,9 @@ pub returns-clause-keeps : goal.returns-clause-keeps
 returns-clause-keeps g c = λ rec out keeps.
     let bytes = c.as_slice.ensures.value in
     let kept = c.in_ok-append.ensures.keeps (Withdraw rec.targets)
-        (subst (λ (x : List ℕ). HasRoom c.args.self.now c.args.ticket.now.room (length x)) (sym bytes) (withdrawal_has_room c.args.self.now rec c.args.ticket.now out (sym (c.has_any.ensures rec out.own.held) ∙ c.if-not-has_any.false)))
-        (subst (IsEntry (Withdraw rec.targets)) (sym bytes) (withdrawal_says rec c.args.ticket.now.withdrawal.items out.spells out.fits out.own.withdrawal))
-        keeps in
+    (subst (λ (x : List ℕ). HasRoom c.args.self.now c.args.ticket.now.room (length x)) (sym bytes) (withdrawal_has_room c.args.self.now rec c.args.ticket.now out (sym (c.has_any.ensures rec out.own.held) ∙ c.if-not-has_any.false)))
+    (subst (IsEntry (Withdraw rec.targets)) (sym bytes) (withdrawal_says rec c.args.ticket.now.withdrawal.items out.spells out.fits out.own.withdrawal))
+    keeps in
     let same = c.append.ensures.map in
     let held : HasRecord c.append.new.self.map rec c.args.ticket.now.number = subst (λ (map : RecordMap). HasRecord map rec c.args.ticket.now.number) (sym same) out.own.held in
     let map : map_in c.unset.new.self ≡ with_each rec.targets None (map_in c.args.self.now.map) = c.unset.ensures.map rec held ∙ ap (λ (m : RecordMap). with_each rec.targets None (map_in m)) same in
