@@ -111,6 +111,14 @@ module _ (t : Tree) (m : Records) where
   requested_rule : (r : Rule) (p : Path) → Among p (object ∷ []) → rule_at graph t p ≡ Some r → object_rule ≡ r
   requested_rule r p n = one (λ q. rule_at graph t q ≡ Some r → object_rule ≡ r) some_same n
 
+object_met : (p : Path) → Among p (source ∷ header ∷ []) → IsMet first_build.met (all_made p)
+object_met p here = there here
+object_met p (there here) = here
+object_met p (there (there n)) = elim n [ ]
+
+notes_met : (p : Path) → Among p (notes ∷ []) → IsMet first_build.met (all_made p)
+notes_met p n = one (λ q. IsMet first_build.met (all_made q)) here n
+
 below_one : {n : ℕ} → n ≡ 0 → n < 1
 below_one e = omega arith
 
@@ -120,14 +128,14 @@ first_run = (
   (
     (
       record { goes_on = refl; not_began = not_header; not_done = not_header; prepared = object_prepared sources_alone (λ p. None) },
-      record { due = refl; room = below_one refl },
+      record { due = refl; each_met = object_met; room = below_one refl },
     ),
     (
       (record { began = here; not_done = λ n. elim n [ ] }, λ p n. one (λ q. all_made q ≡ Some (1 ∷ [])) refl n),
       (
         (
           record { goes_on = refl; not_began = λ n. elim n [ ]; not_done = λ n. elim n [ ]; prepared = header_prepared sources_alone (λ p. None) },
-          record { due = refl; room = below_one refl },
+          record { due = refl; each_met = notes_met; room = below_one refl },
         ),
         tt,
       ),
@@ -158,11 +166,6 @@ first_builds = record {
   run = first_run;
 }
 
-object_met : (p : Path) → Among p (source ∷ header ∷ []) → IsMet first_build.met (all_made p)
-object_met p here = there here
-object_met p (there here) = here
-object_met p (there (there n)) = elim n [ ]
-
 second_run : IsRun (setting graph all_made) second_build second_steps
 second_run = (
   (
@@ -172,7 +175,7 @@ second_run = (
   (
     (
       record { goes_on = refl; not_began = λ n. elim n [ ]; not_done = λ n. elim n [ ]; prepared = header_prepared all_made records_kept },
-      record { not_due = refl; each_met = λ p n. one (λ q. IsMet first_build.met (all_made q)) here n; same = λ p n. refl },
+      record { not_due = refl; each_met = notes_met; same = λ p n. refl },
     ),
     tt,
   ),

@@ -3,15 +3,15 @@ use Rattle.std.proofs.Common.{◌≡◌, ◌<◌, ◌≤◌, ◌+◌, ◌*◌, �
 use Rattle.build_model.specs.Rules.{Path, Content, Tree, Stamps, content, Rule, Record, Setting, Among}
 use Rattle.build_model.specs.Contents.{View, dependencies, source_content, by_rule, made, clean, IsKnown, has_rule, is_file, height}
 use Rattle.build_model.specs.Records.{record_of, dependency_of, known_digest, stamp_kept}
-use Rattle.build_model.specs.Stale.{IsStale}
-use Rattle.build_model.specs.Steps.{Step, Fresh, Build, settled, began, IsRun, Succeeds}
+use Rattle.build_model.specs.Stale.{IsStale, IsUpToDate}
+use Rattle.build_model.specs.Steps.{Step, Fresh, Build, settled, began, IsRun, Succeeds, present_record}
 use Rattle.build_model.specs.Graphs.{Graph, setting, rule_at, clean_build, or_copy, copy_at, copy_of_source, copy_of_file, declared_rule}
 use Rattle.build_model.specs.Laws.{NeededIn, EachStep}
 use Rattle.build_model.specs.Headline.{no_stamps, clean_record, IsNeeded, IsStaleBefore, BuildsByContent, IsBuilt, IsAgain}
 use Rattle.build_model.proofs.Lists.{none_some, some_same, same_map}
 use Rattle.build_model.proofs.Heights.{higher_le}
 use Rattle.build_model.proofs.Ready.{Agrees}
-use Rattle.build_model.proofs.Runs.{fresh_or_began, began_once, needs_before, needed_settled, no_cycle}
+use Rattle.build_model.proofs.Runs.{fresh_of, fresh_or_began, began_once, needs_before, needed_settled, no_cycle}
 use Rattle.build_model.proofs.Clean.{each_step_is_clean, settled_agrees}
 use Rattle.build_model.proofs.Placed.{lawful, high_enough}
 use Rattle.build_model.proofs.OneJob.{follows_order}
@@ -31,7 +31,7 @@ unstamped s r view stamps by =
     (λ p m. unstamped_dependency s r view stamps p by))
 
 module _ (g : Graph) (b : Build) (steps : List Step) (builds : BuildsByContent g b steps) where
-  abbrev Set : Setting
+  abbrev pub Set : Setting
   Set = setting g b.before
 
   abbrev top : ℕ
@@ -50,6 +50,10 @@ module _ (g : Graph) (b : Build) (steps : List Step) (builds : BuildsByContent g
 
   same_stale : {r : Rule} → IsNeeded g b r → record_of Set r (clean_build g b.before) b.stamps_after ≡ clean_record g b r
   same_stale {r} needed = unstamped Set r (clean_build g b.before) b.stamps_after (builds.by.decider r needed)
+
+  pub found_up_to_date : {r : Rule} → IsNeeded g b r → Among (Fresh r) steps → IsUpToDate b.before b.records r (present_record Set b r)
+  found_up_to_date {r} needed m =
+      (builds.by.tests r needed).kept (builds.by.decider r needed) (fresh_of Set b m builds.run).not_due
 
   only_stale : (r : Rule) → Among r (began steps) → IsNeeded g b r × IsStaleBefore g b r
   only_stale r m =
@@ -72,8 +76,8 @@ module _ (g : Graph) (b : Build) (steps : List Step) (builds : BuildsByContent g
       le n = omega arith
 
   module _ (succeeds : Succeeds Set b steps) where
-    is_settled : {r : Rule} → IsNeeded g b r → Among r (settled steps)
-    is_settled needed = needed_settled Set b (clean_build g b.before) steps builds.run agrees succeeds needed
+    pub settled_at_end : {r : Rule} → IsNeeded g b r → Among r (settled steps)
+    settled_at_end needed = needed_settled Set b (clean_build g b.before) steps builds.run agrees succeeds needed
 
     known_clean : (p : Path) → Among p b.requested → (o : Option Rule) → rule_at g b.before p ≡ o → IsKnown Set b.before p →
         clean_build g b.before p ≡ Some (b.after p)
@@ -83,14 +87,14 @@ module _ (g : Graph) (b : Build) (steps : List Step) (builds : BuildsByContent g
 
     pub incremental_is_clean : IsBuilt g b steps
     incremental_is_clean = record {
-      targets = λ r needed p m. (each.settled r (is_settled needed)).targets p m;
+      targets = λ r needed p m. (each.settled r (settled_at_end needed)).targets p m;
       requested = λ p m known. known_clean p m (rule_at g b.before p) refl known;
       starts = record {
         only = only_stale;
-        all = λ r needed is_stale. began_if_stale needed is_stale (fresh_or_began Set b steps builds.run (is_settled needed));
+        all = λ r needed is_stale. began_if_stale needed is_stale (fresh_or_began Set b steps builds.run (settled_at_end needed));
         once = began_once Set b steps builds.run;
       };
-      records = λ r needed. sym (each.settled r (is_settled needed)).record_is ∙ same_stale needed;
+      records = λ r needed. sym (each.settled r (settled_at_end needed)).record_is ∙ same_stale needed;
       order = λ later past r q e needs.
           needs_before Set b (clean_build g b.before) later past r q
           (subst (λ l. Agrees Set b (settled l) (clean_build g b.before)) e agrees)

@@ -15,3 +15,6 @@ mod Examples
 mod GoingOn
 mod Ordering
 mod OneJob
+mod TakenOut
+mod Waiting
+mod Leaving

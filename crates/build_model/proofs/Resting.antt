@@ -151,6 +151,19 @@ module _ (s : Setting) (b : Build) where
     pub ends_up : (r : Rule) → IsNeeded r → EndsUp r
     ends_up r needed = followed (length rest.rules) rest.rules refl r needed (λ q q_needed. inl (rest.all q q_needed))
 
+    needed_through : {r q : Rule} → IsNeeded r → Through r q → IsNeeded q
+    needed_through {r} needed (directly needs) = is_needed r needed needs
+    needed_through {r} needed (through x needs more) = needed_through (is_needed r needed needs) more
+
+    settled_if_well : {r : Rule} → ((q : Rule) → IsFaulty steps q → ⊥) → ((q : Rule) → IsNeeded q → Through q q → ⊥) → IsNeeded r → EndsUp r →
+        Among r (settled steps)
+    settled_if_well no_fault no_loop_there needed (inl m) = m
+    settled_if_well {r} no_fault no_loop_there needed (inr (by_fault f)) = absurd (no_fault r f)
+    settled_if_well no_fault no_loop_there needed (inr (by_skip h)) = absurd (no_fault h.other h.faulty)
+    settled_if_well {r} no_fault no_loop_there needed (inr (by_cycle (in_cycle c))) = absurd (no_loop_there r needed c)
+    settled_if_well no_fault no_loop_there needed (inr (by_cycle (behind_cycle x t c))) =
+        absurd (no_loop_there x (needed_through needed t) c)
+
     began_if_due : {r : Rule} → TestsDue s b r → IsDue b.before b.stamps_before b.records r (present_record s b r) →
         Among (Fresh r) steps ⊎ Among r (began steps) → Among r (began steps)
     began_if_due tests due (inr m) = m
@@ -160,6 +173,7 @@ module _ (s : Setting) (b : Build) where
     leaves_at_rest = record {
       ends_up = ends_up;
       due_began = λ r m tests due. began_if_due tests due (fresh_or_began s b steps run m);
+      well = λ no_fault no_loop_there r needed. settled_if_well no_fault no_loop_there needed (ends_up r needed);
       faulty = λ r f m. faulty_unsettled run f m;
       skipped = λ r h. (λ m. skipped_unprepared h (begun_prepared s b steps run m), λ m. skipped_unprepared h (settled_prepared s b steps run m));
       held = λ r h. (λ m. held_unprepared h (begun_prepared s b steps run m), λ m. held_unprepared h (settled_prepared s b steps run m));

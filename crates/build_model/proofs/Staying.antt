@@ -98,16 +98,21 @@ module _ (s : Setting) (b : Build) (lawful : IsLawful s) (t u : Tree) (stamps la
       required = h.required;
     }
 
+    met_stays : {r : Rule} → IsPrepared s At rules r → ((p : Path) → Among p (dependencies s (in_tree t) r) → IsMet b.met (t p)) →
+        (p : Path) → Among p (dependencies s (in_tree u) r) → IsMet b.met (u p)
+    met_stays {r} prepared h p m =
+        let n = among_same (dependencies_stay r (prepared_same prepared)) m in
+        subst (λ c. IsMet b.met c) (prepared_same prepared p n).0 (h p n)
+
     fresh_stays : {r : Rule} → IsPrepared s At rules r → ((p : Path) → Among p r.targets → t p ≡ u p) → IsFresh s At r → IsFresh s Later r
     fresh_stays {r} prepared targets h = record {
       not_due = same_tests r (prepared_same prepared) h.not_due;
-      each_met = λ p m. let n = among_same (dependencies_stay r (prepared_same prepared)) m in
-          subst (λ c. IsMet b.met c) (prepared_same prepared p n).0 (h.each_met p n);
+      each_met = met_stays prepared h.each_met;
       same = λ p m. h.same p m ∙ targets p m;
     }
 
     start_stays : {r : Rule} {past : List Step} → IsPrepared s At rules r → IsStart s At past r → IsStart s Later past r
-    start_stays {r} prepared h = record { due = same_tests r (prepared_same prepared) h.due; room = h.room }
+    start_stays {r} prepared h = record { due = same_tests r (prepared_same prepared) h.due; each_met = met_stays prepared h.each_met; room = h.room }
 
     made_stays : {r : Rule} → IsPrepared s At rules r → ((p : Path) → Among p r.targets → t p ≡ u p) → IsMade s t r → IsMade s u r
     made_stays {r} prepared targets h p m =

@@ -10,5 +10,7 @@ pub mod Graphs
 pub mod Laws
 pub mod Resting
 pub mod OneJob
+pub mod Waiting
 pub mod Headline
+pub mod Leaving
 pub mod Examples

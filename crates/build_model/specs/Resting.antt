@@ -56,6 +56,9 @@ pub record LeavesAtRest (s : Setting) (b : Build) (steps : List Step) (found : F
   pub ends_up : (r : Rule) → Needed s.rule_of found b.requested r → Among r (settled steps) ⊎ IsHindered s steps found r
   pub due_began : (r : Rule) → Among r (settled steps) → TestsDue s b r →
       IsDue b.before b.stamps_before b.records r (present_record s b r) → Among r (began steps)
+  -- without a fault and a cycle every needed rule is settled
+  pub well : ((r : Rule) → IsFaulty steps r → ⊥) → ((r : Rule) → Needed s.rule_of found b.requested r → NeedsThrough s.rule_of found r r → ⊥) →
+      (r : Rule) → Needed s.rule_of found b.requested r → Among r (settled steps)
   pub faulty : (r : Rule) → IsFaulty steps r → Among r (settled steps) → ⊥
   pub skipped : (r : Rule) → IsSkipped s steps found r → (Among r (began steps) → ⊥) × (Among r (settled steps) → ⊥)
   pub held : (r : Rule) → IsHeld s found r → (Among r (began steps) → ⊥) × (Among r (settled steps) → ⊥)

@@ -160,9 +160,10 @@ pub record IsLacking (s : Setting) (b : Build) (past : List Step) (r : Rule) (p 
   pub first_missing : IsFirstMissing s b.after (settled past) r p
   pub required : (q : Path) (x : Rule) → Among q r.required → s.rule_of q ≡ Some x → Among x (settled past)
 
--- a rule is started: it is due, and fewer actions run than may
+-- what is started is due, and fewer actions run than may; what it is given was looked at
 pub record IsStart (s : Setting) (b : Build) (past : List Step) (r : Rule) : Type 0 where
   pub due : s.is_due r b.before b.stamps_before b.records (present_record s b r) ≡ true
+  pub each_met : (p : Path) → Among p (present_dependencies s b r) → IsMet b.met (b.after p)
   pub room : running past < b.jobs
 
 -- the step may come after these

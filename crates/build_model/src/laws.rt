@@ -3,6 +3,8 @@ ghost use Rattle.build_model.specs.Laws.{EachStepIsClean, HoldsForAnyDecider, Ea
 ghost use Rattle.build_model.specs.Headline.{GraphsAreLawful, HighEnough, IncrementalIsClean, AgainLittle};
 ghost use Rattle.build_model.specs.Resting.{RestsRightly, KeepsGoing};
 ghost use Rattle.build_model.specs.OneJob.{AtOneJob};
+ghost use Rattle.build_model.specs.Waiting.{BusyAtEachEnding};
+ghost use Rattle.build_model.specs.Leaving.{StaysSound, IsAgainAfter};
 ghost use Rattle.build_model.specs.Examples.{AreMet};
 
 /// At any status: what was found up to date or made has the clean content, dependencies and record; and what was started was
@@ -41,6 +43,12 @@ pub fn at_one_job()
     ensures { AtOneJob }
 {}
 
+/// Before each ending of a build that ended well as many actions run as may, or whatever is stale and could be started waits
+/// for a stale rule that hasn't ended.
+pub fn busy_at_each_ending()
+    ensures { BusyAtEachEnding }
+{}
+
 /// What was seen at each moment is what stands at the end.
 pub fn courses_are_builds()
     ensures { CoursesAreBuilds }
@@ -64,6 +72,16 @@ pub fn incremental_is_clean()
 /// The same build again starts only what is always carried out, and what doesn't make all its targets.
 pub fn again_little()
     ensures { AgainLittle }
+{}
+
+/// Records that told the truth before a build tell it after, at any status.
+pub fn stays_sound()
+    ensures { StaysSound }
+{}
+
+/// After a build that ended well the same build may begin again.
+pub fn is_again_after()
+    ensures { IsAgainAfter }
 {}
 
 /// Where nothing is left to do, each needed rule is settled, faulty, skipped or held.

@@ -5,7 +5,7 @@
 mod laws;
 
 pub use laws::{
-    again_little, any_decider, at_most_jobs, at_one_job, courses_are_builds, each_step,
-    graphs_are_lawful, high_enough, incremental_is_clean, keeps_going, none_over_cycle, only_once,
-    premises_are_met, rests_rightly, settled_before_start,
+    again_little, any_decider, at_most_jobs, at_one_job, busy_at_each_ending, courses_are_builds,
+    each_step, graphs_are_lawful, high_enough, incremental_is_clean, is_again_after, keeps_going,
+    none_over_cycle, only_once, premises_are_met, rests_rightly, settled_before_start, stays_sound,
 };
