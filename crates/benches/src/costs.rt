@@ -5,11 +5,9 @@ use crate::substitution::{locals, number};
 use anyhow::Result;
 use env_subst::{Mode, subst};
 use env_vars::{EnvValue, Envs, Item};
+use scons_base::limits::TEXT_LIMIT;
 use scons_base::{EnvId, Listing, Text};
 use std::alloc::Global;
-
-/// The bytes of the longest text that a script may hold.
-const LONG: u32 = 16_777_216;
 
 /// Expands what the first argument names, in the size that the second says.
 pub fn expand(rt: &HostRuntime, what: Option<String>, size: Option<String>) -> Result<()> {
@@ -64,12 +62,12 @@ fn items(alloc: Global, envs: &mut Envs, env: EnvId, size: u32) -> Option<String
     repeated(alloc, "$ITEMS", 1)
 }
 
-/// So many references to a character of a text of 16 MiB.
+/// So many references to a character of the longest text that a script may hold.
 fn references(alloc: Global, envs: &mut Envs, env: EnvId, size: u32) -> Option<String>
     requires { env.0 < length envs.old }
     ensures { IfSome result (λ _. env.0 < length envs.new) }
 {
-    let long = repeated(alloc, "0123456789abcdef", LONG / 16)?;
+    let long = repeated(alloc, "0123456789abcdef", (TEXT_LIMIT / 16) as u32)?;
     envs.set(env, "T", EnvValue::Text(Text::new(long))).ok()?;
     repeated(alloc, "${T[0]}", size)
 }
