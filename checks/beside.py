@@ -1,0 +1,130 @@
+"""What the checks of this folder share: our program and SCons over copies of one tree, and the trials that `rt ci` runs.
+
+SCons takes gcc and g++ where they stand, and this tool cc and c++, which are the same programs: in SCons's lines they are written so.
+"""
+import argparse
+import os
+import re
+import shutil
+import subprocess
+import sys
+import tempfile
+
+TOP = os.path.dirname(os.path.dirname(os.path.realpath(__file__)))
+TRIALS = f"{TOP}/crates/build_trials"
+OURS = f"{TOP}/built/scons"
+
+
+class Failed(Exception):
+    """What was found isn't what has to be."""
+
+
+def arguments(about):
+    """The arguments that every check takes."""
+    given = argparse.ArgumentParser(description=about)
+    given.add_argument("--ours", default=OURS, help="the program to check; without it built/scons, which ./build makes")
+    given.add_argument("--scons", default=shutil.which("scons"), help="SCons 4; without it the one on PATH")
+    return given
+
+
+def programs(given):
+    """The programs to run by name: ours, and SCons where there is one."""
+    if not os.access(given.ours, os.X_OK):
+        sys.exit(f"{given.ours} is no program: make it by ./build, or name one by --ours")
+    found = {"ours": os.path.realpath(given.ours)}
+    if given.scons and os.path.realpath(given.scons) != found["ours"]:
+        found["SCons"] = given.scons
+    else:
+        print("SCons isn't here, so nothing is compared with it")
+    return found
+
+
+def run(program, words, tree):
+    """Runs a program in a tree, and gives its status, what it wrote on both streams, and the same without lines on progress."""
+    done = subprocess.run([program, *words], cwd=tree, stdin=subprocess.DEVNULL, stdout=subprocess.PIPE,
+                          stderr=subprocess.STDOUT, text=True, timeout=120)
+    return done.returncode, as_cc(done.stdout)
+
+
+def as_cc(text):
+    return re.sub(r"(?m)^g\+\+ ", "c++ ", re.sub(r"(?m)^gcc ", "cc ", text))
+
+
+def commands(text):
+    """The lines of a run but those that a tool says of itself."""
+    return [line for line in text.splitlines() if not line.startswith("scons: ")]
+
+
+def same(found, wanted, what):
+    if found != wanted:
+        raise Failed(f"{what}\n  found:  {found!r}\n  wanted: {wanted!r}")
+
+
+def put(tree, files):
+    """Writes files into a tree."""
+    for name, text in files.items():
+        path = os.path.join(tree, name)
+        os.makedirs(os.path.dirname(path) or ".", exist_ok=True)
+        with open(path, "w") as file:
+            file.write(text)
+
+
+def files_of(tree):
+    """The bytes of each file of a tree but those that a tool keeps of its own."""
+    found = {}
+    for at, _, names in os.walk(tree):
+        for name in names:
+            if not name.startswith(".sconsign"):
+                path = os.path.join(at, name)
+                with open(path, "rb") as file:
+                    found[os.path.relpath(path, tree)] = file.read()
+    return found
+
+
+class Place:
+    """A folder in which trees stand one after another at one path, so that both tools see the same absolute paths."""
+
+    def __enter__(self):
+        self.room = tempfile.TemporaryDirectory(prefix="scons-check-")
+        self.tree = f"{self.room.name}/tree"
+        return self
+
+    def __exit__(self, *_):
+        self.room.cleanup()
+
+    def new(self):
+        shutil.rmtree(self.tree, ignore_errors=True)
+        os.mkdir(self.tree)
+        return self.tree
+
+
+def told(words, output, status, started):
+    """How the trials write a run: its words, what it printed, what it reported."""
+    faults = [line for line in output.splitlines() if line.startswith("scons: *** ")]
+    lines = [f"! {line}" if line in faults else line for line in output.splitlines()]
+    return "\n".join([f"$ scons {words}", *lines, f"status {status}, {len(faults)} faults, started:{''.join(f' {it}' for it in started)}", ""])
+
+
+def file_step(name, text):
+    """A file as the trials put one."""
+    if any(line.startswith(("-- ", "== ")) for line in text.splitlines()):
+        raise Failed(f"{name} has a line that a trial would take for its own")
+    return f"-- file {name}\n{text if text.endswith(chr(10)) or not text else text + chr(10)}"
+
+
+def look_at_trials(trials, kinds, write):
+    """Compares the trials of build_trials whose names begin with one of these kinds with those that there have to be, or writes these."""
+    wanted = ["".join(it[0] for it in trials), "".join(it[1] for it in trials)]
+    for name, text in zip(("stdin", "stdout"), wanted):
+        with open(f"{TRIALS}/{name}") as file:
+            blocks = re.split(r"(?m)^(?=== )", file.read())
+        of_ours = [it for it in blocks if it.startswith(tuple(f"== {kind}" for kind in kinds))]
+        if write:
+            first = next((place for place, it in enumerate(blocks) if it in of_ours), len(blocks))
+            rest = [it for it in blocks if it not in of_ours]
+            rest.insert(first, text)
+            with open(f"{TRIALS}/{name}", "w") as file:
+                file.write("".join(rest))
+        elif "".join(of_ours) != text:
+            differs = next((two for two in zip(of_ours, re.split(r"(?m)^(?=== )", text)) if two[0] != two[1]), ("", ""))
+            raise Failed(f"crates/build_trials/{name} is another: write it anew by --write\n  there:  {differs[0]!r}\n  wanted: {differs[1]!r}")
