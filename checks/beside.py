@@ -102,7 +102,8 @@ def told(words, output, status, started):
     """How the trials write a run: its words, what it printed, what it reported."""
     faults = [line for line in output.splitlines() if line.startswith("scons: *** ")]
     lines = [f"! {line}" if line in faults else line for line in output.splitlines()]
-    return "\n".join([f"$ scons {words}", *lines, f"status {status}, {len(faults)} faults, started:{''.join(f' {it}' for it in started)}", ""])
+    last = f"status {status}, {len(faults)} faults, started:{''.join(f' {it}' for it in started)}"
+    return "\n".join([f"$ scons {words}", *lines, last, ""])
 
 
 def file_step(name, text):
@@ -127,4 +128,5 @@ def look_at_trials(trials, kinds, write):
                 file.write("".join(rest))
         elif "".join(of_ours) != text:
             differs = next((two for two in zip(of_ours, re.split(r"(?m)^(?=== )", text)) if two[0] != two[1]), ("", ""))
-            raise Failed(f"crates/build_trials/{name} is another: write it anew by --write\n  there:  {differs[0]!r}\n  wanted: {differs[1]!r}")
+            same(*differs, f"crates/build_trials/{name} is another: write it anew by --write")
+            raise Failed(f"crates/build_trials/{name}: {len(of_ours)} trials are there, and not all that have to be")
