@@ -113,20 +113,23 @@ def file_step(name, text):
     return f"-- file {name}\n{text if text.endswith(chr(10)) or not text else text + chr(10)}"
 
 
+def trials_of(text):
+    """The trials of a text, each with its first line."""
+    return [it for it in re.split(r"(?m)^(?=== )", text) if it]
+
+
 def look_at_trials(trials, kinds, write):
     """Compares the trials of build_trials whose names begin with one of these kinds with those that there have to be, or writes these."""
-    wanted = ["".join(it[0] for it in trials), "".join(it[1] for it in trials)]
-    for name, text in zip(("stdin", "stdout"), wanted):
+    for name, wanted in zip(("stdin", "stdout"), zip(*trials)):
         with open(f"{TRIALS}/{name}") as file:
-            blocks = re.split(r"(?m)^(?=== )", file.read())
-        of_ours = [it for it in blocks if it.startswith(tuple(f"== {kind}" for kind in kinds))]
+            there = trials_of(file.read())
+        found = [it for it in there if it.startswith(tuple(f"== {kind}" for kind in kinds))]
         if write:
-            first = next((place for place, it in enumerate(blocks) if it in of_ours), len(blocks))
-            rest = [it for it in blocks if it not in of_ours]
-            rest.insert(first, text)
+            first = there.index(found[0]) if found else len(there)
+            rest = [it for it in there if it not in found]
             with open(f"{TRIALS}/{name}", "w") as file:
-                file.write("".join(rest))
-        elif "".join(of_ours) != text:
-            differs = next((two for two in zip(of_ours, re.split(r"(?m)^(?=== )", text)) if two[0] != two[1]), ("", ""))
-            same(*differs, f"crates/build_trials/{name} is another: write it anew by --write")
-            raise Failed(f"crates/build_trials/{name}: {len(of_ours)} trials are there, and not all that have to be")
+                file.write("".join([*rest[:first], *wanted, *rest[first:]]))
+        else:
+            for one, other in zip(found, wanted):
+                same(one, other, f"crates/build_trials/{name} has another trial: write it anew by --write")
+            same(len(found), len(wanted), f"crates/build_trials/{name}: trials: write them anew by --write")
