@@ -11,6 +11,7 @@ use std::thread::Threads;
 const TURNS: u32 = 100_000_000;
 
 /// How many jobs have come to the gate, and how many went on without the other.
+#[derive(Drop)]
 pub struct Meeting {
     come: AtomicU64,
     missed: AtomicU64,

@@ -16,6 +16,7 @@ const JOBS: u32 = 1000;
 const MOST: usize = 64;
 
 /// How many endings came, and how many of them were another job's, came twice or had another outcome.
+#[derive(Drop)]
 pub struct Tally {
     pub endings: u32,
     pub strange: u32,

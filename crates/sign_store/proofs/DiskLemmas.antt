@@ -1,6 +1,6 @@
 -- Calls of a disk, one after another: what they leave of the banks and of all around.
 use Rattle.std.proofs.Common.{◌≡◌, ◌∙◌, refl, arith}
-use Rattle.std.specs.Prelude.{◌≢◌}
+use Rattle.std.specs.Prelude.{◌≢◌, Result, Ok, Err, OnOk}
 use Rattle.world_api.specs.declared.disk.Bank.{Bank}
 use Rattle.world_api.specs.Meaning.{Meaning, Told, Recalls, BankKept, BanksKept}
 use Rattle.world_api.proofs.Looking.{told_same, recalls_same, bank_same, bank_joined}
@@ -52,3 +52,8 @@ pub read : {W : Type 0} (m : Meaning W) (bank : Bank) (a b : W) → Told m a b �
 read m bank a b told recalls around banks = record { told = told; recalls = recalls; around = around; other = λ t other not. banks t other }
 
 pub ruleset calls = (reads_same, writes_same)
+
+-- what an Ok gives, from what two clauses give there
+pub both_ok : {T E G H S K : Type 0} (r : Result T E) → (G → OnOk r H) → (G → OnOk r S) → ((G → H) → (G → S) → K) → OnOk r K
+both_ok (Ok x) h s k = k h s
+both_ok (Err e) h s k = tt

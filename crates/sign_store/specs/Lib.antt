@@ -1,7 +1,9 @@
 pub mod Heads
+pub mod Tables
 pub mod Entries
 pub mod Reached
-pub mod Tables
 pub mod Maps
 pub mod Images
+pub mod Readings
+pub mod Ends
 pub mod Stores

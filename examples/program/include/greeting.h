@@ -1,0 +1,2 @@
+#define GREETING "hello"
+void greet(const char *whom);

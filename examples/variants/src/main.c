@@ -1,0 +1,7 @@
+#include <stdio.h>
+#include "kind.h"
+
+int main(void) {
+    puts(kind());
+    return 0;
+}
