@@ -19,3 +19,4 @@ mod TakenOut
 mod Waiting
 mod Leaving
 mod Histories
+mod Ending

@@ -1,17 +1,22 @@
 -- A build that goes on after faults, where nothing is left to do: why each rule that isn't settled then isn't.
-use Rattle.std.specs.Prelude.{◌≡◌, ◌⊎◌, ℕ, ◌<◌, false, List, [], Some}
+use Rattle.std.specs.Prelude.{◌≡◌, ◌⊎◌, ℕ, ◌<◌, ◌++◌, false, List, [], ◌∷◌, Some}
 use Rattle.build_model.specs.Rules.{Path, Rule, Setting, Among}
 use Rattle.build_model.specs.Needs.{Found, Needs, NeedsThrough, Needed}
 use Rattle.build_model.specs.Contents.{View, in_tree, found_in, clean, height}
 use Rattle.build_model.specs.Records.{record_of}
 use Rattle.build_model.specs.Stale.{IsDue, IsStale}
-use Rattle.build_model.specs.Steps.{Step, Ended, Lacks, Build, settled, began, IsReady, IsRun, present_record}
+use Rattle.build_model.specs.Steps.{Step, Began, Ended, Lacks, Halts, Build, settled, began, IsReady, IsRun, present_record}
 use Rattle.build_model.specs.Laws.{TestsDue, IsBuild, IsByContent}
 
 -- a rule's action ended otherwise than well, or the rule lacks a dependency
 pub data IsFaulty (steps : List Step) (r : Rule) : Type 0 where
   has_failed : Among (Ended r false) steps → IsFaulty steps r
   lacks_one : (p : Path) → Among (Lacks r p) steps → IsFaulty steps r
+
+-- Nothing begins behind a halt, nor behind a fault in a build that doesn't go on after one.
+abbrev pub NothingAfterFault : Type 0
+NothingAfterFault = (s : Setting) (b : Build) (later past : List Step) (r : Rule) → IsRun s b (later ++ Began r ∷ past) →
+    (Among Halts past → ⊥) × (b.keeps_going ≡ false → (x : Rule) → IsFaulty past x → ⊥)
 
 -- All that can be scanned is: a file that waits for nothing gave what it includes, and any other one nothing. So the
 -- dependencies of a rule are those with the targets of what isn't settled taken out: reported, and not scanned.

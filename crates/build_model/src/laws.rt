@@ -1,7 +1,7 @@
 //! The laws: each is the contract of a function that does nothing.
 ghost use Rattle.build_model.specs.Laws.{EachStepIsClean, HoldsForAnyDecider, EachOnlyOnce, SettledBeforeStart, NoneOverCycle, AtMostJobs, CoursesAreBuilds};
 ghost use Rattle.build_model.specs.Headline.{GraphsAreLawful, HighEnough, IncrementalIsClean, AgainLittle};
-ghost use Rattle.build_model.specs.Resting.{RestsRightly, KeepsGoing};
+ghost use Rattle.build_model.specs.Resting.{NothingAfterFault, RestsRightly, KeepsGoing};
 ghost use Rattle.build_model.specs.OneJob.{AtOneJob};
 ghost use Rattle.build_model.specs.Waiting.{BusyAtEachEnding};
 ghost use Rattle.build_model.specs.Leaving.{StaysSound, IsAgainAfter};
@@ -88,6 +88,11 @@ pub fn is_again_after()
 /// After any list of edits, failed builds and stopped builds, a build by content that ends well equals a clean build.
 pub fn histories_end_clean()
     ensures { HistoriesEndClean }
+{}
+
+/// Nothing begins behind a halt, nor behind a fault in a build that doesn't go on after one.
+pub fn nothing_after_fault()
+    ensures { NothingAfterFault }
 {}
 
 /// Where nothing is left to do, each needed rule is settled, faulty, skipped or held.
