@@ -75,7 +75,7 @@ pub double_add : (k : ℕ) → 2 ^ (k + 1) ≡ 2 * 2 ^ k
 double_add k = rw add-one (double k)
 
 pub few_levels : (levels : ℕ) → levels < 31 → 2 ^ (levels + 1) < 2 ^ 32
-few_levels levels lt = pow-lt (omega arith)
+few_levels levels lt = let le : levels + 1 < 32 = omega arith in pow-lt {i = levels + 1} {j = 32} le
 
 -- without a mark at the root there is none
 pub unmarked : (tree : List Bool) (room k : ℕ) → IsTree tree room → 2 ^ k ≤ room → mark_at tree 1 ≡ false → (q : ℕ) → 2 ^ k ≤ q → q < 2 * 2 ^ k → mark_at tree q ≡ false
@@ -167,9 +167,9 @@ first_unmarked tree room levels t e none =
     let n = t.size in
     let m : length (leaves tree room) ≡ room = length-drop room tree ∙ omega arith in
     let p : (k : ℕ) → k < room → get_or (leaves tree room) k false ≡ false =
-        λ k lt. get_or-drop room tree k false ∙ unmarked tree room levels t (omega arith) none (room + k) (omega arith) (omega arith) in
+    λ k lt. get_or-drop room tree k false ∙ unmarked tree room levels t (omega arith) none (room + k) (omega arith) (omega arith) in
     let l : position_or_len (λ mark. mark) (leaves tree room) ≡ length (leaves tree room) =
-        position_or_len_is (λ mark. mark) (leaves tree room) (length (leaves tree room)) false (omega arith) (λ k lt. p k (omega arith)) (λ h. absurd (omega arith)) in
+    position_or_len_is (λ mark. mark) (leaves tree room) (length (leaves tree room)) false (omega arith) (λ k lt. p k (omega arith)) (λ h. absurd (omega arith)) in
     none_found (leaves tree room) l
 
 some_found : (xs : List Bool) (i : ℕ) → position_or_len (λ mark. mark) xs ≡ i → i < length xs → Some i ≡ position (λ mark. mark) xs
@@ -184,7 +184,7 @@ first_least tree room place t l =
     let same : room + (place - room) ≡ place = omega arith in
     let here : get_or (leaves tree room) (place - room) false ≡ true = get_or-drop room tree (place - room) false ∙ ap (λ i. get_or tree i false) same ∙ l.marked in
     let e = position_or_len_is (λ mark. mark) (leaves tree room) (place - room) false (omega arith)
-        (λ k lt. get_or-drop room tree k false ∙ l.least (room + k) (omega arith) (omega arith)) (λ h. here) in
+    (λ k lt. get_or-drop room tree k false ∙ l.least (room + k) (omega arith) (omega arith)) (λ h. here) in
     some_found (leaves tree room) (place - room) e (omega arith)
 
 pub root_least : (tree : List Bool) → mark_at tree 1 ≡ true → IsLeast tree 1 1

@@ -96,15 +96,15 @@ first_open order numbers opens n rule q p s =
       first = λ other is. rw number (least opens n (get_or numbers other unnumbered) f.2 is);
     }
 
-
 -- the places of the rules before a place
 pub record AreNumbersTo (order : List RuleId) (place : ℕ) (numbers : List ℕ) : Type 0 where
   pub stands : (rule n : ℕ) → get_or numbers rule unnumbered ≡ n → n < length order → (n < place) × (slice_get order n ≡ Some (record { 0 = rule }))
 
 no_number : (count rule : ℕ) → get_or (replicate count unnumbered) rule unnumbered ≡ unnumbered
 no_number count rule = elim (ltb rule count) as (λ b. ltb rule count ≡ b → get_or (replicate count unnumbered) rule unnumbered ≡ unnumbered) [
-  true ↦ λ e. get_or-replicate count rule unnumbered unnumbered (ltb-true rule count e)
-  | false ↦ λ e. get_or_past (replicate count unnumbered) rule unnumbered (let m = length-replicate count unnumbered in let b = ltb-false rule count e in omega arith) ] refl
+  | true ↦ λ e. get_or-replicate count rule unnumbered unnumbered (ltb-true rule count e)
+  | false ↦ λ e. get_or_past (replicate count unnumbered) rule unnumbered (let m = length-replicate count unnumbered in let b = ltb-false rule count e in omega arith)
+] refl
 
 at_this : (order : List RuleId) (place r n : ℕ) (numbers : List ℕ) → AreNumbersTo order place numbers
     → slice_get order place ≡ Some (record { 0 = r }) → (b : Bool) → ltb r (length numbers) ≡ b → get_or (set numbers r place) r unnumbered ≡ n → n < length order

@@ -126,6 +126,16 @@ impl Plan {
         ensures halted { self.new.halted ≡ (self.old.halted || (is_halt event || is_err result)) }
         ensures memory { is_scan event ≡ false → is_err result ≡ false }
     {
+        // What the plan keeps is known of its fields alone.
+        let _halted = self.halted;
+        self.take(graph, event)
+    }
+
+    fn take(&mut self, graph: &Graph, event: PlanEvent) -> Result<(), Memory>
+        ensures states { Goes self.old event self.new.states }
+        ensures halted { self.new.halted ≡ (self.old.halted || (is_halt event || is_err result)) }
+        ensures memory { is_scan event ≡ false → is_err result ≡ false }
+    {
         match event {
             PlanEvent::Scanned(rule, found) => return self.take_scan(graph, rule, found.into_vec()),
             PlanEvent::Fresh(rule) => self.take_fresh(rule),
@@ -141,7 +151,13 @@ impl Plan {
     /// Rules of which each needs the next, and the last needs the first. There are none exactly where no needed rule
     /// waits for itself, by the files scanned so far.
     pub fn cycle(&self) -> Result<Option<Listing<RuleId>>, Memory> {
-        let cycle = cycle_of(self.alloc, &self.states, &self.tasks, &self.files, self.roots.as_slice())?;
+        let cycle = cycle_of(
+            self.alloc,
+            &self.states,
+            &self.tasks,
+            &self.files,
+            self.roots.as_slice(),
+        )?;
         Ok(cycle.map(Listing::new))
     }
 

@@ -16,7 +16,7 @@ pub marked_below-place-requires : goal.marked_below-place-requires
 marked_below-place-requires c =
     let i = c.self.inside in
     rw c.as_slice-in-loop-level.ensures.value
-        (within_tree i.tree.items i.room c.loop-level._level i.levels c.loop-level.place c.self.invariant.1 c.loop-level-test.true c.self.invariant.0.power c.loop-level.invariant)
+    (within_tree i.tree.items i.room c.loop-level._level i.levels c.loop-level.place c.self.invariant.1 c.loop-level-test.true c.self.invariant.0.power c.loop-level.invariant)
 
 pub loop-level-preserved : goal.loop-level-preserved
 loop-level-preserved c =

@@ -9,7 +9,7 @@ returns-then-number-len-clause-others c =
     let e : get_or i.numbers.items c.args.rule.0 unnumbered ≡ c.number-number.result = ap (λ q. get_or q.numbers c.args.rule.0 unnumbered) c.self.view_is ∙ sym c.number-number.ensures in
     let lt : c.number-number.result < length i.rules.items = omega arith in
     λ x ne. rw (c.put.ensures, sym c.self.view_is)
-        (others_put i.rules.items i.numbers.items i.opens c.args.rule.0 c.number-number.result x c.args.is_open c.self.invariant e lt ne)
+    (others_put i.rules.items i.numbers.items i.opens c.args.rule.0 c.number-number.result x c.args.is_open c.self.invariant e lt ne)
 
 pub returns-else-number-len-clause-this : goal.returns-else-number-len-clause-this
 returns-else-number-len-clause-this c =
