@@ -78,6 +78,22 @@ impl Begin {
         }
     }
 
+    pub fn bank_len(&self) -> usize {
+        self.a.len()
+    }
+
+    /// A world that has this with its first bank cut to so many bytes.
+    pub fn cut(&self, alloc: Global, size: usize) -> Result<IdleWorld> {
+        let mut bank = Vec::from_slice(alloc, self.a.as_slice())?;
+        bank.truncate(size);
+        let begin = Begin {
+            files: copies(alloc, self.files.as_slice())?,
+            a: bank,
+            b: Vec::from_slice(alloc, self.b.as_slice())?,
+        };
+        begin.world(alloc, Vec::new(alloc))
+    }
+
     /// A world that has this, in which these calls fail.
     pub fn world(&self, alloc: Global, failing: Vec<(Call, u32)>) -> Result<IdleWorld> {
         let files = copies(alloc, self.files.as_slice())?;
@@ -159,7 +175,7 @@ impl<'a> Failures<'a> {
     }
 }
 
-fn clean_files(alloc: Global, begin: &Begin, words: &[Text]) -> Result<Files> {
+pub fn clean_files(alloc: Global, begin: &Begin, words: &[Text]) -> Result<Files> {
     let begin = begin.without_banks(alloc)?;
     let mut world = begin.world(alloc, Vec::new(alloc))?;
     status_of(alloc, &mut world, words)?;
@@ -196,7 +212,7 @@ fn copies(alloc: Global, files: &[(PathText, Blob)]) -> Result<Vec<(PathText, Bl
 }
 
 /// Whether these are the same files, in the same order.
-fn are_same(files: &[(PathText, Blob)], others: &[(PathText, Blob)]) -> bool {
+pub fn are_same(files: &[(PathText, Blob)], others: &[(PathText, Blob)]) -> bool {
     if files.len() != others.len() {
         return false;
     }

@@ -74,6 +74,19 @@ impl IdleWorld {
         self.world.sync(bank).is_ok()
     }
 
+    /// After so many further calls the world is at fault.
+    pub fn fuse(&mut self, calls: u32) {
+        self.world.fuse(calls);
+    }
+
+    /// One outcome of a stop at this moment.
+    pub fn stopped(self, pick: u32) -> Result<IdleWorld> {
+        match self.world.stop(pick) {
+            Ok(world) => Ok(IdleWorld { world }),
+            Err(_) => bail!("memory ran out"),
+        }
+    }
+
     pub fn bank(&self, bank: Bank) -> &[u8] {
         self.world.bank(bank)
     }

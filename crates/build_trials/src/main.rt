@@ -4,13 +4,16 @@
 //! a file whose content follows on the line or on the lines below, `gone` removes one, `act` and `fail` say what a command
 //! makes, `orders` which running job ends at each wait, `fails` which call of the outside fails, `large` puts a file of so
 //! many bytes, `cut` and `mark` spoil the signature file, `run` is the command with these words, and `show` writes a file.
-//! `failures` builds once with each failure of the outside, and once more without it.
+//! `failures` builds once with each failure of the outside, and once more without it. `stops` stops a build after each
+//! number of its calls, in each way that a stop may turn out, and builds on. `turns` builds over and over, and `banks` says
+//! how large the signature file's halves are.
 #![tactic(auto)]
 
 mod failures;
 mod idle;
 mod runs;
 mod steps;
+mod stops;
 mod trial;
 
 use crate::steps::{Block, head_of};

@@ -3,6 +3,7 @@
 use crate::failures::{Begin, Failures, call_of};
 use crate::idle::IdleWorld;
 use crate::runs::Ran;
+use crate::stops::{Stops, add_cuts};
 use crate::steps::{Block, code_of, number_of, path_of, signed_of, word_of, words_of};
 use anyhow::{Context, Result, bail};
 use scons_base::{Blob, PathText, Text};
@@ -56,6 +57,10 @@ impl Trial {
             "run" => return self.run(rest),
             "show" => return self.show(rest),
             "failures" => return self.failures(rest),
+            "stops" => return self.stops(rest),
+            "cuts" => return self.cuts(rest),
+            "turns" => self.turn(rest)?,
+            "banks" => return self.banks(),
             _ => bail!("{word} is no step"),
         }
         Ok(String::new(alloc))
@@ -117,6 +122,62 @@ impl Trial {
         let mut text = String::new(alloc);
         let mut failures = Failures::new(alloc, begin, words.as_slice())?;
         failures.add_lines(number_of(numbers)?, &mut text)?;
+        Ok(text)
+    }
+
+    /// Builds that are stopped after each number of calls, and builds after them.
+    fn stops(&mut self, words: &str) -> Result<String> {
+        let alloc = self.alloc;
+        let words = words_of(alloc, words)?;
+        let begin = Begin::of(alloc, self.world()?)?;
+        let mut text = String::new(alloc);
+        Stops::new(alloc, begin, words.as_slice())?.add_lines(&mut text)?;
+        Ok(text)
+    }
+
+    /// Builds with the first signature bank cut to each length.
+    fn cuts(&mut self, words: &str) -> Result<String> {
+        let alloc = self.alloc;
+        let words = words_of(alloc, words)?;
+        let begin = Begin::of(alloc, self.world()?)?;
+        let mut text = String::new(alloc);
+        add_cuts(alloc, &begin, words.as_slice(), &mut text)?;
+        Ok(text)
+    }
+
+    /// Builds so many times, with a file that holds `0` and `1` in turn: `TIMES PATH WORDS`.
+    fn turn(&mut self, rest: &str) -> Result<()> {
+        let alloc = self.alloc;
+        let (times, rest) = word_of(rest);
+        let (path, words) = word_of(rest);
+        let path = path_of(alloc, path)?;
+        let words = words_of(alloc, words)?;
+        for turn in 0..number_of(times)? {
+            let bytes = if turn % 2 == 0 { "0" } else { "1" };
+            let world = self.world()?;
+            world.edit(&path, bytes.as_bytes())?;
+            let ran = Ran::of(alloc, world, words.as_slice())?;
+            if ran.report.status != 0 {
+                bail!("a build is at fault");
+            }
+        }
+        Ok(())
+    }
+
+    /// The size of each signature bank, and its generation where it has one.
+    fn banks(&mut self) -> Result<String> {
+        let alloc = self.alloc;
+        let world = self.world()?;
+        let mut text = String::new(alloc);
+        for (name, bank) in [("A", Bank::A), ("B", Bank::B)] {
+            let bytes = world.bank(bank);
+            let size = bytes.len();
+            text.push_str(format!(in alloc; "bank {name}: {size} bytes")?.as_str())?;
+            if let Some(generation) = bytes.get(16) {
+                text.push_str(format!(in alloc; ", generation {generation}")?.as_str())?;
+            }
+            text.push_str("\n")?;
+        }
         Ok(text)
     }
 

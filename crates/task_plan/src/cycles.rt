@@ -1,7 +1,8 @@
 //! Rules that wait for themselves.
 
 use crate::files::Files;
-use crate::task::{State, Task};
+use crate::states::{RuleState, States};
+use crate::task::Task;
 use crate::walk::{Step, enter_needs, step_limit};
 use scons_base::{Memory, RuleId};
 use std::alloc::Global;
@@ -26,6 +27,7 @@ struct Walk {
 /// Rules of which each needs the next, and the last needs the first, among those that these roots lead to.
 pub(crate) fn cycle_of(
     alloc: Global,
+    states: &States,
     tasks: &[Task],
     files: &Files,
     roots: &[RuleId],
@@ -41,7 +43,7 @@ pub(crate) fn cycle_of(
     for _ in 0..step_limit(tasks, roots) {
         match walk.steps.pop() {
             Some(Step::Enter(rule)) => {
-                if walk.enter(tasks, files, rule)? {
+                if walk.enter(states, tasks, files, rule)? {
                     return Ok(Some(walk.open_from(rule)?));
                 }
             }
@@ -54,13 +56,19 @@ pub(crate) fn cycle_of(
 
 impl Walk {
     /// Enters a rule, and says whether the walk is within it already.
-    fn enter(&mut self, tasks: &[Task], files: &Files, rule: RuleId) -> Result<bool, Memory> {
+    fn enter(
+        &mut self,
+        states: &States,
+        tasks: &[Task],
+        files: &Files,
+        rule: RuleId,
+    ) -> Result<bool, Memory> {
         match self.colours.get(rule.0 as usize).copied() {
             Some(Colour::New) => {
                 self.open.push(rule)?;
                 self.steps.push(Step::Leave(rule))?;
                 self.set(rule, Colour::Open);
-                self.enter_needs(tasks, files, rule)?;
+                self.enter_needs(states, tasks, files, rule)?;
                 Ok(false)
             }
             Some(Colour::Open) => Ok(true),
@@ -69,10 +77,19 @@ impl Walk {
     }
 
     /// Puts the rules that an unsettled rule needs on the steps. A settled one needs settled ones alone.
-    fn enter_needs(&mut self, tasks: &[Task], files: &Files, rule: RuleId) -> Result<(), Memory> {
+    fn enter_needs(
+        &mut self,
+        states: &States,
+        tasks: &[Task],
+        files: &Files,
+        rule: RuleId,
+    ) -> Result<(), Memory> {
+        if states.of(rule) == RuleState::Settled {
+            return Ok(());
+        }
         match tasks.get(rule.0 as usize) {
-            Some(task) if task.state != State::Settled => enter_needs(task, files, &mut self.steps),
-            _ => Ok(()),
+            Some(task) => enter_needs(task, files, &mut self.steps),
+            None => Ok(()),
         }
     }
 

@@ -16,11 +16,14 @@ mod marks;
 mod meeting;
 mod order;
 mod plan;
+mod queue;
 mod reach;
+mod states;
 mod steps;
 mod task;
 mod walk;
 mod want;
 
 pub use plan::Plan;
+pub use states::RuleState;
 pub use want::{PlanEvent, Want};

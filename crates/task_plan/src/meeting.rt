@@ -1,8 +1,12 @@
 //! How the plan meets files, and with them the rules that are needed.
 
+ghost use Rattle.std.specs.Prelude.{◌≡◌};
+ghost use Rattle.task_plan.specs.Plans.{Meets};
+
 use crate::marks::Marks;
 use crate::plan::Plan;
-use crate::task::{State, Task};
+use crate::states::RuleState;
+use crate::task::Task;
 use indexmap::IndexSet;
 use rule_graph::{Graph, Rule};
 use scons_base::{Listing, Memory, NodeId, RuleId};
@@ -10,15 +14,25 @@ use world_api::Work;
 
 impl Plan {
     /// Makes room for the nodes and rules of the graph.
-    pub(crate) fn make_room(&mut self, graph: &Graph) -> Result<(), Memory> {
+    pub(crate) fn make_room(&mut self, graph: &Graph) -> Result<(), Memory>
+        ensures { Meets self.old self.new }
+    {
         self.files.reach(graph.len())?;
-        for _ in self.tasks.len()..graph.rules() as usize {
-            self.tasks.push(Task::new(self.alloc))?;
+        for _added in self.tasks.len()..graph.rules() as usize {
+            self.add_task()?;
         }
         if self.tasks.len() > self.scannable.room() {
             self.scannable = self.scannable_now()?;
         }
         Ok(())
+    }
+
+    /// Makes room for one rule more.
+    fn add_task(&mut self) -> Result<(), Memory>
+        ensures { Meets self.old self.new }
+    {
+        self.tasks.push(Task::new(self.alloc))?;
+        self.states.add()
     }
 
     /// The rules that have a file to be scanned, with room for twice as many rules as there are.
@@ -29,14 +43,16 @@ impl Plan {
                 && self.is_ready(*node)
                 && !task.reach.found.contains_key(node)
             {
-                scannable.set(number);
+                scannable.put(number, true);
             }
         }
         Ok(scannable)
     }
 
     /// Meets the requested nodes.
-    pub(crate) fn meet_roots(&mut self, graph: &Graph, requested: &[NodeId]) -> Result<(), Memory> {
+    pub(crate) fn meet_roots(&mut self, graph: &Graph, requested: &[NodeId]) -> Result<(), Memory>
+        ensures { Meets self.old self.new }
+    {
         let mut needed = Vec::new(self.alloc);
         for node in requested {
             self.meet(graph, *node, &mut needed)?;
@@ -53,16 +69,16 @@ impl Plan {
         graph: &Graph,
         node: NodeId,
         needed: &mut Vec<RuleId>,
-    ) -> Result<(), Memory> {
+    ) -> Result<(), Memory>
+        ensures { Meets self.old self.new }
+    {
         if node.0 >= graph.len() {
             return Ok(());
         }
         if let Some(rule) = graph.rule_of(node) {
             self.files.set_rule(node, rule);
-            if let Some(task) = self.tasks.get_mut(rule.0 as usize)
-                && task.state == State::Unneeded
-            {
-                task.state = State::Waiting;
+            if self.states.of(rule) == RuleState::Unneeded {
+                self.states.set(rule, RuleState::Waiting);
                 needed.push(rule)?;
             }
         }
@@ -70,7 +86,9 @@ impl Plan {
     }
 
     /// Takes the needed rules in, with those that they need in turn.
-    pub(crate) fn admit(&mut self, graph: &Graph, mut needed: Vec<RuleId>) -> Result<(), Memory> {
+    pub(crate) fn admit(&mut self, graph: &Graph, mut needed: Vec<RuleId>) -> Result<(), Memory>
+        ensures { Meets self.old self.new }
+    {
         for place in 0..self.tasks.len() {
             let Some(rule) = needed.get(place).copied() else {
                 break;
@@ -85,7 +103,9 @@ impl Plan {
     }
 
     /// Notes what a rule names.
-    fn load(&mut self, graph: &Graph, id: RuleId, rule: &Rule) -> Result<(), Memory> {
+    fn load(&mut self, graph: &Graph, id: RuleId, rule: &Rule) -> Result<(), Memory>
+        ensures { self.new ≡ self.old }
+    {
         let Some(task) = self.tasks.get_mut(id.0 as usize) else {
             return Ok(());
         };
@@ -108,7 +128,9 @@ impl Plan {
         graph: &Graph,
         rule: RuleId,
         needed: &mut Vec<RuleId>,
-    ) -> Result<(), Memory> {
+    ) -> Result<(), Memory>
+        ensures { Meets self.old self.new }
+    {
         let count = match self.tasks.get(rule.0 as usize) {
             Some(task) => task.needs(),
             None => 0,
@@ -131,7 +153,9 @@ impl Plan {
     }
 
     /// Lets a rule wait for a file.
-    pub(crate) fn wait_for(&mut self, node: NodeId, rule: RuleId) -> Result<(), Memory> {
+    pub(crate) fn wait_for(&mut self, node: NodeId, rule: RuleId) -> Result<(), Memory>
+        ensures { self.new ≡ self.old }
+    {
         self.files.add_waiter(node, rule)?;
         if let Some(task) = self.tasks.get_mut(rule.0 as usize) {
             task.unsettled = task.unsettled.saturating_add(1);
@@ -142,26 +166,25 @@ impl Plan {
     /// Whether a file that was met has no rule, or a settled one.
     pub(crate) fn is_ready(&self, node: NodeId) -> bool {
         match self.files.rule_of(node) {
-            Some(rule) => match self.tasks.get(rule.0 as usize) {
-                Some(task) => task.state == State::Settled,
-                None => true,
-            },
+            Some(rule) => self.states.of(rule) == RuleState::Settled,
             None => true,
         }
     }
 
     /// Looks for the next file of a rule that can be scanned now.
-    pub(crate) fn find_ready(&mut self, rule: RuleId) {
+    pub(crate) fn find_ready(&mut self, rule: RuleId)
+        ensures { self.new ≡ self.old }
+    {
         let number = rule.0 as usize;
         match self.next_ready(number) {
             Some(place) => {
-                self.scannable.set(number);
+                self.scannable.put(number, true);
                 if let Some(task) = self.tasks.get_mut(number) {
                     task.reach.next = place;
                 }
             }
             None => {
-                self.scannable.clear(number);
+                self.scannable.put(number, false);
                 if let Some(task) = self.tasks.get_mut(number) {
                     task.reach.next = task.reach.files.len();
                 }

@@ -1,48 +1,68 @@
 //! The plan of a build.
 
+ghost use Rattle.std.specs.Prelude.{◌≡◌, ◌<◌, ◌||◌, [], ℕ, false, true, IfOk, if◌then◌else◌, nat_lt, is_err};
+ghost use Rattle.std.specs.List.{count_by};
+ghost use Rattle.scons_base.specs.declared.ids.RuleId.{RuleId};
+ghost use Rattle.scons_base.specs.declared.ids.NodeId.{NodeId};
+ghost use Rattle.task_plan.specs.States.{is_running};
+ghost use Rattle.task_plan.specs.Plans.{AreMet, IsDecidedNext, IsIdle, Goes, GoesOn, is_scan, is_halt};
+
 use crate::cycles::cycle_of;
 use crate::files::Files;
 use crate::held::held_by;
 use crate::marks::Marks;
-use crate::task::{State, Task};
+use crate::queue::Queue;
+use crate::states::{RuleState, States};
+use crate::task::Task;
 use crate::want::{PlanEvent, Want};
 use rule_graph::Graph;
 use scons_base::{Listing, Memory, NodeId, RuleId};
 use std::alloc::Global;
+use std::marker::Model;
 
 /// What a build has done, and what it may do next.
 #[derive(Drop)]
 pub struct Plan {
+    pub(crate) states: States,
+    /// The needed rules depth first, each after those that it needs. Open are those that can be decided now.
+    pub(crate) queue: Queue,
+    /// Whether that order fits the files scanned so far.
+    pub(crate) is_ordered: bool,
     /// The rules by their numbers in the graph.
     pub(crate) tasks: Vec<Task>,
     pub(crate) files: Files,
     /// The rules of the requested nodes, in order.
     pub(crate) roots: Vec<RuleId>,
-    /// The needed rules depth first, each after those that it needs.
-    pub(crate) order: Vec<RuleId>,
-    /// Whether that order fits the files scanned so far.
-    pub(crate) is_ordered: bool,
     /// Rules that have a file to be scanned now.
     pub(crate) scannable: Marks,
-    /// Places in the order of the rules that can be decided now.
-    pub(crate) decidable: Marks,
-    pub(crate) running: usize,
     pub(crate) halted: bool,
     pub(crate) alloc: Global,
 }
 
+impl Model for Plan {
+    ghost use Rattle.task_plan.specs.Plans.{Planned, AreWaiting};
+
+    ghost Value = { Planned };
+
+    ghost view = { λ p. record { states = p.states; queue = p.queue; halted = p.halted } };
+
+    ghost invariant = { λ p. AreWaiting p.states p.queue };
+}
+
 impl Plan {
     /// The plan that makes the requested nodes.
-    pub fn new(alloc: Global, graph: &Graph, requested: &[NodeId]) -> Result<Plan, Memory> {
+    pub fn new(alloc: Global, graph: &Graph, requested: &[NodeId]) -> Result<Plan, Memory>
+        ensures states { IfOk result (λ plan. AreMet [] plan.states) }
+        ensures halted { IfOk result (λ plan. plan.halted ≡ false) }
+    {
         let mut plan = Plan {
+            states: States::new(alloc),
+            queue: Queue::new(alloc, 0, Vec::new(alloc))?,
+            is_ordered: false,
             tasks: Vec::new(alloc),
             files: Files::new(alloc),
             roots: Vec::new(alloc),
-            order: Vec::new(alloc),
-            is_ordered: false,
             scannable: Marks::new(alloc, 0)?,
-            decidable: Marks::new(alloc, 0)?,
-            running: 0,
             halted: false,
             alloc,
         };
@@ -53,26 +73,40 @@ impl Plan {
     }
 
     /// What is to be done next.
-    pub fn next(&self) -> Want {
-        match self.wanted() {
-            Some(want) if !self.halted => want,
-            _ => match self.running {
-                0 => Want::Rest,
-                _ => Want::Wait,
-            },
+    pub fn next(&self) -> Want
+        ensures decide { (rule : RuleId) → result ≡ Want.Decide rule → IsDecidedNext self.now rule.0 }
+        ensures scan { (rule : RuleId) (node : NodeId) → result ≡ Want.Scan rule node → self.now.halted ≡ false }
+        ensures wait { result ≡ Want.Wait → IsIdle self.now × (0 < count_by is_running self.now.states) }
+        ensures rest { result ≡ Want.Rest → IsIdle self.now × (count_by is_running self.now.states ≡ 0) }
+    {
+        if self.halted {
+            return self.rest();
+        }
+        if let Some((rule, node)) = self.scan_wanted() {
+            return Want::Scan(rule, node);
+        }
+        match self.queue.first() {
+            Some(rule) => Want::Decide(rule),
+            None => self.rest(),
         }
     }
 
-    /// The scan or the decision that can come now.
-    fn wanted(&self) -> Option<Want> {
-        if let Some(number) = self.scannable.first() {
-            let reach = &self.tasks.get(number)?.reach;
-            let node = reach.files.get_index(reach.next)?;
-            let rule = RuleId(u32::try_from(number).ok()?);
-            return Some(Want::Scan(rule, *node));
+    /// Where nothing can be scanned or decided.
+    fn rest(&self) -> Want
+        ensures { result ≡ (if nat_lt 0 (count_by is_running self.now.states) then Want.Wait else Want.Rest) }
+    {
+        match self.states.running() {
+            0 => Want::Rest,
+            _ => Want::Wait,
         }
-        let place = self.decidable.first()?;
-        Some(Want::Decide(*self.order.get(place)?))
+    }
+
+    /// A rule and a file of it that can be scanned now.
+    fn scan_wanted(&self) -> Option<(RuleId, NodeId)> {
+        let number = self.scannable.first()?;
+        let reach = &self.tasks.get(number)?.reach;
+        let node = reach.files.get_index(reach.next)?;
+        Some((RuleId(u32::try_from(number).ok()?), *node))
     }
 
     /// The dependencies of a rule, in order, by the files scanned so far.
@@ -83,52 +117,47 @@ impl Plan {
         }
     }
 
-    /// Takes in what came of a want or of a running rule.
+    /// Takes in what came of a want or of a running rule. An event that is neither changes nothing.
     ///
-    /// The event answers the present want, or ends a running rule, or halts. Where memory is wanting the plan halts.
-    pub fn step(&mut self, graph: &Graph, event: PlanEvent) -> Result<(), Memory> {
+    /// Where memory is wanting the plan halts.
+    pub fn step(&mut self, graph: &Graph, event: PlanEvent) -> Result<(), Memory>
+        ensures states { Goes self.old event self.new.states }
+        ensures onward { GoesOn self.old.states self.new.states }
+        ensures halted { self.new.halted ≡ (self.old.halted || (is_halt event || is_err result)) }
+        ensures memory { is_scan event ≡ false → is_err result ≡ false }
+    {
+        // What the plan keeps is known of its fields alone.
+        let _halted = self.halted;
+        self.take(graph, event)
+    }
+
+    fn take(&mut self, graph: &Graph, event: PlanEvent) -> Result<(), Memory>
+        ensures states { Goes self.old event self.new.states }
+        ensures halted { self.new.halted ≡ (self.old.halted || (is_halt event || is_err result)) }
+        ensures memory { is_scan event ≡ false → is_err result ≡ false }
+    {
         match event {
-            PlanEvent::Scanned(rule, found) => {
-                let taken = self.scanned(graph, rule, found.into_vec());
-                if taken.is_err() {
-                    self.halted = true;
-                }
-                taken
-            }
-            PlanEvent::Fresh(rule) => {
-                self.settle(rule);
-                Ok(())
-            }
-            PlanEvent::Started(rule) => {
-                self.decided(rule, State::Running);
-                self.running = self.running.saturating_add(1);
-                Ok(())
-            }
-            PlanEvent::DoneOk(rule) => {
-                self.running = self.running.saturating_sub(1);
-                self.settle(rule);
-                Ok(())
-            }
-            PlanEvent::DoneFailed(rule) => {
-                self.running = self.running.saturating_sub(1);
-                self.decided(rule, State::Failed);
-                Ok(())
-            }
-            PlanEvent::Absent(rule, _) => {
-                self.decided(rule, State::Lacking);
-                Ok(())
-            }
-            PlanEvent::Halt => {
-                self.halted = true;
-                Ok(())
-            }
+            PlanEvent::Scanned(rule, found) => return self.take_scan(graph, rule, found.into_vec()),
+            PlanEvent::Fresh(rule) => self.take_fresh(rule),
+            PlanEvent::Started(rule) => self.take_decision(rule, RuleState::Running),
+            PlanEvent::DoneOk(rule) => self.take_done(rule),
+            PlanEvent::DoneFailed(rule) => self.take_failed(rule),
+            PlanEvent::Absent(rule, _) => self.take_decision(rule, RuleState::Lacking),
+            PlanEvent::Halt => self.halted = true,
         }
+        Ok(())
     }
 
     /// Rules of which each needs the next, and the last needs the first. There are none exactly where no needed rule
     /// waits for itself, by the files scanned so far.
     pub fn cycle(&self) -> Result<Option<Listing<RuleId>>, Memory> {
-        let cycle = cycle_of(self.alloc, &self.tasks, &self.files, self.roots.as_slice())?;
+        let cycle = cycle_of(
+            self.alloc,
+            &self.states,
+            &self.tasks,
+            &self.files,
+            self.roots.as_slice(),
+        )?;
         Ok(cycle.map(Listing::new))
     }
 

@@ -1,21 +1,87 @@
 //! What the events change.
 
-use crate::marks::Marks;
+ghost use Rattle.std.specs.Prelude.{◌≡◌, ◌||◌, true, is_err, slice_set};
+ghost use Rattle.task_plan.specs.States.{state_of};
+ghost use Rattle.task_plan.specs.Plans.{AreMet, Meets, Stays, decided as decided_of, ended};
+
 use crate::order::depth_first;
 use crate::plan::Plan;
+use crate::queue::Queue;
 use crate::reach::Growth;
-use crate::task::{State, UNNUMBERED};
+use crate::states::RuleState;
 use rule_graph::Graph;
 use scons_base::{Memory, NodeId, RuleId};
 
 impl Plan {
+    /// Takes in what a file includes. Where memory is wanting the plan halts.
+    pub(crate) fn take_scan(
+        &mut self,
+        graph: &Graph,
+        rule: RuleId,
+        found: Vec<NodeId>,
+    ) -> Result<(), Memory>
+        ensures states { AreMet self.old.states self.new.states }
+        ensures halted { self.new.halted ≡ (self.old.halted || is_err result) }
+    {
+        if !self.scannable.contains(rule.0 as usize) {
+            return Ok(());
+        }
+        let taken = self.scanned(graph, rule, found);
+        if taken.is_err() {
+            self.halted = true;
+        }
+        taken
+    }
+
+    /// A rule that could be decided is fresh.
+    pub(crate) fn take_fresh(&mut self, rule: RuleId)
+        ensures states { self.new.states ≡ decided_of self.old rule.0 RuleState.Settled }
+        ensures halted { self.new.halted ≡ self.old.halted }
+    {
+        if self.queue.is_open(rule) {
+            self.settle(rule);
+        }
+    }
+
+    /// A rule that could be decided is in this state, and nothing waits for that.
+    pub(crate) fn take_decision(&mut self, rule: RuleId, state: RuleState)
+        ensures states { self.new.states ≡ decided_of self.old rule.0 state }
+        ensures halted { self.new.halted ≡ self.old.halted }
+    {
+        if self.queue.is_open(rule) {
+            self.decided(rule, state);
+        }
+    }
+
+    /// A running rule has ended well.
+    pub(crate) fn take_done(&mut self, rule: RuleId)
+        ensures states { self.new.states ≡ ended self.old rule.0 RuleState.Settled }
+        ensures halted { self.new.halted ≡ self.old.halted }
+    {
+        if self.states.of(rule) == RuleState::Running {
+            self.settle(rule);
+        }
+    }
+
+    /// A running rule has ended otherwise.
+    pub(crate) fn take_failed(&mut self, rule: RuleId)
+        ensures states { self.new.states ≡ ended self.old rule.0 RuleState.Failed }
+        ensures halted { self.new.halted ≡ self.old.halted }
+    {
+        if self.states.of(rule) == RuleState::Running {
+            self.decided(rule, RuleState::Failed);
+        }
+    }
+
     /// Notes what the file whose scan is wanted includes.
     pub(crate) fn scanned(
         &mut self,
         graph: &Graph,
         rule: RuleId,
         found: Vec<NodeId>,
-    ) -> Result<(), Memory> {
+    ) -> Result<(), Memory>
+        ensures { Meets self.old self.new }
+    {
         self.make_room(graph)?;
         let Some(task) = self.tasks.get_mut(rule.0 as usize) else {
             return Ok(());
@@ -33,7 +99,9 @@ impl Plan {
     }
 
     /// Meets what a scan of a rule's file has found.
-    fn meet_found(&mut self, graph: &Graph, rule: RuleId, growth: &Growth) -> Result<(), Memory> {
+    fn meet_found(&mut self, graph: &Graph, rule: RuleId, growth: &Growth) -> Result<(), Memory>
+        ensures { Meets self.old self.new }
+    {
         let mut needed = Vec::new(self.alloc);
         for node in &growth.new {
             if self.is_found(rule, *node) {
@@ -62,38 +130,35 @@ impl Plan {
     }
 
     /// A rule needs one file more, behind all others. The order stays where the file's rule stands before this one.
-    fn need_also(&mut self, rule: RuleId, node: NodeId) -> Result<(), Memory> {
+    fn need_also(&mut self, rule: RuleId, node: NodeId) -> Result<(), Memory>
+        ensures { self.new ≡ self.old }
+    {
         if self.is_ready(node) {
             return Ok(());
         }
-        if self.number(self.files.rule_of(node)) >= self.number(Some(rule)) {
+        if let Some(needed) = self.files.rule_of(node)
+            && self.queue.number(needed) >= self.queue.number(rule)
+        {
             self.is_ordered = false;
         }
         self.wait_for(node, rule)
     }
 
-    /// The place of a rule in the order.
-    fn number(&self, rule: Option<RuleId>) -> usize {
-        match rule {
-            Some(rule) => match self.tasks.get(rule.0 as usize) {
-                Some(task) => task.number,
-                None => UNNUMBERED,
-            },
-            None => UNNUMBERED,
-        }
-    }
-
     /// A decision about a rule was made: it is no longer among those to be decided.
-    pub(crate) fn decided(&mut self, rule: RuleId, state: State) {
-        if let Some(task) = self.tasks.get_mut(rule.0 as usize) {
-            task.state = state;
-            self.decidable.clear(task.number);
-        }
+    pub(crate) fn decided(&mut self, rule: RuleId, state: RuleState)
+        ensures states { self.new.states ≡ slice_set self.old.states rule.0 state }
+        ensures halted { self.new.halted ≡ self.old.halted }
+    {
+        self.queue.put(rule, false);
+        self.states.set(rule, state);
     }
 
     /// A rule is settled: what waits for its targets waits no longer.
-    pub(crate) fn settle(&mut self, rule: RuleId) {
-        self.decided(rule, State::Settled);
+    pub(crate) fn settle(&mut self, rule: RuleId)
+        ensures states { self.new.states ≡ slice_set self.old.states rule.0 RuleState.Settled }
+        ensures halted { self.new.halted ≡ self.old.halted }
+    {
+        self.decided(rule, RuleState::Settled);
         for place in 0..self.target_count(rule) {
             if let Some(target) = self.target(rule, place) {
                 self.release(target);
@@ -113,7 +178,9 @@ impl Plan {
     }
 
     /// The rules that wait for a file have one need less.
-    fn release(&mut self, node: NodeId) {
+    fn release(&mut self, node: NodeId)
+        ensures { Stays self.old self.new }
+    {
         for place in 0..self.files.waiters(node).len() {
             if let Some(rule) = self.files.waiters(node).get(place).copied() {
                 self.has_need_less(rule, node);
@@ -121,7 +188,9 @@ impl Plan {
         }
     }
 
-    fn has_need_less(&mut self, rule: RuleId, node: NodeId) {
+    fn has_need_less(&mut self, rule: RuleId, node: NodeId)
+        ensures { Stays self.old self.new }
+    {
         if let Some(task) = self.tasks.get_mut(rule.0 as usize) {
             task.unsettled = task.unsettled.saturating_sub(1);
             if let Some(place) = task.reach.files.get_index_of(&node)
@@ -136,34 +205,47 @@ impl Plan {
     }
 
     /// Puts a rule among those to be decided where it can be.
-    fn note_decidable(&mut self, rule: RuleId) {
-        if let Some(task) = self.tasks.get(rule.0 as usize)
-            && task.is_decidable()
-        {
-            self.decidable.set(task.number);
+    fn note_decidable(&mut self, rule: RuleId)
+        ensures { Stays self.old self.new }
+    {
+        if self.is_decidable(rule) {
+            self.queue.put(rule, true);
+        }
+    }
+
+    /// Whether nothing stands before the question if a rule is stale.
+    fn is_decidable(&self, rule: RuleId) -> bool
+        ensures { result ≡ true → state_of self.now.states rule.0 ≡ RuleState.Waiting }
+    {
+        if self.states.of(rule) != RuleState::Waiting {
+            return false;
+        }
+        match self.tasks.get(rule.0 as usize) {
+            Some(task) => task.is_ready(),
+            None => false,
         }
     }
 
     /// Orders the needed rules anew where the order doesn't fit and every file that can be scanned was.
-    pub(crate) fn put_in_order(&mut self) -> Result<(), Memory> {
+    pub(crate) fn put_in_order(&mut self) -> Result<(), Memory>
+        ensures { Stays self.old self.new }
+    {
         if !self.is_ordered && self.scannable.first().is_none() {
             let order = depth_first(self.alloc, &self.tasks, &self.files, self.roots.as_slice())?;
-            self.decidable = Marks::new(self.alloc, order.len())?;
-            self.number_by(order.as_slice());
-            self.order = order;
+            self.queue = Queue::new(self.alloc, self.tasks.len(), order)?;
+            self.note_all();
             self.is_ordered = true;
         }
         Ok(())
     }
 
-    /// Numbers the rules by their order, and marks those that can be decided.
-    fn number_by(&mut self, order: &[RuleId]) {
-        for (number, rule) in order.iter().enumerate() {
-            if let Some(task) = self.tasks.get_mut(rule.0 as usize) {
-                task.number = number;
-                if task.is_decidable() {
-                    self.decidable.set(number);
-                }
+    /// Puts all rules among those to be decided that can be.
+    fn note_all(&mut self)
+        ensures { Stays self.old self.new }
+    {
+        for place in 0..self.queue.len() {
+            if let Some(rule) = self.queue.at(place) {
+                self.note_decidable(rule);
             }
         }
     }

@@ -5,22 +5,8 @@ use indexmap::IndexSet;
 use scons_base::{Memory, NodeId};
 use std::alloc::Global;
 
-/// How far a rule is.
-#[derive(Clone, Copy, Debug, PartialEq, Eq)]
-pub(crate) enum State {
-    /// No requested node needs it, as far as files were scanned.
-    Unneeded,
-    Waiting,
-    Running,
-    Settled,
-    Failed,
-    /// A dependency of it has no rule and is no file.
-    Lacking,
-}
-
 #[derive(Drop)]
 pub(crate) struct Task {
-    pub(crate) state: State,
     pub(crate) targets: Vec<NodeId>,
     /// What has to be settled before it, and is no dependency.
     pub(crate) required: Vec<NodeId>,
@@ -31,30 +17,23 @@ pub(crate) struct Task {
     pub(crate) reach: Reach,
     /// How many of the required files and the dependencies have a rule that isn't settled.
     pub(crate) unsettled: usize,
-    /// Its place in the depth-first order.
-    pub(crate) number: usize,
 }
-
-/// The number of a rule that has no place yet.
-pub(crate) const UNNUMBERED: usize = usize::MAX;
 
 impl Task {
     pub(crate) fn new(alloc: Global) -> Task {
         Task {
-            state: State::Unneeded,
             targets: Vec::new(alloc),
             required: Vec::new(alloc),
             deps: IndexSet::new(alloc),
             named: 0,
             reach: Reach::new(alloc),
             unsettled: 0,
-            number: UNNUMBERED,
         }
     }
 
-    /// Whether nothing stands before the question if the rule is stale.
-    pub(crate) fn is_decidable(&self) -> bool {
-        self.state == State::Waiting && self.unsettled == 0 && self.reach.is_scanned()
+    /// Whether all that it needs is settled, and all its files are scanned.
+    pub(crate) fn is_ready(&self) -> bool {
+        self.unsettled == 0 && self.reach.is_scanned()
     }
 
     /// How many files it needs, the required ones first.

@@ -1,9 +1,10 @@
 -- What a stop leaves is left at every target of a running job, and of each bank.
-use Rattle.std.proofs.Common.{◌≡◌, ◌∙◌, sym, refl, ap, subst, inl, inr, ℕ, suc, zero, List, [], ◌∷◌, arith, Contains, map}
+use Rattle.std.proofs.Common.{◌≡◌, ◌∙◌, sym, refl, ap, subst, inl, inr, ℕ, suc, zero, List, [], ◌∷◌, ◌++◌, arith, Contains, map}
 use Rattle.std.specs.List.{flat_map}
 use Rattle.std.proofs.lemmas.List.Elements.{Contains-append_left, Contains-append_right, Contains-append_cases}
 use Rattle.mem_banks.specs.Past.{one_of}
-use Rattle.world_api.specs.Act.{Given, act}
+use Rattle.std.proofs.lemmas.List.{map-append}
+use Rattle.world_api.specs.Act.{Content, Given, act}
 use Rattle.world_api.specs.Around.{IsRunningTarget}
 use Rattle.world_api.specs.declared.disk.Bank.{Bank}
 use Rattle.world_api.specs.declared.disk.Bank.TheVariants.{A, B}
@@ -27,6 +28,11 @@ from_flat f (x ∷ xs) path h = elim (Contains-append_cases (f x) (flat_map f xs
   | inr later ↦ let found = from_flat f xs path later in (found.0, (suc found.1.0, omega (arith, found.1.1), found.1.2), found.2)
 ]
 
+names_flat : (running : List RunningJob) → names (flat_map (λ (run : RunningJob). run.made) running) ≡ flat_map (λ (run : RunningJob). names run.made) running
+names_flat [] = refl
+names_flat (run ∷ rest) =
+    map-append (λ (entry : List ℕ × Content). entry.0) run.made (flat_map (λ (run : RunningJob). run.made) rest) ∙ ap (λ (paths : List (List ℕ)). names run.made ++ paths) (names_flat rest)
+
 made_at : (rows : List ActRow) (run : RunningJob) → run.made ≡ makes rows run.job run.given → names run.made ≡ run.job.targets
 made_at rows run planned =
     ap names planned
@@ -34,19 +40,19 @@ made_at rows run planned =
 
 pub covers : (rows : List ActRow) (running : List RunningJob) (given : Given)
     → ((run : RunningJob) → Contains running run → run.made ≡ makes rows run.job run.given)
-    → names given ≡ flat_map (λ (run : RunningJob). names run.made) running → Cover running given
+    → names given ≡ names (flat_map (λ (run : RunningJob). run.made) running) → Cover running given
 covers rows running given planned are run path here own =
     let made : names run.made ≡ run.job.targets = made_at rows run (planned run here) in
     let in_made : Contains (names run.made) path = subst (λ (ns : List (List ℕ)). Contains ns path) (sym made) own in
-    subst (λ (ns : List (List ℕ)). Contains ns path) (sym are) (in_flat (λ (run : RunningJob). names run.made) running run path here in_made)
+    subst (λ (ns : List (List ℕ)). Contains ns path) (sym (are ∙ names_flat running)) (in_flat (λ (run : RunningJob). names run.made) running run path here in_made)
 
 -- and at nothing else
 pub only_targets : (rows : List ActRow) (running : List RunningJob) (given : Given)
     → ((run : RunningJob) → Contains running run → run.made ≡ makes rows run.job run.given)
-    → names given ≡ flat_map (λ (run : RunningJob). names run.made) running
+    → names given ≡ names (flat_map (λ (run : RunningJob). run.made) running)
     → (path : List ℕ) → Contains (names given) path → IsRunningTarget (map running_of running) path
 only_targets rows running given planned are path h =
-    let found = from_flat (λ (run : RunningJob). names run.made) running path (subst (λ (ns : List (List ℕ)). Contains ns path) are h) in
+    let found = from_flat (λ (run : RunningJob). names run.made) running path (subst (λ (ns : List (List ℕ)). Contains ns path) (are ∙ names_flat running) h) in
     let own : Contains found.0.job.targets path = subst (λ (ns : List (List ℕ)). Contains ns path) (made_at rows found.0 (planned found.0 found.1)) found.2 in
     (running_of found.0, contains_map running_of running found.0 found.1, own)
 

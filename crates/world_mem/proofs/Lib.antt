@@ -12,9 +12,13 @@ pub mod Plain
 pub mod Unmade
 pub mod Idle
 pub mod LeftTargets
+pub mod LeftOver
 pub mod Raised
 pub mod Fresh
 pub mod Backs
 pub mod Passing
 pub mod Writes
 pub mod Listing
+pub mod FilesOf
+pub mod Started
+pub mod Anew

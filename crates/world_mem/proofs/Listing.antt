@@ -35,7 +35,7 @@ names_in dir (e ∷ es) = name_in dir (file_of (Some e.1)) ++ names_in dir es
 abbrev pub AreKeyed : List Entry → Type 0
 AreKeyed es = (e : Entry) (file : File) → Contains es e → file_of (Some e.1) ≡ Some file → file.name ≡ e.0.items
 
-later : {X : Type 0} (x y : X) (xs : List X) → Contains xs y → Contains (x ∷ xs) y
+pub later : {X : Type 0} (x y : X) (xs : List X) → Contains xs y → Contains (x ∷ xs) y
 later x y xs h = (suc h.0, omega (arith, h.1), h.2)
 
 -- a path is that of a file, which lies directly in a directory
@@ -83,7 +83,7 @@ names_of dir (x ∷ xs) e file (suc k, lt, at) is here =
     append_right [] ys y h = h
     append_right (x ∷ xs) ys y h = later x y (xs ++ ys) (append_right xs ys y h)
 
-less_of : (first : Vec ℕ) (es : List Entry) (e : Entry) → AllByRecursion (λ k. key_cmp first k ≡ Less) (keys_of es) → Contains es e → key_cmp first e.0 ≡ Less
+pub less_of : (first : Vec ℕ) (es : List Entry) (e : Entry) → AllByRecursion (λ k. key_cmp first k ≡ Less) (keys_of es) → Contains es e → key_cmp first e.0 ≡ Less
 less_of first [] e all h = absurd (let lt : h.0 < 0 = h.1 in omega (arith, lt))
 less_of first (x ∷ xs) e all (zero, lt, at) = subst (λ (e : Entry). key_cmp first e.0 ≡ Less) at all.0
 less_of first (x ∷ xs) e all (suc k, lt, at) = less_of first xs e all.1 (k, omega (arith, lt), at)
@@ -113,7 +113,7 @@ names_once dir (e ∷ es) sorted keyed =
     less_apart e.0 found.0.0 (less_of e.0 es found.0 (sorted_head key_cmp e.0 (keys_of es) sorted) found.1) keys)
     (names_once dir es (sorted_tail key_cmp e.0 (keys_of es) sorted) (λ x file h is. keyed x file (later e x es h) is))
 
-lookup_in : (test : Vec ℕ → Bool) (es : List Entry) (slot : Slot) → lookup test es ≡ Some slot → (e : Entry) × Contains es e × (e.1 ≡ slot)
+pub lookup_in : (test : Vec ℕ → Bool) (es : List Entry) (slot : Slot) → lookup test es ≡ Some slot → (e : Entry) × Contains es e × (e.1 ≡ slot)
 lookup_in test [] slot h = absurd (let x : None ≡ Some slot = h in cc x)
 lookup_in test (e ∷ es) slot h = elim (cases_Bool (test e.0)) [
   | inl y ↦ (e, (0, omega arith, refl), let x : Some e.1 ≡ Some slot = sym (ap (λ b. cond b (Some e.1) (lookup test es)) y) ∙ h in cc x)
@@ -130,7 +130,7 @@ file_some (Some slot) h = let file = some_file (file_of (Some slot)) h in (slot,
 
 -- the files of a map whose names are its keys
 module _ (slots : Slots) (named : (path : List ℕ) (file : File) → file_of (slot_at slots path) ≡ Some file → file.name ≡ path) (found : All (λ (e : Entry). slot_at slots e.0.items ≡ Some e.1) slots.slots.entries) where
-  found_at : (e : Entry) → Contains slots.slots.entries e → slot_at slots e.0.items ≡ Some e.1
+  pub found_at : (e : Entry) → Contains slots.slots.entries e → slot_at slots e.0.items ≡ Some e.1
   found_at e h = subst (λ (e : Entry). slot_at slots e.0.items ≡ Some e.1) h.2 (found h.0 e h.1)
 
   pub keyed : AreKeyed slots.slots.entries

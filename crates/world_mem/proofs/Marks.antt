@@ -21,7 +21,7 @@ in_front x xs path e = (0, omega arith, e)
 pub behind : (x : List ℕ) (xs : List (List ℕ)) (path : List ℕ) → Contains xs path → Contains (x ∷ xs) path
 behind x xs path h = (suc h.0, omega (arith, h.1), h.2)
 
-written_off_if : (b : Bool) (slot : Slot) (old : Option Slot) → (b ≡ true → ⊥) → cond b (option_map (λ _. slot) old) old ≡ old
+pub written_off_if : (b : Bool) (slot : Slot) (old : Option Slot) → (b ≡ true → ⊥) → cond b (option_map (λ _. slot) old) old ≡ old
 written_off_if true slot old h = absurd (h refl)
 written_off_if false slot old h = refl
 
@@ -42,7 +42,7 @@ marked-again : (targets : List (List ℕ)) (slot : Slot) (path : List ℕ) → m
 marked-again [] slot path = refl
 marked-again (x ∷ xs) slot path = ap (marked xs slot path) (written_same (bytes_eq x path) slot) ∙ marked-again xs slot path
 
-written_on_if : (b : Bool) (slot : Slot) (old : Option Slot) → b ≡ true → IsSome old → cond b (option_map (λ _. slot) old) old ≡ Some slot
+pub written_on_if : (b : Bool) (slot : Slot) (old : Option Slot) → b ≡ true → IsSome old → cond b (option_map (λ _. slot) old) old ≡ Some slot
 written_on_if true slot None e h = absurd (cc)
 written_on_if true slot (Some x) e h = refl
 written_on_if false slot old e h = absurd (cc)
@@ -75,7 +75,7 @@ settled-off stamp (x ∷ xs) path old off =
     written_off x.0 (Settled (file_with stamp x.0 x.1)) path (settled stamp xs path old) (λ e. off (in_front x.0 (map (λ entry. entry.0) xs) path e))
     ∙ settled-off stamp xs path old (λ h. off (behind x.0 (map (λ entry. entry.0) xs) path h))
 
-settled-some : (stamp : ℕ) (made : Given) (path : List ℕ) (old : Option Slot) → IsSome old → IsSome (settled stamp made path old)
+pub settled-some : (stamp : ℕ) (made : Given) (path : List ℕ) (old : Option Slot) → IsSome old → IsSome (settled stamp made path old)
 settled-some stamp [] path old h = h
 settled-some stamp (x ∷ xs) path old h = still_some (bytes_eq x.0 path) (Settled (file_with stamp x.0 x.1)) (settled stamp xs path old) (settled-some stamp xs path old h)
 

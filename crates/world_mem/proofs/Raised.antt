@@ -1,11 +1,11 @@
 -- Directories that come to stand.
-use Rattle.std.proofs.Common.{◌≡◌, ◌∙◌, ◌⊎◌, ◌↔◌, sym, refl, ap, inl, inr, ℕ, List, [], ◌∷◌, ◌++◌, ◌<◌, Bool, true, false, cond, not, ◌||◌, ◌&&◌, Option, IsSome, Contains, length, take, drop, get_or}
+use Rattle.std.proofs.Common.{◌≡◌, ◌∙◌, ◌⊎◌, ◌↔◌, sym, refl, ap, inl, inr, ℕ, suc, zero, arith, subst, ◌+◌, List, [], ◌∷◌, ◌++◌, ◌<◌, Bool, true, false, cond, not, ◌||◌, ◌&&◌, Option, IsSome, Contains, length, take, drop, get_or}
 use Rattle.std.specs.List.{starts_with}
 use Rattle.std.specs.Str.{bytes_eq}
 use Rattle.std.specs.Cmp.Lexicographic.{bytes_decides}
 use Rattle.std.proofs.lemmas.Bool.{cases_Bool}
 use Rattle.std.proofs.lemmas.Bool.Decides.{Decides-eqb}
-use Rattle.std.proofs.lemmas.List.{take-append-drop}
+use Rattle.std.proofs.lemmas.List.{take-append-drop, take_more}
 use Rattle.std.proofs.lemmas.Map.Views.{Contains-from_any}
 use Rattle.std.proofs.Math.Seq.{drop-append_seam}
 use Rattle.scons_base.specs.Normal.{is_top, is_root}
@@ -14,7 +14,8 @@ use Rattle.scons_base.specs.Parts.{is_absolute, is_below, lies_in}
 use Rattle.world_api.specs.Calls.{GainsDirs}
 use Rattle.world_api.specs.declared.job.Job.{Job}
 use Rattle.world_mem.specs.declared.dirs.Dirs.{Dirs}
-use Rattle.world_mem.specs.Blocked.{LiesBelow}
+use Rattle.std.proofs.lemmas.List.Elements.{Contains-append_cases, Contains-append_left, Contains-push}
+use Rattle.world_mem.specs.Blocked.{LiesBelow, HasBelow, HasFile}
 use Rattle.world_mem.specs.InSlots.{slot_at, holds_live, marked}
 use Rattle.world_mem.specs.Standing.{is_always, is_dir, is_in}
 use Rattle.world_mem.specs.declared.slots.Slot.{Slot}
@@ -147,3 +148,44 @@ gained_dirs job fresh old new always raised each d = elim (cases_Bool (is_in fre
 -- what doesn't stand is none that stands always
 pub not_always : (dirs : Dirs) (d : List ℕ) → is_dir dirs d ≡ false → is_always d ≡ false
 not_always dirs d h = not_left (is_always d) (holds_live (slot_at dirs.slots d)) h
+
+-- directories that come to stand above a file
+pub edited_dirs : (path : List ℕ) (fresh : List (List ℕ)) (old new : List ℕ → Bool) → ((d : List ℕ) → new d ≡ (is_in fresh d || old d))
+    → ((d : List ℕ) → Contains fresh d ↔ (LiesBelow path d × (old d ≡ false))) → (d : List ℕ) → (new d ≡ true) ↔ ((old d ≡ true) ⊎ LiesBelow path d)
+edited_dirs path fresh old new raised each d = (
+  λ y. elim (or_cases (is_in fresh d) (old d) (sym (raised d) ∙ y)) [
+    | inl h ↦ inr ((each d).0 (in_list fresh d h)).0
+    | inr h ↦ inl h
+  ],
+  λ h. raised d ∙ elim h [
+    | inl y ↦ or_right (is_in fresh d) (old d) y
+    | inr below ↦ elim (cases_Bool (old d)) [
+      | inl y ↦ or_right (is_in fresh d) (old d) y
+      | inr n ↦ or_left (is_in fresh d) (old d) (list_in fresh d ((each d).1 (below, n)))
+    ]
+  ],
+)
+
+-- the first files, and one more: what lies above one of them
+pub below_more : (files : List (List ℕ × List ℕ)) (k : ℕ) (file : List ℕ × List ℕ) (dir : List ℕ) → k < length files → get_or files k file ≡ file
+    → HasBelow (HasFile (take (k + 1) files)) dir ↔ (HasBelow (HasFile (take k files)) dir ⊎ LiesBelow file.0 dir)
+below_more files k file dir lt is =
+    let more : take (k + 1) files ≡ take k files ++ file ∷ [] = take_more files k file lt ∙ ap (λ (f : List ℕ × List ℕ). take k files ++ f ∷ []) is in (
+      λ h. elim (Contains-append_cases (take k files) (file ∷ []) (h.0, h.1.0) (subst (λ (l : List (List ℕ × List ℕ)). Contains l (h.0, h.1.0)) more h.1.1)) [
+        | inl before ↦ inl (h.0, (h.1.0, before), h.2)
+        | inr this ↦ inr (subst (λ (path : List ℕ). LiesBelow path dir) (ap (λ (f : List ℕ × List ℕ). f.0) (sym (the_one file (h.0, h.1.0) this))) h.2)
+      ],
+      λ h. elim h [
+        | inl before ↦ (before.0, (before.1.0, subst (λ (l : List (List ℕ × List ℕ)). Contains l (before.0, before.1.0)) (sym more) (Contains-append_left (take k files) (file ∷ []) (before.0, before.1.0) before.1.1)), before.2)
+        | inr below ↦ (file.0, (file.1, subst (λ (l : List (List ℕ × List ℕ)). Contains l file) (sym more) (Contains-push (take k files) file)), below)
+      ],
+    )
+  where
+    the_one : (x y : List ℕ × List ℕ) → Contains (x ∷ []) y → x ≡ y
+    the_one x y (zero, lt, at) = at
+    the_one x y (suc n, lt, at) = absurd (omega (arith, lt))
+
+-- none of no files lies below a directory
+pub below_none : (files : List (List ℕ × List ℕ)) (dir : List ℕ) → HasBelow (HasFile (take 0 files)) dir → ⊥
+below_none [] dir h = omega (arith, h.1.1.1)
+below_none (file ∷ files) dir h = omega (arith, h.1.1.1)

@@ -11,10 +11,13 @@ pub mod Kept
 pub mod AsAround
 pub mod Held
 pub mod Left
+pub mod ByHand
+pub mod Files
 pub mod Undone
 pub mod Past
 pub mod AsCourse
 pub mod Means
+pub mod Stays
 pub mod Room
 pub mod Laws
 pub mod Waits

@@ -1,5 +1,5 @@
 //! Which directories stand.
-ghost use Rattle.std.specs.Prelude.{◌≡◌, ◌⊎◌, ◌||◌, ◌↔◌, ◌<◌, List, ℕ, false, IsSome, IfOk, OnOk, Contains, length};
+ghost use Rattle.std.specs.Prelude.{◌≡◌, ◌⊎◌, ◌||◌, ◌↔◌, ◌<◌, IsTrue, List, ℕ, false, IsSome, IfOk, OnOk, Contains, length};
 ghost use Rattle.std.specs.List.{slice_index_or};
 ghost use Rattle.world_mem.specs.Blocked.{LiesBelow};
 ghost use Rattle.world_mem.specs.InSlots.{slot_at};
@@ -67,6 +67,17 @@ impl Dirs {
             return Ok(());
         }
         fresh.push(path_of(alloc, dir)?)
+    }
+
+    /// Lets those above a path stand.
+    pub fn raise_above(&mut self, alloc: Global, path: &PathText) -> Result<(), Memory>
+        ensures { OnOk result ((dir : List ℕ) → IsTrue (is_dir self.new dir) ↔ (IsTrue (is_dir self.old dir) ⊎ LiesBelow path.now dir)) }
+    {
+        let mut fresh = Paths::new(Vec::new(alloc));
+        self.missing_above(alloc, path, &mut fresh)?;
+        self.make_places(alloc, &fresh)?;
+        self.raise(&fresh);
+        Ok(())
     }
 
     /// Makes a place for each of these.

@@ -10,12 +10,15 @@ use world_api::{Bank, Disk, Fault};
 impl Disk for MemWorld {
     ghost use Rattle.std.specs.Prelude.{◌⊎◌, OnOk, OnErr};
     ghost use Rattle.world_api.specs.Causes.{DiskFails};
-    ghost use Rattle.world_api.specs.Meaning.{IsSettled, Told, Recalls, BanksKept, Throughout, AtEither};
+    ghost use Rattle.std.specs.Prelude.{◌≢◌, ◌^◌, ℕ, List, slice_range, IfOk};
+    ghost use Rattle.world_api.specs.Around.{Around};
+    ghost use Rattle.world_api.specs.Banks.{Banks, Holds, Torn, Follows};
+    ghost use Rattle.world_api.specs.Meaning.{IsImage, IsSettled, Told, Recalls, BankKept, BanksKept, Throughout, AtEither};
     ghost use Rattle.world_mem.specs.CallCounts.{Fails, counted};
     ghost use Rattle.world_mem.specs.Kept.{disk_fault};
     ghost use Rattle.world_mem.specs.Laws.{reads_as_of, counts_now_of, only_now_of};
     ghost use Rattle.world_mem.specs.Means.{world_meaning};
-    ghost use Rattle.world_mem.specs.Room.{recorded};
+    ghost use Rattle.world_mem.specs.Room.{recorded, HasRoom};
     ghost use Rattle.world_mem.specs.Waits.{Keeps};
     ghost use Rattle.world_mem.specs.declared.calls.Call.{Call};
 
@@ -27,7 +30,21 @@ impl Disk for MemWorld {
 
     ghost only_now = { λ w told around banks left. only_now_of w around banks left };
 
-    fn size(&mut self, bank: Bank) -> Result<u64, Fault> {
+    fn size(&mut self, bank: Bank) -> Result<u64, Fault>
+        ensures size { world_meaning.tells self.new → IfOk result (λ size. size ≡ length (world_meaning.seen self.new bank)) }
+        ensures banks { world_meaning.tells self.new → BanksKept world_meaning self.old self.new }
+        ensures around { world_meaning.tells self.new → world_meaning.around self.new ≡ world_meaning.around self.old }
+        ensures told { Told world_meaning self.old self.new }
+        ensures recalls { Recalls world_meaning self.old self.new }
+        ensures time { Throughout world_meaning self.old self.new (AtEither world_meaning self.old self.new) }
+        ensures kept { OnOk result (world_meaning.counts self.new ≡ world_meaning.counts self.old) }
+        ensures rose { OnErr result (DiskFails (world_meaning.counts self.old) (world_meaning.counts self.new)) }
+        ensures once { OnErr result (world_meaning.counts self.new ≡ disk_fault (world_meaning.counts self.old)) }
+        ensures fails { OnErr result (Fails Call.Size self.old.calls) }
+        ensures goes { OnOk result (Fails Call.Size self.old.calls → ⊥) }
+        ensures counted { self.new.calls ≡ counted Call.Size self.old.calls }
+        ensures keeps { Keeps self.old self.new }
+    {
         if self.calls.next(Call::Size) != Verdict::Goes {
             self.faults.disk = self.faults.disk.saturating_add(1);
             return Err(Fault);
@@ -35,7 +52,22 @@ impl Disk for MemWorld {
         Ok(self.banks.bytes(bank).len() as u64)
     }
 
-    fn read_at(&mut self, bank: Bank, place: u64, into: &mut [u8]) -> Result<(), Fault> {
+    fn read_at(&mut self, bank: Bank, place: u64, into: &mut [u8]) -> Result<(), Fault>
+        requires { world_meaning.tells self.old → place + length into.old ≤ length (world_meaning.seen self.old bank) }
+        ensures read { world_meaning.tells self.new → OnOk result (into.new ≡ slice_range (world_meaning.seen self.new bank) place (place + length into.old)) }
+        ensures banks { world_meaning.tells self.new → BanksKept world_meaning self.old self.new }
+        ensures around { world_meaning.tells self.new → world_meaning.around self.new ≡ world_meaning.around self.old }
+        ensures told { Told world_meaning self.old self.new }
+        ensures recalls { Recalls world_meaning self.old self.new }
+        ensures time { Throughout world_meaning self.old self.new (AtEither world_meaning self.old self.new) }
+        ensures kept { OnOk result (world_meaning.counts self.new ≡ world_meaning.counts self.old) }
+        ensures rose { OnErr result (DiskFails (world_meaning.counts self.old) (world_meaning.counts self.new)) }
+        ensures once { OnErr result (world_meaning.counts self.new ≡ disk_fault (world_meaning.counts self.old)) }
+        ensures fails { OnErr result (Fails Call.ReadAt self.old.calls) }
+        ensures goes { OnOk result (Fails Call.ReadAt self.old.calls → ⊥) }
+        ensures counted { self.new.calls ≡ counted Call.ReadAt self.old.calls }
+        ensures keeps { Keeps self.old self.new }
+    {
         if self.calls.next(Call::ReadAt) != Verdict::Goes {
             self.faults.disk = self.faults.disk.saturating_add(1);
             return Err(Fault);
@@ -47,7 +79,25 @@ impl Disk for MemWorld {
     }
 
     /// Writes all bytes. Where the call is listed as one that fails it writes the first half of them.
-    fn write_at(&mut self, bank: Bank, place: u64, bytes: &[u8]) -> Result<(), Fault> {
+    fn write_at(&mut self, bank: Bank, place: u64, bytes: &[u8]) -> Result<(), Fault>
+        requires within { world_meaning.tells self.old → place ≤ length (world_meaning.seen self.old bank) }
+        requires small { place + length bytes.now ≤ 2 ^ 41 }
+        ensures written { world_meaning.tells self.new → OnOk result (Holds (world_meaning.seen self.old bank) place bytes.now (world_meaning.seen self.new bank)) }
+        ensures cut { world_meaning.tells self.new → OnErr result (Torn place (length bytes.now) (world_meaning.seen self.old bank) (world_meaning.seen self.new bank)) }
+        ensures image { world_meaning.tells self.new → Follows (Torn place (length bytes.now)) (world_meaning.image self.old bank) (world_meaning.image self.new bank) }
+        ensures other { world_meaning.tells self.new → (other : Bank) → other ≢ bank → BankKept world_meaning other self.old self.new }
+        ensures around { world_meaning.tells self.new → world_meaning.around self.new ≡ world_meaning.around self.old }
+        ensures told { Told world_meaning self.old self.new }
+        ensures recalls { Recalls world_meaning self.old self.new }
+        ensures time { Throughout world_meaning self.old self.new (AtEither world_meaning self.old self.new) }
+        ensures kept { OnOk result (world_meaning.counts self.new ≡ world_meaning.counts self.old) }
+        ensures rose { OnErr result (DiskFails (world_meaning.counts self.old) (world_meaning.counts self.new)) }
+        ensures once { OnErr result (world_meaning.counts self.new ≡ disk_fault (world_meaning.counts self.old)) }
+        ensures fails { OnErr result (Fails Call.WriteAt self.old.calls ⊎ (HasRoom self.old place (length bytes.now) → ⊥)) }
+        ensures goes { OnOk result (Fails Call.WriteAt self.old.calls → ⊥) }
+        ensures counted { self.new.calls ≡ counted Call.WriteAt self.old.calls }
+        ensures keeps { Keeps self.old self.new }
+    {
         let verdict = self.calls.next(Call::WriteAt);
         if verdict == Verdict::Goes && bytes.is_empty() {
             return Ok(());

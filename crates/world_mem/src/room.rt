@@ -58,6 +58,7 @@ pub fn widen_all(
     ensures met_len { vec_len met.new ≡ vec_len met.old }
     ensures met_capacity { vec_capacity met.old ≤ vec_capacity met.new }
     ensures met_room { OnOk result (vec_len met.new + (vec_len running.new + 1) ≤ vec_capacity met.new) }
+    ensures jobs { jobs.new.items ≡ jobs.old.items }
     ensures job_room { OnOk result (vec_len jobs.new + 1 ≤ vec_capacity jobs.new) }
     ensures running { running.new.items ≡ running.old.items }
     ensures running_len { vec_len running.new ≡ vec_len running.old }

@@ -5,6 +5,7 @@ ghost use Rattle.std.specs.List.{slice_index_or};
 ghost use Rattle.std.specs.Str.{bytes_eq};
 ghost use Rattle.scons_base.specs.Parts.{dir_of};
 ghost use Rattle.world_mem.specs.Blocked.{LiesBelow, HasAbove, HasBelow, IsBlocked, IsRefused, IsFirstRefused};
+ghost use Rattle.world_mem.specs.Files.{AreFiles, file_in};
 ghost use Rattle.world_mem.specs.InSlots.{slot_at, file_of, file_with, content_of, mark_of, file_at, name_in, written, emptied, taken, marked, settled, Stands, is_live, holds_live};
 ghost use Rattle.world_mem.specs.declared.refusal.NewRefusal.{NewRefusal};
 ghost use Rattle.world_mem.specs.declared.slots.File.{File};
@@ -92,12 +93,13 @@ impl Slots {
     }
 
     /// All files.
-    pub fn files(&self, alloc: Global) -> Result<Listing<(PathText, Blob)>, Memory> {
+    pub fn files(&self, alloc: Global) -> Result<Listing<(PathText, Blob)>, Memory>
+        requires { (path : List ℕ) (file : File) → file_of (slot_at self.now path) ≡ Some file → file.name ≡ path }
+        ensures { IfOk result (AreFiles (λ path. content_of (slot_at self.now path))) }
+    {
         let mut files = Listing::empty(alloc);
         for (_, slot) in &self.slots {
-            if let Slot::Settled(Some(file)) = slot {
-                files.push((file.name.copy()?, file.bytes.copy()?))?;
-            }
+            add_file(slot, &mut files)?;
         }
         Ok(files)
     }
@@ -300,6 +302,16 @@ fn add_name(slot: &Slot, dir: &PathText, paths: &mut Paths) -> Result<(), Memory
         return Ok(());
     }
     paths.push(file.name.copy()?)
+}
+
+/// Adds the file in a slot.
+fn add_file(slot: &Slot, files: &mut Listing<(PathText, Blob)>) -> Result<(), Memory>
+    ensures { OnOk result (files.new ≡ files.old ++ file_in (file_of (Some slot.now))) }
+{
+    let Slot::Settled(Some(file)) = slot else {
+        return Ok(());
+    };
+    files.push((file.name.copy()?, file.bytes.copy()?))
 }
 
 /// A file with these bytes.

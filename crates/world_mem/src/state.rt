@@ -4,8 +4,12 @@ ghost use Rattle.std.specs.List.{slice_index_or, list_any};
 ghost use Rattle.std.specs.Str.{bytes_eq};
 ghost use Rattle.std.specs.Vec.{vec_capacity};
 ghost use Rattle.world_mem.specs.InSlots.{slot_at, file_of, content_of, mark_of, file_at};
-ghost use Rattle.world_mem.specs.Kept.{met_of, contents_in, IdsApart, is_target};
+ghost use Rattle.world_api.specs.Around.{started_of};
+ghost use Rattle.world_mem.specs.Kept.{met_of, contents_in, entry_of, IdsApart, is_target};
+ghost use Rattle.std.specs.Prelude.{◌↔◌, ◌⊎◌, OnOk};
+ghost use Rattle.world_mem.specs.Blocked.{HasBelow, HasFile};
 ghost use Rattle.world_mem.specs.Planned.{makes, ends};
+ghost use Rattle.world_mem.specs.Standing.{is_dir};
 ghost use Rattle.world_mem.specs.declared.running.RunningJob.{RunningJob};
 ghost use Rattle.world_mem.specs.declared.slots.File.{File};
 ghost use Rattle.world_mem.specs.declared.slots.Slot.TheVariants as slot;
@@ -57,6 +61,7 @@ pub struct State {
     ghost ending: { (run : RunningJob) → Contains running.items run → run.outcome ≡ ends table run.job run.given },
     ghost held: { (path bytes : List ℕ) → content_of (slot_at slots path) ≡ Some bytes → IsTrue (list_any (bytes_eq bytes) (met_of met.items)) },
     ghost named: { (path : List ℕ) (file : File) → file_of (slot_at slots path) ≡ Some file → file.name ≡ path },
+    ghost started: { jobs.items ≡ started_of (map entry_of log.items) },
 }
 
 /// What a job that is to run is entered with.
@@ -69,7 +74,7 @@ pub struct Entering {
 }
 
 impl State {
-    ghost use Rattle.std.specs.Prelude.{◌++◌, ◌↔◌, ◌⊎◌, ◌||◌, if◌then◌else◌, OnOk, OnErr, IsSome, None, false, unwrap_or, codes};
+    ghost use Rattle.std.specs.Prelude.{◌++◌, ◌||◌, if◌then◌else◌, OnErr, IsSome, None, false, unwrap_or, codes};
     ghost use Rattle.std.specs.Option.{option_copied};
     ghost use Rattle.world_api.specs.Around.{IsUnused, IsRunningTarget, Running, given_of};
     ghost use Rattle.world_api.specs.Calls.{Asks, MakesDir, Removes, CanStart, Starts, Ends};
@@ -77,10 +82,12 @@ impl State {
     ghost use Rattle.world_mem.specs.AsAround.{around_of};
     ghost use Rattle.world_mem.specs.AsCourse.{course_of};
     ghost use Rattle.world_mem.specs.Blocked.{AreBlocked, IsBarred, IsInTheWay, IsRefused, IsFirstRefused, LiesBelow};
+    ghost use Rattle.world_mem.specs.Standing.{is_always, is_in};
     ghost use Rattle.world_mem.specs.declared.refusal.NewRefusal.{NewRefusal};
+    ghost use Rattle.world_mem.specs.ByHand.{Edits, Loses};
+    ghost use Rattle.world_mem.specs.InSlots.{settled};
     ghost use Rattle.world_mem.specs.Kept.{counts_of};
     ghost use Rattle.world_mem.specs.Past.{before};
-    ghost use Rattle.world_mem.specs.Standing.{is_dir, is_in};
     ghost use Rattle.world_mem.specs.Table.{law_of};
 
     pub fn new(
@@ -89,6 +96,7 @@ impl State {
         table: ActTable,
     ) -> Result<State, NewRefusal>
         ensures tree { IfOk result (λ state. (path : List ℕ) → (around_of state).tree path ≡ file_at files.now path) }
+        ensures dirs { IfOk result (λ state. (dir : List ℕ) → IsTrue ((around_of state).dirs dir) ↔ (IsTrue (is_always dir) ⊎ HasBelow (HasFile files.now) dir)) }
         ensures running { IfOk result (λ state. (around_of state).running ≡ []) }
         ensures none { IfOk result (λ state. vec_len state.running ≡ 0) }
         ensures log { IfOk result (λ state. (around_of state).log ≡ []) }
@@ -218,8 +226,7 @@ impl State {
 
     /// Removes a file. The past does not tell of it.
     pub fn lose(&mut self, path: &PathText)
-        ensures gone { (around_of self.new).tree path.now ≡ None }
-        ensures others { (other : List ℕ) → other ≢ path.now → (around_of self.new).tree other ≡ (around_of self.old).tree other }
+        ensures lost { Loses path.now (around_of self.old) (around_of self.new) }
         ensures removals { self.new.removals ≡ self.old.removals }
         ensures running { vec_len self.new.running ≡ vec_len self.old.running }
     {
@@ -270,6 +277,7 @@ impl State {
         ensures gains { IfOk result (λ e. e.run.gained ≡ length (contents_in e.run.made)) }
         ensures outcome { IfOk result (λ e. e.run.outcome ≡ ends self.now.table job e.run.given) }
         ensures event { IfOk result (λ e. e.event ≡ Event.Started job faults) }
+        ensures started { IfOk result (λ e. e.job ≡ job) }
         ensures dirs { IfOk result (λ e. (dir : List ℕ) → Contains e.dirs dir ↔ (((target : List ℕ) × Contains job.targets target × LiesBelow target dir) × (is_dir self.now.dirs dir ≡ false))) }
     {
         let event = Event::Started(job.copy(alloc)?, faults);
@@ -398,6 +406,7 @@ impl State {
         requires places { (k : ℕ) (d : List ℕ) → k < length entering.run.job.targets → IsSome (slot_at self.old.slots (slice_index_or entering.run.job.targets k d)) }
         requires fresh { (k : ℕ) (d : List ℕ) → k < length entering.dirs → IsSome (slot_at self.old.dirs.slots (slice_index_or entering.dirs k d)) }
         requires absent { (dir : List ℕ) → Contains entering.dirs dir → is_dir self.old.dirs dir ≡ false }
+        requires started { started_of (entry_of entering.event ∷ []) ≡ entering.job ∷ [] }
         requires log_room { vec_len self.old.log + vec_len self.old.running + 2 ≤ vec_capacity self.old.log }
         requires met_room { vec_len self.old.met + vec_len self.old.running + 1 ≤ vec_capacity self.old.met }
         requires run_room { vec_len self.old.running + 1 ≤ vec_capacity self.old.running }
@@ -484,11 +493,11 @@ impl State {
     /// Sets the bytes of a file that no running job makes.
     pub fn edit(&mut self, alloc: Global, path: &PathText, bytes: &[u8]) -> Result<(), Memory>
         requires { IsRunningTarget (around_of self.old).running path.now → ⊥ }
-        ensures file { OnOk result ((around_of self.new).tree path.now ≡ Some bytes.now) }
-        ensures others { (other : List ℕ) → other ≢ path.now → (around_of self.new).tree other ≡ (around_of self.old).tree other }
-        ensures same { OnErr result ((other : List ℕ) → (around_of self.new).tree other ≡ (around_of self.old).tree other) }
+        ensures edited { OnOk result (Edits path.now bytes.now (around_of self.old) (around_of self.new)) }
+        ensures same { OnErr result (course_of self.new ≡ course_of self.old) }
         ensures removals { self.new.removals ≡ self.old.removals }
         ensures jobs { vec_len self.new.running ≡ vec_len self.old.running }
+        ensures table { self.new.table ≡ self.old.table }
     {
         let stamp = self.stamp.saturating_add(1);
         let file = file_of(alloc, path, bytes, stamp)?;
@@ -504,10 +513,14 @@ impl State {
     }
 
     /// Takes the room for one group more that is met.
-    fn widen_met(&mut self) -> Result<(), Memory>
+    pub(crate) fn widen_met(&mut self) -> Result<(), Memory>
+        ensures course { course_of self.new ≡ course_of self.old }
         ensures running { self.new.running ≡ self.old.running }
         ensures slots { self.new.slots ≡ self.old.slots }
         ensures dirs { self.new.dirs ≡ self.old.dirs }
+        ensures met { self.new.met.items ≡ self.old.met.items }
+        ensures table { self.new.table ≡ self.old.table }
+        ensures log { self.new.log ≡ self.old.log }
         ensures removals { self.new.removals ≡ self.old.removals }
         ensures room { OnOk result (vec_len self.new.met + vec_len self.new.running + 1 ≤ vec_capacity self.new.met) }
     {
@@ -525,6 +538,12 @@ impl State {
         requires room { vec_len self.old.met + vec_len self.old.running + 1 ≤ vec_capacity self.old.met }
         ensures file { (around_of self.new).tree path.now ≡ Some file.bytes }
         ensures others { (other : List ℕ) → other ≢ path.now → (around_of self.new).tree other ≡ (around_of self.old).tree other }
+        ensures stamps { (other : List ℕ) → other ≢ path.now → (around_of self.new).stamps other ≡ (around_of self.old).stamps other }
+        ensures dirs { (dir : List ℕ) → is_dir self.new.dirs dir ≡ (is_in fresh.now dir || is_dir self.old.dirs dir) }
+        ensures met { self.new.met.items ≡ self.old.met.items ++ group ∷ [] }
+        ensures running { self.new.running ≡ self.old.running }
+        ensures log { self.new.log ≡ self.old.log }
+        ensures table { self.new.table ≡ self.old.table }
         ensures removals { self.new.removals ≡ self.old.removals }
         ensures jobs { vec_len self.new.running ≡ vec_len self.old.running }
     {
@@ -541,7 +560,10 @@ impl State {
         requires covers { (run : RunningJob) (path : List ℕ) → Contains self.old.running.items run → Contains run.job.targets path → Contains (map (λ entry. entry.0) targets) path }
         ensures gone { self.new.removals ≡ 0 }
         ensures idle { vec_len self.new.running ≡ 0 }
-        ensures others { (path : List ℕ) → (Contains (map (λ entry. entry.0) targets) path → ⊥) → slot_at self.new.slots path ≡ slot_at self.old.slots path }
+        ensures none { self.new.running.items ≡ [] }
+        ensures log { self.new.log.items ≡ [] }
+        ensures settled { (path : List ℕ) → slot_at self.new.slots path ≡ settled self.new.stamp targets path (slot_at self.old.slots path) }
+        ensures met { self.new.met.items ≡ self.old.met.items ++ kept ∷ [] }
         ensures dirs { self.new.dirs ≡ self.old.dirs }
         ensures table { self.new.table ≡ self.old.table }
     {
@@ -573,12 +595,11 @@ fn with_room<T: Drop>(alloc: Global, room: usize) -> Result<Vec<T>, Memory>
 }
 
 /// Lets the directories above the files stand.
-fn raise_above(alloc: Global, dirs: &mut Dirs, files: &[(PathText, Blob)]) -> Result<(), Memory> {
+fn raise_above(alloc: Global, dirs: &mut Dirs, files: &[(PathText, Blob)]) -> Result<(), Memory>
+    ensures { OnOk result ((dir : List ℕ) → IsTrue (is_dir dirs.new dir) ↔ (IsTrue (is_dir dirs.old dir) ⊎ HasBelow (HasFile files.now) dir)) }
+{
     for (path, _) in files {
-        let mut fresh = Paths::new(Vec::new(alloc));
-        dirs.missing_above(alloc, path, &mut fresh)?;
-        dirs.make_places(alloc, &fresh)?;
-        dirs.raise(&fresh);
+        dirs.raise_above(alloc, path)?;
     }
     Ok(())
 }

@@ -2,10 +2,9 @@
 ghost use Rattle.std.specs.Prelude.{◌≡◌, ◌++◌, ◌<◌, ◌≤◌, IfOk, OnOk, vec_len};
 ghost use Rattle.std.specs.List.{flat_map};
 ghost use Rattle.std.specs.Vec.{vec_capacity};
-ghost use Rattle.world_mem.specs.Left.{names, Cover};
+ghost use Rattle.world_mem.specs.Left.{Cover, left_at, left_over, number_after};
 
 use crate::contents::Contents;
-use crate::room::widen;
 use crate::state::State;
 use crate::world::MemWorld;
 use mem_banks::MemBanks;
@@ -26,8 +25,10 @@ struct Left {
 }
 
 /// What is left at a target: nothing, what the job makes, the first half of it, or junk.
-fn left_at(alloc: Global, made: &Content, pick: u32) -> Result<Content, Memory> {
-    match (made, pick % 4) {
+fn left_at(alloc: Global, made: &Content, number: u32) -> Result<Content, Memory>
+    ensures { IfOk result (λ left. left ≡ left_at number made.now) }
+{
+    match (made, number % 4) {
         (_, 0) => Ok(None),
         (Some(bytes), 1) => Ok(Some(bytes.copy()?)),
         (Some(bytes), 2) => {
@@ -38,52 +39,66 @@ fn left_at(alloc: Global, made: &Content, pick: u32) -> Result<Content, Memory> 
     }
 }
 
-/// Adds what is left at the targets of one job. Says which outcome comes next.
+/// Adds what is left at the targets of one job, by outcomes from this number on. Gives the number of the next.
 fn leave_targets(
     alloc: Global,
     left: &mut Contents,
     made: &Contents,
-    pick: u32,
+    first: u32,
 ) -> Result<u32, Memory>
-    ensures { OnOk result (names left.new ≡ names left.old ++ names made.now) }
+    ensures left { OnOk result (left.new ≡ left.old ++ left_over first made.now) }
+    ensures next { IfOk result (λ number. number ≡ number_after first made.now) }
 {
-    let mut kind = pick;
+    let mut number = first;
     for (path, content) in made.as_slice() {
-        left.push(path.copy()?, left_at(alloc, content, kind)?)?;
-        kind = kind.wrapping_add(1);
+        left.push(path.copy()?, left_at(alloc, content, number)?)?;
+        number = number.wrapping_add(1);
     }
-    Ok(kind)
+    Ok(number)
 }
 
 /// What is left at the targets of the running jobs. Each has an outcome of its own.
 fn left_targets(alloc: Global, state: &State, pick: u32) -> Result<Contents, Memory>
-    ensures { IfOk result (λ left. names left ≡ flat_map (λ run. names run.made) state.now.running.items) }
+    ensures { IfOk result (λ left. left ≡ left_over pick (flat_map (λ run. run.made) state.now.running.items)) }
 {
     let mut left = Contents::new(Vec::new(alloc));
-    let mut kind = pick;
+    let mut number = pick;
     for run in &state.running {
-        kind = leave_targets(alloc, &mut left, &run.made, kind)?;
+        number = leave_targets(alloc, &mut left, &run.made, number)?;
     }
     Ok(left)
 }
 
 impl MemWorld {
-    ghost use Rattle.std.specs.Prelude.{ℕ, List, Contains};
-    ghost use Rattle.mem_banks.specs.Past.{one_of};
-    ghost use Rattle.world_api.specs.Around.{IsRunningTarget};
+    ghost use Rattle.std.specs.Prelude.{◌%◌, IfErr, List, [], ℕ, Contains};
+    ghost use Rattle.mem_banks.specs.AsStore.{store_of};
+    ghost use Rattle.mem_banks.specs.Past.{one_of, synced_in};
+    ghost use Rattle.world_api.specs.Meaning.{IsSettled};
     ghost use Rattle.world_api.specs.declared.disk.Bank.{Bank};
     ghost use Rattle.world_mem.specs.AsAround.{around_of};
-    ghost use Rattle.world_mem.specs.InSlots.{slot_at};
+    ghost use Rattle.world_mem.specs.CallCounts.{Fails};
+    ghost use Rattle.world_api.specs.Around.{IsRunningTarget};
+    ghost use Rattle.world_mem.specs.Left.{Leaves, makings, names};
     ghost use Rattle.world_mem.specs.Means.{world_meaning};
+    ghost use Rattle.world_mem.specs.Stays.{Stays, IsAnew};
+    ghost use Rattle.world_mem.specs.declared.calls.Call.{Call};
 
-    /// One outcome of a stop at this moment, chosen by `pick`: nothing runs, the log is empty, and no call is to fail.
+    /// One outcome of a stop at this moment, chosen by `pick`: nothing runs, the log is empty, and no call is to fail. By pick
+    /// 0 every write stands, by 1 none that wasn't synced.
     pub fn stop(self, pick: u32) -> Result<MemWorld, (MemWorld, Memory)>
         ensures image { IfOk result (λ world. (bank : Bank) → world_meaning.image self bank (world_meaning.seen world bank)) }
-        ensures idle { IfOk result (λ world. vec_len world.state.running ≡ 0) }
+        ensures stands { pick ≡ 0 → IfOk result (λ world. (bank : Bank) → world_meaning.seen world bank ≡ world_meaning.seen self bank) }
+        ensures lost { pick % 4 ≡ 1 → IfOk result (λ world. (bank : Bank) → world_meaning.seen world bank ≡ synced_in (store_of self.banks) bank) }
+        ensures settled { IfOk result (λ world. (bank : Bank) → IsSettled world_meaning world bank) }
+        ensures left { IfOk result (λ world. Leaves (left_over pick (makings self.state.table (around_of self.state).running)) (around_of self.state) (around_of world.state)) }
+        ensures idle { IfOk result (λ world. (around_of world.state).running ≡ []) }
         ensures clock { IfOk result (λ world. world_meaning.clock world ≡ 0) }
-        ensures others { IfOk result (λ world. (path : List ℕ) → (IsRunningTarget (around_of self.state).running path → ⊥) → (around_of world.state).tree path ≡ (around_of self.state).tree path) }
-        ensures dirs { IfOk result (λ world. world.state.dirs ≡ self.state.dirs) }
-        ensures table { IfOk result (λ world. world.state.table ≡ self.state.table) }
+        ensures anew { IfOk result IsAnew }
+        ensures spared { IfOk result (λ world. (call : Call) → Fails call world.calls → ⊥) }
+        ensures calls { IfOk result (λ world. world.calls.made ≡ self.calls.made) }
+        ensures faults { IfOk result (λ world. world.faults ≡ self.faults) }
+        ensures orders { IfOk result (λ world. world.orders ≡ self.orders) }
+        ensures same { IfErr result (λ kept. Stays self kept.0) }
     {
         let mut world = self;
         match world.left_by(pick) {
@@ -98,15 +113,16 @@ impl MemWorld {
     /// What a stop leaves, and room to keep it.
     fn left_by(&mut self, pick: u32) -> Result<Left, Memory>
         ensures image { IfOk result (λ left. (bank : Bank) → world_meaning.image self.old bank (one_of bank left.a.items left.b.items)) }
+        ensures stands { pick ≡ 0 → IfOk result (λ left. (bank : Bank) → one_of bank left.a.items left.b.items ≡ world_meaning.seen self.old bank) }
+        ensures lost { pick % 4 ≡ 1 → IfOk result (λ left. (bank : Bank) → one_of bank left.a.items left.b.items ≡ synced_in (store_of self.old.banks) bank) }
+        ensures targets { IfOk result (λ left. left.targets ≡ left_over pick (makings self.new.state.table (around_of self.new.state).running)) }
         ensures covers { IfOk result (λ left. Cover self.new.state.running.items left.targets) }
-        ensures only { IfOk result (λ left. (path : List ℕ) → Contains (names left.targets) path → IsRunningTarget (around_of self.old.state).running path) }
+        ensures only { IfOk result (λ left. (path : List ℕ) → Contains (names left.targets) path → IsRunningTarget (around_of self.new.state).running path) }
         ensures room { OnOk result (vec_len self.new.state.met < vec_capacity self.new.state.met) }
-        ensures slots { self.new.state.slots ≡ self.old.state.slots }
-        ensures dirs { self.new.state.dirs ≡ self.old.state.dirs }
+        ensures stays { Stays self.old self.new }
         ensures table { self.new.state.table ≡ self.old.state.table }
     {
-        let owed = self.state.running.len() + 1;
-        widen(&mut self.state.met, owed)?;
+        self.state.widen_met()?;
         let a = self.banks.outcome(self.alloc, Bank::A, pick)?;
         let b = self.banks.outcome(self.alloc, Bank::B, pick)?;
         let targets = left_targets(self.alloc, &self.state, pick)?;
@@ -122,13 +138,17 @@ impl MemWorld {
     /// Goes on with what was left.
     fn go_on(&mut self, left: Left)
         requires covers { Cover self.old.state.running.items left.targets }
+        requires only { (path : List ℕ) → Contains (names left.targets) path → IsRunningTarget (around_of self.old.state).running path }
         requires room { vec_len self.old.state.met < vec_capacity self.old.state.met }
         ensures seen { (bank : Bank) → world_meaning.seen self.new bank ≡ one_of bank left.a.items left.b.items }
-        ensures idle { vec_len self.new.state.running ≡ 0 }
+        ensures settled { (bank : Bank) → IsSettled world_meaning self.new bank }
+        ensures left { Leaves left.targets (around_of self.old.state) (around_of self.new.state) }
         ensures clock { world_meaning.clock self.new ≡ 0 }
-        ensures others { (path : List ℕ) → (Contains (names left.targets) path → ⊥) → slot_at self.new.state.slots path ≡ slot_at self.old.state.slots path }
-        ensures dirs { self.new.state.dirs ≡ self.old.state.dirs }
-        ensures table { self.new.state.table ≡ self.old.state.table }
+        ensures anew { IsAnew self.new }
+        ensures spared { (call : Call) → Fails call self.new.calls → ⊥ }
+        ensures calls { self.new.calls.made ≡ self.old.calls.made }
+        ensures faults { self.new.faults ≡ self.old.faults }
+        ensures orders { self.new.orders ≡ self.old.orders }
     {
         let Left {
             a,

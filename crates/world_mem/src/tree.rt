@@ -56,13 +56,15 @@ fn cut_of(verdict: Verdict) -> Option<Outcome>
 }
 
 impl World for MemWorld {
-    ghost use Rattle.std.specs.Prelude.{◌↔◌, ◌⊎◌, ◌++◌, [], List, None, Contains, OnOk, OnErr, unwrap_or};
+    ghost use Rattle.std.specs.Prelude.{◌↔◌, ◌⊎◌, ◌++◌, [], List, None, Contains, IsTrue, OnOk, OnErr, unwrap_or};
+    ghost use Rattle.scons_base.specs.Parts.{is_absolute};
     ghost use Rattle.world_api.specs.Around.{IsUnused, Running};
-    ghost use Rattle.world_api.specs.Calls.{Asks, Removes, CanStart, IsClosed, IsOpen, Starts, Ends};
+    ghost use Rattle.world_api.specs.Calls.{Asks, MakesDir, Removes, CanStart, IsClosed, IsOpen, Starts, Ends};
     ghost use Rattle.world_api.specs.Causes.{TreeFails, StartFails, HasOutcomeCause};
     ghost use Rattle.world_api.specs.Meaning.{Told, Recalls, BanksKept, Throughout, Meanwhile};
+    ghost use Rattle.world_api.specs.Reads.{IsListing, kind_of, stamp_of};
     ghost use Rattle.world_mem.specs.AsAround.{around_of};
-    ghost use Rattle.world_mem.specs.Blocked.{AreBlocked};
+    ghost use Rattle.world_mem.specs.Blocked.{AreBlocked, IsInTheWay};
     ghost use Rattle.world_mem.specs.CallCounts.{Fails, counted, verdict_of};
     ghost use Rattle.world_mem.specs.Ending.{faults_after};
     ghost use Rattle.world_mem.specs.Held.{held_of};
@@ -77,7 +79,21 @@ impl World for MemWorld {
 
     ghost shut = { λ w told path closed. none_closed path closed };
 
-    fn top_path(&mut self) -> Result<PathText, AskRefusal> {
+    fn top_path(&mut self) -> Result<PathText, AskRefusal>
+        ensures top { world_meaning.tells self.new → IfOk result (λ path. path ≡ (world_meaning.around self.new).top) }
+        ensures absolute { IfOk result (λ path. IsTrue (is_absolute path)) }
+        ensures around { world_meaning.tells self.new → Asks (world_meaning.around self.old) (world_meaning.around self.new) }
+        ensures banks { world_meaning.tells self.new → BanksKept world_meaning self.old self.new }
+        ensures told { Told world_meaning self.old self.new }
+        ensures recalls { Recalls world_meaning self.old self.new }
+        ensures time { Throughout world_meaning self.old self.new (Meanwhile world_meaning self.old self.new) }
+        ensures kept { result ≢ Err AskRefusal.Fault → world_meaning.counts self.new ≡ world_meaning.counts self.old }
+        ensures rose { result ≡ Err AskRefusal.Fault → TreeFails (world_meaning.counts self.old) (world_meaning.counts self.new) }
+        ensures once { result ≡ Err AskRefusal.Fault → world_meaning.counts self.new ≡ tree_fault (world_meaning.counts self.old) }
+        ensures exactly { result ≡ Err AskRefusal.Fault ↔ Fails Call.TopPath self.old.calls }
+        ensures counted { self.new.calls ≡ counted Call.TopPath self.old.calls }
+        ensures keeps { Keeps self.old self.new }
+    {
         if self.calls.next(Call::TopPath) != Verdict::Goes {
             self.faults.tree = self.faults.tree.saturating_add(1);
             return Err(AskRefusal::Fault);
@@ -88,7 +104,22 @@ impl World for MemWorld {
         }
     }
 
-    fn kind(&mut self, path: &PathText) -> Result<Kind, Fault> {
+    fn kind(&mut self, path: &PathText) -> Result<Kind, Fault>
+        ensures kind { world_meaning.tells self.new → IfOk result (λ kind. kind ≡ kind_of (world_meaning.around self.new) path.now) }
+        ensures shut { IsClosed (world_meaning.closed self.old) path.now → IfOk result (λ kind. kind ≡ Kind.Absent) }
+        ensures around { world_meaning.tells self.new → Asks (world_meaning.around self.old) (world_meaning.around self.new) }
+        ensures banks { world_meaning.tells self.new → BanksKept world_meaning self.old self.new }
+        ensures told { Told world_meaning self.old self.new }
+        ensures recalls { Recalls world_meaning self.old self.new }
+        ensures time { Throughout world_meaning self.old self.new (Meanwhile world_meaning self.old self.new) }
+        ensures kept { OnOk result (world_meaning.counts self.new ≡ world_meaning.counts self.old) }
+        ensures rose { OnErr result (TreeFails (world_meaning.counts self.old) (world_meaning.counts self.new)) }
+        ensures once { OnErr result (world_meaning.counts self.new ≡ tree_fault (world_meaning.counts self.old)) }
+        ensures fails { OnErr result (Fails Call.Kind self.old.calls) }
+        ensures goes { OnOk result (Fails Call.Kind self.old.calls → ⊥) }
+        ensures counted { self.new.calls ≡ counted Call.Kind self.old.calls }
+        ensures keeps { Keeps self.old self.new }
+    {
         if self.calls.next(Call::Kind) != Verdict::Goes {
             self.faults.tree = self.faults.tree.saturating_add(1);
             return Err(Fault);
@@ -121,7 +152,21 @@ impl World for MemWorld {
         within(self.state.content(path), limit)
     }
 
-    fn list(&mut self, dir: &PathText) -> Result<Paths, AskRefusal> {
+    fn list(&mut self, dir: &PathText) -> Result<Paths, AskRefusal>
+        ensures files { world_meaning.tells self.new → IfOk result (IsListing (world_meaning.around self.new) dir.now) }
+        ensures shut { IfOk result (λ paths. (path : List ℕ) → Contains paths path → IsClosed (world_meaning.closed self.old) path → ⊥) }
+        ensures around { world_meaning.tells self.new → Asks (world_meaning.around self.old) (world_meaning.around self.new) }
+        ensures banks { world_meaning.tells self.new → BanksKept world_meaning self.old self.new }
+        ensures told { Told world_meaning self.old self.new }
+        ensures recalls { Recalls world_meaning self.old self.new }
+        ensures time { Throughout world_meaning self.old self.new (Meanwhile world_meaning self.old self.new) }
+        ensures kept { result ≢ Err AskRefusal.Fault → world_meaning.counts self.new ≡ world_meaning.counts self.old }
+        ensures rose { result ≡ Err AskRefusal.Fault → TreeFails (world_meaning.counts self.old) (world_meaning.counts self.new) }
+        ensures once { result ≡ Err AskRefusal.Fault → world_meaning.counts self.new ≡ tree_fault (world_meaning.counts self.old) }
+        ensures exactly { result ≡ Err AskRefusal.Fault ↔ Fails Call.List self.old.calls }
+        ensures counted { self.new.calls ≡ counted Call.List self.old.calls }
+        ensures keeps { Keeps self.old self.new }
+    {
         if self.calls.next(Call::List) != Verdict::Goes {
             self.faults.tree = self.faults.tree.saturating_add(1);
             return Err(AskRefusal::Fault);
@@ -129,7 +174,22 @@ impl World for MemWorld {
         Ok(self.state.list(self.alloc, dir)?)
     }
 
-    fn stamp(&mut self, path: &PathText) -> Result<Option<u64>, Fault> {
+    fn stamp(&mut self, path: &PathText) -> Result<Option<u64>, Fault>
+        ensures stamp { world_meaning.tells self.new → IfOk result (λ stamp. stamp ≡ stamp_of (world_meaning.around self.new) path.now) }
+        ensures shut { IsClosed (world_meaning.closed self.old) path.now → IfOk result (λ stamp. stamp ≡ None) }
+        ensures around { world_meaning.tells self.new → Asks (world_meaning.around self.old) (world_meaning.around self.new) }
+        ensures banks { world_meaning.tells self.new → BanksKept world_meaning self.old self.new }
+        ensures told { Told world_meaning self.old self.new }
+        ensures recalls { Recalls world_meaning self.old self.new }
+        ensures time { Throughout world_meaning self.old self.new (Meanwhile world_meaning self.old self.new) }
+        ensures kept { OnOk result (world_meaning.counts self.new ≡ world_meaning.counts self.old) }
+        ensures rose { OnErr result (TreeFails (world_meaning.counts self.old) (world_meaning.counts self.new)) }
+        ensures once { OnErr result (world_meaning.counts self.new ≡ tree_fault (world_meaning.counts self.old)) }
+        ensures fails { OnErr result (Fails Call.Stamp self.old.calls) }
+        ensures goes { OnOk result (Fails Call.Stamp self.old.calls → ⊥) }
+        ensures counted { self.new.calls ≡ counted Call.Stamp self.old.calls }
+        ensures keeps { Keeps self.old self.new }
+    {
         if self.calls.next(Call::Stamp) != Verdict::Goes {
             self.faults.tree = self.faults.tree.saturating_add(1);
             return Err(Fault);
@@ -137,7 +197,21 @@ impl World for MemWorld {
         Ok(self.state.stamp(path))
     }
 
-    fn make_dir(&mut self, path: &PathText) -> Result<(), AskRefusal> {
+    fn make_dir(&mut self, path: &PathText) -> Result<(), AskRefusal>
+        requires { IsClosed (world_meaning.closed self.old) path.now → ⊥ }
+        ensures made { world_meaning.tells self.new → OnOk result (MakesDir path.now (world_meaning.around self.old) (world_meaning.around self.new)) }
+        ensures refused { world_meaning.tells self.new → OnErr result (Asks (world_meaning.around self.old) (world_meaning.around self.new)) }
+        ensures banks { world_meaning.tells self.new → BanksKept world_meaning self.old self.new }
+        ensures told { Told world_meaning self.old self.new }
+        ensures recalls { Recalls world_meaning self.old self.new }
+        ensures time { Throughout world_meaning self.old self.new (Meanwhile world_meaning self.old self.new) }
+        ensures kept { result ≢ Err AskRefusal.Fault → world_meaning.counts self.new ≡ world_meaning.counts self.old }
+        ensures rose { result ≡ Err AskRefusal.Fault → TreeFails (world_meaning.counts self.old) (world_meaning.counts self.new) }
+        ensures once { result ≡ Err AskRefusal.Fault → world_meaning.counts self.new ≡ tree_fault (world_meaning.counts self.old) }
+        ensures exactly { result ≡ Err AskRefusal.Fault ↔ (Fails Call.MakeDir self.old.calls ⊎ IsInTheWay (world_meaning.around self.old) path.now) }
+        ensures counted { self.new.calls ≡ counted Call.MakeDir self.old.calls }
+        ensures keeps { Keeps self.old self.new }
+    {
         let goes = self.calls.next(Call::MakeDir) == Verdict::Goes;
         let taken = self.state.is_taken(path);
         if !goes || taken {

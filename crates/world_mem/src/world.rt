@@ -37,18 +37,22 @@ pub struct MemWorld {
 }
 
 impl MemWorld {
-    ghost use Rattle.std.specs.Prelude.{◌≢◌, ◌⊎◌, nat_le, map, not, Err, IfErr, OnOk, OnErr, IsTrue};
+    ghost use Rattle.std.specs.Prelude.{◌↔◌, ◌⊎◌, nat_le, map, not, Err, IfErr, OnOk, OnErr, IsTrue};
     ghost use Rattle.mem_banks.specs.AsStore.{store_of};
     ghost use Rattle.mem_banks.specs.Past.{is_dirty};
     ghost use Rattle.world_api.specs.Meaning.{IsSettled};
     ghost use Rattle.world_api.specs.declared.disk.Bank.{Bank};
-    ghost use Rattle.world_api.specs.Around.{IsRunningTarget};
-    ghost use Rattle.world_mem.specs.Blocked.{IsBarred, IsRefused, IsFirstRefused};
+    ghost use Rattle.world_api.specs.Around.{IsRunningTarget, started_of};
+    ghost use Rattle.world_mem.specs.ByHand.{Edits, Loses};
+    ghost use Rattle.world_mem.specs.Files.{AreFiles};
+    ghost use Rattle.world_mem.specs.Stays.{Stays, IsAnew};
+    ghost use Rattle.world_mem.specs.Blocked.{IsBarred, IsRefused, IsFirstRefused, HasBelow, HasFile};
     ghost use Rattle.world_mem.specs.CallCounts.{count_of};
     ghost use Rattle.world_mem.specs.InSlots.{file_at};
     ghost use Rattle.world_mem.specs.Kept.{counts_of};
     ghost use Rattle.world_mem.specs.Means.{world_meaning};
     ghost use Rattle.world_mem.specs.Room.{recorded};
+    ghost use Rattle.world_mem.specs.Standing.{is_always};
     ghost use Rattle.world_mem.specs.Table.{law_of};
     ghost use Rattle.world_mem.specs.declared.calls.Call.{Call};
     ghost use Rattle.world_mem.specs.declared.refusal.NewRefusal.{NewRefusal};
@@ -63,6 +67,7 @@ impl MemWorld {
         failing: Vec<(Call, u32)>,
     ) -> Result<MemWorld, NewRefusal>
         ensures tree { IfOk result (λ world. (path : List ℕ) → (around_of world.state).tree path ≡ file_at files.items path) }
+        ensures dirs { IfOk result (λ world. (dir : List ℕ) → IsTrue ((around_of world.state).dirs dir) ↔ (IsTrue (is_always dir) ⊎ HasBelow (HasFile files.items) dir)) }
         ensures running { IfOk result (λ world. (around_of world.state).running ≡ []) }
         ensures log { IfOk result (λ world. (around_of world.state).log ≡ []) }
         ensures met { IfOk result (λ world. (around_of world.state).met ≡ map (λ file. file.1) files.items) }
@@ -113,23 +118,26 @@ impl MemWorld {
 
     /// The jobs that started, in order.
     pub fn jobs(&self) -> &[Job]
-        ensures { result.now ≡ self.now.state.jobs.items }
+        ensures { result.now ≡ started_of (around_of self.now.state).log }
     {
         self.state.jobs.as_slice()
     }
 
     /// The files of the tree.
-    pub fn files(&self) -> Result<Files, Memory> {
+    pub fn files(&self) -> Result<Files, Memory>
+        ensures { IfOk result (AreFiles (around_of self.now.state).tree) }
+    {
         self.state.slots.files(self.alloc)
     }
 
     /// Sets the bytes of a file, and lets the directories above it stand. The record of moments begins anew.
     pub fn edit(&mut self, path: &PathText, bytes: &[u8]) -> Result<(), EditRefusal>
-        ensures file { OnOk result ((around_of self.new.state).tree path.now ≡ Some bytes.now) }
-        ensures others { (other : List ℕ) → other ≢ path.now → (around_of self.new.state).tree other ≡ (around_of self.old.state).tree other }
-        ensures same { OnErr result ((other : List ℕ) → (around_of self.new.state).tree other ≡ (around_of self.old.state).tree other) }
-        ensures refused { result ≡ Err EditRefusal.Place → IsRunningTarget (around_of self.old.state).running path.now ⊎ IsBarred (around_of self.old.state) path.now }
+        ensures edited { OnOk result (Edits path.now bytes.now (around_of self.old.state) (around_of self.new.state)) }
+        ensures same { OnErr result (Stays self.old self.new) }
+        ensures place { result ≡ Err EditRefusal.Place ↔ (IsRunningTarget (around_of self.old.state).running path.now ⊎ IsBarred (around_of self.old.state) path.now) }
         ensures idle { (around_of self.old.state).running ≡ [] → (around_of self.new.state).running ≡ [] }
+        ensures clock { world_meaning.clock self.new ≡ world_meaning.clock self.old }
+        ensures anew { OnOk result (IsAnew self.new) }
         ensures banks { self.new.banks ≡ self.old.banks }
         ensures faults { self.new.faults ≡ self.old.faults }
         ensures calls { self.new.calls ≡ self.old.calls }
@@ -145,9 +153,10 @@ impl MemWorld {
 
     /// Removes a file. The record of moments begins anew.
     pub fn remove_file(&mut self, path: &PathText)
-        ensures gone { (around_of self.new.state).tree path.now ≡ None }
-        ensures others { (other : List ℕ) → other ≢ path.now → (around_of self.new.state).tree other ≡ (around_of self.old.state).tree other }
+        ensures lost { Loses path.now (around_of self.old.state) (around_of self.new.state) }
         ensures idle { (around_of self.old.state).running ≡ [] → (around_of self.new.state).running ≡ [] }
+        ensures clock { world_meaning.clock self.new ≡ world_meaning.clock self.old }
+        ensures anew { IsAnew self.new }
         ensures banks { self.new.banks ≡ self.old.banks }
         ensures faults { self.new.faults ≡ self.old.faults }
         ensures calls { self.new.calls ≡ self.old.calls }

@@ -1,8 +1,6 @@
-use Rattle.std.proofs.Common.{◌<◌, ◌≤◌, ◌*◌, ◌-◌, vec_len}
+use Rattle.std.proofs.Common.{◌^◌}
+use Rattle.task_plan.proofs.MarkLemmas.{IsLeast}
 use Rattle.task_plan.proofs.marks.Marks.first.Given as goal
 
-abbrev pub invariant-loop-place : goal.invariant-loop-place
-invariant-loop-place l = (0 < l.place) × (l.place < 2 * l.room) × (2 * l.room ≤ vec_len l.self.tree)
-
-abbrev pub decreases-loop-place : goal.decreases-loop-place
-decreases-loop-place l = l.room - l.place
+abbrev pub invariant-loop-level : goal.invariant-loop-level
+invariant-loop-level l = IsLeast l.self-inside.tree.items (2 ^ l._level) l.place

@@ -1,4 +1,4 @@
-use Rattle.std.proofs.Common.{◌≡◌, ◌∙◌, sym, ap, subst, inl, inr, ◌<◌, ℕ, List, Some, Option, Contains, ◌∷◌, ◌++◌, length, map, take, drop, suc, refl, true, is_some, None, reverse, insert, unwrap_or}
+use Rattle.std.proofs.Common.{◌≡◌, ◌∙◌, sym, ap, subst, inl, inr, ◌<◌, ℕ, List, Some, Option, Contains, [], ◌∷◌, ◌++◌, length, map, take, drop, suc, refl, true, is_some, None, reverse, insert, unwrap_or}
 use Rattle.std.specs.List.{slice_index_or, list_any, remove}
 use Rattle.std.specs.Str.{bytes_eq}
 use Rattle.world_mem.specs.InSlots.{slot_at, content_of, stamp_at}
@@ -23,6 +23,8 @@ use Rattle.world_mem.specs.declared.event.Event.{Event}
 use Rattle.world_api.specs.declared.job.Outcome.TheVariants.{Done}
 use Rattle.world_mem.proofs.Membership.{contains_map, other_place, still_in, parted, names_of_pairs, same_at, remove_cases}
 use Rattle.world_mem.proofs.Owners.{is_target-of, target_of}
+use Rattle.world_mem.proofs.Started.{started_more}
+use Rattle.std.proofs.lemmas.List.{append-nil}
 use Rattle.world_mem.proofs.state.State.end.Goals as goal
 
 pub conclude-requires-clause-names : goal.conclude-requires-clause-names
@@ -219,3 +221,10 @@ invariant_of-self-clause-marks c = λ path id h.
           absurd (let x : None ≡ Some id = sym (c.conclude.ensures.unmarked path own) ∙ h in cc x)
       | inr still ↦ (owner.0, still, owner.2)
     ]))
+
+pub invariant_of-self-clause-started : goal.invariant_of-self-clause-started
+invariant_of-self-clause-started c =
+    let old = c.args.self.now in
+    sym (append-nil old.jobs.items)
+    ∙ started_more old.jobs.items old.log.items _ [] old.started refl
+    ∙ ap (λ (log : List Event). api.started_of (map entry_of log)) (sym c.add.ensures.items)

@@ -16,6 +16,8 @@ use Rattle.std.proofs.lemmas.List.{map-append}
 use Rattle.std.proofs.lemmas.List.Elements.{Contains-append_left, Contains-push}
 use Rattle.world_mem.proofs.Owners.{marked-where, is_target-of, target_of}
 use Rattle.world_mem.proofs.Membership.{push_all}
+use Rattle.world_mem.proofs.Started.{started_more}
+use Rattle.world_api.specs.Around.{started_of}
 use Rattle.world_mem.proofs.state.State.enter.Goals as goal
 
 pub invariant_of-self-clause-owned : goal.invariant_of-self-clause-owned
@@ -93,3 +95,10 @@ invariant_of-self-clause-marks c = λ path id h.
       | inl same ↦ let owner = target_of old path (c.args.self.now.marks path id (ap mark_of (sym (c.mark.ensures path ∙ same)) ∙ h)) in (owner.0, Contains-append_left old (run ∷ []) owner.0 owner.1, owner.2)
       | inr own ↦ (run, Contains-push old run, own)
     ]))
+
+pub invariant_of-self-clause-started : goal.invariant_of-self-clause-started
+invariant_of-self-clause-started c =
+    let old = c.args.self.now in
+    c.add-3.ensures.items
+    ∙ started_more old.jobs.items old.log.items c.args.entering.event (c.args.entering.job ∷ []) old.started c.requires.started
+    ∙ ap (λ (log : List Event). started_of (map entry_of log)) (sym c.add-2.ensures.items)

@@ -3,7 +3,7 @@ use Rattle.std.specs.List.{list_any}
 use Rattle.std.specs.Str.{bytes_eq}
 use Rattle.world_mem.specs.InSlots.{slot_at, file_of, content_of, mark_of}
 use Rattle.world_mem.specs.Kept.{met_of, contents_in}
-use Rattle.world_mem.proofs.Marks.{settled-content, settled-named, settled-off, found_before, found_in_push, met-push}
+use Rattle.world_mem.proofs.Marks.{settled-content, settled-named, found_before, found_in_push, met-push}
 use Rattle.world_mem.proofs.Owners.{fewer-settled, unmarked-settled, target_of}
 use Rattle.world_mem.proofs.state.State.leave.Goals as goal
 
@@ -30,6 +30,3 @@ pub invariant_of-self-clause-named : goal.invariant_of-self-clause-named
 invariant_of-self-clause-named c = λ path file h.
     let old = c.args.self.now in
     settled-named _ c.args.targets path (slot_at old.slots path) file (old.named path file) (ap file_of (sym (c.settle.ensures path)) ∙ h)
-
-pub returns-clause-others : goal.returns-clause-others
-returns-clause-others c = λ path off. c.settle.ensures path ∙ settled-off _ c.args.targets path (slot_at c.args.self.now.slots path) off

@@ -3,6 +3,9 @@ use Rattle.std.specs.List.{list_any}
 use Rattle.std.specs.Str.{bytes_eq}
 use Rattle.world_mem.specs.Kept.{met_of, contents_in}
 use Rattle.world_mem.proofs.Marks.{found_in_push, file_met, met-push, contents_in-files}
+use Rattle.std.proofs.Common.{◌↔◌, ◌⊎◌, IsTrue}
+use Rattle.world_mem.specs.Blocked.{HasBelow, HasFile}
+use Rattle.world_mem.specs.Standing.{is_dir}
 use Rattle.world_mem.proofs.state.State.new.Goals as goal
 
 pub invariant_of-result-clause-held : goal.invariant_of-result-clause-held
@@ -26,3 +29,7 @@ returns-clause-met c =
 
 pub invariant_of-result-clause-named : goal.invariant_of-result-clause-named
 invariant_of-result-clause-named c = λ path file h. c.in_ok-fill.ensures.named path file h
+
+pub returns-clause-dirs : goal.returns-clause-dirs
+returns-clause-dirs c = λ dir.
+    subst (λ b. IsTrue (is_dir c.raise_above.new.dirs dir) ↔ (IsTrue b ⊎ HasBelow (HasFile c.args.files.now) dir)) (c.new-dirs.ensures dir) (c.in_ok-raise_above.ensures dir)

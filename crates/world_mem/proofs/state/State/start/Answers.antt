@@ -12,6 +12,7 @@ use Rattle.world_mem.specs.declared.event.Event.{Event}
 use Rattle.world_mem.specs.declared.running.RunningJob.{RunningJob}
 use Rattle.world_mem.proofs.Membership.{contains_map}
 use Rattle.world_mem.proofs.Raised.{gained_dirs, not_always}
+use Rattle.world_api.specs.Around.{started_of}
 use Rattle.world_mem.proofs.state.State.start.Goals as goal
 
 pub enter-requires-clause-new_id : goal.enter-requires-clause-new_id
@@ -56,3 +57,8 @@ returns-clause-ok c =
 
 pub returns-clause-back : goal.returns-clause-back
 returns-clause-back c = c.enter.ensures.back ∙ c.make_room.ensures.course
+
+pub enter-requires-clause-started : goal.enter-requires-clause-started
+enter-requires-clause-started c =
+    ap (λ (event : Event). started_of (entry_of event ∷ [])) c.in_ok-entering.ensures.event
+    ∙ ap (λ (job : Job). job ∷ []) (sym c.in_ok-entering.ensures.started)

@@ -1,7 +1,9 @@
-use Rattle.std.proofs.Common.{◌≡◌, sym, ap, subst, refl, List, Contains, map, reverse, true}
+use Rattle.std.proofs.Common.{◌≡◌, ◌∙◌, sym, ap, subst, refl, List, Contains, map, reverse, true}
 use Rattle.std.specs.List.{list_any}
 use Rattle.std.specs.Str.{bytes_eq}
 use Rattle.world_mem.specs.Kept.{met_of, running_of, entry_of, IdsApart, is_target}
+use Rattle.world_api.specs.Around.{started_of}
+use Rattle.world_mem.specs.declared.event.Event.{Event}
 use Rattle.world_mem.specs.declared.running.RunningJob.{RunningJob}
 use Rattle.world_mem.proofs.Backs.{same_around, same_course}
 use Rattle.world_mem.proofs.state.State.widen.Goals as goal
@@ -36,3 +38,7 @@ returns-clause-course c =
     same_course _ _
     (same_around _ _ (λ _. refl) (λ _. refl) (λ _. refl) (ap (map running_of) c.widen_all.ensures.running) (ap (map entry_of) c.widen_all.ensures.log) (ap met_of c.widen_all.ensures.met) refl refl)
     (ap reverse c.widen_all.ensures.past)
+
+pub invariant_of-self-clause-started : goal.invariant_of-self-clause-started
+invariant_of-self-clause-started c =
+    c.widen_all.ensures.jobs ∙ c.args.self.now.started ∙ ap (λ (log : List Event). started_of (map entry_of log)) (sym c.widen_all.ensures.log)

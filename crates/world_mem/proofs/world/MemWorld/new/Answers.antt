@@ -1,7 +1,10 @@
 use Rattle.std.proofs.Common.{◌≡◌, subst, ap, arith, ℕ, List, length}
 use Rattle.std.proofs.lemmas.Result.{err_from_is_err_and}
 use Rattle.std.proofs.lemmas.List.{length-reverse}
-use Rattle.world_mem.specs.Blocked.{IsRefused, IsFirstRefused}
+use Rattle.std.proofs.Common.{◌↔◌, ◌⊎◌, IsTrue}
+use Rattle.world_mem.specs.AsAround.{around_of}
+use Rattle.world_mem.specs.Standing.{is_always}
+use Rattle.world_mem.specs.Blocked.{IsRefused, IsFirstRefused, HasBelow, HasFile}
 use Rattle.world_mem.specs.declared.refusal.NewRefusal.TheVariants.{Place}
 use Rattle.world_mem.proofs.Unmade.{unmade_of}
 use Rattle.world_mem.proofs.world.MemWorld.new.Goals as goal
@@ -23,3 +26,7 @@ invariant_of-result-clause-recorded_within c =
 pub returns-clause-stand : goal.returns-clause-stand
 returns-clause-stand c =
     subst (λ (files : List (List ℕ × List ℕ)). (place : ℕ) → IsRefused files place → ⊥) c.deref.ensures.value c.in_ok-state.ensures.stand
+
+pub returns-clause-dirs : goal.returns-clause-dirs
+returns-clause-dirs c =
+    subst (λ (files : List (List ℕ × List ℕ)). (dir : List ℕ) → IsTrue ((around_of c.in_ok-state.state).dirs dir) ↔ (IsTrue (is_always dir) ⊎ HasBelow (HasFile files) dir)) c.deref.ensures.value c.in_ok-state.ensures.dirs

@@ -1,9 +1,20 @@
-use Rattle.std.proofs.Common.{◌∙◌, ap}
-use Rattle.world_mem.specs.InSlots.{slot_at, content_of}
-use Rattle.world_mem.specs.declared.slots.Slots.{Slots}
+use Rattle.std.proofs.Common.{◌≡◌, ◌∙◌, ap, subst, List}
+use Rattle.world_api.specs.Act.{Given}
+use Rattle.world_api.specs.Around.{Around}
+use Rattle.world_mem.specs.AsAround.{around_of}
+use Rattle.world_mem.specs.Left.{Leaves, left_over, makings}
+use Rattle.world_mem.specs.Past.{Machine}
+use Rattle.world_mem.specs.declared.table.ActRow.{ActRow}
 use Rattle.world_mem.proofs.world.MemWorld.stop.Goals as goal
 
-pub returns-in-Ok-clause-others : goal.returns-in-Ok-clause-others
-returns-in-Ok-clause-others c = λ path off.
-    ap content_of (c.go_on.ensures.others path (λ h. off (c.in-Ok.ensures.only path h)))
-    ∙ ap (λ (slots : Slots). content_of (slot_at slots path)) c.left_by.ensures.slots
+pub returns-in-Ok-clause-left : goal.returns-in-Ok-clause-left
+returns-in-Ok-clause-left c =
+    let mid = c.left_by.new.self.state in
+    let new = around_of c.go_on.new.self.state in
+    let same : around_of mid ≡ around_of c.args.self.state = ap (λ (m : Machine). m.course.around) c.left_by.ensures.stays.machine in
+    subst (λ (old : Around). Leaves (left_over c.args.pick (makings c.args.self.state.table old.running)) old new) same
+    (subst (λ (rows : List ActRow). Leaves (left_over c.args.pick (makings rows (around_of mid).running)) (around_of mid) new) c.left_by.ensures.table
+    (subst (λ (left : Given). Leaves left (around_of mid) new) c.in-Ok.ensures.targets c.go_on.ensures.left))
+
+pub returns-in-Ok-clause-idle : goal.returns-in-Ok-clause-idle
+returns-in-Ok-clause-idle c = c.go_on.ensures.left.running

@@ -1,0 +1,4 @@
+pub mod MarkLemmas
+pub mod QueueLemmas
+pub mod StateLemmas
+pub mod PlanLemmas

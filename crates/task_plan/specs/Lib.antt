@@ -1,0 +1,5 @@
+-- Definitions that the contracts of the plan cite.
+pub mod Marks
+pub mod Queues
+pub mod States
+pub mod Plans

@@ -1,0 +1,84 @@
+-- What a plan is, as contracts see it, and what an event changes.
+use Rattle.std.specs.Prelude.{◌≡◌, ◌⊎◌, ◌≤◌, ℕ, Bool, true, false, List, slice_set, if◌then◌else◌}
+use Rattle.task_plan.specs.States.{state_of, stage, is_running}
+use Rattle.task_plan.specs.Queues.{Queued, is_open, IsFirst}
+use Rattle.task_plan.specs.declared.states.RuleState.{RuleState}
+use Rattle.task_plan.specs.declared.states.RuleState.TheVariants.{Unneeded, Waiting, Running, Settled, Failed, Lacking}
+use Rattle.task_plan.specs.declared.want.PlanEvent.{PlanEvent}
+use Rattle.task_plan.specs.declared.want.PlanEvent.TheVariants.{Scanned, Fresh, Started, DoneOk, DoneFailed, Absent, Halt}
+
+-- How far each rule is, by its number; the needed rules in the build order, where those are open that can be decided now; and whether
+-- nothing further is to be scanned or decided.
+pub record Planned : Type 0 where
+  pub states : List RuleState
+  pub queue : Queued
+  pub halted : Bool
+
+-- what can be decided waits
+pub record AreWaiting (states : List RuleState) (queue : Queued) : Type 0 where
+  pub waits : (rule : ℕ) → is_open queue rule ≡ true → state_of states rule ≡ Waiting
+
+-- A rule may be decided now, and none that stands before it in the build order.
+pub record IsDecidedNext (plan : Planned) (rule : ℕ) : Type 0 where
+  pub first : IsFirst plan.queue rule
+  pub waits : state_of plan.states rule ≡ Waiting
+  pub goes : plan.halted ≡ false
+
+-- nothing further is to be decided, or nothing can be
+abbrev pub IsIdle : Planned → Type 0
+IsIdle plan = plan.halted ≡ false → (rule : ℕ) → is_open plan.queue rule ≡ false
+
+-- a rule that wasn't needed may be needed now, and nothing else has changed
+pub record AreMet (old new : List RuleState) : Type 0 where
+  pub at : (rule : ℕ) → (state_of new rule ≡ state_of old rule) ⊎ ((state_of old rule ≡ Unneeded) × (state_of new rule ≡ Waiting))
+
+-- rules are met, and else the plan goes on as it did
+pub record Meets (old new : Planned) : Type 0 where
+  pub states : AreMet old.states new.states
+  pub halted : new.halted ≡ old.halted
+
+-- no state changes
+pub record Stays (old new : Planned) : Type 0 where
+  pub states : new.states ≡ old.states
+  pub halted : new.halted ≡ old.halted
+
+-- a rule that can be decided is in this state now; of another one nothing is taken
+abbrev pub decided : Planned → ℕ → RuleState → List RuleState
+decided plan rule state = if is_open plan.queue rule then slice_set plan.states rule state else plan.states
+
+-- a rule that runs is in this state now; of another one nothing is taken
+abbrev pub ended : Planned → ℕ → RuleState → List RuleState
+ended plan rule state = if is_running (state_of plan.states rule) then slice_set plan.states rule state else plan.states
+
+-- what an event makes of the states
+abbrev pub Goes : Planned → PlanEvent → List RuleState → Type 0
+Goes plan (Scanned rule found) new = AreMet plan.states new
+Goes plan (Fresh rule) new = new ≡ decided plan rule.0 Settled
+Goes plan (Started rule) new = new ≡ decided plan rule.0 Running
+Goes plan (DoneOk rule) new = new ≡ ended plan rule.0 Settled
+Goes plan (DoneFailed rule) new = new ≡ ended plan rule.0 Failed
+Goes plan (Absent rule node) new = new ≡ decided plan rule.0 Lacking
+Goes plan Halt new = new ≡ plan.states
+
+-- whether an event is a scan, the only one that takes memory
+abbrev pub is_scan : PlanEvent → Bool
+is_scan (Scanned rule found) = true
+is_scan (Fresh rule) = false
+is_scan (Started rule) = false
+is_scan (DoneOk rule) = false
+is_scan (DoneFailed rule) = false
+is_scan (Absent rule node) = false
+is_scan Halt = false
+
+abbrev pub is_halt : PlanEvent → Bool
+is_halt (Scanned rule found) = false
+is_halt (Fresh rule) = false
+is_halt (Started rule) = false
+is_halt (DoneOk rule) = false
+is_halt (DoneFailed rule) = false
+is_halt (Absent rule node) = false
+is_halt Halt = true
+
+-- no rule goes back
+pub record GoesOn (old new : List RuleState) : Type 0 where
+  pub on : (rule : ℕ) → stage (state_of old rule) ≤ stage (state_of new rule)
