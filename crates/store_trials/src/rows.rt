@@ -1,10 +1,8 @@
 //! The rows of the table.
 use crate::disk::Banks;
-use crate::many::many_text;
 use crate::record::{decider_of, record_of};
 use crate::shown::{bytes_text, includes_text, record_text};
 use crate::spoilt::{cuts_text, flips_text};
-use crate::stops::stops_text;
 use crate::tally::Tally;
 use anyhow::{Result, anyhow};
 use c_scanner::includes;
@@ -69,8 +67,6 @@ impl Rows {
             "put" => self.put_row(alloc),
             "give_up" => self.give_up_row(alloc),
             "again" => self.again_row(alloc, rest),
-            "many" => self.many_row(alloc, rest),
-            "stops" => self.stops_row(alloc, rest),
             _ => Err(anyhow!("no row begins with {verb}")),
         }
     }
@@ -228,18 +224,6 @@ impl Rows {
             put_anew(store, &mut self.banks, record_of(alloc, text)?)?;
         }
         Ok(String::new(alloc))
-    }
-
-    fn many_row(&mut self, alloc: Global, count: &str) -> Result<String> {
-        match &mut self.store {
-            Some(store) => many_text(alloc, store, &mut self.banks, count.parse::<u32>()?),
-            None => Err(anyhow!("no store was begun")),
-        }
-    }
-
-    fn stops_row(&self, alloc: Global, path: &str) -> Result<String> {
-        let path = PathText::read(alloc, path)?;
-        stops_text(alloc, &self.banks, &path)
     }
 
     fn give_up_row(&mut self, alloc: Global) -> Result<String> {
