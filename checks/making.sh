@@ -7,6 +7,14 @@ need() {
   done
 }
 
+# make_room: a folder $room for this run, which goes with it, as does what runs then: a command in the background hears no Ctrl-C.
+make_room() {
+  running=
+  room=$(mktemp -d)
+  trap 'exit 130' INT TERM
+  trap '[ -z "$running" ] || kill "$running" 2>/dev/null || true; rm -rf "$room"' EXIT
+}
+
 # waiting WHAT SECONDS LOG COMMAND..: runs a command with its output in LOG, and says every five seconds how long it has run and about how
 # long is left, if it takes so many seconds: no terminal is left silent for more than ten. Its status is the command's.
 waiting() {
@@ -14,15 +22,17 @@ waiting() {
   shift 3
   printf '%s: about %s s\n' "$what" "$usual"
   "$@" > "$log" 2>&1 < /dev/null &
-  local process=$!
-  while kill -0 "$process" 2>/dev/null; do
+  running=$!
+  while kill -0 "$running" 2>/dev/null; do
     # (in small steps, so that the end is seen at once)
-    for _ in 1 2 3 4 5 6 7 8 9 10; do kill -0 "$process" 2>/dev/null && sleep 0.5; done
+    for _ in 1 2 3 4 5 6 7 8 9 10; do kill -0 "$running" 2>/dev/null && sleep 0.5; done
     ran=$((SECONDS - begun)) left=$((usual - SECONDS + begun))
-    kill -0 "$process" 2>/dev/null || break
+    kill -0 "$running" 2>/dev/null || break
     if [ "$left" -gt 0 ]; then printf '  %s s, about %s s left\n' "$ran" "$left"; else printf '  %s s, longer than usual here\n' "$ran"; fi
   done
-  wait "$process"
+  local ended=$running
+  running=
+  wait "$ended"
 }
 
 # sum_of_sources: a number of all that the proved program is made of, and of the toolchain.
