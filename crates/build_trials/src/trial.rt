@@ -3,8 +3,8 @@
 use crate::failures::{Begin, Failures, call_of};
 use crate::idle::IdleWorld;
 use crate::runs::Ran;
-use crate::stops::{Stops, add_cuts};
 use crate::steps::{Block, code_of, number_of, path_of, signed_of, word_of, words_of};
+use crate::stops::{Stops, add_cuts};
 use anyhow::{Context, Result, bail};
 use scons_base::{Blob, PathText, Text};
 use scons_top::Report;
