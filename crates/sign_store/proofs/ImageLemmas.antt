@@ -6,11 +6,11 @@ use Rattle.sign_store.specs.declared.entries.Change.{Change}
 use Rattle.sign_store.specs.Tables.{Map}
 use Rattle.sign_store.specs.Images.{payload_in, change_in, entry_in, applied, after_entries}
 
-bind : {A B : Type 0} (f : A → Option B) (o : Option A) (y : B) → option_and_then f o ≡ Some y → (x : A) × (o ≡ Some x) × (f x ≡ Some y)
+pub bind : {A B : Type 0} (f : A → Option B) (o : Option A) (y : B) → option_and_then f o ≡ Some y → (x : A) × (o ≡ Some x) × (f x ≡ Some y)
 bind f None y e = absurd cc
 bind f (Some x) y e = (x, refl, e)
 
-mapped : (size : ℕ) (o : Option Change) (entry : Change × ℕ) → option_map (λ change. (change, size)) o ≡ Some entry → entry.1 ≡ size
+pub mapped : (size : ℕ) (o : Option Change) (entry : Change × ℕ) → option_map (λ change. (change, size)) o ≡ Some entry → entry.1 ≡ size
 mapped size None entry e = absurd cc
 mapped size (Some change) entry e = let is : ◌≡◌ {A = Change × ℕ} (change, size) entry = cc in sym (ap (λ (x : Change × ℕ). x.1) is)
 
@@ -37,7 +37,7 @@ fuel (suc n) (suc m) map bytes a b =
     by None size later = refl
     by (Some entry) size later = later entry (size entry refl)
 
-one_entry : (n : ℕ) (map : Map) (bytes : List ℕ) (entry : Change × ℕ) → length bytes ≡ n → entry_in bytes ≡ Some entry
+pub one_entry : (n : ℕ) (map : Map) (bytes : List ℕ) (entry : Change × ℕ) → length bytes ≡ n → entry_in bytes ≡ Some entry
     → after_entries n map bytes ≡ after_entries (length (drop entry.1 bytes)) (applied entry.0 map) (drop entry.1 bytes)
 unfolding after_entries
 one_entry zero map bytes entry len e = let none : None ≡ Some entry = sym (ap entry_in (nil_from_length bytes len)) ∙ e in absurd cc
@@ -45,7 +45,7 @@ one_entry (suc n) map bytes entry len e =
     let size = entry_size bytes entry e in
     rw e (fuel n (length (drop entry.1 bytes)) (applied entry.0 map) (drop entry.1 bytes) (omega (arith, length-drop entry.1 bytes)) (omega arith))
 
-no_entry : (n : ℕ) (map : Map) (bytes : List ℕ) → entry_in bytes ≡ None → after_entries n map bytes ≡ map
+pub no_entry : (n : ℕ) (map : Map) (bytes : List ℕ) → entry_in bytes ≡ None → after_entries n map bytes ≡ map
 unfolding after_entries
 no_entry zero map bytes e = refl
 no_entry (suc n) map bytes e = rw e refl

@@ -1,3 +1,9 @@
 pub mod TableLemmas
 pub mod ImageLemmas
 pub mod DiskLemmas
+pub mod EndLemmas
+pub mod WriteLemmas
+pub mod TicketLemmas
+pub mod LocalLemmas
+pub mod ReadLemmas
+pub mod FillLemmas

@@ -1,7 +1,11 @@
 pub mod Heads
+pub mod Tables
 pub mod Entries
 pub mod Reached
-pub mod Tables
 pub mod Maps
 pub mod Images
+pub mod Gates
+pub mod Readings
+pub mod Ends
+pub mod Forms
 pub mod Stores

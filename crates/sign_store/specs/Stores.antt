@@ -1,13 +1,16 @@
 -- What a store stands for, and what its banks are.
-use Rattle.std.specs.Prelude.{◌≡◌, Bool, ◌<◌, ◌++◌, ◌∷◌, [], length}
+use Rattle.std.specs.Prelude.{◌≡◌, ◌≢◌, ◌≤◌, ◌<◌, ◌+◌, ℕ, Bool, true, List, ◌++◌, ◌∷◌, [], length, slice_index, if◌then◌else◌}
 use Rattle.world_api.specs.Banks.{Banks}
+use Rattle.world_api.specs.Meaning.{Meaning}
 use Rattle.deciders.specs.declared.recorded.Rec.{Rec}
+use Rattle.deciders.specs.Spelling.{Spells, spelling}
 use Rattle.sign_store.specs.declared.store.Store.{Store}
 use Rattle.sign_store.specs.declared.ticket.Ticket.{Ticket}
 use Rattle.sign_store.specs.declared.view.View.{View}
 use Rattle.sign_store.specs.Entries.{entry_of, put_payload, withdraw_payload}
 use Rattle.sign_store.specs.Maps.{map_in, HasRecord}
-use Rattle.sign_store.specs.Tables.{Map}
+use Rattle.sign_store.specs.Ends.{KeepsAt}
+use Rattle.sign_store.specs.Tables.{Map, has_any, is_among}
 
 -- the banks have the gate at which the store's entries end
 pub record IsStoredIn (banks : Banks) (store : Store) : Type 0 where
@@ -38,3 +41,54 @@ pub record IsTicket (store : Store) (rec : Rec) (ticket : Ticket) : Type 0 where
 -- a ticket of the one is a ticket of the other
 pub record KeepsTickets (old new : Store) : Type 0 where
   pub each : (rec : Rec) (ticket : Ticket) → IsTicket old rec ticket → IsTicket new rec ticket
+
+-- whatever a stop leaves now stands for the store's map
+abbrev pub IsKept : {W : Type 0} → Meaning W → W → Store → Type 0
+IsKept m world store = KeepsAt m world store.bank store.end (map_of store)
+
+-- so many bytes are kept in this room
+pub record HasRoom (store : Store) (room len : ℕ) : Type 0 where
+  pub inside : room < length store.rooms.items
+  pub enough : len ≤ slice_index store.rooms.items room
+
+-- so many bytes fewer are kept in this room, and in the others what was kept before
+pub record TakesRoom (room len : ℕ) (old new : Store) : Type 0 where
+  pub rooms : length new.rooms.items ≡ length old.rooms.items
+  pub here : slice_index new.rooms.items room + len ≡ slice_index old.rooms.items room
+  pub others : (other : ℕ) → other ≢ room → slice_index new.rooms.items other ≡ slice_index old.rooms.items other
+
+-- in the rooms but this one is kept what was kept before
+pub record KeepsRooms (room : ℕ) (old new : Store) : Type 0 where
+  pub rooms : length new.rooms.items ≡ length old.rooms.items
+  pub others : (other : ℕ) → other ≢ room → slice_index new.rooms.items other ≡ slice_index old.rooms.items other
+
+-- what the entries of a ticket may still take: its put, and its withdrawal where a target has a record
+abbrev pub owed : Store → Rec → Ticket → ℕ
+owed store rec ticket = length ticket.put.items + (if has_any (map_of store) rec.targets then length ticket.withdrawal.items else 0)
+
+-- the store's ticket is out: its record has its spelling, and its entries have their room
+pub record IsOut (store : Store) (rec : Rec) (ticket : Ticket) : Type 0 where
+  pub own : IsTicket store rec ticket
+  pub spells : Spells (spelling rec) rec
+  pub fits : length (spelling rec) ≤ 4294967294
+  pub room : HasRoom store ticket.room (owed store rec ticket)
+
+-- a ticket that is out stays so
+pub record KeepsOut (old new : Store) : Type 0 where
+  pub each : (rec : Rec) (ticket : Ticket) → IsOut old rec ticket → IsOut new rec ticket
+
+-- the same of tickets other than this one
+pub record KeepsOthers (but : Ticket) (old new : Store) : Type 0 where
+  pub each : (rec : Rec) (ticket : Ticket) → ticket.room ≢ but.room → IsOut old rec ticket → IsOut new rec ticket
+
+-- no path is among both
+abbrev pub AreApart : List (List ℕ) → List (List ℕ) → Type 0
+AreApart paths others = (path : List ℕ) → is_among paths path ≡ true → is_among others path ≢ true
+
+-- the same of tickets that share no target with it
+pub record KeepsApart (but : Ticket) (targets : List (List ℕ)) (old new : Store) : Type 0 where
+  pub each : (rec : Rec) (ticket : Ticket) → ticket.room ≢ but.room → AreApart targets rec.targets → IsOut old rec ticket → IsOut new rec ticket
+
+-- a ticket has a room of its own
+pub record IsFresh (old : Store) (ticket : Ticket) : Type 0 where
+  pub apart : (rec : Rec) (other : Ticket) → IsOut old rec other → other.room ≢ ticket.room

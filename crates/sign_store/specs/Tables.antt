@@ -45,3 +45,7 @@ pub record WritesEach (paths : List (List ℕ)) (value : Option ℕ) (old new : 
 -- each of these paths has a place
 pub record Enters (paths : List (List ℕ)) (table : Table) : Type 0 where
   pub at : (path : List ℕ) → is_among paths path ≡ true → is_some (place_in table path) ≡ true
+
+-- a path has a record
+abbrev pub has_any : Map → List (List ℕ) → Bool
+has_any map paths = list_any (λ path. is_some (map path)) paths

@@ -2,10 +2,16 @@
 ghost use Rattle.std.specs.Prelude.{◌≡◌, ◌≢◌, ◌≤◌, ◌<◌, ◌+◌, ◌^◌, ℕ, length, max, vec_len, IfOk, IfErr, OnOk, OnErr};
 ghost use Rattle.world_api.specs.Banks.{Holds};
 ghost use Rattle.world_api.specs.Causes.{DiskFails};
-ghost use Rattle.world_api.specs.Meaning.{Told};
+ghost use Rattle.world_api.specs.Meaning.{Told, IsSettled, Throughout};
 ghost use Rattle.world_api.specs.declared.disk.Bank.{Bank};
 ghost use Rattle.world_api.specs.declared.disk.Bank.TheVariants as side;
+ghost use Rattle.sign_store.specs.declared.entries.Change.{Change};
+ghost use Rattle.sign_store.specs.Ends.{IsEntry, IsEither, IsTornFrom, KeepsAt};
+ghost use Rattle.sign_store.specs.Heads.{head_of};
+ghost use Rattle.sign_store.specs.Images.{applied, body_of};
+ghost use Rattle.sign_store.specs.Readings.{IsRefusal, IsOutside};
 ghost use Rattle.sign_store.specs.Reached.{HasFaultCause, Looks, Writes};
+ghost use Rattle.sign_store.specs.Tables.{Map};
 
 use crate::head::{HEAD_LEN, Head, head_of};
 use crate::refusals::StoreRefusal;
@@ -26,6 +32,7 @@ pub(crate) fn sizes_of<W: Disk>(world: &mut W) -> Result<Sizes, StoreRefusal>
     ensures a { W.meaning.tells world.new → IfOk result (λ sizes. sizes.a ≡ length (W.meaning.seen world.new side.A)) }
     ensures b { W.meaning.tells world.new → IfOk result (λ sizes. sizes.b ≡ length (W.meaning.seen world.new side.B)) }
     ensures small { IfOk result (λ sizes. (sizes.a ≤ 2 ^ 40) × (sizes.b ≤ 2 ^ 40)) }
+    ensures refused { W.meaning.tells world.new → IfErr result (IsRefusal (W.meaning.seen world.new)) }
     ensures cause { HasFaultCause W.meaning world.old world.new result }
     ensures seen { W.meaning.tells world.new → (each : Bank) → W.meaning.seen world.new each ≡ W.meaning.seen world.old each }
     ensures looks { Looks W.meaning world.old world.new }
@@ -46,6 +53,7 @@ pub(crate) fn sizes_of<W: Disk>(world: &mut W) -> Result<Sizes, StoreRefusal>
 #[tactic(auto, using(crate::proofs::DiskLemmas::calls))]
 pub(crate) fn read_head<W: Disk>(world: &mut W, bank: Bank, size: u64) -> Result<Head, Fault>
     requires { W.meaning.tells world.old → size ≡ length (W.meaning.seen world.old bank) }
+    ensures head { W.meaning.tells world.new → IfOk result (λ head. head ≡ head_of (W.meaning.seen world.new bank)) }
     ensures closed { IfOk result (λ head. head ≡ Head.Closed → 17 < size) }
     ensures kept { OnOk result (W.meaning.counts world.new ≡ W.meaning.counts world.old) }
     ensures rose { OnErr result (DiskFails (W.meaning.counts world.old) (W.meaning.counts world.new)) }
@@ -70,7 +78,9 @@ pub(crate) fn read_body<W: Disk>(
     size: u64,
 ) -> Result<Vec<u8>, StoreRefusal>
     requires { W.meaning.tells world.old → size ≡ length (W.meaning.seen world.old bank) }
+    ensures body { W.meaning.tells world.new → IfOk result (λ body. body.items ≡ body_of (W.meaning.seen world.new bank)) }
     ensures len { IfOk result (λ body. vec_len body + 17 ≡ max size 17) }
+    ensures refused { IfErr result IsOutside }
     ensures cause { HasFaultCause W.meaning world.old world.new result }
     ensures seen { W.meaning.tells world.new → (each : Bank) → W.meaning.seen world.new each ≡ W.meaning.seen world.old each }
     ensures looks { Looks W.meaning world.old world.new }
@@ -96,6 +106,8 @@ pub(crate) fn write_synced<W: Disk>(
     requires within { W.meaning.tells world.old → place ≤ length (W.meaning.seen world.old bank) }
     requires small { place + length bytes.now ≤ 2 ^ 41 }
     ensures written { W.meaning.tells world.new → OnOk result (Holds (W.meaning.seen world.old bank) place bytes.now (W.meaning.seen world.new bank)) }
+    ensures settled { W.meaning.tells world.new → OnOk result (IsSettled W.meaning world.new bank) }
+    ensures moments { Throughout W.meaning world.old world.new (IsTornFrom W.meaning world.old bank place (length bytes.now)) }
     ensures around { W.meaning.tells world.new → W.meaning.around world.new ≡ W.meaning.around world.old }
     ensures writes { Writes W.meaning bank world.old world.new }
     ensures told { Told W.meaning world.old world.new }
@@ -118,6 +130,8 @@ pub(crate) fn append<W: Disk>(
     requires within { W.meaning.tells world.old → end < length (W.meaning.seen world.old bank) }
     requires small { end + 1 + length entry.now ≤ 2 ^ 41 }
     ensures end { W.meaning.tells world.new → OnOk result (end + length entry.now < length (W.meaning.seen world.new bank)) }
+    ensures moments { (change : Change) (map : Map) → IsEntry change entry.now → KeepsAt W.meaning world.old bank end map → Throughout W.meaning world.old world.new (IsEither (W.meaning.around world.old) map (applied change map)) }
+    ensures keeps { (change : Change) (map : Map) → IsEntry change entry.now → KeepsAt W.meaning world.old bank end map → OnOk result (KeepsAt W.meaning world.new bank (end + length entry.now) (applied change map)) }
     ensures around { W.meaning.tells world.new → W.meaning.around world.new ≡ W.meaning.around world.old }
     ensures writes { Writes W.meaning bank world.old world.new }
     ensures told { Told W.meaning world.old world.new }

@@ -1,6 +1,9 @@
 //! The entries of a bank.
 ghost use Rattle.std.specs.Prelude.{◌≡◌, ◌≢◌, ◌+◌, ◌≤◌, ◌<◌, None, Some, length, MatchOption, IfOk, IfSome, OnOk};
 ghost use Rattle.sign_store.specs.Maps.{map_in};
+ghost use Rattle.sign_store.specs.Gates.{IsGate};
+ghost use Rattle.sign_store.specs.Readings.{IsReadTo};
+ghost use Rattle.sign_store.specs.Tables.{nothing};
 ghost use Rattle.sign_store.specs.Images.{payload_in, change_in, entry_in, applied, after_entries, entries_map};
 
 use crate::map::RecordMap;
@@ -38,7 +41,9 @@ pub(crate) struct Loaded {
 /// Reads entries up to where they end. `body` is what stands behind the head of a bank.
 pub(crate) fn load(alloc: Global, body: &[u8]) -> Result<Loaded, Memory>
     ensures map { IfOk result (λ loaded. map_in loaded.map ≡ entries_map body.now) }
+    ensures reads { IfOk result (λ loaded. IsReadTo loaded.len nothing (map_in loaded.map) body.now) }
     ensures len { IfOk result (λ loaded. loaded.len ≤ length body.now) }
+    ensures gate { IfOk result (λ loaded. IsGate loaded.gate loaded.len body.now) }
     ensures inside { IfOk result (λ loaded. loaded.gate ≢ EndGate.Missing → loaded.len < length body.now) }
 {
     let mut map = RecordMap::new(alloc);
@@ -48,7 +53,8 @@ pub(crate) fn load(alloc: Global, body: &[u8]) -> Result<Loaded, Memory>
 }
 
 fn gate_at(body: &[u8], place: usize) -> EndGate
-    ensures { result ≢ EndGate.Missing → place < length body.now }
+    ensures gate { IsGate result place body.now }
+    ensures inside { result ≢ EndGate.Missing → place < length body.now }
 {
     if place >= body.len() {
         return EndGate::Missing;
@@ -63,6 +69,7 @@ fn gate_at(body: &[u8], place: usize) -> EndGate
 /// Applies one entry after the other, and says how many bytes they take.
 fn apply_all(map: &mut RecordMap, alloc: Global, body: &[u8]) -> Result<usize, Memory>
     ensures map { OnOk result (map_in map.new ≡ after_entries (length body.now) (map_in map.old) body.now) }
+    ensures reads { IfOk result (λ len. IsReadTo len (map_in map.old) (map_in map.new) body.now) }
     ensures len { IfOk result (λ len. len ≤ length body.now) }
 {
     let mut len = 0;

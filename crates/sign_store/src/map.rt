@@ -109,7 +109,7 @@ impl RecordMap {
     }
 
     /// Whether one of these paths has a record.
-    fn has_some(&self, paths: &[PathText]) -> bool
+    pub(crate) fn has_some(&self, paths: &[PathText]) -> bool
         ensures { result ≡ list_any (λ path. is_some (map_in self.now path)) paths.now }
     {
         paths.iter().any(|path| self.has(path))

@@ -1,9 +1,13 @@
 //! Reading and beginning: which bank counts, its entries, the mending of its end, and compaction.
-ghost use Rattle.std.specs.Prelude.{◌≡◌, ◌≤◌, ◌<◌, ◌≢◌, ◌+◌, ◌^◌, length, IfOk, OnOk, OnErr};
+ghost use Rattle.std.specs.Prelude.{◌≡◌, ◌≤◌, ◌<◌, ◌≢◌, ◌+◌, ◌^◌, length, IfOk, IfErr, OnOk, OnErr};
 ghost use Rattle.world_api.specs.Causes.{DiskFails};
 ghost use Rattle.world_api.specs.Meaning.{Told};
 ghost use Rattle.world_api.specs.declared.disk.Bank.TheVariants as side;
+ghost use Rattle.sign_store.specs.Ends.{image_in};
+ghost use Rattle.sign_store.specs.Images.{body_of, entries_map};
+ghost use Rattle.sign_store.specs.Maps.{map_in};
 ghost use Rattle.sign_store.specs.Reached.{HasFaultCause, Looks};
+ghost use Rattle.sign_store.specs.Readings.{AreReadable, IsOutside, IsRefusal, choice_of};
 
 use crate::banks::{Sizes, fill, read_body, read_head, sizes_of, write_synced};
 use crate::compact::{FIRST_GENERATION, compact_form, compact_len, empty_form, is_worth};
@@ -38,6 +42,8 @@ fn look<W: Disk>(world: &mut W) -> Result<(Sizes, Choice), StoreRefusal>
     ensures a { W.meaning.tells world.new → IfOk result (λ seen. seen.0.a ≡ length (W.meaning.seen world.new side.A)) }
     ensures b { W.meaning.tells world.new → IfOk result (λ seen. seen.0.b ≡ length (W.meaning.seen world.new side.B)) }
     ensures small { IfOk result (λ seen. (seen.0.a ≤ 2 ^ 40) × (seen.0.b ≤ 2 ^ 40)) }
+    ensures choice { W.meaning.tells world.new → IfOk result (λ seen. seen.1 ≡ choice_of (W.meaning.seen world.new)) }
+    ensures refused { W.meaning.tells world.new → IfErr result (IsRefusal (W.meaning.seen world.new)) }
     ensures cause { HasFaultCause W.meaning world.old world.new result }
     ensures looks { Looks W.meaning world.old world.new }
     ensures told { Told W.meaning world.old world.new }
@@ -60,6 +66,8 @@ fn read_bank<W: Disk>(
     ensures end { IfOk result (λ read. read.end ≤ size) }
     ensures inside { IfOk result (λ read. read.gate ≢ EndGate.Missing → read.end < size) }
     ensures size { W.meaning.tells world.new → size ≡ length (W.meaning.seen world.new bank) }
+    ensures map { W.meaning.tells world.new → IfOk result (λ read. map_in read.map ≡ entries_map (body_of (W.meaning.seen world.new bank))) }
+    ensures refused { IfErr result IsOutside }
     ensures cause { HasFaultCause W.meaning world.old world.new result }
     ensures looks { Looks W.meaning world.old world.new }
     ensures told { Told W.meaning world.old world.new }
@@ -76,6 +84,9 @@ fn read_bank<W: Disk>(
 /// The map of the banks, without a change of theirs.
 #[tactic(auto, using(crate::proofs::DiskLemmas::calls))]
 pub(crate) fn read_map<W: Disk>(alloc: Global, world: &mut W) -> Result<RecordMap, StoreRefusal>
+    ensures map { W.meaning.tells world.new → IfOk result (λ map. map_in map ≡ image_in (W.meaning.seen world.old)) }
+    ensures readable { W.meaning.tells world.new → IfOk result (λ _. AreReadable (W.meaning.seen world.old)) }
+    ensures refused { W.meaning.tells world.new → IfErr result (IsRefusal (W.meaning.seen world.old)) }
     ensures cause { HasFaultCause W.meaning world.old world.new result }
     ensures looks { Looks W.meaning world.old world.new }
     ensures told { Told W.meaning world.old world.new }

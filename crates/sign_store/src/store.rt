@@ -1,11 +1,17 @@
 //! The store: a map from paths to records, kept through stops.
-ghost use Rattle.std.specs.Prelude.{◌≡◌, ◌≢◌, ◌≤◌, ◌<◌, ◌+◌, ◌^◌, ℕ, None, Some, length, true, false, option_copied, IfOk, IfErr, OnOk, OnErr};
+ghost use Rattle.std.specs.Prelude.{◌≡◌, ◌≢◌, ◌≤◌, ◌<◌, ◌+◌, ◌^◌, ◌++◌, ◌∷◌, ◌↔◌, [], ℕ, None, Some, length, sum, true, false, option_copied, IsTrue, IfOk, IfErr, OnOk, OnErr};
 ghost use Rattle.world_api.specs.Banks.{Banks};
 ghost use Rattle.world_api.specs.Causes.{DiskFails};
-ghost use Rattle.world_api.specs.Meaning.{Told};
+ghost use Rattle.world_api.specs.Meaning.{Told, Throughout};
 ghost use Rattle.deciders.specs.declared.recorded.Rec.{Rec};
+ghost use Rattle.deciders.specs.Spelling.{Spells, spelling};
+ghost use Rattle.sign_store.specs.declared.entries.Change.{Change};
+ghost use Rattle.sign_store.specs.Ends.{IsEither, IsEntry, KeepsAt, image_in};
+ghost use Rattle.sign_store.specs.Entries.{entries_len};
+ghost use Rattle.sign_store.specs.Images.{applied};
 ghost use Rattle.sign_store.specs.Tables.{with_each};
 ghost use Rattle.sign_store.specs.Reached.{HasFaultCause, Looks, Writes};
+ghost use Rattle.sign_store.specs.Readings.{AreReadable, IsRefusal};
 
 use crate::banks::append;
 use crate::map::RecordMap;
@@ -14,7 +20,7 @@ use crate::refusals::{PrepareRefusal, StoreRefusal};
 use crate::ticket::{Ticket, put_entry, withdraw_entry};
 use crate::view::View;
 use deciders::{Rec, paths_len, spelled_len};
-use scons_base::PathText;
+use scons_base::{Memory, PathText};
 use scons_base::limits::{BANK_LIMIT, PAYLOAD_LIMIT};
 use std::alloc::Global;
 use world_api::{Bank, Disk, Fault};
@@ -30,18 +36,24 @@ pub struct Store {
     bank: Bank,
     /// The place of the gate at which the entries end.
     end: u64,
-    /// How many bytes the entries of the tickets that are out will take.
+    /// How many bytes are kept for the entries of each ticket.
+    rooms: Vec<u64>,
+    /// The same of all tickets together.
     reserved: u64,
     live: bool,
+    ghost counted: { reserved ≡ sum rooms.items },
     ghost room: { end + reserved ≤ 2 ^ 40 },
 }
 
 impl Store {
-    ghost use Rattle.sign_store.specs.Stores.{IsStoredIn, IsTicket, is_live, map_of, KeepsBanks, KeepsTickets};
+    ghost use Rattle.sign_store.specs.Stores.{IsStoredIn, IsTicket, IsOut, IsKept, IsFresh, is_live, map_of, map_of_view, HasRoom, TakesRoom, KeepsRooms, KeepsBanks, KeepsTickets, KeepsOut, KeepsOthers, KeepsApart};
 
     /// What the banks stand for. Nothing is written.
     #[tactic(auto, using(crate::proofs::DiskLemmas::calls))]
     pub fn read<W: Disk>(alloc: Global, world: &mut W) -> Result<View, StoreRefusal>
+        ensures map { W.meaning.tells world.new → IfOk result (λ view. map_of_view view ≡ image_in (W.meaning.seen world.old)) }
+        ensures readable { W.meaning.tells world.new → IfOk result (λ _. AreReadable (W.meaning.seen world.old)) }
+        ensures refused { W.meaning.tells world.new → IfErr result (IsRefusal (W.meaning.seen world.old)) }
         ensures cause { HasFaultCause W.meaning world.old world.new result }
         ensures looks { Looks W.meaning world.old world.new }
         ensures told { Told W.meaning world.old world.new }
@@ -79,6 +91,7 @@ impl Store {
             map,
             bank,
             end,
+            rooms: Vec::new(alloc),
             reserved: 0,
             live: true,
         }
@@ -98,11 +111,14 @@ impl Store {
         self.live
     }
 
-    /// Takes all memory that the withdrawal and the put of a record need.
+    /// Takes all memory that the withdrawal and the put of a record need, and keeps room for both in the bank.
     pub fn prepare(&mut self, rec: Rec) -> Result<Ticket, PrepareRefusal>
         ensures map { map_of self.new ≡ map_of self.old }
         ensures ticket { IfOk result (IsTicket self.new rec) }
+        ensures out { Spells (spelling rec) rec → IfOk result (IsOut self.new rec) }
         ensures tickets { KeepsTickets self.old self.new }
+        ensures outs { KeepsOut self.old self.new }
+        ensures fresh { IfOk result (IsFresh self.old) }
         ensures live { is_live self.new ≡ is_live self.old }
         ensures banks { KeepsBanks self.old self.new }
     {
@@ -118,9 +134,10 @@ impl Store {
         let put = put_entry(self.alloc, &rec)?;
         let withdrawal = withdraw_entry(self.alloc, rec.targets.as_slice())?;
         let number = self.map.add(rec)?;
-        self.reserved += entries;
+        let room = self.keep_room(entries)?;
         Ok(Ticket {
             number,
+            room,
             put,
             withdrawal,
         })
@@ -129,14 +146,31 @@ impl Store {
     /// What the entries of a ticket take: its put, and its withdrawal where a target has a record.
     fn entries_len(&self, rec: &Rec, payload: u64) -> u64
         requires { payload < 2 ^ 32 }
+        ensures { result ≡ entries_len (map_of self.now) rec.now payload }
     {
         let targets = rec.targets.as_slice();
         let put = ENTRY_LEN + payload;
-        if targets.iter().any(|path| self.map.has(path)) {
+        if self.map.has_some(targets) {
             paths_len(targets).saturating_add(put + ENTRY_LEN + 1)
         } else {
             put
         }
+    }
+
+    /// Keeps so many bytes for the entries of a further ticket, and gives the number of their room.
+    fn keep_room(&mut self, len: u64) -> Result<usize, Memory>
+        requires { self.old.end + self.old.reserved + len ≤ 2 ^ 40 }
+        ensures map { self.new.map ≡ self.old.map }
+        ensures room { IfOk result (λ room. room ≡ length self.old.rooms.items) }
+        ensures rooms { OnOk result (self.new.rooms.items ≡ self.old.rooms.items ++ len ∷ []) }
+        ensures same { OnErr result (self.new.rooms.items ≡ self.old.rooms.items) }
+        ensures live { is_live self.new ≡ is_live self.old }
+        ensures banks { KeepsBanks self.old self.new }
+    {
+        let room = self.rooms.len();
+        self.rooms.push(len)?;
+        self.reserved += len;
+        Ok(room)
     }
 
     /// Takes the records of a ticket's targets away. Where none of them has one the disk isn't called.
@@ -144,6 +178,10 @@ impl Store {
     pub fn withdraw<W: Disk>(&mut self, world: &mut W, ticket: &Ticket) -> Result<(), Fault>
         requires { W.meaning.tells world.old → IsStoredIn (W.meaning.seen world.old) self.old }
         ensures map { (rec : Rec) → IsTicket self.old rec ticket.now → OnOk result (map_of self.new ≡ with_each rec.targets None (map_of self.old)) }
+        ensures moments { (rec : Rec) → IsOut self.old rec ticket.now → IsKept W.meaning world.old self.old → Throughout W.meaning world.old world.new (IsEither (W.meaning.around world.old) (map_of self.old) (with_each rec.targets None (map_of self.old))) }
+        ensures keeps { (rec : Rec) → IsOut self.old rec ticket.now → IsKept W.meaning world.old self.old → OnOk result (IsKept W.meaning world.new self.new) }
+        ensures out { (rec : Rec) → IsOut self.old rec ticket.now → OnOk result (IsOut self.new rec ticket.now) }
+        ensures outs { (rec : Rec) → IsOut self.old rec ticket.now → OnOk result (KeepsOthers ticket.now self.old self.new) }
         ensures tickets { KeepsTickets self.old self.new }
         ensures stands { W.meaning.tells world.new → OnOk result (IsStoredIn (W.meaning.seen world.new) self.new) }
         ensures live { OnOk result (is_live self.new ≡ is_live self.old) }
@@ -157,7 +195,7 @@ impl Store {
         if !self.map.has_any(ticket.number) {
             return Ok(());
         }
-        self.append(world, ticket.withdrawal.as_slice())?;
+        self.append(world, ticket.room, ticket.withdrawal.as_slice())?;
         self.map.unset(ticket.number);
         Ok(())
     }
@@ -167,6 +205,9 @@ impl Store {
     pub fn put<W: Disk>(&mut self, world: &mut W, ticket: Ticket) -> Result<(), Fault>
         requires { W.meaning.tells world.old → IsStoredIn (W.meaning.seen world.old) self.old }
         ensures map { (rec : Rec) → IsTicket self.old rec ticket → OnOk result (map_of self.new ≡ with_each rec.targets (Some rec) (map_of self.old)) }
+        ensures moments { (rec : Rec) → IsOut self.old rec ticket → IsKept W.meaning world.old self.old → Throughout W.meaning world.old world.new (IsEither (W.meaning.around world.old) (map_of self.old) (with_each rec.targets (Some rec) (map_of self.old))) }
+        ensures keeps { (rec : Rec) → IsOut self.old rec ticket → IsKept W.meaning world.old self.old → OnOk result (IsKept W.meaning world.new self.new) }
+        ensures outs { (rec : Rec) → IsOut self.old rec ticket → OnOk result (KeepsApart ticket rec.targets self.old self.new) }
         ensures tickets { KeepsTickets self.old self.new }
         ensures stands { W.meaning.tells world.new → OnOk result (IsStoredIn (W.meaning.seen world.new) self.new) }
         ensures live { OnOk result (is_live self.new ≡ is_live self.old) }
@@ -177,8 +218,8 @@ impl Store {
         ensures kept { OnOk result (W.meaning.counts world.new ≡ W.meaning.counts world.old) }
         ensures rose { OnErr result (DiskFails (W.meaning.counts world.old) (W.meaning.counts world.new)) }
     {
-        self.release_withdrawal(&ticket);
-        self.append(world, ticket.put.as_slice())?;
+        self.append(world, ticket.room, ticket.put.as_slice())?;
+        self.free(ticket.room);
         self.map.set(ticket.number);
         Ok(())
     }
@@ -187,38 +228,35 @@ impl Store {
     pub fn give_up(&mut self, ticket: Ticket)
         ensures map { map_of self.new ≡ map_of self.old }
         ensures tickets { KeepsTickets self.old self.new }
+        ensures outs { KeepsOthers ticket self.old self.new }
         ensures live { is_live self.new ≡ is_live self.old }
         ensures banks { KeepsBanks self.old self.new }
     {
-        self.release_withdrawal(&ticket);
-        self.release(ticket.put.len() as u64);
+        self.free(ticket.room);
     }
 
-    /// The withdrawal of a ticket won't come any more.
-    fn release_withdrawal(&mut self, ticket: &Ticket)
+    /// The entries of a ticket won't come any more: nothing is kept for them.
+    fn free(&mut self, room: usize)
         ensures map { self.new.map ≡ self.old.map }
+        ensures rooms { KeepsRooms room self.old self.new }
         ensures live { is_live self.new ≡ is_live self.old }
         ensures banks { KeepsBanks self.old self.new }
     {
-        if self.map.has_any(ticket.number) {
-            self.release(ticket.withdrawal.len() as u64);
+        if room < self.rooms.len() {
+            self.reserved -= self.rooms[room];
+            self.rooms[room] = 0;
         }
     }
 
-    fn release(&mut self, len: u64)
-        ensures map { self.new.map ≡ self.old.map }
-        ensures live { is_live self.new ≡ is_live self.old }
-        ensures banks { KeepsBanks self.old self.new }
-    {
-        self.reserved = self.reserved.saturating_sub(len);
-    }
-
-    /// Adds an entry. The bytes of a ticket's entries are reserved, so one that isn't reserved is no ticket's of this store,
-    /// and is left out.
+    /// Adds an entry of a ticket, in the room that is kept for it. One without room is no ticket's of this store, and is
+    /// left out.
     #[tactic(auto, using(crate::proofs::DiskLemmas::calls))]
-    fn append<W: Disk>(&mut self, world: &mut W, entry: &[u8]) -> Result<(), Fault>
+    fn append<W: Disk>(&mut self, world: &mut W, room: usize, entry: &[u8]) -> Result<(), Fault>
         requires { W.meaning.tells world.old → IsStoredIn (W.meaning.seen world.old) self.old }
         ensures map { self.new.map ≡ self.old.map }
+        ensures moments { (change : Change) → HasRoom self.old room (length entry.now) → IsEntry change entry.now → IsKept W.meaning world.old self.old → Throughout W.meaning world.old world.new (IsEither (W.meaning.around world.old) (map_of self.old) (applied change (map_of self.old))) }
+        ensures keeps { (change : Change) → HasRoom self.old room (length entry.now) → IsEntry change entry.now → IsKept W.meaning world.old self.old → OnOk result (KeepsAt W.meaning world.new self.new.bank self.new.end (applied change (map_of self.old))) }
+        ensures rooms { HasRoom self.old room (length entry.now) → OnOk result (TakesRoom room (length entry.now) self.old self.new) }
         ensures stands { W.meaning.tells world.new → OnOk result (IsStoredIn (W.meaning.seen world.new) self.new) }
         ensures live { OnOk result (is_live self.new ≡ is_live self.old) }
         ensures dead { OnErr result (is_live self.new ≡ false) }
@@ -229,13 +267,12 @@ impl Store {
         ensures rose { OnErr result (DiskFails (W.meaning.counts world.old) (W.meaning.counts world.new)) }
     {
         let len = entry.len() as u64;
-        if len > self.reserved {
+        if !self.has_room(room, len) {
             return Ok(());
         }
         match append(world, self.bank, self.end, entry) {
             Ok(()) => {
-                self.reserved -= len;
-                self.end += len;
+                self.use_room(room, len);
                 Ok(())
             }
             Err(fault) => {
@@ -243,5 +280,26 @@ impl Store {
                 Err(fault)
             }
         }
+    }
+
+    /// Whether so many bytes are kept in a room.
+    fn has_room(&self, room: usize, len: u64) -> bool
+        ensures { IsTrue result ↔ HasRoom self.now room len }
+    {
+        room < self.rooms.len() && len <= self.rooms[room]
+    }
+
+    /// An entry of so many bytes was added, of those kept in a room.
+    fn use_room(&mut self, room: usize, len: u64)
+        requires { HasRoom self.old room len }
+        ensures map { self.new.map ≡ self.old.map }
+        ensures bank { self.new.bank ≡ self.old.bank }
+        ensures end { self.new.end ≡ self.old.end + len }
+        ensures rooms { TakesRoom room len self.old self.new }
+        ensures live { is_live self.new ≡ is_live self.old }
+    {
+        self.rooms[room] -= len;
+        self.reserved -= len;
+        self.end += len;
     }
 }

@@ -12,6 +12,8 @@ use std::alloc::Global;
 pub struct Ticket {
     /// The number of the record.
     pub(crate) number: usize,
+    /// The number of the room that is kept for its entries.
+    pub(crate) room: usize,
     /// What stands behind the gate of its put: length, payload and the next gate, closed.
     pub(crate) put: Vec<u8>,
     /// The same of its withdrawal.

@@ -1,4 +1,6 @@
+use Rattle.std.proofs.Common.{arith}
 use Rattle.sign_store.proofs.DiskLemmas.{writes_joined}
+use Rattle.sign_store.proofs.WriteLemmas.{behind_moments, gate_moments, entry_keeps}
 use Rattle.sign_store.proofs.banks.append.Goals as goal
 
 pub returns-clause-writes : goal.returns-clause-writes

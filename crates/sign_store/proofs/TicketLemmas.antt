@@ -1,0 +1,169 @@
+-- The entries of a ticket that is out: they say its record, and have their room.
+use Rattle.std.proofs.Common.{◌≡◌, ℕ, ◌^◌, ◌<◌, ◌≤◌, ◌+◌, Bool, true, false, cond, List, [], ◌∷◌, ◌++◌, length, Option, Some, None, refl, sym, ap, subst, ◌∙◌, append_assoc, inl, inr, arith}
+use Rattle.std.specs.Prelude.{◌≢◌, ◌||◌, ◌&&◌, ◌==◌, not, slice_index}
+use Rattle.std.specs.Option.{option_map, is_some}
+use Rattle.std.specs.List.{list_any}
+use Rattle.std.specs.Str.{bytes_eq}
+use Rattle.std.proofs.lemmas.Slice.Eq.{bytes_eq-Decides}
+use Rattle.std.proofs.lemmas.List.{append-nil}
+use Rattle.deciders.specs.declared.recorded.Rec.{Rec}
+use Rattle.deciders.specs.Spelling.{sized, listed, spelling, IsPathText, Spells}
+use Rattle.deciders.specs.Reading.{path_at, counted, paths_in}
+use Rattle.deciders.proofs.Takings.{path_reader}
+use Rattle.deciders.proofs.Parts.{list_reader}
+use Rattle.deciders.proofs.RecordLaws.{record_again}
+use Rattle.deciders.proofs.Sizes.{targets_within}
+use Rattle.sign_store.specs.declared.entries.Change.TheVariants.{Put, Withdraw}
+use Rattle.sign_store.specs.declared.store.Store.{Store}
+use Rattle.sign_store.specs.declared.ticket.Ticket.{Ticket}
+use Rattle.sign_store.specs.Entries.{entry_of, put_payload, withdraw_payload}
+use Rattle.sign_store.specs.Ends.{IsEntry}
+use Rattle.sign_store.specs.Stores.{IsTicket, IsOut, HasRoom, TakesRoom, KeepsRooms, AreApart, map_of, owed}
+use Rattle.sign_store.specs.Tables.{Map, has_any, with_each, is_among}
+
+-- ---- what the entries say
+
+pub put_says : (rec : Rec) (bytes : List ℕ) → Spells (spelling rec) rec → length (spelling rec) ≤ 4294967294 → bytes ≡ entry_of (put_payload rec) ++ 0 ∷ [] → IsEntry (Put rec) bytes
+put_says rec bytes spells fits is = record {
+  payload = put_payload rec;
+  fits = omega (arith, fits);
+  says = ap (option_map Put) (record_again (spelling rec) rec spells);
+  spelt = is;
+}
+
+left_true : (a b : Bool) → (a && b) ≡ true → a ≡ true
+left_true true b e = refl
+left_true false b e = absurd cc
+
+paths_again : (paths : List (List ℕ)) → counted path_at (listed sized paths) ≡ Some (paths, []) → not (length paths == 0) ≡ true → paths_in (listed sized paths) ≡ Some paths
+unfolding paths_in
+paths_again paths counts some = rw (counts, some) refl
+
+pub withdrawal_says : (rec : Rec) (bytes : List ℕ) → Spells (spelling rec) rec → length (spelling rec) ≤ 4294967294 → bytes ≡ entry_of (withdraw_payload rec.targets) ++ 0 ∷ []
+    → IsEntry (Withdraw rec.targets) bytes
+withdrawal_says rec bytes spells fits is =
+    let again = (list_reader path_at sized IsPathText path_reader).again rec.targets [] spells.parts.targets in
+    let counts : counted path_at (listed sized rec.targets) ≡ Some (rec.targets, []) = ap (counted path_at) (sym (append-nil (listed sized rec.targets))) ∙ again in
+    let some : not (length rec.targets == 0) ≡ true = left_true _ _ spells.valid in
+    record {
+      payload = withdraw_payload rec.targets;
+      fits = omega (arith, fits, targets_within rec);
+      says = ap (option_map Withdraw) (paths_again rec.targets counts some);
+      spelt = is;
+    }
+
+-- ---- their room
+
+at_least : (b : Bool) (put withdrawal : ℕ) → put ≤ put + cond b withdrawal 0
+at_least true put withdrawal = omega arith
+at_least false put withdrawal = omega arith
+
+pub put_has_room : (store : Store) (rec : Rec) (ticket : Ticket) → IsOut store rec ticket → HasRoom store ticket.room (length ticket.put.items)
+put_has_room store rec ticket out = record {
+  inside = out.room.inside;
+  enough = let enough = out.room.enough in omega (arith, enough, at_least (has_any (map_of store) rec.targets) (length ticket.put.items) (length ticket.withdrawal.items));
+}
+
+both_owed : (b : Bool) (put withdrawal : ℕ) → b ≡ true → put + cond b withdrawal 0 ≡ put + withdrawal
+both_owed true put withdrawal e = refl
+both_owed false put withdrawal e = absurd cc
+
+put_owed : (b : Bool) (put withdrawal : ℕ) → b ≡ false → put + cond b withdrawal 0 ≡ put
+put_owed true put withdrawal e = absurd cc
+put_owed false put withdrawal e = omega arith
+
+pub withdrawal_has_room : (store : Store) (rec : Rec) (ticket : Ticket) → IsOut store rec ticket → has_any (map_of store) rec.targets ≡ true → HasRoom store ticket.room (length ticket.withdrawal.items)
+withdrawal_has_room store rec ticket out some = record {
+  inside = out.room.inside;
+  enough = let enough = out.room.enough in omega (arith, enough, both_owed (has_any (map_of store) rec.targets) (length ticket.put.items) (length ticket.withdrawal.items) some);
+}
+
+owed_less : (a b : Bool) (put withdrawal : ℕ) → (a ≡ true → b ≡ true) → put + cond a withdrawal 0 ≤ put + cond b withdrawal 0
+owed_less true true put withdrawal so = omega arith
+owed_less true false put withdrawal so = let bad = so refl in absurd cc
+owed_less false b put withdrawal so = let le = at_least b put withdrawal in omega (arith, le)
+
+-- ---- which targets have a record, after one of the paths was given another, or none
+
+any_less : (map : Map) (paths targets : List (List ℕ)) → has_any (with_each paths None map) targets ≡ true → has_any map targets ≡ true
+any_less map paths [] e = absurd cc
+any_less map paths (path ∷ targets) e = by (is_among paths path) (is_some (map path)) refl refl e
+  where
+    by : (b c : Bool) → is_among paths path ≡ b → is_some (map path) ≡ c → has_any (with_each paths None map) (path ∷ targets) ≡ true → has_any map (path ∷ targets) ≡ true
+    by b true among some e = rw some refl
+    by true false among some e = rw some (any_less map paths targets (subst (λ (x : Bool). (is_some (cond x None (map path)) || has_any (with_each paths None map) targets) ≡ true) among e))
+    by false false among some e = rw some (any_less map paths targets (subst (λ (y : Bool). (y || has_any (with_each paths None map) targets) ≡ true) some (subst (λ (x : Bool). (is_some (cond x None (map path)) || has_any (with_each paths None map) targets) ≡ true) among e)))
+
+same_bytes : (path : List ℕ) → bytes_eq path path ≡ true
+same_bytes path = (bytes_eq-Decides path path).1 refl
+
+among_middle : (front : List (List ℕ)) (path : List ℕ) (rest : List (List ℕ)) → is_among (front ++ path ∷ rest) path ≡ true
+among_middle [] path rest = rw (same_bytes path) refl
+among_middle (first ∷ front) path rest = rw (among_middle front path rest) (or_true (bytes_eq first path))
+  where
+    or_true : (b : Bool) → (b || true) ≡ true
+    or_true true = refl
+    or_true false = refl
+
+none_left : (map : Map) (front rest : List (List ℕ)) → has_any (with_each (front ++ rest) None map) rest ≡ false
+none_left map front [] = refl
+none_left map front (path ∷ rest) =
+    let here : is_among (front ++ path ∷ rest) path ≡ true = among_middle front path rest in
+    let later : has_any (with_each (front ++ path ∷ rest) None map) rest ≡ false =
+    subst (λ (paths : List (List ℕ)). has_any (with_each paths None map) rest ≡ false) (append_assoc front (path ∷ []) rest) (none_left map (front ++ path ∷ []) rest) in
+    subst (λ (b : Bool). (is_some (cond b None (map path)) || has_any (with_each (front ++ path ∷ rest) None map) rest) ≡ false) (sym here) later
+
+pub none_withdrawn : (map : Map) (targets : List (List ℕ)) → has_any (with_each targets None map) targets ≡ false
+none_withdrawn map targets = none_left map [] targets
+
+not_true : (b : Bool) → b ≢ true → b ≡ false
+not_true true e = absurd (e refl)
+not_true false e = refl
+
+same_apart : (map : Map) (rec : Option Rec) (paths front rest : List (List ℕ)) → AreApart paths (front ++ rest) → has_any (with_each paths rec map) rest ≡ has_any map rest
+same_apart map rec paths front [] apart = refl
+same_apart map rec paths front (path ∷ rest) apart =
+    let out : is_among paths path ≡ false = not_true (is_among paths path) (λ among. apart path among (among_middle front path rest)) in
+    let later = same_apart map rec paths (front ++ path ∷ []) rest (subst (λ (x : List (List ℕ)). AreApart paths x) (sym (append_assoc front (path ∷ []) rest)) apart) in
+    rw (out, later) refl
+
+pub any_apart : (map : Map) (rec : Option Rec) (paths targets : List (List ℕ)) → AreApart paths targets → has_any (with_each paths rec map) targets ≡ has_any map targets
+any_apart map rec paths targets apart = same_apart map rec paths [] targets apart
+
+-- ---- tickets after a call
+
+-- another one's room stays, and no more is owed
+pub out_still : (old new : Store) (rec : Rec) (ticket : Ticket) → IsOut old rec ticket → IsTicket new rec ticket → length new.rooms.items ≡ length old.rooms.items
+    → slice_index new.rooms.items ticket.room ≡ slice_index old.rooms.items ticket.room → (has_any (map_of new) rec.targets ≡ true → has_any (map_of old) rec.targets ≡ true) → IsOut new rec ticket
+out_still old new rec ticket out own rooms here less = record {
+  own = own;
+  spells = out.spells;
+  fits = out.fits;
+  room = record {
+    inside = let inside = out.room.inside in omega (arith, inside, rooms);
+    enough = let enough = out.room.enough in omega (arith, enough, here, owed_less (has_any (map_of new) rec.targets) (has_any (map_of old) rec.targets) (length ticket.put.items) (length ticket.withdrawal.items) less);
+  };
+}
+
+pub less_withdrawn : (old new : Map) (paths targets : List (List ℕ)) → new ≡ with_each paths None old → has_any new targets ≡ true → has_any old targets ≡ true
+less_withdrawn old new paths targets is some = any_less old paths targets (subst (λ (map : Map). has_any map targets ≡ true) is some)
+
+pub less_apart : (old new : Map) (rec : Option Rec) (paths targets : List (List ℕ)) → new ≡ with_each paths rec old → AreApart paths targets → has_any new targets ≡ true → has_any old targets ≡ true
+less_apart old new rec paths targets is apart some = sym (any_apart old rec paths targets apart) ∙ subst (λ (map : Map). has_any map targets ≡ true) is some
+
+-- a ticket whose targets were withdrawn
+pub out_withdrawn : (old new : Store) (rec : Rec) (ticket : Ticket) → IsOut old rec ticket → IsTicket new rec ticket → has_any (map_of old) rec.targets ≡ true → TakesRoom ticket.room (length ticket.withdrawal.items) old new
+    → map_of new ≡ with_each rec.targets None (map_of old) → IsOut new rec ticket
+out_withdrawn old new rec ticket out own some takes map = record {
+  own = own;
+  spells = out.spells;
+  fits = out.fits;
+  room = record {
+    inside = let inside = out.room.inside in let rooms = takes.rooms in omega (arith, inside, rooms);
+    enough =
+        let enough = out.room.enough in
+        let here = takes.here in
+        let none : has_any (map_of new) rec.targets ≡ false = subst (λ (m : Map). has_any m rec.targets ≡ false) (sym map) (none_withdrawn (map_of old) rec.targets) in
+        omega (arith, enough, here, both_owed (has_any (map_of old) rec.targets) (length ticket.put.items) (length ticket.withdrawal.items) some, put_owed (has_any (map_of new) rec.targets) (length ticket.put.items) (length ticket.withdrawal.items) none);
+  };
+}
