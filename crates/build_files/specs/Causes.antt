@@ -1,18 +1,12 @@
 -- Why a look at the files of a build ends, and what of the outside that stands for.
-use Rattle.std.specs.Prelude.{◌≡◌, ◌≤◌, Result, Ok, Err}
+use Rattle.std.specs.Prelude.{◌≡◌, Result, Ok, Err}
 use Rattle.world_api.specs.Causes.{TreeFails}
 use Rattle.world_api.specs.Counts.{Counts}
+use Rattle.world_api.specs.Looks.{IsTreeAlone}
 use Rattle.rule_graph.specs.declared.build_fault.BuildFault.{BuildFault}
 use Rattle.rule_graph.specs.declared.build_fault.BuildFault.TheVariants as fault
 use Rattle.build_files.specs.declared.end.ListEnd.{ListEnd}
 use Rattle.build_files.specs.declared.end.ListEnd.TheVariants as end
-
--- no fault but those of the file tree was counted
-pub record IsTreeAlone (old new : Counts) : Type 0 where
-  pub disk : new.disk_faults ≡ old.disk_faults
-  pub tree : old.tree_faults ≤ new.tree_faults
-  pub start : new.start_faults ≡ old.start_faults
-  pub action : new.action_failures ≡ old.action_failures
 
 -- a fault of the file tree comes only where its count rose; a file that is too large, and too many of something, only
 -- where nothing was at fault; and no other fault comes

@@ -1,6 +1,6 @@
 //! The files that a file includes.
 ghost use Rattle.build_files.specs.Causes.{HasLookCause};
-ghost use Rattle.build_files.specs.Looks.{Looks};
+ghost use Rattle.world_api.specs.Looks.{Looks};
 
 use crate::end::ListEnd;
 use crate::inputs::Inputs;

@@ -1,6 +1,6 @@
 //! The files of a build.
 ghost use Rattle.build_files.specs.Causes.{HasLookCause};
-ghost use Rattle.build_files.specs.Looks.{Looks};
+ghost use Rattle.world_api.specs.Looks.{Looks};
 
 use crate::end::ListEnd;
 use crate::includes::Found;

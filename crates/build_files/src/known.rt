@@ -1,6 +1,6 @@
 //! Which paths are known: those that a rule makes, and those at which a file stands.
 ghost use Rattle.build_files.specs.Causes.{HasLookCause, IsQuiet};
-ghost use Rattle.build_files.specs.Looks.{Looks};
+ghost use Rattle.world_api.specs.Looks.{Looks};
 
 use crate::end::ListEnd;
 use crate::inputs::{Inputs, is_file_at};

@@ -1,6 +1,6 @@
 //! What a rule's record would be now, and whether the rule is stale.
 ghost use Rattle.build_files.specs.Causes.{HasLookCause};
-ghost use Rattle.build_files.specs.Looks.{Looks};
+ghost use Rattle.world_api.specs.Looks.{Looks};
 
 use crate::end::ListEnd;
 use crate::inputs::{Inputs, is_file_at, stamp_at};

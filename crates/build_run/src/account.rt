@@ -4,9 +4,9 @@ ghost use Rattle.std.specs.Prelude.{◌≡◌, false};
 use build_files::ListEnd;
 use rule_graph::BuildFault;
 use scons_base::RuleId;
-use scons_report::{fault_text, print};
+use scons_report::fault_text;
 use std::alloc::Global;
-use world_api::Sink;
+use world_api::{Sink, print};
 
 /// What was found so far. A sink or a store that refused isn't called again.
 #[derive(Drop)]

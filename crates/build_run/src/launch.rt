@@ -12,9 +12,8 @@ use build_files::{ListEnd, first_target};
 use indexmap::IndexSet;
 use rule_graph::{BuildFault, Graph};
 use scons_base::{PathText, RuleId};
-use scons_report::print;
 use sign_store::{Store, Ticket};
-use world_api::{AskRefusal, Job, Sink, World};
+use world_api::{AskRefusal, Job, Sink, World, print};
 
 /// Clears the way of a job, prints its text and starts it.
 pub(crate) fn launch<W: World, O: Sink>(

@@ -6,9 +6,9 @@ use Rattle.one_rule.specs.declared.report.Top.TheVariants.{OutFault}
 use Rattle.one_rule.specs.declared.stops.PrintStop.{PrintStop}
 use Rattle.one_rule.specs.declared.stops.PrintStop.TheVariants as stop
 use Rattle.one_rule.specs.Conclusion.{Closes, closed, cut, EndsOutput, ended, refused, Reports, stop_status, stop_faults, ErrorPrints}
-use Rattle.one_rule.specs.Printing.{Prints, PrintsSome, Cuts}
+use Rattle.world_api.specs.Printing.{Prints, PrintsSome, Cuts}
 use Rattle.one_rule.specs.Run.{out_refused, err_refused, no_memory}
-use Rattle.one_rule.proofs.PrintRuns.{prints_nothing}
+use Rattle.world_api.proofs.PrintRuns.{prints_nothing}
 
 module _ {S : Type 0} (meaning : SinkMeaning S) where
   pub some_of : (old new : S) (text : List ℕ) → Prints meaning old new text → PrintsSome meaning old new text

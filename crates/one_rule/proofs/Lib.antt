@@ -1,5 +1,4 @@
 pub mod LineParts
-pub mod PrintRuns
 pub mod Quiet
 pub mod Misread
 pub mod StopPrints

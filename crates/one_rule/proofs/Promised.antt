@@ -12,8 +12,9 @@ use Rattle.one_rule.specs.declared.report.Top.TheVariants.{Usage, Reading, Missi
 use Rattle.one_rule.specs.Building.{built}
 use Rattle.one_rule.specs.Course.{Course, Refused, Misread, Stopped, Failed, Built, faults_of, output_of, errors_of}
 use Rattle.one_rule.specs.Ends.{FaultCause}
-use Rattle.one_rule.specs.Printing.{Prints}
-use Rattle.one_rule.specs.Promises.{HasStatus, Succeeds, IsExplained, HasRisen, IsSteady, NoneRose, IsOfInput, IsInner, IsCalledFor}
+use Rattle.world_api.specs.Printing.{Prints}
+use Rattle.world_api.specs.Statuses.{HasStatus}
+use Rattle.one_rule.specs.Promises.{Succeeds, IsExplained, HasRisen, IsSteady, NoneRose, IsOfInput, IsInner, IsCalledFor}
 use Rattle.one_rule.specs.Run.{MayTake, builds, IsDue, IsCut, out_refused, err_refused, no_memory, CourseCause, Takes, Runs, whole, unprinted, broken, status_of}
 use Rattle.one_rule.proofs.OneCourse.{course_one}
 

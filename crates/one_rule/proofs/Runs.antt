@@ -16,12 +16,12 @@ use Rattle.one_rule.specs.Building.{Unchanged, Leaves, LeavesBy, HasSource, MayB
 use Rattle.one_rule.specs.Course.{Course, Refused, Misread, Stopped, Failed, Built, announced_text, body_text}
 use Rattle.one_rule.specs.Endings.{Comes, EndsAs, read_ending, build_ending}
 use Rattle.one_rule.specs.Ends.{FaultCause, ReadCause, ReadGives, ReadPrints, BuildCause, BuildGives, BuildMakes, BuildPrints}
-use Rattle.one_rule.specs.Printing.{Prints, PrintsPart}
+use Rattle.world_api.specs.Printing.{Prints, PrintsPart}
 use Rattle.one_rule.specs.Reading.{Reads}
 use Rattle.one_rule.specs.Run.{MayTake, refused, misread, builds, LeavesAll}
 use Rattle.one_rule.specs.Texts.{reading_text}
 use Rattle.one_rule.proofs.Builds.{no_change, unchanged_idles, step_leaves, made_after}
-use Rattle.one_rule.proofs.PrintRuns.{prints_nothing, prints_both, cut_second, part_of, part_second}
+use Rattle.world_api.proofs.PrintRuns.{prints_nothing, prints_both, cut_second, part_of, part_second}
 
 pub unchanged_both : (old mid new : Around) → Unchanged old mid → Unchanged mid new → Unchanged old new
 unchanged_both old mid new first second = record {

@@ -9,9 +9,9 @@ use Rattle.one_rule.specs.declared.rule.Rule.{Rule}
 use Rattle.one_rule.specs.BuildSteps.{IsNoPrintStop, IsFailStop, LinePrints}
 use Rattle.one_rule.specs.Course.{announced_text, body_text}
 use Rattle.one_rule.specs.Ends.{ReadPrints, BuildPrints}
-use Rattle.one_rule.specs.Printing.{Prints, PrintsPart}
+use Rattle.world_api.specs.Printing.{Prints, PrintsPart}
 use Rattle.one_rule.specs.Texts.{reading_text, line_text}
-use Rattle.one_rule.proofs.PrintRuns.{part_of, prints_both, cut_second}
+use Rattle.world_api.proofs.PrintRuns.{part_of, prints_both, cut_second}
 
 pub read_stop_prints : {S : Type 0} (meaning : SinkMeaning S) (old new : S) (stop : ReadStop) → stop ≢ read.Unprinted → Prints meaning old new reading_text → ReadPrints meaning old new (Err stop)
 read_stop_prints meaning old new (read.Fault fault) other printed = printed

@@ -12,10 +12,10 @@ use Rattle.one_rule.specs.declared.ending.Ending.TheVariants as end
 use Rattle.one_rule.specs.Conclusion.{Closes, closed, cut, EndsOutput, ended, refused, Concludes}
 use Rattle.one_rule.specs.Course.{Course, Refused, Misread, Stopped, Failed, Built, begun_text, end_text, output_of, errors_of, faults_of}
 use Rattle.one_rule.specs.Endings.{Comes, EndsAs}
-use Rattle.one_rule.specs.Printing.{Prints, PrintsThen, PrintsPart, PrintsSome}
+use Rattle.world_api.specs.Printing.{Prints, PrintsThen, PrintsPart, PrintsSome}
 use Rattle.one_rule.specs.Run.{status_of, MayPrint, IsCut, out_refused, no_memory, Runs, whole, unprinted, broken}
 use Rattle.one_rule.specs.Texts.{done_text}
-use Rattle.one_rule.proofs.PrintRuns.{prints_nothing, prints_both}
+use Rattle.world_api.proofs.PrintRuns.{prints_nothing, prints_both}
 use Rattle.one_rule.proofs.Closing.{some_of, none_of, cut_of}
 
 module _ {S : Type 0} (meaning : SinkMeaning S) where

@@ -10,7 +10,7 @@ use Rattle.world_api.specs.declared.job.Outcome.{Outcome}
 use Rattle.world_api.specs.declared.job.Outcome.TheVariants as outcome
 use Rattle.world_api.specs.Printed.{SinkMeaning}
 use Rattle.one_rule.specs.declared.rule.Rule.{Rule}
-use Rattle.one_rule.specs.Printing.{Prints, Cuts}
+use Rattle.world_api.specs.Printing.{Prints, Cuts}
 use Rattle.one_rule.specs.Texts.{line_text}
 use Rattle.one_rule.specs.declared.report.Top.TheVariants.{Missing, TreeFault, TooLarge, StartFault, ActionFailed}
 use Rattle.one_rule.specs.declared.stops.BuildStop.{BuildStop}

@@ -7,7 +7,7 @@ use Rattle.one_rule.specs.declared.ending.Ending.{Ending}
 use Rattle.one_rule.specs.declared.ending.Ending.TheVariants.{Refused, Misread, Stopped, Failed, Built, Unprinted, NoMemory}
 use Rattle.one_rule.specs.declared.stops.PrintStop.{PrintStop}
 use Rattle.one_rule.specs.declared.stops.PrintStop.TheVariants as stop
-use Rattle.one_rule.specs.Printing.{Prints, PrintsSome, Cuts}
+use Rattle.world_api.specs.Printing.{Prints, PrintsSome, Cuts}
 use Rattle.one_rule.specs.Run.{IsCut}
 use Rattle.one_rule.specs.Texts.{fault_text, done_text, terminated_text}
 

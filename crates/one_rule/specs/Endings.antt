@@ -10,7 +10,7 @@ use Rattle.one_rule.specs.declared.stops.BuildStop.TheVariants as build
 use Rattle.one_rule.specs.declared.ending.Ending.{Ending}
 use Rattle.one_rule.specs.declared.ending.Ending.TheVariants.{Refused, Misread, Stopped, Failed, Built, Unprinted, NoMemory}
 use Rattle.one_rule.specs.Course as way
-use Rattle.one_rule.specs.Printing.{Prints, PrintsPart, Cuts}
+use Rattle.world_api.specs.Printing.{Prints, PrintsPart, Cuts}
 use Rattle.one_rule.specs.Run.{Takes, MayPrint}
 
 abbrev pub read_ending : ReadStop → Ending

@@ -15,7 +15,7 @@ use Rattle.one_rule.specs.declared.stops.BuildStop.TheVariants as build
 use Rattle.one_rule.specs.Building.{MayBuild, HasLog, clean_content}
 use Rattle.one_rule.specs.Course.{Stopped, Failed as Fails_, Built, announced_text, body_text}
 use Rattle.one_rule.specs.Reading.{Reads, Misreads}
-use Rattle.one_rule.specs.Printing.{Prints, PrintsPart, Cuts}
+use Rattle.world_api.specs.Printing.{Prints, PrintsPart, Cuts}
 use Rattle.one_rule.specs.Texts.{reading_text}
 
 -- the count of the outside that a fault stands for; the other faults leave the counts as they were. No step ends by a

@@ -1,7 +1,6 @@
 pub mod LineForm
 pub mod Fields
 pub mod Texts
-pub mod Printing
 pub mod Course
 pub mod Reading
 pub mod Building

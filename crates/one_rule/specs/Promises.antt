@@ -11,12 +11,8 @@ use Rattle.one_rule.specs.declared.report.Top.{Top}
 use Rattle.one_rule.specs.declared.report.Top.TheVariants.{Usage, Reading, Missing, ActionFailed, TreeFault, StartFault, OutFault, TooLarge}
 use Rattle.one_rule.specs.Building.{HasLog, clean_content}
 use Rattle.one_rule.specs.Course.{Course, Refused, Misread, Stopped, Failed, Built, faults_of, output_of}
-use Rattle.one_rule.specs.Printing.{Prints}
+use Rattle.world_api.specs.Printing.{Prints}
 use Rattle.one_rule.specs.Run.{MayTake, IsDue, status_of}
-
--- status 0 with no fault, 2 with some, or 3 for want of memory
-abbrev pub HasStatus : ℕ → List Top → Type 0
-HasStatus status faults = ((status ≡ 0) × (faults ≡ [])) ⊎ ((status ≡ 2) × (faults ≢ [])) ⊎ (status ≡ 3)
 
 -- A run that ends with status 0: the script's rule is due, its target has the bytes of a clean build of the sources as
 -- they stand, its job was started once and done, nothing outside was at fault, and the stated lines are printed.

@@ -12,7 +12,7 @@ use Rattle.one_rule.specs.declared.report.UsageKind.TheVariants.{NotBuilt}
 use Rattle.one_rule.specs.Building.{Unchanged, HasSource, Leaves, MayBuild}
 use Rattle.one_rule.specs.Course.{Course, Refused, Misread, Stopped, Failed, Built, faults_of, begun_text, end_text, output_of, errors_of}
 use Rattle.one_rule.specs.Ends.{FaultCause, FailLogs, Makes}
-use Rattle.one_rule.specs.Printing.{Prints, PrintsThen, PrintsSome}
+use Rattle.world_api.specs.Printing.{Prints, PrintsThen, PrintsSome}
 use Rattle.one_rule.specs.Reading.{Reads, Misreads}
 
 -- The courses that a run over these words and files may take. Of the faults it names exactly those of the words and the

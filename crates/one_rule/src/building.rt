@@ -3,18 +3,19 @@ ghost use Rattle.std.specs.Prelude.{◌≡◌, ◌≢◌, [], None, IfOk, IfErr,
 ghost use Rattle.world_api.specs.Meaning.{Told};
 ghost use Rattle.one_rule.specs.Building.{Idles, Unchanged, LeavesBy, Leaves, job_of};
 ghost use Rattle.one_rule.specs.Course.{announced_text};
-ghost use Rattle.one_rule.specs.Printing.{Prints, Cuts};
+ghost use Rattle.world_api.specs.Printing.{Prints, Cuts};
 ghost use Rattle.one_rule.specs.Ends.{BuildCause, BuildGives, BuildMakes, BuildPrints};
 ghost use Rattle.one_rule.specs.BuildSteps.{StepGives, StepCause, IsNoPrintStop, IsFailStop, LinePrints, source_result, unread_stop, unstarted_stop, ended_result};
 
-use crate::printing::print;
 use crate::report::Top;
 use crate::rule::Rule;
 use crate::stops::BuildStop;
 use crate::texts::{building_text, line_text, read_text};
 use scons_base::{Listing, Memory, Paths, Texts};
 use std::alloc::Global;
-use world_api::{AskRefusal, Content, Fault, Job, Line, Outcome, ReadRefusal, Sink, Work, World};
+use world_api::{
+    AskRefusal, Content, Fault, Job, Line, Outcome, ReadRefusal, Sink, Work, World, print,
+};
 
 /// How many bytes a file that is read may have.
 const FILE_LIMIT: u64 = 67_108_864;

@@ -5,13 +5,12 @@ ghost use Rattle.one_rule.specs.Texts.{fault_text};
 
 use crate::ending::Ending;
 use crate::faults::Faults;
-use crate::printing::print;
 use crate::report::{Report, Top};
 use crate::skipped::Skipped;
 use crate::stops::PrintStop;
 use crate::texts::{done_text, fault_text, terminated_text};
 use std::alloc::Global;
-use world_api::Sink;
+use world_api::{Sink, print};
 
 /// Prints the last text of a run, and reports it. `faults` is empty and has room for two.
 pub fn conclude<O: Sink, E: Sink>(

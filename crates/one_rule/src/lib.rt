@@ -6,7 +6,6 @@ mod conclusion;
 mod ending;
 mod faults;
 mod line_form;
-mod printing;
 mod reading;
 mod report;
 mod rule;

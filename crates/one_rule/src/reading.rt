@@ -7,14 +7,13 @@ ghost use Rattle.one_rule.specs.Reading.{script};
 ghost use Rattle.one_rule.specs.ReadSteps.{IsRuleIn, misread_stop, refused_stop};
 
 use crate::line_form::{LineFault, read_line_form};
-use crate::printing::print;
 use crate::report::{ReadKind, Top};
 use crate::rule::Rule;
 use crate::stops::ReadStop;
 use crate::texts::reading_text;
 use scons_base::{Memory, PathFault, PathText};
 use std::alloc::Global;
-use world_api::{Content, ReadRefusal, Sink, World};
+use world_api::{Content, ReadRefusal, Sink, World, print};
 
 /// How many bytes a script may have.
 const SCRIPT_LIMIT: u64 = 1_048_576;

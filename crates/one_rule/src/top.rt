@@ -2,7 +2,8 @@
 ghost use Rattle.std.specs.Prelude.{◌≡◌, ◌≢◌, [], Contains};
 ghost use Rattle.world_api.specs.Meaning.{Told};
 ghost use Rattle.one_rule.specs.declared.report.Top.{Top};
-ghost use Rattle.one_rule.specs.Promises.{HasStatus, Succeeds, IsExplained, HasRisen, NoneRose, IsCalledFor};
+ghost use Rattle.world_api.specs.Statuses.{HasStatus};
+ghost use Rattle.one_rule.specs.Promises.{Succeeds, IsExplained, HasRisen, NoneRose, IsCalledFor};
 ghost use Rattle.one_rule.specs.Run.{LeavesAll, Runs};
 
 use crate::conclusion::{conclude, out_of_memory};

@@ -1,4 +1,3 @@
 pub mod Texts
 pub mod Faults
 pub mod Lines
-pub mod Printing

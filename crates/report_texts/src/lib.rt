@@ -6,12 +6,10 @@
 
 mod faults;
 mod lines;
-mod printing;
 mod texts;
 
 pub use faults::fault_text;
 pub use lines::rule_text;
-pub use printing::print;
 pub use texts::{
     building_text, cleaned_text, cleaning_text, done_text, done_with_errors_text, help_text,
     load_text, nothing_text, read_text, reading_text, removed_text, terminated_text,

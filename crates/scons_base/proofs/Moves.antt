@@ -10,6 +10,7 @@ use Rattle.std.proofs.lemmas.Slice.Eq.{starts_is}
 use Rattle.std.proofs.lemmas.List.{drop-drop, length-append}
 use Rattle.std.proofs.lemmas.List.Folds.{list_all-append}
 use Rattle.std.proofs.lemmas.List.Splits.{length-slice_split}
+use Rattle.scons_base.specs.declared.limits.TheConstants.{PATH_LIMIT}
 use Rattle.scons_base.specs.Normal.{slash, is_name, is_normal, parts_of, below_root, is_top, is_root}
 use Rattle.scons_base.specs.Parts.{is_absolute, is_below, rest_below, joined}
 use Rattle.scons_base.specs.PathFaults.{is_path}
@@ -165,7 +166,7 @@ rest_zero_free path dir z =
 
 -- what stands behind a directory, put behind another one, is a path
 pub joined_path : (path from to path' from' to' rest text : List ℕ) → IsTrue (is_path path) → IsTrue (is_path from) → IsTrue (is_path to) → is_below path from ≡ true
-    → path' ≡ path → from' ≡ from → to' ≡ to → rest ≡ rest_below path' from' → text ≡ joined to' rest → length text ≤ 4096 → IsTrue (is_path text)
+    → path' ≡ path → from' ≡ from → to' ≡ to → rest ≡ rest_below path' from' → text ≡ joined to' rest → length text ≤ PATH_LIMIT → IsTrue (is_path text)
 joined_path path from to path' from' to' rest text p f t below e1 e2 e3 r j l =
     let sound = path_sound to t in
     let n : list_all is_name (cut rest) ≡ true = rw (r, e1, e2) (rest_names path from (path_sound path p) (path_sound from f) below) in

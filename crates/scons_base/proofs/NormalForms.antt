@@ -8,6 +8,7 @@ use Rattle.std.proofs.lemmas.Bool.{and_parts, eqb-false, not-true, le-ltb, ltb-f
 use Rattle.std.proofs.lemmas.List.Folds.{list_all-append}
 use Rattle.std.proofs.lemmas.List.Sums.{AllPass-from_list_all, list_all-from_AllPass, position_or_len_is, fails_before_first}
 use Rattle.std.proofs.lemmas.List.Splits.{slice_split_none, slice_split_at}
+use Rattle.scons_base.specs.declared.limits.TheConstants.{PATH_LIMIT}
 use Rattle.scons_base.specs.Normal.{slash, is_name, is_normal, parts_of, below_root, is_top, is_root}
 use Rattle.scons_base.specs.Parts.{is_absolute}
 use Rattle.scons_base.specs.PathFaults.{fault_in, fault_past_zero, is_path}
@@ -159,14 +160,14 @@ position_none text h =
     rw (n, le-ltb (length text) (length text) (omega arith)) refl
 
 -- a text in normal form that is neither empty nor too long and has no zero byte is a path
-pub path_from : (text : List ℕ) → is_normal text ≡ true → is_zero_free text ≡ true → 0 < length text → length text ≤ 4096 → IsTrue (is_path text)
+pub path_from : (text : List ℕ) → is_normal text ≡ true → is_zero_free text ≡ true → 0 < length text → length text ≤ PATH_LIMIT → IsTrue (is_path text)
 path_from text n z f l =
     let full : (length text == 0) ≡ false = ne_eqb _ _ (omega arith) in
-    let fits : nat_lt 4096 (length text) ≡ false = le-ltb _ _ l in
+    let fits : nat_lt PATH_LIMIT (length text) ≡ false = le-ltb _ _ l in
     let e : fault_in text ≡ None = rw (full, position_none text z, fits, n) refl in
     rw e refl
 
-pub spelled_path : (top place : List (List ℕ)) → list_all is_part place ≡ true → length (spelled top place) ≤ 4096 → IsTrue (is_path (spelled top place))
+pub spelled_path : (top place : List (List ℕ)) → list_all is_part place ≡ true → length (spelled top place) ≤ PATH_LIMIT → IsTrue (is_path (spelled top place))
 spelled_path top place h l = by (starts_with bytes_eq place top) refl
   where
     by : (b : Bool) → starts_with bytes_eq place top ≡ b → IsTrue (is_path (spelled top place))
@@ -201,9 +202,9 @@ pub record IsSound (text : List ℕ) : Type 0 where
   pub zero_free : is_zero_free text ≡ true
   pub normal : is_normal text ≡ true
   pub full : 0 < length text
-  pub fits : length text ≤ 4096
+  pub fits : length text ≤ PATH_LIMIT
 
-sound_by : (text : List ℕ) (e : Bool) (o : Option ℕ) (long n : Bool) → (length text == 0) ≡ e → position (λ b. b == 0) text ≡ o → nat_lt 4096 (length text) ≡ long → is_normal text ≡ n
+sound_by : (text : List ℕ) (e : Bool) (o : Option ℕ) (long n : Bool) → (length text == 0) ≡ e → position (λ b. b == 0) text ≡ o → nat_lt PATH_LIMIT (length text) ≡ long → is_normal text ≡ n
     → is_none (if e then Some Empty else by_zero text o long n) ≡ true → IsSound text
 sound_by text true o long n f p l m h = absurd (true≢false (sym h))
 sound_by text false (Some k) long n f p l m h = absurd (true≢false (sym h))
@@ -212,15 +213,15 @@ sound_by text false None false false f p l m h = absurd (true≢false (sym h))
 sound_by text false None false true f p l m h = record { zero_free = zero_free_from_position text p; normal = m; full = let k = eqb-false _ _ f in omega arith; fits = ltb-false _ _ l }
 
 pub path_sound : (text : List ℕ) → IsTrue (is_path text) → IsSound text
-path_sound text h = sound_by text (length text == 0) (position (λ b. b == 0) text) (nat_lt 4096 (length text)) (is_normal text) refl refl refl refl (by_same text (position (λ b. b == 0) text) ∙ h)
+path_sound text h = sound_by text (length text == 0) (position (λ b. b == 0) text) (nat_lt PATH_LIMIT (length text)) (is_normal text) refl refl refl refl (by_same text (position (λ b. b == 0) text) ∙ h)
   where
-    by_same : (text : List ℕ) (o : Option ℕ) → is_none (if length text == 0 then Some Empty else by_zero text o (nat_lt 4096 (length text)) (is_normal text)) ≡ is_none (if length text == 0 then Some Empty else fault_past_zero text o)
+    by_same : (text : List ℕ) (o : Option ℕ) → is_none (if length text == 0 then Some Empty else by_zero text o (nat_lt PATH_LIMIT (length text)) (is_normal text)) ≡ is_none (if length text == 0 then Some Empty else fault_past_zero text o)
     by_same text None = refl
     by_same text (Some k) = refl
 
 -- what a text resolves to is a path where it isn't too long
 pub resolved_path : (top dir text top' dir' normal : List ℕ) → IsTrue (is_path top) → IsTrue (is_path dir) → position (λ b. b == 0) text ≡ None
-    → top' ≡ top → dir' ≡ dir → normal ≡ resolved top' dir' text → length normal ≤ 4096 → IsTrue (is_path normal)
+    → top' ≡ top → dir' ≡ dir → normal ≡ resolved top' dir' text → length normal ≤ PATH_LIMIT → IsTrue (is_path normal)
 resolved_path top dir text top' dir' normal t d z e f n l =
     let m : normal ≡ resolved top dir text = n ∙ rw (e, f) refl in
     rw m (spelled_path (walk [] top) (target top dir text) (target_parts top dir text (path_sound top t).zero_free (path_sound dir d).zero_free (zero_free_from_position text z)) (rw m at l))

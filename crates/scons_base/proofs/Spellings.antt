@@ -8,6 +8,7 @@ use Rattle.std.proofs.lemmas.List.{length-append}
 use Rattle.std.proofs.lemmas.List.Splits.{length-slice_split}
 use Rattle.std.proofs.lemmas.Slice.Eq.{starts_is, bytes_eq-Decides}
 use Rattle.std.proofs.Math.Seq.{drop-append_seam}
+use Rattle.scons_base.specs.declared.limits.TheConstants.{PATH_LIMIT}
 use Rattle.scons_base.specs.Normal.{slash, dot, is_name, is_top, is_root}
 use Rattle.scons_base.specs.Parts.{is_absolute}
 use Rattle.scons_base.specs.PathFaults.{is_path}
@@ -224,6 +225,6 @@ absolute_spelled top path top' path' text t p a e f s =
     let named = absolute_named path (path_sound path p) a in
     let place : place_of top path ≡ named.names = ap (λ b. place_if top b path) a ∙ ap (walk []) named.text ∙ absolute_walk named.names named.parts in
     let whole : text ≡ spelled (walk [] top) named.names = s ∙ rw (e, f) refl ∙ ap (spelled (walk [] top)) place in
-    let short : length (spelled (walk [] top) named.names) ≤ 4096 = omega (arith, fits, spelled_shorter (walk [] top) named.names, ap length named.text) in
+    let short : length (spelled (walk [] top) named.names) ≤ PATH_LIMIT = omega (arith, fits, spelled_shorter (walk [] top) named.names, ap length named.text) in
     let back = leads_back top named.names named.parts (cut_pass is_part (length (walk [] top)) named.names named.parts).1 in
     (rw whole (spelled_path (walk [] top) named.names named.parts short), resolved_by top text named.names whole (ap (place_of top) whole ∙ back))

@@ -2,6 +2,7 @@
 use Rattle.std.specs.Prelude.{ℕ, Bool, false, not, List, [], ◌∷◌, ◌++◌, ◌-◌, ◌+◌, ◌==◌, ◌&&◌, ◌||◌, nat_le, nat_eq, Option, Some, None, length, take, drop, if◌then◌else◌}
 use Rattle.std.specs.List.{suffix_len, starts_with}
 use Rattle.std.specs.Str.{bytes_eq}
+use Rattle.scons_base.specs.declared.limits.TheConstants.{PATH_LIMIT}
 use Rattle.scons_base.specs.Normal.{slash, dot, is_top, is_root}
 
 -- an absolute path begins with a slash
@@ -65,4 +66,4 @@ moved path from to = if bytes_eq path from then to else joined to (rest_below pa
 -- and the path of that text: none where `path` doesn't lie in `from`, or the text is too long
 abbrev pub moved_path : List ℕ → List ℕ → List ℕ → Option (List ℕ)
 moved_path path from to =
-    if lies_in path from && nat_le (length (moved path from to)) 4096 then Some (moved path from to) else None
+    if lies_in path from && nat_le (length (moved path from to)) PATH_LIMIT then Some (moved path from to) else None

@@ -2,12 +2,13 @@
 use Rattle.std.specs.Prelude.{ℕ, Bool, is_none, List, ◌==◌, nat_lt, length, position, Option, Some, None, if◌then◌else◌}
 use Rattle.scons_base.specs.declared.fault.PathFault.{PathFault}
 use Rattle.scons_base.specs.declared.fault.PathFault.TheVariants.{Empty, BadByte, TooLong, NotNormal}
+use Rattle.scons_base.specs.declared.limits.TheConstants.{PATH_LIMIT}
 use Rattle.scons_base.specs.Normal.{is_normal}
 
 abbrev pub fault_past_zero : List ℕ → Option ℕ → Option PathFault
 fault_past_zero text (Some place) = Some (BadByte place)
 fault_past_zero text None =
-    if nat_lt 4096 (length text) then Some (TooLong (length text)) else (if is_normal text then None else Some NotNormal)
+    if nat_lt PATH_LIMIT (length text) then Some (TooLong (length text)) else (if is_normal text then None else Some NotNormal)
 
 -- an empty text; the place of the first zero byte; the length of a text that is too long; another form than the normal one
 abbrev pub fault_in : List ℕ → Option PathFault

@@ -3,6 +3,7 @@
 use Rattle.std.specs.Prelude.{◌≡◌, ℕ, Bool, false, List, [], ◌∷◌, ◌++◌, ◌-◌, ◌==◌, ◌&&◌, nat_lt, Option, Some, None, length, take, drop, position, if◌then◌else◌}
 use Rattle.std.specs.List.{slice_split, starts_with}
 use Rattle.std.specs.Str.{bytes_eq}
+use Rattle.scons_base.specs.declared.limits.TheConstants.{PATH_LIMIT}
 use Rattle.scons_base.specs.declared.fault.PathFault.{PathFault}
 use Rattle.scons_base.specs.declared.fault.PathFault.TheVariants.{Empty, BadByte, TooLong}
 use Rattle.scons_base.specs.Normal.{slash, dot, is_name}
@@ -84,7 +85,7 @@ pub record IsResolved (top path : List ℕ) : Type 0 where
   pub named : is_from_top path ≡ false → resolved top (dot ∷ []) path ≡ path
 
 abbrev pub fault_of_length : List ℕ → Option PathFault
-fault_of_length path = if nat_lt 4096 (length path) then Some (TooLong (length path)) else None
+fault_of_length path = if nat_lt PATH_LIMIT (length path) then Some (TooLong (length path)) else None
 
 abbrev pub fault_of_place : List ℕ → Option ℕ → Option PathFault
 fault_of_place path (Some place) = Some (BadByte place)

@@ -1,6 +1,7 @@
 //! How much of each thing there may be.
 
-pub use crate::path::PATH_LIMIT;
+/// Bytes of a path.
+pub const PATH_LIMIT: usize = 4096;
 
 /// Nodes of a graph.
 pub const NODE_LIMIT: u32 = 100_000;
@@ -17,6 +18,12 @@ pub const FILE_LIMIT: u64 = 67_108_864;
 /// Bytes of a script.
 pub const SCRIPT_LIMIT: u64 = 1_048_576;
 
+/// Bytes of a file's name in a script of one line.
+pub const FILE_NAME_LIMIT: usize = 255;
+
+/// Bytes of the command in a script of one line.
+pub const COMMAND_LIMIT: usize = 1000;
+
 /// Jobs at a time.
 pub const JOB_LIMIT: u32 = 64;
 
@@ -31,6 +38,9 @@ pub const CALL_DEPTH_LIMIT: u32 = 200;
 
 /// Constructs open at one place of a script.
 pub const SYNTAX_DEPTH_LIMIT: u32 = 100;
+
+/// Levels of values inside one another that are compared or shown.
+pub const VALUE_DEPTH_LIMIT: u32 = 100;
 
 /// Bytes of a text in a script.
 pub const TEXT_LIMIT: u64 = 16_777_216;

@@ -11,14 +11,12 @@ ghost use Rattle.scons_base.specs.Normal.{is_name, is_normal, slash};
 ghost use Rattle.scons_base.specs.PathFaults.{fault_in, is_path};
 
 use crate::fault::PathFault;
+use crate::limits::PATH_LIMIT;
 use crate::memory::Memory;
 use std::alloc::Global;
 use std::cmp::Ordering;
 use std::hash::{Hash, Hasher};
 use std::marker::Model;
-
-/// How many bytes a path may have.
-pub const PATH_LIMIT: usize = 4096;
 
 /// A path in normal form, so that each path has one spelling: `.` for the top directory, names joined by single
 /// slashes below it, and a slash in front of an absolute path.

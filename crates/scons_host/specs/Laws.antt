@@ -13,9 +13,10 @@ use Rattle.scons_host.specs.declared.kept.Kept.{Kept}
 use Rattle.scons_host.specs.declared.stop.Stop.{Stop}
 use Rattle.scons_host.specs.declared.stop.Stop.TheVariants as stop
 use Rattle.scons_host.specs.Causes.{HasEndCause, HasStopCause, IsInside, IsEndOf, KeepsEnd}
-use Rattle.scons_host.specs.Looks.{IsTreeAlone, Looks, Prints}
+use Rattle.world_api.specs.Looks.{IsTreeAlone, LooksAtFiles}
+use Rattle.scons_host.specs.Prints.{Prints}
 use Rattle.scons_host.specs.Reading.{Seen, seen, Keeps, reading}
-use Rattle.scons_host.specs.Looking.{looks_same, looks_joined}
+use Rattle.world_api.proofs.Looking.{files_same, files_joined}
 
 out_is_no_tree : (path : List ℕ) → stop.Out ≡ stop.Tree path → ⊥
 out_is_no_tree path e = cc
@@ -122,7 +123,7 @@ prints_joined p a b c f g = record {
 module _ {W S : Type 0} (m : Meaning W) (p : SinkMeaning S) where
   pub keeps_same : (h : Seen W S) → Keeps m p h h
   keeps_same h = record {
-    looks = looks_same m h.world;
+    looks = files_same m h.world;
     prints = prints_same p h.out;
     later = omega arith;
     cause = λ e is. inl is;
@@ -130,7 +131,7 @@ module _ {W S : Type 0} (m : Meaning W) (p : SinkMeaning S) where
 
   pub keeps_joined : (a b c : Seen W S) → Keeps m p a b → Keeps m p b c → Keeps m p a c
   keeps_joined a b c f g = record {
-    looks = looks_joined m a.world b.world c.world f.looks g.looks;
+    looks = files_joined m a.world b.world c.world f.looks g.looks;
     prints = prints_joined p a.out b.out c.out f.prints g.prints;
     later = let x = f.later in let y = g.later in omega arith;
     cause = λ e is. elim (g.cause e is) [
@@ -143,7 +144,7 @@ module _ {W S : Type 0} (m : Meaning W) (p : SinkMeaning S) where
   }
 
   -- a call that was answered: it only looked
-  pub keeps_answered : (w w2 : W) (o : S) (k : Kept) → Looks m w w2 → Keeps m p (seen w o k) (seen w2 o k)
+  pub keeps_answered : (w w2 : W) (o : S) (k : Kept) → LooksAtFiles m w w2 → Keeps m p (seen w o k) (seen w2 o k)
   keeps_answered w w2 o k looks = record {
     looks = looks;
     prints = prints_same p o;
@@ -152,7 +153,7 @@ module _ {W S : Type 0} (m : Meaning W) (p : SinkMeaning S) where
   }
 
   -- a call that was refused, and what is kept of it
-  pub keeps_refused : (w w2 : W) (o : S) (k k2 : Kept) (s : Stop) → Looks m w w2 → HasStopCause (m.counts w) (m.counts w2) s → KeepsEnd s k.end k2.end → k.refusals ≤ k2.refusals → Keeps m p (seen w o k) (seen w2 o k2)
+  pub keeps_refused : (w w2 : W) (o : S) (k k2 : Kept) (s : Stop) → LooksAtFiles m w w2 → HasStopCause (m.counts w) (m.counts w2) s → KeepsEnd s k.end k2.end → k.refusals ≤ k2.refusals → Keeps m p (seen w o k) (seen w2 o k2)
   keeps_refused w w2 o k k2 s looks cause ends later = record {
     looks = looks;
     prints = prints_same p o;
@@ -166,7 +167,7 @@ module _ {W S : Type 0} (m : Meaning W) (p : SinkMeaning S) where
   -- a print, and one that was refused
   pub keeps_printed : (w : W) (o o2 : S) (k : Kept) → Prints p o o2 → Keeps m p (seen w o k) (seen w o2 k)
   keeps_printed w o o2 k prints = record {
-    looks = looks_same m w;
+    looks = files_same m w;
     prints = prints;
     later = omega arith;
     cause = λ e is. inl is;
@@ -174,7 +175,7 @@ module _ {W S : Type 0} (m : Meaning W) (p : SinkMeaning S) where
 
   pub keeps_unprinted : (w : W) (o o2 : S) (k k2 : Kept) → Prints p o o2 → Rose (p.faults o) (p.faults o2) → KeepsEnd stop.Out k.end k2.end → k.refusals ≤ k2.refusals → Keeps m p (seen w o k) (seen w o2 k2)
   keeps_unprinted w o o2 k k2 prints rose ends later = record {
-    looks = looks_same m w;
+    looks = files_same m w;
     prints = prints;
     later = later;
     cause = λ e is. elim (ends e is) [

@@ -1,5 +1,5 @@
 pub mod Causes
 pub mod Laws
 pub mod Looking
-pub mod Looks
+pub mod Prints
 pub mod Reading

@@ -9,7 +9,8 @@ use Rattle.py_host.specs.Meaning.{Meaning as HostMeaning, Counts}
 use Rattle.world_api.specs.Meaning.{Meaning}
 use Rattle.world_api.specs.Printed.{SinkMeaning}
 use Rattle.scons_host.specs.Causes.{HasEndCause}
-use Rattle.scons_host.specs.Looks.{Looks, Prints}
+use Rattle.world_api.specs.Looks.{LooksAtFiles}
+use Rattle.scons_host.specs.Prints.{Prints}
 use Rattle.scons_host.specs.declared.end.HostEnd.{HostEnd}
 use Rattle.scons_host.specs.declared.kept.Kept.{Kept}
 
@@ -34,7 +35,7 @@ held world out state kept = record { world = world; out = out; state = state; ke
 
 -- what no call of the host changes
 pub record Keeps {W S : Type 0} (m : Meaning W) (p : SinkMeaning S) (old new : Seen W S) : Type 0 where
-  pub looks : Looks m old.world new.world
+  pub looks : LooksAtFiles m old.world new.world
   pub prints : Prints p old.out new.out
   pub later : old.kept.refusals ≤ new.kept.refusals
   pub cause : (e : HostEnd) → new.kept.end ≡ Some e → (old.kept.end ≡ Some e) ⊎ HasEndCause (m.counts old.world) (m.counts new.world) (p.faults old.out) (p.faults new.out) e

@@ -2,7 +2,7 @@
 ghost use Rattle.std.specs.Prelude.{IfErr};
 ghost use Rattle.py_host.specs.Extends.{Extends};
 ghost use Rattle.scons_host.specs.Causes.{HasStopCause};
-ghost use Rattle.scons_host.specs.Looks.{Looks};
+ghost use Rattle.world_api.specs.Looks.{LooksAtFiles};
 
 use crate::answers::{flat_value, split_value};
 use crate::declaring::{declared, value_or};
@@ -35,7 +35,7 @@ pub fn call<W: World>(
     object: HostId,
     args: &Args,
 ) -> Result<Reply, Stop>
-    ensures looks { Looks W.meaning world.old world.new }
+    ensures looks { LooksAtFiles W.meaning world.old world.new }
     ensures cause { IfErr result (HasStopCause (W.meaning.counts world.old) (W.meaning.counts world.new)) }
     ensures stands { Extends heap.old heap.new }
 {
@@ -85,7 +85,7 @@ fn answered<W: World>(
     env: EnvId,
     request: Request,
 ) -> Result<Reply, Stop>
-    ensures looks { Looks W.meaning world.old world.new }
+    ensures looks { LooksAtFiles W.meaning world.old world.new }
     ensures cause { IfErr result (HasStopCause (W.meaning.counts world.old) (W.meaning.counts world.new)) }
     ensures stands { Extends heap.old heap.new }
 {

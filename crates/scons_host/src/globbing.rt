@@ -2,7 +2,7 @@
 ghost use Rattle.std.specs.Prelude.{IfErr};
 ghost use Rattle.py_host.specs.Extends.{Extends};
 ghost use Rattle.scons_host.specs.Causes.{HasStopCause};
-ghost use Rattle.scons_host.specs.Looks.{Looks};
+ghost use Rattle.world_api.specs.Looks.{LooksAtFiles};
 
 use crate::asks::files_of;
 use crate::state::State;
@@ -21,7 +21,7 @@ pub fn glob<W: World>(
     env: EnvId,
     pattern: &Text,
 ) -> Result<Value, Stop>
-    ensures looks { Looks W.meaning world.old world.new }
+    ensures looks { LooksAtFiles W.meaning world.old world.new }
     ensures cause { IfErr result (HasStopCause (W.meaning.counts world.old) (W.meaning.counts world.new)) }
     ensures stands { Extends heap.old heap.new }
 {
@@ -56,7 +56,7 @@ fn matched(
 /// Puts the files of a directory behind others.
 #[tactic(auto, using(crate::specs::Looking::looking))]
 fn list<W: World>(world: &mut W, dir: &PathText, files: &mut Paths) -> Result<(), Stop>
-    ensures looks { Looks W.meaning world.old world.new }
+    ensures looks { LooksAtFiles W.meaning world.old world.new }
     ensures cause { IfErr result (HasStopCause (W.meaning.counts world.old) (W.meaning.counts world.new)) }
 {
     match files_of(world, dir) {

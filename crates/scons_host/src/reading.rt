@@ -1,7 +1,8 @@
 //! The reading of all scripts, from the words of the command line to a graph.
 ghost use Rattle.std.specs.Prelude.{◌≡◌, ◌⊎◌, ℕ, Some, IfErr};
 ghost use Rattle.scons_host.specs.Causes.{HasStopCause, HasEndCause, IsEndOf, IsOwn};
-ghost use Rattle.scons_host.specs.Looks.{Looks, Prints};
+ghost use Rattle.world_api.specs.Looks.{LooksAtFiles};
+ghost use Rattle.scons_host.specs.Prints.{Prints};
 ghost use Rattle.world_api.specs.Counts.{Counts};
 
 use crate::asks::{kind_of, top_of};
@@ -32,7 +33,7 @@ pub fn read_scripts<W: World, O: Sink>(
     out: &mut O,
     words: &Words,
 ) -> Result<Graph, HostEnd>
-    ensures looks { Looks W.meaning world.old world.new }
+    ensures looks { LooksAtFiles W.meaning world.old world.new }
     ensures prints { Prints O.meaning out.old out.new }
     ensures cause { IfErr result (HasEndCause (W.meaning.counts world.old) (W.meaning.counts world.new) (O.meaning.faults out.old) (O.meaning.faults out.new)) }
 {
@@ -52,7 +53,7 @@ fn read_on<W: World, O: Sink>(
     mut state: State,
     script: &Script,
 ) -> Result<Graph, HostEnd>
-    ensures looks { Looks W.meaning world.old world.new }
+    ensures looks { LooksAtFiles W.meaning world.old world.new }
     ensures prints { Prints O.meaning out.old out.new }
     ensures cause { IfErr result (HasEndCause (W.meaning.counts world.old) (W.meaning.counts world.new) (O.meaning.faults out.old) (O.meaning.faults out.new)) }
 {
@@ -64,7 +65,7 @@ fn read_on<W: World, O: Sink>(
 
 /// The graph of what all scripts have declared.
 fn graph_end<W: World>(alloc: Global, world: &mut W, state: State) -> Result<Graph, HostEnd>
-    ensures looks { Looks W.meaning world.old world.new }
+    ensures looks { LooksAtFiles W.meaning world.old world.new }
     ensures cause { (faults more : ℕ) → IfErr result (HasEndCause (W.meaning.counts world.old) (W.meaning.counts world.new) faults more) }
 {
     let State {
@@ -93,7 +94,7 @@ fn begun<W: World>(
     heap: &mut Heap,
     words: &Words,
 ) -> Result<(State, Script), Stop>
-    ensures looks { Looks W.meaning world.old world.new }
+    ensures looks { LooksAtFiles W.meaning world.old world.new }
     ensures cause { IfErr result (HasStopCause (W.meaning.counts world.old) (W.meaning.counts world.new)) }
 {
     let top = top_path(alloc, world)?;
@@ -114,7 +115,7 @@ fn joined(state: State, script: Result<Script, Stop>) -> Result<(State, Script),
 
 #[tactic(auto, using(crate::specs::Looking::looking))]
 fn top_path<W: World>(alloc: Global, world: &mut W) -> Result<PathText, Stop>
-    ensures looks { Looks W.meaning world.old world.new }
+    ensures looks { LooksAtFiles W.meaning world.old world.new }
     ensures cause { IfErr result (HasStopCause (W.meaning.counts world.old) (W.meaning.counts world.new)) }
 {
     match top_of(world) {
@@ -150,7 +151,7 @@ fn end_of(alloc: Global, stop: Stop) -> HostEnd
 /// Begins the first script; those behind it wait.
 #[tactic(auto, using(crate::specs::Looking::looking))]
 fn first_script<W: World>(state: &mut State, world: &mut W, words: &Words) -> Result<Script, Stop>
-    ensures looks { Looks W.meaning world.old world.new }
+    ensures looks { LooksAtFiles W.meaning world.old world.new }
     ensures cause { IfErr result (HasStopCause (W.meaning.counts world.old) (W.meaning.counts world.new)) }
 {
     let path = first_path(state, world, words)?;
@@ -160,7 +161,7 @@ fn first_script<W: World>(state: &mut State, world: &mut W, words: &Words) -> Re
 /// The path of the first script, with those behind it put where they wait.
 #[tactic(auto, using(crate::specs::Looking::looking))]
 fn first_path<W: World>(state: &mut State, world: &mut W, words: &Words) -> Result<PathText, Stop>
-    ensures looks { Looks W.meaning world.old world.new }
+    ensures looks { LooksAtFiles W.meaning world.old world.new }
     ensures cause { IfErr result (HasStopCause (W.meaning.counts world.old) (W.meaning.counts world.new)) }
 {
     match words.scripts.as_slice() {
@@ -180,7 +181,7 @@ fn named(state: &mut State, path: &PathText, further: &[PathText]) -> Result<Pat
 /// The first of the names of first scripts that is a file, or the first of all where none is.
 #[tactic(auto, using(crate::specs::Looking::looking))]
 fn standing<W: World>(alloc: Global, world: &mut W) -> Result<PathText, Stop>
-    ensures looks { Looks W.meaning world.old world.new }
+    ensures looks { LooksAtFiles W.meaning world.old world.new }
     ensures cause { IfErr result (HasStopCause (W.meaning.counts world.old) (W.meaning.counts world.new)) }
 {
     for name in FIRST {
@@ -202,7 +203,7 @@ fn run_all<W: World, O: Sink>(
     heap: &mut Heap,
     script: &Script,
 ) -> Result<(), HostEnd>
-    ensures looks { Looks W.meaning world.old world.new }
+    ensures looks { LooksAtFiles W.meaning world.old world.new }
     ensures prints { Prints O.meaning out.old out.new }
     ensures cause { IfErr result (HasEndCause (W.meaning.counts world.old) (W.meaning.counts world.new) (O.meaning.faults out.old) (O.meaning.faults out.new)) }
 {

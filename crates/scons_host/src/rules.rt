@@ -1,7 +1,7 @@
 //! After all scripts: the declared rules go into the graph, and the world is asked which libraries are files.
 ghost use Rattle.std.specs.Prelude.{IfErr};
 ghost use Rattle.scons_host.specs.Causes.{HasStopCause, IsInside};
-ghost use Rattle.scons_host.specs.Looks.{Looks};
+ghost use Rattle.world_api.specs.Looks.{LooksAtFiles};
 ghost use Rattle.world_api.specs.Counts.{Counts};
 
 use crate::asks::kind_of;
@@ -22,7 +22,7 @@ pub fn graph_of<W: World>(
     declared: Declarations,
     scripts: &Paths,
 ) -> Result<Graph, Stop>
-    ensures looks { Looks W.meaning world.old world.new }
+    ensures looks { LooksAtFiles W.meaning world.old world.new }
     ensures cause { IfErr result (HasStopCause (W.meaning.counts world.old) (W.meaning.counts world.new)) }
 {
     let mut reading = RuleReading::new(alloc, declared)?;
@@ -58,7 +58,7 @@ fn add_all<W: World>(
     reading: &mut RuleReading,
     scripts: &Paths,
 ) -> Result<(), Stop>
-    ensures looks { Looks W.meaning world.old world.new }
+    ensures looks { LooksAtFiles W.meaning world.old world.new }
     ensures cause { IfErr result (HasStopCause (W.meaning.counts world.old) (W.meaning.counts world.new)) }
 {
     for number in 0..reading.count() {
@@ -76,7 +76,7 @@ fn add<W: World>(
     number: usize,
     scripts: &Paths,
 ) -> Result<(), Stop>
-    ensures looks { Looks W.meaning world.old world.new }
+    ensures looks { LooksAtFiles W.meaning world.old world.new }
     ensures cause { IfErr result (HasStopCause (W.meaning.counts world.old) (W.meaning.counts world.new)) }
 {
     let place = reading.place(number);
@@ -94,7 +94,7 @@ fn add<W: World>(
 /// The libraries that are found.
 #[tactic(auto, using(crate::specs::Looking::looking))]
 fn found<W: World>(alloc: Global, world: &mut W, wanted: &Listing<Wanted>) -> Result<Paths, Stop>
-    ensures looks { Looks W.meaning world.old world.new }
+    ensures looks { LooksAtFiles W.meaning world.old world.new }
     ensures cause { IfErr result (HasStopCause (W.meaning.counts world.old) (W.meaning.counts world.new)) }
 {
     let mut libraries = Paths::new(Vec::new(alloc));
@@ -107,7 +107,7 @@ fn found<W: World>(alloc: Global, world: &mut W, wanted: &Listing<Wanted>) -> Re
 /// Puts the first file that may be a library and stands behind others, else the target that is one.
 #[tactic(auto, using(crate::specs::Looking::looking))]
 fn find<W: World>(world: &mut W, wanted: &Wanted, libraries: &mut Paths) -> Result<(), Stop>
-    ensures looks { Looks W.meaning world.old world.new }
+    ensures looks { LooksAtFiles W.meaning world.old world.new }
     ensures cause { IfErr result (HasStopCause (W.meaning.counts world.old) (W.meaning.counts world.new)) }
 {
     for asked in wanted.asked.as_slice() {
@@ -124,7 +124,7 @@ fn find<W: World>(world: &mut W, wanted: &Wanted, libraries: &mut Paths) -> Resu
 
 #[tactic(auto, using(crate::specs::Looking::looking))]
 fn is_file<W: World>(world: &mut W, path: &PathText) -> Result<bool, Stop>
-    ensures looks { Looks W.meaning world.old world.new }
+    ensures looks { LooksAtFiles W.meaning world.old world.new }
     ensures cause { IfErr result (HasStopCause (W.meaning.counts world.old) (W.meaning.counts world.new)) }
 {
     match kind_of(world, path) {

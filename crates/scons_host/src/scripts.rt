@@ -2,7 +2,7 @@
 ghost use Rattle.std.specs.Prelude.{IfErr};
 ghost use Rattle.py_host.specs.Extends.{Extends};
 ghost use Rattle.scons_host.specs.Causes.{HasStopCause, IsInside};
-ghost use Rattle.scons_host.specs.Looks.{Looks};
+ghost use Rattle.world_api.specs.Looks.{LooksAtFiles};
 
 use crate::asks::bytes_of;
 use crate::calls::Caller;
@@ -34,7 +34,7 @@ pub fn open_scripts<W: World>(
     env: EnvId,
     files: ScriptFiles,
 ) -> Result<Reply, Stop>
-    ensures looks { Looks W.meaning world.old world.new }
+    ensures looks { LooksAtFiles W.meaning world.old world.new }
     ensures cause { IfErr result (HasStopCause (W.meaning.counts world.old) (W.meaning.counts world.new)) }
     ensures stands { Extends heap.old heap.new }
 {
@@ -91,7 +91,7 @@ pub fn script_done<W: World>(
     world: &mut W,
     heap: &mut Heap,
 ) -> Result<Reply, Stop>
-    ensures looks { Looks W.meaning world.old world.new }
+    ensures looks { LooksAtFiles W.meaning world.old world.new }
     ensures cause { IfErr result (HasStopCause (W.meaning.counts world.old) (W.meaning.counts world.new)) }
     ensures stands { Extends heap.old heap.new }
 {
@@ -113,7 +113,7 @@ fn keep_returned(state: &mut State) -> Result<(), Refusal> {
 /// Begins the next script of the innermost call, or answers that call.
 #[tactic(auto, using(crate::specs::Looking::looking))]
 fn go_on<W: World>(state: &mut State, world: &mut W, heap: &mut Heap) -> Result<Reply, Stop>
-    ensures looks { Looks W.meaning world.old world.new }
+    ensures looks { LooksAtFiles W.meaning world.old world.new }
     ensures cause { IfErr result (HasStopCause (W.meaning.counts world.old) (W.meaning.counts world.new)) }
     ensures stands { Extends heap.old heap.new }
 {
@@ -144,7 +144,7 @@ fn ended(state: &mut State, heap: &mut Heap) -> Result<Value, Refusal>
 /// Finds and begins a script of the innermost call.
 #[tactic(auto, using(crate::specs::Looking::looking))]
 fn begun<W: World>(state: &mut State, world: &mut W, file: &Given) -> Result<Script, Stop>
-    ensures looks { Looks W.meaning world.old world.new }
+    ensures looks { LooksAtFiles W.meaning world.old world.new }
     ensures cause { IfErr result (HasStopCause (W.meaning.counts world.old) (W.meaning.counts world.new)) }
 {
     let place = found(state, file)?;
@@ -173,7 +173,7 @@ fn opened<W: World>(
     world: &mut W,
     place: &ScriptPlace,
 ) -> Result<Option<Script>, Stop>
-    ensures looks { Looks W.meaning world.old world.new }
+    ensures looks { LooksAtFiles W.meaning world.old world.new }
     ensures cause { IfErr result (HasStopCause (W.meaning.counts world.old) (W.meaning.counts world.new)) }
 {
     for path in place.candidates.as_slice() {
@@ -196,7 +196,7 @@ fn begin(state: &mut State, path: &PathText, dir: &PathText) -> Result<(), Refus
 /// The bytes of a script, if it stands.
 #[tactic(auto, using(crate::specs::Looking::looking))]
 fn read<W: World>(world: &mut W, path: &PathText) -> Result<Option<Blob>, Stop>
-    ensures looks { Looks W.meaning world.old world.new }
+    ensures looks { LooksAtFiles W.meaning world.old world.new }
     ensures cause { IfErr result (HasStopCause (W.meaning.counts world.old) (W.meaning.counts world.new)) }
 {
     match bytes_of(world, path, SCRIPT_LIMIT) {
@@ -230,7 +230,7 @@ fn script_of(alloc: Global, path: &PathText, bytes: &Blob) -> Result<Script, Sto
 /// Begins the next first script, if there is a further one.
 #[tactic(auto, using(crate::specs::Looking::looking))]
 pub fn next_first<W: World>(state: &mut State, world: &mut W) -> Result<Option<Script>, Stop>
-    ensures looks { Looks W.meaning world.old world.new }
+    ensures looks { LooksAtFiles W.meaning world.old world.new }
     ensures cause { IfErr result (HasStopCause (W.meaning.counts world.old) (W.meaning.counts world.new)) }
 {
     let Some(path) = state.first.pop_front() else {
@@ -243,7 +243,7 @@ pub fn next_first<W: World>(state: &mut State, world: &mut W) -> Result<Option<S
 /// Begins a first script.
 #[tactic(auto, using(crate::specs::Looking::looking))]
 pub fn first<W: World>(state: &mut State, world: &mut W, path: PathText) -> Result<Script, Stop>
-    ensures looks { Looks W.meaning world.old world.new }
+    ensures looks { LooksAtFiles W.meaning world.old world.new }
     ensures cause { IfErr result (HasStopCause (W.meaning.counts world.old) (W.meaning.counts world.new)) }
 {
     match read(world, &path)? {

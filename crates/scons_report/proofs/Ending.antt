@@ -6,7 +6,7 @@ use Rattle.rule_graph.specs.declared.build_fault.BuildFault.TheVariants as fault
 use Rattle.build_files.specs.declared.end.ListEnd.{ListEnd}
 use Rattle.build_files.specs.declared.end.ListEnd.TheVariants as end
 use Rattle.build_files.specs.Causes.{HasEndCause as HasLookEnd, HasFaultCause as HasLookFault, IsInside as IsInsideLook}
-use Rattle.build_files.proofs.Looking.{looks_same, looks_joined, alone_same}
+use Rattle.world_api.proofs.Looking.{looks_same, looks_joined, alone_same}
 use Rattle.scons_report.specs.Causes.{HasEndCause, HasFaultCause, IsInside}
 
 of_fault : (a b : Counts) (f : BuildFault) → HasLookFault a b f → HasFaultCause a b f

@@ -6,7 +6,7 @@ use Rattle.rule_graph.specs.declared.build_fault.BuildFault.{BuildFault}
 use Rattle.rule_graph.specs.declared.build_fault.BuildFault.TheVariants as fault
 use Rattle.build_files.specs.declared.end.ListEnd.{ListEnd}
 use Rattle.build_files.specs.declared.end.ListEnd.TheVariants as end
-use Rattle.build_files.specs.Causes.{IsTreeAlone}
+use Rattle.world_api.specs.Looks.{IsTreeAlone}
 
 -- a fault of the file tree comes only where its count rose, and any other only where nothing was at fault
 abbrev pub HasFaultCause : Counts → Counts → BuildFault → Type 0

@@ -1,6 +1,6 @@
 //! The rules that a dry run lists.
 ghost use Rattle.std.specs.Prelude.{◌≤◌, length, IfSome};
-ghost use Rattle.build_files.specs.Looks.{Looks};
+ghost use Rattle.world_api.specs.Looks.{Looks};
 ghost use Rattle.scons_report.specs.Causes.{HasListCause, IsInside};
 
 use build_files::{Inputs, ListEnd, Present, first_target, is_stale, path_of};

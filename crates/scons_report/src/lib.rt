@@ -11,6 +11,6 @@ pub use clean::clean_list;
 pub use dry::{cycle_fault, dry_list};
 pub use report_texts::{
     building_text, cleaned_text, cleaning_text, done_text, done_with_errors_text, fault_text,
-    help_text, load_text, nothing_text, print, read_text, reading_text, removed_text, rule_text,
+    help_text, load_text, nothing_text, read_text, reading_text, removed_text, rule_text,
     terminated_text, up_to_date_text,
 };

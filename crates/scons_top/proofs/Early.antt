@@ -3,8 +3,8 @@ use Rattle.std.proofs.Common.{◌≡◌, subst, sym, List, [], ◌∷◌, ◌++�
 use Rattle.std.specs.Prelude.{Result, Ok, Err, IfOk, IfErr}
 use Rattle.std.proofs.lemmas.List.Elements.{All-push, All-nil, All-contains}
 use Rattle.world_api.specs.Meaning.{Meaning}
-use Rattle.build_files.specs.Looks.{Looks}
-use Rattle.build_files.proofs.Looking.{looks_joined}
+use Rattle.world_api.specs.Looks.{Looks}
+use Rattle.world_api.proofs.Looking.{looks_joined}
 use Rattle.scons_top.specs.Faults.{IsEarly, IsEarlyStop, IsLateStop, EarlyOnlyIf}
 use Rattle.scons_top.specs.declared.report.Report.{Report}
 use Rattle.scons_top.specs.declared.report.Top.{Top}

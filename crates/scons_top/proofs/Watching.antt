@@ -1,24 +1,21 @@
 -- Steps of a run put together.
 use Rattle.std.proofs.Common.{◌≡◌, ◌∙◌, subst, sym, refl, [], arith}
 use Rattle.std.specs.Prelude.{Result, Ok, Err}
-use Rattle.world_api.specs.Around.{Around}
-use Rattle.world_api.specs.Calls.{Asks}
 use Rattle.world_api.specs.Causes.{Later, TreeFails, DiskFails}
 use Rattle.world_api.specs.Counts.{Counts}
+use Rattle.world_api.specs.Looks.{IsTreeAlone, Looks, LooksAtFiles}
 use Rattle.world_api.specs.Meaning.{Meaning}
+use Rattle.world_api.proofs.Looking.{asks_of, looks_same, looks_joined}
 use Rattle.rule_graph.specs.declared.build_fault.BuildFault.{BuildFault}
 use Rattle.rule_graph.specs.declared.build_fault.BuildFault.TheVariants as fault
-use Rattle.sign_store.specs.Reached.{Looks as Reads, HasFaultCause}
+use Rattle.sign_store.specs.Reached.{ReadsBanks, HasFaultCause}
 use Rattle.sign_store.specs.declared.refusals.StoreRefusal.{StoreRefusal}
 use Rattle.sign_store.specs.declared.refusals.StoreRefusal.TheVariants as refusal
-use Rattle.build_files.specs.Causes.{IsTreeAlone, HasLookCause}
+use Rattle.build_files.specs.Causes.{HasLookCause}
 use Rattle.build_files.specs.Causes.{HasFaultCause as HasLookFault}
-use Rattle.build_files.specs.Looks.{Looks}
 use Rattle.build_files.specs.declared.end.ListEnd.{ListEnd}
 use Rattle.build_files.specs.declared.end.ListEnd.TheVariants as end
-use Rattle.build_files.proofs.Looking.{looks_same, looks_joined}
 use Rattle.scons_report.specs.Causes.{HasListCause, HasFaultCause as HasListFault}
-use Rattle.scons_host.specs.Looks.{Looks as Asking}
 use Rattle.build_run.specs.Goings.{Passes, Goes, Stays}
 use Rattle.build_run.proofs.Goings.{passes_on}
 use Rattle.scons_top.specs.Watching.{Watches}
@@ -77,18 +74,6 @@ later_store m old new (Err (refusal.Foreign bank)) h = later_same (m.counts old)
 later_store m old new (Err (refusal.Large size)) h = later_same (m.counts old) (m.counts new) (h.kept (λ is. cc))
 later_store m old new (Err refusal.Memory) h = later_same (m.counts old) (m.counts new) (h.kept (λ is. cc))
 
-asks_of : (a b : Around) → b ≡ a → Asks a b
-asks_of a b same = subst (λ c. Asks a c) (sym same) (record {
-  files = λ path free. refl;
-  stamps = λ path free. refl;
-  dirs = λ dir. refl;
-  running = refl;
-  log = refl;
-  met = refl;
-  law = refl;
-  top = refl;
-})
-
 pub watches_same : {W : Type 0} (m : Meaning W) (w : W) → Watches m w w
 watches_same m w = record { looks = looks_same m w; later = later_same (m.counts w) (m.counts w) refl }
 
@@ -99,14 +84,11 @@ watches_on m a b c p q = record {
 }
 
 -- the reading of scripts only looks
-pub watches_host : {W : Type 0} (m : Meaning W) (old new : W) → Asking m old new → Watches m old new
-watches_host m old new h = record {
-  looks = record { told = h.told; recalls = h.recalls; around = h.around; banks = h.banks };
-  later = let alone = h.counts in record { disk = omega (arith, alone.disk); tree = alone.tree; start = omega (arith, alone.start); action = omega (arith, alone.action) };
-}
+pub watches_host : {W : Type 0} (m : Meaning W) (old new : W) → LooksAtFiles m old new → Watches m old new
+watches_host m old new h = record { looks = h.looks; later = later_alone (m.counts old) (m.counts new) h.counts }
 
 -- and so does that of the store
-pub watches_store : {W : Type 0} (m : Meaning W) (old new : W) → Reads m old new → Later (m.counts old) (m.counts new) → Watches m old new
+pub watches_store : {W : Type 0} (m : Meaning W) (old new : W) → ReadsBanks m old new → Later (m.counts old) (m.counts new) → Watches m old new
 watches_store m old new h later = record {
   looks = record { told = h.told; recalls = h.recalls; around = λ t. asks_of (m.around old) (m.around new) (h.around t); banks = h.banks };
   later = later;

@@ -1,7 +1,7 @@
 -- What the steps of a run leave that only look.
 use Rattle.world_api.specs.Causes.{Later}
 use Rattle.world_api.specs.Meaning.{Meaning}
-use Rattle.build_files.specs.Looks.{Looks}
+use Rattle.world_api.specs.Looks.{Looks}
 
 -- the world was looked at, and no count fell
 pub record Watches {W : Type 0} (m : Meaning W) (old new : W) : Type 0 where

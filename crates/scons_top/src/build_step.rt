@@ -2,7 +2,7 @@
 ghost use Rattle.std.specs.Prelude.{◌≡◌, [], IfOk, IfErr};
 ghost use Rattle.build_run.specs.Goings.{Passes, Goes};
 ghost use Rattle.scons_top.specs.Faults.{IsLateStop, EarlyOnlyIf};
-ghost use Rattle.scons_top.specs.Statuses.{HasStatus};
+ghost use Rattle.world_api.specs.Statuses.{HasStatus};
 ghost use Rattle.sign_store.specs.Stores.{IsStoredIn};
 
 use crate::ending::{closed, tell_done, tell_faulty};

@@ -2,7 +2,7 @@
 ghost use Rattle.std.specs.Prelude.{◌≡◌, [], IfOk, IfErr, IsTrue};
 ghost use Rattle.build_run.specs.Goings.{Stays};
 ghost use Rattle.scons_top.specs.Faults.{IsLateStop};
-ghost use Rattle.scons_top.specs.Statuses.{HasStatus};
+ghost use Rattle.world_api.specs.Statuses.{HasStatus};
 ghost use Rattle.scons_top.specs.Watching.{Watches};
 
 use crate::build_step::nodes_of;

@@ -1,7 +1,7 @@
 //! A dry run: what a build would start is listed.
 ghost use Rattle.std.specs.Prelude.{IfOk};
 ghost use Rattle.scons_top.specs.Faults.{EarlyOnlyIf};
-ghost use Rattle.scons_top.specs.Statuses.{HasStatus};
+ghost use Rattle.world_api.specs.Statuses.{HasStatus};
 ghost use Rattle.scons_top.specs.Watching.{Watches};
 
 use crate::build_step::nodes_of;
@@ -12,11 +12,11 @@ use crate::requests::Request;
 use crate::stop::Stop;
 use rule_graph::{BuildFault, Graph};
 use scons_base::{Listing, Memory, NodeId, RuleId};
-use scons_report::{ListEnd, building_text, dry_list, fault_text, print, rule_text};
+use scons_report::{ListEnd, building_text, dry_list, fault_text, rule_text};
 use scons_words::Words;
 use sign_store::{Store, StoreRefusal, View};
 use std::alloc::Global;
-use world_api::{Sink, World};
+use world_api::{Sink, World, print};
 
 /// Reads the store, and lists what would be started.
 pub(crate) fn list_requests<W: World, O: Sink, E: Sink>(

@@ -1,7 +1,7 @@
 //! How a run ends: its last lines and its report.
 ghost use Rattle.std.specs.Prelude.{◌≡◌, [], IfErr};
 ghost use Rattle.scons_top.specs.Faults.{IsEarly, IsEarlyStop, IsLate, IsLateStop, EarlyOnlyIf};
-ghost use Rattle.scons_top.specs.Statuses.{HasStatus};
+ghost use Rattle.world_api.specs.Statuses.{HasStatus};
 
 use crate::printed::{say, tell};
 use crate::report::{Report, Top};
@@ -11,12 +11,11 @@ use crate::texts::top_text;
 use rule_graph::{BuildFault, Graph};
 use scons_base::{Listing, Memory, NodeId, PathText, RuleId};
 use scons_report::{
-    done_text, done_with_errors_text, fault_text, nothing_text, print, terminated_text,
-    up_to_date_text,
+    done_text, done_with_errors_text, fault_text, nothing_text, terminated_text, up_to_date_text,
 };
 use scons_words::Words;
 use std::alloc::Global;
-use world_api::Sink;
+use world_api::{Sink, print};
 
 /// A report with these faults.
 pub(crate) fn report(

@@ -1,7 +1,7 @@
 //! A large run over a world in memory: so many rules in chains of ten, built, and built again after an edit of the first
 //! source.
 ghost use Rattle.std.specs.Prelude.{◌≡◌, [], IfOk};
-ghost use Rattle.scons_top.specs.Statuses.{HasStatus};
+ghost use Rattle.world_api.specs.Statuses.{HasStatus};
 ghost use Rattle.world_mem.specs.AsAround.{around_of};
 
 use crate::ending::good;
@@ -9,10 +9,10 @@ use crate::report::Report;
 use crate::stop::Stop;
 use crate::top::run;
 use scons_base::{Blob, Listing, Memory, PathText, Paths, Texts};
-use scons_report::{load_text, print};
+use scons_report::load_text;
 use scons_words::Words;
 use std::alloc::Global;
-use world_api::Sink;
+use world_api::{Sink, print};
 use world_mem::{ActTable, MemSink, MemWorld};
 
 /// Builds twice, and says how many rules were started.

@@ -4,9 +4,8 @@ ghost use Rattle.scons_top.specs.Faults.{IsLateStop};
 
 use crate::stop::Stop;
 use scons_base::Memory;
-use scons_report::print;
 use scons_words::Words;
-use world_api::Sink;
+use world_api::{Sink, print};
 
 /// Writes a line on the progress of the run, unless the words ask for none.
 pub(crate) fn say<O: Sink>(

@@ -1,9 +1,9 @@
 //! The steps of a run.
 ghost use Rattle.std.specs.Prelude.{◌≡◌, [], Ok, IfOk, IfErr, Contains, IsTrue};
-ghost use Rattle.build_files.specs.Looks.{Looks};
+ghost use Rattle.world_api.specs.Looks.{Looks};
 ghost use Rattle.build_run.specs.Goings.{Passes};
 ghost use Rattle.scons_top.specs.Faults.{IsEarly, IsEarlyStop, EarlyOnlyIf};
-ghost use Rattle.scons_top.specs.Statuses.{HasStatus};
+ghost use Rattle.world_api.specs.Statuses.{HasStatus};
 ghost use Rattle.scons_top.specs.declared.report.Top.{Top};
 ghost use Rattle.scons_words.specs.Readings.{read};
 ghost use Rattle.scons_words.specs.declared.words.Words.{Words};
@@ -21,10 +21,10 @@ use crate::requests::{Request, requests_of};
 use crate::stop::Stop;
 use rule_graph::Graph;
 use scons_base::Text;
-use scons_report::{help_text, print};
+use scons_report::help_text;
 use scons_words::{Words, read_words};
 use std::alloc::Global;
-use world_api::{Sink, World};
+use world_api::{Sink, World, print};
 
 /// The command: takes its words, reads the scripts, and cleans, lists or builds what is requested. A run whose words or
 /// scripts are at fault, or that is asked for what there isn't, leaves the world as it was; and so do `-n` and `-h`.

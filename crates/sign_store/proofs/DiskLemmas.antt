@@ -3,31 +3,20 @@ use Rattle.std.proofs.Common.{◌≡◌, ◌∙◌, refl, arith}
 use Rattle.std.specs.Prelude.{◌≢◌}
 use Rattle.world_api.specs.declared.disk.Bank.{Bank}
 use Rattle.world_api.specs.Meaning.{Meaning, Told, Recalls, BankKept, BanksKept}
+use Rattle.world_api.proofs.Looking.{told_same, recalls_same, bank_same, bank_joined}
 use Rattle.world_api.proofs.Moments.{tells_on, recalls_on}
-use Rattle.sign_store.specs.Reached.{Looks, Writes}
+use Rattle.sign_store.specs.Reached.{ReadsBanks, Writes}
 
-bank_joined : {W : Type 0} (m : Meaning W) (bank : Bank) (a b c : W) → BankKept m bank a b → BankKept m bank b c → BankKept m bank a c
-bank_joined m bank a b c p q = record {
-  same = q.same ∙ p.same;
-  no_more = λ bytes image. p.no_more bytes (q.no_more bytes image);
-}
-
-told_same : {W : Type 0} (m : Meaning W) (w : W) → Told m w w
-told_same m w = record { told = λ t. t; sure = λ t s. s; closed = refl }
-
-recalls_same : {W : Type 0} (m : Meaning W) (w : W) → Recalls m w w
-recalls_same m w = record { later = λ t. omega arith; keeps = λ t time around banks before left. left }
-
-pub looks_same : {W : Type 0} (m : Meaning W) (w : W) → Looks m w w
-looks_same m w = record {
+pub reads_same : {W : Type 0} (m : Meaning W) (w : W) → ReadsBanks m w w
+reads_same m w = record {
   told = told_same m w;
   recalls = recalls_same m w;
   around = λ t. refl;
-  banks = λ t bank. record { same = refl; no_more = λ bytes image. image };
+  banks = λ t bank. bank_same m bank w;
 }
 
-pub looks_joined : {W : Type 0} (m : Meaning W) (a b c : W) → Looks m a b → Looks m b c → Looks m a c
-looks_joined m a b c p q = record {
+pub reads_joined : {W : Type 0} (m : Meaning W) (a b c : W) → ReadsBanks m a b → ReadsBanks m b c → ReadsBanks m a c
+reads_joined m a b c p q = record {
   told = tells_on m a b c p.told q.told;
   recalls = recalls_on m a b c q.told p.recalls q.recalls;
   around = λ t. q.around t ∙ p.around (q.told.told t);
@@ -35,7 +24,7 @@ looks_joined m a b c p q = record {
 }
 
 -- one call that read
-pub looked : {W : Type 0} (m : Meaning W) (a b : W) → Told m a b → Recalls m a b → (m.tells b → m.around b ≡ m.around a) → (m.tells b → BanksKept m a b) → Looks m a b
+pub looked : {W : Type 0} (m : Meaning W) (a b : W) → Told m a b → Recalls m a b → (m.tells b → m.around b ≡ m.around a) → (m.tells b → BanksKept m a b) → ReadsBanks m a b
 looked m a b told recalls around banks = record { told = told; recalls = recalls; around = around; banks = banks }
 
 pub writes_same : {W : Type 0} (m : Meaning W) (bank : Bank) (w : W) → Writes m bank w w
@@ -43,7 +32,7 @@ writes_same m bank w = record {
   told = told_same m w;
   recalls = recalls_same m w;
   around = λ t. refl;
-  other = λ t other not. record { same = refl; no_more = λ bytes image. image };
+  other = λ t other not. bank_same m other w;
 }
 
 pub writes_joined : {W : Type 0} (m : Meaning W) (bank : Bank) (a b c : W) → Writes m bank a b → Writes m bank b c → Writes m bank a c
@@ -62,4 +51,4 @@ wrote m bank a b told recalls around other = record { told = told; recalls = rec
 pub read : {W : Type 0} (m : Meaning W) (bank : Bank) (a b : W) → Told m a b → Recalls m a b → (m.tells b → m.around b ≡ m.around a) → (m.tells b → BanksKept m a b) → Writes m bank a b
 read m bank a b told recalls around banks = record { told = told; recalls = recalls; around = around; other = λ t other not. banks t other }
 
-pub ruleset calls = (looks_same, writes_same)
+pub ruleset calls = (reads_same, writes_same)

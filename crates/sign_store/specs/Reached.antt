@@ -12,7 +12,7 @@ pub record HasFaultCause {W T : Type 0} (meaning : Meaning W) (old new : W) (res
   pub rose : result ≡ Err refusal.Fault → DiskFails (meaning.counts old) (meaning.counts new)
 
 -- the disk was read and no more: its banks and all around are as they were
-pub record Looks {W : Type 0} (m : Meaning W) (old new : W) : Type 0 where
+pub record ReadsBanks {W : Type 0} (m : Meaning W) (old new : W) : Type 0 where
   pub told : Told m old new
   pub recalls : Recalls m old new
   pub around : m.tells new → m.around new ≡ m.around old

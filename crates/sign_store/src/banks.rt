@@ -10,7 +10,7 @@ ghost use Rattle.sign_store.specs.Ends.{IsEntry, IsEither, IsTornFrom, KeepsAt};
 ghost use Rattle.sign_store.specs.Heads.{head_of};
 ghost use Rattle.sign_store.specs.Images.{applied, body_of};
 ghost use Rattle.sign_store.specs.Readings.{IsRefusal, IsOutside};
-ghost use Rattle.sign_store.specs.Reached.{HasFaultCause, Looks, Writes};
+ghost use Rattle.sign_store.specs.Reached.{HasFaultCause, ReadsBanks, Writes};
 ghost use Rattle.sign_store.specs.Tables.{Map};
 
 use crate::head::{HEAD_LEN, Head, head_of};
@@ -35,7 +35,7 @@ pub(crate) fn sizes_of<W: Disk>(world: &mut W) -> Result<Sizes, StoreRefusal>
     ensures refused { W.meaning.tells world.new → IfErr result (IsRefusal (W.meaning.seen world.new)) }
     ensures cause { HasFaultCause W.meaning world.old world.new result }
     ensures seen { W.meaning.tells world.new → (each : Bank) → W.meaning.seen world.new each ≡ W.meaning.seen world.old each }
-    ensures looks { Looks W.meaning world.old world.new }
+    ensures looks { ReadsBanks W.meaning world.old world.new }
     ensures told { Told W.meaning world.old world.new }
 {
     let a = world.size(Bank::A)?;
@@ -58,7 +58,7 @@ pub(crate) fn read_head<W: Disk>(world: &mut W, bank: Bank, size: u64) -> Result
     ensures kept { OnOk result (W.meaning.counts world.new ≡ W.meaning.counts world.old) }
     ensures rose { OnErr result (DiskFails (W.meaning.counts world.old) (W.meaning.counts world.new)) }
     ensures seen { W.meaning.tells world.new → (each : Bank) → W.meaning.seen world.new each ≡ W.meaning.seen world.old each }
-    ensures looks { Looks W.meaning world.old world.new }
+    ensures looks { ReadsBanks W.meaning world.old world.new }
     ensures told { Told W.meaning world.old world.new }
 {
     if size <= HEAD_LEN as u64 {
@@ -83,7 +83,7 @@ pub(crate) fn read_body<W: Disk>(
     ensures refused { IfErr result IsOutside }
     ensures cause { HasFaultCause W.meaning world.old world.new result }
     ensures seen { W.meaning.tells world.new → (each : Bank) → W.meaning.seen world.new each ≡ W.meaning.seen world.old each }
-    ensures looks { Looks W.meaning world.old world.new }
+    ensures looks { ReadsBanks W.meaning world.old world.new }
     ensures told { Told W.meaning world.old world.new }
 {
     if size <= HEAD_LEN as u64 {

@@ -6,7 +6,7 @@ ghost use Rattle.world_api.specs.declared.disk.Bank.TheVariants as side;
 ghost use Rattle.sign_store.specs.Ends.{image_in};
 ghost use Rattle.sign_store.specs.Images.{body_of, entries_map};
 ghost use Rattle.sign_store.specs.Maps.{map_in};
-ghost use Rattle.sign_store.specs.Reached.{HasFaultCause, Looks};
+ghost use Rattle.sign_store.specs.Reached.{HasFaultCause, ReadsBanks};
 ghost use Rattle.sign_store.specs.Readings.{AreReadable, IsOutside, IsRefusal, choice_of};
 
 use crate::banks::{Sizes, fill, read_body, read_head, sizes_of, write_synced};
@@ -45,7 +45,7 @@ fn look<W: Disk>(world: &mut W) -> Result<(Sizes, Choice), StoreRefusal>
     ensures choice { W.meaning.tells world.new → IfOk result (λ seen. seen.1 ≡ choice_of (W.meaning.seen world.new)) }
     ensures refused { W.meaning.tells world.new → IfErr result (IsRefusal (W.meaning.seen world.new)) }
     ensures cause { HasFaultCause W.meaning world.old world.new result }
-    ensures looks { Looks W.meaning world.old world.new }
+    ensures looks { ReadsBanks W.meaning world.old world.new }
     ensures told { Told W.meaning world.old world.new }
 {
     let sizes = sizes_of(world)?;
@@ -69,7 +69,7 @@ fn read_bank<W: Disk>(
     ensures map { W.meaning.tells world.new → IfOk result (λ read. map_in read.map ≡ entries_map (body_of (W.meaning.seen world.new bank))) }
     ensures refused { IfErr result IsOutside }
     ensures cause { HasFaultCause W.meaning world.old world.new result }
-    ensures looks { Looks W.meaning world.old world.new }
+    ensures looks { ReadsBanks W.meaning world.old world.new }
     ensures told { Told W.meaning world.old world.new }
 {
     let body = read_body(alloc, world, bank, size)?;
@@ -88,7 +88,7 @@ pub(crate) fn read_map<W: Disk>(alloc: Global, world: &mut W) -> Result<RecordMa
     ensures readable { W.meaning.tells world.new → IfOk result (λ _. AreReadable (W.meaning.seen world.old)) }
     ensures refused { W.meaning.tells world.new → IfErr result (IsRefusal (W.meaning.seen world.old)) }
     ensures cause { HasFaultCause W.meaning world.old world.new result }
-    ensures looks { Looks W.meaning world.old world.new }
+    ensures looks { ReadsBanks W.meaning world.old world.new }
     ensures told { Told W.meaning world.old world.new }
 {
     let (sizes, choice) = look(world)?;

@@ -10,7 +10,7 @@ ghost use Rattle.sign_store.specs.Ends.{IsEither, IsEntry, KeepsAt, image_in};
 ghost use Rattle.sign_store.specs.Entries.{entries_len};
 ghost use Rattle.sign_store.specs.Images.{applied};
 ghost use Rattle.sign_store.specs.Tables.{with_each};
-ghost use Rattle.sign_store.specs.Reached.{HasFaultCause, Looks, Writes};
+ghost use Rattle.sign_store.specs.Reached.{HasFaultCause, ReadsBanks, Writes};
 ghost use Rattle.sign_store.specs.Readings.{AreReadable, IsRefusal};
 
 use crate::banks::append;
@@ -55,7 +55,7 @@ impl Store {
         ensures readable { W.meaning.tells world.new → IfOk result (λ _. AreReadable (W.meaning.seen world.old)) }
         ensures refused { W.meaning.tells world.new → IfErr result (IsRefusal (W.meaning.seen world.old)) }
         ensures cause { HasFaultCause W.meaning world.old world.new result }
-        ensures looks { Looks W.meaning world.old world.new }
+        ensures looks { ReadsBanks W.meaning world.old world.new }
         ensures told { Told W.meaning world.old world.new }
     {
         let map = read_map(alloc, world)?;

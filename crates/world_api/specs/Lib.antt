@@ -7,3 +7,6 @@ pub mod Calls
 pub mod Reads
 pub mod Banks
 pub mod Meaning
+pub mod Looks
+pub mod Printing
+pub mod Statuses

@@ -12,6 +12,7 @@
 mod decider;
 mod disk;
 mod job;
+mod printing;
 mod refusal;
 mod sink;
 mod world;
@@ -19,6 +20,7 @@ mod world;
 pub use decider::Decider;
 pub use disk::{Bank, Disk};
 pub use job::{Ended, Job, Line, Outcome, Work, copy_lines};
+pub use printing::print;
 pub use refusal::{AskRefusal, Fault, ReadRefusal};
 pub use sink::Sink;
 pub use world::{Content, Kind, World};

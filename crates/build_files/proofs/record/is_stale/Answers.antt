@@ -1,5 +1,5 @@
 use Rattle.std.proofs.Common.{◌∙◌}
-use Rattle.build_files.proofs.Looking.{looks_joined}
+use Rattle.world_api.proofs.Looking.{looks_joined}
 use Rattle.build_files.proofs.record.is_stale.Goals as goal
 
 pub returns-in_err-is_file_at-clause-looks : goal.returns-in_err-is_file_at-clause-looks

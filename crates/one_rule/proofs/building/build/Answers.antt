@@ -8,7 +8,7 @@ use Rattle.one_rule.specs.Ends.{BuildMakes}
 use Rattle.one_rule.specs.Course.{announced_text}
 use Rattle.one_rule.specs.Texts.{line_text}
 use Rattle.one_rule.proofs.Builds.{no_change, unchanged_idles, two_steps, idle_leaves, step_leaves, kept, made_gives, made_after}
-use Rattle.one_rule.proofs.PrintRuns.{prints_both, cut_longer}
+use Rattle.world_api.proofs.PrintRuns.{prints_both, cut_longer}
 use Rattle.one_rule.proofs.StopPrints.{line_stop_prints, made_prints}
 use Rattle.one_rule.proofs.building.build.Goals as goal
 

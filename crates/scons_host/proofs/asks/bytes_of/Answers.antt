@@ -1,4 +1,4 @@
-use Rattle.scons_host.specs.Looking.{read}
+use Rattle.world_api.proofs.Looking.{read}
 use Rattle.scons_host.proofs.asks.bytes_of.Goals as goal
 
 pub returns-clause-looks : goal.returns-clause-looks

@@ -1,4 +1,4 @@
-use Rattle.scons_host.specs.Looking.{seen_kind, tree_rose}
+use Rattle.world_api.proofs.Looking.{seen_kind, tree_rose}
 use Rattle.scons_host.proofs.asks.kind_of.Goals as goal
 
 pub returns-clause-looks : goal.returns-clause-looks

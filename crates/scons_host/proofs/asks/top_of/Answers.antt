@@ -1,4 +1,4 @@
-use Rattle.scons_host.specs.Looking.{asked}
+use Rattle.world_api.proofs.Looking.{asked}
 use Rattle.scons_host.proofs.asks.top_of.Goals as goal
 
 pub returns-clause-looks : goal.returns-clause-looks

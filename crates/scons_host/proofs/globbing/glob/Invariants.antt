@@ -1,5 +1,5 @@
-use Rattle.scons_host.specs.Looks.{Looks}
+use Rattle.world_api.specs.Looks.{LooksAtFiles}
 use Rattle.scons_host.proofs.globbing.glob.Given as goal
 
 abbrev pub invariant-loop-dir : goal.invariant-loop-dir
-invariant-loop-dir g l = Looks g.W.Disk.meaning l.fn.world l.world
+invariant-loop-dir g l = LooksAtFiles g.W.Disk.meaning l.fn.world l.world

@@ -1,5 +1,5 @@
 use Rattle.std.proofs.Common.{◌≡◌, length}
-use Rattle.scons_host.specs.Looks.{Prints}
+use Rattle.scons_host.specs.Prints.{Prints}
 use Rattle.scons_host.proofs.printing.print.Given as goal
 
 abbrev pub invariant-loop-rest : goal.invariant-loop-rest

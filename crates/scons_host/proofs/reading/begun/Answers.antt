@@ -1,9 +1,9 @@
-use Rattle.scons_host.specs.Looking.{looks_joined}
+use Rattle.world_api.proofs.Looking.{files_joined}
 use Rattle.scons_host.specs.Laws.{result_back}
 use Rattle.scons_host.proofs.reading.begun.Goals as goal
 
 pub returns-clause-looks : goal.returns-clause-looks
-returns-clause-looks g c = looks_joined g.W.Disk.meaning _ _ _ c.top_path.ensures.looks c.first_script-script.ensures.looks
+returns-clause-looks g c = files_joined g.W.Disk.meaning _ _ _ c.top_path.ensures.looks c.first_script-script.ensures.looks
 
 pub returns-clause-cause : goal.returns-clause-cause
 returns-clause-cause g c =

@@ -1,9 +1,9 @@
-use Rattle.scons_host.specs.Looking.{looks_joined}
+use Rattle.world_api.proofs.Looking.{files_joined}
 use Rattle.scons_host.specs.Laws.{result_back}
 use Rattle.scons_host.proofs.reading.first_script.Goals as goal
 
 pub returns-clause-looks : goal.returns-clause-looks
-returns-clause-looks g c = looks_joined g.W.Disk.meaning _ _ _ c.first_path.ensures.looks c.first.ensures.looks
+returns-clause-looks g c = files_joined g.W.Disk.meaning _ _ _ c.first_path.ensures.looks c.first.ensures.looks
 
 pub returns-clause-cause : goal.returns-clause-cause
 returns-clause-cause g c =

@@ -1,9 +1,9 @@
-use Rattle.scons_host.specs.Looking.{looks_joined}
+use Rattle.world_api.proofs.Looking.{files_joined}
 use Rattle.scons_host.specs.Laws.{end_back}
 use Rattle.scons_host.proofs.reading.read_on.Goals as goal
 
 pub returns-in-Ok-clause-looks : goal.returns-in-Ok-clause-looks
-returns-in-Ok-clause-looks g c = looks_joined g.W.Disk.meaning _ _ _ c.run_all.ensures.looks c.graph_end.ensures.looks
+returns-in-Ok-clause-looks g c = files_joined g.W.Disk.meaning _ _ _ c.run_all.ensures.looks c.graph_end.ensures.looks
 
 pub returns-in-Ok-clause-cause : goal.returns-in-Ok-clause-cause
 returns-in-Ok-clause-cause g c =

@@ -1,5 +1,5 @@
-use Rattle.scons_host.specs.Looks.{Looks}
+use Rattle.world_api.specs.Looks.{LooksAtFiles}
 use Rattle.scons_host.proofs.reading.standing.Given as goal
 
 abbrev pub invariant-loop-name : goal.invariant-loop-name
-invariant-loop-name g l = Looks g.W.Disk.meaning l.fn.world l.world
+invariant-loop-name g l = LooksAtFiles g.W.Disk.meaning l.fn.world l.world

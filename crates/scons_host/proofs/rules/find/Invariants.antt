@@ -1,5 +1,5 @@
-use Rattle.scons_host.specs.Looks.{Looks}
+use Rattle.world_api.specs.Looks.{LooksAtFiles}
 use Rattle.scons_host.proofs.rules.find.Given as goal
 
 abbrev pub invariant-loop-asked : goal.invariant-loop-asked
-invariant-loop-asked g l = Looks g.W.Disk.meaning l.fn.world l.world
+invariant-loop-asked g l = LooksAtFiles g.W.Disk.meaning l.fn.world l.world

@@ -1,5 +1,5 @@
-use Rattle.scons_host.specs.Looks.{Looks}
+use Rattle.world_api.specs.Looks.{LooksAtFiles}
 use Rattle.scons_host.proofs.rules.found.Given as goal
 
 abbrev pub invariant-loop-library : goal.invariant-loop-library
-invariant-loop-library g l = Looks g.W.Disk.meaning l.fn.world l.world
+invariant-loop-library g l = LooksAtFiles g.W.Disk.meaning l.fn.world l.world

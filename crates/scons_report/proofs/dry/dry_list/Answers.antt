@@ -1,5 +1,5 @@
 use Rattle.std.proofs.Common.{◌∙◌}
-use Rattle.build_files.proofs.Looking.{looks_joined}
+use Rattle.world_api.proofs.Looking.{looks_joined}
 use Rattle.scons_report.proofs.Ending.{inside}
 use Rattle.scons_report.proofs.dry.dry_list.Goals as goal
 

@@ -1,5 +1,5 @@
 use Rattle.std.proofs.Common.{◌≡◌}
-use Rattle.build_files.specs.Looks.{Looks}
+use Rattle.world_api.specs.Looks.{Looks}
 use Rattle.scons_report.proofs.dry.go_over.Given as goal
 
 abbrev pub invariant-loop-turn : goal.invariant-loop-turn

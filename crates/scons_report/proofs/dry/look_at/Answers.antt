@@ -1,4 +1,4 @@
-use Rattle.build_files.proofs.Looking.{looks_joined}
+use Rattle.world_api.proofs.Looking.{looks_joined}
 use Rattle.scons_report.proofs.dry.look_at.Goals as goal
 
 pub returns-in-Record-clause-looks : goal.returns-in-Record-clause-looks

@@ -1,4 +1,4 @@
-use Rattle.build_files.proofs.Looking.{looks_joined}
+use Rattle.world_api.proofs.Looking.{looks_joined}
 use Rattle.scons_top.proofs.Early.{any_stop, stop_after}
 use Rattle.scons_top.proofs.top.run.Goals as goal
 

@@ -1,7 +1,7 @@
 use Rattle.std.proofs.Common.{subst, sym, refl}
 use Rattle.build_files.specs.declared.end.ListEnd.{ListEnd}
 use Rattle.build_files.specs.Causes.{IsInside}
-use Rattle.build_files.proofs.Looking.{alone_same}
+use Rattle.world_api.proofs.Looking.{alone_same}
 use Rattle.build_files.proofs.end.ListEndFromRuleFault.from.Goals.{in-Full, in_default}
 use Rattle.build_files.proofs.end.ListEndFromRuleFault.from.Goals as goal
 

@@ -1,4 +1,4 @@
-use Rattle.build_files.proofs.Looking.{looks_joined}
+use Rattle.world_api.proofs.Looking.{looks_joined}
 use Rattle.build_files.proofs.inputs.Inputs.add_copies.Goals as goal
 
 pub returns-clause-looks : goal.returns-clause-looks

@@ -1,5 +1,5 @@
 use Rattle.std.proofs.Common.{◌≡◌}
-use Rattle.build_files.specs.Looks.{Looks}
+use Rattle.world_api.specs.Looks.{Looks}
 use Rattle.build_files.proofs.inputs.Inputs.add_each_copy.Given as goal
 
 abbrev pub invariant-loop-node : goal.invariant-loop-node

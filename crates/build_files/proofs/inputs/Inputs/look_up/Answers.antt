@@ -1,4 +1,4 @@
-use Rattle.build_files.proofs.Looking.{looks_joined}
+use Rattle.world_api.proofs.Looking.{looks_joined}
 use Rattle.build_files.proofs.inputs.Inputs.look_up.Goals as goal
 
 pub returns-in_err-found-clause-looks : goal.returns-in_err-found-clause-looks

@@ -1,5 +1,6 @@
 use Rattle.std.proofs.Common.{◌∙◌}
-use Rattle.build_files.proofs.Looking.{looks_joined, quiet}
+use Rattle.world_api.proofs.Looking.{looks_joined}
+use Rattle.build_files.proofs.Looking.{quiet}
 use Rattle.build_files.proofs.inputs.Inputs.newly_known.Goals as goal
 
 pub returns-in_err-has_copy_rule-clause-looks : goal.returns-in_err-has_copy_rule-clause-looks

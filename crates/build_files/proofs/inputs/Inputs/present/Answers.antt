@@ -1,5 +1,5 @@
 use Rattle.std.proofs.Common.{◌∙◌}
-use Rattle.build_files.proofs.Looking.{looks_joined}
+use Rattle.world_api.proofs.Looking.{looks_joined}
 use Rattle.build_files.proofs.inputs.Inputs.present.Goals as goal
 
 pub returns-in_err-dep-clause-looks : goal.returns-in_err-dep-clause-looks

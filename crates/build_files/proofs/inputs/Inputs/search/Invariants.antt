@@ -1,5 +1,5 @@
 use Rattle.std.proofs.Common.{◌≡◌}
-use Rattle.build_files.specs.Looks.{Looks}
+use Rattle.world_api.specs.Looks.{Looks}
 use Rattle.build_files.proofs.inputs.Inputs.search.Given as goal
 
 abbrev pub invariant-loop-dir : goal.invariant-loop-dir

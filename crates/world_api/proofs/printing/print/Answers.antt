@@ -1,5 +1,5 @@
-use Rattle.report_texts.proofs.PrintRuns.{prints_some, prints_rest, cut_rest}
-use Rattle.report_texts.proofs.printing.print.Goals as goal
+use Rattle.world_api.proofs.PrintRuns.{prints_some, prints_rest, cut_rest}
+use Rattle.world_api.proofs.printing.print.Goals as goal
 
 pub loop-rest-preserved : goal.loop-rest-preserved
 loop-rest-preserved g c =

@@ -1,8 +1,9 @@
 //! Printing a text whole.
 ghost use Rattle.std.specs.Prelude.{OnOk, OnErr};
-ghost use Rattle.report_texts.specs.Printing.{Prints, Cuts};
+ghost use Rattle.world_api.specs.Printing.{Prints, Cuts};
 
-use world_api::{Fault, Sink};
+use crate::refusal::Fault;
+use crate::sink::Sink;
 
 /// Prints a text whole, or up to where the sink refuses.
 pub fn print<S: Sink>(sink: &mut S, text: &str) -> Result<(), Fault>

@@ -1,6 +1,6 @@
 use Rattle.std.proofs.Common.{length}
-use Rattle.one_rule.specs.Printing.{Prints, Cuts}
-use Rattle.one_rule.proofs.printing.print.Given as goal
+use Rattle.world_api.specs.Printing.{Prints, Cuts}
+use Rattle.world_api.proofs.printing.print.Given as goal
 
 -- Whatever the rest does to the sink, the whole text does to it.
 abbrev pub invariant-loop-rest : goal.invariant-loop-rest
