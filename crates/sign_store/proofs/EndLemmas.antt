@@ -44,7 +44,7 @@ guarded true c x shut = refl
 guarded false c x shut = rw shut refl
 
 not_open : (bytes : List ℕ) → slice_index bytes 0 ≢ 1 → (slice_index bytes 0 == 1) ≡ false
-not_open bytes closed = elim (eqb_tells (slice_index bytes 0) 1) [ inl yes ↦ absurd (closed yes.1) | inr no ↦ no.0 ]
+not_open bytes closed = elim (eqb_tells (slice_index bytes 0) 1) [ inl eq ↦ absurd (closed eq.1) | inr ne ↦ ne.0 ]
 
 pub shut_reads_none : (bytes : List ℕ) → slice_index bytes 0 ≢ 1 → entry_in bytes ≡ None
 shut_reads_none bytes closed =
@@ -52,7 +52,10 @@ shut_reads_none bytes closed =
     rw none refl
 
 pub gate_at : (place : ℕ) (bank : List ℕ) → slice_index (drop place bank) 0 ≡ slice_index bank place
-gate_at place bank = get_or-drop place bank 0 0
+gate_at place bank = get_or-drop place bank 0 0 ∙ ap (λ n. get_or bank n 0) (plus_none place)
+  where
+    plus_none : (n : ℕ) → n + 0 ≡ n
+    plus_none n = omega arith
 
 body_cut : (place : ℕ) (bank : List ℕ) → 17 ≤ place → place ≤ length bank → body_of bank ≡ body_of (take place bank) ++ drop place bank
 body_cut place bank head inside =

@@ -11,6 +11,7 @@ use Rattle.world_api.specs.Banks.{Banks, Holds, Torn}
 use Rattle.world_api.specs.Meaning.{Meaning, IsImage, IsSettled, BankKept, Throughout}
 use Rattle.world_api.proofs.Moments.{weakens}
 use Rattle.sign_store.specs.declared.head.Head.TheVariants.{Short, Closed, Foreign, Live}
+use Rattle.sign_store.specs.declared.head.Choice.TheVariants as choice
 use Rattle.sign_store.specs.Heads.{head_of, gate_of}
 use Rattle.sign_store.specs.Images.{entries_map, body_of, after_entries}
 use Rattle.sign_store.specs.Ends.{EndsAt, StandsAt, KeepsAt, StandsFor, IsTornFrom, AreSettled, image_in, with_bank}
@@ -59,7 +60,7 @@ settled_on m old new bank before here kept b = by bank b before here kept
 -- ---- gates
 
 not_eq : (n : ℕ) → n ≢ 1 → (n == 1) ≡ false
-not_eq n closed = elim (eqb_tells n 1) [ inl yes ↦ absurd (closed yes.1) | inr no ↦ no.0 ]
+not_eq n closed = elim (eqb_tells n 1) [ inl eq ↦ absurd (closed eq.1) | inr ne ↦ ne.0 ]
 
 pub shut_blank : (bank : List ℕ) → slice_index bank 0 ≢ 1 → IsBlank bank
 shut_blank bank closed = by (leb (length bank) 17) refl
@@ -80,8 +81,8 @@ same_gate was now torn there gate =
 
 open_gate : (bank : List ℕ) → 17 < length bank → (head_of bank ≡ Closed → ⊥) → slice_index bank 0 ≡ 1
 open_gate bank long not_closed = elim (eqb_tells (gate_of bank) 1) [
-  | inl yes ↦ yes.1
-  | inr no ↦ absurd (not_closed (rw (lt-leb (length bank) 17 long, no.0) refl))
+  | inl eq ↦ eq.1
+  | inr ne ↦ absurd (not_closed (rw (lt-leb (length bank) 17 long, ne.0) refl))
 ]
 
 -- while the gate of a bank is closed
@@ -96,8 +97,8 @@ torn_close to map generation s now spare not_closed torn = by (leb (length (s to
     by false e =
         let long : 17 < length (s to) = leb-false (length (s to)) 17 e in
         elim (eqb_tells (slice_index now 0) 1) [
-          | inl yes ↦ ap (λ (x : List ℕ). image_in (with_bank to x s)) (same_gate (s to) now torn (omega (arith, long)) (yes.1 ∙ sym (open_gate (s to) long not_closed))) ∙ same_bank to ∙ spare.now
-          | inr no ↦ spare.blank now (shut_blank now no.1)
+          | inl eq ↦ ap (λ (x : List ℕ). image_in (with_bank to x s)) (same_gate (s to) now torn (omega (arith, long)) (eq.1 ∙ sym (open_gate (s to) long not_closed))) ∙ same_bank to ∙ spare.now
+          | inr ne ↦ spare.blank now (shut_blank now ne.1)
         ]
 
 -- what stands behind a closed gate doesn't count
@@ -122,12 +123,16 @@ filled generation map form rest is =
       entries = λ behind. ap (λ (x : List ℕ). entries_map (body_of x ++ behind)) cut ∙ is.leads.on behind;
     }
 
+pub filled_counts : (to : Bank) (map : Map) (generation : ℕ) (form rest : List ℕ) (s banks : Banks) → IsSpare to map generation s → IsForm generation map form
+    → ((other : Bank) → other ≢ to → banks other ≡ s other) → banks to ≡ 1 ∷ (form ++ rest) → choice_of banks ≡ choice.Live to generation
+filled_counts to map generation form rest s banks spare form_is others here =
+    let whole : banks to ≡ 1 ∷ (form_is.front ++ (0 ∷ rest)) = here ∙ ap (λ (x : List ℕ). 1 ∷ (x ++ rest)) form_is.is ∙ ap (λ (x : List ℕ). 1 ∷ x) (append_assoc form_is.front (0 ∷ []) rest) in
+    choice_at to s banks others ∙ spare.newer (banks to) (ap head_of whole ∙ form_is.head rest)
+
 pub filled_stands : (to : Bank) (map : Map) (generation : ℕ) (form rest : List ℕ) (s banks : Banks) → IsSpare to map generation s → IsForm generation map form
     → ((other : Bank) → other ≢ to → banks other ≡ s other) → banks to ≡ 1 ∷ (form ++ rest) → StandsAt to (length form) map banks
 filled_stands to map generation form rest s banks spare form_is others here =
-    let whole : banks to ≡ 1 ∷ (form_is.front ++ (0 ∷ rest)) = here ∙ ap (λ (x : List ℕ). 1 ∷ (x ++ rest)) form_is.is ∙ ap (λ (x : List ℕ). 1 ∷ x) (append_assoc form_is.front (0 ∷ []) rest) in
-    let live : head_of (banks to) ≡ Live generation = ap head_of whole ∙ form_is.head rest in
-    let counts = choice_at to s banks others ∙ spare.newer (banks to) live in
+    let counts = filled_counts to map generation form rest s banks spare form_is others here in
     let ends : EndsAt (length form) map (banks to) = subst (λ (x : List ℕ). EndsAt (length form) map x) (sym here) (filled generation map form rest form_is) in
     record { generation = generation; counts = counts; ends = ends; image = stands_for to (length form) map banks generation counts ends }
 
@@ -136,10 +141,10 @@ pub torn_open : (to : Bank) (map : Map) (generation : ℕ) (form rest : List ℕ
     → Torn 0 1 (s to) now → image_in (with_bank to now s) ≡ map
 torn_open to map generation form rest s now spare form_is behind there torn =
     elim (eqb_tells (slice_index now 0) 1) [
-      | inl yes ↦
+      | inl eq ↦
           (filled_stands to map generation form rest s (with_bank to now s) spare form_is (others to)
-          (here to ∙ drop_more now 0 0 (omega (arith, there, torn.no_shorter)) ∙ ap (λ (g : ℕ). g ∷ drop 1 now) yes.1 ∙ ap (λ (x : List ℕ). 1 ∷ x) (torn.after ∙ behind))).image
-      | inr no ↦ spare.blank now (shut_blank now no.1)
+          (here to ∙ drop_more now 0 0 (omega (arith, there, torn.no_shorter)) ∙ ap (λ (g : ℕ). g ∷ drop 1 now) eq.1 ∙ ap (λ (x : List ℕ). 1 ∷ x) (torn.after ∙ behind))).image
+      | inr ne ↦ spare.blank now (shut_blank now ne.1)
     ]
   where
     here : (bank : Bank) → with_bank bank now s bank ≡ now

@@ -7,3 +7,7 @@ pub mod TicketLemmas
 pub mod LocalLemmas
 pub mod ReadLemmas
 pub mod FillLemmas
+pub mod OrderLemmas
+pub mod FormLemmas
+pub mod BeginLemmas
+pub mod StepLemmas

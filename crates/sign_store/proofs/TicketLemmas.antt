@@ -5,20 +5,21 @@ use Rattle.std.specs.Option.{option_map, is_some}
 use Rattle.std.specs.List.{list_any}
 use Rattle.std.specs.Str.{bytes_eq}
 use Rattle.std.proofs.lemmas.Slice.Eq.{bytes_eq-Decides}
-use Rattle.std.proofs.lemmas.List.{append-nil}
+use Rattle.std.specs.Int.{w32, to_be_bytes}
+use Rattle.std.proofs.lemmas.List.{append-nil, length-append}
 use Rattle.deciders.specs.declared.recorded.Rec.{Rec}
 use Rattle.deciders.specs.Spelling.{sized, listed, spelling, IsPathText, Spells}
 use Rattle.deciders.specs.Reading.{path_at, counted, paths_in}
-use Rattle.deciders.proofs.Takings.{path_reader}
+use Rattle.deciders.proofs.Takings.{path_reader, wide32}
 use Rattle.deciders.proofs.Parts.{list_reader}
 use Rattle.deciders.proofs.RecordLaws.{record_again}
 use Rattle.deciders.proofs.Sizes.{targets_within}
 use Rattle.sign_store.specs.declared.entries.Change.TheVariants.{Put, Withdraw}
 use Rattle.sign_store.specs.declared.store.Store.{Store}
 use Rattle.sign_store.specs.declared.ticket.Ticket.{Ticket}
-use Rattle.sign_store.specs.Entries.{entry_of, put_payload, withdraw_payload}
+use Rattle.sign_store.specs.Entries.{entry_of, put_payload, withdraw_payload, entries_len}
 use Rattle.sign_store.specs.Ends.{IsEntry}
-use Rattle.sign_store.specs.Stores.{IsTicket, IsOut, HasRoom, TakesRoom, KeepsRooms, AreApart, map_of, owed}
+use Rattle.sign_store.specs.Stores.{IsTicket, IsOut, HasRoom, AreApart, map_of, owed}
 use Rattle.sign_store.specs.Tables.{Map, has_any, with_each, is_among}
 
 -- ---- what the entries say
@@ -35,7 +36,7 @@ left_true : (a b : Bool) → (a && b) ≡ true → a ≡ true
 left_true true b e = refl
 left_true false b e = absurd cc
 
-paths_again : (paths : List (List ℕ)) → counted path_at (listed sized paths) ≡ Some (paths, []) → not (length paths == 0) ≡ true → paths_in (listed sized paths) ≡ Some paths
+pub paths_again : (paths : List (List ℕ)) → counted path_at (listed sized paths) ≡ Some (paths, []) → not (length paths == 0) ≡ true → paths_in (listed sized paths) ≡ Some paths
 unfolding paths_in
 paths_again paths counts some = rw (counts, some) refl
 
@@ -87,12 +88,13 @@ owed_less false b put withdrawal so = let le = at_least b put withdrawal in omeg
 
 any_less : (map : Map) (paths targets : List (List ℕ)) → has_any (with_each paths None map) targets ≡ true → has_any map targets ≡ true
 any_less map paths [] e = absurd cc
-any_less map paths (path ∷ targets) e = by (is_among paths path) (is_some (map path)) refl refl e
+any_less map paths (path ∷ targets) e = by (is_among paths path) (is_some (map path)) refl refl e (any_less map paths targets)
   where
-    by : (b c : Bool) → is_among paths path ≡ b → is_some (map path) ≡ c → has_any (with_each paths None map) (path ∷ targets) ≡ true → has_any map (path ∷ targets) ≡ true
-    by b true among some e = rw some refl
-    by true false among some e = rw some (any_less map paths targets (subst (λ (x : Bool). (is_some (cond x None (map path)) || has_any (with_each paths None map) targets) ≡ true) among e))
-    by false false among some e = rw some (any_less map paths targets (subst (λ (y : Bool). (y || has_any (with_each paths None map) targets) ≡ true) some (subst (λ (x : Bool). (is_some (cond x None (map path)) || has_any (with_each paths None map) targets) ≡ true) among e)))
+    by : (b c : Bool) → is_among paths path ≡ b → is_some (map path) ≡ c → has_any (with_each paths None map) (path ∷ targets) ≡ true → (has_any (with_each paths None map) targets ≡ true → has_any map targets ≡ true)
+        → has_any map (path ∷ targets) ≡ true
+    by b true among some e later = rw some refl
+    by true false among some e later = rw some (later (subst (λ (x : Bool). (is_some (cond x None (map path)) || has_any (with_each paths None map) targets) ≡ true) among e))
+    by false false among some e later = rw some (later (subst (λ (y : Bool). (y || has_any (with_each paths None map) targets) ≡ true) some (subst (λ (x : Bool). (is_some (cond x None (map path)) || has_any (with_each paths None map) targets) ≡ true) among e)))
 
 same_bytes : (path : List ℕ) → bytes_eq path path ≡ true
 same_bytes path = (bytes_eq-Decides path path).1 refl
@@ -152,18 +154,46 @@ pub less_apart : (old new : Map) (rec : Option Rec) (paths targets : List (List 
 less_apart old new rec paths targets is apart some = sym (any_apart old rec paths targets apart) ∙ subst (λ (map : Map). has_any map targets ≡ true) is some
 
 -- a ticket whose targets were withdrawn
-pub out_withdrawn : (old new : Store) (rec : Rec) (ticket : Ticket) → IsOut old rec ticket → IsTicket new rec ticket → has_any (map_of old) rec.targets ≡ true → TakesRoom ticket.room (length ticket.withdrawal.items) old new
-    → map_of new ≡ with_each rec.targets None (map_of old) → IsOut new rec ticket
-out_withdrawn old new rec ticket out own some takes map = record {
+pub out_withdrawn : (old new : Store) (rec : Rec) (ticket : Ticket) → IsOut old rec ticket → IsTicket new rec ticket → has_any (map_of old) rec.targets ≡ true → length new.rooms.items ≡ length old.rooms.items
+    → slice_index new.rooms.items ticket.room + length ticket.withdrawal.items ≡ slice_index old.rooms.items ticket.room → map_of new ≡ with_each rec.targets None (map_of old) → IsOut new rec ticket
+out_withdrawn old new rec ticket out own some rooms here map = record {
   own = own;
   spells = out.spells;
   fits = out.fits;
   room = record {
-    inside = let inside = out.room.inside in let rooms = takes.rooms in omega (arith, inside, rooms);
+    inside = let inside = out.room.inside in omega (arith, inside, rooms);
     enough =
         let enough = out.room.enough in
-        let here = takes.here in
         let none : has_any (map_of new) rec.targets ≡ false = subst (λ (m : Map). has_any m rec.targets ≡ false) (sym map) (none_withdrawn (map_of old) rec.targets) in
         omega (arith, enough, here, both_owed (has_any (map_of old) rec.targets) (length ticket.put.items) (length ticket.withdrawal.items) some, put_owed (has_any (map_of new) rec.targets) (length ticket.put.items) (length ticket.withdrawal.items) none);
   };
 }
+
+-- another one, where the map is the same
+pub out_beside : (old new : Store) (rec : Rec) (ticket : Ticket) → IsOut old rec ticket → IsTicket new rec ticket → map_of new ≡ map_of old → length old.rooms.items ≤ length new.rooms.items
+    → slice_index new.rooms.items ticket.room ≡ slice_index old.rooms.items ticket.room → IsOut new rec ticket
+out_beside old new rec ticket out own map rooms here = record {
+  own = own;
+  spells = out.spells;
+  fits = out.fits;
+  room = record {
+    inside = let inside = out.room.inside in omega (arith, inside, rooms);
+    enough =
+        let enough = out.room.enough in
+        omega (arith, enough, here, owed_less (has_any (map_of new) rec.targets) (has_any (map_of old) rec.targets) (length ticket.put.items) (length ticket.withdrawal.items)
+        (λ some. subst (λ (m : Map). has_any m rec.targets ≡ true) map some));
+  };
+}
+
+-- what the entries of a new ticket take
+pub owed_is : (map : Map) (rec : Rec) (put withdrawal : List ℕ) (payload : ℕ) → payload ≡ length (spelling rec) + 1 → put ≡ entry_of (put_payload rec) ++ 0 ∷ [] → withdrawal ≡ entry_of (withdraw_payload rec.targets) ++ 0 ∷ []
+    → length put + cond (has_any map rec.targets) (length withdrawal) 0 ≡ entries_len map rec payload
+owed_is map rec put withdrawal payload payload-is put-is withdrawal-is = by (has_any map rec.targets)
+  where
+    put-len : length put ≡ 5 + payload
+    put-len = omega (arith, ap length put-is, length-append (entry_of (put_payload rec)) (0 ∷ []), length-append (to_be_bytes w32 (length (put_payload rec))) (put_payload rec), wide32.len (length (put_payload rec)), payload-is)
+    withdrawal-len : length withdrawal ≡ 6 + length (listed sized rec.targets)
+    withdrawal-len = omega (arith, ap length withdrawal-is, length-append (entry_of (withdraw_payload rec.targets)) (0 ∷ []), length-append (to_be_bytes w32 (length (withdraw_payload rec.targets))) (withdraw_payload rec.targets), wide32.len (length (withdraw_payload rec.targets)))
+    by : (b : Bool) → length put + cond b (length withdrawal) 0 ≡ cond b (length (listed sized rec.targets) + (5 + payload + 6)) (5 + payload)
+    by true = omega (arith, put-len, withdrawal-len)
+    by false = omega (arith, put-len)

@@ -13,7 +13,7 @@ use Rattle.sign_store.specs.Entries.{entry_of}
 use Rattle.sign_store.specs.Images.{change_in, applied}
 use Rattle.sign_store.specs.Ends.{StandsAt, KeepsAt, IsEntry, IsEither, IsTornFrom, with_bank, image_in}
 use Rattle.sign_store.specs.Tables.{Map}
-use Rattle.sign_store.proofs.EndLemmas.{torn_behind, torn_gate, gate_opened}
+use Rattle.sign_store.proofs.EndLemmas.{torn_behind, torn_gate, gate_opened, gate_at}
 
 torn_same : (place len : ℕ) (bytes : List ℕ) → Torn place len bytes bytes
 torn_same place len bytes = record { before = refl; after = refl; no_shorter = omega arith; no_longer = omega arith }
@@ -86,6 +86,11 @@ held_behind place was now bytes inside holds =
     ap (drop (place + 1)) (holds ∙ append_assoc (take (place + 1) was) bytes (drop (place + 1 + length bytes) was))
     ∙ drop_at (take (place + 1) was) (bytes ++ drop (place + 1 + length bytes) was) (place + 1) (omega (arith, length-take (place + 1) was))
 
+held_inside : (place : ℕ) (was now bytes : List ℕ) → place < length was → Holds was (place + 1) bytes now → place < length now
+held_inside place was now bytes inside holds =
+    let parts : now ≡ take (place + 1) was ++ (bytes ++ drop (place + 1 + length bytes) was) = holds ∙ append_assoc (take (place + 1) was) bytes (drop (place + 1 + length bytes) was) in
+    omega (arith, ap length parts, length-append (take (place + 1) was) (bytes ++ drop (place + 1 + length bytes) was), length-take (place + 1) was, inside)
+
 -- the gate alone was written
 record IsGateOpen (place : ℕ) (was now : List ℕ) : Type 0 where
   front : take place now ≡ take place was
@@ -102,7 +107,7 @@ held_gate place was now inside holds =
       front = ap (take place) parts ∙ take_at (take place was) (1 ∷ drop (place + 1) was) place front-len;
       behind = sym (drop-drop 1 place now) ∙ ap (drop 1) rest;
       inside = omega (arith, ap length parts, length-append (take place was) (1 ∷ drop (place + 1) was), front-len);
-      gate = sym (get_or-drop place now 0 0) ∙ ap (λ (x : List ℕ). slice_index x 0) rest;
+      gate = sym (gate_at place now) ∙ ap (λ (x : List ℕ). slice_index x 0) rest;
     }
 
 -- the moments of the whole: an entry behind a gate, and then the gate
@@ -125,18 +130,18 @@ gate_moments m old mid new bank place change bytes map entry keeps first settled
 
 -- what stands after the whole
 pub entry_keeps : {W : Type 0} (m : Meaning W) (old mid new : W) (bank : Bank) (place : ℕ) (change : Change) (bytes : List ℕ) (map : Map) → IsEntry change bytes → KeepsAt m old bank place map
-    → Throughout m old mid (IsTornFrom m old bank (place + 1) (length bytes)) → (m.tells new → m.tells mid) → (m.tells mid → place < length (m.seen old bank)) → (m.tells mid → place < length (m.seen mid bank)) → (m.tells mid → IsImage m mid (m.seen mid))
+    → Throughout m old mid (IsTornFrom m old bank (place + 1) (length bytes)) → (m.tells new → m.tells mid) → (m.tells mid → place < length (m.seen old bank)) → (m.tells mid → IsImage m mid (m.seen mid))
     → (m.tells mid → Holds (m.seen old bank) (place + 1) bytes (m.seen mid bank))
     → (m.tells new → IsSettled m new bank) → (m.tells new → Holds (m.seen mid bank) place (1 ∷ []) (m.seen new bank)) → (m.tells new → (other : Bank) → other ≢ bank → BankKept m other mid new)
     → KeepsAt m new bank (place + length bytes) (applied change map)
-entry_keeps m old mid new bank place change bytes map entry keeps first back inside_old inside_mid reads holds settled gate others = record {
+entry_keeps m old mid new bank place change bytes map entry keeps first back inside_old reads holds settled gate others = record {
   each = λ told banks image.
       let told_mid = back told in
       let was = m.seen mid bank in
       let is : banks bank ≡ m.seen new bank = settled told (banks bank) (image bank) in
       let stands = (behind_keeps m old mid bank place (length bytes) map keeps first).each told_mid (with_bank bank was banks) (image_with m mid bank was banks (λ other not. (others told other not).no_more (banks other) (image other)) (reads told_mid bank)) in
       let behind = held_behind place (m.seen old bank) was bytes (let i = inside_old told_mid in omega (arith, i)) (holds told_mid) ∙ ap (λ (x : List ℕ). x ++ drop (place + 1 + length bytes) (m.seen old bank)) entry.spelt in
-      let open_gate = held_gate place was (m.seen new bank) (inside_mid told_mid) (gate told) in
+      let open_gate = held_gate place was (m.seen new bank) (held_inside place (m.seen old bank) was bytes (inside_old told_mid) (holds told_mid)) (gate told) in
       let now = gate_opened bank place map was (drop (place + 1 + length bytes) (m.seen old bank)) banks change entry.payload stands behind entry.fits entry.says
           (ap (take place) is ∙ open_gate.front) (ap (drop (place + 1)) is ∙ open_gate.behind) (subst (λ (x : List ℕ). place < length x) (sym is) open_gate.inside) (ap (λ (x : List ℕ). slice_index x place) is ∙ open_gate.gate) in
       subst (λ (n : ℕ). StandsAt bank (place + n) (applied change map) banks) (sym (ap length entry.spelt)) now;

@@ -1,11 +1,13 @@
 pub mod Heads
 pub mod Tables
 pub mod Entries
-pub mod Reached
 pub mod Maps
+pub mod Orders
 pub mod Images
 pub mod Gates
 pub mod Readings
 pub mod Ends
+pub mod Reached
 pub mod Forms
+pub mod Beginnings
 pub mod Stores

@@ -1,16 +1,19 @@
 //! Reading and writing the banks of a disk.
 ghost use Rattle.std.specs.Prelude.{◌≡◌, ◌≢◌, ◌≤◌, ◌<◌, ◌+◌, ◌^◌, ℕ, length, max, vec_len, IfOk, IfErr, OnOk, OnErr};
+ghost use Rattle.world_api.specs.Around.{Around};
 ghost use Rattle.world_api.specs.Banks.{Holds};
 ghost use Rattle.world_api.specs.Causes.{DiskFails};
 ghost use Rattle.world_api.specs.Meaning.{Told, IsSettled, Throughout};
 ghost use Rattle.world_api.specs.declared.disk.Bank.{Bank};
 ghost use Rattle.world_api.specs.declared.disk.Bank.TheVariants as side;
 ghost use Rattle.sign_store.specs.declared.entries.Change.{Change};
+ghost use Rattle.sign_store.specs.Beginnings.{CanFill, IsFilled};
 ghost use Rattle.sign_store.specs.Ends.{IsEntry, IsEither, IsTornFrom, KeepsAt};
+ghost use Rattle.sign_store.specs.Forms.{IsForm, IsShut};
 ghost use Rattle.sign_store.specs.Heads.{head_of};
 ghost use Rattle.sign_store.specs.Images.{applied, body_of};
 ghost use Rattle.sign_store.specs.Readings.{IsRefusal, IsOutside};
-ghost use Rattle.sign_store.specs.Reached.{HasFaultCause, ReadsBanks, Writes};
+ghost use Rattle.sign_store.specs.Reached.{Endures, HasFaultCause, ReadsBanks, Writes};
 ghost use Rattle.sign_store.specs.Tables.{Map};
 
 use crate::head::{HEAD_LEN, Head, head_of};
@@ -146,6 +149,8 @@ pub(crate) fn append<W: Disk>(
 /// stays as it is, since torn bytes may stand behind it.
 pub(crate) fn fill<W: Disk>(world: &mut W, bank: Bank, form: &[u8]) -> Result<(), Fault>
     requires { 1 + length form.now ≤ 2 ^ 41 }
+    ensures moments { (stood : Around) (map : Map) (generation : ℕ) → CanFill W.meaning world.old bank stood map generation → IsForm generation map form.now → Endures W.meaning world.old world.new stood map }
+    ensures filled { (stood : Around) (map : Map) (generation : ℕ) → CanFill W.meaning world.old bank stood map generation → IsForm generation map form.now → OnOk result (IsFilled W.meaning world.new bank (length form.now) stood map generation) }
     ensures len { W.meaning.tells world.new → OnOk result (length form.now < length (W.meaning.seen world.new bank)) }
     ensures around { W.meaning.tells world.new → W.meaning.around world.new ≡ W.meaning.around world.old }
     ensures told { Told W.meaning world.old world.new }
@@ -158,7 +163,9 @@ pub(crate) fn fill<W: Disk>(world: &mut W, bank: Bank, form: &[u8]) -> Result<()
 
 /// Closes the gate of a bank, where it is open or the bank is too short for one to count.
 fn close<W: Disk>(world: &mut W, bank: Bank) -> Result<(), Fault>
-    ensures gate { W.meaning.tells world.new → OnOk result (0 < length (W.meaning.seen world.new bank)) }
+    ensures moments { (stood : Around) (map : Map) (generation : ℕ) → CanFill W.meaning world.old bank stood map generation → Endures W.meaning world.old world.new stood map }
+    ensures spare { (stood : Around) (map : Map) (generation : ℕ) → CanFill W.meaning world.old bank stood map generation → OnOk result (CanFill W.meaning world.new bank stood map generation) }
+    ensures gate { W.meaning.tells world.new → OnOk result (IsShut (W.meaning.seen world.new bank)) }
     ensures around { W.meaning.tells world.new → W.meaning.around world.new ≡ W.meaning.around world.old }
     ensures told { Told W.meaning world.old world.new }
     ensures kept { OnOk result (W.meaning.counts world.new ≡ W.meaning.counts world.old) }
@@ -174,8 +181,10 @@ fn close<W: Disk>(world: &mut W, bank: Bank) -> Result<(), Fault>
 
 /// The same of a bank whose gate is closed.
 fn fill_closed<W: Disk>(world: &mut W, bank: Bank, form: &[u8]) -> Result<(), Fault>
-    requires gate { W.meaning.tells world.old → 0 < length (W.meaning.seen world.old bank) }
+    requires gate { W.meaning.tells world.old → IsShut (W.meaning.seen world.old bank) }
     requires small { 1 + length form.now ≤ 2 ^ 41 }
+    ensures moments { (stood : Around) (map : Map) (generation : ℕ) → CanFill W.meaning world.old bank stood map generation → IsForm generation map form.now → Endures W.meaning world.old world.new stood map }
+    ensures filled { (stood : Around) (map : Map) (generation : ℕ) → CanFill W.meaning world.old bank stood map generation → IsForm generation map form.now → OnOk result (IsFilled W.meaning world.new bank (length form.now) stood map generation) }
     ensures len { W.meaning.tells world.new → OnOk result (length form.now < length (W.meaning.seen world.new bank)) }
     ensures around { W.meaning.tells world.new → W.meaning.around world.new ≡ W.meaning.around world.old }
     ensures told { Told W.meaning world.old world.new }

@@ -6,7 +6,7 @@ ghost use Rattle.world_api.specs.Meaning.{Told, Throughout};
 ghost use Rattle.deciders.specs.declared.recorded.Rec.{Rec};
 ghost use Rattle.deciders.specs.Spelling.{Spells, spelling};
 ghost use Rattle.sign_store.specs.declared.entries.Change.{Change};
-ghost use Rattle.sign_store.specs.Ends.{IsEither, IsEntry, KeepsAt, image_in};
+ghost use Rattle.sign_store.specs.Ends.{IsEither, IsEntry, IsLeftOr, KeepsAt, image_in};
 ghost use Rattle.sign_store.specs.Entries.{entries_len};
 ghost use Rattle.sign_store.specs.Images.{applied};
 ghost use Rattle.sign_store.specs.Tables.{with_each};
@@ -64,6 +64,11 @@ impl Store {
 
     /// The store of the banks: the same map, over a live bank whose end is whole.
     pub fn begin<W: Disk>(alloc: Global, world: &mut W) -> Result<Store, StoreRefusal>
+        ensures moments { Throughout W.meaning world.old world.new (IsLeftOr W.meaning world.old (image_in (W.meaning.seen world.old))) }
+        ensures keeps { IfOk result (IsKept W.meaning world.new) }
+        ensures map { W.meaning.tells world.new → IfOk result (λ store. map_of store ≡ image_in (W.meaning.seen world.old)) }
+        ensures readable { W.meaning.tells world.new → IfOk result (λ _. AreReadable (W.meaning.seen world.old)) }
+        ensures refused { W.meaning.tells world.new → IfErr result (IsRefusal (W.meaning.seen world.old)) }
         ensures live { IfOk result (λ store. is_live store ≡ true) }
         ensures stands { W.meaning.tells world.new → IfOk result (IsStoredIn (W.meaning.seen world.new)) }
         ensures cause { HasFaultCause W.meaning world.old world.new result }
@@ -77,6 +82,7 @@ impl Store {
     fn over(alloc: Global, opened: Opened) -> Store
         requires { opened.end ≤ 2 ^ 40 }
         ensures live { is_live result ≡ true }
+        ensures map { result.map ≡ opened.map }
         ensures bank { result.bank ≡ opened.bank }
         ensures end { result.end ≡ opened.end }
     {

@@ -4,5 +4,5 @@ use Rattle.sign_store.proofs.banks.sizes_of.Goals as goal
 pub returns-in_err-b-clause-looks : goal.returns-in_err-b-clause-looks
 returns-in_err-b-clause-looks g c =
     reads_joined _ _ _ _
-    (looked g.W.Disk.meaning c.args.world.now c.size.new.self c.size.ensures.told c.size.ensures.recalls c.size.ensures.around c.size.ensures.banks)
-    (looked g.W.Disk.meaning c.size.new.self c.size-2.new.self c.size-2.ensures.told c.size-2.ensures.recalls c.size-2.ensures.around c.size-2.ensures.banks)
+    (looked g.W.Disk.meaning c.args.world.now c.size.new.self c.size.ensures.told c.size.ensures.recalls c.size.ensures.around c.size.ensures.banks c.size.ensures.time)
+    (looked g.W.Disk.meaning c.size.new.self c.size-2.new.self c.size-2.ensures.told c.size-2.ensures.recalls c.size-2.ensures.around c.size-2.ensures.banks c.size-2.ensures.time)

@@ -8,12 +8,3 @@ returns-in_err-number-clause-tickets c = record {
     withdrawal = is.withdrawal;
   };
 }
-
-pub returns-clause-tickets : goal.returns-clause-tickets
-returns-clause-tickets c = record {
-  each = λ rec ticket is. record {
-    held = c.add.ensures.keeps rec ticket.number is.held;
-    put = is.put;
-    withdrawal = is.withdrawal;
-  };
-}

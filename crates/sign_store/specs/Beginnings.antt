@@ -1,0 +1,67 @@
+-- What the steps of beginning a store keep.
+use Rattle.std.specs.Prelude.{◌≡◌, ◌≢◌, ◌≤◌, ◌<◌, ◌+◌, ◌-◌, ℕ, List, ◌++◌, length, take, drop, None}
+use Rattle.world_api.specs.declared.disk.Bank.{Bank}
+use Rattle.world_api.specs.Around.{Around}
+use Rattle.world_api.specs.Banks.{Banks}
+use Rattle.world_api.specs.Meaning.{Meaning, IsImage}
+use Rattle.sign_store.specs.declared.entries.EndGate.{EndGate}
+use Rattle.sign_store.specs.declared.head.Choice.TheVariants as choice
+use Rattle.sign_store.specs.declared.opening.Opened.{Opened}
+use Rattle.sign_store.specs.Ends.{StandsAt, AreSettled, image_in}
+use Rattle.sign_store.specs.Forms.{IsSpare}
+use Rattle.sign_store.specs.Gates.{IsGate}
+use Rattle.sign_store.specs.Images.{entry_in, after_entries, entries_map, body_of}
+use Rattle.sign_store.specs.Maps.{map_in}
+use Rattle.sign_store.specs.Orders.{IsOrdered}
+use Rattle.sign_store.specs.Readings.{choice_of}
+use Rattle.sign_store.specs.Tables.{Map}
+
+-- a stop leaves the banks as they read, and this is around
+pub record IsAtRest {W : Type 0} (m : Meaning W) (world : W) (stood : Around) : Type 0 where
+  pub around : m.tells world → m.around world ≡ stood
+  pub settled : m.tells world → AreSettled m world
+
+-- a bank can be written while another one counts, and would count in this generation
+pub record CanFill {W : Type 0} (m : Meaning W) (world : W) (to : Bank) (stood : Around) (map : Map) (generation : ℕ) : Type 0 where
+  pub rest : IsAtRest m world stood
+  pub spare : m.tells world → IsSpare to map generation (m.seen world)
+
+-- up to this place a live bank has whole entries, which stand for this map; no entry is behind them
+pub record IsWrittenTo (place : ℕ) (map : Map) (bank : List ℕ) : Type 0 where
+  pub behind_head : 17 ≤ place
+  pub long : 17 < length bank
+  pub inside : place ≤ length bank
+  pub entries : (behind : List ℕ) → entries_map (body_of (take place bank) ++ behind) ≡ after_entries (length behind) map behind
+  pub none : entry_in (drop place bank) ≡ None
+
+-- the bank that counts, its last gate, and what its entries stand for
+pub record IsMendable {W : Type 0} (m : Meaning W) (world : W) (bank : Bank) (gate : EndGate) (place : ℕ) (stood : Around) (map : Map) (generation : ℕ) : Type 0 where
+  pub rest : IsAtRest m world stood
+  pub counts : m.tells world → choice_of (m.seen world) ≡ choice.Live bank generation
+  pub written : m.tells world → IsWrittenTo place map (m.seen world bank)
+  pub gate_is : m.tells world → IsGate gate place (m.seen world bank)
+
+-- a bank that counts and ends at a closed gate, with its map
+pub record IsOpened {W : Type 0} (m : Meaning W) (stood : Around) (map : Map) (world : W) (opened : Opened) : Type 0 where
+  pub rest : IsAtRest m world stood
+  pub stands : m.tells world → StandsAt opened.bank opened.end map (m.seen world)
+  pub counts : m.tells world → choice_of (m.seen world) ≡ choice.Live opened.bank opened.generation
+  pub held : m.tells world → map_in opened.map ≡ map
+  pub ordered : IsOrdered opened.map
+
+-- a bank was filled: it counts, and ends at this place
+pub record IsFilled {W : Type 0} (m : Meaning W) (world : W) (to : Bank) (place : ℕ) (stood : Around) (map : Map) (generation : ℕ) : Type 0 where
+  pub rest : IsAtRest m world stood
+  pub stands : m.tells world → StandsAt to place map (m.seen world)
+  pub counts : m.tells world → choice_of (m.seen world) ≡ choice.Live to generation
+
+-- at every moment a stop leaves what one could have left before
+pub record IsAsBefore {W : Type 0} (m : Meaning W) (old : W) (around : Around) (banks : Banks) : Type 0 where
+  pub same : around ≡ m.around old
+  pub image : IsImage m old banks
+
+-- this bank counts, and the banks stand for this map
+pub record IsCounted {W : Type 0} (m : Meaning W) (world : W) (bank : Bank) (stood : Around) (map : Map) (generation : ℕ) : Type 0 where
+  pub rest : IsAtRest m world stood
+  pub counts : m.tells world → choice_of (m.seen world) ≡ choice.Live bank generation
+  pub image : m.tells world → image_in (m.seen world) ≡ map
