@@ -1,12 +1,12 @@
 -- The entries of a ticket that is out: they say its record, and have their room.
-use Rattle.std.proofs.Common.{◌≡◌, ℕ, ◌^◌, ◌<◌, ◌≤◌, ◌+◌, Bool, true, false, cond, List, [], ◌∷◌, ◌++◌, length, Option, Some, None, refl, sym, ap, subst, ◌∙◌, append_assoc, inl, inr, arith}
+use Rattle.std.proofs.Common.{◌≡◌, ℕ, ◌^◌, ◌<◌, ◌≤◌, ◌+◌, Bool, true, false, cond, List, [], ◌∷◌, ◌++◌, length, get_or, Option, Some, None, refl, sym, ap, subst, ◌∙◌, append_assoc, inl, inr, arith}
 use Rattle.std.specs.Prelude.{◌≢◌, ◌||◌, ◌&&◌, ◌==◌, not, slice_index}
 use Rattle.std.specs.Option.{option_map, is_some}
 use Rattle.std.specs.List.{list_any}
 use Rattle.std.specs.Str.{bytes_eq}
 use Rattle.std.proofs.lemmas.Slice.Eq.{bytes_eq-Decides}
 use Rattle.std.specs.Int.{w32, to_be_bytes}
-use Rattle.std.proofs.lemmas.List.{append-nil, length-append}
+use Rattle.std.proofs.lemmas.List.{append-nil, length-append, get_or-take, take_at}
 use Rattle.deciders.specs.declared.recorded.Rec.{Rec}
 use Rattle.deciders.specs.Spelling.{sized, listed, spelling, IsPathText, Spells}
 use Rattle.deciders.specs.Reading.{path_at, counted, paths_in}
@@ -197,3 +197,8 @@ owed_is map rec put withdrawal payload payload-is put-is withdrawal-is = by (has
     by : (b : Bool) → length put + cond b (length withdrawal) 0 ≡ cond b (length (listed sized rec.targets) + (5 + payload + 6)) (5 + payload)
     by true = omega (arith, put-len, withdrawal-len)
     by false = omega (arith, put-len)
+
+-- the rooms stay where one more is kept
+pub kept_room : (old new : List ℕ) (len room : ℕ) → new ≡ old ++ len ∷ [] → room < length old → slice_index new room ≡ slice_index old room
+kept_room old new len room is inside =
+    ap (λ (x : List ℕ). slice_index x room) is ∙ sym (get_or-take (length old) (old ++ len ∷ []) room 0 inside) ∙ ap (λ (x : List ℕ). get_or x room 0) (take_at old (len ∷ []) (length old) refl)

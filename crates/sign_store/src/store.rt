@@ -151,7 +151,8 @@ impl Store {
 
     /// What the entries of a ticket take: its put, and its withdrawal where a target has a record.
     fn entries_len(&self, rec: &Rec, payload: u64) -> u64
-        requires { payload < 2 ^ 32 }
+        requires exact { payload ≡ length (spelling rec.now) + 1 }
+        requires fits { payload < 2 ^ 32 }
         ensures { result ≡ entries_len (map_of self.now) rec.now payload }
     {
         let targets = rec.targets.as_slice();
