@@ -75,7 +75,7 @@ counted_map : (bank : Bank) (generation : ℕ) (s : Banks) (map : Map) → choic
 counted_map A generation s map counts is = rw counts is
 counted_map B generation s map counts is = rw counts is
 
-bank_with : (bank : Bank) (now : List ℕ) (s : Banks) → with_bank bank now s bank ≡ now
+pub bank_with : (bank : Bank) (now : List ℕ) (s : Banks) → with_bank bank now s bank ≡ now
 bank_with A now s = refl
 bank_with B now s = refl
 

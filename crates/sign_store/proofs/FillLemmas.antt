@@ -30,7 +30,7 @@ image_at : (bank : Bank) (s banks : Banks) → ((other : Bank) → other ≢ ban
 image_at A s banks same = ap (λ (x : List ℕ). image_in (with_bank A (banks A) (λ b. x))) (same B (λ e. absurd cc))
 image_at B s banks same = ap (λ (x : List ℕ). image_in (with_bank B (banks B) (λ b. x))) (same A (λ e. absurd cc))
 
-choice_at : (bank : Bank) (s banks : Banks) → ((other : Bank) → other ≢ bank → banks other ≡ s other) → choice_of banks ≡ choice_of (with_bank bank (banks bank) s)
+pub choice_at : (bank : Bank) (s banks : Banks) → ((other : Bank) → other ≢ bank → banks other ≡ s other) → choice_of banks ≡ choice_of (with_bank bank (banks bank) s)
 choice_at A s banks same = ap (λ (x : List ℕ). choice_of (with_bank A (banks A) (λ b. x))) (same B (λ e. absurd cc))
 choice_at B s banks same = ap (λ (x : List ℕ). choice_of (with_bank B (banks B) (λ b. x))) (same A (λ e. absurd cc))
 

@@ -1,11 +1,12 @@
 -- The compact form: entries that lead from no record to all of them.
-use Rattle.std.proofs.Common.{◌≡◌, ℕ, ◌^◌, ◌<◌, ◌≤◌, ◌+◌, Bool, true, false, cond, leb, List, [], ◌∷◌, ◌++◌, length, take, drop, Option, None, Some, refl, sym, ap, subst, ◌∙◌, append_assoc, arith}
+use Rattle.std.proofs.Common.{◌≡◌, ℕ, ◌^◌, ◌<◌, ◌≤◌, ◌+◌, Bool, true, false, cond, leb, List, [], ◌∷◌, ◌++◌, length, take, drop, Option, None, Some, refl, sym, ap, subst, ◌∙◌, append_assoc, inl, inr, arith}
 use Rattle.std.specs.Prelude.{◌≢◌, ◌&&◌, ◌==◌, not, filter, codes}
 use Rattle.std.specs.Int.{w32, w64, to_be_bytes, from_be_bytes}
 use Rattle.std.specs.Option.{option_map}
 use Rattle.std.specs.List.{flat_map, AllByRecursion}
 use Rattle.std.specs.Str.{bytes_eq}
 use Rattle.std.proofs.lemmas.Bool.{lt-leb}
+use Rattle.std.proofs.lemmas.Bool.Decides.{eqb_tells}
 use Rattle.std.proofs.lemmas.List.{take_at, drop_at, length-append, append-nil}
 use Rattle.std.proofs.lemmas.List.Concat.{flat_map-cons}
 use Rattle.deciders.specs.declared.recorded.Rec.{Rec}
@@ -18,7 +19,7 @@ use Rattle.deciders.proofs.Sizes.{targets_within}
 use Rattle.sign_store.specs.declared.entries.Change.{Change}
 use Rattle.sign_store.specs.declared.entries.Change.TheVariants.{Put, Withdraw}
 use Rattle.sign_store.specs.declared.head.Head.TheVariants.{Live}
-use Rattle.sign_store.specs.Heads.{head_of, head_bytes}
+use Rattle.sign_store.specs.Heads.{head_of, head_bytes, mark_of, generation_of}
 use Rattle.sign_store.specs.Entries.{entry_of, put_payload, withdraw_payload}
 use Rattle.sign_store.specs.Images.{change_in, applied, after_entries}
 use Rattle.sign_store.specs.Forms.{Leads, Adds, IsForm}
@@ -102,7 +103,7 @@ lost_fit p rec whole =
 
 some_not : (paths : List (List ℕ)) → length paths ≢ 0 → not (length paths == 0) ≡ true
 some_not [] some = absurd (some refl)
-some_not (path ∷ paths) some = refl
+some_not (path ∷ paths) some = elim (eqb_tells (length (path ∷ paths)) 0) [ inl eq ↦ absurd (some eq.1) | inr ne ↦ ap not ne.0 ]
 
 pub adds_withdrawal : (old new : List ℕ) (p : List ℕ → Bool) (rec : Rec) (map : Map) → IsWhole rec → length (filter p rec.targets) ≢ 0 → new ≡ old ++ 1 ∷ entry_of (withdraw_payload (filter p rec.targets))
     → Adds old new map (with_each (filter p rec.targets) None map)
@@ -130,9 +131,9 @@ head_is generation entries behind fits =
     let grouped : (head_bytes generation ++ entries) ++ (0 ∷ behind) ≡ mark ++ (number ++ rest) = append_assoc (head_bytes generation) entries (0 ∷ behind) ∙ append_assoc mark number rest in
     let long : leb (length (1 ∷ (mark ++ (number ++ rest)))) 17 ≡ false =
     lt-leb _ 17 (omega (arith, length-append mark (number ++ rest), length-append number rest, wide64.len generation, length-append entries (0 ∷ behind))) in
-    let is_mark : take 8 (mark ++ (number ++ rest)) ≡ mark = take_at mark (number ++ rest) 8 refl in
+    let is_mark : mark_of (1 ∷ (mark ++ (number ++ rest))) ≡ mark = take_at mark (number ++ rest) 8 refl in
     let behind_mark : drop 8 (mark ++ (number ++ rest)) ≡ number ++ rest = drop_at mark (number ++ rest) 8 refl in
-    let is_number : from_be_bytes w64 (take 8 (drop 8 (mark ++ (number ++ rest)))) ≡ generation =
+    let is_number : generation_of (1 ∷ (mark ++ (number ++ rest))) ≡ generation =
     ap (λ (x : List ℕ). from_be_bytes w64 (take 8 x)) behind_mark ∙ ap (from_be_bytes w64) (take_at number rest 8 (wide64.len generation)) ∙ wide64.again generation fits in
     ap (λ (x : List ℕ). head_of (1 ∷ x)) grouped ∙ rw (long, is_mark, mark_eq, is_number) refl
 

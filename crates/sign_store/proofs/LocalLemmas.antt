@@ -28,7 +28,7 @@ parts false true true x payload e = (refl, refl, refl, inner x payload e)
 payload_parts : (bytes payload : List ℕ) → payload_in bytes ≡ Some payload → IsPayload bytes payload
 payload_parts bytes payload e =
     let p = parts (ltb (length bytes) 5) (slice_index bytes 0 == 1) (leb (length_in bytes) (length bytes - 5)) (take (length_in bytes) (drop 5 bytes)) payload e in
-    record { long = ltb-false _ _ p.0; gate = p.1; room = leb-true _ _ p.2.0; is = p.2.1 }
+    record { long = ltb-false _ _ p.0; gate = p.1; room = leb-true _ _ p.2; is = p.3 }
 
 payload_whole : (bytes payload : List ℕ) → IsPayload bytes payload → payload_in bytes ≡ Some payload
 payload_whole bytes payload p =

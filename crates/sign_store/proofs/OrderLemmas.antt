@@ -149,6 +149,11 @@ none_held held n rec ordered got none = same_map (map_up_to n held) (map_up_to (
         let bad : true ≡ false = sym (any_at (is_held held n) rec.targets path (ordered.records.named path n rec here.0 got) e) ∙ none in
         absurd cc
 
+past : (records : List Rec) (i : ℕ) → i < length records → slice_get records i ≡ None → ⊥
+past [] i lt e = omega (arith, lt)
+past (first ∷ records) zero lt e = none_some first (sym e)
+past (first ∷ records) (suc i) lt e = past records i (omega (arith, lt)) e
+
 -- a record beyond the last
 pub none_there : (held : RecordMap) (n : ℕ) → slice_get held.records.items n ≡ None → map_up_to (n + 1) held ≡ map_up_to n held
 none_there held n got = same_map (map_up_to n held) (map_up_to (n + 1) held) (λ path. same_below held path n (number_in held.table path) refl (not_held path (is_held held n path) refl (number_in held.table path) refl))
@@ -160,10 +165,6 @@ none_there held n got = same_map (map_up_to n held) (map_up_to (n + 1) held) (λ
         let same : number ≡ n = eqb-true number n (sym (ap (λ (x : Option ℕ). option_map_or (λ other. other == n) x false) at) ∙ e) in
         let lt = held.known path number at in
         absurd (past held.records.items n (omega (arith, lt, same, held.records.ok.0)) got)
-    past : (records : List Rec) (i : ℕ) → i < length records → slice_get records i ≡ None → ⊥
-    past [] i lt e = omega (arith, lt)
-    past (first ∷ records) zero lt e = none_some first (sym e)
-    past (first ∷ records) (suc i) lt e = past records i (omega (arith, lt)) e
 
 -- the put of a record, and the withdrawal of those of its targets that have another record or none
 pub one_more : (held : RecordMap) (n : ℕ) (rec : Rec) (lost : List (List ℕ)) → IsOrdered held → slice_get held.records.items n ≡ Some rec
@@ -201,6 +202,10 @@ up_to_none_yet held = same_map (λ path. None) (map_up_to 0 held) (λ path. by p
 
 -- ---- the targets that are lost
 
+and_false : (b : Bool) → (b && false) ≡ false
+and_false true = refl
+and_false false = refl
+
 pub among_filter : (p : List ℕ → Bool) (paths : List (List ℕ)) (path : List ℕ) → is_among (filter p paths) path ≡ (is_among paths path && p path)
 among_filter p [] path = refl
 among_filter p (first ∷ paths) path = by (p first) (bytes_eq first path) refl refl (among_filter p paths path)
@@ -210,6 +215,3 @@ among_filter p (first ∷ paths) path = by (p first) (bytes_eq first path) refl 
     by true false keeps same later = rw same later
     by false true keeps same later = let gone : p path ≡ false = sym (ap p ((bytes_eq-Decides first path).0 same)) ∙ keeps in later ∙ rw gone (and_false (is_among paths path))
     by false false keeps same later = later
-    and_false : (b : Bool) → (b && false) ≡ false
-    and_false true = refl
-    and_false false = refl
