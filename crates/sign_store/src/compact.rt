@@ -129,12 +129,13 @@ fn push_entries(
 ) -> Result<(), Memory>
     ensures { IsOrdered map.now → OnOk result (Adds form.old.items form.new.items (map_up_to number map.now) (map_up_to (number + 1) map.now)) }
 {
-    match map.record_at(number) {
-        Some(rec) if map.holds_any(rec.targets.as_slice(), number) => {
-            push_record_entries(alloc, form, map, number, rec)
-        }
-        _ => Ok(()),
+    let Some(rec) = map.record_at(number) else {
+        return Ok(());
+    };
+    if !map.holds_any(rec.targets.as_slice(), number) {
+        return Ok(());
     }
+    push_record_entries(alloc, form, map, number, rec)
 }
 
 /// Adds the put of a record, and directly behind it the withdrawal of its targets that have another record or none.
