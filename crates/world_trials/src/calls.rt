@@ -30,8 +30,8 @@ pub fn disk_call(
     Ok(Some(text))
 }
 
-fn done(alloc: Global, result: Result<(), Fault>) -> Result<String> {
-    let text = if result.is_ok() { "ok" } else { "fault" };
+fn done(alloc: Global, answer: Result<(), Fault>) -> Result<String> {
+    let text = if answer.is_ok() { "ok" } else { "fault" };
     Ok(String::from_str(alloc, text)?)
 }
 
