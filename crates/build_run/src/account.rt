@@ -1,5 +1,7 @@
 //! What a build has to report.
-ghost use Rattle.std.specs.Prelude.{◌≡◌, false};
+ghost use Rattle.std.specs.Prelude.{◌≡◌, ◌⊎◌, ◌++◌, ◌∷◌, [], true, false};
+ghost use Rattle.build_run.specs.Causes.{Reports, TellsEnd};
+ghost use Rattle.world_api.specs.Causes.{Rose};
 
 use build_files::ListEnd;
 use rule_graph::BuildFault;
@@ -26,7 +28,8 @@ pub(crate) struct Account {
 
 impl Account {
     pub(crate) fn new(alloc: Global) -> Account
-        ensures { result.is_store_shut ≡ false }
+        ensures shut { result.is_store_shut ≡ false }
+        ensures none { result.faults.items ≡ [] }
     {
         Account {
             faults: Vec::new(alloc),
@@ -43,7 +46,8 @@ impl Account {
 
     /// Nothing new starts any more.
     pub(crate) fn end<E: Sink>(&mut self, err: &mut E, end: ListEnd)
-        ensures { self.new.is_store_shut ≡ self.old.is_store_shut }
+        ensures shut { self.new.is_store_shut ≡ self.old.is_store_shut }
+        ensures told { TellsEnd E.meaning end err.old self.old err.new self.new }
     {
         self.is_ended = true;
         match end {
@@ -60,7 +64,8 @@ impl Account {
         fault: BuildFault,
         goes_on: bool,
     )
-        ensures { self.new.is_store_shut ≡ self.old.is_store_shut }
+        ensures shut { self.new.is_store_shut ≡ self.old.is_store_shut }
+        ensures told { Reports E.meaning fault err.old self.old err.new self.new }
     {
         if self.faulty.push(rule).is_err() {
             self.want_memory();
@@ -73,7 +78,8 @@ impl Account {
 
     /// Prints a fault and keeps it.
     pub(crate) fn report<E: Sink>(&mut self, err: &mut E, fault: BuildFault)
-        ensures { self.new.is_store_shut ≡ self.old.is_store_shut }
+        ensures shut { self.new.is_store_shut ≡ self.old.is_store_shut }
+        ensures told { Reports E.meaning fault err.old self.old err.new self.new }
     {
         let is_printed = self.is_err_shut || self.is_printed(err, &fault);
         self.keep(fault);
@@ -86,7 +92,10 @@ impl Account {
 
     /// Prints a fault, and says whether the sink took it. Want of memory is noted.
     fn is_printed<E: Sink>(&mut self, err: &mut E, fault: &BuildFault) -> bool
-        ensures { self.new.is_store_shut ≡ self.old.is_store_shut }
+        ensures shut { self.new.is_store_shut ≡ self.old.is_store_shut }
+        ensures faults { self.new.faults.items ≡ self.old.faults.items }
+        ensures kept { result ≡ true → E.meaning.faults err.new ≡ E.meaning.faults err.old }
+        ensures rose { result ≡ false → Rose (E.meaning.faults err.old) (E.meaning.faults err.new) }
     {
         match fault_text(self.alloc, fault) {
             Ok(text) => print(err, text.as_str()).is_ok(),
@@ -98,7 +107,8 @@ impl Account {
     }
 
     fn keep(&mut self, fault: BuildFault)
-        ensures { self.new.is_store_shut ≡ self.old.is_store_shut }
+        ensures shut { self.new.is_store_shut ≡ self.old.is_store_shut }
+        ensures faults { self.new.faults.items ≡ self.old.faults.items ⊎ self.new.faults.items ≡ self.old.faults.items ++ fault ∷ [] }
     {
         if self.faults.push(fault).is_err() {
             self.want_memory();
@@ -106,14 +116,16 @@ impl Account {
     }
 
     pub(crate) fn want_memory(&mut self)
-        ensures { self.new.is_store_shut ≡ self.old.is_store_shut }
+        ensures shut { self.new.is_store_shut ≡ self.old.is_store_shut }
+        ensures faults { self.new.faults.items ≡ self.old.faults.items }
     {
         self.memory = true;
         self.is_ended = true;
     }
 
     pub(crate) fn note_start(&mut self, rule: RuleId)
-        ensures { self.new.is_store_shut ≡ self.old.is_store_shut }
+        ensures shut { self.new.is_store_shut ≡ self.old.is_store_shut }
+        ensures faults { self.new.faults.items ≡ self.old.faults.items }
     {
         if self.started.push(rule).is_err() {
             self.want_memory();

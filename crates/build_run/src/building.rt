@@ -1,8 +1,9 @@
 //! A build from its first look to its answer.
-ghost use Rattle.std.specs.Prelude.{◌≡◌, [], IfOk};
+ghost use Rattle.std.specs.Prelude.{◌≡◌, [], IfOk, IfErr};
 ghost use Rattle.world_api.specs.Causes.{Later};
 ghost use Rattle.world_api.specs.Meaning.{Told};
 ghost use Rattle.sign_store.specs.Stores.{IsStoredIn};
+ghost use Rattle.build_run.specs.Causes.{AreCaused, ErrKeeps, WorldFails, Closes};
 ghost use Rattle.build_run.specs.Goings.{Stays};
 
 use crate::account::Account;
@@ -57,6 +58,7 @@ pub fn build<W: World, O: Sink, E: Sink>(
     ensures told { Told W.meaning world.old world.new }
     ensures later { Later (W.meaning.counts world.old) (W.meaning.counts world.new) }
     ensures idle { W.meaning.tells world.new → (W.meaning.around world.new).running ≡ [] }
+    ensures causes { AreCaused W.meaning O.meaning E.meaning world.old out.old err.old world.new out.new err.new result.faults }
 {
     let mut account = Account::new(alloc);
     match begin(alloc, graph, requested, world) {
@@ -87,6 +89,7 @@ fn begin<W: World>(
     world: &mut W,
 ) -> Result<Run, ListEnd>
     ensures stays { Stays W.meaning world.old world.new }
+    ensures cause { WorldFails W.meaning world.old world.new result }
     ensures none { IfOk result (λ run. run.tickets ≡ []) }
 {
     let mut inputs = Inputs::new(alloc);
@@ -107,7 +110,9 @@ fn close<E: Sink>(
     run: &Run,
     mut account: Account,
     err: &mut E,
-) -> BuildEnd {
+) -> BuildEnd
+    ensures { Closes E.meaning err.old account err.new result.faults }
+{
     if !account.is_ended
         && let Err(end) = find_cycle(alloc, graph, run, &mut account, err)
     {
@@ -128,7 +133,10 @@ fn find_cycle<E: Sink>(
     run: &Run,
     account: &mut Account,
     err: &mut E,
-) -> Result<(), ListEnd> {
+) -> Result<(), ListEnd>
+    ensures keeps { ErrKeeps E.meaning err.old account.old err.new account.new }
+    ensures memory { IfErr result (λ e. e ≡ ListEnd.Memory) }
+{
     if let Some(rules) = run.plan.cycle()? {
         account.faulty.extend_from_slice(rules.as_slice())?;
         let fault = cycle_fault(alloc, graph, rules.as_slice())?;
@@ -153,7 +161,9 @@ fn skipped(
     Ok(Listing::new(pairs))
 }
 
-fn answer(account: Account, skipped: Listing<(PathText, PathText)>) -> BuildEnd {
+fn answer(account: Account, skipped: Listing<(PathText, PathText)>) -> BuildEnd
+    ensures { result.faults ≡ account.faults.items }
+{
     BuildEnd {
         faults: Listing::new(account.faults),
         skipped,

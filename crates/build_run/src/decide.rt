@@ -1,5 +1,6 @@
 //! Whether a rule is stale.
-ghost use Rattle.std.specs.Prelude.{◌≡◌, ◌≤◌, ◌<◌, [], length};
+ghost use Rattle.std.specs.Prelude.{◌≡◌, ◌≤◌, ◌<◌, [], length, IfErr};
+ghost use Rattle.build_run.specs.Causes.{AllSteps, StartSteps, ErrKeeps};
 ghost use Rattle.build_run.specs.Goings.{Passes, IsJoined, IsStored};
 
 use crate::account::Account;
@@ -36,6 +37,7 @@ pub(crate) fn decide<W: World, O: Sink, E: Sink>(
     requires joined { IsJoined W.meaning world.old tickets.old }
     requires stored { IsStored W.meaning world.old store.old account.old.is_store_shut }
     ensures passes { Passes W.meaning world.old world.new }
+    ensures steps { AllSteps W.meaning O.meaning E.meaning world.old out.old err.old account.old world.new out.new err.new account.new result }
     ensures room { length tickets.new ≤ 64 }
     ensures joined { IsJoined W.meaning world.new tickets.new }
     ensures stored { IsStored W.meaning world.new store.new account.new.is_store_shut }
@@ -75,6 +77,7 @@ fn make<W: World, O: Sink>(
     requires joined { IsJoined W.meaning world.old tickets.old }
     requires stored { IsStored W.meaning world.old store.old account.old.is_store_shut }
     ensures passes { Passes W.meaning world.old world.new }
+    ensures steps { StartSteps W.meaning O.meaning world.old out.old account.old world.new out.new account.new result }
     ensures room { length tickets.new ≤ 64 }
     ensures joined { IsJoined W.meaning world.new tickets.new }
     ensures stored { IsStored W.meaning world.new store.new account.new.is_store_shut }
@@ -98,7 +101,9 @@ fn report_missing<E: Sink>(
     rule: RuleId,
     node: NodeId,
 ) -> Result<(), ListEnd>
-    ensures { account.new.is_store_shut ≡ account.old.is_store_shut }
+    ensures shut { account.new.is_store_shut ≡ account.old.is_store_shut }
+    ensures keeps { ErrKeeps E.meaning err.old account.old err.new account.new }
+    ensures memory { IfErr result (λ e. e ≡ ListEnd.Memory) }
 {
     let missing = missing_fault(graph, rule, node)?;
     account.fail(err, rule, missing, options.keep);

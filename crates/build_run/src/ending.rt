@@ -1,7 +1,9 @@
 //! What follows from the ending of an action.
 ghost use Rattle.std.specs.Prelude.{◌≡◌, ◌≤◌, ◌<◌, ◌+◌, length};
+ghost use Rattle.build_run.specs.Causes.{EndKeeps, Settles, TellsOutcome};
 ghost use Rattle.build_run.specs.Goings.{Passes, Goes, IsJoined, IsStored};
 ghost use Rattle.build_run.specs.Holds.{without};
+ghost use Rattle.world_api.specs.Causes.{HasOutcomeCause};
 ghost use Rattle.world_api.specs.Meaning.{BanksKept};
 
 use crate::account::Account;
@@ -29,6 +31,7 @@ pub(crate) fn take_ending<W: World, E: Sink>(
     requires joined { IsJoined W.meaning world.old tickets.old }
     requires stored { IsStored W.meaning world.old store.old account.old.is_store_shut }
     ensures passes { Passes W.meaning world.old world.new }
+    ensures keeps { EndKeeps W.meaning E.meaning world.old err.old account.old world.new err.new account.new }
     ensures joined { IsJoined W.meaning world.new tickets.new }
     ensures fewer { W.meaning.tells world.new → length tickets.new + 1 ≡ length tickets.old }
     ensures no_more { length tickets.new ≤ length tickets.old }
@@ -59,6 +62,7 @@ fn wait<W: World>(world: &mut W, tickets: &Tickets) -> Ended
     ensures joined { IsJoined W.meaning world.new (without result.id tickets.now) }
     ensures fewer { W.meaning.tells world.new → length (without result.id tickets.now) + 1 ≡ length tickets.now }
     ensures banks { W.meaning.tells world.new → BanksKept W.meaning world.old world.new }
+    ensures cause { HasOutcomeCause result.outcome (W.meaning.counts world.old) (W.meaning.counts world.new) }
 {
     world.wait()
 }
@@ -76,6 +80,7 @@ fn settle<W: World, E: Sink>(
 ) -> PlanEvent
     requires { IsStored W.meaning world.old store.old account.old.is_store_shut }
     ensures goes { Goes W.meaning world.old world.new }
+    ensures settles { Settles W.meaning E.meaning outcome world.old err.old account.old world.new err.new account.new }
     ensures stored { IsStored W.meaning world.new store.new account.new.is_store_shut }
 {
     let Busy { hold, ticket } = busy;
@@ -103,6 +108,7 @@ fn put<W: World, E: Sink>(
 )
     requires { IsStored W.meaning world.old store.old account.old.is_store_shut }
     ensures goes { Goes W.meaning world.old world.new }
+    ensures keeps { EndKeeps W.meaning E.meaning world.old err.old account.old world.new err.new account.new }
     ensures stored { IsStored W.meaning world.new store.new account.new.is_store_shut }
 {
     if account.is_store_shut {
@@ -126,7 +132,8 @@ fn not_done<E: Sink>(
     rule: RuleId,
     outcome: Outcome,
 )
-    ensures { account.new.is_store_shut ≡ account.old.is_store_shut }
+    ensures shut { account.new.is_store_shut ≡ account.old.is_store_shut }
+    ensures told { TellsOutcome E.meaning outcome err.old account.old err.new account.new }
 {
     let Ok(target) = first_target(graph, rule) else {
         account.want_memory();

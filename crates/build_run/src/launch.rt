@@ -1,6 +1,7 @@
 //! Starting a job.
-ghost use Rattle.std.specs.Prelude.{◌≡◌, ◌++◌, ◌∷◌, [], None, List, ℕ, Contains, OnOk, OnErr};
-ghost use Rattle.build_run.specs.Goings.{Passes, IsJoined, IsStored};
+ghost use Rattle.std.specs.Prelude.{◌≡◌, ◌≤◌, ◌++◌, ◌∷◌, [], None, List, ℕ, Contains, OnOk, OnErr};
+ghost use Rattle.build_run.specs.Goings.{Passes, IsJoined, IsStored, AreAbsent};
+ghost use Rattle.build_run.specs.Causes.{StartSteps, OutFails, WorldFails};
 ghost use Rattle.build_run.specs.Holds.{hold_for, KeepsApart};
 ghost use Rattle.build_run.specs.declared.tickets.Hold.{Hold};
 ghost use Rattle.world_api.specs.Meaning.{BanksKept};
@@ -33,6 +34,7 @@ pub(crate) fn launch<W: World, O: Sink>(
     requires stored { IsStored W.meaning world.old store.old account.old.is_store_shut }
     requires apart { (hold : Hold) → Contains tickets.now hold → KeepsApart job hold }
     ensures passes { Passes W.meaning world.old world.new }
+    ensures steps { StartSteps W.meaning O.meaning world.old out.old account.old world.new out.new account.new result }
     ensures started { OnOk result (IsJoined W.meaning world.new (tickets.now ++ hold_for job ∷ [])) }
     ensures refused { OnErr result (IsJoined W.meaning world.new tickets.now) }
     ensures stored { IsStored W.meaning world.new store.new account.new.is_store_shut }
@@ -44,7 +46,10 @@ pub(crate) fn launch<W: World, O: Sink>(
 
 /// Prints the text of a rule. A sink that refuses is noted.
 fn show<O: Sink>(account: &mut Account, out: &mut O, text: &str) -> Result<(), ListEnd>
-    ensures { account.new.is_store_shut ≡ account.old.is_store_shut }
+    ensures shut { account.new.is_store_shut ≡ account.old.is_store_shut }
+    ensures faults { account.new.faults.items ≡ account.old.faults.items }
+    ensures grown { O.meaning.faults out.old ≤ O.meaning.faults out.new }
+    ensures cause { OutFails O.meaning out.old out.new result }
 {
     match print(out, text) {
         Ok(()) => Ok(()),
@@ -60,9 +65,10 @@ fn begin<W: World>(graph: &Graph, world: &mut W, job: Job, tickets: &Tickets) ->
     requires unclosed { W.meaning.closed world.old ≡ [] }
     requires joined { IsJoined W.meaning world.old tickets.now }
     requires apart { (hold : Hold) → Contains tickets.now hold → KeepsApart job hold }
-    requires clear { W.meaning.tells world.old → (path : List ℕ) → Contains job.targets path → (W.meaning.around world.old).tree path ≡ None }
+    requires clear { AreAbsent W.meaning world.old job.targets }
     ensures passes { Passes W.meaning world.old world.new }
     ensures banks { W.meaning.tells world.new → BanksKept W.meaning world.old world.new }
+    ensures cause { WorldFails W.meaning world.old world.new result }
     ensures started { OnOk result (IsJoined W.meaning world.new (tickets.now ++ hold_for job ∷ [])) }
     ensures refused { OnErr result (IsJoined W.meaning world.new tickets.now) }
 {

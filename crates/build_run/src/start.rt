@@ -1,6 +1,7 @@
 //! How the action of a stale rule starts.
 ghost use Rattle.std.specs.Prelude.{◌≡◌, ◌<◌, ◌≤◌, [], length};
 ghost use Rattle.build_run.specs.Goings.{Passes, IsJoined, IsStored};
+ghost use Rattle.build_run.specs.Causes.{StartSteps};
 ghost use Rattle.sign_store.specs.Stores.{KeepsBanks};
 
 use crate::account::Account;
@@ -38,6 +39,7 @@ pub(crate) fn start<W: World, O: Sink>(
     requires joined { IsJoined W.meaning world.old tickets.old }
     requires stored { IsStored W.meaning world.old store.old account.old.is_store_shut }
     ensures passes { Passes W.meaning world.old world.new }
+    ensures steps { StartSteps W.meaning O.meaning world.old out.old account.old world.new out.new account.new result }
     ensures room { length tickets.new ≤ 64 }
     ensures joined { IsJoined W.meaning world.new tickets.new }
     ensures stored { IsStored W.meaning world.new store.new account.new.is_store_shut }

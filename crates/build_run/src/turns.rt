@@ -1,5 +1,6 @@
 //! The turns of a build: what the plan wants is done, and the plan is told what came of it.
 ghost use Rattle.std.specs.Prelude.{◌≡◌, ◌≤◌, ◌<◌, [], length};
+ghost use Rattle.build_run.specs.Causes.{AllKeeps, AllSteps, EndKeeps, WorldFails, TellsDone};
 ghost use Rattle.build_run.specs.Goings.{Stays, Passes, IsJoined, IsStored};
 ghost use Rattle.scons_base.specs.declared.ids.RuleId.{RuleId};
 
@@ -31,6 +32,7 @@ pub(crate) fn go_on<W: World, O: Sink, E: Sink>(
     requires joined { IsJoined W.meaning world.old run.old.tickets }
     requires stored { IsStored W.meaning world.old store.old account.old.is_store_shut }
     ensures passes { Passes W.meaning world.old world.new }
+    ensures keeps { AllKeeps W.meaning O.meaning E.meaning world.old out.old err.old account.old world.new out.new err.new account.new }
     ensures idle { W.meaning.tells world.new → (W.meaning.around world.new).running ≡ [] }
 {
     take_turns(graph, run, account, store, world, out, err, options);
@@ -52,6 +54,7 @@ fn take_turns<W: World, O: Sink, E: Sink>(
     requires joined { IsJoined W.meaning world.old run.old.tickets }
     requires stored { IsStored W.meaning world.old store.old account.old.is_store_shut }
     ensures passes { Passes W.meaning world.old world.new }
+    ensures keeps { AllKeeps W.meaning O.meaning E.meaning world.old out.old err.old account.old world.new out.new err.new account.new }
     ensures joined { IsJoined W.meaning world.new run.new.tickets }
     ensures stored { IsStored W.meaning world.new store.new account.new.is_store_shut }
 {
@@ -78,6 +81,7 @@ fn wait_for_all<W: World, E: Sink>(
     requires joined { IsJoined W.meaning world.old run.old.tickets }
     requires stored { IsStored W.meaning world.old store.old account.old.is_store_shut }
     ensures passes { Passes W.meaning world.old world.new }
+    ensures keeps { EndKeeps W.meaning E.meaning world.old err.old account.old world.new err.new account.new }
     ensures idle { W.meaning.tells world.new → (W.meaning.around world.new).running ≡ [] }
 {
     let running = run.tickets.len();
@@ -109,6 +113,7 @@ fn take_turn<W: World, O: Sink, E: Sink>(
     requires joined { IsJoined W.meaning world.old run.old.tickets }
     requires stored { IsStored W.meaning world.old store.old account.old.is_store_shut }
     ensures passes { Passes W.meaning world.old world.new }
+    ensures steps { AllSteps W.meaning O.meaning E.meaning world.old out.old err.old account.old world.new out.new err.new account.new result }
     ensures limit { length run.new.tickets ≤ 64 }
     ensures joined { IsJoined W.meaning world.new run.new.tickets }
     ensures stored { IsStored W.meaning world.new store.new account.new.is_store_shut }
@@ -142,7 +147,8 @@ fn scan<W: World>(
     rule: RuleId,
     file: NodeId,
 ) -> Result<PlanEvent, ListEnd>
-    ensures { Stays W.meaning world.old world.new }
+    ensures stays { Stays W.meaning world.old world.new }
+    ensures cause { WorldFails W.meaning world.old world.new result }
 {
     let found = inputs.scanned(world, graph, rule, file)?;
     Ok(PlanEvent::Scanned(rule, found))
@@ -174,6 +180,7 @@ fn tell<E: Sink>(
 )
     ensures tickets { run.new.tickets ≡ run.old.tickets }
     ensures shut { account.new.is_store_shut ≡ account.old.is_store_shut }
+    ensures told { TellsDone E.meaning done err.old account.old err.new account.new }
 {
     match done {
         Ok(event) => step(graph, run, account, event),
@@ -187,6 +194,7 @@ fn tell<E: Sink>(
 fn step(graph: &Graph, run: &mut Run, account: &mut Account, event: PlanEvent)
     ensures tickets { run.new.tickets ≡ run.old.tickets }
     ensures shut { account.new.is_store_shut ≡ account.old.is_store_shut }
+    ensures faults { account.new.faults.items ≡ account.old.faults.items }
 {
     if run.plan.step(graph, event).is_err() {
         account.want_memory();
