@@ -9,3 +9,4 @@ pub mod EntrySteps
 pub mod CharCuts
 pub mod OpenNames
 pub mod Spelled
+pub mod ToSay
