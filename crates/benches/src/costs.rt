@@ -86,13 +86,7 @@ fn names(alloc: Global, envs: &mut Envs, env: EnvId, size: u32) -> Option<String
 }
 
 /// Calls in each other, so many: each list has an item, and then the name of the next list, or a text with a call of it.
-fn calls(
-    alloc: Global,
-    envs: &mut Envs,
-    env: EnvId,
-    size: u32,
-    alone: bool,
-) -> Option<String>
+fn calls(alloc: Global, envs: &mut Envs, env: EnvId, size: u32, alone: bool) -> Option<String>
     requires { env.0 < length envs.old }
     ensures { IfSome result (λ _. env.0 < length envs.new) }
 {

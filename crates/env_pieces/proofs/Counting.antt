@@ -25,10 +25,12 @@ pub mark_counts : (parts new : List Piece) (text gone : List ℕ) (len room : �
     → new ≡ (parts ++ text_piece text) ++ piece.Mark m ∷ [] → gone ≡ [] → 2 ≤ room → AreCounted new gone (len + 2) (room - 2) white
 mark_counts parts new text gone len room white m h n g fits =
     let bytes : bytes_of new ≡ bytes_of parts + length text + 2 = ap bytes_of n ∙ bytes_with parts (piece.Mark m ∷ []) text in
-    let none : length gone ≡ 0 = ap length g in
-    (omega (arith, h.0, bytes, none), omega (arith, h.1, fits),
-    h.2 ∙ ap (list_all is_white) (sym (ap (λ t. t ++ gone) (ap texts_of n ∙ texts_with parts (piece.Mark m ∷ []) text ∙ append-nil (texts_of parts ++ text))
-    ∙ ap (λ t. (texts_of parts ++ text) ++ t) g ∙ append-nil (texts_of parts ++ text))))
+    let none : length gone ≡ 0 = ap length g in (
+      omega (arith, h.0, bytes, none),
+      omega (arith, h.1, fits),
+      h.2 ∙ ap (list_all is_white) (sym (ap (λ t. t ++ gone) (ap texts_of n ∙ texts_with parts (piece.Mark m ∷ []) text ∙ append-nil (texts_of parts ++ text))
+          ∙ ap (λ t. (texts_of parts ++ text) ++ t) g ∙ append-nil (texts_of parts ++ text))),
+    )
 
 both : (b c : Bool) (xs ys : List ℕ) → b ≡ list_all is_white xs → c ≡ list_all is_white ys → (b && c) ≡ list_all is_white (xs ++ ys)
 both b c xs ys e f = ap (λ x. x && c) e ∙ ap (λ y. list_all is_white xs && y) f ∙ sym (list_all-append is_white xs ys)
@@ -39,9 +41,11 @@ pub parts_count : (parts more new : List Piece) (text behind after : List ℕ) (
     → AreCounted new after (len + more_len) (room - more_len) all_white
 parts_count parts more new text behind after len room more_len more_room white more_white all_white h k n a fits w =
     let bytes : bytes_of new ≡ bytes_of parts + length text + bytes_of more = ap bytes_of n ∙ bytes_with parts more text in
-    let size : length after ≡ length behind = ap length a in
-    (omega (arith, h.0, k.0, bytes, size), omega (arith, h.1, fits),
-    w ∙ both white more_white (texts_of parts ++ text) (texts_of more ++ behind) h.2 k.2
-    ∙ ap (list_all is_white) (sym (append_assoc (texts_of parts ++ text) (texts_of more) behind))
-    ∙ ap (λ t. list_all is_white (t ++ behind)) (sym (ap texts_of n ∙ texts_with parts more text))
-    ∙ ap (λ t. list_all is_white (texts_of new ++ t)) (sym a))
+    let size : length after ≡ length behind = ap length a in (
+      omega (arith, h.0, k.0, bytes, size),
+      omega (arith, h.1, fits),
+      w ∙ both white more_white (texts_of parts ++ text) (texts_of more ++ behind) h.2 k.2
+          ∙ ap (list_all is_white) (sym (append_assoc (texts_of parts ++ text) (texts_of more) behind))
+          ∙ ap (λ t. list_all is_white (t ++ behind)) (sym (ap texts_of n ∙ texts_with parts more text))
+          ∙ ap (λ t. list_all is_white (texts_of new ++ t)) (sym a),
+    )

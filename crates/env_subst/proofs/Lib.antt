@@ -9,4 +9,3 @@ pub mod EntrySteps
 pub mod CharCuts
 pub mod OpenNames
 pub mod Spelled
-pub mod ToSay

@@ -1,13 +1,13 @@
 //! How a text is read, and the variables in it.
 ghost use Rattle.std.specs.Prelude.{◌≡◌, [], ◌∷◌, true, false, Some, None, IfOk, OnOk, MatchOption};
 ghost use Rattle.env_text.specs.Readings.{reading_from};
-ghost use Rattle.env_subst.specs.Settings.{Setting, setting_of};
+ghost use Rattle.env_subst.specs.Settings.{setting_of};
 ghost use Rattle.env_subst.specs.Contents.{content_of, said_by};
 ghost use Rattle.env_subst.specs.declared.locals.Locals.{Locals};
 ghost use Rattle.env_subst.specs.Parts.{owned_part};
 ghost use Rattle.env_subst.specs.Sayings.{sayings_of, first_and_rest};
-ghost use Rattle.env_subst.specs.Expansions.{State, Names, and_then, is_open, content_in, refers, refers_to, calls, reads_part, reads, says_one, says_more, says_all, expands, text_at};
-ghost use Rattle.env_subst.specs.Desks.{read, say, deeper_of, and_rest, with_open, tasks_of, desk_of, resumes, Steps};
+ghost use Rattle.env_subst.specs.Expansions.{and_then, is_open, content_in, refers, refers_to, calls, reads_part, reads, says_one, says_more, says_all, expands, text_at};
+ghost use Rattle.env_subst.specs.Desks.{read, say, deeper_of, and_rest, with_open, tasks_of, desk_of, Steps};
 
 use crate::calls::call_items;
 use crate::content::{Holding, held_by, said, said_by, taken};
@@ -213,23 +213,13 @@ fn say_first<'a>(
     say_one(setting, desk, name, saying)
 }
 
-/// Further things that a variable says are left to do, if there are any.
+/// Further things that a variable says are left to do.
 fn push_sayings<'a>(stack: &mut Stack<'a>, name: &Text, rest: Sayings<'a>) -> Result<(), Memory>
-    ensures { OnOk result ((w : Setting) (names : Names) (s : State) → resumes w (tasks_of w.locals stack.new.tasks.items) names s
-        ≡ resumes w (say name.now (sayings_of w.locals rest.entry) ∷ tasks_of w.locals stack.old.tasks.items) names s) }
+    ensures { OnOk result ((locals : Locals) → tasks_of locals stack.new.tasks.items
+        ≡ say name.now (sayings_of locals rest.entry) ∷ tasks_of locals stack.old.tasks.items) }
 {
-    if is_over(&rest) {
-        return Ok(());
-    }
     let name = name.copy()?;
     push(stack, Task::Say { name, rest })
-}
-
-/// Whether it is known that nothing is said.
-fn is_over(sayings: &Sayings<'_>) -> bool
-    ensures { (locals : Locals) → result ≡ true → sayings_of locals sayings.now ≡ [] }
-{
-    matches!(sayings, Sayings::Over)
 }
 
 /// One thing that the innermost variable says.

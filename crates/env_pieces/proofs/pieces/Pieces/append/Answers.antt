@@ -5,8 +5,10 @@ use Rattle.env_pieces.proofs.pieces.Pieces.append.Goals as goal
 
 pub returns-then-other-self-clause-fault : goal.returns-then-other-self-clause-fault
 returns-then-other-self-clause-fault c =
-    rw (← c.self.view_is, ← c.other.view_is) (λ h. (refl,
-    parts_out c.self.inside.parts c.other.inside.parts (string_bytes c.self.inside.text) (string_bytes c.other.inside.text) c.self.inside.room c.other.inside.room c.other.inside.len c.other.invariant.0 (omega (arith, c.if-other-self.true))))
+    rw (← c.self.view_is, ← c.other.view_is) (λ h. (
+      refl,
+      parts_out c.self.inside.parts c.other.inside.parts (string_bytes c.self.inside.text) (string_bytes c.other.inside.text) c.self.inside.room c.other.inside.room c.other.inside.len c.other.invariant.0 (omega (arith, c.if-other-self.true)),
+    ))
 
 pub invariant_of-self : goal.invariant_of-self
 invariant_of-self c =

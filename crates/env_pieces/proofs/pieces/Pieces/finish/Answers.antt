@@ -11,5 +11,5 @@ returns-clause-pieces c =
 pub returns-clause-count : goal.returns-clause-count
 returns-clause-count c =
     let count : length c.in_ok-pieces.pieces.items ≡ length (pieces_of (sheet_of c.self.inside.parts (string_bytes c.self.inside.text) c.self.inside.room)) =
-        ap length ((c.in_ok-pieces.ensures {u = tt}) ∙ all_pieces c.self.inside.parts c.push_text.new.parts (string_bytes c.self.inside.text) c.self.inside.room (c.in_ok-push_text.ensures {u = tt})) in
+    ap length ((c.in_ok-pieces.ensures {u = tt}) ∙ all_pieces c.self.inside.parts c.push_text.new.parts (string_bytes c.self.inside.text) c.self.inside.room (c.in_ok-push_text.ensures {u = tt})) in
     omega (arith, count, sheet_count c.self.inside.parts (string_bytes c.self.inside.text) c.self.inside.room, c.self.invariant.0, c.self.invariant.1)
