@@ -1,6 +1,6 @@
 -- Parts behind parts, and pieces behind a sheet.
-use Rattle.std.proofs.Common.{◌≡◌, ◌≤◌, ◌<◌, ◌∙◌, ℕ, zero, suc, ◌+◌, ◌-◌, Bool, true, false, List, [], ◌∷◌, ◌++◌, Some, None, refl, sym, ap, length, append_assoc, arith}
-use Rattle.std.specs.Prelude.{Option, nat_le, option_and_then, if◌then◌else◌}
+use Rattle.std.proofs.Common.{◌≡◌, ◌≤◌, ◌<◌, ◌∙◌, ℕ, ◌+◌, ◌-◌, Bool, true, false, List, [], ◌∷◌, ◌++◌, Some, None, refl, sym, ap, length, append_assoc, arith}
+use Rattle.std.specs.Prelude.{nat_le, option_and_then, if◌then◌else◌}
 use Rattle.std.proofs.lemmas.Bool.{leb-true, leb-false, le-leb, lt-leb}
 use Rattle.std.proofs.lemmas.List.{append-nil, length-append}
 use Rattle.env_pieces.specs.declared.piece.Mark.{Mark}
@@ -8,7 +8,7 @@ use Rattle.env_pieces.specs.declared.piece.Piece.{Piece}
 use Rattle.env_pieces.specs.declared.piece.Piece.TheVariants as piece
 use Rattle.env_pieces.specs.Pieces.{Sheet, text_piece, pieces_of, with_text, with_mark, with_pieces}
 use Rattle.env_pieces.specs.Forms.{text_in, texts_of}
-use Rattle.env_pieces.specs.Parts.{done_of, text_behind, bytes_in, bytes_of, sheet_of}
+use Rattle.env_pieces.specs.Parts.{done_of, text_behind, bytes_of, sheet_of}
 use Rattle.env_pieces.proofs.Sizes.{piece_count}
 
 -- parts behind parts

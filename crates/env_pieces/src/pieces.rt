@@ -1,5 +1,5 @@
 //! What is read so far.
-ghost use Rattle.std.specs.Prelude.{◌≡◌, ◌≢◌, ◌≤◌, ◌&&◌, ◌++◌, ◌==◌, Some, None, length, IfOk, IfErr, OnOk, string_bytes};
+ghost use Rattle.std.specs.Prelude.{◌≡◌, ◌≢◌, ◌≤◌, ◌&&◌, ◌==◌, Some, None, length, IfOk, IfErr, OnOk, string_bytes};
 ghost use Rattle.env_pieces.specs.Pieces.{blank, with_text, with_mark, with_pieces, pieces_of};
 ghost use Rattle.env_pieces.specs.Forms.{text_of};
 

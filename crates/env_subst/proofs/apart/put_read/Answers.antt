@@ -1,4 +1,4 @@
-use Rattle.std.proofs.Common.{◌≡◌, ◌∙◌, ◌&&◌, ◌==◌, not, true, false, sym, ap, length, arith}
+use Rattle.std.proofs.Common.{◌≡◌, ◌&&◌, ◌==◌, not, true, false, length, arith}
 use Rattle.env_pieces.specs.Pieces.{pieces_of}
 use Rattle.env_pieces.specs.Forms.{text_of}
 use Rattle.env_subst.specs.Settings.{setting_of}

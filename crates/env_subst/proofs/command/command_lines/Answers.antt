@@ -3,7 +3,7 @@ use Rattle.env_pieces.specs.declared.form.Mode.TheVariants.{Text, Signed}
 use Rattle.env_pieces.specs.Lines.{line_forms}
 use Rattle.env_subst.specs.Settings.{setting}
 use Rattle.env_subst.specs.Results.{expansion}
-use Rattle.env_subst.proofs.Shown.{not_read, has_form, has_fault}
+use Rattle.env_subst.proofs.Shown.{not_read, has_form}
 use Rattle.env_subst.proofs.command.command_lines.Goals as goal
 
 pub returns-in_err-pieces-clause-fault : goal.returns-in_err-pieces-clause-fault

@@ -1,4 +1,4 @@
-use Rattle.std.proofs.Common.{◌∙◌, refl, sym, ap, string_bytes, arith}
+use Rattle.std.proofs.Common.{refl, ap, string_bytes, arith}
 use Rattle.env_pieces.proofs.Joining.{parts_join, parts_out}
 use Rattle.env_pieces.proofs.Counting.{parts_count}
 use Rattle.env_pieces.proofs.pieces.Pieces.append.Goals as goal

@@ -1,8 +1,8 @@
-use Rattle.std.proofs.Common.{◌≡◌, ◌∙◌, ◌==◌, sym, ap, length, string_bytes}
+use Rattle.std.proofs.Common.{◌∙◌, sym, ap, string_bytes}
 use Rattle.std.specs.List.{list_all}
 use Rattle.env_text.specs.Bytes.{is_white}
 use Rattle.env_pieces.specs.Pieces.{pieces_of}
-use Rattle.env_pieces.specs.Forms.{text_of, texts_of}
+use Rattle.env_pieces.specs.Forms.{texts_of}
 use Rattle.env_pieces.proofs.Blanks.{blank_text}
 use Rattle.env_pieces.proofs.Joining.{sheet_texts}
 use Rattle.env_pieces.proofs.pieces.Pieces.is_blank.Goals as goal

@@ -1,5 +1,4 @@
-use Rattle.std.proofs.Common.{◌∙◌, sym, ap, string_bytes, arith}
-use Rattle.env_pieces.specs.Pieces.{text_piece}
+use Rattle.std.proofs.Common.{◌∙◌, ap, string_bytes, arith}
 use Rattle.env_pieces.proofs.Joining.{mark_joins}
 use Rattle.env_pieces.proofs.Counting.{mark_counts}
 use Rattle.env_pieces.proofs.pieces.Pieces.put_mark.Goals as goal
