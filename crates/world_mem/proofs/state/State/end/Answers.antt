@@ -1,4 +1,4 @@
-use Rattle.std.proofs.Common.{◌≡◌, ◌∙◌, sym, ap, subst, inl, inr, ◌<◌, ℕ, List, Some, Option, Contains, [], ◌∷◌, ◌++◌, length, map, take, drop, suc, refl, true, is_some, None, reverse, insert, unwrap_or}
+use Rattle.std.proofs.Common.{rules, ◌≡◌, ◌∙◌, sym, ap, subst, inl, inr, ◌<◌, ℕ, List, Some, Option, Contains, [], ◌∷◌, ◌++◌, length, map, take, drop, suc, refl, true, is_some, None, reverse, insert, unwrap_or}
 use Rattle.std.specs.List.{slice_index_or, list_any, remove}
 use Rattle.std.specs.Str.{bytes_eq}
 use Rattle.world_mem.specs.InSlots.{slot_at, content_of, stamp_at}
@@ -182,6 +182,17 @@ returns-clause-outcome c = λ d.
     let here : Contains old run = (c.args.place, lt, sym c.remove-job.ensures.value) in
     let at : slice_index_or (map running_of old) c.args.place d ≡ running_of run = get_or-map running_of old c.args.place run d lt ∙ ap running_of (sym c.remove-job.ensures.value) in
     c.unwrap_or-outcome.ensures ∙ ap (unwrap_or c.args.cut) (c.args.self.now.ending run here ∙ ap (λ (r : api.Running). ends c.args.self.now.table r.job r.given) (sym at))
+
+pub returns-clause-stamps : goal.returns-clause-stamps
+returns-clause-stamps c = λ d.
+    let old = c.args.self.now.running.items in
+    let run = c.remove-job.result in
+    let lt : c.args.place < length old = rw length-map at c.requires.place in
+    let at : slice_index_or (map running_of old) c.args.place d ≡ running_of run = get_or-map running_of old c.args.place run d lt ∙ ap running_of (sym c.remove-job.ensures.value) in
+    record {
+      counted = search rules;
+      stamped = λ path own some. c.conclude.ensures.stamped path (subst (λ (r : api.Running). Contains r.job.targets path) at own) some;
+    }
 
 pub returns-clause-absent : goal.returns-clause-absent
 returns-clause-absent c = λ d path off own.

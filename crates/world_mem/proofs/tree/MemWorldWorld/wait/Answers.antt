@@ -4,6 +4,7 @@ use Rattle.world_mem.specs.CallCounts.{count_of}
 use Rattle.world_mem.specs.declared.calls.Call.TheVariants.{Wait}
 use Rattle.mem_banks.specs.AsStore.{store_of}
 use Rattle.world_mem.specs.declared.past.Turn.TheVariants.{Tree}
+use Rattle.world_mem.specs.Stamps.{Stamps}
 use Rattle.world_mem.proofs.Passing.{turn_recalls, turn_tree}
 use Rattle.world_mem.proofs.Unmade.{unmade_of}
 use Rattle.world_mem.proofs.tree.MemWorldWorld.wait.Goals as goal
@@ -19,6 +20,12 @@ returns-clause-recalls c = turn_recalls Tree _ _ (record { turns = c.push.ensure
 
 pub returns-clause-time : goal.returns-clause-time
 returns-clause-time c = turn_tree Tree _ _ (record { turns = c.push.ensures.items; horizon = refl; since = c.args.self.now.since; machine = λ i. record { course = c.end-ended.ensures.back i; store = store_of c.args.self.now.banks } })
+
+pub returns-clause-stamps : goal.returns-clause-stamps
+returns-clause-stamps c = λ d.
+    let running = (around_of c.args.self.now.state).running in
+    let place : c.place_of-place.result ≡ slice_index c.args.self.now.orders.items (count_of Wait c.args.self.now.calls) % length running = cc in
+    subst (λ (n : ℕ). Stamps (Contains (slice_index_or running n d).job.targets) c.args.self.now.state c.end-ended.new.self) place (c.end-ended.ensures.stamps d)
 
 pub returns-clause-absent : goal.returns-clause-absent
 returns-clause-absent c = λ d path bad own.
