@@ -6,7 +6,7 @@ use Rattle.std.proofs.lemmas.List.{length-take-le}
 use Rattle.world_api.specs.Banks.{Torn}
 use Rattle.world_api.specs.declared.disk.Bank.{Bank}
 use Rattle.mem_banks.specs.AsStore.{store_of}
-use Rattle.mem_banks.specs.Past.{Store, IsImage, write_of, wrote, synced, bytes_in, same_bank, is_dirty, restored, spliced, without_last, IsLeft, IsAt, Stands}
+use Rattle.mem_banks.specs.Past.{Store, IsImage, write_of, wrote, synced, bytes_in, same_bank, is_dirty, restored, spliced, without_last, IsLeft, IsAt}
 use Rattle.mem_banks.specs.declared.banks.MemBanks.{MemBanks}
 use Rattle.mem_banks.specs.declared.change.Change.{Change}
 use Rattle.mem_banks.specs.declared.change.Change.TheVariants.{Wrote, Synced}

@@ -1,5 +1,5 @@
 -- What is so of each call of a world in memory, whatever it answers.
-use Rattle.std.specs.Prelude.{◌≡◌, ℕ}
+use Rattle.std.specs.Prelude.{◌≡◌}
 use Rattle.world_api.specs.Counts.{Counts}
 use Rattle.world_mem.specs.CallCounts.{counted}
 use Rattle.world_mem.specs.Kept.{counts_of, disk_fault}

@@ -104,6 +104,7 @@ impl State {
         ensures log { IfOk result (λ state. (around_of state).log ≡ []) }
         ensures met { IfOk result (λ state. (around_of state).met ≡ map (λ file. file.1) files.now) }
         ensures law { IfOk result (λ state. (around_of state).law ≡ law_of table) }
+        ensures table { IfOk result (λ state. state.table ≡ table) }
         ensures past { IfOk result (λ state. state.past.items ≡ []) }
         ensures removals { IfOk result (λ state. state.removals ≡ 0) }
         ensures stamp { IfOk result (λ state. state.stamp ≡ 0) }
@@ -234,6 +235,7 @@ impl State {
         ensures lost { Loses path.now (around_of self.old) (around_of self.new) }
         ensures removals { self.new.removals ≡ self.old.removals }
         ensures stamp { self.new.stamp ≡ self.old.stamp }
+        ensures table { self.new.table ≡ self.old.table }
         ensures running { vec_len self.new.running ≡ vec_len self.old.running }
     {
         let _ = self.slots.take(path);
@@ -461,6 +463,7 @@ impl State {
         ensures unmet { result.outcome ≢ Outcome.Done → (around_of self.new).met ≡ (around_of self.old).met }
         ensures stamps { (d : Running) → Stamps (Contains (slice_index_or (around_of self.old).running place d).job.targets) self.old self.new }
         ensures fewer { vec_len self.new.running + 1 ≡ vec_len self.old.running }
+        ensures no_memory { cut ≢ Some Outcome.NoMemory → result.outcome ≢ Outcome.NoMemory }
         ensures removals { self.new.removals ≡ self.old.removals }
         ensures table { self.new.table ≡ self.old.table }
     {

@@ -102,6 +102,7 @@ impl MemWorld {
         ensures calls { IfOk result (λ world. world.calls.made ≡ self.calls.made) }
         ensures faults { IfOk result (λ world. world.faults ≡ self.faults) }
         ensures orders { IfOk result (λ world. world.orders ≡ self.orders) }
+        ensures table { IfOk result (λ world. world.state.table ≡ self.state.table) }
         ensures same { IfErr result (λ kept. Stays self kept.0) }
     {
         let mut world = self;
@@ -155,6 +156,7 @@ impl MemWorld {
         ensures calls { self.new.calls.made ≡ self.old.calls.made }
         ensures faults { self.new.faults ≡ self.old.faults }
         ensures orders { self.new.orders ≡ self.old.orders }
+        ensures table { self.new.state.table ≡ self.old.state.table }
     {
         let Left {
             a,

@@ -289,6 +289,7 @@ impl World for MemWorld {
         ensures absent { (d : Running) (path : List ℕ) → result.outcome ≢ Outcome.Done → Contains (ended_by self.old d).job.targets path → (around_of self.new.state).tree path ≡ None }
         ensures met { (d : Running) → result.outcome ≡ Outcome.Done → (around_of self.new.state).met ≡ (around_of self.old.state).met ++ row_contents self.old (ended_by self.old d) }
         ensures unmet { result.outcome ≢ Outcome.Done → (around_of self.new.state).met ≡ (around_of self.old.state).met }
+        ensures no_memory { result.outcome ≢ Outcome.NoMemory }
         ensures stamps { (d : Running) → Stamps (Contains (ended_by self.old d).job.targets) self.old.state self.new.state }
         ensures counted { self.new.calls ≡ counted Call.Wait self.old.calls }
         ensures keeps { Keeps self.old self.new }

@@ -76,6 +76,7 @@ impl MemWorld {
         ensures log { IfOk result (λ world. (around_of world.state).log ≡ []) }
         ensures met { IfOk result (λ world. (around_of world.state).met ≡ map (λ file. file.1) files.items) }
         ensures law { IfOk result (λ world. (around_of world.state).law ≡ law_of table) }
+        ensures table { IfOk result (λ world. world.state.table ≡ table) }
         ensures seen { IfOk result (λ world. (bank : Bank) → world_meaning.seen world bank ≡ []) }
         ensures clock { IfOk result (λ world. world_meaning.clock world ≡ 0) }
         ensures counts { IfOk result (λ world. counts_of world.faults ≡ record { disk_faults = 0; tree_faults = 0; start_faults = 0; action_failures = 0 }) }
@@ -166,6 +167,7 @@ impl MemWorld {
         ensures clock { world_meaning.clock self.new ≡ world_meaning.clock self.old }
         ensures anew { IsAnew self.new }
         ensures stamp { self.new.state.stamp ≡ self.old.state.stamp }
+        ensures table { self.new.state.table ≡ self.old.state.table }
         ensures banks { self.new.banks ≡ self.old.banks }
         ensures faults { self.new.faults ≡ self.old.faults }
         ensures calls { self.new.calls ≡ self.old.calls }

@@ -1,5 +1,4 @@
-use Rattle.std.proofs.Common.{◌≡◌, ◌∙◌, ap, subst, sym, List, ℕ, [], ◌∷◌, ◌++◌, Option, None}
-use Rattle.std.specs.List.{list_any}
+use Rattle.std.proofs.Common.{◌∙◌, ap, subst, List, ℕ, [], ◌∷◌, ◌++◌, Option, None}
 use Rattle.mem_banks.specs.AsStore.{store_of}
 use Rattle.mem_banks.specs.Past.{bytes_in, IsLeft}
 use Rattle.mem_banks.specs.declared.change.Change.{Change}
