@@ -1,5 +1,6 @@
-use Rattle.std.proofs.Common.{arith}
+use Rattle.std.proofs.Common.{◌∙◌, arith}
 use Rattle.build_run.proofs.Goings.{stays_on, unused_still, unused_in, gone_still}
+use Rattle.build_run.proofs.Causing.{look_after}
 use Rattle.build_run.proofs.clear.remove_all.Goals as goal
 
 pub remove-requires : goal.remove-requires
@@ -10,6 +11,9 @@ remove-requires g c = λ t.
 pub returns-in_err-remove-clause-stays : goal.returns-in_err-remove-clause-stays
 returns-in_err-remove-clause-stays g c = stays_on g.W.Disk.meaning _ _ _ c.loop-target.invariant.stays c.remove.ensures.stays
 
+pub returns-in_err-remove-clause-cause : goal.returns-in_err-remove-clause-cause
+returns-in_err-remove-clause-cause g c = look_after _ _ _ _ c.loop-target.invariant.same c.in_err-remove.ensures.cause
+
 pub loop-target-preserved : goal.loop-target-preserved
 loop-target-preserved g c =
     let m = g.W.Disk.meaning in
@@ -17,6 +21,7 @@ loop-target-preserved g c =
     let q = c.remove.ensures.stays.goes.passes in
     record {
       stays = stays_on m _ _ _ c.loop-target.invariant.stays c.remove.ensures.stays;
+      same = c.in_ok-remove.ensures.cause ∙ c.loop-target.invariant.same;
       gone = λ t. gone_still (m.around c.loop-target.world) (m.around c.remove.new.world) c.args.targets.now c.loop-target.target-index c.target-item.result (omega arith) c.target-item.is
           (λ path h. let before = q.told.told t in unused_in (p.runs before) (c.requires (p.passes.told.told before) path h))
           (c.loop-target.invariant.gone (q.told.told t)) (c.in_ok-remove.ensures.gone t) (c.in_ok-remove.ensures.others t);
