@@ -1,6 +1,6 @@
 -- What is accounted for, carried on from call to call.
 use Rattle.std.proofs.Common.{◌≡◌, ◌≢◌, ◌∙◌, ◌≤◌, ◌⊎◌, inl, inr, sym, subst, refl, ℕ, List, [], ◌∷◌, ◌++◌, true, false, Bool, Some, Contains, arith}
-use Rattle.std.specs.Prelude.{All, Result, Ok, Err}
+use Rattle.std.specs.Prelude.{All, Result, Ok, Err, IsErrAnd}
 use Rattle.std.proofs.lemmas.Bool.{false≢true}
 use Rattle.std.proofs.lemmas.List.Elements.{All-push, All-pop, All-nil, All-weaker, Contains-append_left, Contains-push}
 use Rattle.world_api.specs.Causes.{Rose, Later, TreeFails, DiskFails, StartFails, ActionFails, HasOutcomeCause}
@@ -265,6 +265,15 @@ module _ (start : Outside) (ledger : Ledger) where
   pub inside : (counts : Counts) (out err : ℕ) (e : ListEnd) → IsInside e → Accounted start (outside counts out err) ledger → Accounted start (outside counts out err) (with_end ledger e)
   inside counts out err e is a = look_end counts counts out err e (is counts) a
 
+  -- the exits of a `?`
+  pub exit_same : {T : Type 0} (now : Outside) (r : Result T ListEnd) (e : ListEnd) → IsErrAnd r (λ x. x ≡ e) → Accounted start now (with_end ledger e) → Accounted start now (with_done ledger r)
+  exit_same now (Ok value) e h a = absurd h
+  exit_same now (Err x) e h a = subst (λ y. Accounted start now (with_end ledger y)) (sym h) a
+
+  pub exit_inside : {T : Type 0} (counts : Counts) (out err : ℕ) (r : Result T ListEnd) → IsErrAnd r IsInside → Accounted start (outside counts out err) ledger → Accounted start (outside counts out err) (with_done ledger r)
+  exit_inside counts out err (Ok value) h a = absurd h
+  exit_inside counts out err (Err x) h a = inside counts out err x h a
+
   -- a job that wasn't started
   pub unstarted : (old new : Counts) (out err : ℕ) (e : ListEnd) → StartFails old new → IsUnstarted e → Accounted start (outside old out err) ledger → Accounted start (outside new out err) (with_end ledger e)
   unstarted old new out err (end.Fault f) fails is a = by f is
@@ -311,6 +320,11 @@ at_first start = record {
   told = λ is. record { disk = λ ne. absurd (ne refl); tree = λ ne. absurd (ne refl); start = λ ne. absurd (ne refl); action = λ ne. absurd (ne refl); out = λ ne. absurd (ne refl); err = λ ne. absurd (ne refl) };
   shut = λ is. absurd (false≢true is);
 }
+
+-- the same faults
+pub as_faults : (start now : Outside) (old new : List BuildFault) (shut memory : Bool) → new ≡ old
+    → Accounted start now (record { faults = old; shut = shut; memory = memory }) → Accounted start now (record { faults = new; shut = shut; memory = memory })
+as_faults start now old new shut memory same a = subst (λ (fs : List BuildFault). Accounted start now (record { faults = fs; shut = shut; memory = memory })) (sym same) a
 
 -- the same account
 pub account_as : (start now : Outside) (old new : Ledger) → new ≡ old → Accounted start now old → Accounted start now new

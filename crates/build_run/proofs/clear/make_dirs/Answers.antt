@@ -1,13 +1,9 @@
 use Rattle.std.proofs.Common.{◌∙◌}
 use Rattle.build_run.proofs.Goings.{stays_on}
-use Rattle.build_run.proofs.Causing.{look_after}
 use Rattle.build_run.proofs.clear.make_dirs.Goals as goal
 
 pub returns-in_err-make_dir-clause-stays : goal.returns-in_err-make_dir-clause-stays
 returns-in_err-make_dir-clause-stays g c = stays_on g.W.Disk.meaning _ _ _ c.loop-target.invariant.stays c.make_dir.ensures.stays
-
-pub returns-in_err-make_dir-clause-cause : goal.returns-in_err-make_dir-clause-cause
-returns-in_err-make_dir-clause-cause g c = look_after _ _ _ _ c.loop-target.invariant.same c.in_err-make_dir.ensures.cause
 
 pub loop-target-preserved : goal.loop-target-preserved
 loop-target-preserved g c = record {

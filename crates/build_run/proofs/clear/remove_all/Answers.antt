@@ -1,6 +1,5 @@
 use Rattle.std.proofs.Common.{◌∙◌, arith}
 use Rattle.build_run.proofs.Goings.{stays_on, unused_still, unused_in, gone_still}
-use Rattle.build_run.proofs.Causing.{look_after}
 use Rattle.build_run.proofs.clear.remove_all.Goals as goal
 
 pub remove-requires : goal.remove-requires
@@ -10,9 +9,6 @@ remove-requires g c = λ t.
 
 pub returns-in_err-remove-clause-stays : goal.returns-in_err-remove-clause-stays
 returns-in_err-remove-clause-stays g c = stays_on g.W.Disk.meaning _ _ _ c.loop-target.invariant.stays c.remove.ensures.stays
-
-pub returns-in_err-remove-clause-cause : goal.returns-in_err-remove-clause-cause
-returns-in_err-remove-clause-cause g c = look_after _ _ _ _ c.loop-target.invariant.same c.in_err-remove.ensures.cause
 
 pub loop-target-preserved : goal.loop-target-preserved
 loop-target-preserved g c =
