@@ -7,7 +7,7 @@ use Rattle.build_run.proofs.clear.clear.Goals as goal
 pub remove_all-requires : goal.remove_all-requires
 remove_all-requires g c = λ t path h.
     let m = g.W.Disk.meaning in
-    let goes = goes_on m c.args.world.now c.make_dirs.new.world c.withdraw.new.world c.make_dirs.ensures.goes c.withdraw.ensures.goes in
+    let goes = goes_on m c.args.world.now c.make_dirs.new.world c.withdraw.new.world c.make_dirs.ensures.stays.goes c.withdraw.ensures.goes in
     let joined = joined_on m c.args.world.now c.withdraw.new.world c.args.tickets.now goes c.requires.joined in
     are_unused c.args.job.now (m.around c.withdraw.new.world).running c.args.tickets.now (joined.runs t) c.requires.apart path (subst (λ (paths : List (List ℕ)). Contains paths path) c.as_slice-targets.ensures h)
 
