@@ -126,13 +126,7 @@ fn close<E: Sink>(
 }
 
 /// Reports rules that wait for themselves, unless nothing was to start any more.
-fn tell_cycle<E: Sink>(
-    alloc: Global,
-    graph: &Graph,
-    run: &Run,
-    account: &mut Account,
-    err: &mut E,
-)
+fn tell_cycle<E: Sink>(alloc: Global, graph: &Graph, run: &Run, account: &mut Account, err: &mut E)
     ensures { ErrKeeps E.meaning err.old err.new (ledger_of account.old) (ledger_of account.new) }
 {
     if account.is_ended {

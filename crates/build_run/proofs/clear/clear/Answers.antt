@@ -19,4 +19,4 @@ returns-in_err-make_dirs-clause-keeps g c = λ start out err a.
 pub returns-clause-keeps : goal.returns-clause-keeps
 returns-clause-keeps g c = λ start out err a.
     looked start (ledger_of c.withdraw.new.account) _ _ out err _ c.remove_all.ensures.cause
-      (c.in_ok-withdraw.ensures.keeps start out err (same_counts start (ledger_of c.args.account.now) _ _ out err c.in_ok-make_dirs.ensures.cause a))
+    (c.in_ok-withdraw.ensures.keeps start out err (same_counts start (ledger_of c.args.account.now) _ _ out err c.in_ok-make_dirs.ensures.cause a))

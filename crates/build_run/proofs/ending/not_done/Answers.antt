@@ -14,7 +14,7 @@ pub returns-in-Failed-clause-settles : goal.returns-in-Failed-clause-settles
 returns-in-Failed-clause-settles g c = λ start counts out each.
     let fits : SFits w32 c.in-Failed.code = search rules in
     let told = λ (code : ℤ). Accounted start (outside counts out (g.E.Sink.meaning.faults c.args.err.now)) (with_fault (ledger_of c.args.account.now) (fault.ActionFailed c.in-Ok.target code)) in
-    c.fail.ensures.keeps start counts out (subst told (sym (to_z-of_z w32 c.in-Failed.code fits)) (rw c.in-Failed.is at (each c.in-Ok.target)))
+    c.fail.ensures.keeps start counts out (subst told (sym (to_z-of_z fits)) (rw c.in-Failed.is at (each c.in-Ok.target)))
 
 pub returns-in-Broken-clause-settles : goal.returns-in-Broken-clause-settles
 returns-in-Broken-clause-settles g c = λ start counts out each. c.end.ensures.keeps start counts out (rw c.in-Broken.is at (each c.in-Ok.target))
