@@ -1,6 +1,6 @@
 -- Steps of the loops over words, letters and digits.
 use Rattle.std.proofs.Common.{arith, ◌≡◌, ◌<◌, ℕ, ◌+◌, List, [], ◌∷◌, ap, sym, refl, length, drop, get_or, add-one, drop-cons, Some, None, Option, Ok, Err}
-use Rattle.std.specs.Prelude.{true, false, MatchOption}
+use Rattle.std.specs.Prelude.{false, MatchOption}
 use Rattle.std.specs.List.{before_first, after_first, position_or_len}
 use Rattle.std.specs.Str.{IsUtf8, IsCharBoundary}
 use Rattle.std.proofs.Common.{◌≤◌, ◌≢◌}
