@@ -1,4 +1,3 @@
-use Rattle.std.proofs.Common.{refl}
 use Rattle.build_run.specs.Causes.{outside}
 use Rattle.build_run.specs.Ledgers.{ledger_of, ledger_of_end, blank}
 use Rattle.build_run.proofs.Causing.{at_first, account_as, same_counts, look_end, ended, caused}
