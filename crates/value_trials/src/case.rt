@@ -34,7 +34,7 @@ pub fn answer(alloc: Global, case: &str) -> Result<String> {
 fn units(alloc: Global, front: &str) -> Result<String> {
     let script = format!(in alloc; "{front}\n")?;
     match ran(alloc, script.as_str())? {
-        Told::Printed(text, units) if text.is_empty() => Ok(format!(in alloc; "{units}")?),
+        Outcome::Printed(text, units) if text.is_empty() => Ok(format!(in alloc; "{units}")?),
         told => Ok(told.text()),
     }
 }
@@ -69,24 +69,24 @@ fn names_of(front: &str, last: &str) -> &'static str {
 
 /// What a script comes to.
 #[derive(Drop)]
-enum Told {
+enum Outcome {
     /// It prints this, and uses so many units.
     Printed(String, u64),
     /// The fault that ends it.
     Fault(String),
 }
 
-impl Told {
+impl Outcome {
     fn text(self) -> String {
         match self {
-            Told::Printed(text, _) => text,
-            Told::Fault(text) => text,
+            Outcome::Printed(text, _) => text,
+            Outcome::Fault(text) => text,
         }
     }
 }
 
 /// What a script prints, or the fault that ends it.
-fn ran(alloc: Global, script: &str) -> Result<Told> {
+fn ran(alloc: Global, script: &str) -> Result<Outcome> {
     let tokens = lex(alloc, script.as_bytes())?;
     let script = parse(alloc, &tokens)?;
     let mut heap = Heap::new(alloc);
@@ -100,10 +100,10 @@ fn ran(alloc: Global, script: &str) -> Result<Told> {
     match run(&script, heap, &mut host, Budget::new(UNIT_LIMIT)) {
         Ok(Ran { budget, .. }) => {
             let Replying { printed, .. } = host;
-            Ok(Told::Printed(printed, budget.used()))
+            Ok(Outcome::Printed(printed, budget.used()))
         }
-        Err(EvalFault::Memory) => Ok(Told::Fault(String::from_str(alloc, "Memory")?)),
-        Err(EvalFault::At { kind, .. }) => Ok(Told::Fault(told(alloc, kind)?)),
+        Err(EvalFault::Memory) => Ok(Outcome::Fault(String::from_str(alloc, "Memory")?)),
+        Err(EvalFault::At { kind, .. }) => Ok(Outcome::Fault(told(alloc, kind)?)),
     }
 }
 
