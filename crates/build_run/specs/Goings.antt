@@ -1,6 +1,6 @@
 -- What goes on while a build makes its calls.
-use Rattle.std.specs.Prelude.{◌≡◌, ◌≢◌, Bool, false, ℕ, List, None}
-use Rattle.world_api.specs.Around.{Around, IsRunningTarget}
+use Rattle.std.specs.Prelude.{◌≡◌, ◌≢◌, Bool, false, ℕ, List, None, Contains, Result, OnOk}
+use Rattle.world_api.specs.Around.{Around, IsRunningTarget, IsUnused}
 use Rattle.world_api.specs.Causes.{Later}
 use Rattle.world_api.specs.Meaning.{Meaning, Told, BanksKept}
 use Rattle.sign_store.specs.Stores.{IsStoredIn}
@@ -35,3 +35,15 @@ IsStored m world store shut = shut ≡ false → m.tells world → IsStoredIn (m
 -- what was no file and isn't a target of a running job is none still
 abbrev pub Leaves : List ℕ → Around → Around → Type 0
 Leaves path old new = (other : List ℕ) → other ≢ path → (IsRunningTarget old.running other → ⊥) → old.tree other ≡ None → new.tree other ≡ None
+
+-- no file stands at any of these paths
+abbrev pub AreAbsent : {W : Type 0} → Meaning W → W → List (List ℕ) → Type 0
+AreAbsent m world paths = m.tells world → (path : List ℕ) → Contains paths path → (m.around world).tree path ≡ None
+
+-- the same, if there is a value
+abbrev pub AreGone : {W T E : Type 0} → Meaning W → W → List (List ℕ) → Result T E → Type 0
+AreGone m world paths r = m.tells world → OnOk r ((path : List ℕ) → Contains paths path → (m.around world).tree path ≡ None)
+
+-- no running job makes or reads any of these paths
+abbrev pub AreUnused : {W : Type 0} → Meaning W → W → List (List ℕ) → Type 0
+AreUnused m world paths = m.tells world → (path : List ℕ) → Contains paths path → IsUnused (m.around world).running path

@@ -1,2 +1,4 @@
 pub mod Holds
 pub mod Goings
+pub mod Causes
+pub mod Ledgers

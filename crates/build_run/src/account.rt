@@ -1,9 +1,8 @@
 //! What a build has to report.
-ghost use Rattle.std.specs.Prelude.{◌≡◌, false};
 
 use build_files::ListEnd;
 use rule_graph::BuildFault;
-use scons_base::RuleId;
+use scons_base::{Memory, RuleId};
 use scons_report::fault_text;
 use std::alloc::Global;
 use world_api::{Sink, print};
@@ -25,8 +24,11 @@ pub(crate) struct Account {
 }
 
 impl Account {
+    ghost use Rattle.std.specs.Prelude.{◌≡◌};
+    ghost use Rattle.build_run.specs.Ledgers.{ledger_of, blank, wanting, with_fault, with_end, Keeps, ErrKeeps};
+
     pub(crate) fn new(alloc: Global) -> Account
-        ensures { result.is_store_shut ≡ false }
+        ensures { ledger_of result ≡ blank }
     {
         Account {
             faults: Vec::new(alloc),
@@ -43,12 +45,13 @@ impl Account {
 
     /// Nothing new starts any more.
     pub(crate) fn end<E: Sink>(&mut self, err: &mut E, end: ListEnd)
-        ensures { self.new.is_store_shut ≡ self.old.is_store_shut }
+        ensures shut { self.new.is_store_shut ≡ self.old.is_store_shut }
+        ensures keeps { ErrKeeps E.meaning err.old err.new (with_end (ledger_of self.old) end) (ledger_of self.new) }
     {
         self.is_ended = true;
         match end {
             ListEnd::Fault(fault) => self.report(err, fault),
-            ListEnd::Memory => self.memory = true,
+            ListEnd::Memory => self.want_memory(),
         }
     }
 
@@ -60,63 +63,87 @@ impl Account {
         fault: BuildFault,
         goes_on: bool,
     )
-        ensures { self.new.is_store_shut ≡ self.old.is_store_shut }
+        ensures shut { self.new.is_store_shut ≡ self.old.is_store_shut }
+        ensures keeps { ErrKeeps E.meaning err.old err.new (with_fault (ledger_of self.old) fault) (ledger_of self.new) }
     {
-        if self.faulty.push(rule).is_err() {
-            self.want_memory();
-        }
-        if !goes_on {
-            self.is_ended = true;
-        }
         self.report(err, fault);
+        self.note_faulty(rule);
+        self.is_ended |= !goes_on;
     }
 
-    /// Prints a fault and keeps it.
+    /// Keeps a fault and prints it.
     pub(crate) fn report<E: Sink>(&mut self, err: &mut E, fault: BuildFault)
-        ensures { self.new.is_store_shut ≡ self.old.is_store_shut }
+        ensures shut { self.new.is_store_shut ≡ self.old.is_store_shut }
+        ensures keeps { ErrKeeps E.meaning err.old err.new (with_fault (ledger_of self.old) fault) (ledger_of self.new) }
     {
-        let is_printed = self.is_err_shut || self.is_printed(err, &fault);
+        let text = fault_text(self.alloc, &fault);
         self.keep(fault);
-        if !is_printed {
-            self.is_err_shut = true;
-            self.is_ended = true;
-            self.keep(BuildFault::OutFault);
+        self.show(err, text);
+    }
+
+    /// Prints a text, unless standard error has refused before. Want of memory for it is noted.
+    fn show<E: Sink>(&mut self, err: &mut E, text: Result<String, Memory>)
+        ensures shut { self.new.is_store_shut ≡ self.old.is_store_shut }
+        ensures keeps { ErrKeeps E.meaning err.old err.new (ledger_of self.old) (ledger_of self.new) }
+    {
+        if self.is_err_shut {
+            return;
+        }
+        match text {
+            Ok(text) => self.write(err, text.as_str()),
+            Err(_) => self.want_memory(),
         }
     }
 
-    /// Prints a fault, and says whether the sink took it. Want of memory is noted.
-    fn is_printed<E: Sink>(&mut self, err: &mut E, fault: &BuildFault) -> bool
-        ensures { self.new.is_store_shut ≡ self.old.is_store_shut }
+    /// Prints a text. A sink that refuses is noted.
+    fn write<E: Sink>(&mut self, err: &mut E, text: &str)
+        ensures shut { self.new.is_store_shut ≡ self.old.is_store_shut }
+        ensures keeps { ErrKeeps E.meaning err.old err.new (ledger_of self.old) (ledger_of self.new) }
     {
-        match fault_text(self.alloc, fault) {
-            Ok(text) => print(err, text.as_str()).is_ok(),
+        match print(err, text) {
+            Ok(()) => {}
             Err(_) => {
-                self.want_memory();
-                true
+                self.is_err_shut = true;
+                self.is_ended = true;
+                self.keep(BuildFault::OutFault);
             }
         }
     }
 
     fn keep(&mut self, fault: BuildFault)
-        ensures { self.new.is_store_shut ≡ self.old.is_store_shut }
+        ensures shut { self.new.is_store_shut ≡ self.old.is_store_shut }
+        ensures keeps { Keeps (with_fault (ledger_of self.old) fault) (ledger_of self.new) }
     {
-        if self.faults.push(fault).is_err() {
-            self.want_memory();
+        match self.faults.push(fault) {
+            Ok(()) => {}
+            Err(_) => self.want_memory(),
         }
     }
 
     pub(crate) fn want_memory(&mut self)
-        ensures { self.new.is_store_shut ≡ self.old.is_store_shut }
+        ensures { ledger_of self.new ≡ wanting (ledger_of self.old) }
     {
         self.memory = true;
         self.is_ended = true;
     }
 
-    pub(crate) fn note_start(&mut self, rule: RuleId)
-        ensures { self.new.is_store_shut ≡ self.old.is_store_shut }
+    fn note_faulty(&mut self, rule: RuleId)
+        ensures shut { self.new.is_store_shut ≡ self.old.is_store_shut }
+        ensures keeps { Keeps (ledger_of self.old) (ledger_of self.new) }
     {
-        if self.started.push(rule).is_err() {
-            self.want_memory();
+        match self.faulty.push(rule) {
+            Ok(()) => {}
+            Err(_) => self.want_memory(),
+        }
+    }
+
+    pub(crate) fn note_start(&mut self, rule: RuleId)
+        ensures shut { self.new.is_store_shut ≡ self.old.is_store_shut }
+        ensures keeps { Keeps (ledger_of self.old) (ledger_of self.new) }
+    {
+        match self.started.push(rule) {
+            Ok(()) => {}
+            Err(_) => self.want_memory(),
         }
     }
 }

@@ -3,7 +3,10 @@ ghost use Rattle.std.specs.Prelude.{◌≡◌, [], IfOk};
 ghost use Rattle.world_api.specs.Causes.{Later};
 ghost use Rattle.world_api.specs.Meaning.{Told};
 ghost use Rattle.sign_store.specs.Stores.{IsStoredIn};
+ghost use Rattle.build_files.specs.Causes.{HasLookCause, IsQuiet};
+ghost use Rattle.build_run.specs.Causes.{BuildCauses, IsInner};
 ghost use Rattle.build_run.specs.Goings.{Stays};
+ghost use Rattle.build_run.specs.Ledgers.{ledger_of, ledger_of_end, with_done, ErrKeeps};
 
 use crate::account::Account;
 use crate::end::BuildEnd;
@@ -11,7 +14,7 @@ use crate::tickets::Tickets;
 use crate::turns::go_on;
 use build_files::{Inputs, ListEnd, first_target};
 use indexmap::IndexSet;
-use rule_graph::Graph;
+use rule_graph::{BuildFault, Graph};
 use scons_base::{Listing, Memory, NodeId, PathText, RuleId};
 use scons_report::cycle_fault;
 use sign_store::Store;
@@ -57,6 +60,7 @@ pub fn build<W: World, O: Sink, E: Sink>(
     ensures told { Told W.meaning world.old world.new }
     ensures later { Later (W.meaning.counts world.old) (W.meaning.counts world.new) }
     ensures idle { W.meaning.tells world.new → (W.meaning.around world.new).running ≡ [] }
+    ensures causes { BuildCauses W.meaning O.meaning E.meaning world.old out.old err.old world.new out.new err.new result.faults result.memory }
 {
     let mut account = Account::new(alloc);
     match begin(alloc, graph, requested, world) {
@@ -87,6 +91,7 @@ fn begin<W: World>(
     world: &mut W,
 ) -> Result<Run, ListEnd>
     ensures stays { Stays W.meaning world.old world.new }
+    ensures cause { HasLookCause (W.meaning.counts world.old) (W.meaning.counts world.new) result }
     ensures none { IfOk result (λ run. run.tickets ≡ []) }
 {
     let mut inputs = Inputs::new(alloc);
@@ -100,19 +105,17 @@ fn begin<W: World>(
     })
 }
 
-/// Stays for rules that wait for themselves, and says which rules were held back.
+/// Looks for rules that wait for themselves, and says which rules were held back.
 fn close<E: Sink>(
     alloc: Global,
     graph: &Graph,
     run: &Run,
     mut account: Account,
     err: &mut E,
-) -> BuildEnd {
-    if !account.is_ended
-        && let Err(end) = find_cycle(alloc, graph, run, &mut account, err)
-    {
-        account.end(err, end);
-    }
+) -> BuildEnd
+    ensures { ErrKeeps E.meaning err.old err.new (ledger_of account) (ledger_of_end result) }
+{
+    tell_cycle(alloc, graph, run, &mut account, err);
     match skipped(alloc, graph, run, account.faulty.as_slice()) {
         Ok(skipped) => answer(account, skipped),
         Err(_) => {
@@ -122,19 +125,46 @@ fn close<E: Sink>(
     }
 }
 
+/// Reports rules that wait for themselves, unless nothing was to start any more.
+fn tell_cycle<E: Sink>(alloc: Global, graph: &Graph, run: &Run, account: &mut Account, err: &mut E)
+    ensures { ErrKeeps E.meaning err.old err.new (ledger_of account.old) (ledger_of account.new) }
+{
+    if account.is_ended {
+        return;
+    }
+    match find_cycle(alloc, graph, run, account, err) {
+        Ok(()) => {}
+        Err(end) => account.end(err, end),
+    }
+}
+
 fn find_cycle<E: Sink>(
     alloc: Global,
     graph: &Graph,
     run: &Run,
     account: &mut Account,
     err: &mut E,
-) -> Result<(), ListEnd> {
-    if let Some(rules) = run.plan.cycle()? {
-        account.faulty.extend_from_slice(rules.as_slice())?;
-        let fault = cycle_fault(alloc, graph, rules.as_slice())?;
-        account.report(err, fault);
-    }
+) -> Result<(), ListEnd>
+    ensures { ErrKeeps E.meaning err.old err.new (ledger_of account.old) (with_done (ledger_of account.new) result) }
+{
+    let Some(rules) = run.plan.cycle()? else {
+        return Ok(());
+    };
+    account.faulty.extend_from_slice(rules.as_slice())?;
+    let fault = cycle_of(alloc, graph, rules.as_slice())?;
+    account.report(err, fault);
     Ok(())
+}
+
+/// The fault of rules that wait for themselves.
+fn cycle_of(alloc: Global, graph: &Graph, rules: &[RuleId]) -> Result<BuildFault, ListEnd>
+    ensures inner { IfOk result IsInner }
+    ensures quiet { IsQuiet result }
+{
+    match cycle_fault(alloc, graph, rules)? {
+        BuildFault::Cycle(paths) => Ok(BuildFault::Cycle(paths)),
+        _ => Err(ListEnd::Memory),
+    }
 }
 
 /// The rules that were held back by these, each with the one that did.
@@ -153,7 +183,10 @@ fn skipped(
     Ok(Listing::new(pairs))
 }
 
-fn answer(account: Account, skipped: Listing<(PathText, PathText)>) -> BuildEnd {
+fn answer(account: Account, skipped: Listing<(PathText, PathText)>) -> BuildEnd
+    ensures faults { result.faults ≡ account.faults.items }
+    ensures memory { result.memory ≡ account.memory }
+{
     BuildEnd {
         faults: Listing::new(account.faults),
         skipped,

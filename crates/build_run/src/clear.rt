@@ -1,6 +1,8 @@
 //! Clearing the way of an action: the directories of its targets stand, their records are withdrawn, and they are removed.
-ghost use Rattle.std.specs.Prelude.{◌≡◌, [], None, List, ℕ, Contains, OnOk};
-ghost use Rattle.build_run.specs.Goings.{Goes, Stays, IsJoined, IsStored, Leaves};
+ghost use Rattle.std.specs.Prelude.{◌≡◌, [], None, Contains, OnOk};
+ghost use Rattle.build_run.specs.Goings.{Goes, Stays, IsJoined, IsStored, Leaves, AreGone, AreUnused};
+ghost use Rattle.build_files.specs.Causes.{HasLookCause};
+ghost use Rattle.build_run.specs.Ledgers.{ledger_of, with_done, WorldKeeps};
 ghost use Rattle.build_run.specs.Holds.{KeepsApart};
 ghost use Rattle.build_run.specs.declared.tickets.Hold.{Hold};
 ghost use Rattle.world_api.specs.Around.{IsUnused};
@@ -30,8 +32,9 @@ pub(crate) fn clear<W: World>(
     requires stored { IsStored W.meaning world.old store.old account.old.is_store_shut }
     requires apart { (hold : Hold) → Contains tickets.now hold → KeepsApart job.now hold }
     ensures goes { Goes W.meaning world.old world.new }
+    ensures keeps { WorldKeeps W.meaning world.old world.new (ledger_of account.old) (with_done (ledger_of account.new) result) }
     ensures stored { IsStored W.meaning world.new store.new account.new.is_store_shut }
-    ensures gone { W.meaning.tells world.new → OnOk result ((path : List ℕ) → Contains job.now.targets path → (W.meaning.around world.new).tree path ≡ None) }
+    ensures gone { AreGone W.meaning world.new job.now.targets result }
 {
     let targets = job.targets.as_slice();
     make_dirs(account.alloc, world, dirs, targets)?;
@@ -48,6 +51,7 @@ fn withdraw<W: World>(
 ) -> Result<(), ListEnd>
     requires { IsStored W.meaning world.old store.old account.old.is_store_shut }
     ensures goes { Goes W.meaning world.old world.new }
+    ensures keeps { WorldKeeps W.meaning world.old world.new (ledger_of account.old) (with_done (ledger_of account.new) result) }
     ensures stored { IsStored W.meaning world.new store.new account.new.is_store_shut }
 {
     if account.is_store_shut {
@@ -64,9 +68,10 @@ fn withdraw<W: World>(
 
 /// Removes the targets.
 fn remove_all<W: World>(world: &mut W, targets: &[PathText]) -> Result<(), ListEnd>
-    requires { W.meaning.tells world.old → (path : List ℕ) → Contains targets.now path → IsUnused (W.meaning.around world.old).running path }
+    requires { AreUnused W.meaning world.old targets.now }
     ensures stays { Stays W.meaning world.old world.new }
-    ensures gone { W.meaning.tells world.new → OnOk result ((path : List ℕ) → Contains targets.now path → (W.meaning.around world.new).tree path ≡ None) }
+    ensures cause { HasLookCause (W.meaning.counts world.old) (W.meaning.counts world.new) result }
+    ensures gone { AreGone W.meaning world.new targets.now result }
 {
     for target in targets {
         remove(world, target)?;
@@ -77,6 +82,7 @@ fn remove_all<W: World>(world: &mut W, targets: &[PathText]) -> Result<(), ListE
 fn remove<W: World>(world: &mut W, target: &PathText) -> Result<(), ListEnd>
     requires { W.meaning.tells world.old → IsUnused (W.meaning.around world.old).running target.now }
     ensures stays { Stays W.meaning world.old world.new }
+    ensures cause { HasLookCause (W.meaning.counts world.old) (W.meaning.counts world.new) result }
     ensures gone { W.meaning.tells world.new → OnOk result ((W.meaning.around world.new).tree target.now ≡ None) }
     ensures others { W.meaning.tells world.new → Leaves target.now (W.meaning.around world.old) (W.meaning.around world.new) }
 {
@@ -94,7 +100,8 @@ fn make_dirs<W: World>(
     targets: &[PathText],
 ) -> Result<(), ListEnd>
     requires { W.meaning.closed world.old ≡ [] }
-    ensures { Stays W.meaning world.old world.new }
+    ensures stays { Stays W.meaning world.old world.new }
+    ensures cause { HasLookCause (W.meaning.counts world.old) (W.meaning.counts world.new) result }
 {
     for target in targets {
         make_dir(alloc, world, dirs, target)?;
@@ -110,7 +117,8 @@ fn make_dir<W: World>(
     target: &PathText,
 ) -> Result<(), ListEnd>
     requires { W.meaning.closed world.old ≡ [] }
-    ensures { Stays W.meaning world.old world.new }
+    ensures stays { Stays W.meaning world.old world.new }
+    ensures cause { HasLookCause (W.meaning.counts world.old) (W.meaning.counts world.new) result }
 {
     let Ok(dir) = PathText::read(alloc, target.dir()) else {
         return Err(ListEnd::Memory);
@@ -125,7 +133,8 @@ fn make_dir<W: World>(
 
 fn raise_dir<W: World>(world: &mut W, dir: &PathText) -> Result<(), ListEnd>
     requires { W.meaning.closed world.old ≡ [] }
-    ensures { Stays W.meaning world.old world.new }
+    ensures stays { Stays W.meaning world.old world.new }
+    ensures cause { HasLookCause (W.meaning.counts world.old) (W.meaning.counts world.new) result }
 {
     match world.make_dir(dir) {
         Ok(()) => Ok(()),

@@ -1,6 +1,9 @@
 //! Whether a rule is stale.
-ghost use Rattle.std.specs.Prelude.{◌≡◌, ◌≤◌, ◌<◌, [], length};
+ghost use Rattle.std.specs.Prelude.{◌≡◌, ◌≤◌, ◌<◌, [], length, IfOk};
+ghost use Rattle.build_files.specs.Causes.{IsQuiet};
+ghost use Rattle.build_run.specs.Causes.{IsInner};
 ghost use Rattle.build_run.specs.Goings.{Passes, IsJoined, IsStored};
+ghost use Rattle.build_run.specs.Ledgers.{ledger_of, with_done, AllEnds, StartEnds, ErrKeeps};
 
 use crate::account::Account;
 use crate::building::Options;
@@ -36,6 +39,7 @@ pub(crate) fn decide<W: World, O: Sink, E: Sink>(
     requires joined { IsJoined W.meaning world.old tickets.old }
     requires stored { IsStored W.meaning world.old store.old account.old.is_store_shut }
     ensures passes { Passes W.meaning world.old world.new }
+    ensures ends { AllEnds W.meaning O.meaning E.meaning world.old out.old err.old world.new out.new err.new account.old account.new result }
     ensures room { length tickets.new ≤ 64 }
     ensures joined { IsJoined W.meaning world.new tickets.new }
     ensures stored { IsStored W.meaning world.new store.new account.new.is_store_shut }
@@ -75,6 +79,7 @@ fn make<W: World, O: Sink>(
     requires joined { IsJoined W.meaning world.old tickets.old }
     requires stored { IsStored W.meaning world.old store.old account.old.is_store_shut }
     ensures passes { Passes W.meaning world.old world.new }
+    ensures ends { StartEnds W.meaning O.meaning world.old out.old world.new out.new account.old account.new result }
     ensures room { length tickets.new ≤ 64 }
     ensures joined { IsJoined W.meaning world.new tickets.new }
     ensures stored { IsStored W.meaning world.new store.new account.new.is_store_shut }
@@ -98,14 +103,18 @@ fn report_missing<E: Sink>(
     rule: RuleId,
     node: NodeId,
 ) -> Result<(), ListEnd>
-    ensures { account.new.is_store_shut ≡ account.old.is_store_shut }
+    ensures shut { account.new.is_store_shut ≡ account.old.is_store_shut }
+    ensures keeps { ErrKeeps E.meaning err.old err.new (ledger_of account.old) (with_done (ledger_of account.new) result) }
 {
     let missing = missing_fault(graph, rule, node)?;
     account.fail(err, rule, missing, options.keep);
     Ok(())
 }
 
-fn missing_fault(graph: &Graph, rule: RuleId, node: NodeId) -> Result<BuildFault, ListEnd> {
+fn missing_fault(graph: &Graph, rule: RuleId, node: NodeId) -> Result<BuildFault, ListEnd>
+    ensures inner { IfOk result IsInner }
+    ensures quiet { IsQuiet result }
+{
     Ok(BuildFault::Missing {
         node: path_of(graph, node)?.copy()?,
         target: first_target(graph, rule)?,

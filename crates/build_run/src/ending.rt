@@ -2,6 +2,8 @@
 ghost use Rattle.std.specs.Prelude.{◌≡◌, ◌≤◌, ◌<◌, ◌+◌, length};
 ghost use Rattle.build_run.specs.Goings.{Passes, Goes, IsJoined, IsStored};
 ghost use Rattle.build_run.specs.Holds.{without};
+ghost use Rattle.build_run.specs.Ledgers.{ledger_of, EndKeeps, Settles, ErrSettles};
+ghost use Rattle.world_api.specs.Causes.{HasOutcomeCause};
 ghost use Rattle.world_api.specs.Meaning.{BanksKept};
 
 use crate::account::Account;
@@ -15,7 +17,8 @@ use sign_store::{Store, Ticket};
 use task_plan::PlanEvent;
 use world_api::{Ended, Outcome, Sink, World};
 
-/// Waits for an action to end. A rule whose action ended well gets its record.
+/// Waits for an action to end. A rule whose action ended well gets its record. An ending that is no running rule's, of
+/// which nothing can be told, is answered as want of memory is.
 pub(crate) fn take_ending<W: World, E: Sink>(
     graph: &Graph,
     tickets: &mut Tickets,
@@ -29,6 +32,7 @@ pub(crate) fn take_ending<W: World, E: Sink>(
     requires joined { IsJoined W.meaning world.old tickets.old }
     requires stored { IsStored W.meaning world.old store.old account.old.is_store_shut }
     ensures passes { Passes W.meaning world.old world.new }
+    ensures keeps { EndKeeps W.meaning E.meaning world.old err.old world.new err.new (ledger_of account.old) (ledger_of account.new) }
     ensures joined { IsJoined W.meaning world.new tickets.new }
     ensures fewer { W.meaning.tells world.new → length tickets.new + 1 ≡ length tickets.old }
     ensures no_more { length tickets.new ≤ length tickets.old }
@@ -36,7 +40,7 @@ pub(crate) fn take_ending<W: World, E: Sink>(
 {
     let ended = wait(world, tickets);
     let Some(busy) = tickets.take(ended.id) else {
-        account.is_ended = true;
+        account.want_memory();
         return PlanEvent::Halt;
     };
     settle(
@@ -58,6 +62,7 @@ fn wait<W: World>(world: &mut W, tickets: &Tickets) -> Ended
     ensures passes { Passes W.meaning world.old world.new }
     ensures joined { IsJoined W.meaning world.new (without result.id tickets.now) }
     ensures fewer { W.meaning.tells world.new → length (without result.id tickets.now) + 1 ≡ length tickets.now }
+    ensures cause { HasOutcomeCause result.outcome (W.meaning.counts world.old) (W.meaning.counts world.new) }
     ensures banks { W.meaning.tells world.new → BanksKept W.meaning world.old world.new }
 {
     world.wait()
@@ -76,6 +81,7 @@ fn settle<W: World, E: Sink>(
 ) -> PlanEvent
     requires { IsStored W.meaning world.old store.old account.old.is_store_shut }
     ensures goes { Goes W.meaning world.old world.new }
+    ensures settles { Settles W.meaning E.meaning outcome world.old err.old world.new err.new (ledger_of account.old) (ledger_of account.new) }
     ensures stored { IsStored W.meaning world.new store.new account.new.is_store_shut }
 {
     let Busy { hold, ticket } = busy;
@@ -103,6 +109,7 @@ fn put<W: World, E: Sink>(
 )
     requires { IsStored W.meaning world.old store.old account.old.is_store_shut }
     ensures goes { Goes W.meaning world.old world.new }
+    ensures keeps { EndKeeps W.meaning E.meaning world.old err.old world.new err.new (ledger_of account.old) (ledger_of account.new) }
     ensures stored { IsStored W.meaning world.new store.new account.new.is_store_shut }
 {
     if account.is_store_shut {
@@ -126,7 +133,8 @@ fn not_done<E: Sink>(
     rule: RuleId,
     outcome: Outcome,
 )
-    ensures { account.new.is_store_shut ≡ account.old.is_store_shut }
+    ensures shut { account.new.is_store_shut ≡ account.old.is_store_shut }
+    ensures settles { ErrSettles E.meaning outcome err.old err.new (ledger_of account.old) (ledger_of account.new) }
 {
     let Ok(target) = first_target(graph, rule) else {
         account.want_memory();

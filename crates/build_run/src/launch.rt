@@ -1,6 +1,7 @@
 //! Starting a job.
 ghost use Rattle.std.specs.Prelude.{◌≡◌, ◌++◌, ◌∷◌, [], None, List, ℕ, Contains, OnOk, OnErr};
-ghost use Rattle.build_run.specs.Goings.{Passes, IsJoined, IsStored};
+ghost use Rattle.build_run.specs.Goings.{Passes, IsJoined, IsStored, AreAbsent};
+ghost use Rattle.build_run.specs.Ledgers.{ledger_of, with_done, StartEnds, OutKeeps, WorldEnds, IsUnstarted};
 ghost use Rattle.build_run.specs.Holds.{hold_for, KeepsApart};
 ghost use Rattle.build_run.specs.declared.tickets.Hold.{Hold};
 ghost use Rattle.world_api.specs.Meaning.{BanksKept};
@@ -33,6 +34,7 @@ pub(crate) fn launch<W: World, O: Sink>(
     requires stored { IsStored W.meaning world.old store.old account.old.is_store_shut }
     requires apart { (hold : Hold) → Contains tickets.now hold → KeepsApart job hold }
     ensures passes { Passes W.meaning world.old world.new }
+    ensures ends { StartEnds W.meaning O.meaning world.old out.old world.new out.new account.old account.new result }
     ensures started { OnOk result (IsJoined W.meaning world.new (tickets.now ++ hold_for job ∷ [])) }
     ensures refused { OnErr result (IsJoined W.meaning world.new tickets.now) }
     ensures stored { IsStored W.meaning world.new store.new account.new.is_store_shut }
@@ -44,7 +46,8 @@ pub(crate) fn launch<W: World, O: Sink>(
 
 /// Prints the text of a rule. A sink that refuses is noted.
 fn show<O: Sink>(account: &mut Account, out: &mut O, text: &str) -> Result<(), ListEnd>
-    ensures { account.new.is_store_shut ≡ account.old.is_store_shut }
+    ensures shut { account.new.is_store_shut ≡ account.old.is_store_shut }
+    ensures keeps { OutKeeps O.meaning out.old out.new (ledger_of account.old) (with_done (ledger_of account.new) result) }
 {
     match print(out, text) {
         Ok(()) => Ok(()),
@@ -60,9 +63,10 @@ fn begin<W: World>(graph: &Graph, world: &mut W, job: Job, tickets: &Tickets) ->
     requires unclosed { W.meaning.closed world.old ≡ [] }
     requires joined { IsJoined W.meaning world.old tickets.now }
     requires apart { (hold : Hold) → Contains tickets.now hold → KeepsApart job hold }
-    requires clear { W.meaning.tells world.old → (path : List ℕ) → Contains job.targets path → (W.meaning.around world.old).tree path ≡ None }
+    requires clear { AreAbsent W.meaning world.old job.targets }
     ensures passes { Passes W.meaning world.old world.new }
     ensures banks { W.meaning.tells world.new → BanksKept W.meaning world.old world.new }
+    ensures ends { WorldEnds W.meaning world.old world.new result }
     ensures started { OnOk result (IsJoined W.meaning world.new (tickets.now ++ hold_for job ∷ [])) }
     ensures refused { OnErr result (IsJoined W.meaning world.new tickets.now) }
 {
@@ -75,7 +79,9 @@ fn begin<W: World>(graph: &Graph, world: &mut W, job: Job, tickets: &Tickets) ->
 }
 
 /// The fault that the action of a rule wasn't started.
-fn unstarted(graph: &Graph, rule: RuleId) -> ListEnd {
+fn unstarted(graph: &Graph, rule: RuleId) -> ListEnd
+    ensures { IsUnstarted result }
+{
     match first_target(graph, rule) {
         Ok(target) => ListEnd::Fault(BuildFault::StartFault(target)),
         Err(_) => ListEnd::Memory,

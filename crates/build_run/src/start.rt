@@ -1,6 +1,8 @@
 //! How the action of a stale rule starts.
 ghost use Rattle.std.specs.Prelude.{◌≡◌, ◌<◌, ◌≤◌, [], length};
 ghost use Rattle.build_run.specs.Goings.{Passes, IsJoined, IsStored};
+ghost use Rattle.build_files.specs.Causes.{IsQuiet};
+ghost use Rattle.build_run.specs.Ledgers.{StartEnds};
 ghost use Rattle.sign_store.specs.Stores.{KeepsBanks};
 
 use crate::account::Account;
@@ -38,6 +40,7 @@ pub(crate) fn start<W: World, O: Sink>(
     requires joined { IsJoined W.meaning world.old tickets.old }
     requires stored { IsStored W.meaning world.old store.old account.old.is_store_shut }
     ensures passes { Passes W.meaning world.old world.new }
+    ensures ends { StartEnds W.meaning O.meaning world.old out.old world.new out.new account.old account.new result }
     ensures room { length tickets.new ≤ 64 }
     ensures joined { IsJoined W.meaning world.new tickets.new }
     ensures stored { IsStored W.meaning world.new store.new account.new.is_store_shut }
@@ -99,7 +102,8 @@ pub(crate) fn give_up(is_store_shut: bool, store: &mut Store, ticket: Ticket)
 }
 
 fn prepare(store: &mut Store, now: Rec) -> Result<Ticket, ListEnd>
-    ensures { KeepsBanks store.old store.new }
+    ensures banks { KeepsBanks store.old store.new }
+    ensures quiet { IsQuiet result }
 {
     match store.prepare(now) {
         Ok(ticket) => Ok(ticket),

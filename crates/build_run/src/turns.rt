@@ -1,6 +1,8 @@
 //! The turns of a build: what the plan wants is done, and the plan is told what came of it.
 ghost use Rattle.std.specs.Prelude.{◌≡◌, ◌≤◌, ◌<◌, [], length};
+ghost use Rattle.build_files.specs.Causes.{HasLookCause};
 ghost use Rattle.build_run.specs.Goings.{Stays, Passes, IsJoined, IsStored};
+ghost use Rattle.build_run.specs.Ledgers.{ledger_of, with_done, AllKeeps, AllEnds, EndKeeps, ErrKeeps, Keeps};
 ghost use Rattle.scons_base.specs.declared.ids.RuleId.{RuleId};
 
 use crate::account::Account;
@@ -31,6 +33,7 @@ pub(crate) fn go_on<W: World, O: Sink, E: Sink>(
     requires joined { IsJoined W.meaning world.old run.old.tickets }
     requires stored { IsStored W.meaning world.old store.old account.old.is_store_shut }
     ensures passes { Passes W.meaning world.old world.new }
+    ensures keeps { AllKeeps W.meaning O.meaning E.meaning world.old out.old err.old world.new out.new err.new account.old account.new }
     ensures idle { W.meaning.tells world.new → (W.meaning.around world.new).running ≡ [] }
 {
     take_turns(graph, run, account, store, world, out, err, options);
@@ -52,6 +55,7 @@ fn take_turns<W: World, O: Sink, E: Sink>(
     requires joined { IsJoined W.meaning world.old run.old.tickets }
     requires stored { IsStored W.meaning world.old store.old account.old.is_store_shut }
     ensures passes { Passes W.meaning world.old world.new }
+    ensures keeps { AllKeeps W.meaning O.meaning E.meaning world.old out.old err.old world.new out.new err.new account.old account.new }
     ensures joined { IsJoined W.meaning world.new run.new.tickets }
     ensures stored { IsStored W.meaning world.new store.new account.new.is_store_shut }
 {
@@ -78,6 +82,7 @@ fn wait_for_all<W: World, E: Sink>(
     requires joined { IsJoined W.meaning world.old run.old.tickets }
     requires stored { IsStored W.meaning world.old store.old account.old.is_store_shut }
     ensures passes { Passes W.meaning world.old world.new }
+    ensures keeps { EndKeeps W.meaning E.meaning world.old err.old world.new err.new (ledger_of account.old) (ledger_of account.new) }
     ensures idle { W.meaning.tells world.new → (W.meaning.around world.new).running ≡ [] }
 {
     let running = run.tickets.len();
@@ -109,6 +114,7 @@ fn take_turn<W: World, O: Sink, E: Sink>(
     requires joined { IsJoined W.meaning world.old run.old.tickets }
     requires stored { IsStored W.meaning world.old store.old account.old.is_store_shut }
     ensures passes { Passes W.meaning world.old world.new }
+    ensures ends { AllEnds W.meaning O.meaning E.meaning world.old out.old err.old world.new out.new err.new account.old account.new result }
     ensures limit { length run.new.tickets ≤ 64 }
     ensures joined { IsJoined W.meaning world.new run.new.tickets }
     ensures stored { IsStored W.meaning world.new store.new account.new.is_store_shut }
@@ -142,7 +148,8 @@ fn scan<W: World>(
     rule: RuleId,
     file: NodeId,
 ) -> Result<PlanEvent, ListEnd>
-    ensures { Stays W.meaning world.old world.new }
+    ensures stays { Stays W.meaning world.old world.new }
+    ensures cause { HasLookCause (W.meaning.counts world.old) (W.meaning.counts world.new) result }
 {
     let found = inputs.scanned(world, graph, rule, file)?;
     Ok(PlanEvent::Scanned(rule, found))
@@ -174,21 +181,39 @@ fn tell<E: Sink>(
 )
     ensures tickets { run.new.tickets ≡ run.old.tickets }
     ensures shut { account.new.is_store_shut ≡ account.old.is_store_shut }
+    ensures keeps { ErrKeeps E.meaning err.old err.new (with_done (ledger_of account.old) done) (ledger_of account.new) }
+{
+    note(graph, run, account, err, done);
+    if account.is_ended {
+        let _ = run.plan.step(graph, PlanEvent::Halt);
+    }
+}
+
+/// Tells the plan an event, or the account an end.
+fn note<E: Sink>(
+    graph: &Graph,
+    run: &mut Run,
+    account: &mut Account,
+    err: &mut E,
+    done: Result<PlanEvent, ListEnd>,
+)
+    ensures tickets { run.new.tickets ≡ run.old.tickets }
+    ensures shut { account.new.is_store_shut ≡ account.old.is_store_shut }
+    ensures keeps { ErrKeeps E.meaning err.old err.new (with_done (ledger_of account.old) done) (ledger_of account.new) }
 {
     match done {
         Ok(event) => step(graph, run, account, event),
         Err(end) => account.end(err, end),
-    }
-    if account.is_ended {
-        let _ = run.plan.step(graph, PlanEvent::Halt);
     }
 }
 
 fn step(graph: &Graph, run: &mut Run, account: &mut Account, event: PlanEvent)
     ensures tickets { run.new.tickets ≡ run.old.tickets }
     ensures shut { account.new.is_store_shut ≡ account.old.is_store_shut }
+    ensures keeps { Keeps (ledger_of account.old) (ledger_of account.new) }
 {
-    if run.plan.step(graph, event).is_err() {
-        account.want_memory();
+    match run.plan.step(graph, event) {
+        Ok(()) => {}
+        Err(_) => account.want_memory(),
     }
 }

@@ -57,7 +57,7 @@ gate_at place bank = get_or-drop place bank 0 0 ∙ ap (λ n. get_or bank n 0) (
     plus_none : (n : ℕ) → n + 0 ≡ n
     plus_none n = omega arith
 
-body_cut : (place : ℕ) (bank : List ℕ) → 17 ≤ place → place ≤ length bank → body_of bank ≡ body_of (take place bank) ++ drop place bank
+pub body_cut : (place : ℕ) (bank : List ℕ) → 17 ≤ place → place ≤ length bank → body_of bank ≡ body_of (take place bank) ++ drop place bank
 body_cut place bank head inside =
     ap body_of (sym (take-append-drop place bank)) ∙ drop-append-le 17 (take place bank) (drop place bank) (omega (arith, length-take place bank))
 

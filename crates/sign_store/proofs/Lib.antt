@@ -4,5 +4,15 @@ pub mod DiskLemmas
 pub mod EndLemmas
 pub mod WriteLemmas
 pub mod TicketLemmas
+pub mod LocalLemmas
 pub mod ReadLemmas
+pub mod FillLemmas
+pub mod OrderLemmas
+pub mod NumberLemmas
+pub mod FormLemmas
+pub mod CompactLemmas
+pub mod BeginLemmas
+pub mod BankLemmas
+pub mod StepLemmas
+pub mod OpenLemmas
 pub mod Keeping

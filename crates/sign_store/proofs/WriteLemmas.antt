@@ -81,7 +81,7 @@ behind_keeps m old mid bank place len map keeps run = record {
 }
 
 -- the written bytes stand behind the gate
-held_behind : (place : ℕ) (was now bytes : List ℕ) → place + 1 ≤ length was → Holds was (place + 1) bytes now → drop (place + 1) now ≡ bytes ++ drop (place + 1 + length bytes) was
+pub held_behind : (place : ℕ) (was now bytes : List ℕ) → place + 1 ≤ length was → Holds was (place + 1) bytes now → drop (place + 1) now ≡ bytes ++ drop (place + 1 + length bytes) was
 held_behind place was now bytes inside holds =
     ap (drop (place + 1)) (holds ∙ append_assoc (take (place + 1) was) bytes (drop (place + 1 + length bytes) was))
     ∙ drop_at (take (place + 1) was) (bytes ++ drop (place + 1 + length bytes) was) (place + 1) (omega (arith, length-take (place + 1) was))

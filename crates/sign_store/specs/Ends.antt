@@ -4,7 +4,7 @@ use Rattle.world_api.specs.declared.disk.Bank.{Bank}
 use Rattle.world_api.specs.declared.disk.Bank.TheVariants.{A, B}
 use Rattle.world_api.specs.Around.{Around}
 use Rattle.world_api.specs.Banks.{Banks, Torn}
-use Rattle.world_api.specs.Meaning.{Meaning, IsImage}
+use Rattle.world_api.specs.Meaning.{Meaning, IsImage, IsSettled}
 use Rattle.sign_store.specs.declared.entries.Change.{Change}
 use Rattle.sign_store.specs.declared.head.Choice.TheVariants as choice
 use Rattle.sign_store.specs.Heads.{head_of, chosen}
@@ -60,3 +60,17 @@ with_bank A bytes banks A = bytes
 with_bank A bytes banks B = banks B
 with_bank B bytes banks A = banks A
 with_bank B bytes banks B = bytes
+
+-- the banks stand for this map, and all around is as it was
+pub record StandsFor (stood : Around) (map : Map) (around : Around) (banks : Banks) : Type 0 where
+  pub same : around ≡ stood
+  pub image : image_in banks ≡ map
+
+-- the banks stand for this map, or are as a stop could have left them before; all around is as it was
+pub record IsLeftOr {W : Type 0} (m : Meaning W) (old : W) (map : Map) (around : Around) (banks : Banks) : Type 0 where
+  pub same : around ≡ m.around old
+  pub left : IsImage m old banks ⊎ (image_in banks ≡ map)
+
+-- a stop now leaves the banks as they read
+abbrev pub AreSettled : {W : Type 0} → Meaning W → W → Type 0
+AreSettled m world = (bank : Bank) → IsSettled m world bank

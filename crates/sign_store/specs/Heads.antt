@@ -3,9 +3,10 @@
 -- gate          one byte, 1 where the bank is live
 -- mark          `SCONSIG1`
 -- generation    64 bits, big-endian
-use Rattle.std.specs.Prelude.{ℕ, List, ◌==◌, nat_le, nat_lt, length, take, drop, slice_index, codes, if◌then◌else◌}
-use Rattle.std.specs.Int.{w64, from_be_bytes}
+use Rattle.std.specs.Prelude.{ℕ, List, ◌++◌, ◌==◌, nat_le, nat_lt, length, take, drop, slice_index, codes, if◌then◌else◌}
+use Rattle.std.specs.Int.{w64, from_be_bytes, to_be_bytes}
 use Rattle.std.specs.Str.{bytes_eq}
+use Rattle.world_api.specs.declared.disk.Bank.{Bank}
 use Rattle.world_api.specs.declared.disk.Bank.TheVariants.{A, B}
 use Rattle.sign_store.specs.declared.head.Head.{Head}
 use Rattle.sign_store.specs.declared.head.Head.TheVariants.{Short, Closed, Foreign, Live}
@@ -20,6 +21,10 @@ mark_of bank = take 8 (drop 1 bank)
 
 abbrev pub generation_of : List ℕ → ℕ
 generation_of bank = from_be_bytes w64 (take 8 (drop 9 bank))
+
+-- what stands behind the gate of a live bank of this generation, before its entries
+abbrev pub head_bytes : ℕ → List ℕ
+head_bytes generation = codes "SCONSIG1" ++ to_be_bytes w64 generation
 
 -- a bank under 18 bytes, or whose gate isn't open, is blank; one with another mark is foreign
 abbrev pub head_of : List ℕ → Head
@@ -43,3 +48,7 @@ chosen Short Short = choice.None
 chosen Short Closed = choice.None
 chosen Closed Short = choice.None
 chosen Closed Closed = choice.None
+
+abbrev pub other_bank : Bank → Bank
+other_bank A = B
+other_bank B = A

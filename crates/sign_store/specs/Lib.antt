@@ -1,9 +1,16 @@
 pub mod Heads
 pub mod Tables
 pub mod Entries
-pub mod Reached
 pub mod Maps
+pub mod Orders
 pub mod Images
+pub mod Gates
 pub mod Readings
 pub mod Ends
+pub mod Reached
+pub mod Forms
+pub mod Compacts
+pub mod Beginnings
+pub mod Changing
 pub mod Stores
+pub mod Putting

@@ -1,15 +1,22 @@
 -- What the calls over a disk leave.
 use Rattle.std.specs.Prelude.{◌≡◌, ◌≢◌, Result, Err}
 use Rattle.world_api.specs.Causes.{DiskFails}
-use Rattle.world_api.specs.Meaning.{Meaning, Told, Recalls, BankKept, BanksKept}
+use Rattle.world_api.specs.Around.{Around}
+use Rattle.world_api.specs.Meaning.{Meaning, Told, Recalls, BankKept, BanksKept, Throughout}
 use Rattle.world_api.specs.declared.disk.Bank.{Bank}
 use Rattle.sign_store.specs.declared.refusals.StoreRefusal.{StoreRefusal}
 use Rattle.sign_store.specs.declared.refusals.StoreRefusal.TheVariants as refusal
+use Rattle.sign_store.specs.Ends.{AreSettled, StandsFor}
+use Rattle.sign_store.specs.Tables.{Map}
 
 -- a fault comes only where the disk was at fault, and nothing else counts
 pub record HasFaultCause {W T : Type 0} (meaning : Meaning W) (old new : W) (result : Result T StoreRefusal) : Type 0 where
   pub kept : result ≢ Err refusal.Fault → meaning.counts new ≡ meaning.counts old
   pub rose : result ≡ Err refusal.Fault → DiskFails (meaning.counts old) (meaning.counts new)
+
+-- what the banks stood for at every moment, from some time on, they stand for at every moment until now
+pub record Endures {W : Type 0} (m : Meaning W) (old new : W) (stood : Around) (map : Map) : Type 0 where
+  pub on : (from : W) → Throughout m from old (StandsFor stood map) → Throughout m from new (StandsFor stood map)
 
 -- the disk was read and no more: its banks and all around are as they were
 pub record ReadsBanks {W : Type 0} (m : Meaning W) (old new : W) : Type 0 where
@@ -17,6 +24,7 @@ pub record ReadsBanks {W : Type 0} (m : Meaning W) (old new : W) : Type 0 where
   pub recalls : Recalls m old new
   pub around : m.tells new → m.around new ≡ m.around old
   pub banks : m.tells new → BanksKept m old new
+  pub moments : (stood : Around) (map : Map) → Endures m old new stood map
 
 -- one bank was written at most: the other and all around are as they were
 pub record Writes {W : Type 0} (m : Meaning W) (bank : Bank) (old new : W) : Type 0 where
@@ -24,3 +32,7 @@ pub record Writes {W : Type 0} (m : Meaning W) (bank : Bank) (old new : W) : Typ
   pub recalls : Recalls m old new
   pub around : m.tells new → m.around new ≡ m.around old
   pub other : m.tells new → (other : Bank) → other ≢ bank → BankKept m other old new
+
+-- where a stop left the banks as they read, it still does
+pub record KeepsSettled {W : Type 0} (m : Meaning W) (old new : W) : Type 0 where
+  pub on : m.tells new → AreSettled m old → AreSettled m new

@@ -1,5 +1,5 @@
 -- What is read of two banks, or why they aren't read.
-use Rattle.std.specs.Prelude.{◌≡◌, ◌≢◌, ◌≤◌, ◌<◌, ◌^◌, ◌⊎◌, ℕ, length}
+use Rattle.std.specs.Prelude.{◌≡◌, ◌≢◌, ◌≤◌, ◌<◌, ◌^◌, ◌⊎◌, ℕ, List, ◌++◌, length, take, drop, None}
 use Rattle.world_api.specs.declared.disk.Bank.{Bank}
 use Rattle.world_api.specs.declared.disk.Bank.TheVariants.{A, B}
 use Rattle.world_api.specs.Banks.{Banks}
@@ -8,6 +8,8 @@ use Rattle.sign_store.specs.declared.head.Choice.TheVariants as choice
 use Rattle.sign_store.specs.declared.refusals.StoreRefusal.{StoreRefusal}
 use Rattle.sign_store.specs.declared.refusals.StoreRefusal.TheVariants as refusal
 use Rattle.sign_store.specs.Heads.{head_of, chosen}
+use Rattle.sign_store.specs.Images.{entry_in, after_entries}
+use Rattle.sign_store.specs.Tables.{Map}
 
 -- the bank that counts
 abbrev pub choice_of : Banks → Choice
@@ -41,3 +43,9 @@ IsOutside refusal.Fault = Unit {0}
 IsOutside (refusal.Foreign bank) = ⊥
 IsOutside (refusal.Large size) = ⊥
 IsOutside refusal.Memory = Unit {0}
+
+-- so many bytes of what stands behind a head are whole entries, which lead from the one map to the other whatever is
+-- behind them; what is behind them is no entry
+pub record IsReadTo (len : ℕ) (from map : Map) (body : List ℕ) : Type 0 where
+  pub reads : (behind : List ℕ) → after_entries (length (take len body ++ behind)) from (take len body ++ behind) ≡ after_entries (length behind) map behind
+  pub ends : entry_in (drop len body) ≡ None

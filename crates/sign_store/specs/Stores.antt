@@ -1,5 +1,5 @@
 -- What a store stands for, and what its banks are.
-use Rattle.std.specs.Prelude.{◌≡◌, ◌≢◌, ◌≤◌, ◌<◌, ◌+◌, ℕ, Bool, true, List, ◌++◌, ◌∷◌, [], length, slice_index, if◌then◌else◌}
+use Rattle.std.specs.Prelude.{◌≡◌, ◌≢◌, ◌≤◌, ◌<◌, ◌+◌, ◌-◌, ◌^◌, ◌⊎◌, min, sum, ℕ, Bool, true, List, ◌++◌, ◌∷◌, [], length, slice_index, if◌then◌else◌}
 use Rattle.world_api.specs.Banks.{Banks}
 use Rattle.world_api.specs.Meaning.{Meaning}
 use Rattle.deciders.specs.declared.recorded.Rec.{Rec}
@@ -7,8 +7,11 @@ use Rattle.deciders.specs.Spelling.{Spells, spelling}
 use Rattle.sign_store.specs.declared.store.Store.{Store}
 use Rattle.sign_store.specs.declared.ticket.Ticket.{Ticket}
 use Rattle.sign_store.specs.declared.view.View.{View}
-use Rattle.sign_store.specs.Entries.{entry_of, put_payload, withdraw_payload}
+use Rattle.sign_store.specs.declared.refusals.PrepareRefusal.{PrepareRefusal}
+use Rattle.sign_store.specs.declared.refusals.PrepareRefusal.TheVariants as refusal
+use Rattle.sign_store.specs.Entries.{entry_of, entries_len, put_payload, withdraw_payload}
 use Rattle.sign_store.specs.Maps.{map_in, HasRecord}
+use Rattle.sign_store.specs.Beginnings.{IsBegunOver}
 use Rattle.sign_store.specs.Ends.{KeepsAt}
 use Rattle.sign_store.specs.Tables.{Map, has_any, is_among}
 
@@ -31,6 +34,10 @@ map_of store = map_in store.map
 
 abbrev pub map_of_view : View → Map
 map_of_view view = map_in view.map
+
+-- the store over banks that were these: which one is live, and where its entries end
+abbrev pub Begins : Banks → Store → Type 0
+Begins banks store = IsBegunOver banks store.map store.bank store.end
 
 -- the store's ticket for this record
 pub record IsTicket (store : Store) (rec : Rec) (ticket : Ticket) : Type 0 where
@@ -72,6 +79,25 @@ pub record IsOut (store : Store) (rec : Rec) (ticket : Ticket) : Type 0 where
   pub spells : Spells (spelling rec) rec
   pub fits : length (spelling rec) ≤ 4294967294
   pub room : HasRoom store ticket.room (owed store rec ticket)
+
+-- how long the bank is with the entries of all tickets and of this record
+abbrev pub len_with : Store → Rec → ℕ
+len_with store rec = store.end + 1 + sum store.rooms.items + entries_len (map_of store) rec (length (put_payload rec))
+
+-- there is room for the entries of a record
+pub record Fits (store : Store) (rec : Rec) : Type 0 where
+  pub payload : length (put_payload rec) ≤ 4294967295
+  pub bank : len_with store rec ≤ 2 ^ 40
+
+-- the payload of its put is too long for an entry; or else the bank would be too long
+abbrev pub IsFull : Store → Rec → ℕ → Type 0
+IsFull store rec len =
+    ((4294967295 < length (put_payload rec)) × (len ≡ min (length (put_payload rec)) (2 ^ 64 - 1)))
+    ⊎ ((length (put_payload rec) ≤ 4294967295) × (2 ^ 40 < len) × (len ≡ len_with store rec))
+
+abbrev pub IsPrepareRefusal : Store → Rec → PrepareRefusal → Type 0
+IsPrepareRefusal store rec (refusal.Full len) = IsFull store rec len
+IsPrepareRefusal store rec refusal.Memory = Unit {0}
 
 -- a ticket that is out stays so
 pub record KeepsOut (old new : Store) : Type 0 where

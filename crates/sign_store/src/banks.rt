@@ -5,13 +5,13 @@ ghost use Rattle.world_api.specs.Causes.{DiskFails};
 ghost use Rattle.world_api.specs.Meaning.{Told, IsSettled, Throughout};
 ghost use Rattle.world_api.specs.declared.disk.Bank.{Bank};
 ghost use Rattle.world_api.specs.declared.disk.Bank.TheVariants as side;
-ghost use Rattle.sign_store.specs.declared.entries.Change.{Change};
-ghost use Rattle.sign_store.specs.Ends.{IsEntry, IsEither, IsTornFrom, KeepsAt};
+ghost use Rattle.sign_store.specs.Changing.{AppendKeeps, AppendsThroughout, CloseKeeps, ClosesThroughout, Fills, FillsThroughout};
+ghost use Rattle.sign_store.specs.Ends.{IsTornFrom};
+ghost use Rattle.sign_store.specs.Forms.{IsShut};
 ghost use Rattle.sign_store.specs.Heads.{head_of};
-ghost use Rattle.sign_store.specs.Images.{applied, body_of};
+ghost use Rattle.sign_store.specs.Images.{body_of};
 ghost use Rattle.sign_store.specs.Readings.{IsRefusal, IsOutside};
-ghost use Rattle.sign_store.specs.Reached.{HasFaultCause, ReadsBanks, Writes};
-ghost use Rattle.sign_store.specs.Tables.{Map};
+ghost use Rattle.sign_store.specs.Reached.{HasFaultCause, KeepsSettled, ReadsBanks, Writes};
 
 use crate::head::{HEAD_LEN, Head, head_of};
 use crate::refusals::StoreRefusal;
@@ -130,8 +130,9 @@ pub(crate) fn append<W: Disk>(
     requires within { W.meaning.tells world.old → end < length (W.meaning.seen world.old bank) }
     requires small { end + 1 + length entry.now ≤ 2 ^ 41 }
     ensures end { W.meaning.tells world.new → OnOk result (end + length entry.now < length (W.meaning.seen world.new bank)) }
-    ensures moments { (change : Change) (map : Map) → IsEntry change entry.now → KeepsAt W.meaning world.old bank end map → Throughout W.meaning world.old world.new (IsEither (W.meaning.around world.old) map (applied change map)) }
-    ensures keeps { (change : Change) (map : Map) → IsEntry change entry.now → KeepsAt W.meaning world.old bank end map → OnOk result (KeepsAt W.meaning world.new bank (end + length entry.now) (applied change map)) }
+    ensures moments { AppendsThroughout W.meaning world.old world.new bank end entry.now }
+    ensures keeps { AppendKeeps W.meaning world.old world.new bank end entry.now result }
+    ensures settled { OnOk result (KeepsSettled W.meaning world.old world.new) }
     ensures around { W.meaning.tells world.new → W.meaning.around world.new ≡ W.meaning.around world.old }
     ensures writes { Writes W.meaning bank world.old world.new }
     ensures told { Told W.meaning world.old world.new }
@@ -146,6 +147,8 @@ pub(crate) fn append<W: Disk>(
 /// stays as it is, since torn bytes may stand behind it.
 pub(crate) fn fill<W: Disk>(world: &mut W, bank: Bank, form: &[u8]) -> Result<(), Fault>
     requires { 1 + length form.now ≤ 2 ^ 41 }
+    ensures moments { FillsThroughout W.meaning world.old world.new bank form.now }
+    ensures filled { Fills W.meaning world.old world.new bank form.now result }
     ensures len { W.meaning.tells world.new → OnOk result (length form.now < length (W.meaning.seen world.new bank)) }
     ensures around { W.meaning.tells world.new → W.meaning.around world.new ≡ W.meaning.around world.old }
     ensures told { Told W.meaning world.old world.new }
@@ -158,24 +161,39 @@ pub(crate) fn fill<W: Disk>(world: &mut W, bank: Bank, form: &[u8]) -> Result<()
 
 /// Closes the gate of a bank, where it is open or the bank is too short for one to count.
 fn close<W: Disk>(world: &mut W, bank: Bank) -> Result<(), Fault>
-    ensures gate { W.meaning.tells world.new → OnOk result (0 < length (W.meaning.seen world.new bank)) }
+    ensures moments { ClosesThroughout W.meaning world.old world.new bank }
+    ensures spare { CloseKeeps W.meaning world.old world.new bank result }
+    ensures gate { W.meaning.tells world.new → OnOk result (IsShut (W.meaning.seen world.new bank)) }
     ensures around { W.meaning.tells world.new → W.meaning.around world.new ≡ W.meaning.around world.old }
     ensures told { Told W.meaning world.old world.new }
     ensures kept { OnOk result (W.meaning.counts world.new ≡ W.meaning.counts world.old) }
     ensures rose { OnErr result (DiskFails (W.meaning.counts world.old) (W.meaning.counts world.new)) }
 {
-    let size = world.size(bank)?;
-    let head = read_head(world, bank, size)?;
-    if head == Head::Closed {
-        return Ok(());
+    match head_at(world, bank)? {
+        Head::Closed => Ok(()),
+        _ => write_synced(world, bank, 0, &[0]),
     }
-    write_synced(world, bank, 0, &[0])
+}
+
+/// The head of a bank.
+#[tactic(auto, using(crate::proofs::DiskLemmas::calls))]
+fn head_at<W: Disk>(world: &mut W, bank: Bank) -> Result<Head, Fault>
+    ensures head { W.meaning.tells world.new → IfOk result (λ head. head ≡ head_of (W.meaning.seen world.new bank)) }
+    ensures kept { OnOk result (W.meaning.counts world.new ≡ W.meaning.counts world.old) }
+    ensures rose { OnErr result (DiskFails (W.meaning.counts world.old) (W.meaning.counts world.new)) }
+    ensures looks { ReadsBanks W.meaning world.old world.new }
+    ensures told { Told W.meaning world.old world.new }
+{
+    let size = world.size(bank)?;
+    read_head(world, bank, size)
 }
 
 /// The same of a bank whose gate is closed.
 fn fill_closed<W: Disk>(world: &mut W, bank: Bank, form: &[u8]) -> Result<(), Fault>
-    requires gate { W.meaning.tells world.old → 0 < length (W.meaning.seen world.old bank) }
+    requires gate { W.meaning.tells world.old → IsShut (W.meaning.seen world.old bank) }
     requires small { 1 + length form.now ≤ 2 ^ 41 }
+    ensures moments { FillsThroughout W.meaning world.old world.new bank form.now }
+    ensures filled { Fills W.meaning world.old world.new bank form.now result }
     ensures len { W.meaning.tells world.new → OnOk result (length form.now < length (W.meaning.seen world.new bank)) }
     ensures around { W.meaning.tells world.new → W.meaning.around world.new ≡ W.meaning.around world.old }
     ensures told { Told W.meaning world.old world.new }

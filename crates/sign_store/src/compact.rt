@@ -1,5 +1,12 @@
 //! The compact form of a bank: one put for each record that a path still has.
-ghost use Rattle.std.specs.Prelude.{◌≡◌, ◌<◌, ◌+◌, ◌*◌, ◌↔◌, vec_len, IsTrue, IfOk};
+ghost use Rattle.std.specs.Prelude.{◌≡◌, ◌≢◌, ◌≤◌, ◌<◌, ◌+◌, ◌-◌, ◌*◌, ◌^◌, ◌↔◌, ◌++◌, ◌∷◌, Some, filter, length, not, slice_get, vec_len, IsTrue, IfOk, OnOk};
+ghost use Rattle.deciders.specs.Spelling.{listed, sized};
+ghost use Rattle.sign_store.specs.Entries.{entry_of, put_payload, withdraw_payload};
+ghost use Rattle.sign_store.specs.Compacts.{IsWorth, compact_bytes, entries_at, entries_up_to, lost_of, withdrawal_of};
+ghost use Rattle.sign_store.specs.Forms.{IsForm};
+ghost use Rattle.sign_store.specs.Heads.{head_bytes};
+ghost use Rattle.sign_store.specs.Orders.{IsOrdered, IsWhole, is_held};
+ghost use Rattle.sign_store.specs.Tables.{nothing};
 
 use crate::head::MARK;
 use crate::map::RecordMap;
@@ -12,68 +19,30 @@ use std::alloc::Global;
 /// The generation of a bank that was blank.
 pub(crate) const FIRST_GENERATION: u64 = 1;
 
-/// What a bank has beside its entries: the head and the last gate.
-const FRAME_LEN: u64 = 18;
-
-/// What an entry has beside its payload, and the payload beside what it spells.
-const ENTRY_LEN: u64 = 6;
-
 /// A live bank grows by this much before it is compacted, beside twice what its compact form has.
 const GROWTH: u64 = 65_536;
 
 /// Whether a live bank of this length is worth the change to a compact form of that length.
 pub(crate) fn is_worth(live: u64, compact: u64) -> bool
-    ensures { IsTrue result ↔ (65536 + 2 * compact < live) }
+    ensures { IsTrue result ↔ IsWorth live compact }
 {
     live > GROWTH && (live - GROWTH - 1) / 2 >= compact
 }
 
-/// How long a bank of the compact form of a map is.
-pub(crate) fn compact_len(map: &RecordMap) -> u64 {
-    let mut len = FRAME_LEN;
-    for (number, rec) in map.records().iter().enumerate() {
-        len = len.saturating_add(entries_len(map, number, rec));
-    }
-    len
-}
-
-/// How many bytes the entries of a record take, none where no path has it.
-fn entries_len(map: &RecordMap, number: usize, rec: &Rec) -> u64 {
-    let targets = rec.targets.as_slice();
-    let held = targets
-        .iter()
-        .filter(|path| map.holds(path, number))
-        .count();
-    if held == 0 {
-        return 0;
-    }
-    let put = spelled_len(rec).saturating_add(ENTRY_LEN);
-    if held == targets.len() {
-        return put;
-    }
-    put.saturating_add(lost_len(map, number, targets))
-        .saturating_add(ENTRY_LEN)
-}
-
-fn lost_len(map: &RecordMap, number: usize, targets: &[PathText]) -> u64 {
-    let mut len: u64 = 4;
-    for path in targets {
-        if !map.holds(path, number) {
-            len = len
-                .saturating_add(path.as_str().len() as u64)
-                .saturating_add(4);
-        }
-    }
-    len
+/// Whether a live bank of this generation and length can be worth it at all: a generation follows on its own.
+pub(crate) fn can_be_worth(generation: u64, live: u64) -> bool
+    ensures { IsTrue result ↔ ((generation < 2 ^ 64 - 1) × (65536 < live)) }
+{
+    generation < u64::MAX && live > GROWTH
 }
 
 /// The compact form of the empty map, in the first generation.
 pub(crate) fn empty_form(alloc: Global) -> Result<Vec<u8>, Memory>
-    ensures { IfOk result (λ form. vec_len form ≡ 17) }
+    ensures form { IfOk result (λ form. IsForm 1 nothing form.items) }
+    ensures len { IfOk result (λ form. vec_len form ≡ 17) }
 {
     let mut form = Vec::new(alloc);
-    form.extend_from_slice(&MARK)?;
-    form.extend_from_slice(&FIRST_GENERATION.to_be_bytes())?;
+    push_head(&mut form, FIRST_GENERATION)?;
     form.push(0)?;
     Ok(form)
 }
@@ -84,48 +53,102 @@ pub(crate) fn compact_form(
     alloc: Global,
     map: &RecordMap,
     generation: u64,
-) -> Result<Vec<u8>, Memory> {
+) -> Result<Vec<u8>, Memory>
+    ensures { IsOrdered map.now → IfOk result (λ form. form.items ≡ compact_bytes generation map.now) }
+{
     let mut form = Vec::new(alloc);
-    form.extend_from_slice(&MARK)?;
-    form.extend_from_slice(&generation.to_be_bytes())?;
-    for (number, rec) in map.records().iter().enumerate() {
-        push_entries(alloc, &mut form, map, number, rec)?;
-    }
+    push_head(&mut form, generation)?;
+    push_all(alloc, &mut form, map)?;
     form.push(0)?;
     Ok(form)
 }
 
-/// Adds the put of a record that some path has, and directly behind it the withdrawal of its targets that have another
-/// record or none.
+/// Adds what stands between the gate of a bank and its entries.
+fn push_head(form: &mut Vec<u8>, generation: u64) -> Result<(), Memory>
+    ensures { OnOk result (form.new.items ≡ form.old.items ++ head_bytes generation) }
+{
+    form.extend_from_slice(&MARK)?;
+    form.extend_from_slice(&generation.to_be_bytes())?;
+    Ok(())
+}
+
+/// Adds the entries of all records that a path still has, in their order.
+fn push_all(alloc: Global, form: &mut Vec<u8>, map: &RecordMap) -> Result<(), Memory>
+    ensures { IsOrdered map.now → OnOk result (form.new.items ≡ form.old.items ++ entries_up_to map.now (length map.now.records.items)) }
+{
+    for number in 0..map.records().len() {
+        push_entries(alloc, form, map, number)?;
+    }
+    Ok(())
+}
+
+/// Adds the entries of a record, where some path has it.
 fn push_entries(
     alloc: Global,
     form: &mut Vec<u8>,
     map: &RecordMap,
     number: usize,
+) -> Result<(), Memory>
+    ensures { IsOrdered map.now → OnOk result (form.new.items ≡ form.old.items ++ entries_at map.now number) }
+{
+    let Some(rec) = map.record_at(number) else {
+        return Ok(());
+    };
+    if !map.holds_any(rec.targets.as_slice(), number) {
+        return Ok(());
+    }
+    push_record_entries(alloc, form, map, number, rec)
+}
+
+/// Adds the put of a record, and directly behind it the withdrawal of its targets that have another record or none.
+fn push_record_entries(
+    alloc: Global,
+    form: &mut Vec<u8>,
+    map: &RecordMap,
+    number: usize,
     rec: &Rec,
-) -> Result<(), Memory> {
-    let targets = rec.targets.as_slice();
+) -> Result<(), Memory>
+    ensures { IsWhole rec.now → OnOk result (form.new.items ≡ form.old.items ++ ((1 ∷ entry_of (put_payload rec.now)) ++ withdrawal_of (lost_of map.now number rec.now))) }
+{
+    push_put_entry(form, rec)?;
     let mut lost = Vec::new(alloc);
-    push_lost(&mut lost, map, number, targets)?;
-    if lost.len() == targets.len() || spelled_len(rec) >= PAYLOAD_LIMIT {
+    push_lost(&mut lost, map, number, rec.targets.as_slice())?;
+    push_withdraw_entry(form, lost.as_slice())
+}
+
+/// Adds an entry that puts a record. One that is too long for an entry was read of none.
+fn push_put_entry(form: &mut Vec<u8>, rec: &Rec) -> Result<(), Memory>
+    ensures { IsWhole rec.now → OnOk result (form.new.items ≡ form.old.items ++ 1 ∷ entry_of (put_payload rec.now)) }
+{
+    if spelled_len(rec) >= PAYLOAD_LIMIT {
         return Ok(());
     }
     form.push(1)?;
-    push_put(form, rec)?;
-    if !lost.is_empty() && paths_len(lost.as_slice()) < PAYLOAD_LIMIT {
-        form.push(1)?;
-        push_withdraw(form, lost.as_slice())?;
-    }
-    Ok(())
+    push_put(form, rec)
 }
 
+/// Adds an entry that withdraws the records of these paths, where there is one.
+fn push_withdraw_entry(form: &mut Vec<u8>, paths: &[PathText]) -> Result<(), Memory>
+    ensures none { length paths.now ≡ 0 → OnOk result (form.new.items ≡ form.old.items) }
+    ensures some { length paths.now ≢ 0 → length (listed sized paths.now) ≤ 4294967294 → OnOk result (form.new.items ≡ form.old.items ++ 1 ∷ entry_of (withdraw_payload paths.now)) }
+{
+    if paths.is_empty() || paths_len(paths) >= PAYLOAD_LIMIT {
+        return Ok(());
+    }
+    form.push(1)?;
+    push_withdraw(form, paths)
+}
+
+/// Adds those paths whose record isn't the one of this number.
 fn push_lost(
     lost: &mut Vec<PathText>,
     map: &RecordMap,
     number: usize,
-    targets: &[PathText],
-) -> Result<(), Memory> {
-    for path in targets {
+    paths: &[PathText],
+) -> Result<(), Memory>
+    ensures { OnOk result (lost.new.items ≡ lost.old.items ++ filter (λ path. not (is_held map.now number path)) paths.now) }
+{
+    for path in paths {
         if !map.holds(path, number) {
             lost.push(path.copy()?)?;
         }

@@ -1,6 +1,12 @@
 //! The entries of a bank.
 ghost use Rattle.std.specs.Prelude.{◌≡◌, ◌≢◌, ◌+◌, ◌≤◌, ◌<◌, None, Some, length, MatchOption, IfOk, IfSome, OnOk};
+ghost use Rattle.std.specs.Option.{option_map};
+ghost use Rattle.deciders.specs.Reading.{record_in};
 ghost use Rattle.sign_store.specs.Maps.{map_in};
+ghost use Rattle.sign_store.specs.Orders.{IsOrdered, IsWholeChange};
+ghost use Rattle.sign_store.specs.Gates.{IsGate};
+ghost use Rattle.sign_store.specs.Readings.{IsReadTo};
+ghost use Rattle.sign_store.specs.Tables.{nothing};
 ghost use Rattle.sign_store.specs.Images.{payload_in, change_in, entry_in, applied, after_entries, entries_map};
 
 use crate::map::RecordMap;
@@ -38,7 +44,10 @@ pub(crate) struct Loaded {
 /// Reads entries up to where they end. `body` is what stands behind the head of a bank.
 pub(crate) fn load(alloc: Global, body: &[u8]) -> Result<Loaded, Memory>
     ensures map { IfOk result (λ loaded. map_in loaded.map ≡ entries_map body.now) }
+    ensures reads { IfOk result (λ loaded. IsReadTo loaded.len nothing (map_in loaded.map) body.now) }
+    ensures ordered { IfOk result (λ loaded. IsOrdered loaded.map) }
     ensures len { IfOk result (λ loaded. loaded.len ≤ length body.now) }
+    ensures gate { IfOk result (λ loaded. IsGate loaded.gate loaded.len body.now) }
     ensures inside { IfOk result (λ loaded. loaded.gate ≢ EndGate.Missing → loaded.len < length body.now) }
 {
     let mut map = RecordMap::new(alloc);
@@ -48,7 +57,8 @@ pub(crate) fn load(alloc: Global, body: &[u8]) -> Result<Loaded, Memory>
 }
 
 fn gate_at(body: &[u8], place: usize) -> EndGate
-    ensures { result ≢ EndGate.Missing → place < length body.now }
+    ensures gate { IsGate result place body.now }
+    ensures inside { result ≢ EndGate.Missing → place < length body.now }
 {
     if place >= body.len() {
         return EndGate::Missing;
@@ -63,6 +73,8 @@ fn gate_at(body: &[u8], place: usize) -> EndGate
 /// Applies one entry after the other, and says how many bytes they take.
 fn apply_all(map: &mut RecordMap, alloc: Global, body: &[u8]) -> Result<usize, Memory>
     ensures map { OnOk result (map_in map.new ≡ after_entries (length body.now) (map_in map.old) body.now) }
+    ensures reads { IfOk result (λ len. IsReadTo len (map_in map.old) (map_in map.new) body.now) }
+    ensures ordered { IsOrdered map.old → OnOk result (IsOrdered map.new) }
     ensures len { IfOk result (λ len. len ≤ length body.now) }
 {
     let mut len = 0;
@@ -74,22 +86,23 @@ fn apply_all(map: &mut RecordMap, alloc: Global, body: &[u8]) -> Result<usize, M
 }
 
 fn apply(map: &mut RecordMap, change: Change) -> Result<(), Memory>
-    ensures { OnOk result (map_in map.new ≡ applied change (map_in map.old)) }
+    ensures map { OnOk result (map_in map.new ≡ applied change (map_in map.old)) }
+    ensures ordered { IsWholeChange change → IsOrdered map.old → OnOk result (IsOrdered map.new) }
 {
     match change {
-        Change::Put(rec) => {
-            let number = map.add(rec)?;
-            map.set(number);
+        Change::Put(rec) => map.put(rec),
+        Change::Withdraw(paths) => {
+            map.remove(paths.as_slice());
+            Ok(())
         }
-        Change::Withdraw(paths) => map.remove(paths.as_slice()),
     }
-    Ok(())
 }
 
 /// The entry in front and its size, if one stands there whole.
 fn first_entry(alloc: Global, bytes: &[u8]) -> Result<Option<(Change, usize)>, Memory>
     ensures entry { IfOk result (λ found. found ≡ entry_in bytes.now) }
     ensures within { IfOk result (λ found. IfSome found (λ entry. (0 < entry.1) × (entry.1 ≤ length bytes.now))) }
+    ensures whole { IfOk result (λ found. IfSome found (λ entry. IsWholeChange entry.0)) }
 {
     let Some(payload) = first_payload(bytes) else {
         return Ok(None);
@@ -105,6 +118,7 @@ fn first_entry(alloc: Global, bytes: &[u8]) -> Result<Option<(Change, usize)>, M
 fn first_payload(bytes: &[u8]) -> Option<&[u8]>
     ensures payload { MatchOption result (payload_in bytes.now ≡ None) (λ payload. payload_in bytes.now ≡ Some payload.now) }
     ensures within { IfSome result (λ payload. length payload.now + 5 ≤ length bytes.now) }
+    ensures fits { IfSome result (λ payload. length payload.now ≤ 4294967295) }
 {
     if bytes.len() < 5 || bytes[0] != 1 {
         return None;
@@ -118,11 +132,24 @@ fn first_payload(bytes: &[u8]) -> Option<&[u8]>
 }
 
 fn change_of(alloc: Global, payload: &[u8]) -> Result<Option<Change>, Memory>
-    ensures { IfOk result (λ found. found ≡ change_in payload.now) }
+    requires { length payload.now ≤ 4294967295 }
+    ensures change { IfOk result (λ found. found ≡ change_in payload.now) }
+    ensures whole { IfOk result (λ found. IfSome found IsWholeChange) }
 {
     match payload {
-        [1, rest @ ..] => Ok(decode(alloc, rest)?.map(Change::Put)),
+        [1, rest @ ..] => put_of(alloc, rest),
         [2, rest @ ..] => Ok(decode_paths(alloc, rest)?.map(Change::Withdraw)),
         _ => Ok(None),
+    }
+}
+
+fn put_of(alloc: Global, bytes: &[u8]) -> Result<Option<Change>, Memory>
+    requires { length bytes.now ≤ 4294967294 }
+    ensures change { IfOk result (λ found. found ≡ option_map Change.Put (record_in bytes.now)) }
+    ensures whole { IfOk result (λ found. IfSome found IsWholeChange) }
+{
+    match decode(alloc, bytes)? {
+        Some(rec) => Ok(Some(Change::Put(rec))),
+        None => Ok(None),
     }
 }

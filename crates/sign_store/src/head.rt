@@ -1,6 +1,6 @@
 //! The head of a bank, and which bank counts.
 ghost use Rattle.std.specs.Prelude.{◌≡◌};
-ghost use Rattle.sign_store.specs.Heads.{head_of, chosen};
+ghost use Rattle.sign_store.specs.Heads.{head_of, chosen, other_bank};
 
 use world_api::Bank;
 
@@ -62,7 +62,9 @@ pub(crate) fn chosen(a: Head, b: Head) -> Choice
     }
 }
 
-pub(crate) fn other(bank: Bank) -> Bank {
+pub(crate) fn other(bank: Bank) -> Bank
+    ensures { result ≡ other_bank bank }
+{
     match bank {
         Bank::A => Bank::B,
         Bank::B => Bank::A,

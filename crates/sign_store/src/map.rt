@@ -1,5 +1,5 @@
 //! Records by their targets. A record is kept once, whatever the number of its targets; a look-up is one by hash.
-ghost use Rattle.std.specs.Prelude.{◌≡◌, ◌<◌, ◌+◌, ℕ, List, None, Some, [], ◌++◌, ◌∷◌, true, false, vec_len, slice_get, option_copied, OnErr, OnOk, IfOk};
+ghost use Rattle.std.specs.Prelude.{◌≡◌, ◌<◌, ◌+◌, ℕ, List, None, Some, [], ◌++◌, ◌∷◌, true, false, length, vec_len, slice_get, option_copied, OnErr, OnOk, IfOk};
 ghost use Rattle.std.specs.List.{list_any};
 ghost use Rattle.std.specs.Option.{is_some};
 ghost use Rattle.std.specs.Str.{bytes_eq};
@@ -20,9 +20,11 @@ pub(crate) struct RecordMap {
 
 impl RecordMap {
     ghost use Rattle.sign_store.specs.Maps.{map_in, HasRecord};
+    ghost use Rattle.sign_store.specs.Orders.{IsOrdered, IsWhole, SetsNumbers, is_held};
 
     pub(crate) fn new(alloc: Global) -> RecordMap
-        ensures { map_in result ≡ nothing }
+        ensures map { map_in result ≡ nothing }
+        ensures ordered { IsOrdered result }
     {
         RecordMap {
             table: IndexMap::new(alloc),
@@ -38,22 +40,36 @@ impl RecordMap {
         self.records.get(number)
     }
 
-    pub(crate) fn records(&self) -> &[Rec] {
+    pub(crate) fn records(&self) -> &[Rec]
+        ensures { result.now ≡ self.now.records.items }
+    {
         self.records.as_slice()
     }
 
     /// Whether the record of this number is the path's.
-    pub(crate) fn holds(&self, path: &PathText, number: usize) -> bool {
+    pub(crate) fn holds(&self, path: &PathText, number: usize) -> bool
+        ensures { result ≡ is_held self.now number path.now }
+    {
         match self.table.get(path) {
-            Some(held) => *held == Some(number),
-            None => false,
+            Some(Some(held)) => *held == number,
+            _ => false,
         }
+    }
+
+    /// Whether the record of this number is that of one of these paths.
+    pub(crate) fn holds_any(&self, paths: &[PathText], number: usize) -> bool
+        ensures { result ≡ list_any (is_held self.now number) paths.now }
+    {
+        paths.iter().any(|path| self.holds(path, number))
     }
 
     /// Keeps a record, and enters its targets: none of them has it yet. Gives the record's number.
     pub(crate) fn add(&mut self, rec: Rec) -> Result<usize, Memory>
         ensures same { map_in self.new ≡ map_in self.old }
         ensures record { IfOk result (HasRecord self.new rec) }
+        ensures number { IfOk result (λ number. number ≡ length self.old.records.items) }
+        ensures records { OnOk result (self.new.records.items ≡ self.old.records.items ++ rec ∷ []) }
+        ensures numbers { (path : List ℕ) → number_in self.new.table path ≡ number_in self.old.table path }
         ensures keeps { (other : Rec) (number : ℕ) → HasRecord self.old other number → HasRecord self.new other number }
     {
         enter_each(&mut self.table, rec.targets.as_slice())?;
@@ -62,9 +78,21 @@ impl RecordMap {
         Ok(number)
     }
 
+    /// Keeps a record, and gives it to each of its targets.
+    pub(crate) fn put(&mut self, rec: Rec) -> Result<(), Memory>
+        ensures map { OnOk result (map_in self.new ≡ with_each rec.targets (Some rec) (map_in self.old)) }
+        ensures ordered { IsWhole rec → IsOrdered self.old → OnOk result (IsOrdered self.new) }
+    {
+        let number = self.add(rec)?;
+        self.set(number);
+        Ok(())
+    }
+
     /// Gives each target of a record this record.
     pub(crate) fn set(&mut self, number: usize)
         ensures map { (rec : Rec) → HasRecord self.old rec number → map_in self.new ≡ with_each rec.targets (Some rec) (map_in self.old) }
+        ensures records { self.new.records.items ≡ self.old.records.items }
+        ensures numbers { (rec : Rec) → HasRecord self.old rec number → SetsNumbers rec.targets (Some number) (number_in self.old.table) (number_in self.new.table) }
         ensures keeps { (rec : Rec) (number : ℕ) → HasRecord self.old rec number → HasRecord self.new rec number }
     {
         let Some(rec) = self.records.get(number) else {
@@ -86,7 +114,9 @@ impl RecordMap {
 
     /// Takes away the records of these paths.
     pub(crate) fn remove(&mut self, paths: &[PathText])
-        ensures { map_in self.new ≡ with_each paths.now None (map_in self.old) }
+        ensures map { map_in self.new ≡ with_each paths.now None (map_in self.old) }
+        ensures records { self.new.records.items ≡ self.old.records.items }
+        ensures numbers { SetsNumbers paths.now None (number_in self.old.table) (number_in self.new.table) }
     {
         write_each(&mut self.table, paths, None);
     }
@@ -102,7 +132,7 @@ impl RecordMap {
     }
 
     /// The record of a number.
-    fn record_at(&self, number: usize) -> Option<&Rec>
+    pub(crate) fn record_at(&self, number: usize) -> Option<&Rec>
         ensures { option_copied result ≡ slice_get self.now.records.items number }
     {
         self.records.get(number)

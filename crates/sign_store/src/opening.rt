@@ -1,17 +1,25 @@
 //! Reading and beginning: which bank counts, its entries, the mending of its end, and compaction.
-ghost use Rattle.std.specs.Prelude.{◌≡◌, ◌≤◌, ◌<◌, ◌≢◌, ◌+◌, ◌^◌, length, IfOk, IfErr, OnOk, OnErr};
+ghost use Rattle.std.specs.Prelude.{◌≡◌, ◌≤◌, ◌<◌, ◌≢◌, ◌+◌, ◌-◌, ◌^◌, ℕ, length, IfOk, IfErr, OnOk, OnErr};
+ghost use Rattle.world_api.specs.Around.{Around};
 ghost use Rattle.world_api.specs.Causes.{DiskFails};
-ghost use Rattle.world_api.specs.Meaning.{Told};
+ghost use Rattle.world_api.specs.Meaning.{Told, Throughout};
+ghost use Rattle.world_api.specs.declared.disk.Bank.{Bank};
 ghost use Rattle.world_api.specs.declared.disk.Bank.TheVariants as side;
-ghost use Rattle.sign_store.specs.Ends.{image_in};
+ghost use Rattle.sign_store.specs.Beginnings.{CanFill, GoesOver, IsAsBefore, IsAtRest, IsBegunOver, IsCounted, IsFilled, IsMendable, IsOpened, IsReopened, IsWrittenTo};
+ghost use Rattle.sign_store.specs.Heads.{other_bank};
+ghost use Rattle.sign_store.specs.Ends.{IsLeftOr, image_in};
+ghost use Rattle.sign_store.specs.Forms.{IsForm};
+ghost use Rattle.sign_store.specs.Gates.{IsGate};
 ghost use Rattle.sign_store.specs.Images.{body_of, entries_map};
 ghost use Rattle.sign_store.specs.Maps.{map_in};
-ghost use Rattle.sign_store.specs.Reached.{HasFaultCause, ReadsBanks};
+ghost use Rattle.sign_store.specs.Orders.{IsOrdered};
+ghost use Rattle.sign_store.specs.Reached.{Endures, HasFaultCause, ReadsBanks};
 ghost use Rattle.sign_store.specs.Readings.{AreReadable, IsOutside, IsRefusal, choice_of};
+ghost use Rattle.sign_store.specs.Tables.{Map, nothing};
 
 use crate::banks::{Sizes, fill, read_body, read_head, sizes_of, write_synced};
-use crate::compact::{FIRST_GENERATION, compact_form, compact_len, empty_form, is_worth};
-use crate::entries::{EndGate, Loaded, load};
+use crate::compact::{FIRST_GENERATION, can_be_worth, compact_form, empty_form, is_worth};
+use crate::entries::{EndGate, load};
 use crate::head::{Choice, HEAD_LEN, chosen, other};
 use crate::map::RecordMap;
 use crate::refusals::StoreRefusal;
@@ -67,18 +75,34 @@ fn read_bank<W: Disk>(
     ensures inside { IfOk result (λ read. read.gate ≢ EndGate.Missing → read.end < size) }
     ensures size { W.meaning.tells world.new → size ≡ length (W.meaning.seen world.new bank) }
     ensures map { W.meaning.tells world.new → IfOk result (λ read. map_in read.map ≡ entries_map (body_of (W.meaning.seen world.new bank))) }
+    ensures ordered { IfOk result (λ read. IsOrdered read.map) }
+    ensures written { W.meaning.tells world.new → 17 < size → IfOk result (λ read. IsWrittenTo read.end (map_in read.map) (W.meaning.seen world.new bank)) }
+    ensures gate { W.meaning.tells world.new → 17 < size → IfOk result (λ read. IsGate read.gate read.end (W.meaning.seen world.new bank)) }
     ensures refused { IfErr result IsOutside }
     ensures cause { HasFaultCause W.meaning world.old world.new result }
     ensures looks { ReadsBanks W.meaning world.old world.new }
     ensures told { Told W.meaning world.old world.new }
 {
     let body = read_body(alloc, world, bank, size)?;
-    let Loaded { map, len, gate } = load(alloc, body.as_slice())?;
-    let end = match gate {
+    let loaded = load(alloc, body.as_slice())?;
+    let end = end_place(loaded.gate, size, loaded.len);
+    Ok(Read {
+        map: loaded.map,
+        gate: loaded.gate,
+        end,
+    })
+}
+
+/// The place of the last gate in a bank of this size, whose entries take so many bytes.
+fn end_place(gate: EndGate, size: u64, len: usize) -> u64
+    requires { 17 + len < 2 ^ 64 }
+    ensures missing { gate ≡ EndGate.Missing → result ≡ size }
+    ensures there { gate ≢ EndGate.Missing → result ≡ 17 + len }
+{
+    match gate {
         EndGate::Missing => size,
         _ => HEAD_LEN as u64 + len as u64,
-    };
-    Ok(Read { map, gate, end })
+    }
 }
 
 /// The map of the banks, without a change of theirs.
@@ -102,6 +126,9 @@ pub(crate) fn read_map<W: Disk>(alloc: Global, world: &mut W) -> Result<RecordMa
 
 /// Makes a stop leave the banks as they read.
 fn settle<W: Disk>(world: &mut W) -> Result<(), Fault>
+    ensures moments { Throughout W.meaning world.old world.new (IsAsBefore W.meaning world.old) }
+    ensures rest { OnOk result (IsAtRest W.meaning world.new (W.meaning.around world.old)) }
+    ensures seen { W.meaning.tells world.new → (each : Bank) → W.meaning.seen world.new each ≡ W.meaning.seen world.old each }
     ensures around { W.meaning.tells world.new → W.meaning.around world.new ≡ W.meaning.around world.old }
     ensures told { Told W.meaning world.old world.new }
     ensures kept { OnOk result (W.meaning.counts world.new ≡ W.meaning.counts world.old) }
@@ -113,6 +140,11 @@ fn settle<W: Disk>(world: &mut W) -> Result<(), Fault>
 
 /// The map of the banks, with a live bank that ends at a closed gate.
 pub(crate) fn open<W: Disk>(alloc: Global, world: &mut W) -> Result<Opened, StoreRefusal>
+    ensures moments { Throughout W.meaning world.old world.new (IsLeftOr W.meaning world.old (image_in (W.meaning.seen world.old))) }
+    ensures opened { IfOk result (IsOpened W.meaning (W.meaning.around world.old) (image_in (W.meaning.seen world.old)) world.new) }
+    ensures begun { W.meaning.tells world.new → IfOk result (λ after. IsBegunOver (W.meaning.seen world.old) after.map after.bank after.end) }
+    ensures readable { W.meaning.tells world.new → IfOk result (λ _. AreReadable (W.meaning.seen world.old)) }
+    ensures refused { W.meaning.tells world.new → IfErr result (IsRefusal (W.meaning.seen world.old)) }
     ensures end { IfOk result (λ opened. opened.end ≤ 2 ^ 40) }
     ensures stands { W.meaning.tells world.new → IfOk result (λ opened. opened.end < length (W.meaning.seen world.new opened.bank)) }
     ensures cause { HasFaultCause W.meaning world.old world.new result }
@@ -120,17 +152,48 @@ pub(crate) fn open<W: Disk>(alloc: Global, world: &mut W) -> Result<Opened, Stor
     ensures told { Told W.meaning world.old world.new }
 {
     settle(world)?;
+    open_settled(alloc, world)
+}
+
+/// The same where a stop leaves the banks as they read.
+fn open_settled<W: Disk>(alloc: Global, world: &mut W) -> Result<Opened, StoreRefusal>
+    ensures moments { (stood : Around) (map : Map) → IsAtRest W.meaning world.old stood → (W.meaning.tells world.old → image_in (W.meaning.seen world.old) ≡ map) → Endures W.meaning world.old world.new stood map }
+    ensures opened { (stood : Around) (map : Map) → IsAtRest W.meaning world.old stood → (W.meaning.tells world.old → image_in (W.meaning.seen world.old) ≡ map) → IfOk result (IsOpened W.meaning stood map world.new) }
+    ensures begun { W.meaning.tells world.new → IfOk result (λ after. IsBegunOver (W.meaning.seen world.old) after.map after.bank after.end) }
+    ensures readable { W.meaning.tells world.new → IfOk result (λ _. AreReadable (W.meaning.seen world.old)) }
+    ensures refused { W.meaning.tells world.new → IfErr result (IsRefusal (W.meaning.seen world.old)) }
+    ensures end { IfOk result (λ opened. opened.end ≤ 2 ^ 40) }
+    ensures stands { W.meaning.tells world.new → IfOk result (λ opened. opened.end < length (W.meaning.seen world.new opened.bank)) }
+    ensures cause { HasFaultCause W.meaning world.old world.new result }
+    ensures around { W.meaning.tells world.new → W.meaning.around world.new ≡ W.meaning.around world.old }
+    ensures told { Told W.meaning world.old world.new }
+{
     let (sizes, choice) = look(world)?;
     match choice {
         Choice::None => start(alloc, world),
         Choice::Foreign(bank) => Err(StoreRefusal::Foreign(bank)),
-        Choice::Live(Bank::A, generation) => reopen(alloc, world, Bank::A, sizes.a, generation),
-        Choice::Live(Bank::B, generation) => reopen(alloc, world, Bank::B, sizes.b, generation),
+        Choice::Live(bank, generation) => {
+            reopen(alloc, world, bank, size_of(sizes, bank), generation)
+        }
+    }
+}
+
+fn size_of(sizes: Sizes, bank: Bank) -> u64
+    ensures a { bank ≡ side.A → result ≡ sizes.a }
+    ensures b { bank ≡ side.B → result ≡ sizes.b }
+{
+    match bank {
+        Bank::A => sizes.a,
+        Bank::B => sizes.b,
     }
 }
 
 /// Makes bank A live, with no entry.
 fn start<W: Disk>(alloc: Global, world: &mut W) -> Result<Opened, StoreRefusal>
+    ensures moments { (stood : Around) → CanFill W.meaning world.old side.A stood nothing 1 → Endures W.meaning world.old world.new stood nothing }
+    ensures opened { (stood : Around) → CanFill W.meaning world.old side.A stood nothing 1 → IfOk result (IsOpened W.meaning stood nothing world.new) }
+    ensures first { IfOk result (λ opened. (opened.bank ≡ side.A) × (opened.end ≡ 17)) }
+    ensures refused { IfErr result IsOutside }
     ensures end { IfOk result (λ opened. opened.end ≤ 2 ^ 40) }
     ensures stands { W.meaning.tells world.new → IfOk result (λ opened. opened.end < length (W.meaning.seen world.new opened.bank)) }
     ensures cause { HasFaultCause W.meaning world.old world.new result }
@@ -157,6 +220,10 @@ fn reopen<W: Disk>(
 ) -> Result<Opened, StoreRefusal>
     requires size { W.meaning.tells world.old → size ≡ length (W.meaning.seen world.old bank) }
     requires small { size ≤ 2 ^ 40 }
+    ensures moments { (stood : Around) (map : Map) → IsCounted W.meaning world.old bank stood map generation → Endures W.meaning world.old world.new stood map }
+    ensures opened { (stood : Around) (map : Map) → IsCounted W.meaning world.old bank stood map generation → IfOk result (IsOpened W.meaning stood map world.new) }
+    ensures over { W.meaning.tells world.new → choice_of (W.meaning.seen world.old) ≡ Choice.Live bank generation → IfOk result (λ after. IsReopened bank generation (W.meaning.seen world.old bank) after.map after.bank after.end) }
+    ensures refused { IfErr result IsOutside }
     ensures end { IfOk result (λ opened. opened.end ≤ 2 ^ 40) }
     ensures stands { W.meaning.tells world.new → IfOk result (λ opened. opened.end < length (W.meaning.seen world.new opened.bank)) }
     ensures cause { HasFaultCause W.meaning world.old world.new result }
@@ -179,6 +246,8 @@ fn mend<W: Disk>(world: &mut W, bank: Bank, gate: EndGate, end: u64) -> Result<(
     requires within { W.meaning.tells world.old → end ≤ length (W.meaning.seen world.old bank) }
     requires inside { W.meaning.tells world.old → gate ≢ EndGate.Missing → end < length (W.meaning.seen world.old bank) }
     requires small { end ≤ 2 ^ 40 }
+    ensures moments { (stood : Around) (map : Map) (generation : ℕ) → IsMendable W.meaning world.old bank gate end stood map generation → Endures W.meaning world.old world.new stood map }
+    ensures mended { (stood : Around) (map : Map) (generation : ℕ) → IsMendable W.meaning world.old bank gate end stood map generation → OnOk result (IsFilled W.meaning world.new bank end stood map generation) }
     ensures stands { W.meaning.tells world.new → OnOk result (end < length (W.meaning.seen world.new bank)) }
     ensures around { W.meaning.tells world.new → W.meaning.around world.new ≡ W.meaning.around world.old }
     ensures told { Told W.meaning world.old world.new }
@@ -195,6 +264,10 @@ fn mend<W: Disk>(world: &mut W, bank: Bank, gate: EndGate, end: u64) -> Result<(
 fn compact<W: Disk>(alloc: Global, world: &mut W, opened: Opened) -> Result<Opened, StoreRefusal>
     requires end { opened.end ≤ 2 ^ 40 }
     requires stands { W.meaning.tells world.old → opened.end < length (W.meaning.seen world.old opened.bank) }
+    ensures moments { (stood : Around) (map : Map) → IsOpened W.meaning stood map world.old opened → Endures W.meaning world.old world.new stood map }
+    ensures opened { (stood : Around) (map : Map) → IsOpened W.meaning stood map world.old opened → IfOk result (IsOpened W.meaning stood map world.new) }
+    ensures over { IsOrdered opened.map → IfOk result (GoesOver opened) }
+    ensures refused { IfErr result IsOutside }
     ensures end { IfOk result (λ opened. opened.end ≤ 2 ^ 40) }
     ensures stands { W.meaning.tells world.new → IfOk result (λ opened. opened.end < length (W.meaning.seen world.new opened.bank)) }
     ensures cause { HasFaultCause W.meaning world.old world.new result }
@@ -202,25 +275,36 @@ fn compact<W: Disk>(alloc: Global, world: &mut W, opened: Opened) -> Result<Open
     ensures told { Told W.meaning world.old world.new }
 {
     let live = opened.end + 1;
-    if opened.generation == u64::MAX || !is_worth(live, compact_len(&opened.map)) {
+    if !can_be_worth(opened.generation, live) {
         return Ok(opened);
     }
     let form = compact_form(alloc, &opened.map, opened.generation + 1)?;
     if !is_worth(live, form.len() as u64 + 1) {
         return Ok(opened);
     }
-    let Opened {
-        map,
-        bank,
-        generation,
-        end: _,
-    } = opened;
-    let bank = other(bank);
-    fill(world, bank, form.as_slice())?;
+    go_over(world, opened, form.as_slice())
+}
+
+/// Fills the other bank with this form of the map, in the next generation.
+fn go_over<W: Disk>(world: &mut W, opened: Opened, form: &[u8]) -> Result<Opened, StoreRefusal>
+    requires next { opened.generation < 2 ^ 64 - 1 }
+    requires small { length form.now ≤ 2 ^ 40 }
+    ensures moments { (stood : Around) (map : Map) → IsOpened W.meaning stood map world.old opened → IsForm (opened.generation + 1) (map_in opened.map) form.now → Endures W.meaning world.old world.new stood map }
+    ensures opened { (stood : Around) (map : Map) → IsOpened W.meaning stood map world.old opened → IsForm (opened.generation + 1) (map_in opened.map) form.now → IfOk result (IsOpened W.meaning stood map world.new) }
+    ensures over { IfOk result (λ after. (after.map ≡ opened.map) × (after.bank ≡ other_bank opened.bank) × (after.end ≡ length form.now)) }
+    ensures refused { IfErr result IsOutside }
+    ensures end { IfOk result (λ opened. opened.end ≤ 2 ^ 40) }
+    ensures stands { W.meaning.tells world.new → IfOk result (λ opened. opened.end < length (W.meaning.seen world.new opened.bank)) }
+    ensures cause { HasFaultCause W.meaning world.old world.new result }
+    ensures around { W.meaning.tells world.new → W.meaning.around world.new ≡ W.meaning.around world.old }
+    ensures told { Told W.meaning world.old world.new }
+{
+    let bank = other(opened.bank);
+    fill(world, bank, form)?;
     Ok(Opened {
-        map,
+        map: opened.map,
         bank,
-        generation: generation + 1,
+        generation: opened.generation + 1,
         end: form.len() as u64,
     })
 }

@@ -5,12 +5,10 @@ ghost use Rattle.world_api.specs.Causes.{DiskFails};
 ghost use Rattle.world_api.specs.Meaning.{Told, Throughout};
 ghost use Rattle.deciders.specs.declared.recorded.Rec.{Rec};
 ghost use Rattle.deciders.specs.Spelling.{Spells, spelling};
-ghost use Rattle.sign_store.specs.declared.entries.Change.{Change};
-ghost use Rattle.sign_store.specs.Ends.{IsEither, IsEntry, KeepsAt, image_in};
+ghost use Rattle.sign_store.specs.Ends.{AreSettled, IsLeftOr, image_in};
 ghost use Rattle.sign_store.specs.Entries.{entries_len};
-ghost use Rattle.sign_store.specs.Images.{applied};
 ghost use Rattle.sign_store.specs.Tables.{with_each};
-ghost use Rattle.sign_store.specs.Reached.{HasFaultCause, ReadsBanks, Writes};
+ghost use Rattle.sign_store.specs.Reached.{HasFaultCause, KeepsSettled, ReadsBanks, Writes};
 ghost use Rattle.sign_store.specs.Readings.{AreReadable, IsRefusal};
 
 use crate::banks::append;
@@ -46,7 +44,8 @@ pub struct Store {
 }
 
 impl Store {
-    ghost use Rattle.sign_store.specs.Stores.{IsStoredIn, IsTicket, IsOut, IsKept, IsFresh, is_live, map_of, map_of_view, HasRoom, TakesRoom, KeepsRooms, KeepsBanks, KeepsTickets, KeepsOut, KeepsOthers, KeepsApart};
+    ghost use Rattle.sign_store.specs.Putting.{AddKeeps, AddsThroughout, PutsThroughout, StaysKept, WithdrawsThroughout};
+    ghost use Rattle.sign_store.specs.Stores.{Begins, Fits, IsPrepareRefusal, IsStoredIn, IsTicket, IsOut, IsKept, IsFresh, is_live, map_of, map_of_view, HasRoom, TakesRoom, KeepsRooms, KeepsBanks, KeepsTickets, KeepsOut, KeepsOthers, KeepsApart};
 
     /// What the banks stand for. Nothing is written.
     #[tactic(auto, using(crate::proofs::DiskLemmas::calls))]
@@ -64,6 +63,13 @@ impl Store {
 
     /// The store of the banks: the same map, over a live bank whose end is whole.
     pub fn begin<W: Disk>(alloc: Global, world: &mut W) -> Result<Store, StoreRefusal>
+        ensures moments { Throughout W.meaning world.old world.new (IsLeftOr W.meaning world.old (image_in (W.meaning.seen world.old))) }
+        ensures keeps { IfOk result (IsKept W.meaning world.new) }
+        ensures map { W.meaning.tells world.new → IfOk result (λ store. map_of store ≡ image_in (W.meaning.seen world.old)) }
+        ensures begun { W.meaning.tells world.new → IfOk result (Begins (W.meaning.seen world.old)) }
+        ensures settled { W.meaning.tells world.new → IfOk result (λ _. AreSettled W.meaning world.new) }
+        ensures readable { W.meaning.tells world.new → IfOk result (λ _. AreReadable (W.meaning.seen world.old)) }
+        ensures refused { W.meaning.tells world.new → IfErr result (IsRefusal (W.meaning.seen world.old)) }
         ensures live { IfOk result (λ store. is_live store ≡ true) }
         ensures stands { W.meaning.tells world.new → IfOk result (IsStoredIn (W.meaning.seen world.new)) }
         ensures cause { HasFaultCause W.meaning world.old world.new result }
@@ -77,6 +83,7 @@ impl Store {
     fn over(alloc: Global, opened: Opened) -> Store
         requires { opened.end ≤ 2 ^ 40 }
         ensures live { is_live result ≡ true }
+        ensures map { result.map ≡ opened.map }
         ensures bank { result.bank ≡ opened.bank }
         ensures end { result.end ≡ opened.end }
     {
@@ -115,6 +122,8 @@ impl Store {
     pub fn prepare(&mut self, rec: Rec) -> Result<Ticket, PrepareRefusal>
         ensures map { map_of self.new ≡ map_of self.old }
         ensures ticket { IfOk result (IsTicket self.new rec) }
+        ensures fits { OnOk result (Fits self.old rec) }
+        ensures full { IfErr result (IsPrepareRefusal self.old rec) }
         ensures out { Spells (spelling rec) rec → IfOk result (IsOut self.new rec) }
         ensures tickets { KeepsTickets self.old self.new }
         ensures outs { KeepsOut self.old self.new }
@@ -179,12 +188,13 @@ impl Store {
     pub fn withdraw<W: Disk>(&mut self, world: &mut W, ticket: &Ticket) -> Result<(), Fault>
         requires { W.meaning.tells world.old → IsStoredIn (W.meaning.seen world.old) self.old }
         ensures map { (rec : Rec) → IsTicket self.old rec ticket.now → OnOk result (map_of self.new ≡ with_each rec.targets None (map_of self.old)) }
-        ensures moments { (rec : Rec) → IsOut self.old rec ticket.now → IsKept W.meaning world.old self.old → Throughout W.meaning world.old world.new (IsEither (W.meaning.around world.old) (map_of self.old) (with_each rec.targets None (map_of self.old))) }
-        ensures keeps { (rec : Rec) → IsOut self.old rec ticket.now → IsKept W.meaning world.old self.old → OnOk result (IsKept W.meaning world.new self.new) }
+        ensures moments { WithdrawsThroughout W.meaning world.old world.new self.old ticket.now }
+        ensures keeps { StaysKept W.meaning world.old world.new self.old self.new ticket.now result }
         ensures out { (rec : Rec) → IsOut self.old rec ticket.now → OnOk result (IsOut self.new rec ticket.now) }
         ensures outs { (rec : Rec) → IsOut self.old rec ticket.now → OnOk result (KeepsOthers ticket.now self.old self.new) }
         ensures tickets { KeepsTickets self.old self.new }
         ensures stands { W.meaning.tells world.new → OnOk result (IsStoredIn (W.meaning.seen world.new) self.new) }
+        ensures settled { OnOk result (KeepsSettled W.meaning world.old world.new) }
         ensures live { OnOk result (is_live self.new ≡ is_live self.old) }
         ensures dead { OnErr result (is_live self.new ≡ false) }
         ensures around { W.meaning.tells world.new → W.meaning.around world.new ≡ W.meaning.around world.old }
@@ -206,11 +216,12 @@ impl Store {
     pub fn put<W: Disk>(&mut self, world: &mut W, ticket: Ticket) -> Result<(), Fault>
         requires { W.meaning.tells world.old → IsStoredIn (W.meaning.seen world.old) self.old }
         ensures map { (rec : Rec) → IsTicket self.old rec ticket → OnOk result (map_of self.new ≡ with_each rec.targets (Some rec) (map_of self.old)) }
-        ensures moments { (rec : Rec) → IsOut self.old rec ticket → IsKept W.meaning world.old self.old → Throughout W.meaning world.old world.new (IsEither (W.meaning.around world.old) (map_of self.old) (with_each rec.targets (Some rec) (map_of self.old))) }
-        ensures keeps { (rec : Rec) → IsOut self.old rec ticket → IsKept W.meaning world.old self.old → OnOk result (IsKept W.meaning world.new self.new) }
+        ensures moments { PutsThroughout W.meaning world.old world.new self.old ticket }
+        ensures keeps { StaysKept W.meaning world.old world.new self.old self.new ticket result }
         ensures outs { (rec : Rec) → IsOut self.old rec ticket → OnOk result (KeepsApart ticket rec.targets self.old self.new) }
         ensures tickets { KeepsTickets self.old self.new }
         ensures stands { W.meaning.tells world.new → OnOk result (IsStoredIn (W.meaning.seen world.new) self.new) }
+        ensures settled { OnOk result (KeepsSettled W.meaning world.old world.new) }
         ensures live { OnOk result (is_live self.new ≡ is_live self.old) }
         ensures dead { OnErr result (is_live self.new ≡ false) }
         ensures around { W.meaning.tells world.new → W.meaning.around world.new ≡ W.meaning.around world.old }
@@ -255,10 +266,11 @@ impl Store {
     fn append<W: Disk>(&mut self, world: &mut W, room: usize, entry: &[u8]) -> Result<(), Fault>
         requires { W.meaning.tells world.old → IsStoredIn (W.meaning.seen world.old) self.old }
         ensures map { self.new.map ≡ self.old.map }
-        ensures moments { (change : Change) → HasRoom self.old room (length entry.now) → IsEntry change entry.now → IsKept W.meaning world.old self.old → Throughout W.meaning world.old world.new (IsEither (W.meaning.around world.old) (map_of self.old) (applied change (map_of self.old))) }
-        ensures keeps { (change : Change) → HasRoom self.old room (length entry.now) → IsEntry change entry.now → IsKept W.meaning world.old self.old → OnOk result (KeepsAt W.meaning world.new self.new.bank self.new.end (applied change (map_of self.old))) }
+        ensures moments { AddsThroughout W.meaning world.old world.new self.old room entry.now }
+        ensures keeps { AddKeeps W.meaning world.old world.new self.old self.new room entry.now result }
         ensures rooms { HasRoom self.old room (length entry.now) → OnOk result (TakesRoom room (length entry.now) self.old self.new) }
         ensures stands { W.meaning.tells world.new → OnOk result (IsStoredIn (W.meaning.seen world.new) self.new) }
+        ensures settled { OnOk result (KeepsSettled W.meaning world.old world.new) }
         ensures live { OnOk result (is_live self.new ≡ is_live self.old) }
         ensures dead { OnErr result (is_live self.new ≡ false) }
         ensures around { W.meaning.tells world.new → W.meaning.around world.new ≡ W.meaning.around world.old }

@@ -66,7 +66,7 @@ still_waits x y e (inr f) = f.1
 pub waiting_met : (a b : List RuleState) (q : Queued) → AreWaiting a q → AreMet a b → AreWaiting b q
 waiting_met a b q w m = record { waits = λ rule o. still_waits (state_of a rule) (state_of b rule) (w.waits rule o) (m.at rule) }
 
-true_false : (b : Bool) → b ≡ true → b ≡ false → ⊥
+pub true_false : (b : Bool) → b ≡ true → b ≡ false → ⊥
 true_false true e f = cc
 true_false false e f = cc
 

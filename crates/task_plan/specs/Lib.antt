@@ -2,4 +2,6 @@
 pub mod Marks
 pub mod Queues
 pub mod States
+pub mod Settled
+pub mod Tracked
 pub mod Plans

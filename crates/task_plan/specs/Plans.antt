@@ -1,28 +1,58 @@
 -- What a plan is, as contracts see it, and what an event changes.
-use Rattle.std.specs.Prelude.{◌≡◌, ◌⊎◌, ◌≤◌, ℕ, Bool, true, false, List, slice_set, if◌then◌else◌}
+use Rattle.std.specs.Prelude.{◌≡◌, ◌⊎◌, ◌≤◌, ℕ, Bool, true, false, List, Some, slice_get, slice_set, if◌then◌else◌}
+use Rattle.scons_base.specs.declared.ids.NodeId.{NodeId}
 use Rattle.task_plan.specs.States.{state_of, stage, is_running}
 use Rattle.task_plan.specs.Queues.{Queued, is_open, IsFirst}
+use Rattle.task_plan.specs.Settled.{Kept, CanScan, IsReady}
+use Rattle.task_plan.specs.declared.files.Origin.{Origin}
 use Rattle.task_plan.specs.declared.states.RuleState.{RuleState}
 use Rattle.task_plan.specs.declared.states.RuleState.TheVariants.{Unneeded, Waiting, Running, Settled, Failed, Lacking}
 use Rattle.task_plan.specs.declared.want.PlanEvent.{PlanEvent}
 use Rattle.task_plan.specs.declared.want.PlanEvent.TheVariants.{Scanned, Fresh, Started, DoneOk, DoneFailed, Absent, Halt}
 
--- How far each rule is, by its number; the needed rules in the build order, where those are open that can be decided now; and whether
--- nothing further is to be scanned or decided.
+-- How far each rule is, by its number; the needed rules in the build order, where those are open that can be decided now; whether
+-- nothing further is to be scanned or decided; what is known of each rule; and where each file comes from, by its number.
 pub record Planned : Type 0 where
   pub states : List RuleState
   pub queue : Queued
   pub halted : Bool
+  pub rules : List Kept
+  pub origins : List Origin
 
 -- what can be decided waits
 pub record AreWaiting (states : List RuleState) (queue : Queued) : Type 0 where
   pub waits : (rule : ℕ) → is_open queue rule ≡ true → state_of states rule ≡ Waiting
 
+-- a rule waits, and nothing stands before its decision
+pub record CanDecide (plan : Planned) (rule : ℕ) : Type 0 where
+  pub kept : Kept
+  pub at : slice_get plan.rules rule ≡ Some kept
+  pub waits : state_of plan.states rule ≡ Waiting
+  pub ready : IsReady plan.states plan.origins kept
+
 -- A rule may be decided now, and none that stands before it in the build order.
 pub record IsDecidedNext (plan : Planned) (rule : ℕ) : Type 0 where
   pub first : IsFirst plan.queue rule
-  pub waits : state_of plan.states rule ≡ Waiting
+  pub can : CanDecide plan rule
   pub goes : plan.halted ≡ false
+
+-- a rule waits, and a file of it can be scanned
+pub record IsReadyToScan (plan : Planned) (rule : ℕ) (file : NodeId) : Type 0 where
+  pub kept : Kept
+  pub at : slice_get plan.rules rule ≡ Some kept
+  pub waits : state_of plan.states rule ≡ Waiting
+  pub place : ℕ
+  pub is_file : slice_get kept.files place ≡ Some file
+  pub can : CanScan plan.states plan.origins kept.found file
+
+-- a file may be scanned for a rule now
+pub record IsScannedNext (plan : Planned) (rule : ℕ) (file : NodeId) : Type 0 where
+  pub ready : IsReadyToScan plan rule file
+  pub goes : plan.halted ≡ false
+
+-- a rule can be decided, or runs
+abbrev pub GoesNow : Planned → ℕ → Type 0
+GoesNow plan rule = (is_open plan.queue rule ≡ true) ⊎ (state_of plan.states rule ≡ Running)
 
 -- nothing further is to be decided, or nothing can be
 abbrev pub IsIdle : Planned → Type 0

@@ -1,68 +1,109 @@
 //! What the plan keeps of a file.
+ghost use Rattle.std.specs.Prelude.{◌≡◌, ℕ, slice_set};
+ghost use Rattle.task_plan.specs.Settled.{origin_of, is_done as is_done_of};
 
+use crate::states::{RuleState, States};
 use scons_base::{Memory, NodeId, RuleId};
 use std::alloc::Global;
 
-/// A file that was met: its rule, and the rules that need it.
-#[derive(Drop)]
-pub(crate) struct File {
-    pub(crate) rule: Option<RuleId>,
-    /// Rules for which this file, once its rule is settled, is one need less.
-    pub(crate) waiters: Vec<RuleId>,
+/// Where a file comes from.
+#[derive(Clone, Copy, Debug, PartialEq, Eq)]
+pub enum Origin {
+    /// The plan hasn't met it.
+    Unmet,
+    /// No rule makes it.
+    Source,
+    Made(RuleId),
 }
 
 /// The files by their nodes.
 #[derive(Drop)]
 pub(crate) struct Files {
-    files: Vec<File>,
+    pub(crate) origins: Vec<Origin>,
+    /// For each file the rules for which it, once its rule is settled, is one need less.
+    waiters: Vec<Vec<RuleId>>,
     alloc: Global,
 }
 
 impl Files {
     pub(crate) fn new(alloc: Global) -> Files {
         Files {
-            files: Vec::new(alloc),
+            origins: Vec::new(alloc),
+            waiters: Vec::new(alloc),
             alloc,
         }
     }
 
     /// Makes room for nodes below this number.
-    pub(crate) fn reach(&mut self, nodes: u32) -> Result<(), Memory> {
-        for _ in self.files.len()..nodes as usize {
-            self.files.push(File {
-                rule: None,
-                waiters: Vec::new(self.alloc),
-            })?;
+    pub(crate) fn reach(&mut self, nodes: u32) -> Result<(), Memory>
+        ensures { (n : ℕ) → origin_of self.new.origins.items n ≡ origin_of self.old.origins.items n }
+    {
+        for _ in self.origins.len()..nodes as usize {
+            self.add()?;
         }
         Ok(())
     }
 
-    pub(crate) fn len(&self) -> usize {
-        self.files.len()
+    fn add(&mut self) -> Result<(), Memory>
+        ensures { (n : ℕ) → origin_of self.new.origins.items n ≡ origin_of self.old.origins.items n }
+    {
+        self.waiters.push(Vec::new(self.alloc))?;
+        self.origins.push(Origin::Unmet)?;
+        Ok(())
+    }
+
+    /// Where a file comes from.
+    pub(crate) fn origin(&self, node: NodeId) -> Origin
+        ensures { result ≡ origin_of self.now.origins.items node.0 }
+    {
+        match self.origins.get(node.0 as usize) {
+            Some(origin) => *origin,
+            None => Origin::Unmet,
+        }
     }
 
     /// The rule of a file that was met.
     pub(crate) fn rule_of(&self, node: NodeId) -> Option<RuleId> {
-        self.files.get(node.0 as usize)?.rule
+        match self.origin(node) {
+            Origin::Made(rule) => Some(rule),
+            Origin::Unmet | Origin::Source => None,
+        }
     }
 
-    pub(crate) fn set_rule(&mut self, node: NodeId, rule: RuleId) {
-        if let Some(file) = self.files.get_mut(node.0 as usize) {
-            file.rule = Some(rule);
+    /// Whether a file was met, and no rule makes it or a settled one.
+    pub(crate) fn is_done(&self, states: &States, node: NodeId) -> bool
+        ensures { result ≡ is_done_of states.now self.now.origins.items node }
+    {
+        match self.origin(node) {
+            Origin::Unmet => false,
+            Origin::Source => true,
+            Origin::Made(rule) => states.of(rule) == RuleState::Settled,
+        }
+    }
+
+    /// Notes where a file comes from.
+    pub(crate) fn set_origin(&mut self, node: NodeId, origin: Origin)
+        ensures { self.new.origins.items ≡ slice_set self.old.origins.items node.0 origin }
+    {
+        let number = node.0 as usize;
+        if number < self.origins.len() {
+            self.origins[number] = origin;
         }
     }
 
     /// The rules that wait for a file.
     pub(crate) fn waiters(&self, node: NodeId) -> &[RuleId] {
-        match self.files.get(node.0 as usize) {
-            Some(file) => file.waiters.as_slice(),
+        match self.waiters.get(node.0 as usize) {
+            Some(waiters) => waiters.as_slice(),
             None => &[],
         }
     }
 
-    pub(crate) fn add_waiter(&mut self, node: NodeId, rule: RuleId) -> Result<(), Memory> {
-        if let Some(file) = self.files.get_mut(node.0 as usize) {
-            file.waiters.push(rule)?;
+    pub(crate) fn add_waiter(&mut self, node: NodeId, rule: RuleId) -> Result<(), Memory>
+        ensures { self.new.origins.items ≡ self.old.origins.items }
+    {
+        if let Some(waiters) = self.waiters.get_mut(node.0 as usize) {
+            waiters.push(rule)?;
         }
         Ok(())
     }

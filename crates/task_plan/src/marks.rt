@@ -1,5 +1,5 @@
 //! A set of small numbers whose least member is found at once, and that changes without taking memory.
-ghost use Rattle.std.specs.Prelude.{◌≡◌, ◌≤◌, ◌<◌, ◌*◌, ◌+◌, ◌^◌, if◌then◌else◌, IfOk, ℕ, Bool, false, get_or, length, slice_set};
+ghost use Rattle.std.specs.Prelude.{◌≡◌, ◌≤◌, ◌<◌, ◌*◌, ◌+◌, ◌^◌, if◌then◌else◌, IfOk, ℕ, Bool, false, true, get_or, length, slice_set};
 ghost use Rattle.std.specs.List.{position};
 ghost use Rattle.task_plan.specs.Marks.{below as below_of, mark_at};
 
@@ -46,6 +46,19 @@ impl Marks {
         }
         let tree = Vec::from_elem(alloc, false, 2 * room)?;
         Ok(Marks { tree, room, levels })
+    }
+
+    /// The same numbers, with room for at least as many.
+    pub(crate) fn widened(&self, alloc: Global, size: usize) -> Result<Marks, Memory>
+        ensures { IfOk result (λ marks. (n : ℕ) → get_or marks n false ≡ true → get_or self.now n false ≡ true) }
+    {
+        let mut marks = Marks::new(alloc, size)?;
+        for number in 0..self.room() {
+            if self.contains(number) {
+                marks.put(number, true);
+            }
+        }
+        Ok(marks)
     }
 
     /// The numbers that may be put in are below this one.

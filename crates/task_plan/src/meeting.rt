@@ -1,15 +1,19 @@
 //! How the plan meets files, and with them the rules that are needed.
 
-ghost use Rattle.std.specs.Prelude.{◌≡◌};
-ghost use Rattle.task_plan.specs.Plans.{Meets};
+ghost use Rattle.std.specs.Prelude.{◌≡◌, ◌<◌, Some, true, length, slice_get, IfOk};
+ghost use Rattle.scons_base.specs.declared.ids.NodeId.{NodeId};
+ghost use Rattle.task_plan.specs.Settled.{CanScan};
+ghost use Rattle.task_plan.specs.Plans.{Meets, Stays};
 
-use crate::marks::Marks;
+use crate::files::{Files, Origin};
 use crate::plan::Plan;
-use crate::states::RuleState;
+use crate::reach::Reach;
+use crate::states::{RuleState, States};
 use crate::task::Task;
 use indexmap::IndexSet;
 use rule_graph::{Graph, Rule};
 use scons_base::{Listing, Memory, NodeId, RuleId};
+use std::alloc::Global;
 use world_api::Work;
 
 impl Plan {
@@ -17,36 +21,46 @@ impl Plan {
     pub(crate) fn make_room(&mut self, graph: &Graph) -> Result<(), Memory>
         ensures { Meets self.old self.new }
     {
-        self.files.reach(graph.len())?;
+        self.make_node_room(graph.len())?;
         for _added in self.tasks.len()..graph.rules() as usize {
             self.add_task()?;
         }
-        if self.tasks.len() > self.scannable.room() {
-            self.scannable = self.scannable_now()?;
-        }
-        Ok(())
+        self.make_mark_room()
+    }
+
+    #[tactic(auto, using(crate::proofs::TrackLemmas::tracked_origins))]
+    fn make_node_room(&mut self, nodes: u32) -> Result<(), Memory>
+        ensures { Stays self.old self.new }
+    {
+        self.files.reach(nodes)
     }
 
     /// Makes room for one rule more.
     fn add_task(&mut self) -> Result<(), Memory>
         ensures { Meets self.old self.new }
     {
-        self.tasks.push(Task::new(self.alloc))?;
-        self.states.add()
+        self.states.add()?;
+        self.push_task()
     }
 
-    /// The rules that have a file to be scanned, with room for twice as many rules as there are.
-    fn scannable_now(&self) -> Result<Marks, Memory> {
-        let mut scannable = Marks::new(self.alloc, self.tasks.len().saturating_mul(2))?;
-        for (number, task) in self.tasks.iter().enumerate() {
-            if let Some(node) = task.reach.files.get_index(task.reach.next)
-                && self.is_ready(*node)
-                && !task.reach.found.contains_key(node)
-            {
-                scannable.put(number, true);
-            }
+    #[tactic(auto, using(crate::proofs::TrackLemmas::pushing))]
+    fn push_task(&mut self) -> Result<(), Memory>
+        ensures { Stays self.old self.new }
+    {
+        self.tasks.push(Task::new(self.alloc))?;
+        Ok(())
+    }
+
+    /// Makes room for marks of twice as many rules as there are, where it doesn't do for these.
+    #[tactic(auto, using(crate::proofs::TrackLemmas::tracked_marks))]
+    fn make_mark_room(&mut self) -> Result<(), Memory>
+        ensures { Stays self.old self.new }
+    {
+        if self.tasks.len() > self.scannable.room() {
+            let size = self.tasks.len().saturating_mul(2);
+            self.scannable = self.scannable.widened(self.alloc, size)?;
         }
-        Ok(scannable)
+        Ok(())
     }
 
     /// Meets the requested nodes.
@@ -56,11 +70,18 @@ impl Plan {
         let mut needed = Vec::new(self.alloc);
         for node in requested {
             self.meet(graph, *node, &mut needed)?;
-            if let Some(rule) = self.files.rule_of(*node) {
-                self.roots.push(rule)?;
-            }
+            self.add_root(*node)?;
         }
         self.admit(graph, needed)
+    }
+
+    fn add_root(&mut self, node: NodeId) -> Result<(), Memory>
+        ensures { self.new ≡ self.old }
+    {
+        if let Some(rule) = self.files.rule_of(node) {
+            self.roots.push(rule)?;
+        }
+        Ok(())
     }
 
     /// Meets a file. Its rule is put behind those that are needed, unless it stands there.
@@ -72,17 +93,40 @@ impl Plan {
     ) -> Result<(), Memory>
         ensures { Meets self.old self.new }
     {
-        if node.0 >= graph.len() {
+        if self.files.origin(node) != Origin::Unmet {
             return Ok(());
         }
-        if let Some(rule) = graph.rule_of(node) {
-            self.files.set_rule(node, rule);
-            if self.states.of(rule) == RuleState::Unneeded {
-                self.states.set(rule, RuleState::Waiting);
-                needed.push(rule)?;
+        match graph.rule_of(node) {
+            None => self.note_origin(node, Origin::Source),
+            Some(rule) => {
+                self.note_origin(node, Origin::Made(rule));
+                if self.begins_need(rule) {
+                    needed.push(rule)?;
+                }
             }
         }
         Ok(())
+    }
+
+    /// Notes where a file that wasn't met comes from.
+    #[tactic(auto, using(crate::proofs::TrackLemmas::tracked_origin))]
+    fn note_origin(&mut self, node: NodeId, origin: Origin)
+        ensures { Stays self.old self.new }
+    {
+        if self.files.origin(node) == Origin::Unmet {
+            self.files.set_origin(node, origin);
+        }
+    }
+
+    /// A rule is needed: whether it wasn't before.
+    fn begins_need(&mut self, rule: RuleId) -> bool
+        ensures { Meets self.old self.new }
+    {
+        let begins = self.states.is_unneeded(rule);
+        if begins {
+            self.states.set(rule, RuleState::Waiting);
+        }
+        begins
     }
 
     /// Takes the needed rules in, with those that they need in turn.
@@ -93,33 +137,42 @@ impl Plan {
             let Some(rule) = needed.get(place).copied() else {
                 break;
             };
-            if rule.0 < graph.rules() {
-                self.load(graph, rule, graph.rule(rule))?;
-                self.meet_needs(graph, rule, &mut needed)?;
-                self.find_ready(rule);
-            }
+            self.admit_one(graph, rule, &mut needed)?;
         }
         Ok(())
     }
 
-    /// Notes what a rule names.
-    fn load(&mut self, graph: &Graph, id: RuleId, rule: &Rule) -> Result<(), Memory>
-        ensures { self.new ≡ self.old }
+    fn admit_one(
+        &mut self,
+        graph: &Graph,
+        rule: RuleId,
+        needed: &mut Vec<RuleId>,
+    ) -> Result<(), Memory>
+        ensures { Meets self.old self.new }
     {
-        let Some(task) = self.tasks.get_mut(id.0 as usize) else {
-            return Ok(());
-        };
-        task.targets.extend_from_slice(rule.targets.as_slice())?;
-        task.required.extend_from_slice(rule.required.as_slice())?;
-        exclude(&mut task.reach.excluded, &rule.ignored)?;
-        load_sources(task, graph, rule)?;
-        add_named(task, &rule.depends)?;
-        add_named(task, &rule.libs)?;
-        task.named = task.deps.len();
-        if rule.scans {
-            exclude(&mut task.reach.excluded, &rule.targets)?;
+        if rule.0 < graph.rules() {
+            let task = task_of(self.alloc, graph, graph.rule(rule))?;
+            self.put_task(rule, task);
+            self.meet_needs(graph, rule, needed)?;
+            self.pass(rule);
+            self.find_ready(rule, 0);
         }
         Ok(())
+    }
+
+    /// A rule begins anew with this task.
+    #[tactic(auto, using(crate::proofs::TrackLemmas::tasking))]
+    fn put_task(&mut self, rule: RuleId, task: Task)
+        requires passed { task.passed ≡ 0 }
+        requires whole { task.reach.whole ≡ 0 }
+        ensures { Stays self.old self.new }
+    {
+        let number = rule.0 as usize;
+        if number < self.tasks.len() {
+            self.queue.put(rule, false);
+            self.scannable.put(number, false);
+            self.tasks[number] = task;
+        }
     }
 
     /// Meets the files that a rule needs, and waits for those whose rule isn't settled.
@@ -156,57 +209,112 @@ impl Plan {
     pub(crate) fn wait_for(&mut self, node: NodeId, rule: RuleId) -> Result<(), Memory>
         ensures { self.new ≡ self.old }
     {
-        self.files.add_waiter(node, rule)?;
-        if let Some(task) = self.tasks.get_mut(rule.0 as usize) {
-            task.unsettled = task.unsettled.saturating_add(1);
-        }
-        Ok(())
+        self.files.add_waiter(node, rule)
     }
 
-    /// Whether a file that was met has no rule, or a settled one.
+    /// Whether a file was met, and has no rule or a settled one.
     pub(crate) fn is_ready(&self, node: NodeId) -> bool {
-        match self.files.rule_of(node) {
-            Some(rule) => self.states.of(rule) == RuleState::Settled,
-            None => true,
-        }
+        self.files.is_done(&self.states, node)
     }
 
-    /// Looks for the next file of a rule that can be scanned now.
-    pub(crate) fn find_ready(&mut self, rule: RuleId)
-        ensures { self.new ≡ self.old }
+    /// Passes the needs of a rule that are done, up to one that isn't.
+    #[tactic(auto, using(crate::proofs::TrackLemmas::tracked_pass))]
+    pub(crate) fn pass(&mut self, rule: RuleId)
+        ensures { Stays self.old self.new }
     {
         let number = rule.0 as usize;
-        match self.next_ready(number) {
-            Some(place) => {
-                self.scannable.put(number, true);
-                if let Some(task) = self.tasks.get_mut(number) {
-                    task.reach.next = place;
-                }
-            }
-            None => {
-                self.scannable.put(number, false);
-                if let Some(task) = self.tasks.get_mut(number) {
-                    task.reach.next = task.reach.files.len();
-                }
-            }
+        if number < self.tasks.len() {
+            let place = self.tasks[number].first_undone(&self.files, &self.states);
+            self.tasks[number].passed = place;
         }
     }
 
-    /// The place of the first file of a rule, from where it stands on, that can be scanned now.
-    fn next_ready(&self, number: usize) -> Option<usize> {
-        let reach = &self.tasks.get(number)?.reach;
-        for place in reach.next..reach.files.len() {
-            let node = reach.files.get_index(place)?;
-            if !reach.found.contains_key(node) && self.is_ready(*node) {
-                return Some(place);
-            }
+    /// Looks for the next file of a waiting rule, from this place on, that can be scanned now.
+    #[tactic(auto, using(crate::proofs::TrackLemmas::tracked_next))]
+    pub(crate) fn find_ready(&mut self, rule: RuleId, start: usize)
+        ensures { Stays self.old self.new }
+    {
+        let number = rule.0 as usize;
+        if number < self.tasks.len() && self.states.waits(rule) {
+            let place = next_ready(&self.tasks[number].reach, &self.files, &self.states, start);
+            let is_there = is_place(&self.tasks[number].reach, place);
+            self.tasks[number].reach.next = place;
+            self.scannable.put(number, is_there);
         }
-        None
     }
 }
 
+/// Whether a file of a rule stands at this place.
+fn is_place(reach: &Reach, place: usize) -> bool
+    ensures { result ≡ true → place < length reach.now.files.keys }
+{
+    place < reach.files.len()
+}
+
+/// The place of the first file of a rule, from this one on, that can be scanned now; the end where there is none.
+fn next_ready(reach: &Reach, files: &Files, states: &States, start: usize) -> usize
+    ensures { (n : NodeId) → slice_get reach.now.files.keys result ≡ Some n
+        → CanScan states.now files.now.origins.items reach.now.found.entries n }
+{
+    for place in start..reach.files.len() {
+        if can_scan(reach, files, states, place) {
+            return place;
+        }
+    }
+    reach.files.len()
+}
+
+/// Whether the file at this place can be scanned now.
+fn can_scan(reach: &Reach, files: &Files, states: &States, place: usize) -> bool
+    ensures { result ≡ true → (n : NodeId) → slice_get reach.now.files.keys place ≡ Some n
+        → CanScan states.now files.now.origins.items reach.now.found.entries n }
+{
+    match reach.files.get_index(place) {
+        Some(node) => !reach.has_scanned(*node) && files.is_done(states, *node),
+        None => false,
+    }
+}
+
+/// What a rule names.
+fn task_of(alloc: Global, graph: &Graph, rule: &Rule) -> Result<Task, Memory>
+    ensures passed { IfOk result (λ task. task.passed ≡ 0) }
+    ensures whole { IfOk result (λ task. task.reach.whole ≡ 0) }
+{
+    let mut task = Task::new(alloc);
+    load(&mut task, graph, rule)?;
+    Ok(task)
+}
+
+fn load(task: &mut Task, graph: &Graph, rule: &Rule) -> Result<(), Memory>
+    ensures passed { task.new.passed ≡ task.old.passed }
+    ensures whole { task.new.reach.whole ≡ task.old.reach.whole }
+{
+    task.targets.extend_from_slice(rule.targets.as_slice())?;
+    task.required.extend_from_slice(rule.required.as_slice())?;
+    exclude(&mut task.reach.excluded, &rule.ignored)?;
+    load_deps(task, graph, rule)?;
+    if rule.scans {
+        exclude(&mut task.reach.excluded, &rule.targets)?;
+    }
+    Ok(())
+}
+
+fn load_deps(task: &mut Task, graph: &Graph, rule: &Rule) -> Result<(), Memory>
+    ensures passed { task.new.passed ≡ task.old.passed }
+    ensures whole { task.new.reach.whole ≡ task.old.reach.whole }
+{
+    load_sources(task, graph, rule)?;
+    add_named(task, &rule.depends)?;
+    add_named(task, &rule.libs)?;
+    task.named = task.deps.len();
+    Ok(())
+}
+
 /// Notes the sources of a rule, and which of them are scanned. One that is ignored counts for the shell alone.
-fn load_sources(task: &mut Task, graph: &Graph, rule: &Rule) -> Result<(), Memory> {
+fn load_sources(task: &mut Task, graph: &Graph, rule: &Rule) -> Result<(), Memory>
+    ensures passed { task.new.passed ≡ task.old.passed }
+    ensures whole { task.new.reach.whole ≡ task.old.reach.whole }
+{
     for node in rule.sources.as_slice() {
         if rule.work == Work::Shell && task.reach.excluded.contains(node) {
             continue;
@@ -220,7 +328,10 @@ fn load_sources(task: &mut Task, graph: &Graph, rule: &Rule) -> Result<(), Memor
 }
 
 /// Notes dependencies that a rule names, less the ignored ones.
-fn add_named(task: &mut Task, nodes: &Listing<NodeId>) -> Result<(), Memory> {
+fn add_named(task: &mut Task, nodes: &Listing<NodeId>) -> Result<(), Memory>
+    ensures passed { task.new.passed ≡ task.old.passed }
+    ensures whole { task.new.reach.whole ≡ task.old.reach.whole }
+{
     for node in nodes.as_slice() {
         if !task.reach.excluded.contains(node) {
             let _ = task.deps.insert(*node)?;

@@ -1,11 +1,12 @@
 //! The plan of a build.
 
-ghost use Rattle.std.specs.Prelude.{◌≡◌, ◌<◌, ◌||◌, [], ℕ, false, true, IfOk, if◌then◌else◌, nat_lt, is_err};
+ghost use Rattle.std.specs.Prelude.{◌≡◌, ◌<◌, ◌||◌, [], ℕ, false, true, IfOk, IfSome, if◌then◌else◌, nat_lt, is_err};
 ghost use Rattle.std.specs.List.{count_by};
 ghost use Rattle.scons_base.specs.declared.ids.RuleId.{RuleId};
 ghost use Rattle.scons_base.specs.declared.ids.NodeId.{NodeId};
 ghost use Rattle.task_plan.specs.States.{is_running};
-ghost use Rattle.task_plan.specs.Plans.{AreMet, IsDecidedNext, IsIdle, Goes, GoesOn, is_scan, is_halt};
+ghost use Rattle.task_plan.specs.Settled.{deps_of};
+ghost use Rattle.task_plan.specs.Plans.{AreMet, IsDecidedNext, IsScannedNext, IsReadyToScan, IsIdle, Goes, GoesOn, is_scan, is_halt};
 
 use crate::cycles::cycle_of;
 use crate::files::Files;
@@ -40,13 +41,22 @@ pub struct Plan {
 }
 
 impl Model for Plan {
-    ghost use Rattle.task_plan.specs.Plans.{Planned, AreWaiting};
+    ghost use Rattle.std.specs.Prelude.{map};
+    ghost use Rattle.task_plan.specs.Tracked.{AreTracked};
+    ghost use Rattle.task_plan.specs.Plans.{Planned};
+    ghost use Rattle.task_plan.specs.Settled.{kept_of};
 
     ghost Value = { Planned };
 
-    ghost view = { λ p. record { states = p.states; queue = p.queue; halted = p.halted } };
+    ghost view = { λ p. record {
+      states = p.states;
+      queue = p.queue;
+      halted = p.halted;
+      rules = map kept_of p.tasks.items;
+      origins = p.files.origins.items;
+    } };
 
-    ghost invariant = { λ p. AreWaiting p.states p.queue };
+    ghost invariant = { λ p. AreTracked p.states p.queue p.tasks.items p.files.origins.items p.scannable };
 }
 
 impl Plan {
@@ -75,7 +85,7 @@ impl Plan {
     /// What is to be done next.
     pub fn next(&self) -> Want
         ensures decide { (rule : RuleId) → result ≡ Want.Decide rule → IsDecidedNext self.now rule.0 }
-        ensures scan { (rule : RuleId) (node : NodeId) → result ≡ Want.Scan rule node → self.now.halted ≡ false }
+        ensures scan { (rule : RuleId) (node : NodeId) → result ≡ Want.Scan rule node → IsScannedNext self.now rule.0 node }
         ensures wait { result ≡ Want.Wait → IsIdle self.now × (0 < count_by is_running self.now.states) }
         ensures rest { result ≡ Want.Rest → IsIdle self.now × (count_by is_running self.now.states ≡ 0) }
     {
@@ -102,15 +112,20 @@ impl Plan {
     }
 
     /// A rule and a file of it that can be scanned now.
-    fn scan_wanted(&self) -> Option<(RuleId, NodeId)> {
+    fn scan_wanted(&self) -> Option<(RuleId, NodeId)>
+        ensures { IfSome result (λ r. IsReadyToScan self.now r.0.0 r.1) }
+    {
         let number = self.scannable.first()?;
-        let reach = &self.tasks.get(number)?.reach;
-        let node = reach.files.get_index(reach.next)?;
-        Some((RuleId(u32::try_from(number).ok()?), *node))
+        let rule = rule_of_number(number)?;
+        let task = self.tasks.get(number)?;
+        let node = task.reach.files.get_index(task.reach.next)?;
+        Some((rule, *node))
     }
 
     /// The dependencies of a rule, in order, by the files scanned so far.
-    pub fn deps(&self, rule: RuleId) -> &[NodeId] {
+    pub fn deps(&self, rule: RuleId) -> &[NodeId]
+        ensures { result.now ≡ deps_of self.now.rules rule.0 }
+    {
         match self.tasks.get(rule.0 as usize) {
             Some(task) => task.deps.as_slice(),
             None => &[],
@@ -167,4 +182,10 @@ impl Plan {
         let held = held_by(self.alloc, &self.tasks, &self.files, faulty)?;
         Ok(Listing::new(held))
     }
+}
+
+fn rule_of_number(number: usize) -> Option<RuleId>
+    ensures { IfSome result (λ rule. rule.0 ≡ number) }
+{
+    Some(RuleId(u32::try_from(number).ok()?))
 }

@@ -79,6 +79,20 @@ impl States {
         }
     }
 
+    /// Whether a rule waits.
+    pub(crate) fn waits(&self, rule: RuleId) -> bool
+        ensures { result ≡ true → state_of self.now rule.0 ≡ RuleState.Waiting }
+    {
+        self.of(rule) == RuleState::Waiting
+    }
+
+    /// Whether a rule isn't needed.
+    pub(crate) fn is_unneeded(&self, rule: RuleId) -> bool
+        ensures { result ≡ true → state_of self.now rule.0 ≡ RuleState.Unneeded }
+    {
+        self.of(rule) == RuleState::Unneeded
+    }
+
     pub(crate) fn set(&mut self, rule: RuleId, state: RuleState)
         ensures { self.new ≡ slice_set self.old rule.0 state }
     {

@@ -1,8 +1,7 @@
 //! What the events change.
 
-ghost use Rattle.std.specs.Prelude.{◌≡◌, ◌||◌, true, is_err, slice_set};
-ghost use Rattle.task_plan.specs.States.{state_of};
-ghost use Rattle.task_plan.specs.Plans.{AreMet, Meets, Stays, decided as decided_of, ended};
+ghost use Rattle.std.specs.Prelude.{◌≡◌, ◌||◌, is_err, slice_set};
+ghost use Rattle.task_plan.specs.Plans.{AreMet, Meets, Stays, GoesNow, decided as decided_of, ended};
 
 use crate::order::depth_first;
 use crate::plan::Plan;
@@ -83,19 +82,33 @@ impl Plan {
         ensures { Meets self.old self.new }
     {
         self.make_room(graph)?;
-        let Some(task) = self.tasks.get_mut(rule.0 as usize) else {
-            return Ok(());
-        };
-        let Some(node) = task.reach.files.get_index(task.reach.next).copied() else {
-            return Ok(());
-        };
-        let growth = task.reach.scanned(node, found)?;
-        task.grow(&growth)?;
-        self.meet_found(graph, rule, &growth)?;
-        self.find_ready(rule);
+        if let Some(growth) = self.note_found(rule, found)? {
+            self.meet_found(graph, rule, &growth)?;
+        }
         self.put_in_order()?;
         self.note_decidable(rule);
         Ok(())
+    }
+
+    /// Notes what the next file of a rule includes, where that one can be scanned.
+    fn note_found(&mut self, rule: RuleId, found: Vec<NodeId>) -> Result<Option<Growth>, Memory>
+        ensures { Stays self.old self.new }
+    {
+        let number = rule.0 as usize;
+        if !self.scannable.contains(number) {
+            return Ok(None);
+        }
+        if number >= self.tasks.len() {
+            return Ok(None);
+        }
+        let next = self.tasks[number].reach.next;
+        match self.tasks[number].reach.files.get_index(next).copied() {
+            Some(node) => {
+                self.scannable.put(number, false);
+                Ok(Some(self.tasks[number].take(node, found)?))
+            }
+            None => Ok(None),
+        }
     }
 
     /// Meets what a scan of a rule's file has found.
@@ -109,10 +122,21 @@ impl Plan {
                 self.need_also(rule, *node)?;
             }
         }
+        self.pass(rule);
+        let start = self.scan_start(rule);
+        self.find_ready(rule, start);
         if !growth.in_order && self.has_unsettled(rule) {
             self.is_ordered = false;
         }
         self.admit(graph, needed)
+    }
+
+    /// The place from which on a file of a rule may be one to be scanned.
+    fn scan_start(&self, rule: RuleId) -> usize {
+        match self.tasks.get(rule.0 as usize) {
+            Some(task) => task.reach.next,
+            None => 0,
+        }
     }
 
     fn is_found(&self, rule: RuleId, node: NodeId) -> bool {
@@ -124,7 +148,7 @@ impl Plan {
 
     fn has_unsettled(&self, rule: RuleId) -> bool {
         match self.tasks.get(rule.0 as usize) {
-            Some(task) => task.unsettled > 0,
+            Some(task) => task.passed < task.needs(),
             None => false,
         }
     }
@@ -145,7 +169,9 @@ impl Plan {
     }
 
     /// A decision about a rule was made: it is no longer among those to be decided.
+    #[tactic(auto, using(crate::proofs::TrackLemmas::tracked_decided))]
     pub(crate) fn decided(&mut self, rule: RuleId, state: RuleState)
+        requires { GoesNow self.old rule.0 }
         ensures states { self.new.states ≡ slice_set self.old.states rule.0 state }
         ensures halted { self.new.halted ≡ self.old.halted }
     {
@@ -155,6 +181,7 @@ impl Plan {
 
     /// A rule is settled: what waits for its targets waits no longer.
     pub(crate) fn settle(&mut self, rule: RuleId)
+        requires { GoesNow self.old rule.0 }
         ensures states { self.new.states ≡ slice_set self.old.states rule.0 RuleState.Settled }
         ensures halted { self.new.halted ≡ self.old.halted }
     {
@@ -191,38 +218,31 @@ impl Plan {
     fn has_need_less(&mut self, rule: RuleId, node: NodeId)
         ensures { Stays self.old self.new }
     {
-        if let Some(task) = self.tasks.get_mut(rule.0 as usize) {
-            task.unsettled = task.unsettled.saturating_sub(1);
-            if let Some(place) = task.reach.files.get_index_of(&node)
-                && place < task.reach.next
-                && !task.reach.found.contains_key(&node)
-            {
-                task.reach.next = place;
-            }
-        }
-        self.find_ready(rule);
+        self.pass(rule);
+        let start = self.scan_start_with(rule, node);
+        self.find_ready(rule, start);
         self.note_decidable(rule);
     }
 
-    /// Puts a rule among those to be decided where it can be.
-    fn note_decidable(&mut self, rule: RuleId)
-        ensures { Stays self.old self.new }
-    {
-        if self.is_decidable(rule) {
-            self.queue.put(rule, true);
+    /// The same, where this file is one that can be scanned now.
+    fn scan_start_with(&self, rule: RuleId, node: NodeId) -> usize {
+        match self.tasks.get(rule.0 as usize) {
+            Some(task) => match task.reach.files.get_index_of(&node) {
+                Some(place) => place.min(task.reach.next),
+                None => task.reach.next,
+            },
+            None => 0,
         }
     }
 
-    /// Whether nothing stands before the question if a rule is stale.
-    fn is_decidable(&self, rule: RuleId) -> bool
-        ensures { result ≡ true → state_of self.now.states rule.0 ≡ RuleState.Waiting }
+    /// Puts a rule among those to be decided where it can be.
+    #[tactic(auto, using(crate::proofs::TrackLemmas::tracked_open))]
+    fn note_decidable(&mut self, rule: RuleId)
+        ensures { Stays self.old self.new }
     {
-        if self.states.of(rule) != RuleState::Waiting {
-            return false;
-        }
-        match self.tasks.get(rule.0 as usize) {
-            Some(task) => task.is_ready(),
-            None => false,
+        let number = rule.0 as usize;
+        if number < self.tasks.len() && self.states.waits(rule) && self.tasks[number].is_ready() {
+            self.queue.put(rule, true);
         }
     }
 
@@ -232,10 +252,19 @@ impl Plan {
     {
         if !self.is_ordered && self.scannable.first().is_none() {
             let order = depth_first(self.alloc, &self.tasks, &self.files, self.roots.as_slice())?;
-            self.queue = Queue::new(self.alloc, self.tasks.len(), order)?;
+            self.take_order(order)?;
             self.note_all();
             self.is_ordered = true;
         }
+        Ok(())
+    }
+
+    /// The rules stand in this order from now on, and none is open.
+    #[tactic(auto, using(crate::proofs::TrackLemmas::tracked_closed))]
+    fn take_order(&mut self, order: Vec<RuleId>) -> Result<(), Memory>
+        ensures { Stays self.old self.new }
+    {
+        self.queue = Queue::new(self.alloc, self.tasks.len(), order)?;
         Ok(())
     }
 

@@ -1,6 +1,10 @@
 //! What the plan keeps of a rule.
+ghost use Rattle.std.specs.Prelude.{◌≡◌, ◌≤◌, true, length, slice_get, IfOk};
+ghost use Rattle.task_plan.specs.Settled.{needs_of, AreDoneTo, AreScannedTo, IsDoneAt, KeepsNeeds, IsThrough, IsLonger};
 
+use crate::files::Files;
 use crate::reach::{Growth, Reach};
+use crate::states::States;
 use indexmap::IndexSet;
 use scons_base::{Memory, NodeId};
 use std::alloc::Global;
@@ -15,48 +19,110 @@ pub(crate) struct Task {
     /// How many of the dependencies the rule itself names.
     pub(crate) named: usize,
     pub(crate) reach: Reach,
-    /// How many of the required files and the dependencies have a rule that isn't settled.
-    pub(crate) unsettled: usize,
+    /// The needs before this place are done.
+    pub(crate) passed: usize,
 }
 
 impl Task {
-    pub(crate) fn new(alloc: Global) -> Task {
+    pub(crate) fn new(alloc: Global) -> Task
+        ensures passed { result.passed ≡ 0 }
+        ensures whole { result.reach.whole ≡ 0 }
+    {
         Task {
             targets: Vec::new(alloc),
             required: Vec::new(alloc),
             deps: IndexSet::new(alloc),
             named: 0,
             reach: Reach::new(alloc),
-            unsettled: 0,
+            passed: 0,
         }
     }
 
     /// Whether all that it needs is settled, and all its files are scanned.
-    pub(crate) fn is_ready(&self) -> bool {
-        self.unsettled == 0 && self.reach.is_scanned()
+    pub(crate) fn is_ready(&self) -> bool
+        ensures { result ≡ true → IsThrough self.now }
+    {
+        self.passed >= self.needs() && self.reach.is_scanned()
     }
 
     /// How many files it needs, the required ones first.
-    pub(crate) fn needs(&self) -> usize {
-        self.required.len().saturating_add(self.deps.len())
+    pub(crate) fn needs(&self) -> usize
+        ensures { result ≡ length (needs_of self.now) }
+    {
+        self.required.len() + self.deps.len()
     }
 
     /// The needed file at this place.
-    pub(crate) fn need(&self, place: usize) -> Option<NodeId> {
-        match place.checked_sub(self.required.len()) {
-            Some(place) => self.deps.get_index(place).copied(),
-            None => self.required.get(place).copied(),
+    #[tactic(auto, using(crate::proofs::NeedLemmas::at_place))]
+    pub(crate) fn need(&self, place: usize) -> Option<NodeId>
+        ensures { result ≡ slice_get (needs_of self.now) place }
+    {
+        if place < self.required.len() {
+            self.required.get(place).copied()
+        } else {
+            self.deps.get_index(place - self.required.len()).copied()
         }
     }
 
+    /// The place of the first need that isn't done, from where the rule stands on.
+    #[tactic(auto, using(crate::proofs::NeedLemmas::done_more))]
+    pub(crate) fn first_undone(&self, files: &Files, states: &States) -> usize
+        requires { AreDoneTo states.now files.now.origins.items self.now self.now.passed }
+        ensures done { AreDoneTo states.now files.now.origins.items self.now result }
+        ensures further { self.now.passed ≤ result }
+    {
+        let mut place = self.passed;
+        while place < self.needs() && self.is_done_at(files, states, place) {
+            place += 1;
+        }
+        place
+    }
+
+    fn is_done_at(&self, files: &Files, states: &States, place: usize) -> bool
+        ensures { result ≡ true → IsDoneAt states.now files.now.origins.items self.now place }
+    {
+        match self.need(place) {
+            Some(node) => files.is_done(states, node),
+            None => false,
+        }
+    }
+
+    /// Notes what a file includes, and gives what that changed.
+    #[tactic(auto, using(crate::proofs::NeedLemmas::keeps_same))]
+    pub(crate) fn take(&mut self, node: NodeId, found: Vec<NodeId>) -> Result<Growth, Memory>
+        requires scanned { AreScannedTo self.old self.old.reach.whole }
+        requires within { self.old.passed ≤ length (needs_of self.old) }
+        ensures scanned { AreScannedTo self.new self.new.reach.whole }
+        ensures needs { KeepsNeeds self.old self.new }
+    {
+        let growth = self.reach.scanned(node, found)?;
+        self.grow(&growth)?;
+        Ok(growth)
+    }
+
     /// Takes over what a scan changed.
-    pub(crate) fn grow(&mut self, growth: &Growth) -> Result<(), Memory> {
+    #[tactic(auto, using(crate::proofs::NeedLemmas::keeps_longer))]
+    fn grow(&mut self, growth: &Growth) -> Result<(), Memory>
+        requires { self.old.passed ≤ length (needs_of self.old) }
+        ensures needs { KeepsNeeds self.old self.new }
+        ensures reach { self.new.reach ≡ self.old.reach }
+    {
         if growth.in_order {
             add_all(&mut self.deps, growth.new.as_slice())
         } else {
-            self.deps.truncate(self.named);
-            add_all(&mut self.deps, self.reach.files.as_slice())
+            self.list_anew()
         }
+    }
+
+    /// Lists the dependencies anew: those that the rule names, and then its files.
+    #[tactic(auto, using(crate::proofs::NeedLemmas::keeps_none))]
+    fn list_anew(&mut self) -> Result<(), Memory>
+        ensures needs { KeepsNeeds self.old self.new }
+        ensures reach { self.new.reach ≡ self.old.reach }
+    {
+        self.passed = 0;
+        self.deps.truncate(self.named);
+        add_all(&mut self.deps, self.reach.files.as_slice())
     }
 
     /// Whether this dependency came by a scan alone.
@@ -68,7 +134,10 @@ impl Task {
     }
 }
 
-fn add_all(deps: &mut IndexSet<NodeId>, nodes: &[NodeId]) -> Result<(), Memory> {
+#[tactic(auto, using(crate::proofs::ListLemmas::longer_steps))]
+fn add_all(deps: &mut IndexSet<NodeId>, nodes: &[NodeId]) -> Result<(), Memory>
+    ensures { IsLonger deps.old.keys deps.new.keys }
+{
     for node in nodes {
         let _ = deps.insert(*node)?;
     }

@@ -22,3 +22,5 @@ pub mod Listing
 pub mod FilesOf
 pub mod Started
 pub mod Anew
+pub mod Stamped
+pub mod Dirty

@@ -1,8 +1,12 @@
+use Rattle.std.proofs.Common.{◌∙◌}
 use Rattle.build_run.proofs.Goings.{stays_on}
 use Rattle.build_run.proofs.clear.make_dirs.Goals as goal
 
-pub returns-in_err-make_dir : goal.returns-in_err-make_dir
-returns-in_err-make_dir g c = stays_on g.W.Disk.meaning _ _ _ c.loop-target.invariant c.make_dir.ensures
+pub returns-in_err-make_dir-clause-stays : goal.returns-in_err-make_dir-clause-stays
+returns-in_err-make_dir-clause-stays g c = stays_on g.W.Disk.meaning _ _ _ c.loop-target.invariant.stays c.make_dir.ensures.stays
 
 pub loop-target-preserved : goal.loop-target-preserved
-loop-target-preserved g c = stays_on g.W.Disk.meaning _ _ _ c.loop-target.invariant c.make_dir.ensures
+loop-target-preserved g c = record {
+  stays = stays_on g.W.Disk.meaning _ _ _ c.loop-target.invariant.stays c.make_dir.ensures.stays;
+  same = c.in_ok-make_dir.ensures.cause ∙ c.loop-target.invariant.same;
+}

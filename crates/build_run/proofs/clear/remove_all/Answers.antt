@@ -1,4 +1,4 @@
-use Rattle.std.proofs.Common.{arith}
+use Rattle.std.proofs.Common.{◌∙◌, arith}
 use Rattle.build_run.proofs.Goings.{stays_on, unused_still, unused_in, gone_still}
 use Rattle.build_run.proofs.clear.remove_all.Goals as goal
 
@@ -17,6 +17,7 @@ loop-target-preserved g c =
     let q = c.remove.ensures.stays.goes.passes in
     record {
       stays = stays_on m _ _ _ c.loop-target.invariant.stays c.remove.ensures.stays;
+      same = c.in_ok-remove.ensures.cause ∙ c.loop-target.invariant.same;
       gone = λ t. gone_still (m.around c.loop-target.world) (m.around c.remove.new.world) c.args.targets.now c.loop-target.target-index c.target-item.result (omega arith) c.target-item.is
           (λ path h. let before = q.told.told t in unused_in (p.runs before) (c.requires (p.passes.told.told before) path h))
           (c.loop-target.invariant.gone (q.told.told t)) (c.in_ok-remove.ensures.gone t) (c.in_ok-remove.ensures.others t);

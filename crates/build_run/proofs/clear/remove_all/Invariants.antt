@@ -7,5 +7,6 @@ invariant-loop-target g l =
     let m = g.W.Disk.meaning in
     record {
       stays : Stays m l.fn.world l.world;
+      same : m.counts l.world ≡ m.counts l.fn.world;
       gone : m.tells l.world → (k : ℕ) (d : List ℕ) → k < l.target-index → (m.around l.world).tree (get_or l.targets k d) ≡ None;
     }

@@ -1,0 +1,74 @@
+-- Why a build has the faults that it reports: each tells what was at fault outside, and what was at fault is told.
+use Rattle.std.specs.Prelude.{◌≡◌, ◌≢◌, ◌≤◌, ◌⊎◌, Bool, false, ℕ, List, All, Contains}
+use Rattle.world_api.specs.Causes.{Rose, Later}
+use Rattle.world_api.specs.Counts.{Counts}
+use Rattle.world_api.specs.Meaning.{Meaning}
+use Rattle.world_api.specs.Printed.{SinkMeaning}
+use Rattle.rule_graph.specs.declared.build_fault.BuildFault.{BuildFault}
+use Rattle.rule_graph.specs.declared.build_fault.BuildFault.TheVariants as fault
+
+-- how often the world, standard output and standard error were at fault
+pub record Outside : Type 0 where
+  pub counts : Counts
+  pub out : ℕ
+  pub err : ℕ
+
+abbrev pub outside : Counts → ℕ → ℕ → Outside
+outside counts out err = record { counts = counts; out = out; err = err }
+
+-- no count fell
+pub record IsLater (old new : Outside) : Type 0 where
+  pub counts : Later old.counts new.counts
+  pub out : old.out ≤ new.out
+  pub err : old.err ≤ new.err
+
+-- a fault of what lies outside comes only where its count rose; the others speak of the graph and the files
+abbrev pub HasCause : Outside → Outside → BuildFault → Type 0
+HasCause old new (fault.Missing node target) = Unit {0}
+HasCause old new (fault.Cycle paths) = Unit {0}
+HasCause old new (fault.ActionFailed target code) = Rose old.counts.action_failures new.counts.action_failures
+HasCause old new (fault.TreeFault path) = Rose old.counts.tree_faults new.counts.tree_faults
+HasCause old new (fault.StartFault target) = Rose old.counts.start_faults new.counts.start_faults
+HasCause old new fault.StoreFault = Rose old.counts.disk_faults new.counts.disk_faults
+HasCause old new fault.OutFault = Rose old.out new.out ⊎ Rose old.err new.err
+HasCause old new (fault.TooLarge path size) = Unit {0}
+HasCause old new (fault.TooMany what count) = Unit {0}
+
+-- a fault for which nothing outside need be at fault
+abbrev pub IsInner : BuildFault → Type 0
+IsInner fault = (old new : Outside) → HasCause old new fault
+
+abbrev pub IsTreeFault : BuildFault → Type 0
+IsTreeFault (fault.TreeFault path) = Unit {0}
+IsTreeFault other = ⊥
+
+abbrev pub IsStartFault : BuildFault → Type 0
+IsStartFault (fault.StartFault target) = Unit {0}
+IsStartFault other = ⊥
+
+abbrev pub IsActionFault : BuildFault → Type 0
+IsActionFault (fault.ActionFailed target code) = Unit {0}
+IsActionFault other = ⊥
+
+-- one of these faults is such
+abbrev pub HasAny : (BuildFault → Type 0) → List BuildFault → Type 0
+HasAny P faults = (fault : BuildFault) × Contains faults fault × P fault
+
+-- each count that changed has its fault among these
+pub record AreTold (old new : Outside) (faults : List BuildFault) : Type 0 where
+  pub disk : new.counts.disk_faults ≢ old.counts.disk_faults → Contains faults fault.StoreFault
+  pub tree : new.counts.tree_faults ≢ old.counts.tree_faults → HasAny IsTreeFault faults
+  pub start : new.counts.start_faults ≢ old.counts.start_faults → HasAny IsStartFault faults
+  pub action : new.counts.action_failures ≢ old.counts.action_failures → HasAny IsActionFault faults
+  pub out : new.out ≢ old.out → Contains faults fault.OutFault
+  pub err : new.err ≢ old.err → Contains faults fault.OutFault
+
+-- each fault has its cause, and, unless memory was wanting, each count that changed its fault
+pub record AreCaused (old new : Outside) (faults : List BuildFault) (memory : Bool) : Type 0 where
+  pub each : All (HasCause old new) faults
+  pub told : memory ≡ false → AreTold old new faults
+
+-- the same of a build over a world and two sinks
+abbrev pub BuildCauses : {W O E : Type 0} → Meaning W → SinkMeaning O → SinkMeaning E → W → O → E → W → O → E → List BuildFault → Bool → Type 0
+BuildCauses m o e world out err new_world new_out new_err faults memory =
+    AreCaused (outside (m.counts world) (o.faults out) (e.faults err)) (outside (m.counts new_world) (o.faults new_out) (e.faults new_err)) faults memory

@@ -1,0 +1,276 @@
+-- The steps of opening a store, put together.
+use Rattle.std.proofs.Common.{◌≡◌, ℕ, ◌<◌, ◌≤◌, ◌+◌, ◌^◌, Bool, true, false, leb, List, [], ◌∷◌, ◌++◌, length, take, drop, max, refl, sym, ap, subst, ◌∙◌, append_assoc, inl, inr, arith}
+use Rattle.std.specs.Prelude.{◌≢◌, slice_index, Result, Ok, Err, IfOk, IfErr}
+use Rattle.std.proofs.lemmas.Bool.{leb-false}
+use Rattle.std.proofs.lemmas.List.{take_at, drop_at, drop-drop, length-append, length-take, length-drop}
+use Rattle.world_api.specs.declared.disk.Bank.{Bank}
+use Rattle.world_api.specs.declared.disk.Bank.TheVariants.{A, B}
+use Rattle.world_api.specs.Around.{Around}
+use Rattle.world_api.specs.Banks.{Banks, Holds, Torn}
+use Rattle.world_api.specs.Meaning.{Meaning, IsImage, IsSettled, BankKept, BanksKept, Throughout, AtEither}
+use Rattle.world_api.proofs.Moments.{IsNow, begins, chains, weakens, disk_call}
+use Rattle.sign_store.specs.declared.entries.EndGate.{EndGate}
+use Rattle.sign_store.specs.declared.entries.EndGate.TheVariants as gate
+use Rattle.sign_store.specs.declared.head.Choice.TheVariants as choice
+use Rattle.sign_store.specs.declared.opening.Opened.{Opened}
+use Rattle.sign_store.specs.declared.map.RecordMap.{RecordMap}
+use Rattle.sign_store.specs.declared.refusals.StoreRefusal.{StoreRefusal}
+use Rattle.sign_store.specs.declared.head.Choice.{Choice}
+use Rattle.sign_store.specs.declared.head.Head.TheVariants.{Short, Live}
+use Rattle.sign_store.specs.Compacts.{compact_bytes}
+use Rattle.sign_store.specs.Gates.{IsGate}
+use Rattle.sign_store.specs.Heads.{head_of, other_bank}
+use Rattle.sign_store.specs.Images.{entries_map, body_of, map_chosen}
+use Rattle.sign_store.specs.Ends.{StandsAt, StandsFor, IsLeftOr, KeepsAt, AreSettled, image_in, with_bank}
+use Rattle.sign_store.specs.Forms.{IsSpare}
+use Rattle.sign_store.specs.Maps.{map_in}
+use Rattle.sign_store.specs.Reached.{ReadsBanks, Writes, Endures}
+use Rattle.sign_store.specs.Readings.{AreSmall, AreReadable, IsRefusal, IsOutside, choice_of}
+use Rattle.sign_store.proofs.ReadLemmas.{outside_refuses}
+use Rattle.sign_store.specs.Beginnings.{IsAtRest, CanFill, IsFilled, IsMendable, IsOpened, IsAsBefore, IsCounted, IsWrittenTo, GoesOver, Exchanges, IsDue, IsReopened, IsBegunOver, begun_by}
+use Rattle.sign_store.specs.Tables.{Map, nothing}
+use Rattle.sign_store.proofs.EndLemmas.{gate_at}
+use Rattle.sign_store.proofs.FillLemmas.{choice_at}
+use Rattle.sign_store.proofs.BeginLemmas.{torn_end, live_stays, closed_stands, bank_with, spare_first, spare_beside_a, spare_beside_b, first_live, second_live}
+use Rattle.sign_store.proofs.StepLemmas.{rest_read, rest_written}
+
+pub same_banks : (a b : Banks) → ((bank : Bank) → b bank ≡ a bank) → b ≡ a
+same_banks a b at = λ i. λ bank. at bank i
+
+pub seen_read : {W : Type 0} (m : Meaning W) (a b : W) → ReadsBanks m a b → m.tells b → m.seen b ≡ m.seen a
+seen_read m a b reads told = same_banks (m.seen a) (m.seen b) (λ bank. (reads.banks told bank).same)
+
+-- ---- the banks are synced
+
+pub synced_first : {W : Type 0} (m : Meaning W) (a b : W) → Throughout m a b (AtEither m a b) → (m.tells b → m.around b ≡ m.around a) → (m.tells b → BanksKept m a b) → Throughout m a b (IsAsBefore m a)
+synced_first m a b time around kept = disk_call m a b (IsAsBefore m a) time
+    (λ told banks image. record { same = around told; image = image })
+    (λ told banks image. record { same = around told; image = λ bank. (kept told bank).no_more (banks bank) (image bank) })
+
+settled_kept : {W : Type 0} (m : Meaning W) (bank : Bank) (a b : W) → IsSettled m a bank → BankKept m bank a b → IsSettled m b bank
+settled_kept m bank a b settled kept = λ bytes image. settled bytes (kept.no_more bytes image) ∙ sym kept.same
+
+pub both_settled : {W : Type 0} (m : Meaning W) (a b : W) → IsSettled m a A → BankKept m A a b → IsSettled m b B → AreSettled m b
+both_settled m a b first kept second A = settled_kept m A a b first kept
+both_settled m a b first kept second B = second
+
+-- ---- moments
+
+pub left_before : {W : Type 0} (m : Meaning W) (a b : W) (map : Map) → Throughout m a b (IsAsBefore m a) → Throughout m a b (IsLeftOr m a map)
+left_before m a b map run = weakens m a b (IsAsBefore m a) (IsLeftOr m a map) run (λ told around banks is. record { same = is.same; left = inl is.image })
+
+-- what stood for the map from the syncs on
+pub left_then : {W : Type 0} (m : Meaning W) (a b c : W) (map : Map) → IsNow m b → Throughout m a b (IsAsBefore m a) → IsAtRest m b (m.around a) → (m.tells b → image_in (m.seen b) ≡ map)
+    → Endures m b c (m.around a) map → Throughout m a c (IsLeftOr m a map)
+left_then m a b c map only run rest is endures =
+    let starts : Throughout m b b (StandsFor (m.around a) map) = begins m b (StandsFor (m.around a) map) only
+    (λ told banks image. record { same = rest.around told; image = ap image_in (same_banks (m.seen b) banks (λ bank. rest.settled told bank (banks bank) (image bank))) ∙ is told }) in
+    chains m a b c (IsLeftOr m a map) (left_before m a b map run)
+    (weakens m b c (StandsFor (m.around a) map) (IsLeftOr m a map) (endures.on b starts) (λ told around banks stands. record { same = stands.same; left = inr stands.image }))
+
+pub endures_as : {W : Type 0} (m : Meaning W) (a b : W) (stood : Around) (map other : Map) → (m.tells b → m.tells a) → (m.tells a → map ≡ other) → Endures m a b stood map → Endures m a b stood other
+endures_as m a b stood map other back same endures = record {
+  on = λ from run.
+      weakens m from b (StandsFor stood map) (StandsFor stood other)
+      (endures.on from (weakens m from a (StandsFor stood other) (StandsFor stood map) run (λ told around banks is. record { same = is.same; image = is.image ∙ sym (same told) })))
+      (λ told around banks is. record { same = is.same; image = is.image ∙ same (back told) });
+}
+
+pub opened_as : {W : Type 0} (m : Meaning W) (stood : Around) (map other : Map) (world : W) (opened : Opened) → (m.tells world → map ≡ other) → IsOpened m stood map world opened → IsOpened m stood other world opened
+opened_as m stood map other world opened same is = record {
+  rest = is.rest;
+  stands = λ told. subst (λ (x : Map). StandsAt opened.bank opened.end x (m.seen world)) (same told) (is.stands told);
+  counts = is.counts;
+  held = λ told. is.held told ∙ same told;
+  ordered = is.ordered;
+}
+
+-- ---- what was read of a bank that counts
+
+live_long : (bytes : List ℕ) (g : ℕ) → head_of bytes ≡ Live g → 17 < length bytes
+live_long bytes g e = by (leb (length bytes) 17) refl
+  where
+    by : (b : Bool) → leb (length bytes) 17 ≡ b → 17 < length bytes
+    by true le = let short : Short ≡ Live g = sym (rw le refl) ∙ e in absurd cc
+    by false le = leb-false (length bytes) 17 le
+
+pub counted_long : (bank : Bank) (banks : Banks) (g : ℕ) → choice_of banks ≡ choice.Live bank g → 17 < length (banks bank)
+counted_long A banks g counts = live_long (banks A) g (first_live (head_of (banks A)) (head_of (banks B)) g counts)
+counted_long B banks g counts = live_long (banks B) g (second_live (head_of (banks A)) (head_of (banks B)) g counts)
+
+counted_is : (bank : Bank) (banks : Banks) (g : ℕ) → choice_of banks ≡ choice.Live bank g → image_in banks ≡ entries_map (body_of (banks bank))
+counted_is A banks g counts = ap (λ (c : Choice). map_chosen c (banks A) (banks B)) counts
+counted_is B banks g counts = ap (λ (c : Choice). map_chosen c (banks A) (banks B)) counts
+
+-- the bank was read: its end can be mended
+pub can_mend : {W : Type 0} (m : Meaning W) (a b : W) (bank : Bank) (end : EndGate) (place : ℕ) (stood : Around) (map read : Map) (generation : ℕ) → ReadsBanks m a b → IsCounted m a bank stood map generation
+    → (m.tells b → read ≡ entries_map (body_of (m.seen b bank))) → (m.tells b → 17 < length (m.seen b bank) → IsWrittenTo place read (m.seen b bank)) → (m.tells b → 17 < length (m.seen b bank) → IsGate end place (m.seen b bank))
+    → IsMendable m b bank end place stood map generation
+can_mend m a b bank end place stood map read generation reads is read_is written gate_is = record {
+  rest = rest_read m a b stood reads is.rest;
+  counts = counts;
+  written = λ told. subst (λ (x : Map). IsWrittenTo place x (m.seen b bank)) (same told) (written told (counted_long bank (m.seen b) generation (counts told)));
+  gate_is = λ told. gate_is told (counted_long bank (m.seen b) generation (counts told));
+}
+  where
+    counts : m.tells b → choice_of (m.seen b) ≡ choice.Live bank generation
+    counts told = ap choice_of (seen_read m a b reads told) ∙ is.counts (reads.told.told told)
+
+    same : m.tells b → read ≡ map
+    same told = read_is told ∙ sym (counted_is bank (m.seen b) generation (counts told)) ∙ ap image_in (seen_read m a b reads told) ∙ is.image (reads.told.told told)
+
+pub read_same : {W : Type 0} (m : Meaning W) (a b : W) (bank : Bank) (map read : Map) (stood : Around) (generation : ℕ) → ReadsBanks m a b → IsCounted m a bank stood map generation → (m.tells b → read ≡ entries_map (body_of (m.seen b bank))) → m.tells b → read ≡ map
+read_same m a b bank map read stood generation reads is read_is told =
+    let counts : choice_of (m.seen b) ≡ choice.Live bank generation = ap choice_of (seen_read m a b reads told) ∙ is.counts (reads.told.told told) in
+    read_is told ∙ sym (counted_is bank (m.seen b) generation counts) ∙ ap image_in (seen_read m a b reads told) ∙ is.image (reads.told.told told)
+
+-- ---- where no bank counts
+
+pub can_start : {W : Type 0} (m : Meaning W) (a : W) (stood : Around) → IsAtRest m a stood → (m.tells a → choice_of (m.seen a) ≡ choice.None) → CanFill m a A stood nothing 1
+can_start m a stood rest none = record { rest = rest; spare = λ told. spare_first (m.seen a) (none told) }
+
+pub none_is : (banks : Banks) (map : Map) → choice_of banks ≡ choice.None → image_in banks ≡ map → nothing ≡ map
+none_is banks map none is = sym (spare_first banks none).now ∙ is
+
+-- ---- the end is mended
+
+record IsHeld (place : ℕ) (was now : List ℕ) : Type 0 where
+  front : take place now ≡ take place was
+  behind : drop (place + 1) now ≡ drop (place + 1) was
+  inside : place < length now
+  gate_is : slice_index now place ≡ 0
+  torn : Torn place 1 was now
+
+held_zero : (place : ℕ) (was now : List ℕ) → place ≤ length was → Holds was place (0 ∷ []) now → IsHeld place was now
+held_zero place was now within holds =
+    let rest = drop (place + 1) was in
+    let whole : now ≡ take place was ++ (0 ∷ rest) = holds ∙ append_assoc (take place was) (0 ∷ []) rest in
+    let len : length (take place was) ≡ place = omega (arith, length-take place was, within) in
+    let front : take place now ≡ take place was = ap (take place) whole ∙ take_at (take place was) (0 ∷ rest) place len in
+    let left : drop place now ≡ 0 ∷ rest = ap (drop place) whole ∙ drop_at (take place was) (0 ∷ rest) place len in
+    let behind : drop (place + 1) now ≡ rest = sym (drop-drop 1 place now) ∙ ap (drop 1) left in
+    let total : length now ≡ place + (1 + length rest) = omega (arith, ap length whole, length-append (take place was) (0 ∷ rest), len) in
+    let inside : place < length now = omega (arith, total) in
+    record {
+      front = front;
+      behind = behind;
+      inside = inside;
+      gate_is = sym (gate_at place now) ∙ ap (λ (x : List ℕ). slice_index x 0) left;
+      torn = record { before = front; after = behind; no_shorter = omega (arith, total, length-drop (place + 1) was, within); no_longer = omega (arith, total, length-drop (place + 1) was, within) };
+    }
+
+pub mended : {W : Type 0} (m : Meaning W) (a b : W) (bank : Bank) (end : EndGate) (place : ℕ) (stood : Around) (map : Map) (generation : ℕ) → end ≢ gate.Closed → Writes m bank a b → (m.tells b → IsSettled m b bank)
+    → (m.tells b → Holds (m.seen a bank) place (0 ∷ []) (m.seen b bank)) → IsMendable m a bank end place stood map generation → IsFilled m b bank place stood map generation
+mended m a b bank end place stood map generation not writes settled holds can = record {
+  rest = rest_written m a b bank stood writes settled can.rest;
+  stands = λ told. closed_stands bank place generation map (m.seen b) (counts told) (ended told) (held told).inside (λ e. let bad : 0 ≡ 1 = sym (held told).gate_is ∙ e in absurd (omega (arith, bad)));
+  counts = counts;
+}
+  where
+    held : m.tells b → IsHeld place (m.seen a bank) (m.seen b bank)
+    held told = held_zero place (m.seen a bank) (m.seen b bank) (can.written (writes.told.told told)).inside (holds told)
+
+    ended : m.tells b → IsWrittenTo place map (m.seen b bank)
+    ended told = torn_end end place map (m.seen a bank) (m.seen b bank) (can.written (writes.told.told told)) (can.gate_is (writes.told.told told)) not (held told).torn
+
+    counts : m.tells b → choice_of (m.seen b) ≡ choice.Live bank generation
+    counts told =
+        let before = writes.told.told told in
+        choice_at bank (m.seen a) (m.seen b) (λ other differs. (writes.other told other differs).same)
+        ∙ live_stays bank generation place (m.seen a) (m.seen b bank) (can.counts before) (can.written before).behind_head (can.written before).long (ended told).long (held told).front
+
+closed_at : {W : Type 0} (m : Meaning W) (a : W) (bank : Bank) (place : ℕ) (stood : Around) (map : Map) (generation : ℕ) → IsMendable m a bank gate.Closed place stood map generation → IsFilled m a bank place stood map generation
+closed_at m a bank place stood map generation can = record {
+  rest = can.rest;
+  stands = λ told. closed_stands bank place generation map (m.seen a) (can.counts told) (can.written told) (can.gate_is told).0 (can.gate_is told).1;
+  counts = can.counts;
+}
+
+-- a gate that is closed already
+pub closed_mended : {W : Type 0} (m : Meaning W) (a : W) (bank : Bank) (end : EndGate) (place : ℕ) (stood : Around) (map : Map) (generation : ℕ) → end ≡ gate.Closed → IsMendable m a bank end place stood map generation → IsFilled m a bank place stood map generation
+closed_mended m a bank end place stood map generation is can =
+    closed_at m a bank place stood map generation (subst (λ (e : EndGate). IsMendable m a bank e place stood map generation) is can)
+
+-- ---- going over to the other bank
+
+spare_beside : (bank : Bank) (banks : Banks) (map : Map) (g : ℕ) → choice_of banks ≡ choice.Live bank g → image_in banks ≡ map → IsSpare (other_bank bank) map (g + 1) banks
+spare_beside A banks map g counts is = spare_beside_a banks map g counts is
+spare_beside B banks map g counts is = spare_beside_b banks map g counts is
+
+pub can_go_over : {W : Type 0} (m : Meaning W) (a : W) (stood : Around) (map : Map) (opened : Opened) → IsOpened m stood map a opened → CanFill m a (other_bank opened.bank) stood (map_in opened.map) (opened.generation + 1)
+can_go_over m a stood map opened is = record {
+  rest = is.rest;
+  spare = λ told. spare_beside opened.bank (m.seen a) (map_in opened.map) opened.generation (is.counts told) ((is.stands told).image ∙ sym (is.held told));
+}
+
+-- ---- the store
+
+pub opened_keeps : {W : Type 0} (m : Meaning W) (stood : Around) (map : Map) (world : W) (opened : Opened) → IsOpened m stood map world opened → KeepsAt m world opened.bank opened.end (map_in opened.map)
+opened_keeps m stood map world opened is = record {
+  each = λ told banks image.
+      subst (λ (s : Banks). StandsAt opened.bank opened.end (map_in opened.map) s) (sym (same_banks (m.seen world) banks (λ bank. is.rest.settled told bank (banks bank) (image bank))))
+      (subst (λ (x : Map). StandsAt opened.bank opened.end x (m.seen world)) (sym (is.held told)) (is.stands told));
+}
+
+-- ---- which bank is live
+
+pub reopened : (bank : Bank) (generation place : ℕ) (held : RecordMap) (was now : List ℕ) (r : Result Opened StoreRefusal) → now ≡ was → IsWrittenTo place (map_in held) now
+    → IfOk r (GoesOver (record { map = held; bank = bank; generation = generation; end = place })) → IfOk r (λ after. IsReopened bank generation was after.map after.bank after.end)
+reopened bank generation place held was now (Err e) same written goes = tt
+reopened bank generation place held was now (Ok after) same written goes = record {
+  place = place;
+  written = subst (λ (h : RecordMap). IsWrittenTo place (map_in h) was) (sym goes.map) (subst (λ (x : List ℕ). IsWrittenTo place (map_in held) x) same written);
+  exchanges = subst (λ (h : RecordMap). Exchanges bank generation place h after.bank after.end) (sym goes.map) goes.exchanges;
+}
+
+pub begun_first : (banks : Banks) (r : Result Opened StoreRefusal) → choice_of banks ≡ choice.None → IfOk r (λ opened. (opened.bank ≡ A) × (opened.end ≡ 17)) → IfOk r (λ after. IsBegunOver banks after.map after.bank after.end)
+begun_first banks (Err e) none is = tt
+begun_first banks (Ok after) none is = subst (λ (c : Choice). begun_by c banks after.map after.bank after.end) (sym none) is
+
+pub begun_live : (banks : Banks) (bank : Bank) (g : ℕ) (r : Result Opened StoreRefusal) → choice_of banks ≡ choice.Live bank g → IfOk r (λ after. IsReopened bank g (banks bank) after.map after.bank after.end)
+    → IfOk r (λ after. IsBegunOver banks after.map after.bank after.end)
+begun_live banks bank g (Err e) counts is = tt
+begun_live banks bank g (Ok after) counts is = subst (λ (c : Choice). begun_by c banks after.map after.bank after.end) (sym counts) is
+
+pub if_opened_as : {W : Type 0} (m : Meaning W) (stood : Around) (map other : Map) (world : W) (r : Result Opened StoreRefusal) → (m.tells world → map ≡ other) → IfOk r (IsOpened m stood map world) → IfOk r (IsOpened m stood other world)
+if_opened_as m stood map other world (Err e) same is = tt
+if_opened_as m stood map other world (Ok opened) same is = opened_as m stood map other world opened same is
+
+-- ---- why the banks are refused
+
+pub readable_none : {T : Type 0} (banks : Banks) (r : Result T StoreRefusal) → AreSmall banks → choice_of banks ≡ choice.None → IfOk r (λ _. AreReadable banks)
+readable_none banks (Err e) small none = tt
+readable_none banks (Ok x) small none = record { small = small; known = λ bank e. let bad : choice.None ≡ choice.Foreign bank = sym none ∙ e in absurd cc }
+
+pub readable_live : {T : Type 0} (banks : Banks) (r : Result T StoreRefusal) (bank : Bank) (g : ℕ) → AreSmall banks → choice_of banks ≡ choice.Live bank g → IfOk r (λ _. AreReadable banks)
+readable_live banks (Err e) bank g small live = tt
+readable_live banks (Ok x) bank g small live = record { small = small; known = λ other e. let bad : choice.Live bank g ≡ choice.Foreign other = sym live ∙ e in absurd cc }
+
+pub refused_outside : {T : Type 0} (banks : Banks) (r : Result T StoreRefusal) → IfErr r IsOutside → IfErr r (IsRefusal banks)
+refused_outside banks (Ok x) out = tt
+refused_outside banks (Err e) out = outside_refuses banks e out
+
+-- the bank that counts was found
+pub counted_after : {W : Type 0} (m : Meaning W) (a b : W) (bank : Bank) (stood : Around) (map : Map) (generation : ℕ) → ReadsBanks m a b → IsAtRest m a stood → (m.tells a → image_in (m.seen a) ≡ map)
+    → (m.tells b → choice_of (m.seen b) ≡ choice.Live bank generation) → IsCounted m b bank stood map generation
+counted_after m a b bank stood map generation reads rest is counts = record {
+  rest = rest_read m a b stood reads rest;
+  counts = counts;
+  image = λ told. ap image_in (seen_read m a b reads told) ∙ is (reads.told.told told);
+}
+
+pub are_small : (banks : Banks) (a b : ℕ) → a ≡ length (banks A) → b ≡ length (banks B) → (a ≤ 2 ^ 40) × (b ≤ 2 ^ 40) → AreSmall banks
+are_small banks a b at bt small = record { a = subst (λ (n : ℕ). n ≤ 2 ^ 40) at small.0; b = subst (λ (n : ℕ). n ≤ 2 ^ 40) bt small.1 }
+
+pub gone_over : (opened : Opened) (form : List ℕ) (r : Result Opened StoreRefusal) → IsDue opened.generation opened.end opened.map → form ≡ compact_bytes (opened.generation + 1) opened.map
+    → IfOk r (λ after. (after.map ≡ opened.map) × (after.bank ≡ other_bank opened.bank) × (after.end ≡ length form)) → IfOk r (GoesOver opened)
+gone_over opened form (Err e) due is over = tt
+gone_over opened form (Ok after) due is over = record { map = over.0; exchanges = inl (due, over.1, over.2 ∙ ap length is) }
+
+pub size_is : (banks : Banks) (bank : Bank) (a b size : ℕ) → a ≡ length (banks A) → b ≡ length (banks B) → (bank ≡ A → size ≡ a) → (bank ≡ B → size ≡ b) → size ≡ length (banks bank)
+size_is banks A a b size at bt first second = first refl ∙ at
+size_is banks B a b size at bt first second = second refl ∙ bt
+
+pub size_small : (bank : Bank) (a b size : ℕ) → (a ≤ 2 ^ 40) × (b ≤ 2 ^ 40) → (bank ≡ A → size ≡ a) → (bank ≡ B → size ≡ b) → size ≤ 2 ^ 40
+size_small A a b size small first second = subst (λ (n : ℕ). n ≤ 2 ^ 40) (sym (first refl)) small.0
+size_small B a b size small first second = subst (λ (n : ℕ). n ≤ 2 ^ 40) (sym (second refl)) small.1
