@@ -1,0 +1,2 @@
+-- Definitions that the contracts of the slow functions cite.
+pub mod Plain

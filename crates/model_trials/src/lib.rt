@@ -1,0 +1,7 @@
+//! Slow functions, whose contracts are definitions of `build_model`: what a rule depends on, and which rules it needs. They go
+//! over plain lists and do nothing clever, so that a faster body can be tried beside them.
+#![tactic(auto)]
+
+pub mod needs;
+pub mod reach;
+pub mod spots;
