@@ -25,3 +25,5 @@ pub mod Laws
 pub mod Waits
 pub mod EachCall
 pub mod SinkMeans
+pub mod Ready
+pub mod Told

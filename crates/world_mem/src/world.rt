@@ -85,6 +85,7 @@ impl MemWorld {
         ensures stamp { IfOk result (λ world. world.state.stamp ≡ 0) }
         ensures stamps { IfOk result (λ world. (path : List ℕ) → (around_of world.state).stamps path ≡ 0) }
         ensures failing { IfOk result (λ world. world.calls.failing ≡ failing) }
+        ensures unfused { IfOk result (λ world. world.calls.fuse ≡ None) }
         ensures stand { OnOk result ((place : ℕ) → IsRefused files.items place → ⊥) }
         ensures place { IfErr result (λ refusal. (place : ℕ) → refusal ≡ NewRefusal.Place place → IsFirstRefused files.items place) }
     {
