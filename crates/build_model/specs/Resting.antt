@@ -55,6 +55,10 @@ pub data IsHindered (s : Setting) (steps : List Step) (found : Found) (r : Rule)
   by_skip : IsSkipped s steps found r → IsHindered s steps found r
   by_cycle : IsHeld s found r → IsHindered s steps found r
 
+-- a rule was neither started nor settled
+abbrev pub IsUntouched : List Step → Rule → Type 0
+IsUntouched steps r = (Among r (began steps) → ⊥) × (Among r (settled steps) → ⊥)
+
 -- What is left at rest: each needed rule is settled, faulty, skipped or held; one that is due was started, unless it is
 -- one of the latter; and what is faulty, skipped or held is not settled, nor was what is skipped or held started.
 pub record LeavesAtRest (s : Setting) (b : Build) (steps : List Step) (found : Found) : Type 0 where
@@ -65,8 +69,8 @@ pub record LeavesAtRest (s : Setting) (b : Build) (steps : List Step) (found : F
   pub well : ((r : Rule) → IsFaulty steps r → ⊥) → ((r : Rule) → Needed s.rule_of found b.requested r → NeedsThrough s.rule_of found r r → ⊥) →
       (r : Rule) → Needed s.rule_of found b.requested r → Among r (settled steps)
   pub faulty : (r : Rule) → IsFaulty steps r → Among r (settled steps) → ⊥
-  pub skipped : (r : Rule) → IsSkipped s steps found r → (Among r (began steps) → ⊥) × (Among r (settled steps) → ⊥)
-  pub held : (r : Rule) → IsHeld s found r → (Among r (began steps) → ⊥) × (Among r (settled steps) → ⊥)
+  pub skipped : (r : Rule) → IsSkipped s steps found r → IsUntouched steps r
+  pub held : (r : Rule) → IsHeld s found r → IsUntouched steps r
 
 abbrev pub RestsRightly : Type 0
 RestsRightly = (s : Setting) (b : Build) (steps : List Step) (found : Found) → IsRun s b steps → IsAtRest s b steps found →
