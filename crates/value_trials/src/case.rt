@@ -2,7 +2,7 @@
 use crate::beside::refused;
 use anyhow::Result;
 use eval_hosts::Replying;
-use py_eval::{EvalFault, EvalKind, Ran, run};
+use py_eval::{EvalFault, EvalKind, run};
 use py_heap::{Budget, Heap, HostId};
 use py_lex::lex;
 use py_parse::parse;
@@ -33,16 +33,18 @@ pub fn answer(alloc: Global, case: &str) -> Result<String> {
 /// The units that some statements use, or why they end.
 fn units(alloc: Global, front: &str) -> Result<String> {
     let script = format!(in alloc; "{front}\n")?;
-    match ran(alloc, script.as_str())? {
-        Outcome::Printed(text, units) if text.is_empty() => Ok(format!(in alloc; "{units}")?),
-        told => Ok(told.text()),
+    let outcome = ran(alloc, script.as_str())?;
+    if outcome.text.is_empty() {
+        let units = outcome.units;
+        return Ok(format!(in alloc; "{units}")?);
     }
+    Ok(outcome.text)
 }
 
 /// What is printed behind some statements.
 fn printed(alloc: Global, front: &str, last: &str) -> Result<String> {
     let script = format!(in alloc; "{front}\n{last}\n")?;
-    let told = ran(alloc, script.as_str())?.text();
+    let told = ran(alloc, script.as_str())?.text;
     Ok(String::from_str(alloc, told.trim_end())?)
 }
 
@@ -50,7 +52,7 @@ fn printed(alloc: Global, front: &str, last: &str) -> Result<String> {
 fn shown(alloc: Global, front: &str, last: &str) -> Result<String> {
     let names = names_of(front, last);
     let script = format!(in alloc; "{names}{front}\nprint([{last}\n])\n")?;
-    let told = ran(alloc, script.as_str())?.text();
+    let told = ran(alloc, script.as_str())?.text;
     let item = told
         .strip_prefix("[")
         .and_then(|rest| rest.strip_suffix("]\n"));
@@ -69,20 +71,11 @@ fn names_of(front: &str, last: &str) -> &'static str {
 
 /// What a script comes to.
 #[derive(Drop)]
-enum Outcome {
-    /// It prints this, and uses so many units.
-    Printed(String, u64),
-    /// The fault that ends it.
-    Fault(String),
-}
-
-impl Outcome {
-    fn text(self) -> String {
-        match self {
-            Outcome::Printed(text, _) => text,
-            Outcome::Fault(text) => text,
-        }
-    }
+struct Outcome {
+    /// What it prints, or the fault that ends it.
+    text: String,
+    /// The units that it uses, where it ends well.
+    units: u64,
 }
 
 /// What a script prints, or the fault that ends it.
@@ -97,14 +90,20 @@ fn ran(alloc: Global, script: &str) -> Result<Outcome> {
         first: Vec::new(alloc),
         refusals: 0,
     };
-    match run(&script, heap, &mut host, Budget::new(UNIT_LIMIT)) {
-        Ok(Ran { budget, .. }) => {
-            let Replying { printed, .. } = host;
-            Ok(Outcome::Printed(printed, budget.used()))
-        }
-        Err(EvalFault::Memory) => Ok(Outcome::Fault(String::from_str(alloc, "Memory")?)),
-        Err(EvalFault::At { kind, .. }) => Ok(Outcome::Fault(told(alloc, kind)?)),
+    let outcome = run(&script, heap, &mut host, Budget::new(UNIT_LIMIT));
+    let Replying { printed, .. } = host;
+    match outcome {
+        Ok(ran) => Ok(Outcome {
+            text: printed,
+            units: ran.budget.used(),
+        }),
+        Err(EvalFault::Memory) => fault(String::from_str(alloc, "Memory")?),
+        Err(EvalFault::At { kind, .. }) => fault(told(alloc, kind)?),
     }
+}
+
+fn fault(text: String) -> Result<Outcome> {
+    Ok(Outcome { text, units: 0 })
 }
 
 fn told(alloc: Global, kind: EvalKind) -> Result<String> {
