@@ -23,7 +23,12 @@ pub fn run_file(rt: &HostRuntime, path: Option<String>) -> Result<()> {
         refusals: 0,
     };
     let start = Instant::now(rt)?;
-    let outcome = run(&script, Heap::new(alloc), &mut host, Budget::new(UNIT_LIMIT));
+    let outcome = run(
+        &script,
+        Heap::new(alloc),
+        &mut host,
+        Budget::new(UNIT_LIMIT),
+    );
     let time = start.elapsed(rt)?.as_micros();
     match outcome {
         Ok(Ran { budget, .. }) => {
