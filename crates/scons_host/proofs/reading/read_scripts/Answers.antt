@@ -11,8 +11,8 @@ returns-in-Ok-clause-cause g c =
     let p = g.O.Sink.meaning in
     end_back (m.counts c.args.world.now) (m.counts c.begun.new.world) (m.counts c.read_on.new.world) (p.faults c.args.out.now) (p.faults c.read_on.new.out) c.read_on.result c.begun.ensures.looks.counts c.read_on.ensures.cause
 
-pub returns-clause-cause : goal.returns-clause-cause
-returns-clause-cause g c =
+pub returns-in-Err-clause-cause : goal.returns-in-Err-clause-cause
+returns-in-Err-clause-cause g c =
     let m = g.W.Disk.meaning in
     let faults = g.O.Sink.meaning.faults c.args.out.now in
     c.ended_by.ensures.cause (m.counts c.args.world.now) (m.counts c.begun.new.world) faults faults c.in-Err.ensures.cause
