@@ -1,9 +1,10 @@
-//! Two banks in memory, which may claim to be larger than they are. Their contracts tell nothing of them.
+//! Two banks in memory, which may claim to be larger than they are, and may refuse all calls from some call on. Their
+//! contracts tell nothing of them.
 ghost use Rattle.std.specs.Prelude.{ℕ, ◌≡◌, ◌+◌, ◌-◌, ◌^◌, min};
 ghost use Rattle.world_api.specs.Causes.{DiskFails};
 ghost use Rattle.store_trials.specs.Silent.{silent, counts_of};
 
-use std::alloc::Global;
+use std::alloc::{AllocError, Global};
 use world_api::{Bank, Disk, Fault};
 
 #[derive(Drop)]
@@ -12,6 +13,8 @@ pub struct Banks {
     b: Vec<u8>,
     /// The size that a bank says it has, in place of its own.
     claim: Option<(Bank, u64)>,
+    /// How many calls are answered before all are refused.
+    calls_left: Option<u64>,
     faults: u64,
 }
 
@@ -21,6 +24,7 @@ impl Banks {
             a: Vec::new(alloc),
             b: Vec::new(alloc),
             claim: None,
+            calls_left: None,
             faults: 0,
         }
     }
@@ -44,6 +48,38 @@ impl Banks {
     /// Lets a bank say that it has so many bytes.
     pub fn claim(&mut self, bank: Bank, size: u64) {
         self.claim = Some((bank, size));
+    }
+
+    /// Banks of the same bytes.
+    pub fn copy(&self, alloc: Global) -> Result<Banks, AllocError> {
+        let mut copy = Banks::new(alloc);
+        copy.a = Vec::from_slice(alloc, self.a.as_slice())?;
+        copy.b = Vec::from_slice(alloc, self.b.as_slice())?;
+        Ok(copy)
+    }
+
+    /// Answers so many calls, and refuses all behind them.
+    pub fn stop_after(&mut self, calls: u64) {
+        self.calls_left = Some(calls);
+    }
+
+    /// Answers all calls.
+    pub fn go_on(&mut self) {
+        self.calls_left = None;
+    }
+
+    /// Counts a call, and says whether it is answered.
+    fn answers(&mut self) -> bool
+        ensures { self.new.faults ≡ self.old.faults }
+    {
+        match self.calls_left {
+            None => true,
+            Some(0) => false,
+            Some(calls) => {
+                self.calls_left = Some(calls - 1);
+                true
+            }
+        }
     }
 
     fn size_of(&self, bank: Bank) -> u64 {
@@ -93,10 +129,16 @@ impl Disk for Banks {
     ghost only_now = { λ disk tells. absurd tells };
 
     fn size(&mut self, bank: Bank) -> Result<u64, Fault> {
+        if !self.answers() {
+            return Err(self.fails());
+        }
         Ok(self.size_of(bank))
     }
 
     fn read_at(&mut self, bank: Bank, place: u64, into: &mut [u8]) -> Result<(), Fault> {
+        if !self.answers() {
+            return Err(self.fails());
+        }
         let held = self.bytes(bank);
         let place = place as usize;
         if held.len() < place || held.len() - place < into.len() {
@@ -108,13 +150,16 @@ impl Disk for Banks {
     }
 
     fn write_at(&mut self, bank: Bank, place: u64, bytes: &[u8]) -> Result<(), Fault> {
-        if self.write(bank, place as usize, bytes).is_err() {
+        if !self.answers() || self.write(bank, place as usize, bytes).is_err() {
             return Err(self.fails());
         }
         Ok(())
     }
 
     fn sync(&mut self, _: Bank) -> Result<(), Fault> {
+        if !self.answers() {
+            return Err(self.fails());
+        }
         Ok(())
     }
 }

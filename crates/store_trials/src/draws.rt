@@ -1,4 +1,5 @@
 //! Numbers that follow from a seed, one after the other.
+ghost use Rattle.std.specs.Prelude.{◌<◌};
 
 /// A generator by one product and one sum.
 #[derive(Drop)]
@@ -12,7 +13,9 @@ impl Draws {
     }
 
     /// The next number below a bound, 0 where nothing is below it.
-    pub fn below(&mut self, bound: usize) -> usize {
+    pub fn below(&mut self, bound: usize) -> usize
+        ensures { 0 < bound → result < bound }
+    {
         self.state = self
             .state
             .wrapping_mul(6_364_136_223_846_793_005)

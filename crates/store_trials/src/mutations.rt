@@ -8,6 +8,9 @@ use world_api::Bank;
 /// A bank isn't doubled past this many bytes.
 const SMALL: usize = 512;
 
+/// The bytes of a length.
+const LENGTH: usize = 4;
+
 /// The least size that is over the limit of a bank.
 const LARGE: u64 = (1 << 40) + 1;
 
@@ -46,7 +49,7 @@ fn spoil_bank(alloc: Global, draws: &mut Draws, bank: &mut Vec<u8>) -> Result<()
             bank.truncate(len);
         }
         2 => double(alloc, bank)?,
-        _ => enlarge(draws, bank.as_mut_slice()),
+        _ => set_length(draws, bank.as_mut_slice()),
     }
     Ok(())
 }
@@ -82,10 +85,28 @@ fn double(alloc: Global, bank: &mut Vec<u8>) -> Result<()> {
     Ok(())
 }
 
-/// Puts the greatest length at some place.
-fn enlarge(draws: &mut Draws, bank: &mut [u8]) {
-    let place = draws.below(bank.len());
-    for byte in bank.iter_mut().skip(place).take(4) {
-        *byte = 255;
+/// Puts a length at some place.
+fn set_length(draws: &mut Draws, bank: &mut [u8]) {
+    if bank.len() < LENGTH {
+        return;
+    }
+    let last = bank.len() - LENGTH;
+    let place = draws.below(last + 1);
+    let len = length_of(draws.below(8), last - place);
+    bank[place..place + LENGTH].copy_from_slice(&len.to_be_bytes());
+}
+
+/// A length at an end of its range, or about as long as what stands behind it.
+fn length_of(choice: usize, behind: usize) -> u32 {
+    let behind = u32::try_from(behind).unwrap_or(u32::MAX);
+    match choice {
+        0 => 0,
+        1 => 1,
+        2 => behind.saturating_sub(1),
+        3 => behind,
+        4 => behind.saturating_add(1),
+        5 => 1 << 31,
+        6 => u32::MAX - 1,
+        _ => u32::MAX,
     }
 }

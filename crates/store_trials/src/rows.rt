@@ -1,9 +1,12 @@
 //! The rows of the table.
 use crate::disk::Banks;
+use crate::many::many_text;
 use crate::record::{decider_of, record_of};
-use crate::shown::{bytes_text, includes_text, record_text};
+use crate::shown::{bytes_text, found_text, includes_text, record_text, refusal_text};
 use crate::spoilt::{cuts_text, flips_text};
+use crate::stops::stops_text;
 use crate::tally::Tally;
+use crate::told::told_text;
 use anyhow::{Result, anyhow};
 use c_scanner::includes;
 use deciders::{Rec, changed, decode, encode, push_record, spelled_len};
@@ -52,6 +55,7 @@ impl Rows {
             "cuts" => self.cuts_row(alloc, rest),
             "flips" => self.flips_row(alloc, rest),
             "mutate" => self.mutate_row(alloc, rest),
+            "mutations" => self.mutations_row(alloc, rest),
             _ => self.store_row(alloc, verb, rest),
         }
     }
@@ -67,6 +71,8 @@ impl Rows {
             "put" => self.put_row(alloc),
             "give_up" => self.give_up_row(alloc),
             "again" => self.again_row(alloc, rest),
+            "many" => self.many_row(alloc, rest),
+            "stops" => self.stops_row(alloc, rest),
             _ => Err(anyhow!("no row begins with {verb}")),
         }
     }
@@ -123,6 +129,17 @@ impl Rows {
         tally.text(alloc)
     }
 
+    /// `COUNT SEED`.
+    fn mutations_row(&self, alloc: Global, text: &str) -> Result<String> {
+        let (count, seed) = pair_of(text)?;
+        told_text(
+            alloc,
+            &self.banks,
+            count.parse::<u64>()?,
+            seed.parse::<u64>()?,
+        )
+    }
+
     fn recorded_row(&self, alloc: Global, path: &str) -> Result<String> {
         let path = PathText::read(alloc, path)?;
         let (a, b) = (self.banks.bytes(Bank::A), self.banks.bytes(Bank::B));
@@ -133,10 +150,7 @@ impl Rows {
     fn read_row(&mut self, alloc: Global, path: &str) -> Result<String> {
         let path = PathText::read(alloc, path)?;
         match Store::read(alloc, &mut self.banks) {
-            Ok(view) => match view.get(&path) {
-                Some(rec) => record_text(alloc, rec),
-                None => Ok(String::from_str(alloc, "none\n")?),
-            },
+            Ok(view) => found_text(alloc, view.get(&path)),
             Err(refusal) => refusal_text(alloc, refusal),
         }
     }
@@ -167,10 +181,7 @@ impl Rows {
     fn get_row(&self, alloc: Global, path: &str) -> Result<String> {
         let path = PathText::read(alloc, path)?;
         match &self.store {
-            Some(store) => match store.get(&path) {
-                Some(rec) => record_text(alloc, rec),
-                None => Ok(String::from_str(alloc, "none\n")?),
-            },
+            Some(store) => found_text(alloc, store.get(&path)),
             None => Err(anyhow!("no store was begun")),
         }
     }
@@ -226,6 +237,17 @@ impl Rows {
         Ok(String::new(alloc))
     }
 
+    fn many_row(&mut self, alloc: Global, count: &str) -> Result<String> {
+        match &mut self.store {
+            Some(store) => many_text(alloc, store, &mut self.banks, count.parse::<u32>()?),
+            None => Err(anyhow!("no store was begun")),
+        }
+    }
+
+    fn stops_row(&self, alloc: Global, text: &str) -> Result<String> {
+        stops_text(alloc, &self.banks, text)
+    }
+
     fn give_up_row(&mut self, alloc: Global) -> Result<String> {
         match (&mut self.store, self.ticket.take()) {
             (Some(store), Some(ticket)) => {
@@ -259,16 +281,6 @@ fn pair_of(text: &str) -> Result<(&str, &str)> {
     match text.split_once(' ') {
         Some(parts) => Ok(parts),
         None => Err(anyhow!("two words are wanted in {text}")),
-    }
-}
-
-fn refusal_text(alloc: Global, refusal: StoreRefusal) -> Result<String> {
-    match refusal {
-        StoreRefusal::Fault => Ok(String::from_str(alloc, "fault\n")?),
-        StoreRefusal::Foreign(Bank::A) => Ok(String::from_str(alloc, "foreign A\n")?),
-        StoreRefusal::Foreign(Bank::B) => Ok(String::from_str(alloc, "foreign B\n")?),
-        StoreRefusal::Large(size) => Ok(format!(in alloc; "large {size}\n")?),
-        StoreRefusal::Memory => Err(anyhow!("memory ran out")),
     }
 }
 

@@ -1,9 +1,10 @@
 //! How rows show what they give.
-use anyhow::Result;
+use anyhow::{Result, anyhow};
 use c_scanner::Include;
 use deciders::{Dep, Rec};
+use sign_store::StoreRefusal;
 use std::alloc::Global;
-use world_api::Work;
+use world_api::{Bank, Work};
 
 /// Include words, with the marks that SCons's own pattern takes them between.
 pub fn includes_text(alloc: Global, includes: &[Include]) -> Result<String> {
@@ -22,6 +23,24 @@ pub fn bytes_text(alloc: Global, bytes: &[u8]) -> Result<String> {
     let mut text = hex::encode(alloc, bytes)?;
     text.push('\n')?;
     Ok(text)
+}
+
+/// What was found of a path.
+pub fn found_text(alloc: Global, found: Option<&Rec>) -> Result<String> {
+    match found {
+        Some(rec) => record_text(alloc, rec),
+        None => Ok(String::from_str(alloc, "none\n")?),
+    }
+}
+
+pub fn refusal_text(alloc: Global, refusal: StoreRefusal) -> Result<String> {
+    match refusal {
+        StoreRefusal::Fault => Ok(String::from_str(alloc, "fault\n")?),
+        StoreRefusal::Foreign(Bank::A) => Ok(String::from_str(alloc, "foreign A\n")?),
+        StoreRefusal::Foreign(Bank::B) => Ok(String::from_str(alloc, "foreign B\n")?),
+        StoreRefusal::Large(size) => Ok(format!(in alloc; "large {size}\n")?),
+        StoreRefusal::Memory => Err(anyhow!("memory ran out")),
+    }
 }
 
 pub fn record_text(alloc: Global, rec: &Rec) -> Result<String> {

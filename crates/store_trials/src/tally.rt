@@ -47,9 +47,7 @@ impl Tally {
 
     /// Reads the banks, begins a store, and reads them again.
     fn begin(&mut self, alloc: Global, banks: &mut Banks) -> Result<()> {
-        let mut names = Vec::new(alloc);
-        add_names(alloc, banks.bytes(Bank::A), &mut names)?;
-        add_names(alloc, banks.bytes(Bank::B), &mut names)?;
+        let names = names_of(alloc, banks)?;
         match Store::read(alloc, banks) {
             Ok(view) => self.begin_map(alloc, banks, &view, names.as_slice()),
             Err(refusal) => self.refuse(alloc, banks, refusal),
@@ -94,7 +92,7 @@ impl Tally {
 }
 
 /// Whether the store of the banks is the map that was read, and is read again.
-fn is_begun_as(alloc: Global, banks: &mut Banks, view: &View, names: &[PathText]) -> bool {
+pub fn is_begun_as(alloc: Global, banks: &mut Banks, view: &View, names: &[PathText]) -> bool {
     let Ok(store) = Store::begin(alloc, banks) else {
         return false;
     };
@@ -120,7 +118,14 @@ fn is_one(a: Option<&Rec>, b: Option<&Rec>) -> bool {
     }
 }
 
-/// Adds each path that stands at some place of a bank, behind its length.
+/// Each path that stands at some place of a bank, behind its length.
+pub fn names_of(alloc: Global, banks: &Banks) -> Result<Vec<PathText>> {
+    let mut names = Vec::new(alloc);
+    add_names(alloc, banks.bytes(Bank::A), &mut names)?;
+    add_names(alloc, banks.bytes(Bank::B), &mut names)?;
+    Ok(names)
+}
+
 fn add_names(alloc: Global, bank: &[u8], names: &mut Vec<PathText>) -> Result<()> {
     for place in 0..bank.len() {
         if let Some(name) = name_at(alloc, &bank[place..]) {
