@@ -26,7 +26,10 @@ pub fn many_text(
         return Err(anyhow!("the banks can't be read"));
     };
     let paths = paths.as_slice();
-    let held = paths.iter().filter(|path| store.get(path).is_some()).count();
+    let held = paths
+        .iter()
+        .filter(|path| store.get(path).is_some())
+        .count();
     let read = paths.iter().filter(|path| view.get(path).is_some()).count();
     Ok(format!(in alloc; "{held} have it, {read} are read\n")?)
 }

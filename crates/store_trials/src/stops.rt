@@ -28,7 +28,13 @@ pub fn stops_text(alloc: Global, banks: &Banks, row: &str) -> Result<String> {
             held = read;
         }
         if is_done {
-            add_run(alloc, &mut text, first, calls.saturating_add(1), held.as_str())?;
+            add_run(
+                alloc,
+                &mut text,
+                first,
+                calls.saturating_add(1),
+                held.as_str(),
+            )?;
             return Ok(text);
         }
         before = after;
