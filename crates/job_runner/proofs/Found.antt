@@ -7,7 +7,7 @@ use Rattle.std.specs.Option.{unwrap_or}
 use Rattle.std.proofs.lemmas.Bool.{eqb-false}
 use Rattle.job_runner.specs.Seats.{times}
 use Rattle.job_runner.specs.Slips.{slip_of}
-use Rattle.job_runner.specs.Outs.{Returns}
+use Rattle.job_runner.specs.Outs.{ReturnsAt}
 use Rattle.job_runner.specs.declared.slip.Slip.{Slip}
 use Rattle.job_runner.specs.declared.slip.Ending.{Ending}
 use Rattle.job_runner.specs.declared.entry.Numbered.{Numbered}
@@ -81,9 +81,8 @@ if_none (Some x) P p = tt
 
 -- the slip at this place of the list comes back
 pub returns_at : (ending : Ending) (old seen new : List Numbered) (place : ℕ) → seen ≡ old → (number : ℕ) × (slice_get (map slip_of seen) place ≡ Some (number, arc_value ending.slip))
-    → new ≡ remove old place → Returns ending (map slip_of old) (map slip_of new)
+    → new ≡ remove old place → ReturnsAt place ending (map slip_of old) (map slip_of new)
 returns_at ending old seen new place same out rest = record {
-  place = place;
   number = out.0;
   own = ap (λ (xs : List Numbered). slice_get (map slip_of xs) place) (sym same) ∙ out.1;
   rest = ap (λ (xs : List Numbered). map slip_of xs) rest ∙ map_remove slip_of old place;

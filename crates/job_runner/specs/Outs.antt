@@ -5,9 +5,12 @@ use Rattle.std.specs.List.{remove}
 use Rattle.job_runner.specs.declared.slip.Slip.{Slip}
 use Rattle.job_runner.specs.declared.slip.Ending.{Ending}
 
--- a slip that is out under some number is the ending's own, and it is out no more
-pub record Returns (ending : Ending) (old new : List (ℕ × Slip)) : Type 0 where
-  pub place : ℕ
+-- the slip that is out at this place, under some number, is the ending's own, and it is out no more
+pub record ReturnsAt (place : ℕ) (ending : Ending) (old new : List (ℕ × Slip)) : Type 0 where
   pub number : ℕ
   pub own : slice_get old place ≡ Some (number, arc_value ending.slip)
   pub rest : new ≡ remove old place
+
+-- a slip that is out is the ending's own, and it is out no more
+abbrev pub Returns : Ending → List (ℕ × Slip) → List (ℕ × Slip) → Type 0
+Returns ending old new = (place : ℕ) × ReturnsAt place ending old new

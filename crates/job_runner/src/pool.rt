@@ -1,8 +1,8 @@
 //! A pool of workers round a board. Its caller alone hands slips in and is given their endings.
-ghost use Rattle.std.specs.Prelude.{◌≡◌, ◌<◌, ◌++◌, ◌∷◌, [], ℕ, Some, IfSome, OnOk, OnErr, length, map, slice_get, vec_len};
+ghost use Rattle.std.specs.Prelude.{◌≡◌, ◌<◌, ◌++◌, ◌∷◌, [], ℕ, Some, IfOk, IfSome, OnOk, OnErr, length, map, slice_get, vec_len};
 ghost use Rattle.std.specs.Arc.{arc_value};
 ghost use Rattle.job_runner.specs.Answers.{IsAnswer};
-ghost use Rattle.job_runner.specs.Outs.{Returns};
+ghost use Rattle.job_runner.specs.Outs.{Returns, ReturnsAt};
 ghost use Rattle.job_runner.specs.Slips.{slip_of};
 
 use crate::desk::Desk;
@@ -33,7 +33,9 @@ where
     G: Gate + Send + Sync + Drop + 'static,
 {
     /// A pool without workers yet, and the thread that starts them as they are wanted.
-    pub fn new(alloc: Global, rt: T, runner: R, gate: G) -> Result<Pool<T, R, G>, Memory> {
+    pub fn new(alloc: Global, rt: T, runner: R, gate: G) -> Result<Pool<T, R, G>, Memory>
+        ensures { IfOk result (λ pool. pool.out.items ≡ []) }
+    {
         let shared = Arc::new(alloc, shared_of(alloc, runner, gate))?;
         let theirs = Arc::try_clone(&shared)?;
         let Ok(handle) = rt.clone() else {
@@ -93,9 +95,17 @@ impl<T: Wait, R: Runner, G: Gate> Pool<T, R, G> {
         ensures out { Returns result (map slip_of self.old.out.items) (map slip_of self.new.out.items) }
         ensures own { IsAnswer R.answer result }
     {
+        self.next_place().1
+    }
+
+    /// The same, with the place of the slip on the list of what was out.
+    pub fn next_place(&mut self) -> (usize, Ending)
+        ensures out { ReturnsAt result.0 result.1 (map slip_of self.old.out.items) (map slip_of self.new.out.items) }
+        ensures own { IsAnswer R.answer result.1 }
+    {
         let (place, ending) = next_of(&self.rt, &self.shared, self.out.as_slice());
         let _ = self.out.remove(place);
-        ending
+        (place, ending)
     }
 }
 

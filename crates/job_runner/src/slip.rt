@@ -5,12 +5,15 @@ use scons_base::{Listing, PathText, Text};
 use std::alloc::Global;
 use std::sync::Arc;
 use world_api::{Content, Job, Line, Outcome};
+use world_mem::SharedTable;
 
-/// A job that is handed in. Over a memory world it goes with what its dependencies hold, over the real one without.
+/// A job that is handed in. Over a memory world it goes with what its dependencies hold and with the table of actions, over the real
+/// one without.
 #[derive(Drop)]
 pub struct Slip {
     pub job: Job,
     pub given: Option<Listing<Content>>,
+    pub table: Option<SharedTable>,
 }
 
 /// How the job of a slip ended, with what it made at each target where that is known.
@@ -26,7 +29,9 @@ impl Slip {
     pub fn is_equal(&self, other: &Slip) -> bool
         ensures { IsTrue result ↔ (self.now ≡ other.now) }
     {
-        is_same_job(&self.job, &other.job) && is_same_given(&self.given, &other.given)
+        is_same_job(&self.job, &other.job)
+            && is_same_given(&self.given, &other.given)
+            && is_same_table(&self.table, &other.table)
     }
 }
 
@@ -58,6 +63,16 @@ fn is_same_given(a: &Option<Listing<Content>>, b: &Option<Listing<Content>>) -> 
 {
     match (a, b) {
         (Some(a), Some(b)) => are_same_contents(a.as_slice(), b.as_slice()),
+        (None, None) => true,
+        (Some(_), None) | (None, Some(_)) => false,
+    }
+}
+
+fn is_same_table(a: &Option<SharedTable>, b: &Option<SharedTable>) -> bool
+    ensures { IsTrue result ↔ (a.now ≡ b.now) }
+{
+    match (a, b) {
+        (Some(a), Some(b)) => a.is_equal(b),
         (None, None) => true,
         (Some(_), None) | (None, Some(_)) => false,
     }

@@ -55,7 +55,11 @@ pub fn slip_of(alloc: Global, id: u32) -> Slip {
         signed: Texts::new(Vec::new(alloc)),
         deps: Paths::new(Vec::new(alloc)),
     };
-    Slip { job, given: None }
+    Slip {
+        job,
+        given: None,
+        table: None,
+    }
 }
 
 pub fn run<T>(alloc: Global, rt: T) -> Result<Tally, Memory>

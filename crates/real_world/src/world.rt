@@ -219,7 +219,11 @@ where
             self.start_faults = self.start_faults.saturating_add(1);
             return Err(AskRefusal::Fault);
         }
-        self.pool.hand_in(Slip { job, given: None })?;
+        self.pool.hand_in(Slip {
+            job,
+            given: None,
+            table: None,
+        })?;
         Ok(())
     }
 

@@ -22,3 +22,7 @@ pub mod Listing
 pub mod FilesOf
 pub mod Started
 pub mod Anew
+pub mod Filled
+pub mod Same
+pub mod Readied
+pub mod Without

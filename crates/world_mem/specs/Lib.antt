@@ -22,3 +22,5 @@ pub mod Room
 pub mod Laws
 pub mod Waits
 pub mod SinkMeans
+pub mod Ready
+pub mod Told

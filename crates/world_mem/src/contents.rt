@@ -1,10 +1,11 @@
 //! Lists of paths with their contents.
-ghost use Rattle.std.specs.Prelude.{◌≡◌, IfOk, OnOk, OnErr, ◌++◌, ◌∷◌, [], List, ℕ, Option, Some, length};
+ghost use Rattle.std.specs.Prelude.{◌≡◌, ◌<◌, IfOk, OnOk, OnErr, ◌++◌, ◌∷◌, [], List, ℕ, Option, Some, length};
 ghost use Rattle.std.specs.Option.{option_copied};
 ghost use Rattle.world_mem.specs.Kept.{contents_in};
 ghost use Rattle.world_mem.specs.Listed.{listed, same_given};
+ghost use Rattle.world_mem.specs.Told.{contents_of, paired, refilled, with_content};
 
-use scons_base::{Blob, Memory, PathText};
+use scons_base::{Blob, Listing, Memory, PathText, Paths};
 use std::alloc::Global;
 use std::marker::Model;
 use world_api::Content;
@@ -28,6 +29,10 @@ impl Contents {
         ensures { result ≡ items.items }
     {
         Contents { items }
+    }
+
+    pub(crate) fn alloc(&self) -> Global {
+        *self.items.allocator()
     }
 
     pub fn as_slice(&self) -> &[(PathText, Content)]
@@ -71,6 +76,25 @@ impl Contents {
         self.items == other.items
     }
 
+    /// Puts these contents in the place of those that the paths have, in their order.
+    pub(crate) fn refill(&mut self, contents: Listing<Content>)
+        requires { length contents ≡ length self.old }
+        ensures { self.new ≡ refilled self.old contents }
+    {
+        refill(&mut self.items, contents.into_vec());
+    }
+
+    /// The contents alone.
+    pub fn contents(&self) -> Result<Listing<Content>, Memory>
+        ensures { IfOk result (λ contents. contents ≡ contents_of self.now) }
+    {
+        let mut contents = Listing::empty(*self.items.allocator());
+        for (_, content) in &self.items {
+            contents.push(copy_content(content)?)?;
+        }
+        Ok(contents)
+    }
+
     /// The content that is listed first for a path, or `None`.
     pub fn listed(&self, path: &PathText) -> Option<&Blob>
         ensures { option_copied result ≡ listed self.now path.now }
@@ -111,4 +135,43 @@ pub fn group_of(alloc: Global, path: &PathText, bytes: &[u8]) -> Result<Contents
     let mut group = Contents::new(Vec::new(alloc));
     group.push(path.copy()?, Some(Blob::of(alloc, bytes)?))?;
     Ok(group)
+}
+
+/// Puts contents beside the paths, in their order.
+#[tactic(auto, using(crate::proofs::Filled::filled_all))]
+fn refill(items: &mut Vec<(PathText, Content)>, contents: Vec<Content>)
+    requires { length contents.items ≡ length items.old.items }
+    ensures { items.new.items ≡ refilled items.old.items contents.items }
+{
+    let mut place = 0;
+    'contents: for content in contents {
+        put_content(items, place, content);
+        place += 1;
+    }
+}
+
+fn put_content(items: &mut Vec<(PathText, Content)>, place: usize, content: Content)
+    requires { place < length items.old.items }
+    ensures items { items.new.items ≡ with_content place content items.old.items }
+    ensures len { length items.new.items ≡ length items.old.items }
+{
+    items[place].1 = content;
+}
+
+/// Paths with the contents that stand beside them; a path without one isn't a file.
+pub fn paired(alloc: Global, paths: &Paths, contents: &[Content]) -> Result<Contents, Memory>
+    ensures { IfOk result (λ pairs. pairs ≡ paired paths.now contents.now) }
+{
+    let mut pairs = Contents::new(Vec::new(alloc));
+    let mut rest = contents;
+    for path in paths.as_slice() {
+        match rest {
+            [content, later @ ..] => {
+                pairs.push(path.copy()?, copy_content(content)?)?;
+                rest = later;
+            }
+            [] => pairs.push(path.copy()?, None)?,
+        }
+    }
+    Ok(pairs)
 }

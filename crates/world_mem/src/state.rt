@@ -75,6 +75,7 @@ pub struct Entering {
 
 impl State {
     ghost use Rattle.std.specs.Prelude.{◌++◌, ◌||◌, if◌then◌else◌, OnErr, IsSome, None, false, unwrap_or, codes};
+    ghost use Rattle.std.specs.List.{remove};
     ghost use Rattle.std.specs.Option.{option_copied};
     ghost use Rattle.world_api.specs.Around.{IsUnused, IsRunningTarget, Running, given_of};
     ghost use Rattle.world_api.specs.Calls.{Asks, MakesDir, Removes, CanStart, Starts, Ends};
@@ -102,6 +103,7 @@ impl State {
         ensures log { IfOk result (λ state. (around_of state).log ≡ []) }
         ensures met { IfOk result (λ state. (around_of state).met ≡ map (λ file. file.1) files.now) }
         ensures law { IfOk result (λ state. (around_of state).law ≡ law_of table) }
+        ensures table { IfOk result (λ state. state.table ≡ table) }
         ensures past { IfOk result (λ state. state.past.items ≡ []) }
         ensures removals { IfOk result (λ state. state.removals ≡ 0) }
         ensures stand { OnOk result ((place : ℕ) → IsRefused files.now place → ⊥) }
@@ -269,7 +271,12 @@ impl State {
         Ok(())
     }
 
-    fn prepare(&self, alloc: Global, job: Job, faults: Faults) -> Result<Entering, Memory>
+    pub(crate) fn prepare(
+        &self,
+        alloc: Global,
+        job: Job,
+        faults: Faults,
+    ) -> Result<Entering, Memory>
         ensures job { IfOk result (λ e. e.run.job ≡ job) }
         ensures given { IfOk result (λ e. e.run.given ≡ given_of (around_of self.now).tree job.deps) }
         ensures made { IfOk result (λ e. e.run.made ≡ makes self.now.table job e.run.given) }
@@ -327,7 +334,7 @@ impl State {
     }
 
     /// Takes the room for a job, its start and its ending.
-    fn make_room(&mut self, alloc: Global, entering: &Entering) -> Result<(), Memory>
+    pub(crate) fn make_room(&mut self, alloc: Global, entering: &Entering) -> Result<(), Memory>
         ensures course { course_of self.new ≡ course_of self.old }
         ensures running { self.new.running.items ≡ self.old.running.items }
         ensures running_len { vec_len self.new.running ≡ vec_len self.old.running }
@@ -395,7 +402,7 @@ impl State {
         )
     }
 
-    fn enter(&mut self, entering: Entering)
+    pub(crate) fn enter(&mut self, entering: Entering)
         requires new_id { (other : RunningJob) → Contains self.old.running.items other → other.job.id ≢ entering.run.job.id }
         requires own_targets { (other : RunningJob) (path : List ℕ) → Contains self.old.running.items other → Contains entering.run.job.targets path → Contains other.job.targets path → ⊥ }
         requires clear { (path : List ℕ) → Contains entering.run.job.targets path → content_of (slot_at self.old.slots path) ≡ None }
@@ -447,6 +454,7 @@ impl State {
         ensures absent { (d : Running) (path : List ℕ) → result.outcome ≢ Outcome.Done → Contains (slice_index_or (around_of self.old).running place d).job.targets path → (around_of self.new).tree path ≡ None }
         ensures met { (d : Running) → result.outcome ≡ Outcome.Done → (around_of self.new).met ≡ (around_of self.old).met ++ contents_in (makes self.old.table (slice_index_or (around_of self.old).running place d).job (slice_index_or (around_of self.old).running place d).given) }
         ensures unmet { result.outcome ≢ Outcome.Done → (around_of self.new).met ≡ (around_of self.old).met }
+        ensures rest { self.new.running.items ≡ remove self.old.running.items place }
         ensures fewer { vec_len self.new.running + 1 ≡ vec_len self.old.running }
         ensures removals { self.new.removals ≡ self.old.removals }
         ensures table { self.new.table ≡ self.old.table }

@@ -1,10 +1,10 @@
 //! The table of actions.
-ghost use Rattle.std.specs.Prelude.{◌≡◌, List};
+ghost use Rattle.std.specs.Prelude.{◌≡◌, List, IfOk};
 ghost use Rattle.std.specs.Option.{option_copied};
 ghost use Rattle.world_mem.specs.Table.{fits, row_for};
 
 use crate::contents::Contents;
-use scons_base::Texts;
+use scons_base::{Memory, Texts};
 use std::marker::Model;
 
 /// What an action of a row does.
@@ -24,7 +24,28 @@ pub struct ActRow {
     pub made: Made,
 }
 
+impl Made {
+    fn copy(&self) -> Result<Made, Memory>
+        ensures { IfOk result (λ copied. copied ≡ self.now) }
+    {
+        match self {
+            Made::Files(contents) => Ok(Made::Files(contents.copy()?)),
+            Made::Fail(code) => Ok(Made::Fail(*code)),
+        }
+    }
+}
+
 impl ActRow {
+    fn copy(&self) -> Result<ActRow, Memory>
+        ensures { IfOk result (λ copied. copied ≡ self.now) }
+    {
+        Ok(ActRow {
+            signed: self.signed.copy()?,
+            given: copy_given(&self.given)?,
+            made: self.made.copy()?,
+        })
+    }
+
     fn fits(&self, signed: &Texts, given: &Contents) -> bool
         ensures { result ≡ fits self.now signed.now given.now }
     {
@@ -42,6 +63,15 @@ pub struct ActTable {
     rows: Vec<ActRow>,
 }
 
+fn copy_given(given: &Option<Contents>) -> Result<Option<Contents>, Memory>
+    ensures { IfOk result (λ copied. copied ≡ given.now) }
+{
+    match given {
+        Some(contents) => Ok(Some(contents.copy()?)),
+        None => Ok(None),
+    }
+}
+
 impl Model for ActTable {
     ghost use Rattle.std.specs.Prelude.{List};
     ghost use Rattle.world_mem.specs.declared.table.ActRow.{ActRow};
@@ -56,6 +86,23 @@ impl ActTable {
         ensures { result ≡ rows.items }
     {
         ActTable { rows }
+    }
+
+    pub(crate) fn rows(&self) -> &[ActRow]
+        ensures { result.now ≡ self.now }
+    {
+        self.rows.as_slice()
+    }
+
+    /// The same rows once more.
+    pub fn copy(&self) -> Result<ActTable, Memory>
+        ensures { IfOk result (λ copied. copied ≡ self.now) }
+    {
+        let mut rows = Vec::with_capacity(*self.rows.allocator(), self.rows.len())?;
+        for row in &self.rows {
+            rows.push(row.copy()?)?;
+        }
+        Ok(ActTable { rows })
     }
 
     /// The row that counts for these signed lines and what is given.

@@ -72,12 +72,14 @@ impl MemWorld {
         ensures log { IfOk result (λ world. (around_of world.state).log ≡ []) }
         ensures met { IfOk result (λ world. (around_of world.state).met ≡ map (λ file. file.1) files.items) }
         ensures law { IfOk result (λ world. (around_of world.state).law ≡ law_of table) }
+        ensures table { IfOk result (λ world. world.state.table ≡ table) }
         ensures seen { IfOk result (λ world. (bank : Bank) → world_meaning.seen world bank ≡ []) }
         ensures clock { IfOk result (λ world. world_meaning.clock world ≡ 0) }
         ensures counts { IfOk result (λ world. counts_of world.faults ≡ record { disk_faults = 0; tree_faults = 0; start_faults = 0; action_failures = 0 }) }
         ensures calls { IfOk result (λ world. (call : Call) → count_of call world.calls ≡ 0) }
         ensures orders { IfOk result (λ world. world.orders ≡ orders) }
         ensures failing { IfOk result (λ world. world.calls.failing ≡ failing) }
+        ensures unfused { IfOk result (λ world. world.calls.fuse ≡ None) }
         ensures stand { OnOk result ((place : ℕ) → IsRefused files.items place → ⊥) }
         ensures place { IfErr result (λ refusal. (place : ℕ) → refusal ≡ NewRefusal.Place place → IsFirstRefused files.items place) }
     {

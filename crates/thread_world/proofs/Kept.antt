@@ -1,0 +1,28 @@
+-- What stays as it was over a call.
+use Rattle.std.proofs.Common.{◌≡◌, ◌∙◌, sym, ap, subst, ℕ, List}
+use Rattle.job_runner.specs.declared.slip.Slip.{Slip}
+use Rattle.std.specs.Prelude.{Result, Ok, Err, OnOk, OnErr}
+use Rattle.world_api.specs.Around.{Around, Running}
+use Rattle.world_api.specs.Calls.{Asks, MakesDir}
+use Rattle.world_mem.specs.CallCounts.{counted, burned}
+use Rattle.world_mem.specs.declared.calls.Call.{Call}
+use Rattle.world_mem.specs.declared.calls.Calls.{Calls}
+use Rattle.world_mem.specs.declared.table.ActRow.{ActRow}
+use Rattle.thread_world.specs.Step.{InStep, IsSpared}
+
+pub step_same : (rows rows' : List ActRow) (running running' : List Running) (out : List (ℕ × Slip)) → rows' ≡ rows → running' ≡ running → InStep rows running out → InStep rows' running' out
+step_same rows rows' running running' out same_rows same step =
+    subst (λ (r : List ActRow). InStep r running' out) (sym same_rows) (subst (λ (r : List Running). InStep rows r out) (sym same) step)
+
+pub spared_counted : (call : Call) (old new : Calls) → new ≡ counted call old → IsSpared old → IsSpared new
+spared_counted call old new is spared = record {
+  listed = ap (λ (c : Calls). c.failing.items) is ∙ spared.listed;
+  fuse = ap (λ (c : Calls). c.fuse) is ∙ ap burned spared.fuse;
+}
+
+pub spared_same : (old new : Calls) → new ≡ old → IsSpared old → IsSpared new
+spared_same old new is spared = subst IsSpared (sym is) spared
+
+pub running_made : {T E : Type 0} (path : List ℕ) (result : Result T E) (old new : Around) → OnOk result (MakesDir path old new) → OnErr result (Asks old new) → new.running ≡ old.running
+running_made path (Ok x) old new made refused = made.running
+running_made path (Err e) old new made refused = refused.running

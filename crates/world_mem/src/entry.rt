@@ -1,0 +1,93 @@
+//! A start in two steps, and an ending that is told: what a world whose jobs run elsewhere asks of the files and jobs.
+ghost use Rattle.std.specs.Prelude.{◌≡◌, ◌≢◌, ◌+◌, ◌<◌, ◌++◌, ℕ, List, None, Contains, IfOk, OnOk, length, vec_len};
+ghost use Rattle.std.specs.List.{remove, slice_index_or};
+
+use crate::event::Faults;
+use crate::state::{Entering, State};
+use scons_base::{Listing, Memory};
+use std::alloc::Global;
+use world_api::{Content, Ended, Job, Outcome};
+
+impl State {
+    ghost use Rattle.world_api.specs.Around.{Running};
+    ghost use Rattle.world_api.specs.Calls.{CanStart, Starts, Ends};
+    ghost use Rattle.world_mem.specs.AsAround.{around_of};
+    ghost use Rattle.world_mem.specs.AsCourse.{course_of};
+    ghost use Rattle.world_mem.specs.Kept.{contents_in, counts_of};
+    ghost use Rattle.world_mem.specs.Past.{before};
+    ghost use Rattle.world_mem.specs.Planned.{makes};
+    ghost use Rattle.world_mem.specs.Ready.{IsReady};
+    ghost use Rattle.world_mem.specs.Told.{IsTold, contents_of};
+    ghost use Rattle.world_mem.specs.declared.event.Event.{Event};
+    ghost use Rattle.world_mem.specs.declared.running.RunningJob.{RunningJob};
+
+    /// Plans a job, and takes all room that its start and its ending need. It doesn't start yet.
+    pub(crate) fn ready(
+        &mut self,
+        alloc: Global,
+        job: Job,
+        faults: Faults,
+    ) -> Result<Entering, Memory>
+        requires { CanStart job (around_of self.old) }
+        ensures ready { IfOk result (λ entering. IsReady entering self.new) }
+        ensures job { IfOk result (λ entering. entering.run.job ≡ job) }
+        ensures event { IfOk result (λ entering. entering.event ≡ Event.Started job faults) }
+        ensures course { course_of self.new ≡ course_of self.old }
+        ensures running { vec_len self.new.running ≡ vec_len self.old.running }
+        ensures removals { self.new.removals ≡ self.old.removals }
+        ensures table { self.new.table ≡ self.old.table }
+    {
+        let entering = self.prepare(alloc, job, faults)?;
+        self.make_room(alloc, &entering)?;
+        Ok(entering)
+    }
+
+    /// Starts a job that is ready.
+    pub(crate) fn enter_ready(&mut self, entering: Entering)
+        requires { IsReady entering self.old }
+        ensures started { (faults : Faults) → entering.event ≡ Event.Started entering.run.job faults → Starts entering.run.job (counts_of faults) (around_of self.old) (around_of self.new) }
+        ensures back { before (course_of self.new) ≡ course_of self.old }
+        ensures more { vec_len self.new.running ≡ vec_len self.old.running + 1 }
+        ensures removals { self.new.removals ≡ self.old.removals }
+        ensures table { self.new.table ≡ self.old.table }
+    {
+        self.enter(entering);
+    }
+
+    /// Ends the job at a place among those that run as it is told, with these contents at its targets where it is done.
+    pub(crate) fn end_as(&mut self, place: usize, outcome: Outcome, made: Listing<Content>) -> Ended
+        requires place { place < length (around_of self.old).running }
+        requires told { (d : Running) → IsTold self.old.table (slice_index_or (around_of self.old).running place d) outcome made }
+        ensures ended { Ends (Unit {0}) result (around_of self.old) (around_of self.new) }
+        ensures back { before (course_of self.new) ≡ course_of self.old }
+        ensures chosen { (d : Running) → result.id ≡ (slice_index_or (around_of self.old).running place d).job.id }
+        ensures outcome { result.outcome ≡ outcome }
+        ensures absent { (d : Running) (path : List ℕ) → outcome ≢ Outcome.Done → Contains (slice_index_or (around_of self.old).running place d).job.targets path → (around_of self.new).tree path ≡ None }
+        ensures met { (d : Running) → outcome ≡ Outcome.Done → (around_of self.new).met ≡ (around_of self.old).met ++ contents_in (makes self.old.table (slice_index_or (around_of self.old).running place d).job (slice_index_or (around_of self.old).running place d).given) }
+        ensures unmet { outcome ≢ Outcome.Done → (around_of self.new).met ≡ (around_of self.old).met }
+        ensures rest { self.new.running.items ≡ remove self.old.running.items place }
+        ensures fewer { vec_len self.new.running + 1 ≡ vec_len self.old.running }
+        ensures removals { self.new.removals ≡ self.old.removals }
+        ensures table { self.new.table ≡ self.old.table }
+    {
+        if outcome == Outcome::Done {
+            self.refill(place, made);
+            return self.end(place, None);
+        }
+        self.end(place, Some(outcome))
+    }
+
+    /// Puts contents in the place of equal ones that were planned for a running job.
+    fn refill(&mut self, place: usize, made: Listing<Content>)
+        requires place { place < vec_len self.old.running }
+        requires planned { (d : RunningJob) → made ≡ contents_of (slice_index_or self.old.running.items place d).made }
+        ensures course { course_of self.new ≡ course_of self.old }
+        ensures running { self.new.running.items ≡ self.old.running.items }
+        ensures len { vec_len self.new.running ≡ vec_len self.old.running }
+        ensures removals { self.new.removals ≡ self.old.removals }
+        ensures table { self.new.table ≡ self.old.table }
+    {
+        let run = &mut self.running[place];
+        run.made.refill(made);
+    }
+}
