@@ -1,5 +1,6 @@
-pub mod Carried
 pub mod Kept
 pub mod Passed
 pub mod Comes
 pub mod Entered
+pub mod Started
+pub mod Told

@@ -21,17 +21,17 @@ module _ (old mid new : MemWorld) (idle : Idle old mid) where
 
   meant : (around : Around) (banks : Banks) → Meanwhile world_meaning mid new around banks → Meanwhile world_meaning old new around banks
   meant around banks (inl asked) = inl (
-      subst (λ (a : Around). Asks a around) around_same asked.0,
-      λ bank. subst (λ (m : Machine). IsImage m.store bank (banks bank)) idle.machine (asked.1 bank),
-    )
+    subst (λ (a : Around). Asks a around) around_same asked.0,
+    λ bank. subst (λ (m : Machine). IsImage m.store bank (banks bank)) idle.machine (asked.1 bank),
+  )
   meant around banks (inr now) = inr now
 
   before_it : (around : Around) (banks : Banks) → Meanwhile world_meaning old mid around banks → Meanwhile world_meaning old new around banks
   before_it around banks (inl asked) = inl asked
   before_it around banks (inr now) = inl (
-      asks (world_meaning.around old) around (now.0 ∙ around_same),
-      λ bank. subst (λ (m : Machine). IsImage m.store bank (banks bank)) idle.machine (now.1 bank),
-    )
+    asks (world_meaning.around old) around (now.0 ∙ around_same),
+    λ bank. subst (λ (m : Machine). IsImage m.store bank (banks bank)) idle.machine (now.1 bank),
+  )
 
   pub time_passed : Throughout world_meaning mid new (Meanwhile world_meaning mid new) → Throughout world_meaning old new (Meanwhile world_meaning old new)
   time_passed t = record {

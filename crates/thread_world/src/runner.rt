@@ -1,14 +1,14 @@
 //! What a worker makes of a slip.
 ghost use Rattle.std.specs.Prelude.{◌≡◌, Some, IfOk};
 ghost use Rattle.job_runner.specs.Answers.{Answer, IsAnswer};
-ghost use Rattle.thread_world.specs.Comes.{comes_to};
+ghost use Rattle.thread_world.specs.Comes.{answer_by, comes_to};
 
 use job_runner::{Ending, Runner, Slip};
 use scons_base::{Listing, Memory};
 use std::alloc::Global;
 use std::sync::Arc;
-use world_api::{Content, Outcome};
-use world_mem::{made_by, outcome_of, paired};
+use world_api::{Content, Job, Outcome};
+use world_mem::{ActTable, Contents, made_by, outcome_of, paired};
 
 /// Runs a job by the table of actions that its slip has, over what the slip says that the job is given.
 #[derive(Drop)]
@@ -20,14 +20,17 @@ impl Runner for TableRunner {
     ghost answer = { comes_to };
 
     fn run(&self, slip: Arc<Slip, Global>) -> Ending {
-        let (outcome, made) = match come(self.alloc, &slip) {
-            Ok(end) => end,
-            Err(_) => (Outcome::NoMemory, None),
-        };
-        Ending {
-            slip,
-            outcome,
-            made,
+        match come(self.alloc, &slip) {
+            Ok((outcome, made)) => Ending {
+                slip,
+                outcome,
+                made,
+            },
+            Err(_) => Ending {
+                slip,
+                outcome: Outcome::NoMemory,
+                made: None,
+            },
         }
     }
 }
@@ -36,13 +39,39 @@ impl Runner for TableRunner {
 fn come(alloc: Global, slip: &Slip) -> Result<(Outcome, Option<Listing<Content>>), Memory>
     ensures { IfOk result (λ end. (answer : Answer) → comes_to slip.now ≡ Some answer → record { outcome = end.0; made = end.1 } ≡ answer) }
 {
-    match (&slip.table, &slip.given) {
-        (Some(table), Some(given)) => {
-            let given = paired(alloc, &slip.job.deps, given.as_slice())?;
-            let made = made_by(alloc, table.table(), &slip.job, &given)?;
-            let outcome = outcome_of(table.table(), &slip.job, &given);
-            Ok((outcome, Some(made.contents()?)))
-        }
-        _ => Ok((Outcome::Broken, None)),
+    match &slip.table {
+        Some(table) => come_by(alloc, table.table(), slip),
+        None => Ok((Outcome::Broken, None)),
     }
+}
+
+fn come_by(
+    alloc: Global,
+    table: &ActTable,
+    slip: &Slip,
+) -> Result<(Outcome, Option<Listing<Content>>), Memory>
+    requires { slip.now.table ≡ Some table.now }
+    ensures { IfOk result (λ end. (answer : Answer) → comes_to slip.now ≡ Some answer → record { outcome = end.0; made = end.1 } ≡ answer) }
+{
+    match &slip.given {
+        Some(contents) => {
+            let given = paired(alloc, &slip.job.deps, contents.as_slice())?;
+            let (outcome, made) = answer_by(alloc, table, &slip.job, &given)?;
+            Ok((outcome, Some(made)))
+        }
+        None => Ok((Outcome::Broken, None)),
+    }
+}
+
+/// How a job ends by a table, and what it makes.
+fn answer_by(
+    alloc: Global,
+    table: &ActTable,
+    job: &Job,
+    given: &Contents,
+) -> Result<(Outcome, Listing<Content>), Memory>
+    ensures { IfOk result (λ end. record { outcome = end.0; made = Some end.1 } ≡ answer_by table.now job.now given.now) }
+{
+    let made = made_by(alloc, table, job, given)?;
+    Ok((outcome_of(table, job, given), made.contents()?))
 }

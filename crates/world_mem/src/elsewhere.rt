@@ -34,7 +34,7 @@ impl MemWorld {
     ghost use Rattle.std.specs.Prelude.{None};
     ghost use Rattle.world_api.specs.Around.{Running, given_of};
     ghost use Rattle.world_api.specs.Calls.{CanStart, Starts, Ends};
-    ghost use Rattle.world_api.specs.Causes.{HasOutcomeCause};
+    ghost use Rattle.world_api.specs.Causes.{StartFails, HasOutcomeCause};
     ghost use Rattle.world_api.specs.Meaning.{Recalls, Throughout, Meanwhile};
     ghost use Rattle.world_mem.specs.AsAround.{around_of};
     ghost use Rattle.world_mem.specs.Blocked.{AreBlocked};
@@ -60,6 +60,7 @@ impl MemWorld {
         ensures turns { self.new.turns.items ≡ self.old.turns.items }
         ensures horizon { self.new.horizon ≡ self.old.horizon }
         ensures kept { result ≢ Err AskRefusal.Fault → self.new.faults ≡ self.old.faults }
+        ensures rose { result ≡ Err AskRefusal.Fault → StartFails (counts_of self.old.faults) (counts_of self.new.faults) }
         ensures once { result ≡ Err AskRefusal.Fault → counts_of self.new.faults ≡ start_fault (counts_of self.old.faults) }
         ensures listed { Fails Call.Start self.old.calls → result ≡ Err AskRefusal.Fault }
         ensures only { result ≡ Err AskRefusal.Fault → Fails Call.Start self.old.calls ⊎ AreBlocked (around_of self.old.state) job.targets }

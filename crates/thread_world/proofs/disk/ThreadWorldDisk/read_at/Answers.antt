@@ -1,7 +1,6 @@
-use Rattle.std.proofs.Common.{ap}
+use Rattle.std.proofs.Common.{ap, refl}
 use Rattle.world_api.specs.Around.{Around}
 use Rattle.world_mem.specs.declared.calls.Call.TheVariants.{ReadAt}
-use Rattle.thread_world.proofs.Carried.{told_over, recalls_over, banks_over, time_over}
 use Rattle.thread_world.proofs.Kept.{step_same, spared_counted}
 use Rattle.thread_world.proofs.disk.ThreadWorldDisk.read_at.Goals as goal
 
@@ -12,13 +11,13 @@ pub invariant_of-self-clause-spared : goal.invariant_of-self-clause-spared
 invariant_of-self-clause-spared g c = spared_counted ReadAt _ _ c.read_at.ensures.counted c.args.self.now.spared
 
 pub returns-clause-banks : goal.returns-clause-banks
-returns-clause-banks g c = λ told. banks_over (λ w. w.world) _ _ (c.read_at.ensures.banks told)
+returns-clause-banks g c = λ told bank. record { same = (c.read_at.ensures.banks told bank).same; no_more = (c.read_at.ensures.banks told bank).no_more }
 
 pub returns-clause-told : goal.returns-clause-told
-returns-clause-told g c = told_over (λ w. w.world) _ _ c.read_at.ensures.told
+returns-clause-told g c = record { told = λ told. told; sure = λ told sure. sure; closed = refl }
 
 pub returns-clause-recalls : goal.returns-clause-recalls
-returns-clause-recalls g c = recalls_over (λ w. w.world) _ _ c.read_at.ensures.recalls
+returns-clause-recalls g c = record { later = c.read_at.ensures.recalls.later; keeps = c.read_at.ensures.recalls.keeps }
 
 pub returns-clause-time : goal.returns-clause-time
-returns-clause-time g c = time_over (λ w. w.world) _ _ _ c.read_at.ensures.time
+returns-clause-time g c = record { told = c.read_at.ensures.time.told; each = c.read_at.ensures.time.each; before = c.read_at.ensures.time.before; now = c.read_at.ensures.time.now }

@@ -1,7 +1,6 @@
-use Rattle.std.proofs.Common.{ap}
+use Rattle.std.proofs.Common.{ap, refl}
 use Rattle.world_api.specs.Around.{Around}
 use Rattle.world_mem.specs.declared.calls.Call.TheVariants.{Size}
-use Rattle.thread_world.proofs.Carried.{told_over, recalls_over, banks_over, time_over}
 use Rattle.thread_world.proofs.Kept.{step_same, spared_counted}
 use Rattle.thread_world.proofs.disk.ThreadWorldDisk.size.Goals as goal
 
@@ -12,13 +11,13 @@ pub invariant_of-self-clause-spared : goal.invariant_of-self-clause-spared
 invariant_of-self-clause-spared g c = spared_counted Size _ _ c.size.ensures.counted c.args.self.now.spared
 
 pub returns-clause-banks : goal.returns-clause-banks
-returns-clause-banks g c = λ told. banks_over (λ w. w.world) _ _ (c.size.ensures.banks told)
+returns-clause-banks g c = λ told bank. record { same = (c.size.ensures.banks told bank).same; no_more = (c.size.ensures.banks told bank).no_more }
 
 pub returns-clause-told : goal.returns-clause-told
-returns-clause-told g c = told_over (λ w. w.world) _ _ c.size.ensures.told
+returns-clause-told g c = record { told = λ told. told; sure = λ told sure. sure; closed = refl }
 
 pub returns-clause-recalls : goal.returns-clause-recalls
-returns-clause-recalls g c = recalls_over (λ w. w.world) _ _ c.size.ensures.recalls
+returns-clause-recalls g c = record { later = c.size.ensures.recalls.later; keeps = c.size.ensures.recalls.keeps }
 
 pub returns-clause-time : goal.returns-clause-time
-returns-clause-time g c = time_over (λ w. w.world) _ _ _ c.size.ensures.time
+returns-clause-time g c = record { told = c.size.ensures.time.told; each = c.size.ensures.time.each; before = c.size.ensures.time.before; now = c.size.ensures.time.now }

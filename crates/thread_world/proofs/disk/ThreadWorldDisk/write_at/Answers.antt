@@ -1,7 +1,6 @@
-use Rattle.std.proofs.Common.{ap}
+use Rattle.std.proofs.Common.{ap, refl}
 use Rattle.world_api.specs.Around.{Around}
 use Rattle.world_mem.specs.declared.calls.Call.TheVariants.{WriteAt}
-use Rattle.thread_world.proofs.Carried.{told_over, recalls_over, bank_over, time_over}
 use Rattle.thread_world.proofs.Kept.{step_same, spared_counted}
 use Rattle.thread_world.proofs.disk.ThreadWorldDisk.write_at.Goals as goal
 
@@ -12,13 +11,13 @@ pub invariant_of-self-clause-spared : goal.invariant_of-self-clause-spared
 invariant_of-self-clause-spared g c = spared_counted WriteAt _ _ c.write_at.ensures.counted c.args.self.now.spared
 
 pub returns-clause-other : goal.returns-clause-other
-returns-clause-other g c = λ told other off. bank_over (λ w. w.world) _ _ other (c.write_at.ensures.other told other off)
+returns-clause-other g c = λ told other off. record { same = (c.write_at.ensures.other told other off).same; no_more = (c.write_at.ensures.other told other off).no_more }
 
 pub returns-clause-told : goal.returns-clause-told
-returns-clause-told g c = told_over (λ w. w.world) _ _ c.write_at.ensures.told
+returns-clause-told g c = record { told = λ told. told; sure = λ told sure. sure; closed = refl }
 
 pub returns-clause-recalls : goal.returns-clause-recalls
-returns-clause-recalls g c = recalls_over (λ w. w.world) _ _ c.write_at.ensures.recalls
+returns-clause-recalls g c = record { later = c.write_at.ensures.recalls.later; keeps = c.write_at.ensures.recalls.keeps }
 
 pub returns-clause-time : goal.returns-clause-time
-returns-clause-time g c = time_over (λ w. w.world) _ _ _ c.write_at.ensures.time
+returns-clause-time g c = record { told = c.write_at.ensures.time.told; each = c.write_at.ensures.time.each; before = c.write_at.ensures.time.before; now = c.write_at.ensures.time.now }

@@ -1,5 +1,5 @@
+use Rattle.std.proofs.Common.{refl}
 use Rattle.world_mem.specs.declared.calls.Call.TheVariants.{List}
-use Rattle.thread_world.proofs.Carried.{told_over, recalls_over, banks_over, time_over}
 use Rattle.thread_world.proofs.Kept.{step_same, spared_counted}
 use Rattle.thread_world.proofs.tree.ThreadWorldWorld.list.Goals as goal
 
@@ -10,13 +10,13 @@ pub invariant_of-self-clause-spared : goal.invariant_of-self-clause-spared
 invariant_of-self-clause-spared g c = spared_counted List _ _ c.list.ensures.counted c.args.self.now.spared
 
 pub returns-clause-banks : goal.returns-clause-banks
-returns-clause-banks g c = λ told. banks_over (λ w. w.world) _ _ (c.list.ensures.banks told)
+returns-clause-banks g c = λ told bank. record { same = (c.list.ensures.banks told bank).same; no_more = (c.list.ensures.banks told bank).no_more }
 
 pub returns-clause-told : goal.returns-clause-told
-returns-clause-told g c = told_over (λ w. w.world) _ _ c.list.ensures.told
+returns-clause-told g c = record { told = λ told. told; sure = λ told sure. sure; closed = refl }
 
 pub returns-clause-recalls : goal.returns-clause-recalls
-returns-clause-recalls g c = recalls_over (λ w. w.world) _ _ c.list.ensures.recalls
+returns-clause-recalls g c = record { later = c.list.ensures.recalls.later; keeps = c.list.ensures.recalls.keeps }
 
 pub returns-clause-time : goal.returns-clause-time
-returns-clause-time g c = time_over (λ w. w.world) _ _ _ c.list.ensures.time
+returns-clause-time g c = record { told = c.list.ensures.time.told; each = c.list.ensures.time.each; before = c.list.ensures.time.before; now = c.list.ensures.time.now }

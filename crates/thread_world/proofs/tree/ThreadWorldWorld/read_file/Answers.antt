@@ -1,5 +1,5 @@
+use Rattle.std.proofs.Common.{refl}
 use Rattle.world_mem.specs.declared.calls.Call.TheVariants.{ReadFile}
-use Rattle.thread_world.proofs.Carried.{told_over, recalls_over, banks_over, time_over}
 use Rattle.thread_world.proofs.Kept.{step_same, spared_counted}
 use Rattle.thread_world.proofs.tree.ThreadWorldWorld.read_file.Goals as goal
 
@@ -10,13 +10,13 @@ pub invariant_of-self-clause-spared : goal.invariant_of-self-clause-spared
 invariant_of-self-clause-spared g c = spared_counted ReadFile _ _ c.read_file.ensures.counted c.args.self.now.spared
 
 pub returns-clause-banks : goal.returns-clause-banks
-returns-clause-banks g c = λ told. banks_over (λ w. w.world) _ _ (c.read_file.ensures.banks told)
+returns-clause-banks g c = λ told bank. record { same = (c.read_file.ensures.banks told bank).same; no_more = (c.read_file.ensures.banks told bank).no_more }
 
 pub returns-clause-told : goal.returns-clause-told
-returns-clause-told g c = told_over (λ w. w.world) _ _ c.read_file.ensures.told
+returns-clause-told g c = record { told = λ told. told; sure = λ told sure. sure; closed = refl }
 
 pub returns-clause-recalls : goal.returns-clause-recalls
-returns-clause-recalls g c = recalls_over (λ w. w.world) _ _ c.read_file.ensures.recalls
+returns-clause-recalls g c = record { later = c.read_file.ensures.recalls.later; keeps = c.read_file.ensures.recalls.keeps }
 
 pub returns-clause-time : goal.returns-clause-time
-returns-clause-time g c = time_over (λ w. w.world) _ _ _ c.read_file.ensures.time
+returns-clause-time g c = record { told = c.read_file.ensures.time.told; each = c.read_file.ensures.time.each; before = c.read_file.ensures.time.before; now = c.read_file.ensures.time.now }

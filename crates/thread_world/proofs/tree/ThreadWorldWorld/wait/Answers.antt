@@ -1,10 +1,10 @@
-use Rattle.std.proofs.Common.{◌≡◌, sym, subst}
+use Rattle.std.proofs.Common.{◌≡◌, sym, ap, subst, refl}
+use Rattle.mem_banks.specs.AsStore.{store_of}
 use Rattle.world_api.specs.Causes.{HasOutcomeCause}
 use Rattle.world_api.specs.declared.job.Outcome.{Outcome}
 use Rattle.world_mem.specs.Kept.{counts_of}
-use Rattle.thread_world.proofs.Carried.{recalls_over, banks_over, time_over}
 use Rattle.thread_world.proofs.Comes.{place_within, told_at, step_back}
-use Rattle.thread_world.proofs.Kept.{spared_same}
+use Rattle.thread_world.proofs.Kept.{spared_same, step_same}
 use Rattle.thread_world.proofs.Passed.{banks_same}
 use Rattle.thread_world.proofs.tree.ThreadWorldWorld.wait.Goals as goal
 
@@ -13,3 +13,28 @@ end-requires-clause-place g c = place_within _ _ _ _ _ _ c.args.self.now.step c.
 
 pub end-requires-clause-told : goal.end-requires-clause-told
 end-requires-clause-told g c = told_at _ _ _ _ _ _ _ c.args.self.now.step c.next_place-place.ensures.out c.next_place-place.ensures.own c.made_of-made.ensures
+
+pub invariant_of-self-clause-step : goal.invariant_of-self-clause-step
+invariant_of-self-clause-step g c =
+    step_same _ _ _ _ _ c.end.ensures.keeps.table refl (step_back _ _ _ _ _ _ _ c.args.self.now.step c.next_place-place.ensures.out c.end.ensures.rest)
+
+pub invariant_of-self-clause-spared : goal.invariant_of-self-clause-spared
+invariant_of-self-clause-spared g c = spared_same _ _ c.end.ensures.calls c.args.self.now.spared
+
+pub returns-clause-around : goal.returns-clause-around
+returns-clause-around g c = λ told. c.end.ensures.around
+
+pub returns-clause-banks : goal.returns-clause-banks
+returns-clause-banks g c = λ told bank. let kept = banks_same _ _ (ap store_of c.end.ensures.banks) bank in record { same = kept.same; no_more = kept.no_more }
+
+pub returns-clause-told : goal.returns-clause-told
+returns-clause-told g c = record { told = λ told. told; sure = λ told sure. sure; closed = refl }
+
+pub returns-clause-recalls : goal.returns-clause-recalls
+returns-clause-recalls g c = record { later = c.end.ensures.recalls.later; keeps = c.end.ensures.recalls.keeps }
+
+pub returns-clause-time : goal.returns-clause-time
+returns-clause-time g c = record { told = c.end.ensures.time.told; each = c.end.ensures.time.each; before = c.end.ensures.time.before; now = c.end.ensures.time.now }
+
+pub returns-clause-cause : goal.returns-clause-cause
+returns-clause-cause g c = subst (λ (o : Outcome). HasOutcomeCause o _ _) (sym c.end.ensures.outcome) c.end.ensures.cause
