@@ -1,14 +1,14 @@
 -- What stays as it was over a call.
-use Rattle.std.proofs.Common.{◌≡◌, ◌∙◌, sym, ap, subst, ℕ, List}
+use Rattle.std.proofs.Common.{◌≡◌, ◌<◌, ◌∙◌, sym, ap, subst, ℕ, List, [], map, arith}
 use Rattle.job_runner.specs.declared.slip.Slip.{Slip}
-use Rattle.std.specs.Prelude.{Result, Ok, Err, OnOk, OnErr}
+use Rattle.std.specs.Prelude.{Contains, Result, Ok, Err, OnOk, OnErr}
 use Rattle.world_api.specs.Around.{Around, Running}
 use Rattle.world_api.specs.Calls.{Asks, MakesDir}
 use Rattle.world_mem.specs.CallCounts.{counted, burned}
 use Rattle.world_mem.specs.declared.calls.Call.{Call}
 use Rattle.world_mem.specs.declared.calls.Calls.{Calls}
 use Rattle.world_mem.specs.declared.table.ActRow.{ActRow}
-use Rattle.thread_world.specs.Step.{InStep, IsSpared}
+use Rattle.thread_world.specs.Step.{InStep, IsSpared, run_of}
 
 pub step_same : (rows rows' : List ActRow) (running running' : List Running) (out : List (ℕ × Slip)) → rows' ≡ rows → running' ≡ running → InStep rows running out → InStep rows' running' out
 step_same rows rows' running running' out same_rows same step =
@@ -26,3 +26,9 @@ spared_same old new is spared = subst IsSpared (sym is) spared
 pub running_made : {T E : Type 0} (path : List ℕ) (result : Result T E) (old new : Around) → OnOk result (MakesDir path old new) → OnErr result (Asks old new) → new.running ≡ old.running
 running_made path (Ok x) old new made refused = made.running
 running_made path (Err e) old new made refused = refused.running
+
+pub step_none : (rows : List ActRow) (running : List Running) (out : List (ℕ × Slip)) → running ≡ [] → out ≡ [] → InStep rows running out
+step_none rows running out idle empty = record {
+  same = idle ∙ ap (map run_of) (sym empty);
+  whole = λ entry here. absurd (let lt = (subst (λ (slips : List (ℕ × Slip)). Contains slips entry) empty here).1 in omega (arith, lt));
+}

@@ -23,6 +23,7 @@ pub mod FilesOf
 pub mod Started
 pub mod Anew
 pub mod Filled
-pub mod Same
+pub mod SameContents
 pub mod Readied
 pub mod Without
+pub mod ToldPlan

@@ -1,8 +1,12 @@
 //! A start in two steps, and an ending that is told: what a world whose jobs run elsewhere asks of the files and jobs.
-ghost use Rattle.std.specs.Prelude.{◌≡◌, ◌≢◌, ◌+◌, ◌<◌, ◌++◌, ℕ, List, None, Contains, IfOk, OnOk, length, vec_len};
+ghost use Rattle.std.specs.Prelude.{◌≡◌, ◌≢◌, ◌+◌, ◌<◌, ◌≤◌, ◌++◌, ℕ, List, None, Contains, IfOk, OnOk, length, vec_len};
 ghost use Rattle.std.specs.List.{remove, slice_index_or};
+ghost use Rattle.std.specs.Vec.{vec_capacity};
+ghost use Rattle.world_mem.specs.Told.{contents_of};
+ghost use Rattle.world_mem.specs.declared.running.RunningJob.{RunningJob};
 
 use crate::event::Faults;
+use crate::running::RunningJob;
 use crate::state::{Entering, State};
 use scons_base::{Listing, Memory};
 use std::alloc::Global;
@@ -17,9 +21,8 @@ impl State {
     ghost use Rattle.world_mem.specs.Past.{before};
     ghost use Rattle.world_mem.specs.Planned.{makes};
     ghost use Rattle.world_mem.specs.Ready.{IsReady};
-    ghost use Rattle.world_mem.specs.Told.{IsTold, contents_of};
+    ghost use Rattle.world_mem.specs.Told.{IsTold};
     ghost use Rattle.world_mem.specs.declared.event.Event.{Event};
-    ghost use Rattle.world_mem.specs.declared.running.RunningJob.{RunningJob};
 
     /// Plans a job, and takes all room that its start and its ending need. It doesn't start yet.
     pub(crate) fn ready(
@@ -87,7 +90,18 @@ impl State {
         ensures removals { self.new.removals ≡ self.old.removals }
         ensures table { self.new.table ≡ self.old.table }
     {
-        let run = &mut self.running[place];
-        run.made.refill(made);
+        put_made(&mut self.running, place, made);
     }
+}
+
+/// The same, in the list of those that run.
+fn put_made(running: &mut Vec<RunningJob>, place: usize, made: Listing<Content>)
+    requires place { place < length running.old.items }
+    requires planned { (d : RunningJob) → made ≡ contents_of (slice_index_or running.old.items place d).made }
+    ensures items { running.new.items ≡ running.old.items }
+    ensures len { vec_len running.new ≡ vec_len running.old }
+    ensures capacity { vec_capacity running.old ≤ vec_capacity running.new }
+{
+    let run = &mut running[place];
+    run.made.refill(made);
 }

@@ -1,5 +1,5 @@
 use Rattle.std.proofs.lemmas.Slice.Eq.{slice_eq-Decides}
-use Rattle.world_mem.proofs.Same.{pair_eq-Decides}
+use Rattle.world_mem.proofs.SameContents.{pair_eq-Decides}
 use Rattle.world_mem.proofs.same.are_same_contents.Goals as goal
 
 pub returns : goal.returns

@@ -11,7 +11,7 @@ use Rattle.world_mem.specs.Table.{law_of}
 use Rattle.world_mem.specs.declared.event.Event.{Event}
 use Rattle.world_mem.proofs.Membership.{contains_map}
 use Rattle.world_mem.proofs.Raised.{gained_dirs, not_always}
-use Rattle.world_mem.proofs.entry.State.enter_ready.Goals as goal
+use Rattle.world_mem.proofs.state.State.enter_ready.Goals as goal
 
 pub enter-requires-clause-new_id : goal.enter-requires-clause-new_id
 enter-requires-clause-new_id c = λ other h. c.requires.can.new_id (running_of other) (contains_map running_of c.args.self.now.running.items other h)

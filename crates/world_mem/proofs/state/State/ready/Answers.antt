@@ -9,7 +9,7 @@ use Rattle.world_mem.specs.declared.event.Event.{Event}
 use Rattle.world_mem.specs.declared.event.Event.TheVariants.{Started}
 use Rattle.world_mem.specs.declared.table.ActRow.{ActRow}
 use Rattle.world_mem.proofs.Readied.{readied}
-use Rattle.world_mem.proofs.entry.State.ready.Goals as goal
+use Rattle.world_mem.proofs.state.State.ready.Goals as goal
 
 pub returns-clause-ready : goal.returns-clause-ready
 returns-clause-ready c =

@@ -3,7 +3,7 @@ use Rattle.mem_banks.specs.AsStore.{store_of}
 use Rattle.world_mem.specs.declared.past.Turn.TheVariants.{Tree}
 use Rattle.world_mem.proofs.Passing.{turn_recalls, turn_tree}
 use Rattle.world_mem.proofs.Unmade.{unmade_of}
-use Rattle.world_mem.proofs.elsewhere.MemWorld.enter.Goals as goal
+use Rattle.world_mem.proofs.world.MemWorld.enter.Goals as goal
 
 pub invariant_of-self-clause-unmade : goal.invariant_of-self-clause-unmade
 invariant_of-self-clause-unmade c = unmade_of c.enter_ready.new.self
