@@ -44,14 +44,14 @@ pub other_chosen : (b : Bool) (x y : List ℕ) → b ≡ false → choice b x y 
 other_chosen b x y is = ap (λ t. choice t x y) is
 
 module _ (w : Write) (older : List Change) (a b saved : List ℕ) where
-  abbrev now : Store
+  abbrev pub now : Store
   now = record { a = a; b = b; changes = Wrote w ∷ older; saved = saved }
 
-  back_here : (bank : Bank) → same_bank w.bank bank ≡ true → bytes_in (back now) bank ≡ restored w (bytes_in now bank) saved
+  pub back_here : (bank : Bank) → same_bank w.bank bank ≡ true → bytes_in (back now) bank ≡ restored w (bytes_in now bank) saved
   back_here A is = chosen (same_bank w.bank A) (restored w a saved) a is
   back_here B is = chosen (same_bank w.bank B) (restored w b saved) b is
 
-  back_there : (bank : Bank) → same_bank w.bank bank ≡ false → bytes_in (back now) bank ≡ bytes_in now bank
+  pub back_there : (bank : Bank) → same_bank w.bank bank ≡ false → bytes_in (back now) bank ≡ bytes_in now bank
   back_there A is = other_chosen (same_bank w.bank A) (restored w a saved) a is
   back_there B is = other_chosen (same_bank w.bank B) (restored w b saved) b is
 

@@ -1,3 +1,4 @@
 pub mod Splices
 pub mod Images
 pub mod Cuts
+pub mod Picks

@@ -45,6 +45,7 @@ impl MemBanks {
     ghost use Rattle.mem_banks.specs.AsStore.{store_of};
     ghost use Rattle.std.specs.Prelude.{◌%◌};
     ghost use Rattle.mem_banks.specs.Past.{IsImage, synced_in};
+    ghost use Rattle.mem_banks.specs.Picks.{left_of};
 
     /// Two empty banks.
     pub fn new(alloc: Global) -> Result<MemBanks, Memory>
@@ -152,6 +153,7 @@ impl MemBanks {
     /// What a stop may leave of a bank: one outcome, chosen by `pick`. By 0 every write stands, by 1 none that wasn't synced.
     pub fn outcome(&self, alloc: Global, bank: Bank, pick: u32) -> Result<Vec<u8>, Memory>
         ensures image { IfOk result (λ bytes. IsImage (store_of self.now) bank bytes.items) }
+        ensures picked { IfOk result (λ bytes. bytes.items ≡ left_of pick (store_of self.now) bank) }
         ensures stands { pick ≡ 0 → IfOk result (λ bytes. bytes.items ≡ bytes_in (store_of self.now) bank) }
         ensures lost { pick % 4 ≡ 1 → IfOk result (λ bytes. bytes.items ≡ synced_in (store_of self.now) bank) }
         ensures small { IfOk result (λ bytes. vec_len bytes ≤ 4194304) }

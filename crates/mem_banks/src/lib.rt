@@ -7,8 +7,10 @@
 
 mod banks;
 mod change;
+mod laws;
 mod outcome;
 mod overwrite;
 
 pub use banks::{BANK_ROOM, CALL_ROOM, MemBanks, WRITTEN_ROOM};
 pub use change::{Change, Write};
+pub use laws::each_cut_has_a_pick;

@@ -1,7 +1,8 @@
 //! One of the outcomes that a stop may have.
-ghost use Rattle.std.specs.Prelude.{◌≡◌, ◌+◌, ◌≤◌, ◌%◌, length, reverse, vec_len, IfOk, OnOk};
+ghost use Rattle.std.specs.Prelude.{◌≡◌, ◌≢◌, ◌+◌, ◌/◌, ◌≤◌, ◌%◌, length, reverse, vec_len, IfOk, OnOk};
 ghost use Rattle.std.specs.Vec.{vec_capacity};
 ghost use Rattle.mem_banks.specs.Past.{IsLeft, IsAt, Stands, restored, synced_bytes};
+ghost use Rattle.mem_banks.specs.Picks.{cut_of, cut_short, left_as, torn_part};
 ghost use Rattle.mem_banks.specs.declared.outcome.Cut.{Cut};
 ghost use Rattle.world_api.specs.Banks.{Torn};
 
@@ -26,10 +27,7 @@ enum Cut {
 }
 
 fn cut_of(pick: u32) -> Cut
-    ensures stands { pick % 4 ≡ 0 → result ≡ Cut.Stands }
-    ensures lost { pick % 4 ≡ 1 → result ≡ Cut.Lost }
-    ensures half { pick % 4 ≡ 2 → result ≡ Cut.Half }
-    ensures junk { pick % 4 ≡ 3 → result ≡ Cut.Junk }
+    ensures { result ≡ cut_of pick }
 {
     match pick % 4 {
         0 => Cut::Stands,
@@ -50,6 +48,7 @@ pub fn leave(
 ) -> Result<(), Memory>
     requires { IsAt bank (reverse changes.now) bytes.old.items saved.now }
     ensures left { OnOk result (IsLeft bank (reverse changes.now) bytes.old.items saved.now bytes.new.items) }
+    ensures picked { OnOk result (bytes.new.items ≡ left_as (cut_of pick) (pick / 4) bank (reverse changes.now) bytes.old.items saved.now) }
     ensures stands { pick ≡ 0 → OnOk result (bytes.new.items ≡ bytes.old.items) }
     ensures lost { pick % 4 ≡ 1 → OnOk result (bytes.new.items ≡ synced_bytes bank (reverse changes.now) bytes.old.items saved.now) }
 {
@@ -91,8 +90,10 @@ fn tear(
     write: &Write,
     cut: Cut,
 ) -> Result<(), Memory>
-    requires { Stands write.now bytes.old.items saved.now }
-    ensures { OnOk result (Torn write.now.place write.now.count (restored write.now bytes.old.items saved.now) bytes.new.items) }
+    requires stands { Stands write.now bytes.old.items saved.now }
+    requires torn { (cut ≢ Cut.Stands) × (cut ≢ Cut.Lost) }
+    ensures torn { OnOk result (Torn write.now.place write.now.count (restored write.now bytes.old.items saved.now) bytes.new.items) }
+    ensures cut { OnOk result (bytes.new.items ≡ cut_short cut write.now bytes.old.items saved.now) }
 {
     let part = torn_part(alloc, bytes.as_slice(), write, cut)?;
     let mut over = Vec::with_capacity(alloc, part.len())?;
@@ -104,6 +105,7 @@ fn tear(
 /// What stands of a write that is cut short, from its place on.
 fn torn_part(alloc: Global, bytes: &[u8], write: &Write, cut: Cut) -> Result<Vec<u8>, Memory>
     requires { write.now.place ≤ length bytes.now }
+    ensures part { IfOk result (λ part. part.items ≡ torn_part cut write.now bytes.now) }
     ensures small { IfOk result (λ part. vec_len part ≤ write.now.count) }
     ensures within { IfOk result (λ part. write.now.place + vec_len part ≤ length bytes.now) }
 {

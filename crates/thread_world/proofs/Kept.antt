@@ -4,15 +4,20 @@ use Rattle.job_runner.specs.declared.slip.Slip.{Slip}
 use Rattle.std.specs.Prelude.{Contains, Result, Ok, Err, OnOk, OnErr}
 use Rattle.world_api.specs.Around.{Around, Running}
 use Rattle.world_api.specs.Calls.{Asks, MakesDir}
+use Rattle.world_mem.specs.AsAround.{around_of}
 use Rattle.world_mem.specs.CallCounts.{counted, burned}
 use Rattle.world_mem.specs.declared.calls.Call.{Call}
 use Rattle.world_mem.specs.declared.calls.Calls.{Calls}
+use Rattle.world_mem.specs.declared.state.State.{State}
 use Rattle.world_mem.specs.declared.table.ActRow.{ActRow}
 use Rattle.thread_world.specs.Step.{InStep, IsSpared, run_of}
 
 pub step_same : (rows rows' : List ActRow) (running running' : List Running) (out : List (ℕ × Slip)) → rows' ≡ rows → running' ≡ running → InStep rows running out → InStep rows' running' out
 step_same rows rows' running running' out same_rows same step =
     subst (λ (r : List ActRow). InStep r running' out) (sym same_rows) (subst (λ (r : List Running). InStep rows r out) (sym same) step)
+
+pub step_state : (old new : State) (out : List (ℕ × Slip)) → new ≡ old → InStep old.table (around_of old).running out → InStep new.table (around_of new).running out
+step_state old new out same step = subst (λ (s : State). InStep s.table (around_of s).running out) (sym same) step
 
 pub spared_counted : (call : Call) (old new : Calls) → new ≡ counted call old → IsSpared old → IsSpared new
 spared_counted call old new is spared = record {

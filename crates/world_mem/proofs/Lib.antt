@@ -22,6 +22,8 @@ pub mod Listing
 pub mod FilesOf
 pub mod Started
 pub mod Anew
+pub mod Stamped
+pub mod Dirty
 pub mod Filled
 pub mod SameContents
 pub mod Readied

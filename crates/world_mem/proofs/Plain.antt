@@ -1,11 +1,14 @@
 -- How a job ends.
-use Rattle.std.proofs.Common.{◌≡◌, ◌≢◌, ◌⊎◌, inl, inr, refl, ℕ, List, Option, Some, None}
+use Rattle.std.proofs.Common.{◌≡◌, ◌≢◌, ◌⊎◌, inl, inr, refl, ap, unwrap_or, ℕ, List, Option, Some, None}
 use Rattle.world_api.specs.declared.job.Outcome.{Outcome}
 use Rattle.world_api.specs.declared.job.Outcome.TheVariants.{Done, Failed, Broken, NoMemory}
 use Rattle.world_api.specs.Act.{Given}
 use Rattle.world_api.specs.declared.job.Job.{Job}
 use Rattle.world_api.specs.declared.job.Work.{Work}
 use Rattle.world_api.specs.declared.job.Work.TheVariants.{Shell, Copy, Write}
+use Rattle.world_mem.specs.Ending.{cut_of}
+use Rattle.world_mem.specs.declared.calls.Verdict.{Verdict}
+use Rattle.world_mem.specs.declared.calls.Verdict.TheVariants.{Goes, Listed, Spent}
 use Rattle.world_mem.specs.Planned.{ends, IsPlain}
 use Rattle.world_mem.specs.Table.{row_for, shell_outcome, outcome_of, outcome_by}
 use Rattle.world_mem.specs.declared.table.ActRow.{ActRow}
@@ -27,6 +30,22 @@ outcome_plain rows Write signed given = tt
 
 pub ends_plain : (rows : List ActRow) (job : Job) (given : Given) → IsPlain (ends rows job given)
 ends_plain rows job given = outcome_plain rows job.work job.signed given
+
+plain_memory : (outcome : Outcome) → IsPlain outcome → outcome ≢ NoMemory
+plain_memory Done plain is = absurd (cc is)
+plain_memory (Failed code) plain is = absurd (cc is)
+plain_memory Broken plain is = absurd plain
+plain_memory NoMemory plain is = absurd plain
+
+-- what is cut or ends as the table says isn't want of memory
+pub never_memory : (cut : Option Outcome) (outcome : Outcome) → IsPlain outcome → cut ≢ Some NoMemory → unwrap_or cut outcome ≢ NoMemory
+never_memory None outcome plain off = plain_memory outcome plain
+never_memory (Some other) outcome plain off = λ is. off (ap (λ (o : Outcome). Some o) is)
+
+pub cut_memory : (verdict : Verdict) → cut_of verdict ≢ Some NoMemory
+cut_memory Goes is = absurd (cc is)
+cut_memory Listed is = absurd (cc is)
+cut_memory Spent is = absurd (cc is)
 
 pub done_or_not : (outcome : Outcome) → (outcome ≡ Done) ⊎ (outcome ≢ Done)
 done_or_not Done = inl refl

@@ -15,7 +15,8 @@ content_eq-Decides (Some v) None = (λ e. cc, λ e. cc)
 content_eq-Decides (Some v) (Some w) = (λ e. ap Some ((bytes_eq-Decides v w).0 e), λ e. (bytes_eq-Decides v w).1 (ap (λ u. unwrap_or u v) e))
 
 both : (a b : Bool) → a ≡ true → b ≡ true → (a && b) ≡ true
-both a b is is' = rw (is, is') refl
+both true b is is' = is'
+both false b is is' = absurd cc
 
 pair_eq : (p q : List ℕ) (a b : Content) → p ≡ q → a ≡ b → (p, a) ≡ (q, b)
 pair_eq p q a b is is' = ap (λ (x : List ℕ). (x, a)) is ∙ ap (λ (y : Content). (q, y)) is'

@@ -9,6 +9,7 @@ pub mod Blocked
 pub mod Planned
 pub mod Kept
 pub mod AsAround
+pub mod Stamps
 pub mod Held
 pub mod Left
 pub mod ByHand
@@ -19,8 +20,10 @@ pub mod AsCourse
 pub mod Means
 pub mod Stays
 pub mod Room
+pub mod Refuses
 pub mod Laws
 pub mod Waits
+pub mod EachCall
 pub mod SinkMeans
 pub mod Ready
 pub mod Told

@@ -6,7 +6,8 @@ use Rattle.world_api.specs.Meaning.{IsImage}
 use Rattle.world_mem.specs.Means.{machine_of, world_meaning}
 use Rattle.world_mem.specs.declared.world.MemWorld.{MemWorld}
 
--- what is around, the banks and all their moments are as they were, and so are the counts, the calls and the orders
+-- what is around, the banks and all their moments are as they were, and so are the counts, the calls, the orders
+-- and the stamp
 pub record Stays (old new : MemWorld) : Type 0 where
   pub machine : machine_of new ≡ machine_of old
   pub turns : new.turns ≡ old.turns
@@ -14,6 +15,7 @@ pub record Stays (old new : MemWorld) : Type 0 where
   pub faults : new.faults ≡ old.faults
   pub calls : new.calls ≡ old.calls
   pub orders : new.orders ≡ old.orders
+  pub stamp : new.state.stamp ≡ old.state.stamp
 
 -- the record of moments has begun anew
 abbrev pub IsAnew : MemWorld → Type 0

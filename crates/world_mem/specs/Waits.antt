@@ -1,5 +1,5 @@
--- What a wait of a world in memory ends, and what no call changes.
-use Rattle.std.specs.Prelude.{◌≡◌, ◌%◌, ℕ, List, length, slice_index}
+-- What a wait of a world in memory ends.
+use Rattle.std.specs.Prelude.{◌%◌, ℕ, List, length, slice_index}
 use Rattle.std.specs.List.{slice_index_or}
 use Rattle.world_api.specs.Around.{Running}
 use Rattle.world_api.specs.declared.job.Outcome.{Outcome}
@@ -22,8 +22,3 @@ row_ending world run = ends world.state.table run.job run.given
 -- what a job that is done has made, which has been met from then on
 abbrev pub row_contents : MemWorld → Running → List (List ℕ)
 row_contents world run = contents_in (makes world.state.table run.job run.given)
-
--- the table and the orders stay as they were
-pub record Keeps (old new : MemWorld) : Type 0 where
-  pub table : new.state.table ≡ old.state.table
-  pub orders : new.orders ≡ old.orders

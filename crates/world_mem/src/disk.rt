@@ -8,18 +8,20 @@ use mem_banks::{BANK_ROOM, WRITTEN_ROOM};
 use world_api::{Bank, Disk, Fault};
 
 impl Disk for MemWorld {
-    ghost use Rattle.std.specs.Prelude.{◌⊎◌, OnOk, OnErr};
+    ghost use Rattle.std.specs.Prelude.{◌⊎◌, OnOk, OnErr, IsErr};
     ghost use Rattle.world_api.specs.Causes.{DiskFails};
     ghost use Rattle.std.specs.Prelude.{◌≢◌, ◌^◌, ℕ, List, slice_range, IfOk};
     ghost use Rattle.world_api.specs.Around.{Around};
     ghost use Rattle.world_api.specs.Banks.{Banks, Holds, Torn, Follows};
     ghost use Rattle.world_api.specs.Meaning.{IsImage, IsSettled, Told, Recalls, BankKept, BanksKept, Throughout, AtEither};
-    ghost use Rattle.world_mem.specs.CallCounts.{Fails, counted};
-    ghost use Rattle.world_mem.specs.Kept.{disk_fault};
+    ghost use Rattle.mem_banks.specs.AsStore.{store_of};
+    ghost use Rattle.mem_banks.specs.Past.{synced};
+    ghost use Rattle.world_mem.specs.CallCounts.{Fails};
+    ghost use Rattle.world_mem.specs.EachCall.{DiskCall};
     ghost use Rattle.world_mem.specs.Laws.{reads_as_of, counts_now_of, only_now_of};
     ghost use Rattle.world_mem.specs.Means.{world_meaning};
     ghost use Rattle.world_mem.specs.Room.{recorded, HasRoom};
-    ghost use Rattle.world_mem.specs.Waits.{Keeps};
+    ghost use Rattle.world_mem.specs.Refuses.{Writes};
     ghost use Rattle.world_mem.specs.declared.calls.Call.{Call};
 
     ghost meaning = { world_meaning };
@@ -39,11 +41,9 @@ impl Disk for MemWorld {
         ensures time { Throughout world_meaning self.old self.new (AtEither world_meaning self.old self.new) }
         ensures kept { OnOk result (world_meaning.counts self.new ≡ world_meaning.counts self.old) }
         ensures rose { OnErr result (DiskFails (world_meaning.counts self.old) (world_meaning.counts self.new)) }
-        ensures once { OnErr result (world_meaning.counts self.new ≡ disk_fault (world_meaning.counts self.old)) }
-        ensures fails { OnErr result (Fails Call.Size self.old.calls) }
-        ensures goes { OnOk result (Fails Call.Size self.old.calls → ⊥) }
-        ensures counted { self.new.calls ≡ counted Call.Size self.old.calls }
-        ensures keeps { Keeps self.old self.new }
+        ensures exactly { IsErr result ↔ Fails Call.Size self.old.calls }
+        ensures stays { self.new.banks ≡ self.old.banks }
+        ensures each { DiskCall Call.Size (IsErr result) self.old self.new }
     {
         if self.calls.next(Call::Size) != Verdict::Goes {
             self.faults.disk = self.faults.disk.saturating_add(1);
@@ -62,11 +62,9 @@ impl Disk for MemWorld {
         ensures time { Throughout world_meaning self.old self.new (AtEither world_meaning self.old self.new) }
         ensures kept { OnOk result (world_meaning.counts self.new ≡ world_meaning.counts self.old) }
         ensures rose { OnErr result (DiskFails (world_meaning.counts self.old) (world_meaning.counts self.new)) }
-        ensures once { OnErr result (world_meaning.counts self.new ≡ disk_fault (world_meaning.counts self.old)) }
-        ensures fails { OnErr result (Fails Call.ReadAt self.old.calls) }
-        ensures goes { OnOk result (Fails Call.ReadAt self.old.calls → ⊥) }
-        ensures counted { self.new.calls ≡ counted Call.ReadAt self.old.calls }
-        ensures keeps { Keeps self.old self.new }
+        ensures exactly { IsErr result ↔ Fails Call.ReadAt self.old.calls }
+        ensures stays { self.new.banks ≡ self.old.banks }
+        ensures each { DiskCall Call.ReadAt (IsErr result) self.old self.new }
     {
         if self.calls.next(Call::ReadAt) != Verdict::Goes {
             self.faults.disk = self.faults.disk.saturating_add(1);
@@ -92,11 +90,9 @@ impl Disk for MemWorld {
         ensures time { Throughout world_meaning self.old self.new (AtEither world_meaning self.old self.new) }
         ensures kept { OnOk result (world_meaning.counts self.new ≡ world_meaning.counts self.old) }
         ensures rose { OnErr result (DiskFails (world_meaning.counts self.old) (world_meaning.counts self.new)) }
-        ensures once { OnErr result (world_meaning.counts self.new ≡ disk_fault (world_meaning.counts self.old)) }
-        ensures fails { OnErr result (Fails Call.WriteAt self.old.calls ⊎ (HasRoom self.old place (length bytes.now) → ⊥)) }
-        ensures goes { OnOk result (Fails Call.WriteAt self.old.calls → ⊥) }
-        ensures counted { self.new.calls ≡ counted Call.WriteAt self.old.calls }
-        ensures keeps { Keeps self.old self.new }
+        ensures exactly { IsErr result ↔ (Fails Call.WriteAt self.old.calls ⊎ ((bytes.now ≢ []) × (HasRoom self.old place (length bytes.now) → ⊥))) }
+        ensures writes { Writes bank place bytes.now self.old self.new }
+        ensures each { DiskCall Call.WriteAt (IsErr result) self.old self.new }
     {
         let verdict = self.calls.next(Call::WriteAt);
         if verdict == Verdict::Goes && bytes.is_empty() {
@@ -127,11 +123,10 @@ impl Disk for MemWorld {
         ensures time { Throughout world_meaning self.old self.new (AtEither world_meaning self.old self.new) }
         ensures kept { OnOk result (world_meaning.counts self.new ≡ world_meaning.counts self.old) }
         ensures rose { OnErr result (DiskFails (world_meaning.counts self.old) (world_meaning.counts self.new)) }
-        ensures once { OnErr result (world_meaning.counts self.new ≡ disk_fault (world_meaning.counts self.old)) }
-        ensures fails { OnErr result (Fails Call.Sync self.old.calls ⊎ (262144 ≤ recorded self.old)) }
-        ensures goes { OnOk result (Fails Call.Sync self.old.calls → ⊥) }
-        ensures counted { self.new.calls ≡ counted Call.Sync self.old.calls }
-        ensures keeps { Keeps self.old self.new }
+        ensures exactly { IsErr result ↔ (Fails Call.Sync self.old.calls ⊎ (262144 ≤ recorded self.old)) }
+        ensures synced { OnOk result (store_of self.new.banks ≡ synced bank (store_of self.old.banks)) }
+        ensures stays { OnErr result (self.new.banks ≡ self.old.banks) }
+        ensures each { DiskCall Call.Sync (IsErr result) self.old self.new }
     {
         let goes = self.calls.next(Call::Sync) == Verdict::Goes;
         let full = self.is_full();
@@ -165,6 +160,7 @@ impl MemWorld {
     fn put(&mut self, bank: Bank, place: usize, bytes: &[u8], count: usize)
         requires within { place ≤ length (bytes_in (store_of self.old.banks) bank) }
         requires count { length bytes.now ≤ count }
+        requires some { 0 < count }
         requires room { HasRoom self.old place count }
         ensures banks { store_of self.new.banks ≡ wrote bank place bytes.now count (store_of self.old.banks) }
         ensures turns { self.new.turns.items ≡ self.old.turns.items ++ Turn.Disk ∷ [] }

@@ -38,14 +38,14 @@ impl MemWorld {
     ghost use Rattle.world_api.specs.Meaning.{Recalls, Throughout, Meanwhile};
     ghost use Rattle.world_mem.specs.AsAround.{around_of};
     ghost use Rattle.world_mem.specs.Blocked.{AreBlocked};
-    ghost use Rattle.world_mem.specs.CallCounts.{Fails, counted};
+    ghost use Rattle.world_mem.specs.CallCounts.{Fails};
+    ghost use Rattle.world_mem.specs.EachCall.{Keeps, TreeCall};
     ghost use Rattle.world_mem.specs.Ending.{faults_after};
     ghost use Rattle.world_mem.specs.Kept.{contents_in, counts_of, start_fault};
     ghost use Rattle.world_mem.specs.Means.{machine_of, world_meaning};
     ghost use Rattle.world_mem.specs.Planned.{makes};
     ghost use Rattle.world_mem.specs.Ready.{MayEnter};
     ghost use Rattle.world_mem.specs.Told.{IsTold};
-    ghost use Rattle.world_mem.specs.Waits.{Keeps};
     ghost use Rattle.world_mem.specs.declared.calls.Call.{Call};
     ghost use Rattle.world_mem.specs.declared.event.Event.{Event};
 
@@ -61,12 +61,10 @@ impl MemWorld {
         ensures horizon { self.new.horizon ≡ self.old.horizon }
         ensures kept { result ≢ Err AskRefusal.Fault → self.new.faults ≡ self.old.faults }
         ensures rose { result ≡ Err AskRefusal.Fault → StartFails (counts_of self.old.faults) (counts_of self.new.faults) }
-        ensures once { result ≡ Err AskRefusal.Fault → counts_of self.new.faults ≡ start_fault (counts_of self.old.faults) }
         ensures listed { Fails Call.Start self.old.calls → result ≡ Err AskRefusal.Fault }
         ensures only { result ≡ Err AskRefusal.Fault → Fails Call.Start self.old.calls ⊎ AreBlocked (around_of self.old.state) job.targets }
         ensures clear { OnOk result (AreBlocked (around_of self.old.state) job.targets → ⊥) }
-        ensures counted { self.new.calls ≡ counted Call.Start self.old.calls }
-        ensures keeps { Keeps self.old self.new }
+        ensures each { TreeCall Call.Start start_fault (result ≡ Err AskRefusal.Fault) self.old self.new }
     {
         let goes = self.calls.next(Call::Start) == Verdict::Goes;
         if !goes || self.state.is_blocked(self.alloc, &job.targets)? {
@@ -84,7 +82,6 @@ impl MemWorld {
         ensures started { entering.event ≡ Event.Started entering.run.job self.old.faults → Starts entering.run.job (counts_of self.old.faults) (around_of self.old.state) (around_of self.new.state) }
         ensures recalls { Recalls world_meaning self.old self.new }
         ensures time { Throughout world_meaning self.old self.new (Meanwhile world_meaning self.old self.new) }
-        ensures banks { self.new.banks ≡ self.old.banks }
         ensures faults { self.new.faults ≡ self.old.faults }
         ensures calls { self.new.calls ≡ self.old.calls }
         ensures keeps { Keeps self.old self.new }
@@ -108,7 +105,6 @@ impl MemWorld {
         ensures absent { (d : Running) (path : List ℕ) → outcome ≢ Outcome.Done → Contains (slice_index_or (around_of self.old.state).running place d).job.targets path → (around_of self.new.state).tree path ≡ None }
         ensures met { (d : Running) → outcome ≡ Outcome.Done → (around_of self.new.state).met ≡ (around_of self.old.state).met ++ contents_in (makes self.old.state.table (slice_index_or (around_of self.old.state).running place d).job (slice_index_or (around_of self.old.state).running place d).given) }
         ensures unmet { outcome ≢ Outcome.Done → (around_of self.new.state).met ≡ (around_of self.old.state).met }
-        ensures banks { self.new.banks ≡ self.old.banks }
         ensures calls { self.new.calls ≡ self.old.calls }
         ensures keeps { Keeps self.old self.new }
     {

@@ -4,7 +4,7 @@ ghost use Rattle.std.specs.List.{list_any};
 ghost use Rattle.std.specs.Str.{bytes_eq};
 ghost use Rattle.std.specs.Vec.{vec_capacity};
 ghost use Rattle.world_api.specs.Act.{Content};
-ghost use Rattle.world_mem.specs.InSlots.{slot_at, file_of, content_of, mark_of};
+ghost use Rattle.world_mem.specs.InSlots.{slot_at, file_of, content_of, mark_of, stamp_at};
 ghost use Rattle.world_mem.specs.declared.slots.File.{File};
 ghost use Rattle.world_mem.specs.Kept.{met_of, contents_in};
 
@@ -29,6 +29,7 @@ pub fn conclude(
     ensures others { (path : List ℕ) → (Contains job.now.targets path → ⊥) → slot_at slots.new path ≡ slot_at slots.old path }
     ensures done { outcome ≡ Outcome.Done → (makes : List ℕ → Content) → made ≡ map (λ target. (target, makes target)) job.now.targets → (path : List ℕ) → Contains job.now.targets path → IsSome (slot_at slots.old path) → content_of (slot_at slots.new path) ≡ makes path }
     ensures absent { outcome ≢ Outcome.Done → (path : List ℕ) → Contains job.now.targets path → content_of (slot_at slots.new path) ≡ None }
+    ensures stamped { (path : List ℕ) → Contains job.now.targets path → IsSome (content_of (slot_at slots.new path)) → stamp_at (slot_at slots.new path) ≡ stamp }
     ensures unmarked { (path : List ℕ) → Contains job.now.targets path → mark_of (slot_at slots.new path) ≡ None }
     ensures marks { (path : List ℕ) (id : ℕ) → mark_of (slot_at slots.new path) ≡ Some id → mark_of (slot_at slots.old path) ≡ Some id }
     ensures held { (path bytes : List ℕ) → content_of (slot_at slots.new path) ≡ Some bytes → (content_of (slot_at slots.old path) ≡ Some bytes) ⊎ IsTrue (list_any (bytes_eq bytes) (met_of met.new.items)) }

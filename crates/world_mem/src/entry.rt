@@ -37,6 +37,7 @@ impl State {
         ensures event { IfOk result (λ entering. entering.event ≡ Event.Started job faults) }
         ensures course { course_of self.new ≡ course_of self.old }
         ensures running { vec_len self.new.running ≡ vec_len self.old.running }
+        ensures stamp { self.new.stamp ≡ self.old.stamp }
         ensures removals { self.new.removals ≡ self.old.removals }
         ensures table { self.new.table ≡ self.old.table }
     {

@@ -6,7 +6,7 @@ ghost use Rattle.std.specs.Str.{bytes_eq};
 ghost use Rattle.scons_base.specs.Parts.{dir_of};
 ghost use Rattle.world_mem.specs.Blocked.{LiesBelow, HasAbove, HasBelow, IsBlocked, IsRefused, IsFirstRefused};
 ghost use Rattle.world_mem.specs.Files.{AreFiles, file_in};
-ghost use Rattle.world_mem.specs.InSlots.{slot_at, file_of, file_with, content_of, mark_of, file_at, name_in, written, emptied, taken, marked, settled, Stands, is_live, holds_live};
+ghost use Rattle.world_mem.specs.InSlots.{slot_at, file_of, file_with, content_of, mark_of, stamp_at, file_at, name_in, written, emptied, taken, marked, settled, Stands, is_live, holds_live};
 ghost use Rattle.world_mem.specs.declared.refusal.NewRefusal.{NewRefusal};
 ghost use Rattle.world_mem.specs.declared.slots.File.{File};
 ghost use Rattle.world_mem.specs.declared.slots.Slot.{Slot};
@@ -180,6 +180,7 @@ impl Slots {
         requires { (path : List ℕ) → slot_at self.old path ≡ None }
         ensures files { OnOk result ((path : List ℕ) → content_of (slot_at self.new path) ≡ file_at files.now path) }
         ensures unmarked { OnOk result ((path : List ℕ) → mark_of (slot_at self.new path) ≡ None) }
+        ensures stamps { OnOk result ((path : List ℕ) → stamp_at (slot_at self.new path) ≡ 0) }
         ensures named { OnOk result ((path : List ℕ) (file : File) → file_of (slot_at self.new path) ≡ Some file → file.name ≡ path) }
         ensures stand { OnOk result ((place : ℕ) → IsRefused files.now place → ⊥) }
         ensures place { IfErr result (λ refusal. (place : ℕ) → refusal ≡ NewRefusal.Place place → IsFirstRefused files.now place) }

@@ -87,7 +87,9 @@ impl State {
     ghost use Rattle.world_mem.specs.declared.refusal.NewRefusal.{NewRefusal};
     ghost use Rattle.world_mem.specs.ByHand.{Edits, Loses};
     ghost use Rattle.world_mem.specs.InSlots.{settled};
+    ghost use Rattle.world_mem.specs.CallCounts.{next};
     ghost use Rattle.world_mem.specs.Kept.{counts_of};
+    ghost use Rattle.world_mem.specs.Stamps.{Stamps};
     ghost use Rattle.world_mem.specs.Past.{before};
     ghost use Rattle.world_mem.specs.Table.{law_of};
 
@@ -106,6 +108,8 @@ impl State {
         ensures table { IfOk result (λ state. state.table ≡ table) }
         ensures past { IfOk result (λ state. state.past.items ≡ []) }
         ensures removals { IfOk result (λ state. state.removals ≡ 0) }
+        ensures stamp { IfOk result (λ state. state.stamp ≡ 0) }
+        ensures stamps { IfOk result (λ state. (path : List ℕ) → (around_of state).stamps path ≡ 0) }
         ensures stand { OnOk result ((place : ℕ) → IsRefused files.now place → ⊥) }
         ensures place { IfErr result (λ refusal. (place : ℕ) → refusal ≡ NewRefusal.Place place → IsFirstRefused files.now place) }
     {
@@ -215,6 +219,7 @@ impl State {
         ensures removals { self.new.removals ≡ self.old.removals + (if result then 1 else 0) }
         ensures running { self.new.running.items ≡ self.old.running.items }
         ensures table { self.new.table ≡ self.old.table }
+        ensures stamp { self.new.stamp ≡ self.old.stamp }
     {
         match self.slots.take(path) {
             Some(file) => {
@@ -230,6 +235,8 @@ impl State {
     pub fn lose(&mut self, path: &PathText)
         ensures lost { Loses path.now (around_of self.old) (around_of self.new) }
         ensures removals { self.new.removals ≡ self.old.removals }
+        ensures stamp { self.new.stamp ≡ self.old.stamp }
+        ensures table { self.new.table ≡ self.old.table }
         ensures running { vec_len self.new.running ≡ vec_len self.old.running }
     {
         let _ = self.slots.take(path);
@@ -243,6 +250,7 @@ impl State {
         ensures removals { self.new.removals ≡ self.old.removals }
         ensures running { self.new.running.items ≡ self.old.running.items }
         ensures table { self.new.table ≡ self.old.table }
+        ensures stamp { self.new.stamp ≡ self.old.stamp }
     {
         let mut fresh = Paths::new(Vec::new(alloc));
         self.dirs.missing(alloc, path, &mut fresh)?;
@@ -264,6 +272,7 @@ impl State {
         ensures more { OnOk result (vec_len self.new.running ≡ vec_len self.old.running + 1) }
         ensures fewer { OnErr result (vec_len self.new.running ≡ vec_len self.old.running) }
         ensures table { self.new.table ≡ self.old.table }
+        ensures stamp { self.new.stamp ≡ self.old.stamp }
     {
         let entering = self.prepare(alloc, job, faults)?;
         self.make_room(alloc, &entering)?;
@@ -343,6 +352,7 @@ impl State {
         ensures past { self.new.past.items ≡ self.old.past.items }
         ensures dirs { (dir : List ℕ) → is_dir self.new.dirs dir ≡ is_dir self.old.dirs dir }
         ensures table { self.new.table ≡ self.old.table }
+        ensures stamp { self.new.stamp ≡ self.old.stamp }
         ensures removals { self.new.removals ≡ self.old.removals }
         ensures places { OnOk result ((k : ℕ) (d : List ℕ) → k < length entering.now.run.job.targets → IsSome (slot_at self.new.slots (slice_index_or entering.now.run.job.targets k d))) }
         ensures fresh { OnOk result ((k : ℕ) (d : List ℕ) → k < length entering.now.dirs → IsSome (slot_at self.new.dirs.slots (slice_index_or entering.now.dirs k d))) }
@@ -366,6 +376,7 @@ impl State {
         ensures past { self.new.past ≡ self.old.past }
         ensures dirs { (dir : List ℕ) → is_dir self.new.dirs dir ≡ is_dir self.old.dirs dir }
         ensures table { self.new.table ≡ self.old.table }
+        ensures stamp { self.new.stamp ≡ self.old.stamp }
         ensures removals { self.new.removals ≡ self.old.removals }
         ensures places { OnOk result ((k : ℕ) (d : List ℕ) → k < length targets.now → IsSome (slot_at self.new.slots (slice_index_or targets.now k d))) }
         ensures fresh { OnOk result ((k : ℕ) (d : List ℕ) → k < length fresh.now → IsSome (slot_at self.new.dirs.slots (slice_index_or fresh.now k d))) }
@@ -384,6 +395,7 @@ impl State {
         ensures slots { self.new.slots ≡ self.old.slots }
         ensures dirs { self.new.dirs ≡ self.old.dirs }
         ensures table { self.new.table ≡ self.old.table }
+        ensures stamp { self.new.stamp ≡ self.old.stamp }
         ensures removals { self.new.removals ≡ self.old.removals }
         ensures log_room { OnOk result (vec_len self.new.log + vec_len self.new.running + 2 ≤ vec_capacity self.new.log) }
         ensures met_room { OnOk result (vec_len self.new.met + vec_len self.new.running + 1 ≤ vec_capacity self.new.met) }
@@ -427,6 +439,7 @@ impl State {
         ensures met { self.new.met.items ≡ self.old.met.items }
         ensures back { before (course_of self.new) ≡ course_of self.old }
         ensures table { self.new.table ≡ self.old.table }
+        ensures stamp { self.new.stamp ≡ self.old.stamp }
         ensures removals { self.new.removals ≡ self.old.removals }
     {
         let Entering {
@@ -455,7 +468,9 @@ impl State {
         ensures met { (d : Running) → result.outcome ≡ Outcome.Done → (around_of self.new).met ≡ (around_of self.old).met ++ contents_in (makes self.old.table (slice_index_or (around_of self.old).running place d).job (slice_index_or (around_of self.old).running place d).given) }
         ensures unmet { result.outcome ≢ Outcome.Done → (around_of self.new).met ≡ (around_of self.old).met }
         ensures rest { self.new.running.items ≡ remove self.old.running.items place }
+        ensures stamps { (d : Running) → Stamps (Contains (slice_index_or (around_of self.old).running place d).job.targets) self.old self.new }
         ensures fewer { vec_len self.new.running + 1 ≡ vec_len self.old.running }
+        ensures no_memory { cut ≢ Some Outcome.NoMemory → result.outcome ≢ Outcome.NoMemory }
         ensures removals { self.new.removals ≡ self.old.removals }
         ensures table { self.new.table ≡ self.old.table }
     {
@@ -503,6 +518,8 @@ impl State {
         requires { IsRunningTarget (around_of self.old).running path.now → ⊥ }
         ensures edited { OnOk result (Edits path.now bytes.now (around_of self.old) (around_of self.new)) }
         ensures same { OnErr result (course_of self.new ≡ course_of self.old) }
+        ensures stamps { OnOk result (Stamps (λ other. other ≡ path.now) self.old self.new) }
+        ensures stamp { OnErr result (self.new.stamp ≡ self.old.stamp) }
         ensures removals { self.new.removals ≡ self.old.removals }
         ensures jobs { vec_len self.new.running ≡ vec_len self.old.running }
         ensures table { self.new.table ≡ self.old.table }
@@ -528,6 +545,7 @@ impl State {
         ensures dirs { self.new.dirs ≡ self.old.dirs }
         ensures met { self.new.met.items ≡ self.old.met.items }
         ensures table { self.new.table ≡ self.old.table }
+        ensures stamp { self.new.stamp ≡ self.old.stamp }
         ensures log { self.new.log ≡ self.old.log }
         ensures removals { self.new.removals ≡ self.old.removals }
         ensures room { OnOk result (vec_len self.new.met + vec_len self.new.running + 1 ≤ vec_capacity self.new.met) }
@@ -547,6 +565,8 @@ impl State {
         ensures file { (around_of self.new).tree path.now ≡ Some file.bytes }
         ensures others { (other : List ℕ) → other ≢ path.now → (around_of self.new).tree other ≡ (around_of self.old).tree other }
         ensures stamps { (other : List ℕ) → other ≢ path.now → (around_of self.new).stamps other ≡ (around_of self.old).stamps other }
+        ensures stamp { self.new.stamp ≡ file.stamp }
+        ensures stamped { (around_of self.new).stamps path.now ≡ file.stamp }
         ensures dirs { (dir : List ℕ) → is_dir self.new.dirs dir ≡ (is_in fresh.now dir || is_dir self.old.dirs dir) }
         ensures met { self.new.met.items ≡ self.old.met.items ++ group ∷ [] }
         ensures running { self.new.running ≡ self.old.running }
@@ -570,6 +590,7 @@ impl State {
         ensures idle { vec_len self.new.running ≡ 0 }
         ensures none { self.new.running.items ≡ [] }
         ensures log { self.new.log.items ≡ [] }
+        ensures stamp { self.new.stamp ≡ next self.old.stamp }
         ensures settled { (path : List ℕ) → slot_at self.new.slots path ≡ settled self.new.stamp targets path (slot_at self.old.slots path) }
         ensures met { self.new.met.items ≡ self.old.met.items ++ kept ∷ [] }
         ensures dirs { self.new.dirs ≡ self.old.dirs }

@@ -73,6 +73,7 @@ impl MemWorld {
     ghost use Rattle.std.specs.Prelude.{◌%◌, IfErr, List, [], ℕ, Contains};
     ghost use Rattle.mem_banks.specs.AsStore.{store_of};
     ghost use Rattle.mem_banks.specs.Past.{one_of, synced_in};
+    ghost use Rattle.mem_banks.specs.Picks.{left_of};
     ghost use Rattle.world_api.specs.Meaning.{IsSettled};
     ghost use Rattle.world_api.specs.declared.disk.Bank.{Bank};
     ghost use Rattle.world_mem.specs.AsAround.{around_of};
@@ -80,6 +81,7 @@ impl MemWorld {
     ghost use Rattle.world_api.specs.Around.{IsRunningTarget};
     ghost use Rattle.world_mem.specs.Left.{Leaves, makings, names};
     ghost use Rattle.world_mem.specs.Means.{world_meaning};
+    ghost use Rattle.world_mem.specs.Stamps.{Stamps};
     ghost use Rattle.world_mem.specs.Stays.{Stays, IsAnew};
     ghost use Rattle.world_mem.specs.declared.calls.Call.{Call};
 
@@ -87,10 +89,12 @@ impl MemWorld {
     /// 0 every write stands, by 1 none that wasn't synced.
     pub fn stop(self, pick: u32) -> Result<MemWorld, (MemWorld, Memory)>
         ensures image { IfOk result (λ world. (bank : Bank) → world_meaning.image self bank (world_meaning.seen world bank)) }
+        ensures picked { IfOk result (λ world. (bank : Bank) → world_meaning.seen world bank ≡ left_of pick (store_of self.banks) bank) }
         ensures stands { pick ≡ 0 → IfOk result (λ world. (bank : Bank) → world_meaning.seen world bank ≡ world_meaning.seen self bank) }
         ensures lost { pick % 4 ≡ 1 → IfOk result (λ world. (bank : Bank) → world_meaning.seen world bank ≡ synced_in (store_of self.banks) bank) }
         ensures settled { IfOk result (λ world. (bank : Bank) → IsSettled world_meaning world bank) }
         ensures left { IfOk result (λ world. Leaves (left_over pick (makings self.state.table (around_of self.state).running)) (around_of self.state) (around_of world.state)) }
+        ensures stamps { IfOk result (λ world. Stamps (IsRunningTarget (around_of self.state).running) self.state world.state) }
         ensures idle { IfOk result (λ world. (around_of world.state).running ≡ []) }
         ensures clock { IfOk result (λ world. world_meaning.clock world ≡ 0) }
         ensures anew { IfOk result IsAnew }
@@ -98,6 +102,7 @@ impl MemWorld {
         ensures calls { IfOk result (λ world. world.calls.made ≡ self.calls.made) }
         ensures faults { IfOk result (λ world. world.faults ≡ self.faults) }
         ensures orders { IfOk result (λ world. world.orders ≡ self.orders) }
+        ensures table { IfOk result (λ world. world.state.table ≡ self.state.table) }
         ensures same { IfErr result (λ kept. Stays self kept.0) }
     {
         let mut world = self;
@@ -113,6 +118,7 @@ impl MemWorld {
     /// What a stop leaves, and room to keep it.
     fn left_by(&mut self, pick: u32) -> Result<Left, Memory>
         ensures image { IfOk result (λ left. (bank : Bank) → world_meaning.image self.old bank (one_of bank left.a.items left.b.items)) }
+        ensures picked { IfOk result (λ left. (bank : Bank) → one_of bank left.a.items left.b.items ≡ left_of pick (store_of self.old.banks) bank) }
         ensures stands { pick ≡ 0 → IfOk result (λ left. (bank : Bank) → one_of bank left.a.items left.b.items ≡ world_meaning.seen self.old bank) }
         ensures lost { pick % 4 ≡ 1 → IfOk result (λ left. (bank : Bank) → one_of bank left.a.items left.b.items ≡ synced_in (store_of self.old.banks) bank) }
         ensures targets { IfOk result (λ left. left.targets ≡ left_over pick (makings self.new.state.table (around_of self.new.state).running)) }
@@ -143,12 +149,14 @@ impl MemWorld {
         ensures seen { (bank : Bank) → world_meaning.seen self.new bank ≡ one_of bank left.a.items left.b.items }
         ensures settled { (bank : Bank) → IsSettled world_meaning self.new bank }
         ensures left { Leaves left.targets (around_of self.old.state) (around_of self.new.state) }
+        ensures stamps { Stamps (IsRunningTarget (around_of self.old.state).running) self.old.state self.new.state }
         ensures clock { world_meaning.clock self.new ≡ 0 }
         ensures anew { IsAnew self.new }
         ensures spared { (call : Call) → Fails call self.new.calls → ⊥ }
         ensures calls { self.new.calls.made ≡ self.old.calls.made }
         ensures faults { self.new.faults ≡ self.old.faults }
         ensures orders { self.new.orders ≡ self.old.orders }
+        ensures table { self.new.state.table ≡ self.old.state.table }
     {
         let Left {
             a,

@@ -56,7 +56,7 @@ fn cut_of(verdict: Verdict) -> Option<Outcome>
 }
 
 impl World for MemWorld {
-    ghost use Rattle.std.specs.Prelude.{◌↔◌, ◌⊎◌, ◌++◌, [], List, None, Contains, IsTrue, OnOk, OnErr, unwrap_or};
+    ghost use Rattle.std.specs.Prelude.{◌↔◌, ◌⊎◌, ◌++◌, [], List, None, Contains, IsTrue, IsErr, OnOk, OnErr, unwrap_or};
     ghost use Rattle.scons_base.specs.Parts.{is_absolute};
     ghost use Rattle.world_api.specs.Around.{IsUnused, Running};
     ghost use Rattle.world_api.specs.Calls.{Asks, MakesDir, Removes, CanStart, IsClosed, IsOpen, Starts, Ends};
@@ -72,7 +72,10 @@ impl World for MemWorld {
     ghost use Rattle.world_mem.specs.Laws.{none_closed};
     ghost use Rattle.world_mem.specs.Means.{world_meaning};
     ghost use Rattle.world_mem.specs.Room.{recorded};
-    ghost use Rattle.world_mem.specs.Waits.{Keeps, ended_by, row_ending, row_contents};
+    ghost use Rattle.world_mem.specs.EachCall.{Keeps, TreeCall};
+    ghost use Rattle.world_mem.specs.Refuses.{IsGoneAnyway};
+    ghost use Rattle.world_mem.specs.Stamps.{Stamps};
+    ghost use Rattle.world_mem.specs.Waits.{ended_by, row_ending, row_contents};
     ghost use Rattle.world_mem.specs.declared.calls.Call.{Call};
 
     ghost held = { λ w told path bytes is off. held_of w.state path bytes is };
@@ -89,10 +92,8 @@ impl World for MemWorld {
         ensures time { Throughout world_meaning self.old self.new (Meanwhile world_meaning self.old self.new) }
         ensures kept { result ≢ Err AskRefusal.Fault → world_meaning.counts self.new ≡ world_meaning.counts self.old }
         ensures rose { result ≡ Err AskRefusal.Fault → TreeFails (world_meaning.counts self.old) (world_meaning.counts self.new) }
-        ensures once { result ≡ Err AskRefusal.Fault → world_meaning.counts self.new ≡ tree_fault (world_meaning.counts self.old) }
         ensures exactly { result ≡ Err AskRefusal.Fault ↔ Fails Call.TopPath self.old.calls }
-        ensures counted { self.new.calls ≡ counted Call.TopPath self.old.calls }
-        ensures keeps { Keeps self.old self.new }
+        ensures each { TreeCall Call.TopPath tree_fault (result ≡ Err AskRefusal.Fault) self.old self.new }
     {
         if self.calls.next(Call::TopPath) != Verdict::Goes {
             self.faults.tree = self.faults.tree.saturating_add(1);
@@ -114,11 +115,8 @@ impl World for MemWorld {
         ensures time { Throughout world_meaning self.old self.new (Meanwhile world_meaning self.old self.new) }
         ensures kept { OnOk result (world_meaning.counts self.new ≡ world_meaning.counts self.old) }
         ensures rose { OnErr result (TreeFails (world_meaning.counts self.old) (world_meaning.counts self.new)) }
-        ensures once { OnErr result (world_meaning.counts self.new ≡ tree_fault (world_meaning.counts self.old)) }
-        ensures fails { OnErr result (Fails Call.Kind self.old.calls) }
-        ensures goes { OnOk result (Fails Call.Kind self.old.calls → ⊥) }
-        ensures counted { self.new.calls ≡ counted Call.Kind self.old.calls }
-        ensures keeps { Keeps self.old self.new }
+        ensures exactly { IsErr result ↔ Fails Call.Kind self.old.calls }
+        ensures each { TreeCall Call.Kind tree_fault (IsErr result) self.old self.new }
     {
         if self.calls.next(Call::Kind) != Verdict::Goes {
             self.faults.tree = self.faults.tree.saturating_add(1);
@@ -140,10 +138,8 @@ impl World for MemWorld {
         ensures time { Throughout world_meaning self.old self.new (Meanwhile world_meaning self.old self.new) }
         ensures kept { result ≢ Err ReadRefusal.Fault → world_meaning.counts self.new ≡ world_meaning.counts self.old }
         ensures rose { result ≡ Err ReadRefusal.Fault → TreeFails (world_meaning.counts self.old) (world_meaning.counts self.new) }
-        ensures once { result ≡ Err ReadRefusal.Fault → world_meaning.counts self.new ≡ tree_fault (world_meaning.counts self.old) }
         ensures exactly { result ≡ Err ReadRefusal.Fault ↔ Fails Call.ReadFile self.old.calls }
-        ensures counted { self.new.calls ≡ counted Call.ReadFile self.old.calls }
-        ensures keeps { Keeps self.old self.new }
+        ensures each { TreeCall Call.ReadFile tree_fault (result ≡ Err ReadRefusal.Fault) self.old self.new }
     {
         if self.calls.next(Call::ReadFile) != Verdict::Goes {
             self.faults.tree = self.faults.tree.saturating_add(1);
@@ -162,10 +158,8 @@ impl World for MemWorld {
         ensures time { Throughout world_meaning self.old self.new (Meanwhile world_meaning self.old self.new) }
         ensures kept { result ≢ Err AskRefusal.Fault → world_meaning.counts self.new ≡ world_meaning.counts self.old }
         ensures rose { result ≡ Err AskRefusal.Fault → TreeFails (world_meaning.counts self.old) (world_meaning.counts self.new) }
-        ensures once { result ≡ Err AskRefusal.Fault → world_meaning.counts self.new ≡ tree_fault (world_meaning.counts self.old) }
         ensures exactly { result ≡ Err AskRefusal.Fault ↔ Fails Call.List self.old.calls }
-        ensures counted { self.new.calls ≡ counted Call.List self.old.calls }
-        ensures keeps { Keeps self.old self.new }
+        ensures each { TreeCall Call.List tree_fault (result ≡ Err AskRefusal.Fault) self.old self.new }
     {
         if self.calls.next(Call::List) != Verdict::Goes {
             self.faults.tree = self.faults.tree.saturating_add(1);
@@ -184,11 +178,8 @@ impl World for MemWorld {
         ensures time { Throughout world_meaning self.old self.new (Meanwhile world_meaning self.old self.new) }
         ensures kept { OnOk result (world_meaning.counts self.new ≡ world_meaning.counts self.old) }
         ensures rose { OnErr result (TreeFails (world_meaning.counts self.old) (world_meaning.counts self.new)) }
-        ensures once { OnErr result (world_meaning.counts self.new ≡ tree_fault (world_meaning.counts self.old)) }
-        ensures fails { OnErr result (Fails Call.Stamp self.old.calls) }
-        ensures goes { OnOk result (Fails Call.Stamp self.old.calls → ⊥) }
-        ensures counted { self.new.calls ≡ counted Call.Stamp self.old.calls }
-        ensures keeps { Keeps self.old self.new }
+        ensures exactly { IsErr result ↔ Fails Call.Stamp self.old.calls }
+        ensures each { TreeCall Call.Stamp tree_fault (IsErr result) self.old self.new }
     {
         if self.calls.next(Call::Stamp) != Verdict::Goes {
             self.faults.tree = self.faults.tree.saturating_add(1);
@@ -207,10 +198,8 @@ impl World for MemWorld {
         ensures time { Throughout world_meaning self.old self.new (Meanwhile world_meaning self.old self.new) }
         ensures kept { result ≢ Err AskRefusal.Fault → world_meaning.counts self.new ≡ world_meaning.counts self.old }
         ensures rose { result ≡ Err AskRefusal.Fault → TreeFails (world_meaning.counts self.old) (world_meaning.counts self.new) }
-        ensures once { result ≡ Err AskRefusal.Fault → world_meaning.counts self.new ≡ tree_fault (world_meaning.counts self.old) }
         ensures exactly { result ≡ Err AskRefusal.Fault ↔ (Fails Call.MakeDir self.old.calls ⊎ IsInTheWay (world_meaning.around self.old) path.now) }
-        ensures counted { self.new.calls ≡ counted Call.MakeDir self.old.calls }
-        ensures keeps { Keeps self.old self.new }
+        ensures each { TreeCall Call.MakeDir tree_fault (result ≡ Err AskRefusal.Fault) self.old self.new }
     {
         let goes = self.calls.next(Call::MakeDir) == Verdict::Goes;
         let taken = self.state.is_taken(path);
@@ -236,11 +225,10 @@ impl World for MemWorld {
         ensures time { Throughout world_meaning self.old self.new (Meanwhile world_meaning self.old self.new) }
         ensures kept { OnOk result (world_meaning.counts self.new ≡ world_meaning.counts self.old) }
         ensures rose { OnErr result (TreeFails (world_meaning.counts self.old) (world_meaning.counts self.new)) }
-        ensures once { OnErr result (world_meaning.counts self.new ≡ tree_fault (world_meaning.counts self.old)) }
-        ensures fails { OnErr result (Fails Call.Remove self.old.calls ⊎ (262144 ≤ recorded self.old)) }
-        ensures goes { OnOk result (Fails Call.Remove self.old.calls → ⊥) }
-        ensures counted { self.new.calls ≡ counted Call.Remove self.old.calls }
-        ensures keeps { Keeps self.old self.new }
+        ensures exactly { IsErr result ↔ (Fails Call.Remove self.old.calls ⊎ (262144 ≤ recorded self.old)) }
+        ensures anyway { IsGoneAnyway self.old → (around_of self.new.state).tree path.now ≡ None }
+        ensures stays { OnErr result ((IsGoneAnyway self.old → ⊥) → self.new.state ≡ self.old.state) }
+        ensures each { TreeCall Call.Remove tree_fault (IsErr result) self.old self.new }
     {
         let odd = self.calls.count(Call::Remove) % 2 == 1;
         let verdict = self.calls.next(Call::Remove);
@@ -269,12 +257,10 @@ impl World for MemWorld {
         ensures time { Throughout world_meaning self.old self.new (Meanwhile world_meaning self.old self.new) }
         ensures kept { result ≢ Err AskRefusal.Fault → world_meaning.counts self.new ≡ world_meaning.counts self.old }
         ensures rose { result ≡ Err AskRefusal.Fault → StartFails (world_meaning.counts self.old) (world_meaning.counts self.new) }
-        ensures once { result ≡ Err AskRefusal.Fault → world_meaning.counts self.new ≡ start_fault (world_meaning.counts self.old) }
         ensures listed { Fails Call.Start self.old.calls → result ≡ Err AskRefusal.Fault }
         ensures only { result ≡ Err AskRefusal.Fault → Fails Call.Start self.old.calls ⊎ AreBlocked (world_meaning.around self.old) job.targets }
         ensures clear { OnOk result (AreBlocked (world_meaning.around self.old) job.targets → ⊥) }
-        ensures counted { self.new.calls ≡ counted Call.Start self.old.calls }
-        ensures keeps { Keeps self.old self.new }
+        ensures each { TreeCall Call.Start start_fault (result ≡ Err AskRefusal.Fault) self.old self.new }
     {
         let goes = self.calls.next(Call::Start) == Verdict::Goes;
         if !goes || self.state.is_blocked(self.alloc, &job.targets)? {
@@ -303,6 +289,8 @@ impl World for MemWorld {
         ensures absent { (d : Running) (path : List ℕ) → result.outcome ≢ Outcome.Done → Contains (ended_by self.old d).job.targets path → (around_of self.new.state).tree path ≡ None }
         ensures met { (d : Running) → result.outcome ≡ Outcome.Done → (around_of self.new.state).met ≡ (around_of self.old.state).met ++ row_contents self.old (ended_by self.old d) }
         ensures unmet { result.outcome ≢ Outcome.Done → (around_of self.new.state).met ≡ (around_of self.old.state).met }
+        ensures no_memory { result.outcome ≢ Outcome.NoMemory }
+        ensures stamps { (d : Running) → Stamps (Contains (ended_by self.old d).job.targets) self.old.state self.new.state }
         ensures counted { self.new.calls ≡ counted Call.Wait self.old.calls }
         ensures keeps { Keeps self.old self.new }
     {
@@ -341,6 +329,7 @@ impl MemWorld {
         ensures calls { self.new.calls ≡ self.old.calls }
         ensures orders { self.new.orders ≡ self.old.orders }
         ensures table { self.new.state.table ≡ self.old.state.table }
+        ensures stamp { self.new.state.stamp ≡ self.old.state.stamp }
     {
         if !self.state.remove(path) {
             return;

@@ -2,6 +2,9 @@
 ghost use Rattle.std.specs.Prelude.{◌≡◌, ◌+◌, ◌-◌, ◌<◌, ◌≤◌, ◌++◌, ◌∷◌, [], ℕ, List, None, Some, Contains, IfOk, length, vec_len};
 ghost use Rattle.std.specs.Vec.{vec_capacity};
 ghost use Rattle.world_api.specs.Around.{Running};
+ghost use Rattle.mem_banks.specs.AsStore.{store_of};
+ghost use Rattle.mem_banks.specs.declared.change.Change.TheVariants as changes;
+ghost use Rattle.mem_banks.specs.declared.change.Write.{Write};
 ghost use Rattle.world_mem.specs.AsAround.{around_of};
 
 use crate::calls::{Call, Calls};
@@ -34,17 +37,18 @@ pub struct MemWorld {
     ghost since: { horizon ≤ length turns.items },
     ghost recorded_within: { vec_len banks.changes + state.removals ≤ 262144 },
     ghost turns_capacity: { 262144 ≤ vec_capacity turns },
+    ghost counts: { (write : Write) → Contains (store_of banks).changes (changes.Wrote write) → 0 < write.count },
 }
 
 impl MemWorld {
     ghost use Rattle.std.specs.Prelude.{◌↔◌, ◌⊎◌, nat_le, map, not, Err, IfErr, OnOk, OnErr, IsTrue};
-    ghost use Rattle.mem_banks.specs.AsStore.{store_of};
     ghost use Rattle.mem_banks.specs.Past.{is_dirty};
     ghost use Rattle.world_api.specs.Meaning.{IsSettled};
     ghost use Rattle.world_api.specs.declared.disk.Bank.{Bank};
     ghost use Rattle.world_api.specs.Around.{IsRunningTarget, started_of};
     ghost use Rattle.world_mem.specs.ByHand.{Edits, Loses};
     ghost use Rattle.world_mem.specs.Files.{AreFiles};
+    ghost use Rattle.world_mem.specs.Stamps.{Stamps};
     ghost use Rattle.world_mem.specs.Stays.{Stays, IsAnew};
     ghost use Rattle.world_mem.specs.Blocked.{IsBarred, IsRefused, IsFirstRefused, HasBelow, HasFile};
     ghost use Rattle.world_mem.specs.CallCounts.{count_of};
@@ -78,6 +82,8 @@ impl MemWorld {
         ensures counts { IfOk result (λ world. counts_of world.faults ≡ record { disk_faults = 0; tree_faults = 0; start_faults = 0; action_failures = 0 }) }
         ensures calls { IfOk result (λ world. (call : Call) → count_of call world.calls ≡ 0) }
         ensures orders { IfOk result (λ world. world.orders ≡ orders) }
+        ensures stamp { IfOk result (λ world. world.state.stamp ≡ 0) }
+        ensures stamps { IfOk result (λ world. (path : List ℕ) → (around_of world.state).stamps path ≡ 0) }
         ensures failing { IfOk result (λ world. world.calls.failing ≡ failing) }
         ensures unfused { IfOk result (λ world. world.calls.fuse ≡ None) }
         ensures stand { OnOk result ((place : ℕ) → IsRefused files.items place → ⊥) }
@@ -112,7 +118,7 @@ impl MemWorld {
 
     /// Whether a stop leaves the bank as it reads. This is no call of a disk.
     pub fn synced(&self, bank: Bank) -> bool
-        ensures settled { IsTrue result → IsSettled world_meaning self.now bank }
+        ensures settled { IsTrue result ↔ IsSettled world_meaning self.now bank }
         ensures exactly { result ≡ not (is_dirty bank (store_of self.now.banks).changes) }
     {
         self.banks.is_synced(bank)
@@ -140,6 +146,8 @@ impl MemWorld {
         ensures idle { (around_of self.old.state).running ≡ [] → (around_of self.new.state).running ≡ [] }
         ensures clock { world_meaning.clock self.new ≡ world_meaning.clock self.old }
         ensures anew { OnOk result (IsAnew self.new) }
+        ensures stamps { OnOk result (Stamps (λ other. other ≡ path.now) self.old.state self.new.state) }
+        ensures table { self.new.state.table ≡ self.old.state.table }
         ensures banks { self.new.banks ≡ self.old.banks }
         ensures faults { self.new.faults ≡ self.old.faults }
         ensures calls { self.new.calls ≡ self.old.calls }
@@ -159,6 +167,8 @@ impl MemWorld {
         ensures idle { (around_of self.old.state).running ≡ [] → (around_of self.new.state).running ≡ [] }
         ensures clock { world_meaning.clock self.new ≡ world_meaning.clock self.old }
         ensures anew { IsAnew self.new }
+        ensures stamp { self.new.state.stamp ≡ self.old.state.stamp }
+        ensures table { self.new.state.table ≡ self.old.state.table }
         ensures banks { self.new.banks ≡ self.old.banks }
         ensures faults { self.new.faults ≡ self.old.faults }
         ensures calls { self.new.calls ≡ self.old.calls }

@@ -30,4 +30,4 @@ returns-then-ne-clause-left c =
     (cut_short c.args.bank w (reverse (take k changes)) c.loop-left.bytes.items saved out same
     (subst (λ (l : List Change). IsAt c.args.bank l c.loop-left.bytes.items saved) newest c.loop-left.invariant.at)
     torn)))
-    c.tear.ensures
+    c.tear.ensures.torn

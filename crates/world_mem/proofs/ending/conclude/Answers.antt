@@ -1,12 +1,26 @@
-use Rattle.std.proofs.Common.{◌≡◌, ◌∙◌, sym, ap, subst, inl, inr, ℕ, List, Contains, None, refl, true, Option}
+use Rattle.std.proofs.Common.{◌≡◌, ◌∙◌, sym, ap, subst, inl, inr, ℕ, List, Contains, None, IsSome, refl, true, false, is_some, Option}
 use Rattle.std.specs.List.{list_any}
 use Rattle.std.specs.Str.{bytes_eq}
-use Rattle.world_mem.specs.InSlots.{slot_at, file_of, content_of, mark_of, settled}
+use Rattle.world_mem.specs.InSlots.{slot_at, file_of, content_of, mark_of, stamp_at, settled}
 use Rattle.world_mem.specs.Kept.{contents_in, met_of}
 use Rattle.world_mem.specs.declared.slots.Slot.TheVariants.{Settled}
 use Rattle.world_mem.proofs.Marks.{marked-off, marked-empty, marked-absent, settled-off, settled-on, made_content, settled-content, settled-named, marked-named, met-push, found_in_push}
 use Rattle.world_mem.proofs.Owners.{fewer-marked, fewer-settled, unmarked-marked, unmarked-settled}
+use Rattle.world_mem.proofs.Stamped.{settled_stamp}
+use Rattle.world_mem.specs.declared.slots.Slot.{Slot}
 use Rattle.world_mem.proofs.ending.conclude.Goals as goal
+
+pub returns-then-eq-clause-stamped : goal.returns-then-eq-clause-stamped
+returns-then-eq-clause-stamped c = λ path own some.
+    let old = slot_at c.args.slots.now path in
+    ap stamp_at (c.settle.ensures path)
+    ∙ settled_stamp c.args.stamp c.args.made path old (subst (λ (ts : List (List ℕ)). Contains ts path) (sym c.requires.names) own)
+    (subst (λ (o : Option Slot). IsSome (content_of o)) (c.settle.ensures path) some)
+
+pub returns-else-eq-clause-stamped : goal.returns-else-eq-clause-stamped
+returns-else-eq-clause-stamped c = λ path h some.
+    let none = ap content_of (c.clear.ensures path) ∙ marked-absent c.args.job.now.targets (Settled None) path (slot_at c.args.slots.now path) refl h.0 h.1 h.2 in
+    absurd (let e : false ≡ true = sym (ap is_some none) ∙ some in cc e)
 
 pub returns-then-eq-clause-others : goal.returns-then-eq-clause-others
 returns-then-eq-clause-others c = λ path off.

@@ -1,14 +1,13 @@
-use Rattle.std.proofs.Common.{ap, refl}
-use Rattle.world_api.specs.Around.{Around}
+use Rattle.std.proofs.Common.{refl}
 use Rattle.world_mem.specs.declared.calls.Call.TheVariants.{Sync}
-use Rattle.thread_world.proofs.Kept.{step_same, spared_counted}
+use Rattle.thread_world.proofs.Kept.{step_state, spared_counted}
 use Rattle.thread_world.proofs.disk.ThreadWorldDisk.sync.Goals as goal
 
 pub invariant_of-self-clause-step : goal.invariant_of-self-clause-step
-invariant_of-self-clause-step g c = step_same _ _ _ _ _ c.sync.ensures.keeps.table (ap (λ (a : Around). a.running) (c.sync.ensures.around tt)) c.args.self.now.step
+invariant_of-self-clause-step g c = step_state _ _ _ c.sync.ensures.each.state c.args.self.now.step
 
 pub invariant_of-self-clause-spared : goal.invariant_of-self-clause-spared
-invariant_of-self-clause-spared g c = spared_counted Sync _ _ c.sync.ensures.counted c.args.self.now.spared
+invariant_of-self-clause-spared g c = spared_counted Sync _ _ c.sync.ensures.each.counted c.args.self.now.spared
 
 pub returns-clause-banks : goal.returns-clause-banks
 returns-clause-banks g c = λ told bank. record { same = (c.sync.ensures.banks told bank).same; no_more = (c.sync.ensures.banks told bank).no_more }

@@ -4,10 +4,10 @@ use Rattle.thread_world.proofs.Kept.{step_same, spared_counted}
 use Rattle.thread_world.proofs.tree.ThreadWorldWorld.list.Goals as goal
 
 pub invariant_of-self-clause-step : goal.invariant_of-self-clause-step
-invariant_of-self-clause-step g c = step_same _ _ _ _ _ c.list.ensures.keeps.table (c.list.ensures.around tt).running c.args.self.now.step
+invariant_of-self-clause-step g c = step_same _ _ _ _ _ c.list.ensures.each.table (c.list.ensures.around tt).running c.args.self.now.step
 
 pub invariant_of-self-clause-spared : goal.invariant_of-self-clause-spared
-invariant_of-self-clause-spared g c = spared_counted List _ _ c.list.ensures.counted c.args.self.now.spared
+invariant_of-self-clause-spared g c = spared_counted List _ _ c.list.ensures.each.counted c.args.self.now.spared
 
 pub returns-clause-banks : goal.returns-clause-banks
 returns-clause-banks g c = λ told bank. record { same = (c.list.ensures.banks told bank).same; no_more = (c.list.ensures.banks told bank).no_more }

@@ -4,10 +4,10 @@ use Rattle.thread_world.proofs.Kept.{step_same, spared_counted, running_made}
 use Rattle.thread_world.proofs.tree.ThreadWorldWorld.make_dir.Goals as goal
 
 pub invariant_of-self-clause-step : goal.invariant_of-self-clause-step
-invariant_of-self-clause-step g c = step_same _ _ _ _ _ c.make_dir.ensures.keeps.table (running_made _ _ _ _ (c.make_dir.ensures.made tt) (c.make_dir.ensures.refused tt)) c.args.self.now.step
+invariant_of-self-clause-step g c = step_same _ _ _ _ _ c.make_dir.ensures.each.table (running_made _ _ _ _ (c.make_dir.ensures.made tt) (c.make_dir.ensures.refused tt)) c.args.self.now.step
 
 pub invariant_of-self-clause-spared : goal.invariant_of-self-clause-spared
-invariant_of-self-clause-spared g c = spared_counted MakeDir _ _ c.make_dir.ensures.counted c.args.self.now.spared
+invariant_of-self-clause-spared g c = spared_counted MakeDir _ _ c.make_dir.ensures.each.counted c.args.self.now.spared
 
 pub returns-clause-banks : goal.returns-clause-banks
 returns-clause-banks g c = λ told bank. record { same = (c.make_dir.ensures.banks told bank).same; no_more = (c.make_dir.ensures.banks told bank).no_more }

@@ -4,10 +4,10 @@ use Rattle.thread_world.proofs.Kept.{step_same, spared_counted}
 use Rattle.thread_world.proofs.tree.ThreadWorldWorld.remove.Goals as goal
 
 pub invariant_of-self-clause-step : goal.invariant_of-self-clause-step
-invariant_of-self-clause-step g c = step_same _ _ _ _ _ c.remove.ensures.keeps.table (c.remove.ensures.around tt).running c.args.self.now.step
+invariant_of-self-clause-step g c = step_same _ _ _ _ _ c.remove.ensures.each.table (c.remove.ensures.around tt).running c.args.self.now.step
 
 pub invariant_of-self-clause-spared : goal.invariant_of-self-clause-spared
-invariant_of-self-clause-spared g c = spared_counted Remove _ _ c.remove.ensures.counted c.args.self.now.spared
+invariant_of-self-clause-spared g c = spared_counted Remove _ _ c.remove.ensures.each.counted c.args.self.now.spared
 
 pub returns-clause-banks : goal.returns-clause-banks
 returns-clause-banks g c = λ told bank. record { same = (c.remove.ensures.banks told bank).same; no_more = (c.remove.ensures.banks told bank).no_more }

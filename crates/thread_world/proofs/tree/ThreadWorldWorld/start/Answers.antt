@@ -68,7 +68,7 @@ returns-clause-started g c = λ told.
     (c.enter.ensures.started (c.in_ok-entering.ensures.event ∙ ap (λ (j : Job). events.Started j c.prepare-entering.new.self.faults) (sym c.in_ok-entering.ensures.job)))
 
 pub returns-clause-banks : goal.returns-clause-banks
-returns-clause-banks g c = λ told bank. let kept = banks_same _ _ (ap store_of c.enter.ensures.banks ∙ ap (λ (m : Machine). m.store) c.prepare-entering.ensures.machine) bank in record { same = kept.same; no_more = kept.no_more }
+returns-clause-banks g c = λ told bank. let kept = banks_same _ _ (ap store_of c.enter.ensures.keeps.banks ∙ ap (λ (m : Machine). m.store) c.prepare-entering.ensures.machine) bank in record { same = kept.same; no_more = kept.no_more }
 
 pub returns-clause-told : goal.returns-clause-told
 returns-clause-told g c = record { told = λ told. told; sure = λ told sure. sure; closed = refl }

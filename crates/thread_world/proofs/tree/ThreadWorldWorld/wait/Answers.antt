@@ -25,7 +25,7 @@ pub returns-clause-around : goal.returns-clause-around
 returns-clause-around g c = λ told. c.end.ensures.around
 
 pub returns-clause-banks : goal.returns-clause-banks
-returns-clause-banks g c = λ told bank. let kept = banks_same _ _ (ap store_of c.end.ensures.banks) bank in record { same = kept.same; no_more = kept.no_more }
+returns-clause-banks g c = λ told bank. let kept = banks_same _ _ (ap store_of c.end.ensures.keeps.banks) bank in record { same = kept.same; no_more = kept.no_more }
 
 pub returns-clause-told : goal.returns-clause-told
 returns-clause-told g c = record { told = λ told. told; sure = λ told sure. sure; closed = refl }

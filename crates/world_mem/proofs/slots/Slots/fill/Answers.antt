@@ -6,11 +6,12 @@ use Rattle.world_mem.specs.declared.slots.Slot.TheVariants.{Settled}
 use Rattle.world_mem.specs.Blocked.{HasFile, IsRefused, IsFirstRefused}
 use Rattle.std.specs.Cmp.Lexicographic.{bytes_decides}
 use Rattle.world_mem.specs.declared.slots.File.{File}
-use Rattle.world_mem.specs.InSlots.{slot_at, file_of, content_of, mark_of, file_at, Stands}
+use Rattle.world_mem.specs.InSlots.{slot_at, file_of, content_of, mark_of, stamp_at, file_at, Stands}
 use Rattle.world_mem.proofs.Below.{put_live, live_after, live_of, not_refused, weaker_blocked, file_at-listed}
 use Rattle.world_mem.proofs.Owners.{put-unmarked}
 use Rattle.world_mem.proofs.Membership.{below_or_not}
 use Rattle.world_mem.proofs.Marks.{put-file, put_named, none_of}
+use Rattle.world_mem.proofs.Stamped.{put_stamp}
 use Rattle.world_mem.proofs.slots.Slots.fill.Goals as goal
 use Rattle.world_mem.proofs.slots.Slots.fill.Goals.{then-has_file-via-then-has_file, then-has_file-via-else-has_file+in_ok-is_blocked+then-branch}
 
@@ -45,6 +46,9 @@ loop-place-preserved c =
           ap mark_of (c.in_ok-put.ensures.ok path) ∙ put-unmarked (bytes_eq file.0 path) _ (slot_at c.loop-place.self path) (c.loop-place.invariant.unmarked path);
       named = λ path f h. put_named (bytes_eq file.0 path) whole f (slot_at c.loop-place.self path) path (λ y. (bytes_decides file.0 path).0 y) (c.loop-place.invariant.named path f)
           (ap file_of (sym (c.in_ok-put.ensures.ok path ∙ ap (λ (g : File). cond (bytes_eq file.0 path) (Some (Settled (Some g))) (slot_at c.loop-place.self path)) c.in_ok-file.ensures)) ∙ h);
+      stamps = λ path.
+          ap stamp_at (c.in_ok-put.ensures.ok path ∙ ap (λ (g : File). cond (bytes_eq file.0 path) (Some (Settled (Some g))) (slot_at c.loop-place.self path)) c.in_ok-file.ensures)
+          ∙ put_stamp (bytes_eq file.0 path) whole (slot_at c.loop-place.self path) refl (c.loop-place.invariant.stamps path);
       none = λ n lt refused. elim (below_or_not n place) [
         | inl earlier ↦ c.loop-place.invariant.none n earlier refused
         | inr late ↦

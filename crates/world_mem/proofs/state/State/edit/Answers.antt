@@ -1,8 +1,10 @@
-use Rattle.std.proofs.Common.{◌≡◌, ◌∙◌, ◌<◌, ◌++◌, ◌∷◌, ◌||◌, [], sym, refl, ap, subst, arith, map, ℕ, List, Some, IsSome, length, Result, Ok, Err, OnErr}
+use Rattle.std.proofs.Common.{rules, ◌≡◌, ◌∙◌, ◌<◌, ◌++◌, ◌∷◌, ◌||◌, [], sym, refl, ap, subst, arith, map, ℕ, List, Some, IsSome, length, Result, Ok, Err, OnErr}
 use Rattle.std.specs.Global.{Vec}
 use Rattle.std.specs.List.{slice_index_or}
 use Rattle.world_api.specs.Act.{Given}
+use Rattle.world_mem.specs.AsAround.{around_of}
 use Rattle.world_mem.specs.AsCourse.{course_of}
+use Rattle.world_mem.specs.CallCounts.{next}
 use Rattle.world_mem.specs.InSlots.{slot_at}
 use Rattle.world_mem.specs.Kept.{met_of, contents_in, running_of, entry_of}
 use Rattle.world_mem.specs.Past.{Course}
@@ -42,6 +44,16 @@ put-requires-clause-place c =
 pub put-requires-clause-places : goal.put-requires-clause-places
 put-requires-clause-places c = λ k d lt.
     subst (λ (dirs : Dirs). IsSome (slot_at dirs.slots (slice_index_or c.missing_above.new.fresh k d))) (sym c.in_ok-widen_met.ensures.dirs) (c.in_ok-make_places.ensures.fresh k d lt)
+
+pub returns-clause-stamps : goal.returns-clause-stamps
+returns-clause-stamps c =
+    let count : c.saturating_add-stamp.result ≡ next c.args.self.now.stamp = search rules in
+    let stamp : c.put.new.self.stamp ≡ c.saturating_add-stamp.result = c.put.ensures.stamp ∙ ap (λ (file : File). file.stamp) c.in_ok-file.ensures in
+    record {
+      counted = stamp ∙ count;
+      stamped = λ other is some.
+          subst (λ (path : List ℕ). (around_of c.put.new.self).stamps path ≡ c.put.new.self.stamp) (sym is) (c.put.ensures.stamped ∙ sym c.put.ensures.stamp);
+    }
 
 pub returns-clause-edited : goal.returns-clause-edited
 returns-clause-edited c =

@@ -1,9 +1,9 @@
-use Rattle.std.proofs.Common.{◌≡◌, ◌∙◌, sym, ap, subst, inl, inr, ◌<◌, ℕ, List, Some, Option, Contains, [], ◌∷◌, ◌++◌, length, map, take, drop, suc, refl, true, is_some, None, reverse, insert, unwrap_or}
+use Rattle.std.proofs.Common.{rules, ◌≡◌, ◌≢◌, ◌∙◌, sym, ap, subst, inl, inr, ◌<◌, ℕ, List, Some, Option, Contains, [], ◌∷◌, ◌++◌, length, map, take, drop, suc, refl, true, is_some, None, reverse, insert, unwrap_or}
 use Rattle.std.specs.List.{slice_index_or, list_any, remove}
 use Rattle.std.specs.Str.{bytes_eq}
 use Rattle.world_mem.specs.InSlots.{slot_at, content_of, stamp_at}
 use Rattle.world_mem.specs.Kept.{met_of, contents_in, IdsApart, is_target, running_of, entry_of}
-use Rattle.world_mem.specs.Planned.{ends, makes}
+use Rattle.world_mem.specs.Planned.{ends, makes, IsPlain}
 use Rattle.world_api.specs.Around as api
 use Rattle.std.proofs.lemmas.List.{get_or-map, length-map, map-append}
 use Rattle.std.proofs.lemmas.List.Elements.{Contains-append_left, Contains-append_cases}
@@ -14,13 +14,14 @@ use Rattle.world_mem.specs.declared.slots.Slot.TheVariants.{Running}
 use Rattle.world_mem.proofs.Apart.{apart-remove}
 use Rattle.world_mem.proofs.Marks.{made_of, found_before}
 use Rattle.world_mem.proofs.Backs.{pushed, newest, same_around, target_back, target_stamp_back, job_back, last_back, met_back, none_back}
-use Rattle.world_mem.proofs.Plain.{done_or_not}
+use Rattle.world_mem.proofs.Plain.{done_or_not, ends_plain, never_memory}
 use Rattle.world_mem.specs.Undone.{without_last}
 use Rattle.world_mem.specs.AsCourse.{course_of}
 use Rattle.world_mem.specs.declared.past.Change.{Change}
 use Rattle.world_mem.specs.declared.past.Change.TheVariants.{Ended}
 use Rattle.world_mem.specs.declared.event.Event.{Event}
-use Rattle.world_api.specs.declared.job.Outcome.TheVariants.{Done}
+use Rattle.world_api.specs.declared.job.Outcome.{Outcome}
+use Rattle.world_api.specs.declared.job.Outcome.TheVariants.{Done, NoMemory}
 use Rattle.world_mem.proofs.Membership.{contains_map, other_place, still_in, parted, names_of_pairs, same_at, remove_cases}
 use Rattle.world_mem.proofs.Owners.{is_target-of, target_of}
 use Rattle.world_mem.proofs.Started.{started_more}
@@ -182,6 +183,24 @@ returns-clause-outcome c = λ d.
     let here : Contains old run = (c.args.place, lt, sym c.remove-job.ensures.value) in
     let at : slice_index_or (map running_of old) c.args.place d ≡ running_of run = get_or-map running_of old c.args.place run d lt ∙ ap running_of (sym c.remove-job.ensures.value) in
     c.unwrap_or-outcome.ensures ∙ ap (unwrap_or c.args.cut) (c.args.self.now.ending run here ∙ ap (λ (r : api.Running). ends c.args.self.now.table r.job r.given) (sym at))
+
+pub returns-clause-stamps : goal.returns-clause-stamps
+returns-clause-stamps c = λ d.
+    let old = c.args.self.now.running.items in
+    let run = c.remove-job.result in
+    let lt : c.args.place < length old = rw length-map at c.requires.place in
+    let at : slice_index_or (map running_of old) c.args.place d ≡ running_of run = get_or-map running_of old c.args.place run d lt ∙ ap running_of (sym c.remove-job.ensures.value) in
+    record {
+      counted = search rules;
+      stamped = λ path own some. c.conclude.ensures.stamped path (subst (λ (r : api.Running). Contains r.job.targets path) at own) some;
+    }
+
+pub returns-clause-no_memory : goal.returns-clause-no_memory
+returns-clause-no_memory c = λ off.
+    let run = c.remove-job.result in
+    let lt : c.args.place < length c.args.self.now.running.items = rw length-map at c.requires.place in
+    let plain = subst IsPlain (sym (c.args.self.now.ending run (c.args.place, lt, sym c.remove-job.ensures.value))) (ends_plain c.args.self.now.table run.job run.given) in
+    subst (λ (o : Outcome). o ≢ NoMemory) (sym c.unwrap_or-outcome.ensures) (never_memory c.args.cut run.outcome plain off)
 
 pub returns-clause-absent : goal.returns-clause-absent
 returns-clause-absent c = λ d path off own.

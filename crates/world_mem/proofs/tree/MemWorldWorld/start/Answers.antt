@@ -17,6 +17,7 @@ invariant_of-self-in-Break-branch-3 c = record {
   since = subst (λ (t : List Turn). c.args.self.now.horizon ≤ length t) (sym c.in_ok-widen.ensures.items) c.args.self.now.since;
   recorded_within = omega (arith, c.start.ensures.removals);
   turns_capacity = omega (arith, c.in_ok-widen.ensures.capacity);
+  counts = c.args.self.now.counts;
 }
 
 pub returns-in_err-start-clause-refused : goal.returns-in_err-start-clause-refused

@@ -1,9 +1,13 @@
-use Rattle.std.proofs.Common.{◌≡◌, ◌%◌, refl, sym, subst, ℕ, length, slice_index, slice_index_or, Contains}
+use Rattle.std.proofs.Common.{◌≡◌, ◌≢◌, ◌%◌, refl, sym, subst, Option, Some, ℕ, length, slice_index, slice_index_or, Contains}
 use Rattle.world_mem.specs.AsAround.{around_of}
 use Rattle.world_mem.specs.CallCounts.{count_of}
 use Rattle.world_mem.specs.declared.calls.Call.TheVariants.{Wait}
 use Rattle.mem_banks.specs.AsStore.{store_of}
 use Rattle.world_mem.specs.declared.past.Turn.TheVariants.{Tree}
+use Rattle.world_mem.specs.Stamps.{Stamps}
+use Rattle.world_api.specs.declared.job.Outcome.{Outcome}
+use Rattle.world_api.specs.declared.job.Outcome.TheVariants.{NoMemory}
+use Rattle.world_mem.proofs.Plain.{cut_memory}
 use Rattle.world_mem.proofs.Passing.{turn_recalls, turn_tree}
 use Rattle.world_mem.proofs.Unmade.{unmade_of}
 use Rattle.world_mem.proofs.tree.MemWorldWorld.wait.Goals as goal
@@ -19,6 +23,16 @@ returns-clause-recalls c = turn_recalls Tree _ _ (record { turns = c.push.ensure
 
 pub returns-clause-time : goal.returns-clause-time
 returns-clause-time c = turn_tree Tree _ _ (record { turns = c.push.ensures.items; horizon = refl; since = c.args.self.now.since; machine = λ i. record { course = c.end-ended.ensures.back i; store = store_of c.args.self.now.banks } })
+
+pub returns-clause-stamps : goal.returns-clause-stamps
+returns-clause-stamps c = λ d.
+    let running = (around_of c.args.self.now.state).running in
+    let place : c.place_of-place.result ≡ slice_index c.args.self.now.orders.items (count_of Wait c.args.self.now.calls) % length running = cc in
+    subst (λ (n : ℕ). Stamps (Contains (slice_index_or running n d).job.targets) c.args.self.now.state c.end-ended.new.self) place (c.end-ended.ensures.stamps d)
+
+pub returns-clause-no_memory : goal.returns-clause-no_memory
+returns-clause-no_memory c =
+    c.end-ended.ensures.no_memory (subst (λ (cut : Option Outcome). cut ≢ Some NoMemory) (sym c.cut_of-cut.ensures) (cut_memory c.next.result))
 
 pub returns-clause-absent : goal.returns-clause-absent
 returns-clause-absent c = λ d path bad own.

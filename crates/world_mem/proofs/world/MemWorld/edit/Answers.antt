@@ -10,6 +10,7 @@ invariant_of-self c = record {
   since = c.args.self.now.since;
   recorded_within = omega (arith, c.edit.ensures.removals);
   turns_capacity = c.args.self.now.turns_capacity;
+  counts = c.args.self.now.counts;
 }
 
 pub invariant_of-self-2-clause-unmade : goal.invariant_of-self-2-clause-unmade

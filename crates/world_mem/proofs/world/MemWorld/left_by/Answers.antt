@@ -2,6 +2,7 @@ use Rattle.std.proofs.Common.{◌≡◌, ◌∙◌, ap, arith, vec_len, ℕ, Lis
 use Rattle.std.specs.List.{flat_map}
 use Rattle.mem_banks.specs.AsStore.{store_of}
 use Rattle.mem_banks.specs.Past.{IsImage, bytes_in, synced_in}
+use Rattle.mem_banks.specs.Picks.{left_of}
 use Rattle.world_api.specs.declared.disk.Bank.{Bank}
 use Rattle.world_mem.specs.Left.{names, left_over}
 use Rattle.world_mem.specs.declared.running.RunningJob.{RunningJob}
@@ -32,6 +33,11 @@ pub returns-clause-image : goal.returns-clause-image
 returns-clause-image c =
     of_either (λ (bank : Bank) (bytes : List ℕ). IsImage (store_of c.args.self.now.banks) bank bytes) c.in_ok-a.a.items c.in_ok-b.b.items c.in_ok-a.ensures.image c.in_ok-b.ensures.image
 
+pub returns-clause-picked : goal.returns-clause-picked
+returns-clause-picked c =
+    let store = store_of c.args.self.now.banks in
+    of_either (λ (bank : Bank) (bytes : List ℕ). bytes ≡ left_of c.args.pick store bank) c.in_ok-a.a.items c.in_ok-b.b.items c.in_ok-a.ensures.picked c.in_ok-b.ensures.picked
+
 pub returns-clause-stands : goal.returns-clause-stands
 returns-clause-stands c = λ zero.
     let store = store_of c.args.self.now.banks in
@@ -51,4 +57,5 @@ invariant_of-self c =
       since = c.args.self.now.since;
       recorded_within = omega (arith, c.widen_met.ensures.removals);
       turns_capacity = c.args.self.now.turns_capacity;
+      counts = c.args.self.now.counts;
     }

@@ -6,6 +6,8 @@ use Rattle.world_mem.specs.AsAround.{around_of}
 use Rattle.world_mem.specs.Standing.{is_always}
 use Rattle.world_mem.specs.Blocked.{IsRefused, IsFirstRefused, HasBelow, HasFile}
 use Rattle.world_mem.specs.declared.refusal.NewRefusal.TheVariants.{Place}
+use Rattle.mem_banks.specs.AsStore.{store_of}
+use Rattle.world_mem.proofs.Dirty.{counts_none}
 use Rattle.world_mem.proofs.Unmade.{unmade_of}
 use Rattle.world_mem.proofs.world.MemWorld.new.Goals as goal
 
@@ -22,6 +24,9 @@ invariant_of-result-clause-recorded_within c =
     let none = ap length c.in_ok-banks.ensures.changes in
     let count = length-reverse c.in_ok-banks.banks.changes.items in
     omega (arith, none, count, c.in_ok-banks.banks.changes.ok.0, c.in_ok-state.ensures.removals)
+
+pub invariant_of-result-clause-counts : goal.invariant_of-result-clause-counts
+invariant_of-result-clause-counts c = counts_none (store_of c.in_ok-banks.banks).changes c.in_ok-banks.ensures.changes
 
 pub returns-clause-stand : goal.returns-clause-stand
 returns-clause-stand c =

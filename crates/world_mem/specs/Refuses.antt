@@ -1,0 +1,27 @@
+-- What a refused write or removal of a world in memory leaves.
+use Rattle.std.specs.Prelude.{◌≡◌, ◌≢◌, ◌⊎◌, ◌<◌, ◌%◌, ◌/◌, ℕ, List, [], length, take}
+use Rattle.mem_banks.specs.AsStore.{store_of}
+use Rattle.mem_banks.specs.Past.{wrote}
+use Rattle.world_api.specs.declared.disk.Bank.{Bank}
+use Rattle.world_mem.specs.CallCounts.{count_of, verdict_of}
+use Rattle.world_mem.specs.Room.{recorded, HasRoom}
+use Rattle.world_mem.specs.declared.calls.Call.TheVariants.{WriteAt, Remove}
+use Rattle.world_mem.specs.declared.calls.Verdict.TheVariants.{Goes, Listed, Spent}
+use Rattle.world_mem.specs.declared.world.MemWorld.{MemWorld}
+
+-- there is something to write, and room for it
+abbrev pub CanWrite : MemWorld → ℕ → List ℕ → Type 0
+CanWrite world place bytes = (bytes ≢ []) × HasRoom world place (length bytes)
+
+-- A write puts down all its bytes; where it is listed to fail, their first half, and a stop may tear the whole range; and
+-- else nothing.
+pub record Writes (bank : Bank) (place : ℕ) (bytes : List ℕ) (old new : MemWorld) : Type 0 where
+  pub all : verdict_of WriteAt old.calls ≡ Goes → CanWrite old place bytes → store_of new.banks ≡ wrote bank place bytes (length bytes) (store_of old.banks)
+  pub half : verdict_of WriteAt old.calls ≡ Listed → CanWrite old place bytes → store_of new.banks ≡ wrote bank place (take (length bytes / 2) bytes) (length bytes) (store_of old.banks)
+  pub none : (verdict_of WriteAt old.calls ≡ Spent) ⊎ (CanWrite old place bytes → ⊥) → new.banks ≡ old.banks
+
+-- a removal that is listed to fail, by an odd number, and has room: the file is gone nevertheless
+pub record IsGoneAnyway (world : MemWorld) : Type 0 where
+  pub listed : verdict_of Remove world.calls ≡ Listed
+  pub odd : count_of Remove world.calls % 2 ≡ 1
+  pub room : recorded world < 262144
