@@ -1,12 +1,8 @@
 -- Paths whose contents are put in the place of others.
-use Rattle.std.proofs.Common.{◌≡◌, ◌∙◌, ◌≤◌, ℕ, zero, suc, List, [], ◌∷◌, ◌++◌, length, refl, sym, ap, subst, arith, append_assoc, length-append}
+use Rattle.std.proofs.Common.{◌≡◌, ◌∙◌, ◌<◌, ◌≤◌, ℕ, zero, suc, List, [], ◌∷◌, ◌++◌, length, refl, sym, ap, subst, arith, append_assoc, length-append}
+use Rattle.std.specs.Prelude.{slice_set, slice_index_or}
 use Rattle.world_api.specs.Act.{Content, Given}
-use Rattle.world_mem.specs.Told.{contents_of, refilled, with_content}
-
--- the contents from a place on
-abbrev pub filled_from : ℕ → Given → List Content → Given
-filled_from place pairs [] = pairs
-filled_from place pairs (content ∷ contents) = filled_from (suc place) (with_content place content pairs) contents
+use Rattle.world_mem.specs.Told.{contents_of, filled_from, refilled, with_content}
 
 with_at : (front : Given) (pair : List ℕ × Content) (pairs : Given) (content : Content)
     → with_content (length front) content (front ++ pair ∷ pairs) ≡ front ++ (pair.0, content) ∷ pairs
@@ -25,6 +21,12 @@ filled_behind front (pair ∷ pairs) (content ∷ contents) few =
     ∙ ap (λ (place : ℕ). filled_from place (more ++ pairs) contents) long
     ∙ filled_behind more pairs contents (omega arith)
     ∙ append_assoc front ((pair.0, content) ∷ []) (refilled pairs contents)
+
+pub set_with : (pairs : Given) (place : ℕ) (content : Content) (old : List ℕ × Content) → place < length pairs → old ≡ slice_index_or pairs place old
+    → slice_set pairs place (old.0, content) ≡ with_content place content pairs
+set_with [] place content old lt is = absurd (omega arith)
+set_with (pair ∷ pairs) zero content old lt is = ap (λ (o : List ℕ × Content). (o.0, content) ∷ pairs) is
+set_with (pair ∷ pairs) (suc place) content old lt is = ap (λ (rest : Given). pair ∷ rest) (set_with pairs place content old (omega (arith, lt)) is)
 
 pub filled_all : (pairs : Given) (contents : List Content) → length contents ≡ length pairs → filled_from 0 pairs contents ≡ refilled pairs contents
 filled_all pairs contents same = filled_behind [] pairs contents (omega arith)

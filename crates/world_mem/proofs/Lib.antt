@@ -29,3 +29,4 @@ pub mod SameContents
 pub mod Readied
 pub mod Without
 pub mod ToldPlan
+pub mod PutBack

@@ -18,8 +18,11 @@ both : (a b : Bool) → a ≡ true → b ≡ true → (a && b) ≡ true
 both true b is is' = is'
 both false b is is' = absurd cc
 
-pair_eq : (p q : List ℕ) (a b : Content) → p ≡ q → a ≡ b → (p, a) ≡ (q, b)
-pair_eq p q a b is is' = ap (λ (x : List ℕ). (x, a)) is ∙ ap (λ (y : Content). (q, y)) is'
+abbrev with_path : Content → List ℕ → List ℕ × Content
+with_path content path = (path, content)
+
+pair_eq : (p q : List ℕ) (a b : Content) → p ≡ q → a ≡ b → with_path a p ≡ with_path b q
+pair_eq p q a b is is' = ap (with_path a) is ∙ ap (λ (y : Content). with_path y q) is'
 
 pub pair_eq-Decides : (x y : List ℕ × Content) → Decides (bytes_eq x.0 y.0 && option_eq bytes_eq x.1 y.1) (x ≡ y)
 pair_eq-Decides (p, a) (q, b) = (

@@ -22,3 +22,14 @@ planned_contents rows runs place outcome made planned lt done told d =
     (told (running_of d)).contents done
     ∙ ap (λ (r : Running). contents_of (makes rows r.job r.given)) at
     ∙ sym (ap contents_of (planned run (place, lt, same_at runs place run d lt)))
+
+pub planned_outcome : (rows rows' : List ActRow) (runs runs' : List RunningJob) (place : ℕ) (outcome : Outcome) (made : List Content) (ended : Outcome) (d : Running)
+    → rows' ≡ rows → runs' ≡ runs → outcome ≡ Done
+    → ended ≡ ends rows' (slice_index_or (map running_of runs') place d).job (slice_index_or (map running_of runs') place d).given
+    → IsTold rows (slice_index_or (map running_of runs) place d) outcome made → ended ≡ outcome
+planned_outcome rows rows' runs runs' place outcome made ended d same_rows same done by told =
+    by
+    ∙ ap (λ (r : List ActRow). ends r (slice_index_or (map running_of runs') place d).job (slice_index_or (map running_of runs') place d).given) same_rows
+    ∙ ap (λ (r : List RunningJob). ends rows (slice_index_or (map running_of r) place d).job (slice_index_or (map running_of r) place d).given) same
+    ∙ told.ends done
+    ∙ sym done

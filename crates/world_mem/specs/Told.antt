@@ -23,6 +23,11 @@ with_content place content [] = []
 with_content zero content (pair ∷ pairs) = (pair.0, content) ∷ pairs
 with_content (suc place) content (pair ∷ pairs) = pair ∷ with_content place content pairs
 
+-- the same paths, and other contents from this place on
+abbrev pub filled_from : ℕ → Given → List Content → Given
+filled_from place pairs [] = pairs
+filled_from place pairs (content ∷ contents) = filled_from (suc place) (with_content place content pairs) contents
+
 -- the paths with these contents in their order, and with none where there are no more
 abbrev pub paired : List (List ℕ) → List Content → Given
 paired [] contents = []

@@ -3,7 +3,7 @@ ghost use Rattle.std.specs.Prelude.{◌≡◌, ◌<◌, IfOk, OnOk, OnErr, ◌++
 ghost use Rattle.std.specs.Option.{option_copied};
 ghost use Rattle.world_mem.specs.Kept.{contents_in};
 ghost use Rattle.world_mem.specs.Listed.{listed, same_given};
-ghost use Rattle.world_mem.specs.Told.{contents_of, paired, refilled, with_content};
+ghost use Rattle.world_mem.specs.Told.{contents_of, filled_from, paired, refilled, with_content};
 
 use scons_base::{Blob, Listing, Memory, PathText, Paths};
 use std::alloc::Global;
@@ -77,6 +77,7 @@ impl Contents {
     }
 
     /// Puts these contents in the place of those that the paths have, in their order.
+    #[tactic(auto, using(crate::proofs::Filled::filled_all))]
     pub(crate) fn refill(&mut self, contents: Listing<Content>)
         requires { length contents ≡ length self.old }
         ensures { self.new ≡ refilled self.old contents }
@@ -138,10 +139,9 @@ pub fn group_of(alloc: Global, path: &PathText, bytes: &[u8]) -> Result<Contents
 }
 
 /// Puts contents beside the paths, in their order.
-#[tactic(auto, using(crate::proofs::Filled::filled_all))]
 fn refill(items: &mut Vec<(PathText, Content)>, contents: Vec<Content>)
     requires { length contents.items ≡ length items.old.items }
-    ensures { items.new.items ≡ refilled items.old.items contents.items }
+    ensures { items.new.items ≡ filled_from 0 items.old.items contents.items }
 {
     let mut place = 0;
     'contents: for content in contents {

@@ -13,3 +13,6 @@ returns-clause-recalls c = turn_recalls Tree _ _ (record { turns = c.push.ensure
 
 pub returns-clause-time : goal.returns-clause-time
 returns-clause-time c = turn_tree Tree _ _ (record { turns = c.push.ensures.items; horizon = refl; since = c.args.self.now.since; machine = λ i. record { course = c.enter_ready.ensures.back i; store = store_of c.args.self.now.banks } })
+
+pub returns-clause-started : goal.returns-clause-started
+returns-clause-started c = λ event. c.enter_ready.ensures.started c.args.self.now.faults event
