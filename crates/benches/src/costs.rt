@@ -44,7 +44,8 @@ fn prepared(alloc: Global, envs: &mut Envs, env: EnvId, what: &str, size: u32) -
         "names" => names(alloc, envs, env, size),
         "dollars" => repeated(alloc, "$$", size),
         "marks" => repeated(alloc, "$(a$)", size),
-        "calls" => calls(alloc, envs, env, size),
+        "calls" => calls(alloc, envs, env, size, true),
+        "items_with_calls" => calls(alloc, envs, env, size, false),
         _ => None,
     }
 }
@@ -84,8 +85,8 @@ fn names(alloc: Global, envs: &mut Envs, env: EnvId, size: u32) -> Option<String
     format!(in alloc; "${name}").ok()
 }
 
-/// Calls in each other, so many: each list has an item, and then the name of the next list.
-fn calls(alloc: Global, envs: &mut Envs, env: EnvId, size: u32) -> Option<String>
+/// Calls in each other, so many: each list has an item, and then the name of the next list, or a text with a call of it.
+fn calls(alloc: Global, envs: &mut Envs, env: EnvId, size: u32, alone: bool) -> Option<String>
     requires { env.0 < length envs.old }
     ensures { IfSome result (λ _. env.0 < length envs.new) }
 {
@@ -93,12 +94,24 @@ fn calls(alloc: Global, envs: &mut Envs, env: EnvId, size: u32) -> Option<String
         let mut items = Listing::empty(alloc);
         items.push(Item::Text(Text::of(alloc, "x").ok()?)).ok()?;
         let next = i.saturating_add(1);
-        let further = format!(in alloc; "$L{next}").ok()?;
+        let further = further(alloc, next, alone)?;
         items.push(Item::Text(Text::new(further))).ok()?;
         let name = format!(in alloc; "L{i}").ok()?;
         envs.set(env, name.as_str(), EnvValue::List(items)).ok()?;
     }
     repeated(alloc, "${_concat(P, L0, S, __env__)}", 1)
+}
+
+/// The name of the list of this number, or a text with a call of it.
+fn further(alloc: Global, number: u32, alone: bool) -> Option<String> {
+    if alone {
+        return format!(in alloc; "$L{number}").ok();
+    }
+    let mut text = String::from_str(alloc, "y${_concat(P, L").ok()?;
+    let rest = format!(in alloc; "{number}, S, __env__)").ok()?;
+    text.push_str(rest.as_str()).ok()?;
+    text.push('}').ok()?;
+    Some(text)
 }
 
 /// A text so many times.

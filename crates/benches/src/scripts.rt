@@ -1,7 +1,7 @@
 //! A script that is run.
 use anyhow::{Result, anyhow};
 use eval_hosts::Replying;
-use py_eval::run;
+use py_eval::{Ran, run};
 use py_heap::{Budget, Heap};
 use py_lex::lex;
 use py_parse::parse;
@@ -22,13 +22,15 @@ pub fn run_file(rt: &HostRuntime, path: Option<String>) -> Result<()> {
         first: Vec::new(alloc),
         refusals: 0,
     };
-    let mut heap = Heap::new(alloc);
-    let mut budget = Budget::new(UNIT_LIMIT);
     let start = Instant::now(rt)?;
-    let outcome = run(&script, &mut heap, &mut host, &mut budget);
+    let outcome = run(&script, Heap::new(alloc), &mut host, Budget::new(UNIT_LIMIT));
     let time = start.elapsed(rt)?.as_micros();
-    let used = budget.used();
-    let ended = outcome.is_ok();
-    println!(rt; "py_eval: {used} units in {time} microseconds, ended {ended}")?;
+    match outcome {
+        Ok(Ran { budget, .. }) => {
+            let used = budget.used();
+            println!(rt; "py_eval: {used} units in {time} microseconds")?;
+        }
+        Err(fault) => println!(rt; "py_eval: {fault:?} after {time} microseconds")?,
+    }
     Ok(())
 }

@@ -3,3 +3,6 @@ pub mod Showing
 pub mod Sizes
 pub mod LineCuts
 pub mod Hiding
+pub mod Joining
+pub mod Blanks
+pub mod Counting

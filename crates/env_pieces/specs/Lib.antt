@@ -3,3 +3,4 @@ pub mod Forms
 pub mod Lines
 pub mod Inside
 pub mod Steps
+pub mod Parts

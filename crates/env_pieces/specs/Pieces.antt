@@ -1,6 +1,6 @@
 -- What reading a text gives: texts and marks. The chapter on substitution of scons(1) tells what marks are for; how pieces
 -- are counted is this project's own.
-use Rattle.std.specs.Prelude.{ℕ, List, [], ◌∷◌, ◌++◌, ◌-◌, nat_le, length, Option, Some, None, if◌then◌else◌}
+use Rattle.std.specs.Prelude.{ℕ, List, [], ◌∷◌, ◌++◌, ◌-◌, nat_le, length, Option, Some, None, option_and_then, if◌then◌else◌}
 use Rattle.env_pieces.specs.declared.piece.Mark.{Mark}
 use Rattle.env_pieces.specs.declared.piece.Piece.{Piece}
 use Rattle.env_pieces.specs.declared.piece.Piece.TheVariants as piece
@@ -37,3 +37,12 @@ abbrev pub with_mark : Mark → Sheet → Option Sheet
 with_mark mark s =
     if nat_le 2 s.room
     then Some (record { done = pieces_of s ++ piece.Mark mark ∷ []; text = []; room = s.room - 2 }) else None
+
+abbrev pub with_piece : Piece → Sheet → Option Sheet
+with_piece (piece.Text text) s = with_text text s
+with_piece (piece.Mark mark) s = with_mark mark s
+
+-- pieces behind what was read, one after another
+abbrev pub with_pieces : List Piece → Sheet → Option Sheet
+with_pieces [] s = Some s
+with_pieces (p ∷ pieces) s = option_and_then (with_pieces pieces) (with_piece p s)

@@ -7,6 +7,7 @@
 
 mod form;
 mod lines;
+mod parts;
 mod piece;
 mod pieces;
 mod squeeze;

@@ -2,18 +2,18 @@
 use Rattle.std.proofs.Common.{◌≡◌, ◌≢◌, ◌∙◌, ◌==◌, ℕ, Bool, true, false, not, ◌&&◌, List, [], ◌∷◌, Ok, Err, Some, None, refl, sym, ap, subst, length}
 use Rattle.std.specs.Prelude.{Result, Option, OnOk, IfErr, if◌then◌else◌}
 use Rattle.env_pieces.specs.declared.piece.Piece.{Piece}
-use Rattle.env_pieces.specs.Pieces.{Sheet, blank, with_text, pieces_of}
+use Rattle.env_pieces.specs.Pieces.{Sheet, blank, with_text, with_pieces, pieces_of}
 use Rattle.env_pieces.specs.Forms.{text_of}
 use Rattle.scons_base.specs.Resolve.{spelling}
 use Rattle.variant_dirs.specs.Variants.{searched}
 use Rattle.env_subst.specs.declared.fault.SubstFault.{SubstFault}
-use Rattle.env_subst.specs.declared.fault.SubstFault.TheVariants.{Memory}
+use Rattle.env_subst.specs.declared.fault.SubstFault.TheVariants.{Memory, TooLong}
 use Rattle.env_subst.specs.declared.saying.Saying.{Saying}
 use Rattle.env_subst.specs.declared.saying.Saying.TheVariants.{Read}
 use Rattle.env_subst.specs.declared.task.Call.{Call}
 use Rattle.env_subst.specs.Settings.{Setting}
 use Rattle.env_subst.specs.Expansions.{State, Answer, and_then, sheet_or_fault, puts, Names, sayings_in, expands, affixed, parts, puts_item, puts_all, inner, all_dirs, dirs_named, puts_found, is_literal, known_item, node_item, puts_read, read_pieces, read_item, call_of, text_item, item, items_all, begun, calls}
-use Rattle.env_subst.specs.Desks.{PlainTask, inside, expand, items, dirs, apart, deeper_of, does, names_after, resumes, Desk, left_of, Leads, behind_all, Parted, CannotPart, PutsAll, CannotPut}
+use Rattle.env_subst.specs.Desks.{PlainTask, inside, expand, items, dirs, apart, deeper_of, does, names_after, resumes, Desk, left_of, Leads, behind_all, Parted, CannotPart}
 use Rattle.env_subst.proofs.Doing.{desk, at, and_then-assoc, upon}
 
 -- a call begins
@@ -156,38 +156,35 @@ module _ {U : Type 0} (w : Setting) (d after : Desk) (call : Call) (t : List ℕ
   other_item found e f = subst (λ a. Leads w a after r) (text_by false found e f)
 
 -- what was read apart, by what it is
-module _ (w : Setting) (tasks : List PlainTask) (names : Names) (old read outer placed : Sheet) (n : ℕ) (call : Call) (alone : Bool) (pieces : List Piece) (t : List ℕ)
-    (read_is : read ≡ old) (placed_is : placed ≡ outer) (pieces_is : pieces ≡ pieces_of read) (text_is : t ≡ text_of pieces) where
-  pieces_read : pieces ≡ pieces_of old
-  pieces_read = pieces_is ∙ ap pieces_of read_is
-
-  abbrev read_with : Bool → Sheet → List Piece → Answer
-  read_with b x ps =
-      if b then known_item w (deeper_of w names) names call (text_of ps) (at x n) else read_pieces w (deeper_of w names) names call alone ps (at x n)
+module _ (w : Setting) (tasks : List PlainTask) (names : Names) (old read outer placed : Sheet) (n : ℕ) (call : Call) (alone : Bool) (read_is : read ≡ old) (placed_is : placed ≡ outer) where
+  abbrev read_with : Bool → Sheet → Sheet → Answer
+  read_with b x r =
+      if b then known_item w (deeper_of w names) names call (text_of (pieces_of r)) (at x n) else read_pieces w (deeper_of w names) names call alone (pieces_of r) (at x n)
 
   read_by : (b : Bool) → (call.directories && not alone) ≡ b
-      → and_then (read_with b placed pieces) (resumes w tasks names) ≡ behind_all w (λ s. read_item w (deeper_of w names) names call alone outer (Ok s)) (desk tasks names old n)
+      → and_then (read_with b placed read) (resumes w tasks names) ≡ behind_all w (λ s. read_item w (deeper_of w names) names call alone outer (Ok s)) (desk tasks names old n)
   read_by b e =
-      ap (λ x. and_then (read_with b x pieces) (resumes w tasks names)) placed_is
-      ∙ ap (λ ps. and_then (read_with b outer ps) (resumes w tasks names)) pieces_read
-      ∙ ap (λ c. and_then (read_with c outer (pieces_of old)) (resumes w tasks names)) (sym e)
+      ap (λ x. and_then (read_with b x read) (resumes w tasks names)) placed_is
+      ∙ ap (λ r. and_then (read_with b outer r) (resumes w tasks names)) read_is
+      ∙ ap (λ c. and_then (read_with c outer old) (resumes w tasks names)) (sym e)
 
-  pub read_known : (call.directories && not alone) ≡ true
+  pub read_known : (t : List ℕ) → t ≡ text_of (pieces_of read) → (call.directories && not alone) ≡ true
       → behind_all w (known_item w (deeper_of w names) names call t) (desk tasks names placed n) ≡ behind_all w (λ s. read_item w (deeper_of w names) names call alone outer (Ok s)) (desk tasks names old n)
-  read_known e = ap (λ u. behind_all w (known_item w (deeper_of w names) names call u) (desk tasks names placed n)) text_is ∙ read_by true e
+  read_known t is e = ap (λ u. behind_all w (known_item w (deeper_of w names) names call u) (desk tasks names placed n)) is ∙ read_by true e
 
-  empty_by : (b : Bool) → (length t == 0) ≡ b
-      → and_then (if b then Ok (at placed n) else puts_read w (deeper_of w names) names call alone pieces (at placed n)) (resumes w tasks names)
-      ≡ behind_all w (read_pieces w (deeper_of w names) names call alone pieces) (desk tasks names placed n)
+  empty_by : (b : Bool) → (length (text_of (pieces_of read)) == 0) ≡ b
+      → and_then (if b then Ok (at placed n) else puts_read w (deeper_of w names) names call alone (pieces_of read) (at placed n)) (resumes w tasks names)
+      ≡ behind_all w (read_pieces w (deeper_of w names) names call alone (pieces_of read)) (desk tasks names placed n)
   empty_by b e =
-      ap (λ c. and_then (if c then Ok (at placed n) else puts_read w (deeper_of w names) names call alone pieces (at placed n)) (resumes w tasks names)) (sym e ∙ ap (λ u. length u == 0) text_is)
+      ap (λ c. and_then (if c then Ok (at placed n) else puts_read w (deeper_of w names) names call alone (pieces_of read) (at placed n)) (resumes w tasks names)) (sym e)
 
-  pub read_empty : (call.directories && not alone) ≡ false → (length t == 0) ≡ true
+  pub read_empty : (call.directories && not alone) ≡ false → (length (text_of (pieces_of read)) == 0) ≡ true
       → left_of w (desk tasks names placed n) ≡ behind_all w (λ s. read_item w (deeper_of w names) names call alone outer (Ok s)) (desk tasks names old n)
   read_empty e f = empty_by true f ∙ read_by false e
 
-  pub read_put : (call.directories && not alone) ≡ false → (length t == 0) ≡ false
-      → behind_all w (puts_read w (deeper_of w names) names call alone pieces) (desk tasks names placed n) ≡ behind_all w (λ s. read_item w (deeper_of w names) names call alone outer (Ok s)) (desk tasks names old n)
+  pub read_put : (call.directories && not alone) ≡ false → (length (text_of (pieces_of read)) == 0) ≡ false
+      → behind_all w (puts_read w (deeper_of w names) names call alone (pieces_of read)) (desk tasks names placed n)
+      ≡ behind_all w (λ s. read_item w (deeper_of w names) names call alone outer (Ok s)) (desk tasks names old n)
   read_put e f = empty_by false f ∙ read_by false e
 
 -- pieces are put
@@ -199,10 +196,11 @@ module _ (w : Setting) (d : Desk) (call : Call) (pieces : List Piece) where
   put_affixed = refl
 
 module _ {U : Type 0} (w : Setting) (tasks : List PlainTask) (names : Names) (old new : Sheet) (n : ℕ) where
-  pub all_put : (pieces given : List Piece) (r : Result U SubstFault) → given ≡ pieces → OnOk r (PutsAll given old new) → IfErr r (λ e. e ≢ Memory → CannotPut given old e)
+  pub all_put : (pieces : List Piece) (r : Result U SubstFault) → OnOk r (with_pieces pieces old ≡ Some new)
+      → IfErr r (λ e. e ≢ Memory → (e ≡ TooLong 1048577) × (with_pieces pieces old ≡ None))
       → Leads w (behind_all w (puts_all pieces) (desk tasks names old n)) (desk tasks names new n) r
-  all_put pieces given (Ok u) same e f = ap (λ a. and_then a (resumes w tasks names)) (sym (e n) ∙ ap (λ ps. puts_all ps (at old n)) same)
-  all_put pieces given (Err fault) same e f = λ h. ap (λ a. and_then a (resumes w tasks names)) (ap (λ ps. puts_all ps (at old n)) (sym same) ∙ f h n)
+  all_put pieces (Ok u) e f = ap (λ o. and_then (sheet_or_fault n o) (resumes w tasks names)) (sym e)
+  all_put pieces (Err fault) e f = λ h. ap (λ o. and_then (sheet_or_fault n o) (resumes w tasks names)) (f h).1 ∙ ap (λ x. Err x) (sym (f h).0)
 
 -- the directories of an item
 module _ {U : Type 0} (w : Setting) (tasks : List PlainTask) (names : Names) (after : Desk) (n : ℕ) (call : Call) (found : List (List ℕ)) (r : Result U SubstFault) where

@@ -8,5 +8,4 @@ pub mod Shown
 pub mod EntrySteps
 pub mod CharCuts
 pub mod OpenNames
-pub mod PutPieces
 pub mod Spelled

@@ -5,7 +5,7 @@ use Rattle.env_text.specs.Readings.{reading_from}
 use Rattle.env_pieces.specs.declared.piece.Piece.{Piece}
 use Rattle.env_pieces.specs.declared.pieces.PieceFault.{PieceFault}
 use Rattle.env_pieces.specs.declared.pieces.PieceFault.TheVariants as piece
-use Rattle.env_pieces.specs.Pieces.{Sheet, with_text}
+use Rattle.env_pieces.specs.Pieces.{Sheet, with_text, pieces_of}
 use Rattle.env_subst.specs.declared.fault.SubstFault.{SubstFault}
 use Rattle.env_subst.specs.declared.fault.SubstFault.TheVariants.{Memory, TooLong}
 use Rattle.env_subst.specs.declared.locals.Locals.{Locals}
@@ -54,7 +54,7 @@ plain locals (task.Expand name) = expand name
 plain locals (task.Items call rest) = items call (sayings_of locals rest)
 plain locals (task.Dirs call found next) = dirs call (drop next found)
 plain locals (task.Apart outer call alone) = apart outer call alone
-plain locals (task.PutAll pieces) = put_all pieces.items
+plain locals (task.PutAll pieces) = put_all (pieces_of pieces)
 plain locals task.Close = close
 
 -- the texts of the variables that stand in the innermost one
@@ -152,10 +152,3 @@ Parted room old new = (if old.room == room then Some old else with_text (32 ∷ 
 -- and can't be
 abbrev pub CannotPart : ℕ → Sheet → SubstFault → Type 0
 CannotPart room old fault = (fault ≡ TooLong (SUBST_LIMIT + 1)) × ((if old.room == room then Some old else with_text (32 ∷ []) old) ≡ None)
-
--- pieces are put, whatever the references are; and can't be
-abbrev pub PutsAll : List Piece → Sheet → Sheet → Type 0
-PutsAll pieces old new = (n : ℕ) → puts_all pieces (record { sheet = old; references = n }) ≡ Ok (record { sheet = new; references = n })
-
-abbrev pub CannotPut : List Piece → Sheet → SubstFault → Type 0
-CannotPut pieces old fault = (n : ℕ) → puts_all pieces (record { sheet = old; references = n }) ≡ Err fault

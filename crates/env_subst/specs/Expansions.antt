@@ -14,8 +14,7 @@ use Rattle.env_text.specs.Readings.{Reading, ends, part_at, bad_brace, reading_o
 use Rattle.env_pieces.specs.declared.piece.Mark.{Mark}
 use Rattle.env_pieces.specs.declared.piece.Mark.TheVariants.{Begin, End}
 use Rattle.env_pieces.specs.declared.piece.Piece.{Piece}
-use Rattle.env_pieces.specs.declared.piece.Piece.TheVariants as piece
-use Rattle.env_pieces.specs.Pieces.{Sheet, blank, with_text, with_mark, pieces_of}
+use Rattle.env_pieces.specs.Pieces.{Sheet, blank, with_text, with_mark, with_pieces, pieces_of}
 use Rattle.env_pieces.specs.Forms.{text_of}
 use Rattle.env_subst.specs.declared.fault.SubstFault.{SubstFault}
 use Rattle.env_subst.specs.declared.fault.SubstFault.TheVariants.{BadBrace, BadAttr, TooLong, TooMany, BadPath}
@@ -114,9 +113,7 @@ puts_item w deeper names call middle s = and_then (parts call s) (affixed w deep
 
 -- pieces, one behind another
 abbrev pub puts_all : List Piece → State → Answer
-puts_all [] s = Ok s
-puts_all (piece.Text t ∷ pieces) s = and_then (puts t s) (puts_all pieces)
-puts_all (piece.Mark mark ∷ pieces) s = and_then (marks mark s) (puts_all pieces)
+puts_all pieces s = sheet_or_fault s.references (with_pieces pieces s.sheet)
 
 -- directories with prefix and suffix
 abbrev pub all_dirs : Setting → Deeper → Names → Call → List (List ℕ) → State → Answer

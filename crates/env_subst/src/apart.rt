@@ -1,18 +1,20 @@
 //! Items of a call that are read apart first.
-ghost use Rattle.std.specs.Prelude.{◌≡◌, ◌≢◌, ◌++◌, ◌∷◌, [], Ok, OnOk, IfOk, IfErr, string_bytes, codes, if◌then◌else◌};
+ghost use Rattle.std.specs.Prelude.{◌≡◌, ◌++◌, ◌∷◌, [], Ok, OnOk, IfOk, string_bytes, codes, if◌then◌else◌};
 ghost use Rattle.std.specs.Option.{option_map};
 ghost use Rattle.env_text.specs.Alone.{name_alone};
 ghost use Rattle.env_text.specs.Readings.{reading_of};
+ghost use Rattle.env_pieces.specs.Pieces.{pieces_of};
+ghost use Rattle.env_pieces.specs.Forms.{text_of};
 ghost use Rattle.env_subst.specs.Expansions.{is_literal, text_item, puts_read, read_item, call_of};
-ghost use Rattle.env_subst.specs.Desks.{deeper_of, reads_apart, Steps, PutsAll, CannotPut};
+ghost use Rattle.env_subst.specs.Desks.{deeper_of, reads_apart, Steps};
 
 use crate::calls::{put_between, put_known, put_parting};
-use crate::desk::{Desk, push, put, put_mark};
+use crate::desk::{Desk, push, put_all};
 use crate::fault::SubstFault;
 use crate::saying::Saying;
 use crate::setting::Setting;
 use crate::task::{Call, Task};
-use env_pieces::{Piece, Pieces, text_of};
+use env_pieces::{Pieces, text_of};
 use env_text::name_alone;
 use scons_base::{Memory, Text};
 use std::alloc::Global;
@@ -110,15 +112,22 @@ pub(crate) fn put_read<'a>(
     ensures { Steps setting.now (λ w names s. read_item w (deeper_of w names) names call alone outer (Ok s)) desk.old desk.new result }
 {
     let inner = mem::replace(&mut desk.pieces, outer);
-    let pieces = inner.finish()?;
-    let text = Text::new(text_of(setting.alloc, pieces.as_slice())?);
     if call.directories && !alone {
+        let text = text_in(setting.alloc, inner)?;
         return put_known(setting, desk, call, text);
     }
-    if text.as_str().is_empty() {
+    if inner.is_blank() {
         return Ok(());
     }
-    put_pieces(setting, desk, call, alone, pieces)
+    put_pieces(setting, desk, call, alone, inner)
+}
+
+/// Pieces as text.
+fn text_in(alloc: Global, pieces: Pieces) -> Result<Text, Memory>
+    ensures { IfOk result (λ t. t ≡ text_of (pieces_of pieces)) }
+{
+    let pieces = pieces.finish()?;
+    Ok(Text::new(text_of(alloc, pieces.as_slice())?))
 }
 
 fn put_pieces<'a>(
@@ -126,34 +135,13 @@ fn put_pieces<'a>(
     desk: &mut Desk<'a>,
     call: Call,
     alone: bool,
-    pieces: Vec<Piece>,
+    pieces: Pieces,
 ) -> Result<(), SubstFault>
-    ensures { Steps setting.now (λ w names. puts_read w (deeper_of w names) names call alone pieces.items) desk.old desk.new result }
+    ensures { Steps setting.now (λ w names. puts_read w (deeper_of w names) names call alone (pieces_of pieces)) desk.old desk.new result }
 {
     if !alone {
         return put_between(setting, desk, call, Task::PutAll(pieces));
     }
     put_parting(&mut desk.pieces, call.room)?;
-    put_all(&mut desk.pieces, pieces.as_slice())
-}
-
-/// Puts pieces behind what was read.
-pub(crate) fn put_all(pieces: &mut Pieces, more: &[Piece]) -> Result<(), SubstFault>
-    ensures ok { OnOk result (PutsAll more.now pieces.old pieces.new) }
-    ensures fault { IfErr result (λ e. e ≢ SubstFault.Memory → CannotPut more.now pieces.old e) }
-{
-    for piece in more {
-        put_piece(pieces, piece)?;
-    }
-    Ok(())
-}
-
-fn put_piece(pieces: &mut Pieces, piece: &Piece) -> Result<(), SubstFault>
-    ensures ok { OnOk result (PutsAll (piece.now ∷ []) pieces.old pieces.new) }
-    ensures fault { IfErr result (λ e. e ≢ SubstFault.Memory → CannotPut (piece.now ∷ []) pieces.old e) }
-{
-    match piece {
-        Piece::Text(text) => put(pieces, text.as_str()),
-        Piece::Mark(mark) => put_mark(pieces, *mark),
-    }
+    put_all(&mut desk.pieces, pieces)
 }

@@ -1,7 +1,7 @@
 //! A text is read task by task. What is left is a stack of tasks, so that variables may stand in each other as deeply as
 //! there may be references.
 ghost use Rattle.std.specs.Prelude.{◌≡◌, ◌≢◌, ◌∷◌, ◌+◌, [], Some, None, true, false, nat_lt, OnOk, IfErr, MatchOption, MatchResult};
-ghost use Rattle.env_pieces.specs.Pieces.{with_text, with_mark};
+ghost use Rattle.env_pieces.specs.Pieces.{with_text, with_mark, with_pieces, pieces_of};
 ghost use Rattle.env_subst.specs.declared.locals.Locals.{Locals};
 ghost use Rattle.env_subst.specs.Desks.{plain, tasks_of, piece_fault};
 
@@ -60,6 +60,18 @@ pub(crate) fn put_mark(pieces: &mut Pieces, mark: Mark) -> Result<(), SubstFault
         → (e ≡ SubstFault.TooLong (SUBST_LIMIT + 1)) × (with_mark mark pieces.old ≡ None)) }
 {
     match pieces.put_mark(mark) {
+        Ok(()) => Ok(()),
+        Err(fault) => Err(piece_fault(fault)),
+    }
+}
+
+/// Puts pieces behind what was read.
+pub(crate) fn put_all(pieces: &mut Pieces, more: Pieces) -> Result<(), SubstFault>
+    ensures ok { OnOk result (with_pieces (pieces_of more) pieces.old ≡ Some pieces.new) }
+    ensures fault { IfErr result (λ e. e ≢ SubstFault.Memory
+        → (e ≡ SubstFault.TooLong (SUBST_LIMIT + 1)) × (with_pieces (pieces_of more) pieces.old ≡ None)) }
+{
+    match pieces.append(more) {
         Ok(()) => Ok(()),
         Err(fault) => Err(piece_fault(fault)),
     }

@@ -27,7 +27,7 @@ mod setting;
 mod substitution;
 mod task;
 
-pub use command::{lines, path_text};
+pub use command::{CommandLines, command_lines, lines, path_text};
 pub use env_pieces::Mode;
 pub use fault::SubstFault;
 pub use library::{LibItem, dirs, lib_names};

@@ -9,9 +9,9 @@ ghost use Rattle.env_subst.specs.Expansions.{State, text_at, started};
 ghost use Rattle.env_subst.specs.Results.{form_fault, expansion, substituted};
 ghost use Rattle.env_subst.specs.Desks.{plain, desk_of, idle, left_of, with_task, Leads};
 
-use crate::apart::{put_all, put_read};
+use crate::apart::put_read;
 use crate::calls::{more_items, put_dirs};
-use crate::desk::{Desk, Stack, pop, put};
+use crate::desk::{Desk, Stack, pop, put, put_all};
 use crate::fault::SubstFault;
 use crate::locals::Locals;
 use crate::names::Names;
@@ -163,7 +163,7 @@ fn step<'a>(setting: &Setting<'a>, desk: &mut Desk<'a>, task: Task<'a>) -> Resul
         Task::Items { call, rest } => more_items(setting, desk, call, rest),
         Task::Dirs { call, found, next } => put_dirs(setting, desk, call, found, next),
         Task::Apart { outer, call, alone } => put_read(setting, desk, outer, call, alone),
-        Task::PutAll(pieces) => put_all(&mut desk.pieces, pieces.as_slice()),
+        Task::PutAll(pieces) => put_all(&mut desk.pieces, pieces),
         Task::Close => {
             desk.names.leave();
             Ok(())

@@ -1,7 +1,7 @@
 //! What is left to do while a text is read.
 use crate::place::Place;
 use crate::saying::{Saying, Sayings};
-use env_pieces::{Piece, Pieces};
+use env_pieces::Pieces;
 use scons_base::{Paths, Text};
 
 /// A call of `_concat`, by the names of its variables.
@@ -38,7 +38,7 @@ pub(crate) enum Task<'a> {
     /// All that a variable says.
     Expand(Text),
     /// Pieces as they stand.
-    PutAll(Vec<Piece>),
+    PutAll(Pieces),
     /// Further items of a call.
     Items {
         call: Call,

@@ -1,14 +1,14 @@
 //! A script to try, and what it is run over.
 use anyhow::Result;
 use eval_hosts::{Printing, Replying};
-use py_eval::{EvalFault, EvalKind, Exit, run};
+use py_eval::{EvalFault, EvalKind, Exit, Ran, run};
 use py_heap::{Budget, Heap};
 use py_lex::lex;
 use py_parse::parse;
 use py_tree::Script;
 use std::alloc::Global;
 
-type Outcome = std::result::Result<Exit, EvalFault>;
+type Outcome = std::result::Result<Ran, EvalFault>;
 
 /// To which script a line goes.
 #[derive(Clone, Copy)]
@@ -109,54 +109,52 @@ impl Trial {
     /// What the scripts print, how they end where that isn't at the end, and the units where they are told.
     pub fn outcome(&self, alloc: Global) -> Result<String> {
         let script = script_of(alloc, self.first.as_str())?;
-        let mut heap = Heap::new(alloc);
-        let mut budget = Budget::new(self.total);
         let (mut shown, outcome) = if self.replies {
-            self.replied(alloc, &script, &mut heap, &mut budget)?
+            self.replied(alloc, &script)?
         } else {
-            self.printed(alloc, &script, &mut heap, &mut budget)
+            self.printed(alloc, &script)
         };
-        let ending = told(alloc, outcome)?;
+        let ending = match outcome {
+            Ok(ran) => self.left(alloc, ran)?,
+            Err(fault) => told(alloc, fault)?,
+        };
         shown.push_str(ending.as_str())?;
-        if self.tells {
-            let units = budget.used();
-            let units = format!(in alloc; "{units} units\n")?;
-            shown.push_str(units.as_str())?;
-        }
         Ok(shown)
     }
 
-    fn printed(
-        &self,
-        alloc: Global,
-        script: &Script,
-        heap: &mut Heap,
-        budget: &mut Budget,
-    ) -> (String, Outcome) {
+    /// What scripts that have run leave: that the host ended them, and the units where they are told.
+    fn left(&self, alloc: Global, ran: Ran) -> Result<String> {
+        let mut left = String::new(alloc);
+        if ran.exit == Exit::Returned {
+            left.push_str("returned\n")?;
+        }
+        if self.tells {
+            let units = ran.budget.used();
+            let units = format!(in alloc; "{units} units\n")?;
+            left.push_str(units.as_str())?;
+        }
+        Ok(left)
+    }
+
+    fn printed(&self, alloc: Global, script: &Script) -> (String, Outcome) {
         let mut host = Printing {
             printed: String::new(alloc),
             left: self.left,
             refusals: 0,
         };
-        let outcome = run(script, heap, &mut host, budget);
+        let outcome = run(script, Heap::new(alloc), &mut host, Budget::new(self.total));
         let Printing { printed, .. } = host;
         (printed, outcome)
     }
 
-    fn replied(
-        &self,
-        alloc: Global,
-        script: &Script,
-        heap: &mut Heap,
-        budget: &mut Budget,
-    ) -> Result<(String, Outcome)> {
+    fn replied(&self, alloc: Global, script: &Script) -> Result<(String, Outcome)> {
         let mut host = Replying {
             printed: String::new(alloc),
             inner: scripts_of(alloc, self.inner.as_slice())?,
             first: scripts_of(alloc, self.further.as_slice())?,
             refusals: 0,
         };
-        let outcome = run(script, heap, &mut host, budget);
+        let outcome = run(script, Heap::new(alloc), &mut host, Budget::new(self.total));
         let Replying { printed, .. } = host;
         Ok((printed, outcome))
     }
@@ -194,13 +192,11 @@ fn scripts_of(alloc: Global, texts: &[String]) -> Result<Vec<Script>> {
     Ok(scripts)
 }
 
-/// How scripts end, in a line of its own where that isn't at the end.
-fn told(alloc: Global, outcome: Outcome) -> Result<String> {
-    let (script, line, kind) = match outcome {
-        Ok(Exit::End) => return Ok(String::new(alloc)),
-        Ok(Exit::Returned) => return Ok(String::from_str(alloc, "returned\n")?),
-        Err(EvalFault::Memory) => return Ok(String::from_str(alloc, "memory\n")?),
-        Err(EvalFault::At { script, line, kind }) => (script, line, kind),
+/// The fault that ends scripts.
+fn told(alloc: Global, fault: EvalFault) -> Result<String> {
+    let (script, line, kind) = match fault {
+        EvalFault::Memory => return Ok(String::from_str(alloc, "memory\n")?),
+        EvalFault::At { script, line, kind } => (script, line, kind),
     };
     let kind = match kind {
         EvalKind::Name(name) => format!(in alloc; "Name {}", name.as_str())?,

@@ -38,6 +38,7 @@ impl Board {
     ghost use Rattle.std.specs.Prelude.{◌≢◌, ◌++◌, ◌∷◌, ◌<◌, [], ℕ, None, IfOk, IfErr, IfNone, IfSome, OnOk, OnErr, MatchOption, Contains, slice_get};
     ghost use Rattle.std.specs.Arc.{arc_value};
     ghost use Rattle.job_runner.specs.Lists.{lists_of, HandsIn, Takes, Puts, Picks};
+    ghost use Rattle.job_runner.specs.Rooms.{whole_ended, whole_history};
 
     #[tactic(auto, using(crate::proofs::Replays::replay_none_yet, crate::proofs::Places::each_once))]
     pub fn new(alloc: Global) -> Board
@@ -67,8 +68,8 @@ impl Board {
         ensures lists { lists_of self.new ≡ lists_of self.old }
         ensures waiting { OnOk result (deque_len self.new.waiting < deque_capacity self.new.waiting) }
         ensures taken { OnOk result (vec_len self.new.taken + deque_len self.new.waiting + 1 ≤ vec_capacity self.new.taken) }
-        ensures ended { OnOk result (deque_len self.new.ended + vec_len self.new.taken + deque_len self.new.waiting + 1 ≤ deque_capacity self.new.ended) }
-        ensures history { OnOk result (vec_len self.new.history + 3 * deque_len self.new.waiting + 2 * vec_len self.new.taken + deque_len self.new.ended + 4 ≤ vec_capacity self.new.history) }
+        ensures ended { OnOk result (whole_ended self.new + 1 ≤ deque_capacity self.new.ended) }
+        ensures history { OnOk result (whole_history self.new + 4 ≤ vec_capacity self.new.history) }
     {
         let waiting = self.waiting.len();
         let taken = self.taken.len();
@@ -85,8 +86,8 @@ impl Board {
         requires same { arc_value handle ≡ arc_value slip }
         requires waiting { deque_len self.old.waiting < deque_capacity self.old.waiting }
         requires taken { vec_len self.old.taken + deque_len self.old.waiting + 1 ≤ vec_capacity self.old.taken }
-        requires ended { deque_len self.old.ended + vec_len self.old.taken + deque_len self.old.waiting + 1 ≤ deque_capacity self.old.ended }
-        requires history { vec_len self.old.history + 3 * deque_len self.old.waiting + 2 * vec_len self.old.taken + deque_len self.old.ended + 4 ≤ vec_capacity self.old.history }
+        requires ended { whole_ended self.old + 1 ≤ deque_capacity self.old.ended }
+        requires history { whole_history self.old + 4 ≤ vec_capacity self.old.history }
         ensures { HandsIn result (arc_value slip) (lists_of self.old) (lists_of self.new) }
     {
         let number = self.handed_in;

@@ -3,6 +3,7 @@ use Rattle.std.specs.Prelude.{◌≡◌, ◌⊎◌, Result, Ok, Err}
 use Rattle.world_api.specs.Around.{Around, Tree}
 use Rattle.world_api.specs.Causes.{ActionFails, TreeFails, StartFails}
 use Rattle.world_api.specs.Counts.{Counts}
+use Rattle.world_api.specs.Meaning.{Meaning}
 use Rattle.world_api.specs.Printed.{SinkMeaning}
 use Rattle.world_api.specs.declared.job.Outcome.TheVariants.{Done, Failed, Broken}
 use Rattle.one_rule.specs.declared.rule.Rule.{Rule}
@@ -81,6 +82,11 @@ BuildMakes sure rule counts old new (Err (build.Stopped fault)) = new.log ≡ ol
 BuildMakes sure rule counts old new (Err (build.Failed fault)) = FailLogs rule counts old new fault
 BuildMakes sure rule counts old new (Err build.Unprinted) = new.log ≡ old.log
 BuildMakes sure rule counts old new (Err build.NoMemory) = Unit {0}
+
+-- the same between two states of a world
+abbrev pub BuildMakesIn : {W : Type 0} → Meaning W → Rule → W → W → Result (Unit {0}) BuildStop → Type 0
+BuildMakesIn meaning rule old new result =
+    BuildMakes (meaning.sure new) rule (meaning.counts old) (meaning.around old) (meaning.around new) result
 
 abbrev pub BuildPrints : {S : Type 0} → SinkMeaning S → Rule → S → S → Result (Unit {0}) BuildStop → Type 0
 BuildPrints meaning rule old new (Ok done) = Prints meaning old new (body_text rule)

@@ -29,6 +29,9 @@ pub record Succeeds {W O E : Type 0} (world : Meaning W) (out : SinkMeaning O) (
 abbrev pub IsExplained : List (List ℕ) → Tree → Top → Type 0
 IsExplained words tree fault = (fault ≡ OutFault) ⊎ ((course : Course) × MayTake words tree course × Contains (faults_of course) fault)
 
+abbrev pub AreExplained : List (List ℕ) → Tree → List Top → Type 0
+AreExplained words tree faults = (fault : Top) → Contains faults fault → IsExplained words tree fault
+
 -- a fault of the outside comes only where its count rose
 abbrev pub HasRisen : Counts → Counts → ℕ → ℕ → ℕ → ℕ → Top → Type 0
 HasRisen old new old_out new_out old_err new_err (Usage place kind) = Unit {0}
@@ -39,6 +42,11 @@ HasRisen old new old_out new_out old_err new_err (TreeFault path) = Rose old.tre
 HasRisen old new old_out new_out old_err new_err (StartFault target) = Rose old.start_faults new.start_faults
 HasRisen old new old_out new_out old_err new_err OutFault = Rose old_out new_out ⊎ Rose old_err new_err
 HasRisen old new old_out new_out old_err new_err (TooLarge path size) = Unit {0}
+
+abbrev pub HaveRisen : {W O E : Type 0} → Meaning W → SinkMeaning O → SinkMeaning E → W → W → O → O → E → E → List Top → Type 0
+HaveRisen world out err old new old_out new_out old_err new_err faults =
+    (fault : Top) → Contains faults fault
+    → HasRisen (world.counts old) (world.counts new) (out.faults old_out) (out.faults new_out) (err.faults old_err) (err.faults new_err) fault
 
 -- a count that didn't rise, and could have
 pub record IsSteady (old new : ℕ) : Type 0 where
@@ -71,6 +79,12 @@ IsInner (Stopped fault) = IsOfInput fault
 IsInner (Failed rule fault) = IsOfInput fault
 IsInner (Built rule) = Unit {0}
 
--- where nothing outside is at fault, the run is the one that its words and the files call for
+-- the run is the one that its words and the files call for
 abbrev pub IsCalledFor : List (List ℕ) → Tree → ℕ → List Top → Type 0
 IsCalledFor words tree status faults = (course : Course) → MayTake words tree course → IsInner course → (status ≡ status_of course) × (faults ≡ faults_of course)
+
+-- so it is where nothing outside was at fault and memory lasted
+abbrev pub IsAsCalledFor : {W O E : Type 0} → Meaning W → SinkMeaning O → SinkMeaning E → List (List ℕ) → W → W → O → O → E → E → ℕ → List Top → Type 0
+IsAsCalledFor world out err words old new old_out new_out old_err new_err status faults =
+    NoneRose (world.counts old) (world.counts new) (out.faults old_out) (out.faults new_out) (err.faults old_err) (err.faults new_err)
+    → world.tells new → status ≢ 3 → IsCalledFor words (world.around old).tree status faults

@@ -32,6 +32,10 @@ pub record IsDue (words : List (List ℕ)) (tree : Tree) (rule : Rule) : Type 0 
 abbrev pub LeavesAll : List (List ℕ) → Counts → Around → Around → Type 0
 LeavesAll words counts old new = Unchanged old new ⊎ ((rule : Rule) × IsDue words old.tree rule × Leaves rule counts old new)
 
+-- the same between two states of a world
+abbrev pub LeavesAllIn : {W : Type 0} → Meaning W → List (List ℕ) → W → W → Type 0
+LeavesAllIn meaning words old new = LeavesAll words (meaning.counts old) (meaning.around old) (meaning.around new)
+
 -- which count of the outside rose
 abbrev pub CourseCause : Course → Counts → Counts → Type 0
 CourseCause (Refused fault) old new = FaultCause fault old new

@@ -4,7 +4,7 @@ ghost use Rattle.world_api.specs.Meaning.{Told};
 ghost use Rattle.one_rule.specs.Building.{Idles, Unchanged, LeavesBy, Leaves, job_of};
 ghost use Rattle.one_rule.specs.Course.{announced_text};
 ghost use Rattle.world_api.specs.Printing.{Prints, Cuts};
-ghost use Rattle.one_rule.specs.Ends.{BuildCause, BuildGives, BuildMakes, BuildPrints};
+ghost use Rattle.one_rule.specs.Ends.{BuildCause, BuildGives, BuildMakesIn, BuildPrints};
 ghost use Rattle.one_rule.specs.BuildSteps.{StepGives, StepCause, IsNoPrintStop, IsFailStop, LinePrints, source_result, unread_stop, unstarted_stop, ended_result};
 
 use crate::report::Top;
@@ -31,7 +31,7 @@ pub fn build<W: World, O: Sink>(
     ensures told { Told W.meaning world.old world.new }
     ensures leaves { W.meaning.tells world.new → LeavesBy rule (W.meaning.counts world.old) (W.meaning.around world.old) (W.meaning.around world.new) }
     ensures gives { W.meaning.tells world.new → BuildGives (W.meaning.around world.old).tree rule result }
-    ensures makes { W.meaning.tells world.new → BuildMakes (W.meaning.sure world.new) rule (W.meaning.counts world.old) (W.meaning.around world.old) (W.meaning.around world.new) result }
+    ensures makes { W.meaning.tells world.new → BuildMakesIn W.meaning rule world.old world.new result }
     ensures cause { BuildCause result (W.meaning.counts world.old) (W.meaning.counts world.new) }
     ensures printed { BuildPrints O.meaning rule out.old out.new result }
 {
@@ -122,7 +122,7 @@ fn make<W: World>(alloc: Global, world: &mut W, rule: Rule) -> Result<(), BuildS
     requires reachable { W.meaning.closed world.old ≡ [] }
     ensures told { Told W.meaning world.old world.new }
     ensures leaves { W.meaning.tells world.new → Leaves rule (W.meaning.counts world.old) (W.meaning.around world.old) (W.meaning.around world.new) }
-    ensures makes { W.meaning.tells world.new → BuildMakes (W.meaning.sure world.new) rule (W.meaning.counts world.old) (W.meaning.around world.old) (W.meaning.around world.new) result }
+    ensures makes { W.meaning.tells world.new → BuildMakesIn W.meaning rule world.old world.new result }
     ensures cause { BuildCause result (W.meaning.counts world.old) (W.meaning.counts world.new) }
     ensures stop { IfErr result (IsFailStop rule) }
 {

@@ -1,12 +1,11 @@
 //! The line form of a script.
-ghost use Rattle.std.specs.Prelude.{◌≡◌, ◌≢◌, ◌==◌, ℕ, List, [], Some, None, IfOk, IfErr, IfSome, IfNone, MatchOption, IsTrue, option_map, map, not, nat_eq, ◌&&◌, ◌≤◌, length};
+ghost use Rattle.std.specs.Prelude.{◌≡◌, ◌≢◌, ◌==◌, ℕ, List, [], Some, None, IfOk, IfErr, IfSome, IfNone, MatchOption, IsTrue, option_map, map, ◌≤◌, length};
 ghost use Rattle.std.specs.List.{list_all, slice_split, position_or_len};
 ghost use Rattle.std.specs.Str.{IsAscii};
-ghost use Rattle.std.specs.Cmp.Lexicographic.{pointwise};
 ghost use Rattle.scons_base.specs.Normal.{is_name};
 ghost use Rattle.scons_base.specs.PathFaults.{fault_in};
 ghost use Rattle.one_rule.specs.LineForm.{is_file_name, is_file_name_byte, is_command, is_command_byte, is_word, begins_as_command, quote, space, line_feed, Declares, DeclaresRule, IsFaultLine, first_line, behind_first_line};
-ghost use Rattle.one_rule.specs.Fields.{fields_of, is_frame, rule_fields};
+ghost use Rattle.one_rule.specs.Fields.{fields_of, is_frame, are_well_formed, rule_fields};
 
 use crate::rule::Rule;
 use scons_base::limits::{COMMAND_LIMIT, FILE_NAME_LIMIT};
@@ -130,7 +129,7 @@ fn is_frame(opening: &[u8], comma: &[u8], second_comma: &[u8], closing: &[u8]) -
 
 impl Fields<'_> {
     fn are_well_formed(&self) -> bool
-        ensures { result ≡ (is_file_name self.now.target.now && is_file_name self.now.source.now && not (pointwise nat_eq self.now.source.now self.now.target.now) && is_command self.now.line.now) }
+        ensures { result ≡ are_well_formed self.now.target.now self.now.source.now self.now.line.now }
     {
         is_file_name(self.target)
             && is_file_name(self.source)

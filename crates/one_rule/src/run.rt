@@ -1,7 +1,7 @@
 //! A run: words, reading, building.
 ghost use Rattle.std.specs.Prelude.{◌≡◌, []};
 ghost use Rattle.world_api.specs.Meaning.{Told};
-ghost use Rattle.one_rule.specs.Run.{LeavesAll};
+ghost use Rattle.one_rule.specs.Run.{LeavesAllIn};
 ghost use Rattle.one_rule.specs.Endings.{EndsAs};
 
 use crate::building::build;
@@ -17,7 +17,7 @@ pub fn run<W: World, O: Sink>(alloc: Global, words: &[Text], world: &mut W, out:
     requires idle { W.meaning.tells world.old → (W.meaning.around world.old).running ≡ [] }
     requires reachable { W.meaning.closed world.old ≡ [] }
     ensures told { Told W.meaning world.old world.new }
-    ensures leaves { W.meaning.tells world.new → LeavesAll words.now (W.meaning.counts world.old) (W.meaning.around world.old) (W.meaning.around world.new) }
+    ensures leaves { W.meaning.tells world.new → LeavesAllIn W.meaning words.now world.old world.new }
     ensures ends { EndsAs W.meaning O.meaning words.now world.old world.new out.old out.new result }
 {
     if !words.is_empty() {

@@ -1,10 +1,9 @@
 //! The command.
-ghost use Rattle.std.specs.Prelude.{◌≡◌, ◌≢◌, [], Contains};
+ghost use Rattle.std.specs.Prelude.{◌≡◌, []};
 ghost use Rattle.world_api.specs.Meaning.{Told};
-ghost use Rattle.one_rule.specs.declared.report.Top.{Top};
 ghost use Rattle.world_api.specs.Statuses.{HasStatus};
-ghost use Rattle.one_rule.specs.Promises.{Succeeds, IsExplained, HasRisen, NoneRose, IsCalledFor};
-ghost use Rattle.one_rule.specs.Run.{LeavesAll, Runs};
+ghost use Rattle.one_rule.specs.Promises.{Succeeds, AreExplained, HaveRisen, IsAsCalledFor};
+ghost use Rattle.one_rule.specs.Run.{LeavesAllIn, Runs};
 
 use crate::conclusion::{conclude, out_of_memory};
 use crate::report::Report;
@@ -33,12 +32,12 @@ pub fn scons<W: World, O: Sink, E: Sink>(
     ensures success { result.status ≡ 0 → Succeeds W.meaning O.meaning E.meaning words.now world.old world.new out.old out.new err.old err.new }
 
     // Whatever the status, no other file is changed, nothing runs any more, and a job was started once at most.
-    ensures leaves { W.meaning.tells world.new → LeavesAll words.now (W.meaning.counts world.old) (W.meaning.around world.old) (W.meaning.around world.new) }
+    ensures leaves { W.meaning.tells world.new → LeavesAllIn W.meaning words.now world.old world.new }
 
     // Which faults come, and that no other run is reported where nothing outside was at fault.
-    ensures explained { W.meaning.tells world.new → (fault : Top) → Contains result.faults fault → IsExplained words.now (W.meaning.around world.old).tree fault }
-    ensures risen { (fault : Top) → Contains result.faults fault → HasRisen (W.meaning.counts world.old) (W.meaning.counts world.new) (O.meaning.faults out.old) (O.meaning.faults out.new) (E.meaning.faults err.old) (E.meaning.faults err.new) fault }
-    ensures called_for { NoneRose (W.meaning.counts world.old) (W.meaning.counts world.new) (O.meaning.faults out.old) (O.meaning.faults out.new) (E.meaning.faults err.old) (E.meaning.faults err.new) → W.meaning.tells world.new → result.status ≢ 3 → IsCalledFor words.now (W.meaning.around world.old).tree result.status result.faults }
+    ensures explained { W.meaning.tells world.new → AreExplained words.now (W.meaning.around world.old).tree result.faults }
+    ensures risen { HaveRisen W.meaning O.meaning E.meaning world.old world.new out.old out.new err.old err.new result.faults }
+    ensures called_for { IsAsCalledFor W.meaning O.meaning E.meaning words.now world.old world.new out.old out.new err.old err.new result.status result.faults }
 
     // The course as a whole, with all that is printed.
     ensures runs { Runs W.meaning O.meaning E.meaning words.now world.old world.new out.old out.new err.old err.new result.status result.faults }
@@ -57,7 +56,7 @@ fn take_course<W: World, O: Sink, E: Sink>(
     requires reachable { W.meaning.closed world.old ≡ [] }
     ensures told { Told W.meaning world.old world.new }
     ensures skipped { result.skipped ≡ [] }
-    ensures leaves { W.meaning.tells world.new → LeavesAll words.now (W.meaning.counts world.old) (W.meaning.around world.old) (W.meaning.around world.new) }
+    ensures leaves { W.meaning.tells world.new → LeavesAllIn W.meaning words.now world.old world.new }
     ensures runs { Runs W.meaning O.meaning E.meaning words.now world.old world.new out.old out.new err.old err.new result.status result.faults }
 {
     match Vec::with_capacity(alloc, 2) {

@@ -8,7 +8,6 @@ use Rattle.py_heap.specs.declared.value.Value.TheVariants as v
 use Rattle.py_heap.specs.declared.value.Builtin.{Builtin}
 use Rattle.py_heap.specs.declared.ids.FuncId.{FuncId}
 use Rattle.py_heap.specs.declared.ids.HostId.{HostId}
-use Rattle.py_methods.specs.declared.name.Name.{Name}
 use Rattle.py_methods.specs.Names.{takes as method_takes}
 use Rattle.py_builtins.specs.Takes.{takes}
 use Rattle.py_host.specs.Names.{Names}

@@ -14,4 +14,4 @@ mod scripts;
 
 pub use py_host::{Args, Host, HostRefusal, Place, Reply, Scope};
 pub use py_meaning::{EvalFault, EvalKind, Exit};
-pub use scripts::run;
+pub use scripts::{Ran, run};

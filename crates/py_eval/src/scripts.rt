@@ -1,11 +1,11 @@
 //! First scripts, one after another.
-ghost use Rattle.std.specs.Prelude.{◌≤◌, IfErr, MatchResult};
+ghost use Rattle.std.specs.Prelude.{◌≡◌, ◌≤◌, IfErr};
 ghost use Rattle.py_tree.specs.Tree.{script_tree};
 ghost use Rattle.py_meaning.specs.States.{Frame, script_frame};
 ghost use Rattle.py_meaning.specs.Jobs.{first_scripts};
 ghost use Rattle.py_meaning.specs.Evaluates.{plan};
 ghost use Rattle.py_state.specs.Stores.{store_of, state_by};
-ghost use Rattle.py_eval.specs.Answers.{Exits, Faults, IsOnly, HasCause};
+ghost use Rattle.py_eval.specs.Answers.{IsFound, IsOnly, HasCause, IsStop, fault_by};
 ghost use Rattle.py_eval.specs.Bodies.{LeadsToNext, ExitsOrStops};
 
 use crate::asking::{pay_script, script_behind};
@@ -16,40 +16,52 @@ use py_meaning::{EvalFault, Exit};
 use py_state::{Machine, Stop};
 use py_tree::Script;
 use scons_base::limits::CALL_DEPTH_LIMIT;
-use std::mem;
+
+/// What scripts that have run leave. After a fault nothing is left.
+#[derive(Drop)]
+pub struct Ran {
+    pub exit: Exit,
+    pub heap: Heap,
+    pub budget: Budget,
+}
 
 /// Runs a script, and then each further first script that the host gives.
 pub fn run<H: Host>(
     script: &Script,
-    heap: &mut Heap,
+    heap: Heap,
     host: &mut H,
-    budget: &mut Budget,
-) -> Result<Exit, EvalFault>
-    ensures found { MatchResult result (λ exit. Exits H.meaning (script_tree script.now) heap.old budget.old host.old exit heap.new budget.new host.new) (λ e. Faults H.meaning (script_tree script.now) heap.old budget.old host.old e host.new) }
-    ensures only { IsOnly H.meaning (script_tree script.now) heap.old budget.old host.old result host.new }
+    budget: Budget,
+) -> Result<Ran, EvalFault>
+    ensures found { IsFound H.meaning (script_tree script.now) heap budget host.old result host.new }
+    ensures only { IsOnly H.meaning (script_tree script.now) heap budget host.old result host.new }
     ensures later { H.meaning.refusals host.old ≤ H.meaning.refusals host.new }
     ensures keeps { H.meaning.keeps host.old host.new }
     ensures cause { IfErr result (λ e. HasCause e (H.meaning.refusals host.old) (H.meaning.refusals host.new)) }
 {
     let alloc = heap.allocator();
-    let own_heap = mem::replace(heap, Heap::new(alloc));
-    let own_budget = mem::replace(budget, Budget::new(0));
-    let mut machine = Machine::new(alloc, own_heap, own_budget);
-    let outcome = run_first(&mut machine, host, script);
-    let Machine {
-        heap: own_heap,
-        budget: own_budget,
-        alloc: _,
-        globals: _globals,
-        functions: _functions,
-    } = machine;
-    *heap = own_heap;
-    *budget = own_budget;
-    match outcome {
-        Ok(exit) => Ok(exit),
-        Err(Stop::Fault { script, line, kind }) => Err(EvalFault::At { script, line, kind }),
-        Err(Stop::End) => unreachable!(),
-        Err(Stop::Memory) => Err(EvalFault::Memory),
+    let mut machine = Machine::new(alloc, heap, budget);
+    match run_first(&mut machine, host, script) {
+        Ok(exit) => Ok(left_by(machine, exit)),
+        Err(stop) => Err(fault_by(stop)),
+    }
+}
+
+fn left_by(machine: Machine, exit: Exit) -> Ran
+    ensures { result ≡ record { exit = exit; heap = machine.heap; budget = machine.budget } }
+{
+    let Machine { heap, budget, .. } = machine;
+    Ran { exit, heap, budget }
+}
+
+/// The fault that stops all scripts.
+fn fault_by(stop: Stop) -> EvalFault
+    requires { IsStop stop }
+    ensures { result ≡ fault_by stop }
+{
+    match stop {
+        Stop::Fault { script, line, kind } => EvalFault::At { script, line, kind },
+        Stop::End => unreachable!(),
+        Stop::Memory => EvalFault::Memory,
     }
 }
 

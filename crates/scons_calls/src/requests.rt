@@ -200,7 +200,7 @@ fn said(alloc: Global, name: Name, from: &mut Arguments) -> Result<Request, Call
             names: nodes(alloc, from),
             members: nodes(alloc, from),
         },
-        Name::Default => Call::Default(nodes(alloc, from)),
+        Name::Default => Call::Default(wanted(alloc, from)?),
         Name::File => Call::File(place(from)?),
         Name::Dir => Call::Dir(place(from)?),
         name => return asked(alloc, name, from),
@@ -255,6 +255,15 @@ fn text(alloc: Global, from: &mut Arguments) -> Text {
 
 fn nodes(alloc: Global, from: &mut Arguments) -> Nodes {
     nodes_in(alloc, take(from))
+}
+
+/// What `Default` names. To SCons nothing, or None, takes away what a run without words makes; that is left out here.
+fn wanted(alloc: Global, from: &mut Arguments) -> Result<Nodes, CallFault> {
+    let nodes = nodes(alloc, from);
+    if nodes.is_empty() {
+        return Err(CallFault::LeftOut(Text::of(alloc, "Default(None)")?));
+    }
+    Ok(nodes)
 }
 
 fn nodes_in(alloc: Global, argument: Option<Argument>) -> Nodes {

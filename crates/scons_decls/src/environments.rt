@@ -3,10 +3,12 @@ ghost use Rattle.std.specs.Prelude.{◌<◌, length};
 
 use crate::fault::NameFault;
 use crate::profile::refuse_variables;
-use env_subst::{LibItem, Locals, Mode, dirs, lib_names, lines, path_text, subst};
+use env_subst::{
+    CommandLines, LibItem, Locals, Mode, command_lines, dirs, lib_names, path_text, subst,
+};
 use env_vars::{EnvFault, EnvValue, Envs};
 use indexmap::IndexMap;
-use scons_base::{EnvId, Listing, Memory, Paths, Text, Texts};
+use scons_base::{EnvId, Listing, Memory, Paths, Text};
 use std::alloc::Global;
 use world_api::Decider;
 
@@ -152,9 +154,8 @@ impl Environments {
         env: EnvId,
         text: &str,
         locals: &Locals,
-        mode: Mode,
-    ) -> Result<Texts, NameFault> {
-        Ok(lines(self.alloc, &self.envs, self.held(env), text, locals, mode)?)
+    ) -> Result<CommandLines, NameFault> {
+        Ok(command_lines(self.alloc, &self.envs, self.held(env), text, locals)?)
     }
 
     /// The text of a path.

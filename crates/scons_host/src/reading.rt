@@ -39,7 +39,7 @@ pub fn read_scripts<W: World, O: Sink>(
 {
     let mut heap = Heap::new(alloc);
     match begun(alloc, world, &mut heap, words) {
-        Ok((state, script)) => read_on(alloc, world, out, &mut heap, state, &script),
+        Ok((state, script)) => read_on(alloc, world, out, heap, state, &script),
         Err(stop) => ended_by(alloc, Err(stop)),
     }
 }
@@ -49,7 +49,7 @@ fn read_on<W: World, O: Sink>(
     alloc: Global,
     world: &mut W,
     out: &mut O,
-    heap: &mut Heap,
+    heap: Heap,
     mut state: State,
     script: &Script,
 ) -> Result<Graph, HostEnd>
@@ -200,14 +200,13 @@ fn run_all<W: World, O: Sink>(
     world: &mut W,
     out: &mut O,
     state: &mut State,
-    heap: &mut Heap,
+    heap: Heap,
     script: &Script,
 ) -> Result<(), HostEnd>
     ensures looks { LooksAtFiles W.meaning world.old world.new }
     ensures prints { Prints O.meaning out.old out.new }
     ensures cause { IfErr result (HasEndCause (W.meaning.counts world.old) (W.meaning.counts world.new) (O.meaning.faults out.old) (O.meaning.faults out.new)) }
 {
-    let mut budget = Budget::new(UNIT_LIMIT);
     let mut kept = Kept {
         end: None,
         refusals: 0,
@@ -218,7 +217,7 @@ fn run_all<W: World, O: Sink>(
         state: &mut *state,
         kept: &mut kept,
     };
-    let outcome = run(script, heap, &mut host, &mut budget);
+    let outcome = run(script, heap, &mut host, Budget::new(UNIT_LIMIT));
     match outcome {
         Ok(_) => Ok(()),
         Err(fault) => Err(ended(state, kept, fault)),

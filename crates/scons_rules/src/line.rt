@@ -2,7 +2,6 @@
 ghost use Rattle.std.specs.Prelude.{◌<◌, length, IfSome};
 
 use crate::fault::RuleReadFault;
-use env_subst::Mode;
 use scons_base::{EnvId, Listing, Memory, Text, Texts};
 use scons_decls::Declarations;
 use std::alloc::Global;
@@ -39,12 +38,11 @@ fn add_lines(
     lines: &mut RuleLines,
     text: &str,
 ) -> Result<(), RuleReadFault> {
-    let plain = state.envs.lines(env, text, &state.locals, Mode::Text)?;
-    let signed = state.envs.lines(env, text, &state.locals, Mode::Signed)?;
-    for line in plain.as_slice() {
+    let found = state.envs.lines(env, text, &state.locals)?;
+    for line in found.plain.as_slice() {
         add_line(alloc, &mut lines.lines, line.as_str())?;
     }
-    for line in signed.as_slice() {
+    for line in found.signed.as_slice() {
         lines.signed.push(line.copy()?)?;
     }
     Ok(())

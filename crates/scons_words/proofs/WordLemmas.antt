@@ -1,6 +1,6 @@
 -- Steps of the loops over words, letters and digits.
 use Rattle.std.proofs.Common.{arith, ◌≡◌, ◌<◌, ℕ, ◌+◌, List, [], ◌∷◌, ap, sym, refl, length, drop, get_or, add-one, drop-cons, Some, None, Option, Ok, Err}
-use Rattle.std.specs.Prelude.{true, false, MatchOption}
+use Rattle.std.specs.Prelude.{false, MatchOption}
 use Rattle.std.specs.List.{before_first, after_first, position_or_len}
 use Rattle.std.specs.Str.{IsUtf8, IsCharBoundary}
 use Rattle.std.proofs.Common.{◌≤◌, ◌≢◌}
@@ -10,7 +10,7 @@ use denote.Ref.{Bor}
 use Rattle.scons_words.specs.Switches.{short_switch}
 use Rattle.scons_words.specs.declared.fault.UsageKind.TheVariants as kind
 use Rattle.scons_words.specs.Numbers.{digits_up_to, with_digit}
-use Rattle.scons_words.specs.Readings.{read_from, step, is_equals, has_equals, undashed, behind_dash}
+use Rattle.scons_words.specs.Readings.{read_from, step, is_equals, has_equals, IsParted, undashed, behind_dash}
 use Rattle.scons_words.specs.declared.reading.Reading.{Reading}
 use Rattle.scons_words.specs.declared.fault.WordsFault.{WordsFault}
 
@@ -29,7 +29,7 @@ pub word_fails : (r : Reading) (words : List (List ℕ)) (i : ℕ) (word : List 
 word_fails r words i word fault within is e = rw (drop-cons words i word within, sym is, e) refl
 
 -- texts cut at a mark
-pub parted_by : (bs : List ℕ) (r : Option (Bor (List ℕ) × Bor (List ℕ))) → MatchOption r (position_or_len is_equals bs ≡ length bs) (λ x. (position_or_len is_equals bs < length bs) × (x.0.now ≡ before_first is_equals bs) × (x.1.now ≡ after_first is_equals bs)) → MatchOption r (has_equals bs ≡ false) (λ x. (has_equals bs ≡ true) × (x.0.now ≡ before_first is_equals bs) × (x.1.now ≡ after_first is_equals bs))
+pub parted_by : (bs : List ℕ) (r : Option (Bor (List ℕ) × Bor (List ℕ))) → MatchOption r (position_or_len is_equals bs ≡ length bs) (λ x. (position_or_len is_equals bs < length bs) × (x.0.now ≡ before_first is_equals bs) × (x.1.now ≡ after_first is_equals bs)) → MatchOption r (has_equals bs ≡ false) (λ x. IsParted bs x.0.now x.1.now)
 parted_by bs None e = grind (arith, nat_tests)
 parted_by bs (Some x) h = let within = h.0 in (grind (arith, nat_tests), h.1, h.2)
 

@@ -1,8 +1,9 @@
 -- What the words of a command line say: they are read from left to right, and the first that is refused ends the reading.
-use Rattle.std.specs.Prelude.{ℕ, ◌+◌, ◌-◌, Bool, true, false, ◌&&◌, ◌||◌, ◌==◌, List, [], ◌∷◌, ◌++◌, Option, Some, None, Result, Ok, Err, is_some, length, drop, codes, nat_lt, if◌then◌else◌}
+use Rattle.std.specs.Prelude.{◌≡◌, ℕ, ◌+◌, ◌-◌, Bool, true, false, ◌&&◌, ◌||◌, ◌==◌, List, [], ◌∷◌, ◌++◌, Option, Some, None, Result, Ok, Err, is_some, length, drop, codes, nat_lt, if◌then◌else◌}
 use Rattle.std.specs.List.{before_first, after_first, position_or_len, starts_with}
 use Rattle.scons_base.specs.PathFaults.{fault_in}
 use Rattle.scons_base.specs.declared.fault.PathFault.{PathFault}
+use Rattle.scons_base.specs.declared.limits.TheConstants.{JOB_LIMIT}
 use Rattle.scons_words.specs.declared.fault.UsageKind.{UsageKind}
 use Rattle.scons_words.specs.declared.fault.UsageKind.TheVariants as kind
 use Rattle.scons_words.specs.declared.fault.WordsFault.{WordsFault}
@@ -12,6 +13,7 @@ use Rattle.scons_words.specs.declared.switch.Switch.TheVariants as switch
 use Rattle.scons_words.specs.declared.switch.Valued.{Valued}
 use Rattle.scons_words.specs.declared.switch.Valued.TheVariants as valued
 use Rattle.scons_words.specs.declared.reading.Reading.{Reading}
+use Rattle.scons_words.specs.declared.reading.TheConstants.{LOAD_LIMIT}
 use Rattle.scons_words.specs.declared.words.Words.{Words}
 use Rattle.scons_words.specs.Numbers.{number_up_to}
 use Rattle.scons_words.specs.Switches.{no_flags, with_flag, short_switch, long_switch}
@@ -50,8 +52,8 @@ load_by r None = Err kind.BadNumber
 -- an option with its value: each script is added, of all others the last counts
 abbrev pub with_value : Reading → Valued → List ℕ → Outcome
 with_value r valued.Script text = script_by r text (fault_in text)
-with_value r valued.Jobs text = jobs_by r (number_up_to 64 text)
-with_value r valued.Load text = load_by r (number_up_to 20000 text)
+with_value r valued.Jobs text = jobs_by r (number_up_to JOB_LIMIT text)
+with_value r valued.Load text = load_by r (number_up_to LOAD_LIMIT text)
 
 -- an option whose value is the rest of its word, or the next word where there is no rest
 abbrev pub valued_by : Reading → Valued → List ℕ → Outcome
@@ -86,6 +88,10 @@ is_equals b = b == 61
 -- whether an `=` stands in a text
 abbrev pub has_equals : List ℕ → Bool
 has_equals text = nat_lt (position_or_len is_equals text) (length text)
+
+-- what stands on the two sides of the first one
+abbrev pub IsParted : List ℕ → List ℕ → List ℕ → Type 0
+IsParted text front behind = (has_equals text ≡ true) × (front ≡ before_first is_equals text) × (behind ≡ after_first is_equals text)
 
 abbrev pub name_of : List ℕ → List ℕ
 name_of long = before_first is_equals long

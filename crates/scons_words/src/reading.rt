@@ -1,10 +1,9 @@
 //! Reading words from left to right.
 ghost use Rattle.std.specs.Prelude.{◌≡◌, ◌≢◌, ◌<◌, length, true, false, Ok, Err, Some, None, IfOk, IfErr, OnOk, MatchOption, IfNone, IfSome, IsTrue, is_some};
-ghost use Rattle.std.specs.List.{before_first, after_first};
 ghost use Rattle.scons_base.specs.PathFaults.{fault_in};
 ghost use Rattle.scons_words.specs.Values.{number_named};
 ghost use Rattle.scons_words.specs.Switches.{long_switch};
-ghost use Rattle.scons_words.specs.Readings.{start_reading, mixed, fault_at, with_value, valued_by, first_switch, behind_dash, behind_letter, flagged, is_equals, has_equals, name_of, plain_long, valued_long, behind_dashes, undashed, after_dashes, after_dash, option_word, argument_by, requested_by, operand, word_read, is_number_switch, is_long_number, stands_with_load, step, words_of, ended, read};
+ghost use Rattle.scons_words.specs.Readings.{start_reading, mixed, fault_at, with_value, valued_by, first_switch, behind_dash, behind_letter, flagged, has_equals, IsParted, name_of, plain_long, valued_long, behind_dashes, undashed, after_dashes, after_dash, option_word, argument_by, requested_by, operand, word_read, is_number_switch, is_long_number, stands_with_load, step, words_of, ended, read};
 ghost use Rattle.scons_words.specs.declared.fault.UsageKind.{UsageKind};
 ghost use Rattle.scons_words.specs.declared.reading.Reading.{Reading};
 
@@ -348,7 +347,7 @@ fn undashed(word: &str) -> Option<&str>
 
 /// What stands in front of the first `=` of a text and behind it.
 fn parted(text: &str) -> Option<(&str, &str)>
-    ensures { MatchOption result (has_equals text.now ≡ false) (λ p. (has_equals text.now ≡ true) × (p.0.now ≡ before_first is_equals text.now) × (p.1.now ≡ after_first is_equals text.now)) }
+    ensures { MatchOption result (has_equals text.now ≡ false) (λ p. IsParted text.now p.0.now p.1.now) }
 {
     text.split_once('=')
 }

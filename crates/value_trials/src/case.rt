@@ -2,7 +2,7 @@
 use crate::beside::refused;
 use anyhow::Result;
 use eval_hosts::Replying;
-use py_eval::{EvalFault, EvalKind, run};
+use py_eval::{EvalFault, EvalKind, Ran, run};
 use py_heap::{Budget, Heap, HostId};
 use py_lex::lex;
 use py_parse::parse;
@@ -33,19 +33,16 @@ pub fn answer(alloc: Global, case: &str) -> Result<String> {
 /// The units that some statements use, or why they end.
 fn units(alloc: Global, front: &str) -> Result<String> {
     let script = format!(in alloc; "{front}\n")?;
-    let mut budget = Budget::new(UNIT_LIMIT);
-    let told = ran(alloc, script.as_str(), &mut budget)?;
-    if told.is_empty() {
-        let units = budget.used();
-        return Ok(format!(in alloc; "{units}")?);
+    match ran(alloc, script.as_str())? {
+        Outcome::Printed(text, units) if text.is_empty() => Ok(format!(in alloc; "{units}")?),
+        told => Ok(told.text()),
     }
-    Ok(told)
 }
 
 /// What is printed behind some statements.
 fn printed(alloc: Global, front: &str, last: &str) -> Result<String> {
     let script = format!(in alloc; "{front}\n{last}\n")?;
-    let told = ran(alloc, script.as_str(), &mut Budget::new(UNIT_LIMIT))?;
+    let told = ran(alloc, script.as_str())?.text();
     Ok(String::from_str(alloc, told.trim_end())?)
 }
 
@@ -53,7 +50,7 @@ fn printed(alloc: Global, front: &str, last: &str) -> Result<String> {
 fn shown(alloc: Global, front: &str, last: &str) -> Result<String> {
     let names = names_of(front, last);
     let script = format!(in alloc; "{names}{front}\nprint([{last}\n])\n")?;
-    let told = ran(alloc, script.as_str(), &mut Budget::new(UNIT_LIMIT))?;
+    let told = ran(alloc, script.as_str())?.text();
     let item = told
         .strip_prefix("[")
         .and_then(|rest| rest.strip_suffix("]\n"));
@@ -70,8 +67,26 @@ fn names_of(front: &str, last: &str) -> &'static str {
     }
 }
 
+/// What a script comes to.
+#[derive(Drop)]
+enum Outcome {
+    /// It prints this, and uses so many units.
+    Printed(String, u64),
+    /// The fault that ends it.
+    Fault(String),
+}
+
+impl Outcome {
+    fn text(self) -> String {
+        match self {
+            Outcome::Printed(text, _) => text,
+            Outcome::Fault(text) => text,
+        }
+    }
+}
+
 /// What a script prints, or the fault that ends it.
-fn ran(alloc: Global, script: &str, budget: &mut Budget) -> Result<String> {
+fn ran(alloc: Global, script: &str) -> Result<Outcome> {
     let tokens = lex(alloc, script.as_bytes())?;
     let script = parse(alloc, &tokens)?;
     let mut heap = Heap::new(alloc);
@@ -82,13 +97,13 @@ fn ran(alloc: Global, script: &str, budget: &mut Budget) -> Result<String> {
         first: Vec::new(alloc),
         refusals: 0,
     };
-    match run(&script, &mut heap, &mut host, budget) {
-        Ok(_) => {
+    match run(&script, heap, &mut host, Budget::new(UNIT_LIMIT)) {
+        Ok(Ran { budget, .. }) => {
             let Replying { printed, .. } = host;
-            Ok(printed)
+            Ok(Outcome::Printed(printed, budget.used()))
         }
-        Err(EvalFault::Memory) => Ok(String::from_str(alloc, "Memory")?),
-        Err(EvalFault::At { kind, .. }) => told(alloc, kind),
+        Err(EvalFault::Memory) => Ok(Outcome::Fault(String::from_str(alloc, "Memory")?)),
+        Err(EvalFault::At { kind, .. }) => Ok(Outcome::Fault(told(alloc, kind)?)),
     }
 }
 

@@ -3,7 +3,7 @@ use Rattle.env_subst.specs.Settings.{setting_of}
 use Rattle.env_subst.specs.Expansions.{puts, reads_part}
 use Rattle.env_subst.specs.Parts.{owned_part}
 use Rattle.env_subst.specs.declared.part.OwnedPart.TheVariants as owned
-use Rattle.env_subst.specs.Desks.{tasks_of, desk_of, deeper_of}
+use Rattle.env_subst.specs.Desks.{tasks_of, deeper_of}
 use Rattle.env_subst.proofs.Doing.{put_leads, mark_leads, mark_part, rest_left, leads_too, desk}
 use Rattle.env_subst.proofs.reading.read_part.Goals as goal
 

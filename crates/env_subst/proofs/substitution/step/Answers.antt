@@ -1,4 +1,5 @@
 use Rattle.std.proofs.Common.{ap}
+use Rattle.env_pieces.specs.Pieces.{pieces_of}
 use Rattle.env_subst.specs.Settings.{setting_of}
 use Rattle.env_subst.specs.Desks.{tasks_of, resumes}
 use Rattle.env_subst.proofs.Doing.{put_leads}
@@ -38,7 +39,7 @@ returns-in-PutAll c =
     let l = c.args.setting.now.locals.now in
     let d = c.args.desk.now in
     rw c.in-PutAll.is (all_put (setting_of c.args.setting.now) (tasks_of l d.tasks.tasks.items) d.names d.pieces c.put_all.new.pieces d.references
-    c.in-PutAll.pieces.items c.as_slice.result.now c.put_all.result c.as_slice.ensures.value c.put_all.ensures.ok c.put_all.ensures.fault)
+    (pieces_of c.in-PutAll.pieces) c.put_all.result c.put_all.ensures.ok c.put_all.ensures.fault)
 
 pub returns-in-Close : goal.returns-in-Close
 returns-in-Close c =
