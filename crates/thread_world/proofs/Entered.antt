@@ -12,9 +12,12 @@ use Rattle.world_mem.specs.declared.table.ActRow.{ActRow}
 use Rattle.world_mem.proofs.Membership.{push_all}
 use Rattle.thread_world.specs.Step.{InStep, IsWhole, listed, run_of}
 
+abbrev in_front : Tree → List ℕ → Given → Given
+in_front tree dep rest = (dep, tree dep) ∷ rest
+
 paired_own : (tree : Tree) (deps : List (List ℕ)) → paired deps (contents_of (given_of tree deps)) ≡ given_of tree deps
 paired_own tree [] = refl
-paired_own tree (dep ∷ deps) = ap (λ (rest : Given). (dep, tree dep) ∷ rest) (paired_own tree deps)
+paired_own tree (dep ∷ deps) = ap (in_front tree dep) (paired_own tree deps)
 
 -- what a slip goes with
 pub record IsSlipFor (rows : List ActRow) (tree : Tree) (of_job : Job) (slip : Slip) : Type 0 where

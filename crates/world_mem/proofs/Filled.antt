@@ -22,10 +22,13 @@ filled_behind front (pair ∷ pairs) (content ∷ contents) few =
     ∙ filled_behind more pairs contents (omega arith)
     ∙ append_assoc front ((pair.0, content) ∷ []) (refilled pairs contents)
 
+abbrev beside : Content → Given → List ℕ × Content → Given
+beside content pairs old = (old.0, content) ∷ pairs
+
 pub set_with : (pairs : Given) (place : ℕ) (content : Content) (old : List ℕ × Content) → place < length pairs → old ≡ slice_index_or pairs place old
     → slice_set pairs place (old.0, content) ≡ with_content place content pairs
 set_with [] place content old lt is = absurd (omega arith)
-set_with (pair ∷ pairs) zero content old lt is = ap (λ (o : List ℕ × Content). (o.0, content) ∷ pairs) is
+set_with (pair ∷ pairs) zero content old lt is = ap (beside content pairs) is
 set_with (pair ∷ pairs) (suc place) content old lt is = ap (λ (rest : Given). pair ∷ rest) (set_with pairs place content old (omega (arith, lt)) is)
 
 pub filled_all : (pairs : Given) (contents : List Content) → length contents ≡ length pairs → filled_from 0 pairs contents ≡ refilled pairs contents

@@ -1,5 +1,5 @@
 use Rattle.std.proofs.Common.{◌≡◌, ◌+◌, length}
-use Rattle.world_mem.proofs.Filled.{filled_from}
+use Rattle.world_mem.specs.Told.{filled_from}
 use Rattle.world_mem.proofs.contents.refill.Given as goal
 
 abbrev pub invariant-contents : goal.invariant-contents

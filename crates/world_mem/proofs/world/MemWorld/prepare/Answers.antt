@@ -1,6 +1,7 @@
-use Rattle.std.proofs.Common.{rules, ◌≡◌, ◌≤◌, List, length, arith, subst, sym}
-use Rattle.world_mem.specs.CallCounts.{verdict_of}
-use Rattle.world_mem.specs.declared.calls.Call.TheVariants.{Start}
+use Rattle.std.proofs.Common.{rules, ◌≡◌, ◌∙◌, ◌≤◌, List, length, arith, subst, sym, true}
+use Rattle.std.proofs.lemmas.Bool.{not-false}
+use denote.Enum.Bare.{same_true}
+use Rattle.world_mem.specs.contracts.calls.Verdict.{the_type}
 use Rattle.world_mem.specs.declared.calls.Verdict.TheVariants.{Goes}
 use Rattle.world_mem.specs.declared.past.Turn.{Turn}
 use Rattle.world_mem.proofs.Unmade.{unmade_of}
@@ -18,5 +19,5 @@ invariant_of-self-2 c = record {
 
 pub returns-clause-listed : goal.returns-clause-listed
 returns-clause-listed c = λ fails.
-    let went : verdict_of Start c.args.self.now.calls ≡ Goes = search rules in
-    absurd (fails went)
+    let went : c.eq-goes.result ≡ true = search (rules, not-false c.eq-goes.result) in
+    absurd (fails (sym c.next.ensures.verdict ∙ same_true the_type (search rules) _ _ (sym c.eq-goes.ensures ∙ went)))
