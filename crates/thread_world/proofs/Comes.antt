@@ -27,7 +27,7 @@ within [] place entry at = absurd cc
 within (x ∷ out) zero entry at = omega arith
 within (x ∷ out) (suc place) entry at = let later = within out place entry at in omega (arith, later)
 
-unwrapped : (x : Out) (o : Option Out) → Out
+abbrev unwrapped : (x : Out) (o : Option Out) → Out
 unwrapped x None = x
 unwrapped x (Some y) = y
 
@@ -54,7 +54,7 @@ runs_within running out place entry same at =
     let long : length running ≡ length out = ap (λ (runs : List Running). length runs) same ∙ long_map out in
     omega (arith, inside, long)
 
-came : (rows : List ActRow) (slip : Slip) (whole : IsWhole rows slip) → comes_to slip ≡ Some (answer_by rows slip.job (paired slip.job.deps whole.contents))
+came : (rows : List ActRow) (slip : Slip) (whole : IsWhole rows slip) → comes_to slip ≡ Some (answer_by rows slip.job (paired slip.job.deps (listed slip.given)))
 came rows slip whole =
     ap (λ (table : Option (List ActRow)). comes_by table slip.given slip.job) whole.table
     ∙ ap (λ (given : Option (List Content)). comes_by (Some rows) given slip.job) whole.given
@@ -63,17 +63,11 @@ told : (rows : List ActRow) (number : ℕ) (ending : Ending) (made : List Conten
     → IsTold rows (run_of (number, arc_value ending.slip)) ending.outcome made
 told rows number ending made whole own is_made =
     let slip = arc_value ending.slip in
-    let answer = answer_by rows slip.job (paired slip.job.deps whole.contents) in
+    let answer = answer_by rows slip.job (paired slip.job.deps (listed slip.given)) in
     let not_wanting : ending.outcome ≡ Done → ending.outcome ≢ NoMemory = λ done none. (let x : Done ≡ NoMemory = sym done ∙ none in cc x) in
     record {
-      ends = λ done.
-          ap (λ (given : Option (List Content)). ends rows slip.job (paired slip.job.deps (listed given))) whole.given
-          ∙ sym (ap (λ (a : Answer). a.outcome) (own answer (came rows slip whole) (not_wanting done)))
-          ∙ done;
-      contents = λ done.
-          is_made
-          ∙ ap (λ (a : Answer). listed a.made) (own answer (came rows slip whole) (not_wanting done))
-          ∙ sym (ap (λ (given : Option (List Content)). contents_of (makes rows slip.job (paired slip.job.deps (listed given)))) whole.given);
+      ends = λ done. sym (ap (λ (a : Answer). a.outcome) (own answer (came rows slip whole) (not_wanting done))) ∙ done;
+      contents = λ done. is_made ∙ ap (λ (a : Answer). listed a.made) (own answer (came rows slip whole) (not_wanting done));
     }
 
 pub place_within : (rows : List ActRow) (running : List Running) (out out' : List Out) (place : ℕ) (ending : Ending) → InStep rows running out → ReturnsAt place ending out out'

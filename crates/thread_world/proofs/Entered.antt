@@ -40,6 +40,6 @@ step_entered rows tree of_job number slip running running' out out' is step star
       ∙ sym (map-append run_of out ((number, slip) ∷ []))
       ∙ ap (map run_of) (sym handed);
   whole = λ entry here.
-      push_all (λ e. IsWhole rows e.1) out (number, slip) step.whole (record { table = is.table; contents = contents_of (given_of tree of_job.deps); given = is.given }) entry
+      push_all (λ e. IsWhole rows e.1) out (number, slip) step.whole (record { table = is.table; given = is.given ∙ ap (λ (g : Option (List Content)). Some (listed g)) (sym is.given) }) entry
       (subst (λ (slips : List (ℕ × Slip)). Contains slips entry) handed here);
 }

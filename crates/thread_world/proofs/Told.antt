@@ -7,7 +7,7 @@ use Rattle.world_mem.specs.Told.{paired}
 use Rattle.world_mem.specs.declared.table.ActRow.{ActRow}
 use Rattle.thread_world.specs.Comes.{answer_by, comes_by, comes_to}
 
-unwrapped : (x : Answer) (o : Option Answer) → Answer
+abbrev unwrapped : (x : Answer) (o : Option Answer) → Answer
 unwrapped x None = x
 unwrapped x (Some y) = y
 

@@ -12,7 +12,8 @@ use Rattle.world_mem.specs.declared.table.ActRow.{ActRow}
 abbrev pub answer_by : List ActRow → Job → Given → Answer
 answer_by rows job given = record { outcome = ends rows job given; made = Some (contents_of (makes rows job given)) }
 
-abbrev comes_by : Option (List ActRow) → Option (List Content) → Job → Option Answer
+-- by the table and by what is given, where both are there
+abbrev pub comes_by : Option (List ActRow) → Option (List Content) → Job → Option Answer
 comes_by None given job = None
 comes_by (Some rows) None job = None
 comes_by (Some rows) (Some given) job = Some (answer_by rows job (paired job.deps given))

@@ -16,11 +16,10 @@ listed (Some given) = given
 abbrev pub run_of : ℕ × Slip → Running
 run_of entry = record { job = entry.1.job; given = paired entry.1.job.deps (listed entry.1.given) }
 
--- a slip goes with this table, and with what its job is given
+-- a slip goes with this table, and with some contents that its job is given
 pub record IsWhole (rows : List ActRow) (slip : Slip) : Type 0 where
   pub table : slip.table ≡ Some rows
-  pub contents : List Content
-  pub given : slip.given ≡ Some contents
+  pub given : slip.given ≡ Some (listed slip.given)
 
 -- the slips that are out are the jobs that run, in their order, and each goes with the table
 pub record InStep (rows : List ActRow) (running : List Running) (out : List (ℕ × Slip)) : Type 0 where

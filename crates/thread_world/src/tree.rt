@@ -28,7 +28,8 @@ fn slip_for(entering: &Entering, table: &SharedTable) -> Result<Slip, Memory>
 fn made_of(alloc: Global, ending: Ending) -> Listing<Content>
     ensures { result ≡ listed ending.made }
 {
-    match ending.made {
+    let Ending { made, .. } = ending;
+    match made {
         Some(made) => made,
         None => Listing::empty(alloc),
     }

@@ -25,7 +25,7 @@ pub returns-clause-around : goal.returns-clause-around
 returns-clause-around g c = λ told. c.end.ensures.around
 
 pub returns-clause-banks : goal.returns-clause-banks
-returns-clause-banks g c = λ told bank. let kept = banks_same _ _ (ap store_of c.end.ensures.keeps.banks) bank in record { same = kept.same; no_more = kept.no_more }
+returns-clause-banks g c = λ told bank. let kept = banks_same c.args.self.now.world c.end.new.self (ap store_of c.end.ensures.keeps.banks) bank in record { same = kept.same; no_more = kept.no_more }
 
 pub returns-clause-told : goal.returns-clause-told
 returns-clause-told g c = record { told = λ told. told; sure = λ told sure. sure; closed = refl }
@@ -37,4 +37,4 @@ pub returns-clause-time : goal.returns-clause-time
 returns-clause-time g c = record { told = c.end.ensures.time.told; each = c.end.ensures.time.each; before = c.end.ensures.time.before; now = c.end.ensures.time.now }
 
 pub returns-clause-cause : goal.returns-clause-cause
-returns-clause-cause g c = subst (λ (o : Outcome). HasOutcomeCause o _ _) (sym c.end.ensures.outcome) c.end.ensures.cause
+returns-clause-cause g c = subst (λ (o : Outcome). HasOutcomeCause o (counts_of c.args.self.now.world.faults) (counts_of c.end.new.self.faults)) (sym c.end.ensures.outcome) c.end.ensures.cause
