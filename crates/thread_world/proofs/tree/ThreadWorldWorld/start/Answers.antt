@@ -9,7 +9,7 @@ use Rattle.world_mem.specs.Past.{Machine}
 use Rattle.world_mem.specs.Told.{contents_of}
 use Rattle.world_mem.specs.declared.event.Event.TheVariants as events
 use Rattle.world_mem.specs.declared.calls.Call.TheVariants.{Start}
-use Rattle.world_mem.proofs.Passing.{asks, idle_recalls, idle_tree}
+use Rattle.world_mem.proofs.Passing.{refused, idle_recalls, idle_tree}
 use Rattle.thread_world.proofs.Entered.{step_entered}
 use Rattle.thread_world.proofs.Kept.{step_same, spared_counted, spared_same}
 use Rattle.thread_world.proofs.Passed.{time_passed, recalls_passed, banks_same}
@@ -20,7 +20,7 @@ pub prepare-requires : goal.prepare-requires
 prepare-requires g c = c.requires.free tt
 
 pub returns-in_err-entering-clause-refused : goal.returns-in_err-entering-clause-refused
-returns-in_err-entering-clause-refused g c = λ told. asks (around_of c.args.self.now.world.state) (around_of c.prepare.new.self.state) (ap (λ (m : Machine). m.course.around) c.prepare.ensures.machine)
+returns-in_err-entering-clause-refused g c = λ told. refused _ (around_of c.args.self.now.world.state) (around_of c.prepare.new.self.state) (ap (λ (m : Machine). m.course.around) c.prepare.ensures.machine)
 
 pub returns-in_err-entering-clause-banks : goal.returns-in_err-entering-clause-banks
 returns-in_err-entering-clause-banks g c = λ told bank. let kept = banks_same c.args.self.now.world c.prepare.new.self (ap (λ (m : Machine). m.store) c.prepare.ensures.machine) bank in record { same = kept.same; no_more = kept.no_more }
@@ -35,7 +35,7 @@ pub returns-in_err-entering-clause-time : goal.returns-in_err-entering-clause-ti
 returns-in_err-entering-clause-time g c = let t = idle_tree c.args.self.now.world c.prepare.new.self (record { turns = c.prepare.ensures.turns; horizon = c.prepare.ensures.horizon; machine = c.prepare.ensures.machine }) in record { told = t.told; each = t.each; before = t.before; now = t.now }
 
 pub returns-in_err-slip-clause-refused : goal.returns-in_err-slip-clause-refused
-returns-in_err-slip-clause-refused g c = λ told. asks (around_of c.args.self.now.world.state) (around_of c.prepare.new.self.state) (ap (λ (m : Machine). m.course.around) c.prepare.ensures.machine)
+returns-in_err-slip-clause-refused g c = λ told. refused _ (around_of c.args.self.now.world.state) (around_of c.prepare.new.self.state) (ap (λ (m : Machine). m.course.around) c.prepare.ensures.machine)
 
 pub returns-in_err-slip-clause-banks : goal.returns-in_err-slip-clause-banks
 returns-in_err-slip-clause-banks g c = λ told bank. let kept = banks_same c.args.self.now.world c.prepare.new.self (ap (λ (m : Machine). m.store) c.prepare.ensures.machine) bank in record { same = kept.same; no_more = kept.no_more }
@@ -50,7 +50,7 @@ pub returns-in_err-slip-clause-time : goal.returns-in_err-slip-clause-time
 returns-in_err-slip-clause-time g c = let t = idle_tree c.args.self.now.world c.prepare.new.self (record { turns = c.prepare.ensures.turns; horizon = c.prepare.ensures.horizon; machine = c.prepare.ensures.machine }) in record { told = t.told; each = t.each; before = t.before; now = t.now }
 
 pub returns-in_err-hand_in-clause-refused : goal.returns-in_err-hand_in-clause-refused
-returns-in_err-hand_in-clause-refused g c = λ told. asks (around_of c.args.self.now.world.state) (around_of c.prepare.new.self.state) (ap (λ (m : Machine). m.course.around) c.prepare.ensures.machine)
+returns-in_err-hand_in-clause-refused g c = λ told. refused _ (around_of c.args.self.now.world.state) (around_of c.prepare.new.self.state) (ap (λ (m : Machine). m.course.around) c.prepare.ensures.machine)
 
 pub returns-in_err-hand_in-clause-banks : goal.returns-in_err-hand_in-clause-banks
 returns-in_err-hand_in-clause-banks g c = λ told bank. let kept = banks_same c.args.self.now.world c.prepare.new.self (ap (λ (m : Machine). m.store) c.prepare.ensures.machine) bank in record { same = kept.same; no_more = kept.no_more }
