@@ -6,9 +6,6 @@ use model_trials::spots::Spot;
 use scons_base::Memory;
 use std::alloc::Global;
 
-/// More steps than a walk depth first has.
-const STEPS: usize = 256;
-
 /// The needed rules in the build order, and what is known of each rule by its number.
 #[derive(Drop)]
 pub struct Facts {
@@ -50,8 +47,7 @@ impl Facts {
 
     fn take_order(&mut self, alloc: Global, rules: &[PlainRule]) -> Result<(), Memory> {
         self.order.clear();
-        let mut met = Vec::new(alloc);
-        let is_whole = visit(alloc, rules, STEPS, &mut met, &[0], &mut self.order)?;
+        let is_whole = visit(alloc, rules, &mut self.order)?;
         let mut needed = Vec::from_slice(alloc, &[0])?;
         add_below(alloc, rules, &mut needed)?;
         self.is_whole = is_whole && are_same(needed.as_slice(), self.order.as_slice());

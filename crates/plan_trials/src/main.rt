@@ -55,7 +55,7 @@ fn run_row(alloc: Global, line: &str) -> Result<String, Memory> {
             continue;
         }
         kinds = kinds.wrapping_add(1);
-        if kinds % row.every == 0
+        if row.tries(kinds)
             && let Some(wrong) = run_code(alloc, code, &row, &mut tally)?
         {
             return Ok(format!(in alloc; "graph {code:x}: {wrong:?}")?);

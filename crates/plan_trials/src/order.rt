@@ -11,6 +11,9 @@ pub const LIMIT: usize = 16;
 /// More rules than a walk meets.
 const ROOM: usize = 64;
 
+/// More steps than a walk depth first has.
+const STEPS: usize = 256;
+
 /// What the rule of a number needs.
 pub fn needs_of(alloc: Global, rules: &[PlainRule], number: usize) -> Result<Vec<usize>, Memory> {
     match rules.get(number) {
@@ -41,27 +44,42 @@ pub fn add_below(alloc: Global, rules: &[PlainRule], all: &mut Vec<usize>) -> Re
     Ok(())
 }
 
-/// Adds the rules that are met for the first time, depth first, each behind what it needs. Says whether the room sufficed.
-pub fn visit(
+/// The first of these that the walk hasn't met.
+fn first_unmet(needs: &[usize], path: &[usize], order: &[usize]) -> Option<usize> {
+    for need in needs {
+        if !path.contains(need) && !order.contains(need) {
+            return Some(*need);
+        }
+    }
+    None
+}
+
+/// Goes from the last rule of a path to the first need that wasn't met, or leaves it.
+fn go_on(
     alloc: Global,
     rules: &[PlainRule],
-    room: usize,
-    met: &mut Vec<usize>,
-    numbers: &[usize],
+    last: usize,
+    path: &mut Vec<usize>,
     order: &mut Vec<usize>,
-) -> Result<bool, Memory> {
-    match numbers {
-        [] => Ok(true),
-        [number, behind @ ..] if room > 0 => {
-            let mut whole = true;
-            if !met.contains(number) {
-                met.push(*number)?;
-                let below = needs_of(alloc, rules, *number)?;
-                whole = visit(alloc, rules, room - 1, met, below.as_slice(), order)?;
-                order.push(*number)?;
-            }
-            Ok(visit(alloc, rules, room - 1, met, behind, order)? && whole)
-        }
-        _ => Ok(false),
+) -> Result<(), Memory> {
+    let needs = needs_of(alloc, rules, last)?;
+    if let Some(need) = first_unmet(needs.as_slice(), path.as_slice(), order.as_slice()) {
+        path.push(need)?;
+    } else {
+        let _ = path.pop();
+        order.push(last)?;
     }
+    Ok(())
+}
+
+/// Adds the rules that the first one leads to, depth first, each as the walk leaves it. Says whether the steps sufficed.
+pub fn visit(alloc: Global, rules: &[PlainRule], order: &mut Vec<usize>) -> Result<bool, Memory> {
+    let mut path = Vec::from_slice(alloc, &[0])?;
+    for _ in 0..STEPS {
+        let Some(last) = path.last().copied() else {
+            return Ok(true);
+        };
+        go_on(alloc, rules, last, &mut path, order)?;
+    }
+    Ok(path.is_empty())
 }

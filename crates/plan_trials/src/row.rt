@@ -31,8 +31,8 @@ pub struct Row {
     pub fresh: bool,
     pub lacks: bool,
     pub halts: bool,
-    /// Each so many graphs, one is tried.
-    pub every: u32,
+    /// Of each so many graphs one is tried, and where this is none, all are.
+    every: u32,
 }
 
 impl Row {
@@ -56,8 +56,16 @@ impl Row {
             fresh: ends.contains('u'),
             lacks: ends.contains('a'),
             halts: ends.contains('h'),
-            every: every.parse::<u32>().unwrap_or(1).max(1),
+            every: every.parse::<u32>().unwrap_or(0),
         })
+    }
+
+    /// Whether the graph of this number is tried.
+    pub fn tries(&self, number: u32) -> bool {
+        if self.every == 0 {
+            return true;
+        }
+        number % self.every == 0
     }
 
     /// How many ways an action may end.
