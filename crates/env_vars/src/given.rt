@@ -20,13 +20,13 @@ pub(crate) fn given(
 {
     match value {
         EnvValue::Text(text) => {
-            let text = given_text(alloc, name, old, text.as_str())?;
+            let old = old_text(alloc, old)?;
+            let text = given_text(alloc, name, old.as_str(), text.as_str())?;
             Ok(EnvValue::Text(Text::new(text)))
         }
         EnvValue::Words(words) => given_words(alloc, name, old, words.as_slice()),
         EnvValue::List(items) => {
-            let mut given = Vec::new(alloc);
-            push_given(alloc, &mut given, name, old, items.as_slice())?;
+            let given = given_list(alloc, name, old, items.as_slice())?;
             Ok(EnvValue::List(Listing::new(given)))
         }
         value => Ok(value),
@@ -43,9 +43,33 @@ fn given_words(
 {
     let mut items = Vec::new(alloc);
     push_words(&mut items, words)?;
-    let mut given = Vec::new(alloc);
-    push_given(alloc, &mut given, name, old, items.as_slice())?;
+    let given = given_list(alloc, name, old, items.as_slice())?;
     word_list(alloc, given)
+}
+
+/// The old value's text is made once, however many texts there are.
+fn given_list(
+    alloc: Global,
+    name: &str,
+    old: Option<&EnvValue>,
+    items: &[Item],
+) -> Result<Vec<Item>, Memory>
+    ensures { IfOk result (λ v. v.items ≡ given_items name.now (option_copied old.entry) items.now) }
+{
+    let text = old_text(alloc, old)?;
+    let mut given = Vec::new(alloc);
+    push_given(alloc, &mut given, name, old, text.as_str(), items)?;
+    Ok(given)
+}
+
+/// The text of the value that was there.
+fn old_text(alloc: Global, old: Option<&EnvValue>) -> Result<String, Memory>
+    ensures { IfOk result (λ s. string_bytes s ≡ old_text (option_copied old.entry)) }
+{
+    match old {
+        Some(value) => value_text(alloc, value),
+        None => Ok(String::new(alloc)),
+    }
 }
 
 fn push_given(
@@ -53,12 +77,14 @@ fn push_given(
     given: &mut Vec<Item>,
     name: &str,
     old: Option<&EnvValue>,
+    as_text: &str,
     items: &[Item],
 ) -> Result<(), Memory>
+    requires { as_text.now ≡ old_text (option_copied old.entry) }
     ensures { OnOk result (given.new.items ≡ given.old.items ++ given_items name.now (option_copied old.entry) items.now) }
 {
     for item in items {
-        push_item(alloc, given, name, old, item)?;
+        push_item(alloc, given, name, old, as_text, item)?;
     }
     Ok(())
 }
@@ -68,12 +94,14 @@ fn push_item(
     given: &mut Vec<Item>,
     name: &str,
     old: Option<&EnvValue>,
+    as_text: &str,
     item: &Item,
 ) -> Result<(), Memory>
+    requires { as_text.now ≡ old_text (option_copied old.entry) }
     ensures { OnOk result (given.new.items ≡ given.old.items ++ given_item name.now (option_copied old.entry) item.now) }
 {
     match item {
-        Item::Text(text) => push_text(alloc, given, name, old, text.as_str()),
+        Item::Text(text) => push_text(alloc, given, name, old, as_text, text.as_str()),
         Item::Int(_) => push_copy(given, item),
         Item::Node(_) => push_copy(given, item),
         Item::Pair(_, _) => push_copy(given, item),
@@ -93,13 +121,15 @@ fn push_text(
     given: &mut Vec<Item>,
     name: &str,
     old: Option<&EnvValue>,
+    as_text: &str,
     text: &str,
 ) -> Result<(), Memory>
+    requires { as_text.now ≡ old_text (option_copied old.entry) }
     ensures { OnOk result (given.new.items
         ≡ given.old.items ++ given_item name.now (option_copied old.entry) (Item.Text text.now)) }
 {
     if !is_name(name, name_alone(text)) {
-        let text = given_text(alloc, name, old, text)?;
+        let text = given_text(alloc, name, as_text, text)?;
         given.push(Item::Text(Text::new(text)))?;
         return Ok(());
     }
@@ -119,20 +149,11 @@ fn is_name(name: &str, found: Option<&str>) -> bool
 }
 
 /// A text with the old value's text in place of each reference to the variable.
-fn given_text(
-    alloc: Global,
-    name: &str,
-    old: Option<&EnvValue>,
-    text: &str,
-) -> Result<String, Memory>
-    ensures { IfOk result (λ s. string_bytes s ≡ given_text name.now (old_text (option_copied old.entry)) text.now) }
+fn given_text(alloc: Global, name: &str, old: &str, text: &str) -> Result<String, Memory>
+    ensures { IfOk result (λ s. string_bytes s ≡ given_text name.now old.now text.now) }
 {
-    let old = match old {
-        Some(value) => value_text(alloc, value)?,
-        None => String::new(alloc),
-    };
     let mut given = String::new(alloc);
-    put_given(&mut given, name, old.as_str(), text)?;
+    put_given(&mut given, name, old, text)?;
     Ok(given)
 }
 
