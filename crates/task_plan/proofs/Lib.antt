@@ -6,3 +6,4 @@ pub mod ListLemmas
 pub mod NeedLemmas
 pub mod TrackLemmas
 pub mod WantLemmas
+pub mod NamedLemmas

@@ -3,5 +3,6 @@ pub mod Marks
 pub mod Queues
 pub mod States
 pub mod Settled
+pub mod Named
 pub mod Tracked
 pub mod Plans

@@ -1,20 +1,18 @@
 //! How the plan meets files, and with them the rules that are needed.
 
-ghost use Rattle.std.specs.Prelude.{◌≡◌, ◌<◌, Some, true, length, slice_get, IfOk};
+ghost use Rattle.std.specs.Prelude.{◌≡◌, ◌<◌, Some, true, length, slice_get};
 ghost use Rattle.scons_base.specs.declared.ids.NodeId.{NodeId};
 ghost use Rattle.task_plan.specs.Settled.{CanScan};
 ghost use Rattle.task_plan.specs.Plans.{Meets, Stays};
 
 use crate::files::{Files, Origin};
+use crate::naming::task_of;
 use crate::plan::Plan;
 use crate::reach::Reach;
 use crate::states::{RuleState, States};
 use crate::task::Task;
-use indexmap::IndexSet;
-use rule_graph::{Graph, Rule};
-use scons_base::{Listing, Memory, NodeId, RuleId};
-use std::alloc::Global;
-use world_api::Work;
+use rule_graph::Graph;
+use scons_base::{Memory, NodeId, RuleId};
 
 impl Plan {
     /// Makes room for the nodes and rules of the graph.
@@ -273,95 +271,4 @@ fn can_scan(reach: &Reach, files: &Files, states: &States, place: usize) -> bool
         Some(node) => !reach.has_scanned(*node) && files.is_done(states, *node),
         None => false,
     }
-}
-
-/// What a rule names.
-fn task_of(alloc: Global, graph: &Graph, rule: &Rule) -> Result<Task, Memory>
-    ensures passed { IfOk result (λ task. task.passed ≡ 0) }
-    ensures whole { IfOk result (λ task. task.reach.whole ≡ 0) }
-{
-    let mut task = Task::new(alloc);
-    load(&mut task, graph, rule)?;
-    Ok(task)
-}
-
-fn load(task: &mut Task, graph: &Graph, rule: &Rule) -> Result<(), Memory>
-    ensures passed { task.new.passed ≡ task.old.passed }
-    ensures whole { task.new.reach.whole ≡ task.old.reach.whole }
-{
-    task.targets.extend_from_slice(rule.targets.as_slice())?;
-    task.required.extend_from_slice(rule.required.as_slice())?;
-    exclude(&mut task.reach.excluded, &rule.ignored)?;
-    load_deps(task, graph, rule)?;
-    if rule.scans {
-        exclude(&mut task.reach.excluded, &rule.targets)?;
-    }
-    Ok(())
-}
-
-fn load_deps(task: &mut Task, graph: &Graph, rule: &Rule) -> Result<(), Memory>
-    ensures passed { task.new.passed ≡ task.old.passed }
-    ensures whole { task.new.reach.whole ≡ task.old.reach.whole }
-{
-    load_sources(task, graph, rule)?;
-    add_named(task, &rule.depends)?;
-    add_named(task, &rule.libs)?;
-    task.named = task.deps.len();
-    Ok(())
-}
-
-/// Notes the sources of a rule, and which of them are scanned. One that is ignored counts for the shell alone.
-fn load_sources(task: &mut Task, graph: &Graph, rule: &Rule) -> Result<(), Memory>
-    ensures passed { task.new.passed ≡ task.old.passed }
-    ensures whole { task.new.reach.whole ≡ task.old.reach.whole }
-{
-    for node in rule.sources.as_slice() {
-        if rule.work == Work::Shell && task.reach.excluded.contains(node) {
-            continue;
-        }
-        let _ = task.deps.insert(*node)?;
-        if rule.scans && node.0 < graph.len() && is_scanned(graph.path(*node).suffix()) {
-            task.reach.add_source(*node)?;
-        }
-    }
-    Ok(())
-}
-
-/// Notes dependencies that a rule names, less the ignored ones.
-fn add_named(task: &mut Task, nodes: &Listing<NodeId>) -> Result<(), Memory>
-    ensures passed { task.new.passed ≡ task.old.passed }
-    ensures whole { task.new.reach.whole ≡ task.old.reach.whole }
-{
-    for node in nodes.as_slice() {
-        if !task.reach.excluded.contains(node) {
-            let _ = task.deps.insert(*node)?;
-        }
-    }
-    Ok(())
-}
-
-fn exclude(excluded: &mut IndexSet<NodeId>, nodes: &Listing<NodeId>) -> Result<(), Memory> {
-    for node in nodes.as_slice() {
-        let _ = excluded.insert(*node)?;
-    }
-    Ok(())
-}
-
-/// Whether a source with this suffix is scanned.
-fn is_scanned(suffix: &str) -> bool {
-    matches!(
-        suffix,
-        ".c" | ".C"
-            | ".cc"
-            | ".cpp"
-            | ".cxx"
-            | ".h"
-            | ".H"
-            | ".hh"
-            | ".hpp"
-            | ".hxx"
-            | ".m"
-            | ".mm"
-            | ".S"
-    )
 }

@@ -1,8 +1,9 @@
 //! The files that a rule scans, breadth first.
-ghost use Rattle.std.specs.Prelude.{◌≡◌, ◌≤◌, ◌++◌, List, true, length};
+ghost use Rattle.std.specs.Prelude.{◌≡◌, ◌≤◌, ◌++◌, List, [], true, length};
 ghost use Rattle.scons_base.specs.declared.ids.NodeId.{NodeId};
-ghost use Rattle.task_plan.specs.Settled.{is_scanned as is_scanned_of, IsScannedAt, AreScannedIn, IsLonger};
+ghost use Rattle.task_plan.specs.Settled.{is_scanned as is_scanned_of, IsScannedAt, AreScannedIn};
 
+use crate::sets::put_all;
 use indexmap::{IndexMap, IndexSet};
 use scons_base::limits::NODE_LIMIT;
 use scons_base::{Memory, NodeId};
@@ -39,7 +40,8 @@ pub(crate) struct Growth {
 
 impl Reach {
     pub(crate) fn new(alloc: Global) -> Reach
-        ensures { result.whole ≡ 0 }
+        ensures whole { result.whole ≡ 0 }
+        ensures excluded { result.excluded.keys ≡ [] }
     {
         Reach {
             files: IndexSet::new(alloc),
@@ -80,7 +82,8 @@ impl Reach {
 
     /// Adds a source that is scanned.
     pub(crate) fn add_source(&mut self, node: NodeId) -> Result<(), Memory>
-        ensures { self.new.whole ≡ self.old.whole }
+        ensures whole { self.new.whole ≡ self.old.whole }
+        ensures excluded { self.new.excluded ≡ self.old.excluded }
     {
         let _ = self.files.insert(node)?;
         self.sources = self.files.len();
@@ -96,7 +99,7 @@ impl Reach {
         let place = self.files.get_index_of(&node).unwrap_or(0);
         let in_order = place >= self.front;
         let before = self.files.len();
-        append(&mut self.files, &self.excluded, included.as_slice())?;
+        put_all(&mut self.files, &self.excluded, included.as_slice())?;
         let new = files_from(self.alloc, &self.files, before)?;
         let _ = self.found.insert(node, included)?;
         self.go_on(place)?;
@@ -147,7 +150,7 @@ impl Reach {
                 break;
             };
             if let Some(included) = self.found.get(&node) {
-                append(&mut files, &self.excluded, included.as_slice())?;
+                put_all(&mut files, &self.excluded, included.as_slice())?;
                 self.front = place.saturating_add(1);
             }
         }
@@ -167,21 +170,4 @@ fn files_from(
         Some(files) => Ok(Vec::from_slice(alloc, files)?),
         None => Ok(Vec::new(alloc)),
     }
-}
-
-/// Puts those files behind that aren't there and aren't excluded.
-#[tactic(auto, using(crate::proofs::ListLemmas::longer_steps))]
-fn append(
-    files: &mut IndexSet<NodeId>,
-    excluded: &IndexSet<NodeId>,
-    included: &[NodeId],
-) -> Result<(), Memory>
-    ensures { IsLonger files.old.keys files.new.keys }
-{
-    for node in included {
-        if !excluded.contains(node) {
-            let _ = files.insert(*node)?;
-        }
-    }
-    Ok(())
 }

@@ -1,9 +1,12 @@
 //! What the plan keeps of a rule.
 ghost use Rattle.std.specs.Prelude.{◌≡◌, ◌≤◌, true, length, slice_get, IfOk};
-ghost use Rattle.task_plan.specs.Settled.{needs_of, AreDoneTo, AreScannedTo, IsDoneAt, KeepsNeeds, IsThrough, IsLonger};
+ghost use Rattle.task_plan.specs.Settled.{needs_of, AreDoneTo, AreScannedTo, IsDoneAt, KeepsNeeds, IsThrough};
+
+ghost use Rattle.task_plan.specs.Named.{IsBlank};
 
 use crate::files::Files;
 use crate::reach::{Growth, Reach};
+use crate::sets::add_all;
 use crate::states::States;
 use indexmap::IndexSet;
 use scons_base::{Memory, NodeId};
@@ -27,6 +30,7 @@ impl Task {
     pub(crate) fn new(alloc: Global) -> Task
         ensures passed { result.passed ≡ 0 }
         ensures whole { result.reach.whole ≡ 0 }
+        ensures blank { IsBlank result }
     {
         Task {
             targets: Vec::new(alloc),
@@ -132,14 +136,4 @@ impl Task {
             None => false,
         }
     }
-}
-
-#[tactic(auto, using(crate::proofs::ListLemmas::longer_steps))]
-fn add_all(deps: &mut IndexSet<NodeId>, nodes: &[NodeId]) -> Result<(), Memory>
-    ensures { IsLonger deps.old.keys deps.new.keys }
-{
-    for node in nodes {
-        let _ = deps.insert(*node)?;
-    }
-    Ok(())
 }
