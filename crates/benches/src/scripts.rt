@@ -1,7 +1,7 @@
 //! A script that is run.
 use anyhow::{Result, anyhow};
 use eval_hosts::Replying;
-use py_eval::{Ran, run};
+use py_eval::{EvalFault, Ran, run};
 use py_heap::{Budget, Heap};
 use py_lex::lex;
 use py_parse::parse;
@@ -29,13 +29,19 @@ pub fn run_file(rt: &HostRuntime, path: Option<String>) -> Result<()> {
         &mut host,
         Budget::new(UNIT_LIMIT),
     );
+    let used = units_of(outcome);
     let time = start.elapsed(rt)?.as_micros();
-    match outcome {
-        Ok(Ran { budget, .. }) => {
-            let used = budget.used();
-            println!(rt; "py_eval: {used} units in {time} microseconds")?;
-        }
-        Err(fault) => println!(rt; "py_eval: {fault:?} after {time} microseconds")?,
+    match used {
+        Some(used) => println!(rt; "py_eval: {used} units in {time} microseconds")?,
+        None => println!(rt; "py_eval: a fault after {time} microseconds")?,
     }
     Ok(())
+}
+
+/// The units that were used, where the script came to its end.
+fn units_of(outcome: std::result::Result<Ran, EvalFault>) -> Option<u64> {
+    match outcome {
+        Ok(ran) => Some(ran.budget.used()),
+        Err(_fault) => None,
+    }
 }
