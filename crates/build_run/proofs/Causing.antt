@@ -3,7 +3,8 @@ use Rattle.std.proofs.Common.{◌≡◌, ◌≢◌, ◌∙◌, ◌≤◌, ◌⊎
 use Rattle.std.specs.Prelude.{All, Result, Ok, Err, IsErrAnd}
 use Rattle.std.proofs.lemmas.Bool.{false≢true}
 use Rattle.std.proofs.lemmas.List.Elements.{All-push, All-pop, All-nil, All-weaker, Contains-append_left, Contains-push}
-use Rattle.world_api.specs.Causes.{Rose, TreeFails, DiskFails, StartFails, ActionFails, HasOutcomeCause}
+use Rattle.world_api.specs.Causes.{TreeFails, DiskFails, StartFails, ActionFails, HasOutcomeCause}
+use Rattle.scons_base.specs.Rising.{Rose}
 use Rattle.world_api.specs.Counts.{Counts}
 use Rattle.world_api.specs.Looks.{IsTreeAlone}
 use Rattle.world_api.specs.declared.job.Outcome.{Outcome}

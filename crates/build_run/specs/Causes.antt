@@ -1,6 +1,7 @@
 -- Why a build has the faults that it reports: each tells what was at fault outside, and what was at fault is told.
 use Rattle.std.specs.Prelude.{◌≡◌, ◌≢◌, ◌≤◌, ◌⊎◌, Bool, false, ℕ, List, All, Contains}
-use Rattle.world_api.specs.Causes.{Rose, Later}
+use Rattle.world_api.specs.Causes.{Later}
+use Rattle.scons_base.specs.Rising.{Rose}
 use Rattle.world_api.specs.Counts.{Counts}
 use Rattle.world_api.specs.Meaning.{Meaning}
 use Rattle.world_api.specs.Printed.{SinkMeaning}

@@ -1,6 +1,6 @@
 -- What a build has found so far, and that its causes are accounted for from call to call.
 use Rattle.std.specs.Prelude.{◌≡◌, ◌++◌, ◌∷◌, [], Bool, true, false, ℕ, List, All, Result, Ok, Err}
-use Rattle.world_api.specs.Causes.{Rose}
+use Rattle.scons_base.specs.Rising.{Rose}
 use Rattle.world_api.specs.Counts.{Counts}
 use Rattle.world_api.specs.Meaning.{Meaning}
 use Rattle.world_api.specs.Printed.{SinkMeaning}

@@ -1,5 +1,3 @@
-pub mod Ascii
-pub mod Runs
 pub mod Digits
 pub mod WordLists
 pub mod Boundaries

@@ -3,10 +3,11 @@ use Rattle.std.proofs.Common.{◌≡◌, ℕ, zero, suc, ◌+◌, ◌∷◌, [],
 use Rattle.std.specs.List.{prefix_len}
 use Rattle.std.specs.Char.{is_ascii_digit}
 use Rattle.std.proofs.lemmas.Bool.Decides.{nat_tests}
-use Rattle.env_text.specs.Bytes.{is_white, is_name_first, is_name_byte, front_run, after_run}
+use Rattle.env_text.specs.Bytes.{is_white, is_name_first}
+use Rattle.scons_base.specs.Runs.{is_name_byte, front_run, after_run}
 use Rattle.env_text.specs.Words.{PlainWord, name, number_of, word_at, words_behind, words_of}
 use Rattle.env_text.specs.Views.{BeginsWord}
-use Rattle.env_text.proofs.Runs.{front_run_with, after_run_with}
+use Rattle.scons_base.proofs.Runs.{front_run_with, after_run_with}
 
 pub words_skipped : (n : ℕ) (bytes : List ℕ) → words_behind n bytes ≡ words_of (drop n bytes)
 words_skipped zero bytes = refl

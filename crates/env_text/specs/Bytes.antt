@@ -1,30 +1,19 @@
 -- Bytes, and the names of variables. Here and in the other files a byte stands by its number: 36 is `$`, 40 `(`, 41 `)`,
 -- 44 `,`, 45 `-`, 46 `.`, 48 `0`, 58 `:`, 91 `[`, 93 `]`, 95 `_`, 123 `{` and 125 `}`.
-use Rattle.std.specs.Prelude.{ℕ, ◌+◌, Bool, false, not, ◌||◌, ◌&&◌, ◌==◌, nat_le, List, [], ◌∷◌, take, drop, if◌then◌else◌}
-use Rattle.std.specs.List.{prefix_len}
-use Rattle.std.specs.Char.{is_ascii_alphabetic, is_ascii_alphanumeric}
+use Rattle.std.specs.Prelude.{ℕ, ◌+◌, Bool, false, not, ◌||◌, ◌&&◌, ◌==◌, nat_le, List, [], ◌∷◌, if◌then◌else◌}
+use Rattle.std.specs.Char.{is_ascii_alphabetic}
+use Rattle.scons_base.specs.Runs.{is_name_byte}
 
 -- white space: tab, line feed, vertical tab, form feed, carriage return and space
 abbrev pub is_white : ℕ → Bool
 is_white b = b == 32 || nat_le 9 b && nat_le b 13
 
--- what a name begins with, and what it goes on with
+-- what a name begins with; it goes on with name bytes
 abbrev pub is_name_first : ℕ → Bool
 is_name_first b = is_ascii_alphabetic b || b == 95
 
-abbrev pub is_name_byte : ℕ → Bool
-is_name_byte b = is_ascii_alphanumeric b || b == 95
-
 abbrev pub is_plain : ℕ → Bool
 is_plain b = not (b == 36)
-
--- the bytes in front that pass the test
-abbrev pub front_run : (ℕ → Bool) → List ℕ → List ℕ
-front_run p bytes = take (prefix_len p bytes) bytes
-
--- and what follows them
-abbrev pub after_run : (ℕ → Bool) → List ℕ → List ℕ
-after_run p bytes = drop (prefix_len p bytes) bytes
 
 abbrev pub begins_name : List ℕ → Bool
 begins_name [] = false

@@ -1,7 +1,8 @@
 -- How a text is read: SCons's `Variable Substitution`, with the rules of this project where SCons asks Python.
 use Rattle.std.specs.Prelude.{ℕ, zero, suc, ◌+◌, ◌==◌, List, [], ◌∷◌, take, drop, Option, None, Some, position, if◌then◌else◌}
 use Rattle.std.specs.List.{prefix_len}
-use Rattle.env_text.specs.Bytes.{is_plain, is_name_first, front_run, dotted_len}
+use Rattle.env_text.specs.Bytes.{is_plain, is_name_first, dotted_len}
+use Rattle.scons_base.specs.Runs.{front_run}
 use Rattle.env_text.specs.Words.{words_of}
 use Rattle.env_text.specs.Parts.{PlainPart, text, begin, end}
 use Rattle.env_text.specs.References.{reference_of}

@@ -6,7 +6,8 @@ use Rattle.std.specs.Str.Parse.{digits_value}
 use Rattle.env_text.specs.declared.part.Index.{Index}
 use Rattle.env_text.specs.declared.part.Index.TheVariants.{FromFront, FromBack}
 use Rattle.env_text.specs.declared.number.TheConstants.{LARGEST}
-use Rattle.env_text.specs.Bytes.{is_white, is_name_first, is_name_byte, front_run}
+use Rattle.env_text.specs.Bytes.{is_white, is_name_first}
+use Rattle.scons_base.specs.Runs.{is_name_byte, front_run}
 
 pub data PlainWord : Type 0 where
   name : List ℕ → PlainWord

@@ -2,11 +2,12 @@
 ghost use Rattle.std.specs.Prelude.{◌≡◌, ◌≤◌, ◌+◌, ⊤, true, length, MatchOption};
 ghost use Rattle.std.specs.List.{prefix_len, list_all};
 ghost use Rattle.std.specs.Char.{is_ascii_digit};
-ghost use Rattle.env_text.specs.Bytes.{is_white, is_name_first, is_name_byte, is_plain, front_run, after_run, begins_name, goes_on, dotted_len};
+ghost use Rattle.env_text.specs.Bytes.{is_white, is_name_first, is_plain, begins_name, goes_on, dotted_len};
+ghost use Rattle.scons_base.specs.Runs.{is_name_byte, front_run, after_run};
 ghost use Rattle.env_text.specs.Words.{words_of};
 ghost use Rattle.env_text.specs.Views.{BeginsWord};
 
-use std::str;
+use scons_base::is_name_byte;
 
 pub fn is_white(byte: u8) -> bool
     ensures { result ≡ is_white byte }
@@ -18,12 +19,6 @@ pub fn is_name_first(byte: u8) -> bool
     ensures { result ≡ is_name_first byte }
 {
     byte.is_ascii_alphabetic() || byte == b'_'
-}
-
-pub fn is_name_byte(byte: u8) -> bool
-    ensures { result ≡ is_name_byte byte }
-{
-    byte.is_ascii_alphanumeric() || byte == b'_'
 }
 
 /// What follows the white space in front.
@@ -43,26 +38,8 @@ fn white_len(bytes: &[u8]) -> usize
     bytes.iter().take_while(|byte| is_white(**byte)).count()
 }
 
-/// The letters, digits and underscores in front, and what follows them.
-#[tactic(auto, using(crate::proofs::Runs::run_passes))]
-pub fn cut_name(bytes: &[u8]) -> (&[u8], &[u8])
-    ensures front { result.0.now ≡ front_run is_name_byte bytes.now }
-    ensures name { list_all is_name_byte result.0.now ≡ true }
-    ensures rest { result.1.now ≡ after_run is_name_byte bytes.now }
-    ensures fits { length result.1.now ≤ length bytes.now }
-{
-    bytes.split_at(name_len(bytes))
-}
-
-fn name_len(bytes: &[u8]) -> usize
-    ensures count { result ≡ prefix_len is_name_byte bytes.now }
-    ensures fits { result ≤ length bytes.now }
-{
-    bytes.iter().take_while(|byte| is_name_byte(**byte)).count()
-}
-
 /// The digits in front, and what follows them.
-#[tactic(auto, using(crate::proofs::Runs::run_passes))]
+#[tactic(auto, using(scons_base::proofs::Runs::run_passes))]
 pub fn cut_digits(bytes: &[u8]) -> (&[u8], &[u8])
     ensures front { result.0.now ≡ front_run is_ascii_digit bytes.now }
     ensures digits { list_all is_ascii_digit result.0.now ≡ true }
@@ -128,16 +105,4 @@ pub fn dotted_len(bytes: &[u8]) -> usize
         left = rest;
     }
     len
-}
-
-/// A name as a text.
-#[tactic(auto, using(crate::proofs::Ascii::name_is_text))]
-pub fn name_text(name: &[u8]) -> &str
-    requires { list_all is_name_byte name.now ≡ true }
-    ensures { result.now ≡ name.now }
-{
-    match str::from_utf8(name) {
-        Ok(text) => text,
-        Err(_) => unreachable!(),
-    }
 }

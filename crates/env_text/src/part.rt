@@ -1,3 +1,5 @@
+//! The parts that a text is read as.
+
 /// A place in a list or a text.
 #[derive(Clone, Copy, Debug, PartialEq, Eq)]
 pub enum Index {

@@ -4,9 +4,10 @@ ghost use Rattle.env_text.specs.Words.{words_of, word_at};
 ghost use Rattle.env_text.specs.References.{behind};
 ghost use Rattle.env_text.specs.Views.{plain_word};
 
-use crate::bytes::{after_white, cut_digits, cut_name, is_name_first, name_text};
+use crate::bytes::{after_white, cut_digits, is_name_first};
 use crate::number::number_of;
 use crate::part::Index;
+use scons_base::{cut_name, name_text};
 
 /// A word of a reference's content.
 #[derive(Clone, Copy)]

@@ -1,3 +1,5 @@
+//! Where items are put into a list.
+
 /// Where added items go.
 #[derive(Clone, Copy)]
 pub(crate) enum Place {

@@ -10,7 +10,8 @@ use Rattle.py_heap.specs.Heap.{Objects}
 use Rattle.py_host.specs.Names.{Names, value_of, with_names}
 use Rattle.py_host.specs.Calls.{Question, Answer, Answered, Arguments, Given, answers, refuses, called, attribute, item, set_item, script_done, next_script, a_value, a_script, some_names, the_end}
 use Rattle.py_host.specs.Extends.{Extends}
-use Rattle.py_host.specs.Meaning.{Counts, Rose, IsKept, IsDetermined, SameUnlessEscaped}
+use Rattle.py_host.specs.Meaning.{Counts, IsKept, IsDetermined, SameUnlessEscaped}
+use Rattle.scons_base.specs.Rising.{Rose}
 use Rattle.py_host.proofs.Extending.{extends_same}
 use Rattle.eval_hosts.specs.Refusals.{raised}
 use Rattle.eval_hosts.specs.Texts.{Grown}

@@ -3,7 +3,7 @@ use Rattle.std.proofs.Common.{◌⊎◌, ⊎_elim, ◌≡◌, ◌≢◌, ℕ, ze
 use Rattle.std.specs.Prelude.{Contains}
 use Rattle.std.proofs.lemmas.List.Elements.{Contains-append_cases}
 use Rattle.world_api.specs.Around.{Tree}
-use Rattle.world_api.specs.Causes.{Rose}
+use Rattle.scons_base.specs.Rising.{Rose}
 use Rattle.world_api.specs.Meaning.{Meaning}
 use Rattle.world_api.specs.Printed.{SinkMeaning}
 use Rattle.one_rule.specs.declared.rule.Rule.{Rule}

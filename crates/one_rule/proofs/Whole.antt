@@ -1,6 +1,6 @@
 -- A run, put together of its way and its end.
 use Rattle.std.proofs.Common.{◌≡◌, ◌∙◌, ◌++◌, ◌∷◌, List, ℕ, [], sym, ap, subst, refl, arith, append_assoc, append-nil}
-use Rattle.world_api.specs.Causes.{Rose}
+use Rattle.scons_base.specs.Rising.{Rose}
 use Rattle.world_api.specs.Meaning.{Meaning}
 use Rattle.world_api.specs.Printed.{SinkMeaning}
 use Rattle.one_rule.specs.declared.rule.Rule.{Rule}

@@ -1,7 +1,7 @@
 -- What follows for a caller from the course that a run takes.
 use Rattle.std.specs.Prelude.{◌≡◌, ◌≢◌, ◌⊎◌, ℕ, ◌<◌, ◌-◌, ◌^◌, List, [], Contains}
 use Rattle.world_api.specs.Around.{Tree}
-use Rattle.world_api.specs.Causes.{Rose}
+use Rattle.scons_base.specs.Rising.{Rose}
 use Rattle.world_api.specs.Counts.{Counts}
 use Rattle.world_api.specs.Meaning.{Meaning}
 use Rattle.world_api.specs.Printed.{SinkMeaning}

@@ -3,7 +3,8 @@ use Rattle.std.specs.Prelude.{◌≡◌, ℕ, Result, Ok, Err}
 use Rattle.py_tree.specs.Tree.{Tree}
 use Rattle.py_heap.specs.Heap.{Objects}
 use Rattle.py_heap.specs.Units.{Units}
-use Rattle.py_host.specs.Meaning.{Meaning, Rose, SameUnlessEscaped}
+use Rattle.py_host.specs.Meaning.{Meaning, SameUnlessEscaped}
+use Rattle.scons_base.specs.Rising.{Rose}
 use Rattle.py_meaning.specs.declared.fault.EvalFault.{EvalFault}
 use Rattle.py_meaning.specs.declared.fault.EvalFault.TheVariants as fault
 use Rattle.py_meaning.specs.declared.fault.EvalKind.TheVariants as kind

@@ -1,5 +1,6 @@
 -- What a host means: how it answers, and what every host keeps to.
-use Rattle.std.specs.Prelude.{◌≡◌, ℕ, ◌+◌, ◌-◌, ◌^◌, ◌≤◌, ◌⊎◌, min, List, Option}
+use Rattle.std.specs.Prelude.{◌≡◌, ℕ, ◌≤◌, ◌⊎◌, List, Option}
+use Rattle.scons_base.specs.Rising.{Rose}
 use Rattle.py_heap.specs.Heap.{Objects}
 use Rattle.py_heap.specs.declared.value.Value.{Value}
 use Rattle.py_host.specs.Calls.{Question, Answer, Answered, answers, refuses}
@@ -22,11 +23,6 @@ pub record Meaning (H : Type 0) : Type 1 where
   pub alike : H → H → Type 0
   pub escaped : H → H → Type 0
   pub refusals : H → ℕ
-
--- a count that rose by at least one; it stands still at the greatest number of 64 bits
-pub record Rose (before now : ℕ) : Type 0 where
-  pub later : before ≤ now
-  pub more : min (before + 1) (2 ^ 64 - 1) ≤ now
 
 -- what an answer does to the count of refusals: it rises with each of them, and never falls
 abbrev pub Counts : {X : Type 0} → Answered X → ℕ → ℕ → Type 0

@@ -1,4 +1,3 @@
-pub mod Ascii
 pub mod Digits
 pub mod OpenLevels
 pub mod Runs

@@ -14,7 +14,7 @@ use Rattle.py_lex.specs.declared.token.Class.{Class}
 use Rattle.py_lex.specs.declared.token.Class.TheVariants.{Quote, Digit, Letter, NoText, Sign}
 use Rattle.py_lex.specs.declared.token.Lead.{Lead}
 use Rattle.py_lex.specs.declared.token.Lead.TheVariants as lead
-use Rattle.py_lex.specs.Bytes.{is_name_byte, front_run, after_run}
+use Rattle.scons_base.specs.Runs.{is_name_byte, front_run, after_run}
 use Rattle.py_lex.specs.Gaps.{gap_at}
 use Rattle.py_lex.specs.Texts.{piece_at, bytes_of, Spelling, closed, unclosed, refused, behind, Spells, closes, has_no_end, has_bad_escape, is_not_utf8, stands, ends_line}
 use Rattle.py_lex.specs.Tokens.{Read, class_of, lead_of, quoted, text_read, TextAt, LeadAt, QuotedAt, ClassAt, TokenAt}

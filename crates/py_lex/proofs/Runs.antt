@@ -1,6 +1,6 @@
--- Runs of bytes.
-use Rattle.std.proofs.Common.{◌≡◌, ℕ, ◌+◌, ◌∷◌, [], cond, take, add-one, add_comm, Bool, true, false, not, List, length, refl, arith, ap}
-use Rattle.std.specs.List.{prefix_len, list_all}
+-- Where a comment ends.
+use Rattle.std.proofs.Common.{◌≡◌, ℕ, Bool, true, false, not, List, length, refl, arith, ap}
+use Rattle.std.specs.List.{prefix_len}
 use Rattle.std.proofs.lemmas.List.Sums.{prefix_len_is}
 use Rattle.memchr.specs.Find.{NoneBefore, Nowhere, Passes, is_byte2}
 use Rattle.py_lex.specs.Bytes.{is_comment_byte}
@@ -20,12 +20,3 @@ comment_goes_on bytes none =
     prefix_len_is is_comment_byte bytes (length bytes) 0 (omega arith)
     (λ k below. not_true _ (none k (omega arith) below))
     (λ h. absurd (omega (arith, h)))
-
--- the run in front passes
-run_of : (p : ℕ → Bool) (x : ℕ) (b : Bool) (xs : List ℕ) (n : ℕ) → p x ≡ b → list_all p (take n xs) ≡ true → list_all p (take (cond b (1 + n) 0) (x ∷ xs)) ≡ true
-run_of p x true xs n is rest = simp (add_comm 1 n, add-one) (cc (is, rest))
-run_of p x false xs n is rest = refl
-
-pub run_passes : (p : ℕ → Bool) (xs : List ℕ) → list_all p (take (prefix_len p xs) xs) ≡ true
-run_passes p [] = refl
-run_passes p (x ∷ xs) = run_of p x (p x) xs (prefix_len p xs) refl (run_passes p xs)

@@ -19,7 +19,8 @@ use Rattle.py_lex.specs.declared.token.Lead.{Lead}
 use Rattle.py_lex.specs.declared.token.Lead.TheVariants as lead
 use Rattle.py_lex.specs.declared.gap.Gap.{Gap}
 use Rattle.py_lex.specs.declared.gap.Gap.TheVariants.{Blanks, Comment, LineEnd, Joined, Nothing}
-use Rattle.py_lex.specs.Bytes.{is_blank, is_name_byte, front_run, is_comment_byte, after_run, after_line_end}
+use Rattle.py_lex.specs.Bytes.{is_blank, is_comment_byte, after_line_end}
+use Rattle.scons_base.specs.Runs.{is_name_byte, front_run, after_run}
 use Rattle.py_lex.specs.Gaps.{gap_at, joined_or, line_end_or}
 use Rattle.py_lex.specs.Levels.{level_of}
 use Rattle.py_lex.specs.Marks.{marks, mark_at}
@@ -28,7 +29,7 @@ use Rattle.py_lex.specs.Texts.{Spelling, closed, unclosed, refused, Spells, open
 use Rattle.py_lex.specs.Tokens.{Read, takes, refuses, class_of, lead_of, quoted, text_read, is_float, integer_read, is_fraction, mark_read, TextAt, LeadAt, QuotedAt, ClassAt, TokenAt}
 use Rattle.py_lex.specs.Steps.{State, Move, goes, ends, stops, line_end, level_move, finish, read_move, TokenMove, GapMove, RestMove, Steps}
 use Rattle.py_lex.specs.Utf8.{IsClean}
-use Rattle.py_lex.proofs.Ascii.{name_byte_is_ascii}
+use Rattle.scons_base.proofs.Ascii.{name_byte_is_ascii}
 use Rattle.py_lex.proofs.Clean.{is_no_mark, split, clean_next, clean_none, clean_mark, clean_behind}
 use Rattle.py_lex.proofs.Signs.{find_passes}
 use Rattle.py_lex.proofs.TextUtf8.{line_end_clean, text_is_utf8, opening_is_clean}

@@ -17,7 +17,8 @@ use Rattle.py_lex.specs.declared.piece.Style.{Style}
 use Rattle.py_lex.specs.declared.piece.Chars.TheVariants.{Byte}
 use Rattle.py_lex.specs.declared.piece.Piece.{Piece}
 use Rattle.py_lex.specs.declared.piece.Piece.TheVariants.{Closes, Unclosed, BadEscape, NotUtf8, Stands, EndsLine}
-use Rattle.py_lex.specs.Bytes.{is_blank, is_name_byte, is_comment_byte, after_line_end, after_feed}
+use Rattle.py_lex.specs.Bytes.{is_blank, is_comment_byte, after_line_end, after_feed}
+use Rattle.scons_base.specs.Runs.{is_name_byte}
 use Rattle.py_lex.specs.Texts.{piece_at, closing, kept, kept_line, kept_byte, escape, escape_line, escape_byte, hex_escape, hex_char, hex_digit, simple_escape, simple_or, plain, bytes_of, Spelling, closed, unclosed, refused, behind, Spells, opening, closes, has_no_end, has_bad_escape, is_not_utf8, stands, ends_line}
 use Rattle.py_lex.specs.Written.{IsLineEnd, IsGap, blanks, comment, joined, IsLiteral, IsWord, IsSpelling, Written, nothing, gap, spelled, joined_text}
 use Rattle.py_lex.specs.Written as written

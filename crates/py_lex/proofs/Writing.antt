@@ -28,7 +28,8 @@ use Rattle.py_lex.specs.declared.token.Class.{Class}
 use Rattle.py_lex.specs.declared.token.Class.TheVariants.{Quote, Digit, Letter, NoText, Sign}
 use Rattle.py_lex.specs.declared.token.Lead.{Lead}
 use Rattle.py_lex.specs.declared.token.Lead.TheVariants as lead
-use Rattle.py_lex.specs.Bytes.{is_blank, is_name_byte, is_comment_byte, front_run, after_run, after_line_end}
+use Rattle.py_lex.specs.Bytes.{is_blank, is_comment_byte, after_line_end}
+use Rattle.scons_base.specs.Runs.{is_name_byte, front_run, after_run}
 use Rattle.py_lex.specs.Gaps.{gap_at, joined_or, line_end_or}
 use Rattle.py_lex.specs.Levels.{level_of}
 use Rattle.py_lex.specs.Marks.{marks, mark_at}
@@ -39,7 +40,7 @@ use Rattle.py_lex.specs.Steps.{State, Move, goes, ends, stops, token_at, text_be
 use Rattle.py_lex.specs.Lexes.{Outcome, lexed, faulty, Reads, goes_on, ends_with, stops_at, ReadIf, IsRead, Agrees, Lexes, marked, without_order_mark}
 use Rattle.py_lex.specs.Written.{IsLineEnd, IsGap, blanks, comment, joined, IsPrefix, IsLiteral, IsWord, IsSpelling, Written, nothing, gap, spelled, joined_text}
 use Rattle.py_lex.specs.Written as written
-use Rattle.py_lex.proofs.Runs.{run_passes}
+use Rattle.scons_base.proofs.Runs.{run_passes}
 use Rattle.py_lex.proofs.Signs.{find_passes}
 use Rattle.py_lex.proofs.TokenLists.{dedents_more, with_text-append}
 use Rattle.py_lex.proofs.Unmarked.{written_is}

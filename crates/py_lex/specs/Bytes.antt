@@ -1,30 +1,16 @@
 -- Bytes, runs of bytes and line ends: sections 2.1.2, 2.1.3, 2.1.9 and 2.3 of the Python language reference.
 -- Here and in the other files a byte stands by its number: 9 is a tab, 10 a line feed, 13 a carriage return, 32 a space,
 -- 34 `"`, 35 `#`, 39 `'`, 46 `.`, 92 a backslash and 95 `_`.
-use Rattle.std.specs.Prelude.{ℕ, Bool, not, ◌||◌, ◌==◌, List, [], ◌∷◌, Option, None, Some, take, drop, if◌then◌else◌}
-use Rattle.std.specs.List.{prefix_len}
-use Rattle.std.specs.Char.{is_ascii_alphanumeric}
+use Rattle.std.specs.Prelude.{ℕ, Bool, not, ◌||◌, ◌==◌, List, [], ◌∷◌, Option, None, Some, if◌then◌else◌}
 use Rattle.py_lex.specs.declared.bytes.TheConstants.{NO_TEXT}
 
 -- a space or a tab
 abbrev pub is_blank : ℕ → Bool
 is_blank b = b == 32 || b == 9
 
--- what names are made of, `[A-Za-z0-9_]`
-abbrev pub is_name_byte : ℕ → Bool
-is_name_byte b = is_ascii_alphanumeric b || b == 95
-
 -- a comment goes on to a line feed, or to where the script is no UTF-8 any more
 abbrev pub is_comment_byte : ℕ → Bool
 is_comment_byte b = not (b == 10 || b == NO_TEXT)
-
--- the bytes in front that pass the test
-abbrev pub front_run : (ℕ → Bool) → List ℕ → List ℕ
-front_run p bytes = take (prefix_len p bytes) bytes
-
--- what follows the bytes in front that pass the test
-abbrev pub after_run : (ℕ → Bool) → List ℕ → List ℕ
-after_run p bytes = drop (prefix_len p bytes) bytes
 
 abbrev pub after_feed : List ℕ → Option (List ℕ)
 after_feed [] = None

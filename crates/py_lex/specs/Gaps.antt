@@ -2,7 +2,8 @@
 use Rattle.std.specs.Prelude.{ℕ, ◌==◌, List, [], ◌∷◌, Option, None, Some, if◌then◌else◌}
 use Rattle.py_lex.specs.declared.gap.Gap.{Gap}
 use Rattle.py_lex.specs.declared.gap.Gap.TheVariants.{Blanks, Comment, LineEnd, Joined, Nothing}
-use Rattle.py_lex.specs.Bytes.{is_blank, is_comment_byte, after_run, after_line_end}
+use Rattle.py_lex.specs.Bytes.{is_blank, is_comment_byte, after_line_end}
+use Rattle.scons_base.specs.Runs.{after_run}
 
 -- a backslash and a line end join the next line (2.1.5), where there is one
 abbrev pub joined_or : List ℕ → Option (List ℕ) → Gap × List ℕ

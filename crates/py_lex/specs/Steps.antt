@@ -11,7 +11,8 @@ use Rattle.py_lex.specs.declared.levels.Level.{Level}
 use Rattle.py_lex.specs.declared.levels.Level.TheVariants.{Closes, Opens, Refused}
 use Rattle.py_lex.specs.declared.reader.Place.{Place}
 use Rattle.py_lex.specs.declared.reader.Place.TheVariants.{LineStart, Inside}
-use Rattle.py_lex.specs.Bytes.{is_blank, front_run, after_run}
+use Rattle.py_lex.specs.Bytes.{is_blank}
+use Rattle.scons_base.specs.Runs.{front_run, after_run}
 use Rattle.py_lex.specs.Gaps.{gap_at}
 use Rattle.py_lex.specs.Levels.{level_of}
 use Rattle.py_lex.specs.Tokens.{Read, takes, refuses, TokenAt}

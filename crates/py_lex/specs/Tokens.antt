@@ -16,7 +16,7 @@ use Rattle.py_lex.specs.declared.token.Class.{Class}
 use Rattle.py_lex.specs.declared.token.Class.TheVariants.{Quote, Digit, Letter, NoText, Sign}
 use Rattle.py_lex.specs.declared.token.Lead.{Lead}
 use Rattle.py_lex.specs.declared.token.Lead.TheVariants as lead
-use Rattle.py_lex.specs.Bytes.{is_name_byte, front_run, after_run}
+use Rattle.scons_base.specs.Runs.{is_name_byte, front_run, after_run}
 use Rattle.py_lex.specs.Marks.{mark_at}
 use Rattle.py_lex.specs.Numbers.{number_of}
 use Rattle.py_lex.specs.Texts.{Spelling, closed, unclosed, refused, Spells, opening}

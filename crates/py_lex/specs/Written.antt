@@ -7,7 +7,8 @@ use Rattle.py_token.specs.declared.token.TokenKind.{TokenKind}
 use Rattle.py_token.specs.declared.token.TokenKind.TheVariants as token
 use Rattle.py_token.specs.Keywords.{word_of}
 use Rattle.py_token.specs.Marks.{mark_text}
-use Rattle.py_lex.specs.Bytes.{is_blank, is_comment_byte, is_name_byte, after_line_end}
+use Rattle.py_lex.specs.Bytes.{is_blank, is_comment_byte, after_line_end}
+use Rattle.scons_base.specs.Runs.{is_name_byte}
 use Rattle.py_lex.specs.Numbers.{number_of}
 use Rattle.py_lex.specs.Texts.{closed, Spells, opening}
 use Rattle.py_lex.specs.Tokens.{is_r}

@@ -1,7 +1,8 @@
 //! Which bytes of a script are what.
-ghost use Rattle.std.specs.Prelude.{◌≡◌, true, ◌<◌, ◌≤◌, length, None, Some, MatchOption, IfSome};
-ghost use Rattle.std.specs.List.{prefix_len, list_all};
-ghost use Rattle.py_lex.specs.Bytes.{is_blank, is_name_byte, is_comment_byte, front_run, after_run, after_line_end};
+ghost use Rattle.std.specs.Prelude.{◌≡◌, ◌<◌, ◌≤◌, length, None, Some, MatchOption, IfSome};
+ghost use Rattle.std.specs.List.{prefix_len};
+ghost use Rattle.py_lex.specs.Bytes.{is_blank, is_comment_byte, after_line_end};
+ghost use Rattle.scons_base.specs.Runs.{front_run, after_run};
 
 use memchr::memchr2;
 
@@ -12,12 +13,6 @@ pub fn is_blank(byte: u8) -> bool
     ensures { result ≡ is_blank byte }
 {
     byte == b' ' || byte == b'\t'
-}
-
-pub fn is_name_byte(byte: u8) -> bool
-    ensures { result ≡ is_name_byte byte }
-{
-    byte.is_ascii_alphanumeric() || byte == b'_'
 }
 
 /// The blanks in front, and what follows them.
@@ -34,24 +29,6 @@ fn blank_count(bytes: &[u8]) -> usize
     ensures fits { result ≤ length bytes.now }
 {
     bytes.iter().take_while(|byte| is_blank(**byte)).count()
-}
-
-/// The letters, digits and underscores in front, and what follows them.
-#[tactic(auto, using(crate::proofs::Runs::run_passes))]
-pub fn cut_name(bytes: &[u8]) -> (&[u8], &[u8])
-    ensures front { result.0.now ≡ front_run is_name_byte bytes.now }
-    ensures name { list_all is_name_byte result.0.now ≡ true }
-    ensures rest { result.1.now ≡ after_run is_name_byte bytes.now }
-    ensures fits { length result.1.now ≤ length bytes.now }
-{
-    bytes.split_at(name_len(bytes))
-}
-
-fn name_len(bytes: &[u8]) -> usize
-    ensures count { result ≡ prefix_len is_name_byte bytes.now }
-    ensures fits { result ≤ length bytes.now }
-{
-    bytes.iter().take_while(|byte| is_name_byte(**byte)).count()
 }
 
 /// What follows a comment.

@@ -2,21 +2,20 @@
 ghost use Rattle.std.specs.Prelude.{◌≡◌, ◌<◌, ◌≤◌, ◌+◌, ◌^◌, true, length, IfOk, IfSome, MatchOption, None, Some};
 ghost use Rattle.std.specs.List.{list_all};
 ghost use Rattle.std.specs.Char.{is_ascii_digit};
-ghost use Rattle.py_lex.specs.Bytes.{is_name_byte};
+ghost use Rattle.scons_base.specs.Runs.{is_name_byte};
 ghost use Rattle.py_lex.specs.Tokens.{class_of, lead_of, is_r, is_b_or_f, is_float, is_fraction, is_name_first, quoted, depth_after, takes, refuses, TokenAt, NameAt, TextAt, number_turn, sign_turn, named};
 ghost use Rattle.py_lex.specs.Views.{turn_of};
 ghost use Rattle.py_lex.specs.Utf8.{IsClean};
 ghost use Rattle.py_lex.specs.Sizes.{FitsTurn, FitsBehind};
 
-use crate::bytes::{NO_TEXT, cut_name, is_name_byte};
+use crate::bytes::NO_TEXT;
 use crate::fault::LexKind;
 use crate::number::number_of;
 use crate::sign::mark_at;
 use crate::text::{Spelt, opening, spell};
 use py_token::{Keyword, Mark, TokenKind};
-use scons_base::{Memory, Text};
+use scons_base::{Memory, Text, cut_name, is_name_byte, name_text};
 use std::alloc::Global;
-use std::str;
 
 /// What a token begins with.
 #[derive(Clone, Copy)]
@@ -229,7 +228,7 @@ fn named<'a>(alloc: Global, depth: u32, name: &[u8], rest: &'a [u8]) -> Result<T
 {
     let kind = match Keyword::of(name) {
         Some(keyword) => TokenKind::Word(keyword),
-        None => TokenKind::Name(ascii_text(alloc, name)?),
+        None => TokenKind::Name(Text::of(alloc, name_text(name))?),
     };
     Ok(Turn::Takes {
         kind,
@@ -237,17 +236,6 @@ fn named<'a>(alloc: Global, depth: u32, name: &[u8], rest: &'a [u8]) -> Result<T
         depth,
         rest,
     })
-}
-
-#[tactic(auto, using(crate::proofs::Ascii::name_is_text))]
-fn ascii_text(alloc: Global, name: &[u8]) -> Result<Text, Memory>
-    requires { list_all is_name_byte name.now ≡ true }
-    ensures { IfOk result (λ t. t ≡ name.now) }
-{
-    match str::from_utf8(name) {
-        Ok(text) => Text::of(alloc, text),
-        Err(_) => unreachable!(),
-    }
 }
 
 fn sign_token(depth: u32, bytes: &[u8]) -> Turn<'_>

@@ -1,7 +1,8 @@
 -- What a host keeps is kept by whatever a plan asks of it. The count of its refusals never falls, and rises where a refusal is what
 -- a plan comes to.
 use Rattle.std.proofs.Common.{arith, ◌≡◌, ◌≤◌, ◌+◌, ◌-◌, ◌^◌, ℕ, Result, Ok, Err, refl}
-use Rattle.py_host.specs.Meaning.{Meaning, IsKept, Counts, Rose}
+use Rattle.py_host.specs.Meaning.{Meaning, IsKept, Counts}
+use Rattle.scons_base.specs.Rising.{Rose}
 use Rattle.py_host.specs.Calls.{Answered, answers, refuses}
 use Rattle.py_meaning.specs.declared.fault.EvalKind.{EvalKind}
 use Rattle.py_meaning.specs.declared.fault.EvalKind.TheVariants as kind

@@ -1,3 +1,5 @@
+//! The operators that join two operands.
+
 /// The operators that join two operands.
 #[derive(Clone, Copy, Debug, PartialEq, Eq)]
 pub enum Op {

@@ -5,3 +5,5 @@ pub mod NormalForms
 pub mod Spellings
 pub mod Tails
 pub mod Walks
+pub mod Runs
+pub mod Ascii

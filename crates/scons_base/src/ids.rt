@@ -1,3 +1,5 @@
+//! Numbers of nodes, rules and environments.
+
 /// The number of a path among the nodes of a tree.
 #[derive(Clone, Copy, Debug, PartialEq, Eq, PartialOrd, Ord, Hash)]
 pub struct NodeId(pub u32);

@@ -48,6 +48,9 @@ pub const TEXT_LIMIT: u64 = 16_777_216;
 /// Items of a list in a script.
 pub const LIST_LIMIT: u64 = 8_000_000;
 
+/// Levels of lists inside one another that are flattened.
+pub const NESTING_LIMIT: u32 = 100;
+
 /// Bytes of one substitution.
 pub const SUBST_LIMIT: u64 = 1_048_576;
 

@@ -66,7 +66,7 @@ impl PathText {
     }
 
     /// The text, with what is known of each path.
-    pub(crate) fn normal_text(&self) -> &str
+    pub fn normal_text(&self) -> &str
         ensures value { result.now ≡ self.now }
         ensures valid { IsTrue (is_path self.now) }
     {

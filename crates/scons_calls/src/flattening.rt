@@ -1,10 +1,7 @@
 //! Lists and tuples that nest, as one flat list.
 use crate::fault::CallFault;
 use py_heap::{Heap, Value};
-use scons_base::limits::LIST_LIMIT;
-
-/// How deep lists may nest that are flattened.
-const NESTING_LIMIT: u32 = 100;
+use scons_base::limits::{LIST_LIMIT, NESTING_LIMIT};
 
 /// Puts the items of lists and tuples, and what is no list, behind `items`. None stands for no item where it is given by
 /// itself.

@@ -5,14 +5,12 @@ use crate::nodes::place;
 use crate::objects::{Objects, Thing};
 use env_vars::{EnvValue, Item};
 use py_heap::{DictId, Heap, Value};
+use scons_base::limits::NESTING_LIMIT;
 use scons_base::{Listing, Text};
 use scons_decls::Given;
 
 /// The variable whose pairs aren't flattened.
 const DEFINES: &str = "CPPDEFINES";
-
-/// How deep lists of macros may nest.
-const NESTING_LIMIT: u32 = 100;
 
 /// Whether a text is a name: letters, digits and `_`, no digit in front.
 pub fn is_identifier(text: &str) -> bool {

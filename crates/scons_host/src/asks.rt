@@ -1,6 +1,6 @@
 //! What the host asks of the world. It looks at files, and changes none.
 ghost use Rattle.std.specs.Prelude.{◌≡◌, Err, OnErr};
-ghost use Rattle.world_api.specs.Causes.{Rose};
+ghost use Rattle.scons_base.specs.Rising.{Rose};
 ghost use Rattle.world_api.specs.Looks.{LooksAtFiles};
 
 use scons_base::{PathText, Paths};

@@ -1,6 +1,6 @@
 //! The host: each of its calls is a function on the state of the reading, and what it refuses is kept there.
 ghost use Rattle.std.specs.Prelude.{◌≡◌, ◌≤◌};
-ghost use Rattle.py_host.specs.Meaning.{Rose as HostRose};
+ghost use Rattle.scons_base.specs.Rising.{Rose};
 ghost use Rattle.scons_host.specs.Causes.{KeepsEnd};
 
 use crate::asked::{attribute, item, set_item};
@@ -31,7 +31,7 @@ const NOWHERE: Place = Place { script: 0, line: 0 };
 fn refuse(state: &State, kept: &mut Kept, place: Place, stop: Stop) -> HostRefusal
     ensures end { KeepsEnd stop kept.old.end kept.new.end }
     ensures later { kept.old.refusals ≤ kept.new.refusals }
-    ensures counted { result ≡ HostRefusal.Host → HostRose kept.old.refusals kept.new.refusals }
+    ensures counted { result ≡ HostRefusal.Host → Rose kept.old.refusals kept.new.refusals }
 {
     match state.script_at(place.script) {
         Ok(script) => kept.refuse(script, place.line, stop),

@@ -1,6 +1,6 @@
 //! What the host keeps of its refusals.
 ghost use Rattle.std.specs.Prelude.{◌≡◌, ◌≤◌};
-ghost use Rattle.py_host.specs.Meaning.{Rose as HostRose};
+ghost use Rattle.scons_base.specs.Rising.{Rose};
 ghost use Rattle.scons_host.specs.Causes.{KeepsEnd};
 
 use crate::end::HostEnd;
@@ -20,7 +20,7 @@ impl Kept {
     pub fn refuse(&mut self, script: PathText, line: u32, stop: Stop) -> HostRefusal
         ensures end { KeepsEnd stop self.old.end self.new.end }
         ensures later { self.old.refusals ≤ self.new.refusals }
-        ensures counted { result ≡ HostRefusal.Host → HostRose self.old.refusals self.new.refusals }
+        ensures counted { result ≡ HostRefusal.Host → Rose self.old.refusals self.new.refusals }
     {
         let end = match stop {
             Stop::Memory => return HostRefusal::Memory,

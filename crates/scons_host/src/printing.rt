@@ -1,6 +1,6 @@
 //! Printed text, written to the sink part by part.
 ghost use Rattle.std.specs.Prelude.{OnErr};
-ghost use Rattle.world_api.specs.Causes.{Rose};
+ghost use Rattle.scons_base.specs.Rising.{Rose};
 ghost use Rattle.scons_host.specs.Prints.{Prints};
 
 use world_api::{Fault, Sink};

@@ -9,7 +9,8 @@ use Rattle.world_api.specs.declared.refusal.ReadRefusal.TheVariants as read'
 use Rattle.world_api.specs.declared.refusal.Fault.{Fault}
 use Rattle.world_api.specs.Around.{Around, IsRunningTarget}
 use Rattle.world_api.specs.Calls.{Asks}
-use Rattle.world_api.specs.Causes.{Rose, TreeFails}
+use Rattle.world_api.specs.Causes.{TreeFails}
+use Rattle.scons_base.specs.Rising.{Rose}
 use Rattle.world_api.specs.Counts.{Counts}
 use Rattle.world_api.specs.Meaning.{Meaning, Told, Recalls, BankKept, BanksKept}
 use Rattle.world_api.specs.Looks.{IsTreeAlone, Looks, LooksAtFiles}

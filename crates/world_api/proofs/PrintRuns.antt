@@ -1,7 +1,7 @@
 -- Prints one after the other.
 use Rattle.std.proofs.Common.{◌≡◌, ◌∙◌, ℕ, List, [], ◌++◌, take, drop, sym, ap, subst, append_assoc, append-nil, take-append-drop, refl}
 use Rattle.world_api.specs.Printed.{SinkMeaning}
-use Rattle.world_api.specs.Causes.{Rose}
+use Rattle.scons_base.specs.Rising.{Rose}
 use Rattle.world_api.specs.Printing.{Prints, PrintsPart, Cuts}
 
 module _ {S : Type 0} (meaning : SinkMeaning S) where

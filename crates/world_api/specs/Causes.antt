@@ -1,13 +1,9 @@
 -- When a count rises, and that none falls.
-use Rattle.std.specs.Prelude.{◌≡◌, ℕ, ◌+◌, ◌-◌, ◌^◌, ◌≤◌, min}
+use Rattle.std.specs.Prelude.{◌≡◌, ◌≤◌}
+use Rattle.scons_base.specs.Rising.{Rose}
 use Rattle.world_api.specs.Counts.{Counts}
 use Rattle.world_api.specs.declared.job.Outcome.{Outcome}
 use Rattle.world_api.specs.declared.job.Outcome.TheVariants.{Done, Failed, Broken, NoMemory}
-
--- a count that rose by at least one; it stands still at the greatest number of 64 bits
-pub record Rose (before now : ℕ) : Type 0 where
-  pub later : before ≤ now
-  pub more : min (before + 1) (2 ^ 64 - 1) ≤ now
 
 -- no count fell
 pub record Later (old new : Counts) : Type 0 where

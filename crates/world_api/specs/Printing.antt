@@ -1,7 +1,7 @@
 -- What printing leaves on a sink.
 use Rattle.std.specs.Prelude.{◌≡◌, ℕ, List, ◌++◌}
 use Rattle.world_api.specs.Printed.{SinkMeaning}
-use Rattle.world_api.specs.Causes.{Rose}
+use Rattle.scons_base.specs.Rising.{Rose}
 
 -- `now` is `before` and some front of the text, maybe all of it
 pub record IsPrefixed (before now text : List ℕ) : Type 0 where

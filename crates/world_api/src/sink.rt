@@ -1,7 +1,7 @@
 //! Where text is printed.
 ghost use Rattle.std.specs.Prelude.{◌≡◌, ◌<◌, ◌≤◌, ◌++◌, length, IfOk, OnOk, OnErr};
 ghost use Rattle.world_api.specs.Printed.{SinkMeaning, taken};
-ghost use Rattle.world_api.specs.Causes.{Rose};
+ghost use Rattle.scons_base.specs.Rising.{Rose};
 
 use crate::refusal::Fault;
 

@@ -51,7 +51,7 @@ impl MemSink {
 
 impl Sink for MemSink {
     ghost use Rattle.world_api.specs.Printed.{taken};
-    ghost use Rattle.world_api.specs.Causes.{Rose};
+    ghost use Rattle.scons_base.specs.Rising.{Rose};
     ghost use Rattle.world_mem.specs.SinkMeans.{sink_meaning};
 
     ghost meaning = { sink_meaning };

@@ -1,7 +1,7 @@
 -- Runs of bytes.
 use Rattle.std.proofs.Common.{◌≡◌, ℕ, ◌+◌, ◌∷◌, [], cond, take, drop, add-one, add_comm, Bool, true, false, List, refl}
 use Rattle.std.specs.List.{prefix_len, list_all}
-use Rattle.env_text.specs.Bytes.{front_run, after_run}
+use Rattle.scons_base.specs.Runs.{front_run, after_run}
 
 -- the run in front passes
 run_of : (p : ℕ → Bool) (x : ℕ) (b : Bool) (xs : List ℕ) (n : ℕ) → p x ≡ b → list_all p (take n xs) ≡ true → list_all p (take (cond b (1 + n) 0) (x ∷ xs)) ≡ true
