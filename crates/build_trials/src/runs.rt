@@ -17,18 +17,8 @@ pub struct Ran {
 
 impl Ran {
     pub fn of(alloc: Global, world: &mut IdleWorld, words: &[Text]) -> Result<Ran> {
-        Ran::refused(alloc, world, words, &[])
-    }
-
-    /// The same where the writes of these numbers on standard output are refused.
-    pub fn refused(
-        alloc: Global,
-        world: &mut IdleWorld,
-        words: &[Text],
-        refused: &[u32],
-    ) -> Result<Ran> {
-        let mut out = sink(alloc, refused)?;
-        let mut err = sink(alloc, &[])?;
+        let mut out = sink(alloc)?;
+        let mut err = sink(alloc)?;
         let report = world.run(alloc, words, &mut out, &mut err);
         Ok(Ran { report, out, err })
     }
@@ -51,8 +41,8 @@ impl Ran {
     }
 }
 
-fn sink(alloc: Global, refused: &[u32]) -> Result<MemSink> {
-    MemSink::new(alloc, Vec::from_slice(alloc, refused)?)
+fn sink(alloc: Global) -> Result<MemSink> {
+    MemSink::new(alloc, Vec::new(alloc))
         .ok()
         .context(format_args!("memory"))
 }
