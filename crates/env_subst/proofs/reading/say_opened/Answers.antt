@@ -2,7 +2,7 @@ use Rattle.env_subst.specs.Settings.{setting_of}
 use Rattle.env_subst.specs.Sayings.{sayings_of}
 use Rattle.env_subst.specs.Desks.{desk_of}
 use Rattle.env_subst.proofs.Doing.{not_open, says_in, says_nothing_at_all}
-use Rattle.env_subst.proofs.reading.say_all.Goals as goal
+use Rattle.env_subst.proofs.reading.say_opened.Goals as goal
 
 pub open-requires : goal.open-requires
 open-requires c =
