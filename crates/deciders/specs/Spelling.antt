@@ -41,7 +41,8 @@ abbrev pub dep_spelling : Dep → List ℕ
 dep_spelling dep = sized dep.name ++ digest_spelling dep.digest ++ stamp_spelling dep.stamp
 
 abbrev pub spelling : Rec → List ℕ
-spelling rec = work_byte rec.work ∷ (listed sized rec.targets ++ listed sized rec.signed ++ listed dep_spelling rec.deps)
+spelling rec =
+    work_byte rec.work ∷ (listed sized rec.targets ++ listed sized rec.signed ++ listed dep_spelling rec.deps)
 
 pub record IsText (bytes : List ℕ) : Type 0 where
   pub fits : length bytes < 2 ^ 32

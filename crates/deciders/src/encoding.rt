@@ -1,8 +1,9 @@
 //! The spelling of a record.
-ghost use Rattle.std.specs.Prelude.{◌≡◌, ◌<◌, ◌≤◌, ◌^◌, ◌++◌, All, length, IfOk, OnOk};
+ghost use Rattle.std.specs.Prelude.{◌≡◌, ◌<◌, ◌≤◌, ◌^◌, ◌++◌, All, length, IfOk, IfSome, OnOk};
 ghost use Rattle.std.specs.Int.{w32, to_be_bytes};
 ghost use Rattle.deciders.specs.Records.{IsValid};
 ghost use Rattle.deciders.specs.Spelling.{work_byte, sized, listed, digest_spelling, stamp_spelling, dep_spelling, spelling};
+ghost use Rattle.deciders.specs.Spelling.{IsText, IsPathText, IsDep, IsListOf, IsSpellable, Spells};
 
 use crate::content::Digest;
 use crate::recorded::{Dep, Rec};
@@ -38,15 +39,34 @@ fn push_sized(out: &mut Vec<u8>, bytes: &[u8]) -> Result<(), Memory>
     Ok(())
 }
 
+/// A path is one that has a spelling.
+fn push_path(out: &mut Vec<u8>, path: &PathText) -> Result<(), Memory>
+    requires { length path.now < 2 ^ 32 }
+    ensures spelt { OnOk result (out.new.items ≡ out.old.items ++ sized path.now) }
+    ensures is { IsPathText path.now }
+{
+    push_sized(out, path.normal_text().as_bytes())
+}
+
+/// And so is a text.
+fn push_text(out: &mut Vec<u8>, text: &Text) -> Result<(), Memory>
+    requires { length text.now < 2 ^ 32 }
+    ensures spelt { OnOk result (out.new.items ≡ out.old.items ++ sized text.now) }
+    ensures is { IsText text.now }
+{
+    push_sized(out, text.as_str().as_bytes())
+}
+
 /// Adds the spelling of a list of paths.
 pub fn push_paths(out: &mut Vec<u8>, paths: &[PathText]) -> Result<(), Memory>
     requires count { length paths.now < 2 ^ 32 }
     requires each { All (λ path. length path < 2 ^ 32) paths.now }
-    ensures { OnOk result (out.new.items ≡ out.old.items ++ listed sized paths.now) }
+    ensures spelt { OnOk result (out.new.items ≡ out.old.items ++ listed sized paths.now) }
+    ensures are { OnOk result (IsListOf IsPathText paths.now) }
 {
     push_count(out, paths.len())?;
     for path in paths {
-        push_sized(out, path.as_str().as_bytes())?;
+        push_path(out, path)?;
     }
     Ok(())
 }
@@ -54,17 +74,19 @@ pub fn push_paths(out: &mut Vec<u8>, paths: &[PathText]) -> Result<(), Memory>
 fn push_texts(out: &mut Vec<u8>, texts: &[Text]) -> Result<(), Memory>
     requires count { length texts.now < 2 ^ 32 }
     requires each { All (λ text. length text < 2 ^ 32) texts.now }
-    ensures { OnOk result (out.new.items ≡ out.old.items ++ listed sized texts.now) }
+    ensures spelt { OnOk result (out.new.items ≡ out.old.items ++ listed sized texts.now) }
+    ensures are { OnOk result (IsListOf IsText texts.now) }
 {
     push_count(out, texts.len())?;
     for text in texts {
-        push_sized(out, text.as_str().as_bytes())?;
+        push_text(out, text)?;
     }
     Ok(())
 }
 
 fn push_digest(out: &mut Vec<u8>, digest: Option<Digest>) -> Result<(), Memory>
-    ensures { OnOk result (out.new.items ≡ out.old.items ++ digest_spelling digest) }
+    ensures spelt { OnOk result (out.new.items ≡ out.old.items ++ digest_spelling digest) }
+    ensures is { IfSome digest (λ digest. length digest.0 ≡ 16) }
 {
     match digest {
         None => out.push(0)?,
@@ -78,7 +100,8 @@ fn push_digest(out: &mut Vec<u8>, digest: Option<Digest>) -> Result<(), Memory>
 }
 
 fn push_stamp(out: &mut Vec<u8>, stamp: Option<u64>) -> Result<(), Memory>
-    ensures { OnOk result (out.new.items ≡ out.old.items ++ stamp_spelling stamp) }
+    ensures spelt { OnOk result (out.new.items ≡ out.old.items ++ stamp_spelling stamp) }
+    ensures is { IfSome stamp (λ stamp. stamp < 2 ^ 64) }
 {
     match stamp {
         None => out.push(0)?,
@@ -92,9 +115,10 @@ fn push_stamp(out: &mut Vec<u8>, stamp: Option<u64>) -> Result<(), Memory>
 
 fn push_dep(out: &mut Vec<u8>, dep: &Dep) -> Result<(), Memory>
     requires { length dep.now.name < 2 ^ 32 }
-    ensures { OnOk result (out.new.items ≡ out.old.items ++ dep_spelling dep.now) }
+    ensures spelt { OnOk result (out.new.items ≡ out.old.items ++ dep_spelling dep.now) }
+    ensures is { OnOk result (IsDep dep.now) }
 {
-    push_sized(out, dep.name.as_str().as_bytes())?;
+    push_path(out, &dep.name)?;
     push_digest(out, dep.digest)?;
     push_stamp(out, dep.stamp)
 }
@@ -102,7 +126,8 @@ fn push_dep(out: &mut Vec<u8>, dep: &Dep) -> Result<(), Memory>
 fn push_deps(out: &mut Vec<u8>, deps: &[Dep]) -> Result<(), Memory>
     requires count { length deps.now < 2 ^ 32 }
     requires each { All (λ dep. length dep.name < 2 ^ 32) deps.now }
-    ensures { OnOk result (out.new.items ≡ out.old.items ++ listed dep_spelling deps.now) }
+    ensures spelt { OnOk result (out.new.items ≡ out.old.items ++ listed dep_spelling deps.now) }
+    ensures are { OnOk result (IsListOf IsDep deps.now) }
 {
     push_count(out, deps.len())?;
     for dep in deps {
@@ -111,10 +136,11 @@ fn push_deps(out: &mut Vec<u8>, deps: &[Dep]) -> Result<(), Memory>
     Ok(())
 }
 
-/// Adds the one spelling of a record.
+/// Adds the one spelling of a record. Each of its parts has one.
 pub fn push_record(out: &mut Vec<u8>, rec: &Rec) -> Result<(), Memory>
     requires { length (spelling rec.now) < 2 ^ 32 }
-    ensures { OnOk result (out.new.items ≡ out.old.items ++ spelling rec.now) }
+    ensures spelt { OnOk result (out.new.items ≡ out.old.items ++ spelling rec.now) }
+    ensures parts { OnOk result (IsSpellable rec.now) }
 {
     out.push(work_byte(rec.work))?;
     push_paths(out, rec.targets.as_slice())?;
@@ -126,7 +152,7 @@ pub fn push_record(out: &mut Vec<u8>, rec: &Rec) -> Result<(), Memory>
 pub fn encode(alloc: Global, rec: &Rec) -> Result<Vec<u8>, Memory>
     requires valid { IsValid rec.now }
     requires fits { length (spelling rec.now) ≤ 4294967294 }
-    ensures { IfOk result (λ bytes. bytes.items ≡ spelling rec.now) }
+    ensures { IfOk result (λ bytes. Spells bytes.items rec.now) }
 {
     let mut out = Vec::new(alloc);
     push_record(&mut out, rec)?;

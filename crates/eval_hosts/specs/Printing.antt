@@ -1,7 +1,8 @@
 -- What the host that prints means.
 use Rattle.std.specs.Prelude.{◌≡◌, ◌≢◌, ℕ, ◌-◌, ◌≤◌, List, ◌++◌, Option, Some, None}
 use Rattle.py_heap.specs.Heap.{Objects}
-use Rattle.py_host.specs.Calls.{Question, Answer, Answered, answers, refuses, called, attribute, item, set_item, script_done, next_script}
+use Rattle.py_host.specs.Calls.{Question, Answer, Answered, answers, refuses, called, attribute, item, set_item}
+use Rattle.py_host.specs.Calls.{script_done, next_script}
 use Rattle.py_host.specs.Meaning.{Meaning}
 use Rattle.eval_hosts.specs.Refusals.{raised}
 use Rattle.eval_hosts.specs.Texts.{Grown}

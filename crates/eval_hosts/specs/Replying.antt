@@ -1,12 +1,14 @@
 -- What the host that replies means: what each of its objects replies, and which scripts are left then.
-use Rattle.std.specs.Prelude.{◌≡◌, ℕ, pos, ◌==◌, ◌≤◌, ◌^◌, List, [], ◌∷◌, ◌++◌, Option, Some, None, if◌then◌else◌, nat_lt, length, codes, map, reverse, string_bytes}
+use Rattle.std.specs.Prelude.{◌≡◌, ℕ, pos, ◌==◌, ◌≤◌, ◌^◌, List, [], ◌∷◌, ◌++◌, Option, Some, None, if◌then◌else◌}
+use Rattle.std.specs.Prelude.{nat_lt, length, codes, map, reverse, string_bytes}
 use Rattle.std.specs.Str.{bytes_eq}
 use Rattle.py_tree.specs.Tree.{Tree, script_tree}
 use Rattle.py_heap.specs.declared.value.Value.{Value}
 use Rattle.py_heap.specs.declared.value.Value.TheVariants as v
 use Rattle.py_heap.specs.Heap.{Objects, text_of}
 use Rattle.py_host.specs.Names.{Names, value_of, with_names}
-use Rattle.py_host.specs.Calls.{Question, Answer, Answered, Arguments, Given, answers, refuses, called, attribute, item, set_item, script_done, next_script, a_value, a_script, some_names, the_end}
+use Rattle.py_host.specs.Calls.{Question, Answer, Answered, Arguments, Given, answers, refuses, called, attribute}
+use Rattle.py_host.specs.Calls.{item, set_item, script_done, next_script, a_value, a_script, some_names, the_end}
 use Rattle.py_host.specs.Meaning.{Meaning}
 use Rattle.eval_hosts.specs.Refusals.{raised}
 use Rattle.eval_hosts.specs.declared.replying.Replying.{Replying}
@@ -21,7 +23,13 @@ pub record Replier : Type 0 where
 
 -- what is seen of the host
 abbrev pub seen : Replying → Replier
-seen r = record { text = string_bytes r.printed; inner = reverse (map script_tree r.inner.items); further = reverse (map script_tree r.first.items); refusals = r.refusals }
+seen r =
+    record {
+      text = string_bytes r.printed;
+      inner = reverse (map script_tree r.inner.items);
+      further = reverse (map script_tree r.first.items);
+      refusals = r.refusals;
+    }
 
 -- an answer, and the host after it
 abbrev pub Turn : Type 0 → Type 0
@@ -40,8 +48,8 @@ object_in (e ∷ es) n = if bytes_eq n e.0 then Some (v.Object (record { 0 = e.1
 
 abbrev pub objects : List (List ℕ × ℕ)
 objects =
-    (codes "value", 0) ∷ (codes "run", 1) ∷ (codes "names", 2) ∷ (codes "stop", 3) ∷ (codes "locals", 4) ∷ (codes "globals", 5)
-    ∷ (codes "thing", 6) ∷ []
+    (codes "value", 0) ∷ (codes "run", 1) ∷ (codes "names", 2) ∷ (codes "stop", 3)
+    ∷ (codes "locals", 4) ∷ (codes "globals", 5) ∷ (codes "thing", 6) ∷ []
 
 -- a number as a value, where it is one
 abbrev pub number_of : ℕ → Value
@@ -93,7 +101,10 @@ told None = codes "no text"
 told (Some text) = text
 
 abbrev pub set_turn : Objects → Value → Value → Replier → Turn (Unit {0})
-set_turn o key x h = answer tt (record h { text = h.text ++ (told (text_of o key) ++ codes " is set to " ++ told (text_of o x) ++ 10 ∷ []) })
+set_turn o key x h =
+    answer tt (record h {
+      text = h.text ++ (told (text_of o key) ++ codes " is set to " ++ told (text_of o x) ++ 10 ∷ []);
+    })
 
 -- a script within gives what it set as `answer`; where it set nothing, the next one is run, if there is one
 abbrev pub done_turn : Option Value → Replier → Turn Given

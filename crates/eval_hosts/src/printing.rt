@@ -42,7 +42,8 @@ impl Printing {
     /// Whether a further text is printed, which then is one of those that are left.
     fn may_print(&mut self) -> bool
         ensures none { result ≡ false → (self.old.left ≡ Some 0) × (self.new ≡ self.old) }
-        ensures one { result ≡ true → (self.old.left ≢ Some 0) × (self.new ≡ record self.old { left = one_less self.old.left }) }
+        ensures one { result ≡ true → (self.old.left ≢ Some 0)
+            × (self.new ≡ record self.old { left = one_less self.old.left }) }
     {
         match self.left {
             Some(0) => false,

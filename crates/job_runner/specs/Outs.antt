@@ -1,9 +1,22 @@
--- The slips that are out of a pool, and how one comes back.
-use Rattle.std.specs.Prelude.{◌≡◌, ℕ, List, Some, slice_get}
+-- The slips that are out of a pool, how one comes there, and how one comes back.
+use Rattle.std.specs.Prelude.{◌≡◌, ℕ, List, [], ◌∷◌, ◌++◌, Some, map, slice_get}
 use Rattle.std.specs.Arc.{arc_value}
 use Rattle.std.specs.List.{remove}
+use Rattle.job_runner.specs.Lists.{Lists, HandsIn}
+use Rattle.job_runner.specs.Slips.{slip_of}
+use Rattle.job_runner.specs.declared.desk.OutList.{OutList}
 use Rattle.job_runner.specs.declared.slip.Slip.{Slip}
 use Rattle.job_runner.specs.declared.slip.Ending.{Ending}
+
+-- each slip that is out, under its number
+abbrev pub out_of : OutList → List (ℕ × Slip)
+out_of list = map slip_of list.slips.items
+
+-- a slip is handed in to a board, and is out from then on, behind the others, under the number that it has on the board
+pub record HandsOut (slip : Slip) (old new : Lists) (out out' : List (ℕ × Slip)) : Type 0 where
+  pub number : ℕ
+  pub board : HandsIn number slip old new
+  pub list : out' ≡ out ++ (number, slip) ∷ []
 
 -- the slip that is out at this place, under some number, is the ending's own, and it is out no more
 pub record ReturnsAt (place : ℕ) (ending : Ending) (old new : List (ℕ × Slip)) : Type 0 where

@@ -1,14 +1,23 @@
-//! What lies under the lock: the board, whose endings are the runner's own answers, and how many workers there are.
+//! What lies under the lock: the board, whose endings are the runner's own answers, and how many workers there are. Beside it, what
+//! is out of it, which lies with the caller.
 ghost use Rattle.job_runner.specs.Answers.{AreAnswers};
 ghost use Rattle.job_runner.specs.Lists.{lists_of};
 
 use crate::board::Board;
+use crate::entry::Numbered;
+use crate::room::add;
 use crate::runner::Runner;
 use crate::slip::{Ending, Slip};
 use scons_base::Memory;
 use std::alloc::Global;
 use std::marker::PhantomData;
 use std::sync::Arc;
+
+/// The slips that a caller has out, each under its number on a board. Only a desk adds one, as it puts it on its board.
+#[derive(Drop)]
+pub struct OutList {
+    slips: Vec<Numbered>,
+}
 
 /// The duty to put the ending of the slip of this number, which was taken. It has no other end than that, since it can't be dropped.
 pub struct Turn {
@@ -28,11 +37,66 @@ pub struct Desk<R: Runner> {
     ghost own: { AreAnswers R.answer (lists_of board).ended },
 }
 
+impl OutList {
+    ghost use Rattle.std.specs.Prelude.{◌≡◌, ◌<◌, ◌++◌, ◌∷◌, [], IfOk, OnOk, length, vec_len};
+    ghost use Rattle.std.specs.Arc.{arc_value};
+    ghost use Rattle.std.specs.List.{remove};
+    ghost use Rattle.std.specs.Vec.{vec_capacity};
+    ghost use Rattle.job_runner.specs.Outs.{out_of};
+
+    pub fn new(alloc: Global) -> OutList
+        ensures { out_of result ≡ [] }
+    {
+        OutList {
+            slips: Vec::new(alloc),
+        }
+    }
+
+    pub fn len(&self) -> usize
+        ensures { result ≡ vec_len self.now.slips }
+    {
+        self.slips.len()
+    }
+
+    pub fn as_slice(&self) -> &[Numbered]
+        ensures { result.now ≡ self.now.slips.items }
+    {
+        self.slips.as_slice()
+    }
+
+    /// Takes the slip at a place off the list.
+    pub fn remove(&mut self, place: usize)
+        requires { place < vec_len self.old.slips }
+        ensures { self.new.slips.items ≡ remove self.old.slips.items place }
+    {
+        let _ = self.slips.remove(place);
+    }
+
+    /// Takes the room for a slip more, and a further handle of it.
+    fn room_for(&mut self, slip: &Arc<Slip, Global>) -> Result<Arc<Slip, Global>, Memory>
+        ensures same { self.new.slips.items ≡ self.old.slips.items }
+        ensures handle { IfOk result (λ handle. arc_value handle ≡ arc_value slip.now) }
+        ensures room { OnOk result (vec_len self.new.slips < vec_capacity self.new.slips) }
+    {
+        self.slips.reserve(1)?;
+        Ok(Arc::try_clone(slip)?)
+    }
+
+    /// Adds a slip, for which there is room.
+    fn add(&mut self, number: u64, slip: Arc<Slip, Global>)
+        requires { vec_len self.old.slips < vec_capacity self.old.slips }
+        ensures { out_of self.new ≡ out_of self.old ++ (number, arc_value slip) ∷ [] }
+    {
+        add(&mut self.slips, Numbered { number, slip });
+    }
+}
+
 impl<R: Runner> Desk<R> {
     ghost use Rattle.std.specs.Prelude.{◌≡◌, ◌+◌, ◌-◌, ◌≤◌, [], true, false, nat_lt, if◌then◌else◌, IfOk, IfErr, IfNone, IfSome, OnOk, OnErr, Contains};
     ghost use Rattle.std.specs.Arc.{arc_value};
     ghost use Rattle.job_runner.specs.Answers.{IsAnswer};
     ghost use Rattle.job_runner.specs.Lists.{HandsIn, Takes, Puts, Picks};
+    ghost use Rattle.job_runner.specs.Outs.{HandsOut, out_of};
 
     pub fn new(alloc: Global) -> Desk<R> {
         Desk {
@@ -44,8 +108,20 @@ impl<R: Runner> Desk<R> {
         }
     }
 
+    /// Puts a slip on the board, and onto the list of what its caller has out.
+    pub fn hand_in(&mut self, slip: Arc<Slip, Global>, out: &mut OutList) -> Result<(), Memory>
+        ensures ok { OnOk result (HandsOut (arc_value slip) (lists_of self.old.board) (lists_of self.new.board) (out_of out.old) (out_of out.new)) }
+        ensures board { OnErr result (lists_of self.new.board ≡ lists_of self.old.board) }
+        ensures out { OnErr result (out_of out.new ≡ out_of out.old) }
+    {
+        let handle = out.room_for(&slip)?;
+        let number = self.enter(slip)?;
+        out.add(number, handle);
+        Ok(())
+    }
+
     /// Puts a slip on the board.
-    pub fn hand_in(&mut self, slip: Arc<Slip, Global>) -> Result<u64, Memory>
+    fn enter(&mut self, slip: Arc<Slip, Global>) -> Result<u64, Memory>
         ensures ok { IfOk result (λ number. HandsIn number (arc_value slip) (lists_of self.old.board) (lists_of self.new.board)) }
         ensures err { OnErr result (lists_of self.new.board ≡ lists_of self.old.board) }
     {

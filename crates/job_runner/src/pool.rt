@@ -2,12 +2,11 @@
 ghost use Rattle.std.specs.Prelude.{◌≡◌, ◌<◌, ◌++◌, ◌∷◌, [], ℕ, Some, IfOk, IfSome, OnOk, OnErr, length, map, slice_get, vec_len};
 ghost use Rattle.std.specs.Arc.{arc_value};
 ghost use Rattle.job_runner.specs.Answers.{IsAnswer};
-ghost use Rattle.job_runner.specs.Outs.{Returns, ReturnsAt};
+ghost use Rattle.job_runner.specs.Outs.{Returns, ReturnsAt, out_of};
 ghost use Rattle.job_runner.specs.Slips.{slip_of};
 
-use crate::desk::Desk;
+use crate::desk::{Desk, OutList};
 use crate::entry::{Numbered, place_of_number};
-use crate::room::add;
 use crate::runner::{Gate, Runner};
 use crate::slip::{Ending, Slip};
 use crate::worker::{Found, Shared, start_workers};
@@ -23,7 +22,7 @@ pub struct Pool<T, R: Runner, G> {
     rt: T,
     alloc: Global,
     shared: Arc<Shared<R, G>, Global>,
-    out: Vec<Numbered>,
+    out: OutList,
 }
 
 impl<T, R, G> Pool<T, R, G>
@@ -34,7 +33,7 @@ where
 {
     /// A pool without workers yet, and the thread that starts them as they are wanted.
     pub fn new(alloc: Global, rt: T, runner: R, gate: G) -> Result<Pool<T, R, G>, Memory>
-        ensures { IfOk result (λ pool. pool.out.items ≡ []) }
+        ensures { IfOk result (λ pool. out_of pool.out ≡ []) }
     {
         let shared = Arc::new(alloc, shared_of(alloc, runner, gate))?;
         let theirs = Arc::try_clone(&shared)?;
@@ -48,7 +47,7 @@ where
             rt,
             alloc,
             shared,
-            out: Vec::new(alloc),
+            out: OutList::new(alloc),
         })
     }
 }
@@ -67,7 +66,7 @@ fn shared_of<R: Runner, G>(alloc: Global, runner: R, gate: G) -> Shared<R, G> {
 impl<T: Wait, R: Runner, G: Gate> Pool<T, R, G> {
     /// How many jobs are out.
     pub fn out(&self) -> usize
-        ensures { result ≡ vec_len self.now.out }
+        ensures { result ≡ length (out_of self.now.out) }
     {
         self.out.len()
     }
@@ -78,21 +77,16 @@ impl<T: Wait, R: Runner, G: Gate> Pool<T, R, G> {
 
     /// Hands a slip in, and has a further worker started where more jobs are out than there are workers. A refusal drops the slip.
     pub fn hand_in(&mut self, slip: Slip) -> Result<(), Memory>
-        ensures ok { OnOk result ((number : ℕ) × (map slip_of self.new.out.items ≡ map slip_of self.old.out.items ++ (number, slip) ∷ [])) }
-        ensures err { OnErr result (self.new.out.items ≡ self.old.out.items) }
+        ensures ok { OnOk result ((number : ℕ) × (out_of self.new.out ≡ out_of self.old.out ++ (number, slip) ∷ [])) }
+        ensures err { OnErr result (out_of self.new.out ≡ out_of self.old.out) }
     {
         let slip = Arc::new(self.alloc, slip)?;
-        let kept = Arc::try_clone(&slip)?;
-        self.out.reserve(1)?;
-        let wanted = self.out.len().saturating_add(1);
-        let number = put_on(&self.shared, &self.rt, slip, wanted)?;
-        add(&mut self.out, Numbered { number, slip: kept });
-        Ok(())
+        put_on(&self.shared, &self.rt, slip, &mut self.out)
     }
 
     /// Waits for the ending of a slip that is out. Where no worker could be started a waiting slip is run here.
     pub fn next_end(&mut self) -> Ending
-        ensures out { Returns result (map slip_of self.old.out.items) (map slip_of self.new.out.items) }
+        ensures out { Returns result (out_of self.old.out) (out_of self.new.out) }
         ensures own { IsAnswer R.answer result }
     {
         self.next_place().1
@@ -100,29 +94,32 @@ impl<T: Wait, R: Runner, G: Gate> Pool<T, R, G> {
 
     /// The same, with the place of the slip on the list of what was out.
     pub fn next_place(&mut self) -> (usize, Ending)
-        ensures out { ReturnsAt result.0 result.1 (map slip_of self.old.out.items) (map slip_of self.new.out.items) }
+        ensures out { ReturnsAt result.0 result.1 (out_of self.old.out) (out_of self.new.out) }
         ensures own { IsAnswer R.answer result.1 }
     {
         let (place, ending) = next_of(&self.rt, &self.shared, self.out.as_slice());
-        let _ = self.out.remove(place);
+        self.out.remove(place);
         (place, ending)
     }
 }
 
-/// Puts a slip on the board, and asks for so many workers.
+/// Puts a slip on the board and onto the list of what is out, and asks for as many workers as slips are out.
 fn put_on<T: Wait, R: Runner, G: Gate>(
     shared: &Shared<R, G>,
     rt: &T,
     slip: Arc<Slip, Global>,
-    wanted: usize,
-) -> Result<u64, Memory> {
+    out: &mut OutList,
+) -> Result<(), Memory>
+    ensures ok { OnOk result ((number : ℕ) × (out_of out.new ≡ out_of out.old ++ (number, arc_value slip) ∷ [])) }
+    ensures err { OnErr result (out_of out.new ≡ out_of out.old) }
+{
     let mut desk = shared.desk.lock(rt);
-    let number = desk.hand_in(slip)?;
-    desk.ask(wanted);
+    desk.hand_in(slip, out)?;
+    desk.ask(out.len());
     drop(desk);
     shared.wanted.notify_one();
     shared.handed_in.notify_one();
-    Ok(number)
+    Ok(())
 }
 
 /// Waits for an ending of a slip that is out, and gives the place of that slip too.

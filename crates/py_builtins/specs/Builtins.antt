@@ -25,6 +25,7 @@ builtin_of h u b.List args = with_optional args (new_list h u []) (λ x. list_of
 builtin_of h u b.Tuple args = with_optional args (new_tuple h u []) (λ x. tuple_of h u x)
 builtin_of h u b.Dict args = with_optional args (new_dict h u []) (λ x. dict_of h u x)
 builtin_of h u b.Sorted args = with_one args (λ x. sorted_list_of h u x)
-builtin_of h u b.Enumerate args = with_second args (λ x. enumerate_of h u x (v.Int (pos 0))) (λ x from. enumerate_of h u x from)
+builtin_of h u b.Enumerate args =
+    with_second args (λ x. enumerate_of h u x (v.Int (pos 0))) (λ x from. enumerate_of h u x from)
 builtin_of h u b.Zip args = zip_of h u args
 builtin_of h u b.Print args = Err fault.NoMethod

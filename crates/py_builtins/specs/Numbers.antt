@@ -32,7 +32,8 @@ counted (suc n) from = v.Int from ∷ counted n (from +ℤ pos 1)
 
 abbrev pub range_list : Objects → Units → ℤ → ℤ → Outcome
 range_list h u from to =
-    then_by (room LIST_LIMIT u (span from to)) (λ left. Ok (next_list h, with_list h (counted (span from to) from), left))
+    then_by (room LIST_LIMIT u (span from to))
+    (λ left. Ok (next_list h, with_list h (counted (span from to) from), left))
 
 -- an argument that has to be an integer
 abbrev pub as_int : Value → Result ℤ ValueFault

@@ -1,6 +1,7 @@
 -- `enumerate` and `zip` among the "Built-in Functions" of the Python library reference. Both give lists of tuples (own). The
 -- limits and the units are own too: the length of the list, of each tuple and of each new text, in one charge.
-use Rattle.std.specs.Prelude.{ℕ, zero, suc, ◌+◌, ◌*◌, ◌^◌, ℤ, pos, ◌+ℤ◌, int_le, min, List, [], ◌∷◌, ◌++◌, length, map, slice_index_or, Result, Ok, Err, if◌then◌else◌}
+use Rattle.std.specs.Prelude.{ℕ, zero, suc, ◌+◌, ◌*◌, ◌^◌, ℤ, pos, ◌+ℤ◌, int_le, min, List, [], ◌∷◌, ◌++◌, length}
+use Rattle.std.specs.Prelude.{map, slice_index_or, Result, Ok, Err, if◌then◌else◌}
 use Rattle.py_heap.specs.declared.value.Value.{Value}
 use Rattle.py_heap.specs.declared.value.Value.TheVariants as v
 use Rattle.py_heap.specs.declared.fault.ValueFault.{ValueFault}
@@ -33,7 +34,8 @@ numbered_cost h x n = limited LIST_LIMIT n (3 * n + total_length (iterable_texts
 
 -- the limit of the list comes first, then the numbers, then the charge
 abbrev pub paid_numbered : Objects → Units → Value → ℕ → ℤ → Result Units ValueFault
-paid_numbered h u x n from = then_by (numbered_cost h x n) (λ cost. then_by (numbers_fit from n) (λ fit. charged u cost))
+paid_numbered h u x n from =
+    then_by (numbered_cost h x n) (λ cost. then_by (numbers_fit from n) (λ fit. charged u cost))
 
 -- each item with its number
 abbrev pub numbered_rows : Objects → Value → ℕ → ℤ → List (List Value)
@@ -89,7 +91,12 @@ paid_zip h u xs n = then_by (zip_cost h xs n) (λ cost. charged u cost)
 abbrev pub zipped : Objects → Units → List Value → ℕ → Outcome
 zipped h u xs n =
     then_by (paid_zip h u xs n) (λ left.
-    Ok (next_list h, with_tuple_list (with_texts h (zip_texts h n xs)) (rows_from 0 n (zip_columns h (length h.texts) n xs)), left))
+    Ok (
+      next_list h,
+      with_tuple_list (with_texts h (zip_texts h n xs))
+          (rows_from 0 n (zip_columns h (length h.texts) n xs)),
+      left,
+    ))
 
 -- the items of some values side by side, as long as the shortest
 abbrev pub zip_of : Objects → Units → List Value → Outcome

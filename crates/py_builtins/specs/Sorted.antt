@@ -20,7 +20,12 @@ paid_order h u x n =
 abbrev pub ordered_list : Objects → Units → Value → ℕ → Outcome
 ordered_list h u x n =
     then_by (paid_order h u x n) (λ left.
-    Ok (next_list h, with_list (with_texts h (iterable_texts h n x)) (in_order (with_texts h (iterable_texts h n x)) (iterable_items h (length h.texts) n x)), left))
+    Ok (
+      next_list h,
+      with_list (with_texts h (iterable_texts h n x))
+          (in_order (with_texts h (iterable_texts h n x)) (iterable_items h (length h.texts) n x)),
+      left,
+    ))
 
 abbrev pub sorted_list_of : Objects → Units → Value → Outcome
 sorted_list_of h u x = then_by (needed_length h x) (λ n. ordered_list h u x n)

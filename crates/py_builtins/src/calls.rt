@@ -1,6 +1,7 @@
 //! The built-in functions by their names.
-ghost use Rattle.std.specs.Prelude.{◌≡◌, ◌≢◌, Ok, Err, IfOk, IfErr, OnErr};
+ghost use Rattle.std.specs.Prelude.{◌≡◌, Ok, IfOk, OnErr};
 ghost use Rattle.py_builtins.specs.Builtins.{builtin_of};
+ghost use Rattle.py_compare.specs.Outcomes.{FailsAs};
 
 use crate::collections::{dict, list, tuple};
 use crate::empty::{empty_dict, empty_list, empty_text, empty_tuple};
@@ -19,7 +20,7 @@ pub fn call_builtin(
     args: &[Value],
 ) -> Result<Value, ValueFault>
     ensures ok { IfOk result (λ v. builtin_of heap.old budget.old b args.now ≡ Ok (v, heap.new, budget.new)) }
-    ensures fault { IfErr result (λ e. e ≢ ValueFault.Memory → builtin_of heap.old budget.old b args.now ≡ Err e) }
+    ensures fault { FailsAs result (builtin_of heap.old budget.old b args.now) }
     ensures err { OnErr result (heap.new ≡ heap.old) }
     ensures unpaid { OnErr result (budget.new ≡ budget.old) }
 {
@@ -36,7 +37,7 @@ fn builtin_of(
     args: &[Value],
 ) -> Result<Value, ValueFault>
     ensures ok { IfOk result (λ v. builtin_of heap.old budget.old b args.now ≡ Ok (v, heap.new, budget.new)) }
-    ensures fault { IfErr result (λ e. e ≢ ValueFault.Memory → builtin_of heap.old budget.old b args.now ≡ Err e) }
+    ensures fault { FailsAs result (builtin_of heap.old budget.old b args.now) }
     ensures err { OnErr result (heap.new ≡ heap.old) }
 {
     match b {

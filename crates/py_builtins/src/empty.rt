@@ -1,13 +1,13 @@
 //! What built-in functions give without an argument.
-ghost use Rattle.std.specs.Prelude.{◌≡◌, ◌≢◌, [], Ok, Err, IfOk, IfErr, OnErr};
-ghost use Rattle.py_compare.specs.Outcomes.{new_text, new_list, new_tuple, new_dict};
+ghost use Rattle.std.specs.Prelude.{◌≡◌, [], Ok, IfOk, OnErr};
+ghost use Rattle.py_compare.specs.Outcomes.{FailsAs, new_text, new_list, new_tuple, new_dict};
 
 use py_heap::{Budget, Dict, Heap, Value, ValueFault, Values, list_room, text_room};
 use scons_base::Text;
 
 pub(crate) fn empty_text(heap: &mut Heap, budget: &mut Budget) -> Result<Value, ValueFault>
     ensures ok { IfOk result (λ v. new_text heap.old budget.old [] ≡ Ok (v, heap.new, budget.new)) }
-    ensures fault { IfErr result (λ e. e ≢ ValueFault.Memory → new_text heap.old budget.old [] ≡ Err e) }
+    ensures fault { FailsAs result (new_text heap.old budget.old []) }
     ensures err { OnErr result (heap.new ≡ heap.old) }
 {
     text_room(budget, 0)?;
@@ -17,7 +17,7 @@ pub(crate) fn empty_text(heap: &mut Heap, budget: &mut Budget) -> Result<Value, 
 
 pub(crate) fn empty_list(heap: &mut Heap, budget: &mut Budget) -> Result<Value, ValueFault>
     ensures ok { IfOk result (λ v. new_list heap.old budget.old [] ≡ Ok (v, heap.new, budget.new)) }
-    ensures fault { IfErr result (λ e. e ≢ ValueFault.Memory → new_list heap.old budget.old [] ≡ Err e) }
+    ensures fault { FailsAs result (new_list heap.old budget.old []) }
     ensures err { OnErr result (heap.new ≡ heap.old) }
 {
     list_room(budget, 0)?;
@@ -27,7 +27,7 @@ pub(crate) fn empty_list(heap: &mut Heap, budget: &mut Budget) -> Result<Value, 
 
 pub(crate) fn empty_tuple(heap: &mut Heap, budget: &mut Budget) -> Result<Value, ValueFault>
     ensures ok { IfOk result (λ v. new_tuple heap.old budget.old [] ≡ Ok (v, heap.new, budget.new)) }
-    ensures fault { IfErr result (λ e. e ≢ ValueFault.Memory → new_tuple heap.old budget.old [] ≡ Err e) }
+    ensures fault { FailsAs result (new_tuple heap.old budget.old []) }
     ensures err { OnErr result (heap.new ≡ heap.old) }
 {
     list_room(budget, 0)?;
@@ -37,7 +37,7 @@ pub(crate) fn empty_tuple(heap: &mut Heap, budget: &mut Budget) -> Result<Value,
 
 pub(crate) fn empty_dict(heap: &mut Heap, budget: &mut Budget) -> Result<Value, ValueFault>
     ensures ok { IfOk result (λ v. new_dict heap.old budget.old [] ≡ Ok (v, heap.new, budget.new)) }
-    ensures fault { IfErr result (λ e. e ≢ ValueFault.Memory → new_dict heap.old budget.old [] ≡ Err e) }
+    ensures fault { FailsAs result (new_dict heap.old budget.old []) }
     ensures err { OnErr result (heap.new ≡ heap.old) }
 {
     list_room(budget, 0)?;

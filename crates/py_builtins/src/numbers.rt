@@ -1,7 +1,9 @@
 //! Lengths, integers and what values show.
-ghost use Rattle.std.specs.Prelude.{◌≡◌, ◌≢◌, Ok, Err, IfOk, IfErr, OnErr};
+ghost use Rattle.std.specs.Prelude.{◌≡◌, Ok, IfOk, OnErr};
 ghost use Rattle.py_text.specs.Numbers.{int_of as spelled_number};
-ghost use Rattle.py_builtins.specs.Numbers.{len_of, span, counted, range_list, as_int, range_of, number_or_fault, int_of, str_of};
+ghost use Rattle.py_builtins.specs.Numbers.{len_of, span, counted, range_list, as_int, range_of, number_or_fault};
+ghost use Rattle.py_builtins.specs.Numbers.{int_of, str_of};
+ghost use Rattle.py_compare.specs.Outcomes.{FailsAs};
 
 use py_compare::{above_zero, needed_length, show};
 use py_heap::{Budget, Heap, Value, ValueFault, Values, list_room, text_room};
@@ -12,7 +14,7 @@ use std::alloc::Global;
 /// How many characters, items or keys.
 pub(crate) fn len(heap: &Heap, budget: &mut Budget, value: Value) -> Result<Value, ValueFault>
     ensures ok { IfOk result (λ v. len_of heap.now budget.old value ≡ Ok (v, heap.now, budget.new)) }
-    ensures fault { IfErr result (λ e. e ≢ ValueFault.Memory → len_of heap.now budget.old value ≡ Err e) }
+    ensures fault { FailsAs result (len_of heap.now budget.old value) }
 {
     let length = needed_length(heap, value)?;
     Ok(Value::Int(above_zero(length as u64)?))
@@ -26,7 +28,7 @@ pub(crate) fn range(
     to: Value,
 ) -> Result<Value, ValueFault>
     ensures ok { IfOk result (λ v. range_of heap.old budget.old from to ≡ Ok (v, heap.new, budget.new)) }
-    ensures fault { IfErr result (λ e. e ≢ ValueFault.Memory → range_of heap.old budget.old from to ≡ Err e) }
+    ensures fault { FailsAs result (range_of heap.old budget.old from to) }
     ensures err { OnErr result (heap.new ≡ heap.old) }
 {
     let from = as_int(from)?;
@@ -45,7 +47,7 @@ pub(crate) fn as_int(value: Value) -> Result<i64, ValueFault>
 
 fn range_list(heap: &mut Heap, budget: &mut Budget, from: i64, to: i64) -> Result<Value, ValueFault>
     ensures ok { IfOk result (λ v. range_list heap.old budget.old from to ≡ Ok (v, heap.new, budget.new)) }
-    ensures fault { IfErr result (λ e. e ≢ ValueFault.Memory → range_list heap.old budget.old from to ≡ Err e) }
+    ensures fault { FailsAs result (range_list heap.old budget.old from to) }
     ensures err { OnErr result (heap.new ≡ heap.old) }
 {
     list_room(budget, span(from, to))?;
@@ -105,7 +107,7 @@ fn spelled(text: &str) -> Result<i64, ValueFault>
 /// What a value shows, as a text.
 pub(crate) fn str(heap: &mut Heap, budget: &mut Budget, value: Value) -> Result<Value, ValueFault>
     ensures ok { IfOk result (λ v. str_of heap.old budget.old value ≡ Ok (v, heap.new, budget.new)) }
-    ensures fault { IfErr result (λ e. e ≢ ValueFault.Memory → str_of heap.old budget.old value ≡ Err e) }
+    ensures fault { FailsAs result (str_of heap.old budget.old value) }
     ensures err { OnErr result (heap.new ≡ heap.old) }
 {
     let shown = show(heap, budget, value, false)?;

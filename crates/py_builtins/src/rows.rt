@@ -1,9 +1,12 @@
 //! Rows of numbers and items.
-ghost use Rattle.std.specs.Prelude.{◌≡◌, ◌≢◌, ◌<◌, ◌≤◌, ◌^◌, ◌∷◌, [], pos, ◌+ℤ◌, ◌≤ℤ◌, length, slice_index_or, Ok, Err, IfOk, IfErr, OnOk, OnErr};
+ghost use Rattle.std.specs.Prelude.{◌≡◌, ◌<◌, ◌≤◌, ◌^◌, ◌∷◌, [], pos, ◌+ℤ◌, ◌≤ℤ◌, length, slice_index_or, Ok, IfOk};
+ghost use Rattle.std.specs.Prelude.{OnOk, OnErr};
 ghost use Rattle.py_heap.specs.Many.{text_values};
 ghost use Rattle.py_compare.specs.Iterables.{iterable_items};
 ghost use Rattle.py_builtins.specs.Numbers.{counted};
-ghost use Rattle.py_builtins.specs.Rows.{row_at, rows_from, numbers_fit, numbered_cost, paid_numbered, numbered, enumerate_of};
+ghost use Rattle.py_builtins.specs.Rows.{row_at, rows_from, numbers_fit, numbered_cost, paid_numbered, numbered};
+ghost use Rattle.py_builtins.specs.Rows.{enumerate_of};
+ghost use Rattle.py_compare.specs.Outcomes.{FailsAs};
 
 use crate::numbers::as_int;
 use py_compare::{iterable_bytes, iterable_texts, needed_length};
@@ -26,7 +29,7 @@ pub(crate) fn enumerate(
     from: Value,
 ) -> Result<Value, ValueFault>
     ensures ok { IfOk result (λ v. enumerate_of heap.old budget.old value from ≡ Ok (v, heap.new, budget.new)) }
-    ensures fault { IfErr result (λ e. e ≢ ValueFault.Memory → enumerate_of heap.old budget.old value from ≡ Err e) }
+    ensures fault { FailsAs result (enumerate_of heap.old budget.old value from) }
     ensures err { OnErr result (heap.new ≡ heap.old) }
 {
     let count = needed_length(heap, value)?;
@@ -42,7 +45,7 @@ fn numbered(
     from: i64,
 ) -> Result<Value, ValueFault>
     ensures ok { IfOk result (λ v. numbered heap.old budget.old value count from ≡ Ok (v, heap.new, budget.new)) }
-    ensures fault { IfErr result (λ e. e ≢ ValueFault.Memory → numbered heap.old budget.old value count from ≡ Err e) }
+    ensures fault { FailsAs result (numbered heap.old budget.old value count from) }
     ensures err { OnErr result (heap.new ≡ heap.old) }
 {
     numbered_room(heap, budget, value, count, from)?;
@@ -65,7 +68,7 @@ fn numbered_room(
     from: i64,
 ) -> Result<(), ValueFault>
     ensures ok { OnOk result (paid_numbered heap.now budget.old value count from ≡ Ok budget.new) }
-    ensures fault { IfErr result (λ e. e ≢ ValueFault.Memory → paid_numbered heap.now budget.old value count from ≡ Err e) }
+    ensures fault { FailsAs result (paid_numbered heap.now budget.old value count from) }
     ensures few { OnOk result (count ≤ LIST_LIMIT) }
     ensures fits { OnOk result ((from +ℤ pos count) ≤ℤ pos (2 ^ 63)) }
 {
@@ -78,7 +81,7 @@ fn numbered_room(
 #[tactic(auto, using(py_compare::proofs::Limits::exact_limits))]
 fn numbered_cost(heap: &Heap, value: Value, count: usize) -> Result<usize, ValueFault>
     ensures ok { IfOk result (λ n. numbered_cost heap.now value count ≡ Ok n) }
-    ensures fault { IfErr result (λ e. e ≢ ValueFault.Memory → numbered_cost heap.now value count ≡ Err e) }
+    ensures fault { FailsAs result (numbered_cost heap.now value count) }
     ensures few { OnOk result (count ≤ LIST_LIMIT) }
 {
     if count as u64 > LIST_LIMIT {
@@ -113,7 +116,8 @@ fn numbered_rows(
 ) -> Result<Vec<Values>, Memory>
     requires few { count ≤ LIST_LIMIT }
     requires fits { (from +ℤ pos count) ≤ℤ pos (2 ^ 63) }
-    ensures { IfOk result (λ rows. rows.items ≡ rows_from 0 count (counted count from ∷ iterable_items heap.now column.first count column.value ∷ [])) }
+    ensures { IfOk result (λ rows. rows.items ≡ rows_from 0 count
+        (counted count from ∷ iterable_items heap.now column.first count column.value ∷ [])) }
 {
     let mut rows = Vec::new(heap.allocator());
     'places: for place in 0..count {
@@ -132,7 +136,8 @@ fn numbered_row(
     requires inside { place < count }
     requires few { count ≤ LIST_LIMIT }
     requires fits { (from +ℤ pos count) ≤ℤ pos (2 ^ 63) }
-    ensures { IfOk result (λ row. row ≡ row_at (counted count from ∷ iterable_items heap.now column.first count column.value ∷ []) place) }
+    ensures { IfOk result (λ row. row ≡ row_at (counted count from ∷ iterable_items heap.now column.first count
+        column.value ∷ []) place) }
 {
     let item = column_item(heap, column, count, place)?;
     let number = number_at(from, count, place);
@@ -158,7 +163,8 @@ pub(crate) fn column_item(
     count: usize,
     place: usize,
 ) -> Result<Value, Memory>
-    ensures { IfOk result (λ v. v ≡ slice_index_or (iterable_items heap.now column.first count column.value) place Value.Nil) }
+    ensures { IfOk result (λ v.
+        v ≡ slice_index_or (iterable_items heap.now column.first count column.value) place Value.Nil) }
 {
     match column.value {
         Value::Text(_) => numbered_text(column.first, count, place),

@@ -1,7 +1,9 @@
 //! Rows of the items of some values.
-ghost use Rattle.std.specs.Prelude.{◌≡◌, ◌≢◌, ◌+◌, ◌*◌, map, length, Ok, Err, IfOk, IfErr, OnOk, OnErr};
+ghost use Rattle.std.specs.Prelude.{◌≡◌, ◌+◌, ◌*◌, map, length, Ok, IfOk, OnOk, OnErr};
 ghost use Rattle.py_compare.specs.Iterables.{total_length, iterable_items};
-ghost use Rattle.py_builtins.specs.Rows.{row_at, rows_from, shortest_from, shortest_of, text_share, zip_texts, zip_columns, zip_cost, paid_zip, zipped, zip_of};
+ghost use Rattle.py_builtins.specs.Rows.{row_at, rows_from, shortest_from, shortest_of, text_share, zip_texts};
+ghost use Rattle.py_builtins.specs.Rows.{zip_columns, zip_cost, paid_zip, zipped, zip_of};
+ghost use Rattle.py_compare.specs.Outcomes.{FailsAs};
 
 use crate::rows::{Column, column_item};
 use py_compare::{iterable_bytes, iterable_texts, needed_length};
@@ -16,7 +18,7 @@ pub(crate) fn zip(
     values: &[Value],
 ) -> Result<Value, ValueFault>
     ensures ok { IfOk result (λ v. zip_of heap.old budget.old values.now ≡ Ok (v, heap.new, budget.new)) }
-    ensures fault { IfErr result (λ e. e ≢ ValueFault.Memory → zip_of heap.old budget.old values.now ≡ Err e) }
+    ensures fault { FailsAs result (zip_of heap.old budget.old values.now) }
     ensures err { OnErr result (heap.new ≡ heap.old) }
 {
     let count = shortest(heap, values)?;
@@ -54,7 +56,7 @@ fn zipped(
     count: usize,
 ) -> Result<Value, ValueFault>
     ensures ok { IfOk result (λ v. zipped heap.old budget.old values.now count ≡ Ok (v, heap.new, budget.new)) }
-    ensures fault { IfErr result (λ e. e ≢ ValueFault.Memory → zipped heap.old budget.old values.now count ≡ Err e) }
+    ensures fault { FailsAs result (zipped heap.old budget.old values.now count) }
     ensures err { OnErr result (heap.new ≡ heap.old) }
 {
     zip_room(heap, budget, values, count)?;
@@ -73,7 +75,7 @@ fn zip_room(
     count: usize,
 ) -> Result<(), ValueFault>
     ensures ok { OnOk result (paid_zip heap.now budget.old values.now count ≡ Ok budget.new) }
-    ensures fault { IfErr result (λ e. e ≢ ValueFault.Memory → paid_zip heap.now budget.old values.now count ≡ Err e) }
+    ensures fault { FailsAs result (paid_zip heap.now budget.old values.now count) }
 {
     let cost = zip_cost(heap, values, count)?;
     budget.charge(cost as u64)?;
@@ -83,7 +85,7 @@ fn zip_room(
 #[tactic(auto, using(crate::proofs::Zipping::zip_costs))]
 fn zip_cost(heap: &Heap, values: &[Value], count: usize) -> Result<usize, ValueFault>
     ensures ok { IfOk result (λ n. zip_cost heap.now values.now count ≡ Ok n) }
-    ensures fault { IfErr result (λ e. e ≢ ValueFault.Memory → zip_cost heap.now values.now count ≡ Err e) }
+    ensures fault { FailsAs result (zip_cost heap.now values.now count) }
 {
     let width = values.len();
     if count as u64 > LIST_LIMIT {
@@ -132,7 +134,8 @@ fn zip_texts(heap: &Heap, values: &[Value], count: usize) -> Result<Vec<Text>, M
 /// Where the items of each value come from.
 #[tactic(auto, using(crate::proofs::Zipping::zip_turns))]
 fn columns_of(heap: &Heap, values: &[Value], count: usize) -> Result<Vec<Column>, Memory>
-    ensures { IfOk result (λ made. map (λ c. iterable_items heap.now c.first count c.value) made.items ≡ zip_columns heap.now (length heap.now.texts) count values.now) }
+    ensures { IfOk result (λ made. map (λ c. iterable_items heap.now c.first count c.value) made.items
+        ≡ zip_columns heap.now (length heap.now.texts) count values.now) }
 {
     let mut columns = Vec::new(heap.allocator());
     let mut first = heap.text_count();
@@ -158,7 +161,8 @@ fn text_share(count: usize, value: Value) -> usize
 
 #[tactic(auto, using(crate::proofs::RowTurns::row_turns))]
 fn rows_of(heap: &Heap, columns: &[Column], count: usize) -> Result<Vec<Values>, Memory>
-    ensures { IfOk result (λ rows. rows.items ≡ rows_from 0 count (map (λ c. iterable_items heap.now c.first count c.value) columns.now)) }
+    ensures { IfOk result (λ rows.
+        rows.items ≡ rows_from 0 count (map (λ c. iterable_items heap.now c.first count c.value) columns.now)) }
 {
     let mut rows = Vec::new(heap.allocator());
     'places: for place in 0..count {
@@ -168,7 +172,8 @@ fn rows_of(heap: &Heap, columns: &[Column], count: usize) -> Result<Vec<Values>,
 }
 
 fn row_of(heap: &Heap, columns: &[Column], count: usize, place: usize) -> Result<Values, Memory>
-    ensures { IfOk result (λ row. row ≡ row_at (map (λ c. iterable_items heap.now c.first count c.value) columns.now) place) }
+    ensures { IfOk result (λ row.
+        row ≡ row_at (map (λ c. iterable_items heap.now c.first count c.value) columns.now) place) }
 {
     let mut row = Values::new(Vec::new(heap.allocator()));
     'columns: for column in columns {

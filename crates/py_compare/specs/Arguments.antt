@@ -22,12 +22,14 @@ with_two (a ∷ b ∷ []) f = f a b
 with_two (a ∷ b ∷ c ∷ args) f = Err fault.NoMethod
 
 -- one argument that may be left out, and a second one that may
-abbrev pub with_optional : {X : Type 0} → List Value → Result X ValueFault → (Value → Result X ValueFault) → Result X ValueFault
+abbrev pub with_optional : {X : Type 0} → List Value → Result X ValueFault → (Value → Result X ValueFault) →
+    Result X ValueFault
 with_optional [] none f = none
 with_optional (a ∷ []) none f = f a
 with_optional (a ∷ b ∷ args) none f = Err fault.NoMethod
 
-abbrev pub with_second : {X : Type 0} → List Value → (Value → Result X ValueFault) → (Value → Value → Result X ValueFault) → Result X ValueFault
+abbrev pub with_second : {X : Type 0} → List Value → (Value → Result X ValueFault) →
+    (Value → Value → Result X ValueFault) → Result X ValueFault
 with_second [] f g = Err fault.NoMethod
 with_second (a ∷ []) f g = f a
 with_second (a ∷ b ∷ []) f g = g a b

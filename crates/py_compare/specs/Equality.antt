@@ -1,5 +1,6 @@
 -- Equality by content: section 6.10.1 ("Value comparisons") of the Python language reference. Units and levels are own.
-use Rattle.std.specs.Prelude.{ℕ, zero, suc, ℤ, pos, Bool, true, false, List, [], ◌∷◌, ◌==◌, nat_eq, Option, Some, None, Result, Ok, Err, if◌then◌else◌, length, map}
+use Rattle.std.specs.Prelude.{ℕ, zero, suc, ℤ, pos, Bool, true, false, List, [], ◌∷◌, ◌==◌, nat_eq, Option, Some}
+use Rattle.std.specs.Prelude.{None, Result, Ok, Err, if◌then◌else◌, length, map}
 use Rattle.std.specs.Option.{option_map}
 use Rattle.scons_base.specs.declared.limits.TheConstants.{VALUE_DEPTH_LIMIT}
 use Rattle.py_heap.specs.declared.key.Key.{Key}
@@ -89,7 +90,8 @@ abbrev pub equal_items : (Units → Value → Value → Verdict) → Units → L
 equal_items f u [] [] = Ok (true, u)
 equal_items f u [] (y ∷ ys) = Ok (false, u)
 equal_items f u (x ∷ xs) [] = Ok (false, u)
-equal_items f u (x ∷ xs) (y ∷ ys) = then_by (f u x y) (λ same. if same.0 then equal_items f same.1 xs ys else Ok (false, same.1))
+equal_items f u (x ∷ xs) (y ∷ ys) =
+    then_by (f u x y) (λ same. if same.0 then equal_items f same.1 xs ys else Ok (false, same.1))
 
 -- lists of different lengths aren't looked into
 abbrev pub equal_lists : (Units → Value → Value → Verdict) → Units → List Value → List Value → Verdict
@@ -127,7 +129,8 @@ against_dict entries h u es (v.Dict id) = entries u es (dict_at h id.0)
 against_dict entries h u es other = Ok (false, u)
 
 -- two values, where it is said how items and entries inside them compare
-abbrev pub equal_by : (Units → List Value → List Value → Verdict) → (Units → Entries → Entries → Verdict) → Objects → Units → Value → Value → Verdict
+abbrev pub equal_by : (Units → List Value → List Value → Verdict) → (Units → Entries → Entries → Verdict) → Objects →
+    Units → Value → Value → Verdict
 equal_by items entries h u (v.List id) y = against_list items h u (list_at h id.0) y
 equal_by items entries h u (v.Tuple id) y = against_tuple items h u (tuple_at h id.0) y
 equal_by items entries h u (v.Dict id) y = against_dict entries h u (dict_at h id.0) y
@@ -142,9 +145,11 @@ equal_by items entries h u (v.Object id) y = Ok (flat_equal h (v.Object id) y, u
 -- whether two values are equal, where so many levels may still be looked into. Each pair of values met costs one unit;
 -- past the last level it is Deep.
 unfoldable pub equal_at : ℕ → Objects → Units → Value → Value → Verdict
-equal_at zero h u x y = then_by (charged u 1) (λ left. equal_by (λ u xs ys. Err fault.Deep) (λ u es other. Err fault.Deep) h left x y)
+equal_at zero h u x y =
+    then_by (charged u 1) (λ left. equal_by (λ u xs ys. Err fault.Deep) (λ u es other. Err fault.Deep) h left x y)
 equal_at (suc levels) h u x y =
-    then_by (charged u 1) (λ left. equal_by (equal_lists (equal_at levels h)) (equal_dicts (equal_at levels h)) h left x y)
+    then_by (charged u 1) (λ left.
+    equal_by (equal_lists (equal_at levels h)) (equal_dicts (equal_at levels h)) h left x y)
 
 -- the same of what stands inside two values of one kind
 abbrev pub items_at : ℕ → Objects → Units → List Value → List Value → Verdict
@@ -161,4 +166,5 @@ equal_of h u x y = equal_at VALUE_DEPTH_LIMIT h u x y
 -- the place of the first item equal to a value, if there is one: the item stands at the left
 abbrev pub place_from : ℕ → Objects → Units → List Value → Value → Result (Option ℕ × Units) ValueFault
 place_from n h u [] y = Ok (None, u)
-place_from n h u (x ∷ xs) y = then_by (equal_of h u x y) (λ same. if same.0 then Ok (Some n, same.1) else place_from (suc n) h same.1 xs y)
+place_from n h u (x ∷ xs) y =
+    then_by (equal_of h u x y) (λ same. if same.0 then Ok (Some n, same.1) else place_from (suc n) h same.1 xs y)

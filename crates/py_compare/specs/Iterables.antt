@@ -1,6 +1,7 @@
 -- What a value gives item after item: "iterable" in the glossary of the Python documentation. A list or tuple gives its
 -- items, a dict its keys in order of insertion, a text its characters, each as a new text. No other value gives any.
-use Rattle.std.specs.Prelude.{ℕ, ◌+◌, List, [], ◌∷◌, length, map, take, chars, encode_utf8, Option, Some, None, Result, Ok}
+use Rattle.std.specs.Prelude.{ℕ, ◌+◌, List, [], ◌∷◌, length, map, take, chars, encode_utf8, Option, Some, None}
+use Rattle.std.specs.Prelude.{Result, Ok}
 use Rattle.py_text.specs.Characters.{char_count}
 use Rattle.py_heap.specs.declared.value.Value.{Value}
 use Rattle.py_heap.specs.declared.value.Value.TheVariants as v

@@ -1,6 +1,7 @@
 -- Integers of 64 bits: section 6.7 ("Binary arithmetic operations") of the Python language reference, but for the bound,
 -- which is own.
-use Rattle.std.specs.Prelude.{◌≡◌, ◌+ℤ◌, ◌*ℤ◌, ◌<ℤ◌, ◌≤ℤ◌, ◌-◌, ◌/◌, ◌%◌, ◌^◌, ℤ, pos, negsuc, ◌==◌, suc, Result, Ok, Err, if◌then◌else◌, nat_lt, unsigned_abs}
+use Rattle.std.specs.Prelude.{◌≡◌, ◌+ℤ◌, ◌*ℤ◌, ◌<ℤ◌, ◌≤ℤ◌, ◌-◌, ◌/◌, ◌%◌, ◌^◌, ℤ, pos, negsuc, ◌==◌, suc, Result, Ok}
+use Rattle.std.specs.Prelude.{Err, if◌then◌else◌, nat_lt, unsigned_abs}
 use Rattle.std.specs.Int.{div_ceil}
 use Rattle.std.proofs.Common.{neg_ℤ}
 use Rattle.py_heap.specs.declared.fault.ValueFault.{ValueFault}

@@ -1,5 +1,5 @@
 -- What an operation gives: a value with the heap and the units after it, or the fault.
-use Rattle.std.specs.Prelude.{ℕ, ℤ, List, Result, Ok, Err, length}
+use Rattle.std.specs.Prelude.{◌≢◌, ◌≡◌, ℕ, ℤ, List, Result, Ok, Err, IfErr, length}
 use Rattle.py_heap.specs.declared.value.Value.{Value}
 use Rattle.py_heap.specs.declared.value.Value.TheVariants as v
 use Rattle.py_heap.specs.declared.fault.ValueFault.{ValueFault}
@@ -12,6 +12,10 @@ use Rattle.py_heap.specs.Values.{kind_of}
 
 abbrev pub Outcome : Type 0
 Outcome = Result (Value × Objects × Units) ValueFault
+
+-- every error but want of memory is the fault that was told; want of memory may come at any time
+abbrev pub FailsAs : {X Y : Type 0} → Result X ValueFault → Result Y ValueFault → Type 0
+FailsAs result told = IfErr result (λ e. e ≢ fault.Memory → told ≡ Err e)
 
 -- a step and those behind it: a fault ends the operation
 abbrev pub then_by : {X Y : Type 0} → Result X ValueFault → (X → Result Y ValueFault) → Result Y ValueFault
@@ -40,7 +44,8 @@ abbrev pub new_tuple : Objects → Units → List Value → Outcome
 new_tuple h u items = then_by (paid_items u items) (λ made. Ok (next_tuple h, with_tuple h made.0, made.1))
 
 abbrev pub new_dict : Objects → Units → Entries → Outcome
-new_dict h u entries = then_by (room LIST_LIMIT u (length entries)) (λ left. Ok (next_dict h, with_dict h entries, left))
+new_dict h u entries =
+    then_by (room LIST_LIMIT u (length entries)) (λ left. Ok (next_dict h, with_dict h entries, left))
 
 -- an answer that makes nothing
 abbrev pub plain : Objects → Units → Result Value ValueFault → Outcome

@@ -1,7 +1,8 @@
 -- How values show: `str` and `repr` of the Python library reference, cut down to this subset; the forms of functions and
 -- objects, units and levels are own. What a value shows is put behind a text piece by piece; what is known of that text
 -- is left open, as is how pieces are put behind it.
-use Rattle.std.specs.Prelude.{ℕ, zero, suc, Bool, true, false, ◌==◌, List, [], ◌∷◌, ◌++◌, Option, Some, None, Result, Ok, Err, if◌then◌else◌, length, map, codes}
+use Rattle.std.specs.Prelude.{ℕ, zero, suc, Bool, true, false, ◌==◌, List, [], ◌∷◌, ◌++◌, Option, Some, None, Result}
+use Rattle.std.specs.Prelude.{Ok, Err, if◌then◌else◌, length, map, codes}
 use Rattle.py_text.specs.Numbers.{decimals}
 use Rattle.py_text.specs.Quoting.{quoted as in_quotes}
 use Rattle.py_heap.specs.declared.value.Value.{Value}
@@ -60,16 +61,21 @@ module _ {T : Type 0} (put : T → List ℕ → T) where
 
   abbrev pub onto_entries : (T → Units → Value → Shown T) → ℕ → T → Units → List Entry → Shown T
   onto_entries f n text u [] = Ok (text, u)
-  onto_entries f n text u (e ∷ es) = then_by (onto_entry f (put text (separator n)) u e) (λ s. onto_entries f (suc n) s.0 s.1 es)
+  onto_entries f n text u (e ∷ es) =
+      then_by (onto_entry f (put text (separator n)) u e) (λ s. onto_entries f (suc n) s.0 s.1 es)
 
   -- a closing bracket behind what was shown
   abbrev pub closed : List ℕ → Shown T → Shown T
   closed end shown = then_by shown (λ s. Ok (put s.0 end, s.1))
 
-  abbrev pub shown_by : (T → Units → List Value → Shown T) → (T → Units → List Entry → Shown T) → Objects → Bool → T → Units → Value → Shown T
-  shown_by items entries h quoted text u (v.List id) = closed (codes "]") (items (put text (codes "[")) u (list_at h id.0))
-  shown_by items entries h quoted text u (v.Tuple id) = closed (tuple_end (length (tuple_at h id.0))) (items (put text (codes "(")) u (tuple_at h id.0))
-  shown_by items entries h quoted text u (v.Dict id) = closed (codes "}") (entries (put text (codes "{")) u (entries_of (dict_at h id.0)))
+  abbrev pub shown_by : (T → Units → List Value → Shown T) → (T → Units → List Entry → Shown T) → Objects → Bool → T →
+      Units → Value → Shown T
+  shown_by items entries h quoted text u (v.List id) =
+      closed (codes "]") (items (put text (codes "[")) u (list_at h id.0))
+  shown_by items entries h quoted text u (v.Tuple id) =
+      closed (tuple_end (length (tuple_at h id.0))) (items (put text (codes "(")) u (tuple_at h id.0))
+  shown_by items entries h quoted text u (v.Dict id) =
+      closed (codes "}") (entries (put text (codes "{")) u (entries_of (dict_at h id.0)))
   shown_by items entries h quoted text u v.Nil = Ok (put text (flat_text h quoted v.Nil), u)
   shown_by items entries h quoted text u (v.Bool b) = Ok (put text (flat_text h quoted (v.Bool b)), u)
   shown_by items entries h quoted text u (v.Int n) = Ok (put text (flat_text h quoted (v.Int n)), u)
@@ -81,9 +87,12 @@ module _ {T : Type 0} (put : T → List ℕ → T) where
   -- a value behind a text, where so many levels may still be opened. Each value met costs one unit; past the last level it
   -- is Deep.
   unfoldable pub show_at : ℕ → Objects → Bool → T → Units → Value → Shown T
-  show_at zero h quoted text u x = then_by (charged u 1) (λ left. shown_by (λ t w xs. Err fault.Deep) (λ t w es. Err fault.Deep) h quoted text left x)
+  show_at zero h quoted text u x =
+      then_by (charged u 1) (λ left.
+      shown_by (λ t w xs. Err fault.Deep) (λ t w es. Err fault.Deep) h quoted text left x)
   show_at (suc levels) h quoted text u x =
-      then_by (charged u 1) (λ left. shown_by (onto_items (show_at levels h true) 0) (onto_entries (show_at levels h true) 0) h quoted text left x)
+      then_by (charged u 1) (λ left. shown_by (onto_items (show_at levels h true) 0)
+      (onto_entries (show_at levels h true) 0) h quoted text left x)
 
   -- the same of what stands inside
   abbrev pub items_shown : ℕ → Objects → T → Units → List Value → Shown T
@@ -100,4 +109,5 @@ behind text piece = text ++ piece
 
 -- what a value shows: no longer than a text may be
 abbrev pub show_of : Objects → Units → Value → Bool → Shown (List ℕ)
-show_of h u x quoted = then_by (show_at behind VALUE_DEPTH_LIMIT h quoted [] u x) (λ s. limited TEXT_LIMIT (length s.0) s)
+show_of h u x quoted =
+    then_by (show_at behind VALUE_DEPTH_LIMIT h quoted [] u x) (λ s. limited TEXT_LIMIT (length s.0) s)

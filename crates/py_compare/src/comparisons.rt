@@ -1,7 +1,8 @@
 //! The comparisons.
-ghost use Rattle.std.specs.Prelude.{◌≡◌, ◌≢◌, Ok, Err, IfOk, IfErr};
+ghost use Rattle.std.specs.Prelude.{◌≡◌, Ok, IfOk};
 ghost use Rattle.py_compare.specs.Comparisons.{ordered, within_of, is_constant, is_among};
 ghost use Rattle.py_compare.specs.Equality.{is_nil, equal_of};
+ghost use Rattle.py_compare.specs.Outcomes.{FailsAs};
 
 use crate::equal::{equal, place_of};
 use crate::order::order_of;
@@ -12,7 +13,7 @@ use std::cmp::Ordering;
 /// How two values are ordered, once their meeting is charged for.
 pub fn ordered(heap: &Heap, budget: &mut Budget, a: Value, b: Value) -> Result<Ordering, ValueFault>
     ensures ok { IfOk result (λ o. ordered heap.now budget.old a b ≡ Ok (o, budget.new)) }
-    ensures fault { IfErr result (λ e. e ≢ ValueFault.Memory → ordered heap.now budget.old a b ≡ Err e) }
+    ensures fault { FailsAs result (ordered heap.now budget.old a b) }
 {
     budget.charge(1)?;
     let order = order_of(heap, a, b)?;
@@ -27,7 +28,7 @@ pub fn within(
     owner: Value,
 ) -> Result<bool, ValueFault>
     ensures ok { IfOk result (λ x. within_of heap.now budget.old item owner ≡ Ok (x, budget.new)) }
-    ensures fault { IfErr result (λ e. e ≢ ValueFault.Memory → within_of heap.now budget.old item owner ≡ Err e) }
+    ensures fault { FailsAs result (within_of heap.now budget.old item owner) }
 {
     match owner {
         Value::List(list) => is_among(heap, budget, heap.list_at(list), item),
@@ -53,7 +54,7 @@ fn is_among(
     item: Value,
 ) -> Result<bool, ValueFault>
     ensures ok { IfOk result (λ x. is_among heap.now budget.old items.now item ≡ Ok (x, budget.new)) }
-    ensures fault { IfErr result (λ e. e ≢ ValueFault.Memory → is_among heap.now budget.old items.now item ≡ Err e) }
+    ensures fault { FailsAs result (is_among heap.now budget.old items.now item) }
 {
     let found = place_of(heap, budget, items, item)?;
     Ok(found.is_some())
@@ -84,7 +85,7 @@ pub fn is_constant(value: Value, constant: Value) -> bool
 
 pub fn same(heap: &Heap, budget: &mut Budget, a: Value, b: Value) -> Result<bool, ValueFault>
     ensures ok { IfOk result (λ x. equal_of heap.now budget.old a b ≡ Ok (x, budget.new)) }
-    ensures fault { IfErr result (λ e. e ≢ ValueFault.Memory → equal_of heap.now budget.old a b ≡ Err e) }
+    ensures fault { FailsAs result (equal_of heap.now budget.old a b) }
 {
     equal(heap, budget, VALUE_DEPTH_LIMIT, a, b)
 }

@@ -1,9 +1,11 @@
 //! Equality by content.
-ghost use Rattle.std.specs.Prelude.{◌≡◌, ◌≢◌, Ok, Err, IfOk, IfErr, ◌<◌, length, slice_get, IfSome};
-ghost use Rattle.py_compare.specs.Equality.{number_of, is_number, builtin_place, is_builtin, flat_equal, equal_by, equal_at, items_at, entries_at, equal_of, place_from, facing_items};
+ghost use Rattle.std.specs.Prelude.{◌≡◌, Ok, IfOk, ◌<◌, length, slice_get, IfSome};
+ghost use Rattle.py_compare.specs.Equality.{number_of, is_number, builtin_place, is_builtin, flat_equal, equal_by};
+ghost use Rattle.py_compare.specs.Equality.{equal_at, items_at, entries_at, equal_of, place_from, facing_items};
 ghost use Rattle.std.specs.Option.{option_map};
 ghost use Rattle.py_heap.specs.Heap.{dict_at};
 ghost use Rattle.py_heap.specs.Dicts.{entry_at};
+ghost use Rattle.py_compare.specs.Outcomes.{FailsAs};
 
 use py_heap::{Budget, Builtin, DictId, Heap, Key, Value, ValueFault};
 use scons_base::limits::VALUE_DEPTH_LIMIT;
@@ -97,7 +99,7 @@ pub(crate) fn equal(
     b: Value,
 ) -> Result<bool, ValueFault>
     ensures ok { IfOk result (λ x. equal_at levels heap.now budget.old a b ≡ Ok (x, budget.new)) }
-    ensures fault { IfErr result (λ e. e ≢ ValueFault.Memory → equal_at levels heap.now budget.old a b ≡ Err e) }
+    ensures fault { FailsAs result (equal_at levels heap.now budget.old a b) }
 {
     budget.charge(1)?;
     let same = equal_inside(heap, budget, levels, a, b)?;
@@ -113,8 +115,10 @@ fn equal_inside(
     a: Value,
     b: Value,
 ) -> Result<bool, ValueFault>
-    ensures ok { IfOk result (λ x. equal_by (items_at levels heap.now) (entries_at levels heap.now) heap.now budget.old a b ≡ Ok (x, budget.new)) }
-    ensures fault { IfErr result (λ e. e ≢ ValueFault.Memory → equal_by (items_at levels heap.now) (entries_at levels heap.now) heap.now budget.old a b ≡ Err e) }
+    ensures ok { IfOk result (λ x. equal_by (items_at levels heap.now) (entries_at levels heap.now) heap.now
+        budget.old a b ≡ Ok (x, budget.new)) }
+    ensures fault { FailsAs result (equal_by (items_at levels heap.now) (entries_at levels heap.now) heap.now
+        budget.old a b) }
 {
     match a {
         Value::List(list) => match b {
@@ -158,7 +162,7 @@ fn equal_items(
     others: &[Value],
 ) -> Result<bool, ValueFault>
     ensures ok { IfOk result (λ x. items_at levels heap.now budget.old items.now others.now ≡ Ok (x, budget.new)) }
-    ensures fault { IfErr result (λ e. e ≢ ValueFault.Memory → items_at levels heap.now budget.old items.now others.now ≡ Err e) }
+    ensures fault { FailsAs result (items_at levels heap.now budget.old items.now others.now) }
 {
     if levels == 0 {
         return Err(ValueFault::Deep);
@@ -184,8 +188,10 @@ fn equal_entries(
     dict: DictId,
     other: DictId,
 ) -> Result<bool, ValueFault>
-    ensures ok { IfOk result (λ x. entries_at levels heap.now budget.old (dict_at heap.now dict.0) (dict_at heap.now other.0) ≡ Ok (x, budget.new)) }
-    ensures fault { IfErr result (λ e. e ≢ ValueFault.Memory → entries_at levels heap.now budget.old (dict_at heap.now dict.0) (dict_at heap.now other.0) ≡ Err e) }
+    ensures ok { IfOk result (λ x. entries_at levels heap.now budget.old (dict_at heap.now dict.0)
+        (dict_at heap.now other.0) ≡ Ok (x, budget.new)) }
+    ensures fault { FailsAs result (entries_at levels heap.now budget.old (dict_at heap.now dict.0)
+        (dict_at heap.now other.0)) }
 {
     if levels == 0 {
         return Err(ValueFault::Deep);
@@ -235,7 +241,7 @@ pub fn place_of(
 ) -> Result<Option<usize>, ValueFault>
     ensures within { IfOk result (λ found. IfSome found (λ n. n < length items.now)) }
     ensures ok { IfOk result (λ x. place_from 0 heap.now budget.old items.now value ≡ Ok (x, budget.new)) }
-    ensures fault { IfErr result (λ e. e ≢ ValueFault.Memory → place_from 0 heap.now budget.old items.now value ≡ Err e) }
+    ensures fault { FailsAs result (place_from 0 heap.now budget.old items.now value) }
 {
     'items: for (place, item) in items.iter().enumerate() {
         let same = equal(heap, budget, VALUE_DEPTH_LIMIT, *item, value)?;

@@ -1,6 +1,7 @@
 //! What a value gives item after item.
 ghost use Rattle.std.specs.Prelude.{◌≡◌, length, IfOk};
-ghost use Rattle.py_compare.specs.Iterables.{total_length, iterable_length, needed_length, characters, iterable_texts, iterable_items};
+ghost use Rattle.py_compare.specs.Iterables.{total_length, iterable_length, needed_length, characters};
+ghost use Rattle.py_compare.specs.Iterables.{iterable_texts, iterable_items};
 
 use py_heap::{Heap, Value, ValueFault, Values, text_values};
 use scons_base::{Memory, Text};

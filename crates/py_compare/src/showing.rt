@@ -1,10 +1,12 @@
 //! How values show.
-ghost use Rattle.std.specs.Prelude.{◌≡◌, ◌≢◌, Ok, Err, IfOk, IfErr, OnOk, OnErr, true, slice_get, if◌then◌else◌};
+ghost use Rattle.std.specs.Prelude.{◌≡◌, Ok, IfOk, OnOk, OnErr, true, slice_get, if◌then◌else◌};
 ghost use Rattle.py_text.specs.Numbers.{decimals};
 ghost use Rattle.py_text.specs.Quoting.{quoted as in_quotes};
 ghost use Rattle.py_heap.specs.Heap.{dict_at};
 ghost use Rattle.py_compare.specs.Growing.{grown};
-ghost use Rattle.py_compare.specs.Showing.{separator, onto_entry, tuple_end, flat_text, entries_of, shown_by, show_at, items_shown, entries_shown, show_of};
+ghost use Rattle.py_compare.specs.Showing.{separator, onto_entry, tuple_end, flat_text, entries_of, shown_by};
+ghost use Rattle.py_compare.specs.Showing.{show_at, items_shown, entries_shown, show_of};
+ghost use Rattle.py_compare.specs.Outcomes.{FailsAs};
 
 use crate::growing::GrowingText;
 use py_heap::{Budget, DictId, Entry, Heap, Value, ValueFault, settled};
@@ -14,7 +16,7 @@ use scons_base::{Memory, Text};
 /// What a value shows; in quotes where it is a text and is to stand in them. Where it fails, the units are as they were.
 pub fn show(heap: &Heap, budget: &mut Budget, a: Value, quoted: bool) -> Result<Text, ValueFault>
     ensures ok { IfOk result (λ s. show_of heap.now budget.old a quoted ≡ Ok (s, budget.new)) }
-    ensures fault { IfErr result (λ e. e ≢ ValueFault.Memory → show_of heap.now budget.old a quoted ≡ Err e) }
+    ensures fault { FailsAs result (show_of heap.now budget.old a quoted) }
     ensures unpaid { OnErr result (budget.new ≡ budget.old) }
 {
     let before = budget.copy();
@@ -26,7 +28,7 @@ pub fn show(heap: &Heap, budget: &mut Budget, a: Value, quoted: bool) -> Result<
 #[tactic(auto, using(crate::proofs::Growths::whole_shown))]
 fn show_of(heap: &Heap, budget: &mut Budget, a: Value, quoted: bool) -> Result<Text, ValueFault>
     ensures ok { IfOk result (λ s. show_of heap.now budget.old a quoted ≡ Ok (s, budget.new)) }
-    ensures fault { IfErr result (λ e. e ≢ ValueFault.Memory → show_of heap.now budget.old a quoted ≡ Err e) }
+    ensures fault { FailsAs result (show_of heap.now budget.old a quoted) }
 {
     let mut text = GrowingText::new(heap.allocator());
     show_onto(heap, budget, VALUE_DEPTH_LIMIT, quoted, &mut text, a)?;
@@ -45,8 +47,9 @@ pub fn show_onto(
     text: &mut GrowingText,
     value: Value,
 ) -> Result<(), ValueFault>
-    ensures ok { OnOk result (show_at grown levels heap.now quoted text.old budget.old value ≡ Ok (text.new, budget.new)) }
-    ensures fault { IfErr result (λ e. e ≢ ValueFault.Memory → show_at grown levels heap.now quoted text.old budget.old value ≡ Err e) }
+    ensures ok { OnOk result (show_at grown levels heap.now quoted text.old budget.old value
+        ≡ Ok (text.new, budget.new)) }
+    ensures fault { FailsAs result (show_at grown levels heap.now quoted text.old budget.old value) }
 {
     budget.charge(1)?;
     show_inside(heap, budget, levels, quoted, text, value)?;
@@ -63,8 +66,10 @@ fn show_inside(
     text: &mut GrowingText,
     value: Value,
 ) -> Result<(), ValueFault>
-    ensures ok { OnOk result (shown_by grown (items_shown grown levels heap.now) (entries_shown grown levels heap.now) heap.now quoted text.old budget.old value ≡ Ok (text.new, budget.new)) }
-    ensures fault { IfErr result (λ e. e ≢ ValueFault.Memory → shown_by grown (items_shown grown levels heap.now) (entries_shown grown levels heap.now) heap.now quoted text.old budget.old value ≡ Err e) }
+    ensures ok { OnOk result (shown_by grown (items_shown grown levels heap.now) (entries_shown grown levels heap.now)
+        heap.now quoted text.old budget.old value ≡ Ok (text.new, budget.new)) }
+    ensures fault { FailsAs result (shown_by grown (items_shown grown levels heap.now)
+        (entries_shown grown levels heap.now) heap.now quoted text.old budget.old value) }
 {
     match value {
         Value::List(list) => {
@@ -96,8 +101,9 @@ fn show_items(
     text: &mut GrowingText,
     items: &[Value],
 ) -> Result<(), ValueFault>
-    ensures ok { OnOk result (items_shown grown levels heap.now text.old budget.old items.now ≡ Ok (text.new, budget.new)) }
-    ensures fault { IfErr result (λ e. e ≢ ValueFault.Memory → items_shown grown levels heap.now text.old budget.old items.now ≡ Err e) }
+    ensures ok { OnOk result (items_shown grown levels heap.now text.old budget.old items.now
+        ≡ Ok (text.new, budget.new)) }
+    ensures fault { FailsAs result (items_shown grown levels heap.now text.old budget.old items.now) }
 {
     if levels == 0 {
         return Err(ValueFault::Deep);
@@ -117,8 +123,10 @@ fn show_entries(
     text: &mut GrowingText,
     dict: DictId,
 ) -> Result<(), ValueFault>
-    ensures ok { OnOk result (entries_shown grown levels heap.now text.old budget.old (entries_of (dict_at heap.now dict.0)) ≡ Ok (text.new, budget.new)) }
-    ensures fault { IfErr result (λ e. e ≢ ValueFault.Memory → entries_shown grown levels heap.now text.old budget.old (entries_of (dict_at heap.now dict.0)) ≡ Err e) }
+    ensures ok { OnOk result (entries_shown grown levels heap.now text.old budget.old
+        (entries_of (dict_at heap.now dict.0)) ≡ Ok (text.new, budget.new)) }
+    ensures fault { FailsAs result (entries_shown grown levels heap.now text.old budget.old
+        (entries_of (dict_at heap.now dict.0))) }
 {
     if levels == 0 {
         return Err(ValueFault::Deep);
@@ -141,8 +149,9 @@ fn show_entry(
     text: &mut GrowingText,
     entry: Entry,
 ) -> Result<(), ValueFault>
-    ensures ok { OnOk result (onto_entry grown (show_at grown levels heap.now true) text.old budget.old entry ≡ Ok (text.new, budget.new)) }
-    ensures fault { IfErr result (λ e. e ≢ ValueFault.Memory → onto_entry grown (show_at grown levels heap.now true) text.old budget.old entry ≡ Err e) }
+    ensures ok { OnOk result (onto_entry grown (show_at grown levels heap.now true) text.old budget.old entry
+        ≡ Ok (text.new, budget.new)) }
+    ensures fault { FailsAs result (onto_entry grown (show_at grown levels heap.now true) text.old budget.old entry) }
 {
     show_onto(heap, budget, levels, true, text, entry.key)?;
     text.put(": ")?;

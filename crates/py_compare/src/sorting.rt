@@ -1,8 +1,9 @@
 //! Sorting integers and sorting texts.
-ghost use Rattle.std.specs.Prelude.{◌≡◌, ◌≢◌, Ok, Err, IfOk, IfErr, OnOk};
+ghost use Rattle.std.specs.Prelude.{◌≡◌, Ok, Err, IfOk, IfErr, OnOk};
 ghost use Rattle.py_heap.specs.Many.{with_texts};
 ghost use Rattle.py_compare.specs.Sorting.{sortable, sortable_beside, sortable_items, sort_paid, in_order, sorted_of};
 ghost use Rattle.py_compare.specs.SortOrder.{sort_order, sort_rank};
+ghost use Rattle.py_compare.specs.Outcomes.{FailsAs};
 
 use crate::order::order_among;
 use py_heap::{Budget, Heap, Value, ValueFault, Values};
@@ -12,7 +13,7 @@ use std::cmp::Ordering;
 /// Items in order, once they are charged for.
 pub fn sorted_items(heap: &Heap, budget: &mut Budget, items: &[Value]) -> Result<Values, ValueFault>
     ensures ok { IfOk result (λ made. sorted_of heap.now budget.old items.now ≡ Ok (made, budget.new)) }
-    ensures fault { IfErr result (λ e. e ≢ ValueFault.Memory → sorted_of heap.now budget.old items.now ≡ Err e) }
+    ensures fault { FailsAs result (sorted_of heap.now budget.old items.now) }
 {
     sort_room(budget, items)?;
     let made = in_order(heap, items)?;

@@ -35,7 +35,9 @@ Gives (Err fault.Memory) r = Unit {0}
 -- outside rose; want of memory says nothing
 abbrev pub IsOnly : {H : Type 0} → Meaning H → Tree → Objects → Units → H → Result Ran EvalFault → H → Type 0
 IsOnly m t o u h (Err fault.Memory) h2 = Unit {0}
-IsOnly {H = H} m t o u h answer h2 = m.tells h2 → (r : Result Out Fault) (k k2 : H) → m.tells k2 → m.alike h k → Evaluates m t o u k r k2 → SameUnlessEscaped m (Gives answer r) h h2 k k2
+IsOnly {H = H} m t o u h answer h2 =
+    m.tells h2 → (r : Result Out Fault) (k k2 : H) → m.tells k2 → m.alike h k → Evaluates m t o u k r k2 →
+    SameUnlessEscaped m (Gives answer r) h h2 k k2
 
 -- only a refusal of the host is told as one
 abbrev pub HasCause : EvalFault → ℕ → ℕ → Type 0

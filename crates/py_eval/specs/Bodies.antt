@@ -5,7 +5,8 @@ use Rattle.py_heap.specs.declared.value.Value.{Value}
 use Rattle.py_host.specs.Meaning.{Meaning}
 use Rattle.py_meaning.specs.declared.fault.Exit.{Exit}
 use Rattle.py_meaning.specs.declared.fault.Exit.TheVariants as exit'
-use Rattle.py_meaning.specs.States.{State, Frame, Out, gives, goes_on, breaks, continues, returns, ends, exits, with_frame}
+use Rattle.py_meaning.specs.States.{State, Frame, Out, gives, goes_on, breaks, continues, returns, ends, exits}
+use Rattle.py_meaning.specs.States.{with_frame}
 use Rattle.py_meaning.specs.Jobs.{first_scripts}
 use Rattle.py_meaning.specs.Plans.{Plan, comes_to, stops, value, goes}
 use Rattle.py_meaning.specs.Evaluates.{Follows, IsOwn}
@@ -71,7 +72,8 @@ IsOver exit'.End other s = ⊥
 
 -- the lines of a script are over, and leave what the machine keeps
 abbrev pub IsOverOrStops : {H : Type 0} → Meaning H → ℕ → Plan → H → Result Exit Stop → Store → H → Type 0
-IsOverOrStops m c p h (Ok exit) kept h2 = (f : Frame) × (o : Out) × Follows m c p h (Ok o) h2 × IsOver exit o (state_by kept f)
+IsOverOrStops m c p h (Ok exit) kept h2 =
+    (f : Frame) × (o : Out) × Follows m c p h (Ok o) h2 × IsOver exit o (state_by kept f)
 IsOverOrStops m c p h (Err e) kept h2 = Stops m c p h e h2
 
 -- how it goes on behind a first script

@@ -1,10 +1,10 @@
 //! Questions to the host that scripts and calls of objects come to.
 ghost use Rattle.std.specs.Prelude.{◌≤◌, ℕ, Option};
 ghost use Rattle.py_tree.specs.Tree.{Tree};
-ghost use Rattle.py_host.specs.Calls.{Given, called, script_done, next_script, arguments_of, given_of, tree_of};
-ghost use Rattle.py_meaning.specs.States.{State, Frame as Place, place_at, globals_at};
+ghost use Rattle.py_host.specs.Calls.{Given, next_script, arguments_of, given_of, tree_of};
+ghost use Rattle.py_meaning.specs.States.{State, Frame as Place};
 ghost use Rattle.py_meaning.specs.Plans.{Plan, asks, asked_on};
-ghost use Rattle.py_meaning.specs.Calls.{next_place, paid_script};
+ghost use Rattle.py_meaning.specs.Calls.{call_question, end_question, next_place, paid_script};
 ghost use Rattle.py_state.specs.Stores.{store_of, state_of, state_by};
 ghost use Rattle.py_steps.specs.Leads.{Steps};
 ghost use Rattle.py_eval.specs.Bodies.{LeadsOrStops};
@@ -24,7 +24,10 @@ pub(crate) fn reply_to_call<H: Host>(
     args: &Args,
 ) -> Result<Reply, Stop>
     ensures keeps { H.meaning.keeps host.old host.new }
-    ensures leads { (c : ℕ) (k : Given → State → Plan) → LeadsOrStops H.meaning c (asked_on line (called (place_at line (state_of machine.old frame.now)) frame.now.values (globals_at (state_of machine.old frame.now) frame.now.script) object.0 (arguments_of args.now)) (state_of machine.old frame.now) k) host.old result (λ reply. k (given_of reply) (state_of machine.new frame.now)) host.new }
+    ensures leads { (c : ℕ) (k : Given → State → Plan) → LeadsOrStops H.meaning c
+        (asked_on line (call_question line object.0 (arguments_of args.now) (state_of machine.old frame.now))
+        (state_of machine.old frame.now) k)
+        host.old result (λ reply. k (given_of reply) (state_of machine.new frame.now)) host.new }
 {
     match ask_call(machine, host, frame, line, object, args) {
         Ok(reply) => Ok(reply),
@@ -41,7 +44,9 @@ pub(crate) fn reply_to_end<H: Host>(
     script: u64,
 ) -> Result<Reply, Stop>
     ensures keeps { H.meaning.keeps host.old host.new }
-    ensures leads { (c : ℕ) (k : Given → State → Plan) → LeadsOrStops H.meaning c (asked_on line (script_done (globals_at (state_of machine.old frame.now) script)) (state_of machine.old frame.now) k) host.old result (λ reply. k (given_of reply) (state_of machine.new frame.now)) host.new }
+    ensures leads { (c : ℕ) (k : Given → State → Plan) → LeadsOrStops H.meaning c
+        (asked_on line (end_question script (state_of machine.old frame.now)) (state_of machine.old frame.now) k)
+        host.old result (λ reply. k (given_of reply) (state_of machine.new frame.now)) host.new }
 {
     match ask_done(machine, host, script) {
         Ok(reply) => Ok(reply),
@@ -55,7 +60,9 @@ pub(crate) fn script_behind<H: Host>(
     host: &mut H,
 ) -> Result<Option<Script>, Stop>
     ensures keeps { H.meaning.keeps host.old host.new }
-    ensures leads { (c : ℕ) (f : Place) (k : Option Tree → State → Plan) → LeadsOrStops H.meaning c (asks next_script (state_by (store_of machine.old) f) (next_place (state_by (store_of machine.old) f)) k) host.old result (λ next. k (tree_of next) (state_by (store_of machine.new) f)) host.new }
+    ensures leads { (c : ℕ) (f : Place) (k : Option Tree → State → Plan) → LeadsOrStops H.meaning c
+        (asks next_script (state_by (store_of machine.old) f) (next_place (state_by (store_of machine.old) f)) k)
+        host.old result (λ next. k (tree_of next) (state_by (store_of machine.new) f)) host.new }
 {
     let frame = Frame::of_script(machine.alloc, machine.globals.len() as u64);
     match host.next_script(&mut machine.heap) {
@@ -66,7 +73,8 @@ pub(crate) fn script_behind<H: Host>(
 
 /// One unit for a script that begins behind another one, on its first line.
 pub(crate) fn pay_script(machine: &mut Machine) -> Result<(), Stop>
-    ensures { (f : Place) (k : State → Plan) → Steps (paid_script (state_by (store_of machine.old) f) k) result (k (state_by (store_of machine.new) f)) }
+    ensures { (f : Place) (k : State → Plan) → Steps (paid_script (state_by (store_of machine.old) f) k) result
+        (k (state_by (store_of machine.new) f)) }
 {
     let frame = Frame::of_script(machine.alloc, machine.globals.len() as u64);
     machine.pay(&frame, 1)

@@ -34,7 +34,9 @@ pub(crate) fn run_script<H: Host>(
     lines: &[Line],
 ) -> Result<Exit, Stop>
     ensures keeps { H.meaning.keeps host.old host.new }
-    ensures over { IsOverOrStops H.meaning calls (plan (exec_all (trees (map line_tree lines.now))) (state_by (store_of machine.old) (script_frame number))) host.old result (store_of machine.new) host.new }
+    ensures over { IsOverOrStops H.meaning calls
+        (plan (exec_all (trees (map line_tree lines.now))) (state_by (store_of machine.old) (script_frame number)))
+        host.old result (store_of machine.new) host.new }
 {
     let mut frame = Frame::of_script(machine.alloc, number);
     match run_body(machine, host, &mut frame, calls, lines) {
@@ -54,7 +56,9 @@ fn run_body<H: Host>(
     lines: &[Line],
 ) -> Result<Option<Value>, Stop>
     ensures keeps { H.meaning.keeps host.old host.new }
-    ensures ends { EndsOrHalts H.meaning calls (plan (exec_all (trees (map line_tree lines.now))) (state_of machine.old frame.old)) host.old result (state_of machine.new frame.new) host.new }
+    ensures ends { EndsOrHalts H.meaning calls
+        (plan (exec_all (trees (map line_tree lines.now))) (state_of machine.old frame.old))
+        host.old result (state_of machine.new frame.new) host.new }
 {
     let mut desk = Desk::new(machine.alloc);
     desk.push(Task::Lines(lines))?;
@@ -81,7 +85,8 @@ fn step<'a, H: Host>(
     task: Task<'a>,
 ) -> Result<Flow, Stop>
     ensures keeps { H.meaning.keeps host.old host.new }
-    ensures flows { FlowsOrHalts H.meaning calls (left_with task.entry desk.old machine.old frame.old) host.old result (left_at desk.new machine.new frame.new) (state_of machine.new frame.new) host.new }
+    ensures flows { FlowsOrHalts H.meaning calls (left_with task.entry desk.old machine.old frame.old) host.old result
+        (left_at desk.new machine.new frame.new) (state_of machine.new frame.new) host.new }
 {
     match task {
         Task::Call {
@@ -113,7 +118,9 @@ fn call_task<'a, H: Host>(
     base: usize,
 ) -> Result<(), Stop>
     ensures keeps { H.meaning.keeps host.old host.new }
-    ensures leads { LeadsOrHalts H.meaning calls (left_with (Task.Call line method arguments.entry base) desk.old machine.old frame.now) host.old result (λ _. left_at desk.new machine.new frame.now) (state_of machine.new frame.now) host.new }
+    ensures leads { LeadsOrHalts H.meaning calls
+        (left_with (Task.Call line method arguments.entry base) desk.old machine.old frame.now)
+        host.old result (λ _. left_at desk.new machine.new frame.now) (state_of machine.new frame.now) host.new }
 {
     let values = desk.take_above(base)?;
     let called = desk.take();
@@ -137,7 +144,9 @@ fn call<H: Host>(
     args: &Args,
 ) -> Result<Value, Stop>
     ensures keeps { H.meaning.keeps host.old host.new }
-    ensures gives { GivesOrHalts H.meaning calls (begun line (callee called method) (arguments_of args.now) (state_of machine.old frame.now)) host.old result (state_of machine.new frame.now) host.new }
+    ensures gives { GivesOrHalts H.meaning calls
+        (begun line (callee called method) (arguments_of args.now) (state_of machine.old frame.now))
+        host.old result (state_of machine.new frame.now) host.new }
 {
     let positional = args.positional.as_slice();
     match method {
@@ -171,7 +180,9 @@ fn call_function<H: Host>(
     args: &Args,
 ) -> Result<Value, Stop>
     ensures keeps { H.meaning.keeps host.old host.new }
-    ensures gives { GivesOrHalts H.meaning calls (begun line (a_value (value.Func id)) (arguments_of args.now) (state_of machine.old frame.now)) host.old result (state_of machine.new frame.now) host.new }
+    ensures gives { GivesOrHalts H.meaning calls
+        (begun line (a_value (value.Func id)) (arguments_of args.now) (state_of machine.old frame.now))
+        host.old result (state_of machine.new frame.now) host.new }
 {
     let Some(function) = machine.function(id)? else {
         return Err(fault(frame, line, EvalKind::NotCallable));
@@ -200,7 +211,9 @@ fn call_object<H: Host>(
     args: &Args,
 ) -> Result<Value, Stop>
     ensures keeps { H.meaning.keeps host.old host.new }
-    ensures gives { GivesOrHalts H.meaning calls (begun line (a_value (value.Object object)) (arguments_of args.now) (state_of machine.old frame.now)) host.old result (state_of machine.new frame.now) host.new }
+    ensures gives { GivesOrHalts H.meaning calls
+        (begun line (a_value (value.Object object)) (arguments_of args.now) (state_of machine.old frame.now))
+        host.old result (state_of machine.new frame.now) host.new }
 {
     let inside = opened(frame, line, calls)?;
     let mut reply = reply_to_call(machine, host, frame, line, object, args)?;
@@ -231,7 +244,10 @@ fn run_inner<H: Host>(
     script: &Script,
 ) -> Result<Reply, Stop>
     ensures keeps { H.meaning.keeps host.old host.new }
-    ensures leads { LeadsOrHalts H.meaning calls (plan (inner_script line (script_tree script.now)) (state_of machine.old frame.now)) host.old result (λ r. plan (reply line (given_of r)) (state_of machine.new frame.now)) (state_of machine.new frame.now) host.new }
+    ensures leads { LeadsOrHalts H.meaning calls
+        (plan (inner_script line (script_tree script.now)) (state_of machine.old frame.now))
+        host.old result (λ r. plan (reply line (given_of r)) (state_of machine.new frame.now))
+        (state_of machine.new frame.now) host.new }
 {
     let number = machine.begin_script()?;
     let _exit = run_script(machine, host, calls, number, script.lines.as_slice())?;

@@ -10,7 +10,8 @@ use py_state::{Frame, Stop, fault};
 /// No argument by name, and a number of arguments that is taken.
 pub(crate) fn plain(frame: &Frame, line: u32, args: &Args, taken: bool) -> Result<(), Stop>
     ensures ok { OnOk result (plain_arguments taken (arguments_of args.now) ≡ true) }
-    ensures fault { IfErr result (λ e. (plain_arguments taken (arguments_of args.now) ≡ false) × (e ≡ Stop.Fault frame.now.script line EvalKind.Args)) }
+    ensures fault { IfErr result (λ e. (plain_arguments taken (arguments_of args.now) ≡ false)
+        × (e ≡ Stop.Fault frame.now.script line EvalKind.Args)) }
 {
     if args.named.len() == 0 && taken {
         Ok(())

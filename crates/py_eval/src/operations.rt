@@ -24,7 +24,10 @@ pub(crate) fn do_method(
     name: Name,
     args: &[Value],
 ) -> Result<Value, Stop>
-    ensures { GivesAlone (plan_perform line (a_method value name) (record { positional = args.now; named = [] }) (state_of machine.old frame.now)) result (state_of machine.new frame.now) }
+    ensures { GivesAlone
+        (plan_perform line (a_method value name) (record { positional = args.now; named = [] })
+        (state_of machine.old frame.now))
+        result (state_of machine.new frame.now) }
 {
     match method(&mut machine.heap, &mut machine.budget, value, name, args) {
         Ok(value) => Ok(value),
@@ -42,7 +45,10 @@ pub(crate) fn do_builtin<H: Host>(
     args: &[Value],
 ) -> Result<Value, Stop>
     ensures keeps { H.meaning.keeps host.old host.new }
-    ensures gives { (c : ℕ) → GivesOrHalts H.meaning c (plan_perform line (a_value (value.Builtin builtin)) (record { positional = args.now; named = [] }) (state_of machine.old frame.now)) host.old result (state_of machine.new frame.now) host.new }
+    ensures gives { (c : ℕ) → GivesOrHalts H.meaning c
+        (plan_perform line (a_value (value.Builtin builtin)) (record { positional = args.now; named = [] })
+        (state_of machine.old frame.now))
+        host.old result (state_of machine.new frame.now) host.new }
 {
     match builtin {
         Builtin::Print => print(machine, host, frame, line, args),
@@ -58,7 +64,8 @@ fn do_alone(
     builtin: Builtin,
     args: &[Value],
 ) -> Result<Value, Stop>
-    ensures { GivesAlone (made line (state_of machine.old frame.now) (builtin_of machine.old.heap machine.old.budget builtin args.now)) result (state_of machine.new frame.now) }
+    ensures { GivesAlone (made line (state_of machine.old frame.now)
+        (builtin_of machine.old.heap machine.old.budget builtin args.now)) result (state_of machine.new frame.now) }
 {
     match call_builtin(&mut machine.heap, &mut machine.budget, builtin, args) {
         Ok(value) => Ok(value),

@@ -21,7 +21,10 @@ pub(crate) fn print<H: Host>(
     values: &[Value],
 ) -> Result<Value, Stop>
     ensures keeps { H.meaning.keeps host.old host.new }
-    ensures gives { (c : ℕ) → GivesOrHalts H.meaning c (plan_perform line (a_value (value.Builtin Builtin.Print)) (record { positional = values.now; named = [] }) (state_of machine.old frame.now)) host.old result (state_of machine.new frame.now) host.new }
+    ensures gives { (c : ℕ) → GivesOrHalts H.meaning c
+        (plan_perform line (a_value (value.Builtin Builtin.Print)) (record { positional = values.now; named = [] })
+        (state_of machine.old frame.now))
+        host.old result (state_of machine.new frame.now) host.new }
 {
     let text = match printed(machine, values) {
         Ok(text) => text,
@@ -35,8 +38,10 @@ pub(crate) fn print<H: Host>(
 
 /// What is printed.
 fn printed(machine: &mut Machine, values: &[Value]) -> Result<String, ValueFault>
-    ensures ok { IfOk result (λ text. printed machine.old.heap machine.old.budget values.now ≡ Ok (string_bytes text, machine.new.budget)) }
-    ensures fault { IfErr result (λ e. e ≢ ValueFault.Memory → printed machine.old.heap machine.old.budget values.now ≡ Err e) }
+    ensures ok { IfOk result (λ text.
+        printed machine.old.heap machine.old.budget values.now ≡ Ok (string_bytes text, machine.new.budget)) }
+    ensures fault { IfErr result (λ e.
+        e ≢ ValueFault.Memory → printed machine.old.heap machine.old.budget values.now ≡ Err e) }
     ensures stays { store_of machine.new ≡ record (store_of machine.old) { units = machine.new.budget } }
 {
     let mut text = String::new(machine.alloc);

@@ -74,7 +74,9 @@ enum Next {
 
 fn run_first<H: Host>(machine: &mut Machine, host: &mut H, script: &Script) -> Result<Exit, Stop>
     ensures keeps { H.meaning.keeps host.old host.new }
-    ensures exits { ExitsOrStops H.meaning CALL_DEPTH_LIMIT (plan (first_scripts (script_tree script.now)) (state_by (store_of machine.old) (script_frame 0))) host.old result (store_of machine.new) host.new }
+    ensures exits { ExitsOrStops H.meaning CALL_DEPTH_LIMIT
+        (plan (first_scripts (script_tree script.now)) (state_by (store_of machine.old) (script_frame 0)))
+        host.old result (store_of machine.new) host.new }
 {
     let mut next = run_one(machine, host, script)?;
     'scripts: for _ in 0..u64::MAX {
@@ -89,7 +91,9 @@ fn run_first<H: Host>(machine: &mut Machine, host: &mut H, script: &Script) -> R
 /// Runs a first script from its beginning. A script behind it is paid for.
 fn run_one<H: Host>(machine: &mut Machine, host: &mut H, script: &Script) -> Result<Next, Stop>
     ensures keeps { H.meaning.keeps host.old host.new }
-    ensures leads { (f : Frame) → LeadsToNext H.meaning CALL_DEPTH_LIMIT (plan (first_scripts (script_tree script.now)) (state_by (store_of machine.old) f)) host.old result (store_of machine.new) host.new }
+    ensures leads { (f : Frame) → LeadsToNext H.meaning CALL_DEPTH_LIMIT
+        (plan (first_scripts (script_tree script.now)) (state_by (store_of machine.old) f)) host.old result
+        (store_of machine.new) host.new }
 {
     let number = machine.begin_script()?;
     let exit = run_script(

@@ -42,7 +42,8 @@ abbrev pub bound_onto : Names → List Parameter → List Value → Names → Op
 bound_onto bound [] [] by = Some bound
 bound_onto bound [] (v ∷ vs) by = None
 bound_onto bound (p ∷ ps) (v ∷ vs) by = and_then (bind_first bound by p.name v) (λ more. bound_onto more ps vs by)
-bound_onto bound (p ∷ ps) [] by = and_then (bind_one bound p.name (by_name (value_of by p.name) p.default)) (λ more. bound_onto more ps [] by)
+bound_onto bound (p ∷ ps) [] by =
+    and_then (bind_one bound p.name (by_name (value_of by p.name) p.default)) (λ more. bound_onto more ps [] by)
 
 -- whether each named argument names a parameter
 abbrev pub all_known : List Parameter → Names → Bool

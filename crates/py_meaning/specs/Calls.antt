@@ -1,6 +1,7 @@
 -- Calls: section 6.3.4 ("Calls") of the Python language reference. Each call costs one unit, and no more than the limit
 -- are open at once (own). First what is called is looked at, then its arguments, then how many calls are open.
-use Rattle.std.specs.Prelude.{ℕ, suc, zero, Bool, true, false, ◌&&◌, ◌==◌, List, [], ◌∷◌, ◌++◌, Option, Some, None, Result, Ok, Err, length, slice_get, if◌then◌else◌, codes}
+use Rattle.std.specs.Prelude.{ℕ, suc, zero, Bool, true, false, ◌&&◌, ◌==◌, List, [], ◌∷◌, ◌++◌, Option, Some, None}
+use Rattle.std.specs.Prelude.{Result, Ok, Err, length, slice_get, if◌then◌else◌, codes}
 use Rattle.py_tree.specs.Tree.{Tree}
 use Rattle.py_heap.specs.declared.value.Value.{Value}
 use Rattle.py_heap.specs.declared.value.Value.TheVariants as v
@@ -15,14 +16,16 @@ use Rattle.py_methods.specs.declared.name.Name.{Name}
 use Rattle.py_methods.specs.Calls.{method_of}
 use Rattle.py_builtins.specs.Builtins.{builtin_of}
 use Rattle.py_host.specs.Names.{Names}
-use Rattle.py_host.specs.Calls.{Arguments, Given, a_value, a_script, some_names, the_end}
+use Rattle.py_host.specs.Calls.{Question, Arguments, Given, a_value, a_script, some_names, the_end}
 use Rattle.py_host.specs.Calls as question
 use Rattle.py_meaning.specs.declared.fault.EvalKind.TheVariants as kind
-use Rattle.py_meaning.specs.States.{State, Frame, Function, Out, place_at, goes_on, breaks, continues, returns, ends, with_units, with_frame, with_globals, globals_at, function_frame, script_frame}
+use Rattle.py_meaning.specs.States.{State, Frame, Function, Out, place_at, goes_on, breaks, continues, returns, ends}
+use Rattle.py_meaning.specs.States.{with_units, with_frame, with_globals, globals_at, function_frame, script_frame}
 use Rattle.py_host.specs.declared.place.Place.{Place}
 use Rattle.py_meaning.specs.Jobs.{Job, Callee, perform, reply, inner_script, exec_all}
 use Rattle.py_meaning.specs.Jobs as job
-use Rattle.py_meaning.specs.Plans.{Plan, comes_to, stops, first, within_call, prints, value, faulty, goes, checked, made, paid, asked_on}
+use Rattle.py_meaning.specs.Plans.{Plan, comes_to, stops, first, within_call, prints, value, faulty, goes, checked}
+use Rattle.py_meaning.specs.Plans.{made, paid, asked_on}
 use Rattle.py_meaning.specs.Arguments.{bound}
 use Rattle.py_builtins.specs.Takes.{takes}
 use Rattle.py_methods.specs.Names.{takes as method_takes}
@@ -72,7 +75,8 @@ if_taken l false j s = faulty l kind.Args s
 abbrev pub begun : ℕ → Callee → Arguments → State → Plan
 begun l (job.a_value (v.Func id)) given s = function_called l (slice_get s.functions id.0) given s
 begun l (job.a_value (v.Builtin b)) given s =
-    if_taken l (plain_arguments (takes b (length given.positional)) given) (perform l (job.a_value (v.Builtin b)) given) s
+    if_taken l (plain_arguments (takes b (length given.positional)) given)
+    (perform l (job.a_value (v.Builtin b)) given) s
 begun l (job.a_value (v.Object id)) given s = opened l (perform l (job.a_value (v.Object id)) given) s
 begun l (job.a_value other) given s = faulty l kind.NotCallable s
 begun l (job.a_method x n) given s =
@@ -88,11 +92,20 @@ abbrev builtin_done : ℕ → Builtin → List Value → State → Plan
 builtin_done l builtin.Print xs s = checked l s (printed s.objects s.units xs) (λ shown. print_done l shown s)
 builtin_done l b xs s = made l s (builtin_of s.objects s.units b xs)
 
+-- the question that the call of an object on a line is: it has the names of the function that calls, and those of its script
+abbrev pub call_question : ℕ → ℕ → Arguments → State → Question
+call_question l object given s =
+    question.called (place_at l s) s.frame.values (globals_at s s.frame.script) object given
+
+-- the question at the end of a script, which has the names that it leaves
+abbrev pub end_question : ℕ → State → Question
+end_question script s = question.script_done (globals_at s script)
+
 -- a call that is open, of what isn't a function of scripts
 abbrev pub plan_perform : ℕ → Callee → Arguments → State → Plan
 plan_perform l (job.a_value (v.Builtin b)) given s = builtin_done l b given.positional s
 plan_perform l (job.a_value (v.Object id)) given s =
-    asked_on l (question.called (place_at l s) s.frame.values (globals_at s s.frame.script) id.0 given) s (λ g s1. goes (reply l g) s1)
+    asked_on l (call_question l id.0 given s) s (λ g s1. goes (reply l g) s1)
 plan_perform l (job.a_value other) given s = faulty l kind.NotCallable s
 plan_perform l (job.a_method x n) given s = made l s (method_of s.objects s.units x n given.positional)
 
@@ -124,7 +137,7 @@ further l given s = goes (reply l given) s
 
 abbrev script_over : ℕ → State → State → Plan
 script_over l before s =
-    asked_on l (question.script_done (globals_at s (length before.globals))) (with_frame s before.frame) (further l)
+    asked_on l (end_question (length before.globals) s) (with_frame s before.frame) (further l)
 
 -- once the script has ended, what the host says of it is the reply to the call
 abbrev pub after_script : (State → Plan) → Out → Plan

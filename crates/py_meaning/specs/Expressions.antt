@@ -1,6 +1,8 @@
 -- How an expression is evaluated: chapter 6 of the Python language reference. What is charged and limited is own.
-use Rattle.std.specs.Prelude.{ℕ, pos, Bool, true, false, not as turned, List, [], ◌∷◌, ◌++◌, Option, Some, None, Result, Ok, Err, length}
-use Rattle.py_tree.specs.Tree.{Tree, nil, cons, absent, name, integer, text, constant, group, tuple, list, comprehension, dict, pair, post, named, negative, not, chain, operation, compare}
+use Rattle.std.specs.Prelude.{ℕ, pos, Bool, true, false, not as turned, List, [], ◌∷◌, ◌++◌, Option, Some, None}
+use Rattle.std.specs.Prelude.{Result, Ok, Err, length}
+use Rattle.py_tree.specs.Tree.{Tree, nil, cons, absent, name, integer, text, constant, group, tuple, list}
+use Rattle.py_tree.specs.Tree.{comprehension, dict, pair, post, named, negative, not, chain, operation, compare}
 use Rattle.py_tree.specs.declared.expr.Constant.{Constant}
 use Rattle.py_tree.specs.declared.expr.Constant.TheVariants as constant'
 use Rattle.py_tree.specs.declared.expr.Operator.{Operator}
@@ -23,7 +25,8 @@ use Rattle.py_operators.specs.Binary.{binary_of}
 use Rattle.py_meaning.specs.declared.fault.EvalKind.TheVariants as kind
 use Rattle.py_meaning.specs.States.{State, goes_on, all_give, with_objects, with_frame, after_operation}
 use Rattle.py_meaning.specs.Jobs.{eval, links, operations, collect, tests}
-use Rattle.py_meaning.specs.Plans.{Plan, comes_to, first, asks_name, value, faulty, goes, on_value, after, after_all, checked, made, paid}
+use Rattle.py_meaning.specs.Plans.{Plan, comes_to, first, asks_name, value, faulty, goes, on_value, after, after_all}
+use Rattle.py_meaning.specs.Plans.{checked, made, paid}
 use Rattle.py_meaning.specs.Lookup.{Found, a_value, unset, outside, found_in, with_inner}
 use Rattle.py_meaning.specs.Loops.{Walk, walk_of, next_of, names_of, shared}
 
@@ -124,7 +127,9 @@ decided true x t os s = goes (operations x os) s
 decided false x t os s = after t s (λ y s1. goes (operations y os) s1)
 
 abbrev operated : ℕ → Op → Value → Tree → Tree → State → Plan
-operated l k x t os s = after t s (λ y s1. checked l s1 (binary_of k s1.objects s1.units x y) (λ m. goes (operations m.0 os) (after_operation s1 m)))
+operated l k x t os s =
+    after t s (λ y s1.
+    checked l s1 (binary_of k s1.objects s1.units x y) (λ m. goes (operations m.0 os) (after_operation s1 m)))
 
 abbrev pub plan_operations : Value → Tree → State → Plan
 plan_operations x (cons (operation l operator'.Or t) os) s = decided (truth_of s.objects x) x t os s

@@ -1,6 +1,9 @@
 -- The line on which a statement or an expression begins: that of its first token.
 use Rattle.std.specs.Prelude.{ℕ}
-use Rattle.py_tree.specs.Tree.{Tree, nil, cons, absent, word, name, integer, text, constant, group, tuple, list, comprehension, dict, pair, post, attribute, call, named, index, slice, negative, not, chain, operation, compare, assign, augment, expression, pass, break, continue, return, imports, simple, branching, branch, for', def, parameter}
+use Rattle.py_tree.specs.Tree.{Tree, nil, cons, absent, word, name, integer, text, constant, group, tuple, list}
+use Rattle.py_tree.specs.Tree.{comprehension, dict, pair, post, attribute, call, named, index, slice, negative, not}
+use Rattle.py_tree.specs.Tree.{chain, operation, compare, assign, augment, expression, pass, break, continue, return}
+use Rattle.py_tree.specs.Tree.{imports, simple, branching, branch, for', def, parameter}
 
 abbrev pub first_line : Tree → ℕ
 first_line (name l n) = l

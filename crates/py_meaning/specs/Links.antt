@@ -12,7 +12,8 @@ use Rattle.py_meaning.specs.declared.fault.EvalKind.TheVariants as kind
 use Rattle.py_meaning.specs.States.{State, place_at, after_operation}
 use Rattle.py_meaning.specs.Jobs.{Job, Callee, a_value, a_method, links}
 use Rattle.py_meaning.specs.Jobs as job
-use Rattle.py_meaning.specs.Plans.{Plan, first, value, faulty, goes, on_value, after, after_all, after_optional, checked, asked_on}
+use Rattle.py_meaning.specs.Plans.{Plan, first, value, faulty, goes, on_value, after, after_all, after_optional}
+use Rattle.py_meaning.specs.Plans.{checked, asked_on}
 use Rattle.py_meaning.specs.Arguments.{arguments_by}
 use Rattle.py_methods.specs.Names.{has_method}
 use Rattle.py_meaning.specs.Words.{method_named}
@@ -46,13 +47,15 @@ method_linked l x n (cons (call cl ts) rest) s = method_of_name l x (method_name
 method_linked l x n other s = faulty l (kind.Value fault.NoMethod) s
 
 abbrev attribute_linked : ℕ → Value → List ℕ → Tree → State → Plan
-attribute_linked l (v.Object id) n rest s = asked_on l (question.attribute (place_at l s) id.0 n) s (λ x s1. goes (links x (Some l) rest) s1)
+attribute_linked l (v.Object id) n rest s =
+    asked_on l (question.attribute (place_at l s) id.0 n) s (λ x s1. goes (links x (Some l) rest) s1)
 attribute_linked l x n rest s = method_linked l x n rest s
 
 abbrev pub plan_links : Value → Option ℕ → Tree → State → Plan
 plan_links x named (cons (attribute l n) rest) s = attribute_linked l x n rest s
 plan_links x named (cons (call l ts) rest) s = called (line_or named l) (a_value x) ts rest s
-plan_links x named (cons (index l t) rest) s = after t s (λ i s1. after_item l x i s1 (λ y s2. goes (links y None rest) s2))
+plan_links x named (cons (index l t) rest) s =
+    after t s (λ i s1. after_item l x i s1 (λ y s2. goes (links y None rest) s2))
 plan_links x named (cons (slice l t1 t2) rest) s =
     after_optional t1 s (λ from s1. after_optional t2 s1 (λ to s2.
     checked l s2 (sliced s2.objects s2.units x from to) (λ m. goes (links m.0 None rest) (after_operation s2 m))))

@@ -3,7 +3,8 @@
 use Rattle.std.specs.Prelude.{ℕ, List, [], ◌∷◌}
 use Rattle.std.specs.Str.{bytes_eq}
 use Rattle.indexmap.specs.IndexSet.{insert_key}
-use Rattle.py_tree.specs.Tree.{Tree, nil, cons, word, name, tuple, assign, augment, simple, branching, branch, for', def, parameter}
+use Rattle.py_tree.specs.Tree.{Tree, nil, cons, word, name, tuple, assign, augment, simple, branching, branch, for'}
+use Rattle.py_tree.specs.Tree.{def, parameter}
 
 -- one more name, if it isn't there
 abbrev pub with_local : List (List ℕ) → List ℕ → List (List ℕ)

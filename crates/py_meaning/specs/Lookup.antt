@@ -12,8 +12,9 @@ use Rattle.py_meaning.specs.States.{State, Frame, globals_at, with_frame, with_g
 
 abbrev pub builtins : List (List ℕ × Builtin)
 builtins =
-    (codes "len", builtin.Len) ∷ (codes "range", builtin.Range) ∷ (codes "str", builtin.Str) ∷ (codes "int", builtin.Int)
-    ∷ (codes "bool", builtin.Bool) ∷ (codes "list", builtin.List) ∷ (codes "tuple", builtin.Tuple) ∷ (codes "dict", builtin.Dict)
+    (codes "len", builtin.Len) ∷ (codes "range", builtin.Range) ∷ (codes "str", builtin.Str)
+    ∷ (codes "int", builtin.Int) ∷ (codes "bool", builtin.Bool) ∷ (codes "list", builtin.List)
+    ∷ (codes "tuple", builtin.Tuple) ∷ (codes "dict", builtin.Dict)
     ∷ (codes "sorted", builtin.Sorted) ∷ (codes "enumerate", builtin.Enumerate) ∷ (codes "zip", builtin.Zip)
     ∷ (codes "print", builtin.Print) ∷ []
 
@@ -51,7 +52,8 @@ is_local names n = list_any (bytes_eq n) names
 -- at the level of a script, or in a function
 abbrev frame_found : Names → Names → Option (List (List ℕ)) → List ℕ → Found
 frame_found globals values None n = global_found globals n
-frame_found globals values (Some locals) n = if is_local locals n then or_unset (value_of values n) else global_found globals n
+frame_found globals values (Some locals) n =
+    if is_local locals n then or_unset (value_of values n) else global_found globals n
 
 abbrev or_next : Option Value → Option Value → Option Value
 or_next (Some x) next = Some x
@@ -67,7 +69,8 @@ or_outer (Some x) found = a_value x
 or_outer None found = found
 
 abbrev pub found_in : State → List ℕ → Found
-found_in s n = or_outer (inner_value s.frame.inner n) (frame_found (globals_at s s.frame.script) s.frame.values s.frame.locals n)
+found_in s n =
+    or_outer (inner_value s.frame.inner n) (frame_found (globals_at s s.frame.script) s.frame.values s.frame.locals n)
 
 abbrev set_by : State → Option (List (List ℕ)) → List ℕ → Value → State
 set_by s None n x = with_global s s.frame.script n x

@@ -1,6 +1,7 @@
 -- What a `for` and a comprehension go over, and how the items are bound: sections 8.3 ("The for statement"), 6.2.4 and 7.2 of
 -- the Python language reference.
-use Rattle.std.specs.Prelude.{ℕ, ◌+◌, ◌==◌, nat_lt, List, [], ◌∷◌, Option, Some, None, Result, Ok, if◌then◌else◌, map, length, slice_get, slice_index, drop, chars, encode_utf8}
+use Rattle.std.specs.Prelude.{ℕ, ◌+◌, ◌==◌, nat_lt, List, [], ◌∷◌, Option, Some, None, Result, Ok, if◌then◌else◌, map}
+use Rattle.std.specs.Prelude.{length, slice_get, slice_index, drop, chars, encode_utf8}
 use Rattle.std.specs.Fmt.{is_char_start}
 use Rattle.py_text.specs.Characters.{char_at}
 use Rattle.py_heap.specs.declared.value.Value.{Value}
@@ -51,7 +52,8 @@ char_by h id at (Some c) = Some (next_text h, with_text h c, text_from id (at + 
 abbrev pub next_of : Objects → Walk → Option (Value × Objects × Walk)
 next_of h (list_from id place) = item_by h (list_from id (place + 1)) (slice_get (list_at h id) place)
 next_of h (keys_from id place count) =
-    if nat_lt place count then item_by h (keys_from id (place + 1) count) (slice_get (keys_of (dict_at h id)) place) else None
+    if nat_lt place count then item_by h (keys_from id (place + 1) count) (slice_get (keys_of (dict_at h id)) place)
+    else None
 next_of h (tuple_from id place) = item_by h (tuple_from id (place + 1)) (slice_get (tuple_at h id) place)
 next_of h (text_from id at) = char_by h id at (char_from (text_at h id) at)
 

@@ -8,7 +8,8 @@ use Rattle.py_host.specs.Calls.{Question, Answer}
 use Rattle.py_compare.specs.Outcomes.{Outcome}
 use Rattle.py_meaning.specs.declared.fault.EvalKind.{EvalKind}
 use Rattle.py_meaning.specs.declared.fault.EvalKind.TheVariants as kind
-use Rattle.py_meaning.specs.States.{State, Out, place_at, gives, all_give, goes_on, ends, state_in, with_units, after_operation}
+use Rattle.py_meaning.specs.States.{State, Out, place_at, gives, all_give, goes_on, ends, state_in, with_units}
+use Rattle.py_meaning.specs.States.{after_operation}
 use Rattle.py_host.specs.declared.place.Place.{Place}
 use Rattle.py_meaning.specs.Jobs.{Job, eval, eval_all}
 

@@ -1,7 +1,8 @@
 -- How a statement is run: chapters 7 and 8 of the Python language reference. Each statement costs one unit, on its first line,
 -- and each turn of a loop one (own).
 use Rattle.std.specs.Prelude.{ℕ, Bool, true, false, List, [], ◌∷◌, ◌++◌, Option, Some, None, Result, Ok, Err, length}
-use Rattle.py_tree.specs.Tree.{Tree, nil, cons, absent, name, tuple, post, index, assign, augment, expression, pass, break, continue, return, imports, simple, branching, branch, for', def}
+use Rattle.py_tree.specs.Tree.{Tree, nil, cons, absent, name, tuple, post, index, assign, augment, expression, pass}
+use Rattle.py_tree.specs.Tree.{break, continue, return, imports, simple, branching, branch, for', def}
 use Rattle.py_tree.specs.declared.expr.Operator.{Operator}
 use Rattle.py_tree.specs.declared.expr.Operator.TheVariants as operator'
 use Rattle.py_heap.specs.declared.value.Value.{Value}
@@ -24,8 +25,10 @@ use Rattle.py_meaning.specs.Lines.{first_line}
 use Rattle.py_meaning.specs.Links.{after_item}
 use Rattle.py_meaning.specs.LocalNames.{local_names}
 use Rattle.py_meaning.specs.Loops.{Walk, walk_of, next_of, names_of, unpacked, shared}
-use Rattle.py_meaning.specs.Plans.{Plan, comes_to, first, value, goes, on_value, on_end, after, after_all, checked, paid, asked_on}
-use Rattle.py_meaning.specs.States.{State, Out, Function, place_at, goes_on, breaks, continues, returns, with_objects, after_operation}
+use Rattle.py_meaning.specs.Plans.{Plan, comes_to, first, value, goes, on_value, on_end, after, after_all, checked}
+use Rattle.py_meaning.specs.Plans.{paid, asked_on}
+use Rattle.py_meaning.specs.States.{State, Out, Function, place_at, goes_on, breaks, continues, returns, with_objects}
+use Rattle.py_meaning.specs.States.{after_operation}
 use Rattle.py_meaning.specs.Lookup.{with_bound}
 
 -- the operator of an augmented assignment
@@ -45,7 +48,8 @@ taken_over id other = Ok other
 
 -- section 7.2.1 ("Augmented assignment statements"): a list is extended or repeated in place
 abbrev pub augmented_of : Operator → Objects → Units → Value → Value → Outcome
-augmented_of operator'.Add h u (v.List id) y = then_by (method_of h u (v.List id) method.Extend (y ∷ [])) (λ m. Ok (v.List id, m.1, m.2))
+augmented_of operator'.Add h u (v.List id) y =
+    then_by (method_of h u (v.List id) method.Extend (y ∷ [])) (λ m. Ok (v.List id, m.1, m.2))
 augmented_of operator'.Multiply h u (v.List id) y = then_by (product_of h u (v.List id) y) (taken_over id.0)
 augmented_of k h u x y = binary_of (operator_op k) h u x y
 
@@ -76,19 +80,22 @@ after_item_set l base i x s f = checked l s (set_of s.objects base i x) (λ h. f
 abbrev pub after_place : Tree → Option (Tree × ℕ × Tree) → State → (ℕ → Value → Value → State → Plan) → Plan
 after_place a None s f = done s
 after_place a (Some place) s f =
-    after a s (λ x s1. first (links x (named_line a) place.0) s1 (on_value (λ base s2. after place.2 s2 (f place.1 base))))
+    after a s (λ x s1.
+    first (links x (named_line a) place.0) s1 (on_value (λ base s2. after place.2 s2 (f place.1 base))))
 
 -- section 7.2 ("Assignment statements"): the value first, then the target
 abbrev pub assigned : ℕ → Tree → Value → State → (State → Plan) → Plan
 assigned l (name ln n) x s f = f (with_bound s n x)
 assigned l (tuple lt ts b) x s f =
-    checked l s (unpacked s.objects (length (names_of ts)) x) (λ m. f (with_all_bound (with_objects s m.1) (names_of ts) m.0))
+    checked l s (unpacked s.objects (length (names_of ts)) x)
+    (λ m. f (with_all_bound (with_objects s m.1) (names_of ts) m.0))
 assigned l (post a ls) x s f = after_place a (last_index ls) s (λ li base i s1. after_item_set li base i x s1 f)
 assigned l other x s f = f s
 
 -- the operator of this line, and on with what it gives
 abbrev pub combined : ℕ → Operator → Value → Tree → State → (Value → State → Plan) → Plan
-combined l k x e s f = after e s (λ y s1. checked l s1 (augmented_of k s1.objects s1.units x y) (λ m. f m.0 (after_operation s1 m)))
+combined l k x e s f =
+    after e s (λ y s1. checked l s1 (augmented_of k s1.objects s1.units x y) (λ m. f m.0 (after_operation s1 m)))
 
 -- the target is evaluated once, and before the value
 abbrev pub augmented : ℕ → Operator → Tree → Tree → State → Plan
@@ -100,7 +107,13 @@ augmented l k other e s = done s
 -- section 8.7: the defaults are evaluated when the `def` is run
 abbrev pub defined : List ℕ → Tree → Tree → List Value → State → State
 defined n ps body xs s =
-    let f : Function = record { script = s.frame.script; parameters = parameters_by ps xs; locals = local_names ps body; body = body } in
+    let f : Function =
+    record {
+      script = s.frame.script;
+      parameters = parameters_by ps xs;
+      locals = local_names ps body;
+      body = body;
+    } in
     with_bound (record s { functions = s.functions ++ f ∷ [] }) n (v.Func (record { 0 = length s.functions }))
 
 abbrev pub statement : Tree → State → Plan
@@ -113,7 +126,8 @@ statement (imports l) s = done s
 statement (assign l t e) s = after e s (λ x s1. assigned l t x s1 done)
 statement (augment l k t e) s = augmented l k t e s
 statement (branching bs ls) s = goes (branches bs ls) s
-statement (for' l ns e ls) s = after e s (λ x s1. checked l s1 (walk_of s1.objects x) (λ walk. goes (turns l walk ns ls) s1))
+statement (for' l ns e ls) s =
+    after e s (λ x s1. checked l s1 (walk_of s1.objects x) (λ walk. goes (turns l walk ns ls) s1))
 statement (def l n ps ls) s = after_all (defaults_of ps) s (λ xs s1. done (defined n ps ls xs s1))
 statement other s = done s
 
@@ -149,7 +163,8 @@ after_turn f other = comes_to other
 abbrev pub turned : ℕ → Tree → Tree → Option (Value × Objects × Walk) → State → Plan
 turned l ns block None s = done s
 turned l ns block (Some next) s = paid l s (λ s1. checked l s1 (shared next.1 (names_of ns) next.0) (λ m.
-    first (exec_all block) (with_all_bound (with_objects s1 m.1) (names_of ns) m.0) (after_turn (λ s2. goes (turns l next.2 ns block) s2))))
+    first (exec_all block) (with_all_bound (with_objects s1 m.1) (names_of ns) m.0)
+    (after_turn (λ s2. goes (turns l next.2 ns block) s2))))
 
 abbrev pub plan_turns : ℕ → Walk → Tree → Tree → State → Plan
 plan_turns l walk ns block s = turned l ns block (next_of s.objects walk) s

@@ -106,4 +106,5 @@ script_frame n = record { script = n; running = n; locals = None; values = []; i
 
 -- the frame of a function's body
 abbrev pub function_frame : Frame → Function → Names → Frame
-function_frame caller f values = record { script = f.script; running = caller.running; locals = Some f.locals; values = values; inner = [] }
+function_frame caller f values =
+    record { script = f.script; running = caller.running; locals = Some f.locals; values = values; inner = [] }

@@ -10,14 +10,17 @@ name_in (e ∷ es) n = if bytes_eq n e.0 then Some e.1 else name_in es n
 
 abbrev pub text_words : List (List ℕ × Name)
 text_words =
-    (codes "split", name.Split) ∷ (codes "strip", name.Strip) ∷ (codes "lstrip", name.Lstrip) ∷ (codes "rstrip", name.Rstrip)
+    (codes "split", name.Split) ∷ (codes "strip", name.Strip) ∷ (codes "lstrip", name.Lstrip)
+    ∷ (codes "rstrip", name.Rstrip)
     ∷ (codes "startswith", name.Startswith) ∷ (codes "endswith", name.Endswith) ∷ (codes "replace", name.Replace)
-    ∷ (codes "join", name.Join) ∷ (codes "find", name.Find) ∷ (codes "lower", name.Lower) ∷ (codes "upper", name.Upper) ∷ []
+    ∷ (codes "join", name.Join) ∷ (codes "find", name.Find) ∷ (codes "lower", name.Lower)
+    ∷ (codes "upper", name.Upper) ∷ []
 
 abbrev pub list_words : List (List ℕ × Name)
 list_words =
-    (codes "append", name.Append) ∷ (codes "extend", name.Extend) ∷ (codes "insert", name.Insert) ∷ (codes "pop", name.Pop)
-    ∷ (codes "remove", name.Remove) ∷ (codes "index", name.Index) ∷ (codes "reverse", name.Reverse) ∷ (codes "sort", name.Sort) ∷ []
+    (codes "append", name.Append) ∷ (codes "extend", name.Extend) ∷ (codes "insert", name.Insert)
+    ∷ (codes "pop", name.Pop) ∷ (codes "remove", name.Remove) ∷ (codes "index", name.Index)
+    ∷ (codes "reverse", name.Reverse) ∷ (codes "sort", name.Sort) ∷ []
 
 abbrev pub dict_words : List (List ℕ × Name)
 dict_words =

@@ -27,7 +27,8 @@ get_of h id key default = get_by (dict_at h id) default (key_of h key)
 abbrev default_at : Objects → ℕ → Value → Value → Key → Option Entry → Result (Value × Objects) ValueFault
 default_at h id key item k (Some e) = Ok (e.item, h)
 default_at h id key item k None =
-    limited LIST_LIMIT (length (put (dict_at h id) k key item)) (item, with_dict_at h id (put (dict_at h id) k key item))
+    limited LIST_LIMIT (length (put (dict_at h id) k key item))
+    (item, with_dict_at h id (put (dict_at h id) k key item))
 
 abbrev default_by : Objects → ℕ → Value → Value → Option Key → Result (Value × Objects) ValueFault
 default_by h id key item None = Err fault.Key

@@ -1,5 +1,6 @@
 -- The methods of a list: "Mutable Sequence Types" in the Python library reference. The limit is own.
-use Rattle.std.specs.Prelude.{ℕ, ◌+◌, ℤ, pos, negsuc, List, [], ◌∷◌, ◌++◌, length, Option, Some, None, Result, Ok, Err, slice_index_or, insert, remove, reverse}
+use Rattle.std.specs.Prelude.{ℕ, ◌+◌, ℤ, pos, negsuc, List, [], ◌∷◌, ◌++◌, length, Option, Some, None, Result, Ok}
+use Rattle.std.specs.Prelude.{Err, slice_index_or, insert, remove, reverse}
 use Rattle.py_heap.specs.declared.value.Value.{Value}
 use Rattle.py_heap.specs.declared.value.Value.TheVariants as v
 use Rattle.py_heap.specs.declared.fault.ValueFault.{ValueFault}
@@ -32,7 +33,12 @@ abbrev pub extended : Objects → Units → ℕ → Value → ℕ → Outcome
 extended h u id x n =
     then_by (limited LIST_LIMIT (length (list_at h id) + n) n) (λ count.
     then_by (charged u (total_length (iterable_texts h count x))) (λ left.
-    Ok (v.Nil, with_list_at (with_texts h (iterable_texts h count x)) id (list_at h id ++ iterable_items h (length h.texts) count x), left)))
+    Ok (
+      v.Nil,
+      with_list_at (with_texts h (iterable_texts h count x)) id
+          (list_at h id ++ iterable_items h (length h.texts) count x),
+      left,
+    )))
 
 abbrev extend_by : Objects → Units → ℕ → Value → Option ℕ → Outcome
 extend_by h u id x None = mismatch (v.List (record { 0 = id })) x
@@ -44,7 +50,9 @@ extend_of h u id x = extend_by h u id x (iterable_length h x)
 
 -- in front of the item at a place, as an end of a slice names it
 abbrev pub insert_at : Objects → ℕ → ℤ → Value → Changed
-insert_at h id i x = limited LIST_LIMIT (length (list_at h id) + 1) (with_items h id (insert (list_at h id) (end_in i (length (list_at h id))) x))
+insert_at h id i x =
+    limited LIST_LIMIT (length (list_at h id) + 1)
+    (with_items h id (insert (list_at h id) (end_in i (length (list_at h id))) x))
 
 abbrev pub insert_of : Objects → ℕ → Value → Value → Value → Changed
 insert_of h id a (v.Int i) x = insert_at h id i x

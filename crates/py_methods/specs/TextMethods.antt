@@ -1,5 +1,6 @@
 -- What each method of a text gives: "String Methods" in the Python library reference.
-use Rattle.std.specs.Prelude.{ℕ, pos, negsuc, List, [], ◌∷◌, ◌++◌, Option, Some, None, Result, Ok, Err, if◌then◌else◌, ◌==◌, length}
+use Rattle.std.specs.Prelude.{ℕ, pos, negsuc, List, [], ◌∷◌, ◌++◌, Option, Some, None, Result, Ok, Err, if◌then◌else◌}
+use Rattle.std.specs.Prelude.{◌==◌, length}
 use Rattle.py_text.specs.Finding.{starts_with, ends_with, find_of}
 use Rattle.py_text.specs.Joining.{joined}
 use Rattle.py_text.specs.Letters.{lower, upper}
@@ -61,7 +62,8 @@ finds h u s a x = then_by (as_text h a x) (λ part. found h u s part)
 
 -- the arguments are looked at in order
 abbrev pub paid_replacement : Objects → Units → List ℕ → Value → Value → Value → Result (List ℕ × Units) ValueFault
-paid_replacement h u s a x y = then_by (as_text h a x) (λ old. then_by (as_text h a y) (λ new. paid_text u (replaced s old new)))
+paid_replacement h u s a x y =
+    then_by (as_text h a x) (λ old. then_by (as_text h a y) (λ new. paid_text u (replaced s old new)))
 
 abbrev pub replaces : Objects → Units → List ℕ → Value → Value → Value → Outcome
 replaces h u s a x y = then_by (paid_replacement h u s a x y) (λ made. Ok (next_text h, with_text h made.0, made.1))
@@ -82,7 +84,10 @@ text_method h u id name.Upper args = with_none args (new_text h u (upper (text_a
 text_method h u id name.Startswith args = with_one args (λ x. starts h u (text_at h id) (v.Text (record { 0 = id })) x)
 text_method h u id name.Endswith args = with_one args (λ x. ends h u (text_at h id) (v.Text (record { 0 = id })) x)
 text_method h u id name.Find args = with_one args (λ x. finds h u (text_at h id) (v.Text (record { 0 = id })) x)
-text_method h u id name.Replace args = with_two args (λ x y. replaces h u (text_at h id) (v.Text (record { 0 = id })) x y)
+text_method h u id name.Replace args =
+    with_two args (λ x y. replaces h u (text_at h id) (v.Text (record { 0 = id })) x y)
 text_method h u id name.Join args = with_one args (λ x. joined_by h u (v.Text (record { 0 = id })) (text_at h id) x)
-text_method h u id name.Split args = with_optional args (text_list h u (words_of (text_at h id))) (λ x. splits h u (text_at h id) (v.Text (record { 0 = id })) x)
+text_method h u id name.Split args =
+    with_optional args (text_list h u (words_of (text_at h id)))
+    (λ x. splits h u (text_at h id) (v.Text (record { 0 = id })) x)
 text_method h u id other args = Err fault.NoMethod

@@ -1,6 +1,7 @@
 //! Methods by the kind that they belong to.
-ghost use Rattle.std.specs.Prelude.{◌≡◌, ◌≢◌, Ok, Err, IfOk, IfErr, OnErr};
+ghost use Rattle.std.specs.Prelude.{◌≡◌, Ok, IfOk, OnErr};
 ghost use Rattle.py_methods.specs.Calls.{method_of};
+ghost use Rattle.py_compare.specs.Outcomes.{FailsAs};
 
 use crate::methods::{dict_method, list_method};
 use crate::name::Name;
@@ -17,7 +18,7 @@ pub fn method(
     args: &[Value],
 ) -> Result<Value, ValueFault>
     ensures ok { IfOk result (λ v. method_of heap.old budget.old a name args.now ≡ Ok (v, heap.new, budget.new)) }
-    ensures fault { IfErr result (λ e. e ≢ ValueFault.Memory → method_of heap.old budget.old a name args.now ≡ Err e) }
+    ensures fault { FailsAs result (method_of heap.old budget.old a name args.now) }
     ensures err { OnErr result (heap.new ≡ heap.old) }
     ensures unpaid { OnErr result (budget.new ≡ budget.old) }
 {
@@ -35,7 +36,7 @@ fn method_of(
     args: &[Value],
 ) -> Result<Value, ValueFault>
     ensures ok { IfOk result (λ v. method_of heap.old budget.old a name args.now ≡ Ok (v, heap.new, budget.new)) }
-    ensures fault { IfErr result (λ e. e ≢ ValueFault.Memory → method_of heap.old budget.old a name args.now ≡ Err e) }
+    ensures fault { FailsAs result (method_of heap.old budget.old a name args.now) }
     ensures err { OnErr result (heap.new ≡ heap.old) }
 {
     match a {

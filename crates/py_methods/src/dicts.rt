@@ -1,8 +1,8 @@
 //! The methods of a dict.
-ghost use Rattle.std.specs.Prelude.{◌≡◌, ◌≢◌, ◌≤◌, length, Ok, Err, IfOk, IfErr, OnOk, OnErr};
+ghost use Rattle.std.specs.Prelude.{◌≡◌, ◌≤◌, length, Ok, IfOk, OnOk, OnErr};
 ghost use Rattle.py_heap.specs.Dicts.{put_all};
 ghost use Rattle.py_heap.specs.Heap.{dict_at, keys_of, items_in};
-ghost use Rattle.py_compare.specs.Outcomes.{paid_items};
+ghost use Rattle.py_compare.specs.Outcomes.{FailsAs, paid_items};
 ghost use Rattle.py_methods.specs.Dicts.{update_of, get_of, setdefault_of, keys_list, values_list};
 
 use py_heap::{Budget, DictId, Heap, Value, ValueFault, list_room};
@@ -17,7 +17,7 @@ pub(crate) fn get(
     default: Value,
 ) -> Result<Value, ValueFault>
     ensures ok { IfOk result (λ v. get_of heap.now dict.0 key default ≡ Ok v) }
-    ensures fault { IfErr result (λ e. e ≢ ValueFault.Memory → get_of heap.now dict.0 key default ≡ Err e) }
+    ensures fault { FailsAs result (get_of heap.now dict.0 key default) }
 {
     let Some(key) = heap.key_of(key)? else {
         return Err(ValueFault::Key);
@@ -37,7 +37,7 @@ pub(crate) fn setdefault(
     item: Value,
 ) -> Result<Value, ValueFault>
     ensures ok { IfOk result (λ v. setdefault_of heap.old dict.0 key item ≡ Ok (v, heap.new)) }
-    ensures fault { IfErr result (λ e. e ≢ ValueFault.Memory → setdefault_of heap.old dict.0 key item ≡ Err e) }
+    ensures fault { FailsAs result (setdefault_of heap.old dict.0 key item) }
     ensures err { OnErr result (heap.new ≡ heap.old) }
 {
     let Some(content) = heap.key_of(key)? else {
@@ -60,7 +60,7 @@ pub(crate) fn setdefault(
 #[tactic(auto, using(crate::proofs::Listed::listed))]
 pub(crate) fn keys(heap: &mut Heap, budget: &mut Budget, dict: DictId) -> Result<Value, ValueFault>
     ensures ok { IfOk result (λ v. keys_list heap.old budget.old dict.0 ≡ Ok (v, heap.new, budget.new)) }
-    ensures fault { IfErr result (λ e. e ≢ ValueFault.Memory → keys_list heap.old budget.old dict.0 ≡ Err e) }
+    ensures fault { FailsAs result (keys_list heap.old budget.old dict.0) }
     ensures err { OnErr result (heap.new ≡ heap.old) }
 {
     list_room(budget, heap.dict_len(dict) as u64)?;
@@ -77,7 +77,7 @@ pub(crate) fn values(
     dict: DictId,
 ) -> Result<Value, ValueFault>
     ensures ok { IfOk result (λ v. values_list heap.old budget.old dict.0 ≡ Ok (v, heap.new, budget.new)) }
-    ensures fault { IfErr result (λ e. e ≢ ValueFault.Memory → values_list heap.old budget.old dict.0 ≡ Err e) }
+    ensures fault { FailsAs result (values_list heap.old budget.old dict.0) }
     ensures err { OnErr result (heap.new ≡ heap.old) }
 {
     list_room(budget, heap.dict_len(dict) as u64)?;
@@ -90,7 +90,7 @@ pub(crate) fn values(
 #[tactic(auto, using(py_compare::proofs::Limits::exact_limits))]
 pub(crate) fn update(heap: &mut Heap, dict: DictId, other: Value) -> Result<Value, ValueFault>
     ensures ok { IfOk result (λ v. update_of heap.old dict.0 other ≡ Ok (v, heap.new)) }
-    ensures fault { IfErr result (λ e. e ≢ ValueFault.Memory → update_of heap.old dict.0 other ≡ Err e) }
+    ensures fault { FailsAs result (update_of heap.old dict.0 other) }
     ensures err { OnErr result (heap.new ≡ heap.old) }
 {
     match other {
@@ -108,7 +108,7 @@ pub(crate) fn update(heap: &mut Heap, dict: DictId, other: Value) -> Result<Valu
 #[tactic(auto, using(crate::proofs::Updates::updates))]
 fn update_room(heap: &Heap, dict: DictId, other: DictId) -> Result<(), ValueFault>
     ensures few { OnOk result (length (put_all (dict_at heap.now dict.0) (dict_at heap.now other.0)) ≤ LIST_LIMIT) }
-    ensures fault { IfErr result (λ e. e ≢ ValueFault.Memory → update_of heap.now dict.0 (Value.Dict other) ≡ Err e) }
+    ensures fault { FailsAs result (update_of heap.now dict.0 (Value.Dict other)) }
 {
     let most = (heap.dict_len(dict) as u64).saturating_add(heap.dict_len(other) as u64);
     if most <= LIST_LIMIT {

@@ -1,6 +1,8 @@
 //! The methods of a list.
-ghost use Rattle.std.specs.Prelude.{◌≡◌, ◌≢◌, Ok, Err, IfOk, IfErr, OnErr};
-ghost use Rattle.py_methods.specs.Lists.{append_of, extended, extend_of, insert_of, insert_at, pop_at, pop_of, pop_last_of, remove_of, index_of, reverse_of, sort_of};
+ghost use Rattle.std.specs.Prelude.{◌≡◌, Ok, Err, IfOk, IfErr, OnErr};
+ghost use Rattle.py_methods.specs.Lists.{append_of, extended, extend_of, insert_of, insert_at, pop_at, pop_of};
+ghost use Rattle.py_methods.specs.Lists.{pop_last_of, remove_of, index_of, reverse_of, sort_of};
+ghost use Rattle.py_compare.specs.Outcomes.{FailsAs};
 
 use py_compare::{
     above_zero, iterable_bytes, iterable_items, iterable_length, iterable_texts, place_of,
@@ -13,7 +15,7 @@ use scons_base::limits::LIST_LIMIT;
 #[tactic(auto, using(py_compare::proofs::Limits::limits))]
 pub(crate) fn append(heap: &mut Heap, list: ListId, item: Value) -> Result<Value, ValueFault>
     ensures ok { IfOk result (λ v. append_of heap.old list.0 item ≡ Ok (v, heap.new)) }
-    ensures fault { IfErr result (λ e. e ≢ ValueFault.Memory → append_of heap.old list.0 item ≡ Err e) }
+    ensures fault { FailsAs result (append_of heap.old list.0 item) }
     ensures err { OnErr result (heap.new ≡ heap.old) }
 {
     let length = (heap.list_at(list).len() as u64).saturating_add(1);
@@ -32,7 +34,7 @@ pub(crate) fn extend(
     more: Value,
 ) -> Result<Value, ValueFault>
     ensures ok { IfOk result (λ v. extend_of heap.old budget.old list.0 more ≡ Ok (v, heap.new, budget.new)) }
-    ensures fault { IfErr result (λ e. e ≢ ValueFault.Memory → extend_of heap.old budget.old list.0 more ≡ Err e) }
+    ensures fault { FailsAs result (extend_of heap.old budget.old list.0 more) }
     ensures err { OnErr result (heap.new ≡ heap.old) }
 {
     match iterable_length(heap, more) {
@@ -51,7 +53,7 @@ fn extend_by(
     count: usize,
 ) -> Result<Value, ValueFault>
     ensures ok { IfOk result (λ v. extended heap.old budget.old list.0 more count ≡ Ok (v, heap.new, budget.new)) }
-    ensures fault { IfErr result (λ e. e ≢ ValueFault.Memory → extended heap.old budget.old list.0 more count ≡ Err e) }
+    ensures fault { FailsAs result (extended heap.old budget.old list.0 more count) }
     ensures err { OnErr result (heap.new ≡ heap.old) }
 {
     let length = (heap.list_at(list).len() as u64).saturating_add(count as u64);
@@ -72,7 +74,7 @@ pub(crate) fn insert(
     item: Value,
 ) -> Result<Value, ValueFault>
     ensures ok { IfOk result (λ v. insert_of heap.old list.0 (Value.List list) index item ≡ Ok (v, heap.new)) }
-    ensures fault { IfErr result (λ e. e ≢ ValueFault.Memory → insert_of heap.old list.0 (Value.List list) index item ≡ Err e) }
+    ensures fault { FailsAs result (insert_of heap.old list.0 (Value.List list) index item) }
     ensures err { OnErr result (heap.new ≡ heap.old) }
 {
     match index {
@@ -84,7 +86,7 @@ pub(crate) fn insert(
 #[tactic(auto, using(py_compare::proofs::Limits::limits))]
 fn insert_at(heap: &mut Heap, list: ListId, index: i64, item: Value) -> Result<Value, ValueFault>
     ensures ok { IfOk result (λ v. insert_at heap.old list.0 index item ≡ Ok (v, heap.new)) }
-    ensures fault { IfErr result (λ e. e ≢ ValueFault.Memory → insert_at heap.old list.0 index item ≡ Err e) }
+    ensures fault { FailsAs result (insert_at heap.old list.0 index item) }
     ensures err { OnErr result (heap.new ≡ heap.old) }
 {
     let count = heap.list_at(list).len();
@@ -141,7 +143,7 @@ pub(crate) fn remove(
     item: Value,
 ) -> Result<Value, ValueFault>
     ensures ok { IfOk result (λ v. remove_of heap.old budget.old list.0 item ≡ Ok (v, heap.new, budget.new)) }
-    ensures fault { IfErr result (λ e. e ≢ ValueFault.Memory → remove_of heap.old budget.old list.0 item ≡ Err e) }
+    ensures fault { FailsAs result (remove_of heap.old budget.old list.0 item) }
     ensures err { OnErr result (heap.new ≡ heap.old) }
 {
     let found = place_of(heap, budget, heap.list_at(list), item)?;
@@ -162,7 +164,7 @@ pub(crate) fn index(
     item: Value,
 ) -> Result<Value, ValueFault>
     ensures ok { IfOk result (λ v. index_of heap.now budget.old list.0 item ≡ Ok (v, heap.now, budget.new)) }
-    ensures fault { IfErr result (λ e. e ≢ ValueFault.Memory → index_of heap.now budget.old list.0 item ≡ Err e) }
+    ensures fault { FailsAs result (index_of heap.now budget.old list.0 item) }
 {
     let found = place_of(heap, budget, heap.list_at(list), item)?;
     match found {
@@ -180,7 +182,7 @@ pub(crate) fn reverse(heap: &mut Heap, list: ListId) -> Value
 
 pub(crate) fn sort(heap: &mut Heap, budget: &mut Budget, list: ListId) -> Result<Value, ValueFault>
     ensures ok { IfOk result (λ v. sort_of heap.old budget.old list.0 ≡ Ok (v, heap.new, budget.new)) }
-    ensures fault { IfErr result (λ e. e ≢ ValueFault.Memory → sort_of heap.old budget.old list.0 ≡ Err e) }
+    ensures fault { FailsAs result (sort_of heap.old budget.old list.0) }
     ensures err { OnErr result (heap.new ≡ heap.old) }
 {
     let items = sorted_items(heap, budget, heap.list_at(list))?;

@@ -1,9 +1,10 @@
 //! Lists of new texts and of new tuples.
-ghost use Rattle.std.specs.Prelude.{◌≡◌, ◌≢◌, ◌+◌, Ok, Err, IfOk, IfErr, OnErr, ◌<◌, map, length};
+ghost use Rattle.std.specs.Prelude.{◌≡◌, ◌+◌, Ok, IfOk, OnErr, ◌<◌, map, length};
 ghost use Rattle.py_text.specs.Splitting.{split_of, words_of};
 ghost use Rattle.py_heap.specs.Heap.{text_at, dict_at};
 ghost use Rattle.py_compare.specs.Iterables.{total_length};
 ghost use Rattle.py_methods.specs.Many.{paid_texts, text_list, paid_pairs, pair_list, pair_rows};
+ghost use Rattle.py_compare.specs.Outcomes.{FailsAs};
 
 use py_compare::entry_in;
 use py_heap::{Budget, DictId, Heap, TextId, Value, ValueFault, Values};
@@ -13,8 +14,9 @@ use std::alloc::Global;
 
 /// A list of the words of a text.
 pub(crate) fn words(heap: &mut Heap, budget: &mut Budget, text: TextId) -> Result<Value, ValueFault>
-    ensures ok { IfOk result (λ v. text_list heap.old budget.old (words_of (text_at heap.old text.0)) ≡ Ok (v, heap.new, budget.new)) }
-    ensures fault { IfErr result (λ e. e ≢ ValueFault.Memory → text_list heap.old budget.old (words_of (text_at heap.old text.0)) ≡ Err e) }
+    ensures ok { IfOk result (λ v.
+        text_list heap.old budget.old (words_of (text_at heap.old text.0)) ≡ Ok (v, heap.new, budget.new)) }
+    ensures fault { FailsAs result (text_list heap.old budget.old (words_of (text_at heap.old text.0))) }
     ensures err { OnErr result (heap.new ≡ heap.old) }
 {
     let made = words_paid(heap.allocator(), budget, heap.text_at(text))?;
@@ -24,7 +26,7 @@ pub(crate) fn words(heap: &mut Heap, budget: &mut Budget, text: TextId) -> Resul
 
 fn words_paid(alloc: Global, budget: &mut Budget, text: &str) -> Result<Vec<Text>, ValueFault>
     ensures ok { IfOk result (λ made. paid_texts budget.old (words_of text.now) ≡ Ok (made.items, budget.new)) }
-    ensures fault { IfErr result (λ e. e ≢ ValueFault.Memory → paid_texts budget.old (words_of text.now) ≡ Err e) }
+    ensures fault { FailsAs result (paid_texts budget.old (words_of text.now)) }
 {
     let words = py_text::words(alloc, text)?;
     let made = texts_paid(alloc, budget, words.as_slice())?;
@@ -39,8 +41,10 @@ pub(crate) fn parts(
     separator: TextId,
 ) -> Result<Value, ValueFault>
     requires { 0 < length (text_at heap.old separator.0) }
-    ensures ok { IfOk result (λ v. text_list heap.old budget.old (split_of (text_at heap.old text.0) (text_at heap.old separator.0)) ≡ Ok (v, heap.new, budget.new)) }
-    ensures fault { IfErr result (λ e. e ≢ ValueFault.Memory → text_list heap.old budget.old (split_of (text_at heap.old text.0) (text_at heap.old separator.0)) ≡ Err e) }
+    ensures ok { IfOk result (λ v. text_list heap.old budget.old
+        (split_of (text_at heap.old text.0) (text_at heap.old separator.0)) ≡ Ok (v, heap.new, budget.new)) }
+    ensures fault { FailsAs result (text_list heap.old budget.old
+        (split_of (text_at heap.old text.0) (text_at heap.old separator.0))) }
     ensures err { OnErr result (heap.new ≡ heap.old) }
 {
     let made = parts_paid(
@@ -60,8 +64,9 @@ fn parts_paid(
     separator: &str,
 ) -> Result<Vec<Text>, ValueFault>
     requires { 0 < length separator.now }
-    ensures ok { IfOk result (λ made. paid_texts budget.old (split_of text.now separator.now) ≡ Ok (made.items, budget.new)) }
-    ensures fault { IfErr result (λ e. e ≢ ValueFault.Memory → paid_texts budget.old (split_of text.now separator.now) ≡ Err e) }
+    ensures ok { IfOk result (λ made.
+        paid_texts budget.old (split_of text.now separator.now) ≡ Ok (made.items, budget.new)) }
+    ensures fault { FailsAs result (paid_texts budget.old (split_of text.now separator.now)) }
 {
     let parts = py_text::split(alloc, text, separator)?;
     let made = texts_paid(alloc, budget, parts.as_slice())?;
@@ -71,8 +76,9 @@ fn parts_paid(
 /// Copies of texts that are to be made, once they and their list are charged for.
 #[tactic(auto, using(crate::proofs::ManyTexts::many_texts))]
 fn texts_paid(alloc: Global, budget: &mut Budget, texts: &[&str]) -> Result<Vec<Text>, ValueFault>
-    ensures ok { IfOk result (λ made. paid_texts budget.old (map (λ t. t.now) texts.now) ≡ Ok (made.items, budget.new)) }
-    ensures fault { IfErr result (λ e. e ≢ ValueFault.Memory → paid_texts budget.old (map (λ t. t.now) texts.now) ≡ Err e) }
+    ensures ok { IfOk result (λ made.
+        paid_texts budget.old (map (λ t. t.now) texts.now) ≡ Ok (made.items, budget.new)) }
+    ensures fault { FailsAs result (paid_texts budget.old (map (λ t. t.now) texts.now)) }
 {
     let count = texts.len() as u64;
     if count > LIST_LIMIT {
@@ -107,8 +113,9 @@ fn copies_of(alloc: Global, texts: &[&str]) -> Result<Vec<Text>, Memory>
 
 /// A list of the pairs of a dict.
 pub(crate) fn pairs(heap: &mut Heap, budget: &mut Budget, dict: DictId) -> Result<Value, ValueFault>
-    ensures ok { IfOk result (λ v. pair_list heap.old budget.old (pair_rows (dict_at heap.old dict.0)) ≡ Ok (v, heap.new, budget.new)) }
-    ensures fault { IfErr result (λ e. e ≢ ValueFault.Memory → pair_list heap.old budget.old (pair_rows (dict_at heap.old dict.0)) ≡ Err e) }
+    ensures ok { IfOk result (λ v.
+        pair_list heap.old budget.old (pair_rows (dict_at heap.old dict.0)) ≡ Ok (v, heap.new, budget.new)) }
+    ensures fault { FailsAs result (pair_list heap.old budget.old (pair_rows (dict_at heap.old dict.0))) }
     ensures err { OnErr result (heap.new ≡ heap.old) }
 {
     let made = pairs_paid(heap, budget, dict)?;
@@ -118,8 +125,9 @@ pub(crate) fn pairs(heap: &mut Heap, budget: &mut Budget, dict: DictId) -> Resul
 
 #[tactic(auto, using(crate::proofs::Pairs::pair_limits))]
 fn pairs_paid(heap: &Heap, budget: &mut Budget, dict: DictId) -> Result<Vec<Values>, ValueFault>
-    ensures ok { IfOk result (λ made. paid_pairs budget.old (pair_rows (dict_at heap.now dict.0)) ≡ Ok (made.items, budget.new)) }
-    ensures fault { IfErr result (λ e. e ≢ ValueFault.Memory → paid_pairs budget.old (pair_rows (dict_at heap.now dict.0)) ≡ Err e) }
+    ensures ok { IfOk result (λ made.
+        paid_pairs budget.old (pair_rows (dict_at heap.now dict.0)) ≡ Ok (made.items, budget.new)) }
+    ensures fault { FailsAs result (paid_pairs budget.old (pair_rows (dict_at heap.now dict.0))) }
 {
     let count = heap.dict_len(dict) as u64;
     if count > LIST_LIMIT {

@@ -1,6 +1,7 @@
 //! The methods of lists and dicts, by their names.
-ghost use Rattle.std.specs.Prelude.{◌≡◌, ◌≢◌, Ok, Err, IfOk, IfErr, OnErr};
+ghost use Rattle.std.specs.Prelude.{◌≡◌, Ok, IfOk, OnErr};
 ghost use Rattle.py_methods.specs.Methods.{list_method, dict_method};
+ghost use Rattle.py_compare.specs.Outcomes.{FailsAs};
 
 use crate::dicts::{get, keys, setdefault, update, values};
 use crate::lists::{append, extend, index, insert, pop, pop_last, remove, reverse, sort};
@@ -16,8 +17,9 @@ pub(crate) fn list_method(
     name: Name,
     args: &[Value],
 ) -> Result<Value, ValueFault>
-    ensures ok { IfOk result (λ v. list_method heap.old budget.old list.0 name args.now ≡ Ok (v, heap.new, budget.new)) }
-    ensures fault { IfErr result (λ e. e ≢ ValueFault.Memory → list_method heap.old budget.old list.0 name args.now ≡ Err e) }
+    ensures ok { IfOk result (λ v.
+        list_method heap.old budget.old list.0 name args.now ≡ Ok (v, heap.new, budget.new)) }
+    ensures fault { FailsAs result (list_method heap.old budget.old list.0 name args.now) }
     ensures err { OnErr result (heap.new ≡ heap.old) }
 {
     match name {
@@ -65,8 +67,9 @@ pub(crate) fn dict_method(
     name: Name,
     args: &[Value],
 ) -> Result<Value, ValueFault>
-    ensures ok { IfOk result (λ v. dict_method heap.old budget.old dict.0 name args.now ≡ Ok (v, heap.new, budget.new)) }
-    ensures fault { IfErr result (λ e. e ≢ ValueFault.Memory → dict_method heap.old budget.old dict.0 name args.now ≡ Err e) }
+    ensures ok { IfOk result (λ v.
+        dict_method heap.old budget.old dict.0 name args.now ≡ Ok (v, heap.new, budget.new)) }
+    ensures fault { FailsAs result (dict_method heap.old budget.old dict.0 name args.now) }
     ensures err { OnErr result (heap.new ≡ heap.old) }
 {
     match name {

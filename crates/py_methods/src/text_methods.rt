@@ -1,10 +1,11 @@
 //! The methods of a text.
-ghost use Rattle.std.specs.Prelude.{◌≡◌, ◌≢◌, Ok, Err, IfOk, IfErr, OnErr, [], map};
+ghost use Rattle.std.specs.Prelude.{◌≡◌, Ok, Err, IfOk, IfErr, OnErr, [], map};
 ghost use Rattle.py_text.specs.Letters.{lower, upper};
 ghost use Rattle.py_text.specs.Stripping.{lstrip, rstrip, strip};
 ghost use Rattle.py_heap.specs.Heap.{text_at};
-ghost use Rattle.py_compare.specs.Outcomes.{paid_text, new_text};
-ghost use Rattle.py_methods.specs.TextMethods.{as_text, texts_onto, paid_join, joined_by, joined_items, found, starts, ends, finds, splits, paid_replacement, replaces, text_method};
+ghost use Rattle.py_compare.specs.Outcomes.{FailsAs, paid_text, new_text};
+ghost use Rattle.py_methods.specs.TextMethods.{as_text, texts_onto, paid_join, joined_by, joined_items, found};
+ghost use Rattle.py_methods.specs.TextMethods.{starts, ends, finds, splits, paid_replacement, replaces, text_method};
 
 use crate::many::{parts, words};
 use crate::name::Name;
@@ -21,8 +22,9 @@ pub(crate) fn text_method(
     name: Name,
     args: &[Value],
 ) -> Result<Value, ValueFault>
-    ensures ok { IfOk result (λ v. text_method heap.old budget.old text.0 name args.now ≡ Ok (v, heap.new, budget.new)) }
-    ensures fault { IfErr result (λ e. e ≢ ValueFault.Memory → text_method heap.old budget.old text.0 name args.now ≡ Err e) }
+    ensures ok { IfOk result (λ v.
+        text_method heap.old budget.old text.0 name args.now ≡ Ok (v, heap.new, budget.new)) }
+    ensures fault { FailsAs result (text_method heap.old budget.old text.0 name args.now) }
     ensures err { OnErr result (heap.new ≡ heap.old) }
 {
     match name {
@@ -76,8 +78,9 @@ pub(crate) fn text_method(
 }
 
 fn strip(heap: &mut Heap, budget: &mut Budget, text: TextId) -> Result<Value, ValueFault>
-    ensures ok { IfOk result (λ v. new_text heap.old budget.old (strip (text_at heap.old text.0)) ≡ Ok (v, heap.new, budget.new)) }
-    ensures fault { IfErr result (λ e. e ≢ ValueFault.Memory → new_text heap.old budget.old (strip (text_at heap.old text.0)) ≡ Err e) }
+    ensures ok { IfOk result (λ v.
+        new_text heap.old budget.old (strip (text_at heap.old text.0)) ≡ Ok (v, heap.new, budget.new)) }
+    ensures fault { FailsAs result (new_text heap.old budget.old (strip (text_at heap.old text.0))) }
     ensures err { OnErr result (heap.new ≡ heap.old) }
 {
     let made = copied_text(heap.allocator(), budget, py_text::strip(heap.text_at(text)))?;
@@ -86,8 +89,9 @@ fn strip(heap: &mut Heap, budget: &mut Budget, text: TextId) -> Result<Value, Va
 }
 
 fn lstrip(heap: &mut Heap, budget: &mut Budget, text: TextId) -> Result<Value, ValueFault>
-    ensures ok { IfOk result (λ v. new_text heap.old budget.old (lstrip (text_at heap.old text.0)) ≡ Ok (v, heap.new, budget.new)) }
-    ensures fault { IfErr result (λ e. e ≢ ValueFault.Memory → new_text heap.old budget.old (lstrip (text_at heap.old text.0)) ≡ Err e) }
+    ensures ok { IfOk result (λ v.
+        new_text heap.old budget.old (lstrip (text_at heap.old text.0)) ≡ Ok (v, heap.new, budget.new)) }
+    ensures fault { FailsAs result (new_text heap.old budget.old (lstrip (text_at heap.old text.0))) }
     ensures err { OnErr result (heap.new ≡ heap.old) }
 {
     let made = copied_text(
@@ -100,8 +104,9 @@ fn lstrip(heap: &mut Heap, budget: &mut Budget, text: TextId) -> Result<Value, V
 }
 
 fn rstrip(heap: &mut Heap, budget: &mut Budget, text: TextId) -> Result<Value, ValueFault>
-    ensures ok { IfOk result (λ v. new_text heap.old budget.old (rstrip (text_at heap.old text.0)) ≡ Ok (v, heap.new, budget.new)) }
-    ensures fault { IfErr result (λ e. e ≢ ValueFault.Memory → new_text heap.old budget.old (rstrip (text_at heap.old text.0)) ≡ Err e) }
+    ensures ok { IfOk result (λ v.
+        new_text heap.old budget.old (rstrip (text_at heap.old text.0)) ≡ Ok (v, heap.new, budget.new)) }
+    ensures fault { FailsAs result (new_text heap.old budget.old (rstrip (text_at heap.old text.0))) }
     ensures err { OnErr result (heap.new ≡ heap.old) }
 {
     let made = copied_text(
@@ -114,8 +119,9 @@ fn rstrip(heap: &mut Heap, budget: &mut Budget, text: TextId) -> Result<Value, V
 }
 
 fn lower(heap: &mut Heap, budget: &mut Budget, text: TextId) -> Result<Value, ValueFault>
-    ensures ok { IfOk result (λ v. new_text heap.old budget.old (lower (text_at heap.old text.0)) ≡ Ok (v, heap.new, budget.new)) }
-    ensures fault { IfErr result (λ e. e ≢ ValueFault.Memory → new_text heap.old budget.old (lower (text_at heap.old text.0)) ≡ Err e) }
+    ensures ok { IfOk result (λ v.
+        new_text heap.old budget.old (lower (text_at heap.old text.0)) ≡ Ok (v, heap.new, budget.new)) }
+    ensures fault { FailsAs result (new_text heap.old budget.old (lower (text_at heap.old text.0))) }
     ensures err { OnErr result (heap.new ≡ heap.old) }
 {
     let made = lower_paid(heap.allocator(), budget, heap.text_at(text))?;
@@ -126,7 +132,7 @@ fn lower(heap: &mut Heap, budget: &mut Budget, text: TextId) -> Result<Value, Va
 #[tactic(auto, using(crate::proofs::Letters::letters))]
 fn lower_paid(alloc: Global, budget: &mut Budget, text: &str) -> Result<Text, ValueFault>
     ensures ok { IfOk result (λ made. paid_text budget.old (lower text.now) ≡ Ok (made, budget.new)) }
-    ensures fault { IfErr result (λ e. e ≢ ValueFault.Memory → paid_text budget.old (lower text.now) ≡ Err e) }
+    ensures fault { FailsAs result (paid_text budget.old (lower text.now)) }
 {
     text_room(budget, text.len() as u64)?;
     let made = py_text::lower(alloc, text)?;
@@ -134,8 +140,9 @@ fn lower_paid(alloc: Global, budget: &mut Budget, text: &str) -> Result<Text, Va
 }
 
 fn upper(heap: &mut Heap, budget: &mut Budget, text: TextId) -> Result<Value, ValueFault>
-    ensures ok { IfOk result (λ v. new_text heap.old budget.old (upper (text_at heap.old text.0)) ≡ Ok (v, heap.new, budget.new)) }
-    ensures fault { IfErr result (λ e. e ≢ ValueFault.Memory → new_text heap.old budget.old (upper (text_at heap.old text.0)) ≡ Err e) }
+    ensures ok { IfOk result (λ v.
+        new_text heap.old budget.old (upper (text_at heap.old text.0)) ≡ Ok (v, heap.new, budget.new)) }
+    ensures fault { FailsAs result (new_text heap.old budget.old (upper (text_at heap.old text.0))) }
     ensures err { OnErr result (heap.new ≡ heap.old) }
 {
     let made = upper_paid(heap.allocator(), budget, heap.text_at(text))?;
@@ -146,7 +153,7 @@ fn upper(heap: &mut Heap, budget: &mut Budget, text: TextId) -> Result<Value, Va
 #[tactic(auto, using(crate::proofs::Letters::letters))]
 fn upper_paid(alloc: Global, budget: &mut Budget, text: &str) -> Result<Text, ValueFault>
     ensures ok { IfOk result (λ made. paid_text budget.old (upper text.now) ≡ Ok (made, budget.new)) }
-    ensures fault { IfErr result (λ e. e ≢ ValueFault.Memory → paid_text budget.old (upper text.now) ≡ Err e) }
+    ensures fault { FailsAs result (paid_text budget.old (upper text.now)) }
 {
     text_room(budget, text.len() as u64)?;
     let made = py_text::upper(alloc, text)?;
@@ -171,8 +178,9 @@ fn split(
     text: TextId,
     separator: Value,
 ) -> Result<Value, ValueFault>
-    ensures ok { IfOk result (λ v. splits heap.old budget.old (text_at heap.old text.0) (Value.Text text) separator ≡ Ok (v, heap.new, budget.new)) }
-    ensures fault { IfErr result (λ e. e ≢ ValueFault.Memory → splits heap.old budget.old (text_at heap.old text.0) (Value.Text text) separator ≡ Err e) }
+    ensures ok { IfOk result (λ v. splits heap.old budget.old (text_at heap.old text.0) (Value.Text text) separator
+        ≡ Ok (v, heap.new, budget.new)) }
+    ensures fault { FailsAs result (splits heap.old budget.old (text_at heap.old text.0) (Value.Text text) separator) }
     ensures err { OnErr result (heap.new ≡ heap.old) }
 {
     match separator {
@@ -187,16 +195,20 @@ fn split(
 }
 
 fn starts(heap: &Heap, budget: &mut Budget, text: TextId, part: Value) -> Result<Value, ValueFault>
-    ensures ok { IfOk result (λ v. starts heap.now budget.old (text_at heap.now text.0) (Value.Text text) part ≡ Ok (v, heap.now, budget.new)) }
-    ensures fault { IfErr result (λ e. starts heap.now budget.old (text_at heap.now text.0) (Value.Text text) part ≡ Err e) }
+    ensures ok { IfOk result (λ v. starts heap.now budget.old (text_at heap.now text.0) (Value.Text text) part
+        ≡ Ok (v, heap.now, budget.new)) }
+    ensures fault { IfErr result (λ e.
+        starts heap.now budget.old (text_at heap.now text.0) (Value.Text text) part ≡ Err e) }
 {
     let part = as_text(heap, Value::Text(text), part)?;
     Ok(Value::Bool(py_text::starts_with(heap.text_at(text), part)))
 }
 
 fn ends(heap: &Heap, budget: &mut Budget, text: TextId, part: Value) -> Result<Value, ValueFault>
-    ensures ok { IfOk result (λ v. ends heap.now budget.old (text_at heap.now text.0) (Value.Text text) part ≡ Ok (v, heap.now, budget.new)) }
-    ensures fault { IfErr result (λ e. ends heap.now budget.old (text_at heap.now text.0) (Value.Text text) part ≡ Err e) }
+    ensures ok { IfOk result (λ v.
+        ends heap.now budget.old (text_at heap.now text.0) (Value.Text text) part ≡ Ok (v, heap.now, budget.new)) }
+    ensures fault { IfErr result (λ e.
+        ends heap.now budget.old (text_at heap.now text.0) (Value.Text text) part ≡ Err e) }
 {
     let part = as_text(heap, Value::Text(text), part)?;
     Ok(Value::Bool(py_text::ends_with(heap.text_at(text), part)))
@@ -204,8 +216,9 @@ fn ends(heap: &Heap, budget: &mut Budget, text: TextId, part: Value) -> Result<V
 
 /// The first place of a part, in characters, or -1.
 fn find(heap: &Heap, budget: &mut Budget, text: TextId, part: Value) -> Result<Value, ValueFault>
-    ensures ok { IfOk result (λ v. finds heap.now budget.old (text_at heap.now text.0) (Value.Text text) part ≡ Ok (v, heap.now, budget.new)) }
-    ensures fault { IfErr result (λ e. e ≢ ValueFault.Memory → finds heap.now budget.old (text_at heap.now text.0) (Value.Text text) part ≡ Err e) }
+    ensures ok { IfOk result (λ v.
+        finds heap.now budget.old (text_at heap.now text.0) (Value.Text text) part ≡ Ok (v, heap.now, budget.new)) }
+    ensures fault { FailsAs result (finds heap.now budget.old (text_at heap.now text.0) (Value.Text text) part) }
 {
     let part = as_text(heap, Value::Text(text), part)?;
     match py_text::find(heap.text_at(text), part) {
@@ -221,8 +234,9 @@ fn replace(
     old: Value,
     new: Value,
 ) -> Result<Value, ValueFault>
-    ensures ok { IfOk result (λ v. replaces heap.old budget.old (text_at heap.old text.0) (Value.Text text) old new ≡ Ok (v, heap.new, budget.new)) }
-    ensures fault { IfErr result (λ e. e ≢ ValueFault.Memory → replaces heap.old budget.old (text_at heap.old text.0) (Value.Text text) old new ≡ Err e) }
+    ensures ok { IfOk result (λ v. replaces heap.old budget.old (text_at heap.old text.0) (Value.Text text) old new
+        ≡ Ok (v, heap.new, budget.new)) }
+    ensures fault { FailsAs result (replaces heap.old budget.old (text_at heap.old text.0) (Value.Text text) old new) }
     ensures err { OnErr result (heap.new ≡ heap.old) }
 {
     let made = replaced(heap, budget, text, old, new)?;
@@ -238,8 +252,10 @@ fn replaced(
     old: Value,
     new: Value,
 ) -> Result<Text, ValueFault>
-    ensures ok { IfOk result (λ made. paid_replacement heap.now budget.old (text_at heap.now text.0) (Value.Text text) old new ≡ Ok (made, budget.new)) }
-    ensures fault { IfErr result (λ e. e ≢ ValueFault.Memory → paid_replacement heap.now budget.old (text_at heap.now text.0) (Value.Text text) old new ≡ Err e) }
+    ensures ok { IfOk result (λ made. paid_replacement heap.now budget.old (text_at heap.now text.0) (Value.Text text)
+        old new ≡ Ok (made, budget.new)) }
+    ensures fault { FailsAs result (paid_replacement heap.now budget.old (text_at heap.now text.0) (Value.Text text)
+        old new) }
 {
     let old = as_text(heap, Value::Text(text), old)?;
     let new = as_text(heap, Value::Text(text), new)?;
@@ -256,8 +272,9 @@ fn join(
     text: TextId,
     parts: Value,
 ) -> Result<Value, ValueFault>
-    ensures ok { IfOk result (λ v. joined_by heap.old budget.old (Value.Text text) (text_at heap.old text.0) parts ≡ Ok (v, heap.new, budget.new)) }
-    ensures fault { IfErr result (λ e. e ≢ ValueFault.Memory → joined_by heap.old budget.old (Value.Text text) (text_at heap.old text.0) parts ≡ Err e) }
+    ensures ok { IfOk result (λ v. joined_by heap.old budget.old (Value.Text text) (text_at heap.old text.0) parts
+        ≡ Ok (v, heap.new, budget.new)) }
+    ensures fault { FailsAs result (joined_by heap.old budget.old (Value.Text text) (text_at heap.old text.0) parts) }
     ensures err { OnErr result (heap.new ≡ heap.old) }
 {
     match parts {
@@ -282,8 +299,10 @@ fn joined_texts(
     text: TextId,
     items: &[Value],
 ) -> Result<Text, ValueFault>
-    ensures ok { IfOk result (λ made. paid_join heap.now budget.old (Value.Text text) (text_at heap.now text.0) items.now ≡ Ok (made, budget.new)) }
-    ensures fault { IfErr result (λ e. e ≢ ValueFault.Memory → paid_join heap.now budget.old (Value.Text text) (text_at heap.now text.0) items.now ≡ Err e) }
+    ensures ok { IfOk result (λ made.
+        paid_join heap.now budget.old (Value.Text text) (text_at heap.now text.0) items.now ≡ Ok (made, budget.new)) }
+    ensures fault { FailsAs result (paid_join heap.now budget.old (Value.Text text) (text_at heap.now text.0)
+        items.now) }
 {
     let parts = texts_of(heap, Value::Text(text), items)?;
     let separator = heap.text_at(text);
@@ -294,7 +313,7 @@ fn joined_texts(
 
 fn texts_of<'a>(heap: &'a Heap, owner: Value, items: &[Value]) -> Result<Vec<&'a str>, ValueFault>
     ensures ok { IfOk result (λ texts. texts_onto heap.now owner [] items.now ≡ Ok (map (λ t. t.now) texts.items)) }
-    ensures fault { IfErr result (λ e. e ≢ ValueFault.Memory → texts_onto heap.now owner [] items.now ≡ Err e) }
+    ensures fault { FailsAs result (texts_onto heap.now owner [] items.now) }
 {
     let mut texts = Vec::new(heap.allocator());
     'items: for item in items {

@@ -1,5 +1,6 @@
 -- Places: section 6.3.2 ("Subscriptions") of the Python language reference. What is charged and limited is own.
-use Rattle.std.specs.Prelude.{ℕ, ◌-◌, ℤ, pos, negsuc, suc, nat_lt, List, length, Option, Some, None, Result, Ok, Err, if◌then◌else◌, slice_index_or, slice_set}
+use Rattle.std.specs.Prelude.{ℕ, ◌-◌, ℤ, pos, negsuc, suc, nat_lt, List, length, Option, Some, None, Result, Ok, Err}
+use Rattle.std.specs.Prelude.{if◌then◌else◌, slice_index_or, slice_set}
 use Rattle.py_heap.specs.declared.value.Value.{Value}
 use Rattle.py_heap.specs.declared.value.Value.TheVariants as v
 use Rattle.py_heap.specs.declared.key.Key.{Key}

@@ -1,6 +1,7 @@
 //! The arithmetic operators.
-ghost use Rattle.std.specs.Prelude.{◌≡◌, ◌≢◌, Ok, Err, IfOk, IfErr, OnErr};
+ghost use Rattle.std.specs.Prelude.{◌≡◌, Ok, IfOk, OnErr};
 ghost use Rattle.py_operators.specs.Arithmetic.{sum_of, difference_of, quotient_of, product_of, negative_of};
+ghost use Rattle.py_compare.specs.Outcomes.{FailsAs};
 
 use crate::joining::{join_lists, join_tuples, repeat_list, repeat_tuple};
 use crate::texts::{join_texts, repeat_text};
@@ -15,7 +16,7 @@ pub(crate) fn sum(
     b: Value,
 ) -> Result<Value, ValueFault>
     ensures ok { IfOk result (λ v. sum_of heap.old budget.old a b ≡ Ok (v, heap.new, budget.new)) }
-    ensures fault { IfErr result (λ e. e ≢ ValueFault.Memory → sum_of heap.old budget.old a b ≡ Err e) }
+    ensures fault { FailsAs result (sum_of heap.old budget.old a b) }
     ensures err { OnErr result (heap.new ≡ heap.old) }
 {
     match a {
@@ -47,7 +48,7 @@ pub(crate) fn difference(
     b: Value,
 ) -> Result<Value, ValueFault>
     ensures ok { IfOk result (λ v. difference_of heap.now budget.old a b ≡ Ok (v, heap.now, budget.new)) }
-    ensures fault { IfErr result (λ e. e ≢ ValueFault.Memory → difference_of heap.now budget.old a b ≡ Err e) }
+    ensures fault { FailsAs result (difference_of heap.now budget.old a b) }
 {
     match a {
         Value::Int(number) => match b {
@@ -66,7 +67,7 @@ pub(crate) fn quotient(
     b: Value,
 ) -> Result<Value, ValueFault>
     ensures ok { IfOk result (λ v. quotient_of heap.now budget.old a b ≡ Ok (v, heap.now, budget.new)) }
-    ensures fault { IfErr result (λ e. e ≢ ValueFault.Memory → quotient_of heap.now budget.old a b ≡ Err e) }
+    ensures fault { FailsAs result (quotient_of heap.now budget.old a b) }
 {
     match a {
         Value::Int(number) => match b {
@@ -85,7 +86,7 @@ pub(crate) fn product(
     b: Value,
 ) -> Result<Value, ValueFault>
     ensures ok { IfOk result (λ v. product_of heap.old budget.old a b ≡ Ok (v, heap.new, budget.new)) }
-    ensures fault { IfErr result (λ e. e ≢ ValueFault.Memory → product_of heap.old budget.old a b ≡ Err e) }
+    ensures fault { FailsAs result (product_of heap.old budget.old a b) }
     ensures err { OnErr result (heap.new ≡ heap.old) }
 {
     match a {
@@ -119,7 +120,7 @@ pub(crate) fn negative_of(
     a: Value,
 ) -> Result<Value, ValueFault>
     ensures ok { IfOk result (λ v. negative_of heap.old budget.old a ≡ Ok (v, heap.new, budget.new)) }
-    ensures fault { IfErr result (λ e. e ≢ ValueFault.Memory → negative_of heap.old budget.old a ≡ Err e) }
+    ensures fault { FailsAs result (negative_of heap.old budget.old a) }
     ensures err { OnErr result (heap.new ≡ heap.old) }
 {
     match a {

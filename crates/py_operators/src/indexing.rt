@@ -1,7 +1,7 @@
 //! Indices and slices.
-ghost use Rattle.std.specs.Prelude.{◌≡◌, ◌≢◌, Ok, Err, IfOk, IfErr, OnErr};
+ghost use Rattle.std.specs.Prelude.{◌≡◌, Ok, IfOk, OnErr};
 ghost use Rattle.py_heap.specs.Heap.{text_at, list_at, tuple_at};
-ghost use Rattle.py_compare.specs.Outcomes.{paid_text, new_text, new_list, new_tuple};
+ghost use Rattle.py_compare.specs.Outcomes.{FailsAs, paid_text, new_text, new_list, new_tuple};
 ghost use Rattle.py_operators.specs.Slices.{slice_of};
 ghost use Rattle.py_operators.specs.Indexing.{char_text, char_in, indexed, end_of, text_between, sliced};
 
@@ -21,7 +21,7 @@ pub(crate) fn indexed(
     i: Value,
 ) -> Result<Value, ValueFault>
     ensures ok { IfOk result (λ v. indexed heap.old budget.old a i ≡ Ok (v, heap.new, budget.new)) }
-    ensures fault { IfErr result (λ e. e ≢ ValueFault.Memory → indexed heap.old budget.old a i ≡ Err e) }
+    ensures fault { FailsAs result (indexed heap.old budget.old a i) }
     ensures err { OnErr result (heap.new ≡ heap.old) }
 {
     match a {
@@ -43,8 +43,9 @@ fn char_in(
     text: TextId,
     index: i64,
 ) -> Result<Value, ValueFault>
-    ensures ok { IfOk result (λ v. char_in heap.old budget.old (text_at heap.old text.0) index ≡ Ok (v, heap.new, budget.new)) }
-    ensures fault { IfErr result (λ e. e ≢ ValueFault.Memory → char_in heap.old budget.old (text_at heap.old text.0) index ≡ Err e) }
+    ensures ok { IfOk result (λ v.
+        char_in heap.old budget.old (text_at heap.old text.0) index ≡ Ok (v, heap.new, budget.new)) }
+    ensures fault { FailsAs result (char_in heap.old budget.old (text_at heap.old text.0) index) }
     ensures err { OnErr result (heap.new ≡ heap.old) }
 {
     let length = py_text::char_count(heap.text_at(text));
@@ -65,7 +66,7 @@ fn char_copied(
     place: usize,
 ) -> Result<Text, ValueFault>
     ensures ok { IfOk result (λ made. paid_text budget.old (char_text text.now place) ≡ Ok (made, budget.new)) }
-    ensures fault { IfErr result (λ e. e ≢ ValueFault.Memory → paid_text budget.old (char_text text.now place) ≡ Err e) }
+    ensures fault { FailsAs result (paid_text budget.old (char_text text.now place)) }
 {
     match py_text::char_at(text, place) {
         Some(c) => copied_text(alloc, budget, c),
@@ -82,7 +83,7 @@ pub(crate) fn sliced(
     to: Option<Value>,
 ) -> Result<Value, ValueFault>
     ensures ok { IfOk result (λ v. sliced heap.old budget.old a from to ≡ Ok (v, heap.new, budget.new)) }
-    ensures fault { IfErr result (λ e. e ≢ ValueFault.Memory → sliced heap.old budget.old a from to ≡ Err e) }
+    ensures fault { FailsAs result (sliced heap.old budget.old a from to) }
     ensures err { OnErr result (heap.new ≡ heap.old) }
 {
     match a {
@@ -125,8 +126,9 @@ fn slice_list(
     from: Option<i64>,
     to: Option<i64>,
 ) -> Result<Value, ValueFault>
-    ensures ok { IfOk result (λ v. new_list heap.old budget.old (slice_of (list_at heap.old list.0) from to) ≡ Ok (v, heap.new, budget.new)) }
-    ensures fault { IfErr result (λ e. e ≢ ValueFault.Memory → new_list heap.old budget.old (slice_of (list_at heap.old list.0) from to) ≡ Err e) }
+    ensures ok { IfOk result (λ v.
+        new_list heap.old budget.old (slice_of (list_at heap.old list.0) from to) ≡ Ok (v, heap.new, budget.new)) }
+    ensures fault { FailsAs result (new_list heap.old budget.old (slice_of (list_at heap.old list.0) from to)) }
     ensures err { OnErr result (heap.new ≡ heap.old) }
 {
     let made = copied_items(
@@ -145,8 +147,9 @@ fn slice_tuple(
     from: Option<i64>,
     to: Option<i64>,
 ) -> Result<Value, ValueFault>
-    ensures ok { IfOk result (λ v. new_tuple heap.old budget.old (slice_of (tuple_at heap.old tuple.0) from to) ≡ Ok (v, heap.new, budget.new)) }
-    ensures fault { IfErr result (λ e. e ≢ ValueFault.Memory → new_tuple heap.old budget.old (slice_of (tuple_at heap.old tuple.0) from to) ≡ Err e) }
+    ensures ok { IfOk result (λ v. new_tuple heap.old budget.old (slice_of (tuple_at heap.old tuple.0) from to)
+        ≡ Ok (v, heap.new, budget.new)) }
+    ensures fault { FailsAs result (new_tuple heap.old budget.old (slice_of (tuple_at heap.old tuple.0) from to)) }
     ensures err { OnErr result (heap.new ≡ heap.old) }
 {
     let made = copied_items(
@@ -165,8 +168,9 @@ fn slice_text(
     from: Option<i64>,
     to: Option<i64>,
 ) -> Result<Value, ValueFault>
-    ensures ok { IfOk result (λ v. new_text heap.old budget.old (text_between (text_at heap.old text.0) from to) ≡ Ok (v, heap.new, budget.new)) }
-    ensures fault { IfErr result (λ e. e ≢ ValueFault.Memory → new_text heap.old budget.old (text_between (text_at heap.old text.0) from to) ≡ Err e) }
+    ensures ok { IfOk result (λ v. new_text heap.old budget.old (text_between (text_at heap.old text.0) from to)
+        ≡ Ok (v, heap.new, budget.new)) }
+    ensures fault { FailsAs result (new_text heap.old budget.old (text_between (text_at heap.old text.0) from to)) }
     ensures err { OnErr result (heap.new ≡ heap.old) }
 {
     let made = copied_text(

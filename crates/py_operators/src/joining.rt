@@ -1,9 +1,9 @@
 //! Lists and tuples put together, and repeated.
-ghost use Rattle.std.specs.Prelude.{◌≡◌, ◌≢◌, ◌++◌, length, Ok, Err, IfOk, IfErr, OnErr};
+ghost use Rattle.std.specs.Prelude.{◌≡◌, ◌++◌, length, Ok, IfOk, OnErr};
 ghost use Rattle.std.specs.List.{repeat};
 ghost use Rattle.py_heap.specs.Units.{room};
 ghost use Rattle.py_heap.specs.Heap.{list_at, tuple_at};
-ghost use Rattle.py_compare.specs.Outcomes.{paid_items, new_list, new_tuple};
+ghost use Rattle.py_compare.specs.Outcomes.{FailsAs, paid_items, new_list, new_tuple};
 ghost use Rattle.py_operators.specs.Joining.{times_of};
 
 use py_heap::{Budget, Heap, ListId, TupleId, Value, ValueFault, Values, list_room};
@@ -26,7 +26,7 @@ pub(crate) fn joined_items(
     more: &[Value],
 ) -> Result<Values, ValueFault>
     ensures ok { IfOk result (λ x. paid_items budget.old (items.now ++ more.now) ≡ Ok (x, budget.new)) }
-    ensures fault { IfErr result (λ e. e ≢ ValueFault.Memory → paid_items budget.old (items.now ++ more.now) ≡ Err e) }
+    ensures fault { FailsAs result (paid_items budget.old (items.now ++ more.now)) }
 {
     list_room(
         budget,
@@ -47,7 +47,7 @@ pub(crate) fn repeated_items(
     times: u64,
 ) -> Result<Values, ValueFault>
     ensures ok { IfOk result (λ x. paid_items budget.old (repeat times items.now) ≡ Ok (x, budget.new)) }
-    ensures fault { IfErr result (λ e. e ≢ ValueFault.Memory → paid_items budget.old (repeat times items.now) ≡ Err e) }
+    ensures fault { FailsAs result (paid_items budget.old (repeat times items.now)) }
 {
     list_room(budget, (items.len() as u64).saturating_mul(times))?;
     let mut made = Values::new(Vec::new(alloc));
@@ -67,8 +67,10 @@ pub(crate) fn join_lists(
     list: ListId,
     other: ListId,
 ) -> Result<Value, ValueFault>
-    ensures ok { IfOk result (λ v. new_list heap.old budget.old (list_at heap.old list.0 ++ list_at heap.old other.0) ≡ Ok (v, heap.new, budget.new)) }
-    ensures fault { IfErr result (λ e. e ≢ ValueFault.Memory → new_list heap.old budget.old (list_at heap.old list.0 ++ list_at heap.old other.0) ≡ Err e) }
+    ensures ok { IfOk result (λ v. new_list heap.old budget.old (list_at heap.old list.0 ++ list_at heap.old other.0)
+        ≡ Ok (v, heap.new, budget.new)) }
+    ensures fault { FailsAs result (new_list heap.old budget.old
+        (list_at heap.old list.0 ++ list_at heap.old other.0)) }
     ensures err { OnErr result (heap.new ≡ heap.old) }
 {
     let made = joined_items(
@@ -87,8 +89,10 @@ pub(crate) fn join_tuples(
     tuple: TupleId,
     other: TupleId,
 ) -> Result<Value, ValueFault>
-    ensures ok { IfOk result (λ v. new_tuple heap.old budget.old (tuple_at heap.old tuple.0 ++ tuple_at heap.old other.0) ≡ Ok (v, heap.new, budget.new)) }
-    ensures fault { IfErr result (λ e. e ≢ ValueFault.Memory → new_tuple heap.old budget.old (tuple_at heap.old tuple.0 ++ tuple_at heap.old other.0) ≡ Err e) }
+    ensures ok { IfOk result (λ v. new_tuple heap.old budget.old
+        (tuple_at heap.old tuple.0 ++ tuple_at heap.old other.0) ≡ Ok (v, heap.new, budget.new)) }
+    ensures fault { FailsAs result (new_tuple heap.old budget.old
+        (tuple_at heap.old tuple.0 ++ tuple_at heap.old other.0)) }
     ensures err { OnErr result (heap.new ≡ heap.old) }
 {
     let made = joined_items(
@@ -108,8 +112,9 @@ pub(crate) fn repeat_list(
     list: ListId,
     number: i64,
 ) -> Result<Value, ValueFault>
-    ensures ok { IfOk result (λ v. new_list heap.old budget.old (repeat (times_of number) (list_at heap.old list.0)) ≡ Ok (v, heap.new, budget.new)) }
-    ensures fault { IfErr result (λ e. e ≢ ValueFault.Memory → new_list heap.old budget.old (repeat (times_of number) (list_at heap.old list.0)) ≡ Err e) }
+    ensures ok { IfOk result (λ v. new_list heap.old budget.old (repeat (times_of number) (list_at heap.old list.0))
+        ≡ Ok (v, heap.new, budget.new)) }
+    ensures fault { FailsAs result (new_list heap.old budget.old (repeat (times_of number) (list_at heap.old list.0))) }
     ensures err { OnErr result (heap.new ≡ heap.old) }
 {
     let made = repeated_items(
@@ -128,8 +133,10 @@ pub(crate) fn repeat_tuple(
     tuple: TupleId,
     number: i64,
 ) -> Result<Value, ValueFault>
-    ensures ok { IfOk result (λ v. new_tuple heap.old budget.old (repeat (times_of number) (tuple_at heap.old tuple.0)) ≡ Ok (v, heap.new, budget.new)) }
-    ensures fault { IfErr result (λ e. e ≢ ValueFault.Memory → new_tuple heap.old budget.old (repeat (times_of number) (tuple_at heap.old tuple.0)) ≡ Err e) }
+    ensures ok { IfOk result (λ v. new_tuple heap.old budget.old (repeat (times_of number) (tuple_at heap.old tuple.0))
+        ≡ Ok (v, heap.new, budget.new)) }
+    ensures fault { FailsAs result (new_tuple heap.old budget.old
+        (repeat (times_of number) (tuple_at heap.old tuple.0))) }
     ensures err { OnErr result (heap.new ≡ heap.old) }
 {
     let made = repeated_items(
@@ -149,7 +156,7 @@ pub(crate) fn copied_items(
     items: &[Value],
 ) -> Result<Values, ValueFault>
     ensures ok { IfOk result (λ x. paid_items budget.old items.now ≡ Ok (x, budget.new)) }
-    ensures fault { IfErr result (λ e. e ≢ ValueFault.Memory → paid_items budget.old items.now ≡ Err e) }
+    ensures fault { FailsAs result (paid_items budget.old items.now) }
 {
     list_room(budget, items.len() as u64)?;
     let made = Values::of(alloc, items)?;

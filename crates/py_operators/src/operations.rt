@@ -1,8 +1,9 @@
 //! The operators and places by their calls. One that fails leaves the heap and the units as they were.
-ghost use Rattle.std.specs.Prelude.{◌≡◌, ◌≢◌, Ok, Err, IfOk, IfErr, OnErr};
+ghost use Rattle.std.specs.Prelude.{◌≡◌, Ok, IfOk, OnErr};
 ghost use Rattle.py_operators.specs.Arithmetic.{negative_of};
 ghost use Rattle.py_operators.specs.Binary.{binary_of};
 ghost use Rattle.py_operators.specs.Indexing.{indexed, sliced};
+ghost use Rattle.py_compare.specs.Outcomes.{FailsAs};
 
 use crate::arithmetic::negative_of;
 use crate::indexing::{indexed, sliced};
@@ -19,7 +20,7 @@ pub fn binary(
     b: Value,
 ) -> Result<Value, ValueFault>
     ensures ok { IfOk result (λ v. binary_of op heap.old budget.old a b ≡ Ok (v, heap.new, budget.new)) }
-    ensures fault { IfErr result (λ e. e ≢ ValueFault.Memory → binary_of op heap.old budget.old a b ≡ Err e) }
+    ensures fault { FailsAs result (binary_of op heap.old budget.old a b) }
     ensures err { OnErr result (heap.new ≡ heap.old) }
     ensures unpaid { OnErr result (budget.new ≡ budget.old) }
 {
@@ -31,7 +32,7 @@ pub fn binary(
 /// An integer with the other sign.
 pub fn negate(heap: &mut Heap, budget: &mut Budget, a: Value) -> Result<Value, ValueFault>
     ensures ok { IfOk result (λ v. negative_of heap.old budget.old a ≡ Ok (v, heap.new, budget.new)) }
-    ensures fault { IfErr result (λ e. e ≢ ValueFault.Memory → negative_of heap.old budget.old a ≡ Err e) }
+    ensures fault { FailsAs result (negative_of heap.old budget.old a) }
     ensures err { OnErr result (heap.new ≡ heap.old) }
     ensures unpaid { OnErr result (budget.new ≡ budget.old) }
 {
@@ -43,7 +44,7 @@ pub fn negate(heap: &mut Heap, budget: &mut Budget, a: Value) -> Result<Value, V
 /// What stands at an index or under a key.
 pub fn index(heap: &mut Heap, budget: &mut Budget, a: Value, i: Value) -> Result<Value, ValueFault>
     ensures ok { IfOk result (λ v. indexed heap.old budget.old a i ≡ Ok (v, heap.new, budget.new)) }
-    ensures fault { IfErr result (λ e. e ≢ ValueFault.Memory → indexed heap.old budget.old a i ≡ Err e) }
+    ensures fault { FailsAs result (indexed heap.old budget.old a i) }
     ensures err { OnErr result (heap.new ≡ heap.old) }
     ensures unpaid { OnErr result (budget.new ≡ budget.old) }
 {
@@ -61,7 +62,7 @@ pub fn slice(
     to: Option<Value>,
 ) -> Result<Value, ValueFault>
     ensures ok { IfOk result (λ v. sliced heap.old budget.old a from to ≡ Ok (v, heap.new, budget.new)) }
-    ensures fault { IfErr result (λ e. e ≢ ValueFault.Memory → sliced heap.old budget.old a from to ≡ Err e) }
+    ensures fault { FailsAs result (sliced heap.old budget.old a from to) }
     ensures err { OnErr result (heap.new ≡ heap.old) }
     ensures unpaid { OnErr result (budget.new ≡ budget.old) }
 {

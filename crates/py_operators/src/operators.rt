@@ -1,6 +1,7 @@
 //! The operators that join two operands.
-ghost use Rattle.std.specs.Prelude.{◌≡◌, ◌≢◌, Ok, Err, IfOk, IfErr, OnErr};
+ghost use Rattle.std.specs.Prelude.{◌≡◌, Ok, IfOk, OnErr};
 ghost use Rattle.py_operators.specs.Binary.{binary_of};
+ghost use Rattle.py_compare.specs.Outcomes.{FailsAs};
 
 use crate::arithmetic::{difference, product, quotient, sum};
 use crate::op::Op;
@@ -17,7 +18,7 @@ pub(crate) fn binary_of(
     b: Value,
 ) -> Result<Value, ValueFault>
     ensures ok { IfOk result (λ v. binary_of op heap.old budget.old a b ≡ Ok (v, heap.new, budget.new)) }
-    ensures fault { IfErr result (λ e. e ≢ ValueFault.Memory → binary_of op heap.old budget.old a b ≡ Err e) }
+    ensures fault { FailsAs result (binary_of op heap.old budget.old a b) }
     ensures err { OnErr result (heap.new ≡ heap.old) }
 {
     match op {

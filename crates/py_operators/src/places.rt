@@ -1,9 +1,10 @@
 //! Places of lists and tuples, and keys of dicts.
-ghost use Rattle.std.specs.Prelude.{◌≡◌, ◌≢◌, ◌<◌, length, Ok, Err, IfOk, IfErr, OnErr, OnOk, IfSome};
+ghost use Rattle.std.specs.Prelude.{◌≡◌, ◌<◌, length, Ok, IfOk, OnErr, OnOk, IfSome};
 ghost use Rattle.py_operators.specs.Places.{place_in, item_in, item_at, keyed, set_of, with_item, with_entry};
 ghost use Rattle.py_heap.specs.Heap.{dict_at};
 ghost use Rattle.py_heap.specs.Dicts.{length_with};
 ghost use Rattle.py_heap.specs.Units.{told_length};
+ghost use Rattle.py_compare.specs.Outcomes.{FailsAs};
 
 use py_heap::{DictId, Heap, Key, ListId, Value, ValueFault};
 use scons_base::limits::LIST_LIMIT;
@@ -50,7 +51,7 @@ pub(crate) fn item_at(items: &[Value], owner: Value, index: Value) -> Result<Val
 /// The item under a key of a dict.
 pub(crate) fn keyed(heap: &Heap, dict: DictId, key: Value) -> Result<Value, ValueFault>
     ensures ok { IfOk result (λ v. keyed heap.now (dict_at heap.now dict.0) key ≡ Ok v) }
-    ensures fault { IfErr result (λ e. e ≢ ValueFault.Memory → keyed heap.now (dict_at heap.now dict.0) key ≡ Err e) }
+    ensures fault { FailsAs result (keyed heap.now (dict_at heap.now dict.0) key) }
 {
     let Some(key) = heap.key_of(key)? else {
         return Err(ValueFault::Key);
@@ -64,7 +65,7 @@ pub(crate) fn keyed(heap: &Heap, dict: DictId, key: Value) -> Result<Value, Valu
 /// Sets a place of a list or a key of a dict.
 pub fn set_index(heap: &mut Heap, a: Value, i: Value, v: Value) -> Result<(), ValueFault>
     ensures ok { OnOk result (set_of heap.old a i v ≡ Ok heap.new) }
-    ensures fault { IfErr result (λ e. e ≢ ValueFault.Memory → set_of heap.old a i v ≡ Err e) }
+    ensures fault { FailsAs result (set_of heap.old a i v) }
     ensures err { OnErr result (heap.new ≡ heap.old) }
 {
     match a {
@@ -79,7 +80,7 @@ pub fn set_index(heap: &mut Heap, a: Value, i: Value, v: Value) -> Result<(), Va
 
 fn set_item(heap: &mut Heap, list: ListId, index: i64, v: Value) -> Result<(), ValueFault>
     ensures ok { OnOk result (with_item heap.old list.0 index v ≡ Ok heap.new) }
-    ensures fault { IfErr result (λ e. e ≢ ValueFault.Memory → with_item heap.old list.0 index v ≡ Err e) }
+    ensures fault { FailsAs result (with_item heap.old list.0 index v) }
     ensures err { OnErr result (heap.new ≡ heap.old) }
 {
     let length = heap.list_at(list).len();
@@ -100,7 +101,7 @@ pub(crate) fn set_entry(
     v: Value,
 ) -> Result<(), ValueFault>
     ensures ok { OnOk result (with_entry heap.old dict.0 key v ≡ Ok heap.new) }
-    ensures fault { IfErr result (λ e. e ≢ ValueFault.Memory → with_entry heap.old dict.0 key v ≡ Err e) }
+    ensures fault { FailsAs result (with_entry heap.old dict.0 key v) }
     ensures err { OnErr result (heap.new ≡ heap.old) }
 {
     let Some(content) = heap.key_of(key)? else {

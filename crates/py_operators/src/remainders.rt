@@ -1,10 +1,12 @@
 //! The operator `%`.
-ghost use Rattle.std.specs.Prelude.{◌≡◌, ◌≢◌, Ok, Err, Some, None, IfOk, IfErr, OnOk, OnErr, map};
+ghost use Rattle.std.specs.Prelude.{◌≡◌, ◌≢◌, Ok, Some, None, IfOk, IfErr, OnOk, OnErr, map};
 ghost use Rattle.py_text.specs.Formatting.{pieces_of};
 ghost use Rattle.py_text.specs.Views.{plain_piece};
 ghost use Rattle.py_heap.specs.Heap.{text_at};
 ghost use Rattle.py_compare.specs.Growing.{grown};
-ghost use Rattle.py_operators.specs.Remainders.{integer_shown, piece_onto, pieces_onto, filled, values_in, format_of, rest_of};
+ghost use Rattle.py_operators.specs.Remainders.{integer_shown, piece_onto, pieces_onto, filled, values_in, format_of};
+ghost use Rattle.py_operators.specs.Remainders.{rest_of};
+ghost use Rattle.py_compare.specs.Outcomes.{FailsAs};
 
 use py_compare::{GrowingText, floor_rem, show_onto};
 use py_heap::{Budget, Heap, TextId, Value, ValueFault, text_room};
@@ -21,7 +23,7 @@ pub(crate) fn rest(
     b: Value,
 ) -> Result<Value, ValueFault>
     ensures ok { IfOk result (λ v. rest_of heap.old budget.old a b ≡ Ok (v, heap.new, budget.new)) }
-    ensures fault { IfErr result (λ e. e ≢ ValueFault.Memory → rest_of heap.old budget.old a b ≡ Err e) }
+    ensures fault { FailsAs result (rest_of heap.old budget.old a b) }
     ensures err { OnErr result (heap.new ≡ heap.old) }
 {
     match a {
@@ -41,8 +43,9 @@ fn format_with(
     format: TextId,
     value: Value,
 ) -> Result<Value, ValueFault>
-    ensures ok { IfOk result (λ v. format_of heap.old budget.old (text_at heap.old format.0) value ≡ Ok (v, heap.new, budget.new)) }
-    ensures fault { IfErr result (λ e. e ≢ ValueFault.Memory → format_of heap.old budget.old (text_at heap.old format.0) value ≡ Err e) }
+    ensures ok { IfOk result (λ v.
+        format_of heap.old budget.old (text_at heap.old format.0) value ≡ Ok (v, heap.new, budget.new)) }
+    ensures fault { FailsAs result (format_of heap.old budget.old (text_at heap.old format.0) value) }
     ensures err { OnErr result (heap.new ≡ heap.old) }
 {
     let made = filled_with(heap, budget, format, value)?;
@@ -56,8 +59,9 @@ fn filled_with(
     format: TextId,
     value: Value,
 ) -> Result<Text, ValueFault>
-    ensures ok { IfOk result (λ made. filled heap.now budget.old (text_at heap.now format.0) (values_in heap.now value) ≡ Ok (made, budget.new)) }
-    ensures fault { IfErr result (λ e. e ≢ ValueFault.Memory → filled heap.now budget.old (text_at heap.now format.0) (values_in heap.now value) ≡ Err e) }
+    ensures ok { IfOk result (λ made.
+        filled heap.now budget.old (text_at heap.now format.0) (values_in heap.now value) ≡ Ok (made, budget.new)) }
+    ensures fault { FailsAs result (filled heap.now budget.old (text_at heap.now format.0) (values_in heap.now value)) }
 {
     match value {
         Value::Tuple(values) => filled(heap, budget, heap.text_at(format), heap.tuple_at(values)),
@@ -73,7 +77,7 @@ fn filled(
     values: &[Value],
 ) -> Result<Text, ValueFault>
     ensures ok { IfOk result (λ made. filled heap.now budget.old format.now values.now ≡ Ok (made, budget.new)) }
-    ensures fault { IfErr result (λ e. e ≢ ValueFault.Memory → filled heap.now budget.old format.now values.now ≡ Err e) }
+    ensures fault { FailsAs result (filled heap.now budget.old format.now values.now) }
 {
     let pieces = pieces_of(heap.allocator(), format)?;
     let mut text = GrowingText::new(heap.allocator());
@@ -84,7 +88,8 @@ fn filled(
 
 fn pieces_of(alloc: Global, format: &str) -> Result<Vec<Piece<'_>>, ValueFault>
     ensures ok { IfOk result (λ pieces. pieces_of format.now ≡ Some (map plain_piece pieces.items)) }
-    ensures fault { IfErr result (λ e. e ≢ ValueFault.Memory → (e ≡ ValueFault.BadText) × (pieces_of format.now ≡ None)) }
+    ensures fault { IfErr result (λ e.
+        e ≢ ValueFault.Memory → (e ≡ ValueFault.BadText) × (pieces_of format.now ≡ None)) }
 {
     match py_text::format_pieces(alloc, format) {
         Ok(pieces) => Ok(pieces),
@@ -101,8 +106,10 @@ fn push_pieces(
     pieces: &[Piece<'_>],
     values: &[Value],
 ) -> Result<(), ValueFault>
-    ensures ok { OnOk result (pieces_onto grown heap.now text.old budget.old (map plain_piece pieces.now) values.now ≡ Ok (text.new, budget.new)) }
-    ensures fault { IfErr result (λ e. e ≢ ValueFault.Memory → pieces_onto grown heap.now text.old budget.old (map plain_piece pieces.now) values.now ≡ Err e) }
+    ensures ok { OnOk result (pieces_onto grown heap.now text.old budget.old (map plain_piece pieces.now) values.now
+        ≡ Ok (text.new, budget.new)) }
+    ensures fault { FailsAs result (pieces_onto grown heap.now text.old budget.old (map plain_piece pieces.now)
+        values.now) }
 {
     let mut left = values;
     'pieces: for piece in pieces {
@@ -123,8 +130,10 @@ fn push_piece<'a>(
     piece: Piece<'_>,
     values: &'a [Value],
 ) -> Result<&'a [Value], ValueFault>
-    ensures ok { IfOk result (λ left. piece_onto grown heap.now text.old budget.old (plain_piece piece.entry) values.now ≡ Ok (left.now, text.new, budget.new)) }
-    ensures fault { IfErr result (λ e. e ≢ ValueFault.Memory → piece_onto grown heap.now text.old budget.old (plain_piece piece.entry) values.now ≡ Err e) }
+    ensures ok { IfOk result (λ left. piece_onto grown heap.now text.old budget.old (plain_piece piece.entry) values.now
+        ≡ Ok (left.now, text.new, budget.new)) }
+    ensures fault { FailsAs result (piece_onto grown heap.now text.old budget.old (plain_piece piece.entry)
+        values.now) }
 {
     match piece {
         Piece::Literal(literal) => {
@@ -160,7 +169,7 @@ fn push_integer(
     value: Value,
 ) -> Result<(), ValueFault>
     ensures ok { OnOk result (integer_shown grown heap.now text.old budget.old value ≡ Ok (text.new, budget.new)) }
-    ensures fault { IfErr result (λ e. e ≢ ValueFault.Memory → integer_shown grown heap.now text.old budget.old value ≡ Err e) }
+    ensures fault { FailsAs result (integer_shown grown heap.now text.old budget.old value) }
 {
     match value {
         Value::Int(_) => show_onto(heap, budget, VALUE_DEPTH_LIMIT, false, text, value),

@@ -1,8 +1,8 @@
 //! New texts made of others.
-ghost use Rattle.std.specs.Prelude.{◌≡◌, ◌≢◌, ◌++◌, Ok, Err, IfOk, IfErr, OnErr, string_bytes};
+ghost use Rattle.std.specs.Prelude.{◌≡◌, ◌++◌, Ok, IfOk, OnErr, string_bytes};
 ghost use Rattle.py_text.specs.Joining.{repeated};
 ghost use Rattle.py_heap.specs.Heap.{text_at};
-ghost use Rattle.py_compare.specs.Outcomes.{paid_text, new_text};
+ghost use Rattle.py_compare.specs.Outcomes.{FailsAs, paid_text, new_text};
 ghost use Rattle.py_operators.specs.Joining.{times_of};
 
 use crate::joining::times_of;
@@ -19,7 +19,7 @@ fn joined_text(
     other: &str,
 ) -> Result<Text, ValueFault>
     ensures ok { IfOk result (λ made. paid_text budget.old (text.now ++ other.now) ≡ Ok (made, budget.new)) }
-    ensures fault { IfErr result (λ e. e ≢ ValueFault.Memory → paid_text budget.old (text.now ++ other.now) ≡ Err e) }
+    ensures fault { FailsAs result (paid_text budget.old (text.now ++ other.now)) }
 {
     text_room(
         budget,
@@ -39,7 +39,7 @@ fn repeated_text(
     times: u64,
 ) -> Result<Text, ValueFault>
     ensures ok { IfOk result (λ made. paid_text budget.old (repeated text.now times) ≡ Ok (made, budget.new)) }
-    ensures fault { IfErr result (λ e. e ≢ ValueFault.Memory → paid_text budget.old (repeated text.now times) ≡ Err e) }
+    ensures fault { FailsAs result (paid_text budget.old (repeated text.now times)) }
 {
     text_room(budget, py_text::repeated_length(text, times as usize))?;
     if text.is_empty() {
@@ -55,8 +55,10 @@ pub(crate) fn join_texts(
     text: TextId,
     other: TextId,
 ) -> Result<Value, ValueFault>
-    ensures ok { IfOk result (λ v. new_text heap.old budget.old (text_at heap.old text.0 ++ text_at heap.old other.0) ≡ Ok (v, heap.new, budget.new)) }
-    ensures fault { IfErr result (λ e. e ≢ ValueFault.Memory → new_text heap.old budget.old (text_at heap.old text.0 ++ text_at heap.old other.0) ≡ Err e) }
+    ensures ok { IfOk result (λ v. new_text heap.old budget.old (text_at heap.old text.0 ++ text_at heap.old other.0)
+        ≡ Ok (v, heap.new, budget.new)) }
+    ensures fault { FailsAs result (new_text heap.old budget.old
+        (text_at heap.old text.0 ++ text_at heap.old other.0)) }
     ensures err { OnErr result (heap.new ≡ heap.old) }
 {
     let made = joined_text(
@@ -75,8 +77,10 @@ pub(crate) fn repeat_text(
     text: TextId,
     number: i64,
 ) -> Result<Value, ValueFault>
-    ensures ok { IfOk result (λ v. new_text heap.old budget.old (repeated (text_at heap.old text.0) (times_of number)) ≡ Ok (v, heap.new, budget.new)) }
-    ensures fault { IfErr result (λ e. e ≢ ValueFault.Memory → new_text heap.old budget.old (repeated (text_at heap.old text.0) (times_of number)) ≡ Err e) }
+    ensures ok { IfOk result (λ v. new_text heap.old budget.old (repeated (text_at heap.old text.0) (times_of number))
+        ≡ Ok (v, heap.new, budget.new)) }
+    ensures fault { FailsAs result (new_text heap.old budget.old
+        (repeated (text_at heap.old text.0) (times_of number))) }
     ensures err { OnErr result (heap.new ≡ heap.old) }
 {
     let made = repeated_text(
@@ -92,7 +96,7 @@ pub(crate) fn repeat_text(
 /// A copy of a text that is to be made, once it is charged for.
 pub fn copied_text(alloc: Global, budget: &mut Budget, text: &str) -> Result<Text, ValueFault>
     ensures ok { IfOk result (λ made. paid_text budget.old text.now ≡ Ok (made, budget.new)) }
-    ensures fault { IfErr result (λ e. e ≢ ValueFault.Memory → paid_text budget.old text.now ≡ Err e) }
+    ensures fault { FailsAs result (paid_text budget.old text.now) }
 {
     text_room(budget, text.len() as u64)?;
     let made = Text::of(alloc, text)?;

@@ -17,7 +17,8 @@ use Rattle.py_parse.specs.declared.stop.Stop.{Stop}
 use Rattle.py_parse.specs.declared.stop.Stop.TheVariants as stop'
 use Rattle.py_parse.specs.Terminals.{Want, one, fresh, heads, fits, operator_in, name_in}
 use Rattle.py_parse.specs.declared.terminal.Terminal.TheVariants as terminal'
-use Rattle.py_parse.specs.Grammar.{Part, Body, takes, reads, deeper, gives, constants, chained, compared, expr, block, below, mark, is_name, defaults_rest, params}
+use Rattle.py_parse.specs.Grammar.{Part, Body, takes, reads, deeper, gives, constants, chained, compared, expr, block}
+use Rattle.py_parse.specs.Grammar.{below, mark, is_name, defaults_rest, params}
 use Rattle.py_parse.specs.Reading.{Outcome, ok, fault, unfit, deep, Reads, pick}
 
 -- the first of these tokens is what is wanted, and the others stand behind it
@@ -120,7 +121,8 @@ abbrev pub no_params : Part
 no_params = params []
 
 -- a name that is none of these stands here
-pub record FreshAt (seen : List (List ℕ)) (ts : List Token) (line : ℕ) (name : List ℕ) (rest : List Token) : Type 0 where
+pub record FreshAt (seen : List (List ℕ)) (ts : List Token) (line : ℕ) (name : List ℕ) (rest : List Token)
+    : Type 0 where
   pub token : Token
   pub taking : Taken (fresh seen) ts token rest
   pub on_line : line ≡ token.line

@@ -9,7 +9,10 @@ use Rattle.py_token.specs.declared.token.Token.{Token}
 use Rattle.py_token.specs.declared.token.TokenKind.{TokenKind}
 use Rattle.py_token.specs.declared.token.TokenKind.TheVariants as kind'
 use Rattle.py_tree.specs.declared.expr.Comparison.TheVariants as comparison'
-use Rattle.py_tree.specs.Tree.{Tree, nil, cons, absent, word, name, integer, text, constant, group, tuple, list, comprehension, dict, pair, post, attribute, call, named, index, slice, negative, not, chain, operation, compare, assign, augment, expression, pass, break, continue, return, imports, simple, branching, branch, for', def, parameter}
+use Rattle.py_tree.specs.Tree.{Tree, nil, cons, absent, word, name, integer, text, constant, group, tuple, list}
+use Rattle.py_tree.specs.Tree.{comprehension, dict, pair, post, attribute, call, named, index, slice, negative, not}
+use Rattle.py_tree.specs.Tree.{chain, operation, compare, assign, augment, expression, pass, break, continue, return}
+use Rattle.py_tree.specs.Tree.{imports, simple, branching, branch, for', def, parameter}
 use Rattle.py_parse.specs.declared.terminal.Terminal.TheVariants as terminal'
 use Rattle.py_parse.specs.declared.level.Level.{Level}
 use Rattle.py_parse.specs.declared.level.Level.TheVariants as level'
@@ -169,7 +172,8 @@ when false b bs = bs
 -- a name followed by `=` is the first named argument
 abbrev pub first_named : Tree → List Body → List Body
 first_named (name l n) bs =
-    takes (mark mark'.Assign) (λ _. reads expr (λ v. reads (named_rest (n ∷ [])) (λ u. gives (cons (named l n v) u)))) ∷ bs
+    takes (mark mark'.Assign) (λ _.
+    reads expr (λ v. reads (named_rest (n ∷ [])) (λ u. gives (cons (named l n v) u)))) ∷ bs
 first_named _ bs = bs
 
 abbrev pub leaf_at : ℕ → TokenKind → Tree
@@ -198,20 +202,24 @@ display_of x = display_at x.line x.kind
 -- The rest of a comprehension behind its `for`.
 abbrev pub comprehended : ℕ → Tree → Body
 comprehended l t =
-    reads names (λ n. takes (keyword keyword'.In) (λ _. reads expr (λ s. reads tests (λ u. takes (mark mark'.CloseBracket) (λ _. gives (comprehension l t n s u))))))
+    reads names (λ n. takes (keyword keyword'.In) (λ _. reads expr (λ s. reads tests (λ u.
+    takes (mark mark'.CloseBracket) (λ _. gives (comprehension l t n s u))))))
 
 -- An `if` or `elif` behind its word, with the branches behind it.
 abbrev pub conditional : ℕ → Site → Body
 conditional l s =
-    reads expr (λ c. takes (mark mark'.Colon) (λ _. deeper (block (below s)) (λ b. reads (branches s) (λ e. gives (with_branch (branch l c b) e)))))
+    reads expr (λ c. takes (mark mark'.Colon) (λ _. deeper (block (below s)) (λ b.
+    reads (branches s) (λ e. gives (with_branch (branch l c b) e)))))
 
 abbrev pub loop_body : ℕ → Site → Body
 loop_body l s =
-    reads names (λ n. takes (keyword keyword'.In) (λ _. reads exprs (λ e. takes (mark mark'.Colon) (λ _. deeper (block (in_loop s)) (λ b. gives (for' l n e b))))))
+    reads names (λ n. takes (keyword keyword'.In) (λ _. reads exprs (λ e. takes (mark mark'.Colon) (λ _.
+    deeper (block (in_loop s)) (λ b. gives (for' l n e b))))))
 
 abbrev pub function_body : ℕ → Body
 function_body l =
-    takes (one terminal'.Name) (λ n. opens (mark mark'.OpenParen) (λ _. deeper parameters (λ ps. takes (mark mark'.Colon) (λ _. deeper (block in_function) (λ b. gives (def l (name_in n.kind) ps b))))))
+    takes (one terminal'.Name) (λ n. opens (mark mark'.OpenParen) (λ _. deeper parameters (λ ps.
+    takes (mark mark'.Colon) (λ _. deeper (block in_function) (λ b. gives (def l (name_in n.kind) ps b))))))
 
 -- The lines of a block behind its first indentation.
 abbrev pub indented : Site → Body
@@ -219,7 +227,8 @@ indented s = reads (line s) (λ t. reads (more_lines s) (λ u. gives (cons t u))
 
 abbrev pub import_body : ℕ → Body
 import_body l =
-    takes (one terminal'.Scons) (λ _. takes (mark mark'.Dot) (λ _. takes (one terminal'.Script) (λ _. takes (keyword keyword'.Import) (λ _. takes (mark mark'.Star) (λ _. gives (imports l))))))
+    takes (one terminal'.Scons) (λ _. takes (mark mark'.Dot) (λ _. takes (one terminal'.Script) (λ _.
+    takes (keyword keyword'.Import) (λ _. takes (mark mark'.Star) (λ _. gives (imports l))))))
 
 abbrev pub return_body : ℕ → Body
 return_body l = reads returned (λ t. gives (return l t))
@@ -245,7 +254,8 @@ productions (line s) =
     (reads (statements s) (λ t. gives (simple t)) ∷ [])
 productions (branches s) =
     opens (keyword keyword'.Elif) (λ x. conditional x.line s) ∷
-    opens (keyword keyword'.Else) (λ _. takes (mark mark'.Colon) (λ _. deeper (block (below s)) (λ b. gives (branching nil b)))) ∷
+    opens (keyword keyword'.Else) (λ _.
+    takes (mark mark'.Colon) (λ _. deeper (block (below s)) (λ b. gives (branching nil b)))) ∷
     gives (branching nil nil) ∷ []
 productions (block s) =
     takes (one terminal'.Newline) (λ _. takes (one terminal'.Indent) (λ _. indented s)) ∷
@@ -273,34 +283,42 @@ productions (assigned t) =
 -- Function definitions: section 8.7. No name comes twice, and behind a default each parameter has one.
 productions parameters = reads (params []) (λ ps. takes (mark mark'.CloseParen) (λ _. gives ps)) ∷ []
 productions (params seen) =
-    takes (fresh seen) (λ x. reads (param_rest (seen ++ name_in x.kind ∷ []) x.line (name_in x.kind)) gives) ∷ gives nil ∷ []
+    takes (fresh seen) (λ x. reads (param_rest (seen ++ name_in x.kind ∷ []) x.line (name_in x.kind)) gives) ∷
+    gives nil ∷ []
 productions (param_rest seen l n) =
-    takes (mark mark'.Assign) (λ _. reads expr (λ v. reads (defaults_rest seen) (λ u. gives (cons (parameter l n v) u)))) ∷
+    takes (mark mark'.Assign) (λ _.
+    reads expr (λ v. reads (defaults_rest seen) (λ u. gives (cons (parameter l n v) u)))) ∷
     takes (mark mark'.Comma) (λ _. reads (params seen) (λ u. gives (cons (parameter l n absent) u))) ∷
     gives (cons (parameter l n absent) nil) ∷ []
 productions (defaults seen) =
-    takes (fresh seen) (λ x. takes (mark mark'.Assign) (λ _. reads expr (λ v. reads (defaults_rest (seen ++ name_in x.kind ∷ [])) (λ u. gives (cons (parameter x.line (name_in x.kind) v) u))))) ∷
+    takes (fresh seen) (λ x. takes (mark mark'.Assign) (λ _. reads expr (λ v.
+    reads (defaults_rest (seen ++ name_in x.kind ∷ [])) (λ u.
+    gives (cons (parameter x.line (name_in x.kind) v) u))))) ∷
     gives nil ∷ []
 productions (defaults_rest seen) = takes (mark mark'.Comma) (λ _. reads (defaults seen) gives) ∷ gives nil ∷ []
 -- Expression lists: section 6.15. A comma makes a tuple.
 productions exprs = reads expr (λ t. reads (exprs_rest t) gives) ∷ []
 productions (exprs_rest t) =
-    takes (mark mark'.Comma) (λ x. reads items (λ u. gives (tuple x.line (cons t (closed u)) (trails (cons t u))))) ∷ gives t ∷ []
+    takes (mark mark'.Comma) (λ x. reads items (λ u. gives (tuple x.line (cons t (closed u)) (trails (cons t u))))) ∷
+    gives t ∷ []
 productions items = reads expr (λ t. reads items_rest (λ u. gives (cons t u))) ∷ gives absent ∷ []
 productions items_rest = takes (mark mark'.Comma) (λ _. reads items gives) ∷ gives nil ∷ []
 -- Boolean operations, binary arithmetic operations: sections 6.11 and 6.7.
 productions (chained l) = reads (operand l) (λ t. reads (operations l) (λ u. gives (chain_of t u))) ∷ []
 productions (operations l) =
-    takes (one (terminal'.Operator l)) (λ x. reads (operand l) (λ t. reads (operations l) (λ u. gives (cons (operation x.line (operator_in l x.kind) t) u)))) ∷
+    takes (one (terminal'.Operator l)) (λ x. reads (operand l) (λ t. reads (operations l) (λ u.
+    gives (cons (operation x.line (operator_in l x.kind) t) u)))) ∷
     gives nil ∷ []
 productions negation =
     opens (keyword keyword'.Not) (λ x. deeper negation (λ t. gives (not x.line t))) ∷ reads comparison gives ∷ []
 -- Comparisons: section 6.10, without chains. Behind `is` only None, True and False stand.
 productions comparison = reads (chained level'.Sum) (λ t. reads (compared t) gives) ∷ []
 productions (compared t) =
-    takes (keyword keyword'.Not) (λ x. takes (keyword keyword'.In) (λ _. reads (chained level'.Sum) (λ u. gives (compare x.line comparison'.NotIn t u)))) ∷
+    takes (keyword keyword'.Not) (λ x. takes (keyword keyword'.In) (λ _. reads (chained level'.Sum) (λ u.
+    gives (compare x.line comparison'.NotIn t u)))) ∷
     takes (keyword keyword'.Is) (λ x. reads (is_right x.line t) gives) ∷
-    takes (one terminal'.Comparison) (λ x. reads (chained level'.Sum) (λ u. gives (compare x.line (comparison_in x.kind) t u))) ∷
+    takes (one terminal'.Comparison) (λ x.
+    reads (chained level'.Sum) (λ u. gives (compare x.line (comparison_in x.kind) t u))) ∷
     gives t ∷ []
 productions (is_right l t) =
     takes (keyword keyword'.Not) (λ _. reads constants (λ u. gives (compare l comparison'.IsNot t u))) ∷
@@ -328,7 +346,8 @@ productions args = reads expr (λ t. reads (args_rest t) gives) ∷ gives nil �
 productions (args_rest t) =
     first_named t (takes (mark mark'.Comma) (λ _. reads args (λ u. gives (cons t u))) ∷ gives (cons t nil) ∷ [])
 productions (named_args seen) =
-    takes (fresh seen) (λ x. takes (mark mark'.Assign) (λ _. reads expr (λ v. reads (named_rest (seen ++ name_in x.kind ∷ [])) (λ u. gives (cons (named x.line (name_in x.kind) v) u))))) ∷
+    takes (fresh seen) (λ x. takes (mark mark'.Assign) (λ _. reads expr (λ v.
+    reads (named_rest (seen ++ name_in x.kind ∷ [])) (λ u. gives (cons (named x.line (name_in x.kind) v) u))))) ∷
     gives nil ∷ []
 productions (named_rest seen) = takes (mark mark'.Comma) (λ _. reads (named_args seen) gives) ∷ gives nil ∷ []
 -- Atoms: section 6.2.
@@ -344,9 +363,11 @@ productions (listed l) =
 productions (listed_rest l t) =
     takes (keyword keyword'.For) (λ _. comprehended l t) ∷
     reads items_rest (λ u. takes (mark mark'.CloseBracket) (λ _. gives (list l (cons t (closed u))))) ∷ []
-productions names = takes (one terminal'.Name) (λ x. reads names_rest (λ u. gives (cons (word (name_in x.kind)) u))) ∷ []
+productions names =
+    takes (one terminal'.Name) (λ x. reads names_rest (λ u. gives (cons (word (name_in x.kind)) u))) ∷ []
 productions names_rest = takes (mark mark'.Comma) (λ _. reads names gives) ∷ gives nil ∷ []
-productions tests = takes (keyword keyword'.If) (λ _. reads expr (λ t. reads tests (λ u. gives (cons t u)))) ∷ gives nil ∷ []
+productions tests =
+    takes (keyword keyword'.If) (λ _. reads expr (λ t. reads tests (λ u. gives (cons t u)))) ∷ gives nil ∷ []
 productions one_pair = reads expr (λ k. takes (mark mark'.Colon) (λ x. reads expr (λ v. gives (pair x.line k v)))) ∷ []
 productions (dict_body l) = reads pairs (λ u. takes (mark mark'.CloseBrace) (λ _. gives (dict l u))) ∷ []
 productions pairs = reads one_pair (λ t. reads pairs_rest (λ u. gives (cons t u))) ∷ gives nil ∷ []

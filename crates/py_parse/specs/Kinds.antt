@@ -13,7 +13,8 @@ use Rattle.py_parse.specs.Outside.{unsupported_at, unsupported_behind}
 -- With more levels of nesting, however many, the tokens up to this one would be the front of a script.
 abbrev pub IsTooDeep : List Token → List Token → Type 0
 IsTooDeep front [] = ⊥
-IsTooDeep front (x ∷ rest) = (limit : ℕ) × (more : List Token) × (t : Tree) × ParsesWithin limit ((front ++ x ∷ []) ++ more) t
+IsTooDeep front (x ∷ rest) =
+    (limit : ℕ) × (more : List Token) × (t : Tree) × ParsesWithin limit ((front ++ x ∷ []) ++ more) t
 
 abbrev pub or_token : Token
 or_token = record { line = 0; kind = kind'.Word keyword'.Or }
@@ -30,7 +31,10 @@ kind_of (Some u) = OutOfSubset u
 pub data IsKind (front rest : List Token) : ParseKind → Type 0 where
   too_deep : IsTooDeep front rest → IsKind front rest TooDeep
   -- what is refused behind an expression alone, there and elsewhere
-  behind_expression : (u : Unsupported) → (IsTooDeep front rest → ⊥) → unsupported_behind rest ≡ Some u → EndsExpression front → IsKind front rest (OutOfSubset u)
-  behind_none : (u : Unsupported) → (IsTooDeep front rest → ⊥) → unsupported_behind rest ≡ Some u → (EndsExpression front → ⊥) → IsKind front rest Unexpected
+  behind_expression : (u : Unsupported) → (IsTooDeep front rest → ⊥) → unsupported_behind rest ≡ Some u →
+      EndsExpression front → IsKind front rest (OutOfSubset u)
+  behind_none : (u : Unsupported) → (IsTooDeep front rest → ⊥) → unsupported_behind rest ≡ Some u →
+      (EndsExpression front → ⊥) → IsKind front rest Unexpected
   -- every other token
-  another : (kind : ParseKind) → (IsTooDeep front rest → ⊥) → unsupported_behind rest ≡ None → kind ≡ kind_of (unsupported_at front rest) → IsKind front rest kind
+  another : (kind : ParseKind) → (IsTooDeep front rest → ⊥) → unsupported_behind rest ≡ None →
+      kind ≡ kind_of (unsupported_at front rest) → IsKind front rest kind

@@ -2,7 +2,8 @@
 use Rattle.std.specs.Prelude.{ℕ, ◌<◌, ◌≤◌, List, map, length, Result, Ok, Err}
 use Rattle.py_token.specs.declared.mark.Mark.TheVariants as mark'
 use Rattle.py_token.specs.declared.token.Token.{Token}
-use Rattle.py_tree.specs.Tree.{Tree, cons, group, tuple, list, comprehension, dict, pair, call, named, slice, words, expr_tree, link_tree, pair_tree, argument_tree}
+use Rattle.py_tree.specs.Tree.{Tree, cons, group, tuple, list, comprehension, dict, pair, call, named, slice, words}
+use Rattle.py_tree.specs.Tree.{expr_tree, link_tree, pair_tree, argument_tree}
 use Rattle.py_parse.specs.declared.display.OpenDisplay.{OpenDisplay}
 use Rattle.py_parse.specs.declared.display.OpenDisplay.TheVariants as display'
 use Rattle.py_parse.specs.declared.display.NextDisplay.{NextDisplay}
@@ -12,7 +13,8 @@ use Rattle.py_parse.specs.declared.link.OpenLink.TheVariants as open'
 use Rattle.py_parse.specs.declared.link.NextLink.{NextLink}
 use Rattle.py_parse.specs.declared.link.NextLink.TheVariants as follow'
 use Rattle.py_parse.specs.declared.stop.Stop.{Stop}
-use Rattle.py_parse.specs.Grammar.{Body, gives, takes, reads, mark, expr, exprs_rest, items_rest, listed_rest, tests, pairs_rest, args_rest, named_args, named_rest, subscript_rest, closed, trails}
+use Rattle.py_parse.specs.Grammar.{Body, gives, takes, reads, mark, expr, exprs_rest, items_rest, listed_rest, tests}
+use Rattle.py_parse.specs.Grammar.{pairs_rest, args_rest, named_args, named_rest, subscript_rest, closed, trails}
 use Rattle.py_parse.specs.Reading.{Outcome, ok, Reads}
 use Rattle.py_parse.specs.Agrees.{AgreesOnStop, onto, optional_box}
 
@@ -27,7 +29,8 @@ abbrev pub tuple_from : ℕ → ℕ → List Tree → Body
 tuple_from l c found = reads items_rest (λ u. group_end l (tuple c (closed (onto found u)) (trails (onto found u))))
 
 abbrev pub tuple_after : ℕ → ℕ → List Tree → Tree → Body
-tuple_after l c found t = reads items_rest (λ u. group_end l (tuple c (closed (onto found (cons t u))) (trails (onto found (cons t u)))))
+tuple_after l c found t =
+    reads items_rest (λ u. group_end l (tuple c (closed (onto found (cons t u))) (trails (onto found (cons t u)))))
 
 -- brackets
 abbrev pub list_end : ℕ → Tree → Body
@@ -40,13 +43,15 @@ abbrev pub item_after : ℕ → List Tree → Tree → Body
 item_after l found t = reads items_rest (λ u. list_end l (closed (onto found (cons t u))))
 
 abbrev pub tests_from : ℕ → Tree → Tree → Tree → List Tree → Body
-tests_from l t n s found = reads tests (λ u. takes (mark mark'.CloseBracket) (λ _. gives (comprehension l t n s (onto found u))))
+tests_from l t n s found =
+    reads tests (λ u. takes (mark mark'.CloseBracket) (λ _. gives (comprehension l t n s (onto found u))))
 
 abbrev pub source_after : ℕ → Tree → Tree → Tree → Body
 source_after l t n s = reads tests (λ u. takes (mark mark'.CloseBracket) (λ _. gives (comprehension l t n s u)))
 
 abbrev pub test_after : ℕ → Tree → Tree → Tree → List Tree → Tree → Body
-test_after l t n s found v = reads tests (λ u. takes (mark mark'.CloseBracket) (λ _. gives (comprehension l t n s (onto found (cons v u)))))
+test_after l t n s found v =
+    reads tests (λ u. takes (mark mark'.CloseBracket) (λ _. gives (comprehension l t n s (onto found (cons v u)))))
 
 -- braces
 abbrev pub dict_end : ℕ → Tree → Body
@@ -65,7 +70,8 @@ display_after (display'.Tuple l c ts) t = tuple_after l c (map expr_tree ts.item
 display_after (display'.First l) t = list_after l t
 display_after (display'.Item l ts) t = item_after l (map expr_tree ts.items) t
 display_after (display'.Source l e ns) t = source_after l (expr_tree e.value) (words ns.items) t
-display_after (display'.Test l e ns s ts) t = test_after l (expr_tree e.value) (words ns.items) (expr_tree s.value) (map expr_tree ts.items) t
+display_after (display'.Test l e ns s ts) t =
+    test_after l (expr_tree e.value) (words ns.items) (expr_tree s.value) (map expr_tree ts.items) t
 display_after (display'.Key l ps) t = key_after l (map pair_tree ps.items) t
 display_after (display'.Value l ps k c) t = value_after l (map pair_tree ps.items) (expr_tree k) c t
 

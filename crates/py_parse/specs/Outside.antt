@@ -1,5 +1,6 @@
 -- What of Python a script hasn't, by what a token is and by what stands around it. The words for it are the project's own.
-use Rattle.std.specs.Prelude.{◌-◌, ◌&&◌, ◌||◌, ℕ, Bool, true, false, is_some, List, [], ◌∷◌, Option, Some, None, drop, length, codes, if◌then◌else◌}
+use Rattle.std.specs.Prelude.{◌-◌, ◌&&◌, ◌||◌, ℕ, Bool, true, false, is_some, List, [], ◌∷◌, Option, Some, None, drop}
+use Rattle.std.specs.Prelude.{length, codes, if◌then◌else◌}
 use Rattle.py_token.specs.declared.keyword.Keyword.{Keyword}
 use Rattle.py_token.specs.declared.keyword.Keyword.TheVariants as keyword'
 use Rattle.py_token.specs.declared.mark.Mark.{Mark}
@@ -91,7 +92,8 @@ abbrev pub begins_operand : TokenKind → Bool
 begins_operand k = is_of terminal'.Leaf k || is_of (mark mark'.Minus) k || is_of terminal'.Bracket k
 
 abbrev pub continues_operand : TokenKind → Bool
-continues_operand k = is_of (terminal'.Operator level'.Sum) k || is_of (terminal'.Operator level'.Product) k || is_of terminal'.Link k
+continues_operand k =
+    is_of (terminal'.Operator level'.Sum) k || is_of (terminal'.Operator level'.Product) k || is_of terminal'.Link k
 
 -- Another right side of `is` than a constant begins here, or goes on.
 abbrev pub is_bad_right_side : List Token → TokenKind → Bool

@@ -1,5 +1,6 @@
 -- What a place of the grammar wants of a token, and which tokens are that.
-use Rattle.std.specs.Prelude.{ℕ, Option, Some, None, is_some, unwrap_or, List, [], ◌∷◌, Bool, true, false, not, nat_eq, codes}
+use Rattle.std.specs.Prelude.{ℕ, Option, Some, None, is_some, unwrap_or, List, [], ◌∷◌, Bool, true, false, not}
+use Rattle.std.specs.Prelude.{nat_eq, codes}
 use Rattle.std.specs.List.{list_any}
 use Rattle.std.specs.Cmp.Lexicographic.{pointwise}
 use Rattle.py_token.specs.declared.keyword.Keyword.{Keyword}

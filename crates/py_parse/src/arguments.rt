@@ -3,7 +3,8 @@ ghost use Rattle.std.specs.Prelude.{◌≡◌, ◌&&◌, true, false, map};
 ghost use Rattle.py_tree.specs.Tree.{expr_tree, argument_tree, trees};
 ghost use Rattle.py_tree.specs.Tree as tree;
 ghost use Rattle.py_parse.specs.Agrees.{BeforeAssign};
-ghost use Rattle.py_parse.specs.Open.{LinkContinues, LinkShrinks, call_end, argument_after, named_after, named_from_here};
+ghost use Rattle.py_parse.specs.Open.{LinkContinues, LinkShrinks, call_end, argument_after, named_after};
+ghost use Rattle.py_parse.specs.Open.{named_from_here};
 ghost use Rattle.py_parse.specs.Terminals.{one, heads};
 ghost use Rattle.py_parse.specs.Reading.{pick};
 ghost use Rattle.py_parse.specs.Grammar as grammar;
@@ -42,7 +43,8 @@ pub fn put_argument<'a>(
     value: Expr,
     tokens: &'a [Token],
 ) -> Result<NextLink<'a>, Stop<'a>>
-    ensures goes { LinkContinues (argument_after line (map argument_tree arguments.items) (expr_tree value)) tokens.now result }
+    ensures goes { LinkContinues (argument_after line (map argument_tree arguments.items) (expr_tree value))
+        tokens.now result }
     ensures shrinks { LinkShrinks tokens.now result }
 {
     match name_before_assign(value, tokens) {
@@ -59,7 +61,8 @@ fn put_positional<'a>(
     tokens: &'a [Token],
 ) -> Result<NextLink<'a>, Stop<'a>>
     requires { grammar.is_name (expr_tree value) && heads (one (terminal'.Mark mark'.Assign)) tokens.now ≡ false }
-    ensures goes { LinkContinues (argument_after line (map argument_tree arguments.items) (expr_tree value)) tokens.now result }
+    ensures goes { LinkContinues (argument_after line (map argument_tree arguments.items) (expr_tree value))
+        tokens.now result }
     ensures shrinks { LinkShrinks tokens.now result }
 {
     let mut arguments = arguments;
@@ -96,7 +99,8 @@ fn open_named<'a>(
     tokens: &'a [Token],
 ) -> Result<NextLink<'a>, Stop<'a>>
     requires { heads (one (terminal'.Mark mark'.Assign)) tokens.now ≡ true }
-    ensures goes { LinkContinues (argument_after line (map argument_tree arguments.items) (tree.name name_line name)) tokens.now result }
+    ensures goes { LinkContinues (argument_after line (map argument_tree arguments.items) (tree.name name_line name))
+        tokens.now result }
     ensures shrinks { LinkShrinks tokens.now result }
 {
     let Some((_, rest)) = strip(Terminal::Mark(Mark::Assign), tokens) else {
@@ -126,7 +130,8 @@ pub fn put_named<'a>(
     value: Expr,
     tokens: &'a [Token],
 ) -> Result<NextLink<'a>, Stop<'a>>
-    ensures goes { LinkContinues (named_after line (map argument_tree arguments.items) seen name_line name (expr_tree value)) tokens.now result }
+    ensures goes { LinkContinues (named_after line (map argument_tree arguments.items) seen name_line name
+        (expr_tree value)) tokens.now result }
     ensures shrinks { LinkShrinks tokens.now result }
 {
     let mut arguments = arguments;

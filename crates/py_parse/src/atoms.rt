@@ -25,7 +25,9 @@ pub fn take_leaf<'a>(
     alloc: Global,
     tokens: &'a [Token],
 ) -> Result<(Box<Expr>, &'a [Token]), Stop<'a>>
-    ensures { Agrees (λ p. ok (expr_tree p.0.value) p.1.now) result (λ o. (d : ℕ) → Reads d (grammar.takes (one terminal'.Leaf) (λ x. grammar.gives (grammar.leaf_of x))) tokens.now o) }
+    ensures { Agrees (λ p. ok (expr_tree p.0.value) p.1.now) result
+        (λ o. (d : ℕ) → Reads d (grammar.takes (one terminal'.Leaf) (λ x. grammar.gives (grammar.leaf_of x)))
+        tokens.now o) }
 {
     let Some((token, rest)) = strip(Terminal::Leaf, tokens) else {
         return Err(Stop::At(tokens));
@@ -63,7 +65,8 @@ fn leaf_of(token: &Token) -> Result<Expr, Memory>
 pub fn take_attribute<'a>(tokens: &'a [Token]) -> Result<(Link, &'a [Token]), Stop<'a>>
     requires call { heads (one (terminal'.Mark mark'.OpenParen)) tokens.now ≡ false }
     requires subscript { heads (one (terminal'.Mark mark'.OpenBracket)) tokens.now ≡ false }
-    ensures found { Agrees (λ p. ok (link_tree p.0) p.1.now) result (λ o. (d : ℕ) → Reads d (pick grammar.one_link tokens.now) tokens.now o) }
+    ensures found { Agrees (λ p. ok (link_tree p.0) p.1.now) result
+        (λ o. (d : ℕ) → Reads d (pick grammar.one_link tokens.now) tokens.now o) }
     ensures shorter { IfOk result (λ p. length p.1.now < length tokens.now) }
 {
     let Some((_, rest)) = strip(Terminal::Mark(Mark::Dot), tokens) else {
@@ -84,7 +87,8 @@ pub fn compare(
     left: Box<Expr>,
     right: Box<Expr>,
 ) -> Result<Box<Expr>, AllocFailed<Expr>>
-    ensures { IfOk result (λ e. expr_tree e.value ≡ tree.compare line comparison (expr_tree left.value) (expr_tree right.value)) }
+    ensures { IfOk result (λ e.
+        expr_tree e.value ≡ tree.compare line comparison (expr_tree left.value) (expr_tree right.value)) }
 {
     let whole = Expr::Compare {
         line,
@@ -101,7 +105,8 @@ pub fn boxed<'a>(
     expr: Expr,
     rest: &'a [Token],
 ) -> Result<(Box<Expr>, &'a [Token]), Stop<'a>>
-    ensures { (b : Body) (d : ℕ) (ts : List Token) → Reads d b ts (ok (expr_tree expr) rest.now) → Agrees (λ p. ok (expr_tree p.0.value) p.1.now) result (Reads d b ts) }
+    ensures { (b : Body) (d : ℕ) (ts : List Token) → Reads d b ts (ok (expr_tree expr) rest.now) →
+        Agrees (λ p. ok (expr_tree p.0.value) p.1.now) result (Reads d b ts) }
 {
     let expr = Box::new(alloc, expr)?;
     Ok((expr, rest))

@@ -61,7 +61,8 @@ pub fn put_value<'a>(
     value: Expr,
     tokens: &'a [Token],
 ) -> Result<NextDisplay<'a>, Stop<'a>>
-    ensures goes { Continues (value_after line (map pair_tree pairs.items) (expr_tree key) colon (expr_tree value)) tokens.now result }
+    ensures goes { Continues (value_after line (map pair_tree pairs.items) (expr_tree key) colon (expr_tree value))
+        tokens.now result }
     ensures shrinks { Shrinks tokens.now result }
 {
     let mut pairs = pairs;

@@ -41,7 +41,8 @@ fn parse_chain<'a>(
     depth: u32,
     tokens: &'a [Token],
 ) -> Result<(Box<Expr>, &'a [Token]), Stop<'a>>
-    ensures { Agrees (λ p. ok (expr_tree p.0.value) p.1.now) result (Reads depth (pick (grammar.chained level) tokens.now) tokens.now) }
+    ensures { Agrees (λ p. ok (expr_tree p.0.value) p.1.now) result
+        (Reads depth (pick (grammar.chained level) tokens.now) tokens.now) }
 {
     let (first, mut rest) = parse_operand(alloc, level, depth, tokens)?;
     let mut operations = Vec::new(alloc);
@@ -66,7 +67,8 @@ fn parse_operand<'a>(
     depth: u32,
     tokens: &'a [Token],
 ) -> Result<(Box<Expr>, &'a [Token]), Stop<'a>>
-    ensures { Agrees (λ p. ok (expr_tree p.0.value) p.1.now) result (Reads depth (pick (grammar.operand level) tokens.now) tokens.now) }
+    ensures { Agrees (λ p. ok (expr_tree p.0.value) p.1.now) result
+        (Reads depth (pick (grammar.operand level) tokens.now) tokens.now) }
 {
     match level {
         Level::Or => parse_chain(alloc, Level::And, depth, tokens),
@@ -83,7 +85,8 @@ fn parse_not<'a>(
     depth: u32,
     tokens: &'a [Token],
 ) -> Result<(Box<Expr>, &'a [Token]), Stop<'a>>
-    ensures { Agrees (λ p. ok (expr_tree p.0.value) p.1.now) result (Reads depth (pick grammar.negation tokens.now) tokens.now) }
+    ensures { Agrees (λ p. ok (expr_tree p.0.value) p.1.now) result
+        (Reads depth (pick grammar.negation tokens.now) tokens.now) }
 {
     let Some((word, rest)) = strip(Terminal::Word(Keyword::Not), tokens) else {
         return parse_comparison(alloc, depth, tokens);
@@ -104,7 +107,8 @@ fn parse_comparison<'a>(
     depth: u32,
     tokens: &'a [Token],
 ) -> Result<(Box<Expr>, &'a [Token]), Stop<'a>>
-    ensures { Agrees (λ p. ok (expr_tree p.0.value) p.1.now) result (Reads depth (pick grammar.comparison tokens.now) tokens.now) }
+    ensures { Agrees (λ p. ok (expr_tree p.0.value) p.1.now) result
+        (Reads depth (pick grammar.comparison tokens.now) tokens.now) }
 {
     let (left, rest) = parse_chain(alloc, Level::Sum, depth, tokens)?;
     let next = next_comparison(rest)?;
@@ -124,7 +128,8 @@ fn parse_right<'a>(
     depth: u32,
     tokens: &'a [Token],
 ) -> Result<(Box<Expr>, &'a [Token]), Stop<'a>>
-    ensures { Agrees (λ p. ok (expr_tree p.0.value) p.1.now) result (Reads depth (pick (right_of comparison) tokens.now) tokens.now) }
+    ensures { Agrees (λ p. ok (expr_tree p.0.value) p.1.now) result
+        (Reads depth (pick (right_of comparison) tokens.now) tokens.now) }
 {
     match comparison {
         Comparison::Is | Comparison::IsNot => take_constant(alloc, tokens),
@@ -139,7 +144,8 @@ fn parse_unary<'a>(
     depth: u32,
     tokens: &'a [Token],
 ) -> Result<(Box<Expr>, &'a [Token]), Stop<'a>>
-    ensures { Agrees (λ p. ok (expr_tree p.0.value) p.1.now) result (Reads depth (pick grammar.unary tokens.now) tokens.now) }
+    ensures { Agrees (λ p. ok (expr_tree p.0.value) p.1.now) result
+        (Reads depth (pick grammar.unary tokens.now) tokens.now) }
 {
     let Some((mark, rest)) = strip(Terminal::Mark(Mark::Minus), tokens) else {
         return parse_post(alloc, depth, tokens);
@@ -160,7 +166,8 @@ fn parse_post<'a>(
     depth: u32,
     tokens: &'a [Token],
 ) -> Result<(Box<Expr>, &'a [Token]), Stop<'a>>
-    ensures { Agrees (λ p. ok (expr_tree p.0.value) p.1.now) result (Reads depth (pick grammar.posted tokens.now) tokens.now) }
+    ensures { Agrees (λ p. ok (expr_tree p.0.value) p.1.now) result
+        (Reads depth (pick grammar.posted tokens.now) tokens.now) }
 {
     let (atom, mut rest) = parse_atom(alloc, depth, tokens)?;
     let mut links = Vec::new(alloc);
@@ -180,7 +187,8 @@ fn parse_atom<'a>(
     depth: u32,
     tokens: &'a [Token],
 ) -> Result<(Box<Expr>, &'a [Token]), Stop<'a>>
-    ensures { Agrees (λ p. ok (expr_tree p.0.value) p.1.now) result (Reads depth (pick grammar.atom tokens.now) tokens.now) }
+    ensures { Agrees (λ p. ok (expr_tree p.0.value) p.1.now) result
+        (Reads depth (pick grammar.atom tokens.now) tokens.now) }
 {
     let Some((bracket, rest)) = strip(Terminal::Bracket, tokens) else {
         return take_leaf(alloc, tokens);
@@ -199,7 +207,8 @@ fn parse_link<'a>(
     depth: u32,
     tokens: &'a [Token],
 ) -> Result<(Link, &'a [Token]), Stop<'a>>
-    ensures found { Agrees (λ p. ok (link_tree p.0) p.1.now) result (Reads depth (pick grammar.one_link tokens.now) tokens.now) }
+    ensures found { Agrees (λ p. ok (link_tree p.0) p.1.now) result
+        (Reads depth (pick grammar.one_link tokens.now) tokens.now) }
     ensures shorter { IfOk result (λ p. length p.1.now < length tokens.now) }
 {
     if let Some((bracket, rest)) = strip(Terminal::Mark(Mark::OpenParen), tokens) {
@@ -226,7 +235,8 @@ fn parse_display<'a>(
     depth: u32,
     next: NextDisplay<'a>,
 ) -> Result<(Box<Expr>, &'a [Token]), Stop<'a>>
-    ensures { (b : grammar.Body) (ts : List Token) → GoesOn b ts next.entry → Agrees (λ p. ok (expr_tree p.0.value) p.1.now) result (Reads depth b ts) }
+    ensures { (b : grammar.Body) (ts : List Token) → GoesOn b ts next.entry →
+        Agrees (λ p. ok (expr_tree p.0.value) p.1.now) result (Reads depth b ts) }
 {
     let (open, mut rest) = match next {
         NextDisplay::Closed(display, rest) => return boxed(alloc, display, rest),
@@ -252,7 +262,8 @@ fn parse_brackets<'a>(
     depth: u32,
     next: NextLink<'a>,
 ) -> Result<(Link, &'a [Token]), Stop<'a>>
-    ensures { (b : grammar.Body) (ts : List Token) → LinkGoesOn b ts next.entry → Agrees (λ p. ok (link_tree p.0) p.1.now) result (Reads depth b ts) }
+    ensures { (b : grammar.Body) (ts : List Token) → LinkGoesOn b ts next.entry →
+        Agrees (λ p. ok (link_tree p.0) p.1.now) result (Reads depth b ts) }
 {
     let (open, mut rest) = match next {
         NextLink::Closed(link, rest) => return Ok((link, rest)),

@@ -43,7 +43,9 @@ fn parse_items<'a>(
     items: Vec<Expr>,
     tokens: &'a [Token],
 ) -> Result<(Vec<Expr>, bool, &'a [Token]), Stop<'a>>
-    ensures { (f : Tree → Tree) → Agrees (λ p. ok (f (onto (map expr_tree p.0.items) (list_end p.1))) p.2.now) result (Reads depth (grammar.reads grammar.items (λ u. grammar.gives (f (onto (map expr_tree items.items) u)))) tokens.now) }
+    ensures { (f : Tree → Tree) → Agrees (λ p. ok (f (onto (map expr_tree p.0.items) (list_end p.1))) p.2.now) result
+        (Reads depth (grammar.reads grammar.items (λ u. grammar.gives (f (onto (map expr_tree items.items) u))))
+        tokens.now) }
 {
     let mut items = items;
     let mut rest = tokens;

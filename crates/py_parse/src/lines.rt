@@ -30,7 +30,8 @@ pub fn parse_line<'a>(
     depth: u32,
     tokens: &'a [Token],
 ) -> Result<(Line, &'a [Token]), Stop<'a>>
-    ensures { Agrees (λ p. ok (line_tree p.0) p.1.now) result (Reads depth (pick (grammar.line site) tokens.now) tokens.now) }
+    ensures { Agrees (λ p. ok (line_tree p.0) p.1.now) result
+        (Reads depth (pick (grammar.line site) tokens.now) tokens.now) }
 {
     if let Some((word, rest)) = strip(Terminal::Word(Keyword::If), tokens) {
         if depth == 0 {
@@ -97,7 +98,8 @@ fn parse_branch<'a>(
     tokens: &'a [Token],
 ) -> Result<(Branch, &'a [Token]), Stop<'a>>
     requires { depth ≢ 0 }
-    ensures { Agrees (λ p. ok (branch_tree p.0) p.1.now) result (Reads depth (agrees.branch_body line site) tokens.now) }
+    ensures { Agrees (λ p. ok (branch_tree p.0) p.1.now) result
+        (Reads depth (agrees.branch_body line site) tokens.now) }
 {
     let (test, rest) = parse_expr(alloc, depth, tokens)?;
     let Some((_, rest)) = strip(Terminal::Mark(Mark::Colon), rest) else {
@@ -117,7 +119,8 @@ fn parse_else<'a>(
 ) -> Result<(Vec<Line>, &'a [Token]), Stop<'a>>
     requires deep { depth ≢ 0 }
     requires no_elif { heads (grammar.keyword keyword'.Elif) tokens.now ≡ false }
-    ensures { Agrees (λ p. ok (branching nil (trees (map line_tree p.0.items))) p.1.now) result (Reads depth (pick (grammar.branches site) tokens.now) tokens.now) }
+    ensures { Agrees (λ p. ok (branching nil (trees (map line_tree p.0.items))) p.1.now) result
+        (Reads depth (pick (grammar.branches site) tokens.now) tokens.now) }
 {
     let Some((_, rest)) = strip(Terminal::Word(Keyword::Else), tokens) else {
         return Ok((Vec::new(alloc), tokens));
@@ -203,7 +206,8 @@ fn parse_block<'a>(
     depth: u32,
     tokens: &'a [Token],
 ) -> Result<(Vec<Line>, &'a [Token]), Stop<'a>>
-    ensures { Agrees (λ p. ok (trees (map line_tree p.0.items)) p.1.now) result (Reads depth (pick (grammar.block site) tokens.now) tokens.now) }
+    ensures { Agrees (λ p. ok (trees (map line_tree p.0.items)) p.1.now) result
+        (Reads depth (pick (grammar.block site) tokens.now) tokens.now) }
 {
     let Some((_, rest)) = strip(Terminal::Newline, tokens) else {
         return parse_one_line(alloc, site, depth, tokens);
@@ -222,7 +226,8 @@ fn parse_one_line<'a>(
     tokens: &'a [Token],
 ) -> Result<(Vec<Line>, &'a [Token]), Stop<'a>>
     requires { heads (one terminal'.Newline) tokens.now ≡ false }
-    ensures { Agrees (λ p. ok (trees (map line_tree p.0.items)) p.1.now) result (Reads depth (pick (grammar.block site) tokens.now) tokens.now) }
+    ensures { Agrees (λ p. ok (trees (map line_tree p.0.items)) p.1.now) result
+        (Reads depth (pick (grammar.block site) tokens.now) tokens.now) }
 {
     let (statements, rest) = parse_statements(alloc, site, depth, tokens)?;
     let mut lines = Vec::new(alloc);
@@ -238,7 +243,8 @@ fn parse_indented<'a>(
     depth: u32,
     tokens: &'a [Token],
 ) -> Result<(Vec<Line>, &'a [Token]), Stop<'a>>
-    ensures { Agrees (λ p. ok (trees (map line_tree p.0.items)) p.1.now) result (Reads depth (grammar.indented site) tokens.now) }
+    ensures { Agrees (λ p. ok (trees (map line_tree p.0.items)) p.1.now) result
+        (Reads depth (grammar.indented site) tokens.now) }
 {
     let mut lines = Vec::new(alloc);
     let mut rest = tokens;

@@ -1,7 +1,8 @@
 //! What stands in brackets: a list, or a comprehension.
 ghost use Rattle.std.specs.Prelude.{map};
 ghost use Rattle.py_tree.specs.Tree.{expr_tree, trees, words};
-ghost use Rattle.py_parse.specs.Open.{Shrinks, Continues, list_end, list_after, item_after, source_after, test_after, tests_from};
+ghost use Rattle.py_parse.specs.Open.{Shrinks, Continues, list_end, list_after, item_after, source_after, test_after};
+ghost use Rattle.py_parse.specs.Open.{tests_from};
 ghost use Rattle.py_parse.specs.Reading.{pick};
 ghost use Rattle.py_parse.specs.Grammar as grammar;
 
@@ -108,7 +109,8 @@ pub fn put_source<'a>(
     source: Expr,
     tokens: &'a [Token],
 ) -> Result<NextDisplay<'a>, Stop<'a>>
-    ensures goes { Continues (source_after line (expr_tree item.value) (words names.items) (expr_tree source)) tokens.now result }
+    ensures goes { Continues (source_after line (expr_tree item.value) (words names.items) (expr_tree source))
+        tokens.now result }
     ensures shrinks { Shrinks tokens.now result }
 {
     let source = Box::new(alloc, source)?;
@@ -125,7 +127,8 @@ pub fn put_test<'a>(
     test: Expr,
     tokens: &'a [Token],
 ) -> Result<NextDisplay<'a>, Stop<'a>>
-    ensures goes { Continues (test_after line (expr_tree item.value) (words names.items) (expr_tree source.value) (map expr_tree tests.items) (expr_tree test)) tokens.now result }
+    ensures goes { Continues (test_after line (expr_tree item.value) (words names.items) (expr_tree source.value)
+        (map expr_tree tests.items) (expr_tree test)) tokens.now result }
     ensures shrinks { Shrinks tokens.now result }
 {
     let mut tests = tests;
@@ -142,7 +145,8 @@ fn more_tests<'a>(
     tests: Vec<Expr>,
     tokens: &'a [Token],
 ) -> Result<NextDisplay<'a>, Stop<'a>>
-    ensures goes { Continues (tests_from line (expr_tree item.value) (words names.items) (expr_tree source.value) (map expr_tree tests.items)) tokens.now result }
+    ensures goes { Continues (tests_from line (expr_tree item.value) (words names.items) (expr_tree source.value)
+        (map expr_tree tests.items)) tokens.now result }
     ensures shrinks { Shrinks tokens.now result }
 {
     if let Some((_, rest)) = strip(Terminal::Word(Keyword::If), tokens) {

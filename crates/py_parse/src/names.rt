@@ -15,7 +15,8 @@ use std::alloc::Global;
 
 /// The name that is the next token, with its line.
 pub fn take_name<'a>(tokens: &'a [Token]) -> Option<(u32, &'a Text, &'a [Token])>
-    ensures { MatchOption result (heads (one terminal'.Name) tokens.now ≡ false) (λ p. NameAt tokens.now p.0 p.1.now p.2.now) }
+    ensures { MatchOption result (heads (one terminal'.Name) tokens.now ≡ false)
+        (λ p. NameAt tokens.now p.0 p.1.now p.2.now) }
 {
     let (first, rest) = tokens.split_first()?;
     match &first.kind {
@@ -29,7 +30,8 @@ pub fn parse_names<'a>(
     alloc: Global,
     tokens: &'a [Token],
 ) -> Result<(Vec<Text>, &'a [Token]), Stop<'a>>
-    ensures { Agrees (λ p. ok (words p.0.items) p.1.now) result (λ o. (d : ℕ) → Reads d (pick grammar.names tokens.now) tokens.now o) }
+    ensures { Agrees (λ p. ok (words p.0.items) p.1.now) result
+        (λ o. (d : ℕ) → Reads d (pick grammar.names tokens.now) tokens.now o) }
 {
     let mut found = Vec::new(alloc);
     let mut rest = tokens;

@@ -17,7 +17,8 @@ use std::alloc::{AllocFailed, Global};
 
 /// The operator of this level that is the next token, with its line.
 pub fn next_operator<'a>(level: Level, tokens: &'a [Token]) -> Option<(u32, Operator, &'a [Token])>
-    ensures { MatchOption result (heads (one (terminal'.Operator level)) tokens.now ≡ false) (λ p. OperatorAt level tokens.now p.0 p.1 p.2.now) }
+    ensures { MatchOption result (heads (one (terminal'.Operator level)) tokens.now ≡ false)
+        (λ p. OperatorAt level tokens.now p.0 p.1 p.2.now) }
 {
     let (first, rest) = tokens.split_first()?;
     let operator = operator_of(level, &first.kind)?;
@@ -29,7 +30,8 @@ pub fn take_constant<'a>(
     alloc: Global,
     tokens: &'a [Token],
 ) -> Result<(Box<Expr>, &'a [Token]), Stop<'a>>
-    ensures { Agrees (λ p. ok (expr_tree p.0.value) p.1.now) result (λ o. (d : ℕ) → Reads d (pick grammar.constants tokens.now) tokens.now o) }
+    ensures { Agrees (λ p. ok (expr_tree p.0.value) p.1.now) result
+        (λ o. (d : ℕ) → Reads d (pick grammar.constants tokens.now) tokens.now o) }
 {
     let Some((token, rest)) = strip(Terminal::Constant, tokens) else {
         return Err(Stop::At(tokens));
@@ -48,7 +50,8 @@ pub fn chain_of(
     first: Box<Expr>,
     rest: Vec<Operation>,
 ) -> Result<Box<Expr>, AllocFailed<Expr>>
-    ensures { IfOk result (λ e. expr_tree e.value ≡ grammar.chain_of (expr_tree first.value) (trees (map operation_tree rest.items))) }
+    ensures { IfOk result (λ e.
+        expr_tree e.value ≡ grammar.chain_of (expr_tree first.value) (trees (map operation_tree rest.items))) }
 {
     if rest.is_empty() {
         return Ok(first);
@@ -89,7 +92,8 @@ pub fn post_of(
     atom: Box<Expr>,
     links: Vec<Link>,
 ) -> Result<Box<Expr>, AllocFailed<Expr>>
-    ensures { IfOk result (λ e. expr_tree e.value ≡ grammar.post_of (expr_tree atom.value) (trees (map link_tree links.items))) }
+    ensures { IfOk result (λ e.
+        expr_tree e.value ≡ grammar.post_of (expr_tree atom.value) (trees (map link_tree links.items))) }
 {
     if links.is_empty() {
         return Ok(atom);

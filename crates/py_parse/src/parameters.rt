@@ -25,7 +25,8 @@ fn parse_defaults<'a>(
     mut name: Text,
     tokens: &'a [Token],
 ) -> Result<(Vec<Parameter>, &'a [Token]), Stop<'a>>
-    ensures { Agrees (λ p. ok (trees (map parameter_tree p.0.items)) p.1.now) result (Reads depth (defaults_from seen (map parameter_tree found.items) line name) tokens.now) }
+    ensures { Agrees (λ p. ok (trees (map parameter_tree p.0.items)) p.1.now) result
+        (Reads depth (defaults_from seen (map parameter_tree found.items) line name) tokens.now) }
 {
     let mut rest = tokens;
     'defaults: loop {
@@ -58,7 +59,8 @@ fn parse_parameter_list<'a>(
     depth: u32,
     tokens: &'a [Token],
 ) -> Result<(Vec<Parameter>, &'a [Token]), Stop<'a>>
-    ensures { Agrees (λ p. ok (trees (map parameter_tree p.0.items)) p.1.now) result (Reads depth (pick agrees.no_params tokens.now) tokens.now) }
+    ensures { Agrees (λ p. ok (trees (map parameter_tree p.0.items)) p.1.now) result
+        (Reads depth (pick agrees.no_params tokens.now) tokens.now) }
 {
     let mut seen = Seen::new(alloc);
     let mut found = Vec::new(alloc);
@@ -91,7 +93,8 @@ pub fn parse_parameters<'a>(
     depth: u32,
     tokens: &'a [Token],
 ) -> Result<(Vec<Parameter>, &'a [Token]), Stop<'a>>
-    ensures { Agrees (λ p. ok (trees (map parameter_tree p.0.items)) p.1.now) result (Reads depth (pick grammar.parameters tokens.now) tokens.now) }
+    ensures { Agrees (λ p. ok (trees (map parameter_tree p.0.items)) p.1.now) result
+        (Reads depth (pick grammar.parameters tokens.now) tokens.now) }
 {
     let (parameters, rest) = parse_parameter_list(alloc, depth, tokens)?;
     let Some((_, rest)) = strip(Terminal::Mark(Mark::CloseParen), rest) else {

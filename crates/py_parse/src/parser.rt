@@ -19,7 +19,8 @@ use std::alloc::Global;
 pub fn parse(alloc: Global, tokens: &Tokens) -> Result<Script, ParseFault>
     ensures found { MatchResult result (IsTree tokens.now) (FaultsAt tokens.now) }
     ensures only { (t : Tree) → Parses tokens.now t → Gives result t }
-    ensures refused { (line token : ℕ) (kind : ParseKind) → FaultAt tokens.now line token kind → Tells result line token kind }
+    ensures refused { (line token : ℕ) (kind : ParseKind) → FaultAt tokens.now line token kind →
+        Tells result line token kind }
 {
     parse_tokens(alloc, tokens.as_slice())
 }

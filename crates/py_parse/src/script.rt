@@ -15,7 +15,8 @@ use std::alloc::Global;
 
 /// The script that all these tokens are.
 pub fn read_script<'a>(alloc: Global, tokens: &'a [Token]) -> Result<Script, Stop<'a>>
-    ensures { Agrees (λ s. ok (script_tree s) []) result (Reads SYNTAX_DEPTH_LIMIT (grammar.reads grammar.script grammar.gives) tokens.now) }
+    ensures { Agrees (λ s. ok (script_tree s) []) result
+        (Reads SYNTAX_DEPTH_LIMIT (grammar.reads grammar.script grammar.gives) tokens.now) }
 {
     let mut lines = Vec::new(alloc);
     let mut rest = tokens;

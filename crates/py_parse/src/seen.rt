@@ -1,5 +1,6 @@
 //! The names that a list of parameters or named arguments has so far.
-ghost use Rattle.std.specs.Prelude.{◌≡◌, ◌-◌, ◌<◌, ℕ, false, Some, None, Ok, MatchOption, Option, List, [], ◌∷◌, ◌++◌, OnOk, nat_eq};
+ghost use Rattle.std.specs.Prelude.{◌≡◌, ◌-◌, ◌<◌, ℕ, false, Some, None, Ok, MatchOption, Option, List, [], ◌∷◌};
+ghost use Rattle.std.specs.Prelude.{◌++◌, OnOk, nat_eq};
 ghost use Rattle.std.specs.Cmp.Lexicographic.{pointwise};
 ghost use Rattle.std.specs.HashSet.{contains};
 ghost use Rattle.py_parse.specs.Terminals.{one, heads, has, fresh};
@@ -55,7 +56,8 @@ impl Seen {
 
     /// The name that is the next token, where it isn't one of these.
     pub fn take_fresh<'a>(&self, tokens: &'a [Token]) -> Option<(u32, &'a Text, &'a [Token])>
-        ensures { MatchOption result (heads (fresh self.now) tokens.now ≡ false) (λ p. FreshAt self.now tokens.now p.0 p.1.now p.2.now) }
+        ensures { MatchOption result (heads (fresh self.now) tokens.now ≡ false)
+            (λ p. FreshAt self.now tokens.now p.0 p.1.now p.2.now) }
     {
         let (line, name, rest) = take_name(tokens)?;
         if self.contains(name) {

@@ -22,7 +22,8 @@ pub fn strip_where<'a>(
     terminal: Terminal,
     tokens: &'a [Token],
 ) -> Option<(&'a Token, &'a [Token])>
-    ensures { MatchOption result (allowed && heads (one terminal) tokens.now ≡ false) (λ p. Permitted allowed (one terminal) tokens.now p.0.now p.1.now) }
+    ensures { MatchOption result (allowed && heads (one terminal) tokens.now ≡ false)
+        (λ p. Permitted allowed (one terminal) tokens.now p.0.now p.1.now) }
 {
     if allowed {
         strip(terminal, tokens)
@@ -33,7 +34,8 @@ pub fn strip_where<'a>(
 
 /// What stands behind `from`: `SCons.Script import *`.
 fn parse_import<'a>(line: u32, tokens: &'a [Token]) -> Result<(Simple, &'a [Token]), Stop<'a>>
-    ensures { Agrees (λ p. ok (simple_tree p.0) p.1.now) result (λ o. (d : ℕ) → Reads d (grammar.import_body line) tokens.now o) }
+    ensures { Agrees (λ p. ok (simple_tree p.0) p.1.now) result
+        (λ o. (d : ℕ) → Reads d (grammar.import_body line) tokens.now o) }
 {
     let Some((_, rest)) = strip(Terminal::Scons, tokens) else {
         return Err(Stop::At(tokens));
@@ -77,7 +79,8 @@ pub fn parse_small<'a>(
     depth: u32,
     tokens: &'a [Token],
 ) -> Result<(Simple, &'a [Token]), Stop<'a>>
-    ensures { Agrees (λ p. ok (simple_tree p.0) p.1.now) result (Reads depth (pick (grammar.small site) tokens.now) tokens.now) }
+    ensures { Agrees (λ p. ok (simple_tree p.0) p.1.now) result
+        (Reads depth (pick (grammar.small site) tokens.now) tokens.now) }
 {
     if let Some((word, rest)) = strip(Terminal::Word(Keyword::Pass), tokens) {
         return Ok((Simple::Pass { line: word.line }, rest));
@@ -108,7 +111,8 @@ pub fn parse_statements<'a>(
     depth: u32,
     tokens: &'a [Token],
 ) -> Result<(Vec<Simple>, &'a [Token]), Stop<'a>>
-    ensures { Agrees (λ p. ok (trees (map simple_tree p.0.items)) p.1.now) result (Reads depth (pick (grammar.statements site) tokens.now) tokens.now) }
+    ensures { Agrees (λ p. ok (trees (map simple_tree p.0.items)) p.1.now) result
+        (Reads depth (pick (grammar.statements site) tokens.now) tokens.now) }
 {
     let mut found = Vec::new(alloc);
     let mut rest = tokens;

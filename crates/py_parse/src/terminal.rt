@@ -84,7 +84,8 @@ fn same_mark(mark: Mark, other: Mark) -> bool
 
 /// The first token and those behind it, where it is what is wanted.
 pub fn strip<'a>(terminal: Terminal, tokens: &'a [Token]) -> Option<(&'a Token, &'a [Token])>
-    ensures { MatchOption result (heads (one terminal) tokens.now ≡ false) (λ p. Taken (one terminal) tokens.now p.0.now p.1.now) }
+    ensures { MatchOption result (heads (one terminal) tokens.now ≡ false)
+        (λ p. Taken (one terminal) tokens.now p.0.now p.1.now) }
 {
     let (first, rest) = tokens.split_first()?;
     if terminal.fits(&first.kind) {

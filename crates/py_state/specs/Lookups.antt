@@ -24,4 +24,5 @@ IsNamed m outside n h v h2 = m.names h n (Some v) h2
 abbrev pub IsUnnamed : {H : Type 0} → Meaning H → Found → ℕ → ℕ → List ℕ → H → H → Stop → Type 0
 IsUnnamed m (a_value x) script line n h h2 e = ⊥
 IsUnnamed m unset script line n h h2 e = (e ≢ stop.Memory → e ≡ stop.Fault script line (kind.Name n)) × (h2 ≡ h)
-IsUnnamed m outside script line n h h2 e = (e ≢ stop.Memory → e ≡ stop.Fault script line (kind.Name n)) × m.names h n None h2
+IsUnnamed m outside script line n h h2 e =
+    (e ≢ stop.Memory → e ≡ stop.Fault script line (kind.Name n)) × m.names h n None h2

@@ -15,10 +15,22 @@ pub record Store : Type 0 where
   pub functions : List Function
 
 abbrev pub function_of : code.Function → Function
-function_of f = record { script = f.script; parameters = f.parameters.items; locals = f.locals.keys; body = trees (map line_tree f.body.value.items) }
+function_of f =
+    record {
+      script = f.script;
+      parameters = f.parameters.items;
+      locals = f.locals.keys;
+      body = trees (map line_tree f.body.value.items);
+    }
 
 abbrev pub store_of : Machine → Store
-store_of m = record { objects = m.heap; units = m.budget; globals = m.globals.items; functions = map (λ r. function_of r.value) m.functions.items }
+store_of m =
+    record {
+      objects = m.heap;
+      units = m.budget;
+      globals = m.globals.items;
+      functions = map (λ r. function_of r.value) m.functions.items;
+    }
 
 -- the state that a store and a frame make
 abbrev pub state_by : Store → Frame → State

@@ -15,7 +15,8 @@ use std::alloc::Global;
 
 /// The arguments that stand in a call, with their values.
 pub fn arguments_by(alloc: Global, arguments: &[Argument], values: &[Value]) -> Result<Args, Memory>
-    ensures { IfOk result (λ args. arguments_of args ≡ arguments_by (trees (map argument_tree arguments.now)) values.now) }
+    ensures { IfOk result (λ args.
+        arguments_of args ≡ arguments_by (trees (map argument_tree arguments.now)) values.now) }
 {
     let mut args = Args {
         positional: Vec::new(alloc),
@@ -32,7 +33,8 @@ pub fn arguments_by(alloc: Global, arguments: &[Argument], values: &[Value]) -> 
 
 #[tactic(auto, using(crate::proofs::Trees::views))]
 fn add_argument(args: &mut Args, argument: &Argument, value: Value) -> Result<(), Memory>
-    ensures { OnOk result (arguments_of args.new ≡ with_argument (arguments_of args.old) (argument_tree argument.now) value) }
+    ensures { OnOk result (arguments_of args.new ≡ with_argument (arguments_of args.old) (argument_tree argument.now)
+        value) }
 {
     match argument {
         Argument::Positional { .. } => args.positional.push(value)?,

@@ -1,7 +1,8 @@
 //! Questions to the host that need global names.
 ghost use Rattle.std.specs.Prelude.{◌≡◌, [], Err, IfOk, slice_index_or};
-ghost use Rattle.py_host.specs.Calls.{called, script_done, answers, refuses, arguments_of, given_of};
-ghost use Rattle.py_state.specs.Stores.{store_of};
+ghost use Rattle.py_host.specs.Calls.{script_done, answers, refuses, arguments_of, given_of};
+ghost use Rattle.py_meaning.specs.Calls.{call_question};
+ghost use Rattle.py_state.specs.Stores.{store_of, state_of};
 
 use crate::frame::Frame;
 use crate::machine::Machine;
@@ -17,8 +18,12 @@ pub fn ask_call<H: Host>(
     object: HostId,
     args: &Args,
 ) -> Result<Reply, HostRefusal>
-    ensures ok { IfOk result (λ reply. H.meaning.replies (called (record { script = frame.now.script; line = line }) frame.now.values (slice_index_or machine.old.globals.items frame.now.script []) object.0 (arguments_of args.now)) host.old machine.old.heap (answers (given_of reply)) host.new machine.new.heap) }
-    ensures refused { result ≡ Err HostRefusal.Host → H.meaning.replies (called (record { script = frame.now.script; line = line }) frame.now.values (slice_index_or machine.old.globals.items frame.now.script []) object.0 (arguments_of args.now)) host.old machine.old.heap refuses host.new machine.new.heap }
+    ensures ok { IfOk result (λ reply. H.meaning.replies
+        (call_question line object.0 (arguments_of args.now) (state_of machine.old frame.now)) host.old
+        machine.old.heap (answers (given_of reply)) host.new machine.new.heap) }
+    ensures refused { result ≡ Err HostRefusal.Host → H.meaning.replies
+        (call_question line object.0 (arguments_of args.now) (state_of machine.old frame.now)) host.old
+        machine.old.heap refuses host.new machine.new.heap }
     ensures keeps { H.meaning.keeps host.old host.new }
     ensures stays { store_of machine.new ≡ record (store_of machine.old) { objects = machine.new.heap } }
 {
@@ -43,8 +48,12 @@ pub fn ask_done<H: Host>(
     host: &mut H,
     script: u64,
 ) -> Result<Reply, HostRefusal>
-    ensures ok { IfOk result (λ reply. H.meaning.replies (script_done (slice_index_or machine.old.globals.items script [])) host.old machine.old.heap (answers (given_of reply)) host.new machine.new.heap) }
-    ensures refused { result ≡ Err HostRefusal.Host → H.meaning.replies (script_done (slice_index_or machine.old.globals.items script [])) host.old machine.old.heap refuses host.new machine.new.heap }
+    ensures ok { IfOk result (λ reply. H.meaning.replies
+        (script_done (slice_index_or machine.old.globals.items script [])) host.old machine.old.heap
+        (answers (given_of reply)) host.new machine.new.heap) }
+    ensures refused { result ≡ Err HostRefusal.Host → H.meaning.replies
+        (script_done (slice_index_or machine.old.globals.items script [])) host.old machine.old.heap refuses
+        host.new machine.new.heap }
     ensures keeps { H.meaning.keeps host.old host.new }
     ensures stays { store_of machine.new ≡ record (store_of machine.old) { objects = machine.new.heap } }
 {

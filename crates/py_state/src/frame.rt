@@ -33,7 +33,13 @@ impl Model for Frame {
 
     ghost Value = { meaning.Frame };
 
-    ghost view = { λ f. record { script = f.script; running = f.running; locals = option_map (λ r. r.value.locals.keys) f.function; values = f.values; inner = reverse f.inner.items } };
+    ghost view = { λ f. record {
+      script = f.script;
+      running = f.running;
+      locals = option_map (λ r. r.value.locals.keys) f.function;
+      values = f.values;
+      inner = reverse f.inner.items;
+    } };
 }
 
 impl Frame {
@@ -62,7 +68,13 @@ impl Frame {
 
     /// The body of a function, called while a script runs.
     pub fn of_function(alloc: Global, running: u64, function: Rc<Function>, values: Scope) -> Frame
-        ensures { result ≡ record { script = function.value.script; running = running; locals = Some function.value.locals.keys; values = values; inner = [] } }
+        ensures { result ≡ record {
+          script = function.value.script;
+          running = running;
+          locals = Some function.value.locals.keys;
+          values = values;
+          inner = [];
+        } }
     {
         Frame {
             script: function.script,

@@ -14,7 +14,8 @@ pub fn local_names(
     parameters: &[Parameter],
     body: &[Line],
 ) -> Result<IndexSet<Text>, Memory>
-    ensures { IfOk result (λ names. names.keys ≡ local_names (trees (map parameter_tree parameters.now)) (trees (map line_tree body.now))) }
+    ensures { IfOk result (λ names.
+        names.keys ≡ local_names (trees (map parameter_tree parameters.now)) (trees (map line_tree body.now))) }
 {
     let mut names = IndexSet::new(alloc);
     'parameters: for parameter in parameters {

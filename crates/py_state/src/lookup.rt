@@ -31,8 +31,10 @@ pub fn named<H: Host>(
     line: u32,
     name: &Text,
 ) -> Result<Value, Stop>
-    ensures ok { IfOk result (λ v. IsNamed H.meaning (found_in (state_of machine.now frame.now) name.now) name.now host.old v host.new) }
-    ensures fault { IfErr result (IsUnnamed H.meaning (found_in (state_of machine.now frame.now) name.now) frame.now.script line name.now host.old host.new) }
+    ensures ok { IfOk result (λ v.
+        IsNamed H.meaning (found_in (state_of machine.now frame.now) name.now) name.now host.old v host.new) }
+    ensures fault { IfErr result (IsUnnamed H.meaning (found_in (state_of machine.now frame.now) name.now)
+        frame.now.script line name.now host.old host.new) }
     ensures keeps { H.meaning.keeps host.old host.new }
     ensures own { IfErr result (λ e. refusals_told e ≡ 0) }
 {

@@ -1,5 +1,6 @@
 //! What stands while scripts run, besides the host and the names at a place.
-ghost use Rattle.std.specs.Prelude.{◌≡◌, ◌≢◌, ◌∷◌, ◌++◌, [], Ok, Err, Some, None, IfOk, IfErr, OnOk, OnErr, length, slice_get, slice_set, slice_index_or};
+ghost use Rattle.std.specs.Prelude.{◌≡◌, ◌≢◌, ◌∷◌, ◌++◌, [], Ok, Err, Some, None, IfOk, IfErr, OnOk, OnErr, length};
+ghost use Rattle.std.specs.Prelude.{slice_get, slice_set, slice_index_or};
 ghost use Rattle.std.specs.Option.{option_map};
 ghost use Rattle.py_heap.specs.declared.value.Value.TheVariants as value;
 ghost use Rattle.py_heap.specs.Heap.{truth_of};
@@ -45,7 +46,9 @@ impl Machine {
     /// The number of a further script, which begins.
     pub fn begin_script(&mut self) -> Result<u64, Memory>
         ensures ok { IfOk result (λ n. n ≡ length self.old.globals.items) }
-        ensures begun { OnOk result (store_of self.new ≡ record (store_of self.old) { globals = self.old.globals.items ++ [] ∷ [] }) }
+        ensures begun { OnOk result (store_of self.new ≡ record (store_of self.old) {
+          globals = self.old.globals.items ++ [] ∷ [];
+        }) }
         ensures err { OnErr result (store_of self.new ≡ store_of self.old) }
     {
         let number = self.globals.len() as u64;
@@ -57,7 +60,8 @@ impl Machine {
     pub fn pay(&mut self, frame: &Frame, line: u32) -> Result<(), Stop>
         ensures ok { OnOk result (charged self.old.budget 1 ≡ Ok self.new.budget) }
         ensures paid { store_of self.new ≡ record (store_of self.old) { units = self.new.budget } }
-        ensures fault { IfErr result (λ stop. (e : _) × (charged self.old.budget 1 ≡ Err e) × (stop ≡ value_stop frame.now.script line e)) }
+        ensures fault { IfErr result (λ stop.
+            (e : _) × (charged self.old.budget 1 ≡ Err e) × (stop ≡ value_stop frame.now.script line e)) }
         ensures own { IfErr result (λ stop. refusals_told stop ≡ 0) }
     {
         match self.budget.charge(1) {
@@ -68,7 +72,8 @@ impl Machine {
 
     /// A function by its number.
     pub fn function(&self, id: FuncId) -> Result<Option<Rc<Function>>, Memory>
-        ensures { IfOk result (λ f. option_map (λ r. function_of r.value) f ≡ slice_get (store_of self.now).functions id.0) }
+        ensures { IfOk result (λ f.
+            option_map (λ r. function_of r.value) f ≡ slice_get (store_of self.now).functions id.0) }
     {
         match self.functions.get(id.0 as usize) {
             Some(function) => Ok(Some(function.clone()?)),
@@ -79,7 +84,9 @@ impl Machine {
     /// A function value.
     pub fn add_function(&mut self, function: Function) -> Result<Value, Memory>
         ensures ok { IfOk result (λ v. v ≡ value.Func (record { 0 = length self.old.functions.items })) }
-        ensures added { OnOk result (store_of self.new ≡ record (store_of self.old) { functions = (store_of self.old).functions ++ function_of function ∷ [] }) }
+        ensures added { OnOk result (store_of self.new ≡ record (store_of self.old) {
+          functions = (store_of self.old).functions ++ function_of function ∷ [];
+        }) }
     {
         let Ok(number) = u32::try_from(self.functions.len()) else {
             return Err(Memory);
@@ -99,7 +106,10 @@ impl Machine {
     }
 
     pub fn set_global(&mut self, script: u64, name: &Text, value: Value) -> Result<(), Memory>
-        ensures { OnOk result (store_of self.new ≡ record (store_of self.old) { globals = slice_set self.old.globals.items script (with_name (slice_index_or self.old.globals.items script []) name.now value) }) }
+        ensures { OnOk result (store_of self.new ≡ record (store_of self.old) {
+          globals = slice_set self.old.globals.items script
+              (with_name (slice_index_or self.old.globals.items script []) name.now value);
+        }) }
     {
         let name = name.copy()?;
         let place = script as usize;
@@ -111,7 +121,10 @@ impl Machine {
     }
 
     pub fn set_globals(&mut self, script: u64, names: &Scope) -> Result<(), Memory>
-        ensures { OnOk result (store_of self.new ≡ record (store_of self.old) { globals = slice_set self.old.globals.items script (with_names (slice_index_or self.old.globals.items script []) names.now) }) }
+        ensures { OnOk result (store_of self.new ≡ record (store_of self.old) {
+          globals = slice_set self.old.globals.items script
+              (with_names (slice_index_or self.old.globals.items script []) names.now);
+        }) }
     {
         let place = script as usize;
         if place < self.globals.len() {

@@ -1,7 +1,8 @@
 //! What a `for` and a comprehension go over.
 ghost use Rattle.std.specs.Prelude.{◌≡◌, ◌≢◌, ◌≤◌, ◌+◌, Ok, Err, None, IfOk, IfErr, IfSome, length};
 ghost use Rattle.std.specs.Option.{option_map};
-ghost use Rattle.py_meaning.specs.Loops.{walk_of, next_of, unpacked, list_from, tuple_from, keys_from, text_from, char_from};
+ghost use Rattle.py_meaning.specs.Loops.{walk_of, next_of, unpacked, list_from, tuple_from, keys_from, text_from};
+ghost use Rattle.py_meaning.specs.Loops.{char_from};
 ghost use Rattle.py_state.specs.Walks.{plain, told_next};
 
 use py_compare::{iterable_items, iterable_texts, needed_length};

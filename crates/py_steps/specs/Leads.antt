@@ -11,7 +11,7 @@ use Rattle.py_meaning.specs.Plans.{Plan, comes_to, stops, first, bind}
 use Rattle.py_meaning.specs.Evaluates.{Follows, IsOwn, plan}
 use Rattle.py_meaning.specs.Expressions.{plan_operations}
 use Rattle.py_meaning.specs.Links.{plan_links}
-use Rattle.py_meaning.specs.Statements.{assigned}
+use Rattle.py_meaning.specs.Statements.{assigned, statement}
 use Rattle.py_state.specs.Stores.{state_of}
 use Rattle.py_state.specs.declared.machine.Machine.{Machine}
 use Rattle.py_state.specs.declared.stop.Stop.{Stop}
@@ -23,9 +23,13 @@ use Rattle.py_steps.specs.declared.statements.Flow.TheVariants as flow
 use Rattle.py_steps.specs.declared.task.Task.{Task}
 use Rattle.py_steps.specs.Todos.{left, gives_on}
 
--- what is left at a desk in a state
+-- what is left at a desk, in a state
+abbrev pub left_in : Desk → State → Plan
+left_in d s = left (tasks_of d) (values_of d) (goes_on s)
+
+-- the same in the state of a machine and a frame
 abbrev pub left_at : Desk → Machine → Frame → Plan
-left_at d m f = left (tasks_of d) (values_of d) (goes_on (state_of m f))
+left_at d m f = left_in d (state_of m f)
 
 -- the same with a task on top
 abbrev pub left_with : Task → Desk → Machine → Frame → Plan
@@ -40,7 +44,8 @@ exec_at t d s = first (exec t) s (left (tasks_of d) (values_of d))
 
 -- the uppermost value goes to a target
 abbrev pub assigned_at : ℕ → Tree → Desk → State → Plan
-assigned_at l t d s = bind (assigned l t (top (values_of d)) s (λ s1. comes_to (goes_on s1))) (left (tasks_of d) (below (values_of d)))
+assigned_at l t d s =
+    bind (assigned l t (top (values_of d)) s (λ s1. comes_to (goes_on s1))) (left (tasks_of d) (below (values_of d)))
 
 -- how it goes on at a desk with a value in the place of the uppermost one
 abbrev pub in_place_at : Desk → Out → Plan
@@ -69,14 +74,16 @@ Stops m c before h stop.Memory h2 = Unit {0}
 
 -- whatever is left after a step comes to, was left before it
 abbrev pub LeadsOn : {H : Type 0} → Meaning H → ℕ → Plan → H → Plan → H → Type 0
-LeadsOn {H = H} m c before h after h2 = (r : Result Out Fault) (h3 : H) → Follows m c after h2 r h3 → Follows m c before h r h3
+LeadsOn {H = H} m c before h after h2 =
+    (r : Result Out Fault) (h3 : H) → Follows m c after h2 r h3 → Follows m c before h r h3
 
 abbrev pub Leads : {H X : Type 0} → Meaning H → ℕ → Plan → H → Result X Stop → Plan → H → Type 0
 Leads m c before h (Ok u) after h2 = LeadsOn m c before h after h2
 Leads m c before h (Err e) after h2 = Stops m c before h e h2
 
 -- what a step that gives a value owes: what goes on with the value in the state after it, was left before it
-abbrev pub Gives : {H : Type 0} → Meaning H → ℕ → Plan → H → Result Value Stop → (Value → State → Plan) → State → H → Type 0
+abbrev pub Gives : {H : Type 0} → Meaning H → ℕ → Plan → H → Result Value Stop → (Value → State → Plan) → State → H →
+    Type 0
 Gives m c before h (Ok x) f s h2 = LeadsOn m c before h (f x s) h2
 Gives m c before h (Err e) f s h2 = Stops m c before h e h2
 
@@ -95,12 +102,14 @@ going (Err e) = Err e
 pub data Unfolds : Plan → Plan → Type 0 where
   same : {p q : Plan} → p ≡ q → Unfolds p q
   opens : {j : Job} {s : State} {k : Out → Plan} {q : Plan} → Unfolds (bind (plan j s) k) q → Unfolds (first j s k) q
-  later : {j : Job} {s : State} {k l : Out → Plan} → ((o : Out) → Unfolds (k o) (l o)) → Unfolds (first j s k) (first j s l)
+  later : {j : Job} {s : State} {k l : Out → Plan} → ((o : Out) → Unfolds (k o) (l o)) →
+      Unfolds (first j s k) (first j s l)
 
 -- a step in which the host has no part
 abbrev pub Steps : {X : Type 0} → Plan → Result X Stop → Plan → Type 0
 Steps before (Ok u) after = Unfolds before after
-Steps before (Err (stop.Fault script line k)) after = IsOwn k × Unfolds before (stops (record { script = script; line = line }) k)
+Steps before (Err (stop.Fault script line k)) after =
+    IsOwn k × Unfolds before (stops (record { script = script; line = line }) k)
 Steps before (Err stop.End) after = ⊥
 Steps before (Err stop.Memory) after = Unit {0}
 
@@ -109,3 +118,15 @@ abbrev pub StepsOrReturns : Plan → Result Flow Stop → Plan → State → Typ
 StepsOrReturns before (Ok flow.GoesOn) after s = Unfolds before after
 StepsOrReturns before (Ok (flow.Returns x)) after s = Unfolds before (comes_to (returns x s))
 StepsOrReturns before (Err e) after s = Steps {X = Flow} before (Err e) after
+
+-- what is left at a desk is a plan, in every state
+abbrev pub HasLeft : Desk → (State → Plan) → Type 0
+HasLeft d p = (s : State) → Unfolds (p s) (left_in d s)
+
+-- a step at a desk does a task, in every state
+abbrev pub DoesTask : {X : Type 0} → Task → Desk → Result X Stop → Desk → Type 0
+DoesTask t d result d2 = (s : State) → Steps (left (t ∷ tasks_of d) (values_of d) (goes_on s)) result (left_in d2 s)
+
+-- a step at a desk executes a statement, in every state
+abbrev pub Executes : Tree → Desk → Result Flow Stop → Desk → Type 0
+Executes t d result d2 = (s : State) → StepsOrReturns (plan_at (statement t s) d) result (left_in d2 s) s

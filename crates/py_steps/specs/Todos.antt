@@ -1,9 +1,11 @@
 -- What the tasks of a body stand for: what is left to do, as a plan.
-use Rattle.std.specs.Prelude.{ℕ, ◌+◌, Bool, true, false, not, List, [], ◌∷◌, ◌++◌, Option, Some, None, map, reverse, take, drop}
+use Rattle.std.specs.Prelude.{ℕ, ◌+◌, Bool, true, false, not, List, [], ◌∷◌, ◌++◌, Option, Some, None, map, reverse}
+use Rattle.std.specs.Prelude.{take, drop}
 use Rattle.std.specs.declared.boxed.Box.{Box}
 use Rattle.std.specs.declared.alloc.Global.{Global}
 use Rattle.py_tree.specs.declared.expr.Expr.{Expr}
-use Rattle.py_tree.specs.Tree.{Tree, absent, trees, words, expr_tree, pair_tree, argument_tree, operation_tree, link_tree, simple_tree, line_tree, branch_tree, parameter_tree}
+use Rattle.py_tree.specs.Tree.{Tree, absent, trees, words, expr_tree, pair_tree, argument_tree, operation_tree}
+use Rattle.py_tree.specs.Tree.{link_tree, simple_tree, line_tree, branch_tree, parameter_tree}
 use Rattle.py_tree.specs.declared.expr.Operator.{Operator}
 use Rattle.py_tree.specs.declared.expr.Operator.TheVariants as operator'
 use Rattle.py_heap.specs.declared.value.Value.{Value}
@@ -15,7 +17,8 @@ use Rattle.py_operators.specs.Binary.{binary_of}
 use Rattle.py_operators.specs.Indexing.{sliced}
 use Rattle.py_methods.specs.declared.name.Name.{Name}
 use Rattle.py_meaning.specs.States.{State, Out, goes_on, breaks, continues, returns, after_operation}
-use Rattle.py_meaning.specs.Jobs.{Callee, a_value, a_method, eval, eval_all, links, operations, collect, tests, call, exec_all, branches, turns}
+use Rattle.py_meaning.specs.Jobs.{Callee, a_value, a_method, eval, eval_all, links, operations, collect, tests, call}
+use Rattle.py_meaning.specs.Jobs.{exec_all, branches, turns}
 use Rattle.py_meaning.specs.Plans.{Plan, comes_to, first, on_value, on_values, checked, bind}
 use Rattle.py_meaning.specs.Expressions.{flat_pairs, displayed, inside, outside_again}
 use Rattle.py_meaning.specs.Arguments.{arguments_by, defaults_of}
@@ -70,7 +73,8 @@ past false vs = vs
 
 abbrev pub slice_on : ℕ → State → Bool → Bool → List Value → Rest → Plan
 slice_on l s from to vs k =
-    made_on l s (sliced s.objects s.units (top (past from (past to vs))) (end_at from (past to vs)) (end_at to vs)) (below (past from (past to vs))) k
+    made_on l s (sliced s.objects s.units (top (past from (past to vs))) (end_at from (past to vs)) (end_at to vs))
+    (below (past from (past to vs))) k
 
 abbrev pub item_tree : Comprehension → Tree
 item_tree c = expr_tree c.item.now
@@ -88,7 +92,8 @@ taken n vs = reverse (take n vs)
 -- a comprehension from a turn on, whose items so far are the uppermost values
 abbrev pub collect_on : Collecting → List Value → State → Rest → Plan
 collect_on c vs s k =
-    first (collect c.comprehension.line (plain c.walk) (taken c.count vs) (item_tree c.comprehension) (names_tree c.comprehension) (tests_tree c.comprehension)) s
+    first (collect c.comprehension.line (plain c.walk) (taken c.count vs) (item_tree c.comprehension)
+    (names_tree c.comprehension) (tests_tree c.comprehension)) s
     (on_value (λ x s1. k (x ∷ drop c.count vs) (goes_on (outside_again s1))))
 
 -- the list of the items, at the end of a comprehension
@@ -106,7 +111,8 @@ by_tests c vs k true s = item_on c vs s k
 by_tests c vs k false s = collect_on c vs s k
 
 abbrev pub tests_on : Collecting → Tree → List Value → State → Rest → Plan
-tests_on c ts vs s k = first (tests c.comprehension.line ts) s (on_value (λ b s1. by_tests c vs k (truth_of s1.objects b) s1))
+tests_on c ts vs s k =
+    first (tests c.comprehension.line ts) s (on_value (λ b s1. by_tests c vs k (truth_of s1.objects b) s1))
 
 abbrev pub by_test : Collecting → Tree → List Value → Rest → Bool → State → Plan
 by_test c ts vs k true s = tests_on c ts vs s k
@@ -142,11 +148,15 @@ does (task.List l base) vs s k = made_on l s (new_list s.objects s.units (above 
 does (task.Dict l base) vs s k = made_on l s (displayed s.objects s.units (above base vs)) (under base vs) k
 does (task.Negate l) vs s k = made_on l s (negative_of s.objects s.units (top vs)) (below vs) k
 does task.Not vs s k = k (v.Bool (not (truth_of s.objects (top vs))) ∷ below vs) (goes_on s)
-does (task.Binary l op) vs s k = made_on l s (binary_of op s.objects s.units (top (below vs)) (top vs)) (below (below vs)) k
-does (task.Operations os) vs s k = first (operations (top vs) (trees (map operation_tree os.now))) s (gives_on (below vs) k)
-does (task.Links ls named) vs s k = first (links (top vs) named (trees (map link_tree ls.now))) s (gives_on (below vs) k)
+does (task.Binary l op) vs s k =
+    made_on l s (binary_of op s.objects s.units (top (below vs)) (top vs)) (below (below vs)) k
+does (task.Operations os) vs s k =
+    first (operations (top vs) (trees (map operation_tree os.now))) s (gives_on (below vs) k)
+does (task.Links ls named) vs s k =
+    first (links (top vs) named (trees (map link_tree ls.now))) s (gives_on (below vs) k)
 does (task.Call l name ts base) vs s k =
-    first (call l (callee (top (under base vs)) name) (arguments_by (trees (map argument_tree ts.now)) (above base vs))) s
+    first (call l (callee (top (under base vs)) name)
+    (arguments_by (trees (map argument_tree ts.now)) (above base vs))) s
     (gives_on (below (under base vs)) k)
 does (task.Index l) vs s k = after_item l (top (below vs)) (top vs) s (λ x s1. k (x ∷ below (below vs)) (goes_on s1))
 does (task.Slice l from to) vs s k = slice_on l s from to vs k
@@ -160,19 +170,24 @@ does (task.Lines ls) vs s k = first (exec_all (trees (map line_tree ls.now))) s 
 does (task.Statements ss) vs s k = first (exec_all (trees (map simple_tree ss.now))) s (k vs)
 does task.Forget vs s k = k (below vs) (goes_on s)
 does task.Return vs s k = k (below vs) (returns (top vs) s)
-does (task.Branches bs ls) vs s k = first (branches (trees (map branch_tree bs.now)) (trees (map line_tree ls.now))) s (k vs)
+does (task.Branches bs ls) vs s k =
+    first (branches (trees (map branch_tree bs.now)) (trees (map line_tree ls.now))) s (k vs)
 does (task.Choose b bs ls) vs s k =
-    by_branch (trees (map line_tree b.now.block.items)) (trees (map branch_tree bs.now)) (trees (map line_tree ls.now)) (below vs) k (truth_of s.objects (top vs)) s
+    by_branch (trees (map line_tree b.now.block.items)) (trees (map branch_tree bs.now))
+    (trees (map line_tree ls.now)) (below vs) k (truth_of s.objects (top vs)) s
 does (task.Begin t) vs s k = checked t.line s (walk_of s.objects (top vs)) (λ walk.
     first (turns t.line walk (words t.names.now) (trees (map line_tree t.block.now))) s (k (below vs)))
 does (task.Turns t walk) vs s k =
     first (turns t.line (plain walk) (words t.names.now) (trees (map line_tree t.block.now))) s (k vs)
 does (task.Define d base) vs s k =
-    k (under base vs) (goes_on (defined d.name.now (parameters_in d) (trees (map line_tree d.block.now.value.items)) (above base vs) s))
-does (task.Assign l t) vs s k = bind (assigned l (expr_tree t.now) (top vs) s (λ s1. comes_to (goes_on s1))) (k (below vs))
+    k (under base vs) (goes_on (defined d.name.now (parameters_in d) (trees (map line_tree d.block.now.value.items))
+    (above base vs) s))
+does (task.Assign l t) vs s k =
+    bind (assigned l (expr_tree t.now) (top vs) s (λ s1. comes_to (goes_on s1))) (k (below vs))
 does (task.Bind n) vs s k = k (below vs) (goes_on (with_bound s n.now (top vs)))
 does (task.Load l) vs s k = after_item l (top (below vs)) (top vs) s (λ x s1. k (x ∷ vs) (goes_on s1))
-does (task.Augment l op) vs s k = made_on l s (augmented_of op s.objects s.units (top (below vs)) (top vs)) (below (below vs)) k
+does (task.Augment l op) vs s k =
+    made_on l s (augmented_of op s.objects s.units (top (below vs)) (top vs)) (below (below vs)) k
 does (task.StoreBelow l) vs s k =
     after_item_set l (top (below vs)) (top vs) (top (below (below vs))) s (λ s1. k (drop 3 vs) (goes_on s1))
 does (task.StoreAbove l) vs s k =

@@ -4,12 +4,11 @@ ghost use Rattle.py_tree.specs.Tree.{trees, tuple, post, expr_tree, link_tree};
 ghost use Rattle.py_meaning.specs.Expressions.{named_line};
 ghost use Rattle.py_meaning.specs.Loops.{names_of};
 ghost use Rattle.py_meaning.specs.Plans.{Plan};
-ghost use Rattle.py_meaning.specs.States.{State, goes_on};
+ghost use Rattle.py_meaning.specs.States.{State};
 ghost use Rattle.py_meaning.specs.Statements.{after_item_set, assigned, augmented};
 ghost use Rattle.py_state.specs.Stores.{state_of};
-ghost use Rattle.py_steps.specs.Desks.{stacks_of, tasks_of, values_of};
-ghost use Rattle.py_steps.specs.Todos.{left};
-ghost use Rattle.py_steps.specs.Leads.{Leads, Steps, Unfolds, left_with, left_at, plan_at, assigned_at};
+ghost use Rattle.py_steps.specs.Desks.{stacks_of, tasks_of};
+ghost use Rattle.py_steps.specs.Leads.{Leads, Steps, left_with, left_at, plan_at, assigned_at, HasLeft};
 
 use crate::desk::Desk;
 use crate::expressions::named_line;
@@ -32,7 +31,8 @@ pub fn assign<'a>(
     line: u32,
     target: &'a Expr,
 ) -> Result<(), Stop>
-    ensures { Steps (left_with (Task.Assign line target.entry) desk.old machine.old frame.old) result (left_at desk.new machine.new frame.new) }
+    ensures { Steps (left_with (Task.Assign line target.entry) desk.old machine.old frame.old) result
+        (left_at desk.new machine.new frame.new) }
 {
     match target {
         Expr::Name { name, .. } => {
@@ -63,7 +63,11 @@ fn assign_items(
     targets: &[Expr],
     value: Value,
 ) -> Result<(), Stop>
-    ensures { (l : ℕ) (b : Bool) (f : State → Plan) → Steps (assigned line (tuple l (trees (map expr_tree targets.now)) b) value (state_of machine.old frame.old) f) result (f (state_of machine.new frame.new)) }
+    ensures { (l : ℕ) (b : Bool) (f : State → Plan) →
+        Steps
+        (assigned line (tuple l (trees (map expr_tree targets.now)) b) value (state_of machine.old frame.old) f)
+        result
+        (f (state_of machine.new frame.new)) }
 {
     let names = target_names(machine.alloc, targets)?;
     let values = match unpacked(&mut machine.heap, value, names.len()) {
@@ -90,7 +94,8 @@ fn target_names(alloc: Global, targets: &[Expr]) -> Result<Vec<Text>, Memory>
 
 /// What is behind an atom takes the uppermost value, if its end is an index.
 fn assign_item<'a>(desk: &mut Desk<'a>, atom: &'a Expr, links: &'a [Link]) -> Result<(), Memory>
-    ensures { OnOk result ((l : ℕ) (s : State) → Unfolds (assigned_at l (post (expr_tree atom.now) (trees (map link_tree links.now))) desk.old s) (left (tasks_of desk.new) (values_of desk.new) (goes_on s))) }
+    ensures { OnOk result ((l : ℕ) → HasLeft desk.new
+        (assigned_at l (post (expr_tree atom.now) (trees (map link_tree links.now))) desk.old)) }
 {
     let Some((last, front)) = links.split_last() else {
         let _value = desk.take();
@@ -111,7 +116,10 @@ fn push_place<'a>(
     front: &'a [Link],
     index: &'a Expr,
 ) -> Result<(), Memory>
-    ensures { OnOk result (stacks_of desk.new ≡ record (stacks_of desk.old) { tasks = Task.Evaluate atom.entry ∷ Task.Links front.entry (named_line (expr_tree atom.now)) ∷ Task.Evaluate index.entry ∷ tasks_of desk.old }) }
+    ensures { OnOk result (stacks_of desk.new ≡ record (stacks_of desk.old) {
+      tasks = Task.Evaluate atom.entry ∷ Task.Links front.entry (named_line (expr_tree atom.now))
+          ∷ Task.Evaluate index.entry ∷ tasks_of desk.old;
+    }) }
 {
     desk.push(Task::Evaluate(index))?;
     let named = named_line(atom);
@@ -132,7 +140,8 @@ pub fn augment<'a>(
     target: &'a Expr,
     value: &'a Expr,
 ) -> Result<(), Memory>
-    ensures { OnOk result ((s : State) → Unfolds (plan_at (augmented line operator (expr_tree target.now) (expr_tree value.now) s) desk.old) (left (tasks_of desk.new) (values_of desk.new) (goes_on s))) }
+    ensures { OnOk result (HasLeft desk.new (λ s.
+        plan_at (augmented line operator (expr_tree target.now) (expr_tree value.now) s) desk.old)) }
 {
     match target {
         Expr::Name { name, .. } => augment_name(desk, line, operator, target, name, value),
@@ -151,7 +160,10 @@ fn augment_name<'a>(
     name: &'a Text,
     value: &'a Expr,
 ) -> Result<(), Memory>
-    ensures { OnOk result (stacks_of desk.new ≡ record (stacks_of desk.old) { tasks = Task.Evaluate target.entry ∷ Task.Evaluate value.entry ∷ Task.Augment line operator ∷ Task.Bind name.entry ∷ tasks_of desk.old }) }
+    ensures { OnOk result (stacks_of desk.new ≡ record (stacks_of desk.old) {
+      tasks = Task.Evaluate target.entry ∷ Task.Evaluate value.entry ∷ Task.Augment line operator
+          ∷ Task.Bind name.entry ∷ tasks_of desk.old;
+    }) }
 {
     desk.push(Task::Bind(name))?;
     desk.evaluate(value, Task::Augment { line, operator })?;
@@ -166,7 +178,11 @@ fn augment_item<'a>(
     links: &'a [Link],
     value: &'a Expr,
 ) -> Result<(), Memory>
-    ensures { OnOk result ((s : State) → Unfolds (plan_at (augmented line operator (post (expr_tree atom.now) (trees (map link_tree links.now))) (expr_tree value.now) s) desk.old) (left (tasks_of desk.new) (values_of desk.new) (goes_on s))) }
+    ensures { OnOk result (HasLeft desk.new (λ s.
+        plan_at
+        (augmented line operator (post (expr_tree atom.now) (trees (map link_tree links.now)))
+        (expr_tree value.now) s)
+        desk.old)) }
 {
     let Some((last, front)) = links.split_last() else {
         return Ok(());
@@ -186,7 +202,10 @@ fn push_augment<'a>(
     place: u32,
     value: &'a Expr,
 ) -> Result<(), Memory>
-    ensures { OnOk result (stacks_of desk.new ≡ record (stacks_of desk.old) { tasks = Task.Load place ∷ Task.Evaluate value.entry ∷ Task.Augment line operator ∷ Task.StoreAbove place ∷ tasks_of desk.old }) }
+    ensures { OnOk result (stacks_of desk.new ≡ record (stacks_of desk.old) {
+      tasks = Task.Load place ∷ Task.Evaluate value.entry ∷ Task.Augment line operator
+          ∷ Task.StoreAbove place ∷ tasks_of desk.old;
+    }) }
 {
     desk.push(Task::StoreAbove { line: place })?;
     desk.evaluate(value, Task::Augment { line, operator })?;
@@ -202,7 +221,8 @@ pub fn load<H: Host>(
     line: u32,
 ) -> Result<(), Stop>
     ensures keeps { H.meaning.keeps host.old host.new }
-    ensures leads { (c : ℕ) → Leads H.meaning c (left_with (Task.Load line) desk.old machine.old frame.now) host.old result (left_at desk.new machine.new frame.now) host.new }
+    ensures leads { (c : ℕ) → Leads H.meaning c (left_with (Task.Load line) desk.old machine.old frame.now) host.old
+        result (left_at desk.new machine.new frame.now) host.new }
 {
     let value = item(machine, host, frame, line, desk.second(), desk.top())?;
     desk.give(value)?;
@@ -217,7 +237,8 @@ pub fn combine(
     line: u32,
     operator: Operator,
 ) -> Result<(), Stop>
-    ensures { Steps (left_with (Task.Augment line operator) desk.old machine.old frame.now) result (left_at desk.new machine.new frame.now) }
+    ensures { Steps (left_with (Task.Augment line operator) desk.old machine.old frame.now) result
+        (left_at desk.new machine.new frame.now) }
 {
     let right = desk.take();
     let left = desk.take();
@@ -245,7 +266,8 @@ pub fn store_below<H: Host>(
     line: u32,
 ) -> Result<(), Stop>
     ensures keeps { H.meaning.keeps host.old host.new }
-    ensures leads { (c : ℕ) → Leads H.meaning c (left_with (Task.StoreBelow line) desk.old machine.old frame.now) host.old result (left_at desk.new machine.new frame.now) host.new }
+    ensures leads { (c : ℕ) → Leads H.meaning c (left_with (Task.StoreBelow line) desk.old machine.old frame.now)
+        host.old result (left_at desk.new machine.new frame.now) host.new }
 {
     let key = desk.take();
     let base = desk.take();
@@ -262,7 +284,8 @@ pub fn store_above<H: Host>(
     line: u32,
 ) -> Result<(), Stop>
     ensures keeps { H.meaning.keeps host.old host.new }
-    ensures leads { (c : ℕ) → Leads H.meaning c (left_with (Task.StoreAbove line) desk.old machine.old frame.now) host.old result (left_at desk.new machine.new frame.now) host.new }
+    ensures leads { (c : ℕ) → Leads H.meaning c (left_with (Task.StoreAbove line) desk.old machine.old frame.now)
+        host.old result (left_at desk.new machine.new frame.now) host.new }
 {
     let value = desk.take();
     let key = desk.take();
@@ -280,7 +303,9 @@ fn store<H: Host>(
     value: Value,
 ) -> Result<(), Stop>
     ensures keeps { H.meaning.keeps host.old host.new }
-    ensures leads { (c : ℕ) (f : State → Plan) → Leads H.meaning c (after_item_set line base key value (state_of machine.old frame.now) f) host.old result (f (state_of machine.new frame.now)) host.new }
+    ensures leads { (c : ℕ) (f : State → Plan) → Leads H.meaning c
+        (after_item_set line base key value (state_of machine.old frame.now) f) host.old result
+        (f (state_of machine.new frame.now)) host.new }
 {
     match base {
         Value::Object(object) => match host.set_index(

@@ -24,7 +24,8 @@ pub fn comprehend<'a>(
     desk: &mut Desk<'a>,
     comprehension: Comprehension<'a>,
 ) -> Result<(), Stop>
-    ensures { Steps (left_with (Task.Comprehend comprehension.entry) desk.old machine.now frame.old) result (left_at desk.new machine.now frame.new) }
+    ensures { Steps (left_with (Task.Comprehend comprehension.entry) desk.old machine.now frame.old) result
+        (left_at desk.new machine.now frame.new) }
 {
     let source = desk.take();
     let walk = match Walk::over(&machine.heap, source) {
@@ -47,7 +48,8 @@ pub fn collect<'a>(
     desk: &mut Desk<'a>,
     collecting: Collecting<'a>,
 ) -> Result<(), Stop>
-    ensures { Steps (left_with (Task.Collect collecting.entry) desk.old machine.old frame.old) result (left_at desk.new machine.new frame.new) }
+    ensures { Steps (left_with (Task.Collect collecting.entry) desk.old machine.old frame.old) result
+        (left_at desk.new machine.new frame.new) }
 {
     let Some((item, rest)) = collecting.walk.next(&mut machine.heap)? else {
         return collected(machine, frame, desk, collecting);
@@ -77,7 +79,8 @@ fn collected<'a>(
     desk: &mut Desk<'a>,
     collecting: Collecting<'a>,
 ) -> Result<(), Stop>
-    ensures { Steps (list_on collecting.entry (values_of desk.old) (state_of machine.old frame.old) (left (tasks_of desk.old))) result (left_at desk.new machine.new frame.new) }
+    ensures { Steps (list_on collecting.entry (values_of desk.old) (state_of machine.old frame.old)
+        (left (tasks_of desk.old))) result (left_at desk.new machine.new frame.new) }
 {
     frame.close();
     let base = desk.height().saturating_sub(collecting.count);
@@ -93,7 +96,8 @@ fn collected<'a>(
 
 /// Binds names of the innermost comprehension to values in turn.
 fn bind_inner_all(frame: &mut Frame, names: &[Text], values: &[Value]) -> Result<(), Memory>
-    ensures { OnOk result ((s : State) → with_frame s frame.new ≡ with_inners (with_frame s frame.old) names.now values.now) }
+    ensures { OnOk result ((s : State) → with_frame s frame.new
+        ≡ with_inners (with_frame s frame.old) names.now values.now) }
 {
     'names: for (place, name) in names.iter().enumerate() {
         let Some(value) = values.get(place) else {
@@ -112,7 +116,8 @@ pub fn test<'a>(
     collecting: Collecting<'a>,
     tests: &'a [Expr],
 ) -> Result<(), Stop>
-    ensures { Steps (left_with (Task.Tests collecting.entry tests.entry) desk.old machine.old frame.now) result (left_at desk.new machine.new frame.now) }
+    ensures { Steps (left_with (Task.Tests collecting.entry tests.entry) desk.old machine.old frame.now) result
+        (left_at desk.new machine.new frame.now) }
 {
     let Some((first, rest)) = tests.split_first() else {
         return Ok(push_item(desk, collecting)?);
@@ -130,7 +135,11 @@ pub fn test<'a>(
 
 /// The item, and then the next turn.
 fn push_item<'a>(desk: &mut Desk<'a>, collecting: Collecting<'a>) -> Result<(), Memory>
-    ensures { OnOk result (stacks_of desk.new ≡ record (stacks_of desk.old) { tasks = Task.Evaluate collecting.entry.comprehension.item ∷ Task.Collect (record collecting.entry { count = collecting.entry.count + 1 }) ∷ tasks_of desk.old }) }
+    ensures { OnOk result (stacks_of desk.new ≡ record (stacks_of desk.old) {
+      tasks = Task.Evaluate collecting.entry.comprehension.item
+          ∷ Task.Collect (record collecting.entry { count = collecting.entry.count + 1 })
+          ∷ tasks_of desk.old;
+    }) }
 {
     let Some(count) = collecting.count.checked_add(1) else {
         return Err(Memory);
@@ -152,7 +161,8 @@ pub fn tested<'a>(
     collecting: Collecting<'a>,
     tests: &'a [Expr],
 ) -> Result<(), Stop>
-    ensures { (f : meaning.Frame) → Steps (left_with (Task.Tested collecting.entry tests.entry) desk.old machine.now f) result (left_at desk.new machine.now f) }
+    ensures { (f : meaning.Frame) → Steps (left_with (Task.Tested collecting.entry tests.entry) desk.old machine.now f)
+        result (left_at desk.new machine.now f) }
 {
     let value = desk.take();
     if truth(&machine.heap, value) {

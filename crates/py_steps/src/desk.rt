@@ -26,7 +26,9 @@ impl<'a> Desk<'a> {
     }
 
     pub fn push(&mut self, task: Task<'a>) -> Result<(), Memory>
-        ensures { OnOk result (stacks_of self.new ≡ record (stacks_of self.old) { tasks = task.entry ∷ tasks_of self.old }) }
+        ensures { OnOk result (stacks_of self.new ≡ record (stacks_of self.old) {
+          tasks = task.entry ∷ tasks_of self.old;
+        }) }
     {
         self.tasks.push(task)?;
         Ok(())
@@ -34,7 +36,9 @@ impl<'a> Desk<'a> {
 
     /// Evaluates an expression, and then goes on with a task.
     pub fn evaluate(&mut self, expr: &'a Expr, then: Task<'a>) -> Result<(), Memory>
-        ensures { OnOk result (stacks_of self.new ≡ record (stacks_of self.old) { tasks = Task.Evaluate expr.entry ∷ then.entry ∷ tasks_of self.old }) }
+        ensures { OnOk result (stacks_of self.new ≡ record (stacks_of self.old) {
+          tasks = Task.Evaluate expr.entry ∷ then.entry ∷ tasks_of self.old;
+        }) }
     {
         self.push(then)?;
         self.push(Task::Evaluate(expr))
@@ -42,13 +46,16 @@ impl<'a> Desk<'a> {
 
     /// The uppermost task, which is taken.
     pub fn next(&mut self) -> Option<Task<'a>>
-        ensures { MatchOption result ((tasks_of self.old ≡ []) × (stacks_of self.new ≡ stacks_of self.old)) (λ t. (tasks_of self.old ≡ t ∷ tasks_of self.new) × (values_of self.new ≡ values_of self.old)) }
+        ensures { MatchOption result ((tasks_of self.old ≡ []) × (stacks_of self.new ≡ stacks_of self.old))
+            (λ t. (tasks_of self.old ≡ t ∷ tasks_of self.new) × (values_of self.new ≡ values_of self.old)) }
     {
         self.tasks.pop()
     }
 
     pub fn give(&mut self, value: Value) -> Result<(), Memory>
-        ensures { OnOk result (stacks_of self.new ≡ record (stacks_of self.old) { values = value ∷ values_of self.old }) }
+        ensures { OnOk result (stacks_of self.new ≡ record (stacks_of self.old) {
+          values = value ∷ values_of self.old;
+        }) }
     {
         self.values.push(value)?;
         Ok(())
@@ -77,7 +84,9 @@ impl<'a> Desk<'a> {
 
     /// The uppermost value takes its own place; None where there is none.
     pub fn keep(&mut self) -> Result<(), Memory>
-        ensures { OnOk result (stacks_of self.new ≡ record (stacks_of self.old) { values = top (values_of self.old) ∷ below (values_of self.old) }) }
+        ensures { OnOk result (stacks_of self.new ≡ record (stacks_of self.old) {
+          values = top (values_of self.old) ∷ below (values_of self.old);
+        }) }
     {
         let value = self.take();
         self.give(value)
@@ -104,7 +113,9 @@ impl<'a> Desk<'a> {
     /// The values above a height, which are taken, in the order in which they were given.
     pub fn take_above(&mut self, height: usize) -> Result<Vec<Value>, Memory>
         ensures values { IfOk result (λ vs. vs.items ≡ above height (values_of self.old)) }
-        ensures left { OnOk result (stacks_of self.new ≡ record (stacks_of self.old) { values = under height (values_of self.old) }) }
+        ensures left { OnOk result (stacks_of self.new ≡ record (stacks_of self.old) {
+          values = under height (values_of self.old);
+        }) }
     {
         let from = height.min(self.values.len());
         let taken = self.values.split_off(from)?;

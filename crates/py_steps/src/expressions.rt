@@ -1,14 +1,14 @@
 //! Expressions.
-ghost use Rattle.std.specs.Prelude.{◌≡◌, ◌≢◌, ◌≤◌, ℕ, ◌∷◌, false, Ok, Err, IfOk, IfErr, OnOk, map};
+ghost use Rattle.std.specs.Prelude.{◌≡◌, ◌≢◌, ◌≤◌, ℕ, false, Ok, Err, IfOk, IfErr, OnOk, map};
 ghost use Rattle.py_tree.specs.Tree.{cons, trees, expr_tree, operation_tree};
 ghost use Rattle.py_compare.specs.Outcomes.{new_list, new_tuple};
 ghost use Rattle.py_heap.specs.Heap.{truth_of};
 ghost use Rattle.py_meaning.specs.Expressions.{named_line, displayed, paired};
-ghost use Rattle.py_meaning.specs.States.{State, goes_on};
+ghost use Rattle.py_meaning.specs.States.{State};
 ghost use Rattle.py_meaning.specs.States as meaning;
-ghost use Rattle.py_steps.specs.Desks.{tasks_of, values_of, top};
-ghost use Rattle.py_steps.specs.Todos.{left, is_decided};
-ghost use Rattle.py_steps.specs.Leads.{Leads, Steps, Unfolds, left_with, left_at, operated_at};
+ghost use Rattle.py_steps.specs.Desks.{values_of, top};
+ghost use Rattle.py_steps.specs.Todos.{is_decided};
+ghost use Rattle.py_steps.specs.Leads.{Leads, Steps, Unfolds, left_with, left_at, operated_at, DoesTask, left_in};
 ghost use Rattle.py_steps.specs.Shapes.{task_of, display_of};
 
 use crate::desk::Desk;
@@ -33,7 +33,8 @@ pub fn evaluate<'a, H: Host>(
     expr: &'a Expr,
 ) -> Result<(), Stop>
     ensures keeps { H.meaning.keeps host.old host.new }
-    ensures leads { (c : ℕ) → Leads H.meaning c (left_with (Task.Evaluate expr.entry) desk.old machine.old frame.now) host.old result (left_at desk.new machine.new frame.now) host.new }
+    ensures leads { (c : ℕ) → Leads H.meaning c (left_with (Task.Evaluate expr.entry) desk.old machine.old frame.now)
+        host.old result (left_at desk.new machine.new frame.now) host.new }
 {
     match expr {
         Expr::Name { line, name } => match named(machine, host, frame, *line, name) {
@@ -145,7 +146,7 @@ pub fn named_line(atom: &Expr) -> Option<u32>
 
 /// The first of some expressions, and then the others.
 pub fn evaluate_all<'a>(desk: &mut Desk<'a>, exprs: &'a [Expr]) -> Result<(), Stop>
-    ensures { (s : State) → Steps (left (Task.EvaluateAll exprs.entry ∷ tasks_of desk.old) (values_of desk.old) (goes_on s)) result (left (tasks_of desk.new) (values_of desk.new) (goes_on s)) }
+    ensures { DoesTask (Task.EvaluateAll exprs.entry) desk.old result desk.new }
 {
     let Some((first, rest)) = exprs.split_first() else {
         return Ok(());
@@ -155,7 +156,7 @@ pub fn evaluate_all<'a>(desk: &mut Desk<'a>, exprs: &'a [Expr]) -> Result<(), St
 }
 
 pub fn evaluate_pairs<'a>(desk: &mut Desk<'a>, pairs: &'a [Pair]) -> Result<(), Stop>
-    ensures { (s : State) → Steps (left (Task.Pairs pairs.entry ∷ tasks_of desk.old) (values_of desk.old) (goes_on s)) result (left (tasks_of desk.new) (values_of desk.new) (goes_on s)) }
+    ensures { DoesTask (Task.Pairs pairs.entry) desk.old result desk.new }
 {
     let Some((first, rest)) = pairs.split_first() else {
         return Ok(());
@@ -166,7 +167,7 @@ pub fn evaluate_pairs<'a>(desk: &mut Desk<'a>, pairs: &'a [Pair]) -> Result<(), 
 }
 
 pub fn evaluate_arguments<'a>(desk: &mut Desk<'a>, arguments: &'a [Argument]) -> Result<(), Stop>
-    ensures { (s : State) → Steps (left (Task.Arguments arguments.entry ∷ tasks_of desk.old) (values_of desk.old) (goes_on s)) result (left (tasks_of desk.new) (values_of desk.new) (goes_on s)) }
+    ensures { DoesTask (Task.Arguments arguments.entry) desk.old result desk.new }
 {
     let Some((first, rest)) = arguments.split_first() else {
         return Ok(());
@@ -185,7 +186,7 @@ pub fn evaluate_arguments<'a>(desk: &mut Desk<'a>, arguments: &'a [Argument]) ->
 
 /// The first default of some parameters, and then the others.
 pub fn evaluate_defaults<'a>(desk: &mut Desk<'a>, parameters: &'a [Parameter]) -> Result<(), Stop>
-    ensures { (s : State) → Steps (left (Task.Defaults parameters.entry ∷ tasks_of desk.old) (values_of desk.old) (goes_on s)) result (left (tasks_of desk.new) (values_of desk.new) (goes_on s)) }
+    ensures { DoesTask (Task.Defaults parameters.entry) desk.old result desk.new }
 {
     let Some((first, rest)) = parameters.split_first() else {
         return Ok(());
@@ -219,7 +220,8 @@ pub fn display(
     base: usize,
     shape: Shape,
 ) -> Result<(), Stop>
-    ensures { Steps (left_with (task_of shape line base) desk.old machine.old frame.now) result (left_at desk.new machine.new frame.now) }
+    ensures { Steps (left_with (task_of shape line base) desk.old machine.old frame.now) result
+        (left_at desk.new machine.new frame.now) }
 {
     let values = desk.take_above(base)?;
     let made = displayed(
@@ -243,7 +245,8 @@ fn displayed(
     values: &[Value],
 ) -> Result<Value, ValueFault>
     ensures ok { IfOk result (λ v. display_of shape heap.old budget.old values.now ≡ Ok (v, heap.new, budget.new)) }
-    ensures fault { IfErr result (λ e. e ≢ ValueFault.Memory → display_of shape heap.old budget.old values.now ≡ Err e) }
+    ensures fault { IfErr result (λ e.
+        e ≢ ValueFault.Memory → display_of shape heap.old budget.old values.now ≡ Err e) }
 {
     match shape {
         Shape::Tuple => tuple_displayed(heap, budget, values),
@@ -319,7 +322,8 @@ pub fn negated(
     desk: &mut Desk<'_>,
     line: u32,
 ) -> Result<(), Stop>
-    ensures { Steps (left_with (Task.Negate line) desk.old machine.old frame.now) result (left_at desk.new machine.new frame.now) }
+    ensures { Steps (left_with (Task.Negate line) desk.old machine.old frame.now) result
+        (left_at desk.new machine.new frame.now) }
 {
     let operand = desk.take();
     match negate(&mut machine.heap, &mut machine.budget, operand) {
@@ -332,7 +336,8 @@ pub fn negated(
 }
 
 pub fn turned(machine: &Machine, desk: &mut Desk<'_>) -> Result<(), Stop>
-    ensures { (f : meaning.Frame) → Steps (left_with Task.Not desk.old machine.now f) result (left_at desk.new machine.now f) }
+    ensures { (f : meaning.Frame) → Steps (left_with Task.Not desk.old machine.now f) result
+        (left_at desk.new machine.now f) }
 {
     let operand = desk.take();
     desk.give(Value::Bool(!truth(&machine.heap, operand)))?;
@@ -346,7 +351,8 @@ pub fn operated(
     line: u32,
     op: Op,
 ) -> Result<(), Stop>
-    ensures { Steps (left_with (Task.Binary line op) desk.old machine.old frame.now) result (left_at desk.new machine.new frame.now) }
+    ensures { Steps (left_with (Task.Binary line op) desk.old machine.old frame.now) result
+        (left_at desk.new machine.new frame.now) }
 {
     let right = desk.take();
     let left = desk.take();
@@ -365,7 +371,8 @@ pub fn operations<'a>(
     desk: &mut Desk<'a>,
     operations: &'a [Operation],
 ) -> Result<(), Stop>
-    ensures { (f : meaning.Frame) → Steps (left_with (Task.Operations operations.entry) desk.old machine.now f) result (left_at desk.new machine.now f) }
+    ensures { (f : meaning.Frame) → Steps (left_with (Task.Operations operations.entry) desk.old machine.now f) result
+        (left_at desk.new machine.now f) }
 {
     let Some((first, rest)) = operations.split_first() else {
         desk.keep()?;
@@ -385,7 +392,11 @@ fn operand<'a>(
     first: &'a Operation,
     rest: &'a [Operation],
 ) -> Result<(), Memory>
-    ensures { OnOk result ((s : State) → is_decided first.now.operator (truth_of s.objects (top (values_of desk.old))) ≡ false → Unfolds (operated_at (cons (operation_tree first.now) (trees (map operation_tree rest.now))) desk.old s) (left (tasks_of desk.new) (values_of desk.new) (goes_on s))) }
+    ensures { OnOk result ((s : State) →
+        is_decided first.now.operator (truth_of s.objects (top (values_of desk.old))) ≡ false →
+        Unfolds
+        (operated_at (cons (operation_tree first.now) (trees (map operation_tree rest.now))) desk.old s)
+        (left_in desk.new s)) }
 {
     desk.push(Task::Operations(rest))?;
     match first.operator {

@@ -8,7 +8,8 @@ ghost use Rattle.py_meaning.specs.States.{State, goes_on, place_at};
 ghost use Rattle.py_state.specs.Stores.{Store, state_of, state_by};
 ghost use Rattle.py_steps.specs.Desks.{stacks_of, tasks_of, values_of, top};
 ghost use Rattle.py_steps.specs.Todos.{left, end_at, past, end_tree, with_end};
-ghost use Rattle.py_steps.specs.Leads.{Gives, Leads, Steps, Unfolds, IsNoObject, left_with, left_at, linked_at};
+ghost use Rattle.py_steps.specs.Leads.{Gives, Leads, Steps, IsNoObject, left_with, left_at, linked_at, HasLeft};
+ghost use Rattle.py_steps.specs.Leads.{left_in};
 
 use crate::desk::Desk;
 use crate::task::Task;
@@ -31,7 +32,8 @@ pub fn link<'a, H: Host>(
     named: Option<u32>,
 ) -> Result<(), Stop>
     ensures keeps { H.meaning.keeps host.old host.new }
-    ensures leads { (c : ℕ) → Leads H.meaning c (left_with (Task.Links links.entry named) desk.old machine.old frame.now) host.old result (left_at desk.new machine.new frame.now) host.new }
+    ensures leads { (c : ℕ) → Leads H.meaning c (left_with (Task.Links links.entry named) desk.old machine.old
+        frame.now) host.old result (left_at desk.new machine.new frame.now) host.new }
 {
     let Some((first, rest)) = links.split_first() else {
         desk.keep()?;
@@ -65,7 +67,11 @@ fn call_link<'a>(
     arguments: &'a [Argument],
     rest: &'a [Link],
 ) -> Result<(), Memory>
-    ensures { OnOk result (stacks_of desk.new ≡ record (stacks_of desk.old) { tasks = Task.Arguments arguments.entry ∷ Task.Call line method arguments.entry (length (values_of desk.old)) ∷ Task.Links rest.entry None ∷ tasks_of desk.old }) }
+    ensures { OnOk result (stacks_of desk.new ≡ record (stacks_of desk.old) {
+      tasks = Task.Arguments arguments.entry
+          ∷ Task.Call line method arguments.entry (length (values_of desk.old))
+          ∷ Task.Links rest.entry None ∷ tasks_of desk.old;
+    }) }
 {
     desk.push(Task::Links {
         links: rest,
@@ -87,7 +93,9 @@ fn index_link<'a>(
     index: &'a Expr,
     rest: &'a [Link],
 ) -> Result<(), Memory>
-    ensures { OnOk result (stacks_of desk.new ≡ record (stacks_of desk.old) { tasks = Task.Evaluate index.entry ∷ Task.Index line ∷ Task.Links rest.entry None ∷ tasks_of desk.old }) }
+    ensures { OnOk result (stacks_of desk.new ≡ record (stacks_of desk.old) {
+      tasks = Task.Evaluate index.entry ∷ Task.Index line ∷ Task.Links rest.entry None ∷ tasks_of desk.old;
+    }) }
 {
     desk.push(Task::Links {
         links: rest,
@@ -103,7 +111,8 @@ fn slice_link<'a>(
     upper: &'a Option<Box<Expr>>,
     rest: &'a [Link],
 ) -> Result<(), Memory>
-    ensures { OnOk result ((s : State) → Unfolds (linked_at None (cons (slice line (end_tree lower.now) (end_tree upper.now)) (trees (map link_tree rest.now))) desk.old s) (left (tasks_of desk.new) (values_of desk.new) (goes_on s))) }
+    ensures { OnOk result (HasLeft desk.new (linked_at None
+        (cons (slice line (end_tree lower.now) (end_tree upper.now)) (trees (map link_tree rest.now))) desk.old)) }
 {
     desk.push(Task::Links {
         links: rest,
@@ -121,7 +130,9 @@ fn slice_link<'a>(
 
 /// Evaluates an end of a slice, if it is there.
 fn evaluate_end<'a>(desk: &mut Desk<'a>, end: &'a Option<Box<Expr>>) -> Result<(), Memory>
-    ensures tasks { OnOk result ((vs : List Value) (s : State) → left (tasks_of desk.new) vs (goes_on s) ≡ after_optional (end_tree end.now) s (λ x s1. left (tasks_of desk.old) (with_end x vs) (goes_on s1))) }
+    ensures tasks { OnOk result ((vs : List Value) (s : State) →
+        left (tasks_of desk.new) vs (goes_on s)
+        ≡ after_optional (end_tree end.now) s (λ x s1. left (tasks_of desk.old) (with_end x vs) (goes_on s1))) }
     ensures values { OnOk result (values_of desk.new ≡ values_of desk.old) }
 {
     match end {
@@ -141,7 +152,10 @@ fn attribute_link<'a, H: Host>(
     rest: &'a [Link],
 ) -> Result<(), Stop>
     ensures keeps { H.meaning.keeps host.old host.new }
-    ensures leads { (c : ℕ) → Leads H.meaning c (linked_at None (cons (attribute line name.now) (trees (map link_tree rest.now))) desk.old (state_of machine.old frame.now)) host.old result (left_at desk.new machine.new frame.now) host.new }
+    ensures leads { (c : ℕ) → Leads H.meaning c
+        (linked_at None (cons (attribute line name.now) (trees (map link_tree rest.now))) desk.old
+        (state_of machine.old frame.now))
+        host.old result (left_at desk.new machine.new frame.now) host.new }
 {
     match desk.top() {
         Value::Object(object) => {
@@ -168,7 +182,10 @@ fn attribute<H: Host>(
     name: &Text,
 ) -> Result<Value, Stop>
     ensures keeps { H.meaning.keeps host.old host.new }
-    ensures leads { (c : ℕ) (f : Value → State → Plan) → Gives H.meaning c (asked_on line (question.attribute (place_at line (state_of machine.old frame.now)) object.0 name.now) (state_of machine.old frame.now) f) host.old result f (state_of machine.new frame.now) host.new }
+    ensures leads { (c : ℕ) (f : Value → State → Plan) → Gives H.meaning c
+        (asked_on line (question.attribute (place_at line (state_of machine.old frame.now)) object.0 name.now)
+        (state_of machine.old frame.now) f)
+        host.old result f (state_of machine.new frame.now) host.new }
 {
     match host.attribute(&mut machine.heap, frame.place(line), object, name.as_str()) {
         Ok(value) => Ok(value),
@@ -184,7 +201,12 @@ fn method_link<'a>(
     name: &Text,
     links: &'a [Link],
 ) -> Result<(), Stop>
-    ensures { (m : Store) → IsNoObject (top (values_of desk.old)) → Steps (linked_at None (cons (attribute line name.now) (trees (map link_tree links.now))) desk.old (state_by m frame.now)) result (left (tasks_of desk.new) (values_of desk.new) (goes_on (state_by m frame.now))) }
+    ensures { (m : Store) → IsNoObject (top (values_of desk.old)) →
+        Steps
+        (linked_at None (cons (attribute line name.now) (trees (map link_tree links.now))) desk.old
+        (state_by m frame.now))
+        result
+        (left_in desk.new (state_by m frame.now)) }
 {
     let no_method = EvalKind::Value(ValueFault::NoMethod);
     let Some((first, rest)) = links.split_first() else {
@@ -213,7 +235,9 @@ pub fn item<H: Host>(
     key: Value,
 ) -> Result<Value, Stop>
     ensures keeps { H.meaning.keeps host.old host.new }
-    ensures leads { (c : ℕ) (f : Value → State → Plan) → Gives H.meaning c (after_item line base key (state_of machine.old frame.now) f) host.old result f (state_of machine.new frame.now) host.new }
+    ensures leads { (c : ℕ) (f : Value → State → Plan) → Gives H.meaning c
+        (after_item line base key (state_of machine.old frame.now) f) host.old result f
+        (state_of machine.new frame.now) host.new }
 {
     match base {
         Value::Object(object) => match host.index(
@@ -240,7 +264,8 @@ pub fn indexed<H: Host>(
     line: u32,
 ) -> Result<(), Stop>
     ensures keeps { H.meaning.keeps host.old host.new }
-    ensures leads { (c : ℕ) → Leads H.meaning c (left_with (Task.Index line) desk.old machine.old frame.now) host.old result (left_at desk.new machine.new frame.now) host.new }
+    ensures leads { (c : ℕ) → Leads H.meaning c (left_with (Task.Index line) desk.old machine.old frame.now) host.old
+        result (left_at desk.new machine.new frame.now) host.new }
 {
     let key = desk.take();
     let base = desk.take();
@@ -257,7 +282,8 @@ pub fn sliced(
     from: bool,
     to: bool,
 ) -> Result<(), Stop>
-    ensures { Steps (left_with (Task.Slice line from to) desk.old machine.old frame.now) result (left_at desk.new machine.new frame.now) }
+    ensures { Steps (left_with (Task.Slice line from to) desk.old machine.old frame.now) result
+        (left_at desk.new machine.new frame.now) }
 {
     let upper = end_of(desk, to);
     let lower = end_of(desk, from);

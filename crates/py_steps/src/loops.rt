@@ -1,13 +1,10 @@
 //! `for` and `if`.
-ghost use Rattle.std.specs.Prelude.{◌≡◌, ◌≢◌, ◌∷◌, Ok, Err, IfOk, IfErr, OnOk};
+ghost use Rattle.std.specs.Prelude.{◌≡◌, ◌≢◌, Ok, Err, IfOk, IfErr, OnOk};
 ghost use Rattle.py_meaning.specs.Loops.{shared};
 ghost use Rattle.py_meaning.specs.Statements.{with_all_bound};
-ghost use Rattle.py_meaning.specs.States.{State, goes_on};
 ghost use Rattle.py_meaning.specs.States as meaning;
 ghost use Rattle.py_state.specs.Stores.{state_of, store_of};
-ghost use Rattle.py_steps.specs.Desks.{tasks_of, values_of};
-ghost use Rattle.py_steps.specs.Todos.{left};
-ghost use Rattle.py_steps.specs.Leads.{Steps, left_with, left_at};
+ghost use Rattle.py_steps.specs.Leads.{Steps, left_with, left_at, DoesTask};
 
 use crate::desk::Desk;
 use crate::task::{Loop, Task};
@@ -35,7 +32,8 @@ pub fn begin<'a>(
     desk: &mut Desk<'a>,
     turns: Loop<'a>,
 ) -> Result<(), Stop>
-    ensures { Steps (left_with (Task.Begin turns.entry) desk.old machine.now frame.now) result (left_at desk.new machine.now frame.now) }
+    ensures { Steps (left_with (Task.Begin turns.entry) desk.old machine.now frame.now) result
+        (left_at desk.new machine.now frame.now) }
 {
     let source = desk.take();
     let walk = match Walk::over(&machine.heap, source) {
@@ -54,7 +52,8 @@ pub fn turn<'a>(
     turns: Loop<'a>,
     walk: Walk,
 ) -> Result<(), Stop>
-    ensures { Steps (left_with (Task.Turns turns.entry walk) desk.old machine.old frame.old) result (left_at desk.new machine.new frame.new) }
+    ensures { Steps (left_with (Task.Turns turns.entry walk) desk.old machine.old frame.old) result
+        (left_at desk.new machine.new frame.new) }
 {
     let Some((item, rest)) = walk.next(&mut machine.heap)? else {
         return Ok(());
@@ -77,7 +76,8 @@ pub fn bind_all(
     names: &[Text],
     values: &[Value],
 ) -> Result<(), Memory>
-    ensures { OnOk result (state_of machine.new frame.new ≡ with_all_bound (state_of machine.old frame.old) names.now values.now) }
+    ensures { OnOk result (state_of machine.new frame.new
+        ≡ with_all_bound (state_of machine.old frame.old) names.now values.now) }
 {
     'names: for (place, name) in names.iter().enumerate() {
         let Some(value) = values.get(place) else {
@@ -94,7 +94,7 @@ pub fn next_branch<'a>(
     branches: &'a [Branch],
     otherwise: &'a [Line],
 ) -> Result<(), Stop>
-    ensures { (s : State) → Steps (left (Task.Branches branches.entry otherwise.entry ∷ tasks_of desk.old) (values_of desk.old) (goes_on s)) result (left (tasks_of desk.new) (values_of desk.new) (goes_on s)) }
+    ensures { DoesTask (Task.Branches branches.entry otherwise.entry) desk.old result desk.new }
 {
     let Some((branch, rest)) = branches.split_first() else {
         return Ok(desk.push(Task::Lines(otherwise))?);
@@ -118,7 +118,9 @@ pub fn choose<'a>(
     branches: &'a [Branch],
     otherwise: &'a [Line],
 ) -> Result<(), Stop>
-    ensures { (f : meaning.Frame) → Steps (left_with (Task.Choose branch.entry branches.entry otherwise.entry) desk.old machine.now f) result (left_at desk.new machine.now f) }
+    ensures { (f : meaning.Frame) →
+        Steps (left_with (Task.Choose branch.entry branches.entry otherwise.entry) desk.old machine.now f) result
+        (left_at desk.new machine.now f) }
 {
     let test = desk.take();
     if truth(&machine.heap, test) {

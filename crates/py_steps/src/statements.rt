@@ -1,17 +1,17 @@
 //! Lines and statements.
 ghost use Rattle.std.specs.Prelude.{◌≡◌, ◌∷◌, ℕ, Ok, Err, IfOk, OnOk, IfErr, map};
-ghost use Rattle.py_tree.specs.Tree.{Tree, cons, trees, words, line_tree, branch_tree, simple_tree, expr_tree, optional_tree, parameter_tree, branching, for', def, assign, augment, expression, return};
+ghost use Rattle.py_tree.specs.Tree.{Tree, cons, trees, words, line_tree, branch_tree, simple_tree, expr_tree};
+ghost use Rattle.py_tree.specs.Tree.{optional_tree, parameter_tree, branching, for', def, assign, augment};
+ghost use Rattle.py_tree.specs.Tree.{expression, return};
 ghost use Rattle.py_heap.specs.declared.fault.ValueFault.{ValueFault};
 ghost use Rattle.py_heap.specs.Units.{charged};
 ghost use Rattle.py_meaning.specs.Arguments.{parameters_by};
 ghost use Rattle.py_meaning.specs.Lines.{first_line};
-ghost use Rattle.py_meaning.specs.States.{State, goes_on};
 ghost use Rattle.py_meaning.specs.Statements.{statement};
 ghost use Rattle.py_state.specs.Stores.{state_of, store_of};
 ghost use Rattle.py_state.specs.Stops.{value_stop};
-ghost use Rattle.py_steps.specs.Desks.{tasks_of, values_of};
-ghost use Rattle.py_steps.specs.Todos.{left, parameters_in};
-ghost use Rattle.py_steps.specs.Leads.{Steps, StepsOrReturns, left_with, left_at, exec_at, plan_at};
+ghost use Rattle.py_steps.specs.Todos.{parameters_in};
+ghost use Rattle.py_steps.specs.Leads.{Steps, StepsOrReturns, left_with, left_at, exec_at, Executes};
 
 use crate::assignments::augment;
 use crate::desk::Desk;
@@ -29,7 +29,8 @@ pub fn run_lines<'a>(
     desk: &mut Desk<'a>,
     lines: &'a [Line],
 ) -> Result<(), Stop>
-    ensures { Steps (left_with (Task.Lines lines.entry) desk.old machine.old frame.now) result (left_at desk.new machine.new frame.now) }
+    ensures { Steps (left_with (Task.Lines lines.entry) desk.old machine.old frame.now) result
+        (left_at desk.new machine.new frame.now) }
 {
     let Some((line, rest)) = lines.split_first() else {
         return Ok(());
@@ -44,7 +45,8 @@ fn run_line<'a>(
     desk: &mut Desk<'a>,
     line: &'a Line,
 ) -> Result<(), Stop>
-    ensures { Steps (exec_at (line_tree line.now) desk.old (state_of machine.old frame.now)) result (left_at desk.new machine.new frame.now) }
+    ensures { Steps (exec_at (line_tree line.now) desk.old (state_of machine.old frame.now)) result
+        (left_at desk.new machine.new frame.now) }
 {
     match line {
         Line::Simple { statements } => { Ok(desk.push(Task::Statements(statements.as_slice()))?) }
@@ -94,7 +96,11 @@ fn run_if<'a>(
     branches: &'a [Branch],
     otherwise: &'a [Line],
 ) -> Result<(), Stop>
-    ensures { Steps (exec_at (branching (trees (map branch_tree branches.now)) (trees (map line_tree otherwise.now))) desk.old (state_of machine.old frame.now)) result (left_at desk.new machine.new frame.now) }
+    ensures { Steps
+        (exec_at (branching (trees (map branch_tree branches.now)) (trees (map line_tree otherwise.now))) desk.old
+        (state_of machine.old frame.now))
+        result
+        (left_at desk.new machine.new frame.now) }
 {
     machine.pay(frame, branches_line(branches))?;
     desk.push(Task::Branches {
@@ -121,7 +127,13 @@ fn run_for<'a>(
     turns: Loop<'a>,
     source: &'a Expr,
 ) -> Result<(), Stop>
-    ensures { Steps (exec_at (for' turns.entry.line (words turns.entry.names.now) (expr_tree source.now) (trees (map line_tree turns.entry.block.now))) desk.old (state_of machine.old frame.now)) result (left_at desk.new machine.new frame.now) }
+    ensures { Steps
+        (exec_at
+        (for' turns.entry.line (words turns.entry.names.now) (expr_tree source.now)
+        (trees (map line_tree turns.entry.block.now)))
+        desk.old (state_of machine.old frame.now))
+        result
+        (left_at desk.new machine.new frame.now) }
 {
     machine.pay(frame, turns.line)?;
     desk.evaluate(source, Task::Begin(turns))?;
@@ -135,7 +147,13 @@ fn run_def<'a>(
     line: u32,
     definition: Definition<'a>,
 ) -> Result<(), Stop>
-    ensures { Steps (exec_at (def line definition.entry.name.now (parameters_in definition.entry) (trees (map line_tree definition.entry.block.now.value.items))) desk.old (state_of machine.old frame.now)) result (left_at desk.new machine.new frame.now) }
+    ensures { Steps
+        (exec_at
+        (def line definition.entry.name.now (parameters_in definition.entry)
+        (trees (map line_tree definition.entry.block.now.value.items)))
+        desk.old (state_of machine.old frame.now))
+        result
+        (left_at desk.new machine.new frame.now) }
 {
     machine.pay(frame, line)?;
     let base = desk.height();
@@ -158,7 +176,8 @@ pub fn run_statements<'a>(
     desk: &mut Desk<'a>,
     statements: &'a [Simple],
 ) -> Result<Flow, Stop>
-    ensures { StepsOrReturns (left_with (Task.Statements statements.entry) desk.old machine.old frame.now) result (left_at desk.new machine.new frame.now) (state_of machine.new frame.now) }
+    ensures { StepsOrReturns (left_with (Task.Statements statements.entry) desk.old machine.old frame.now) result
+        (left_at desk.new machine.new frame.now) (state_of machine.new frame.now) }
 {
     let Some((statement, rest)) = statements.split_first() else {
         return Ok(Flow::GoesOn);
@@ -172,7 +191,8 @@ pub fn run_statements<'a>(
 fn pay_for(machine: &mut Machine, frame: &Frame, statement: &Simple) -> Result<(), Stop>
     ensures ok { OnOk result (charged machine.old.budget 1 ≡ Ok machine.new.budget) }
     ensures paid { store_of machine.new ≡ record (store_of machine.old) { units = machine.new.budget } }
-    ensures fault { IfErr result (λ stop. (e : ValueFault) × (charged machine.old.budget 1 ≡ Err e) × (stop ≡ value_stop frame.now.script (first_line (simple_tree statement.now)) e)) }
+    ensures fault { IfErr result (λ stop. (e : ValueFault) × (charged machine.old.budget 1 ≡ Err e)
+        × (stop ≡ value_stop frame.now.script (first_line (simple_tree statement.now)) e)) }
 {
     if machine.budget.charge(1).is_ok() {
         return Ok(());
@@ -181,7 +201,7 @@ fn pay_for(machine: &mut Machine, frame: &Frame, statement: &Simple) -> Result<(
 }
 
 fn run_statement<'a>(desk: &mut Desk<'a>, simple: &'a Simple) -> Result<Flow, Stop>
-    ensures { (s : State) → StepsOrReturns (plan_at (statement (simple_tree simple.now) s) desk.old) result (left (tasks_of desk.new) (values_of desk.new) (goes_on s)) s }
+    ensures { Executes (simple_tree simple.now) desk.old result desk.new }
 {
     match simple {
         Simple::Assign {
@@ -218,21 +238,21 @@ fn run_assign<'a>(
     target: &'a Expr,
     value: &'a Expr,
 ) -> Result<Flow, Stop>
-    ensures { (s : State) → StepsOrReturns (plan_at (statement (assign line (expr_tree target.now) (expr_tree value.now)) s) desk.old) result (left (tasks_of desk.new) (values_of desk.new) (goes_on s)) s }
+    ensures { Executes (assign line (expr_tree target.now) (expr_tree value.now)) desk.old result desk.new }
 {
     desk.evaluate(value, Task::Assign { line, target })?;
     Ok(Flow::GoesOn)
 }
 
 fn run_expression<'a>(desk: &mut Desk<'a>, value: &'a Expr) -> Result<Flow, Stop>
-    ensures { (s : State) → StepsOrReturns (plan_at (statement (expression (expr_tree value.now)) s) desk.old) result (left (tasks_of desk.new) (values_of desk.new) (goes_on s)) s }
+    ensures { Executes (expression (expr_tree value.now)) desk.old result desk.new }
 {
     desk.evaluate(value, Task::Forget)?;
     Ok(Flow::GoesOn)
 }
 
 fn run_return<'a>(desk: &mut Desk<'a>, value: &'a Option<Expr>) -> Result<Flow, Stop>
-    ensures { (l : ℕ) (s : State) → StepsOrReturns (plan_at (statement (return l (optional_tree value.now)) s) desk.old) result (left (tasks_of desk.new) (values_of desk.new) (goes_on s)) s }
+    ensures { (l : ℕ) → Executes (return l (optional_tree value.now)) desk.old result desk.new }
 {
     let Some(value) = value else {
         return Ok(Flow::Returns(Value::Nil));
@@ -249,7 +269,8 @@ pub fn define(
     definition: Definition<'_>,
     base: usize,
 ) -> Result<(), Stop>
-    ensures { Steps (left_with (Task.Define definition.entry base) desk.old machine.old frame.old) result (left_at desk.new machine.new frame.new) }
+    ensures { Steps (left_with (Task.Define definition.entry base) desk.old machine.old frame.old) result
+        (left_at desk.new machine.new frame.new) }
 {
     let values = desk.take_above(base)?;
     let parameters = parameters_by(machine.alloc, definition.parameters, values.as_slice())?;
@@ -288,7 +309,8 @@ fn parameters_by(
 
 /// The default of a parameter, and the values behind it.
 fn default_of<'a>(parameter: &Parameter, values: &'a [Value]) -> (Option<Value>, &'a [Value])
-    ensures { (ps : Tree) → parameters_by (cons (parameter_tree parameter.now) ps) values.now ≡ record { name = parameter.now.name; default = result.0 } ∷ parameters_by ps result.1.now }
+    ensures { (ps : Tree) → parameters_by (cons (parameter_tree parameter.now) ps) values.now
+        ≡ record { name = parameter.now.name; default = result.0 } ∷ parameters_by ps result.1.now }
 {
     if parameter.default.is_none() {
         return (None, values);

@@ -1,10 +1,8 @@
 //! A task, by its kind.
-ghost use Rattle.std.specs.Prelude.{◌≡◌, ◌≤◌, ◌∷◌, ℕ};
-ghost use Rattle.py_meaning.specs.States.{State, goes_on};
+ghost use Rattle.std.specs.Prelude.{◌≡◌, ◌≤◌, ℕ};
 ghost use Rattle.py_state.specs.Stores.{state_of};
-ghost use Rattle.py_steps.specs.Desks.{tasks_of, values_of};
-ghost use Rattle.py_steps.specs.Todos.{IsStep, left};
-ghost use Rattle.py_steps.specs.Leads.{Flows, Steps, going, left_with, left_at};
+ghost use Rattle.py_steps.specs.Todos.{IsStep};
+ghost use Rattle.py_steps.specs.Leads.{Flows, Steps, going, left_with, left_at, DoesTask};
 
 use crate::assignments::{assign, combine, load, store_above, store_below};
 use crate::comprehensions::{collect, comprehend, test, tested};
@@ -31,7 +29,8 @@ pub fn step<'a, H: Host>(
 ) -> Result<Flow, Stop>
     requires step { IsStep task }
     ensures keeps { H.meaning.keeps host.old host.new }
-    ensures flows { (c : ℕ) → Flows H.meaning c (left_with task.entry desk.old machine.old frame.old) host.old result (left_at desk.new machine.new frame.new) host.new (state_of machine.new frame.new) }
+    ensures flows { (c : ℕ) → Flows H.meaning c (left_with task.entry desk.old machine.old frame.old) host.old result
+        (left_at desk.new machine.new frame.new) host.new (state_of machine.new frame.new) }
 {
     match task {
         Task::Statements(statements) => run_statements(machine, frame, desk, statements),
@@ -91,7 +90,7 @@ fn on(outcome: Result<(), Stop>) -> Result<Flow, Stop>
 
 /// The value of an expression is of no use.
 fn forget(desk: &mut Desk<'_>) -> Result<(), Stop>
-    ensures { (s : State) → Steps (left (Task.Forget ∷ tasks_of desk.old) (values_of desk.old) (goes_on s)) result (left (tasks_of desk.new) (values_of desk.new) (goes_on s)) }
+    ensures { DoesTask Task.Forget desk.old result desk.new }
 {
     let _value = desk.take();
     Ok(())
@@ -103,7 +102,8 @@ fn bind<'a>(
     desk: &mut Desk<'a>,
     name: &'a Text,
 ) -> Result<(), Stop>
-    ensures { Steps (left_with (Task.Bind name.entry) desk.old machine.old frame.old) result (left_at desk.new machine.new frame.new) }
+    ensures { Steps (left_with (Task.Bind name.entry) desk.old machine.old frame.old) result
+        (left_at desk.new machine.new frame.new) }
 {
     let value = desk.take();
     machine.bind(frame, name, value)?;

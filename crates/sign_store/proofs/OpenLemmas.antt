@@ -8,6 +8,7 @@ use Rattle.world_api.specs.declared.disk.Bank.TheVariants.{A, B}
 use Rattle.world_api.specs.Around.{Around}
 use Rattle.world_api.specs.Banks.{Banks, Holds, Torn}
 use Rattle.world_api.specs.Meaning.{Meaning, IsImage, IsSettled, BankKept, BanksKept, Throughout, AtEither}
+use Rattle.world_api.proofs.Looking.{bank_joined}
 use Rattle.world_api.proofs.Moments.{IsNow, begins, chains, weakens, disk_call}
 use Rattle.sign_store.specs.declared.entries.EndGate.{EndGate}
 use Rattle.sign_store.specs.declared.entries.EndGate.TheVariants as gate
@@ -15,6 +16,7 @@ use Rattle.sign_store.specs.declared.head.Choice.TheVariants as choice
 use Rattle.sign_store.specs.declared.opening.Opened.{Opened}
 use Rattle.sign_store.specs.declared.map.RecordMap.{RecordMap}
 use Rattle.sign_store.specs.declared.refusals.StoreRefusal.{StoreRefusal}
+use Rattle.sign_store.specs.declared.refusals.StoreRefusal.TheVariants as refusal
 use Rattle.sign_store.specs.declared.head.Choice.{Choice}
 use Rattle.sign_store.specs.declared.head.Head.TheVariants.{Short, Live}
 use Rattle.sign_store.specs.Compacts.{compact_bytes}
@@ -24,7 +26,8 @@ use Rattle.sign_store.specs.Images.{entries_map, body_of, map_chosen}
 use Rattle.sign_store.specs.Ends.{StandsAt, StandsFor, IsLeftOr, KeepsAt, AreSettled, image_in, with_bank}
 use Rattle.sign_store.specs.Forms.{IsSpare}
 use Rattle.sign_store.specs.Maps.{map_in}
-use Rattle.sign_store.specs.Reached.{ReadsBanks, Writes, Endures}
+use Rattle.sign_store.specs.Changing.{ReopensThroughout, Starts, StartsThroughout}
+use Rattle.sign_store.specs.Reached.{ReadsBanks, Writes, Endures, KeepsSettled, RestsUnlessFault, LeavesBanks}
 use Rattle.sign_store.specs.Readings.{AreSmall, AreReadable, IsRefusal, IsOutside, choice_of}
 use Rattle.sign_store.proofs.ReadLemmas.{outside_refuses}
 use Rattle.sign_store.specs.Beginnings.{IsAtRest, CanFill, IsFilled, IsMendable, IsOpened, IsAsBefore, IsCounted, IsWrittenTo, GoesOver, Exchanges, IsDue, IsReopened, IsBegunOver, begun_by}
@@ -32,13 +35,23 @@ use Rattle.sign_store.specs.Tables.{Map, nothing}
 use Rattle.sign_store.proofs.EndLemmas.{gate_at}
 use Rattle.sign_store.proofs.FillLemmas.{choice_at}
 use Rattle.sign_store.proofs.BeginLemmas.{torn_end, live_stays, closed_stands, bank_with, spare_first, spare_beside_a, spare_beside_b, first_live, second_live}
-use Rattle.sign_store.proofs.StepLemmas.{rest_read, rest_written}
+use Rattle.sign_store.proofs.StepLemmas.{endures_then, rest_read, rest_written}
 
 pub same_banks : (a b : Banks) → ((bank : Bank) → b bank ≡ a bank) → b ≡ a
 same_banks a b at = λ i. λ bank. at bank i
 
 pub seen_read : {W : Type 0} (m : Meaning W) (a b : W) → ReadsBanks m a b → m.tells b → m.seen b ≡ m.seen a
 seen_read m a b reads told = same_banks (m.seen a) (m.seen b) (λ bank. (reads.banks told bank).same)
+
+pub seen_kept : {W : Type 0} (m : Meaning W) (a b : W) → (m.tells b → BanksKept m a b) → m.tells b → m.seen b ≡ m.seen a
+seen_kept m a b kept told = same_banks (m.seen a) (m.seen b) (λ bank. (kept told bank).same)
+
+pub image_kept : {W : Type 0} (m : Meaning W) (a b : W) → (m.tells b → BanksKept m a b) → m.tells b → image_in (m.seen b) ≡ image_in (m.seen a)
+image_kept m a b kept told = ap image_in (seen_kept m a b kept told)
+
+-- they were kept, and then read
+pub kept_read : {W : Type 0} (m : Meaning W) (a b c : W) → (m.tells b → BanksKept m a b) → ReadsBanks m b c → m.tells c → BanksKept m a c
+kept_read m a b c kept reads told bank = bank_joined m bank a b c (kept (reads.told.told told) bank) (reads.banks told bank)
 
 -- ---- the banks are synced
 
@@ -59,14 +72,22 @@ both_settled m a b first kept second B = second
 pub left_before : {W : Type 0} (m : Meaning W) (a b : W) (map : Map) → Throughout m a b (IsAsBefore m a) → Throughout m a b (IsLeftOr m a map)
 left_before m a b map run = weakens m a b (IsAsBefore m a) (IsLeftOr m a map) run (λ told around banks is. record { same = is.same; left = inl is.image })
 
+-- banks at rest that stand for a map do so at this moment
+stands_now : {W : Type 0} (m : Meaning W) (b : W) (stood : Around) (map : Map) → IsNow m b → IsAtRest m b stood → (m.tells b → image_in (m.seen b) ≡ map) → Throughout m b b (StandsFor stood map)
+stands_now m b stood map only rest is = begins m b (StandsFor stood map) only
+    (λ told banks image. record { same = rest.around told; image = ap image_in (same_banks (m.seen b) banks (λ bank. rest.settled told bank (banks bank) (image bank))) ∙ is told })
+
 -- what stood for the map from the syncs on
 pub left_then : {W : Type 0} (m : Meaning W) (a b c : W) (map : Map) → IsNow m b → Throughout m a b (IsAsBefore m a) → IsAtRest m b (m.around a) → (m.tells b → image_in (m.seen b) ≡ map)
     → Endures m b c (m.around a) map → Throughout m a c (IsLeftOr m a map)
 left_then m a b c map only run rest is endures =
-    let starts : Throughout m b b (StandsFor (m.around a) map) = begins m b (StandsFor (m.around a) map) only
-    (λ told banks image. record { same = rest.around told; image = ap image_in (same_banks (m.seen b) banks (λ bank. rest.settled told bank (banks bank) (image bank))) ∙ is told }) in
     chains m a b c (IsLeftOr m a map) (left_before m a b map run)
-    (weakens m b c (StandsFor (m.around a) map) (IsLeftOr m a map) (endures.on b starts) (λ told around banks stands. record { same = stands.same; left = inr stands.image }))
+    (weakens m b c (StandsFor (m.around a) map) (IsLeftOr m a map) (endures.on b (stands_now m b (m.around a) map only rest is)) (λ told around banks stands. record { same = stands.same; left = inr stands.image }))
+
+-- what stood for the map reads as it
+pub still_reads : {W : Type 0} (m : Meaning W) (b c : W) (stood : Around) (map : Map) → IsNow m b → IsAtRest m b stood → (m.tells b → image_in (m.seen b) ≡ map) → Endures m b c stood map
+    → (m.tells c → IsImage m c (m.seen c)) → m.tells c → image_in (m.seen c) ≡ map
+still_reads m b c stood map only rest is endures reads told = ((endures.on b (stands_now m b stood map only rest is)).now told (m.seen c) (reads told)).image
 
 pub endures_as : {W : Type 0} (m : Meaning W) (a b : W) (stood : Around) (map other : Map) → (m.tells b → m.tells a) → (m.tells a → map ≡ other) → Endures m a b stood map → Endures m a b stood other
 endures_as m a b stood map other back same endures = record {
@@ -131,6 +152,85 @@ can_start m a stood rest none = record { rest = rest; spare = λ told. spare_fir
 
 pub none_is : (banks : Banks) (map : Map) → choice_of banks ≡ choice.None → image_in banks ≡ map → nothing ≡ map
 none_is banks map none is = sym (spare_first banks none).now ∙ is
+
+pub if_opened_as : {W : Type 0} (m : Meaning W) (stood : Around) (map other : Map) (world : W) (r : Result Opened StoreRefusal) → (m.tells world → map ≡ other) → IfOk r (IsOpened m stood map world) → IfOk r (IsOpened m stood other world)
+if_opened_as m stood map other world (Err e) same is = tt
+if_opened_as m stood map other world (Ok opened) same is = opened_as m stood map other world opened same is
+
+-- the banks were read, and one was made live: they stand for the same map
+pub none_endures : {W : Type 0} (m : Meaning W) (b c d : W) (stood : Around) (map : Map) → ReadsBanks m b c → IsAtRest m b stood → (m.tells b → image_in (m.seen b) ≡ map) → (m.tells c → choice_of (m.seen c) ≡ choice.None)
+    → (m.tells d → m.tells c) → StartsThroughout m c d → Endures m b d stood map
+none_endures m b c d stood map looks rest is none back starts =
+    endures_then m b c d stood map (looks.moments stood map)
+    (endures_as m c d stood nothing map back (λ told. none_is (m.seen c) map (none told) (ap image_in (seen_read m b c looks told) ∙ is (looks.told.told told)))
+    (starts stood (can_start m c stood (rest_read m b c stood looks rest) none)))
+
+pub none_opened : {W : Type 0} (m : Meaning W) (b c d : W) (stood : Around) (map : Map) (r : Result Opened StoreRefusal) → ReadsBanks m b c → IsAtRest m b stood → (m.tells b → image_in (m.seen b) ≡ map)
+    → (m.tells c → choice_of (m.seen c) ≡ choice.None) → (m.tells d → m.tells c) → Starts m c d r → IfOk r (IsOpened m stood map d)
+none_opened m b c d stood map r looks rest is none back starts =
+    if_opened_as m stood nothing map d r
+    (λ late. let told = back late in none_is (m.seen c) map (none told) (ap image_in (seen_read m b c looks told) ∙ is (looks.told.told told)))
+    (starts stood (can_start m c stood (rest_read m b c stood looks rest) none))
+
+-- the bank that counts was found
+pub counted_after : {W : Type 0} (m : Meaning W) (a b : W) (bank : Bank) (stood : Around) (map : Map) (generation : ℕ) → ReadsBanks m a b → IsAtRest m a stood → (m.tells a → image_in (m.seen a) ≡ map)
+    → (m.tells b → choice_of (m.seen b) ≡ choice.Live bank generation) → IsCounted m b bank stood map generation
+counted_after m a b bank stood map generation reads rest is counts = record {
+  rest = rest_read m a b stood reads rest;
+  counts = counts;
+  image = λ told. ap image_in (seen_read m a b reads told) ∙ is (reads.told.told told);
+}
+
+-- the banks were read, and the one that counts reopened: they stand for the same map
+pub live_endures : {W : Type 0} (m : Meaning W) (b c d : W) (bank : Bank) (generation : ℕ) (stood : Around) (map : Map) → ReadsBanks m b c → IsAtRest m b stood → (m.tells b → image_in (m.seen b) ≡ map)
+    → (m.tells c → choice_of (m.seen c) ≡ choice.Live bank generation) → ReopensThroughout m c d bank generation → Endures m b d stood map
+live_endures m b c d bank generation stood map looks rest is live reopens =
+    endures_then m b c d stood map (looks.moments stood map) (reopens stood map (counted_after m b c bank stood map generation looks rest is live))
+
+-- ---- what a refusal leaves
+
+pub settled_read : {W : Type 0} (m : Meaning W) (a b : W) → ReadsBanks m a b → KeepsSettled m a b
+settled_read m a b reads = record { on = λ told rest bank. settled_kept m bank a b (rest bank) (reads.banks told bank) }
+
+pub settled_then : {W : Type 0} (m : Meaning W) (a b c : W) → (m.tells c → m.tells b) → KeepsSettled m a b → KeepsSettled m b c → KeepsSettled m a c
+settled_then m a b c back first second = record { on = λ told rest. second.on told (first.on (back told) rest) }
+
+pub rests_kept : {W T : Type 0} (m : Meaning W) (a b : W) (r : Result T StoreRefusal) → KeepsSettled m a b → IfErr r (RestsUnlessFault m a b)
+rests_kept m a b (Ok x) keeps = tt
+rests_kept m a b (Err e) keeps = λ not. keeps
+
+pub rests_then : {W T : Type 0} (m : Meaning W) (a b c : W) (r : Result T StoreRefusal) → (m.tells c → m.tells b) → KeepsSettled m a b → IfErr r (RestsUnlessFault m b c) → IfErr r (RestsUnlessFault m a c)
+rests_then m a b c (Ok x) back first second = tt
+rests_then m a b c (Err e) back first second = λ not. settled_then m a b c back first (second not)
+
+-- the banks were synced and read
+pub left_read : {W : Type 0} (m : Meaning W) (a b c : W) (stood : Around) (e : StoreRefusal) → (m.tells b → BanksKept m a b) → IsAtRest m b stood → ReadsBanks m b c → m.tells c → LeavesBanks m a c e
+left_read m a b c stood e kept rest looks told = by e
+  where
+    settled : AreSettled m c
+    settled = (rest_read m b c stood looks rest).settled told
+
+    by : (e : StoreRefusal) → LeavesBanks m a c e
+    by refusal.Fault = tt
+    by (refusal.Foreign bank) = record { kept = kept_read m a b c kept looks told; settled = settled }
+    by (refusal.Large size) = record { kept = kept_read m a b c kept looks told; settled = settled }
+    by refusal.Memory = settled
+
+pub if_left_read : {W T : Type 0} (m : Meaning W) (a b c : W) (stood : Around) (r : Result T StoreRefusal) → (m.tells b → BanksKept m a b) → IsAtRest m b stood → ReadsBanks m b c → m.tells c → IfErr r (LeavesBanks m a c)
+if_left_read m a b c stood (Ok x) kept rest looks told = tt
+if_left_read m a b c stood (Err e) kept rest looks told = left_read m a b c stood e kept rest looks told
+
+-- the same, and what came then was refused from outside
+pub left_outside : {W T : Type 0} (m : Meaning W) (a b c d : W) (stood : Around) (r : Result T StoreRefusal) → IsAtRest m b stood → ReadsBanks m b c → (m.tells d → m.tells c) → IfErr r IsOutside → IfErr r (RestsUnlessFault m c d) → m.tells d
+    → IfErr r (LeavesBanks m a d)
+left_outside m a b c d stood (Ok x) rest looks back out rests told = tt
+left_outside m a b c d stood (Err e) rest looks back out rests told = by e out rests
+  where
+    by : (e : StoreRefusal) → IsOutside e → RestsUnlessFault m c d e → LeavesBanks m a d e
+    by refusal.Fault out rests = tt
+    by (refusal.Foreign bank) out rests = absurd out
+    by (refusal.Large size) out rests = absurd out
+    by refusal.Memory out rests = (rests (λ e. cc)).on told ((rest_read m b c stood looks rest).settled (back told))
 
 -- ---- the end is mended
 
@@ -232,10 +332,6 @@ pub begun_live : (banks : Banks) (bank : Bank) (g : ℕ) (r : Result Opened Stor
 begun_live banks bank g (Err e) counts is = tt
 begun_live banks bank g (Ok after) counts is = subst (λ (c : Choice). begun_by c banks after.map after.bank after.end) (sym counts) is
 
-pub if_opened_as : {W : Type 0} (m : Meaning W) (stood : Around) (map other : Map) (world : W) (r : Result Opened StoreRefusal) → (m.tells world → map ≡ other) → IfOk r (IsOpened m stood map world) → IfOk r (IsOpened m stood other world)
-if_opened_as m stood map other world (Err e) same is = tt
-if_opened_as m stood map other world (Ok opened) same is = opened_as m stood map other world opened same is
-
 -- ---- why the banks are refused
 
 pub readable_none : {T : Type 0} (banks : Banks) (r : Result T StoreRefusal) → AreSmall banks → choice_of banks ≡ choice.None → IfOk r (λ _. AreReadable banks)
@@ -249,15 +345,6 @@ readable_live banks (Ok x) bank g small live = record { small = small; known = �
 pub refused_outside : {T : Type 0} (banks : Banks) (r : Result T StoreRefusal) → IfErr r IsOutside → IfErr r (IsRefusal banks)
 refused_outside banks (Ok x) out = tt
 refused_outside banks (Err e) out = outside_refuses banks e out
-
--- the bank that counts was found
-pub counted_after : {W : Type 0} (m : Meaning W) (a b : W) (bank : Bank) (stood : Around) (map : Map) (generation : ℕ) → ReadsBanks m a b → IsAtRest m a stood → (m.tells a → image_in (m.seen a) ≡ map)
-    → (m.tells b → choice_of (m.seen b) ≡ choice.Live bank generation) → IsCounted m b bank stood map generation
-counted_after m a b bank stood map generation reads rest is counts = record {
-  rest = rest_read m a b stood reads rest;
-  counts = counts;
-  image = λ told. ap image_in (seen_read m a b reads told) ∙ is (reads.told.told told);
-}
 
 pub are_small : (banks : Banks) (a b : ℕ) → a ≡ length (banks A) → b ≡ length (banks B) → (a ≤ 2 ^ 40) × (b ≤ 2 ^ 40) → AreSmall banks
 are_small banks a b at bt small = record { a = subst (λ (n : ℕ). n ≤ 2 ^ 40) at small.0; b = subst (λ (n : ℕ). n ≤ 2 ^ 40) bt small.1 }

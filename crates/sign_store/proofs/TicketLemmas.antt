@@ -1,6 +1,6 @@
 -- The entries of a ticket that is out: they say its record, and have their room.
 use Rattle.std.proofs.Common.{◌≡◌, ℕ, ◌^◌, ◌<◌, ◌≤◌, ◌+◌, Bool, true, false, cond, List, [], ◌∷◌, ◌++◌, length, get_or, Option, Some, None, refl, sym, ap, subst, ◌∙◌, append_assoc, inl, inr, arith}
-use Rattle.std.specs.Prelude.{◌≢◌, ◌||◌, ◌&&◌, ◌==◌, not, slice_index}
+use Rattle.std.specs.Prelude.{◌≢◌, ◌||◌, ◌&&◌, ◌==◌, not, slice_index, Result, Ok, Err, OnErr}
 use Rattle.std.specs.Option.{option_map, is_some}
 use Rattle.std.specs.List.{list_any}
 use Rattle.std.specs.Str.{bytes_eq}
@@ -19,7 +19,7 @@ use Rattle.sign_store.specs.declared.store.Store.{Store}
 use Rattle.sign_store.specs.declared.ticket.Ticket.{Ticket}
 use Rattle.sign_store.specs.Entries.{entry_of, put_payload, withdraw_payload, entries_len}
 use Rattle.sign_store.specs.Ends.{IsEntry}
-use Rattle.sign_store.specs.Stores.{IsTicket, IsOut, HasRoom, AreApart, map_of, owed}
+use Rattle.sign_store.specs.Stores.{IsTicket, IsOut, IsUntouched, HasRoom, TakesRoom, AreApart, map_of, owed}
 use Rattle.sign_store.specs.Tables.{Map, has_any, with_each, is_among}
 
 -- ---- what the entries say
@@ -209,3 +209,20 @@ owed_is map rec put withdrawal payload payload-is put-is withdrawal-is = by (has
 pub kept_room : (old new : List ℕ) (len room : ℕ) → new ≡ old ++ len ∷ [] → room < length old → slice_index new room ≡ slice_index old room
 kept_room old new len room is inside =
     ap (λ (x : List ℕ). slice_index x room) is ∙ sym (get_or-take (length old) (old ++ len ∷ []) room 0 inside) ∙ ap (λ (x : List ℕ). get_or x room 0) (take_at old (len ∷ []) (length old) refl)
+
+-- ---- stores after a call
+
+pub untouched : {T E : Type 0} (r : Result T E) (old new : Store) → map_of new ≡ map_of old → new.bank ≡ old.bank → new.end ≡ old.end → new.rooms.items ≡ old.rooms.items → OnErr r (IsUntouched old new)
+untouched (Ok x) old new map bank end rooms = tt
+untouched (Err e) old new map bank end rooms = record { map = map; banks = record { bank = bank; end = end }; rooms = rooms }
+
+pub nothing_taken : (store : Store) (room len : ℕ) → len ≡ 0 → TakesRoom room len store store
+nothing_taken store room len none = record { rooms = refl; here = omega (arith, none); others = λ other differs. refl }
+
+pub no_withdrawal : (b : Bool) (len : ℕ) → b ≡ false → cond b len 0 ≡ 0
+no_withdrawal true len e = absurd cc
+no_withdrawal false len e = refl
+
+pub whole_withdrawal : (b : Bool) (len : ℕ) → b ≡ true → cond b len 0 ≡ len
+whole_withdrawal true len e = refl
+whole_withdrawal false len e = absurd cc

@@ -12,6 +12,7 @@ use Rattle.sign_store.specs.declared.map.RecordMap.{RecordMap}
 use Rattle.sign_store.specs.Compacts.{compact_bytes, IsWorth}
 use Rattle.sign_store.specs.Heads.{other_bank}
 use Rattle.sign_store.specs.declared.opening.Opened.{Opened}
+use Rattle.sign_store.specs.declared.opening.Read.{Read}
 use Rattle.sign_store.specs.Ends.{StandsAt, AreSettled, image_in}
 use Rattle.sign_store.specs.Forms.{IsSpare}
 use Rattle.sign_store.specs.Gates.{IsGate}
@@ -27,7 +28,8 @@ pub record IsAtRest {W : Type 0} (m : Meaning W) (world : W) (stood : Around) : 
   pub settled : m.tells world → AreSettled m world
 
 -- a bank can be written while another one counts, and would count in this generation
-pub record CanFill {W : Type 0} (m : Meaning W) (world : W) (to : Bank) (stood : Around) (map : Map) (generation : ℕ) : Type 0 where
+pub record CanFill {W : Type 0} (m : Meaning W) (world : W) (to : Bank) (stood : Around) (map : Map) (generation : ℕ)
+    : Type 0 where
   pub rest : IsAtRest m world stood
   pub spare : m.tells world → IsSpare to map generation (m.seen world)
 
@@ -36,18 +38,31 @@ pub record IsWrittenTo (place : ℕ) (map : Map) (bank : List ℕ) : Type 0 wher
   pub behind_head : 17 ≤ place
   pub long : 17 < length bank
   pub inside : place ≤ length bank
-  pub entries : (behind : List ℕ) → entries_map (body_of (take place bank) ++ behind) ≡ after_entries (length behind) map behind
+  pub entries : (behind : List ℕ)
+      → entries_map (body_of (take place bank) ++ behind) ≡ after_entries (length behind) map behind
   pub none : entry_in (drop place bank) ≡ None
 
+-- what was read of a bank: the map of its entries, whole ones to their end, and the gate there
+abbrev pub HasEntriesOf : List ℕ → Read → Type 0
+HasEntriesOf bank read = map_in read.map ≡ entries_map (body_of bank)
+
+abbrev pub ReadsToEnd : List ℕ → Read → Type 0
+ReadsToEnd bank read = IsWrittenTo read.end (map_in read.map) bank
+
+abbrev pub HasGateOf : List ℕ → Read → Type 0
+HasGateOf bank read = IsGate read.gate read.end bank
+
 -- the bank that counts, its last gate, and what its entries stand for
-pub record IsMendable {W : Type 0} (m : Meaning W) (world : W) (bank : Bank) (gate : EndGate) (place : ℕ) (stood : Around) (map : Map) (generation : ℕ) : Type 0 where
+pub record IsMendable {W : Type 0} (m : Meaning W) (world : W) (bank : Bank) (gate : EndGate) (place : ℕ)
+    (stood : Around) (map : Map) (generation : ℕ) : Type 0 where
   pub rest : IsAtRest m world stood
   pub counts : m.tells world → choice_of (m.seen world) ≡ choice.Live bank generation
   pub written : m.tells world → IsWrittenTo place map (m.seen world bank)
   pub gate_is : m.tells world → IsGate gate place (m.seen world bank)
 
 -- a bank that counts and ends at a closed gate, with its map
-pub record IsOpened {W : Type 0} (m : Meaning W) (stood : Around) (map : Map) (world : W) (opened : Opened) : Type 0 where
+pub record IsOpened {W : Type 0} (m : Meaning W) (stood : Around) (map : Map) (world : W) (opened : Opened)
+    : Type 0 where
   pub rest : IsAtRest m world stood
   pub stands : m.tells world → StandsAt opened.bank opened.end map (m.seen world)
   pub counts : m.tells world → choice_of (m.seen world) ≡ choice.Live opened.bank opened.generation
@@ -55,7 +70,8 @@ pub record IsOpened {W : Type 0} (m : Meaning W) (stood : Around) (map : Map) (w
   pub ordered : IsOrdered opened.map
 
 -- a bank was filled: it counts, and ends at this place
-pub record IsFilled {W : Type 0} (m : Meaning W) (world : W) (to : Bank) (place : ℕ) (stood : Around) (map : Map) (generation : ℕ) : Type 0 where
+pub record IsFilled {W : Type 0} (m : Meaning W) (world : W) (to : Bank) (place : ℕ) (stood : Around) (map : Map)
+    (generation : ℕ) : Type 0 where
   pub rest : IsAtRest m world stood
   pub stands : m.tells world → StandsAt to place map (m.seen world)
   pub counts : m.tells world → choice_of (m.seen world) ≡ choice.Live to generation
@@ -66,14 +82,16 @@ pub record IsAsBefore {W : Type 0} (m : Meaning W) (old : W) (around : Around) (
   pub image : IsImage m old banks
 
 -- this bank counts, and the banks stand for this map
-pub record IsCounted {W : Type 0} (m : Meaning W) (world : W) (bank : Bank) (stood : Around) (map : Map) (generation : ℕ) : Type 0 where
+pub record IsCounted {W : Type 0} (m : Meaning W) (world : W) (bank : Bank) (stood : Around) (map : Map)
+    (generation : ℕ) : Type 0 where
   pub rest : IsAtRest m world stood
   pub counts : m.tells world → choice_of (m.seen world) ≡ choice.Live bank generation
   pub image : m.tells world → image_in (m.seen world) ≡ map
 
 -- a bank of this generation, whose entries end at this place, is to be exchanged for a compact one
 abbrev pub IsDue : ℕ → ℕ → RecordMap → Type 0
-IsDue generation place held = (generation < 2 ^ 64 - 1) × IsWorth (place + 1) (length (compact_bytes (generation + 1) held) + 1)
+IsDue generation place held =
+    (generation < 2 ^ 64 - 1) × IsWorth (place + 1) (length (compact_bytes (generation + 1) held) + 1)
 
 -- where that is due, the other bank is live, in compact form; elsewhere it is the bank itself
 abbrev pub Exchanges : Bank → ℕ → ℕ → RecordMap → Bank → ℕ → Type 0
@@ -81,12 +99,17 @@ Exchanges bank generation place held to end =
     (IsDue generation place held × (to ≡ other_bank bank) × (end ≡ length (compact_bytes (generation + 1) held)))
     ⊎ ((IsDue generation place held → ⊥) × (to ≡ bank) × (end ≡ place))
 
+-- the other bank is live, with the same map, and its entries end at this place
+abbrev pub IsOtherBank : Opened → ℕ → Opened → Type 0
+IsOtherBank opened end after = (after.map ≡ opened.map) × (after.bank ≡ other_bank opened.bank) × (after.end ≡ end)
+
 pub record GoesOver (opened after : Opened) : Type 0 where
   pub map : after.map ≡ opened.map
   pub exchanges : Exchanges opened.bank opened.generation opened.end opened.map after.bank after.end
 
 -- a live bank of these bytes was read and mended, and exchanged where that is due
-pub record IsReopened (bank : Bank) (generation : ℕ) (bytes : List ℕ) (held : RecordMap) (to : Bank) (end : ℕ) : Type 0 where
+pub record IsReopened (bank : Bank) (generation : ℕ) (bytes : List ℕ) (held : RecordMap) (to : Bank) (end : ℕ)
+    : Type 0 where
   pub place : ℕ
   pub written : IsWrittenTo place (map_in held) bytes
   pub exchanges : Exchanges bank generation place held to end
@@ -100,3 +123,15 @@ begun_by (choice.Live bank generation) banks held to end = IsReopened bank gener
 -- which bank is live, and where its entries end, once these banks were begun
 abbrev pub IsBegunOver : Banks → RecordMap → Bank → ℕ → Type 0
 IsBegunOver banks held to end = begun_by (choice_of banks) banks held to end
+
+-- the same of the bank that was opened
+abbrev pub BeginsOver : Banks → Opened → Type 0
+BeginsOver banks opened = IsBegunOver banks opened.map opened.bank opened.end
+
+-- the gate at which its entries end is there
+abbrev pub EndsInside : Banks → Opened → Type 0
+EndsInside banks opened = opened.end < length (banks opened.bank)
+
+-- a bank that counts was opened, with the map that the banks stood for, and all around is as it was
+abbrev pub OpensAs : {W : Type 0} → Meaning W → W → W → Opened → Type 0
+OpensAs m old new = IsOpened m (m.around old) (image_in (m.seen old)) new

@@ -17,7 +17,8 @@ withdraw_payload paths = 2 ∷ listed sized paths
 abbrev pub entry_of : List ℕ → List ℕ
 entry_of payload = to_be_bytes w32 (length payload) ++ payload
 
--- what the entries of a record take, its put having a payload of so many bytes: the put, and the withdrawal where a target
--- has a record; each with its gate, its length and its payload
+-- what the entries of a record take, its put having a payload of so many bytes: the put, and the withdrawal where a
+-- target has a record; each with its gate, its length and its payload
 abbrev pub entries_len : Map → Rec → ℕ → ℕ
-entries_len map rec payload = if has_any map rec.targets then length (listed sized rec.targets) + (5 + payload + 6) else 5 + payload
+entries_len map rec payload =
+    if has_any map rec.targets then length (listed sized rec.targets) + (5 + payload + 6) else 5 + payload

@@ -17,7 +17,8 @@ IsBlank bank = (head_of bank ≡ Short) ⊎ (head_of bank ≡ Closed)
 pub record IsSpare (to : Bank) (map : Map) (generation : ℕ) (banks : Banks) : Type 0 where
   pub now : image_in banks ≡ map
   pub blank : (bytes : List ℕ) → IsBlank bytes → image_in (with_bank to bytes banks) ≡ map
-  pub newer : (bytes : List ℕ) → head_of bytes ≡ Live generation → choice_of (with_bank to bytes banks) ≡ choice.Live to generation
+  pub newer : (bytes : List ℕ) → head_of bytes ≡ Live generation
+      → choice_of (with_bank to bytes banks) ≡ choice.Live to generation
 
 -- the gate is there, and isn't open
 pub record IsShut (bank : List ℕ) : Type 0 where
@@ -26,10 +27,11 @@ pub record IsShut (bank : List ℕ) : Type 0 where
 
 -- whole entries lead from the one map to the other, whatever is behind them
 pub record Leads (bytes : List ℕ) (from map : Map) : Type 0 where
-  pub on : (behind : List ℕ) → after_entries (length (bytes ++ behind)) from (bytes ++ behind) ≡ after_entries (length behind) map behind
+  pub on : (behind : List ℕ)
+      → after_entries (length (bytes ++ behind)) from (bytes ++ behind) ≡ after_entries (length behind) map behind
 
--- what stands behind the gate of a bank of this generation and this map: 16 bytes of a head, entries, and a gate that is
--- closed
+-- what stands behind the gate of a bank of this generation and this map: 16 bytes of a head, entries, and a gate that
+-- is closed
 pub record IsForm (generation : ℕ) (map : Map) (form : List ℕ) : Type 0 where
   pub front : List ℕ
   pub is : form ≡ front ++ 0 ∷ []

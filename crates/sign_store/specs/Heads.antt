@@ -30,7 +30,8 @@ head_bytes generation = codes "SCONSIG1" ++ to_be_bytes w64 generation
 abbrev pub head_of : List ℕ → Head
 head_of bank =
     if nat_le (length bank) 17 then Short
-    else (if gate_of bank == 1 then (if bytes_eq (mark_of bank) (codes "SCONSIG1") then Live (generation_of bank) else Foreign)
+    else (if gate_of bank == 1
+    then (if bytes_eq (mark_of bank) (codes "SCONSIG1") then Live (generation_of bank) else Foreign)
     else Closed)
 
 -- the live bank of the greater generation, A at a tie; a foreign bank is refused, A first

@@ -2,8 +2,8 @@
 --
 -- gate      one byte, 1 in front of an entry; another one ends the entries
 -- length    32 bits, big-endian
--- payload   so many bytes: 1 and a record, which is put for each of its targets; or 2 and a list of paths, whose records
---           are withdrawn
+-- payload   so many bytes: 1 and a record, which is put for each of its targets; or 2 and a list of paths, whose
+--           records are withdrawn
 use Rattle.std.specs.Prelude.{ℕ, zero, suc, ◌+◌, ◌-◌, ◌==◌, ◌||◌, not, List, [], ◌∷◌, length, take, drop, slice_index, nat_lt, nat_le, Option, None, Some, if◌then◌else◌}
 use Rattle.std.specs.Int.{w32, from_be_bytes}
 use Rattle.std.specs.Option.{option_map, option_and_then, option_map_or}
@@ -34,7 +34,9 @@ change_in (suc (suc (suc byte)) ∷ rest) = None
 
 -- the entry in front, and its size
 abbrev pub entry_in : List ℕ → Option (Change × ℕ)
-entry_in bytes = option_and_then (λ payload. option_map (λ change. (change, length payload + 5)) (change_in payload)) (payload_in bytes)
+entry_in bytes =
+    option_and_then (λ payload. option_map (λ change. (change, length payload + 5)) (change_in payload))
+    (payload_in bytes)
 
 abbrev pub applied : Change → Map → Map
 applied (Put rec) map = with_each rec.targets (Some rec) map
@@ -43,7 +45,8 @@ applied (Withdraw paths) map = with_each paths None map
 -- the map after at most so many entries
 unfoldable pub after_entries : ℕ → Map → List ℕ → Map
 after_entries zero map bytes = map
-after_entries (suc n) map bytes = option_map_or (λ entry. after_entries n (applied entry.0 map) (drop entry.1 bytes)) (entry_in bytes) map
+after_entries (suc n) map bytes =
+    option_map_or (λ entry. after_entries n (applied entry.0 map) (drop entry.1 bytes)) (entry_in bytes) map
 
 -- what the entries behind a head stand for; there are fewer of them than bytes
 abbrev pub entries_map : List ℕ → Map

@@ -23,7 +23,8 @@ pub record AreSmall (banks : Banks) : Type 0 where
 -- the first bank that is too large has this many bytes
 abbrev pub IsLarge : Banks → ℕ → Type 0
 IsLarge banks size =
-    ((length (banks A) ≡ size) × (2 ^ 40 < size)) ⊎ ((length (banks A) ≤ 2 ^ 40) × (length (banks B) ≡ size) × (2 ^ 40 < size))
+    ((length (banks A) ≡ size) × (2 ^ 40 < size))
+    ⊎ ((length (banks A) ≤ 2 ^ 40) × (length (banks B) ≡ size) × (2 ^ 40 < size))
 
 -- neither is too large, and none is live with another mark
 pub record AreReadable (banks : Banks) : Type 0 where
@@ -47,5 +48,7 @@ IsOutside refusal.Memory = Unit {0}
 -- so many bytes of what stands behind a head are whole entries, which lead from the one map to the other whatever is
 -- behind them; what is behind them is no entry
 pub record IsReadTo (len : ℕ) (from map : Map) (body : List ℕ) : Type 0 where
-  pub reads : (behind : List ℕ) → after_entries (length (take len body ++ behind)) from (take len body ++ behind) ≡ after_entries (length behind) map behind
+  pub reads : (behind : List ℕ)
+      → after_entries (length (take len body ++ behind)) from (take len body ++ behind)
+      ≡ after_entries (length behind) map behind
   pub ends : entry_in (drop len body) ≡ None

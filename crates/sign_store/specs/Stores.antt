@@ -12,7 +12,7 @@ use Rattle.sign_store.specs.declared.refusals.PrepareRefusal.TheVariants as refu
 use Rattle.sign_store.specs.Entries.{entry_of, entries_len, put_payload, withdraw_payload}
 use Rattle.sign_store.specs.Maps.{map_in, HasRecord}
 use Rattle.sign_store.specs.Beginnings.{IsBegunOver}
-use Rattle.sign_store.specs.Ends.{KeepsAt}
+use Rattle.sign_store.specs.Ends.{KeepsAt, image_in}
 use Rattle.sign_store.specs.Tables.{Map, has_any, is_among}
 
 -- the banks have the gate at which the store's entries end
@@ -34,6 +34,13 @@ map_of store = map_in store.map
 
 abbrev pub map_of_view : View → Map
 map_of_view view = map_in view.map
+
+-- the map of these banks
+abbrev pub HasMapOf : Banks → Store → Type 0
+HasMapOf banks store = map_of store ≡ image_in banks
+
+abbrev pub ShowsMapOf : Banks → View → Type 0
+ShowsMapOf banks view = map_of_view view ≡ image_in banks
 
 -- the store over banks that were these: which one is live, and where its entries end
 abbrev pub Begins : Banks → Store → Type 0
@@ -69,9 +76,29 @@ pub record KeepsRooms (room : ℕ) (old new : Store) : Type 0 where
   pub rooms : length new.rooms.items ≡ length old.rooms.items
   pub others : (other : ℕ) → other ≢ room → slice_index new.rooms.items other ≡ slice_index old.rooms.items other
 
--- what the entries of a ticket may still take: its put, and its withdrawal where a target has a record
+-- in this room nothing is kept any more, and in the others what was kept before
+pub record FreesRoom (room : ℕ) (old new : Store) : Type 0 where
+  pub rooms : KeepsRooms room old new
+  pub none : slice_index new.rooms.items room ≡ 0
+
+-- so many bytes are kept in a further room, which is the ticket's
+pub record GetsRoom (old new : Store) (len : ℕ) (ticket : Ticket) : Type 0 where
+  pub own : ticket.room ≡ length old.rooms.items
+  pub rooms : new.rooms.items ≡ old.rooms.items ++ len ∷ []
+
+-- map, bank and rooms are as they were
+pub record IsUntouched (old new : Store) : Type 0 where
+  pub map : map_of new ≡ map_of old
+  pub banks : KeepsBanks old new
+  pub rooms : new.rooms.items ≡ old.rooms.items
+
+-- what a withdrawal takes: nothing where no target has a record
+abbrev pub withdrawal_len : Store → Rec → Ticket → ℕ
+withdrawal_len store rec ticket = if has_any (map_of store) rec.targets then length ticket.withdrawal.items else 0
+
+-- what the entries of a ticket may still take: its put and its withdrawal
 abbrev pub owed : Store → Rec → Ticket → ℕ
-owed store rec ticket = length ticket.put.items + (if has_any (map_of store) rec.targets then length ticket.withdrawal.items else 0)
+owed store rec ticket = length ticket.put.items + withdrawal_len store rec ticket
 
 -- the store's ticket is out: its record has its spelling, and its entries have their room
 pub record IsOut (store : Store) (rec : Rec) (ticket : Ticket) : Type 0 where
@@ -80,9 +107,13 @@ pub record IsOut (store : Store) (rec : Rec) (ticket : Ticket) : Type 0 where
   pub fits : length (spelling rec) ≤ 4294967294
   pub room : HasRoom store ticket.room (owed store rec ticket)
 
+-- what the entries of a record will take
+abbrev pub due_for : Store → Rec → ℕ
+due_for store rec = entries_len (map_of store) rec (length (put_payload rec))
+
 -- how long the bank is with the entries of all tickets and of this record
 abbrev pub len_with : Store → Rec → ℕ
-len_with store rec = store.end + 1 + sum store.rooms.items + entries_len (map_of store) rec (length (put_payload rec))
+len_with store rec = store.end + 1 + sum store.rooms.items + due_for store rec
 
 -- there is room for the entries of a record
 pub record Fits (store : Store) (rec : Rec) : Type 0 where
@@ -113,7 +144,8 @@ AreApart paths others = (path : List ℕ) → is_among paths path ≡ true → i
 
 -- the same of tickets that share no target with it
 pub record KeepsApart (but : Ticket) (targets : List (List ℕ)) (old new : Store) : Type 0 where
-  pub each : (rec : Rec) (ticket : Ticket) → ticket.room ≢ but.room → AreApart targets rec.targets → IsOut old rec ticket → IsOut new rec ticket
+  pub each : (rec : Rec) (ticket : Ticket) → ticket.room ≢ but.room → AreApart targets rec.targets
+      → IsOut old rec ticket → IsOut new rec ticket
 
 -- a ticket has a room of its own
 pub record IsFresh (old : Store) (ticket : Ticket) : Type 0 where

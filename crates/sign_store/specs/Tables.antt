@@ -38,13 +38,26 @@ nothing path = None
 abbrev pub with_each : List (List ℕ) → Option Rec → Map → Map
 with_each paths rec map path = if is_among paths path then rec else map path
 
+-- a path has a place
+abbrev pub HasPlaceOf : Table → List ℕ → Type 0
+HasPlaceOf table path = is_some (place_in table path) ≡ true
+
+-- what has a place keeps one
+abbrev pub KeepsPlaces : Table → Table → Type 0
+KeepsPlaces old new = (path : List ℕ) → HasPlaceOf old path → HasPlaceOf new path
+
+-- a path that has a place has this value there, and all else is as before
+abbrev pub WritesOne : List ℕ → Option ℕ → Table → Table → Type 0
+WritesOne path value old new = (other : List ℕ)
+    → place_in new other ≡ overwritten (bytes_eq path other) value (place_in old other)
+
 -- each of these paths that has a place has this value there, and all else is as before
 pub record WritesEach (paths : List (List ℕ)) (value : Option ℕ) (old new : Table) : Type 0 where
   pub at : (path : List ℕ) → place_in new path ≡ overwritten (is_among paths path) value (place_in old path)
 
 -- each of these paths has a place
 pub record Enters (paths : List (List ℕ)) (table : Table) : Type 0 where
-  pub at : (path : List ℕ) → is_among paths path ≡ true → is_some (place_in table path) ≡ true
+  pub at : (path : List ℕ) → is_among paths path ≡ true → HasPlaceOf table path
 
 -- a path has a record
 abbrev pub has_any : Map → List (List ℕ) → Bool

@@ -1,17 +1,15 @@
 //! Reading and writing the banks of a disk.
 ghost use Rattle.std.specs.Prelude.{◌≡◌, ◌≢◌, ◌≤◌, ◌<◌, ◌+◌, ◌^◌, ℕ, length, max, vec_len, IfOk, IfErr, OnOk, OnErr};
-ghost use Rattle.world_api.specs.Banks.{Holds};
 ghost use Rattle.world_api.specs.Causes.{DiskFails};
-ghost use Rattle.world_api.specs.Meaning.{Told, IsSettled, Throughout};
-ghost use Rattle.world_api.specs.declared.disk.Bank.{Bank};
+ghost use Rattle.world_api.specs.Meaning.{Told, IsSettled};
 ghost use Rattle.world_api.specs.declared.disk.Bank.TheVariants as side;
 ghost use Rattle.sign_store.specs.Changing.{AppendKeeps, AppendsThroughout, CloseKeeps, ClosesThroughout, Fills, FillsThroughout};
-ghost use Rattle.sign_store.specs.Ends.{IsTornFrom};
+ghost use Rattle.sign_store.specs.Ends.{IsTornThroughout, ReachesPlace, WritesAt};
 ghost use Rattle.sign_store.specs.Forms.{IsShut};
 ghost use Rattle.sign_store.specs.Heads.{head_of};
 ghost use Rattle.sign_store.specs.Images.{body_of};
 ghost use Rattle.sign_store.specs.Readings.{IsRefusal, IsOutside};
-ghost use Rattle.sign_store.specs.Reached.{HasFaultCause, KeepsSettled, ReadsBanks, Writes};
+ghost use Rattle.sign_store.specs.Reached.{HasFaultCause, KeepsSettled, ReadsBanks, SeesTheSame, Writes};
 
 use crate::head::{HEAD_LEN, Head, head_of};
 use crate::refusals::StoreRefusal;
@@ -34,7 +32,7 @@ pub(crate) fn sizes_of<W: Disk>(world: &mut W) -> Result<Sizes, StoreRefusal>
     ensures small { IfOk result (λ sizes. (sizes.a ≤ 2 ^ 40) × (sizes.b ≤ 2 ^ 40)) }
     ensures refused { W.meaning.tells world.new → IfErr result (IsRefusal (W.meaning.seen world.new)) }
     ensures cause { HasFaultCause W.meaning world.old world.new result }
-    ensures seen { W.meaning.tells world.new → (each : Bank) → W.meaning.seen world.new each ≡ W.meaning.seen world.old each }
+    ensures seen { W.meaning.tells world.new → SeesTheSame W.meaning world.old world.new }
     ensures looks { ReadsBanks W.meaning world.old world.new }
     ensures told { Told W.meaning world.old world.new }
 {
@@ -57,7 +55,7 @@ pub(crate) fn read_head<W: Disk>(world: &mut W, bank: Bank, size: u64) -> Result
     ensures closed { IfOk result (λ head. head ≡ Head.Closed → 17 < size) }
     ensures kept { OnOk result (W.meaning.counts world.new ≡ W.meaning.counts world.old) }
     ensures rose { OnErr result (DiskFails (W.meaning.counts world.old) (W.meaning.counts world.new)) }
-    ensures seen { W.meaning.tells world.new → (each : Bank) → W.meaning.seen world.new each ≡ W.meaning.seen world.old each }
+    ensures seen { W.meaning.tells world.new → SeesTheSame W.meaning world.old world.new }
     ensures looks { ReadsBanks W.meaning world.old world.new }
     ensures told { Told W.meaning world.old world.new }
 {
@@ -78,11 +76,11 @@ pub(crate) fn read_body<W: Disk>(
     size: u64,
 ) -> Result<Vec<u8>, StoreRefusal>
     requires { W.meaning.tells world.old → size ≡ length (W.meaning.seen world.old bank) }
-    ensures body { W.meaning.tells world.new → IfOk result (λ body. body.items ≡ body_of (W.meaning.seen world.new bank)) }
+    ensures body { W.meaning.tells world.new → IfOk result (λ v. v.items ≡ body_of (W.meaning.seen world.new bank)) }
     ensures len { IfOk result (λ body. vec_len body + 17 ≡ max size 17) }
     ensures refused { IfErr result IsOutside }
     ensures cause { HasFaultCause W.meaning world.old world.new result }
-    ensures seen { W.meaning.tells world.new → (each : Bank) → W.meaning.seen world.new each ≡ W.meaning.seen world.old each }
+    ensures seen { W.meaning.tells world.new → SeesTheSame W.meaning world.old world.new }
     ensures looks { ReadsBanks W.meaning world.old world.new }
     ensures told { Told W.meaning world.old world.new }
 {
@@ -105,9 +103,9 @@ pub(crate) fn write_synced<W: Disk>(
 ) -> Result<(), Fault>
     requires within { W.meaning.tells world.old → place ≤ length (W.meaning.seen world.old bank) }
     requires small { place + length bytes.now ≤ 2 ^ 41 }
-    ensures written { W.meaning.tells world.new → OnOk result (Holds (W.meaning.seen world.old bank) place bytes.now (W.meaning.seen world.new bank)) }
+    ensures written { WritesAt W.meaning bank place bytes.now world.old world.new result }
     ensures settled { W.meaning.tells world.new → OnOk result (IsSettled W.meaning world.new bank) }
-    ensures moments { Throughout W.meaning world.old world.new (IsTornFrom W.meaning world.old bank place (length bytes.now)) }
+    ensures moments { IsTornThroughout W.meaning bank place (length bytes.now) world.old world.new }
     ensures around { W.meaning.tells world.new → W.meaning.around world.new ≡ W.meaning.around world.old }
     ensures writes { Writes W.meaning bank world.old world.new }
     ensures told { Told W.meaning world.old world.new }
@@ -129,7 +127,7 @@ pub(crate) fn append<W: Disk>(
 ) -> Result<(), Fault>
     requires within { W.meaning.tells world.old → end < length (W.meaning.seen world.old bank) }
     requires small { end + 1 + length entry.now ≤ 2 ^ 41 }
-    ensures end { W.meaning.tells world.new → OnOk result (end + length entry.now < length (W.meaning.seen world.new bank)) }
+    ensures end { ReachesPlace W.meaning bank (end + length entry.now) world.new result }
     ensures moments { AppendsThroughout W.meaning world.old world.new bank end entry.now }
     ensures keeps { AppendKeeps W.meaning world.old world.new bank end entry.now result }
     ensures settled { OnOk result (KeepsSettled W.meaning world.old world.new) }
@@ -143,8 +141,8 @@ pub(crate) fn append<W: Disk>(
     write_synced(world, bank, end, &[1])
 }
 
-/// Fills a bank that isn't live with what stands behind its gate, and then opens the gate. A gate that is closed already
-/// stays as it is, since torn bytes may stand behind it.
+/// Fills a bank that isn't live with what stands behind its gate, and then opens the gate. A gate that is closed
+/// already stays as it is, since torn bytes may stand behind it.
 pub(crate) fn fill<W: Disk>(world: &mut W, bank: Bank, form: &[u8]) -> Result<(), Fault>
     requires { 1 + length form.now ≤ 2 ^ 41 }
     ensures moments { FillsThroughout W.meaning world.old world.new bank form.now }

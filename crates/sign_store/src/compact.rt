@@ -1,11 +1,10 @@
 //! The compact form of a bank: one put for each record that a path still has.
-ghost use Rattle.std.specs.Prelude.{◌≡◌, ◌≢◌, ◌≤◌, ◌<◌, ◌+◌, ◌-◌, ◌*◌, ◌^◌, ◌↔◌, ◌++◌, ◌∷◌, Some, filter, length, not, slice_get, vec_len, IsTrue, IfOk, OnOk};
-ghost use Rattle.deciders.specs.Spelling.{listed, sized};
-ghost use Rattle.sign_store.specs.Entries.{entry_of, put_payload, withdraw_payload};
-ghost use Rattle.sign_store.specs.Compacts.{IsWorth, compact_bytes, entries_at, entries_up_to, lost_of, withdrawal_of};
+ghost use Rattle.std.specs.Prelude.{◌≡◌, ◌≢◌, ◌≤◌, ◌<◌, ◌+◌, ◌-◌, ◌*◌, ◌^◌, ◌↔◌, ◌++◌, ◌∷◌, Some, length, slice_get, vec_len, IsTrue, IfOk, OnOk};
+ghost use Rattle.sign_store.specs.Entries.{entry_of, put_payload};
+ghost use Rattle.sign_store.specs.Compacts.{AddsWithdrawal, IsWorth, all_entries, compact_bytes, entries_at, lost_among, put_entries};
 ghost use Rattle.sign_store.specs.Forms.{IsForm};
 ghost use Rattle.sign_store.specs.Heads.{head_bytes};
-ghost use Rattle.sign_store.specs.Orders.{IsOrdered, IsWhole, is_held};
+ghost use Rattle.sign_store.specs.Orders.{IsOrdered, IsWhole};
 ghost use Rattle.sign_store.specs.Tables.{nothing};
 
 use crate::head::MARK;
@@ -47,8 +46,8 @@ pub(crate) fn empty_form(alloc: Global) -> Result<Vec<u8>, Memory>
     Ok(form)
 }
 
-/// What stands behind the gate of a bank of this generation, with nothing lost of the map: mark, generation, entries and
-/// the last gate, closed.
+/// What stands behind the gate of a bank of this generation, with nothing lost of the map: mark, generation, entries
+/// and the last gate, closed.
 pub(crate) fn compact_form(
     alloc: Global,
     map: &RecordMap,
@@ -74,7 +73,7 @@ fn push_head(form: &mut Vec<u8>, generation: u64) -> Result<(), Memory>
 
 /// Adds the entries of all records that a path still has, in their order.
 fn push_all(alloc: Global, form: &mut Vec<u8>, map: &RecordMap) -> Result<(), Memory>
-    ensures { IsOrdered map.now → OnOk result (form.new.items ≡ form.old.items ++ entries_up_to map.now (length map.now.records.items)) }
+    ensures { IsOrdered map.now → OnOk result (form.new.items ≡ form.old.items ++ all_entries map.now) }
 {
     for number in 0..map.records().len() {
         push_entries(alloc, form, map, number)?;
@@ -108,7 +107,7 @@ fn push_record_entries(
     number: usize,
     rec: &Rec,
 ) -> Result<(), Memory>
-    ensures { IsWhole rec.now → OnOk result (form.new.items ≡ form.old.items ++ ((1 ∷ entry_of (put_payload rec.now)) ++ withdrawal_of (lost_of map.now number rec.now))) }
+    ensures { IsWhole rec.now → OnOk result (form.new.items ≡ form.old.items ++ put_entries map.now number rec.now) }
 {
     push_put_entry(form, rec)?;
     let mut lost = Vec::new(alloc);
@@ -130,7 +129,7 @@ fn push_put_entry(form: &mut Vec<u8>, rec: &Rec) -> Result<(), Memory>
 /// Adds an entry that withdraws the records of these paths, where there is one.
 fn push_withdraw_entry(form: &mut Vec<u8>, paths: &[PathText]) -> Result<(), Memory>
     ensures none { length paths.now ≡ 0 → OnOk result (form.new.items ≡ form.old.items) }
-    ensures some { length paths.now ≢ 0 → length (listed sized paths.now) ≤ 4294967294 → OnOk result (form.new.items ≡ form.old.items ++ 1 ∷ entry_of (withdraw_payload paths.now)) }
+    ensures some { AddsWithdrawal paths.now form.old.items form.new.items result }
 {
     if paths.is_empty() || paths_len(paths) >= PAYLOAD_LIMIT {
         return Ok(());
@@ -146,7 +145,7 @@ fn push_lost(
     number: usize,
     paths: &[PathText],
 ) -> Result<(), Memory>
-    ensures { OnOk result (lost.new.items ≡ lost.old.items ++ filter (λ path. not (is_held map.now number path)) paths.now) }
+    ensures { OnOk result (lost.new.items ≡ lost.old.items ++ lost_among map.now number paths.now) }
 {
     for path in paths {
         if !map.holds(path, number) {

@@ -116,7 +116,7 @@ fn first_entry(alloc: Global, bytes: &[u8]) -> Result<Option<(Change, usize)>, M
 
 /// The payload behind an open gate and a length, if all of it is there.
 fn first_payload(bytes: &[u8]) -> Option<&[u8]>
-    ensures payload { MatchOption result (payload_in bytes.now ≡ None) (λ payload. payload_in bytes.now ≡ Some payload.now) }
+    ensures payload { MatchOption result (payload_in bytes.now ≡ None) (λ p. payload_in bytes.now ≡ Some p.now) }
     ensures within { IfSome result (λ payload. length payload.now + 5 ≤ length bytes.now) }
     ensures fits { IfSome result (λ payload. length payload.now ≤ 4294967295) }
 {

@@ -2,8 +2,7 @@
 ghost use Rattle.std.specs.Prelude.{◌≡◌, ◌<◌, ◌+◌, ℕ, List, None, Some, [], ◌++◌, ◌∷◌, true, false, length, vec_len, slice_get, option_copied, OnErr, OnOk, IfOk};
 ghost use Rattle.std.specs.List.{list_any};
 ghost use Rattle.std.specs.Option.{is_some};
-ghost use Rattle.std.specs.Str.{bytes_eq};
-ghost use Rattle.sign_store.specs.Tables.{number_in, place_in, overwritten, nothing, with_each, WritesEach, Enters};
+ghost use Rattle.sign_store.specs.Tables.{number_in, nothing, has_any, HasPlaceOf, KeepsPlaces, WritesEach, WritesOne, Enters};
 
 use deciders::Rec;
 use indexmap::IndexMap;
@@ -19,8 +18,8 @@ pub(crate) struct RecordMap {
 }
 
 impl RecordMap {
-    ghost use Rattle.sign_store.specs.Maps.{map_in, HasRecord};
-    ghost use Rattle.sign_store.specs.Orders.{IsOrdered, IsWhole, SetsNumbers, is_held};
+    ghost use Rattle.sign_store.specs.Maps.{map_in, HasRecord, Puts, Withdraws};
+    ghost use Rattle.sign_store.specs.Orders.{IsOrdered, IsWhole, GetsNumber, SetsEach, is_held};
 
     pub(crate) fn new(alloc: Global) -> RecordMap
         ensures map { map_in result ≡ nothing }
@@ -80,7 +79,7 @@ impl RecordMap {
 
     /// Keeps a record, and gives it to each of its targets.
     pub(crate) fn put(&mut self, rec: Rec) -> Result<(), Memory>
-        ensures map { OnOk result (map_in self.new ≡ with_each rec.targets (Some rec) (map_in self.old)) }
+        ensures map { OnOk result (Puts rec self.old self.new) }
         ensures ordered { IsWhole rec → IsOrdered self.old → OnOk result (IsOrdered self.new) }
     {
         let number = self.add(rec)?;
@@ -90,9 +89,9 @@ impl RecordMap {
 
     /// Gives each target of a record this record.
     pub(crate) fn set(&mut self, number: usize)
-        ensures map { (rec : Rec) → HasRecord self.old rec number → map_in self.new ≡ with_each rec.targets (Some rec) (map_in self.old) }
+        ensures map { (rec : Rec) → HasRecord self.old rec number → Puts rec self.old self.new }
         ensures records { self.new.records.items ≡ self.old.records.items }
-        ensures numbers { (rec : Rec) → HasRecord self.old rec number → SetsNumbers rec.targets (Some number) (number_in self.old.table) (number_in self.new.table) }
+        ensures numbers { (rec : Rec) → HasRecord self.old rec number → GetsNumber rec number self.old self.new }
         ensures keeps { (rec : Rec) (number : ℕ) → HasRecord self.old rec number → HasRecord self.new rec number }
     {
         let Some(rec) = self.records.get(number) else {
@@ -103,7 +102,7 @@ impl RecordMap {
 
     /// Takes away what record each target of a record has.
     pub(crate) fn unset(&mut self, number: usize)
-        ensures map { (rec : Rec) → HasRecord self.old rec number → map_in self.new ≡ with_each rec.targets None (map_in self.old) }
+        ensures map { (rec : Rec) → HasRecord self.old rec number → Withdraws rec.targets self.old self.new }
         ensures keeps { (rec : Rec) (number : ℕ) → HasRecord self.old rec number → HasRecord self.new rec number }
     {
         let Some(rec) = self.records.get(number) else {
@@ -114,16 +113,16 @@ impl RecordMap {
 
     /// Takes away the records of these paths.
     pub(crate) fn remove(&mut self, paths: &[PathText])
-        ensures map { map_in self.new ≡ with_each paths.now None (map_in self.old) }
+        ensures map { Withdraws paths.now self.old self.new }
         ensures records { self.new.records.items ≡ self.old.records.items }
-        ensures numbers { SetsNumbers paths.now None (number_in self.old.table) (number_in self.new.table) }
+        ensures numbers { SetsEach paths.now None self.old self.new }
     {
         write_each(&mut self.table, paths, None);
     }
 
     /// Whether a target of a record has a record.
     pub(crate) fn has_any(&self, number: usize) -> bool
-        ensures { (rec : Rec) → HasRecord self.now rec number → result ≡ list_any (λ path. is_some (map_in self.now path)) rec.targets }
+        ensures { (rec : Rec) → HasRecord self.now rec number → result ≡ has_any (map_in self.now) rec.targets }
     {
         match self.record_at(number) {
             Some(rec) => self.has_some(rec.targets.as_slice()),
@@ -140,7 +139,7 @@ impl RecordMap {
 
     /// Whether one of these paths has a record.
     pub(crate) fn has_some(&self, paths: &[PathText]) -> bool
-        ensures { result ≡ list_any (λ path. is_some (map_in self.now path)) paths.now }
+        ensures { result ≡ has_any (map_in self.now) paths.now }
     {
         paths.iter().any(|path| self.has(path))
     }
@@ -159,7 +158,7 @@ fn enter_each(
 ) -> Result<(), Memory>
     ensures same { (path : List ℕ) → number_in table.new path ≡ number_in table.old path }
     ensures places { OnOk result (Enters paths.now table.new) }
-    ensures stay { (path : List ℕ) → is_some (place_in table.old path) ≡ true → is_some (place_in table.new path) ≡ true }
+    ensures stay { KeepsPlaces table.old table.new }
 {
     for path in paths {
         enter(table, path)?;
@@ -169,8 +168,8 @@ fn enter_each(
 
 fn enter(table: &mut IndexMap<PathText, Option<usize>>, path: &PathText) -> Result<(), Memory>
     ensures same { (other : List ℕ) → number_in table.new other ≡ number_in table.old other }
-    ensures place { OnOk result (is_some (place_in table.new path.now) ≡ true) }
-    ensures stay { (other : List ℕ) → is_some (place_in table.old other) ≡ true → is_some (place_in table.new other) ≡ true }
+    ensures place { OnOk result (HasPlaceOf table.new path.now) }
+    ensures stay { KeepsPlaces table.old table.new }
 {
     if !table.contains_key(path) {
         table.insert(path.copy()?, None)?;
@@ -192,7 +191,7 @@ fn write_each(
 }
 
 fn write(table: &mut IndexMap<PathText, Option<usize>>, path: &PathText, value: Option<usize>)
-    ensures { (other : List ℕ) → place_in table.new other ≡ overwritten (bytes_eq path.now other) value (place_in table.old other) }
+    ensures { WritesOne path.now value table.old table.new }
 {
     if let Some(held) = table.get_mut(path) {
         *held = value;

@@ -1,21 +1,18 @@
 //! Reading and beginning: which bank counts, its entries, the mending of its end, and compaction.
-ghost use Rattle.std.specs.Prelude.{◌≡◌, ◌≤◌, ◌<◌, ◌≢◌, ◌+◌, ◌-◌, ◌^◌, ℕ, length, IfOk, IfErr, OnOk, OnErr};
-ghost use Rattle.world_api.specs.Around.{Around};
+ghost use Rattle.std.specs.Prelude.{◌≡◌, ◌≤◌, ◌<◌, ◌≢◌, ◌+◌, ◌-◌, ◌^◌, length, IfOk, IfErr, OnOk, OnErr};
 ghost use Rattle.world_api.specs.Causes.{DiskFails};
-ghost use Rattle.world_api.specs.Meaning.{Told, Throughout};
-ghost use Rattle.world_api.specs.declared.disk.Bank.{Bank};
+ghost use Rattle.world_api.specs.Meaning.{BanksKept, Told, Throughout};
 ghost use Rattle.world_api.specs.declared.disk.Bank.TheVariants as side;
-ghost use Rattle.sign_store.specs.Beginnings.{CanFill, GoesOver, IsAsBefore, IsAtRest, IsBegunOver, IsCounted, IsFilled, IsMendable, IsOpened, IsReopened, IsWrittenTo};
-ghost use Rattle.sign_store.specs.Heads.{other_bank};
-ghost use Rattle.sign_store.specs.Ends.{IsLeftOr, image_in};
-ghost use Rattle.sign_store.specs.Forms.{IsForm};
-ghost use Rattle.sign_store.specs.Gates.{IsGate};
-ghost use Rattle.sign_store.specs.Images.{body_of, entries_map};
+ghost use Rattle.sign_store.specs.Beginnings.{BeginsOver, EndsInside, GoesOver, HasEntriesOf, HasGateOf, IsAsBefore};
+ghost use Rattle.sign_store.specs.Beginnings.{IsAtRest, IsOtherBank, OpensAs, ReadsToEnd};
+ghost use Rattle.sign_store.specs.Changing.{BeginsThroughout, Compacts, CompactsThroughout, GoesOverThroughout, GoesOverTo};
+ghost use Rattle.sign_store.specs.Changing.{Mends, MendsThroughout, Reopens, ReopensAs, ReopensThroughout};
+ghost use Rattle.sign_store.specs.Changing.{Starts, StartsThroughout};
+ghost use Rattle.sign_store.specs.Ends.{ReadsAsBefore, image_in};
 ghost use Rattle.sign_store.specs.Maps.{map_in};
 ghost use Rattle.sign_store.specs.Orders.{IsOrdered};
-ghost use Rattle.sign_store.specs.Reached.{Endures, HasFaultCause, ReadsBanks};
+ghost use Rattle.sign_store.specs.Reached.{HasFaultCause, KeepsSettled, LeavesBanks, ReadsBanks, RestsUnlessFault};
 ghost use Rattle.sign_store.specs.Readings.{AreReadable, IsOutside, IsRefusal, choice_of};
-ghost use Rattle.sign_store.specs.Tables.{Map, nothing};
 
 use crate::banks::{Sizes, fill, read_body, read_head, sizes_of, write_synced};
 use crate::compact::{FIRST_GENERATION, can_be_worth, compact_form, empty_form, is_worth};
@@ -74,10 +71,10 @@ fn read_bank<W: Disk>(
     ensures end { IfOk result (λ read. read.end ≤ size) }
     ensures inside { IfOk result (λ read. read.gate ≢ EndGate.Missing → read.end < size) }
     ensures size { W.meaning.tells world.new → size ≡ length (W.meaning.seen world.new bank) }
-    ensures map { W.meaning.tells world.new → IfOk result (λ read. map_in read.map ≡ entries_map (body_of (W.meaning.seen world.new bank))) }
+    ensures map { W.meaning.tells world.new → IfOk result (HasEntriesOf (W.meaning.seen world.new bank)) }
     ensures ordered { IfOk result (λ read. IsOrdered read.map) }
-    ensures written { W.meaning.tells world.new → 17 < size → IfOk result (λ read. IsWrittenTo read.end (map_in read.map) (W.meaning.seen world.new bank)) }
-    ensures gate { W.meaning.tells world.new → 17 < size → IfOk result (λ read. IsGate read.gate read.end (W.meaning.seen world.new bank)) }
+    ensures written { W.meaning.tells world.new → 17 < size → IfOk result (ReadsToEnd (W.meaning.seen world.new bank)) }
+    ensures gate { W.meaning.tells world.new → 17 < size → IfOk result (HasGateOf (W.meaning.seen world.new bank)) }
     ensures refused { IfErr result IsOutside }
     ensures cause { HasFaultCause W.meaning world.old world.new result }
     ensures looks { ReadsBanks W.meaning world.old world.new }
@@ -128,7 +125,7 @@ pub(crate) fn read_map<W: Disk>(alloc: Global, world: &mut W) -> Result<RecordMa
 fn settle<W: Disk>(world: &mut W) -> Result<(), Fault>
     ensures moments { Throughout W.meaning world.old world.new (IsAsBefore W.meaning world.old) }
     ensures rest { OnOk result (IsAtRest W.meaning world.new (W.meaning.around world.old)) }
-    ensures seen { W.meaning.tells world.new → (each : Bank) → W.meaning.seen world.new each ≡ W.meaning.seen world.old each }
+    ensures banks { W.meaning.tells world.new → BanksKept W.meaning world.old world.new }
     ensures around { W.meaning.tells world.new → W.meaning.around world.new ≡ W.meaning.around world.old }
     ensures told { Told W.meaning world.old world.new }
     ensures kept { OnOk result (W.meaning.counts world.new ≡ W.meaning.counts world.old) }
@@ -138,36 +135,23 @@ fn settle<W: Disk>(world: &mut W) -> Result<(), Fault>
     world.sync(Bank::B)
 }
 
-/// The map of the banks, with a live bank that ends at a closed gate.
+/// The map of the banks, with a live bank that ends at a closed gate. First a stop is made to leave the banks as they
+/// read.
 pub(crate) fn open<W: Disk>(alloc: Global, world: &mut W) -> Result<Opened, StoreRefusal>
-    ensures moments { Throughout W.meaning world.old world.new (IsLeftOr W.meaning world.old (image_in (W.meaning.seen world.old))) }
-    ensures opened { IfOk result (IsOpened W.meaning (W.meaning.around world.old) (image_in (W.meaning.seen world.old)) world.new) }
-    ensures begun { W.meaning.tells world.new → IfOk result (λ after. IsBegunOver (W.meaning.seen world.old) after.map after.bank after.end) }
+    ensures moments { BeginsThroughout W.meaning world.old world.new }
+    ensures opened { IfOk result (OpensAs W.meaning world.old world.new) }
+    ensures reads { W.meaning.tells world.new → ReadsAsBefore W.meaning world.old world.new }
+    ensures left { W.meaning.tells world.new → IfErr result (LeavesBanks W.meaning world.old world.new) }
+    ensures begun { W.meaning.tells world.new → IfOk result (BeginsOver (W.meaning.seen world.old)) }
     ensures readable { W.meaning.tells world.new → IfOk result (λ _. AreReadable (W.meaning.seen world.old)) }
     ensures refused { W.meaning.tells world.new → IfErr result (IsRefusal (W.meaning.seen world.old)) }
     ensures end { IfOk result (λ opened. opened.end ≤ 2 ^ 40) }
-    ensures stands { W.meaning.tells world.new → IfOk result (λ opened. opened.end < length (W.meaning.seen world.new opened.bank)) }
+    ensures stands { W.meaning.tells world.new → IfOk result (EndsInside (W.meaning.seen world.new)) }
     ensures cause { HasFaultCause W.meaning world.old world.new result }
     ensures around { W.meaning.tells world.new → W.meaning.around world.new ≡ W.meaning.around world.old }
     ensures told { Told W.meaning world.old world.new }
 {
     settle(world)?;
-    open_settled(alloc, world)
-}
-
-/// The same where a stop leaves the banks as they read.
-fn open_settled<W: Disk>(alloc: Global, world: &mut W) -> Result<Opened, StoreRefusal>
-    ensures moments { (stood : Around) (map : Map) → IsAtRest W.meaning world.old stood → (W.meaning.tells world.old → image_in (W.meaning.seen world.old) ≡ map) → Endures W.meaning world.old world.new stood map }
-    ensures opened { (stood : Around) (map : Map) → IsAtRest W.meaning world.old stood → (W.meaning.tells world.old → image_in (W.meaning.seen world.old) ≡ map) → IfOk result (IsOpened W.meaning stood map world.new) }
-    ensures begun { W.meaning.tells world.new → IfOk result (λ after. IsBegunOver (W.meaning.seen world.old) after.map after.bank after.end) }
-    ensures readable { W.meaning.tells world.new → IfOk result (λ _. AreReadable (W.meaning.seen world.old)) }
-    ensures refused { W.meaning.tells world.new → IfErr result (IsRefusal (W.meaning.seen world.old)) }
-    ensures end { IfOk result (λ opened. opened.end ≤ 2 ^ 40) }
-    ensures stands { W.meaning.tells world.new → IfOk result (λ opened. opened.end < length (W.meaning.seen world.new opened.bank)) }
-    ensures cause { HasFaultCause W.meaning world.old world.new result }
-    ensures around { W.meaning.tells world.new → W.meaning.around world.new ≡ W.meaning.around world.old }
-    ensures told { Told W.meaning world.old world.new }
-{
     let (sizes, choice) = look(world)?;
     match choice {
         Choice::None => start(alloc, world),
@@ -190,12 +174,13 @@ fn size_of(sizes: Sizes, bank: Bank) -> u64
 
 /// Makes bank A live, with no entry.
 fn start<W: Disk>(alloc: Global, world: &mut W) -> Result<Opened, StoreRefusal>
-    ensures moments { (stood : Around) → CanFill W.meaning world.old side.A stood nothing 1 → Endures W.meaning world.old world.new stood nothing }
-    ensures opened { (stood : Around) → CanFill W.meaning world.old side.A stood nothing 1 → IfOk result (IsOpened W.meaning stood nothing world.new) }
+    ensures moments { StartsThroughout W.meaning world.old world.new }
+    ensures opened { Starts W.meaning world.old world.new result }
     ensures first { IfOk result (λ opened. (opened.bank ≡ side.A) × (opened.end ≡ 17)) }
     ensures refused { IfErr result IsOutside }
+    ensures rests { IfErr result (RestsUnlessFault W.meaning world.old world.new) }
     ensures end { IfOk result (λ opened. opened.end ≤ 2 ^ 40) }
-    ensures stands { W.meaning.tells world.new → IfOk result (λ opened. opened.end < length (W.meaning.seen world.new opened.bank)) }
+    ensures stands { W.meaning.tells world.new → IfOk result (EndsInside (W.meaning.seen world.new)) }
     ensures cause { HasFaultCause W.meaning world.old world.new result }
     ensures around { W.meaning.tells world.new → W.meaning.around world.new ≡ W.meaning.around world.old }
     ensures told { Told W.meaning world.old world.new }
@@ -220,12 +205,13 @@ fn reopen<W: Disk>(
 ) -> Result<Opened, StoreRefusal>
     requires size { W.meaning.tells world.old → size ≡ length (W.meaning.seen world.old bank) }
     requires small { size ≤ 2 ^ 40 }
-    ensures moments { (stood : Around) (map : Map) → IsCounted W.meaning world.old bank stood map generation → Endures W.meaning world.old world.new stood map }
-    ensures opened { (stood : Around) (map : Map) → IsCounted W.meaning world.old bank stood map generation → IfOk result (IsOpened W.meaning stood map world.new) }
-    ensures over { W.meaning.tells world.new → choice_of (W.meaning.seen world.old) ≡ Choice.Live bank generation → IfOk result (λ after. IsReopened bank generation (W.meaning.seen world.old bank) after.map after.bank after.end) }
+    ensures moments { ReopensThroughout W.meaning world.old world.new bank generation }
+    ensures opened { Reopens W.meaning world.old world.new bank generation result }
+    ensures over { W.meaning.tells world.new → ReopensAs W.meaning world.old bank generation result }
     ensures refused { IfErr result IsOutside }
+    ensures rests { IfErr result (RestsUnlessFault W.meaning world.old world.new) }
     ensures end { IfOk result (λ opened. opened.end ≤ 2 ^ 40) }
-    ensures stands { W.meaning.tells world.new → IfOk result (λ opened. opened.end < length (W.meaning.seen world.new opened.bank)) }
+    ensures stands { W.meaning.tells world.new → IfOk result (EndsInside (W.meaning.seen world.new)) }
     ensures cause { HasFaultCause W.meaning world.old world.new result }
     ensures around { W.meaning.tells world.new → W.meaning.around world.new ≡ W.meaning.around world.old }
     ensures told { Told W.meaning world.old world.new }
@@ -244,10 +230,11 @@ fn reopen<W: Disk>(
 /// Closes the gate at which the entries of a bank ended, where it isn't closed.
 fn mend<W: Disk>(world: &mut W, bank: Bank, gate: EndGate, end: u64) -> Result<(), Fault>
     requires within { W.meaning.tells world.old → end ≤ length (W.meaning.seen world.old bank) }
-    requires inside { W.meaning.tells world.old → gate ≢ EndGate.Missing → end < length (W.meaning.seen world.old bank) }
+    requires gate { W.meaning.tells world.old → gate ≢ EndGate.Missing → end < length (W.meaning.seen world.old bank) }
     requires small { end ≤ 2 ^ 40 }
-    ensures moments { (stood : Around) (map : Map) (generation : ℕ) → IsMendable W.meaning world.old bank gate end stood map generation → Endures W.meaning world.old world.new stood map }
-    ensures mended { (stood : Around) (map : Map) (generation : ℕ) → IsMendable W.meaning world.old bank gate end stood map generation → OnOk result (IsFilled W.meaning world.new bank end stood map generation) }
+    ensures moments { MendsThroughout W.meaning world.old world.new bank gate end }
+    ensures mended { Mends W.meaning world.old world.new bank gate end result }
+    ensures settled { OnOk result (KeepsSettled W.meaning world.old world.new) }
     ensures stands { W.meaning.tells world.new → OnOk result (end < length (W.meaning.seen world.new bank)) }
     ensures around { W.meaning.tells world.new → W.meaning.around world.new ≡ W.meaning.around world.old }
     ensures told { Told W.meaning world.old world.new }
@@ -264,12 +251,13 @@ fn mend<W: Disk>(world: &mut W, bank: Bank, gate: EndGate, end: u64) -> Result<(
 fn compact<W: Disk>(alloc: Global, world: &mut W, opened: Opened) -> Result<Opened, StoreRefusal>
     requires end { opened.end ≤ 2 ^ 40 }
     requires stands { W.meaning.tells world.old → opened.end < length (W.meaning.seen world.old opened.bank) }
-    ensures moments { (stood : Around) (map : Map) → IsOpened W.meaning stood map world.old opened → Endures W.meaning world.old world.new stood map }
-    ensures opened { (stood : Around) (map : Map) → IsOpened W.meaning stood map world.old opened → IfOk result (IsOpened W.meaning stood map world.new) }
+    ensures moments { CompactsThroughout W.meaning world.old world.new opened }
+    ensures opened { Compacts W.meaning world.old world.new opened result }
     ensures over { IsOrdered opened.map → IfOk result (GoesOver opened) }
     ensures refused { IfErr result IsOutside }
+    ensures rests { IfErr result (RestsUnlessFault W.meaning world.old world.new) }
     ensures end { IfOk result (λ opened. opened.end ≤ 2 ^ 40) }
-    ensures stands { W.meaning.tells world.new → IfOk result (λ opened. opened.end < length (W.meaning.seen world.new opened.bank)) }
+    ensures stands { W.meaning.tells world.new → IfOk result (EndsInside (W.meaning.seen world.new)) }
     ensures cause { HasFaultCause W.meaning world.old world.new result }
     ensures around { W.meaning.tells world.new → W.meaning.around world.new ≡ W.meaning.around world.old }
     ensures told { Told W.meaning world.old world.new }
@@ -289,12 +277,13 @@ fn compact<W: Disk>(alloc: Global, world: &mut W, opened: Opened) -> Result<Open
 fn go_over<W: Disk>(world: &mut W, opened: Opened, form: &[u8]) -> Result<Opened, StoreRefusal>
     requires next { opened.generation < 2 ^ 64 - 1 }
     requires small { length form.now ≤ 2 ^ 40 }
-    ensures moments { (stood : Around) (map : Map) → IsOpened W.meaning stood map world.old opened → IsForm (opened.generation + 1) (map_in opened.map) form.now → Endures W.meaning world.old world.new stood map }
-    ensures opened { (stood : Around) (map : Map) → IsOpened W.meaning stood map world.old opened → IsForm (opened.generation + 1) (map_in opened.map) form.now → IfOk result (IsOpened W.meaning stood map world.new) }
-    ensures over { IfOk result (λ after. (after.map ≡ opened.map) × (after.bank ≡ other_bank opened.bank) × (after.end ≡ length form.now)) }
+    ensures moments { GoesOverThroughout W.meaning world.old world.new opened form.now }
+    ensures opened { GoesOverTo W.meaning world.old world.new opened form.now result }
+    ensures over { IfOk result (IsOtherBank opened (length form.now)) }
     ensures refused { IfErr result IsOutside }
+    ensures rests { IfErr result (RestsUnlessFault W.meaning world.old world.new) }
     ensures end { IfOk result (λ opened. opened.end ≤ 2 ^ 40) }
-    ensures stands { W.meaning.tells world.new → IfOk result (λ opened. opened.end < length (W.meaning.seen world.new opened.bank)) }
+    ensures stands { W.meaning.tells world.new → IfOk result (EndsInside (W.meaning.seen world.new)) }
     ensures cause { HasFaultCause W.meaning world.old world.new result }
     ensures around { W.meaning.tells world.new → W.meaning.around world.new ≡ W.meaning.around world.old }
     ensures told { Told W.meaning world.old world.new }

@@ -1,14 +1,15 @@
 //! The store: a map from paths to records, kept through stops.
-ghost use Rattle.std.specs.Prelude.{◌≡◌, ◌≢◌, ◌≤◌, ◌<◌, ◌+◌, ◌^◌, ◌++◌, ◌∷◌, ◌↔◌, [], ℕ, None, Some, length, sum, true, false, option_copied, IsTrue, IfOk, IfErr, OnOk, OnErr};
+ghost use Rattle.std.specs.Prelude.{◌≡◌, ◌≢◌, ◌≤◌, ◌<◌, ◌+◌, ◌^◌, ◌++◌, ◌∷◌, ◌↔◌, [], ℕ, None, Some, length, slice_index, sum, true, false, option_copied, IsTrue, IfOk, IfErr, OnOk, OnErr};
 ghost use Rattle.world_api.specs.Banks.{Banks};
 ghost use Rattle.world_api.specs.Causes.{DiskFails};
 ghost use Rattle.world_api.specs.Meaning.{Told, Throughout};
 ghost use Rattle.deciders.specs.declared.recorded.Rec.{Rec};
-ghost use Rattle.deciders.specs.Spelling.{Spells, spelling};
-ghost use Rattle.sign_store.specs.Ends.{AreSettled, IsLeftOr, image_in};
+ghost use Rattle.deciders.specs.Records.{IsValid};
+ghost use Rattle.deciders.specs.Spelling.{spelling};
+ghost use Rattle.sign_store.specs.Changing.{BeginsThroughout};
+ghost use Rattle.sign_store.specs.Ends.{AreSettled, ReadsAsBefore};
 ghost use Rattle.sign_store.specs.Entries.{entries_len};
-ghost use Rattle.sign_store.specs.Tables.{with_each};
-ghost use Rattle.sign_store.specs.Reached.{HasFaultCause, KeepsSettled, ReadsBanks, Writes};
+ghost use Rattle.sign_store.specs.Reached.{HasFaultCause, KeepsSettled, LeavesBanks, ReadsBanks, Writes};
 ghost use Rattle.sign_store.specs.Readings.{AreReadable, IsRefusal};
 
 use crate::banks::append;
@@ -44,13 +45,14 @@ pub struct Store {
 }
 
 impl Store {
-    ghost use Rattle.sign_store.specs.Putting.{AddKeeps, AddsThroughout, PutsThroughout, StaysKept, WithdrawsThroughout};
-    ghost use Rattle.sign_store.specs.Stores.{Begins, Fits, IsPrepareRefusal, IsStoredIn, IsTicket, IsOut, IsKept, IsFresh, is_live, map_of, map_of_view, HasRoom, TakesRoom, KeepsRooms, KeepsBanks, KeepsTickets, KeepsOut, KeepsOthers, KeepsApart};
+    ghost use Rattle.sign_store.specs.Putting.{AddKeeps, AddTakesRoom, AddsThroughout, PutKeepsApart, PutsRecord, PutsThroughout, StaysKept};
+    ghost use Rattle.sign_store.specs.Putting.{WithdrawKeepsOthers, WithdrawTakesRoom, WithdrawsRecord, WithdrawsThroughout};
+    ghost use Rattle.sign_store.specs.Stores.{Begins, Fits, IsPrepareRefusal, IsStoredIn, IsTicket, IsOut, IsKept, IsFresh, is_live, map_of, map_of_view, HasMapOf, ShowsMapOf, HasRoom, TakesRoom, KeepsRooms, FreesRoom, GetsRoom, IsUntouched, due_for, KeepsBanks, KeepsTickets, KeepsOut, KeepsOthers, KeepsApart};
 
     /// What the banks stand for. Nothing is written.
     #[tactic(auto, using(crate::proofs::DiskLemmas::calls))]
     pub fn read<W: Disk>(alloc: Global, world: &mut W) -> Result<View, StoreRefusal>
-        ensures map { W.meaning.tells world.new → IfOk result (λ view. map_of_view view ≡ image_in (W.meaning.seen world.old)) }
+        ensures map { W.meaning.tells world.new → IfOk result (ShowsMapOf (W.meaning.seen world.old)) }
         ensures readable { W.meaning.tells world.new → IfOk result (λ _. AreReadable (W.meaning.seen world.old)) }
         ensures refused { W.meaning.tells world.new → IfErr result (IsRefusal (W.meaning.seen world.old)) }
         ensures cause { HasFaultCause W.meaning world.old world.new result }
@@ -63,14 +65,17 @@ impl Store {
 
     /// The store of the banks: the same map, over a live bank whose end is whole.
     pub fn begin<W: Disk>(alloc: Global, world: &mut W) -> Result<Store, StoreRefusal>
-        ensures moments { Throughout W.meaning world.old world.new (IsLeftOr W.meaning world.old (image_in (W.meaning.seen world.old))) }
+        ensures moments { BeginsThroughout W.meaning world.old world.new }
+        ensures reads { W.meaning.tells world.new → ReadsAsBefore W.meaning world.old world.new }
+        ensures left { W.meaning.tells world.new → IfErr result (LeavesBanks W.meaning world.old world.new) }
         ensures keeps { IfOk result (IsKept W.meaning world.new) }
-        ensures map { W.meaning.tells world.new → IfOk result (λ store. map_of store ≡ image_in (W.meaning.seen world.old)) }
+        ensures map { W.meaning.tells world.new → IfOk result (HasMapOf (W.meaning.seen world.old)) }
         ensures begun { W.meaning.tells world.new → IfOk result (Begins (W.meaning.seen world.old)) }
         ensures settled { W.meaning.tells world.new → IfOk result (λ _. AreSettled W.meaning world.new) }
         ensures readable { W.meaning.tells world.new → IfOk result (λ _. AreReadable (W.meaning.seen world.old)) }
         ensures refused { W.meaning.tells world.new → IfErr result (IsRefusal (W.meaning.seen world.old)) }
         ensures live { IfOk result (λ store. is_live store ≡ true) }
+        ensures rooms { IfOk result (λ store. store.rooms.items ≡ []) }
         ensures stands { W.meaning.tells world.new → IfOk result (IsStoredIn (W.meaning.seen world.new)) }
         ensures cause { HasFaultCause W.meaning world.old world.new result }
         ensures around { W.meaning.tells world.new → W.meaning.around world.new ≡ W.meaning.around world.old }
@@ -86,6 +91,7 @@ impl Store {
         ensures map { result.map ≡ opened.map }
         ensures bank { result.bank ≡ opened.bank }
         ensures end { result.end ≡ opened.end }
+        ensures rooms { result.rooms.items ≡ [] }
     {
         let Opened {
             map,
@@ -124,7 +130,9 @@ impl Store {
         ensures ticket { IfOk result (IsTicket self.new rec) }
         ensures fits { OnOk result (Fits self.old rec) }
         ensures full { IfErr result (IsPrepareRefusal self.old rec) }
-        ensures out { Spells (spelling rec) rec → IfOk result (IsOut self.new rec) }
+        ensures out { IsValid rec → IfOk result (IsOut self.new rec) }
+        ensures room { IfOk result (GetsRoom self.old self.new (due_for self.old rec)) }
+        ensures same { OnErr result (IsUntouched self.old self.new) }
         ensures tickets { KeepsTickets self.old self.new }
         ensures outs { KeepsOut self.old self.new }
         ensures fresh { IfOk result (IsFresh self.old) }
@@ -187,11 +195,13 @@ impl Store {
     #[tactic(auto, using(crate::proofs::DiskLemmas::calls))]
     pub fn withdraw<W: Disk>(&mut self, world: &mut W, ticket: &Ticket) -> Result<(), Fault>
         requires { W.meaning.tells world.old → IsStoredIn (W.meaning.seen world.old) self.old }
-        ensures map { (rec : Rec) → IsTicket self.old rec ticket.now → OnOk result (map_of self.new ≡ with_each rec.targets None (map_of self.old)) }
+        ensures map { WithdrawsRecord self.old self.new ticket.now result }
+        ensures same { OnErr result (IsUntouched self.old self.new) }
         ensures moments { WithdrawsThroughout W.meaning world.old world.new self.old ticket.now }
         ensures keeps { StaysKept W.meaning world.old world.new self.old self.new ticket.now result }
         ensures out { (rec : Rec) → IsOut self.old rec ticket.now → OnOk result (IsOut self.new rec ticket.now) }
-        ensures outs { (rec : Rec) → IsOut self.old rec ticket.now → OnOk result (KeepsOthers ticket.now self.old self.new) }
+        ensures outs { WithdrawKeepsOthers self.old self.new ticket.now result }
+        ensures rooms { WithdrawTakesRoom self.old self.new ticket.now result }
         ensures tickets { KeepsTickets self.old self.new }
         ensures stands { W.meaning.tells world.new → OnOk result (IsStoredIn (W.meaning.seen world.new) self.new) }
         ensures settled { OnOk result (KeepsSettled W.meaning world.old world.new) }
@@ -215,10 +225,12 @@ impl Store {
     #[tactic(auto, using(crate::proofs::DiskLemmas::calls))]
     pub fn put<W: Disk>(&mut self, world: &mut W, ticket: Ticket) -> Result<(), Fault>
         requires { W.meaning.tells world.old → IsStoredIn (W.meaning.seen world.old) self.old }
-        ensures map { (rec : Rec) → IsTicket self.old rec ticket → OnOk result (map_of self.new ≡ with_each rec.targets (Some rec) (map_of self.old)) }
+        ensures map { PutsRecord self.old self.new ticket result }
+        ensures same { OnErr result (IsUntouched self.old self.new) }
+        ensures freed { OnOk result (FreesRoom ticket.room self.old self.new) }
         ensures moments { PutsThroughout W.meaning world.old world.new self.old ticket }
         ensures keeps { StaysKept W.meaning world.old world.new self.old self.new ticket result }
-        ensures outs { (rec : Rec) → IsOut self.old rec ticket → OnOk result (KeepsApart ticket rec.targets self.old self.new) }
+        ensures outs { PutKeepsApart self.old self.new ticket result }
         ensures tickets { KeepsTickets self.old self.new }
         ensures stands { W.meaning.tells world.new → OnOk result (IsStoredIn (W.meaning.seen world.new) self.new) }
         ensures settled { OnOk result (KeepsSettled W.meaning world.old world.new) }
@@ -241,6 +253,7 @@ impl Store {
         ensures map { map_of self.new ≡ map_of self.old }
         ensures tickets { KeepsTickets self.old self.new }
         ensures outs { KeepsOthers ticket self.old self.new }
+        ensures freed { FreesRoom ticket.room self.old self.new }
         ensures live { is_live self.new ≡ is_live self.old }
         ensures banks { KeepsBanks self.old self.new }
     {
@@ -251,6 +264,7 @@ impl Store {
     fn free(&mut self, room: usize)
         ensures map { self.new.map ≡ self.old.map }
         ensures rooms { KeepsRooms room self.old self.new }
+        ensures none { slice_index self.new.rooms.items room ≡ 0 }
         ensures live { is_live self.new ≡ is_live self.old }
         ensures banks { KeepsBanks self.old self.new }
     {
@@ -260,15 +274,17 @@ impl Store {
         }
     }
 
-    /// Adds an entry of a ticket, in the room that is kept for it. One without room is no ticket's of this store, and is
-    /// left out.
+    /// Adds an entry of a ticket, in the room that is kept for it. One without room is no ticket's of this store, and
+    /// is left out.
     #[tactic(auto, using(crate::proofs::DiskLemmas::calls))]
     fn append<W: Disk>(&mut self, world: &mut W, room: usize, entry: &[u8]) -> Result<(), Fault>
         requires { W.meaning.tells world.old → IsStoredIn (W.meaning.seen world.old) self.old }
         ensures map { self.new.map ≡ self.old.map }
         ensures moments { AddsThroughout W.meaning world.old world.new self.old room entry.now }
         ensures keeps { AddKeeps W.meaning world.old world.new self.old self.new room entry.now result }
-        ensures rooms { HasRoom self.old room (length entry.now) → OnOk result (TakesRoom room (length entry.now) self.old self.new) }
+        ensures rooms { AddTakesRoom self.old self.new room (length entry.now) result }
+        ensures others { KeepsRooms room self.old self.new }
+        ensures same { OnErr result (IsUntouched self.old self.new) }
         ensures stands { W.meaning.tells world.new → OnOk result (IsStoredIn (W.meaning.seen world.new) self.new) }
         ensures settled { OnOk result (KeepsSettled W.meaning world.old world.new) }
         ensures live { OnOk result (is_live self.new ≡ is_live self.old) }

@@ -1,6 +1,6 @@
 //! The entries of a record, made beforehand.
 ghost use Rattle.std.specs.Prelude.{◌≡◌, ◌≤◌, ◌<◌, ◌^◌, ◌+◌, ◌++◌, ◌∷◌, [], length, IfOk, OnOk};
-ghost use Rattle.deciders.specs.Spelling.{sized, listed, spelling};
+ghost use Rattle.deciders.specs.Spelling.{sized, listed, spelling, IsSpellable};
 ghost use Rattle.sign_store.specs.Entries.{entry_of, put_payload, withdraw_payload};
 
 use deciders::{Rec, paths_len, push_paths, push_record, spelled_len};
@@ -20,10 +20,11 @@ pub struct Ticket {
     pub(crate) withdrawal: Vec<u8>,
 }
 
-/// The entry that puts a record, without its gate and with the next one.
+/// The entry that puts a record, without its gate and with the next one. Each part of the record has a spelling.
 pub(crate) fn put_entry(alloc: Global, rec: &Rec) -> Result<Vec<u8>, Memory>
     requires { length (spelling rec.now) ≤ 4294967294 }
-    ensures { IfOk result (λ entry. entry.items ≡ entry_of (put_payload rec.now) ++ 0 ∷ []) }
+    ensures entry { IfOk result (λ entry. entry.items ≡ entry_of (put_payload rec.now) ++ 0 ∷ []) }
+    ensures parts { OnOk result (IsSpellable rec.now) }
 {
     let mut entry = Vec::new(alloc);
     push_put(&mut entry, rec)?;
@@ -45,7 +46,8 @@ pub(crate) fn withdraw_entry(alloc: Global, paths: &[PathText]) -> Result<Vec<u8
 /// Adds what stands between the gates of a put: its length and its payload.
 pub(crate) fn push_put(out: &mut Vec<u8>, rec: &Rec) -> Result<(), Memory>
     requires { length (spelling rec.now) ≤ 4294967294 }
-    ensures { OnOk result (out.new.items ≡ out.old.items ++ entry_of (put_payload rec.now)) }
+    ensures spelt { OnOk result (out.new.items ≡ out.old.items ++ entry_of (put_payload rec.now)) }
+    ensures parts { OnOk result (IsSpellable rec.now) }
 {
     let len = spelled_len(rec) as u32 + 1;
     out.extend_from_slice(&len.to_be_bytes())?;

@@ -81,6 +81,22 @@ told_at rows running out out' place ending made step back own is_made d =
     let is : slice_index_or running place d ≡ run_of entry = ap (λ (runs : List Running). slice_index_or runs place d) step.same ∙ run_at out place entry d back.own in
     subst (λ (run : Running). IsTold rows run ending.outcome made) (sym is) (told rows back.number ending made (step.whole entry (there out place entry back.own)) own is_made)
 
+-- which job it is
+pub run_back : (rows : List ActRow) (running : List Running) (out out' : List Out) (place : ℕ) (ending : Ending) → InStep rows running out → (back : ReturnsAt place ending out out')
+    → (d : Running) → slice_index_or running place d ≡ run_of (back.number, arc_value ending.slip)
+run_back rows running out out' place ending step back d =
+    ap (λ (runs : List Running). slice_index_or runs place d) step.same ∙ run_at out place (back.number, arc_value ending.slip) d back.own
+
+-- it ends as the table says, or for want of memory
+pub outcome_back : (rows : List ActRow) (running : List Running) (out out' : List Out) (place : ℕ) (ending : Ending) → InStep rows running out → (back : ReturnsAt place ending out out')
+    → IsAnswer comes_to ending → ending.outcome ≢ NoMemory
+    → ending.outcome ≡ ends rows (run_of (back.number, arc_value ending.slip)).job (run_of (back.number, arc_value ending.slip)).given
+outcome_back rows running out out' place ending step back own had =
+    let slip = arc_value ending.slip in
+    let entry : Out = (back.number, slip) in
+    let whole = step.whole entry (there out place entry back.own) in
+    ap (λ (a : Answer). a.outcome) (own (answer_by rows slip.job (paired slip.job.deps (listed slip.given))) (came rows slip whole) had)
+
 pub step_back : (rows : List ActRow) (running running' : List Running) (out out' : List Out) (place : ℕ) (ending : Ending) → InStep rows running out → ReturnsAt place ending out out'
     → running' ≡ remove running place → InStep rows running' out'
 step_back rows running running' out out' place ending step back rest = record {

@@ -10,6 +10,7 @@ use Rattle.world_api.specs.declared.job.Job.{Job}
 use Rattle.world_mem.specs.Told.{contents_of, paired}
 use Rattle.world_mem.specs.declared.table.ActRow.{ActRow}
 use Rattle.world_mem.proofs.Membership.{push_all}
+use Rattle.thread_world.specs.Handed.{IsSlipFor}
 use Rattle.thread_world.specs.Step.{InStep, IsWhole, listed, run_of}
 
 abbrev in_front : Tree → List ℕ → Given → Given
@@ -18,12 +19,6 @@ in_front tree dep rest = (dep, tree dep) ∷ rest
 paired_own : (tree : Tree) (deps : List (List ℕ)) → paired deps (contents_of (given_of tree deps)) ≡ given_of tree deps
 paired_own tree [] = refl
 paired_own tree (dep ∷ deps) = ap (in_front tree dep) (paired_own tree deps)
-
--- what a slip goes with
-pub record IsSlipFor (rows : List ActRow) (tree : Tree) (of_job : Job) (slip : Slip) : Type 0 where
-  pub job : slip.job ≡ of_job
-  pub given : slip.given ≡ Some (contents_of (given_of tree of_job.deps))
-  pub table : slip.table ≡ Some rows
 
 as_run : (rows : List ActRow) (tree : Tree) (job : Job) (number : ℕ) (slip : Slip) → IsSlipFor rows tree job slip → run_of (number, slip) ≡ record { job = job; given = given_of tree job.deps }
 as_run rows tree job number slip is =

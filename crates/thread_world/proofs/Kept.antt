@@ -4,12 +4,15 @@ use Rattle.job_runner.specs.declared.slip.Slip.{Slip}
 use Rattle.std.specs.Prelude.{Contains, Result, Ok, Err, OnOk, OnErr}
 use Rattle.world_api.specs.Around.{Around, Running}
 use Rattle.world_api.specs.Calls.{Asks, MakesDir}
+use Rattle.world_api.specs.Counts.{Counts}
 use Rattle.world_mem.specs.AsAround.{around_of}
 use Rattle.world_mem.specs.CallCounts.{counted, burned}
+use Rattle.world_mem.specs.EachCall.{Keeps, TreeCall}
 use Rattle.world_mem.specs.declared.calls.Call.{Call}
 use Rattle.world_mem.specs.declared.calls.Calls.{Calls}
 use Rattle.world_mem.specs.declared.state.State.{State}
 use Rattle.world_mem.specs.declared.table.ActRow.{ActRow}
+use Rattle.world_mem.specs.declared.world.MemWorld.{MemWorld}
 use Rattle.thread_world.specs.Step.{InStep, IsSpared, run_of}
 
 pub step_same : (rows rows' : List ActRow) (running running' : List Running) (out : List (ℕ × Slip)) → rows' ≡ rows → running' ≡ running → InStep rows running out → InStep rows' running' out
@@ -37,3 +40,6 @@ step_none rows running out idle empty = record {
   same = idle ∙ ap (map run_of) (sym empty);
   whole = λ entry here. absurd (let lt = (subst (λ (slips : List (ℕ × Slip)). Contains slips entry) empty here).1 in omega (arith, lt));
 }
+
+pub keeps_of : (call : Call) (fault : Counts → Counts) (refused : Type 0) (old new : MemWorld) → TreeCall call fault refused old new → Keeps old new
+keeps_of call fault refused old new each = record { banks = each.banks; table = each.table; orders = each.orders }

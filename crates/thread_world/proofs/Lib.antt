@@ -4,3 +4,4 @@ pub mod Comes
 pub mod Entered
 pub mod Started
 pub mod Told
+pub mod Spared

@@ -1,17 +1,17 @@
--- What a world means that has a world in memory inside: what that one means.
+-- What a world on threads means: what the world in memory inside it means.
 use Rattle.world_api.specs.Meaning.{Meaning}
 use Rattle.world_mem.specs.Means.{world_meaning}
-use Rattle.world_mem.specs.declared.world.MemWorld.{MemWorld}
+use Rattle.thread_world.specs.declared.world.ThreadWorld.{ThreadWorld}
 
-abbrev pub over : {W : Type 0} → (W → MemWorld) → Meaning W
-over inside = record {
-  tells = λ w. world_meaning.tells (inside w);
-  sure = λ w. world_meaning.sure (inside w);
-  seen = λ w. world_meaning.seen (inside w);
-  image = λ w. world_meaning.image (inside w);
-  around = λ w. world_meaning.around (inside w);
-  clock = λ w. world_meaning.clock (inside w);
-  left_since = λ w. world_meaning.left_since (inside w);
-  closed = λ w. world_meaning.closed (inside w);
-  counts = λ w. world_meaning.counts (inside w);
+abbrev pub thread_meaning : {T G : Type 0} → Meaning (ThreadWorld T G)
+thread_meaning = record {
+  tells = λ w. world_meaning.tells w.world;
+  sure = λ w. world_meaning.sure w.world;
+  seen = λ w. world_meaning.seen w.world;
+  image = λ w. world_meaning.image w.world;
+  around = λ w. world_meaning.around w.world;
+  clock = λ w. world_meaning.clock w.world;
+  left_since = λ w. world_meaning.left_since w.world;
+  closed = λ w. world_meaning.closed w.world;
+  counts = λ w. world_meaning.counts w.world;
 }

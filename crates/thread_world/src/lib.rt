@@ -6,6 +6,7 @@
 #![tactic(auto)]
 
 mod disk;
+mod handing;
 mod runner;
 mod tree;
 mod world;

@@ -1,6 +1,6 @@
 //! The world on threads, and its calls that are no calls of a world.
-ghost use Rattle.std.specs.Prelude.{◌≡◌, map};
-ghost use Rattle.job_runner.specs.Slips.{slip_of};
+ghost use Rattle.std.specs.Prelude.{◌≡◌};
+ghost use Rattle.job_runner.specs.Outs.{out_of};
 ghost use Rattle.world_mem.specs.AsAround.{around_of};
 ghost use Rattle.thread_world.specs.Step.{InStep, IsSpared};
 
@@ -22,7 +22,7 @@ pub struct ThreadWorld<T, G> {
     pub(crate) table: SharedTable,
     pub(crate) alloc: Global,
     ghost shared: { table ≡ world.state.table },
-    ghost step: { InStep world.state.table (around_of world.state).running (map slip_of pool.out.items) },
+    ghost step: { InStep world.state.table (around_of world.state).running (out_of pool.out) },
     ghost spared: { IsSpared world.calls },
 }
 
@@ -31,6 +31,11 @@ where
     T: Threads + Wait + Clone + Send + Sync + Drop + 'static,
     G: Gate + Send + Sync + Drop + 'static,
 {
+    ghost use Rattle.std.specs.Prelude.{[], ℕ, IfOk, IfErr, OnOk};
+    ghost use Rattle.world_mem.specs.Blocked.{IsRefused, IsFirstRefused};
+    ghost use Rattle.world_mem.specs.declared.refusal.NewRefusal.{NewRefusal};
+    ghost use Rattle.thread_world.specs.New.{IsNew};
+
     /// A world with these files in which nothing has run, and no worker yet.
     pub fn new(
         alloc: Global,
@@ -38,7 +43,12 @@ where
         files: Vec<(PathText, Blob)>,
         table: ActTable,
         gate: G,
-    ) -> Result<ThreadWorld<T, G>, NewRefusal> {
+    ) -> Result<ThreadWorld<T, G>, NewRefusal>
+        ensures fresh { IfOk result (λ made. IsNew files.items table made.world) }
+        ensures out { IfOk result (λ made. out_of made.pool.out ≡ []) }
+        ensures stand { OnOk result ((place : ℕ) → IsRefused files.items place → ⊥) }
+        ensures place { IfErr result (λ refusal. (place : ℕ) → refusal ≡ NewRefusal.Place place → IsFirstRefused files.items place) }
+    {
         let shared = SharedTable::new(alloc, table.copy()?)?;
         let world = MemWorld::new(alloc, files, table, Vec::new(alloc), Vec::new(alloc))?;
         let pool = Pool::new(alloc, rt, TableRunner { alloc }, gate)?;
@@ -52,33 +62,71 @@ where
 }
 
 impl<T, G> ThreadWorld<T, G> {
+    ghost use Rattle.std.specs.Prelude.{◌↔◌, ◌⊎◌, [], not, Err, IfOk, OnOk, OnErr, IsTrue};
+    ghost use Rattle.mem_banks.specs.AsStore.{store_of};
+    ghost use Rattle.mem_banks.specs.Past.{is_dirty};
+    ghost use Rattle.world_api.specs.Around.{IsRunningTarget, started_of};
+    ghost use Rattle.world_api.specs.Meaning.{IsSettled};
+    ghost use Rattle.world_mem.specs.Blocked.{IsBarred};
+    ghost use Rattle.world_mem.specs.ByHand.{Edits, Loses};
+    ghost use Rattle.world_mem.specs.Files.{AreFiles};
+    ghost use Rattle.world_mem.specs.Means.{world_meaning};
+    ghost use Rattle.world_mem.specs.Stamps.{Stamps};
+    ghost use Rattle.world_mem.specs.Stays.{Stays, IsAnew};
+    ghost use Rattle.thread_world.specs.New.{ByHand};
+
     /// The bytes of a bank. This is no call of a disk.
-    pub fn bank(&self, bank: Bank) -> &[u8] {
+    pub fn bank(&self, bank: Bank) -> &[u8]
+        ensures { result.now ≡ world_meaning.seen self.now.world bank }
+    {
         self.world.bank(bank)
     }
 
     /// Whether a stop leaves the bank as it reads. This is no call of a disk.
-    pub fn synced(&self, bank: Bank) -> bool {
+    pub fn synced(&self, bank: Bank) -> bool
+        ensures settled { IsTrue result ↔ IsSettled world_meaning self.now.world bank }
+        ensures exactly { result ≡ not (is_dirty bank (store_of self.now.world.banks).changes) }
+    {
         self.world.synced(bank)
     }
 
     /// The jobs that started, in order.
-    pub fn jobs(&self) -> &[Job] {
+    pub fn jobs(&self) -> &[Job]
+        ensures { result.now ≡ started_of (around_of self.now.world.state).log }
+    {
         self.world.jobs()
     }
 
     /// The files of the tree.
-    pub fn files(&self) -> Result<Files, Memory> {
+    pub fn files(&self) -> Result<Files, Memory>
+        ensures { IfOk result (AreFiles (around_of self.now.world.state).tree) }
+    {
         self.world.files()
     }
 
-    /// Sets the bytes of a file, and lets the directories above it stand.
-    pub fn edit(&mut self, path: &PathText, bytes: &[u8]) -> Result<(), EditRefusal> {
+    /// Sets the bytes of a file, and lets the directories above it stand. The record of moments begins anew.
+    pub fn edit(&mut self, path: &PathText, bytes: &[u8]) -> Result<(), EditRefusal>
+        ensures edited { OnOk result (Edits path.now bytes.now (around_of self.old.world.state) (around_of self.new.world.state)) }
+        ensures same { OnErr result (Stays self.old.world self.new.world) }
+        ensures place { result ≡ Err EditRefusal.Place ↔ (IsRunningTarget (around_of self.old.world.state).running path.now ⊎ IsBarred (around_of self.old.world.state) path.now) }
+        ensures anew { OnOk result (IsAnew self.new.world) }
+        ensures stamps { OnOk result (Stamps (λ other. other ≡ path.now) self.old.world.state self.new.world.state) }
+        ensures idle { (around_of self.old.world.state).running ≡ [] → (around_of self.new.world.state).running ≡ [] }
+        ensures keeps { ByHand self.old.world self.new.world }
+        ensures pool { self.new.pool ≡ self.old.pool }
+    {
         self.world.edit(path, bytes)
     }
 
-    /// Removes a file.
-    pub fn remove_file(&mut self, path: &PathText) {
+    /// Removes a file. The record of moments begins anew.
+    pub fn remove_file(&mut self, path: &PathText)
+        ensures lost { Loses path.now (around_of self.old.world.state) (around_of self.new.world.state) }
+        ensures anew { IsAnew self.new.world }
+        ensures stamp { self.new.world.state.stamp ≡ self.old.world.state.stamp }
+        ensures idle { (around_of self.old.world.state).running ≡ [] → (around_of self.new.world.state).running ≡ [] }
+        ensures keeps { ByHand self.old.world self.new.world }
+        ensures pool { self.new.pool ≡ self.old.pool }
+    {
         self.world.remove_file(path);
     }
 }

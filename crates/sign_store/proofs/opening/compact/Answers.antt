@@ -2,9 +2,10 @@ use Rattle.std.proofs.Common.{◌≡◌, List, ℕ, true, false, length, refl, s
 use Rattle.sign_store.specs.Compacts.{compact_bytes}
 use Rattle.sign_store.specs.Forms.{IsForm}
 use Rattle.sign_store.specs.Maps.{map_in}
+use Rattle.sign_store.proofs.DiskLemmas.{settled_same}
 use Rattle.sign_store.proofs.StepLemmas.{endures_same}
 use Rattle.sign_store.proofs.CompactLemmas.{compact_is}
-use Rattle.sign_store.proofs.OpenLemmas.{gone_over}
+use Rattle.sign_store.proofs.OpenLemmas.{gone_over, rests_kept}
 use Rattle.sign_store.proofs.opening.compact.Goals as goal
 
 pub returns-then-not-can_be_worth-clause-over : goal.returns-then-not-can_be_worth-clause-over
@@ -46,3 +47,6 @@ returns-clause-over g c = λ ordered.
     gone_over c.args.opened c.as_slice.result.now c.go_over.result
     ((c.can_be_worth.ensures.0 c.if-not-can_be_worth.false).0, omega (arith, c.is_worth.ensures.0 c.if-not-is_worth.false, ap length (c.in_ok-form.ensures ordered), c.len.ensures))
     (c.as_slice.ensures.value ∙ c.in_ok-form.ensures ordered) c.go_over.ensures.over
+
+pub returns-in_err-form-clause-rests : goal.returns-in_err-form-clause-rests
+returns-in_err-form-clause-rests g c = rests_kept g.W.Disk.meaning c.args.world.now c.args.world.now c.from_residual.result (settled_same g.W.Disk.meaning c.args.world.now)

@@ -1,4 +1,5 @@
-use Rattle.sign_store.proofs.DiskLemmas.{both_ok}
+use Rattle.sign_store.proofs.DiskLemmas.{both_ok, settled_same}
+use Rattle.sign_store.proofs.FillLemmas.{settled_on}
 use Rattle.sign_store.proofs.StepLemmas.{endures_same, endures_run, mend_moments}
 use Rattle.sign_store.proofs.BeginLemmas.{closed_stands}
 use Rattle.sign_store.proofs.OpenLemmas.{mended, closed_mended}
@@ -19,3 +20,12 @@ pub returns-in_default-clause-mended : goal.returns-in_default-clause-mended
 returns-in_default-clause-mended g c = λ stood map generation can.
     both_ok c.write_synced.result c.write_synced.ensures.written c.write_synced.ensures.settled (λ written settled.
     mended g.W.Disk.meaning c.args.world.now c.write_synced.new.world c.args.bank c.args.gate c.args.end stood map generation c.in_default.not-Closed c.write_synced.ensures.writes settled written can)
+
+pub returns-in-Closed-clause-settled : goal.returns-in-Closed-clause-settled
+returns-in-Closed-clause-settled g c = settled_same g.W.Disk.meaning c.args.world.now
+
+pub returns-in_default-clause-settled : goal.returns-in_default-clause-settled
+returns-in_default-clause-settled g c =
+    both_ok c.write_synced.result c.write_synced.ensures.settled c.write_synced.ensures.settled (λ settled _. record {
+      on = λ told rest. settled_on g.W.Disk.meaning c.args.world.now c.write_synced.new.world c.args.bank rest (settled told) (c.write_synced.ensures.writes.other told);
+    })

@@ -1,7 +1,7 @@
 use Rattle.std.proofs.Common.{arith}
 use Rattle.sign_store.specs.Maps.{map_in}
 use Rattle.sign_store.proofs.StepLemmas.{endures_then}
-use Rattle.sign_store.proofs.OpenLemmas.{can_mend, read_same, reopened, counted_long, seen_read}
+use Rattle.sign_store.proofs.OpenLemmas.{can_mend, read_same, reopened, counted_long, settled_read, settled_then, rests_kept, rests_then}
 use Rattle.sign_store.proofs.opening.reopen.Goals as goal
 
 pub returns-in_err-read-clause-moments : goal.returns-in_err-read-clause-moments
@@ -58,3 +58,14 @@ returns-clause-over g c = λ told counts.
     (c.read_bank.ensures.looks.banks told1 c.args.bank).same
     (c.in_ok-read.ensures.written told1 (omega (arith, long, c.requires.size told0)))
     (c.compact.ensures.over c.in_ok-read.ensures.ordered)
+
+pub returns-in_err-read-clause-rests : goal.returns-in_err-read-clause-rests
+returns-in_err-read-clause-rests g c =
+    rests_kept g.W.Disk.meaning c.args.world.now c.read_bank.new.world c.from_residual.result (settled_read g.W.Disk.meaning c.args.world.now c.read_bank.new.world c.read_bank.ensures.looks)
+
+pub returns-clause-rests : goal.returns-clause-rests
+returns-clause-rests g c =
+    let m = g.W.Disk.meaning in
+    rests_then m c.args.world.now c.mend.new.world c.compact.new.world c.compact.result c.compact.ensures.told.told
+    (settled_then m c.args.world.now c.read_bank.new.world c.mend.new.world c.mend.ensures.told.told (settled_read m c.args.world.now c.read_bank.new.world c.read_bank.ensures.looks) c.in_ok-mend.ensures.settled)
+    c.compact.ensures.rests

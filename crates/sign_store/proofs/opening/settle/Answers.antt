@@ -1,4 +1,5 @@
 use Rattle.std.proofs.Common.{◌∙◌}
+use Rattle.world_api.proofs.Looking.{bank_joined}
 use Rattle.sign_store.proofs.DiskLemmas.{both_ok}
 use Rattle.sign_store.proofs.WriteLemmas.{sync_moments}
 use Rattle.sign_store.specs.Beginnings.{IsAsBefore}
@@ -22,5 +23,5 @@ returns-clause-rest g c = both_ok c.sync-2.result c.sync-2.ensures.durable c.syn
       settled = λ told. both_settled g.W.Disk.meaning c.sync.new.self c.sync-2.new.self (c.in_ok-sync.ensures.durable (c.sync-2.ensures.told.told told)) (c.sync-2.ensures.banks told A) (second told);
     })
 
-pub returns-clause-seen : goal.returns-clause-seen
-returns-clause-seen g c = λ told each. (c.sync-2.ensures.banks told each).same ∙ (c.sync.ensures.banks (c.sync-2.ensures.told.told told) each).same
+pub returns-clause-banks : goal.returns-clause-banks
+returns-clause-banks g c = λ told bank. bank_joined g.W.Disk.meaning bank c.args.world.now c.sync.new.self c.sync-2.new.self (c.sync.ensures.banks (c.sync-2.ensures.told.told told) bank) (c.sync-2.ensures.banks told bank)

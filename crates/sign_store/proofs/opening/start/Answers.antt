@@ -3,6 +3,8 @@ use Rattle.world_api.specs.declared.disk.Bank.TheVariants.{A}
 use Rattle.sign_store.specs.Ends.{StandsAt}
 use Rattle.sign_store.specs.Forms.{IsForm}
 use Rattle.sign_store.specs.Tables.{nothing}
+use Rattle.sign_store.proofs.DiskLemmas.{settled_same}
+use Rattle.sign_store.proofs.OpenLemmas.{rests_kept}
 use Rattle.sign_store.proofs.StepLemmas.{endures_same}
 use Rattle.sign_store.proofs.opening.start.Goals as goal
 
@@ -26,3 +28,6 @@ returns-clause-opened g c = λ stood can.
       held = λ told. c.new.ensures.map;
       ordered = c.new.ensures.ordered;
     }
+
+pub returns-in_err-form-clause-rests : goal.returns-in_err-form-clause-rests
+returns-in_err-form-clause-rests g c = rests_kept g.W.Disk.meaning c.args.world.now c.args.world.now c.from_residual.result (settled_same g.W.Disk.meaning c.args.world.now)

@@ -15,3 +15,6 @@ returns-clause-outs c = record {
       })
       (ap map_in c.free.ensures.map) (omega (arith, c.free.ensures.rooms.rooms)) (c.free.ensures.rooms.others ticket.room differs);
 }
+
+pub returns-clause-freed : goal.returns-clause-freed
+returns-clause-freed c = record { rooms = c.free.ensures.rooms; none = c.free.ensures.none }

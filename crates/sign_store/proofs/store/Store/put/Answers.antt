@@ -63,3 +63,12 @@ returns-clause-tickets g c = record {
     withdrawal = is.withdrawal;
   };
 }
+
+pub returns-clause-freed : goal.returns-clause-freed
+returns-clause-freed g c = record {
+  rooms = record {
+    rooms = c.free.ensures.rooms.rooms ∙ c.append.ensures.others.rooms;
+    others = λ other differs. c.free.ensures.rooms.others other differs ∙ c.append.ensures.others.others other differs;
+  };
+  none = c.free.ensures.none;
+}

@@ -1,13 +1,13 @@
-use Rattle.std.proofs.Common.{◌≡◌, ◌+◌, ℕ, List, slice_index, length, None, refl, sym, ap, subst, ◌∙◌, inl}
+use Rattle.std.proofs.Common.{◌≡◌, ◌+◌, ℕ, List, slice_index, length, None, refl, sym, ap, subst, ◌∙◌, inl, arith}
 use Rattle.world_api.proofs.Moments.{begins}
 use Rattle.sign_store.specs.declared.map.RecordMap.{RecordMap}
 use Rattle.sign_store.specs.declared.entries.Change.TheVariants.{Withdraw}
 use Rattle.sign_store.specs.Ends.{IsEither, IsEntry, KeepsAt}
 use Rattle.sign_store.specs.Maps.{map_in, HasRecord}
 use Rattle.sign_store.specs.Stores.{HasRoom}
-use Rattle.sign_store.specs.Tables.{Map, with_each}
+use Rattle.sign_store.specs.Tables.{Map, has_any, with_each}
 use Rattle.sign_store.proofs.TableLemmas.{none_among}
-use Rattle.sign_store.proofs.TicketLemmas.{withdrawal_says, withdrawal_has_room, out_still, out_withdrawn, less_withdrawn}
+use Rattle.sign_store.proofs.TicketLemmas.{withdrawal_says, withdrawal_has_room, out_still, out_withdrawn, less_withdrawn, nothing_taken, no_withdrawal, whole_withdrawal}
 use Rattle.sign_store.proofs.store.Store.withdraw.Goals as goal
 
 pub returns-then-not-has_any-clause-map : goal.returns-then-not-has_any-clause-map
@@ -86,3 +86,19 @@ returns-clause-tickets g c = record {
     withdrawal = is.withdrawal;
   };
 }
+
+pub returns-then-not-has_any-clause-rooms : goal.returns-then-not-has_any-clause-rooms
+returns-then-not-has_any-clause-rooms g c = λ rec out.
+    nothing_taken c.args.self.now c.args.ticket.now.room _
+    (no_withdrawal (has_any (map_in c.args.self.now.map) rec.targets) (length c.args.ticket.now.withdrawal.items) (sym (c.has_any.ensures rec out.own.held) ∙ c.if-not-has_any.true))
+
+pub returns-clause-rooms : goal.returns-clause-rooms
+returns-clause-rooms g c = λ rec out.
+    let bytes = c.as_slice.ensures.value in
+    let some = sym (c.has_any.ensures rec out.own.held) ∙ c.if-not-has_any.false in
+    let takes = c.in_ok-append.ensures.rooms (subst (λ (x : List ℕ). HasRoom c.args.self.now c.args.ticket.now.room (length x)) (sym bytes) (withdrawal_has_room c.args.self.now rec c.args.ticket.now out some)) in
+    record {
+      rooms = takes.rooms;
+      here = omega (arith, takes.here, ap length bytes, whole_withdrawal (has_any (map_in c.args.self.now.map) rec.targets) (length c.args.ticket.now.withdrawal.items) some);
+      others = takes.others;
+    }

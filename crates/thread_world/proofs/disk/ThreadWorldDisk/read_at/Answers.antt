@@ -1,6 +1,7 @@
 use Rattle.std.proofs.Common.{refl}
 use Rattle.world_mem.specs.declared.calls.Call.TheVariants.{ReadAt}
 use Rattle.thread_world.proofs.Kept.{step_state, spared_counted}
+use Rattle.thread_world.proofs.Spared.{no_failure, well}
 use Rattle.thread_world.proofs.disk.ThreadWorldDisk.read_at.Goals as goal
 
 pub invariant_of-self-clause-step : goal.invariant_of-self-clause-step
@@ -20,3 +21,6 @@ returns-clause-recalls g c = record { later = c.read_at.ensures.recalls.later; k
 
 pub returns-clause-time : goal.returns-clause-time
 returns-clause-time g c = record { told = c.read_at.ensures.time.told; each = c.read_at.ensures.time.each; before = c.read_at.ensures.time.before; now = c.read_at.ensures.time.now }
+
+pub returns-clause-never : goal.returns-clause-never
+returns-clause-never g c = well c.read_at.result _ (no_failure ReadAt _ c.args.self.now.spared) c.read_at.ensures.exactly

@@ -1,6 +1,7 @@
 use Rattle.std.proofs.Common.{refl}
 use Rattle.world_mem.specs.declared.calls.Call.TheVariants.{Size}
 use Rattle.thread_world.proofs.Kept.{step_state, spared_counted}
+use Rattle.thread_world.proofs.Spared.{no_failure, well}
 use Rattle.thread_world.proofs.disk.ThreadWorldDisk.size.Goals as goal
 
 pub invariant_of-self-clause-step : goal.invariant_of-self-clause-step
@@ -20,3 +21,6 @@ returns-clause-recalls g c = record { later = c.size.ensures.recalls.later; keep
 
 pub returns-clause-time : goal.returns-clause-time
 returns-clause-time g c = record { told = c.size.ensures.time.told; each = c.size.ensures.time.each; before = c.size.ensures.time.before; now = c.size.ensures.time.now }
+
+pub returns-clause-never : goal.returns-clause-never
+returns-clause-never g c = well c.size.result _ (no_failure Size _ c.args.self.now.spared) c.size.ensures.exactly

@@ -1,6 +1,7 @@
 use Rattle.std.proofs.Common.{refl}
 use Rattle.world_mem.specs.declared.calls.Call.TheVariants.{WriteAt}
 use Rattle.thread_world.proofs.Kept.{step_state, spared_counted}
+use Rattle.thread_world.proofs.Spared.{no_failure, other_cause}
 use Rattle.thread_world.proofs.disk.ThreadWorldDisk.write_at.Goals as goal
 
 pub invariant_of-self-clause-step : goal.invariant_of-self-clause-step
@@ -20,3 +21,6 @@ returns-clause-recalls g c = record { later = c.write_at.ensures.recalls.later; 
 
 pub returns-clause-time : goal.returns-clause-time
 returns-clause-time g c = record { told = c.write_at.ensures.time.told; each = c.write_at.ensures.time.each; before = c.write_at.ensures.time.before; now = c.write_at.ensures.time.now }
+
+pub returns-clause-exactly : goal.returns-clause-exactly
+returns-clause-exactly g c = other_cause _ _ _ (no_failure WriteAt _ c.args.self.now.spared) c.write_at.ensures.exactly

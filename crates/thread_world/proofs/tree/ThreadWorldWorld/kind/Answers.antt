@@ -1,6 +1,7 @@
 use Rattle.std.proofs.Common.{refl}
 use Rattle.world_mem.specs.declared.calls.Call.TheVariants.{Kind}
 use Rattle.thread_world.proofs.Kept.{step_same, spared_counted}
+use Rattle.thread_world.proofs.Spared.{no_failure, well}
 use Rattle.thread_world.proofs.tree.ThreadWorldWorld.kind.Goals as goal
 
 pub invariant_of-self-clause-step : goal.invariant_of-self-clause-step
@@ -20,3 +21,6 @@ returns-clause-recalls g c = record { later = c.kind.ensures.recalls.later; keep
 
 pub returns-clause-time : goal.returns-clause-time
 returns-clause-time g c = record { told = c.kind.ensures.time.told; each = c.kind.ensures.time.each; before = c.kind.ensures.time.before; now = c.kind.ensures.time.now }
+
+pub returns-clause-never : goal.returns-clause-never
+returns-clause-never g c = well c.kind.result _ (no_failure Kind _ c.args.self.now.spared) c.kind.ensures.exactly

@@ -1,6 +1,7 @@
 use Rattle.std.proofs.Common.{refl}
 use Rattle.world_mem.specs.declared.calls.Call.TheVariants.{List}
 use Rattle.thread_world.proofs.Kept.{step_same, spared_counted}
+use Rattle.thread_world.proofs.Spared.{no_failure}
 use Rattle.thread_world.proofs.tree.ThreadWorldWorld.list.Goals as goal
 
 pub invariant_of-self-clause-step : goal.invariant_of-self-clause-step
@@ -20,3 +21,6 @@ returns-clause-recalls g c = record { later = c.list.ensures.recalls.later; keep
 
 pub returns-clause-time : goal.returns-clause-time
 returns-clause-time g c = record { told = c.list.ensures.time.told; each = c.list.ensures.time.each; before = c.list.ensures.time.before; now = c.list.ensures.time.now }
+
+pub returns-clause-never : goal.returns-clause-never
+returns-clause-never g c = λ fault. no_failure List _ c.args.self.now.spared (c.list.ensures.exactly.0 fault)

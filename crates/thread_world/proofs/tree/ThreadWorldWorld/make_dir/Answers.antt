@@ -1,6 +1,7 @@
 use Rattle.std.proofs.Common.{refl}
 use Rattle.world_mem.specs.declared.calls.Call.TheVariants.{MakeDir}
 use Rattle.thread_world.proofs.Kept.{step_same, spared_counted, running_made}
+use Rattle.thread_world.proofs.Spared.{no_failure, other_cause}
 use Rattle.thread_world.proofs.tree.ThreadWorldWorld.make_dir.Goals as goal
 
 pub invariant_of-self-clause-step : goal.invariant_of-self-clause-step
@@ -20,3 +21,6 @@ returns-clause-recalls g c = record { later = c.make_dir.ensures.recalls.later; 
 
 pub returns-clause-time : goal.returns-clause-time
 returns-clause-time g c = record { told = c.make_dir.ensures.time.told; each = c.make_dir.ensures.time.each; before = c.make_dir.ensures.time.before; now = c.make_dir.ensures.time.now }
+
+pub returns-clause-exactly : goal.returns-clause-exactly
+returns-clause-exactly g c = other_cause _ _ _ (no_failure MakeDir _ c.args.self.now.spared) c.make_dir.ensures.exactly

@@ -1,6 +1,7 @@
 use Rattle.std.proofs.Common.{refl}
 use Rattle.world_mem.specs.declared.calls.Call.TheVariants.{ReadFile}
 use Rattle.thread_world.proofs.Kept.{step_same, spared_counted}
+use Rattle.thread_world.proofs.Spared.{no_failure}
 use Rattle.thread_world.proofs.tree.ThreadWorldWorld.read_file.Goals as goal
 
 pub invariant_of-self-clause-step : goal.invariant_of-self-clause-step
@@ -20,3 +21,6 @@ returns-clause-recalls g c = record { later = c.read_file.ensures.recalls.later;
 
 pub returns-clause-time : goal.returns-clause-time
 returns-clause-time g c = record { told = c.read_file.ensures.time.told; each = c.read_file.ensures.time.each; before = c.read_file.ensures.time.before; now = c.read_file.ensures.time.now }
+
+pub returns-clause-never : goal.returns-clause-never
+returns-clause-never g c = λ fault. no_failure ReadFile _ c.args.self.now.spared (c.read_file.ensures.exactly.0 fault)

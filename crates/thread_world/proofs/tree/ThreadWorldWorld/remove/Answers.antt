@@ -1,6 +1,7 @@
 use Rattle.std.proofs.Common.{refl}
 use Rattle.world_mem.specs.declared.calls.Call.TheVariants.{Remove}
 use Rattle.thread_world.proofs.Kept.{step_same, spared_counted}
+use Rattle.thread_world.proofs.Spared.{no_failure, not_gone, other_cause, left}
 use Rattle.thread_world.proofs.tree.ThreadWorldWorld.remove.Goals as goal
 
 pub invariant_of-self-clause-step : goal.invariant_of-self-clause-step
@@ -20,3 +21,9 @@ returns-clause-recalls g c = record { later = c.remove.ensures.recalls.later; ke
 
 pub returns-clause-time : goal.returns-clause-time
 returns-clause-time g c = record { told = c.remove.ensures.time.told; each = c.remove.ensures.time.each; before = c.remove.ensures.time.before; now = c.remove.ensures.time.now }
+
+pub returns-clause-exactly : goal.returns-clause-exactly
+returns-clause-exactly g c = other_cause _ _ _ (no_failure Remove _ c.args.self.now.spared) c.remove.ensures.exactly
+
+pub returns-clause-stays : goal.returns-clause-stays
+returns-clause-stays g c = left _ _ _ (not_gone _ c.args.self.now.spared) c.remove.ensures.stays

@@ -1,6 +1,7 @@
 use Rattle.std.proofs.Common.{refl}
 use Rattle.world_mem.specs.declared.calls.Call.TheVariants.{TopPath}
 use Rattle.thread_world.proofs.Kept.{step_same, spared_counted}
+use Rattle.thread_world.proofs.Spared.{no_failure}
 use Rattle.thread_world.proofs.tree.ThreadWorldWorld.top_path.Goals as goal
 
 pub invariant_of-self-clause-step : goal.invariant_of-self-clause-step
@@ -20,3 +21,6 @@ returns-clause-recalls g c = record { later = c.top_path.ensures.recalls.later; 
 
 pub returns-clause-time : goal.returns-clause-time
 returns-clause-time g c = record { told = c.top_path.ensures.time.told; each = c.top_path.ensures.time.each; before = c.top_path.ensures.time.before; now = c.top_path.ensures.time.now }
+
+pub returns-clause-never : goal.returns-clause-never
+returns-clause-never g c = λ fault. no_failure TopPath _ c.args.self.now.spared (c.top_path.ensures.exactly.0 fault)

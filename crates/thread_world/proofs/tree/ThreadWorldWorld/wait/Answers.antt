@@ -1,9 +1,16 @@
-use Rattle.std.proofs.Common.{◌≡◌, sym, ap, subst, refl}
+use Rattle.std.proofs.Common.{◌≡◌, ◌∙◌, ◌++◌, List, sym, ap, subst, refl}
+use Rattle.std.specs.Prelude.{Contains}
+use Rattle.std.specs.Arc.{arc_value}
+use Rattle.world_api.specs.Around.{Running}
 use Rattle.mem_banks.specs.AsStore.{store_of}
 use Rattle.world_api.specs.Causes.{HasOutcomeCause}
 use Rattle.world_api.specs.declared.job.Outcome.{Outcome}
+use Rattle.world_mem.specs.Ending.{faults_after}
 use Rattle.world_mem.specs.Kept.{counts_of}
-use Rattle.thread_world.proofs.Comes.{place_within, told_at, step_back}
+use Rattle.world_mem.specs.AsAround.{around_of}
+use Rattle.world_mem.specs.Waits.{row_contents}
+use Rattle.thread_world.specs.Step.{run_of}
+use Rattle.thread_world.proofs.Comes.{place_within, told_at, step_back, run_back, outcome_back}
 use Rattle.thread_world.proofs.Kept.{spared_same, step_same}
 use Rattle.thread_world.proofs.Passed.{banks_same}
 use Rattle.thread_world.proofs.tree.ThreadWorldWorld.wait.Goals as goal
@@ -38,3 +45,26 @@ returns-clause-time g c = record { told = c.end.ensures.time.told; each = c.end.
 
 pub returns-clause-cause : goal.returns-clause-cause
 returns-clause-cause g c = subst (λ (o : Outcome). HasOutcomeCause o (counts_of c.args.self.now.world.faults) (counts_of c.end.new.self.faults)) (sym c.end.ensures.outcome) c.end.ensures.cause
+
+pub returns-clause-ends : goal.returns-clause-ends
+returns-clause-ends g c =
+    let old = c.args.self.now.world in
+    let ending = c.next_place-place.result.1 in
+    let back = c.next_place-place.ensures.out in
+    let run : Running = run_of (back.number, arc_value ending.slip) in
+    let which = run_back old.state.table (around_of old.state).running _ _ c.next_place-place.result.0 ending c.args.self.now.step back in
+    let outcome = c.end.ensures.outcome in
+    record {
+      place = c.next_place-place.result.0;
+      run = run;
+      which = which;
+      id = c.end.ensures.chosen run ∙ ap (λ (r : Running). r.job.id) (which run);
+      outcome = λ had. outcome ∙ outcome_back _ _ _ _ _ ending c.args.self.now.step back c.next_place-place.ensures.own (λ none. had (outcome ∙ none));
+      rest = c.end.ensures.rest;
+      absent = λ bad path there. c.end.ensures.absent run path (λ done. bad (outcome ∙ done)) (subst (λ (r : Running). Contains r.job.targets path) (sym (which run)) there);
+      met = λ done. c.end.ensures.met run (sym outcome ∙ done) ∙ ap (λ (r : Running). (around_of old.state).met ++ row_contents old r) (which run);
+      unmet = λ bad. c.end.ensures.unmet (λ done. bad (outcome ∙ done));
+    }
+
+pub returns-clause-once : goal.returns-clause-once
+returns-clause-once g c = c.end.ensures.once ∙ ap (λ (o : Outcome). faults_after o c.args.self.now.world.faults) (sym c.end.ensures.outcome)

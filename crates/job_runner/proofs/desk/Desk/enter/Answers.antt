@@ -2,7 +2,7 @@ use Rattle.std.proofs.Common.{rules}
 use Rattle.std.specs.Arc.{arc_value}
 use Rattle.job_runner.specs.Lists.{lists_of}
 use Rattle.job_runner.proofs.Own.{own_by_hand_in}
-use Rattle.job_runner.proofs.desk.Desk.hand_in.Goals as goal
+use Rattle.job_runner.proofs.desk.Desk.enter.Goals as goal
 
 pub invariant_of-self : goal.invariant_of-self
 invariant_of-self g c = record {
