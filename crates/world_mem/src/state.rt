@@ -76,7 +76,7 @@ pub struct Entering {
 impl State {
     ghost use Rattle.std.specs.Prelude.{◌++◌, ◌||◌, if◌then◌else◌, OnErr, IsSome, None, false, unwrap_or, codes};
     ghost use Rattle.std.specs.List.{remove};
-    ghost use Rattle.std.specs.Option.{option_copied};
+    ghost use Rattle.std.specs.Option.{option_copied, is_some};
     ghost use Rattle.world_api.specs.Around.{IsUnused, IsRunningTarget, Running, given_of};
     ghost use Rattle.world_api.specs.Calls.{Asks, MakesDir, Removes, CanStart, Starts, Ends};
     ghost use Rattle.world_api.specs.Reads.{IsListing, kind_of, stamp_of};
@@ -214,6 +214,7 @@ impl State {
         requires room { self.old.removals < 262144 }
         ensures removed { Removes path.now (around_of self.old) (around_of self.new) }
         ensures gone { (around_of self.new).tree path.now ≡ None }
+        ensures stood { result ≡ is_some ((around_of self.old).tree path.now) }
         ensures back { IsTrue result → before (course_of self.new) ≡ course_of self.old }
         ensures same { result ≡ false → course_of self.new ≡ course_of self.old }
         ensures removals { self.new.removals ≡ self.old.removals + (if result then 1 else 0) }

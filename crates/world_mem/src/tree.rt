@@ -72,7 +72,7 @@ impl World for MemWorld {
     ghost use Rattle.world_mem.specs.Laws.{none_closed};
     ghost use Rattle.world_mem.specs.Means.{world_meaning};
     ghost use Rattle.world_mem.specs.Room.{recorded};
-    ghost use Rattle.world_mem.specs.EachCall.{Keeps, TreeCall};
+    ghost use Rattle.world_mem.specs.EachCall.{Keeps, RemoveCall, TreeCall};
     ghost use Rattle.world_mem.specs.Refuses.{IsGoneAnyway};
     ghost use Rattle.world_mem.specs.Stamps.{Stamps};
     ghost use Rattle.world_mem.specs.Waits.{ended_by, row_ending, row_contents};
@@ -228,7 +228,7 @@ impl World for MemWorld {
         ensures exactly { IsErr result ↔ (Fails Call.Remove self.old.calls ⊎ (262144 ≤ recorded self.old)) }
         ensures anyway { IsGoneAnyway self.old → (around_of self.new.state).tree path.now ≡ None }
         ensures stays { OnErr result ((IsGoneAnyway self.old → ⊥) → self.new.state ≡ self.old.state) }
-        ensures each { TreeCall Call.Remove tree_fault (IsErr result) self.old self.new }
+        ensures each { RemoveCall path.now (IsErr result) self.old self.new }
     {
         let odd = self.calls.count(Call::Remove) % 2 == 1;
         let verdict = self.calls.next(Call::Remove);
@@ -312,6 +312,7 @@ impl MemWorld {
     ghost use Rattle.world_api.specs.Calls.{Removes};
     ghost use Rattle.world_api.specs.Meaning.{Recalls, Throughout, Meanwhile};
     ghost use Rattle.world_mem.specs.AsAround.{around_of};
+    ghost use Rattle.world_mem.specs.EachCall.{Uses, went};
     ghost use Rattle.world_mem.specs.Means.{world_meaning};
     ghost use Rattle.world_mem.specs.Room.{recorded};
     ghost use Rattle.std.specs.Prelude.{None};
@@ -330,6 +331,7 @@ impl MemWorld {
         ensures orders { self.new.orders ≡ self.old.orders }
         ensures table { self.new.state.table ≡ self.old.state.table }
         ensures stamp { self.new.state.stamp ≡ self.old.state.stamp }
+        ensures removals { Uses (went path.now (around_of self.old.state) (around_of self.new.state)) self.old self.new }
     {
         if !self.state.remove(path) {
             return;
