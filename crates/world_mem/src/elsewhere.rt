@@ -44,6 +44,7 @@ impl MemWorld {
     ghost use Rattle.world_mem.specs.Kept.{contents_in, counts_of, start_fault};
     ghost use Rattle.world_mem.specs.Means.{machine_of, world_meaning};
     ghost use Rattle.world_mem.specs.Planned.{makes};
+    ghost use Rattle.world_mem.specs.Raises.{Raises};
     ghost use Rattle.world_mem.specs.Ready.{MayEnter};
     ghost use Rattle.world_mem.specs.Told.{IsTold};
     ghost use Rattle.world_mem.specs.declared.calls.Call.{Call};
@@ -80,6 +81,7 @@ impl MemWorld {
     pub fn enter(&mut self, entering: Entering)
         requires { MayEnter entering self.old }
         ensures started { entering.event ≡ Event.Started entering.run.job self.old.faults → Starts entering.run.job (counts_of self.old.faults) (around_of self.old.state) (around_of self.new.state) }
+        ensures raised { Raises entering.run.job (around_of self.old.state) (around_of self.new.state) }
         ensures recalls { Recalls world_meaning self.old self.new }
         ensures time { Throughout world_meaning self.old self.new (Meanwhile world_meaning self.old self.new) }
         ensures faults { self.new.faults ≡ self.old.faults }

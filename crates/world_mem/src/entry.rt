@@ -20,6 +20,7 @@ impl State {
     ghost use Rattle.world_mem.specs.Kept.{contents_in, counts_of};
     ghost use Rattle.world_mem.specs.Past.{before};
     ghost use Rattle.world_mem.specs.Planned.{makes};
+    ghost use Rattle.world_mem.specs.Raises.{Raises};
     ghost use Rattle.world_mem.specs.Ready.{IsReady};
     ghost use Rattle.world_mem.specs.Told.{IsTold};
     ghost use Rattle.world_mem.specs.declared.event.Event.{Event};
@@ -50,6 +51,7 @@ impl State {
     pub(crate) fn enter_ready(&mut self, entering: Entering)
         requires { IsReady entering self.old }
         ensures started { (faults : Faults) → entering.event ≡ Event.Started entering.run.job faults → Starts entering.run.job (counts_of faults) (around_of self.old) (around_of self.new) }
+        ensures raised { Raises entering.run.job (around_of self.old) (around_of self.new) }
         ensures back { before (course_of self.new) ≡ course_of self.old }
         ensures more { vec_len self.new.running ≡ vec_len self.old.running + 1 }
         ensures removals { self.new.removals ≡ self.old.removals }

@@ -89,6 +89,7 @@ impl State {
     ghost use Rattle.world_mem.specs.InSlots.{settled};
     ghost use Rattle.world_mem.specs.CallCounts.{next};
     ghost use Rattle.world_mem.specs.Kept.{counts_of};
+    ghost use Rattle.world_mem.specs.Raises.{Raises};
     ghost use Rattle.world_mem.specs.Stamps.{Stamps};
     ghost use Rattle.world_mem.specs.Past.{before};
     ghost use Rattle.world_mem.specs.Table.{law_of};
@@ -267,6 +268,7 @@ impl State {
     pub fn start(&mut self, alloc: Global, job: Job, faults: Faults) -> Result<(), Memory>
         requires { CanStart job (around_of self.old) }
         ensures ok { OnOk result (Starts job (counts_of faults) (around_of self.old) (around_of self.new)) }
+        ensures raised { OnOk result (Raises job (around_of self.old) (around_of self.new)) }
         ensures back { OnOk result (before (course_of self.new) ≡ course_of self.old) }
         ensures same { OnErr result (course_of self.new ≡ course_of self.old) }
         ensures removals { self.new.removals ≡ self.old.removals }

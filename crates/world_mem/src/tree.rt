@@ -71,6 +71,7 @@ impl World for MemWorld {
     ghost use Rattle.world_mem.specs.Kept.{tree_fault, start_fault};
     ghost use Rattle.world_mem.specs.Laws.{none_closed};
     ghost use Rattle.world_mem.specs.Means.{world_meaning};
+    ghost use Rattle.world_mem.specs.Raises.{Raises};
     ghost use Rattle.world_mem.specs.Room.{recorded};
     ghost use Rattle.world_mem.specs.EachCall.{Keeps, RemoveCall, TreeCall};
     ghost use Rattle.world_mem.specs.Refuses.{IsGoneAnyway};
@@ -259,6 +260,7 @@ impl World for MemWorld {
         ensures rose { result ≡ Err AskRefusal.Fault → StartFails (world_meaning.counts self.old) (world_meaning.counts self.new) }
         ensures listed { Fails Call.Start self.old.calls → result ≡ Err AskRefusal.Fault }
         ensures only { result ≡ Err AskRefusal.Fault → Fails Call.Start self.old.calls ⊎ AreBlocked (world_meaning.around self.old) job.targets }
+        ensures raised { OnOk result (Raises job (around_of self.old.state) (around_of self.new.state)) }
         ensures clear { OnOk result (AreBlocked (world_meaning.around self.old) job.targets → ⊥) }
         ensures each { TreeCall Call.Start start_fault (result ≡ Err AskRefusal.Fault) self.old self.new }
     {
