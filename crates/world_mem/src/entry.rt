@@ -22,6 +22,7 @@ impl State {
     ghost use Rattle.world_mem.specs.Planned.{makes};
     ghost use Rattle.world_mem.specs.Raises.{Raises};
     ghost use Rattle.world_mem.specs.Ready.{IsReady};
+    ghost use Rattle.world_mem.specs.Stamps.{Stamps};
     ghost use Rattle.world_mem.specs.Told.{IsTold};
     ghost use Rattle.world_mem.specs.declared.event.Event.{Event};
 
@@ -54,6 +55,7 @@ impl State {
         ensures raised { Raises entering.run.job (around_of self.old) (around_of self.new) }
         ensures back { before (course_of self.new) ≡ course_of self.old }
         ensures more { vec_len self.new.running ≡ vec_len self.old.running + 1 }
+        ensures stamp { self.new.stamp ≡ self.old.stamp }
         ensures removals { self.new.removals ≡ self.old.removals }
         ensures table { self.new.table ≡ self.old.table }
     {
@@ -72,6 +74,7 @@ impl State {
         ensures met { (d : Running) → outcome ≡ Outcome.Done → (around_of self.new).met ≡ (around_of self.old).met ++ contents_in (makes self.old.table (slice_index_or (around_of self.old).running place d).job (slice_index_or (around_of self.old).running place d).given) }
         ensures unmet { outcome ≢ Outcome.Done → (around_of self.new).met ≡ (around_of self.old).met }
         ensures rest { self.new.running.items ≡ remove self.old.running.items place }
+        ensures stamps { (d : Running) → Stamps (Contains (slice_index_or (around_of self.old).running place d).job.targets) self.old self.new }
         ensures fewer { vec_len self.new.running + 1 ≡ vec_len self.old.running }
         ensures removals { self.new.removals ≡ self.old.removals }
         ensures table { self.new.table ≡ self.old.table }
@@ -90,6 +93,7 @@ impl State {
         ensures course { course_of self.new ≡ course_of self.old }
         ensures running { self.new.running.items ≡ self.old.running.items }
         ensures len { vec_len self.new.running ≡ vec_len self.old.running }
+        ensures stamp { self.new.stamp ≡ self.old.stamp }
         ensures removals { self.new.removals ≡ self.old.removals }
         ensures table { self.new.table ≡ self.old.table }
     {
