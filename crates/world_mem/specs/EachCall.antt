@@ -39,16 +39,16 @@ pub record TreeCall (call : Call) (fault : Counts → Counts) (refused : Type 0)
 abbrev pub went : List ℕ → Around → Around → ℕ
 went path old new = if is_some (old.tree path) && not (is_some (new.tree path)) then 1 else 0
 
--- so many removals more are recorded
-abbrev pub Uses : ℕ → MemWorld → MemWorld → Type 0
-Uses count old new = new.state.removals ≡ old.state.removals + count
+-- a removal is recorded where the file went, and only there
+abbrev pub RecordsRemoval : List ℕ → MemWorld → MemWorld → Type 0
+RecordsRemoval path old new =
+    new.state.removals ≡ old.state.removals + went path (around_of old.state) (around_of new.state)
 
--- a call that removes a file: the same, and a removal is recorded where the file went, and only there
-pub record RemoveCall (path : List ℕ) (refused : Type 0) (old new : MemWorld) : Type 0 where
+-- a call that removes a file: the same, but for what is recorded
+pub record RemoveCall (refused : Type 0) (old new : MemWorld) : Type 0 where
   pub counted : new.calls ≡ counted Remove old.calls
   pub once : refused → counts_of new.faults ≡ tree_fault (counts_of old.faults)
   pub banks : new.banks ≡ old.banks
   pub table : new.state.table ≡ old.state.table
   pub orders : new.orders ≡ old.orders
   pub stamp : new.state.stamp ≡ old.state.stamp
-  pub removals : Uses (went path (around_of old.state) (around_of new.state)) old new

@@ -46,7 +46,7 @@ impl MemWorld {
     ghost use Rattle.world_mem.specs.Planned.{makes};
     ghost use Rattle.world_mem.specs.Raises.{Raises};
     ghost use Rattle.world_mem.specs.Ready.{MayEnter};
-    ghost use Rattle.world_mem.specs.Stamps.{Stamps};
+    ghost use Rattle.world_mem.specs.Stamps.{StampsRun};
     ghost use Rattle.world_mem.specs.Told.{IsTold};
     ghost use Rattle.world_mem.specs.declared.calls.Call.{Call};
     ghost use Rattle.world_mem.specs.declared.event.Event.{Event};
@@ -104,7 +104,7 @@ impl MemWorld {
         ensures cause { HasOutcomeCause outcome (counts_of self.old.faults) (counts_of self.new.faults) }
         ensures once { self.new.faults ≡ faults_after outcome self.old.faults }
         ensures rest { (around_of self.new.state).running ≡ remove (around_of self.old.state).running place }
-        ensures stamps { (d : Running) → Stamps (Contains (slice_index_or (around_of self.old.state).running place d).job.targets) self.old.state self.new.state }
+        ensures stamps { StampsRun place self.old.state self.new.state }
         ensures outcome { result.outcome ≡ outcome }
         ensures chosen { (d : Running) → result.id ≡ (slice_index_or (around_of self.old.state).running place d).job.id }
         ensures absent { (d : Running) (path : List ℕ) → outcome ≢ Outcome.Done → Contains (slice_index_or (around_of self.old.state).running place d).job.targets path → (around_of self.new.state).tree path ≡ None }

@@ -22,7 +22,7 @@ impl State {
     ghost use Rattle.world_mem.specs.Planned.{makes};
     ghost use Rattle.world_mem.specs.Raises.{Raises};
     ghost use Rattle.world_mem.specs.Ready.{IsReady};
-    ghost use Rattle.world_mem.specs.Stamps.{Stamps};
+    ghost use Rattle.world_mem.specs.Stamps.{StampsRun};
     ghost use Rattle.world_mem.specs.Told.{IsTold};
     ghost use Rattle.world_mem.specs.declared.event.Event.{Event};
 
@@ -74,7 +74,7 @@ impl State {
         ensures met { (d : Running) → outcome ≡ Outcome.Done → (around_of self.new).met ≡ (around_of self.old).met ++ contents_in (makes self.old.table (slice_index_or (around_of self.old).running place d).job (slice_index_or (around_of self.old).running place d).given) }
         ensures unmet { outcome ≢ Outcome.Done → (around_of self.new).met ≡ (around_of self.old).met }
         ensures rest { self.new.running.items ≡ remove self.old.running.items place }
-        ensures stamps { (d : Running) → Stamps (Contains (slice_index_or (around_of self.old).running place d).job.targets) self.old self.new }
+        ensures stamps { StampsRun place self.old self.new }
         ensures fewer { vec_len self.new.running + 1 ≡ vec_len self.old.running }
         ensures removals { self.new.removals ≡ self.old.removals }
         ensures table { self.new.table ≡ self.old.table }

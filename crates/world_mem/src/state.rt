@@ -210,6 +210,7 @@ impl State {
     }
 
     /// Removes a file. Says whether one stood there.
+    #[tactic(auto, using(crate::proofs::Went::stands))]
     pub fn remove(&mut self, path: &PathText) -> bool
         requires unused { IsUnused (around_of self.old).running path.now }
         requires room { self.old.removals < 262144 }

@@ -73,7 +73,7 @@ impl World for MemWorld {
     ghost use Rattle.world_mem.specs.Means.{world_meaning};
     ghost use Rattle.world_mem.specs.Raises.{Raises};
     ghost use Rattle.world_mem.specs.Room.{recorded};
-    ghost use Rattle.world_mem.specs.EachCall.{Keeps, RemoveCall, TreeCall};
+    ghost use Rattle.world_mem.specs.EachCall.{Keeps, RecordsRemoval, RemoveCall, TreeCall};
     ghost use Rattle.world_mem.specs.Refuses.{IsGoneAnyway};
     ghost use Rattle.world_mem.specs.Stamps.{Stamps};
     ghost use Rattle.world_mem.specs.Waits.{ended_by, row_ending, row_contents};
@@ -216,6 +216,7 @@ impl World for MemWorld {
     }
 
     /// Removes a file. Where the call is listed as one that fails, with an odd number, the file is gone nevertheless.
+    #[tactic(auto, using(crate::proofs::Went::still_none))]
     fn remove(&mut self, path: &PathText) -> Result<(), Fault>
         requires { world_meaning.tells self.old → IsUnused (world_meaning.around self.old).running path.now }
         ensures gone { world_meaning.tells self.new → OnOk result ((world_meaning.around self.new).tree path.now ≡ None) }
@@ -229,7 +230,8 @@ impl World for MemWorld {
         ensures exactly { IsErr result ↔ (Fails Call.Remove self.old.calls ⊎ (262144 ≤ recorded self.old)) }
         ensures anyway { IsGoneAnyway self.old → (around_of self.new.state).tree path.now ≡ None }
         ensures stays { OnErr result ((IsGoneAnyway self.old → ⊥) → self.new.state ≡ self.old.state) }
-        ensures each { RemoveCall path.now (IsErr result) self.old self.new }
+        ensures removals { RecordsRemoval path.now self.old self.new }
+        ensures each { RemoveCall (IsErr result) self.old self.new }
     {
         let odd = self.calls.count(Call::Remove) % 2 == 1;
         let verdict = self.calls.next(Call::Remove);
@@ -314,7 +316,7 @@ impl MemWorld {
     ghost use Rattle.world_api.specs.Calls.{Removes};
     ghost use Rattle.world_api.specs.Meaning.{Recalls, Throughout, Meanwhile};
     ghost use Rattle.world_mem.specs.AsAround.{around_of};
-    ghost use Rattle.world_mem.specs.EachCall.{Uses, went};
+    ghost use Rattle.world_mem.specs.EachCall.{RecordsRemoval};
     ghost use Rattle.world_mem.specs.Means.{world_meaning};
     ghost use Rattle.world_mem.specs.Room.{recorded};
     ghost use Rattle.std.specs.Prelude.{None};
@@ -333,7 +335,7 @@ impl MemWorld {
         ensures orders { self.new.orders ≡ self.old.orders }
         ensures table { self.new.state.table ≡ self.old.state.table }
         ensures stamp { self.new.state.stamp ≡ self.old.state.stamp }
-        ensures removals { Uses (went path.now (around_of self.old.state) (around_of self.new.state)) self.old self.new }
+        ensures removals { RecordsRemoval path.now self.old self.new }
     {
         if !self.state.remove(path) {
             return;
