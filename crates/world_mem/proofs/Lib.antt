@@ -14,6 +14,7 @@ pub mod Idle
 pub mod LeftTargets
 pub mod LeftOver
 pub mod Raised
+pub mod InDirs
 pub mod Fresh
 pub mod Backs
 pub mod Passing

@@ -70,7 +70,7 @@ fn left_targets(alloc: Global, state: &State, pick: u32) -> Result<Contents, Mem
 }
 
 impl MemWorld {
-    ghost use Rattle.std.specs.Prelude.{◌%◌, IfErr, List, [], ℕ, Contains};
+    ghost use Rattle.std.specs.Prelude.{◌%◌, IfErr, List, [], None, ℕ, Contains};
     ghost use Rattle.mem_banks.specs.AsStore.{store_of};
     ghost use Rattle.mem_banks.specs.Past.{one_of, synced_in};
     ghost use Rattle.mem_banks.specs.Picks.{left_of};
@@ -80,7 +80,9 @@ impl MemWorld {
     ghost use Rattle.world_mem.specs.CallCounts.{Fails};
     ghost use Rattle.world_api.specs.Around.{IsRunningTarget};
     ghost use Rattle.world_mem.specs.Left.{Leaves, makings, names};
+    ghost use Rattle.world_mem.specs.LeftBy.{LeavesBy};
     ghost use Rattle.world_mem.specs.Means.{world_meaning};
+    ghost use Rattle.world_mem.specs.Room.{recorded};
     ghost use Rattle.world_mem.specs.Stamps.{Stamps};
     ghost use Rattle.world_mem.specs.Stays.{Stays, IsAnew};
     ghost use Rattle.world_mem.specs.declared.calls.Call.{Call};
@@ -93,11 +95,15 @@ impl MemWorld {
         ensures stands { pick ≡ 0 → IfOk result (λ world. (bank : Bank) → world_meaning.seen world bank ≡ world_meaning.seen self bank) }
         ensures lost { pick % 4 ≡ 1 → IfOk result (λ world. (bank : Bank) → world_meaning.seen world bank ≡ synced_in (store_of self.banks) bank) }
         ensures settled { IfOk result (λ world. (bank : Bank) → IsSettled world_meaning world bank) }
-        ensures left { IfOk result (λ world. Leaves (left_over pick (makings self.state.table (around_of self.state).running)) (around_of self.state) (around_of world.state)) }
+        ensures left { IfOk result (λ world. LeavesBy pick self.state world.state) }
         ensures stamps { IfOk result (λ world. Stamps (IsRunningTarget (around_of self.state).running) self.state world.state) }
         ensures idle { IfOk result (λ world. (around_of world.state).running ≡ []) }
         ensures clock { IfOk result (λ world. world_meaning.clock world ≡ 0) }
         ensures anew { IfOk result IsAnew }
+        ensures room { IfOk result (λ world. recorded world ≡ 0) }
+        ensures written { IfOk result (λ world. world.banks.written ≡ 0) }
+        ensures failing { IfOk result (λ world. world.calls.failing.items ≡ []) }
+        ensures unfused { IfOk result (λ world. world.calls.fuse ≡ None) }
         ensures spared { IfOk result (λ world. (call : Call) → Fails call world.calls → ⊥) }
         ensures calls { IfOk result (λ world. world.calls.made ≡ self.calls.made) }
         ensures faults { IfOk result (λ world. world.faults ≡ self.faults) }
@@ -152,6 +158,10 @@ impl MemWorld {
         ensures stamps { Stamps (IsRunningTarget (around_of self.old.state).running) self.old.state self.new.state }
         ensures clock { world_meaning.clock self.new ≡ 0 }
         ensures anew { IsAnew self.new }
+        ensures room { recorded self.new ≡ 0 }
+        ensures written { self.new.banks.written ≡ 0 }
+        ensures failing { self.new.calls.failing.items ≡ [] }
+        ensures unfused { self.new.calls.fuse ≡ None }
         ensures spared { (call : Call) → Fails call self.new.calls → ⊥ }
         ensures calls { self.new.calls.made ≡ self.old.calls.made }
         ensures faults { self.new.faults ≡ self.old.faults }

@@ -56,7 +56,8 @@ fn cut_of(verdict: Verdict) -> Option<Outcome>
 }
 
 impl World for MemWorld {
-    ghost use Rattle.std.specs.Prelude.{◌↔◌, ◌⊎◌, ◌++◌, [], List, None, Contains, IsTrue, IsErr, OnOk, OnErr, unwrap_or};
+    ghost use Rattle.std.specs.List.{remove};
+    ghost use Rattle.std.specs.Prelude.{◌↔◌, ◌⊎◌, [], List, None, false, Contains, IsTrue, IsErr, OnOk, OnErr, unwrap_or};
     ghost use Rattle.scons_base.specs.Parts.{is_absolute};
     ghost use Rattle.world_api.specs.Around.{IsUnused, Running};
     ghost use Rattle.world_api.specs.Calls.{Asks, MakesDir, Removes, CanStart, IsClosed, IsOpen, Starts, Ends};
@@ -70,12 +71,14 @@ impl World for MemWorld {
     ghost use Rattle.world_mem.specs.Held.{held_of};
     ghost use Rattle.world_mem.specs.Kept.{tree_fault, start_fault};
     ghost use Rattle.world_mem.specs.Laws.{none_closed};
-    ghost use Rattle.world_mem.specs.Means.{world_meaning};
+    ghost use Rattle.world_mem.specs.EachCall.{Keeps, Looks, RemoveCall, TreeCall};
+    ghost use Rattle.world_mem.specs.Means.{world_meaning, around_in, counts_in, tells};
+    ghost use Rattle.world_mem.specs.Raises.{Raises, SameDirs};
     ghost use Rattle.world_mem.specs.Room.{recorded};
-    ghost use Rattle.world_mem.specs.EachCall.{Keeps, TreeCall};
+    ghost use Rattle.world_mem.specs.Runs.{LeavesNone};
     ghost use Rattle.world_mem.specs.Refuses.{IsGoneAnyway};
     ghost use Rattle.world_mem.specs.Stamps.{Stamps};
-    ghost use Rattle.world_mem.specs.Waits.{ended_by, row_ending, row_contents};
+    ghost use Rattle.world_mem.specs.Waits.{ended_by, place_by, row_ending, MeetsRow};
     ghost use Rattle.world_mem.specs.declared.calls.Call.{Call};
 
     ghost held = { λ w told path bytes is off. held_of w.state path bytes is };
@@ -93,6 +96,7 @@ impl World for MemWorld {
         ensures kept { result ≢ Err AskRefusal.Fault → world_meaning.counts self.new ≡ world_meaning.counts self.old }
         ensures rose { result ≡ Err AskRefusal.Fault → TreeFails (world_meaning.counts self.old) (world_meaning.counts self.new) }
         ensures exactly { result ≡ Err AskRefusal.Fault ↔ Fails Call.TopPath self.old.calls }
+        ensures looks { Looks self.old self.new }
         ensures each { TreeCall Call.TopPath tree_fault (result ≡ Err AskRefusal.Fault) self.old self.new }
     {
         if self.calls.next(Call::TopPath) != Verdict::Goes {
@@ -116,6 +120,7 @@ impl World for MemWorld {
         ensures kept { OnOk result (world_meaning.counts self.new ≡ world_meaning.counts self.old) }
         ensures rose { OnErr result (TreeFails (world_meaning.counts self.old) (world_meaning.counts self.new)) }
         ensures exactly { IsErr result ↔ Fails Call.Kind self.old.calls }
+        ensures looks { Looks self.old self.new }
         ensures each { TreeCall Call.Kind tree_fault (IsErr result) self.old self.new }
     {
         if self.calls.next(Call::Kind) != Verdict::Goes {
@@ -139,6 +144,7 @@ impl World for MemWorld {
         ensures kept { result ≢ Err ReadRefusal.Fault → world_meaning.counts self.new ≡ world_meaning.counts self.old }
         ensures rose { result ≡ Err ReadRefusal.Fault → TreeFails (world_meaning.counts self.old) (world_meaning.counts self.new) }
         ensures exactly { result ≡ Err ReadRefusal.Fault ↔ Fails Call.ReadFile self.old.calls }
+        ensures looks { Looks self.old self.new }
         ensures each { TreeCall Call.ReadFile tree_fault (result ≡ Err ReadRefusal.Fault) self.old self.new }
     {
         if self.calls.next(Call::ReadFile) != Verdict::Goes {
@@ -150,6 +156,7 @@ impl World for MemWorld {
 
     fn list(&mut self, dir: &PathText) -> Result<Paths, AskRefusal>
         ensures files { world_meaning.tells self.new → IfOk result (IsListing (world_meaning.around self.new) dir.now) }
+        ensures none { (around_of self.new.state).dirs dir.now ≡ false → IfOk result (λ paths. paths ≡ []) }
         ensures shut { IfOk result (λ paths. (path : List ℕ) → Contains paths path → IsClosed (world_meaning.closed self.old) path → ⊥) }
         ensures around { world_meaning.tells self.new → Asks (world_meaning.around self.old) (world_meaning.around self.new) }
         ensures banks { world_meaning.tells self.new → BanksKept world_meaning self.old self.new }
@@ -159,6 +166,7 @@ impl World for MemWorld {
         ensures kept { result ≢ Err AskRefusal.Fault → world_meaning.counts self.new ≡ world_meaning.counts self.old }
         ensures rose { result ≡ Err AskRefusal.Fault → TreeFails (world_meaning.counts self.old) (world_meaning.counts self.new) }
         ensures exactly { result ≡ Err AskRefusal.Fault ↔ Fails Call.List self.old.calls }
+        ensures looks { Looks self.old self.new }
         ensures each { TreeCall Call.List tree_fault (result ≡ Err AskRefusal.Fault) self.old self.new }
     {
         if self.calls.next(Call::List) != Verdict::Goes {
@@ -179,6 +187,7 @@ impl World for MemWorld {
         ensures kept { OnOk result (world_meaning.counts self.new ≡ world_meaning.counts self.old) }
         ensures rose { OnErr result (TreeFails (world_meaning.counts self.old) (world_meaning.counts self.new)) }
         ensures exactly { IsErr result ↔ Fails Call.Stamp self.old.calls }
+        ensures looks { Looks self.old self.new }
         ensures each { TreeCall Call.Stamp tree_fault (IsErr result) self.old self.new }
     {
         if self.calls.next(Call::Stamp) != Verdict::Goes {
@@ -228,7 +237,7 @@ impl World for MemWorld {
         ensures exactly { IsErr result ↔ (Fails Call.Remove self.old.calls ⊎ (262144 ≤ recorded self.old)) }
         ensures anyway { IsGoneAnyway self.old → (around_of self.new.state).tree path.now ≡ None }
         ensures stays { OnErr result ((IsGoneAnyway self.old → ⊥) → self.new.state ≡ self.old.state) }
-        ensures each { TreeCall Call.Remove tree_fault (IsErr result) self.old self.new }
+        ensures each { RemoveCall path.now (IsErr result) self.old self.new }
     {
         let odd = self.calls.count(Call::Remove) % 2 == 1;
         let verdict = self.calls.next(Call::Remove);
@@ -249,7 +258,7 @@ impl World for MemWorld {
     fn start(&mut self, job: Job) -> Result<(), AskRefusal>
         requires free { world_meaning.tells self.old → CanStart job (world_meaning.around self.old) }
         requires reachable { IsOpen (world_meaning.closed self.old) job }
-        ensures started { world_meaning.tells self.new → OnOk result (Starts job (world_meaning.counts self.old) (world_meaning.around self.old) (world_meaning.around self.new)) }
+        ensures started { tells self.new → OnOk result (Starts job (counts_in self.old) (around_in self.old) (around_in self.new)) }
         ensures refused { world_meaning.tells self.new → OnErr result (Asks (world_meaning.around self.old) (world_meaning.around self.new)) }
         ensures banks { world_meaning.tells self.new → BanksKept world_meaning self.old self.new }
         ensures told { Told world_meaning self.old self.new }
@@ -259,6 +268,7 @@ impl World for MemWorld {
         ensures rose { result ≡ Err AskRefusal.Fault → StartFails (world_meaning.counts self.old) (world_meaning.counts self.new) }
         ensures listed { Fails Call.Start self.old.calls → result ≡ Err AskRefusal.Fault }
         ensures only { result ≡ Err AskRefusal.Fault → Fails Call.Start self.old.calls ⊎ AreBlocked (world_meaning.around self.old) job.targets }
+        ensures raised { OnOk result (Raises job (around_of self.old.state) (around_of self.new.state)) }
         ensures clear { OnOk result (AreBlocked (world_meaning.around self.old) job.targets → ⊥) }
         ensures each { TreeCall Call.Start start_fault (result ≡ Err AskRefusal.Fault) self.old self.new }
     {
@@ -277,7 +287,7 @@ impl World for MemWorld {
     /// Ends the job that the orders choose: as the table says, or as the call is listed.
     fn wait(&mut self) -> Ended
         requires { world_meaning.tells self.old → (world_meaning.around self.old).running ≢ [] }
-        ensures around { world_meaning.tells self.new → Ends (world_meaning.sure self.new) result (world_meaning.around self.old) (world_meaning.around self.new) }
+        ensures around { tells self.new → Ends (world_meaning.sure self.new) result (around_in self.old) (around_in self.new) }
         ensures banks { world_meaning.tells self.new → BanksKept world_meaning self.old self.new }
         ensures told { Told world_meaning self.old self.new }
         ensures recalls { Recalls world_meaning self.old self.new }
@@ -286,9 +296,11 @@ impl World for MemWorld {
         ensures once { self.new.faults ≡ faults_after result.outcome self.old.faults }
         ensures chosen { (d : Running) → result.id ≡ (ended_by self.old d).job.id }
         ensures ends { (d : Running) → result.outcome ≡ unwrap_or (cut_of (verdict_of Call.Wait self.old.calls)) (row_ending self.old (ended_by self.old d)) }
-        ensures absent { (d : Running) (path : List ℕ) → result.outcome ≢ Outcome.Done → Contains (ended_by self.old d).job.targets path → (around_of self.new.state).tree path ≡ None }
-        ensures met { (d : Running) → result.outcome ≡ Outcome.Done → (around_of self.new.state).met ≡ (around_of self.old.state).met ++ row_contents self.old (ended_by self.old d) }
+        ensures absent { (d : Running) → LeavesNone (ended_by self.old d) result.outcome (around_of self.new.state) }
+        ensures met { (d : Running) → MeetsRow self.old (ended_by self.old d) result.outcome self.new }
         ensures unmet { result.outcome ≢ Outcome.Done → (around_of self.new.state).met ≡ (around_of self.old.state).met }
+        ensures rest { (around_of self.new.state).running ≡ remove (around_of self.old.state).running (place_by self.old) }
+        ensures dirs { SameDirs (around_of self.old.state) (around_of self.new.state) }
         ensures no_memory { result.outcome ≢ Outcome.NoMemory }
         ensures stamps { (d : Running) → Stamps (Contains (ended_by self.old d).job.targets) self.old.state self.new.state }
         ensures counted { self.new.calls ≡ counted Call.Wait self.old.calls }
@@ -312,6 +324,7 @@ impl MemWorld {
     ghost use Rattle.world_api.specs.Calls.{Removes};
     ghost use Rattle.world_api.specs.Meaning.{Recalls, Throughout, Meanwhile};
     ghost use Rattle.world_mem.specs.AsAround.{around_of};
+    ghost use Rattle.world_mem.specs.EachCall.{Uses, went};
     ghost use Rattle.world_mem.specs.Means.{world_meaning};
     ghost use Rattle.world_mem.specs.Room.{recorded};
     ghost use Rattle.std.specs.Prelude.{None};
@@ -330,6 +343,7 @@ impl MemWorld {
         ensures orders { self.new.orders ≡ self.old.orders }
         ensures table { self.new.state.table ≡ self.old.state.table }
         ensures stamp { self.new.state.stamp ≡ self.old.state.stamp }
+        ensures removals { Uses (went path.now (around_of self.old.state) (around_of self.new.state)) self.old self.new }
     {
         if !self.state.remove(path) {
             return;

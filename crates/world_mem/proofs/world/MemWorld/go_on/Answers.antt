@@ -1,4 +1,5 @@
-use Rattle.std.proofs.Common.{◌∙◌, ap, subst, List, ℕ, [], ◌∷◌, ◌++◌, Option, None}
+use Rattle.std.proofs.Common.{◌∙◌, ap, arith, length, subst, List, ℕ, [], ◌∷◌, ◌++◌, Option, None}
+use Rattle.std.proofs.lemmas.List.{length-reverse}
 use Rattle.mem_banks.specs.AsStore.{store_of}
 use Rattle.mem_banks.specs.Past.{bytes_in, IsLeft}
 use Rattle.mem_banks.specs.declared.change.Change.{Change}
@@ -39,3 +40,10 @@ returns-clause-spared c = λ call fails.
     let number = count_of call calls in
     fails (ap (λ (fuse : Option ℕ). verdict_by fuse (is_listed calls.failing.items call number)) c.spare.ensures.fuse
     ∙ ap (λ (failing : List (Call × ℕ)). verdict_by None (is_listed failing call number)) c.spare.ensures.failing)
+
+pub returns-clause-room : goal.returns-clause-room
+returns-clause-room c =
+    let banks = c.reset.new.self in
+    let none = ap length c.reset.ensures.changes in
+    let count = length-reverse banks.changes.items in
+    omega (arith, none, count, banks.changes.ok.0, c.leave.ensures.gone)
