@@ -1,2 +1,4 @@
 mod Walks
 mod Rules
+pub mod Visiting
+pub mod Naming

@@ -1,2 +1,3 @@
 -- Definitions that the contracts of the slow functions cite.
 pub mod Plain
+pub mod Orders

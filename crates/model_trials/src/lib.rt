@@ -3,5 +3,6 @@
 #![tactic(auto)]
 
 pub mod needs;
+pub mod order;
 pub mod reach;
 pub mod spots;

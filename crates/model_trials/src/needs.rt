@@ -36,7 +36,11 @@ fn add_rule_at(rules: &[PlainRule], path: &Spot, numbers: &mut Vec<usize>) -> Re
 
 /// Adds the rules of some paths, in order.
 #[tactic(auto, using(crate::proofs::Rules::one_more))]
-fn add_rules_at(rules: &[PlainRule], paths: &[Spot], numbers: &mut Vec<usize>) -> Result<(), Memory>
+pub(crate) fn add_rules_at(
+    rules: &[PlainRule],
+    paths: &[Spot],
+    numbers: &mut Vec<usize>,
+) -> Result<(), Memory>
     ensures { OnOk result (numbers.new.items
         ≡ numbers.old.items ++ map number (rules_at_of (declared_rule (map as_rule rules.now)) paths.now)) }
 {
