@@ -1,10 +1,11 @@
 //! What the slow functions say of a graph, as far as files were scanned.
 
-use crate::order::{add_below, list_at, visit};
+use crate::order::{add_below, list_at};
 use model_trials::needs::needs;
+use model_trials::order::in_order;
 use model_trials::reach::{PlainRule, reach, scan_list};
 use model_trials::spots::Spot;
-use scons_base::Memory;
+use scons_base::{Listing, Memory};
 use std::alloc::Global;
 
 /// More than the files that are scanned for a rule.
@@ -14,7 +15,7 @@ const LIMIT: usize = 16;
 #[derive(Drop)]
 pub struct Facts {
     pub order: Vec<usize>,
-    needs: Vec<Vec<usize>>,
+    needs: Vec<Listing<usize>>,
     deps: Vec<Vec<Spot>>,
     /// The files that aren't scanned yet.
     unscanned: Vec<Vec<Spot>>,
@@ -43,10 +44,22 @@ impl Facts {
         self.deps.clear();
         self.unscanned.clear();
         for rule in rules {
-            self.needs.push(needs(alloc, LIMIT, rules, rule)?)?;
+            self.take_needs(alloc, rules, rule)?;
             self.take_files(alloc, rule)?;
         }
         self.take_order(alloc)
+    }
+
+    /// What a rule needs.
+    fn take_needs(
+        &mut self,
+        alloc: Global,
+        rules: &[PlainRule],
+        rule: &PlainRule,
+    ) -> Result<(), Memory> {
+        let needed = needs(alloc, LIMIT, rules, rule)?;
+        self.needs.push(Listing::new(needed))?;
+        Ok(())
     }
 
     /// What a rule depends on, and what isn't scanned for it.
@@ -57,9 +70,13 @@ impl Facts {
     }
 
     fn take_order(&mut self, alloc: Global) -> Result<(), Memory> {
-        let came_to_end = visit(alloc, self.needs.as_slice(), &mut self.order)?;
+        self.is_whole = false;
+        let Some(order) = in_order(alloc, self.needs.as_slice(), &[0])? else {
+            return Ok(());
+        };
+        self.order = order;
         let needed = below(alloc, self.needs.as_slice(), &[0])?;
-        self.is_whole = came_to_end && are_same(needed.as_slice(), self.order.as_slice());
+        self.is_whole = are_same(needed.as_slice(), self.order.as_slice());
         self.is_cyclic = has_loop(alloc, self.needs.as_slice(), self.order.as_slice())?;
         Ok(())
     }
@@ -86,14 +103,14 @@ fn spots_at(lists: &[Vec<Spot>], number: usize) -> &[Spot] {
 }
 
 /// Some rules, and those that they lead to.
-fn below(alloc: Global, needs: &[Vec<usize>], numbers: &[usize]) -> Result<Vec<usize>, Memory> {
+fn below(alloc: Global, needs: &[Listing<usize>], numbers: &[usize]) -> Result<Vec<usize>, Memory> {
     let mut all = Vec::from_slice(alloc, numbers)?;
     add_below(needs, &mut all)?;
     Ok(all)
 }
 
 /// Whether one of these rules leads to itself.
-fn has_loop(alloc: Global, needs: &[Vec<usize>], numbers: &[usize]) -> Result<bool, Memory> {
+fn has_loop(alloc: Global, needs: &[Listing<usize>], numbers: &[usize]) -> Result<bool, Memory> {
     for number in numbers {
         if needs_itself(alloc, needs, *number)? {
             return Ok(true);
@@ -103,7 +120,7 @@ fn has_loop(alloc: Global, needs: &[Vec<usize>], numbers: &[usize]) -> Result<bo
 }
 
 /// Whether a rule leads to itself.
-fn needs_itself(alloc: Global, needs: &[Vec<usize>], number: usize) -> Result<bool, Memory> {
+fn needs_itself(alloc: Global, needs: &[Listing<usize>], number: usize) -> Result<bool, Memory> {
     let all = below(alloc, needs, list_at(needs, number))?;
     Ok(all.contains(&number))
 }
