@@ -4,10 +4,10 @@ use Rattle.std.specs.List.{slice_get}
 use Rattle.build_model.specs.Rules.{Path, Rule}
 use Rattle.build_model.specs.Reach.{has, reach}
 use Rattle.build_model.specs.Graphs.{declared_rule}
-use Rattle.build_model.specs.Needs.{RuleOf, with_rule, rules_at, needs_in_order, Visits, IsBuildOrder}
+use Rattle.build_model.specs.Needs.{RuleOf, with_rule, rules_at, needs_in_order, Visits}
 use Rattle.model_trials.specs.declared.reach.PlainRule.{PlainRule}
 use Rattle.model_trials.specs.Plain.{as_rule, number, included}
-use Rattle.model_trials.specs.Orders.{AreNumbered, AreNamed, IsWalked, rule_or, scans_or, numbered, numbers_needed, found_by}
+use Rattle.model_trials.specs.Orders.{AreNumbered, AreNamed, WalksFrom, IsOrderOf, rule_or, scans_or, numbered, numbers_needed, found_by}
 
 none_some : {A : Type 0} {B : Type 0} {x : A} → None ≡ Some x → B
 none_some e = cc e
@@ -101,8 +101,7 @@ module _ (rules : List PlainRule) (fit : AreNumbered rules) where
   pub walk_orders : (limit : ℕ) (requested : List Path) (needs : List (List ℕ)) (roots order : List ℕ) →
       needs ≡ map (numbers_needed (declared_rule (map as_rule rules)) limit) rules →
       roots ≡ map number (rules_at (declared_rule (map as_rule rules)) requested) →
-      ((name : ℕ → Rule) (needs_of : Rule → List Rule) → AreNamed name needs_of needs → IsWalked name needs_of roots order) →
-      IsBuildOrder (declared_rule (map as_rule rules)) limit (found_by rules) requested (map (numbered rules) order)
+      WalksFrom needs roots order → IsOrderOf limit rules requested order
   walk_orders limit requested needs roots order same from walked =
       let rule_of : RuleOf = declared_rule (map as_rule rules) in
       let w = walked (numbered rules) (needs_in_order rule_of limit (found_by rules))
@@ -117,10 +116,8 @@ module _ (rules : List PlainRule) (fit : AreNumbered rules) where
   pub answers_order : {E : Type 0} (limit : ℕ) (requested : List Path) (needs : List (List ℕ)) (roots : List ℕ) (r : Result (Option (Vec ℕ Global)) E) →
       needs ≡ map (numbers_needed (declared_rule (map as_rule rules)) limit) rules →
       roots ≡ map number (rules_at (declared_rule (map as_rule rules)) requested) →
-      IfOk r (λ answer. IfSome answer (λ order. (name : ℕ → Rule) (needs_of : Rule → List Rule) → AreNamed name needs_of needs →
-      IsWalked name needs_of roots order.items)) →
-      IfOk r (λ answer. IfSome answer (λ order.
-      IsBuildOrder (declared_rule (map as_rule rules)) limit (found_by rules) requested (map (numbered rules) order.items)))
+      IfOk r (λ answer. IfSome answer (λ order. WalksFrom needs roots order.items)) →
+      IfOk r (λ answer. IfSome answer (λ order. IsOrderOf limit rules requested order.items))
   answers_order limit requested needs roots (Ok None) same from h = tt
   answers_order limit requested needs roots (Ok (Some order)) same from h = walk_orders limit requested needs roots order.items same from h
   answers_order limit requested needs roots (Err e) same from h = tt

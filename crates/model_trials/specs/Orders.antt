@@ -1,8 +1,9 @@
 -- The build order of plain rules, each of which is named by the number of its place.
 use Rattle.std.specs.Prelude.{◌≡◌, ◌<◌, ◌++◌, ℕ, false, List, [], Option, Some, None, map, length, get_or}
 use Rattle.std.specs.List.{slice_get}
-use Rattle.build_model.specs.Rules.{Rule, content}
-use Rattle.build_model.specs.Needs.{RuleOf, Found, needs_in_order, Visits}
+use Rattle.build_model.specs.Rules.{Path, Rule, content}
+use Rattle.build_model.specs.Graphs.{declared_rule}
+use Rattle.build_model.specs.Needs.{RuleOf, Found, needs_in_order, Visits, IsBuildOrder}
 use Rattle.model_trials.specs.declared.reach.PlainRule.{PlainRule}
 use Rattle.model_trials.specs.declared.reach.Scan.{Scan}
 use Rattle.model_trials.specs.Plain.{as_rule, number, included}
@@ -60,6 +61,21 @@ pub record IsVisited (name : ℕ → Rule) (needs_of : Rule → List Rule) (met 
 pub record IsWalked (name : ℕ → Rule) (needs_of : Rule → List Rule) (numbers order : List ℕ) : Type 0 where
   pub met : List ℕ
   pub visits : Visits needs_of [] (map name numbers) (map name met) (map name order)
+
+-- a walk over numbers is one over the rules that they stand for, whatever rules these are
+abbrev pub WalksOn : List (List ℕ) → (met numbers after order longer : List ℕ) → Type 0
+WalksOn needs met numbers after order longer =
+    (name : ℕ → Rule) (needs_of : Rule → List Rule) → AreNamed name needs_of needs → IsVisited name needs_of met numbers after order longer
+
+-- a whole walk, from none met on
+abbrev pub WalksFrom : List (List ℕ) → (roots order : List ℕ) → Type 0
+WalksFrom needs roots order =
+    (name : ℕ → Rule) (needs_of : Rule → List Rule) → AreNamed name needs_of needs → IsWalked name needs_of roots order
+
+-- the rules of these numbers are the build order of the needed ones, as far as files were scanned
+abbrev pub IsOrderOf : ℕ → List PlainRule → List Path → List ℕ → Type 0
+IsOrderOf limit rules requested order =
+    IsBuildOrder (declared_rule (map as_rule rules)) limit (found_by rules) requested (map (numbered rules) order)
 
 -- the numbers of what a plain rule needs, in order
 abbrev pub numbers_needed : RuleOf → ℕ → PlainRule → List ℕ

@@ -1,10 +1,8 @@
 //! The build order, slowly: depth first over numbers of rules, as in `build_model`.
-ghost use Rattle.std.specs.Prelude.{◌≡◌, ◌∷◌, ◌++◌, [], ℕ, List, true, Ok, IfOk, OnOk, IfSome, map};
-ghost use Rattle.build_model.specs.Rules.{Rule};
+ghost use Rattle.std.specs.Prelude.{◌≡◌, ◌∷◌, ◌++◌, [], true, Ok, IfOk, OnOk, IfSome, map};
 ghost use Rattle.build_model.specs.Graphs.{declared_rule};
-ghost use Rattle.build_model.specs.Needs.{IsBuildOrder};
 ghost use Rattle.model_trials.specs.Plain.{as_rule};
-ghost use Rattle.model_trials.specs.Orders.{AreNumbered, AreNamed, IsVisited, IsWalked, numbers_needed, numbered, found_by};
+ghost use Rattle.model_trials.specs.Orders.{AreNumbered, WalksOn, WalksFrom, IsOrderOf, numbers_needed};
 
 use crate::needs::{add_rules_at, needs};
 use crate::reach::PlainRule;
@@ -34,8 +32,8 @@ fn visit(
     met: &mut Vec<usize>,
     order: &mut Vec<usize>,
 ) -> Result<bool, Memory>
-    ensures { result ≡ Ok true → (name : ℕ → Rule) (needs_of : Rule → List Rule) → AreNamed name needs_of needs.now →
-        IsVisited name needs_of met.old.items rules.now met.new.items order.old.items order.new.items }
+    ensures { result ≡ Ok true →
+        WalksOn needs.now met.old.items rules.now met.new.items order.old.items order.new.items }
 {
     for rule in rules {
         let is_whole = visit_one(needs, height, *rule, met, order)?;
@@ -55,8 +53,8 @@ fn visit_one(
     met: &mut Vec<usize>,
     order: &mut Vec<usize>,
 ) -> Result<bool, Memory>
-    ensures { result ≡ Ok true → (name : ℕ → Rule) (needs_of : Rule → List Rule) → AreNamed name needs_of needs.now →
-        IsVisited name needs_of met.old.items (rule ∷ []) met.new.items order.old.items order.new.items }
+    ensures { result ≡ Ok true →
+        WalksOn needs.now met.old.items (rule ∷ []) met.new.items order.old.items order.new.items }
 {
     let is_met = met.contains(&rule);
     if is_met {
@@ -96,8 +94,7 @@ pub fn build_order(
     requested: &[Spot],
 ) -> Result<Option<Vec<usize>>, Memory>
     requires { AreNumbered rules.now }
-    ensures { IfOk result (λ answer. IfSome answer (λ order. IsBuildOrder (declared_rule (map as_rule rules.now)) limit
-        (found_by rules.now) requested.now (map (numbered rules.now) order.items))) }
+    ensures { IfOk result (λ answer. IfSome answer (λ order. IsOrderOf limit rules.now requested.now order.items)) }
 {
     let mut all = Vec::new(alloc);
     needs_of_all(alloc, limit, rules, &mut all)?;
@@ -112,8 +109,7 @@ pub fn in_order(
     needs: &[Listing<usize>],
     roots: &[usize],
 ) -> Result<Option<Vec<usize>>, Memory>
-    ensures { IfOk result (λ answer. IfSome answer (λ order. (name : ℕ → Rule) (needs_of : Rule → List Rule) →
-        AreNamed name needs_of needs.now → IsWalked name needs_of roots.now order.items)) }
+    ensures { IfOk result (λ answer. IfSome answer (λ order. WalksFrom needs.now roots.now order.items)) }
 {
     let mut met = Vec::new(alloc);
     let mut order = Vec::new(alloc);
