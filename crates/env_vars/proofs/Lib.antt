@@ -2,4 +2,3 @@ pub mod ChainLemmas
 pub mod PairLemmas
 pub mod VarLemmas
 pub mod GivenTexts
-pub mod Lengths
