@@ -51,7 +51,7 @@ one_none : (r : ℕ) → state_of (Unneeded ∷ []) r ≡ Unneeded
 one_none zero = refl
 one_none (suc r) = refl
 
-add_none : (a : List RuleState) (r : ℕ) → state_of (a ++ Unneeded ∷ []) r ≡ state_of a r
+pub add_none : (a : List RuleState) (r : ℕ) → state_of (a ++ Unneeded ∷ []) r ≡ state_of a r
 add_none [] r = one_none r
 add_none (x ∷ xs) zero = refl
 add_none (x ∷ xs) (suc r) = add_none xs r

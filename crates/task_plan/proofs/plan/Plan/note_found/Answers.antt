@@ -17,6 +17,13 @@ take-requires-clause-within c =
     let at = slice_get_read i.tasks.items (length i.tasks.items) c.args.rule.0 c.index_mut.result.now refl within c.index_mut.ensures.value in
     (tracked_at i.states i.queue i.tasks.items i.files.origins.items i.scannable c.args.rule.0 c.index_mut.result.now c.self.invariant at).needs.within
 
+pub take-requires-clause-listing : goal.take-requires-clause-listing
+take-requires-clause-listing c =
+    let i = c.self.inside in
+    let within : c.args.rule.0 < length i.tasks.items = omega (arith, i.tasks.ok.0, c.len.ensures, c.if-number-len.false) in
+    let at = slice_get_read i.tasks.items (length i.tasks.items) c.args.rule.0 c.index_mut.result.now refl within c.index_mut.ensures.value in
+    (tracked_at i.states i.queue i.tasks.items i.files.origins.items i.scannable c.args.rule.0 c.index_mut.result.now c.self.invariant at).listing
+
 pub invariant_of-self : goal.invariant_of-self
 invariant_of-self c =
     let i = c.self.inside in
@@ -26,7 +33,7 @@ invariant_of-self c =
     let not = c.if-not-contains.false in
     let marked : get_or i.scannable c.args.rule.0 false ≡ true = cc in
     rw c.put.ensures
-    (tracked_take i.states i.queue i.tasks.items i.files.origins.items i.scannable c.args.rule.0 c.index_mut.result.now c.take.new.self at marked c.take.ensures.needs c.take.ensures.scanned c.self.invariant)
+    (tracked_take i.states i.queue i.tasks.items i.files.origins.items i.scannable c.args.rule.0 c.index_mut.result.now c.take.new.self at marked c.take.ensures.needs c.take.ensures.scanned c.take.ensures.listing c.self.invariant)
 
 pub invariant_of-self-in-Some : goal.invariant_of-self-in-Some
 invariant_of-self-in-Some c =
@@ -37,4 +44,4 @@ invariant_of-self-in-Some c =
     let not = c.if-not-contains.false in
     let marked : get_or i.scannable c.args.rule.0 false ≡ true = cc in
     rw c.put.ensures
-    (tracked_take i.states i.queue i.tasks.items i.files.origins.items i.scannable c.args.rule.0 c.index_mut.result.now c.take.new.self at marked c.take.ensures.needs c.take.ensures.scanned c.self.invariant)
+    (tracked_take i.states i.queue i.tasks.items i.files.origins.items i.scannable c.args.rule.0 c.index_mut.result.now c.take.new.self at marked c.take.ensures.needs c.take.ensures.scanned c.take.ensures.listing c.self.invariant)
