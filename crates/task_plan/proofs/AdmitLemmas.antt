@@ -444,6 +444,12 @@ module _ (g : RuleGraph) where
   fits_step a b (Absent rule node) w s k f = fits_decided a b rule.0 Lacking (is_open a.queue rule.0) w refl s k f
   fits_step a b Halt w s k f = λ r ne. known_same a b r k (f r (λ u. ne (ap (λ x. state_of x r) s ∙ u)))
 
+-- there is room, then rules are met and admitted, and then nothing further is
+pub begins : (g : RuleGraph) (a b c d : Planned) → Widens a b → Admits g b c none [] → Stays c d → Admits g a d none []
+begins g a b c d w k s = admits_then g a c d none [] [] (admits_then g a b c none [] [] (admits_widens g a b w) k) (admits_widens g c d (widens_stays c d s))
+
+pub ruleset beginning = (begins, widens_stays)
+
 pub ruleset meeting = (brings_none, brings_then, brings_begun, widens_stays, widens_same)
 
 pub ruleset admitting = (brings_put, brings_then, brings_none, widens_stays, widens_same)

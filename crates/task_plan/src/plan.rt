@@ -6,8 +6,8 @@ ghost use Rattle.scons_base.specs.declared.ids.RuleId.{RuleId};
 ghost use Rattle.scons_base.specs.declared.ids.NodeId.{NodeId};
 ghost use Rattle.task_plan.specs.States.{is_running, state_of};
 ghost use Rattle.task_plan.specs.Settled.{deps_of};
-ghost use Rattle.task_plan.specs.Plans.{AreMet, IsDecidedNext, IsScannedNext, IsReadyToScan, IsIdle, Goes, GoesOn, is_scan, is_halt};
-ghost use Rattle.task_plan.specs.Admits.{Fits, AllFollow, IsFirstAt, Knows};
+ghost use Rattle.task_plan.specs.Plans.{AreMet, Meets, IsDecidedNext, IsScannedNext, IsReadyToScan, IsIdle, Goes, GoesOn, is_scan, is_halt};
+ghost use Rattle.task_plan.specs.Admits.{Admits, Fits, AllFollow, IsFirstAt, Knows, none};
 
 use crate::cycles::cycle_of;
 use crate::files::Files;
@@ -72,7 +72,19 @@ impl Plan {
         ensures fits { IfOk result (λ plan. Fits graph.now plan) }
         ensures follow { IfOk result AllFollow }
     {
-        let mut plan = Plan {
+        let mut plan = Plan::empty(alloc)?;
+        plan.begin(graph, requested)?;
+        plan.follows();
+        Ok(plan)
+    }
+
+    /// A plan that knows of nothing.
+    #[tactic(auto, using(crate::proofs::TrackLemmas::tracked_nothing))]
+    fn empty(alloc: Global) -> Result<Plan, Memory>
+        ensures states { IfOk result (λ plan. plan.states ≡ []) }
+        ensures halted { IfOk result (λ plan. plan.halted ≡ false) }
+    {
+        Ok(Plan {
             states: States::new(alloc),
             queue: Queue::new(alloc, 0, Vec::new(alloc))?,
             is_ordered: false,
@@ -82,12 +94,18 @@ impl Plan {
             scannable: Marks::new(alloc, 0)?,
             halted: false,
             alloc,
-        };
-        plan.make_room(graph)?;
-        plan.meet_roots(graph, requested)?;
-        plan.put_in_order()?;
-        plan.follows();
-        Ok(plan)
+        })
+    }
+
+    /// Meets what is requested, and takes in what it needs.
+    #[tactic(auto, using(crate::proofs::AdmitLemmas::beginning))]
+    fn begin(&mut self, graph: &Graph, requested: &[NodeId]) -> Result<(), Memory>
+        ensures meets { Meets self.old self.new }
+        ensures admits { OnOk result (Admits graph.now self.old self.new none []) }
+    {
+        self.make_room(graph)?;
+        self.meet_roots(graph, requested)?;
+        self.put_in_order()
     }
 
     /// The lists of each rule follow from its scans, at all times.
