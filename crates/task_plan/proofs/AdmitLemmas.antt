@@ -365,6 +365,36 @@ module _ (g : RuleGraph) where
   pub scans_on : (a b c d : Planned) (rule : ℕ) (inc : List NodeId) → NotesFile a b rule inc → b.states ≡ a.states → Admits g b c none [] → Widens c d → Scans g a rule inc d
   scans_on a b c d rule inc n e k w = scans_file a b d rule inc n e (admits_on b c d none k w)
 
+  -- what was noted was taken in, or nothing was, and then nothing further is known
+  pub scans_noted : {X : Type 0} (a b c d : Planned) (rule : ℕ) (inc : List NodeId) (o : Option X) → MatchOption o (NotesNone a b rule) (λ _. NotesFile a b rule inc) → b.states ≡ a.states
+      → MatchOption o (c ≡ b) (λ _. Admits g b c none []) → Stays c d → Scans g a rule inc d
+  scans_noted a b c d rule inc None n e k s = scans_unnoted a b d rule inc n (rw (sym k) s)
+  scans_noted a b c d rule inc (Some x) n e k s = scans_on a b c d rule inc n e k (widens_stays c d s)
+
+  scans_still_at : (a b c : Planned) (rule : ℕ) (inc : List NodeId) (o : Option NodeId) → MatchOption o (IsUnchanged a b) (λ file. ScansFile g a b rule file inc) → c.states ≡ b.states → c.rules ≡ b.rules
+      → MatchOption o (IsUnchanged a c) (λ file. ScansFile g a c rule file inc)
+  scans_still_at a b c rule inc None u e f = record { states = e ∙ u.states; rules = f ∙ u.rules }
+  scans_still_at a b c rule inc (Some file) s e f = record {
+    this = record {
+      before = s.this.before;
+      was = s.this.was;
+      after = s.this.after;
+      is = ap (λ y. slice_get y rule) f ∙ s.this.is;
+      required = s.this.required;
+      named = s.this.named;
+      sources = s.this.sources;
+      left_out = s.this.left_out;
+      found = s.this.found;
+      whole = s.this.whole;
+    };
+    others = λ r x ne needed at. ap (λ y. slice_get y r) f ∙ s.others r x ne needed at;
+    met = λ r u ne. rw f (s.met r u (λ v. ne (ap (λ y. state_of y r) e ∙ v)));
+  }
+
+  -- nothing further is known where neither states nor rules change
+  pub scans_still : (a b c : Planned) (rule : ℕ) (inc : List NodeId) → Scans g a rule inc b → c.states ≡ b.states → c.rules ≡ b.rules → Scans g a rule inc c
+  scans_still a b c rule inc s e f = scans_still_at a b c rule inc (wanted a rule) s e f
+
   unneeded_or : (x : RuleState) → (x ≡ Unneeded) ⊎ (x ≢ Unneeded)
   unneeded_or Unneeded = inl refl
   unneeded_or Waiting = inr (λ e. cc)

@@ -5,6 +5,7 @@ use Rattle.std.specs.List.{IsDistinct, AllByRecursion}
 use Rattle.std.specs.Map.{lookup}
 use Rattle.std.specs.Option.{option_map}
 use Rattle.std.proofs.lemmas.Map.Made.{lookup-map_values}
+use Rattle.std.proofs.lemmas.Map.Keys.{IsDistinct-head, IsDistinct-tail}
 use Rattle.std.proofs.lemmas.Bool.Decides.{nat_tests}
 use Rattle.std.proofs.lemmas.List.Quantifiers.{position-Some}
 use Rattle.std.proofs.lemmas.List.{take-append-le, take_all, drop_at, length-take-le}
@@ -200,9 +201,9 @@ all_at P (y ∷ xs) (suc i) x a e = all_at P xs i x a.1 e
 distinct_at : (eq : NodeId → NodeId → Bool) (xs : List NodeId) (i j : ℕ) (x y : NodeId) → IsDistinct eq xs → slice_get xs i ≡ Some x → slice_get xs j ≡ Some y → i < j → eq x y ≡ false
 distinct_at eq [] i j x y d e f lt = absurd (none-some x e)
 distinct_at eq (z ∷ xs) zero zero x y d e f lt = absurd (omega arith)
-distinct_at eq (z ∷ xs) zero (suc j) x y d e f lt = let same : z ≡ x = same_Some z x e in rw (sym same) (all_at (λ v. eq z v ≡ false) xs j y d.0 f)
+distinct_at eq (z ∷ xs) zero (suc j) x y d e f lt = let same : z ≡ x = same_Some z x e in rw (sym same) (all_at (λ v. eq z v ≡ false) xs j y (IsDistinct-head eq z xs d) f)
 distinct_at eq (z ∷ xs) (suc i) zero x y d e f lt = absurd (omega arith)
-distinct_at eq (z ∷ xs) (suc i) (suc j) x y d e f lt = distinct_at eq xs i j x y d.1 e f (omega arith)
+distinct_at eq (z ∷ xs) (suc i) (suc j) x y d e f lt = distinct_at eq xs i j x y (IsDistinct-tail eq z xs d) e f (omega arith)
 
 flip : (m n : ℕ) → nat_eq m n ≡ false → nat_eq n m ≡ false
 flip m n e = grind (arith, nat_tests)

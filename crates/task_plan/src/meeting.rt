@@ -74,7 +74,8 @@ impl Plan {
     {
         if self.tasks.len() > self.scannable.room() {
             let size = self.tasks.len().saturating_mul(2);
-            self.scannable = self.scannable.widened(self.alloc, size)?;
+            let marks = self.scannable.widened(self.alloc, size)?;
+            self.scannable = marks;
         }
         Ok(())
     }
@@ -165,7 +166,7 @@ impl Plan {
     fn note_origin(&mut self, node: NodeId, origin: Origin)
         ensures { Stays self.old self.new }
     {
-        if self.files.origin(node) == Origin::Unmet {
+        if self.files.is_unmet(node) {
             self.files.set_origin(node, origin);
         }
     }
@@ -190,7 +191,7 @@ impl Plan {
         ensures admits { OnOk result (Admits graph.now self.old self.new (queues needed.items) []) }
     {
         for place in 0..usize::MAX {
-            let Some(rule) = needed.get(place).copied() else {
+            let Some(rule) = rule_at(&needed, place) else {
                 return Ok(());
             };
             self.admit_one(graph, rule, &mut needed)?;
@@ -321,6 +322,13 @@ impl Plan {
             self.scannable.put(number, is_there);
         }
     }
+}
+
+/// The rule at this place.
+fn rule_at(rules: &Vec<RuleId>, place: usize) -> Option<RuleId>
+    ensures { result ≡ slice_get rules.now.items place }
+{
+    rules.get(place).copied()
 }
 
 /// Whether a file of a rule stands at this place.

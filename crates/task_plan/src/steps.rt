@@ -28,10 +28,17 @@ impl Plan {
             return Ok(());
         }
         let taken = self.scanned(graph, rule, found);
-        if taken.is_err() {
-            self.halted = true;
-        }
+        self.halt_where(taken.is_err());
         taken
+    }
+
+    /// Nothing further is done where this is so.
+    fn halt_where(&mut self, fails: bool)
+        ensures states { self.new.states ≡ self.old.states }
+        ensures halted { self.new.halted ≡ (self.old.halted || fails) }
+        ensures rules { self.new.rules ≡ self.old.rules }
+    {
+        self.halted = self.halted || fails;
     }
 
     /// A rule that could be decided is fresh.
@@ -83,9 +90,28 @@ impl Plan {
         ensures meets { Meets self.old self.new }
         ensures scans { OnOk result (Scans graph.now self.old rule.0 found.items self.new) }
     {
-        if let Some(growth) = self.note_found(rule, found)? {
-            self.take_growth(graph, rule, &growth)?;
+        let noted = self.note_found(rule, found)?;
+        self.take_noted(graph, rule, &noted)?;
+        self.look_on(rule)?;
+        Ok(())
+    }
+
+    /// Takes in what was noted, where something was.
+    fn take_noted(&mut self, graph: &Graph, rule: RuleId, noted: &Option<Growth>) -> Result<(), Memory>
+        ensures meets { Meets self.old self.new }
+        ensures admits { OnOk result (MatchOption noted.now (self.new ≡ self.old)
+            (λ _. Admits graph.now self.old self.new none [])) }
+    {
+        match noted {
+            Some(growth) => self.take_growth(graph, rule, growth),
+            None => Ok(()),
         }
+    }
+
+    /// Sees to the order, and whether a rule can be decided.
+    fn look_on(&mut self, rule: RuleId) -> Result<(), Memory>
+        ensures { Stays self.old self.new }
+    {
         self.put_in_order()?;
         self.note_decidable(rule);
         Ok(())
@@ -105,8 +131,7 @@ impl Plan {
         if number >= self.tasks.len() {
             return Ok(None);
         }
-        let next = self.tasks[number].reach.next;
-        match self.tasks[number].reach.files.get_index(next).copied() {
+        match self.tasks[number].next_file() {
             Some(node) => {
                 self.scannable.put(number, false);
                 Ok(Some(self.tasks[number].take(node, found)?))

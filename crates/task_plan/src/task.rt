@@ -1,6 +1,6 @@
 //! What the plan keeps of a rule.
 ghost use Rattle.std.specs.Prelude.{◌≡◌, ◌≤◌, true, length, slice_get, IfOk, OnOk};
-ghost use Rattle.task_plan.specs.Settled.{needs_of, AreDoneTo, AreScannedTo, IsDoneAt, KeepsNeeds, IsThrough};
+ghost use Rattle.task_plan.specs.Settled.{needs_of, next_of, AreDoneTo, AreScannedTo, IsDoneAt, KeepsNeeds, IsThrough};
 ghost use Rattle.task_plan.specs.Loaded.{IsBlank};
 ghost use Rattle.task_plan.specs.Listed.{AreDeps, IsGrown, IsListing, KeepsNamed, KeepsNames, Takes};
 
@@ -67,6 +67,13 @@ impl Task {
         } else {
             self.deps.get_index(place - self.required.len()).copied()
         }
+    }
+
+    /// The file that is looked at next.
+    pub(crate) fn next_file(&self) -> Option<NodeId>
+        ensures { result ≡ next_of self.now }
+    {
+        self.reach.files.get_index(self.reach.next).copied()
     }
 
     /// The place of the first need that isn't done, from where the rule stands on.
