@@ -291,6 +291,17 @@ module _ (g : RuleGraph) where
       let e : p ≡ k.more = k.is in
       admits_all a b c k.more k.admits (rw e at l)
 
+  pub brings_rules : (a b : Planned) (p : List RuleId) → Brings g a b none [] p → are_rules g p ≡ true
+  brings_rules a b p k =
+      let e : p ≡ k.more = k.is in
+      ap (are_rules g) e ∙ k.rules
+
+  -- there is room, some are met, nothing further is known for a while, and then all of them are admitted
+  pub grows : (a b c d e f h : Planned) (p : List RuleId) → Widens a b → Brings g b c none [] p → Stays c d → Stays d e → f ≡ e → Admits g f h (queues p) [] → Admits g a h none []
+  grows a b c d e f h p w k s t same l =
+      let on : Widens c f = widens_trans c d f (widens_stays c d s) (widens_trans d e f (widens_stays d e t) (widens_same e f same)) in
+      brings_all a f h p (brings_widens a c f none [] p (widens_brings a b c [] p w k) on) l
+
   met_by : (a b : Planned) (r : ℕ) → state_of b.states r ≢ Unneeded → StaysAt a b none [] r ⊎ ComesAt g a b none [] r → state_of a.states r ≡ Unneeded → IsFirstAt g b.rules r
   met_by a b r ne (inl k) e = absurd (ne (k.same.state ∙ e))
   met_by a b r ne (inr k) e = met_to k.to

@@ -88,7 +88,8 @@ impl Plan {
     {
         let mut needed = Vec::new(self.alloc);
         self.meet_requested(graph, requested, &mut needed)?;
-        self.admit(graph, needed)
+        self.admit(graph, needed)?;
+        Ok(())
     }
 
     #[tactic(auto, using(crate::proofs::AdmitLemmas::meeting))]

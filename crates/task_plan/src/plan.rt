@@ -105,7 +105,8 @@ impl Plan {
     {
         self.make_room(graph)?;
         self.meet_roots(graph, requested)?;
-        self.put_in_order()
+        self.put_in_order()?;
+        Ok(())
     }
 
     /// The lists of each rule follow from its scans, at all times.

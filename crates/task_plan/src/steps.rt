@@ -153,7 +153,8 @@ impl Plan {
         let start = self.scan_start(rule);
         self.find_ready(rule, start);
         self.note_growth(rule, growth);
-        self.admit(graph, needed)
+        self.admit(graph, needed)?;
+        Ok(())
     }
 
     /// Meets what a scan of a rule's file has found.
