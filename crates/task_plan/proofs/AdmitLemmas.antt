@@ -206,7 +206,9 @@ module _ (g : RuleGraph) where
 
   put_here : (a b : Planned) (rule : ℕ) (of : Rule) (task : Task) (x : Option Kept) → slice_get a.rules rule ≡ x → b.states ≡ a.states → b.rules ≡ set a.rules rule (kept_of task) → length a.states ≤ length a.rules
       → slice_get g.rules rule ≡ Some of → IsTaskOf g of task → Admission g b [] rule
-  put_here a b rule of task None e s f room at t = inr (inl (ap (λ y. state_of y rule) s ∙ past a.states rule (past_of a.rules rule room e)))
+  put_here a b rule of task None e s f room at t =
+      let n : length a.rules ≤ rule = none_past a.rules rule e in
+      inr (inl (ap (λ y. state_of y rule) s ∙ past a.states rule (omega arith)))
   put_here a b rule of task (Some k) e s f room at t = inl (record {
     of = of;
     at = at;
