@@ -237,6 +237,13 @@ module _ (g : RuleGraph) where
     admits = record { each = λ r. put_at a b rule r of task (apart r rule) s f room at t };
   }
 
+  -- it is, and what it needs is met
+  pub brings_one : (a b c d e : Planned) (rule : ℕ) (of : Rule) (task : Task) (p q : List RuleId) → b.states ≡ a.states → b.rules ≡ set a.rules rule (kept_of task) → length a.states ≤ length a.rules
+      → slice_get g.rules rule ≡ Some of → IsTaskOf g of task → Brings g b c none p q → Stays c d → Stays d e → Brings g a e (nat_eq rule) p q
+  brings_one a b c d e rule of task p q s f room at t k u v =
+      brings_widens a c e (nat_eq rule) p q (brings_then a b c (nat_eq rule) p p q (brings_put a b rule of task p s f room at t) k)
+      (widens_trans c d e (widens_stays c d u) (widens_stays d e v))
+
   first_at : (a : Planned) (q : List RuleId) (r : ℕ) (x : Bool) → queues q r ≡ x → StaysAt a a (queues q) q r ⊎ ComesAt g a a (queues q) q r
   first_at a q r true h = inr (record { from = inr h; to = inr (inr h) })
   first_at a q r false h = inl (record { same = same_at a a r refl refl; skipped = h; queued = h })

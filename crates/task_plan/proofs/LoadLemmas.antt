@@ -59,41 +59,56 @@ scanned_named_by false graph rule n h = absurd (cc)
 scanned_named : (graph : RuleGraph) (rule : Rule) (n : NodeId) → stands (scanned_of graph rule) n ≡ true → stands (named_of rule) n ≡ true
 scanned_named graph rule n h = scanned_named_by rule.scans graph rule n h
 
+abbrev kept_with : List NodeId → List NodeId → List NodeId → List NodeId → List NodeId → List NodeId → List (NodeId × List NodeId) → Bool → Kept
+kept_with a b c d e f g h = record { required = a; named = b; sources = c; left_out = d; deps = e; files = f; found = g; whole = h }
+
+same_kept : (a b c d e f i j k l m n : List NodeId) (g o : List (NodeId × List NodeId)) (h p : Bool) → a ≡ i → b ≡ j → c ≡ k → d ≡ l → e ≡ m → f ≡ n → g ≡ o → h ≡ p → kept_with a b c d e f g h ≡ kept_with i j k l m n o p
+same_kept a b c d e f i j k l m n g o h p q r s t u v w x = rw (q, r, s, t, u, v, w, x) refl
+
+-- a rule's lists where nothing was scanned
+first_listing : (graph : RuleGraph) (rule : Rule) (c : Task) → c.deps.keys ≡ named_of rule → c.named ≡ length (named_of rule) → take c.named c.deps.keys ≡ named_of rule → c.reach.files.keys ≡ scanned_of graph rule
+    → c.reach.sources ≡ length (scanned_of graph rule) → c.reach.found.entries ≡ [] → IsListing c
+first_listing graph rule c deps named first files sources found =
+    let k : length c.deps.keys ≡ length (named_of rule) = ap length deps in
+    let l : length c.reach.files.keys ≡ length (scanned_of graph rule) = ap length files in
+    let there : put_all [] (named_of rule) (scanned_of graph rule) ≡ named_of rule = put_all_there (named_of rule) (scanned_of graph rule) (scanned_named graph rule) in
+    let own : put_all [] (take c.named c.deps.keys) c.reach.files.keys ≡ put_all [] (named_of rule) (scanned_of graph rule) =
+    ap (λ (ys : List NodeId). put_all [] ys c.reach.files.keys) first ∙ ap (λ (ys : List NodeId). put_all [] (named_of rule) ys) files in
+    let all : c.deps.keys ≡ put_all [] (take c.named c.deps.keys) c.reach.files.keys = deps ∙ sym there ∙ sym own in
+    let walked : IsWalked c.reach = walked_first c.reach (sources ∙ sym l) found in
+    listing_of c (named ∙ sym k) (sources ∙ sym l) all walked
+  where
+    listing_of : (c : Task) → c.named ≡ length c.deps.keys → c.reach.sources ≡ length c.reach.files.keys → c.deps.keys ≡ put_all [] (take c.named c.deps.keys) c.reach.files.keys → IsWalked c.reach → IsListing c
+    listing_of c n s d w = record { named = omega arith; sources = omega arith; listed = λ h. record { deps = d; reach = w } }
+
 -- the needs were noted, and then the targets
 pub task_loaded : (graph : RuleGraph) (rule : Rule) (b c : Task) → NotesNeeds graph rule b
     → c ≡ record b { targets = c.targets; reach = record b.reach { excluded = c.reach.excluded } } → c.targets.items ≡ b.targets.items ++ rule.targets → c.reach.excluded.keys ≡ with_targets rule b.reach.excluded.keys
     → IsTaskOf graph rule c
 task_loaded graph rule b c n e t x =
-    let required : c.required.items ≡ rule.required = ap (λ y. y.required.items) e ∙ n.required in
-    let deps : c.deps.keys ≡ named_of rule = ap (λ y. y.deps.keys) e ∙ n.deps in
-    let named : c.named ≡ length (named_of rule) = ap (λ y. y.named) e ∙ n.named in
-    let files : c.reach.files.keys ≡ scanned_of graph rule = ap (λ y. y.reach.files.keys) e ∙ n.files in
-    let sources : c.reach.sources ≡ length (scanned_of graph rule) = ap (λ y. y.reach.sources) e ∙ n.sources in
-    let found : c.reach.found.entries ≡ [] = ap (λ y. y.reach.found.entries) e ∙ n.found in
-    let listed : c.is_listed ≡ true = ap (λ y. y.is_listed) e ∙ n.listed in
+    let req : c.required.items ≡ rule.required = ap (λ (y : Task). y.required.items) e ∙ n.required in
+    let dep : c.deps.keys ≡ named_of rule = ap (λ (y : Task). y.deps.keys) e ∙ n.deps in
+    let nam : c.named ≡ length (named_of rule) = ap (λ (y : Task). y.named) e ∙ n.named in
+    let fil : c.reach.files.keys ≡ scanned_of graph rule = ap (λ (y : Task). y.reach.files.keys) e ∙ n.files in
+    let src : c.reach.sources ≡ length (scanned_of graph rule) = ap (λ (y : Task). y.reach.sources) e ∙ n.sources in
+    let ent : c.reach.found.entries ≡ [] = ap (λ (y : Task). y.reach.found.entries) e ∙ n.found in
+    let lis : c.is_listed ≡ true = ap (λ (y : Task). y.is_listed) e ∙ n.listed in
     let out : c.reach.excluded.keys ≡ left_out_of rule = x ∙ ap (with_targets rule) n.excluded in
-    let first : take c.named c.deps.keys ≡ named_of rule = ap (take c.named) deps ∙ take_all c.named (named_of rule) (omega arith) in
-    let own : take c.reach.sources c.reach.files.keys ≡ scanned_of graph rule = ap (take c.reach.sources) files ∙ take_all c.reach.sources (scanned_of graph rule) (omega arith) in
-    record {
-      passed = ap (λ y. y.passed) e ∙ n.passed;
-      whole = ap (λ y. y.reach.whole) e ∙ n.whole;
-      targets = t ∙ ap (λ ys. ys ++ rule.targets) n.targets;
-      kept = kept_same graph rule c required first own out deps files (ap (map (λ y. (y.0, y.1.items))) found) listed;
-      listing = record {
-        named = let k = ap length deps in omega arith;
-        sources = let k = ap length files in omega arith;
-        listed = λ h. record {
-          deps = deps ∙ sym (put_all_there (named_of rule) (scanned_of graph rule) (scanned_named graph rule)) ∙ ap (λ ys. put_all [] ys (scanned_of graph rule)) (sym first)
-              ∙ ap (put_all [] (take c.named c.deps.keys)) (sym files);
-          reach = walked_first c.reach (let k = ap length files in omega arith) found;
-        };
-      };
-    }
+    let first : take c.named c.deps.keys ≡ named_of rule = ap (take c.named) dep ∙ take_by c.named (named_of rule) nam in
+    let own : take c.reach.sources c.reach.files.keys ≡ scanned_of graph rule = ap (take c.reach.sources) fil ∙ take_by c.reach.sources (scanned_of graph rule) src in
+    let none : found_of c.reach ≡ [] = ap (map (λ y. (y.0, y.1.items))) ent in
+    let kept : kept_of c ≡ first_kept graph rule = same_kept _ _ _ _ _ _ _ _ _ _ _ _ _ _ _ _ req first own out dep fil none lis in
+    let listing : IsListing c = first_listing graph rule c dep nam first fil src ent in
+    let passed : c.passed ≡ 0 = ap (λ (y : Task). y.passed) e ∙ n.passed in
+    let whole : c.reach.whole ≡ 0 = ap (λ (y : Task). y.reach.whole) e ∙ n.whole in
+    let targets : c.targets.items ≡ rule.targets = t ∙ ap (λ (ys : List NodeId). ys ++ rule.targets) n.targets in
+    is_task c passed whole targets kept listing
   where
-    kept_same : (graph : RuleGraph) (rule : Rule) (c : Task) → c.required.items ≡ rule.required → take c.named c.deps.keys ≡ named_of rule → take c.reach.sources c.reach.files.keys ≡ scanned_of graph rule
-        → c.reach.excluded.keys ≡ left_out_of rule → c.deps.keys ≡ named_of rule → c.reach.files.keys ≡ scanned_of graph rule → map (λ y. (y.0, y.1.items)) c.reach.found.entries ≡ [] → c.is_listed ≡ true
-        → kept_of c ≡ first_kept graph rule
-    kept_same graph rule c a b d e f g h i = cc
+    take_by : (n : ℕ) (xs : List NodeId) → n ≡ length xs → take n xs ≡ xs
+    take_by n xs e = take_all n xs (omega arith)
+
+    is_task : (c : Task) → c.passed ≡ 0 → c.reach.whole ≡ 0 → c.targets.items ≡ rule.targets → kept_of c ≡ first_kept graph rule → IsListing c → IsTaskOf graph rule c
+    is_task c p w t k l = record { passed = p; whole = w; targets = t; kept = k; listing = l }
 
 -- nothing was noted of a rule
 pub listing_blank : (t : Task) → IsBlank t → IsListing t

@@ -12,13 +12,13 @@ use Rattle.std.proofs.lemmas.List.{take-append-le, take_all, drop_at, length-tak
 use Rattle.std.proofs.lemmas.Option.{slice_get_within, slice_get-get_or, same_Some, none-some}
 use Rattle.indexmap.specs.IndexMap.{insert_entry}
 use Rattle.scons_base.specs.declared.ids.NodeId.{NodeId}
-use Rattle.task_plan.specs.Settled.{IsLonger, is_scanned, AreScannedIn}
+use Rattle.task_plan.specs.Settled.{IsLonger, is_scanned}
 use Rattle.task_plan.specs.Named.{put_all}
 use Rattle.task_plan.specs.Listed.{included, found_of, with_found, sources_in, IsFoundBefore, IsReachTo, IsReach, AreAhead, AreAheadTo, IsWalked, IsWalking, IsNext, IsAppended, IsSameReach}
 use Rattle.task_plan.specs.declared.reach.Reach.{Reach}
 use Rattle.task_plan.proofs.MarkLemmas.{apart}
 use Rattle.task_plan.proofs.PlanLemmas.{true_false}
-use Rattle.task_plan.proofs.ListLemmas.{get-front, get-within, longer_same, some_lookup, scanned_longer, scanned_insert}
+use Rattle.task_plan.proofs.ListLemmas.{get-front, get-within, longer_same, some_lookup}
 use Rattle.task_plan.proofs.WalkLemmas.{reach_next, reach_skip, reach_back, reach_all, reach_to_all, reach_insert, reach_none, scanned_other, included_this, node_same}
 
 -- whether a file was scanned, by what contracts see of the scans
@@ -232,24 +232,3 @@ is_next r file place e d from =
     other_by : (n : ℕ) (other : NodeId) → slice_get r.files.keys n ≡ Some other → n ≢ place → slice_get r.files.keys place ≡ Some file → (n < place) ⊎ (place ≤ n) → nat_eq other.0 file.0 ≡ false
     other_by n other there ne at (inl lt) = distinct_at (λ a b. nat_eq a.0 b.0) r.files.keys n place other file d there at lt
     other_by n other there ne at (inr le) = flip file.0 other.0 (distinct_at (λ a b. nat_eq a.0 b.0) r.files.keys place n file other d at there (above n place le ne))
-
--- new files were put behind the others, and nothing else changed
-pub scanned_rest : (r s : Reach) → s ≡ record r { files = s.files } → IsLonger r.files.keys s.files.keys → AreScannedIn r.found.entries r.files.keys r.whole → AreScannedIn s.found.entries s.files.keys s.whole
-scanned_rest r s e l w =
-    let found : s.found ≡ r.found = ap (λ (x : Reach). x.found) e in
-    let whole : s.whole ≡ r.whole = ap (λ (x : Reach). x.whole) e in
-    rw (found, whole) (scanned_longer r.found.entries r.files.keys s.files.keys r.whole w l)
-
--- more counts as scanned
-pub same_whole : (r s : Reach) (n : ℕ) → s ≡ record r { whole = n } → r.sources ≤ length r.files.keys → IsSameReach r s
-same_whole r s n e le = rw e (record { sources = refl; same = refl; within = le; excluded = refl })
-
-pub walked_whole : (r s : Reach) (n : ℕ) → s ≡ record r { whole = n } → IsWalked r → IsWalked s
-walked_whole r s n e w = rw e (record { reach = record { whole = w.reach.whole; earlier = w.reach.earlier }; ahead = record { each = w.ahead.each } })
-
--- there is a place to go on from only where the files were listed
-pub listed_by : (r : Reach) (file : NodeId) (next : Option ℕ) (is_listed : Bool) → IfSome next (λ n. (is_listed ≡ true) × IsNext r file n) → is_some next ≡ true → is_listed ≡ true
-listed_by r file None is_listed p h = absurd (cc)
-listed_by r file (Some next) is_listed p h = p.0
-
-pub ruleset scan_steps = (scanned_longer, scanned_insert, scanned_rest, same_longer, same_trans)

@@ -39,9 +39,9 @@ included_none (e ∷ found) n h = included_by (nat_eq n.0 e.0.0) found e n refl 
 insert_other_by : (b c : Bool) (found : List (NodeId × List NodeId)) (e : NodeId × List NodeId) (k n : NodeId) (v : List NodeId) → nat_eq k.0 e.0.0 ≡ b → nat_eq n.0 e.0.0 ≡ c
     → nat_eq n.0 k.0 ≡ false → included (with_found found k v) n ≡ included found n → included (with_found (e ∷ found) k v) n ≡ included (e ∷ found) n
 insert_other_by true true found e k n v s t ne h = absurd (true_false (nat_eq n.0 k.0) (rw (nat_same k.0 e.0.0 s) t) ne)
-insert_other_by true false found e k n v s t ne h = rw (s, t) (rw t refl)
-insert_other_by false true found e k n v s t ne h = rw (s, t) (rw t refl)
-insert_other_by false false found e k n v s t ne h = rw (s, t) h
+insert_other_by true false found e k n v s t ne h = rw s (rw t refl)
+insert_other_by false true found e k n v s t ne h = rw s (rw t refl)
+insert_other_by false false found e k n v s t ne h = rw s (rw t h)
 
 -- what other files include is known still
 pub included_other : (found : List (NodeId × List NodeId)) (k n : NodeId) (v : List NodeId) → nat_eq n.0 k.0 ≡ false → included (with_found found k v) n ≡ included found n

@@ -133,13 +133,13 @@ impl Plan {
             return Ok(());
         }
         match graph.rule_of(node) {
-            None => {
-                self.note_origin(node, Origin::Source);
-                Ok(())
-            }
             Some(rule) => {
                 self.note_origin(node, Origin::Made(rule));
                 self.need_rule(graph, rule, needed)
+            }
+            None => {
+                self.note_origin(node, Origin::Source);
+                Ok(())
             }
         }
     }

@@ -20,7 +20,6 @@ pub(crate) fn task_of(alloc: Global, graph: &Graph, rule: &Rule) -> Result<Task,
     Ok(task)
 }
 
-#[tactic(auto, using(crate::proofs::LoadLemmas::task_loaded))]
 fn load(task: &mut Task, graph: &Graph, rule: &Rule) -> Result<(), Memory>
     requires { IsBlank task.old }
     ensures { OnOk result (IsTaskOf graph.now rule.now task.new) }

@@ -83,7 +83,6 @@ impl Reach {
 
     /// Notes what a file includes, and gives the files that are new among these. The files are listed anew unless they
     /// were listed, and this one stands behind all that were scanned.
-    #[tactic(auto, using(crate::proofs::ReachLemmas::scan_steps))]
     pub(crate) fn scanned(
         &mut self,
         node: NodeId,

@@ -70,8 +70,8 @@ returns-in-None-clause-notes c =
     rw (sym c.self.view_is)
     (notes_nothing i.states i.queue i.halted i.tasks.items i.files.origins.items i.scannable c.args.rule.0 c.index.result.now read (sym c.in-None.ensures))
 
-pub returns-in_ok-take-clause-notes : goal.returns-in_ok-take-clause-notes
-returns-in_ok-take-clause-notes c =
+pub returns-in_ok-take-in-Some-clause-notes : goal.returns-in_ok-take-in-Some-clause-notes
+returns-in_ok-take-in-Some-clause-notes c =
     let i = c.self.inside in
     let within : c.args.rule.0 < length i.tasks.items = omega (arith, i.tasks.ok.0, c.len.ensures, c.if-number-len.false) in
     let at = slice_get_read i.tasks.items (length i.tasks.items) c.args.rule.0 c.index_mut.result.now refl within c.index_mut.ensures.value in
@@ -83,4 +83,4 @@ returns-in_ok-take-clause-notes c =
     let marked : get_or i.scannable c.args.rule.0 false ≡ true = cc in
     rw (sym c.self.view_is, c.put.ensures)
     (notes_file i.states i.queue i.halted i.tasks.items i.files.origins.items i.scannable c.args.rule.0 c.index_mut.result.now c.take.new.self c.in-Some.node c.args.found.items at marked next
-    (c.self.invariant.marked c.args.rule.0 marked).waits c.take.ensures.names c.in_ok-take.ensures.takes)
+    (c.self.invariant.marked c.args.rule.0 marked).waits c.take.ensures.names c.in_ok-take-in-Some.ensures.takes)

@@ -1,10 +1,9 @@
 use Rattle.std.proofs.Common.{◌≡◌, ◌∙◌, ap, refl, sym}
 use Rattle.std.specs.Prelude.{map}
 use Rattle.task_plan.specs.Named.{put_all}
-use Rattle.task_plan.specs.Listed.{IsSameReach}
 use Rattle.task_plan.proofs.ListLemmas.{scanned_insert, scanned_longer}
 use Rattle.task_plan.proofs.WalkLemmas.{found_insert, scanned_other}
-use Rattle.task_plan.proofs.ReachLemmas.{appended_at, same_longer, same_trans, same_whole, walked_whole, listed_by}
+use Rattle.task_plan.proofs.ReachLemmas.{appended_at}
 use Rattle.task_plan.specs.declared.reach.Reach.{Reach}
 use Rattle.task_plan.proofs.reach.Reach.scanned.Goals as goal
 
@@ -14,7 +13,8 @@ go_on-requires-clause-next c =
     let rest = c.append.ensures.rest in
     let old : c.append.new.self.found ≡ r.found = ap (λ (x : Reach). x.found) rest in
     let entries = rw old at (c.in_ok-insert.ensures {u = tt}).entries in
-    appended_at r _ c.next_ahead-next.result c.len-before.result c.args.node c.args.included.items c.args.is_listed c.next_ahead-next.ensures c.requires.listed
+    let s : Reach = record c.append.new.self { found = c.insert.new.self } in
+    appended_at r s c.next_ahead-next.result c.len-before.result c.args.node c.args.included.items c.args.is_listed c.next_ahead-next.ensures c.requires.listed
     c.requires.sources c.len-before.ensures.len (ap (λ (x : Reach). x.sources) rest) (ap (λ (x : Reach). x.excluded.keys) rest) (c.in_ok-new.ensures.files ∙ ap (put_all r.excluded.keys r.files.keys) c.as_slice.ensures.value)
     (ap (map (λ e. (e.0, e.1.items))) entries ∙ found_insert (λ v. v.items) _ (λ a b. refl) r.found.entries c.args.node c.args.included)
     (λ x ne h. rw entries (scanned_other _ (λ a b. refl) r.found.entries c.args.node x c.args.included ne h)) c.append.ensures.longer
@@ -35,38 +35,3 @@ returns-clause-found c =
     let last : c.note_whole.new.self.found ≡ c.go_on.new.self.found = ap (λ (x : Reach). x.found) c.note_whole.ensures.rest in
     ap (λ f. map (λ e. (e.0, e.1.items)) f.entries) (last ∙ c.go_on.ensures.found)
     ∙ ap (map (λ e. (e.0, e.1.items))) entries ∙ found_insert (λ v. v.items) _ (λ a b. refl) r.found.entries c.args.node c.args.included
-
-pub returns-in_err-new-clause-same : goal.returns-in_err-new-clause-same
-returns-in_err-new-clause-same c =
-    let rest = c.append.ensures.rest in
-    same_longer c.args.self.now _ c.requires.sources (ap (λ (x : Reach). x.sources) rest) (ap (λ (x : Reach). x.excluded.keys) rest) c.append.ensures.longer
-
-pub returns-in_err-insert-clause-same : goal.returns-in_err-insert-clause-same
-returns-in_err-insert-clause-same c =
-    let rest = c.append.ensures.rest in
-    same_longer c.args.self.now _ c.requires.sources (ap (λ (x : Reach). x.sources) rest) (ap (λ (x : Reach). x.excluded.keys) rest) c.append.ensures.longer
-
-pub returns-in_err-in_order-clause-same : goal.returns-in_err-in_order-clause-same
-returns-in_err-in_order-clause-same c =
-    let rest = c.append.ensures.rest in
-    let m : Reach = record c.append.new.self { found = c.insert.new.self } in
-    same_trans c.args.self.now m c.go_on.new.self
-    (same_longer c.args.self.now m c.requires.sources (ap (λ (x : Reach). x.sources) rest) (ap (λ (x : Reach). x.excluded.keys) rest) c.append.ensures.longer) c.go_on.ensures.same
-
-pub returns-clause-same : goal.returns-clause-same
-returns-clause-same c =
-    let rest = c.append.ensures.rest in
-    let m : Reach = record c.append.new.self { found = c.insert.new.self } in
-    let on : IsSameReach c.args.self.now c.go_on.new.self =
-    same_trans c.args.self.now m c.go_on.new.self
-    (same_longer c.args.self.now m c.requires.sources (ap (λ (x : Reach). x.sources) rest) (ap (λ (x : Reach). x.excluded.keys) rest) c.append.ensures.longer) c.go_on.ensures.same in
-    same_trans c.args.self.now c.go_on.new.self c.note_whole.new.self on (same_whole c.go_on.new.self c.note_whole.new.self c.note_whole.new.self.whole c.note_whole.ensures.rest on.within)
-
-pub returns-clause-walked : goal.returns-clause-walked
-returns-clause-walked c = walked_whole c.go_on.new.self c.note_whole.new.self c.note_whole.new.self.whole c.note_whole.ensures.rest c.in_ok-in_order.ensures.walked
-
-pub returns-clause-growth : goal.returns-clause-growth
-returns-clause-growth c = λ h.
-    let k = c.in_ok-in_order.ensures.in_order h in
-    let last : c.note_whole.new.self.files.keys ≡ c.go_on.new.self.files.keys = ap (λ (x : Reach). x.files.keys) c.note_whole.ensures.rest in
-    (listed_by c.args.self.now c.args.node c.next_ahead-next.result c.args.is_listed c.next_ahead-next.ensures k.1, last ∙ ap (λ x. x.keys) k.0 ∙ c.in_ok-new.ensures.new)
