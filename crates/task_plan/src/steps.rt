@@ -97,7 +97,12 @@ impl Plan {
     }
 
     /// Takes in what was noted, where something was.
-    fn take_noted(&mut self, graph: &Graph, rule: RuleId, noted: &Option<Growth>) -> Result<(), Memory>
+    fn take_noted(
+        &mut self,
+        graph: &Graph,
+        rule: RuleId,
+        noted: &Option<Growth>,
+    ) -> Result<(), Memory>
         ensures meets { Meets self.old self.new }
         ensures admits { OnOk result (MatchOption noted.now (self.new ≡ self.old)
             (λ _. Admits graph.now self.old self.new none [])) }
