@@ -8,7 +8,7 @@ pub invariant_of-self : goal.invariant_of-self
 invariant_of-self c =
     let i = c.self.inside in
     let k = tracked_new i.states i.files.origins.items c.args.task c.requires.passed c.requires.whole c.requires.listing in
-    rw c.put-2.ensures
+    rw c.put-then-number-len.ensures
     (tracked_task i.states i.queue c.put.new.self i.tasks.items i.files.origins.items i.scannable c.args.rule.0 c.args.task k c.put.ensures.this c.put.ensures.others c.self.invariant)
 
 pub returns-then-number-len-clause-rules : goal.returns-then-number-len-clause-rules
