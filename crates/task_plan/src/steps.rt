@@ -38,7 +38,9 @@ impl Plan {
         ensures halted { self.new.halted ≡ (self.old.halted || fails) }
         ensures rules { self.new.rules ≡ self.old.rules }
     {
-        self.halted = self.halted || fails;
+        if fails {
+            self.halted = true;
+        }
     }
 
     /// A rule that could be decided is fresh.
