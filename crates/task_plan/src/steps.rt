@@ -177,11 +177,28 @@ impl Plan {
         ensures brings { OnOk result (Brings graph.now self.old self.new none needed.old.items needed.new.items) }
     {
         for node in &growth.new {
-            if self.is_found(rule, *node) {
-                self.meet(graph, *node, needed)?;
-                self.need_also(rule, *node)?;
-            }
+            self.meet_one_found(graph, rule, *node, needed)?;
         }
+        Ok(())
+    }
+
+    /// Meets a file that came by a scan alone.
+    #[tactic(auto, using(crate::proofs::AdmitLemmas::meeting))]
+    fn meet_one_found(
+        &mut self,
+        graph: &Graph,
+        rule: RuleId,
+        node: NodeId,
+        needed: &mut Vec<RuleId>,
+    ) -> Result<(), Memory>
+        ensures meets { Meets self.old self.new }
+        ensures brings { OnOk result (Brings graph.now self.old self.new none needed.old.items needed.new.items) }
+    {
+        if !self.is_found(rule, node) {
+            return Ok(());
+        }
+        self.meet(graph, node, needed)?;
+        self.need_also(rule, node)?;
         Ok(())
     }
 
