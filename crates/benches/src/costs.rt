@@ -3,7 +3,7 @@ ghost use Rattle.std.specs.Prelude.{◌<◌, length, IfSome};
 
 use crate::substitution::{locals, number};
 use anyhow::Result;
-use env_subst::{Mode, subst};
+use env_subst::{Mode, lib_names, subst};
 use env_vars::{EnvValue, Envs, Item};
 use scons_base::limits::TEXT_LIMIT;
 use scons_base::{EnvId, Listing, Text};
@@ -14,14 +14,77 @@ pub fn expand(rt: &HostRuntime, what: Option<String>, size: Option<String>) -> R
     let size = number(size)?;
     let what = what.unwrap_or(String::new(rt.alloc()));
     match expanded(rt.alloc(), what.as_str(), size) {
-        Some(len) => println!(rt; "{len} bytes")?,
+        Some(count) => println!(rt; "{count}")?,
         None => println!(rt; "refused")?,
     }
     Ok(())
 }
 
-/// How many bytes the expansion has.
+/// How many bytes or items come of it.
 fn expanded(alloc: Global, what: &str, size: u32) -> Option<usize> {
+    match what {
+        "libs" => libraries(alloc, size),
+        "given" => given(alloc, size),
+        _ => bytes(alloc, what, size),
+    }
+}
+
+/// How many libraries there are where lists stand in each other, so many: each has a text with a reference and then the name of
+/// the next list.
+fn libraries(alloc: Global, size: u32) -> Option<usize> {
+    let mut envs = Envs::new(alloc);
+    let env = envs.make().ok()?;
+    set_libraries(alloc, &mut envs, env, size)?;
+    let locals = locals(alloc)?;
+    Some(
+        lib_names(alloc, &envs, env, &locals)
+            .ok()?
+            .as_slice()
+            .len(),
+    )
+}
+
+fn set_libraries(alloc: Global, envs: &mut Envs, env: EnvId, size: u32) -> Option<()>
+    requires { env.0 < length envs.old }
+    ensures { IfSome result (λ _. env.0 < length envs.new) }
+{
+    'lists: for i in 0..size {
+        let mut items = Listing::empty(alloc);
+        items.push(Item::Text(Text::of(alloc, "x$E").ok()?)).ok()?;
+        let next = further(alloc, i.saturating_add(1), true)?;
+        items.push(Item::Text(Text::new(next))).ok()?;
+        let name = format!(in alloc; "L{i}").ok()?;
+        envs.set(env, name.as_str(), EnvValue::List(items)).ok()?;
+    }
+    let mut items = Listing::empty(alloc);
+    items.push(Item::Text(Text::of(alloc, "$L0").ok()?)).ok()?;
+    envs.set(env, "LIBS", EnvValue::List(items)).ok()?;
+    Some(())
+}
+
+/// How many items a list has that is given to a clone, where the variable has as many.
+fn given(alloc: Global, size: u32) -> Option<usize> {
+    let mut envs = Envs::new(alloc);
+    let env = envs.make().ok()?;
+    envs.set(env, "ITEMS", EnvValue::List(many(alloc, "x", size)?))
+        .ok()?;
+    match envs.given(env, "ITEMS", EnvValue::List(many(alloc, "y$E", size)?)) {
+        Ok(EnvValue::List(items)) => Some(items.as_slice().len()),
+        _ => None,
+    }
+}
+
+/// So many items that are this text.
+fn many(alloc: Global, text: &str, size: u32) -> Option<Listing<Item>> {
+    let mut items = Listing::empty(alloc);
+    for _ in 0..size {
+        items.push(Item::Text(Text::of(alloc, text).ok()?)).ok()?;
+    }
+    Some(items)
+}
+
+/// How many bytes the expansion has.
+fn bytes(alloc: Global, what: &str, size: u32) -> Option<usize> {
     let mut envs = Envs::new(alloc);
     let env = envs.make().ok()?;
     let text = prepared(alloc, &mut envs, env, what, size)?;
@@ -55,11 +118,8 @@ fn items(alloc: Global, envs: &mut Envs, env: EnvId, size: u32) -> Option<String
     requires { env.0 < length envs.old }
     ensures { IfSome result (λ _. env.0 < length envs.new) }
 {
-    let mut items = Listing::empty(alloc);
-    for _ in 0..size {
-        items.push(Item::Text(Text::of(alloc, "x").ok()?)).ok()?;
-    }
-    envs.set(env, "ITEMS", EnvValue::List(items)).ok()?;
+    envs.set(env, "ITEMS", EnvValue::List(many(alloc, "x", size)?))
+        .ok()?;
     repeated(alloc, "$ITEMS", 1)
 }
 

@@ -13,8 +13,8 @@ use Rattle.env_subst.specs.declared.saying.Saying.TheVariants.{Read}
 use Rattle.env_subst.specs.declared.task.Call.{Call}
 use Rattle.env_subst.specs.Settings.{Setting}
 use Rattle.env_subst.specs.Expansions.{State, Answer, and_then, sheet_or_fault, puts, Names, sayings_in, expands, affixed, parts, puts_item, puts_all, inner, all_dirs, dirs_named, puts_found, is_literal, known_item, node_item, puts_read, read_pieces, read_item, call_of, text_item, item, items_all, begun, calls}
-use Rattle.env_subst.specs.Desks.{PlainTask, inside, expand, items, dirs, apart, deeper_of, does, names_after, resumes, Desk, left_of, Leads, behind_all, Parted, CannotPart}
-use Rattle.env_subst.proofs.Doing.{desk, at, and_then-assoc, upon}
+use Rattle.env_subst.specs.Desks.{PlainTask, inside, expand, items, dirs, apart, deeper_of, does, names_after, Whole, resumes, Desk, left_of, Leads, behind_all, Parted, CannotPart}
+use Rattle.env_subst.proofs.Doing.{desk, at, and_then-assoc, and_then-ok, upon}
 
 -- a call begins
 pub call_begins : {U : Type 0} (w : Setting) (tasks : List PlainTask) (names : Names) (sheet : Sheet) (n : ℕ) (call begins : Call) (room : ℕ) (says : List Saying) (after : Desk) (r : Result U SubstFault)
@@ -38,6 +38,13 @@ module _ {U : Type 0} (w : Setting) (after : Desk) (call : Call) (x : Saying) (x
       → Leads w (behind_all w (items_all w (deeper_of w names) names call (x ∷ xs)) (desk tasks names sheet n)) after r
   items_left tasks more names sheet n m =
       subst (λ a. Leads w a after r) (upon w tasks more names sheet n (items call xs) (item w (deeper_of w names) names call x) refl m)
+
+-- nothing is left behind one item
+pub alone_item : (w : Setting) (d : Desk) (call : Call) (x : Saying) (xs : List Saying) → xs ≡ []
+    → behind_all w (item w (deeper_of w d.names) d.names call x) d ≡ behind_all w (items_all w (deeper_of w d.names) d.names call (x ∷ xs)) d
+alone_item w d call x xs none =
+    ap (λ a. and_then a (resumes w d.tasks d.names)) (sym (and_then-ok (item w (deeper_of w d.names) d.names call x d.state)))
+    ∙ ap (λ ys. behind_all w (items_all w (deeper_of w d.names) d.names call (x ∷ ys)) d) (sym none)
 
 pub no_items : (w : Setting) (d : Desk) (call : Call) (says : List Saying) → says ≡ [] → left_of w d ≡ behind_all w (items_all w (deeper_of w d.names) d.names call says) d
 no_items w d call says e = ap (λ ys. behind_all w (items_all w (deeper_of w d.names) d.names call ys) d) (sym e)
@@ -95,7 +102,7 @@ pub cannot_part : (w : Setting) (tasks : List PlainTask) (names : Names) (old : 
 cannot_part w tasks names old n call fault f h =
     ap (λ a. and_then (and_then a f) (resumes w tasks names)) (parts_with call old n None h.1) ∙ ap (λ x. Err x) (sym h.0)
 
-inner-assoc : (f g h : State → Answer) → ◌≡◌ {A = State → Answer} (λ s. and_then (f s) (λ t. and_then (g t) h)) (λ s. and_then (and_then (f s) g) h)
+inner-assoc : (f g : State → Answer) (h : State → Whole) → ◌≡◌ {A = State → Whole} (λ s. and_then (f s) (λ t. and_then (g t) h)) (λ s. and_then (and_then (f s) g) h)
 inner-assoc f g h = λ i s. sym (and_then-assoc (f s) g h) i
 
 -- something between prefix and suffix

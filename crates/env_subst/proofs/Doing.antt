@@ -13,13 +13,15 @@ use Rattle.env_subst.specs.declared.fault.SubstFault.TheVariants.{BadBrace, BadA
 use Rattle.env_subst.specs.declared.locals.Locals.{Locals}
 use Rattle.env_subst.specs.declared.part.OwnedPart.TheVariants as owned
 use Rattle.env_subst.specs.declared.saying.Saying.{Saying}
+use Rattle.env_subst.specs.declared.saying.Saying.TheVariants.{Read}
+use Rattle.env_subst.proofs.Literals.{literal_is}
 use Rattle.env_subst.specs.Parts.{owned_part}
 use Rattle.env_subst.specs.Settings.{Setting}
 use Rattle.env_subst.specs.Contents.{Content, nothing, content_at, taken, said, said_by, parts_or_none}
 use Rattle.env_subst.specs.Attributes.{attribute_named}
 use Rattle.env_subst.specs.declared.attribute.Attribute.{Attribute}
-use Rattle.env_subst.specs.Expansions.{State, Answer, and_then, sheet_or_fault, puts, marks, spaces, refers, Reader, says_one, says_more, says_all, Names, is_open, content_in, Deeper, expands, says_or_fault, refers_to, reads_part, reads, meaning, height, text_at}
-use Rattle.env_subst.specs.Desks.{PlainTask, with_open, read, say, close, deeper_of, and_rest, outer_names, does, names_after, resumes, Desk, left_of, Leads, behind_all}
+use Rattle.env_subst.specs.Expansions.{State, Answer, and_then, sheet_or_fault, puts, marks, spaces, refers, is_literal, Reader, says_one, says_more, says_all, Names, is_open, content_in, Deeper, expands, says_or_fault, refers_to, reads_part, reads, meaning, height, text_at}
+use Rattle.env_subst.specs.Desks.{PlainTask, with_open, read, say, close, deeper_of, and_rest, outer_names, does, names_after, Whole, resumes, Desk, left_of, Leads, behind_all}
 
 abbrev pub desk : List PlainTask → Names → Sheet → ℕ → Desk
 desk tasks names sheet n = record { tasks = tasks; names = names; state = record { sheet = sheet; references = n } }
@@ -27,10 +29,10 @@ desk tasks names sheet n = record { tasks = tasks; names = names; state = record
 abbrev pub at : Sheet → ℕ → State
 at sheet n = record { sheet = sheet; references = n }
 
-pub leads_too : {U : Type 0} → (w : Setting) (a b : Answer) (d : Desk) (r : Result U SubstFault) → a ≡ b → Leads w a d r → Leads w b d r
+pub leads_too : {U : Type 0} → (w : Setting) (a b : Whole) (d : Desk) (r : Result U SubstFault) → a ≡ b → Leads w a d r → Leads w b d r
 leads_too w a b d r e = subst (λ x. Leads w x d r) e
 
-pub and_then-assoc : (a : Answer) (f g : State → Answer) → and_then (and_then a f) g ≡ and_then a (λ s. and_then (f s) g)
+pub and_then-assoc : {X : Type 0} (a : Answer) (f : State → Answer) (g : State → Result X SubstFault) → and_then (and_then a f) g ≡ and_then a (λ s. and_then (f s) g)
 and_then-assoc (Ok s) f g = refl
 and_then-assoc (Err fault) f g = refl
 
@@ -275,3 +277,30 @@ not_open name names says x xs none e = by (is_open name names) none
 pub and_then-ok : (a : Answer) → and_then a (λ s. Ok s) ≡ a
 and_then-ok (Ok s) = refl
 and_then-ok (Err fault) = refl
+
+-- nothing is left behind one thing
+pub alone_read : (w : Setting) (read : Reader) (x : Saying) (xs : List Saying) (d : Desk) → xs ≡ [] → behind_all w (says_one read x) d ≡ behind_all w (says_all read (x ∷ xs)) d
+alone_read w read x xs d none =
+    ap (λ a. and_then a (resumes w d.tasks d.names)) (sym (and_then-ok (says_one read x d.state))) ∙ ap (λ ys. behind_all w (says_all read (x ∷ ys)) d) (sym none)
+
+-- a text without a `$` is put as it stands
+pub literal_read : (w : Setting) (names : Names) (owner t : List ℕ) (s : State) → length names ≤ 100001 → is_literal t ≡ true → 0 < length t → text_at w names owner t s ≡ puts t s
+literal_read w names owner t s h literal full =
+    enter w names owner t s h
+    ∙ ap (λ r. reads w (deeper_of w names) names owner r s) (literal_is t literal full)
+    ∙ and_then-ok (puts t s)
+
+pub literal_begins : {U : Type 0} (w : Setting) (d after : Desk) (owner t : List ℕ) (r : Result U SubstFault) → length d.names ≤ 100001 → is_literal t ≡ true → 0 < length t
+    → Leads w (behind_all w (puts t) d) after r → Leads w (behind_all w (text_at w d.names owner t) d) after r
+literal_begins w d after owner t r h literal full =
+    leads_too w _ _ after r (ap (λ a. and_then a (resumes w d.tasks d.names)) (sym (literal_read w d.names owner t d.state h literal full)))
+
+-- also where it is all that a variable says
+pub literal_says : {U : Type 0} (w : Setting) (d after : Desk) (name t : List ℕ) (says : List Saying) (r : Result U SubstFault) → length d.names ≤ 100000 → says ≡ Read t ∷ [] → is_literal t ≡ true → 0 < length t
+    → (is_open name d.names ≡ true → says ≡ []) → Leads w (behind_all w (puts t) d) after r → Leads w (behind_all w (says_all (deeper_of w d.names name) says) d) after r
+literal_says w d after name t says r h one literal full none =
+    leads_too w _ _ after r (ap (λ a. and_then a (resumes w d.tasks d.names)) (sym (
+    ap (λ ys. says_all (deeper_of w d.names name) ys d.state) one
+    ∙ and_then-ok (deeper_of w d.names name t d.state)
+    ∙ ap (λ read. read t d.state) (deeper_is w d.names name (not_open name d.names says (Read t) [] none one))
+    ∙ literal_read w (d.names ++ name ∷ []) name t d.state (omega (arith, length-append d.names (name ∷ []))) literal full)))

@@ -1,11 +1,11 @@
 pub mod NameParts
 pub mod Said
 pub mod Stacks
+pub mod Literals
 pub mod Doing
 pub mod CallSteps
 pub mod Runs
 pub mod Shown
 pub mod EntrySteps
 pub mod CharCuts
-pub mod OpenNames
 pub mod Spelled

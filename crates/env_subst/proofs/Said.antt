@@ -39,6 +39,9 @@ empty_is : {X : Type 0} → (xs : List X) → (length xs == 0) ≡ true → xs �
 empty_is [] e = refl
 empty_is (x ∷ xs) e = let k : length (x ∷ xs) ≡ 0 = eqb-true (length (x ∷ xs)) 0 e in absurd (omega (arith, k))
 
+pub none_mapped : {X Y : Type 0} → (f : X → Y) (xs : List X) → (length xs == 0) ≡ true → map f xs ≡ []
+none_mapped f xs e = ap (map f) (empty_is xs e)
+
 full_is : {X : Type 0} → (xs : List X) → (length xs == 0) ≡ false → xs ≡ [] → ⊥
 full_is xs e n = let k : (length xs == 0) ≡ true = ap (λ ys. length ys == 0) n in cc
 

@@ -97,9 +97,13 @@ names_after (dirs call ds) names = names
 names_after (apart outer call alone) names = names
 names_after (put_all pieces) names = names
 
+-- how far reading has come in the end, and which variables are open then
+abbrev pub Whole : Type 0
+Whole = Result (State × Names) SubstFault
+
 -- the tasks, the uppermost first
-abbrev pub resumes : Setting → List PlainTask → Names → State → Answer
-resumes w [] names s = Ok s
+abbrev pub resumes : Setting → List PlainTask → Names → State → Whole
+resumes w [] names s = Ok (s, names)
 resumes w (t ∷ tasks) names s = and_then (does w names t s) (resumes w tasks (names_after t names))
 
 pub record Desk : Type 0 where
@@ -121,11 +125,11 @@ desk_of locals d = record {
 abbrev pub idle : Names → ℕ → Desk
 idle names references = record { tasks = []; names = names; state = started references }
 
-abbrev pub left_of : Setting → Desk → Answer
+abbrev pub left_of : Setting → Desk → Whole
 left_of w d = resumes w d.tasks d.names d.state
 
 -- what is left gives the whole; or the whole has this fault
-abbrev pub Leads : {U : Type 0} → Setting → Answer → Desk → Result U SubstFault → Type 0
+abbrev pub Leads : {U : Type 0} → Setting → Whole → Desk → Result U SubstFault → Type 0
 Leads w whole after r = MatchResult r (λ _. left_of w after ≡ whole) (λ e. e ≢ Memory → whole ≡ Err e)
 
 -- a task upon what is left
@@ -137,7 +141,7 @@ abbrev pub with_open : List ℕ → Desk → Desk
 with_open name d = record { tasks = close ∷ d.tasks; names = d.names ++ name ∷ []; state = d.state }
 
 -- this, and then what is left
-abbrev pub behind_all : Setting → (State → Answer) → Desk → Answer
+abbrev pub behind_all : Setting → (State → Answer) → Desk → Whole
 behind_all w first d = and_then (first d.state) (resumes w d.tasks d.names)
 
 -- what is done at a desk: so much of the whole

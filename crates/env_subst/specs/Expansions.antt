@@ -33,7 +33,7 @@ abbrev pub Answer : Type 0
 Answer = Result State SubstFault
 
 -- one thing behind another: the first fault counts
-abbrev pub and_then : Answer → (State → Answer) → Answer
+abbrev pub and_then : {X : Type 0} → Answer → (State → Result X SubstFault) → Result X SubstFault
 and_then (Ok s) next = next s
 and_then (Err fault) next = Err fault
 

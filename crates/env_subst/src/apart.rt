@@ -11,7 +11,7 @@ ghost use Rattle.env_subst.specs.Desks.{deeper_of, reads_apart, Steps};
 use crate::calls::{put_between, put_known, put_parting};
 use crate::desk::{Desk, push, put_all};
 use crate::fault::SubstFault;
-use crate::saying::Saying;
+use crate::saying::{Saying, is_literal};
 use crate::setting::Setting;
 use crate::task::{Call, Task};
 use env_pieces::{Pieces, text_of};
@@ -34,13 +34,6 @@ pub(crate) fn put_apart<'a>(
         None if is_literal(text.as_str()) => put_known(setting, desk, call, text),
         None => read_apart(setting, desk, call, text, false),
     }
-}
-
-/// A text without a `$`.
-pub(crate) fn is_literal(text: &str) -> bool
-    ensures { result ≡ is_literal text.now }
-{
-    text.as_bytes().iter().all(|byte| *byte != b'$')
 }
 
 /// The call with another variable in place of the list, where a text is the name of one alone.

@@ -12,7 +12,7 @@ use crate::content::said;
 use crate::desk::{Desk, Stack, push, put};
 use crate::fault::SubstFault;
 use crate::reading::held_in;
-use crate::saying::{First, Saying, Sayings, first_of};
+use crate::saying::{First, Saying, Sayings, first_of, is_over};
 use crate::setting::Setting;
 use crate::task::{Call, Task};
 use env_pieces::Pieces;
@@ -71,6 +71,22 @@ fn put_items<'a>(
     ensures { Steps setting.now (λ w names. items_all w (deeper_of w names) names call (first_and_rest w.locals first.entry)) desk.old desk.new result }
 {
     let First { saying, rest } = first;
+    if is_over(&rest) {
+        put_item(setting, desk, call, saying)
+    } else {
+        put_before(setting, desk, call, saying, rest)
+    }
+}
+
+fn put_before<'a>(
+    setting: &Setting<'a>,
+    desk: &mut Desk<'a>,
+    call: Call,
+    saying: Saying,
+    rest: Sayings<'a>,
+) -> Result<(), SubstFault>
+    ensures { Steps setting.now (λ w names. items_all w (deeper_of w names) names call (saying ∷ sayings_of w.locals rest.entry)) desk.old desk.new result }
+{
     push_items(&mut desk.tasks, &call, rest)?;
     put_item(setting, desk, call, saying)
 }

@@ -4,9 +4,9 @@ ghost use Rattle.env_pieces.specs.Lines.{line_forms};
 ghost use Rattle.env_subst.specs.Settings.{setting};
 ghost use Rattle.env_subst.specs.Results.{lines_of, path_text};
 
-use crate::apart::is_literal;
 use crate::fault::SubstFault;
 use crate::locals::Locals;
+use crate::saying::is_literal;
 use crate::substitution::{form_fault, pieces_of, subst};
 use env_pieces::{Mode, Piece, line_forms};
 use env_vars::Envs;

@@ -9,7 +9,7 @@ use crate::fault::SubstFault;
 use crate::names::Names;
 use crate::task::Task;
 use env_pieces::{Mark, PieceFault, Pieces};
-use scons_base::Memory;
+use scons_base::{Memory, Text};
 use scons_base::limits::{REFERENCE_LIMIT, SUBST_LIMIT};
 use std::alloc::Global;
 
@@ -52,6 +52,15 @@ pub(crate) fn put(pieces: &mut Pieces, text: &str) -> Result<(), SubstFault>
         Ok(()) => Ok(()),
         Err(fault) => Err(piece_fault(fault)),
     }
+}
+
+/// The same of a text that is given away.
+pub(crate) fn put_whole(pieces: &mut Pieces, text: Text) -> Result<(), SubstFault>
+    ensures ok { OnOk result (with_text text pieces.old ≡ Some pieces.new) }
+    ensures fault { IfErr result (λ e. e ≢ SubstFault.Memory
+        → (e ≡ SubstFault.TooLong (SUBST_LIMIT + 1)) × (with_text text pieces.old ≡ None)) }
+{
+    put(pieces, text.as_str())
 }
 
 pub(crate) fn put_mark(pieces: &mut Pieces, mark: Mark) -> Result<(), SubstFault>

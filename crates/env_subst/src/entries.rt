@@ -1,24 +1,27 @@
 //! The entries of a list variable: its items, and in place of one name alone the items of that variable.
-ghost use Rattle.std.specs.Prelude.{◌≡◌, ◌≢◌, ◌∷◌, [], ℕ, OnOk, MatchOption, MatchResult};
+ghost use Rattle.std.specs.Prelude.{◌≡◌, ◌≢◌, ◌∷◌, [], ℕ, Ok, Err, OnOk, MatchOption, MatchResult};
 ghost use Rattle.env_subst.specs.Settings.{setting_of};
 ghost use Rattle.env_subst.specs.Sayings.{sayings_of};
+ghost use Rattle.env_pieces.specs.Pieces.{pieces_of};
+ghost use Rattle.env_pieces.specs.Forms.{text_of};
+ghost use Rattle.env_subst.specs.Expansions.{State, text_at, started};
 ghost use Rattle.env_subst.specs.Entries as spec;
 ghost use Rattle.env_subst.specs.declared.locals.Locals.{Locals};
 ghost use Rattle.env_subst.specs.Frames.{frame_of, frames_of, left_of, entries_left, opened, found_of, Steps, FindsFirst};
 
-use crate::apart::is_literal;
 use crate::content::said;
 use crate::desk::refer;
 use crate::fault::SubstFault;
 use crate::library::LibItem;
 use crate::names::Names;
 use crate::reading::held_in;
-use crate::saying::{First, Saying, Sayings, first_of};
+use crate::saying::{First, Saying, Sayings, first_of, is_literal};
 use crate::setting::Setting;
-use crate::substitution::read_text;
+use crate::substitution::{ReadText, read_text};
 use env_text::name_alone;
 use scons_base::limits::REFERENCE_LIMIT;
 use scons_base::{Memory, Text};
+use std::mem;
 
 /// What a variable still says.
 #[derive(Drop)]
@@ -120,7 +123,13 @@ fn take<'a>(
         ∷ frames_of w.locals entries.old.frames.frames.items) entries.old.names entries.old.references) entries.new result }
 {
     let First { saying, rest } = first;
-    let (found, references) = found_in(setting, &entries.names, &name, saying, entries.references)?;
+    let (found, references) = found_in(
+        setting,
+        &mut entries.names,
+        &name,
+        saying,
+        entries.references,
+    )?;
     entries.references = references;
     push(&mut entries.frames, Frame { name, rest })?;
     match found {
@@ -181,12 +190,13 @@ fn open<'a>(setting: &Setting<'a>, entries: &mut Entries<'a>, name: Text) -> Res
 /// What a thing that the innermost variable says is, and how many references there are behind it.
 fn found_in(
     setting: &Setting<'_>,
-    names: &Names,
+    names: &mut Names,
     name: &Text,
     saying: Saying,
     references: usize,
 ) -> Result<(Found, usize), SubstFault>
-    ensures { FindsFirst (setting_of setting.now) names.now name.now saying references result }
+    ensures first { FindsFirst (setting_of setting.now) names.old name.now saying references result }
+    ensures names { OnOk result (names.new ≡ names.old) }
 {
     match saying {
         Saying::Path(path) => Ok((Found::Entry(LibItem::Node(path)), references)),
@@ -197,12 +207,13 @@ fn found_in(
 
 fn text_found(
     setting: &Setting<'_>,
-    names: &Names,
+    names: &mut Names,
     name: &Text,
     text: Text,
     references: usize,
 ) -> Result<(Found, usize), SubstFault>
-    ensures { FindsFirst (setting_of setting.now) names.now name.now (Saying.Read text) references result }
+    ensures first { FindsFirst (setting_of setting.now) names.old name.now (Saying.Read text) references result }
+    ensures names { OnOk result (names.new ≡ names.old) }
 {
     match name_alone(text.as_str()) {
         Some(variable) => {
@@ -210,13 +221,34 @@ fn text_found(
             Ok((Found::Variable(variable), references))
         }
         None if is_literal(text.as_str()) => Ok((named(text), references)),
-        None => {
-            let names = names.copy(setting.alloc)?;
-            let owner = name.copy()?;
-            let (text, references) = read_text(setting, names, owner, text, references)?;
-            Ok((named(text), references))
-        }
+        None => read_found(setting, names, name, text, references),
     }
+}
+
+/// A text that is read as an entry. The names that are open are lent, and come back.
+fn read_found(
+    setting: &Setting<'_>,
+    names: &mut Names,
+    name: &Text,
+    text: Text,
+    references: usize,
+) -> Result<(Found, usize), SubstFault>
+    ensures first { let w = setting_of setting.now in
+        MatchResult result (λ r. (s : State) × (text_at w names.old name.now text (started references) ≡ Ok s)
+        × (r.0 ≡ found_of (text_of (pieces_of s.sheet))) × (r.1 ≡ s.references))
+        (λ e. e ≢ SubstFault.Memory → text_at w names.old name.now text (started references) ≡ Err e) }
+    ensures names { OnOk result (names.new ≡ names.old) }
+{
+    let owner = name.copy()?;
+    let lent = mem::replace(names, Names::new(setting.alloc));
+    let read = read_text(setting, lent, owner, text, references)?;
+    let ReadText {
+        text,
+        names: back,
+        references,
+    } = read;
+    *names = back;
+    Ok((named(text), references))
 }
 
 /// An empty text is no entry.

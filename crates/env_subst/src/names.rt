@@ -1,5 +1,5 @@
 //! The variables whose values are being read.
-ghost use Rattle.std.specs.Prelude.{◌≡◌, ◌++◌, ◌∷◌, [], ◌≤◌, length, false, IfOk, OnOk, OnErr};
+ghost use Rattle.std.specs.Prelude.{◌≡◌, ◌++◌, ◌∷◌, [], ◌≤◌, length, false, OnOk};
 ghost use Rattle.env_subst.specs.Expansions.{is_open};
 ghost use Rattle.env_subst.specs.Desks.{outer_names};
 
@@ -7,6 +7,9 @@ use indexmap::IndexSet;
 use scons_base::{Memory, Text};
 use std::alloc::Global;
 use std::marker::Model;
+
+/// So many names are looked through one by one.
+const FEW: usize = 8;
 
 /// The variables whose values are being read, the outermost first.
 #[derive(Drop)]
@@ -31,16 +34,6 @@ impl Names {
         }
     }
 
-    pub(crate) fn copy(&self, alloc: Global) -> Result<Names, Memory>
-        ensures { IfOk result (λ n. n ≡ self.now) }
-    {
-        let mut copy = Names::new(alloc);
-        for place in 0..self.names.len() {
-            copy.enter(self.names.as_slice()[place].copy()?)?;
-        }
-        Ok(copy)
-    }
-
     pub(crate) fn len(&self) -> usize
         ensures { result ≡ length self.now }
     {
@@ -50,7 +43,11 @@ impl Names {
     pub(crate) fn is_open(&self, name: &Text) -> bool
         ensures { result ≡ is_open name.now self.now }
     {
-        self.names.contains(name)
+        if self.names.len() <= FEW {
+            is_among(self.names.as_slice(), name)
+        } else {
+            self.names.contains(name)
+        }
     }
 
     pub(crate) fn enter(&mut self, name: Text) -> Result<(), Memory>
@@ -66,4 +63,10 @@ impl Names {
     {
         self.names.truncate(self.names.len().saturating_sub(1));
     }
+}
+
+fn is_among(names: &[Text], name: &Text) -> bool
+    ensures { result ≡ is_open name.now names.now }
+{
+    names.iter().any(|there| name == there)
 }

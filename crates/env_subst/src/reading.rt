@@ -11,12 +11,12 @@ ghost use Rattle.env_subst.specs.Desks.{read, say, deeper_of, and_rest, with_ope
 
 use crate::calls::call_items;
 use crate::content::{Holding, held_by, said, said_by, taken};
-use crate::desk::{Desk, Stack, push, put, put_mark, refer};
+use crate::desk::{Desk, Stack, push, put, put_mark, put_whole, refer};
 use crate::fault::SubstFault;
 use crate::names::Names;
 use crate::part::{OwnedPart, owned};
 use crate::place::Place;
-use crate::saying::{First, Saying, Sayings, first_of};
+use crate::saying::{First, Saying, Sayings, first_of, is_over, literal_of, stands_for_itself};
 use crate::setting::Setting;
 use crate::task::{Call, Task};
 use env_text::{Selection, Step, next_part};
@@ -163,6 +163,22 @@ pub(crate) fn say_all<'a>(
     requires { is_open name desk.old.names ≡ true → sayings_of setting.now.locals.now sayings ≡ [] }
     ensures { Steps setting.now (λ w names. says_all (deeper_of w names name) (sayings_of w.locals sayings.entry)) desk.old desk.new result }
 {
+    match literal_of(&sayings) {
+        Some(text) if desk.names.len() <= REFERENCE_LIMIT as usize => put(&mut desk.pieces, text),
+        _ => say_opened(setting, desk, name, sayings),
+    }
+}
+
+/// All that a variable says, which is opened for it.
+fn say_opened<'a>(
+    setting: &Setting<'a>,
+    desk: &mut Desk<'a>,
+    name: Text,
+    sayings: Sayings<'a>,
+) -> Result<(), SubstFault>
+    requires { is_open name desk.old.names ≡ true → sayings_of setting.now.locals.now sayings ≡ [] }
+    ensures { Steps setting.now (λ w names. says_all (deeper_of w names name) (sayings_of w.locals sayings.entry)) desk.old desk.new result }
+{
     match first_of(setting.alloc, setting.locals, sayings)? {
         Some(first) => {
             open(desk, &name)?;
@@ -209,6 +225,22 @@ fn say_first<'a>(
     ensures { Steps setting.now (λ w names. says_all (text_at w names name) (first_and_rest w.locals first.entry)) desk.old desk.new result }
 {
     let First { saying, rest } = first;
+    if is_over(&rest) {
+        say_one(setting, desk, name, saying)
+    } else {
+        say_before(setting, desk, name, saying, rest)
+    }
+}
+
+fn say_before<'a>(
+    setting: &Setting<'a>,
+    desk: &mut Desk<'a>,
+    name: Text,
+    saying: Saying,
+    rest: Sayings<'a>,
+) -> Result<(), SubstFault>
+    ensures { Steps setting.now (λ w names. says_all (text_at w names name) (saying ∷ sayings_of w.locals rest.entry)) desk.old desk.new result }
+{
     push_sayings(&mut desk.tasks, &name, rest)?;
     say_one(setting, desk, name, saying)
 }
@@ -292,6 +324,9 @@ pub(crate) fn begin<'a>(
 {
     if desk.names.len() > REFERENCE_LIMIT as usize + 1 {
         return Err(SubstFault::TooMany(REFERENCE_LIMIT + 1));
+    }
+    if stands_for_itself(text.as_str()) {
+        return put_whole(&mut desk.pieces, text);
     }
     let place = beginning(text);
     push(&mut desk.tasks, Task::Read { owner, place })?;

@@ -1,6 +1,7 @@
 //! What a value says, one thing after another.
-ghost use Rattle.std.specs.Prelude.{◌≡◌, [], map, IfOk};
+ghost use Rattle.std.specs.Prelude.{◌≡◌, ◌<◌, ◌∷◌, [], ⊤, true, length, map, IfOk, MatchOption};
 ghost use Rattle.env_subst.specs.declared.locals.Locals.{Locals};
+ghost use Rattle.env_subst.specs.Expansions.{is_literal};
 ghost use Rattle.env_subst.specs.Sayings.{said_node, said_item, said_pair, defined, sayings_of, Begins};
 
 use crate::attribute::{Attribute, named_of, part_of};
@@ -57,6 +58,50 @@ pub(crate) fn first_of<'a>(
         Sayings::One(saying) => Ok(Some(alone(saying))),
         Sayings::Over => Ok(None),
     }
+}
+
+/// Whether it is clear that nothing more is said.
+pub(crate) fn is_over(sayings: &Sayings<'_>) -> bool
+    ensures { result ≡ true → (locals : Locals) → sayings_of locals sayings.now ≡ [] }
+{
+    match sayings {
+        Sayings::Nodes(nodes, _) => nodes.is_empty(),
+        Sayings::Items(items, _) => items.is_empty(),
+        Sayings::Words(words) => words.is_empty(),
+        Sayings::Pairs(pairs) => pairs.is_empty(),
+        Sayings::Text(_) => false,
+        Sayings::One(_) => false,
+        Sayings::Over => true,
+    }
+}
+
+/// The text that is all that is said, where it stands for itself.
+pub(crate) fn literal_of<'a>(sayings: &Sayings<'a>) -> Option<&'a str>
+    ensures { MatchOption result ⊤ (λ t. ((locals : Locals) → sayings_of locals sayings.now ≡ Saying.Read t.now ∷ [])
+        × (is_literal t.now ≡ true) × (0 < length t.now)) }
+{
+    let Sayings::Text(text) = sayings else {
+        return None;
+    };
+    if stands_for_itself(text) {
+        Some(*text)
+    } else {
+        None
+    }
+}
+
+/// A text that has something, and no `$`.
+pub(crate) fn stands_for_itself(text: &str) -> bool
+    ensures { result ≡ true → (is_literal text.now ≡ true) × (0 < length text.now) }
+{
+    !text.is_empty() && is_literal(text)
+}
+
+/// A text without a `$`.
+pub(crate) fn is_literal(text: &str) -> bool
+    ensures { result ≡ is_literal text.now }
+{
+    text.as_bytes().iter().all(|byte| *byte != b'$')
 }
 
 /// One thing, and nothing behind it.

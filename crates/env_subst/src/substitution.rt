@@ -20,8 +20,11 @@ use crate::setting::Setting;
 use crate::task::Task;
 use env_pieces::{FormFault, Mode, Piece, Pieces, form_of, text_of};
 use env_vars::Envs;
-use scons_base::{EnvId, Text};
+use scons_base::{EnvId, Memory, Text};
 use std::alloc::Global;
+
+/// How many tasks there is room for at first.
+const TASKS: usize = 16;
 
 /// The form of what a text of an environment stands for.
 pub fn subst(
@@ -75,8 +78,24 @@ pub(crate) fn pieces_of(
     };
     let empty = Text::of(alloc, "")?;
     let text = Text::of(alloc, text)?;
-    let (pieces, _references) = read_pieces(&setting, Names::new(alloc), empty, text, 0)?;
-    Ok(pieces.finish()?)
+    let read = read_pieces(&setting, Names::new(alloc), empty, text, 0)?;
+    Ok(read.pieces.finish()?)
+}
+
+/// What is read of a text, the variables that were open before, and how many references there are.
+#[derive(Drop)]
+struct ReadPieces {
+    pieces: Pieces,
+    names: Names,
+    references: usize,
+}
+
+/// The same with what is read as text.
+#[derive(Drop)]
+pub(crate) struct ReadText {
+    pub(crate) text: Text,
+    pub(crate) names: Names,
+    pub(crate) references: usize,
 }
 
 /// What a text of the innermost of these variables is as text, behind so many references, and how many there are then.
@@ -86,15 +105,25 @@ pub(crate) fn read_text(
     owner: Text,
     text: Text,
     references: usize,
-) -> Result<(Text, usize), SubstFault>
-    ensures { MatchResult result (λ r. (s : State) × (text_at (setting_of setting.now) names owner text (started references) ≡ Ok s)
-        × (r.0 ≡ text_of (pieces_of s.sheet)) × (r.1 ≡ s.references))
+) -> Result<ReadText, SubstFault>
+    ensures names { IfOk result (λ r. r.names ≡ names) }
+    ensures read { MatchResult result (λ r. (s : State) × (text_at (setting_of setting.now) names owner text (started references) ≡ Ok s)
+        × (r.text ≡ text_of (pieces_of s.sheet)) × (r.references ≡ s.references))
         (λ e. e ≢ SubstFault.Memory → text_at (setting_of setting.now) names owner text (started references) ≡ Err e) }
 {
-    let (pieces, references) = read_pieces(setting, names, owner, text, references)?;
+    let read = read_pieces(setting, names, owner, text, references)?;
+    let ReadPieces {
+        pieces,
+        names,
+        references,
+    } = read;
     let pieces = pieces.finish()?;
     let text = text_of(setting.alloc, pieces.as_slice())?;
-    Ok((Text::new(text), references))
+    Ok(ReadText {
+        text: Text::new(text),
+        names,
+        references,
+    })
 }
 
 /// What is read of a text of the innermost of these variables, and how many references there are then.
@@ -104,41 +133,45 @@ fn read_pieces(
     owner: Text,
     text: Text,
     references: usize,
-) -> Result<(Pieces, usize), SubstFault>
-    ensures { MatchResult result
-        (λ r. text_at (setting_of setting.now) names owner text (started references) ≡ Ok (record { sheet = r.0; references = r.1 }))
+) -> Result<ReadPieces, SubstFault>
+    ensures names { IfOk result (λ r. r.names ≡ names) }
+    ensures read { MatchResult result (λ r. text_at (setting_of setting.now) names owner text (started references)
+        ≡ Ok (record { sheet = r.pieces; references = r.references }))
         (λ e. e ≢ SubstFault.Memory → text_at (setting_of setting.now) names owner text (started references) ≡ Err e) }
 {
-    let mut desk = desk_with(setting.alloc, names, references);
+    let mut desk = desk_with(setting.alloc, names, references)?;
     begin(setting, &mut desk, owner, text)?;
     run(setting, &mut desk)?;
     let Desk {
         tasks: _tasks,
-        names: _names,
+        names,
         pieces,
         references,
     } = desk;
-    Ok((pieces, references))
+    Ok(ReadPieces {
+        pieces,
+        names,
+        references,
+    })
 }
 
 /// Nothing is left to do and nothing is read.
-fn desk_with<'a>(alloc: Global, names: Names, references: usize) -> Desk<'a>
-    ensures { (locals : Locals) → desk_of locals result ≡ idle names references }
+fn desk_with<'a>(alloc: Global, names: Names, references: usize) -> Result<Desk<'a>, Memory>
+    ensures { IfOk result (λ d. (locals : Locals) → desk_of locals d ≡ idle names references) }
 {
-    Desk {
-        tasks: Stack {
-            tasks: Vec::new(alloc),
-        },
+    let tasks = Vec::with_capacity(alloc, TASKS)?;
+    Ok(Desk {
+        tasks: Stack { tasks },
         names,
         pieces: Pieces::new(alloc),
         references,
-    }
+    })
 }
 
 /// Does all that is left to do. Beyond 2^64 - 1 turns, which would take centuries, it says want of memory.
 fn run<'a>(setting: &Setting<'a>, desk: &mut Desk<'a>) -> Result<(), SubstFault>
     ensures { let w = setting_of setting.now in let l = setting.now.locals.now in
-        MatchResult result (λ _. left_of w (desk_of l desk.old) ≡ Ok (desk_of l desk.new).state)
+        MatchResult result (λ _. left_of w (desk_of l desk.old) ≡ Ok ((desk_of l desk.new).state, desk.new.names))
         (λ e. e ≢ SubstFault.Memory → left_of w (desk_of l desk.old) ≡ Err e) }
 {
     'tasks: for _ in 0..u64::MAX {

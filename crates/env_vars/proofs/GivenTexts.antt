@@ -1,6 +1,8 @@
 -- A text that is given, part by part.
-use Rattle.std.proofs.Common.{◌≡◌, ◌∙◌, ◌<◌, ◌≤◌, ◌-◌, ◌+◌, ℕ, zero, List, [], ◌∷◌, ◌++◌, length, take, drop, refl, sym, ap, append_assoc, append-nil, arith}
-use Rattle.std.specs.Prelude.{if◌then◌else◌}
+use Rattle.std.proofs.Common.{◌≡◌, ◌∙◌, ◌<◌, ◌≤◌, ◌-◌, ◌+◌, ℕ, Bool, length-append, List, [], ◌∷◌, ◌++◌, length, take, drop, refl, sym, ap, append_assoc, append-nil, arith}
+use Rattle.std.specs.Prelude.{◌≢◌, Result, Ok, Err, IfErr, if◌then◌else◌}
+use Rattle.env_vars.specs.declared.fault.GivenFault.{GivenFault}
+use Rattle.env_vars.specs.declared.fault.GivenFault.TheVariants.{Memory}
 use Rattle.std.proofs.lemmas.List.{length-drop}
 use Rattle.env_text.specs.Parts.{PlainPart}
 use Rattle.env_text.specs.Readings.{Reading, ends, part_at, bad_brace, Beginning, takes, refuses, then_rest, beginning_at, reading_behind, reading_from}
@@ -38,3 +40,22 @@ pub text_breaks : (name old text before after whole part : List ℕ) (at : ℕ) 
     → before ++ replaced name old text (reading_from text at) ≡ whole → after ≡ whole
 text_breaks name old text before after whole part at reads is put inv =
     put ∙ ap (λ x. before ++ x) is ∙ ap (λ r. before ++ replaced name old text r) (sym reads) ∙ inv
+
+-- where a part is too long behind others, the whole is
+pub part_too_long : (name old text before whole part : List ℕ) (at next limit : ℕ) (p : PlainPart) (b : Bool) → reading_from text at ≡ part_at at p (reading_from text next) → next ≤ length text
+    → part ≡ take (next - at) (drop at text) → b ≡ is_name name (whole_name p) → before ++ replaced name old text (reading_from text at) ≡ whole
+    → limit < length (before ++ (if b then old else part)) → limit < length whole
+part_too_long name old text before whole part at next limit p b reads fits is same inv h =
+    let k = part_put name old text before (before ++ (if is_name name (whole_name p) then old else part)) whole part at next p reads fits is refl inv in
+    let e : length (before ++ (if b then old else part)) ≡ length (before ++ (if is_name name (whole_name p) then old else part)) = ap (λ c. length (before ++ (if c then old else part))) same in
+    omega (arith, ap length k, e, length-append (before ++ (if is_name name (whole_name p) then old else part)) (replaced name old text (reading_from text next)))
+
+pub rest_too_long : (name old text before whole part : List ℕ) (at limit : ℕ) → reading_from text at ≡ bad_brace at → part ≡ drop at text
+    → before ++ replaced name old text (reading_from text at) ≡ whole → limit < length (before ++ part) → limit < length whole
+rest_too_long name old text before whole part at limit reads is inv h =
+    let k = text_breaks name old text before (before ++ part) whole part at reads is refl inv in omega (arith, ap length k)
+
+pub rest_fails : {U : Type 0} (name old text before whole part : List ℕ) (at limit : ℕ) (r : Result U GivenFault) → reading_from text at ≡ bad_brace at → part ≡ drop at text
+    → before ++ replaced name old text (reading_from text at) ≡ whole → IfErr r (λ e. e ≢ Memory → limit < length (before ++ part)) → IfErr r (λ e. e ≢ Memory → limit < length whole)
+rest_fails name old text before whole part at limit (Ok u) reads is inv h = tt
+rest_fails name old text before whole part at limit (Err e) reads is inv h = λ n. rest_too_long name old text before whole part at limit reads is inv (h n)

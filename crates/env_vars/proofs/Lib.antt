@@ -2,3 +2,4 @@ pub mod ChainLemmas
 pub mod PairLemmas
 pub mod VarLemmas
 pub mod GivenTexts
+pub mod Lengths

@@ -1,9 +1,8 @@
 -- What a value stands for that is given for a variable where an environment is cloned, or for one call: the variable's own
 -- name in it stands for what the environment has, once. So SCons has it in `Clone` and in calls of builders.
-use Rattle.std.specs.Prelude.{ℕ, ◌+◌, ◌-◌, Bool, true, false, List, [], ◌∷◌, ◌++◌, Option, None, Some, map, take, drop, length, codes, if◌then◌else◌}
+use Rattle.std.specs.Prelude.{ℕ, ◌-◌, Bool, true, false, List, [], ◌∷◌, ◌++◌, Option, None, Some, map, take, drop, length, codes, if◌then◌else◌}
 use Rattle.std.specs.Str.{bytes_eq}
 use Rattle.std.specs.Fmt.{signed_decimal}
-use Rattle.env_text.specs.Parts.{PlainPart}
 use Rattle.env_text.specs.Readings.{Reading, ends, part_at, bad_brace, reading_of}
 use Rattle.env_text.specs.Alone.{whole_name, name_alone}
 use Rattle.env_vars.specs.declared.value.Item.{Item}
@@ -109,3 +108,17 @@ given name old value.Nil = value.Nil
 given name old (value.Bool flag) = value.Bool flag
 given name old (value.Int number) = value.Int number
 given name old (value.Pairs pairs) = value.Pairs pairs
+
+-- how many bytes items have as texts, with a space in front of each
+unfoldable pub spaced_len : List Item → ℕ
+spaced_len items = length (behind_spaces (map item_text items))
+
+-- how many bytes what is given has as a text; what stays as it is has no limit
+abbrev pub size_of : EnvValue → ℕ
+size_of (value.Text text) = length text
+size_of (value.Words words) = length (items_text (as_items words))
+size_of (value.List items) = length (items_text items)
+size_of value.Nil = 0
+size_of (value.Bool flag) = 0
+size_of (value.Int number) = 0
+size_of (value.Pairs pairs) = 0

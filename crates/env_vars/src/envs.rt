@@ -1,15 +1,16 @@
 //! The construction environments of a reading.
-ghost use Rattle.std.specs.Prelude.{◌≡◌, ◌≢◌, ◌<◌, ◌++◌, ◌∷◌, [], Some, None, length, IfOk, IfErr, OnOk, OnErr, option_copied};
+ghost use Rattle.std.specs.Prelude.{◌≡◌, ◌≢◌, ◌<◌, ◌≤◌, ◌++◌, ◌∷◌, [], Some, None, length, IfOk, IfErr, OnOk, OnErr, option_copied};
+ghost use Rattle.scons_base.specs.declared.limits.TheConstants.{TEXT_LIMIT};
 ghost use Rattle.env_vars.specs.declared.place.Place.TheVariants as place;
 ghost use Rattle.env_vars.specs.Added.{as_set, added};
-ghost use Rattle.env_vars.specs.Given.{given};
+ghost use Rattle.env_vars.specs.Given.{given, size_of};
 ghost use Rattle.env_vars.specs.Initial.{initial_vars};
 ghost use Rattle.env_vars.specs.Envs.{behind_of, value_of, copied, set_all, with_var, after_adding};
 
 use crate::added::added_to;
 use crate::chain::{chain, copied, set_all, value_of};
 use crate::env::Env;
-use crate::fault::EnvFault;
+use crate::fault::{EnvFault, GivenFault};
 use crate::forms::as_set;
 use crate::given::given;
 use crate::initial::initial_vars;
@@ -97,10 +98,13 @@ impl Envs {
     }
 
     /// What a value stands for that is given for a variable to a clone of the environment, or to one call: the variable's
-    /// own name in it stands for what the environment has.
-    pub fn given(&self, env: EnvId, name: &str, value: EnvValue) -> Result<EnvValue, Memory>
+    /// own name in it stands for what the environment has. As a text it may have no more bytes than a text.
+    pub fn given(&self, env: EnvId, name: &str, value: EnvValue) -> Result<EnvValue, GivenFault>
         requires { env.0 < length self.now }
-        ensures { IfOk result (λ v. v ≡ given name.now (value_of self.now env.0 name.now) value) }
+        ensures ok { IfOk result (λ v. v ≡ given name.now (value_of self.now env.0 name.now) value) }
+        ensures fits { IfOk result (λ v. size_of v ≤ TEXT_LIMIT) }
+        ensures too_long { IfErr result (λ e. e ≢ GivenFault.Memory
+            → TEXT_LIMIT < size_of (given name.now (value_of self.now env.0 name.now) value)) }
     {
         given(self.alloc, name, self.get(env, name), value)
     }

@@ -22,5 +22,5 @@ mod vars;
 mod words;
 
 pub use envs::Envs;
-pub use fault::EnvFault;
+pub use fault::{EnvFault, GivenFault};
 pub use value::{EnvValue, Item};

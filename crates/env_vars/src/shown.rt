@@ -1,5 +1,5 @@
 //! Values as texts, and as items of a list.
-ghost use Rattle.std.specs.Prelude.{◌≡◌, ◌++◌, map, IfOk, OnOk, string_bytes};
+ghost use Rattle.std.specs.Prelude.{◌≡◌, ◌++◌, length, map, IfOk, OnOk, string_bytes};
 ghost use Rattle.env_vars.specs.Added.{as_items, as_pairs, text_items};
 ghost use Rattle.env_vars.specs.Given.{behind_spaces, item_text, items_text, flag_text, value_text, value_items};
 
@@ -115,4 +115,17 @@ fn put_pair(text: &mut String, name: &Text, value: &Text) -> Result<(), Memory>
     text.push('=')?;
     text.push_str(value.as_str())?;
     Ok(())
+}
+
+/// How many bytes an item has as a text.
+pub(crate) fn item_len(alloc: Global, item: &Item) -> Result<usize, Memory>
+    ensures { IfOk result (λ n. n ≡ length (item_text item.now)) }
+{
+    match item {
+        Item::Text(text) => Ok(text.as_str().len()),
+        Item::Int(number) => Ok(format!(in alloc; "{number}")?.len()),
+        Item::Node(path) => Ok(path.as_str().len()),
+        Item::Pair(name, None) => Ok(name.as_str().len()),
+        Item::Pair(name, Some(value)) => Ok(name.as_str().len() + 1 + value.as_str().len()),
+    }
 }

@@ -87,7 +87,7 @@ impl Environments {
         &self,
         env: EnvId,
         values: &[(Text, EnvValue)],
-    ) -> Result<Vec<(Text, EnvValue)>, Memory> {
+    ) -> Result<Vec<(Text, EnvValue)>, NameFault> {
         let mut names = Vec::new(self.alloc);
         for (name, value) in values {
             let given = self.given(env, name, value)?;
@@ -97,9 +97,9 @@ impl Environments {
     }
 
     /// One such value.
-    pub fn given(&self, env: EnvId, name: &Text, value: &EnvValue) -> Result<EnvValue, Memory> {
-        self.envs
-            .given(self.held(env), name.as_str(), value.copy(self.alloc)?)
+    pub fn given(&self, env: EnvId, name: &Text, value: &EnvValue) -> Result<EnvValue, NameFault> {
+        let value = value.copy(self.alloc)?;
+        Ok(self.envs.given(self.held(env), name.as_str(), value)?)
     }
 
     pub fn get(&self, env: EnvId, name: &str) -> Option<&EnvValue> {

@@ -3,6 +3,8 @@ ghost use Rattle.std.specs.Prelude.{◌≡◌};
 ghost use Rattle.scons_decls.specs.declared.fault.NameFault.TheVariants.{Memory};
 
 use env_subst::SubstFault;
+use env_vars::GivenFault;
+use scons_base::limits::TEXT_LIMIT;
 use scons_base::{Memory as NoMemory, PathFault, PathText, Text};
 use std::alloc::{AllocError, AllocFailed};
 use variant_dirs::VariantFault;
@@ -63,6 +65,15 @@ impl From<SubstFault> for NameFault {
         match fault {
             SubstFault::Memory => NameFault::Memory,
             fault => NameFault::Subst(fault),
+        }
+    }
+}
+
+impl From<GivenFault> for NameFault {
+    fn from(fault: GivenFault) -> Self {
+        match fault {
+            GivenFault::TooLong => NameFault::Subst(SubstFault::TooLong(TEXT_LIMIT + 1)),
+            GivenFault::Memory => NameFault::Memory,
         }
     }
 }

@@ -30,6 +30,7 @@ pub(crate) fn answer(alloc: Global, trial: &mut Trial, line: &str) -> Option<Str
         "full" => full(alloc),
         "libs" => trial.libs(),
         "lines" => trial.lines(rest, text_of(alloc, rest)?.as_str()),
+        "command" => trial.command(rest, text_of(alloc, rest)?.as_str()),
         "path" => trial.path(rest, text_of(alloc, rest)?.as_str()),
         _ => {
             prepare(alloc, trial, verb, rest)?;

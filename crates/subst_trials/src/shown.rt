@@ -1,5 +1,5 @@
 //! What answers show.
-use env_subst::{LibItem, SubstFault};
+use env_subst::{CommandLines, LibItem, SubstFault};
 use scons_base::{Listing, Paths, Texts};
 
 /// The length from which on a form shows only how many bytes it has.
@@ -62,6 +62,21 @@ pub(crate) fn put_texts(line: &mut String, forms: Result<Texts, SubstFault>) -> 
                 put_text(line, text.as_str())?;
             }
             Some(())
+        }
+        Err(fault) => put_fault(line, fault),
+    }
+}
+
+/// The lines as text, and behind them as signed.
+pub(crate) fn put_command(
+    line: &mut String,
+    lines: Result<CommandLines, SubstFault>,
+) -> Option<()> {
+    match lines {
+        Ok(lines) => {
+            put_texts(line, Ok(lines.plain))?;
+            line.push_str("|signed").ok()?;
+            put_texts(line, Ok(lines.signed))
         }
         Err(fault) => put_fault(line, fault),
     }

@@ -2,8 +2,8 @@
 ghost use Rattle.std.specs.Prelude.{◌<◌, length};
 
 use crate::rule::plain_rule;
-use crate::shown::{put_dirs, put_form, put_libs, put_texts};
-use env_subst::{Locals, Mode, dirs, lib_names, lines, path_text, subst};
+use crate::shown::{put_command, put_dirs, put_form, put_libs, put_texts};
+use env_subst::{Locals, Mode, command_lines, dirs, lib_names, lines, path_text, subst};
 use env_vars::{EnvValue, Envs};
 use scons_base::{EnvId, Text};
 use std::alloc::Global;
@@ -98,6 +98,15 @@ impl Trial {
     fn put_lines(&self, line: &mut String, text: &str, mode: Mode) -> Option<()> {
         let forms = lines(self.alloc, &self.envs, self.env, text, &self.locals, mode);
         put_texts(line, forms)
+    }
+
+    /// The same of one reading.
+    pub(crate) fn command(&self, field: &str, text: &str) -> Option<String> {
+        let mut line = String::from_str(self.alloc, field).ok()?;
+        let lines = command_lines(self.alloc, &self.envs, self.env, text, &self.locals);
+        put_command(&mut line, lines)?;
+        line.push_str("|\n").ok()?;
+        Some(line)
     }
 
     /// The text of a path.

@@ -1,24 +1,17 @@
+use Rattle.std.proofs.Common.{◌≤◌, refl, length, arith}
 use Rattle.env_subst.specs.Settings.{setting_of}
 use Rattle.env_subst.specs.Sayings.{sayings_of}
-use Rattle.env_subst.specs.Desks.{desk_of}
-use Rattle.env_subst.proofs.Doing.{not_open, says_in, says_nothing_at_all}
+use Rattle.env_subst.specs.Desks.{tasks_of, desk_of}
+use Rattle.env_subst.proofs.Doing.{desk, put_leads, literal_says}
 use Rattle.env_subst.proofs.reading.say_all.Goals as goal
 
-pub open-requires : goal.open-requires
-open-requires c =
+pub returns-in-Some : goal.returns-in-Some
+returns-in-Some c =
     let l = c.args.setting.now.locals.now in
-    not_open c.args.name c.args.desk.now.names (sayings_of l c.args.sayings) c.in-Some.first.saying (sayings_of l c.in-Some.first.rest) c.requires (rw c.in-Some.is at (c.in_ok-first.ensures {u = tt}))
-
-pub returns-in_ok-open-in-Some : goal.returns-in_ok-open-in-Some
-returns-in_ok-open-in-Some c =
-    let l = c.args.setting.now.locals.now in
-    says_in (setting_of c.args.setting.now) (desk_of l c.args.desk.now) (desk_of l c.open.new.desk) (desk_of l c.say_first.new.desk) c.args.name c.say_first.result
-    ((c.in_ok-open-in-Some.ensures {u = tt}) l)
-    (not_open c.args.name c.args.desk.now.names (sayings_of l c.args.sayings) c.in-Some.first.saying (sayings_of l c.in-Some.first.rest) c.requires (rw c.in-Some.is at (c.in_ok-first.ensures {u = tt})))
-    (sayings_of l c.args.sayings) c.in-Some.first.saying (sayings_of l c.in-Some.first.rest) (rw c.in-Some.is at (c.in_ok-first.ensures {u = tt}))
-    c.say_first.ensures
-
-pub returns-in-None : goal.returns-in-None
-returns-in-None c =
-    let l = c.args.setting.now.locals.now in
-    says_nothing_at_all (setting_of c.args.setting.now) (desk_of l c.args.desk.now) c.args.name (sayings_of l c.args.sayings) (rw c.in-None.is at (c.in_ok-first.ensures {u = tt}))
+    let w = setting_of c.args.setting.now in
+    let d = c.args.desk.now in
+    let few : length d.names ≤ 100000 = omega arith in
+    let said = c.in-Some.ensures {u = tt} in
+    literal_says w (desk_of l d) (desk (tasks_of l d.tasks.tasks.items) d.names c.put.new.pieces d.references) c.args.name c.in-Some.text.now (sayings_of l c.args.sayings) c.put.result few
+    (said.0 l) said.1 said.2 c.requires
+    (put_leads w (tasks_of l d.tasks.tasks.items) d.names d.pieces c.put.new.pieces d.references c.in-Some.text.now c.in-Some.text.now c.put.result refl c.put.ensures.ok c.put.ensures.fault)

@@ -1,13 +1,14 @@
 use Rattle.env_subst.specs.Settings.{setting_of}
 use Rattle.env_subst.specs.Sayings.{sayings_of}
-use Rattle.env_subst.specs.Desks.{tasks_of, desk_of}
-use Rattle.env_subst.proofs.Doing.{says_on}
+use Rattle.env_subst.specs.Expansions.{text_at}
+use Rattle.env_subst.specs.Desks.{desk_of}
+use Rattle.env_subst.proofs.Doing.{leads_too, alone_read}
 use Rattle.env_subst.proofs.reading.say_first.Goals as goal
 
-pub returns : goal.returns
-returns c =
+pub returns-then-is_over : goal.returns-then-is_over
+returns-then-is_over c =
     let l = c.args.setting.now.locals.now in
-    let d = c.args.desk.now in
-    says_on (setting_of c.args.setting.now) (tasks_of l d.tasks.tasks.items) d.names d.references (desk_of l c.say_one.new.desk) c.args.name c.say_one.result
-    c.args.first.saying (sayings_of l c.args.first.rest) (tasks_of l c.push_sayings.new.stack.tasks.items) d.pieces ((c.in_ok-push_sayings.ensures {u = tt}) l)
-    c.say_one.ensures
+    let w = setting_of c.args.setting.now in
+    let d = desk_of l c.args.desk.now in
+    leads_too w _ _ (desk_of l c.say_one.new.desk) c.say_one.result
+    (alone_read w (text_at w d.names c.args.name) c.args.first.saying (sayings_of l c.args.first.rest) d (c.is_over.ensures c.if-is_over.true l)) c.say_one.ensures
