@@ -34,8 +34,12 @@ pub trait Host {
         object: HostId,
         args: &Args,
     ) -> Result<Reply, HostRefusal>
-        ensures ok { IfOk result (λ reply. meaning.replies (called place locals.now globals.now object.0 (arguments_of args.now)) self.old heap.old (answers (given_of reply)) self.new heap.new) }
-        ensures refused { result ≡ Err HostRefusal.Host → meaning.replies (called place locals.now globals.now object.0 (arguments_of args.now)) self.old heap.old refuses self.new heap.new }
+        ensures ok { IfOk result (λ reply. meaning.replies
+            (called place locals.now globals.now object.0 (arguments_of args.now))
+            self.old heap.old (answers (given_of reply)) self.new heap.new) }
+        ensures refused { result ≡ Err HostRefusal.Host → meaning.replies
+            (called place locals.now globals.now object.0 (arguments_of args.now))
+            self.old heap.old refuses self.new heap.new }
         ensures keeps { meaning.keeps self.old self.new }
         ensures stands { Extends heap.old heap.new };
 
