@@ -2,3 +2,4 @@ mod Walks
 mod Rules
 pub mod Visiting
 pub mod Naming
+pub mod Leading

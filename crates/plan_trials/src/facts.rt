@@ -1,6 +1,6 @@
 //! What the slow functions say of a graph, as far as files were scanned.
 
-use crate::order::{add_below, list_at};
+use model_trials::loops::{has_loop, led_from, list_at};
 use model_trials::needs::needs;
 use model_trials::order::in_order;
 use model_trials::reach::{PlainRule, reach, scan_list};
@@ -10,6 +10,9 @@ use std::alloc::Global;
 
 /// More than the files that are scanned for a rule.
 const LIMIT: usize = 16;
+
+/// More steps than a walk over all that rules lead to takes.
+const STEPS: usize = 64;
 
 /// The needed rules in the build order, and what is known of each rule by its number.
 #[derive(Drop)]
@@ -71,13 +74,24 @@ impl Facts {
 
     fn take_order(&mut self, alloc: Global) -> Result<(), Memory> {
         self.is_whole = false;
-        let Some(order) = in_order(alloc, self.needs.as_slice(), &[0])? else {
+        let needs = self.needs.as_slice();
+        let Some(order) = in_order(alloc, needs, &[0])? else {
             return Ok(());
         };
         self.order = order;
-        let needed = below(alloc, self.needs.as_slice(), &[0])?;
-        self.is_whole = are_same(needed.as_slice(), self.order.as_slice());
-        self.is_cyclic = has_loop(alloc, self.needs.as_slice(), self.order.as_slice())?;
+        self.take_loop(alloc)
+    }
+
+    /// Whether a needed rule leads to itself, and whether the needed rules are those of the order.
+    fn take_loop(&mut self, alloc: Global) -> Result<(), Memory> {
+        let needs = self.needs.as_slice();
+        let order = self.order.as_slice();
+        let needed = led_from(alloc, needs, STEPS, &[0])?;
+        let is_cyclic = has_loop(alloc, needs, STEPS, order)?;
+        if let (Some(needed), Some(is_cyclic)) = (needed, is_cyclic) {
+            self.is_whole = are_same(needed.as_slice(), order);
+            self.is_cyclic = is_cyclic;
+        }
         Ok(())
     }
 
@@ -100,29 +114,6 @@ fn spots_at(lists: &[Vec<Spot>], number: usize) -> &[Spot] {
         Some(list) => list.as_slice(),
         None => &[],
     }
-}
-
-/// Some rules, and those that they lead to.
-fn below(alloc: Global, needs: &[Listing<usize>], numbers: &[usize]) -> Result<Vec<usize>, Memory> {
-    let mut all = Vec::from_slice(alloc, numbers)?;
-    add_below(needs, &mut all)?;
-    Ok(all)
-}
-
-/// Whether one of these rules leads to itself.
-fn has_loop(alloc: Global, needs: &[Listing<usize>], numbers: &[usize]) -> Result<bool, Memory> {
-    for number in numbers {
-        if needs_itself(alloc, needs, *number)? {
-            return Ok(true);
-        }
-    }
-    Ok(false)
-}
-
-/// Whether a rule leads to itself.
-fn needs_itself(alloc: Global, needs: &[Listing<usize>], number: usize) -> Result<bool, Memory> {
-    let all = below(alloc, needs, list_at(needs, number))?;
-    Ok(all.contains(&number))
 }
 
 /// Whether the one list has the members of the other one.

@@ -9,7 +9,6 @@ mod cases;
 mod choices;
 mod compare;
 mod facts;
-mod order;
 mod row;
 mod trial;
 
