@@ -3,7 +3,7 @@ use Rattle.std.proofs.Common.{◌≡◌, ◌<◌, ◌+◌, ◌≤◌, ℕ, zero,
 use Rattle.std.proofs.lemmas.Bool.{eqb-true, eq-eqb}
 use Rattle.std.specs.List.{list_any}
 use Rattle.build_model.specs.Rules.{Among, here, there}
-use Rattle.model_trials.specs.Loops.{IsLed, is_root, is_needed, LeadsTo, AreLed, IsUnderWay}
+use Rattle.model_trials.specs.Loops.{IsLed, is_root, follows, LeadsTo, AreLed, IsUnderWay}
 
 none_among : {A : Type 0} {n : ℕ} → Among n [] → A
 none_among m = elim m [ ]
@@ -82,7 +82,7 @@ module _ (needs : List (List ℕ)) (roots : List ℕ) where
       record {
         met_only = λ k at. ⊎_elim (λ m. w.met_only k m)
             (λ l. ⊎_elim (λ e. subst (λ (j : ℕ). IsLed needs roots j) (sym e) led) (λ none. none_among none) (head_or_later l)) (either met at);
-        waiting_only = λ k at. ⊎_elim (λ r. w.waiting_only k (in_front (n ∷ []) r)) (λ l. is_needed n led l) (either rest at);
+        waiting_only = λ k at. ⊎_elim (λ r. w.waiting_only k (in_front (n ∷ []) r)) (λ l. follows n led l) (either rest at);
         roots_in = λ k r. moves k (w.roots_in k r);
         needs_in = λ k m at need. ⊎_elim (λ before. moves k (w.needs_in k m before need))
             (λ l. ⊎_elim (λ e. inr (behind rest (subst (λ (j : ℕ). Among k (get_or needs j [])) e need))) (λ none. none_among none) (head_or_later l))
@@ -105,7 +105,7 @@ module _ (needs : List (List ℕ)) (roots : List ℕ) where
 
   whole_of : {met : List ℕ} → IsUnderWay needs roots met [] → (n : ℕ) → IsLed needs roots n → Among n met
   whole_of w n (is_root r) = ⊎_elim (λ m. m) (λ none. none_among none) (w.roots_in n r)
-  whole_of w n (is_needed m led need) = ⊎_elim (λ at. at) (λ none. none_among none) (w.needs_in n m (whole_of w m led) need)
+  whole_of w n (follows m led need) = ⊎_elim (λ at. at) (λ none. none_among none) (w.needs_in n m (whole_of w m led) need)
 
   pub begins_at : {met waiting : List ℕ} → met ≡ [] → waiting ≡ roots → IsUnderWay needs roots met waiting
   begins_at {met} {waiting} none all =

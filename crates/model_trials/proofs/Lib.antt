@@ -3,3 +3,4 @@ mod Rules
 pub mod Visiting
 pub mod Naming
 pub mod Leading
+pub mod Waiting

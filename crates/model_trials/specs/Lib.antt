@@ -2,3 +2,4 @@
 pub mod Plain
 pub mod Orders
 pub mod Loops
+pub mod Cyclic

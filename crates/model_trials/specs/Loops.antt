@@ -5,7 +5,7 @@ use Rattle.build_model.specs.Rules.{Among}
 -- One of these numbers, or one that is needed by a number to which they lead.
 pub data IsLed (needs : List (List ℕ)) (roots : List ℕ) : ℕ → Type 0 where
   is_root : {n : ℕ} → Among n roots → IsLed needs roots n
-  is_needed : {n : ℕ} (m : ℕ) → IsLed needs roots m → Among n (get_or needs m []) → IsLed needs roots n
+  follows : {n : ℕ} (m : ℕ) → IsLed needs roots m → Among n (get_or needs m []) → IsLed needs roots n
 
 -- a rule needs the other one, directly or through others
 abbrev pub LeadsTo : List (List ℕ) → ℕ → ℕ → Type 0

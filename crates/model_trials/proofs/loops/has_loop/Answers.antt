@@ -1,4 +1,4 @@
-use Rattle.std.proofs.Common.{◌≡◌, ap, ◌∙◌, Ok, Some}
+use Rattle.std.proofs.Common.{ap, ◌∙◌, Ok, Some}
 use Rattle.model_trials.proofs.Leading.{at_place, none_more, none_at_end}
 use Rattle.model_trials.proofs.loops.has_loop.Goals as goal
 
