@@ -25,5 +25,6 @@ pub mod Laws
 pub mod Waits
 pub mod EachCall
 pub mod SinkMeans
+pub mod Raises
 pub mod Ready
 pub mod Told

@@ -44,7 +44,9 @@ impl MemWorld {
     ghost use Rattle.world_mem.specs.Kept.{contents_in, counts_of, start_fault};
     ghost use Rattle.world_mem.specs.Means.{machine_of, world_meaning};
     ghost use Rattle.world_mem.specs.Planned.{makes};
+    ghost use Rattle.world_mem.specs.Raises.{Raises};
     ghost use Rattle.world_mem.specs.Ready.{MayEnter};
+    ghost use Rattle.world_mem.specs.Stamps.{StampsRun};
     ghost use Rattle.world_mem.specs.Told.{IsTold};
     ghost use Rattle.world_mem.specs.declared.calls.Call.{Call};
     ghost use Rattle.world_mem.specs.declared.event.Event.{Event};
@@ -80,8 +82,10 @@ impl MemWorld {
     pub fn enter(&mut self, entering: Entering)
         requires { MayEnter entering self.old }
         ensures started { entering.event ≡ Event.Started entering.run.job self.old.faults → Starts entering.run.job (counts_of self.old.faults) (around_of self.old.state) (around_of self.new.state) }
+        ensures raised { Raises entering.run.job (around_of self.old.state) (around_of self.new.state) }
         ensures recalls { Recalls world_meaning self.old self.new }
         ensures time { Throughout world_meaning self.old self.new (Meanwhile world_meaning self.old self.new) }
+        ensures stamp { self.new.state.stamp ≡ self.old.state.stamp }
         ensures faults { self.new.faults ≡ self.old.faults }
         ensures calls { self.new.calls ≡ self.old.calls }
         ensures keeps { Keeps self.old self.new }
@@ -100,6 +104,7 @@ impl MemWorld {
         ensures cause { HasOutcomeCause outcome (counts_of self.old.faults) (counts_of self.new.faults) }
         ensures once { self.new.faults ≡ faults_after outcome self.old.faults }
         ensures rest { (around_of self.new.state).running ≡ remove (around_of self.old.state).running place }
+        ensures stamps { StampsRun place self.old.state self.new.state }
         ensures outcome { result.outcome ≡ outcome }
         ensures chosen { (d : Running) → result.id ≡ (slice_index_or (around_of self.old.state).running place d).job.id }
         ensures absent { (d : Running) (path : List ℕ) → outcome ≢ Outcome.Done → Contains (slice_index_or (around_of self.old.state).running place d).job.targets path → (around_of self.new.state).tree path ≡ None }

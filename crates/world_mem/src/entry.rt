@@ -20,7 +20,9 @@ impl State {
     ghost use Rattle.world_mem.specs.Kept.{contents_in, counts_of};
     ghost use Rattle.world_mem.specs.Past.{before};
     ghost use Rattle.world_mem.specs.Planned.{makes};
+    ghost use Rattle.world_mem.specs.Raises.{Raises};
     ghost use Rattle.world_mem.specs.Ready.{IsReady};
+    ghost use Rattle.world_mem.specs.Stamps.{StampsRun};
     ghost use Rattle.world_mem.specs.Told.{IsTold};
     ghost use Rattle.world_mem.specs.declared.event.Event.{Event};
 
@@ -50,8 +52,10 @@ impl State {
     pub(crate) fn enter_ready(&mut self, entering: Entering)
         requires { IsReady entering self.old }
         ensures started { (faults : Faults) → entering.event ≡ Event.Started entering.run.job faults → Starts entering.run.job (counts_of faults) (around_of self.old) (around_of self.new) }
+        ensures raised { Raises entering.run.job (around_of self.old) (around_of self.new) }
         ensures back { before (course_of self.new) ≡ course_of self.old }
         ensures more { vec_len self.new.running ≡ vec_len self.old.running + 1 }
+        ensures stamp { self.new.stamp ≡ self.old.stamp }
         ensures removals { self.new.removals ≡ self.old.removals }
         ensures table { self.new.table ≡ self.old.table }
     {
@@ -70,6 +74,7 @@ impl State {
         ensures met { (d : Running) → outcome ≡ Outcome.Done → (around_of self.new).met ≡ (around_of self.old).met ++ contents_in (makes self.old.table (slice_index_or (around_of self.old).running place d).job (slice_index_or (around_of self.old).running place d).given) }
         ensures unmet { outcome ≢ Outcome.Done → (around_of self.new).met ≡ (around_of self.old).met }
         ensures rest { self.new.running.items ≡ remove self.old.running.items place }
+        ensures stamps { StampsRun place self.old self.new }
         ensures fewer { vec_len self.new.running + 1 ≡ vec_len self.old.running }
         ensures removals { self.new.removals ≡ self.old.removals }
         ensures table { self.new.table ≡ self.old.table }
@@ -88,6 +93,7 @@ impl State {
         ensures course { course_of self.new ≡ course_of self.old }
         ensures running { self.new.running.items ≡ self.old.running.items }
         ensures len { vec_len self.new.running ≡ vec_len self.old.running }
+        ensures stamp { self.new.stamp ≡ self.old.stamp }
         ensures removals { self.new.removals ≡ self.old.removals }
         ensures table { self.new.table ≡ self.old.table }
     {

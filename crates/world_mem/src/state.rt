@@ -76,7 +76,7 @@ pub struct Entering {
 impl State {
     ghost use Rattle.std.specs.Prelude.{◌++◌, ◌||◌, if◌then◌else◌, OnErr, IsSome, None, false, unwrap_or, codes};
     ghost use Rattle.std.specs.List.{remove};
-    ghost use Rattle.std.specs.Option.{option_copied};
+    ghost use Rattle.std.specs.Option.{option_copied, is_some};
     ghost use Rattle.world_api.specs.Around.{IsUnused, IsRunningTarget, Running, given_of};
     ghost use Rattle.world_api.specs.Calls.{Asks, MakesDir, Removes, CanStart, Starts, Ends};
     ghost use Rattle.world_api.specs.Reads.{IsListing, kind_of, stamp_of};
@@ -89,6 +89,7 @@ impl State {
     ghost use Rattle.world_mem.specs.InSlots.{settled};
     ghost use Rattle.world_mem.specs.CallCounts.{next};
     ghost use Rattle.world_mem.specs.Kept.{counts_of};
+    ghost use Rattle.world_mem.specs.Raises.{Raises};
     ghost use Rattle.world_mem.specs.Stamps.{Stamps};
     ghost use Rattle.world_mem.specs.Past.{before};
     ghost use Rattle.world_mem.specs.Table.{law_of};
@@ -209,11 +210,13 @@ impl State {
     }
 
     /// Removes a file. Says whether one stood there.
+    #[tactic(auto, using(crate::proofs::Went::stands))]
     pub fn remove(&mut self, path: &PathText) -> bool
         requires unused { IsUnused (around_of self.old).running path.now }
         requires room { self.old.removals < 262144 }
         ensures removed { Removes path.now (around_of self.old) (around_of self.new) }
         ensures gone { (around_of self.new).tree path.now ≡ None }
+        ensures stood { result ≡ is_some ((around_of self.old).tree path.now) }
         ensures back { IsTrue result → before (course_of self.new) ≡ course_of self.old }
         ensures same { result ≡ false → course_of self.new ≡ course_of self.old }
         ensures removals { self.new.removals ≡ self.old.removals + (if result then 1 else 0) }
@@ -266,6 +269,7 @@ impl State {
     pub fn start(&mut self, alloc: Global, job: Job, faults: Faults) -> Result<(), Memory>
         requires { CanStart job (around_of self.old) }
         ensures ok { OnOk result (Starts job (counts_of faults) (around_of self.old) (around_of self.new)) }
+        ensures raised { OnOk result (Raises job (around_of self.old) (around_of self.new)) }
         ensures back { OnOk result (before (course_of self.new) ≡ course_of self.old) }
         ensures same { OnErr result (course_of self.new ≡ course_of self.old) }
         ensures removals { self.new.removals ≡ self.old.removals }

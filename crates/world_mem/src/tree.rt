@@ -71,8 +71,9 @@ impl World for MemWorld {
     ghost use Rattle.world_mem.specs.Kept.{tree_fault, start_fault};
     ghost use Rattle.world_mem.specs.Laws.{none_closed};
     ghost use Rattle.world_mem.specs.Means.{world_meaning};
+    ghost use Rattle.world_mem.specs.Raises.{Raises};
     ghost use Rattle.world_mem.specs.Room.{recorded};
-    ghost use Rattle.world_mem.specs.EachCall.{Keeps, TreeCall};
+    ghost use Rattle.world_mem.specs.EachCall.{Keeps, RecordsRemoval, RemoveCall, TreeCall};
     ghost use Rattle.world_mem.specs.Refuses.{IsGoneAnyway};
     ghost use Rattle.world_mem.specs.Stamps.{Stamps};
     ghost use Rattle.world_mem.specs.Waits.{ended_by, row_ending, row_contents};
@@ -215,6 +216,7 @@ impl World for MemWorld {
     }
 
     /// Removes a file. Where the call is listed as one that fails, with an odd number, the file is gone nevertheless.
+    #[tactic(auto, using(crate::proofs::Went::still_none))]
     fn remove(&mut self, path: &PathText) -> Result<(), Fault>
         requires { world_meaning.tells self.old → IsUnused (world_meaning.around self.old).running path.now }
         ensures gone { world_meaning.tells self.new → OnOk result ((world_meaning.around self.new).tree path.now ≡ None) }
@@ -228,7 +230,8 @@ impl World for MemWorld {
         ensures exactly { IsErr result ↔ (Fails Call.Remove self.old.calls ⊎ (262144 ≤ recorded self.old)) }
         ensures anyway { IsGoneAnyway self.old → (around_of self.new.state).tree path.now ≡ None }
         ensures stays { OnErr result ((IsGoneAnyway self.old → ⊥) → self.new.state ≡ self.old.state) }
-        ensures each { TreeCall Call.Remove tree_fault (IsErr result) self.old self.new }
+        ensures removals { RecordsRemoval path.now self.old self.new }
+        ensures each { RemoveCall (IsErr result) self.old self.new }
     {
         let odd = self.calls.count(Call::Remove) % 2 == 1;
         let verdict = self.calls.next(Call::Remove);
@@ -259,6 +262,7 @@ impl World for MemWorld {
         ensures rose { result ≡ Err AskRefusal.Fault → StartFails (world_meaning.counts self.old) (world_meaning.counts self.new) }
         ensures listed { Fails Call.Start self.old.calls → result ≡ Err AskRefusal.Fault }
         ensures only { result ≡ Err AskRefusal.Fault → Fails Call.Start self.old.calls ⊎ AreBlocked (world_meaning.around self.old) job.targets }
+        ensures raised { OnOk result (Raises job (around_of self.old.state) (around_of self.new.state)) }
         ensures clear { OnOk result (AreBlocked (world_meaning.around self.old) job.targets → ⊥) }
         ensures each { TreeCall Call.Start start_fault (result ≡ Err AskRefusal.Fault) self.old self.new }
     {
@@ -312,6 +316,7 @@ impl MemWorld {
     ghost use Rattle.world_api.specs.Calls.{Removes};
     ghost use Rattle.world_api.specs.Meaning.{Recalls, Throughout, Meanwhile};
     ghost use Rattle.world_mem.specs.AsAround.{around_of};
+    ghost use Rattle.world_mem.specs.EachCall.{RecordsRemoval};
     ghost use Rattle.world_mem.specs.Means.{world_meaning};
     ghost use Rattle.world_mem.specs.Room.{recorded};
     ghost use Rattle.std.specs.Prelude.{None};
@@ -330,6 +335,7 @@ impl MemWorld {
         ensures orders { self.new.orders ≡ self.old.orders }
         ensures table { self.new.state.table ≡ self.old.state.table }
         ensures stamp { self.new.state.stamp ≡ self.old.state.stamp }
+        ensures removals { RecordsRemoval path.now self.old self.new }
     {
         if !self.state.remove(path) {
             return;

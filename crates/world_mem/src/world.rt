@@ -78,6 +78,11 @@ impl MemWorld {
         ensures law { IfOk result (λ world. (around_of world.state).law ≡ law_of table) }
         ensures table { IfOk result (λ world. world.state.table ≡ table) }
         ensures seen { IfOk result (λ world. (bank : Bank) → world_meaning.seen world bank ≡ []) }
+        ensures settled { IfOk result (λ world. (bank : Bank) → IsSettled world_meaning world bank) }
+        ensures changes { IfOk result (λ world. (store_of world.banks).changes ≡ []) }
+        ensures room { IfOk result (λ world. recorded world ≡ 0) }
+        ensures written { IfOk result (λ world. world.banks.written ≡ 0) }
+        ensures anew { IfOk result IsAnew }
         ensures clock { IfOk result (λ world. world_meaning.clock world ≡ 0) }
         ensures counts { IfOk result (λ world. counts_of world.faults ≡ record { disk_faults = 0; tree_faults = 0; start_faults = 0; action_failures = 0 }) }
         ensures calls { IfOk result (λ world. (call : Call) → count_of call world.calls ≡ 0) }
@@ -147,6 +152,7 @@ impl MemWorld {
         ensures clock { world_meaning.clock self.new ≡ world_meaning.clock self.old }
         ensures anew { OnOk result (IsAnew self.new) }
         ensures stamps { OnOk result (Stamps (λ other. other ≡ path.now) self.old.state self.new.state) }
+        ensures removals { self.new.state.removals ≡ self.old.state.removals }
         ensures table { self.new.state.table ≡ self.old.state.table }
         ensures banks { self.new.banks ≡ self.old.banks }
         ensures faults { self.new.faults ≡ self.old.faults }
@@ -168,6 +174,7 @@ impl MemWorld {
         ensures clock { world_meaning.clock self.new ≡ world_meaning.clock self.old }
         ensures anew { IsAnew self.new }
         ensures stamp { self.new.state.stamp ≡ self.old.state.stamp }
+        ensures removals { self.new.state.removals ≡ self.old.state.removals }
         ensures table { self.new.state.table ≡ self.old.state.table }
         ensures banks { self.new.banks ≡ self.old.banks }
         ensures faults { self.new.faults ≡ self.old.faults }

@@ -3,6 +3,7 @@ use Rattle.std.proofs.lemmas.List.{map-append}
 use Rattle.world_api.specs.Around.{given_of}
 use Rattle.world_api.specs.declared.job.Job.{Job}
 use Rattle.world_mem.specs.AsAround.{around_of}
+use Rattle.world_mem.specs.Blocked.{HasBelow}
 use Rattle.world_mem.specs.InSlots.{content_of, stamp_at}
 use Rattle.world_mem.specs.Kept.{met_of, running_of, entry_of}
 use Rattle.world_mem.specs.Past.{Course}
@@ -11,7 +12,7 @@ use Rattle.world_mem.specs.Table.{law_of}
 use Rattle.world_mem.specs.declared.event.Event.{Event}
 use Rattle.world_mem.specs.declared.running.RunningJob.{RunningJob}
 use Rattle.world_mem.proofs.Membership.{contains_map}
-use Rattle.world_mem.proofs.Raised.{gained_dirs, not_always}
+use Rattle.world_mem.proofs.Raised.{gained_dirs, not_always, raised_by}
 use Rattle.world_api.specs.Around.{started_of}
 use Rattle.world_mem.proofs.state.State.start.Goals as goal
 
@@ -62,3 +63,11 @@ pub enter-requires-clause-started : goal.enter-requires-clause-started
 enter-requires-clause-started c =
     ap (λ (event : Event). started_of (entry_of event ∷ [])) c.in_ok-entering.ensures.event
     ∙ ap (λ (job : Job). job ∷ []) (sym c.in_ok-entering.ensures.started)
+
+pub returns-clause-raised : goal.returns-clause-raised
+returns-clause-raised c =
+    let old = c.args.self.now in
+    let fresh = c.in_ok-entering.entering.dirs in
+    raised_by (HasBelow (Contains c.args.job.targets)) fresh (is_dir old.dirs) (is_dir c.enter.new.self.dirs)
+    (λ dir. c.enter.ensures.dirs dir ∙ ap (λ b. is_in fresh dir || b) (c.make_room.ensures.dirs dir))
+    c.in_ok-entering.ensures.dirs
