@@ -11,7 +11,8 @@ pub stands : {A B : Type 0} (f : A → B) (file : Option A) → is_some (option_
 stands f None = refl
 stands f (Some file) = refl
 
-went_if : (removed : Bool) (old new : Content) → removed ≡ is_some old → new ≡ None → cond (is_some old && not (is_some new)) 1 0 ≡ cond removed 1 0
+went_if : (removed : Bool) (old new : Content) → removed ≡ is_some old → new ≡ None
+    → ◌≡◌ {A = ℕ} (cond (is_some old && not (is_some new)) 1 0) (cond removed 1 0)
 went_if removed None new is none = ap (λ b. cond b 1 0) (sym is)
 went_if removed (Some bytes) new is none =
     ap (λ (k : Content). cond (is_some (Some bytes) && not (is_some k)) 1 0) none ∙ ap (λ b. cond b 1 0) (sym is)
@@ -23,6 +24,6 @@ used old new path removed is none more =
     more ∙ ap (λ n. old.removals + n) (sym (went_if removed ((around_of old).tree path) ((around_of new).tree path) is none))
 
 -- none went where nothing changed
-pub still_none : (content : Content) → cond (is_some content && not (is_some content)) 1 0 ≡ 0
+pub still_none : (content : Content) → ◌≡◌ {A = ℕ} (cond (is_some content && not (is_some content)) 1 0) 0
 still_none None = refl
 still_none (Some bytes) = refl
