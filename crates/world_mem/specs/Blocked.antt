@@ -27,6 +27,10 @@ IsTaken around path = IsSome (around.tree path) ⊎ IsRunningTarget around.runni
 abbrev pub IsBarred : Around → List ℕ → Type 0
 IsBarred around path = IsTrue (around.dirs path) ⊎ HasAbove (IsTaken around) path
 
+-- no caller may set the bytes of a path: a running job makes it, or it can't be a file
+abbrev pub IsKept : Around → List ℕ → Type 0
+IsKept around path = IsRunningTarget around.running path ⊎ IsBarred around path
+
 -- a path can't be a directory: a file or the target of a running job stands there or above it
 abbrev pub IsInTheWay : Around → List ℕ → Type 0
 IsInTheWay around path = IsTaken around path ⊎ HasAbove (IsTaken around) path

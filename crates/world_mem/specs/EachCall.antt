@@ -17,6 +17,13 @@ pub record Keeps (old new : MemWorld) : Type 0 where
   pub orders : new.orders ≡ old.orders
   pub removals : new.state.removals ≡ old.state.removals
 
+-- a call that only looks: what stands, what is remembered and the banks are as they were
+pub record Looks (old new : MemWorld) : Type 0 where
+  pub state : new.state ≡ old.state
+  pub banks : new.banks ≡ old.banks
+  pub turns : new.turns ≡ old.turns
+  pub horizon : new.horizon ≡ old.horizon
+
 -- a call of a disk: it is counted, and so is one fault where it is refused; nothing around is another
 pub record DiskCall (call : Call) (refused : Type 0) (old new : MemWorld) : Type 0 where
   pub counted : new.calls ≡ counted call old.calls

@@ -1,8 +1,9 @@
 -- What a job makes and how it ends: known as it starts, by the table and by what it is given.
-use Rattle.std.specs.Prelude.{ℕ, List, ◌++◌, codes, Some, map}
-use Rattle.world_api.specs.Act.{Content, Given, act}
+use Rattle.std.specs.Prelude.{◌≡◌, ℕ, List, ◌++◌, codes, Some, map}
+use Rattle.world_api.specs.Act.{Content, Given, Law, act}
 use Rattle.world_api.specs.declared.job.Job.{Job}
 use Rattle.world_api.specs.declared.job.Outcome.{Outcome}
+use Rattle.world_api.specs.declared.job.Work.TheVariants.{Write}
 use Rattle.world_api.specs.declared.job.Outcome.TheVariants.{Done, Failed, Broken, NoMemory}
 use Rattle.world_mem.specs.Default.{line}
 use Rattle.world_mem.specs.Listed.{listed}
@@ -30,3 +31,11 @@ IsPlain Done = Unit {0}
 IsPlain (Failed code) = Unit {0}
 IsPlain Broken = ⊥
 IsPlain NoMemory = ⊥
+
+-- a content is what a job makes that writes the first of these texts
+abbrev pub IsFirstText : List (List ℕ) → Content → Type 0
+IsFirstText texts content = (law : Law) (targets : List (List ℕ)) (given : Given) (target : List ℕ) → content ≡ act law Write texts targets given target
+
+-- a recipe makes what the action of a job makes
+abbrev pub IsRecipeOf : List ActRow → Job → Given → Recipe → Type 0
+IsRecipeOf rows job given recipe = (target : List ℕ) → gives recipe target ≡ act (law_of rows) job.work job.signed job.targets given target

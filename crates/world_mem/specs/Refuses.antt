@@ -1,9 +1,11 @@
 -- What a refused write or removal of a world in memory leaves.
-use Rattle.std.specs.Prelude.{◌≡◌, ◌≢◌, ◌⊎◌, ◌<◌, ◌%◌, ◌/◌, ℕ, List, [], length, take}
+use Rattle.std.specs.Prelude.{◌≡◌, ◌≢◌, ◌⊎◌, ◌+◌, ◌<◌, ◌%◌, ◌/◌, ℕ, List, [], length, take}
 use Rattle.mem_banks.specs.AsStore.{store_of}
 use Rattle.mem_banks.specs.Past.{wrote}
+use Rattle.world_api.specs.Banks.{Torn}
 use Rattle.world_api.specs.declared.disk.Bank.{Bank}
 use Rattle.world_mem.specs.CallCounts.{count_of, verdict_of}
+use Rattle.world_mem.specs.Means.{seen_in}
 use Rattle.world_mem.specs.Room.{recorded, HasRoom}
 use Rattle.world_mem.specs.declared.calls.Call.TheVariants.{WriteAt, Remove}
 use Rattle.world_mem.specs.declared.calls.Verdict.TheVariants.{Goes, Listed, Spent}
@@ -13,11 +15,19 @@ use Rattle.world_mem.specs.declared.world.MemWorld.{MemWorld}
 abbrev pub CanWrite : MemWorld → ℕ → List ℕ → Type 0
 CanWrite world place bytes = (bytes ≢ []) × HasRoom world place (length bytes)
 
+-- a write of so many bytes at a place of a bank was cut short
+abbrev pub IsCutAt : ℕ → ℕ → Bank → MemWorld → MemWorld → Type 0
+IsCutAt place count bank old new = Torn place count (seen_in old bank) (seen_in new bank)
+
 -- A write puts down all its bytes; where it is listed to fail, their first half, and a stop may tear the whole range; and
--- else nothing.
+-- else nothing. Only the bytes asked for are counted as written.
 pub record Writes (bank : Bank) (place : ℕ) (bytes : List ℕ) (old new : MemWorld) : Type 0 where
-  pub all : verdict_of WriteAt old.calls ≡ Goes → CanWrite old place bytes → store_of new.banks ≡ wrote bank place bytes (length bytes) (store_of old.banks)
-  pub half : verdict_of WriteAt old.calls ≡ Listed → CanWrite old place bytes → store_of new.banks ≡ wrote bank place (take (length bytes / 2) bytes) (length bytes) (store_of old.banks)
+  pub all : verdict_of WriteAt old.calls ≡ Goes → CanWrite old place bytes
+      → store_of new.banks ≡ wrote bank place bytes (length bytes) (store_of old.banks)
+  pub half : verdict_of WriteAt old.calls ≡ Listed → CanWrite old place bytes
+      → store_of new.banks ≡ wrote bank place (take (length bytes / 2) bytes) (length bytes) (store_of old.banks)
+  pub count : verdict_of WriteAt old.calls ≢ Spent → CanWrite old place bytes
+      → new.banks.written ≡ old.banks.written + length bytes
   pub none : (verdict_of WriteAt old.calls ≡ Spent) ⊎ (CanWrite old place bytes → ⊥) → new.banks ≡ old.banks
 
 -- a removal that is listed to fail, by an odd number, and has room: the file is gone nevertheless

@@ -1,12 +1,12 @@
 //! What a job makes, and how it ends: known as it starts.
 ghost use Rattle.std.specs.Prelude.{◌≡◌, List, ℕ, IfOk, map};
 ghost use Rattle.std.specs.Option.{option_copied};
-ghost use Rattle.world_api.specs.Act.{Given, Law, act};
-ghost use Rattle.world_api.specs.declared.job.Work.TheVariants.{Copy, Write};
+ghost use Rattle.world_api.specs.Act.{Law, act};
+ghost use Rattle.world_api.specs.declared.job.Work.TheVariants.{Copy};
 ghost use Rattle.world_api.specs.Around.{given_of};
 ghost use Rattle.world_mem.specs.InSlots.{slot_at, content_of};
-ghost use Rattle.world_mem.specs.Table.{shell_content, law_of, outcome_by};
-ghost use Rattle.world_mem.specs.Planned.{makes, ends, gives};
+ghost use Rattle.world_mem.specs.Table.{shell_content, outcome_by};
+ghost use Rattle.world_mem.specs.Planned.{makes, ends, gives, IsFirstText, IsRecipeOf};
 
 use crate::contents::{Contents, copy_content};
 use crate::slots::Slots;
@@ -34,7 +34,7 @@ fn first_content(given: &Contents) -> Result<Content, Memory>
 }
 
 fn first_text(alloc: Global, texts: &Texts) -> Result<Content, Memory>
-    ensures { IfOk result (λ content. (law : Law) (targets : List (List ℕ)) (given : Given) (target : List ℕ) → content ≡ act law Write texts.now targets given target) }
+    ensures { IfOk result (IsFirstText texts.now) }
 {
     match texts.as_slice().first() {
         Some(text) => Ok(Some(Blob::of(alloc, text.as_str().as_bytes())?)),
@@ -69,7 +69,7 @@ fn recipe_of<'a>(
     job: &Job,
     given: &Contents,
 ) -> Result<Recipe<'a>, Memory>
-    ensures { IfOk result (λ recipe. (target : List ℕ) → gives recipe target ≡ act (law_of table.now) job.now.work job.now.signed job.now.targets given.now target) }
+    ensures { IfOk result (IsRecipeOf table.now job.now given.now) }
 {
     match job.work {
         Work::Shell => {

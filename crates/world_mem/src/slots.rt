@@ -1,12 +1,14 @@
 //! The tree as it is kept: a slot for each path that was ever a file or a target.
-ghost use Rattle.std.specs.Prelude.{◌≡◌, ◌≢◌, AllPairs, List, ℕ, None, Some, IsTrue, false, Contains, ◌↔◌, IfOk, IfErr, OnOk, OnErr, if◌then◌else◌, IsSome, ◌<◌, ◌++◌, length};
+ghost use Rattle.std.specs.Prelude.{◌≡◌, ◌≢◌, ◌↔◌, ◌++◌, AllPairs, List, ℕ, None, Some, IsTrue, Contains, IsSome};
+ghost use Rattle.std.specs.Prelude.{IfOk, IfErr, OnOk, OnErr, if◌then◌else◌};
 ghost use Rattle.std.specs.Option.{option_copied, is_some};
-ghost use Rattle.std.specs.List.{slice_index_or};
 ghost use Rattle.std.specs.Str.{bytes_eq};
 ghost use Rattle.scons_base.specs.Parts.{dir_of};
 ghost use Rattle.world_mem.specs.Blocked.{LiesBelow, HasAbove, HasBelow, IsBlocked, IsRefused, IsFirstRefused};
 ghost use Rattle.world_mem.specs.Files.{AreFiles, file_in};
-ghost use Rattle.world_mem.specs.InSlots.{slot_at, file_of, file_with, content_of, mark_of, stamp_at, file_at, name_in, written, emptied, taken, marked, settled, Stands, is_live, holds_live};
+ghost use Rattle.world_mem.specs.InSlots.{slot_at, file_of, file_with, content_of, mark_of, stamp_at, file_at, name_in};
+ghost use Rattle.world_mem.specs.InSlots.{written, emptied, taken, marked, settled, Stands, is_live, holds_live};
+ghost use Rattle.world_mem.specs.Settles.{HavePlaces};
 ghost use Rattle.world_mem.specs.declared.refusal.NewRefusal.{NewRefusal};
 ghost use Rattle.world_mem.specs.declared.slots.File.{File};
 ghost use Rattle.world_mem.specs.declared.slots.Slot.{Slot};
@@ -236,7 +238,7 @@ impl Slots {
         ensures files { (other : List ℕ) → file_of (slot_at self.new other) ≡ file_of (slot_at self.old other) }
         ensures live { (other : List ℕ) → holds_live (slot_at self.new other) ≡ holds_live (slot_at self.old other) }
         ensures marks { (other : List ℕ) → mark_of (slot_at self.new other) ≡ mark_of (slot_at self.old other) }
-        ensures stand { OnOk result ((k : ℕ) (d : List ℕ) → k < length paths.now → IsSome (slot_at self.new (slice_index_or paths.now k d))) }
+        ensures stand { OnOk result (HavePlaces paths.now self.new) }
     {
         for path in paths.as_slice() {
             self.make_place(alloc, path)?;

@@ -80,6 +80,7 @@ impl MemWorld {
     ghost use Rattle.world_mem.specs.CallCounts.{Fails};
     ghost use Rattle.world_api.specs.Around.{IsRunningTarget};
     ghost use Rattle.world_mem.specs.Left.{Leaves, makings, names};
+    ghost use Rattle.world_mem.specs.LeftBy.{LeavesBy};
     ghost use Rattle.world_mem.specs.Means.{world_meaning};
     ghost use Rattle.world_mem.specs.Room.{recorded};
     ghost use Rattle.world_mem.specs.Stamps.{Stamps};
@@ -94,7 +95,7 @@ impl MemWorld {
         ensures stands { pick ≡ 0 → IfOk result (λ world. (bank : Bank) → world_meaning.seen world bank ≡ world_meaning.seen self bank) }
         ensures lost { pick % 4 ≡ 1 → IfOk result (λ world. (bank : Bank) → world_meaning.seen world bank ≡ synced_in (store_of self.banks) bank) }
         ensures settled { IfOk result (λ world. (bank : Bank) → IsSettled world_meaning world bank) }
-        ensures left { IfOk result (λ world. Leaves (left_over pick (makings self.state.table (around_of self.state).running)) (around_of self.state) (around_of world.state)) }
+        ensures left { IfOk result (λ world. LeavesBy pick self.state world.state) }
         ensures stamps { IfOk result (λ world. Stamps (IsRunningTarget (around_of self.state).running) self.state world.state) }
         ensures idle { IfOk result (λ world. (around_of world.state).running ≡ []) }
         ensures clock { IfOk result (λ world. world_meaning.clock world ≡ 0) }

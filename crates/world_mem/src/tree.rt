@@ -56,7 +56,8 @@ fn cut_of(verdict: Verdict) -> Option<Outcome>
 }
 
 impl World for MemWorld {
-    ghost use Rattle.std.specs.Prelude.{◌↔◌, ◌⊎◌, ◌++◌, [], List, None, Contains, IsTrue, IsErr, OnOk, OnErr, unwrap_or};
+    ghost use Rattle.std.specs.List.{remove};
+    ghost use Rattle.std.specs.Prelude.{◌↔◌, ◌⊎◌, [], List, None, Contains, IsTrue, IsErr, OnOk, OnErr, unwrap_or};
     ghost use Rattle.scons_base.specs.Parts.{is_absolute};
     ghost use Rattle.world_api.specs.Around.{IsUnused, Running};
     ghost use Rattle.world_api.specs.Calls.{Asks, MakesDir, Removes, CanStart, IsClosed, IsOpen, Starts, Ends};
@@ -70,13 +71,14 @@ impl World for MemWorld {
     ghost use Rattle.world_mem.specs.Held.{held_of};
     ghost use Rattle.world_mem.specs.Kept.{tree_fault, start_fault};
     ghost use Rattle.world_mem.specs.Laws.{none_closed};
-    ghost use Rattle.world_mem.specs.Means.{world_meaning};
-    ghost use Rattle.world_mem.specs.Raises.{Raises};
+    ghost use Rattle.world_mem.specs.EachCall.{Keeps, Looks, RecordsRemoval, RemoveCall, TreeCall};
+    ghost use Rattle.world_mem.specs.Means.{world_meaning, around_in, counts_in, tells};
+    ghost use Rattle.world_mem.specs.Raises.{Raises, SameDirs};
     ghost use Rattle.world_mem.specs.Room.{recorded};
-    ghost use Rattle.world_mem.specs.EachCall.{Keeps, RecordsRemoval, RemoveCall, TreeCall};
+    ghost use Rattle.world_mem.specs.Runs.{LeavesNone};
     ghost use Rattle.world_mem.specs.Refuses.{IsGoneAnyway};
     ghost use Rattle.world_mem.specs.Stamps.{Stamps};
-    ghost use Rattle.world_mem.specs.Waits.{ended_by, row_ending, row_contents};
+    ghost use Rattle.world_mem.specs.Waits.{ended_by, place_by, row_ending, MeetsRow};
     ghost use Rattle.world_mem.specs.declared.calls.Call.{Call};
 
     ghost held = { λ w told path bytes is off. held_of w.state path bytes is };
@@ -94,6 +96,7 @@ impl World for MemWorld {
         ensures kept { result ≢ Err AskRefusal.Fault → world_meaning.counts self.new ≡ world_meaning.counts self.old }
         ensures rose { result ≡ Err AskRefusal.Fault → TreeFails (world_meaning.counts self.old) (world_meaning.counts self.new) }
         ensures exactly { result ≡ Err AskRefusal.Fault ↔ Fails Call.TopPath self.old.calls }
+        ensures looks { Looks self.old self.new }
         ensures each { TreeCall Call.TopPath tree_fault (result ≡ Err AskRefusal.Fault) self.old self.new }
     {
         if self.calls.next(Call::TopPath) != Verdict::Goes {
@@ -117,6 +120,7 @@ impl World for MemWorld {
         ensures kept { OnOk result (world_meaning.counts self.new ≡ world_meaning.counts self.old) }
         ensures rose { OnErr result (TreeFails (world_meaning.counts self.old) (world_meaning.counts self.new)) }
         ensures exactly { IsErr result ↔ Fails Call.Kind self.old.calls }
+        ensures looks { Looks self.old self.new }
         ensures each { TreeCall Call.Kind tree_fault (IsErr result) self.old self.new }
     {
         if self.calls.next(Call::Kind) != Verdict::Goes {
@@ -140,6 +144,7 @@ impl World for MemWorld {
         ensures kept { result ≢ Err ReadRefusal.Fault → world_meaning.counts self.new ≡ world_meaning.counts self.old }
         ensures rose { result ≡ Err ReadRefusal.Fault → TreeFails (world_meaning.counts self.old) (world_meaning.counts self.new) }
         ensures exactly { result ≡ Err ReadRefusal.Fault ↔ Fails Call.ReadFile self.old.calls }
+        ensures looks { Looks self.old self.new }
         ensures each { TreeCall Call.ReadFile tree_fault (result ≡ Err ReadRefusal.Fault) self.old self.new }
     {
         if self.calls.next(Call::ReadFile) != Verdict::Goes {
@@ -160,6 +165,7 @@ impl World for MemWorld {
         ensures kept { result ≢ Err AskRefusal.Fault → world_meaning.counts self.new ≡ world_meaning.counts self.old }
         ensures rose { result ≡ Err AskRefusal.Fault → TreeFails (world_meaning.counts self.old) (world_meaning.counts self.new) }
         ensures exactly { result ≡ Err AskRefusal.Fault ↔ Fails Call.List self.old.calls }
+        ensures looks { Looks self.old self.new }
         ensures each { TreeCall Call.List tree_fault (result ≡ Err AskRefusal.Fault) self.old self.new }
     {
         if self.calls.next(Call::List) != Verdict::Goes {
@@ -180,6 +186,7 @@ impl World for MemWorld {
         ensures kept { OnOk result (world_meaning.counts self.new ≡ world_meaning.counts self.old) }
         ensures rose { OnErr result (TreeFails (world_meaning.counts self.old) (world_meaning.counts self.new)) }
         ensures exactly { IsErr result ↔ Fails Call.Stamp self.old.calls }
+        ensures looks { Looks self.old self.new }
         ensures each { TreeCall Call.Stamp tree_fault (IsErr result) self.old self.new }
     {
         if self.calls.next(Call::Stamp) != Verdict::Goes {
@@ -252,7 +259,7 @@ impl World for MemWorld {
     fn start(&mut self, job: Job) -> Result<(), AskRefusal>
         requires free { world_meaning.tells self.old → CanStart job (world_meaning.around self.old) }
         requires reachable { IsOpen (world_meaning.closed self.old) job }
-        ensures started { world_meaning.tells self.new → OnOk result (Starts job (world_meaning.counts self.old) (world_meaning.around self.old) (world_meaning.around self.new)) }
+        ensures started { tells self.new → OnOk result (Starts job (counts_in self.old) (around_in self.old) (around_in self.new)) }
         ensures refused { world_meaning.tells self.new → OnErr result (Asks (world_meaning.around self.old) (world_meaning.around self.new)) }
         ensures banks { world_meaning.tells self.new → BanksKept world_meaning self.old self.new }
         ensures told { Told world_meaning self.old self.new }
@@ -281,7 +288,7 @@ impl World for MemWorld {
     /// Ends the job that the orders choose: as the table says, or as the call is listed.
     fn wait(&mut self) -> Ended
         requires { world_meaning.tells self.old → (world_meaning.around self.old).running ≢ [] }
-        ensures around { world_meaning.tells self.new → Ends (world_meaning.sure self.new) result (world_meaning.around self.old) (world_meaning.around self.new) }
+        ensures around { tells self.new → Ends (world_meaning.sure self.new) result (around_in self.old) (around_in self.new) }
         ensures banks { world_meaning.tells self.new → BanksKept world_meaning self.old self.new }
         ensures told { Told world_meaning self.old self.new }
         ensures recalls { Recalls world_meaning self.old self.new }
@@ -290,9 +297,11 @@ impl World for MemWorld {
         ensures once { self.new.faults ≡ faults_after result.outcome self.old.faults }
         ensures chosen { (d : Running) → result.id ≡ (ended_by self.old d).job.id }
         ensures ends { (d : Running) → result.outcome ≡ unwrap_or (cut_of (verdict_of Call.Wait self.old.calls)) (row_ending self.old (ended_by self.old d)) }
-        ensures absent { (d : Running) (path : List ℕ) → result.outcome ≢ Outcome.Done → Contains (ended_by self.old d).job.targets path → (around_of self.new.state).tree path ≡ None }
-        ensures met { (d : Running) → result.outcome ≡ Outcome.Done → (around_of self.new.state).met ≡ (around_of self.old.state).met ++ row_contents self.old (ended_by self.old d) }
+        ensures absent { (d : Running) → LeavesNone (ended_by self.old d) result.outcome (around_of self.new.state) }
+        ensures met { (d : Running) → MeetsRow self.old (ended_by self.old d) result.outcome self.new }
         ensures unmet { result.outcome ≢ Outcome.Done → (around_of self.new.state).met ≡ (around_of self.old.state).met }
+        ensures rest { (around_of self.new.state).running ≡ remove (around_of self.old.state).running (place_by self.old) }
+        ensures dirs { SameDirs (around_of self.old.state) (around_of self.new.state) }
         ensures no_memory { result.outcome ≢ Outcome.NoMemory }
         ensures stamps { (d : Running) → Stamps (Contains (ended_by self.old d).job.targets) self.old.state self.new.state }
         ensures counted { self.new.calls ≡ counted Call.Wait self.old.calls }

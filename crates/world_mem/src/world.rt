@@ -1,11 +1,11 @@
 //! The world in memory, and its calls that are no calls of a world.
 ghost use Rattle.std.specs.Prelude.{◌≡◌, ◌+◌, ◌-◌, ◌<◌, ◌≤◌, ◌++◌, ◌∷◌, [], ℕ, List, None, Some, Contains, IfOk, length, vec_len};
 ghost use Rattle.std.specs.Vec.{vec_capacity};
-ghost use Rattle.world_api.specs.Around.{Running};
 ghost use Rattle.mem_banks.specs.AsStore.{store_of};
 ghost use Rattle.mem_banks.specs.declared.change.Change.TheVariants as changes;
 ghost use Rattle.mem_banks.specs.declared.change.Write.{Write};
 ghost use Rattle.world_mem.specs.AsAround.{around_of};
+ghost use Rattle.world_mem.specs.Runs.{AreUnmade};
 
 use crate::calls::{Call, Calls};
 use crate::event::Faults;
@@ -32,7 +32,7 @@ pub struct MemWorld {
     pub(crate) orders: Vec<u32>,
     pub(crate) faults: Faults,
     pub(crate) alloc: Global,
-    ghost unmade: { (run : Running) (path : List ℕ) → Contains (around_of state).running run → Contains run.job.targets path → (around_of state).tree path ≡ None },
+    ghost unmade: { AreUnmade (around_of state) },
     ghost turns_room: { vec_len turns + vec_len state.running + (262144 - (vec_len banks.changes + state.removals)) ≤ vec_capacity turns },
     ghost since: { horizon ≤ length turns.items },
     ghost recorded_within: { vec_len banks.changes + state.removals ≤ 262144 },
@@ -41,22 +41,22 @@ pub struct MemWorld {
 }
 
 impl MemWorld {
-    ghost use Rattle.std.specs.Prelude.{◌↔◌, ◌⊎◌, nat_le, map, not, Err, IfErr, OnOk, OnErr, IsTrue};
+    ghost use Rattle.std.specs.Prelude.{◌↔◌, nat_le, map, not, Err, IfErr, OnOk, OnErr, IsTrue};
     ghost use Rattle.mem_banks.specs.Past.{is_dirty};
     ghost use Rattle.world_api.specs.Meaning.{IsSettled};
     ghost use Rattle.world_api.specs.declared.disk.Bank.{Bank};
-    ghost use Rattle.world_api.specs.Around.{IsRunningTarget, started_of};
+    ghost use Rattle.world_api.specs.Around.{started_of};
     ghost use Rattle.world_mem.specs.ByHand.{Edits, Loses};
     ghost use Rattle.world_mem.specs.Files.{AreFiles};
     ghost use Rattle.world_mem.specs.Stamps.{Stamps};
     ghost use Rattle.world_mem.specs.Stays.{Stays, IsAnew};
-    ghost use Rattle.world_mem.specs.Blocked.{IsBarred, IsRefused, IsFirstRefused, HasBelow, HasFile};
+    ghost use Rattle.world_mem.specs.Blocked.{IsKept, IsRefused, IsFirstRefused};
     ghost use Rattle.world_mem.specs.CallCounts.{count_of};
     ghost use Rattle.world_mem.specs.InSlots.{file_at};
     ghost use Rattle.world_mem.specs.Kept.{counts_of};
     ghost use Rattle.world_mem.specs.Means.{world_meaning};
     ghost use Rattle.world_mem.specs.Room.{recorded};
-    ghost use Rattle.world_mem.specs.Standing.{is_always};
+    ghost use Rattle.world_mem.specs.Raises.{AreDirsOf};
     ghost use Rattle.world_mem.specs.Table.{law_of};
     ghost use Rattle.world_mem.specs.declared.calls.Call.{Call};
     ghost use Rattle.world_mem.specs.declared.refusal.NewRefusal.{NewRefusal};
@@ -71,7 +71,7 @@ impl MemWorld {
         failing: Vec<(Call, u32)>,
     ) -> Result<MemWorld, NewRefusal>
         ensures tree { IfOk result (λ world. (path : List ℕ) → (around_of world.state).tree path ≡ file_at files.items path) }
-        ensures dirs { IfOk result (λ world. (dir : List ℕ) → IsTrue ((around_of world.state).dirs dir) ↔ (IsTrue (is_always dir) ⊎ HasBelow (HasFile files.items) dir)) }
+        ensures dirs { IfOk result (λ world. AreDirsOf files.items (around_of world.state)) }
         ensures running { IfOk result (λ world. (around_of world.state).running ≡ []) }
         ensures log { IfOk result (λ world. (around_of world.state).log ≡ []) }
         ensures met { IfOk result (λ world. (around_of world.state).met ≡ map (λ file. file.1) files.items) }
@@ -147,7 +147,7 @@ impl MemWorld {
     pub fn edit(&mut self, path: &PathText, bytes: &[u8]) -> Result<(), EditRefusal>
         ensures edited { OnOk result (Edits path.now bytes.now (around_of self.old.state) (around_of self.new.state)) }
         ensures same { OnErr result (Stays self.old self.new) }
-        ensures place { result ≡ Err EditRefusal.Place ↔ (IsRunningTarget (around_of self.old.state).running path.now ⊎ IsBarred (around_of self.old.state) path.now) }
+        ensures place { result ≡ Err EditRefusal.Place ↔ IsKept (around_of self.old.state) path.now }
         ensures idle { (around_of self.old.state).running ≡ [] → (around_of self.new.state).running ≡ [] }
         ensures clock { world_meaning.clock self.new ≡ world_meaning.clock self.old }
         ensures anew { OnOk result (IsAnew self.new) }
