@@ -8,6 +8,7 @@ pub mod Standing
 pub mod Blocked
 pub mod Raises
 pub mod Settles
+pub mod Slotwise
 pub mod Planned
 pub mod Kept
 pub mod Runs

@@ -1,5 +1,5 @@
 -- What a world in memory means: it tells all, and counts its faults.
-use Rattle.std.specs.Prelude.{[], ◌-◌, ℕ, List, max, length, reverse}
+use Rattle.std.specs.Prelude.{◌≡◌, [], ◌+◌, ◌-◌, ℕ, List, max, length, reverse, slice_range}
 use Rattle.mem_banks.specs.AsStore.{store_of}
 use Rattle.mem_banks.specs.Past.{bytes_in, IsImage}
 use Rattle.world_api.specs.Around.{Around}
@@ -25,7 +25,8 @@ world_meaning = record {
   image = λ w bank bytes. IsImage (store_of w.banks) bank bytes;
   around = λ w. around_of w.state;
   clock = λ w. length w.turns.items;
-  left_since = λ w time around banks. IsMoment (reverse w.turns.items) (machine_of w) (length w.turns.items - max time w.horizon) around banks;
+  left_since = λ w time around banks.
+      IsMoment (reverse w.turns.items) (machine_of w) (length w.turns.items - max time w.horizon) around banks;
   closed = λ w. [];
   counts = λ w. counts_of w.faults;
 }
@@ -45,3 +46,10 @@ around_in world = world_meaning.around world
 
 abbrev pub counts_in : MemWorld → Counts
 counts_in world = world_meaning.counts world
+
+abbrev pub closed_in : MemWorld → List (List ℕ)
+closed_in world = world_meaning.closed world
+
+-- so many bytes of a bank, from a place on
+abbrev pub AreReadAt : Bank → ℕ → ℕ → MemWorld → List ℕ → Type 0
+AreReadAt bank place count world bytes = bytes ≡ slice_range (seen_in world bank) place (place + count)

@@ -1,5 +1,5 @@
 -- What runs at a place, and what its ending leaves.
-use Rattle.std.specs.Prelude.{◌≡◌, ◌≢◌, ◌++◌, ℕ, List, None, Contains}
+use Rattle.std.specs.Prelude.{◌≡◌, ◌≢◌, ◌++◌, ℕ, List, Option, None, Contains, unwrap_or}
 use Rattle.std.specs.List.{slice_index_or}
 use Rattle.world_api.specs.Around.{Around, Running}
 use Rattle.world_api.specs.declared.job.Outcome.{Outcome}
@@ -28,6 +28,19 @@ LeavesNone run outcome new = (path : List ℕ) → outcome ≢ Done → Contains
 abbrev pub MeetsMade : List ActRow → Running → Outcome → Around → Around → Type 0
 MeetsMade rows run outcome old new = outcome ≡ Done → new.met ≡ old.met ++ run_contents rows run
 
+-- the job that runs at a place ends as it is cut, or as the table says
+abbrev pub EndsBy : List ActRow → ℕ → Option Outcome → Outcome → Around → Type 0
+EndsBy rows place cut outcome old = (d : Running) → outcome ≡ unwrap_or cut (run_ending rows (run_at old place d))
+
+-- nothing stands at the targets of the job that ran at a place, where it isn't done
+abbrev pub LeavesNoneAt : ℕ → Outcome → Around → Around → Type 0
+LeavesNoneAt place outcome old new = (d : Running) → LeavesNone (run_at old place d) outcome new
+
+-- what the job that ran at a place has made, where it is done, has been met from then on
+abbrev pub MeetsMadeAt : List ActRow → ℕ → Outcome → Around → Around → Type 0
+MeetsMadeAt rows place outcome old new = (d : Running) → MeetsMade rows (run_at old place d) outcome old new
+
 -- nothing stands at the targets of the running jobs
 abbrev pub AreUnmade : Around → Type 0
-AreUnmade around = (run : Running) (path : List ℕ) → Contains around.running run → Contains run.job.targets path → around.tree path ≡ None
+AreUnmade around = (run : Running) (path : List ℕ) → Contains around.running run → Contains run.job.targets path
+    → around.tree path ≡ None

@@ -18,7 +18,8 @@ HoldMade made targets old new = (makes : List ℕ → Content) → made ≡ map 
 
 -- each file at one of these paths has this stamp
 abbrev pub AreStamped : ℕ → List (List ℕ) → Slots → Type 0
-AreStamped stamp targets slots = (path : List ℕ) → Contains targets path → IsSome (content_of (slot_at slots path)) → stamp_at (slot_at slots path) ≡ stamp
+AreStamped stamp targets slots = (path : List ℕ) → Contains targets path → IsSome (content_of (slot_at slots path))
+    → stamp_at (slot_at slots path) ≡ stamp
 
 -- what a file holds it held before, or it has been met
 abbrev pub HeldOrMet : List (List ℕ) → Slots → Slots → Type 0

@@ -9,7 +9,8 @@ use Rattle.world_mem.specs.declared.state.State.{State}
 -- one edit or ending more: each file that it left at one of these paths has its stamp
 pub record Stamps (written : List ℕ → Type 0) (old new : State) : Type 0 where
   pub counted : new.stamp ≡ next old.stamp
-  pub stamped : (path : List ℕ) → written path → IsSome ((around_of new).tree path) → (around_of new).stamps path ≡ new.stamp
+  pub stamped : (path : List ℕ) → written path → IsSome ((around_of new).tree path)
+      → (around_of new).stamps path ≡ new.stamp
 
 -- the ending of the job that runs at a place (some job runs there, so the job `d` is never it) stamps what it left
 abbrev pub StampsRun : ℕ → State → State → Type 0

@@ -1,7 +1,7 @@
 //! Which directories stand.
 ghost use Rattle.std.specs.Prelude.{◌≡◌, ◌⊎◌, ◌||◌, ◌↔◌, IsTrue, List, ℕ, IfOk, OnOk};
 ghost use Rattle.world_mem.specs.Blocked.{LiesBelow};
-ghost use Rattle.world_mem.specs.Raises.{Adds};
+ghost use Rattle.world_mem.specs.Raises.{Adds, Gains};
 ghost use Rattle.world_mem.specs.Settles.{HavePlaces};
 ghost use Rattle.world_mem.specs.Standing.{is_dir, is_in, is_always};
 ghost use Rattle.world_mem.specs.declared.slots.Slot.{Slot};
@@ -71,7 +71,7 @@ impl Dirs {
 
     /// Lets those above a path stand.
     pub fn raise_above(&mut self, alloc: Global, path: &PathText) -> Result<(), Memory>
-        ensures { OnOk result ((dir : List ℕ) → IsTrue (is_dir self.new dir) ↔ (IsTrue (is_dir self.old dir) ⊎ LiesBelow path.now dir)) }
+        ensures { OnOk result (Gains (LiesBelow path.now) self.old self.new) }
     {
         let mut fresh = Paths::new(Vec::new(alloc));
         self.missing_above(alloc, path, &mut fresh)?;

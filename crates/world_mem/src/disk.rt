@@ -19,9 +19,9 @@ impl Disk for MemWorld {
     ghost use Rattle.world_mem.specs.CallCounts.{Fails};
     ghost use Rattle.world_mem.specs.EachCall.{DiskCall, Looks};
     ghost use Rattle.world_mem.specs.Laws.{reads_as_of, counts_now_of, only_now_of};
-    ghost use Rattle.world_mem.specs.Means.{world_meaning, image_in, seen_in, tells};
+    ghost use Rattle.world_mem.specs.Means.{world_meaning, seen_in, tells, AreReadAt};
     ghost use Rattle.world_mem.specs.Room.{recorded, HasRoom};
-    ghost use Rattle.world_mem.specs.Refuses.{IsCutAt, Writes};
+    ghost use Rattle.world_mem.specs.Refuses.{IsCutAt, IsTornAt, LacksRoom, Writes};
     ghost use Rattle.world_mem.specs.declared.calls.Call.{Call};
 
     ghost meaning = { world_meaning };
@@ -55,7 +55,7 @@ impl Disk for MemWorld {
 
     fn read_at(&mut self, bank: Bank, place: u64, into: &mut [u8]) -> Result<(), Fault>
         requires { world_meaning.tells self.old → place + length into.old ≤ length (world_meaning.seen self.old bank) }
-        ensures read { world_meaning.tells self.new → OnOk result (into.new ≡ slice_range (world_meaning.seen self.new bank) place (place + length into.old)) }
+        ensures read { tells self.new → OnOk result (AreReadAt bank place (length into.old) self.new into.new) }
         ensures banks { world_meaning.tells self.new → BanksKept world_meaning self.old self.new }
         ensures around { world_meaning.tells self.new → world_meaning.around self.new ≡ world_meaning.around self.old }
         ensures told { Told world_meaning self.old self.new }
@@ -85,15 +85,15 @@ impl Disk for MemWorld {
         requires small { place + length bytes.now ≤ 2 ^ 41 }
         ensures written { tells self.new → OnOk result (Holds (seen_in self.old bank) place bytes.now (seen_in self.new bank)) }
         ensures cut { tells self.new → OnErr result (IsCutAt place (length bytes.now) bank self.old self.new) }
-        ensures image { tells self.new → Follows (Torn place (length bytes.now)) (image_in self.old bank) (image_in self.new bank) }
-        ensures other { world_meaning.tells self.new → (other : Bank) → other ≢ bank → BankKept world_meaning other self.old self.new }
+        ensures image { tells self.new → IsTornAt place (length bytes.now) bank self.old self.new }
+        ensures other { tells self.new → (other : Bank) → other ≢ bank → BankKept world_meaning other self.old self.new }
         ensures around { world_meaning.tells self.new → world_meaning.around self.new ≡ world_meaning.around self.old }
         ensures told { Told world_meaning self.old self.new }
         ensures recalls { Recalls world_meaning self.old self.new }
         ensures time { Throughout world_meaning self.old self.new (AtEither world_meaning self.old self.new) }
         ensures kept { OnOk result (world_meaning.counts self.new ≡ world_meaning.counts self.old) }
         ensures rose { OnErr result (DiskFails (world_meaning.counts self.old) (world_meaning.counts self.new)) }
-        ensures exactly { IsErr result ↔ (Fails Call.WriteAt self.old.calls ⊎ ((bytes.now ≢ []) × (HasRoom self.old place (length bytes.now) → ⊥))) }
+        ensures exactly { IsErr result ↔ (Fails Call.WriteAt self.old.calls ⊎ LacksRoom self.old place bytes.now) }
         ensures writes { Writes bank place bytes.now self.old self.new }
         ensures each { DiskCall Call.WriteAt (IsErr result) self.old self.new }
     {

@@ -1,5 +1,5 @@
-//! A world in memory whose jobs run elsewhere, as on threads: a start in two steps, between which what runs the job can refuse it,
-//! and an ending that is told.
+//! A world in memory whose jobs run elsewhere, as on threads: a start in two steps, between which what runs the job can
+//! refuse it, and an ending that is told.
 ghost use Rattle.std.specs.Prelude.{◌≡◌, ◌≢◌, ◌⊎◌, ◌<◌, Err, Contains, IfOk, OnOk, length};
 ghost use Rattle.std.specs.List.{remove};
 
@@ -43,8 +43,9 @@ impl MemWorld {
     ghost use Rattle.world_mem.specs.Kept.{counts_of, start_fault};
     ghost use Rattle.world_mem.specs.Means.{machine_of, world_meaning};
     ghost use Rattle.world_mem.specs.Raises.{Raises, SameDirs};
-    ghost use Rattle.world_mem.specs.Ready.{MayEnter, StartsNow};
-    ghost use Rattle.world_mem.specs.Runs.{run_at, LeavesNone};
+    ghost use Rattle.world_mem.specs.Ready.{MayEnter, StartsTold};
+    ghost use Rattle.world_mem.specs.Refuses.{CantStart};
+    ghost use Rattle.world_mem.specs.Runs.{run_at, LeavesNoneAt};
     ghost use Rattle.world_mem.specs.Stamps.{StampsRun};
     ghost use Rattle.world_mem.specs.Told.{IsTold};
     ghost use Rattle.world_mem.specs.Waits.{MeetsRow};
@@ -64,7 +65,7 @@ impl MemWorld {
         ensures kept { result ≢ Err AskRefusal.Fault → self.new.faults ≡ self.old.faults }
         ensures rose { result ≡ Err AskRefusal.Fault → StartFails (counts_of self.old.faults) (counts_of self.new.faults) }
         ensures listed { Fails Call.Start self.old.calls → result ≡ Err AskRefusal.Fault }
-        ensures only { result ≡ Err AskRefusal.Fault → Fails Call.Start self.old.calls ⊎ AreBlocked (around_of self.old.state) job.targets }
+        ensures only { result ≡ Err AskRefusal.Fault → CantStart self.old job.targets }
         ensures clear { OnOk result (AreBlocked (around_of self.old.state) job.targets → ⊥) }
         ensures each { TreeCall Call.Start start_fault (result ≡ Err AskRefusal.Fault) self.old self.new }
     {
@@ -81,7 +82,7 @@ impl MemWorld {
     /// Starts a job for which all was taken.
     pub fn enter(&mut self, entering: Entering)
         requires { MayEnter entering self.old }
-        ensures started { entering.event ≡ Event.Started entering.run.job self.old.faults → StartsNow entering.run.job self.old self.new }
+        ensures started { StartsTold entering self.old self.new }
         ensures raised { Raises entering.run.job (around_of self.old.state) (around_of self.new.state) }
         ensures recalls { Recalls world_meaning self.old self.new }
         ensures time { Throughout world_meaning self.old self.new (Meanwhile world_meaning self.old self.new) }
@@ -108,7 +109,7 @@ impl MemWorld {
         ensures dirs { SameDirs (around_of self.old.state) (around_of self.new.state) }
         ensures outcome { result.outcome ≡ outcome }
         ensures chosen { (d : Running) → result.id ≡ (run_at (around_of self.old.state) place d).job.id }
-        ensures absent { (d : Running) → LeavesNone (run_at (around_of self.old.state) place d) outcome (around_of self.new.state) }
+        ensures absent { LeavesNoneAt place outcome (around_of self.old.state) (around_of self.new.state) }
         ensures met { (d : Running) → MeetsRow self.old (run_at (around_of self.old.state) place d) outcome self.new }
         ensures unmet { outcome ≢ Outcome.Done → (around_of self.new.state).met ≡ (around_of self.old.state).met }
         ensures calls { self.new.calls ≡ self.old.calls }

@@ -4,6 +4,7 @@ ghost use Rattle.std.specs.Vec.{vec_capacity};
 ghost use Rattle.world_mem.specs.InSlots.{slot_at, content_of, mark_of};
 ghost use Rattle.world_mem.specs.Kept.{met_of, contents_in};
 ghost use Rattle.world_mem.specs.Settles.{AreStamped, HeldOrMet, HoldMade, StillNamed};
+ghost use Rattle.world_mem.specs.Slotwise.{HoldNone, NoneMarked, OthersStay};
 
 use crate::contents::Contents;
 use crate::room::add;
@@ -23,12 +24,12 @@ pub fn conclude(
     requires names { map (λ entry. entry.0) made ≡ job.now.targets }
     requires same { kept ≡ made }
     requires room { vec_len met.old < vec_capacity met.old }
-    ensures others { (path : List ℕ) → (Contains job.now.targets path → ⊥) → slot_at slots.new path ≡ slot_at slots.old path }
+    ensures others { OthersStay job.now.targets slots.old slots.new }
     ensures done { outcome ≡ Outcome.Done → HoldMade made job.now.targets slots.old slots.new }
-    ensures absent { outcome ≢ Outcome.Done → (path : List ℕ) → Contains job.now.targets path → content_of (slot_at slots.new path) ≡ None }
+    ensures absent { outcome ≢ Outcome.Done → HoldNone job.now.targets slots.new }
     ensures stamped { AreStamped stamp job.now.targets slots.new }
     ensures unmarked { (path : List ℕ) → Contains job.now.targets path → mark_of (slot_at slots.new path) ≡ None }
-    ensures marks { (path : List ℕ) (id : ℕ) → mark_of (slot_at slots.new path) ≡ Some id → mark_of (slot_at slots.old path) ≡ Some id }
+    ensures marks { NoneMarked slots.old slots.new }
     ensures held { HeldOrMet (met_of met.new.items) slots.old slots.new }
     ensures met { outcome ≡ Outcome.Done → met_of met.new.items ≡ met_of met.old.items ++ contents_in kept }
     ensures unmet { outcome ≢ Outcome.Done → met.new.items ≡ met.old.items }

@@ -20,7 +20,7 @@ impl State {
     ghost use Rattle.world_mem.specs.Past.{before};
     ghost use Rattle.world_mem.specs.Raises.{Raises};
     ghost use Rattle.world_mem.specs.Ready.{IsReady, StartsAs};
-    ghost use Rattle.world_mem.specs.Runs.{run_at, LeavesNone, MeetsMade};
+    ghost use Rattle.world_mem.specs.Runs.{run_at, LeavesNoneAt, MeetsMadeAt};
     ghost use Rattle.world_mem.specs.Stamps.{StampsRun};
     ghost use Rattle.world_mem.specs.Told.{IsTold};
     ghost use Rattle.world_mem.specs.declared.event.Event.{Event};
@@ -69,8 +69,8 @@ impl State {
         ensures back { before (course_of self.new) ≡ course_of self.old }
         ensures chosen { (d : Running) → result.id ≡ (run_at (around_of self.old) place d).job.id }
         ensures outcome { result.outcome ≡ outcome }
-        ensures absent { (d : Running) → LeavesNone (run_at (around_of self.old) place d) outcome (around_of self.new) }
-        ensures met { (d : Running) → MeetsMade self.old.table (run_at (around_of self.old) place d) outcome (around_of self.old) (around_of self.new) }
+        ensures absent { LeavesNoneAt place outcome (around_of self.old) (around_of self.new) }
+        ensures met { MeetsMadeAt self.old.table place outcome (around_of self.old) (around_of self.new) }
         ensures unmet { outcome ≢ Outcome.Done → (around_of self.new).met ≡ (around_of self.old).met }
         ensures rest { self.new.running.items ≡ remove self.old.running.items place }
         ensures stamps { StampsRun place self.old self.new }

@@ -6,7 +6,7 @@ ghost use Rattle.world_api.specs.declared.job.Work.TheVariants.{Copy};
 ghost use Rattle.world_api.specs.Around.{given_of};
 ghost use Rattle.world_mem.specs.InSlots.{slot_at, content_of};
 ghost use Rattle.world_mem.specs.Table.{shell_content, outcome_by};
-ghost use Rattle.world_mem.specs.Planned.{makes, ends, gives, IsFirstText, IsRecipeOf};
+ghost use Rattle.world_mem.specs.Planned.{makes, ends, IsFirstContent, IsFirstText, IsRecipeOf, IsShellRecipe};
 
 use crate::contents::{Contents, copy_content};
 use crate::slots::Slots;
@@ -25,7 +25,7 @@ enum Recipe<'a> {
 }
 
 fn first_content(given: &Contents) -> Result<Content, Memory>
-    ensures { IfOk result (λ content. (law : Law) (signed targets : List (List ℕ)) (target : List ℕ) → content ≡ act law Copy signed targets given.now target) }
+    ensures { IfOk result (IsFirstContent given.now) }
 {
     match given.as_slice().first() {
         Some((_, content)) => copy_content(content),
@@ -49,7 +49,7 @@ fn shell_recipe<'a>(
     signed: &Texts,
     given: &Contents,
 ) -> Result<Recipe<'a>, Memory>
-    ensures { IfOk result (λ recipe. (target : List ℕ) → gives recipe target ≡ shell_content (option_copied row.entry) signed.now given.now target) }
+    ensures { IfOk result (IsShellRecipe (option_copied row.entry) signed.now given.now) }
 {
     match row {
         Some(row) => match &row.made {

@@ -3,6 +3,7 @@ ghost use Rattle.std.specs.Prelude.{◌≡◌, ◌++◌, ◌∷◌, [], ◌+◌,
 ghost use Rattle.std.specs.Vec.{vec_capacity};
 ghost use Rattle.world_mem.specs.InSlots.{slot_at, content_of, file_of, mark_of};
 ghost use Rattle.world_mem.specs.Settles.{HavePlaces};
+ghost use Rattle.world_mem.specs.Slotwise.{SlotsStay};
 ghost use Rattle.world_mem.specs.Standing.{is_dir};
 ghost use Rattle.world_mem.specs.declared.slots.Slot.{Slot};
 
@@ -81,7 +82,7 @@ pub fn make_places(
     targets: &Paths,
     fresh: &Paths,
 ) -> Result<(), Memory>
-    ensures kept { (path : List ℕ) (slot : Slot) → slot_at slots.old path ≡ Some slot → slot_at slots.new path ≡ Some slot }
+    ensures kept { SlotsStay slots.old slots.new }
     ensures same { (path : List ℕ) → content_of (slot_at slots.new path) ≡ content_of (slot_at slots.old path) }
     ensures files { (path : List ℕ) → file_of (slot_at slots.new path) ≡ file_of (slot_at slots.old path) }
     ensures marks { (path : List ℕ) → mark_of (slot_at slots.new path) ≡ mark_of (slot_at slots.old path) }

@@ -24,8 +24,9 @@ impl State {
     ghost use Rattle.world_mem.specs.Past.{before};
     ghost use Rattle.world_mem.specs.Planned.{makes, ends};
     ghost use Rattle.world_mem.specs.Raises.{Raises};
-    ghost use Rattle.world_mem.specs.Ready.{AreMissing};
+    ghost use Rattle.world_mem.specs.Ready.{AreMissing, HasPastRoom};
     ghost use Rattle.world_mem.specs.Settles.{HavePlaces};
+    ghost use Rattle.world_mem.specs.Slotwise.{HoldNone, OthersStay};
     ghost use Rattle.world_mem.specs.Standing.{is_dir, is_in};
     ghost use Rattle.world_mem.specs.declared.event.Event.{Event};
 
@@ -127,7 +128,7 @@ impl State {
         ensures met_room { OnOk result (vec_len self.new.met + vec_len self.new.running + 1 ≤ vec_capacity self.new.met) }
         ensures run_room { OnOk result (vec_len self.new.running + 1 ≤ vec_capacity self.new.running) }
         ensures job_room { OnOk result (vec_len self.new.jobs + 1 ≤ vec_capacity self.new.jobs) }
-        ensures past_room { OnOk result (vec_len self.new.past + vec_len self.new.running + (262144 - self.new.removals) + 2 ≤ vec_capacity self.new.past) }
+        ensures past_room { OnOk result (HasPastRoom self.new) }
     {
         self.make_places(alloc, &entering.run.job.targets, &entering.dirs)?;
         self.widen()?;
@@ -173,7 +174,7 @@ impl State {
         ensures met_room { OnOk result (vec_len self.new.met + vec_len self.new.running + 1 ≤ vec_capacity self.new.met) }
         ensures run_room { OnOk result (vec_len self.new.running + 1 ≤ vec_capacity self.new.running) }
         ensures job_room { OnOk result (vec_len self.new.jobs + 1 ≤ vec_capacity self.new.jobs) }
-        ensures past_room { OnOk result (vec_len self.new.past + vec_len self.new.running + (262144 - self.new.removals) + 2 ≤ vec_capacity self.new.past) }
+        ensures past_room { OnOk result (HasPastRoom self.new) }
     {
         let changes = self.running.len() + (CALL_ROOM - self.removals) + 2;
         widen_all(
@@ -189,7 +190,7 @@ impl State {
     pub(crate) fn enter(&mut self, entering: Entering)
         requires new_id { (other : RunningJob) → Contains self.old.running.items other → other.job.id ≢ entering.run.job.id }
         requires own_targets { HaveOwn self.old.running.items entering.run.job.targets }
-        requires clear { (path : List ℕ) → Contains entering.run.job.targets path → content_of (slot_at self.old.slots path) ≡ None }
+        requires clear { HoldNone entering.run.job.targets self.old.slots }
         requires made { entering.run.made ≡ makes self.old.table entering.run.job entering.run.given }
         requires kept { entering.run.kept ≡ entering.run.made }
         requires gains { entering.run.gained ≡ length (contents_in entering.run.made) }
@@ -202,8 +203,8 @@ impl State {
         requires met_room { vec_len self.old.met + vec_len self.old.running + 1 ≤ vec_capacity self.old.met }
         requires run_room { vec_len self.old.running + 1 ≤ vec_capacity self.old.running }
         requires job_room { vec_len self.old.jobs + 1 ≤ vec_capacity self.old.jobs }
-        requires past_room { vec_len self.old.past + vec_len self.old.running + (262144 - self.old.removals) + 2 ≤ vec_capacity self.old.past }
-        ensures others { (path : List ℕ) → (Contains entering.run.job.targets path → ⊥) → slot_at self.new.slots path ≡ slot_at self.old.slots path }
+        requires past_room { HasPastRoom self.old }
+        ensures others { OthersStay entering.run.job.targets self.old.slots self.new.slots }
         ensures dirs { (dir : List ℕ) → is_dir self.new.dirs dir ≡ (is_in entering.dirs dir || is_dir self.old.dirs dir) }
         ensures running { self.new.running.items ≡ self.old.running.items ++ entering.run ∷ [] }
         ensures running_len { vec_len self.new.running ≡ vec_len self.old.running + 1 }

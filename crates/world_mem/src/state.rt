@@ -5,7 +5,7 @@ ghost use Rattle.std.specs.Str.{bytes_eq};
 ghost use Rattle.std.specs.Vec.{vec_capacity};
 ghost use Rattle.world_mem.specs.InSlots.{slot_at, file_of, content_of, mark_of, file_at};
 ghost use Rattle.world_api.specs.Around.{started_of};
-ghost use Rattle.world_mem.specs.Kept.{met_of, contents_in, entry_of, AreOwned, IdsApart, is_target};
+ghost use Rattle.world_mem.specs.Kept.{met_of, contents_in, entry_of, AreOwned, HoldMet, IdsApart, MarkTargets};
 ghost use Rattle.std.specs.Prelude.{◌↔◌, ◌⊎◌, OnOk};
 ghost use Rattle.world_mem.specs.Blocked.{HasBelow, HasFile};
 ghost use Rattle.world_mem.specs.Planned.{makes, ends};
@@ -52,13 +52,13 @@ pub struct State {
     ghost past_capacity: { 262144 ≤ vec_capacity past },
     ghost past_room: { vec_len past + vec_len running + (262144 - removals) ≤ vec_capacity past },
     ghost owned: { AreOwned running.items slots },
-    ghost marks: { (path : List ℕ) (id : ℕ) → mark_of (slot_at slots path) ≡ Some id → IsTrue (is_target running.items path) },
+    ghost marks: { MarkTargets running.items slots },
     ghost apart: { IdsApart running.items },
     ghost planned: { (run : RunningJob) → Contains running.items run → run.made ≡ makes table run.job run.given },
     ghost kept: { (run : RunningJob) → Contains running.items run → run.kept ≡ run.made },
     ghost gains: { (run : RunningJob) → Contains running.items run → run.gained ≡ length (contents_in run.made) },
     ghost ending: { (run : RunningJob) → Contains running.items run → run.outcome ≡ ends table run.job run.given },
-    ghost held: { (path bytes : List ℕ) → content_of (slot_at slots path) ≡ Some bytes → IsTrue (list_any (bytes_eq bytes) (met_of met.items)) },
+    ghost held: { HoldMet met.items slots },
     ghost named: { (path : List ℕ) (file : File) → file_of (slot_at slots path) ≡ Some file → file.name ≡ path },
     ghost started: { jobs.items ≡ started_of (map entry_of log.items) },
 }
@@ -81,17 +81,18 @@ impl State {
     ghost use Rattle.world_api.specs.Reads.{IsListing, kind_of, stamp_of};
     ghost use Rattle.world_mem.specs.AsAround.{around_of};
     ghost use Rattle.world_mem.specs.AsCourse.{course_of};
-    ghost use Rattle.world_mem.specs.Blocked.{AreBlocked, IsBarred, IsInTheWay, IsRefused, IsFirstRefused, LiesBelow};
+    ghost use Rattle.world_mem.specs.Blocked.{AreBlocked, IsBarred, IsInTheWay, IsRefused, LiesBelow, NamesFirst};
     ghost use Rattle.world_mem.specs.Standing.{is_always, is_in};
     ghost use Rattle.world_mem.specs.declared.refusal.NewRefusal.{NewRefusal};
-    ghost use Rattle.world_mem.specs.ByHand.{Edits, Loses};
+    ghost use Rattle.world_mem.specs.ByHand.{Edits, FilesStay, Loses, StampsStay};
     ghost use Rattle.world_mem.specs.InSlots.{settled};
     ghost use Rattle.world_mem.specs.CallCounts.{next};
     ghost use Rattle.world_mem.specs.Kept.{counts_of};
     ghost use Rattle.world_mem.specs.Left.{Cover};
-    ghost use Rattle.world_mem.specs.Raises.{AreDirsOf};
-    ghost use Rattle.world_mem.specs.Runs.{run_at, run_ending, LeavesNone, MeetsMade};
+    ghost use Rattle.world_mem.specs.Raises.{AreDirsOf, Gains};
+    ghost use Rattle.world_mem.specs.Runs.{run_at, EndsBy, LeavesNoneAt, MeetsMadeAt};
     ghost use Rattle.world_mem.specs.Settles.{HavePlaces};
+    ghost use Rattle.world_mem.specs.Slotwise.{AreSettled};
     ghost use Rattle.world_mem.specs.Stamps.{Stamps, StampsRun};
     ghost use Rattle.world_mem.specs.Past.{before};
     ghost use Rattle.world_mem.specs.Table.{law_of};
@@ -114,7 +115,7 @@ impl State {
         ensures stamp { IfOk result (λ state. state.stamp ≡ 0) }
         ensures stamps { IfOk result (λ state. (path : List ℕ) → (around_of state).stamps path ≡ 0) }
         ensures stand { OnOk result ((place : ℕ) → IsRefused files.now place → ⊥) }
-        ensures place { IfErr result (λ refusal. (place : ℕ) → refusal ≡ NewRefusal.Place place → IsFirstRefused files.now place) }
+        ensures place { IfErr result (NamesFirst files.now) }
     {
         let mut slots = Slots::new(alloc);
         slots.fill(alloc, files)?;
@@ -274,9 +275,9 @@ impl State {
         ensures ended { Ends (Unit {0}) result (around_of self.old) (around_of self.new) }
         ensures back { before (course_of self.new) ≡ course_of self.old }
         ensures chosen { (d : Running) → result.id ≡ (run_at (around_of self.old) place d).job.id }
-        ensures outcome { (d : Running) → result.outcome ≡ unwrap_or cut (run_ending self.old.table (run_at (around_of self.old) place d)) }
-        ensures absent { (d : Running) → LeavesNone (run_at (around_of self.old) place d) result.outcome (around_of self.new) }
-        ensures met { (d : Running) → MeetsMade self.old.table (run_at (around_of self.old) place d) result.outcome (around_of self.old) (around_of self.new) }
+        ensures outcome { EndsBy self.old.table place cut result.outcome (around_of self.old) }
+        ensures absent { LeavesNoneAt place result.outcome (around_of self.old) (around_of self.new) }
+        ensures met { MeetsMadeAt self.old.table place result.outcome (around_of self.old) (around_of self.new) }
         ensures unmet { result.outcome ≢ Outcome.Done → (around_of self.new).met ≡ (around_of self.old).met }
         ensures rest { self.new.running.items ≡ remove self.old.running.items place }
         ensures stamps { StampsRun place self.old self.new }
@@ -375,8 +376,8 @@ impl State {
         requires places { HavePlaces fresh.now self.old.dirs.slots }
         requires room { vec_len self.old.met + vec_len self.old.running + 1 ≤ vec_capacity self.old.met }
         ensures file { (around_of self.new).tree path.now ≡ Some file.bytes }
-        ensures others { (other : List ℕ) → other ≢ path.now → (around_of self.new).tree other ≡ (around_of self.old).tree other }
-        ensures stamps { (other : List ℕ) → other ≢ path.now → (around_of self.new).stamps other ≡ (around_of self.old).stamps other }
+        ensures others { FilesStay path.now (around_of self.old) (around_of self.new) }
+        ensures stamps { StampsStay path.now (around_of self.old) (around_of self.new) }
         ensures stamp { self.new.stamp ≡ file.stamp }
         ensures stamped { (around_of self.new).stamps path.now ≡ file.stamp }
         ensures dirs { (dir : List ℕ) → is_dir self.new.dirs dir ≡ (is_in fresh.now dir || is_dir self.old.dirs dir) }
@@ -403,7 +404,7 @@ impl State {
         ensures none { self.new.running.items ≡ [] }
         ensures log { self.new.log.items ≡ [] }
         ensures stamp { self.new.stamp ≡ next self.old.stamp }
-        ensures settled { (path : List ℕ) → slot_at self.new.slots path ≡ settled self.new.stamp targets path (slot_at self.old.slots path) }
+        ensures settled { AreSettled self.new.stamp targets self.old.slots self.new.slots }
         ensures met { self.new.met.items ≡ self.old.met.items ++ kept ∷ [] }
         ensures dirs { self.new.dirs ≡ self.old.dirs }
         ensures table { self.new.table ≡ self.old.table }
@@ -437,7 +438,7 @@ fn with_room<T: Drop>(alloc: Global, room: usize) -> Result<Vec<T>, Memory>
 
 /// Lets the directories above the files stand.
 fn raise_above(alloc: Global, dirs: &mut Dirs, files: &[(PathText, Blob)]) -> Result<(), Memory>
-    ensures { OnOk result ((dir : List ℕ) → IsTrue (is_dir dirs.new dir) ↔ (IsTrue (is_dir dirs.old dir) ⊎ HasBelow (HasFile files.now) dir)) }
+    ensures { OnOk result (Gains (HasBelow (HasFile files.now)) dirs.old dirs.new) }
 {
     for (path, _) in files {
         dirs.raise_above(alloc, path)?;

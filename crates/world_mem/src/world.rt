@@ -33,7 +33,8 @@ pub struct MemWorld {
     pub(crate) faults: Faults,
     pub(crate) alloc: Global,
     ghost unmade: { AreUnmade (around_of state) },
-    ghost turns_room: { vec_len turns + vec_len state.running + (262144 - (vec_len banks.changes + state.removals)) ≤ vec_capacity turns },
+    ghost turns_room: { vec_len turns + vec_len state.running + (262144 - (vec_len banks.changes + state.removals))
+        ≤ vec_capacity turns },
     ghost since: { horizon ≤ length turns.items },
     ghost recorded_within: { vec_len banks.changes + state.removals ≤ 262144 },
     ghost turns_capacity: { 262144 ≤ vec_capacity turns },
@@ -50,10 +51,10 @@ impl MemWorld {
     ghost use Rattle.world_mem.specs.Files.{AreFiles};
     ghost use Rattle.world_mem.specs.Stamps.{Stamps};
     ghost use Rattle.world_mem.specs.Stays.{Stays, IsAnew};
-    ghost use Rattle.world_mem.specs.Blocked.{IsKept, IsRefused, IsFirstRefused};
+    ghost use Rattle.world_mem.specs.Blocked.{IsKept, IsRefused, NamesFirst};
     ghost use Rattle.world_mem.specs.CallCounts.{count_of};
     ghost use Rattle.world_mem.specs.InSlots.{file_at};
-    ghost use Rattle.world_mem.specs.Kept.{counts_of};
+    ghost use Rattle.world_mem.specs.Kept.{counts_of, no_faults};
     ghost use Rattle.world_mem.specs.Means.{world_meaning};
     ghost use Rattle.world_mem.specs.Room.{recorded};
     ghost use Rattle.world_mem.specs.Raises.{AreDirsOf};
@@ -84,7 +85,7 @@ impl MemWorld {
         ensures written { IfOk result (λ world. world.banks.written ≡ 0) }
         ensures anew { IfOk result IsAnew }
         ensures clock { IfOk result (λ world. world_meaning.clock world ≡ 0) }
-        ensures counts { IfOk result (λ world. counts_of world.faults ≡ record { disk_faults = 0; tree_faults = 0; start_faults = 0; action_failures = 0 }) }
+        ensures counts { IfOk result (λ world. counts_of world.faults ≡ no_faults) }
         ensures calls { IfOk result (λ world. (call : Call) → count_of call world.calls ≡ 0) }
         ensures orders { IfOk result (λ world. world.orders ≡ orders) }
         ensures stamp { IfOk result (λ world. world.state.stamp ≡ 0) }
@@ -92,7 +93,7 @@ impl MemWorld {
         ensures failing { IfOk result (λ world. world.calls.failing ≡ failing) }
         ensures unfused { IfOk result (λ world. world.calls.fuse ≡ None) }
         ensures stand { OnOk result ((place : ℕ) → IsRefused files.items place → ⊥) }
-        ensures place { IfErr result (λ refusal. (place : ℕ) → refusal ≡ NewRefusal.Place place → IsFirstRefused files.items place) }
+        ensures place { IfErr result (NamesFirst files.items) }
     {
         let state = State::new(alloc, &files, table)?;
         let banks = MemBanks::new(alloc)?;
