@@ -30,6 +30,5 @@ pub mod Laws
 pub mod Waits
 pub mod EachCall
 pub mod SinkMeans
-pub mod Raises
 pub mod Ready
 pub mod Told

@@ -6,7 +6,7 @@ ghost use Rattle.world_api.specs.declared.job.Work.TheVariants.{Copy};
 ghost use Rattle.world_api.specs.Around.{given_of};
 ghost use Rattle.world_mem.specs.InSlots.{slot_at, content_of};
 ghost use Rattle.world_mem.specs.Table.{shell_content, outcome_by};
-ghost use Rattle.world_mem.specs.Planned.{makes, ends, IsFirstContent, IsFirstText, IsRecipeOf, IsShellRecipe};
+ghost use Rattle.world_mem.specs.Planned.{makes, ends, gives, IsFirstContent, IsFirstText, IsRecipeOf, IsShellRecipe};
 
 use crate::contents::{Contents, copy_content};
 use crate::slots::Slots;

@@ -9,6 +9,7 @@ ghost use Rattle.world_mem.specs.Kept.{met_of, contents_in, entry_of, AreOwned, 
 ghost use Rattle.std.specs.Prelude.{◌↔◌, ◌⊎◌, OnOk};
 ghost use Rattle.world_mem.specs.Blocked.{HasBelow, HasFile};
 ghost use Rattle.world_mem.specs.Planned.{makes, ends};
+ghost use Rattle.world_mem.specs.Raises.{Gains};
 ghost use Rattle.world_mem.specs.Standing.{is_dir};
 ghost use Rattle.world_mem.specs.declared.running.RunningJob.{RunningJob};
 ghost use Rattle.world_mem.specs.declared.slots.File.{File};
@@ -89,7 +90,7 @@ impl State {
     ghost use Rattle.world_mem.specs.CallCounts.{next};
     ghost use Rattle.world_mem.specs.Kept.{counts_of};
     ghost use Rattle.world_mem.specs.Left.{Cover};
-    ghost use Rattle.world_mem.specs.Raises.{AreDirsOf, Gains};
+    ghost use Rattle.world_mem.specs.Raises.{AreDirsOf};
     ghost use Rattle.world_mem.specs.Runs.{run_at, EndsBy, LeavesNoneAt, MeetsMadeAt};
     ghost use Rattle.world_mem.specs.Settles.{HavePlaces};
     ghost use Rattle.world_mem.specs.Slotwise.{AreSettled};
