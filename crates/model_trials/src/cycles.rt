@@ -3,7 +3,7 @@ ghost use Rattle.std.specs.Prelude.{◌≡◌, Ok, Some, false, true, map};
 ghost use Rattle.build_model.specs.Graphs.{declared_rule};
 ghost use Rattle.model_trials.specs.Plain.{as_rule};
 ghost use Rattle.model_trials.specs.Orders.{AreNumbered, found_by};
-ghost use Rattle.model_trials.specs.Cyclic.{AreScannedWhole, IsCyclic};
+ghost use Rattle.model_trials.specs.Cyclic.{IsCyclic};
 
 use crate::loops::{has_loop, led_from};
 use crate::needs::add_rules_at;
@@ -22,9 +22,10 @@ pub fn has_cycle(
     requested: &[Spot],
 ) -> Result<Option<bool>, Memory>
     requires { AreNumbered rules.now }
-    ensures some { result ≡ Ok (Some true) → IsCyclic (declared_rule (map as_rule rules.now)) (found_by rules.now) requested.now }
-    ensures none { result ≡ Ok (Some false) → AreScannedWhole limit rules.now →
-        IsCyclic (declared_rule (map as_rule rules.now)) (found_by rules.now) requested.now → ⊥ }
+    ensures some { result ≡ Ok (Some true) →
+        IsCyclic (declared_rule (map as_rule rules.now)) limit (found_by rules.now) requested.now }
+    ensures none { result ≡ Ok (Some false) →
+        IsCyclic (declared_rule (map as_rule rules.now)) limit (found_by rules.now) requested.now → ⊥ }
 {
     let mut all: Vec<Listing<usize>> = Vec::new(alloc);
     needs_of_all(alloc, limit, rules, &mut all)?;
