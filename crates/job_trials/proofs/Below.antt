@@ -12,7 +12,7 @@ use Rattle.world_mem.specs.Laws.{none_closed}
 use Rattle.job_trials.specs.Below.{AreBelow}
 
 none : {A : Type 0} (paths : List (List ℕ)) (path : List ℕ) → paths ≡ [] → Contains paths path → A
-none paths path empty here = absurd (let at : Contains [] path = subst (λ (ps : List (List ℕ)). Contains ps path) empty here in omega (arith, at.1))
+none paths path empty here = absurd (let at : Contains [] path = subst (λ (ps : List (List ℕ)). Contains ps path) empty here in let lt : at.0 < 0 = at.1 in omega (arith, lt))
 
 pub can_start : (job : Job) (around : Around) (next : ℕ) → job.id ≡ next → job.targets ≡ [] → job.deps ≡ [] → AreBelow next around.running → CanStart job around
 can_start job around next id targets deps below = record {
@@ -26,7 +26,7 @@ pub all_open : (job : Job) → IsOpen [] job
 all_open job = record { targets = λ path own closed. none_closed path closed; deps = λ path own closed. none_closed path closed }
 
 pub below_none : (next : ℕ) (running : List Running) → running ≡ [] → AreBelow next running
-below_none next running idle run here = absurd (let at : Contains [] run = subst (λ (runs : List Running). Contains runs run) idle here in omega (arith, at.1))
+below_none next running idle run here = absurd (let at : Contains [] run = subst (λ (runs : List Running). Contains runs run) idle here in let lt : at.0 < 0 = at.1 in omega (arith, lt))
 
 pub below_same : (next : ℕ) (running running' : List Running) → running' ≡ running → AreBelow next running → AreBelow next running'
 below_same next running running' is below = λ run here. below run (subst (λ (runs : List Running). Contains runs run) is here)
