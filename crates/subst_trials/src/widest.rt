@@ -1,6 +1,8 @@
 //! How long a value may be that is given to a clone or to one call.
+ghost use Rattle.std.specs.Prelude.{◌<◌, length};
+
 use env_vars::{EnvValue, Envs, GivenFault, Item};
-use scons_base::{Listing, Text};
+use scons_base::{EnvId, Listing, Text};
 use std::alloc::Global;
 
 /// Half of the bytes that may be given.
@@ -13,17 +15,35 @@ pub(crate) fn widest(alloc: Global) -> Option<String> {
     let env = envs.make().ok()?;
     envs.set(env, "T", EnvValue::Text(text(alloc, "a", HALF)?))
         .ok()?;
+    answers(alloc, &envs, env)
+}
+
+/// What is answered to each value.
+fn answers(alloc: Global, envs: &Envs, env: EnvId) -> Option<String>
+    requires { env.0 < length envs.now }
+{
     let mut line = String::from_str(alloc, "widest").ok()?;
-    let all = EnvValue::Text(Text::of(alloc, "$T$T").ok()?);
-    put(&mut line, envs.given(env, "T", all))?;
-    let more = EnvValue::Text(Text::of(alloc, "$T$T.").ok()?);
-    put(&mut line, envs.given(env, "T", more))?;
-    let all = behind_name(alloc, text(alloc, "b", HALF - 1)?)?;
-    put(&mut line, envs.given(env, "T", all))?;
-    let more = behind_name(alloc, text(alloc, "b", HALF)?)?;
-    put(&mut line, envs.given(env, "T", more))?;
+    put_text(alloc, &mut line, envs, env, "$T$T")?;
+    put_text(alloc, &mut line, envs, env, "$T$T.")?;
+    put_list(alloc, &mut line, envs, env, HALF - 1)?;
+    put_list(alloc, &mut line, envs, env, HALF)?;
     line.push_str("|\n").ok()?;
     Some(line)
+}
+
+fn put_text(alloc: Global, line: &mut String, envs: &Envs, env: EnvId, text: &str) -> Option<()>
+    requires { env.0 < length envs.now }
+{
+    let value = EnvValue::Text(Text::of(alloc, text).ok()?);
+    put(line, envs.given(env, "T", value))
+}
+
+/// Puts what is answered to a list of the variable's name and a text of so many bytes.
+fn put_list(alloc: Global, line: &mut String, envs: &Envs, env: EnvId, count: usize) -> Option<()>
+    requires { env.0 < length envs.now }
+{
+    let value = behind_name(alloc, text(alloc, "b", count)?)?;
+    put(line, envs.given(env, "T", value))
 }
 
 fn text(alloc: Global, part: &str, count: usize) -> Option<Text> {
