@@ -342,4 +342,4 @@ ended start now ledger faults memory same said a = record {
 }
 
 pub caused : (start now : Outside) (ledger : Ledger) → Accounted start now ledger → AreCaused start now ledger.faults ledger.memory
-caused start now ledger a = record { each = a.each; told = a.told }
+caused start now ledger a = record { later = a.later; each = a.each; told = a.told }

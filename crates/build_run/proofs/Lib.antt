@@ -1,3 +1,4 @@
 pub mod Holding
 pub mod Goings
 pub mod Causing
+pub mod Withdrawing

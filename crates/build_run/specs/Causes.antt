@@ -64,8 +64,9 @@ pub record AreTold (old new : Outside) (faults : List BuildFault) : Type 0 where
   pub out : new.out ≢ old.out → Contains faults fault.OutFault
   pub err : new.err ≢ old.err → Contains faults fault.OutFault
 
--- each fault has its cause, and, unless memory was wanting, each count that changed its fault
+-- no count fell, each fault has its cause, and, unless memory was wanting, each count that changed its fault
 pub record AreCaused (old new : Outside) (faults : List BuildFault) (memory : Bool) : Type 0 where
+  pub later : IsLater old new
   pub each : All (HasCause old new) faults
   pub told : memory ≡ false → AreTold old new faults
 

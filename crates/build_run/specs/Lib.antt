@@ -2,3 +2,4 @@ pub mod Holds
 pub mod Goings
 pub mod Causes
 pub mod Ledgers
+pub mod Withdrawals

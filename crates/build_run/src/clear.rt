@@ -1,10 +1,11 @@
 //! Clearing the way of an action: the directories of its targets stand, their records are withdrawn, and they are removed.
-ghost use Rattle.std.specs.Prelude.{◌≡◌, [], None, Contains, OnOk};
+ghost use Rattle.std.specs.Prelude.{◌≡◌, ℕ, List, [], None, Contains, OnOk};
 ghost use Rattle.build_run.specs.Goings.{Goes, Stays, IsJoined, IsStored, Leaves, AreGone, AreUnused};
 ghost use Rattle.build_files.specs.Causes.{HasLookCause};
 ghost use Rattle.build_run.specs.Ledgers.{ledger_of, with_done, WorldKeeps};
 ghost use Rattle.build_run.specs.Holds.{KeepsApart};
 ghost use Rattle.build_run.specs.declared.tickets.Hold.{Hold};
+ghost use Rattle.build_run.specs.Withdrawals.{AreWithdrawn, IsTicketFor};
 ghost use Rattle.world_api.specs.Around.{IsUnused};
 
 use crate::account::Account;
@@ -35,6 +36,7 @@ pub(crate) fn clear<W: World>(
     ensures keeps { WorldKeeps W.meaning world.old world.new (ledger_of account.old) (with_done (ledger_of account.new) result) }
     ensures stored { IsStored W.meaning world.new store.new account.new.is_store_shut }
     ensures gone { AreGone W.meaning world.new job.now.targets result }
+    ensures withdrawn { IsTicketFor store.old ticket.now job.now.targets → OnOk result (AreWithdrawn store.new job.now.targets) }
 {
     let targets = job.targets.as_slice();
     make_dirs(account.alloc, world, dirs, targets)?;
@@ -53,6 +55,7 @@ fn withdraw<W: World>(
     ensures goes { Goes W.meaning world.old world.new }
     ensures keeps { WorldKeeps W.meaning world.old world.new (ledger_of account.old) (with_done (ledger_of account.new) result) }
     ensures stored { IsStored W.meaning world.new store.new account.new.is_store_shut }
+    ensures withdrawn { (targets : List (List ℕ)) → IsTicketFor store.old ticket.now targets → OnOk result (AreWithdrawn store.new targets) }
 {
     if account.is_store_shut {
         return Err(ListEnd::Fault(BuildFault::StoreFault));

@@ -4,6 +4,7 @@ ghost use Rattle.build_run.specs.Goings.{Passes, IsJoined, IsStored, AreAbsent};
 ghost use Rattle.build_run.specs.Ledgers.{ledger_of, with_done, StartEnds, OutKeeps, WorldEnds, IsUnstarted};
 ghost use Rattle.build_run.specs.Holds.{hold_for, KeepsApart};
 ghost use Rattle.build_run.specs.declared.tickets.Hold.{Hold};
+ghost use Rattle.build_run.specs.Withdrawals.{AreWithdrawn, IsTicketFor};
 ghost use Rattle.world_api.specs.Meaning.{BanksKept};
 
 use crate::account::Account;
@@ -33,6 +34,7 @@ pub(crate) fn launch<W: World, O: Sink>(
     requires joined { IsJoined W.meaning world.old tickets.now }
     requires stored { IsStored W.meaning world.old store.old account.old.is_store_shut }
     requires apart { (hold : Hold) → Contains tickets.now hold → KeepsApart job hold }
+    requires ticket { IsTicketFor store.old ticket.now job.targets }
     ensures passes { Passes W.meaning world.old world.new }
     ensures ends { StartEnds W.meaning O.meaning world.old out.old world.new out.new account.old account.new result }
     ensures started { OnOk result (IsJoined W.meaning world.new (tickets.now ++ hold_for job ∷ [])) }
@@ -41,7 +43,7 @@ pub(crate) fn launch<W: World, O: Sink>(
 {
     clear(dirs, account, store, world, &job, ticket, tickets)?;
     show(account, out, text)?;
-    begin(graph, world, job, tickets)
+    begin(graph, world, job, tickets, store)
 }
 
 /// Prints the text of a rule. A sink that refuses is noted.
@@ -58,12 +60,19 @@ fn show<O: Sink>(account: &mut Account, out: &mut O, text: &str) -> Result<(), L
     }
 }
 
-/// Starts a job.
-fn begin<W: World>(graph: &Graph, world: &mut W, job: Job, tickets: &Tickets) -> Result<(), ListEnd>
+/// Starts a job, of whose targets nothing is recorded any more.
+fn begin<W: World>(
+    graph: &Graph,
+    world: &mut W,
+    job: Job,
+    tickets: &Tickets,
+    store: &Store,
+) -> Result<(), ListEnd>
     requires unclosed { W.meaning.closed world.old ≡ [] }
     requires joined { IsJoined W.meaning world.old tickets.now }
     requires apart { (hold : Hold) → Contains tickets.now hold → KeepsApart job hold }
     requires clear { AreAbsent W.meaning world.old job.targets }
+    requires withdrawn { AreWithdrawn store.now job.targets }
     ensures passes { Passes W.meaning world.old world.new }
     ensures banks { W.meaning.tells world.new → BanksKept W.meaning world.old world.new }
     ensures ends { WorldEnds W.meaning world.old world.new result }

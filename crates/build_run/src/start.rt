@@ -1,9 +1,9 @@
 //! How the action of a stale rule starts.
-ghost use Rattle.std.specs.Prelude.{◌≡◌, ◌<◌, ◌≤◌, [], length};
+ghost use Rattle.std.specs.Prelude.{◌≡◌, ◌<◌, ◌≤◌, [], length, IfOk};
 ghost use Rattle.build_run.specs.Goings.{Passes, IsJoined, IsStored};
 ghost use Rattle.build_files.specs.Causes.{IsQuiet};
 ghost use Rattle.build_run.specs.Ledgers.{StartEnds};
-ghost use Rattle.sign_store.specs.Stores.{KeepsBanks};
+ghost use Rattle.sign_store.specs.Stores.{IsTicket, KeepsBanks};
 
 use crate::account::Account;
 use crate::building::Options;
@@ -102,6 +102,7 @@ pub(crate) fn give_up(is_store_shut: bool, store: &mut Store, ticket: Ticket)
 }
 
 fn prepare(store: &mut Store, now: Rec) -> Result<Ticket, ListEnd>
+    ensures ticket { IfOk result (IsTicket store.new now) }
     ensures banks { KeepsBanks store.old store.new }
     ensures quiet { IsQuiet result }
 {
@@ -113,7 +114,9 @@ fn prepare(store: &mut Store, now: Rec) -> Result<Ticket, ListEnd>
 }
 
 /// The job of a rule. Its number is the rule's.
-fn job_of(alloc: Global, graph: &Graph, rule: RuleId, now: &Rec) -> Result<Job, Memory> {
+fn job_of(alloc: Global, graph: &Graph, rule: RuleId, now: &Rec) -> Result<Job, Memory>
+    ensures { IfOk result (λ job. job.targets ≡ now.now.targets) }
+{
     let mut deps = Vec::with_capacity(alloc, now.deps.len())?;
     for dep in now.deps.as_slice() {
         deps.push(dep.name.copy()?)?;

@@ -66,6 +66,7 @@ fn take_turns<W: World, O: Sink, E: Sink>(
         }
         let done = take_turn(graph, run, account, store, world, out, err, options, wanted);
         tell(graph, run, account, err, done);
+        halt(graph, run, account);
     }
 }
 
@@ -92,6 +93,7 @@ fn wait_for_all<W: World, E: Sink>(
         }
         let event = take_ending(graph, &mut run.tickets, account, store, world, err, options);
         tell(graph, run, account, err, Ok(event));
+        halt(graph, run, account);
     }
 }
 
@@ -171,26 +173,17 @@ fn want(run: &Run, options: &Options) -> Want
     }
 }
 
-/// Tells the plan what came of its want.
-fn tell<E: Sink>(
-    graph: &Graph,
-    run: &mut Run,
-    account: &mut Account,
-    err: &mut E,
-    done: Result<PlanEvent, ListEnd>,
-)
-    ensures tickets { run.new.tickets ≡ run.old.tickets }
-    ensures shut { account.new.is_store_shut ≡ account.old.is_store_shut }
-    ensures keeps { ErrKeeps E.meaning err.old err.new (with_done (ledger_of account.old) done) (ledger_of account.new) }
+/// Nothing new is wanted of a plan once an end has come.
+fn halt(graph: &Graph, run: &mut Run, account: &Account)
+    ensures { run.new.tickets ≡ run.old.tickets }
 {
-    note(graph, run, account, err, done);
     if account.is_ended {
         let _ = run.plan.step(graph, PlanEvent::Halt);
     }
 }
 
-/// Tells the plan an event, or the account an end.
-fn note<E: Sink>(
+/// Tells the plan what came of its want, or the account an end.
+fn tell<E: Sink>(
     graph: &Graph,
     run: &mut Run,
     account: &mut Account,

@@ -1,3 +1,4 @@
+use Rattle.std.proofs.Common.{sym}
 use Rattle.build_run.specs.Ledgers.{ledger_of}
 use Rattle.build_run.proofs.Causing.{exit_same, exit_inside, inside}
 use Rattle.build_run.proofs.start.start.Goals as goal
@@ -15,3 +16,6 @@ pub returns-in_err-ticket-clause-ends : goal.returns-in_err-ticket-clause-ends
 returns-in_err-ticket-clause-ends g c = λ start err a.
     let before = ledger_of c.args.account.now in
     exit_same start before _ c.from_residual-in_err-ticket.result _ c.from_residual-in_err-ticket.ensures.1 (inside start before _ _ err _ c.in_err-ticket.ensures.quiet a)
+
+pub launch-requires-clause-ticket : goal.launch-requires-clause-ticket
+launch-requires-clause-ticket g c = record { rec = c.args.now; own = c.in_ok-ticket.ensures.ticket; same = sym c.in_ok-job.ensures }
