@@ -29,7 +29,7 @@ const NOWHERE: Place = Place { script: 0, line: 0 };
 
 /// Keeps why a call is refused that stands at a place.
 fn refuse(state: &State, kept: &mut Kept, place: Place, stop: Stop) -> HostRefusal
-    ensures end { KeepsEnd stop kept.old.end kept.new.end }
+    ensures end { result ≡ HostRefusal.Host → KeepsEnd stop kept.new.end }
     ensures later { kept.old.refusals ≤ kept.new.refusals }
     ensures counted { result ≡ HostRefusal.Host → Rose kept.old.refusals kept.new.refusals }
 {
