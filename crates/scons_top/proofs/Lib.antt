@@ -1,2 +1,3 @@
 mod Watching
 mod Early
+mod Causing
