@@ -80,6 +80,10 @@ abbrev pub behind_dash : Reading → List ℕ → Outcome
 behind_dash r [] = Ok r
 behind_dash r (b ∷ bs) = behind_letter r (short_switch b) bs (behind_dash (flagged r (short_switch b)) bs)
 
+-- letters that begin with this option: behind a dash they are read as it and the letters behind it
+abbrev pub LeadsWith : List ℕ → Switch → List ℕ → Type 0
+LeadsWith letters s after = (r : Reading) → behind_dash r letters ≡ behind_letter r (Some s) after (behind_dash (flagged r (Some s)) after)
+
 -- long spellings
 
 abbrev pub is_equals : ℕ → Bool

@@ -3,7 +3,7 @@ ghost use Rattle.std.specs.Prelude.{◌≡◌, ◌≢◌, ◌<◌, length, true,
 ghost use Rattle.scons_base.specs.PathFaults.{fault_in};
 ghost use Rattle.scons_words.specs.Values.{number_named};
 ghost use Rattle.scons_words.specs.Switches.{long_switch};
-ghost use Rattle.scons_words.specs.Readings.{start_reading, mixed, fault_at, with_value, valued_by, first_switch, behind_dash, behind_letter, flagged, has_equals, IsParted, name_of, plain_long, valued_long, behind_dashes, undashed, after_dashes, after_dash, option_word, argument_by, requested_by, operand, word_read, is_number_switch, is_long_number, stands_with_load, step, words_of, ended, read};
+ghost use Rattle.scons_words.specs.Readings.{start_reading, mixed, fault_at, with_value, valued_by, first_switch, behind_dash, LeadsWith, has_equals, IsParted, name_of, plain_long, valued_long, behind_dashes, undashed, after_dashes, after_dash, option_word, argument_by, requested_by, operand, word_read, is_number_switch, is_long_number, stands_with_load, step, words_of, ended, read};
 ghost use Rattle.scons_words.specs.declared.fault.UsageKind.{UsageKind};
 ghost use Rattle.scons_words.specs.declared.reading.Reading.{Reading};
 
@@ -372,7 +372,7 @@ fn is_number_switch(switch: Option<Switch>) -> bool
 fn first_letter(letters: &str) -> Option<(Switch, &str)>
     requires { 0 < length letters.now }
     ensures none { IfNone result ((r : Reading) → behind_dash r letters.now ≡ Err UsageKind.Unknown) }
-    ensures some { IfSome result (λ p. (r : Reading) → behind_dash r letters.now ≡ behind_letter r (Some p.0) p.1.now (behind_dash (flagged r (Some p.0)) p.1.now)) }
+    ensures some { IfSome result (λ p. LeadsWith letters.now p.0 p.1.now) }
     ensures shorter { IfSome result (λ p. length p.1.now < length letters.now) }
 {
     match letters.split_at_checked(1) {
