@@ -1,5 +1,5 @@
 //! The real world: the traits over files, banks, and a pool of workers.
-ghost use Rattle.std.specs.Prelude.{◌≡◌, ◌≢◌, ◌<◌, ◌≤◌, ℕ, List, [], None, false, length, IsTrue, IfOk, IfErr, IfSome};
+ghost use Rattle.std.specs.Prelude.{◌≡◌, ◌≢◌, ◌<◌, ◌≤◌, ℕ, List, [], length, IsTrue, IfOk, IfErr, IfSome};
 ghost use Rattle.scons_base.specs.Parts.{is_absolute};
 
 use crate::bank::BankFiles;
@@ -84,14 +84,14 @@ where
     R: Files<File = File> + AllocGlobal + Wait + Env + Eprint + Clone + Drop,
     S: LockHolder + Drop,
 {
-    ghost use Rattle.world_api.specs.Around.{Around};
+    ghost use Rattle.real_world.specs.Silent.{nothing};
 
     ghost meaning = { record {
       tells = λ w. ⊥;
       sure = λ w. ⊥;
       seen = λ w bank. [];
       image = λ w bank bytes. ⊥;
-      around = λ w. record { tree = λ path. None; dirs = λ path. false; stamps = λ path. 0; running = []; log = []; met = []; law = λ signed targets given path. None; top = [] };
+      around = λ w. nothing;
       clock = λ w. 0;
       left_since = λ w time around banks. ⊥;
       closed = λ w. [];
