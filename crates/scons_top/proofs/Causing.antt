@@ -1,6 +1,6 @@
 -- What was at fault outside as a run goes on, and that it is told as it ends.
 use Rattle.std.proofs.Common.{◌≡◌, ◌≢◌, ◌∙◌, ◌≤◌, ◌⊎◌, inl, inr, sym, subst, refl, ap, ℕ, zero, suc, List, [], ◌∷◌, ◌++◌, true, false, Bool, Some, map, Contains, arith}
-use Rattle.std.specs.Prelude.{All, Result, Ok, Err, IsErrAnd}
+use Rattle.std.specs.Prelude.{All, Result, Ok, Err, IsErrAnd, IfErr}
 use Rattle.std.proofs.lemmas.Bool.{false≢true}
 use Rattle.std.proofs.lemmas.List.Elements.{All-push, All-nil, All-cons, All-map, All-weaker, All-pop, Contains-append_left, Contains-push}
 use Rattle.scons_base.specs.Rising.{Rose}
@@ -198,6 +198,35 @@ exit_memory a b r is same = exit_step a b r stop.Memory is (subst (λ x. IsLater
 
 pub report_memory : (a b : Outside) (r : Result Report Stop) → IsErrAnd r (λ s. s ≡ stop.Memory) → b ≡ a → ReportStep a b r
 report_memory a b r is same = exit_report a b r stop.Memory is (subst (λ x. IsLater a x) (sym same) (later_here a))
+
+-- the exits of a step on a sink alone
+pub sink_memory : {T : Type 0} (a : ℕ) (r : Result T Stop) → IsErrAnd r (λ s. s ≡ stop.Memory) → SinkStep a a r
+sink_memory a (Ok value) is = absurd is
+sink_memory a (Err s) is = subst (HasSinkStop a a) (sym is) refl
+
+pub sink_refused : {T : Type 0} (a b : ℕ) (r : Result T Stop) → IsErrAnd r (λ s. s ≡ stop.Build fault.OutFault) → Rose a b → SinkStep a b r
+sink_refused a b (Ok value) is rose = absurd is
+sink_refused a b (Err s) is rose = subst (HasSinkStop a b) (sym is) rose
+
+pub sink_exit : {T : Type 0} (a b : ℕ) (r : Result T Stop) (s : Stop) → IsErrAnd r (λ x. x ≡ s) → HasSinkStop a b s → SinkStep a b r
+sink_exit a b (Ok value) s is h = absurd is
+sink_exit a b (Err x) s is h = subst (HasSinkStop a b) (sym is) h
+
+pub memory_late : {T : Type 0} (r : Result T Stop) → IsErrAnd r (λ s. s ≡ stop.Memory) → IfErr r IsLateStop
+memory_late (Ok value) is = absurd is
+memory_late (Err s) is = subst IsLateStop (sym is) (λ early. early)
+
+pub refused_late : {T : Type 0} (r : Result T Stop) → IsErrAnd r (λ s. s ≡ stop.Build fault.OutFault) → IfErr r IsLateStop
+refused_late (Ok value) is = absurd is
+refused_late (Err s) is = subst IsLateStop (sym is) (λ early. early)
+
+-- a step with no call outside that ends for want of memory
+pub inner_memory : {T : Type 0} (r : Result T Stop) → IsErrAnd r (λ s. s ≡ stop.Memory) → InnerStep r
+inner_memory (Ok value) is = absurd is
+inner_memory (Err s) is = λ counts. subst (HasWorldStop counts counts) (sym is) (later_same counts counts refl)
+
+pub world_memory : {T : Type 0} (a b : Counts) (r : Result T Stop) → IsErrAnd r (λ s. s ≡ stop.Memory) → b ≡ a → WorldStep a b r
+world_memory a b r is same = inner_step a b r same (inner_memory r is)
 
 -- faults that are found
 
@@ -475,4 +504,4 @@ list_later a b out err h = record {
   err = omega arith;
 }
 
-pub ruleset causing = (watches_same, watches_host, watches_look, watches_store, later_same, later_tree, later_disk, later_look, later_list, later_store, look_stop, inside)
+pub ruleset causing = (watches_same, watches_host, watches_look, watches_store, later_same, later_tree, later_disk, later_look, later_list, later_store, look_stop, inside, sink_memory, sink_refused, memory_late, refused_late, inner_memory)

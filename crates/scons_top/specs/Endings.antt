@@ -1,9 +1,11 @@
 -- How the faults of a run are put together as it ends.
-use Rattle.std.specs.Prelude.{◌≡◌, ◌++◌, ◌∷◌, [], ℕ, Bool, true, false, List, All, Result, Ok, Err}
+use Rattle.std.specs.Prelude.{◌≡◌, ◌++◌, ◌∷◌, [], ℕ, Bool, true, false, List, All, map, Result, Ok, Err}
 use Rattle.world_api.specs.Counts.{Counts}
 use Rattle.world_api.specs.Printed.{SinkMeaning}
+use Rattle.world_api.specs.declared.refusal.Fault.{Fault}
 use Rattle.rule_graph.specs.declared.build_fault.BuildFault.{BuildFault}
-use Rattle.build_run.specs.Causes.{Outside, outside, IsLater, AreCaused}
+use Rattle.rule_graph.specs.declared.build_fault.BuildFault.TheVariants as fault
+use Rattle.build_run.specs.Causes.{Outside, outside, IsLater}
 use Rattle.scons_top.specs.declared.report.Report.{Report}
 use Rattle.scons_top.specs.declared.report.Top.{Top}
 use Rattle.scons_top.specs.declared.report.Top.TheVariants as top
@@ -47,4 +49,9 @@ AddsUnwritten (Err other) old new lost = (lost ≡ false → new ≡ old ++ top.
 -- the faults of a build are reported, once the last line was written or not
 abbrev pub Closes : List BuildFault → Bool → Result (Unit {0}) Stop → Report → Type 0
 Closes found memory written report = (start : Outside) (counts : Counts) (out new_out err : ℕ)
-    → AreCaused start (outside counts out err) found memory → SinkStep out new_out written → IsCaused start (outside counts new_out err) report
+    → Found start (outside counts out err) (map top_of found) memory → SinkStep out new_out written → IsCaused start (outside counts new_out err) report
+
+-- the fault that a text wasn't printed is added, unless memory is wanting
+abbrev pub AddsUnprinted : Result (Unit {0}) Fault → List BuildFault → List BuildFault → Bool → Type 0
+AddsUnprinted (Ok value) old new lost = (new ≡ old) × (lost ≡ false)
+AddsUnprinted (Err refused) old new lost = (lost ≡ false → new ≡ old ++ fault.OutFault ∷ []) × (lost ≡ true → new ≡ old)

@@ -1,10 +1,10 @@
 //! A dry run: what a build would start is listed.
-ghost use Rattle.std.specs.Prelude.{◌≡◌, ◌++◌, ◌∷◌, [], IfOk, OnOk, OnErr};
+ghost use Rattle.std.specs.Prelude.{◌≡◌, ◌++◌, ◌∷◌, [], true, false, IfOk};
 ghost use Rattle.scons_top.specs.Faults.{EarlyOnlyIf};
 ghost use Rattle.world_api.specs.Statuses.{HasStatus};
 ghost use Rattle.scons_report.specs.Causes.{HasListCause};
 ghost use Rattle.sign_store.specs.Reached.{HasFaultCause};
-ghost use Rattle.scons_top.specs.Endings.{ListEnds};
+ghost use Rattle.scons_top.specs.Endings.{ListEnds, AddsUnprinted};
 ghost use Rattle.scons_top.specs.Stops.{SinkReports, Reports};
 ghost use Rattle.scons_top.specs.Watching.{Watches};
 
@@ -117,18 +117,27 @@ fn end_with<O: Sink, E: Sink>(
     faults.push(fault)?;
     let printed = print(err, text.as_str());
     let written = tell_faulty(alloc, words, faults.as_slice(), out);
-    note_print(&mut faults, printed)?;
-    Ok(closed(alloc, faults, Listing::empty(alloc), false, written))
+    let lost = add_unprinted(&mut faults, printed);
+    Ok(closed(alloc, faults, Listing::empty(alloc), lost, written))
 }
 
-/// Adds the fault that a text wasn't printed.
-fn note_print(faults: &mut Listing<BuildFault>, printed: Result<(), Fault>) -> Result<(), Memory>
-    ensures well { OnOk printed (OnOk result (faults.new ≡ faults.old)) }
-    ensures fault { OnErr printed (OnOk result (faults.new ≡ faults.old ++ BuildFault.OutFault ∷ [])) }
+/// Adds the fault that a text wasn't printed, and says whether memory was wanting.
+fn add_unprinted(faults: &mut Listing<BuildFault>, printed: Result<(), Fault>) -> bool
+    ensures { AddsUnprinted printed faults.old faults.new result }
 {
     match printed {
-        Ok(()) => {}
-        Err(_) => faults.push(BuildFault::OutFault)?,
+        Ok(()) => false,
+        Err(_) => add_out(faults),
     }
-    Ok(())
+}
+
+/// Adds the fault that a sink refused, and says whether memory was wanting.
+fn add_out(faults: &mut Listing<BuildFault>) -> bool
+    ensures added { result ≡ false → faults.new ≡ faults.old ++ BuildFault.OutFault ∷ [] }
+    ensures lost { result ≡ true → faults.new ≡ faults.old }
+{
+    match faults.push(BuildFault::OutFault) {
+        Ok(()) => false,
+        Err(_) => true,
+    }
 }

@@ -94,10 +94,14 @@ fn keep<E: Sink>(
     ensures lacks { OnErr result (ErrFinds E.meaning err.old err.new (faults.old ++ fault ∷ []) faults.new true) }
 {
     faults.push(fault)?;
-    if print(err, text?.as_str()).is_err() {
-        faults.push(Top::OutFault)?;
+    let text = text?;
+    match print(err, text.as_str()) {
+        Ok(()) => Ok(()),
+        Err(_) => {
+            faults.push(Top::OutFault)?;
+            Ok(())
+        }
     }
-    Ok(())
 }
 
 /// Writes the last lines of a run without a fault: what was up to date, and that it is done.
@@ -114,14 +118,31 @@ pub(crate) fn tell_done<O: Sink>(
 {
     let marks = marks_of(alloc, graph, started)?;
     for request in requests {
-        let word = request.word.as_str();
-        if request.is_plain {
-            tell(out, words, nothing_text(alloc, word))?;
-        } else if !has_marked(graph, marks.as_slice(), request.nodes.as_slice()) {
-            tell(out, words, up_to_date_text(alloc, word))?;
-        }
+        tell_request(alloc, graph, words, request, marks.as_slice(), out)?;
     }
     say(out, words, done_text(alloc))
+}
+
+/// Writes what was up to date of what was requested by one word.
+fn tell_request<O: Sink>(
+    alloc: Global,
+    graph: &Graph,
+    words: &Words,
+    request: &Request,
+    marks: &[bool],
+    out: &mut O,
+) -> Result<(), Stop>
+    ensures late { IfErr result IsLateStop }
+    ensures step { SinkStep (O.meaning.faults out.old) (O.meaning.faults out.new) result }
+{
+    let word = request.word.as_str();
+    if request.is_plain {
+        return tell(out, words, nothing_text(alloc, word));
+    }
+    if has_marked(graph, marks, request.nodes.as_slice()) {
+        return Ok(());
+    }
+    tell(out, words, up_to_date_text(alloc, word))
 }
 
 /// Which rules were started, by their numbers.
@@ -183,7 +204,14 @@ pub(crate) fn closed(
     let mut faults = Listing::empty(alloc);
     let lacks = add_all(&mut faults, found);
     let lost = add_unwritten(&mut faults, written);
-    report(faults, skipped, memory | lacks | lost)
+    report(faults, skipped, was_wanting(memory, lacks, lost))
+}
+
+/// Whether memory was wanting for a build, for its faults or for the last one.
+fn was_wanting(memory: bool, lacks: bool, lost: bool) -> bool
+    ensures { result ≡ false → (memory ≡ false) × (lacks ≡ false) × (lost ≡ false) }
+{
+    memory || lacks || lost
 }
 
 /// Adds the faults of a build, and says whether memory was wanting.
@@ -194,9 +222,17 @@ fn add_all(faults: &mut Listing<Top>, found: Listing<BuildFault>) -> bool
 {
     let mut lacks = false;
     for fault in found.into_vec() {
-        lacks |= add(faults, Top::from(fault));
+        let lost = add(faults, Top::from(fault));
+        lacks = has_lost(lacks, lost);
     }
     lacks
+}
+
+/// Whether a fault was lost, the last or one before it.
+fn has_lost(before: bool, last: bool) -> bool
+    ensures { result ≡ false → (before ≡ false) × (last ≡ false) }
+{
+    before || last
 }
 
 /// Adds the fault that a last line wasn't written, and says whether memory was wanting.
@@ -218,5 +254,8 @@ fn add(faults: &mut Listing<Top>, fault: Top) -> bool
     ensures added { result ≡ false → faults.new ≡ faults.old ++ fault ∷ [] }
     ensures lost { result ≡ true → faults.new ≡ faults.old }
 {
-    faults.push(fault).is_err()
+    match faults.push(fault) {
+        Ok(()) => false,
+        Err(_) => true,
+    }
 }
