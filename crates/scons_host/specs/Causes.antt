@@ -80,6 +80,14 @@ ReadingCauses m o world out new_world new_out result = HasCause (outside m o wor
 abbrev pub WorldCauses : {W T : Type 0} → Meaning W → W → W → Result T HostEnd → Type 0
 WorldCauses m world new_world result = (out : ℕ) → HasCause (at_counts (m.counts world) out) (at_counts (m.counts new_world) out) result
 
+-- over a world, the file tree was at fault, and nothing else
+abbrev pub TreeFailsOn : {W : Type 0} → Meaning W → W → W → Type 0
+TreeFailsOn m world new_world = TreeFails (m.counts world) (m.counts new_world)
+
+-- the end that a look gives has the look's cause, however often the sink was at fault before
+abbrev pub EndsLook : {T U : Type 0} → Result T Stop → Result U HostEnd → Type 0
+EndsLook look result = (old new : Counts) (out : ℕ) → HasLookCause old new look → HasCause (at_counts old out) (at_counts new out) result
+
 -- an end that is neither of the file tree nor of a sink
 abbrev pub IsOwn : HostEnd → Type 0
 IsOwn (end.Tree path) = ⊥

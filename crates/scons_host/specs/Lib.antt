@@ -4,3 +4,4 @@ pub mod Looking
 pub mod Prints
 pub mod Reading
 pub mod Running
+pub mod Seeing

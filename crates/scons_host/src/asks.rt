@@ -1,6 +1,6 @@
 //! What the host asks of the world. It looks at files, and changes none.
 ghost use Rattle.std.specs.Prelude.{◌≡◌, ◌≢◌, Err, OnOk, OnErr};
-ghost use Rattle.world_api.specs.Causes.{TreeFails};
+ghost use Rattle.scons_host.specs.Causes.{TreeFailsOn};
 ghost use Rattle.world_api.specs.Looks.{LooksAtFiles};
 
 use scons_base::{PathText, Paths};
@@ -9,7 +9,7 @@ use world_api::{AskRefusal, Content, Fault, Kind, ReadRefusal, World};
 pub fn top_of<W: World>(world: &mut W) -> Result<PathText, AskRefusal>
     ensures looks { LooksAtFiles W.meaning world.old world.new }
     ensures kept { result ≢ Err AskRefusal.Fault → W.meaning.counts world.new ≡ W.meaning.counts world.old }
-    ensures rose { result ≡ Err AskRefusal.Fault → TreeFails (W.meaning.counts world.old) (W.meaning.counts world.new) }
+    ensures rose { result ≡ Err AskRefusal.Fault → TreeFailsOn W.meaning world.old world.new }
 {
     world.top_path()
 }
@@ -17,7 +17,7 @@ pub fn top_of<W: World>(world: &mut W) -> Result<PathText, AskRefusal>
 pub fn kind_of<W: World>(world: &mut W, path: &PathText) -> Result<Kind, Fault>
     ensures looks { LooksAtFiles W.meaning world.old world.new }
     ensures kept { OnOk result (W.meaning.counts world.new ≡ W.meaning.counts world.old) }
-    ensures rose { OnErr result (TreeFails (W.meaning.counts world.old) (W.meaning.counts world.new)) }
+    ensures rose { OnErr result (TreeFailsOn W.meaning world.old world.new) }
 {
     world.kind(path)
 }
@@ -29,7 +29,7 @@ pub fn bytes_of<W: World>(
 ) -> Result<Content, ReadRefusal>
     ensures looks { LooksAtFiles W.meaning world.old world.new }
     ensures kept { result ≢ Err ReadRefusal.Fault → W.meaning.counts world.new ≡ W.meaning.counts world.old }
-    ensures rose { result ≡ Err ReadRefusal.Fault → TreeFails (W.meaning.counts world.old) (W.meaning.counts world.new) }
+    ensures rose { result ≡ Err ReadRefusal.Fault → TreeFailsOn W.meaning world.old world.new }
 {
     world.read_file(path, limit)
 }
@@ -37,7 +37,7 @@ pub fn bytes_of<W: World>(
 pub fn files_of<W: World>(world: &mut W, dir: &PathText) -> Result<Paths, AskRefusal>
     ensures looks { LooksAtFiles W.meaning world.old world.new }
     ensures kept { result ≢ Err AskRefusal.Fault → W.meaning.counts world.new ≡ W.meaning.counts world.old }
-    ensures rose { result ≡ Err AskRefusal.Fault → TreeFails (W.meaning.counts world.old) (W.meaning.counts world.new) }
+    ensures rose { result ≡ Err AskRefusal.Fault → TreeFailsOn W.meaning world.old world.new }
 {
     world.list(dir)
 }

@@ -1,6 +1,5 @@
 //! The reading of all scripts, from the words of the command line to a graph.
-ghost use Rattle.std.specs.Prelude.{ℕ};
-ghost use Rattle.scons_host.specs.Causes.{Outside, at_counts, HasStopCause, HasLookCause, HasEndCause, HasCause, HasKeptCause, IsEndOf, IsOwn, ReadingCauses, WorldCauses};
+ghost use Rattle.scons_host.specs.Causes.{Outside, HasStopCause, HasLookCause, HasEndCause, HasCause, HasKeptCause, IsEndOf, IsOwn, EndsLook, ReadingCauses, WorldCauses};
 ghost use Rattle.scons_host.specs.Running.{HasFaultCause, HasRunCause};
 ghost use Rattle.world_api.specs.Looks.{LooksAtFiles};
 ghost use Rattle.scons_host.specs.Prints.{Prints};
@@ -80,7 +79,7 @@ fn graph_end<W: World>(alloc: Global, world: &mut W, state: State) -> Result<Gra
 
 /// The graph, or the end that a stop gives.
 fn ended_by(alloc: Global, graph: Result<Graph, Stop>) -> Result<Graph, HostEnd>
-    ensures { (old new : Counts) (out : ℕ) → HasLookCause old new graph → HasCause (at_counts old out) (at_counts new out) result }
+    ensures { EndsLook graph result }
 {
     match graph {
         Ok(graph) => Ok(graph),

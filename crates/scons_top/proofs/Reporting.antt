@@ -34,7 +34,7 @@ module _ {E : Type 0} (e : SinkMeaning E) where
   pub finds_printed : (err err2 : E) (old new : List Top) → e.faults err2 ≡ e.faults err → new ≡ old → ErrFinds e err err2 old new false
   finds_printed err err2 old new well same = λ start counts out h.
       found_list start (outside counts out (e.faults err2)) old new false same
-        (found_as start (outside counts out (e.faults err)) (outside counts out (e.faults err2)) old false (ap (λ x. outside counts out x) well) h)
+      (found_as start (outside counts out (e.faults err)) (outside counts out (e.faults err2)) old false (ap (λ x. outside counts out x) well) h)
 
   -- a fault at whose print standard error refused
   pub finds_refused : (err err2 : E) (old new : List Top) → Rose (e.faults err) (e.faults err2) → new ≡ old ++ top.OutFault ∷ [] → ErrFinds e err err2 old new false
@@ -45,14 +45,14 @@ module _ {E : Type 0} (e : SinkMeaning E) where
   pub finds_refused_dropped : (err err2 : E) (old new : List Top) → Rose (e.faults err) (e.faults err2) → new ≡ old → ErrFinds e err err2 old new true
   finds_refused_dropped err err2 old new rose same = λ start counts out h.
       found_list start (outside counts out (e.faults err2)) old new true same
-        (found_dropped start (outside counts out (e.faults err2)) old top.OutFault false (found_err start counts out (e.faults err) (e.faults err2) old false rose h))
+      (found_dropped start (outside counts out (e.faults err2)) old top.OutFault false (found_err start counts out (e.faults err) (e.faults err2) old false rose h))
 
   -- the report of the one fault for which a run stops
   pub reports_kept : (f : Top) (err err2 : E) (old new : List Top) (report : Report) (memory : Bool) → old ≡ [] → ErrFinds e err err2 (old ++ f ∷ []) new memory
       → report.faults ≡ new → (report.status ≢ 3 → memory ≡ false) → ErrReports e f err err2 report
   reports_kept f err err2 old new report memory none finds same said = λ start counts out h.
       let first : Found start (outside counts out (e.faults err)) (old ++ f ∷ []) false =
-          subst (λ (fs : List Top). Found start (outside counts out (e.faults err)) (fs ++ f ∷ []) false) (sym none) (stop_found start (outside counts out (e.faults err)) f h) in
+      subst (λ (fs : List Top). Found start (outside counts out (e.faults err)) (fs ++ f ∷ []) false) (sym none) (stop_found start (outside counts out (e.faults err)) f h) in
       found_report start (outside counts out (e.faults err2)) new memory report same said (finds start counts out first)
 
   -- a fault of a build by its name in a report
@@ -167,7 +167,7 @@ closes found none first last memory lacks lost written report is added each adds
     let one = taken start (outside counts out err) (map top_of found) none first memory lacks is added each h in
     let two = with_last start counts out new_out err written first last (memory || lacks) lost adds step one in
     found_report start (outside counts new_out err) last ((memory || lacks) || lost) report same
-      (λ no. let f = said no in both_false (memory || lacks) lost (both_false memory lacks f.0 f.1) f.2) two
+    (λ no. let f = said no in both_false (memory || lacks) lost (both_false memory lacks f.0 f.1) f.2) two
 
 -- the fault for which a list isn't given, printed or not
 pub listed : {E : Type 0} (e : SinkMeaning E) (start : Outside) (counts : Counts) (out : ℕ) (err err2 : E) (text : List ℕ) (f : BuildFault) (none first faults : List BuildFault) (lost : Bool) (printed : Result (Unit {0}) Fault)

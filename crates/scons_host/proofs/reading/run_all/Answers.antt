@@ -1,5 +1,5 @@
 use Rattle.scons_host.specs.Causes.{outside}
-use Rattle.scons_host.specs.Reading.{seen, held}
+use Rattle.scons_host.specs.Seeing.{seen_of, held_of}
 use Rattle.scons_host.proofs.Carrying.{run_caused}
 use Rattle.scons_host.proofs.reading.run_all.Goals as goal
 
@@ -8,4 +8,4 @@ returns-clause-causes g c =
     let m = g.W.Disk.meaning in
     let p = g.O.Sink.meaning in
     let e = c.run-outcome.ensures in
-    c.told.ensures _ _ (run_caused m p (λ h. seen h.world.now h.out.now h.kept.now) (λ h. held h.world.ghost_name h.out.ghost_name h.state.ghost_name h.kept.ghost_name) _ _ _ _ _ c.run-outcome.result e.found e.keeps.1)
+    c.told.ensures _ _ (run_caused m p seen_of held_of _ _ _ _ _ c.run-outcome.result e.found e.keeps.1)
