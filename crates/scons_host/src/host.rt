@@ -40,17 +40,13 @@ fn refuse(state: &State, kept: &mut Kept, place: Place, stop: Stop) -> HostRefus
 }
 
 impl<W: World, O: Sink> Host for ReadingHost<'_, '_, '_, '_, W, O> {
-    ghost use Rattle.py_host.specs.Lent.{lent};
-    ghost use Rattle.py_host.proofs.Lending.{lent_kept, lent_determined};
-    ghost use Rattle.scons_host.specs.Reading.{reading};
-    ghost use Rattle.scons_host.specs.Seeing.{seen_of, held_of};
-    ghost use Rattle.scons_host.specs.Laws.{reading_kept, reading_determined};
+    ghost use Rattle.scons_host.specs.Seeing.{host_meaning, host_kept, host_determined};
 
-    ghost meaning = { lent seen_of held_of (reading W.meaning O.meaning) };
+    ghost meaning = { host_meaning W.meaning O.meaning };
 
-    ghost kept = { lent_kept seen_of held_of (reading W.meaning O.meaning) (reading_kept W.meaning O.meaning) };
+    ghost kept = { host_kept W.meaning O.meaning };
 
-    ghost determined = { lent_determined seen_of held_of (reading W.meaning O.meaning) (reading_determined W.meaning O.meaning) };
+    ghost determined = { host_determined W.meaning O.meaning };
 
     fn name(&mut self, name: &str) -> Option<Value> {
         if name == "ARGUMENTS" {
