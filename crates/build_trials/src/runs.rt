@@ -17,8 +17,18 @@ pub struct Ran {
 
 impl Ran {
     pub fn of(alloc: Global, world: &mut IdleWorld, words: &[Text]) -> Result<Ran> {
-        let mut out = sink(alloc)?;
-        let mut err = sink(alloc)?;
+        Ran::refused(alloc, world, words, &[])
+    }
+
+    /// The same where the writes of these numbers on standard output are refused.
+    pub fn refused(
+        alloc: Global,
+        world: &mut IdleWorld,
+        words: &[Text],
+        refused: &[u32],
+    ) -> Result<Ran> {
+        let mut out = sink(alloc, refused)?;
+        let mut err = sink(alloc, &[])?;
         let report = world.run(alloc, words, &mut out, &mut err);
         Ok(Ran { report, out, err })
     }
@@ -41,8 +51,8 @@ impl Ran {
     }
 }
 
-fn sink(alloc: Global) -> Result<MemSink> {
-    MemSink::new(alloc, Vec::new(alloc))
+fn sink(alloc: Global, refused: &[u32]) -> Result<MemSink> {
+    MemSink::new(alloc, Vec::from_slice(alloc, refused)?)
         .ok()
         .context(format_args!("memory"))
 }

@@ -20,6 +20,8 @@ pub struct Trial {
     rows: Vec<ActRow>,
     orders: Vec<u32>,
     failing: Vec<(Call, u32)>,
+    /// The writes on standard output that the next run is refused.
+    refused: Vec<u32>,
     world: Option<IdleWorld>,
     alloc: Global,
 }
@@ -31,6 +33,7 @@ impl Trial {
             rows: Vec::new(alloc),
             orders: Vec::new(alloc),
             failing: Vec::new(alloc),
+            refused: Vec::new(alloc),
             world: None,
             alloc,
         }
@@ -53,6 +56,7 @@ impl Trial {
             }
             "act" | "fail" => self.add_action(word, block, rest)?,
             "orders" | "fails" | "large" => self.begin_with(word, rest)?,
+            "refused" => self.refused.push(number_of(rest)?)?,
             "cut" | "mark" => self.spoil(word, rest)?,
             "run" => return self.run(rest),
             "show" => return self.show(rest),
@@ -243,7 +247,12 @@ impl Trial {
         let alloc = self.alloc;
         let list = words_of(alloc, words)?;
         let mut text = format!(in alloc; "$ scons {words}\n")?;
-        add_run(alloc, self.world()?, list.as_slice(), &mut text)?;
+        let refused = std::mem::replace(&mut self.refused, Vec::new(alloc));
+        let world = self.world()?;
+        let before = world.jobs().len();
+        let ran = Ran::refused(alloc, world, list.as_slice(), refused.as_slice())?;
+        ran.add_told(&mut text)?;
+        write_report(alloc, &ran.report, world, before, &mut text)?;
         Ok(text)
     }
 }
@@ -261,13 +270,6 @@ fn shown(alloc: Global, name: &str, bytes: &[u8]) -> Result<String> {
     let text = str::from_utf8(bytes).ok().context(format_args!("no text"))?;
     let end = if text.ends_with("\n") { "" } else { "\n" };
     Ok(format!(in alloc; "{name}: {text}{end}")?)
-}
-
-fn add_run(alloc: Global, world: &mut IdleWorld, words: &[Text], text: &mut String) -> Result<()> {
-    let before = world.jobs().len();
-    let ran = Ran::of(alloc, world, words)?;
-    ran.add_told(text)?;
-    write_report(alloc, &ran.report, world, before, text)
 }
 
 /// Writes the status, the first targets of what was started, and the rules that were skipped.
