@@ -1,8 +1,8 @@
 -- How the faults of a run are put together as it ends: what was at fault is told by its report.
-use Rattle.std.proofs.Common.{◌≡◌, ◌≢◌, ◌∙◌, sym, subst, refl, ap, ℕ, List, [], ◌∷◌, ◌++◌, true, false, Bool, Some, map, append_assoc}
+use Rattle.std.proofs.Common.{◌≡◌, ◌≢◌, ◌∙◌, sym, subst, refl, ap, ℕ, List, [], ◌∷◌, ◌++◌, true, false, Bool, map, Contains, append_assoc, append-nil}
 use Rattle.std.specs.Prelude.{◌||◌, All, Result, Ok, Err, OnOk, OnErr, IsErrAnd, IfErr}
 use Rattle.std.proofs.lemmas.Bool.{false≢true}
-use Rattle.std.proofs.lemmas.List.Elements.{All-push, All-pop}
+use Rattle.std.proofs.lemmas.List.Elements.{All-push, All-weaker, All-contains, All-contains_itself, Contains-append_left, Contains-push}
 use Rattle.scons_base.specs.Rising.{Rose}
 use Rattle.world_api.specs.Counts.{Counts}
 use Rattle.world_api.specs.Printed.{SinkMeaning}
@@ -79,15 +79,24 @@ one_more old ys f = ap (λ zs. old ++ zs) (map_pushed ys f) ∙ sym (append_asso
 pub all_added : (old faults new : List Top) (ys : List BuildFault) (f : BuildFault) (t : Top) → t ≡ top_of f → new ≡ faults ++ t ∷ [] → faults ≡ old ++ map top_of ys → new ≡ old ++ map top_of (ys ++ f ∷ [])
 all_added old faults new ys f t is more so = more ∙ (ap (λ x. faults ++ x ∷ []) is ∙ (ap (λ xs. xs ++ top_of f ∷ []) so ∙ sym (one_more old ys f)))
 
-before : (P : Top → Type 0) (old : List Top) (ys : List BuildFault) (f : BuildFault) → All P (old ++ map top_of (ys ++ f ∷ [])) → All P (old ++ map top_of ys) × P (top_of f)
-before P old ys f each = All-pop P (old ++ map top_of (ys ++ f ∷ [])) (old ++ map top_of ys) (Some (top_of f)) (one_more old ys f) each
+-- what was among them is so with one more
+still : (old : List Top) (ys : List BuildFault) (f : BuildFault) (x : Top) → Contains (old ++ map top_of ys) x → Contains (old ++ map top_of (ys ++ f ∷ [])) x
+still old ys f x h = subst (λ (xs : List Top). Contains xs x) (sym (one_more old ys f)) (Contains-append_left (old ++ map top_of ys) (top_of f ∷ []) x h)
 
-pub each_added : (P : Top → Type 0) (old faults new : List Top) (ys : List BuildFault) (f : BuildFault) (t : Top) (lost : Bool) → t ≡ top_of f → (lost ≡ false → new ≡ faults ++ t ∷ []) → (lost ≡ true → new ≡ faults)
-    → (All P (old ++ map top_of ys) → All P faults) → All P (old ++ map top_of (ys ++ f ∷ [])) → All P new
-each_added P old faults new ys f t true is more kept so each = subst (λ xs. All P xs) (sym (kept refl)) (so (before P old ys f each).0)
-each_added P old faults new ys f t false is more kept so each =
-    let b = before P old ys f each in
-    subst (λ xs. All P xs) (sym (more refl)) (All-push P faults t (so b.0) (subst P (sym is) b.1))
+last : (old : List Top) (ys : List BuildFault) (f : BuildFault) → Contains (old ++ map top_of (ys ++ f ∷ [])) (top_of f)
+last old ys f = subst (λ (xs : List Top). Contains xs (top_of f)) (sym (one_more old ys f)) (Contains-push (old ++ map top_of ys) (top_of f))
+
+pub none_added : (old : List Top) → All (Contains (old ++ [])) old
+none_added old = subst (λ (xs : List Top). All (Contains xs) old) (sym (append-nil old)) (All-contains_itself old)
+
+pub each_added : (old faults new : List Top) (ys : List BuildFault) (f : BuildFault) (t : Top) (lost : Bool) → t ≡ top_of f → (lost ≡ false → new ≡ faults ++ t ∷ []) → (lost ≡ true → new ≡ faults)
+    → All (Contains (old ++ map top_of ys)) faults → All (Contains (old ++ map top_of (ys ++ f ∷ []))) new
+each_added old faults new ys f t true is more kept each =
+    subst (λ (xs : List Top). All (Contains (old ++ map top_of (ys ++ f ∷ []))) xs) (sym (kept refl)) (All-weaker (Contains (old ++ map top_of ys)) (Contains (old ++ map top_of (ys ++ f ∷ []))) (still old ys f) faults each)
+each_added old faults new ys f t false is more kept each =
+    let all = old ++ map top_of (ys ++ f ∷ []) in
+    let wider = All-weaker (Contains (old ++ map top_of ys)) (Contains all) (still old ys f) faults each in
+    subst (λ (xs : List Top). All (Contains all) xs) (sym (more refl)) (All-push (Contains all) faults t wider (subst (Contains all) (sym is) (last old ys f)))
 
 -- all of them
 pub whole : (xs all : List BuildFault) → map (λ y. y) xs ≡ all → xs ≡ all
@@ -114,11 +123,11 @@ found_lost : (start now : Outside) (faults : List Top) (memory : Bool) → Found
 found_lost start now faults memory h = record { later = h.later; each = h.each; told = λ is. absurd (false≢true (sym (or_false memory true is).1)) }
 
 -- the faults of a build, of which some may be lost
-taken : (start now : Outside) (all none first : List Top) (memory lacks : Bool) → none ≡ [] → (lacks ≡ false → first ≡ none ++ all) → ((P : Top → Type 0) → All P (none ++ all) → All P first)
+taken : (start now : Outside) (all none first : List Top) (memory lacks : Bool) → none ≡ [] → (lacks ≡ false → first ≡ none ++ all) → All (Contains (none ++ all)) first
     → Found start now all memory → Found start now first (memory || lacks)
 taken start now all none first memory lacks is added each h = record {
   later = h.later;
-  each = each (HasCause start now) (subst (λ (fs : List Top). All (HasCause start now) (fs ++ all)) (sym is) h.each);
+  each = All-weaker (Contains (none ++ all)) (HasCause start now) (λ x has. All-contains (HasCause start now) all x h.each (subst (λ (fs : List Top). Contains (fs ++ all) x) is has)) first each;
   told = λ no.
       let t = or_false memory lacks no in
       subst (λ (fs : List Top). AreTold start now fs) (sym (added t.1 ∙ ap (λ (fs : List Top). fs ++ all) is)) (h.told t.0);
@@ -160,7 +169,7 @@ with_last start counts out new_out err (Err stop.Memory) first last memory lost 
 
 -- the report of a build or of a list
 pub closes : (found : List BuildFault) (none first last : List Top) (memory lacks lost : Bool) (written : Result (Unit {0}) Stop) (report : Report)
-    → none ≡ [] → (lacks ≡ false → first ≡ none ++ map top_of found) → ((P : Top → Type 0) → All P (none ++ map top_of found) → All P first)
+    → none ≡ [] → (lacks ≡ false → first ≡ none ++ map top_of found) → All (Contains (none ++ map top_of found)) first
     → AddsUnwritten written first last lost → report.faults ≡ last → (report.status ≢ 3 → (memory ≡ false) × (lacks ≡ false) × (lost ≡ false))
     → Closes found memory written report
 closes found none first last memory lacks lost written report is added each adds same said = λ start counts out new_out err h step.

@@ -1,5 +1,5 @@
 //! How a run ends: its last lines and its report.
-ghost use Rattle.std.specs.Prelude.{◌≡◌, ◌≢◌, ◌++◌, ◌∷◌, [], Bool, true, false, List, All, map, IfErr, OnOk, OnErr};
+ghost use Rattle.std.specs.Prelude.{◌≡◌, ◌≢◌, ◌++◌, ◌∷◌, [], true, false, All, Contains, map, IfErr, OnOk, OnErr};
 ghost use Rattle.scons_top.specs.Faults.{IsEarly, IsEarlyStop, IsLate, IsLateStop, EarlyOnlyIf};
 ghost use Rattle.scons_top.specs.Endings.{ErrFinds, ErrEnds, ErrReports, AddsUnwritten, Closes};
 ghost use Rattle.scons_top.specs.Stops.{SinkStep, top_of};
@@ -218,7 +218,7 @@ fn was_wanting(memory: bool, lacks: bool, lost: bool) -> bool
 fn add_all(faults: &mut Listing<Top>, found: Listing<BuildFault>) -> bool
     ensures late { EarlyOnlyIf ⊥ faults.old → EarlyOnlyIf ⊥ faults.new }
     ensures added { result ≡ false → faults.new ≡ faults.old ++ map top_of found }
-    ensures each { (P : Top → Type 0) → All P (faults.old ++ map top_of found) → All P faults.new }
+    ensures each { All (Contains (faults.old ++ map top_of found)) faults.new }
 {
     let mut lacks = false;
     for fault in found.into_vec() {
