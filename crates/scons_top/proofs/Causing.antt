@@ -1,5 +1,5 @@
 -- What was at fault outside as a run goes on, and that it is told as it ends.
-use Rattle.std.proofs.Common.{◌≡◌, ◌≢◌, ◌∙◌, ◌≤◌, ◌⊎◌, inl, inr, sym, subst, refl, ap, ℕ, zero, suc, List, [], ◌∷◌, ◌++◌, true, false, Bool, Some, map, Contains, arith}
+use Rattle.std.proofs.Common.{◌≡◌, ◌≢◌, ◌∙◌, ◌≤◌, inl, inr, sym, subst, refl, ap, ℕ, zero, suc, List, [], ◌∷◌, ◌++◌, true, false, Bool, Some, map, Contains, arith}
 use Rattle.std.specs.Prelude.{All, Result, Ok, Err, IsErrAnd, IfErr}
 use Rattle.std.proofs.lemmas.Bool.{false≢true}
 use Rattle.std.proofs.lemmas.List.Elements.{All-push, All-nil, All-cons, All-map, All-weaker, All-pop, Contains-append_left, Contains-push}
@@ -8,10 +8,9 @@ use Rattle.world_api.specs.Causes.{Later, TreeFails, DiskFails}
 use Rattle.world_api.specs.Counts.{Counts}
 use Rattle.world_api.specs.Looks.{IsTreeAlone}
 use Rattle.world_api.specs.Meaning.{Meaning}
-use Rattle.world_api.specs.Printed.{SinkMeaning}
 use Rattle.rule_graph.specs.declared.build_fault.BuildFault.{BuildFault}
 use Rattle.rule_graph.specs.declared.build_fault.BuildFault.TheVariants as fault
-use Rattle.build_files.specs.Causes.{HasLookCause, HasEndCause}
+use Rattle.build_files.specs.Causes.{HasEndCause}
 use Rattle.build_files.specs.Causes.{HasFaultCause as HasLookFault}
 use Rattle.build_files.specs.declared.end.ListEnd.{ListEnd}
 use Rattle.build_files.specs.declared.end.ListEnd.TheVariants as list_end
@@ -35,7 +34,7 @@ use Rattle.scons_top.specs.declared.stop.Stop.TheVariants as stop
 use Rattle.scons_top.specs.Faults.{IsLateStop}
 use Rattle.scons_top.specs.Causes.{HasCause, IsTreeFault, IsStartFault, IsActionFault, HasAny, AreTold, IsCaused}
 use Rattle.scons_top.specs.Stops.{top_of, stop_of_list, stop_of_host, stop_of_store, HasWorldCause, HasWorldStop, WorldStep, IsInside, InnerStep, HasSinkStop, SinkStep, OnWorld, OutFails, HasStopFault, HasStop, Step, ReportStep}
-use Rattle.scons_top.specs.Endings.{Found, AddsUnwritten}
+use Rattle.scons_top.specs.Endings.{Found}
 use Rattle.scons_top.proofs.Watching.{watches_same, watches_host, watches_look, watches_store, later_same, later_tree, later_disk, later_look, later_list, later_store}
 
 -- steps over the world

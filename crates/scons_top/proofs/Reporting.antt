@@ -1,6 +1,6 @@
 -- How the faults of a run are put together as it ends: what was at fault is told by its report.
 use Rattle.std.proofs.Common.{◌≡◌, ◌≢◌, ◌∙◌, sym, subst, refl, ap, ℕ, List, [], ◌∷◌, ◌++◌, true, false, Bool, map, Contains, append_assoc, append-nil}
-use Rattle.std.specs.Prelude.{◌||◌, All, Result, Ok, Err, OnOk, OnErr, IsErrAnd, IfErr}
+use Rattle.std.specs.Prelude.{◌||◌, All, Result, Ok, Err, OnOk, OnErr, IsErrAnd}
 use Rattle.std.proofs.lemmas.Bool.{false≢true}
 use Rattle.std.proofs.lemmas.List.Elements.{All-push, All-weaker, All-contains, All-contains_itself, Contains-append_left, Contains-push}
 use Rattle.scons_base.specs.Rising.{Rose}
@@ -16,7 +16,7 @@ use Rattle.scons_top.specs.declared.report.Top.{Top}
 use Rattle.scons_top.specs.declared.report.Top.TheVariants as top
 use Rattle.scons_top.specs.declared.stop.Stop.{Stop}
 use Rattle.scons_top.specs.declared.stop.Stop.TheVariants as stop
-use Rattle.scons_top.specs.Causes.{IsCaused, HasCause, AreTold}
+use Rattle.scons_top.specs.Causes.{HasCause, AreTold}
 use Rattle.scons_top.specs.Stops.{top_of, HasWorldCause, SinkStep, ReportStep}
 use Rattle.scons_top.specs.Endings.{Found, ErrFinds, ErrReports, ErrEnds, AddsUnwritten, AddsUnprinted, Closes}
 use Rattle.scons_top.proofs.Causing.{found_as, found_list, found_wanting, found_dropped, found_err, found_out, stop_found, world_found, found_report, wanting_report, exit_report}

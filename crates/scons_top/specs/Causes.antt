@@ -1,5 +1,5 @@
 -- Why a run has the faults that it reports: each tells what was at fault outside, and what was at fault is told.
-use Rattle.std.specs.Prelude.{◌≡◌, ◌≢◌, ◌⊎◌, List, All, Contains}
+use Rattle.std.specs.Prelude.{◌≢◌, ◌⊎◌, List, All, Contains}
 use Rattle.scons_base.specs.Rising.{Rose}
 use Rattle.world_api.specs.Meaning.{Meaning}
 use Rattle.world_api.specs.Printed.{SinkMeaning}
