@@ -211,6 +211,15 @@ pub sink_exit : {T : Type 0} (a b : ℕ) (r : Result T Stop) (s : Stop) → IsEr
 sink_exit a b (Ok value) s is h = absurd is
 sink_exit a b (Err x) s is h = subst (HasSinkStop a b) (sym is) h
 
+-- the sink wasn't at fault before
+pub sink_back : {T : Type 0} (a b c : ℕ) (r : Result T Stop) → b ≡ a → SinkStep b c r → SinkStep a c r
+sink_back a b c r same h = subst (λ x. SinkStep x c r) same h
+
+-- the exits of a step over the world alone
+pub world_exit : {T : Type 0} (a b : Counts) (r : Result T Stop) (s : Stop) → IsErrAnd r (λ x. x ≡ s) → HasWorldStop a b s → WorldStep a b r
+world_exit a b (Ok value) s is h = absurd is
+world_exit a b (Err x) s is h = subst (HasWorldStop a b) (sym is) h
+
 pub memory_late : {T : Type 0} (r : Result T Stop) → IsErrAnd r (λ s. s ≡ stop.Memory) → IfErr r IsLateStop
 memory_late (Ok value) is = absurd is
 memory_late (Err s) is = subst IsLateStop (sym is) (λ early. early)
