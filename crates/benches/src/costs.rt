@@ -36,12 +36,7 @@ fn libraries(alloc: Global, size: u32) -> Option<usize> {
     let env = envs.make().ok()?;
     set_libraries(alloc, &mut envs, env, size)?;
     let locals = locals(alloc)?;
-    Some(
-        lib_names(alloc, &envs, env, &locals)
-            .ok()?
-            .as_slice()
-            .len(),
-    )
+    Some(lib_names(alloc, &envs, env, &locals).ok()?.as_slice().len())
 }
 
 fn set_libraries(alloc: Global, envs: &mut Envs, env: EnvId, size: u32) -> Option<()>

@@ -279,9 +279,9 @@ and_then-ok (Ok s) = refl
 and_then-ok (Err fault) = refl
 
 -- nothing is left behind one thing
-pub alone_read : (w : Setting) (read : Reader) (x : Saying) (xs : List Saying) (d : Desk) → xs ≡ [] → behind_all w (says_one read x) d ≡ behind_all w (says_all read (x ∷ xs)) d
-alone_read w read x xs d none =
-    ap (λ a. and_then a (resumes w d.tasks d.names)) (sym (and_then-ok (says_one read x d.state))) ∙ ap (λ ys. behind_all w (says_all read (x ∷ ys)) d) (sym none)
+pub alone_read : (w : Setting) (reader : Reader) (x : Saying) (xs : List Saying) (d : Desk) → xs ≡ [] → behind_all w (says_one reader x) d ≡ behind_all w (says_all reader (x ∷ xs)) d
+alone_read w reader x xs d none =
+    ap (λ a. and_then a (resumes w d.tasks d.names)) (sym (and_then-ok (says_one reader x d.state))) ∙ ap (λ ys. behind_all w (says_all reader (x ∷ ys)) d) (sym none)
 
 -- a text without a `$` is put as it stands
 pub literal_read : (w : Setting) (names : Names) (owner t : List ℕ) (s : State) → length names ≤ 100001 → is_literal t ≡ true → 0 < length t → text_at w names owner t s ≡ puts t s

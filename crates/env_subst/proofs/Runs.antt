@@ -1,5 +1,5 @@
 -- What comes of all tasks.
-use Rattle.std.proofs.Common.{◌≡◌, ◌∙◌, ℕ, List, [], ◌∷◌, Ok, Err, sym, ap}
+use Rattle.std.proofs.Common.{◌≡◌, ◌∙◌, ℕ, List, [], ◌∷◌, Ok, Err, refl, sym, ap}
 use Rattle.env_pieces.specs.Pieces.{Sheet}
 use Rattle.env_subst.specs.declared.fault.SubstFault.{SubstFault}
 use Rattle.env_subst.specs.Settings.{Setting}
@@ -34,12 +34,12 @@ named names (Ok s) = refl
 named names (Err fault) = refl
 
 named_ok : (names after : Names) (a : Answer) (s : State) → with_names names a ≡ Ok (s, after) → (a ≡ Ok s) × (after ≡ names)
-named_ok names after (Ok x) s e = let p : (x, names) ≡ (s, after) = cc in (ap (λ q. Ok q.0) p, sym (ap (λ q. q.1) p))
+named_ok names after (Ok x) s e = let p : ◌≡◌ {A = State × Names} (x, names) (s, after) = cc in (ap (λ q. Ok q.0) p, sym (ap (λ q. q.1) p))
 named_ok names after (Err fault) s e = let no : ⊥ = cc in absurd no
 
 named_err : (names : Names) (a : Answer) (fault : SubstFault) → with_names names a ≡ Err fault → a ≡ Err fault
 named_err names (Ok x) fault e = cc
-named_err names (Err f) fault e = e
+named_err names (Err f) fault e = let same : f ≡ fault = cc in ap (λ x. Err x) same
 
 -- a text is begun where nothing else is left to do, and then all is done
 module _ (w : Setting) (d : Desk) (entered names : Names) (n : ℕ) (owner t own given : List ℕ)

@@ -9,8 +9,8 @@ use crate::fault::SubstFault;
 use crate::names::Names;
 use crate::task::Task;
 use env_pieces::{Mark, PieceFault, Pieces};
-use scons_base::{Memory, Text};
 use scons_base::limits::{REFERENCE_LIMIT, SUBST_LIMIT};
+use scons_base::{Memory, Text};
 use std::alloc::Global;
 
 /// The tasks that are left, the uppermost last.

@@ -9,7 +9,7 @@ use std::sync::{Arc, Wait};
 use std::thread::Threads;
 use world_api::{Job, Outcome, Work};
 
-const ROUNDS: u32 = 100;
+const ROUNDS: u32 = 10;
 
 const JOBS: u32 = 1000;
 

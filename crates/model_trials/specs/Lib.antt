@@ -1,3 +1,5 @@
 -- Definitions that the contracts of the slow functions cite.
 pub mod Plain
 pub mod Orders
+pub mod Loops
+pub mod Cyclic

@@ -2,6 +2,8 @@
 //! over plain lists and do nothing clever, so that a faster body can be tried beside them.
 #![tactic(auto)]
 
+pub mod cycles;
+pub mod loops;
 pub mod needs;
 pub mod order;
 pub mod reach;

@@ -73,7 +73,7 @@ fn visit_one(
 }
 
 /// What each rule needs.
-fn needs_of_all(
+pub(crate) fn needs_of_all(
     alloc: Global,
     limit: usize,
     rules: &[PlainRule],

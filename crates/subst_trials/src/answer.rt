@@ -4,6 +4,7 @@ use crate::parts::{put_forms, put_full, put_parts};
 use crate::rule::tell;
 use crate::trial::Trial;
 use crate::values::value;
+use crate::widest::widest;
 use env_vars::EnvValue;
 use scons_base::Text;
 use std::alloc::Global;
@@ -28,6 +29,7 @@ pub(crate) fn answer(alloc: Global, trial: &mut Trial, line: &str) -> Option<Str
         "parts" => parts(alloc, rest),
         "pieces" => pieces(alloc, rest),
         "full" => full(alloc),
+        "widest" => widest(alloc),
         "libs" => trial.libs(),
         "lines" => trial.lines(rest, text_of(alloc, rest)?.as_str()),
         "command" => trial.command(rest, text_of(alloc, rest)?.as_str()),

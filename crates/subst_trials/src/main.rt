@@ -6,10 +6,11 @@
 //! `source`, `smartlink`, `dir`, `top`, `variant` and `copied` tell what the rule knows. `subst` prints a text and then its
 //! form as text, raw and signed, or the fault behind a `!`; `many` does so for a text so many times and a further one
 //! behind, and `dirs` prints the directories of a search path. `given` sets a variable to what is meant where a value is given to
-//! a clone, `libs` prints the items of `LIBS`, `lines` the lines of a command as text and signed, `command` both of one reading, and `path` the text of a path.
-//! `added`, `taken`, `named`, `default`, `initial` and `apart` tell what variables hold after calls, each in a new environment (`held.rt`), `parts` the
-//! parts of a text, and `pieces` and `full` the forms of pieces and how many there may be (`parts.rt`). An empty line and one that
-//! begins with `#` say nothing.
+//! a clone, and `widest` tells how long that may be (`widest.rt`). `libs` prints the items of `LIBS`, `lines` the lines of a command
+//! as text and signed, `command` both of one reading, and `path` the text of a path. `added`, `taken`, `named`, `default`,
+//! `initial` and `apart` tell what variables hold after calls, each in a new environment (`held.rt`), `parts` the parts of a text,
+//! and `pieces` and `full` the forms of pieces and how many there may be (`parts.rt`). An empty line and one that begins with `#`
+//! say nothing.
 #![tactic(auto)]
 
 mod answer;
@@ -19,6 +20,7 @@ mod rule;
 mod shown;
 mod trial;
 mod values;
+mod widest;
 mod written;
 
 use crate::answer::answer;

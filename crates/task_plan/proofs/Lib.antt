@@ -4,5 +4,13 @@ pub mod StateLemmas
 pub mod PlanLemmas
 pub mod ListLemmas
 pub mod NeedLemmas
+pub mod NamedLemmas
+pub mod WalkLemmas
+pub mod ReachLemmas
+pub mod ListedLemmas
+pub mod LoadLemmas
 pub mod TrackLemmas
 pub mod WantLemmas
+pub mod AdmitLemmas
+pub mod FollowLemmas
+pub mod NoteLemmas

@@ -36,7 +36,7 @@ one_more p xs i x e h f =
     let same : get_or xs i x ≡ x = get_or_from_slice_get xs i x x e in
     list_all_more p xs i x lt ∙ and_both (list_all p (take i xs)) (p (get_or xs i x)) h (ap p same ∙ f)
 
-all_by : {X : Type 0} (p : X → Bool) (xs : List X) (i : ℕ) (x : X) (b : Bool) → p x ≡ b → list_all p xs ≡ true → slice_get xs i ≡ Some x → b ≡ true
+pub all_by : {X : Type 0} (p : X → Bool) (xs : List X) (i : ℕ) (x : X) (b : Bool) → p x ≡ b → list_all p xs ≡ true → slice_get xs i ≡ Some x → b ≡ true
 all_by p xs i x true f h e = refl
 all_by p xs i x false f h e =
     let same : get_or xs i x ≡ x = get_or_from_slice_get xs i x x e in
@@ -102,6 +102,9 @@ longer_by a b k false l = longer_more a b k l
 pub longer_insert : (eq : NodeId → NodeId → Bool) (a b c : List NodeId) (k : NodeId) → IsLonger a b → c ≡ insert_key eq b k → IsLonger a c
 longer_insert eq a b c k l e = rw e (longer_by a b k (list_any (eq k) b) l)
 
+pub longer_trans : (a b c : List NodeId) → IsLonger a b → IsLonger b c → IsLonger a c
+longer_trans a b c l m = record { more = l.more ++ m.more; is = m.is ∙ ap (λ ys. ys ++ m.more) l.is ∙ append_assoc a l.more m.more }
+
 pub longer_on : (a b c : List NodeId) → IsLonger a b → c ≡ b → IsLonger a c
 longer_on a b c l e = rw e l
 
@@ -151,7 +154,5 @@ module _ {X : Type 0} where
     within = let lt = slice_get_within files count n e in omega arith;
     each = one_more (λ n. is_scanned found n) files count n e s.each h;
   }
-
-pub ruleset longer_steps = (longer_same, longer_insert, longer_on)
 
 pub ruleset scanned_steps = (scanned_longer, scanned_insert)

@@ -51,7 +51,7 @@ one_none : (r : ℕ) → state_of (Unneeded ∷ []) r ≡ Unneeded
 one_none zero = refl
 one_none (suc r) = refl
 
-add_none : (a : List RuleState) (r : ℕ) → state_of (a ++ Unneeded ∷ []) r ≡ state_of a r
+pub add_none : (a : List RuleState) (r : ℕ) → state_of (a ++ Unneeded ∷ []) r ≡ state_of a r
 add_none [] r = one_none r
 add_none (x ∷ xs) zero = refl
 add_none (x ∷ xs) (suc r) = add_none xs r
@@ -162,4 +162,4 @@ pub same_meets : (a b : Planned) → b ≡ a → Meets a b
 same_meets a b e = rw e (meets_same a)
 
 pub stays_trans : (a b c : Planned) → Stays a b → Stays b c → Stays a c
-stays_trans a b c m n = record { states = n.states ∙ m.states; halted = n.halted ∙ m.halted }
+stays_trans a b c m n = record { states = n.states ∙ m.states; halted = n.halted ∙ m.halted; rules = n.rules ∙ m.rules }

@@ -1,5 +1,5 @@
 -- What a plan keeps true of its rules stays so through each change.
-use Rattle.std.proofs.Common.{arith, ◌≡◌, ◌≢◌, ◌<◌, ◌≤◌, ◌∙◌, ◌⊎◌, inl, inr, ℕ, zero, suc, ◌+◌, List, [], ◌∷◌, ◌++◌, Bool, true, false, ap, sym, refl, length, set, get_or, take, Option, Some, None, get_or-set_other}
+use Rattle.std.proofs.Common.{arith, ◌≡◌, ◌≢◌, ◌<◌, ◌≤◌, ◌∙◌, ◌⊎◌, inl, inr, ℕ, zero, suc, ◌+◌, List, [], ◌∷◌, ◌++◌, Bool, true, false, ap, sym, refl, length, set, get_or, take, Option, Some, None, get_or-set_other, length-set, length-append}
 use Rattle.std.specs.Prelude.{slice_get, map, nat_eq}
 use Rattle.std.specs.List.{list_all, list_any}
 use Rattle.std.proofs.lemmas.Option.{same_Some, none-some}
@@ -7,6 +7,8 @@ use Rattle.scons_base.specs.declared.ids.NodeId.{NodeId}
 use Rattle.task_plan.specs.States.{state_of, is_running}
 use Rattle.task_plan.specs.Queues.{Queued, is_open}
 use Rattle.task_plan.specs.Settled.{origin_of, is_settled, is_done, is_done_from, is_scanned, needs_of, AreScannedIn, AreDoneTo, AreScannedTo, KeepsNeeds, IsThrough, CanScan}
+use Rattle.task_plan.specs.Listed.{IsListing}
+use Rattle.task_plan.specs.Loaded.{IsBlank}
 use Rattle.task_plan.specs.Tracked.{IsTracked, IsOpened, IsMarked, AreTracked}
 use Rattle.task_plan.specs.Plans.{AreMet, AreWaiting}
 use Rattle.task_plan.specs.declared.states.RuleState.{RuleState}
@@ -17,6 +19,8 @@ use Rattle.task_plan.specs.declared.task.Task.{Task}
 use Rattle.task_plan.proofs.MarkLemmas.{apart}
 use Rattle.task_plan.proofs.ListLemmas.{and_left, and_right, and_both, list_all_weaker, each_of_all, get-set_other, get-set_same, get-set_is, get-front, get-last}
 use Rattle.task_plan.proofs.PlanLemmas.{set_other, true_false}
+use Rattle.task_plan.proofs.ListedLemmas.{listing_passed, listing_next}
+use Rattle.task_plan.proofs.LoadLemmas.{listing_blank}
 
 -- what was done is done still
 record IsDoneStill (a b : List RuleState) (o p : List Origin) : Type 0 where
@@ -26,6 +30,7 @@ tracked_still : (a b : List RuleState) (o p : List Origin) (t : Task) → IsDone
 tracked_still a b o p t s k = record {
   needs = record { within = k.needs.within; each = list_all_weaker (λ n. is_done a o n) (λ n. is_done b p n) (take t.passed (needs_of t)) s.still k.needs.each };
   files = k.files;
+  listing = k.listing;
 }
 
 marked_still : (a b : List RuleState) (o p : List Origin) (ts : List Task) (r : ℕ) → IsDoneStill a b o p → state_of b r ≡ Waiting → IsMarked a o ts r → IsMarked b p ts r
@@ -55,13 +60,14 @@ from_on a b Source f h = refl
 from_on a b (Made rule) f h = f rule.0 h
 
 -- rules are met
-pub tracked_met : (a b : List RuleState) (q : Queued) (ts : List Task) (o : List Origin) (m : List Bool) → AreMet a b → AreTracked a q ts o m → AreTracked b q ts o m
-tracked_met a b q ts o m met t =
+pub tracked_met : (a b : List RuleState) (q : Queued) (ts : List Task) (o : List Origin) (m : List Bool) → AreMet a b → length b ≤ length ts → AreTracked a q ts o m → AreTracked b q ts o m
+tracked_met a b q ts o m met le t =
     let s : IsDoneStill a b o o = record { still = λ n h. from_on a b (origin_of o n.0) (λ r. settled_on (state_of a r) (state_of b r) (met.at r)) h } in
     record {
       each = λ r task e. tracked_still a b o o task s (t.each r task e);
       opened = λ r h. let k = t.opened r h in opened_still a b ts r (waits_on (state_of a r) (state_of b r) (met.at r) k.waits) k;
       marked = λ r h. let k = t.marked r h in marked_still a b o o ts r s (waits_on (state_of a r) (state_of b r) (met.at r) k.waits) k;
+      room = le;
     }
 
 origin_by : (a : List RuleState) (o : List Origin) (i n : ℕ) (v : Origin) → (n ≡ i) ⊎ (n ≢ i) → origin_of o i ≡ Unmet → is_done_from a (origin_of o n) ≡ true → is_done_from a (origin_of (set o i v) n) ≡ true
@@ -73,6 +79,7 @@ tracked_done a q ts o p m s t = record {
   each = λ r task e. tracked_still a a o p task s (t.each r task e);
   opened = t.opened;
   marked = λ r h. let k = t.marked r h in marked_still a a o p ts r s k.waits k;
+  room = t.room;
 }
 
 -- a file is met
@@ -134,6 +141,7 @@ tracked_decided a q p ts o m r v g closed others t =
       each = λ x task e. tracked_still a (set a r v) o o task s (t.each x task e);
       opened = λ x h. opened_set a q p ts r x v (apart x r) closed others t.opened h;
       marked = λ x h. marked_set a q ts o m r x v (apart x r) s t g h;
+      room = let n = length-set a r v in let k = t.room in omega arith;
     }
 
 opened_put : (a : List RuleState) (q p : Queued) (ts : List Task) (r x : ℕ) → (x ≡ r) ⊎ (x ≢ r) → IsOpened a ts r
@@ -148,15 +156,16 @@ tracked_open a q p ts o m r task e w d others t = record {
   each = t.each;
   opened = λ x h. opened_put a q p ts r x (apart x r) (record { task = task; at = e; waits = w; through = d }) others t.opened h;
   marked = t.marked;
+  room = t.room;
 }
 
 -- all are closed
 pub tracked_closed : (a : List RuleState) (q p : Queued) (ts : List Task) (o : List Origin) (m : List Bool) → ((x : ℕ) → is_open p x ≡ false) → AreTracked a q ts o m → AreTracked a p ts o m
-tracked_closed a q p ts o m none t = record { each = t.each; opened = λ x h. absurd (true_false (is_open p x) h (none x)); marked = t.marked }
+tracked_closed a q p ts o m none t = record { each = t.each; opened = λ x h. absurd (true_false (is_open p x) h (none x)); marked = t.marked; room = t.room }
 
 -- fewer are marked
 pub tracked_marks : (a : List RuleState) (q : Queued) (ts : List Task) (o : List Origin) (m k : List Bool) → ((x : ℕ) → get_or k x false ≡ true → get_or m x false ≡ true) → AreTracked a q ts o m → AreTracked a q ts o k
-tracked_marks a q ts o m k f t = record { each = t.each; opened = t.opened; marked = λ x h. t.marked x (f x h) }
+tracked_marks a q ts o m k f t = record { each = t.each; opened = t.opened; marked = λ x h. t.marked x (f x h); room = t.room }
 
 each_set : (a : List RuleState) (ts : List Task) (o : List Origin) (r x : ℕ) (v task : Task) → (x ≡ r) ⊎ (x ≢ r) → IsTracked a o v
     → ((x : ℕ) (task : Task) → slice_get ts x ≡ Some task → IsTracked a o task) → slice_get (set ts r v) x ≡ Some task → IsTracked a o task
@@ -191,13 +200,15 @@ tracked_task a q p ts o m r v k closed others t = record {
   each = λ x task e. each_set a ts o r x v task (apart x r) k t.each e;
   opened = λ x h. opened_new a q p ts r x v (apart x r) closed others t.opened h;
   marked = λ x h. marked_new a o ts m r x v (apart x r) t.marked h;
+  room = let n = length-set ts r v in let l = t.room in omega arith;
 }
 
 -- a task that nothing was scanned for and of which no need was passed
-pub tracked_new : (a : List RuleState) (o : List Origin) (v : Task) → v.passed ≡ 0 → v.reach.whole ≡ 0 → IsTracked a o v
-tracked_new a o v p w = record {
+pub tracked_new : (a : List RuleState) (o : List Origin) (v : Task) → v.passed ≡ 0 → v.reach.whole ≡ 0 → IsListing v → IsTracked a o v
+tracked_new a o v p w l = record {
   needs = rw p (record { within = omega arith; each = refl });
   files = rw w (record { within = omega arith; each = refl });
+  listing = l;
 }
 
 opened_pass : (a : List RuleState) (ts : List Task) (r x : ℕ) (task v : Task) → (x ≡ r) ⊎ (x ≢ r) → slice_get ts r ≡ Some task → (IsThrough task → IsThrough v) → IsOpened a ts x → IsOpened a (set ts r v) x
@@ -220,9 +231,10 @@ tracked_pass a q ts o m r count task e d le t =
     let v : Task = record task { passed = count } in
     let k = t.each r task e in
     record {
-      each = λ x y h. each_set a ts o r x v y (apart x r) (record { needs = record { within = d.within; each = d.each }; files = k.files }) t.each h;
+      each = λ x y h. each_set a ts o r x v y (apart x r) (record { needs = record { within = d.within; each = d.each }; files = k.files; listing = listing_passed task count k.listing }) t.each h;
       opened = λ x h. opened_pass a ts r x task v (apart x r) e (λ i. record { needs = let n = i.needs in omega arith; files = i.files }) (t.opened x h);
       marked = λ x h. marked_pass a o ts r x task v (apart x r) e refl (t.marked x h);
+      room = let n = length-set ts r v in let l = t.room in omega arith;
     }
 
 marked_there : (m : List Bool) (r : ℕ) (b : Bool) → get_or (set m r b) r false ≡ true → b ≡ true
@@ -242,6 +254,7 @@ tracked_next a q ts o m r task v b e i d k t = record {
   each = λ x y h. each_set a ts o r x v y (apart x r) i t.each h;
   opened = λ x h. opened_pass a ts r x task v (apart x r) e d (t.opened x h);
   marked = λ x h. marked_next a o ts m r x b v (apart x r) k t.marked h;
+  room = let n = length-set ts r v in let l = t.room in omega arith;
 }
 
 marked_by : (a : List RuleState) (o : List Origin) (ts : List Task) (r place : ℕ) (v : Task) (file : Option NodeId) → slice_get ts r ≡ Some v → state_of a r ≡ Waiting → v.reach.next ≡ place
@@ -262,7 +275,7 @@ tracked_ready a q ts o m r place task b e w can within t =
     let v : Task = record task { reach = record task.reach { next = place } } in
     let k = t.each r task e in
     tracked_next a q ts o m r task v b e
-    (record { needs = record { within = k.needs.within; each = k.needs.each }; files = k.files })
+    (record { needs = record { within = k.needs.within; each = k.needs.each }; files = k.files; listing = listing_next task place k.listing })
     (λ d. record { needs = d.needs; files = d.files })
     (λ h. marked_by a o (set ts r v) r place v (slice_get task.reach.files.keys place) (get-set_same ts r v task e) w refl can refl (not_none task.reach.files.keys place (within h)))
     t
@@ -284,12 +297,12 @@ false_by false f = refl
 
 -- what a file of a marked rule includes was taken
 pub tracked_take : (a : List RuleState) (q : Queued) (ts : List Task) (o : List Origin) (m : List Bool) (r : ℕ) (task v : Task) → slice_get ts r ≡ Some task → get_or m r false ≡ true
-    → KeepsNeeds task v → AreScannedTo v v.reach.whole → AreTracked a q ts o m → AreTracked a q (set ts r v) o (set m r false)
-tracked_take a q ts o m r task v e marked n s t =
+    → KeepsNeeds task v → AreScannedTo v v.reach.whole → IsListing v → AreTracked a q ts o m → AreTracked a q (set ts r v) o (set m r false)
+tracked_take a q ts o m r task v e marked n s l t =
     let k = t.each r task e in
     let done = λ (x : NodeId). is_done a o x in
     let each = ap (list_all done) n.same ∙ all_fewer done (needs_of task) v.passed task.passed n.passed k.needs.each in
-    tracked_task a q q ts o m r v (record { needs = record { within = n.within; each = each }; files = s })
+    tracked_task a q q ts o m r v (record { needs = record { within = n.within; each = each }; files = s; listing = l })
     (false_by (is_open q r) (λ p. apart_marked a q ts o m r t p marked)) (λ x ne. refl) t
 
 -- what is known of a task that stands there
@@ -302,6 +315,7 @@ tracked_push a q ts o m v k t = record {
   each = λ x y h. pushed a ts o x v y k t.each (get-last ts v x y h);
   opened = λ x h. let i = t.opened x h in record { task = i.task; at = get-front ts (v ∷ []) x i.task i.at; waits = i.waits; through = i.through };
   marked = λ x h. let i = t.marked x h in record { task = i.task; at = get-front ts (v ∷ []) x i.task i.at; waits = i.waits; file = i.file; next = i.next; can = i.can };
+  room = let n = length-append ts (v ∷ []) in let l = t.room in omega arith;
 }
   where
     pushed : (a : List RuleState) (ts : List Task) (o : List Origin) (x : ℕ) (v y : Task) → IsTracked a o v → ((x : ℕ) (task : Task) → slice_get ts x ≡ Some task → IsTracked a o task)
@@ -318,8 +332,13 @@ tracked_nothing q o m none unmarked = record {
   each = λ r task e. absurd (none-some task e);
   opened = λ x h. absurd (true_false (is_open q x) h (none x));
   marked = λ x h. absurd (true_false (get_or m x false) h (unmarked x));
+  room = omega arith;
 }
 
-pub ruleset pushing = (tracked_push, tracked_new)
+-- nothing was noted of a rule
+pub tracked_blank : (a : List RuleState) (o : List Origin) (v : Task) → IsBlank v → IsTracked a o v
+tracked_blank a o v b = tracked_new a o v b.passed b.reach.whole (listing_blank v b)
+
+pub ruleset pushing = (tracked_push, tracked_blank)
 
 pub ruleset tasking = (tracked_task, tracked_new)

@@ -1,16 +1,16 @@
 -- What a plan wants next, by what it keeps true of its rules.
-use Rattle.std.proofs.Common.{◌≡◌, ◌≤◌, ◌∙◌, ℕ, List, [], ◌∷◌, ◌++◌, Bool, true, false, ◌&&◌, ◌||◌, ap, sym, refl, length, take, get_or, Option, Some, None}
-use Rattle.std.specs.Prelude.{slice_get, map, nat_eq}
+use Rattle.std.proofs.Common.{◌≡◌, ◌≤◌, ◌∙◌, ℕ, zero, suc, List, [], ◌∷◌, ◌++◌, Bool, true, false, ◌&&◌, ◌||◌, ap, sym, refl, length, set, take, get_or, Option, Some, None}
+use Rattle.std.specs.Prelude.{slice_get, map, nat_eq, if◌then◌else◌}
 use Rattle.std.specs.List.{list_all, list_any, position}
-use Rattle.std.specs.Option.{option_map}
+use Rattle.std.specs.Option.{option_map, option_and_then}
 use Rattle.std.proofs.lemmas.Option.{same_Some, slice_get-map}
-use Rattle.std.proofs.lemmas.List.{take_all}
+use Rattle.std.proofs.lemmas.List.{take_all, map-set}
 use Rattle.std.proofs.lemmas.List.Folds.{list_all-append}
 use Rattle.std.proofs.lemmas.List.Quantifiers.{position-Some}
 use Rattle.scons_base.specs.declared.ids.NodeId.{NodeId}
 use Rattle.task_plan.specs.States.{state_of}
 use Rattle.task_plan.specs.Queues.{Queued, is_open, IsFirst}
-use Rattle.task_plan.specs.Settled.{is_done, is_scanned, needs_of, AreScannedIn, CanScan, Kept, kept_of, IsReady}
+use Rattle.task_plan.specs.Settled.{is_done, is_scanned, needs_of, AreScannedIn, CanScan, Kept, kept_of, next_of, IsReady}
 use Rattle.task_plan.specs.Tracked.{IsTracked, IsOpened, IsMarked, AreTracked}
 use Rattle.task_plan.specs.Plans.{Planned, CanDecide, IsDecidedNext, IsReadyToScan}
 use Rattle.task_plan.specs.declared.states.RuleState.{RuleState}
@@ -25,17 +25,43 @@ scanned_map f n (e ∷ es) = ap (λ b. nat_eq n.0 e.0.0 || b) (scanned_map f n e
 kept_scanned : (t : Task) (n : NodeId) → is_scanned (kept_of t).found n ≡ is_scanned t.reach.found.entries n
 kept_scanned t n = scanned_map (λ v. v.items) n t.reach.found.entries
 
-abbrev planned : List RuleState → Queued → Bool → List Task → List Origin → Planned
-planned a q h ts o = record { states = a; queue = q; halted = h; rules = map kept_of ts; origins = o }
+abbrev pub planned : List RuleState → Queued → Bool → List Task → List Origin → List Bool → Planned
+planned a q h ts o m = record { states = a; queue = q; halted = h; rules = map kept_of ts; origins = o; marks = m; nexts = map next_of ts }
 
-kept_at : (ts : List Task) (r : ℕ) (t : Task) → slice_get ts r ≡ Some t → slice_get (map kept_of ts) r ≡ Some (kept_of t)
+pub kept_at : (ts : List Task) (r : ℕ) (t : Task) → slice_get ts r ≡ Some t → slice_get (map kept_of ts) r ≡ Some (kept_of t)
 kept_at ts r t e = slice_get-map kept_of ts r ∙ ap (option_map kept_of) e
+
+set_here : {X : Type 0} (xs : List X) (i : ℕ) (x : X) → slice_get xs i ≡ Some x → set xs i x ≡ xs
+set_here [] i x e = refl
+set_here (y ∷ ys) zero x e = let same : y ≡ x = same_Some y x e in ap (λ z. z ∷ ys) (sym same)
+set_here (y ∷ ys) (suc i) x e = ap (λ zs. y ∷ zs) (set_here ys i x e)
+
+-- what is known of a rule stays where nothing of it changes
+pub kept_still : (ts : List Task) (r : ℕ) (task v : Task) → slice_get ts r ≡ Some task → kept_of v ≡ kept_of task → map kept_of (set ts r v) ≡ map kept_of ts
+kept_still ts r task v e k = map-set kept_of ts r v ∙ ap (set (map kept_of ts) r) k ∙ set_here (map kept_of ts) r (kept_of task) (kept_at ts r task e)
+
+pub next_at : (ts : List Task) (r : ℕ) (t : Task) → slice_get ts r ≡ Some t → slice_get (map next_of ts) r ≡ Some (next_of t)
+next_at ts r t e = slice_get-map next_of ts r ∙ ap (option_map next_of) e
+
+pub wanted_by : (b : Bool) (o : Option (Option NodeId)) (file : NodeId) → b ≡ true → o ≡ Some (Some file) → (if b then option_and_then (λ f. f) o else None) ≡ Some file
+wanted_by b o file e f = rw (e, f) refl
+
+pub unwanted_by : (b : Bool) (o : Option (Option NodeId)) → b ≡ false → (if b then option_and_then (λ f. f) o else None) ≡ None
+unwanted_by b o e = rw e refl
+
+pub wanted_past : (b : Bool) (o : Option (Option NodeId)) → o ≡ None → (if b then option_and_then (λ f. f) o else None) ≡ None
+wanted_past true o e = rw e refl
+wanted_past false o e = refl
+
+pub wanted_none : (b : Bool) (o : Option (Option NodeId)) → o ≡ Some None → (if b then option_and_then (λ f. f) o else None) ≡ None
+wanted_none true o e = rw e refl
+wanted_none false o e = refl
 
 -- all of the first pass, and these are all
 all_of : {X : Type 0} (p : X → Bool) (xs : List X) (count : ℕ) → list_all p (take count xs) ≡ true → length xs ≤ count → list_all p xs ≡ true
 all_of p xs count h le = ap (list_all p) (sym (take_all count xs le)) ∙ h
 
-pub can_decide : (a : List RuleState) (q : Queued) (h : Bool) (ts : List Task) (o : List Origin) (m : List Bool) (r : ℕ) → AreTracked a q ts o m → is_open q r ≡ true → CanDecide (planned a q h ts o) r
+pub can_decide : (a : List RuleState) (q : Queued) (h : Bool) (ts : List Task) (o : List Origin) (m : List Bool) (r : ℕ) → AreTracked a q ts o m → is_open q r ≡ true → CanDecide (planned a q h ts o m) r
 can_decide a q h ts o m r t p =
     let k = t.opened r p in
     let i = t.each r k.task k.at in
@@ -54,11 +80,11 @@ can_decide a q h ts o m r t p =
       };
     }
 
-pub decided_next : (a : List RuleState) (q : Queued) (h : Bool) (ts : List Task) (o : List Origin) (m : List Bool) (r : ℕ) → AreTracked a q ts o m → IsFirst q r → h ≡ false → IsDecidedNext (planned a q h ts o) r
+pub decided_next : (a : List RuleState) (q : Queued) (h : Bool) (ts : List Task) (o : List Origin) (m : List Bool) (r : ℕ) → AreTracked a q ts o m → IsFirst q r → h ≡ false → IsDecidedNext (planned a q h ts o m) r
 decided_next a q h ts o m r t f e = record { first = f; can = can_decide a q h ts o m r t f.opened; goes = e }
 
 pub ready_to_scan : (a : List RuleState) (q : Queued) (h : Bool) (ts : List Task) (o : List Origin) (m : List Bool) (r : ℕ) (task : Task) (file : NodeId) → AreTracked a q ts o m
-    → position (λ mark. mark) m ≡ Some r → slice_get ts r ≡ Some task → slice_get task.reach.files.keys task.reach.next ≡ Some file → IsReadyToScan (planned a q h ts o) r file
+    → position (λ mark. mark) m ≡ Some r → slice_get ts r ≡ Some task → slice_get task.reach.files.keys task.reach.next ≡ Some file → IsReadyToScan (planned a q h ts o m) r file
 ready_to_scan a q h ts o m r task file t p e f =
     let s = position-Some (λ mark. mark) m r false p in
     let k = t.marked r s.1 in
@@ -73,4 +99,5 @@ ready_to_scan a q h ts o m r task file t p e f =
       place = task.reach.next;
       is_file = f;
       can = record { unscanned = kept_scanned task file ∙ unscanned; done = rw (sym one) k.can.done };
+      wants = wanted_by (get_or m r false) (slice_get (map next_of ts) r) file s.1 (next_at ts r task e ∙ ap Some f);
     }

@@ -2,6 +2,10 @@
 pub mod Marks
 pub mod Queues
 pub mod States
+pub mod Named
 pub mod Settled
+pub mod Listed
+pub mod Loaded
 pub mod Tracked
 pub mod Plans
+pub mod Admits

@@ -1,5 +1,6 @@
 -- What a plan is, as contracts see it, and what an event changes.
-use Rattle.std.specs.Prelude.{◌≡◌, ◌⊎◌, ◌≤◌, ℕ, Bool, true, false, List, Some, slice_get, slice_set, if◌then◌else◌}
+use Rattle.std.specs.Prelude.{◌≡◌, ◌⊎◌, ◌≤◌, ℕ, Bool, true, false, List, Option, Some, None, get_or, slice_get, slice_set, if◌then◌else◌}
+use Rattle.std.specs.Option.{option_and_then}
 use Rattle.scons_base.specs.declared.ids.NodeId.{NodeId}
 use Rattle.task_plan.specs.States.{state_of, stage, is_running}
 use Rattle.task_plan.specs.Queues.{Queued, is_open, IsFirst}
@@ -11,13 +12,20 @@ use Rattle.task_plan.specs.declared.want.PlanEvent.{PlanEvent}
 use Rattle.task_plan.specs.declared.want.PlanEvent.TheVariants.{Scanned, Fresh, Started, DoneOk, DoneFailed, Absent, Halt}
 
 -- How far each rule is, by its number; the needed rules in the build order, where those are open that can be decided now; whether
--- nothing further is to be scanned or decided; what is known of each rule; and where each file comes from, by its number.
+-- nothing further is to be scanned or decided; what is known of each rule; where each file comes from, by its number; and which rules have
+-- a file that can be scanned now, with the next file of each rule.
 pub record Planned : Type 0 where
   pub states : List RuleState
   pub queue : Queued
   pub halted : Bool
   pub rules : List Kept
   pub origins : List Origin
+  pub marks : List Bool
+  pub nexts : List (Option NodeId)
+
+-- the file that is to be scanned next for a rule, where one can be
+abbrev pub wanted : Planned → ℕ → Option NodeId
+wanted plan rule = if get_or plan.marks rule false then option_and_then (λ file. file) (slice_get plan.nexts rule) else None
 
 -- what can be decided waits
 pub record AreWaiting (states : List RuleState) (queue : Queued) : Type 0 where
@@ -36,7 +44,7 @@ pub record IsDecidedNext (plan : Planned) (rule : ℕ) : Type 0 where
   pub can : CanDecide plan rule
   pub goes : plan.halted ≡ false
 
--- a rule waits, and a file of it can be scanned
+-- a rule waits, and a file of it can be scanned: the one that is wanted next for it
 pub record IsReadyToScan (plan : Planned) (rule : ℕ) (file : NodeId) : Type 0 where
   pub kept : Kept
   pub at : slice_get plan.rules rule ≡ Some kept
@@ -44,6 +52,7 @@ pub record IsReadyToScan (plan : Planned) (rule : ℕ) (file : NodeId) : Type 0 
   pub place : ℕ
   pub is_file : slice_get kept.files place ≡ Some file
   pub can : CanScan plan.states plan.origins kept.found file
+  pub wants : wanted plan rule ≡ Some file
 
 -- a file may be scanned for a rule now
 pub record IsScannedNext (plan : Planned) (rule : ℕ) (file : NodeId) : Type 0 where
@@ -67,10 +76,11 @@ pub record Meets (old new : Planned) : Type 0 where
   pub states : AreMet old.states new.states
   pub halted : new.halted ≡ old.halted
 
--- no state changes
+-- no state changes, nor what is known of a rule
 pub record Stays (old new : Planned) : Type 0 where
   pub states : new.states ≡ old.states
   pub halted : new.halted ≡ old.halted
+  pub rules : new.rules ≡ old.rules
 
 -- a rule that can be decided is in this state now; of another one nothing is taken
 abbrev pub decided : Planned → ℕ → RuleState → List RuleState

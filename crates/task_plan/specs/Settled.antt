@@ -2,7 +2,10 @@
 use Rattle.std.specs.Prelude.{◌≡◌, ◌≤◌, ◌++◌, ℕ, Bool, true, false, List, Some, length, get_or, slice_get, take, nat_eq, map, [], Option, None}
 use Rattle.std.specs.List.{list_any, list_all}
 use Rattle.scons_base.specs.declared.ids.NodeId.{NodeId}
+use Rattle.rule_graph.specs.declared.rule.Rule.{Rule}
+use Rattle.rule_graph.specs.Graphs.{RuleGraph}
 use Rattle.task_plan.specs.States.{state_of}
+use Rattle.task_plan.specs.Named.{named_of, scanned_of, left_out_of}
 use Rattle.task_plan.specs.declared.states.RuleState.{RuleState}
 use Rattle.task_plan.specs.declared.states.RuleState.TheVariants.{Unneeded, Waiting, Running, Settled, Failed, Lacking}
 use Rattle.task_plan.specs.declared.files.Origin.{Origin}
@@ -85,20 +88,46 @@ pub record CanScan {A : Type 0} (states : List RuleState) (origins : List Origin
   pub unscanned : is_scanned found file ≡ false
   pub done : is_done states origins file ≡ true
 
--- What is known of a needed rule: what has to be made before it and is no dependency, its dependencies by the files scanned so far,
--- the files that are scanned for it, and those of them that were, with what they include.
+-- What is known of a needed rule: what has to be made before it and is no dependency, the dependencies that it names, the sources that are
+-- scanned for it, what is left out where it is found; then, by the files scanned so far, its dependencies, the files that are scanned for
+-- it, and those of them that were, with what they include; and whether these lists are whole: they aren't where memory was wanting in a scan.
 pub record Kept : Type 0 where
   pub required : List NodeId
+  pub named : List NodeId
+  pub sources : List NodeId
+  pub left_out : List NodeId
   pub deps : List NodeId
   pub files : List NodeId
   pub found : List (NodeId × List NodeId)
+  pub whole : Bool
 
 abbrev pub kept_of : Task → Kept
 kept_of t = record {
   required = t.required.items;
+  named = take t.named t.deps.keys;
+  sources = take t.reach.sources t.reach.files.keys;
+  left_out = t.reach.excluded.keys;
   deps = t.deps.keys;
   files = t.reach.files.keys;
   found = map (λ e. (e.0, e.1.items)) t.reach.found.entries;
+  whole = t.is_listed;
+}
+
+-- the file that is looked at next for a rule
+abbrev pub next_of : Task → Option NodeId
+next_of t = slice_get t.reach.files.keys t.reach.next
+
+-- what is known of a rule of the graph for which nothing was scanned
+abbrev pub first_kept : RuleGraph → Rule → Kept
+first_kept graph rule = record {
+  required = rule.required;
+  named = named_of rule;
+  sources = scanned_of graph rule;
+  left_out = left_out_of rule;
+  deps = named_of rule;
+  files = scanned_of graph rule;
+  found = [];
+  whole = true;
 }
 
 abbrev pub deps_in : Option Kept → List NodeId

@@ -1,18 +1,20 @@
 -- What a plan keeps true of its rules at all times.
-use Rattle.std.specs.Prelude.{◌≡◌, ℕ, Bool, true, false, List, Some, get_or, slice_get}
+use Rattle.std.specs.Prelude.{◌≡◌, ◌≤◌, ℕ, Bool, true, false, List, Some, length, get_or, slice_get}
 use Rattle.scons_base.specs.declared.ids.NodeId.{NodeId}
 use Rattle.task_plan.specs.States.{state_of}
 use Rattle.task_plan.specs.Queues.{Queued, is_open}
 use Rattle.task_plan.specs.Settled.{CanScan, AreDoneTo, AreScannedTo, IsThrough}
+use Rattle.task_plan.specs.Listed.{IsListing}
 use Rattle.task_plan.specs.declared.states.RuleState.{RuleState}
 use Rattle.task_plan.specs.declared.states.RuleState.TheVariants.{Waiting}
 use Rattle.task_plan.specs.declared.files.Origin.{Origin}
 use Rattle.task_plan.specs.declared.task.Task.{Task}
 
--- what a rule has passed is done, and the files that count as scanned were
+-- what a rule has passed is done, the files that count as scanned were, and its lists follow from the scans
 pub record IsTracked (states : List RuleState) (origins : List Origin) (task : Task) : Type 0 where
   pub needs : AreDoneTo states origins task task.passed
   pub files : AreScannedTo task task.reach.whole
+  pub listing : IsListing task
 
 -- an open rule waits, and nothing stands before its decision
 pub record IsOpened (states : List RuleState) (tasks : List Task) (rule : ℕ) : Type 0 where
@@ -34,3 +36,4 @@ pub record AreTracked (states : List RuleState) (queue : Queued) (tasks : List T
   pub each : (rule : ℕ) (task : Task) → slice_get tasks rule ≡ Some task → IsTracked states origins task
   pub opened : (rule : ℕ) → is_open queue rule ≡ true → IsOpened states tasks rule
   pub marked : (rule : ℕ) → get_or marks rule false ≡ true → IsMarked states origins tasks rule
+  pub room : length states ≤ length tasks

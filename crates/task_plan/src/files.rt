@@ -1,5 +1,5 @@
 //! What the plan keeps of a file.
-ghost use Rattle.std.specs.Prelude.{◌≡◌, ℕ, slice_set};
+ghost use Rattle.std.specs.Prelude.{◌≡◌, ℕ, true, slice_set};
 ghost use Rattle.task_plan.specs.Settled.{origin_of, is_done as is_done_of};
 
 use crate::states::{RuleState, States};
@@ -59,6 +59,16 @@ impl Files {
         match self.origins.get(node.0 as usize) {
             Some(origin) => *origin,
             None => Origin::Unmet,
+        }
+    }
+
+    /// Whether a file wasn't met.
+    pub(crate) fn is_unmet(&self, node: NodeId) -> bool
+        ensures { result ≡ true → origin_of self.now.origins.items node.0 ≡ Origin.Unmet }
+    {
+        match self.origin(node) {
+            Origin::Unmet => true,
+            Origin::Source | Origin::Made(_) => false,
         }
     }
 

@@ -1,25 +1,28 @@
 //! How the plan meets files, and with them the rules that are needed.
 
-ghost use Rattle.std.specs.Prelude.{◌≡◌, ◌<◌, Some, true, length, slice_get, IfOk};
+ghost use Rattle.std.specs.Prelude.{◌≡◌, ◌<◌, ◌≤◌, [], Some, false, true, length, slice_get, slice_set, nat_eq, OnOk, MatchOption};
 ghost use Rattle.scons_base.specs.declared.ids.NodeId.{NodeId};
-ghost use Rattle.task_plan.specs.Settled.{CanScan};
+ghost use Rattle.task_plan.specs.Settled.{CanScan, kept_of};
 ghost use Rattle.task_plan.specs.Plans.{Meets, Stays};
+ghost use Rattle.task_plan.specs.Loaded.{IsTaskOf};
+ghost use Rattle.task_plan.specs.Listed.{IsListing};
+ghost use Rattle.task_plan.specs.Admits.{Widens, Admits, Brings, IsBegun, are_rules, queues, none};
 
 use crate::files::{Files, Origin};
+use crate::naming::task_of;
 use crate::plan::Plan;
 use crate::reach::Reach;
 use crate::states::{RuleState, States};
 use crate::task::Task;
-use indexmap::IndexSet;
-use rule_graph::{Graph, Rule};
-use scons_base::{Listing, Memory, NodeId, RuleId};
-use std::alloc::Global;
-use world_api::Work;
+use rule_graph::Graph;
+use scons_base::{Memory, NodeId, RuleId};
 
 impl Plan {
     /// Makes room for the nodes and rules of the graph.
+    #[tactic(auto, using(crate::proofs::AdmitLemmas::scanning))]
     pub(crate) fn make_room(&mut self, graph: &Graph) -> Result<(), Memory>
-        ensures { Meets self.old self.new }
+        ensures meets { Meets self.old self.new }
+        ensures widens { Widens self.old self.new }
     {
         self.make_node_room(graph.len())?;
         for _added in self.tasks.len()..graph.rules() as usize {
@@ -36,19 +39,32 @@ impl Plan {
     }
 
     /// Makes room for one rule more.
+    #[tactic(auto, using(crate::proofs::AdmitLemmas::scanning))]
     fn add_task(&mut self) -> Result<(), Memory>
-        ensures { Meets self.old self.new }
+        ensures meets { Meets self.old self.new }
+        ensures widens { Widens self.old self.new }
     {
-        self.states.add()?;
-        self.push_task()
+        self.push_task()?;
+        self.add_state()
     }
 
     #[tactic(auto, using(crate::proofs::TrackLemmas::pushing))]
     fn push_task(&mut self) -> Result<(), Memory>
-        ensures { Stays self.old self.new }
+        ensures meets { Meets self.old self.new }
+        ensures widens { Widens self.old self.new }
+        ensures room { OnOk result (length self.new.states < length self.new.rules) }
     {
         self.tasks.push(Task::new(self.alloc))?;
         Ok(())
+    }
+
+    /// A rule that has room isn't needed.
+    fn add_state(&mut self) -> Result<(), Memory>
+        requires { length self.old.states < length self.old.rules }
+        ensures meets { Meets self.old self.new }
+        ensures widens { Widens self.old self.new }
+    {
+        self.states.add()
     }
 
     /// Makes room for marks of twice as many rules as there are, where it doesn't do for these.
@@ -58,21 +74,39 @@ impl Plan {
     {
         if self.tasks.len() > self.scannable.room() {
             let size = self.tasks.len().saturating_mul(2);
-            self.scannable = self.scannable.widened(self.alloc, size)?;
+            let marks = self.scannable.widened(self.alloc, size)?;
+            self.scannable = marks;
         }
         Ok(())
     }
 
     /// Meets the requested nodes.
+    #[tactic(auto, using(crate::proofs::AdmitLemmas::scanning))]
     pub(crate) fn meet_roots(&mut self, graph: &Graph, requested: &[NodeId]) -> Result<(), Memory>
-        ensures { Meets self.old self.new }
+        ensures meets { Meets self.old self.new }
+        ensures admits { OnOk result (Admits graph.now self.old self.new none []) }
     {
         let mut needed = Vec::new(self.alloc);
+        self.meet_requested(graph, requested, &mut needed)?;
+        self.admit(graph, needed)?;
+        Ok(())
+    }
+
+    #[tactic(auto, using(crate::proofs::AdmitLemmas::meeting))]
+    fn meet_requested(
+        &mut self,
+        graph: &Graph,
+        requested: &[NodeId],
+        needed: &mut Vec<RuleId>,
+    ) -> Result<(), Memory>
+        ensures meets { Meets self.old self.new }
+        ensures brings { OnOk result (Brings graph.now self.old self.new none needed.old.items needed.new.items) }
+    {
         for node in requested {
-            self.meet(graph, *node, &mut needed)?;
+            self.meet(graph, *node, needed)?;
             self.add_root(*node)?;
         }
-        self.admit(graph, needed)
+        Ok(())
     }
 
     fn add_root(&mut self, node: NodeId) -> Result<(), Memory>
@@ -85,25 +119,45 @@ impl Plan {
     }
 
     /// Meets a file. Its rule is put behind those that are needed, unless it stands there.
+    #[tactic(auto, using(crate::proofs::AdmitLemmas::meeting))]
     pub(crate) fn meet(
         &mut self,
         graph: &Graph,
         node: NodeId,
         needed: &mut Vec<RuleId>,
     ) -> Result<(), Memory>
-        ensures { Meets self.old self.new }
+        ensures meets { Meets self.old self.new }
+        ensures brings { OnOk result (Brings graph.now self.old self.new none needed.old.items needed.new.items) }
     {
         if self.files.origin(node) != Origin::Unmet {
             return Ok(());
         }
         match graph.rule_of(node) {
-            None => self.note_origin(node, Origin::Source),
             Some(rule) => {
                 self.note_origin(node, Origin::Made(rule));
-                if self.begins_need(rule) {
-                    needed.push(rule)?;
-                }
+                self.need_rule(graph, rule, needed)
             }
+            None => {
+                self.note_origin(node, Origin::Source);
+                Ok(())
+            }
+        }
+    }
+
+    /// A rule is needed. It is put behind those that are needed, unless it was.
+    #[tactic(auto, using(crate::proofs::AdmitLemmas::meeting))]
+    fn need_rule(
+        &mut self,
+        graph: &Graph,
+        rule: RuleId,
+        needed: &mut Vec<RuleId>,
+    ) -> Result<(), Memory>
+        requires { rule.0 < length graph.now.rules }
+        ensures meets { Meets self.old self.new }
+        ensures brings { OnOk result (Brings graph.now self.old self.new none needed.old.items needed.new.items) }
+    {
+        if self.begins_need(rule) {
+            needed.push(rule)?;
         }
         Ok(())
     }
@@ -113,14 +167,16 @@ impl Plan {
     fn note_origin(&mut self, node: NodeId, origin: Origin)
         ensures { Stays self.old self.new }
     {
-        if self.files.origin(node) == Origin::Unmet {
+        if self.files.is_unmet(node) {
             self.files.set_origin(node, origin);
         }
     }
 
     /// A rule is needed: whether it wasn't before.
     fn begins_need(&mut self, rule: RuleId) -> bool
-        ensures { Meets self.old self.new }
+        ensures meets { Meets self.old self.new }
+        ensures begun { result ≡ true → IsBegun self.old self.new rule.0 }
+        ensures same { result ≡ false → self.new ≡ self.old }
     {
         let begins = self.states.is_unneeded(rule);
         if begins {
@@ -129,34 +185,37 @@ impl Plan {
         begins
     }
 
-    /// Takes the needed rules in, with those that they need in turn.
+    /// Takes the needed rules in, with those that they need in turn. There are never as many as there are numbers.
     pub(crate) fn admit(&mut self, graph: &Graph, mut needed: Vec<RuleId>) -> Result<(), Memory>
-        ensures { Meets self.old self.new }
+        requires { are_rules graph.now needed.items ≡ true }
+        ensures meets { Meets self.old self.new }
+        ensures admits { OnOk result (Admits graph.now self.old self.new (queues needed.items) []) }
     {
-        for place in 0..self.tasks.len() {
-            let Some(rule) = needed.get(place).copied() else {
-                break;
+        for place in 0..usize::MAX {
+            let Some(rule) = rule_at(&needed, place) else {
+                return Ok(());
             };
             self.admit_one(graph, rule, &mut needed)?;
         }
-        Ok(())
+        Err(Memory)
     }
 
+    #[tactic(auto, using(crate::proofs::AdmitLemmas::admitting))]
     fn admit_one(
         &mut self,
         graph: &Graph,
         rule: RuleId,
         needed: &mut Vec<RuleId>,
     ) -> Result<(), Memory>
-        ensures { Meets self.old self.new }
+        requires { rule.0 < length graph.now.rules }
+        ensures meets { Meets self.old self.new }
+        ensures brings { OnOk result (Brings graph.now self.old self.new (nat_eq rule.0) needed.old.items needed.new.items) }
     {
-        if rule.0 < graph.rules() {
-            let task = task_of(self.alloc, graph, graph.rule(rule))?;
-            self.put_task(rule, task);
-            self.meet_needs(graph, rule, needed)?;
-            self.pass(rule);
-            self.find_ready(rule, 0);
-        }
+        let task = task_of(self.alloc, graph, graph.rule(rule))?;
+        self.put_task(rule, task);
+        self.meet_needs(graph, rule, needed)?;
+        self.pass(rule);
+        self.find_ready(rule, 0);
         Ok(())
     }
 
@@ -165,7 +224,11 @@ impl Plan {
     fn put_task(&mut self, rule: RuleId, task: Task)
         requires passed { task.passed ≡ 0 }
         requires whole { task.reach.whole ≡ 0 }
-        ensures { Stays self.old self.new }
+        requires listing { IsListing task }
+        ensures meets { Meets self.old self.new }
+        ensures states { self.new.states ≡ self.old.states }
+        ensures rules { self.new.rules ≡ slice_set self.old.rules rule.0 (kept_of task) }
+        ensures room { length self.old.states ≤ length self.old.rules }
     {
         let number = rule.0 as usize;
         if number < self.tasks.len() {
@@ -176,13 +239,15 @@ impl Plan {
     }
 
     /// Meets the files that a rule needs, and waits for those whose rule isn't settled.
+    #[tactic(auto, using(crate::proofs::AdmitLemmas::meeting))]
     fn meet_needs(
         &mut self,
         graph: &Graph,
         rule: RuleId,
         needed: &mut Vec<RuleId>,
     ) -> Result<(), Memory>
-        ensures { Meets self.old self.new }
+        ensures meets { Meets self.old self.new }
+        ensures brings { OnOk result (Brings graph.now self.old self.new none needed.old.items needed.new.items) }
     {
         let count = match self.tasks.get(rule.0 as usize) {
             Some(task) => task.needs(),
@@ -190,12 +255,28 @@ impl Plan {
         };
         for place in 0..count {
             let Some(node) = self.need(rule, place) else {
-                break;
+                return Ok(());
             };
-            self.meet(graph, node, needed)?;
-            if !self.is_ready(node) {
-                self.wait_for(node, rule)?;
-            }
+            self.meet_need(graph, node, rule, needed)?;
+        }
+        Ok(())
+    }
+
+    /// Meets a file that a rule needs, and waits for it where its rule isn't settled.
+    #[tactic(auto, using(crate::proofs::AdmitLemmas::meeting))]
+    fn meet_need(
+        &mut self,
+        graph: &Graph,
+        node: NodeId,
+        rule: RuleId,
+        needed: &mut Vec<RuleId>,
+    ) -> Result<(), Memory>
+        ensures meets { Meets self.old self.new }
+        ensures brings { OnOk result (Brings graph.now self.old self.new none needed.old.items needed.new.items) }
+    {
+        self.meet(graph, node, needed)?;
+        if !self.is_ready(node) {
+            self.wait_for(node, rule)?;
         }
         Ok(())
     }
@@ -244,6 +325,13 @@ impl Plan {
     }
 }
 
+/// The rule at this place.
+fn rule_at(rules: &Vec<RuleId>, place: usize) -> Option<RuleId>
+    ensures { result ≡ slice_get rules.now.items place }
+{
+    rules.get(place).copied()
+}
+
 /// Whether a file of a rule stands at this place.
 fn is_place(reach: &Reach, place: usize) -> bool
     ensures { result ≡ true → place < length reach.now.files.keys }
@@ -273,95 +361,4 @@ fn can_scan(reach: &Reach, files: &Files, states: &States, place: usize) -> bool
         Some(node) => !reach.has_scanned(*node) && files.is_done(states, *node),
         None => false,
     }
-}
-
-/// What a rule names.
-fn task_of(alloc: Global, graph: &Graph, rule: &Rule) -> Result<Task, Memory>
-    ensures passed { IfOk result (λ task. task.passed ≡ 0) }
-    ensures whole { IfOk result (λ task. task.reach.whole ≡ 0) }
-{
-    let mut task = Task::new(alloc);
-    load(&mut task, graph, rule)?;
-    Ok(task)
-}
-
-fn load(task: &mut Task, graph: &Graph, rule: &Rule) -> Result<(), Memory>
-    ensures passed { task.new.passed ≡ task.old.passed }
-    ensures whole { task.new.reach.whole ≡ task.old.reach.whole }
-{
-    task.targets.extend_from_slice(rule.targets.as_slice())?;
-    task.required.extend_from_slice(rule.required.as_slice())?;
-    exclude(&mut task.reach.excluded, &rule.ignored)?;
-    load_deps(task, graph, rule)?;
-    if rule.scans {
-        exclude(&mut task.reach.excluded, &rule.targets)?;
-    }
-    Ok(())
-}
-
-fn load_deps(task: &mut Task, graph: &Graph, rule: &Rule) -> Result<(), Memory>
-    ensures passed { task.new.passed ≡ task.old.passed }
-    ensures whole { task.new.reach.whole ≡ task.old.reach.whole }
-{
-    load_sources(task, graph, rule)?;
-    add_named(task, &rule.depends)?;
-    add_named(task, &rule.libs)?;
-    task.named = task.deps.len();
-    Ok(())
-}
-
-/// Notes the sources of a rule, and which of them are scanned. One that is ignored counts for the shell alone.
-fn load_sources(task: &mut Task, graph: &Graph, rule: &Rule) -> Result<(), Memory>
-    ensures passed { task.new.passed ≡ task.old.passed }
-    ensures whole { task.new.reach.whole ≡ task.old.reach.whole }
-{
-    for node in rule.sources.as_slice() {
-        if rule.work == Work::Shell && task.reach.excluded.contains(node) {
-            continue;
-        }
-        let _ = task.deps.insert(*node)?;
-        if rule.scans && node.0 < graph.len() && is_scanned(graph.path(*node).suffix()) {
-            task.reach.add_source(*node)?;
-        }
-    }
-    Ok(())
-}
-
-/// Notes dependencies that a rule names, less the ignored ones.
-fn add_named(task: &mut Task, nodes: &Listing<NodeId>) -> Result<(), Memory>
-    ensures passed { task.new.passed ≡ task.old.passed }
-    ensures whole { task.new.reach.whole ≡ task.old.reach.whole }
-{
-    for node in nodes.as_slice() {
-        if !task.reach.excluded.contains(node) {
-            let _ = task.deps.insert(*node)?;
-        }
-    }
-    Ok(())
-}
-
-fn exclude(excluded: &mut IndexSet<NodeId>, nodes: &Listing<NodeId>) -> Result<(), Memory> {
-    for node in nodes.as_slice() {
-        let _ = excluded.insert(*node)?;
-    }
-    Ok(())
-}
-
-/// Whether a source with this suffix is scanned.
-fn is_scanned(suffix: &str) -> bool {
-    matches!(
-        suffix,
-        ".c" | ".C"
-            | ".cc"
-            | ".cpp"
-            | ".cxx"
-            | ".h"
-            | ".H"
-            | ".hh"
-            | ".hpp"
-            | ".hxx"
-            | ".m"
-            | ".mm"
-            | ".S"
-    )
 }

@@ -1,12 +1,13 @@
 //! The plan of a build.
 
-ghost use Rattle.std.specs.Prelude.{◌≡◌, ◌<◌, ◌||◌, [], ℕ, false, true, IfOk, IfSome, if◌then◌else◌, nat_lt, is_err};
+ghost use Rattle.std.specs.Prelude.{◌≡◌, ◌≢◌, ◌<◌, ◌||◌, [], ℕ, false, true, IfOk, OnOk, IfSome, if◌then◌else◌, nat_lt, is_err};
 ghost use Rattle.std.specs.List.{count_by};
 ghost use Rattle.scons_base.specs.declared.ids.RuleId.{RuleId};
 ghost use Rattle.scons_base.specs.declared.ids.NodeId.{NodeId};
-ghost use Rattle.task_plan.specs.States.{is_running};
+ghost use Rattle.task_plan.specs.States.{is_running, state_of};
 ghost use Rattle.task_plan.specs.Settled.{deps_of};
-ghost use Rattle.task_plan.specs.Plans.{AreMet, IsDecidedNext, IsScannedNext, IsReadyToScan, IsIdle, Goes, GoesOn, is_scan, is_halt};
+ghost use Rattle.task_plan.specs.Plans.{AreMet, Meets, IsDecidedNext, IsScannedNext, IsReadyToScan, IsIdle, Goes, GoesOn, is_scan, is_halt};
+ghost use Rattle.task_plan.specs.Admits.{Admits, Fits, AllFollow, IsFirstAt, Knows, none};
 
 use crate::cycles::cycle_of;
 use crate::files::Files;
@@ -44,7 +45,7 @@ impl Model for Plan {
     ghost use Rattle.std.specs.Prelude.{map};
     ghost use Rattle.task_plan.specs.Tracked.{AreTracked};
     ghost use Rattle.task_plan.specs.Plans.{Planned};
-    ghost use Rattle.task_plan.specs.Settled.{kept_of};
+    ghost use Rattle.task_plan.specs.Settled.{kept_of, next_of};
 
     ghost Value = { Planned };
 
@@ -54,6 +55,8 @@ impl Model for Plan {
       halted = p.halted;
       rules = map kept_of p.tasks.items;
       origins = p.files.origins.items;
+      marks = p.scannable;
+      nexts = map next_of p.tasks.items;
     } };
 
     ghost invariant = { λ p. AreTracked p.states p.queue p.tasks.items p.files.origins.items p.scannable };
@@ -64,8 +67,24 @@ impl Plan {
     pub fn new(alloc: Global, graph: &Graph, requested: &[NodeId]) -> Result<Plan, Memory>
         ensures states { IfOk result (λ plan. AreMet [] plan.states) }
         ensures halted { IfOk result (λ plan. plan.halted ≡ false) }
+        ensures knows { IfOk result (λ plan. (rule : ℕ) → state_of plan.states rule ≢ RuleState.Unneeded
+            → IsFirstAt graph.now plan.rules rule) }
+        ensures fits { IfOk result (λ plan. Fits graph.now plan) }
+        ensures follow { IfOk result AllFollow }
     {
-        let mut plan = Plan {
+        let mut plan = Plan::empty(alloc)?;
+        plan.begin(graph, requested)?;
+        plan.follows();
+        Ok(plan)
+    }
+
+    /// A plan that knows of nothing.
+    #[tactic(auto, using(crate::proofs::TrackLemmas::tracked_nothing))]
+    fn empty(alloc: Global) -> Result<Plan, Memory>
+        ensures states { IfOk result (λ plan. plan.states ≡ []) }
+        ensures halted { IfOk result (λ plan. plan.halted ≡ false) }
+    {
+        Ok(Plan {
             states: States::new(alloc),
             queue: Queue::new(alloc, 0, Vec::new(alloc))?,
             is_ordered: false,
@@ -75,11 +94,27 @@ impl Plan {
             scannable: Marks::new(alloc, 0)?,
             halted: false,
             alloc,
-        };
-        plan.make_room(graph)?;
-        plan.meet_roots(graph, requested)?;
-        plan.put_in_order()?;
-        Ok(plan)
+        })
+    }
+
+    /// Meets what is requested, and takes in what it needs.
+    #[tactic(auto, using(crate::proofs::AdmitLemmas::beginning))]
+    fn begin(&mut self, graph: &Graph, requested: &[NodeId]) -> Result<(), Memory>
+        ensures meets { Meets self.old self.new }
+        ensures admits { OnOk result (Admits graph.now self.old self.new none []) }
+    {
+        self.make_room(graph)?;
+        self.meet_roots(graph, requested)?;
+        self.put_in_order()?;
+        Ok(())
+    }
+
+    /// The lists of each rule follow from its scans, at all times.
+    fn follows(&self)
+        ensures { AllFollow self.now }
+    {
+        // What the plan keeps is known of its fields alone.
+        let _halted = self.halted;
     }
 
     /// What is to be done next.
@@ -140,16 +175,22 @@ impl Plan {
         ensures onward { GoesOn self.old.states self.new.states }
         ensures halted { self.new.halted ≡ (self.old.halted || (is_halt event || is_err result)) }
         ensures memory { is_scan event ≡ false → is_err result ≡ false }
+        ensures knows { OnOk result (Knows graph.now self.old event self.new) }
+        ensures fits { OnOk result (Fits graph.now self.old → Fits graph.now self.new) }
+        ensures follow { AllFollow self.new }
     {
         // What the plan keeps is known of its fields alone.
         let _halted = self.halted;
-        self.take(graph, event)
+        let taken = self.take(graph, event);
+        self.follows();
+        taken
     }
 
     fn take(&mut self, graph: &Graph, event: PlanEvent) -> Result<(), Memory>
         ensures states { Goes self.old event self.new.states }
         ensures halted { self.new.halted ≡ (self.old.halted || (is_halt event || is_err result)) }
         ensures memory { is_scan event ≡ false → is_err result ≡ false }
+        ensures knows { OnOk result (Knows graph.now self.old event self.new) }
     {
         match event {
             PlanEvent::Scanned(rule, found) => return self.take_scan(graph, rule, found.into_vec()),

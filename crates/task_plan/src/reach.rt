@@ -1,10 +1,13 @@
 //! The files that a rule scans, breadth first.
-ghost use Rattle.std.specs.Prelude.{◌≡◌, ◌≤◌, ◌++◌, List, true, length};
+ghost use Rattle.std.specs.Prelude.{◌≡◌, ◌≤◌, ◌<◌, ◌+◌, ◌++◌, List, false, true, length, slice_get, take, drop, OnOk, IfOk, IfSome, is_some, if◌then◌else◌};
 ghost use Rattle.scons_base.specs.declared.ids.NodeId.{NodeId};
+ghost use Rattle.task_plan.specs.Named.{put_all as put_all_of};
 ghost use Rattle.task_plan.specs.Settled.{is_scanned as is_scanned_of, IsScannedAt, AreScannedIn, IsLonger};
+ghost use Rattle.task_plan.specs.Loaded.{IsBlankReach};
+ghost use Rattle.task_plan.specs.Listed.{found_of, with_found, sources_in, included as included_by, IsNext, IsAppended, IsReachTo, AreAhead, AreAheadTo, IsWalked, IsWalking, IsSameReach};
 
+use crate::sets::put_all;
 use indexmap::{IndexMap, IndexSet};
-use scons_base::limits::NODE_LIMIT;
 use scons_base::{Memory, NodeId};
 use std::alloc::Global;
 
@@ -39,7 +42,7 @@ pub(crate) struct Growth {
 
 impl Reach {
     pub(crate) fn new(alloc: Global) -> Reach
-        ensures { result.whole ≡ 0 }
+        ensures { IsBlankReach result }
     {
         Reach {
             files: IndexSet::new(alloc),
@@ -78,43 +81,102 @@ impl Reach {
         }
     }
 
-    /// Adds a source that is scanned.
-    pub(crate) fn add_source(&mut self, node: NodeId) -> Result<(), Memory>
-        ensures { self.new.whole ≡ self.old.whole }
+    /// Notes what a file includes, and gives the files that are new among these. The files are listed anew unless they
+    /// were listed, and this one stands behind all that were scanned.
+    pub(crate) fn scanned(
+        &mut self,
+        node: NodeId,
+        included: Vec<NodeId>,
+        is_listed: bool,
+    ) -> Result<Growth, Memory>
+        requires listed { is_listed ≡ true → IsWalked self.old }
+        requires sources { self.old.sources ≤ length self.old.files.keys }
+        requires whole { AreScannedIn self.old.found.entries self.old.files.keys self.old.whole }
+        ensures same { IsSameReach self.old self.new }
+        ensures whole { AreScannedIn self.new.found.entries self.new.files.keys self.new.whole }
+        ensures found { OnOk result (found_of self.new ≡ with_found (found_of self.old) node included.items) }
+        ensures walked { OnOk result (IsWalked self.new) }
+        ensures growth { IfOk result (λ g. g.in_order ≡ true →
+            (is_listed ≡ true) × (self.new.files.keys ≡ self.old.files.keys ++ g.new.items)) }
     {
-        let _ = self.files.insert(node)?;
-        self.sources = self.files.len();
-        Ok(())
-    }
-
-    /// Notes what a file includes, and gives the files that are new among these.
-    #[tactic(auto, using(crate::proofs::ListLemmas::scanned_steps))]
-    pub(crate) fn scanned(&mut self, node: NodeId, included: Vec<NodeId>) -> Result<Growth, Memory>
-        requires { AreScannedIn self.old.found.entries self.old.files.keys self.old.whole }
-        ensures { AreScannedIn self.new.found.entries self.new.files.keys self.new.whole }
-    {
-        let place = self.files.get_index_of(&node).unwrap_or(0);
-        let in_order = place >= self.front;
+        let next = self.next_ahead(node, is_listed);
         let before = self.files.len();
-        append(&mut self.files, &self.excluded, included.as_slice())?;
-        let new = files_from(self.alloc, &self.files, before)?;
+        let new = self.append(included.as_slice())?;
         let _ = self.found.insert(node, included)?;
-        self.go_on(place)?;
+        let in_order = self.go_on(next, before)?;
         self.note_whole();
         Ok(Growth { new, in_order })
     }
 
-    /// The file at this place was scanned: where that isn't behind all that were, what is found before comes first now.
-    #[tactic(auto, using(crate::proofs::ListLemmas::scanned_none))]
-    fn go_on(&mut self, place: usize) -> Result<(), Memory>
-        requires { AreScannedIn self.old.found.entries self.old.files.keys self.old.whole }
-        ensures { AreScannedIn self.new.found.entries self.new.files.keys self.new.whole }
+    /// The place behind a file, where the files were listed and that stands behind all that were scanned.
+    fn next_ahead(&self, node: NodeId, is_listed: bool) -> Option<usize>
+        ensures { IfSome result (λ next. (is_listed ≡ true) × IsNext self.now node next) }
     {
-        if place >= self.front {
-            self.front = place.saturating_add(1);
-            Ok(())
-        } else {
-            self.walk_again()
+        match self.files.get_index_of(&node) {
+            Some(place) if is_listed && place >= self.front && place < self.files.len() => Some(
+                place + 1,
+            ),
+            _ => None,
+        }
+    }
+
+    /// Puts those files behind that aren't there and aren't left out, and gives them.
+    fn append(&mut self, included: &[NodeId]) -> Result<Vec<NodeId>, Memory>
+        ensures rest { self.new ≡ record self.old { files = self.new.files } }
+        ensures longer { IsLonger self.old.files.keys self.new.files.keys }
+        ensures files { OnOk result (self.new.files.keys
+            ≡ put_all_of self.old.excluded.keys self.old.files.keys included.now) }
+        ensures new { IfOk result (λ new. self.new.files.keys ≡ self.old.files.keys ++ new.items) }
+    {
+        let before = self.files.len();
+        put_all(&mut self.files, &self.excluded, included)?;
+        files_from(self.alloc, &self.files, before)
+    }
+
+    /// A file was scanned, behind which this place is: where that isn't behind all that were, the files are listed anew.
+    fn go_on(&mut self, next: Option<usize>, before: usize) -> Result<bool, Memory>
+        requires next { IfSome next (λ next. IsAppended self.old next before) }
+        requires sources { self.old.sources ≤ length self.old.files.keys }
+        requires whole { AreScannedIn self.old.found.entries self.old.files.keys self.old.whole }
+        ensures same { IsSameReach self.old self.new }
+        ensures found { self.new.found ≡ self.old.found }
+        ensures whole { AreScannedIn self.new.found.entries self.new.files.keys self.new.whole }
+        ensures walked { OnOk result (IsWalked self.new) }
+        ensures in_order { IfOk result (λ in_order. in_order ≡ true →
+            (self.new.files ≡ self.old.files) × (is_some next ≡ true)) }
+    {
+        match next {
+            Some(next) if self.is_ahead(before) => {
+                self.front = next;
+                Ok(true)
+            }
+            _ => {
+                self.walk_again()?;
+                Ok(false)
+            }
+        }
+    }
+
+    /// Whether no file from this place on was scanned.
+    fn is_ahead(&self, front: usize) -> bool
+        ensures { result ≡ true → AreAhead self.now.found.entries self.now.files.keys front }
+    {
+        for place in front..self.files.len() {
+            if !self.is_unscanned_at(place) {
+                return false;
+            }
+        }
+        true
+    }
+
+    /// Whether there is no file at this place that was scanned.
+    fn is_unscanned_at(&self, place: usize) -> bool
+        ensures { result ≡ true → (file : NodeId) → slice_get self.now.files.keys place ≡ Some file
+            → is_scanned_of self.now.found.entries file ≡ false }
+    {
+        match self.files.get_index(place) {
+            Some(node) => !self.has_scanned(*node),
+            None => true,
         }
     }
 
@@ -122,8 +184,7 @@ impl Reach {
     #[tactic(auto, using(crate::proofs::ListLemmas::scanned_more))]
     fn note_whole(&mut self)
         requires { AreScannedIn self.old.found.entries self.old.files.keys self.old.whole }
-        ensures files { self.new.files ≡ self.old.files }
-        ensures found { self.new.found ≡ self.old.found }
+        ensures rest { self.new ≡ record self.old { whole = self.new.whole } }
         ensures whole { AreScannedIn self.new.found.entries self.new.files.keys self.new.whole }
     {
         while self.whole < self.files.len() && self.has_scanned_at(self.whole) {
@@ -133,55 +194,57 @@ impl Reach {
 
     /// Lists the files anew, from the sources on.
     fn walk_again(&mut self) -> Result<(), Memory>
+        requires { self.old.sources ≤ length self.old.files.keys }
+        ensures same { IsSameReach self.old self.new }
         ensures found { self.new.found ≡ self.old.found }
         ensures whole { self.new.whole ≡ 0 }
+        ensures walked { OnOk result (IsWalked self.new) }
     {
         self.whole = 0;
-        let mut files = IndexSet::new(self.alloc);
-        for node in self.files.as_slice().iter().take(self.sources) {
-            let _ = files.insert(*node)?;
-        }
-        self.front = 0;
-        for place in 0..NODE_LIMIT as usize {
-            let Some(node) = files.get_index(place).copied() else {
-                break;
-            };
-            if let Some(included) = self.found.get(&node) {
-                append(&mut files, &self.excluded, included.as_slice())?;
-                self.front = place.saturating_add(1);
-            }
-        }
-        self.files = files;
         self.next = 0;
+        self.front = 0;
+        self.files.truncate(self.sources);
+        self.walk()
+    }
+
+    /// Lists what the files include, from the first on. There are never as many files as there are numbers.
+    fn walk(&mut self) -> Result<(), Memory>
+        requires walking { IsWalking self.old 0 }
+        requires sources { self.old.sources ≤ length self.old.files.keys }
+        ensures rest { self.new ≡ record self.old { files = self.new.files; front = self.new.front } }
+        ensures longer { IsLonger self.old.files.keys self.new.files.keys }
+        ensures walked { OnOk result (IsWalked self.new) }
+    {
+        for place in 0..usize::MAX {
+            let Some(node) = self.files.get_index(place).copied() else {
+                return Ok(());
+            };
+            self.include(node, place + 1)?;
+        }
+        Err(Memory)
+    }
+
+    /// Lists what a file before this place includes.
+    fn include(&mut self, node: NodeId, next: usize) -> Result<(), Memory>
+        ensures rest { self.new ≡ record self.old { files = self.new.files; front = self.new.front } }
+        ensures longer { IsLonger self.old.files.keys self.new.files.keys }
+        ensures files { OnOk result (self.new.files.keys ≡ put_all_of self.old.excluded.keys
+            self.old.files.keys (included_by (found_of self.old) node)) }
+        ensures front { OnOk result (self.new.front
+            ≡ (if is_scanned_of self.old.found.entries node then next else self.old.front)) }
+    {
+        if let Some(included) = self.found.get(&node) {
+            put_all(&mut self.files, &self.excluded, included.as_slice())?;
+            self.front = next;
+        }
         Ok(())
     }
 }
 
 /// The files from this place on.
-fn files_from(
-    alloc: Global,
-    files: &IndexSet<NodeId>,
-    place: usize,
-) -> Result<Vec<NodeId>, Memory> {
-    match files.get_range(place..) {
-        Some(files) => Ok(Vec::from_slice(alloc, files)?),
-        None => Ok(Vec::new(alloc)),
-    }
-}
-
-/// Puts those files behind that aren't there and aren't excluded.
-#[tactic(auto, using(crate::proofs::ListLemmas::longer_steps))]
-fn append(
-    files: &mut IndexSet<NodeId>,
-    excluded: &IndexSet<NodeId>,
-    included: &[NodeId],
-) -> Result<(), Memory>
-    ensures { IsLonger files.old.keys files.new.keys }
+fn files_from(alloc: Global, files: &IndexSet<NodeId>, place: usize) -> Result<Vec<NodeId>, Memory>
+    requires { place ≤ length files.now.keys }
+    ensures { IfOk result (λ new. new.items ≡ drop place files.now.keys) }
 {
-    for node in included {
-        if !excluded.contains(node) {
-            let _ = files.insert(*node)?;
-        }
-    }
-    Ok(())
+    Ok(Vec::from_slice(alloc, &files.as_slice()[place..])?)
 }

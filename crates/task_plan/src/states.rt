@@ -1,5 +1,5 @@
 //! How far the rules are, and how many run.
-ghost use Rattle.std.specs.Prelude.{◌≡◌, ◌++◌, ◌∷◌, ◌<◌, ◌+◌, ◌^◌, [], if◌then◌else◌, OnOk, OnErr, true, length, slice_set};
+ghost use Rattle.std.specs.Prelude.{◌≡◌, ◌++◌, ◌∷◌, ◌<◌, ◌≤◌, ◌+◌, ◌^◌, [], ℕ, if◌then◌else◌, OnOk, OnErr, true, length, slice_set};
 ghost use Rattle.std.specs.List.{count_by};
 ghost use Rattle.task_plan.specs.States.{state_of, is_running};
 ghost use Rattle.task_plan.specs.Plans.{AreMet};
@@ -61,10 +61,13 @@ impl States {
     }
 
     /// Adds a rule that isn't needed.
+    #[tactic(auto, using(crate::proofs::PlanLemmas::add_none))]
     pub(crate) fn add(&mut self) -> Result<(), Memory>
         ensures ok { OnOk result (self.new ≡ self.old ++ RuleState.Unneeded ∷ []) }
         ensures err { OnErr result (self.new ≡ self.old) }
         ensures meets { AreMet self.old self.new }
+        ensures len { length self.new ≤ length self.old + 1 }
+        ensures same { (rule : ℕ) → state_of self.new rule ≡ state_of self.old rule }
     {
         self.states.push(RuleState::Unneeded)?;
         Ok(())

@@ -1,7 +1,8 @@
 //! What the events change.
 
-ghost use Rattle.std.specs.Prelude.{◌≡◌, ◌||◌, is_err, slice_set};
+ghost use Rattle.std.specs.Prelude.{◌≡◌, ◌||◌, is_err, slice_set, OnOk, IfOk, MatchOption, []};
 ghost use Rattle.task_plan.specs.Plans.{AreMet, Meets, Stays, GoesNow, decided as decided_of, ended};
+ghost use Rattle.task_plan.specs.Admits.{Admits, Brings, NotesFile, NotesNone, Scans, none};
 
 use crate::order::depth_first;
 use crate::plan::Plan;
@@ -21,21 +22,32 @@ impl Plan {
     ) -> Result<(), Memory>
         ensures states { AreMet self.old.states self.new.states }
         ensures halted { self.new.halted ≡ (self.old.halted || is_err result) }
+        ensures scans { OnOk result (Scans graph.now self.old rule.0 found.items self.new) }
     {
         if !self.scannable.contains(rule.0 as usize) {
             return Ok(());
         }
         let taken = self.scanned(graph, rule, found);
-        if taken.is_err() {
+        self.halt_where(taken.is_err());
+        taken
+    }
+
+    /// Nothing further is done where this is so.
+    fn halt_where(&mut self, fails: bool)
+        ensures states { self.new.states ≡ self.old.states }
+        ensures halted { self.new.halted ≡ (self.old.halted || fails) }
+        ensures rules { self.new.rules ≡ self.old.rules }
+    {
+        if fails {
             self.halted = true;
         }
-        taken
     }
 
     /// A rule that could be decided is fresh.
     pub(crate) fn take_fresh(&mut self, rule: RuleId)
         ensures states { self.new.states ≡ decided_of self.old rule.0 RuleState.Settled }
         ensures halted { self.new.halted ≡ self.old.halted }
+        ensures rules { self.new.rules ≡ self.old.rules }
     {
         if self.queue.is_open(rule) {
             self.settle(rule);
@@ -46,6 +58,7 @@ impl Plan {
     pub(crate) fn take_decision(&mut self, rule: RuleId, state: RuleState)
         ensures states { self.new.states ≡ decided_of self.old rule.0 state }
         ensures halted { self.new.halted ≡ self.old.halted }
+        ensures rules { self.new.rules ≡ self.old.rules }
     {
         if self.queue.is_open(rule) {
             self.decided(rule, state);
@@ -56,6 +69,7 @@ impl Plan {
     pub(crate) fn take_done(&mut self, rule: RuleId)
         ensures states { self.new.states ≡ ended self.old rule.0 RuleState.Settled }
         ensures halted { self.new.halted ≡ self.old.halted }
+        ensures rules { self.new.rules ≡ self.old.rules }
     {
         if self.states.of(rule) == RuleState::Running {
             self.settle(rule);
@@ -66,6 +80,7 @@ impl Plan {
     pub(crate) fn take_failed(&mut self, rule: RuleId)
         ensures states { self.new.states ≡ ended self.old rule.0 RuleState.Failed }
         ensures halted { self.new.halted ≡ self.old.halted }
+        ensures rules { self.new.rules ≡ self.old.rules }
     {
         if self.states.of(rule) == RuleState::Running {
             self.decided(rule, RuleState::Failed);
@@ -73,18 +88,37 @@ impl Plan {
     }
 
     /// Notes what the file whose scan is wanted includes.
-    pub(crate) fn scanned(
+    fn scanned(&mut self, graph: &Graph, rule: RuleId, found: Vec<NodeId>) -> Result<(), Memory>
+        ensures meets { Meets self.old self.new }
+        ensures scans { OnOk result (Scans graph.now self.old rule.0 found.items self.new) }
+    {
+        let noted = self.note_found(rule, found)?;
+        self.take_noted(graph, rule, &noted)?;
+        self.look_on(rule)?;
+        Ok(())
+    }
+
+    /// Takes in what was noted, where something was.
+    fn take_noted(
         &mut self,
         graph: &Graph,
         rule: RuleId,
-        found: Vec<NodeId>,
+        noted: &Option<Growth>,
     ) -> Result<(), Memory>
-        ensures { Meets self.old self.new }
+        ensures meets { Meets self.old self.new }
+        ensures admits { OnOk result (MatchOption noted.now (self.new ≡ self.old)
+            (λ _. Admits graph.now self.old self.new none [])) }
     {
-        self.make_room(graph)?;
-        if let Some(growth) = self.note_found(rule, found)? {
-            self.meet_found(graph, rule, &growth)?;
+        match noted {
+            Some(growth) => self.take_growth(graph, rule, growth),
+            None => Ok(()),
         }
+    }
+
+    /// Sees to the order, and whether a rule can be decided.
+    fn look_on(&mut self, rule: RuleId) -> Result<(), Memory>
+        ensures { Stays self.old self.new }
+    {
         self.put_in_order()?;
         self.note_decidable(rule);
         Ok(())
@@ -92,7 +126,10 @@ impl Plan {
 
     /// Notes what the next file of a rule includes, where that one can be scanned.
     fn note_found(&mut self, rule: RuleId, found: Vec<NodeId>) -> Result<Option<Growth>, Memory>
-        ensures { Stays self.old self.new }
+        ensures meets { Meets self.old self.new }
+        ensures states { self.new.states ≡ self.old.states }
+        ensures notes { IfOk result (λ growth. MatchOption growth (NotesNone self.old self.new rule.0)
+            (λ _. NotesFile self.old self.new rule.0 found.items)) }
     {
         let number = rule.0 as usize;
         if !self.scannable.contains(number) {
@@ -101,8 +138,7 @@ impl Plan {
         if number >= self.tasks.len() {
             return Ok(None);
         }
-        let next = self.tasks[number].reach.next;
-        match self.tasks[number].reach.files.get_index(next).copied() {
+        match self.tasks[number].next_file() {
             Some(node) => {
                 self.scannable.put(number, false);
                 Ok(Some(self.tasks[number].take(node, found)?))
@@ -111,24 +147,68 @@ impl Plan {
         }
     }
 
-    /// Meets what a scan of a rule's file has found.
-    fn meet_found(&mut self, graph: &Graph, rule: RuleId, growth: &Growth) -> Result<(), Memory>
-        ensures { Meets self.old self.new }
+    /// Takes in what a scan of a rule's file has found.
+    #[tactic(auto, using(crate::proofs::AdmitLemmas::scanning))]
+    fn take_growth(&mut self, graph: &Graph, rule: RuleId, growth: &Growth) -> Result<(), Memory>
+        ensures meets { Meets self.old self.new }
+        ensures admits { OnOk result (Admits graph.now self.old self.new none []) }
     {
+        self.make_room(graph)?;
         let mut needed = Vec::new(self.alloc);
-        for node in &growth.new {
-            if self.is_found(rule, *node) {
-                self.meet(graph, *node, &mut needed)?;
-                self.need_also(rule, *node)?;
-            }
-        }
+        self.meet_found(graph, rule, growth, &mut needed)?;
         self.pass(rule);
         let start = self.scan_start(rule);
         self.find_ready(rule, start);
+        self.note_growth(rule, growth);
+        self.admit(graph, needed)?;
+        Ok(())
+    }
+
+    /// Meets what a scan of a rule's file has found.
+    #[tactic(auto, using(crate::proofs::AdmitLemmas::meeting))]
+    fn meet_found(
+        &mut self,
+        graph: &Graph,
+        rule: RuleId,
+        growth: &Growth,
+        needed: &mut Vec<RuleId>,
+    ) -> Result<(), Memory>
+        ensures meets { Meets self.old self.new }
+        ensures brings { OnOk result (Brings graph.now self.old self.new none needed.old.items needed.new.items) }
+    {
+        for node in &growth.new {
+            self.meet_one_found(graph, rule, *node, needed)?;
+        }
+        Ok(())
+    }
+
+    /// Meets a file that came by a scan alone.
+    #[tactic(auto, using(crate::proofs::AdmitLemmas::meeting))]
+    fn meet_one_found(
+        &mut self,
+        graph: &Graph,
+        rule: RuleId,
+        node: NodeId,
+        needed: &mut Vec<RuleId>,
+    ) -> Result<(), Memory>
+        ensures meets { Meets self.old self.new }
+        ensures brings { OnOk result (Brings graph.now self.old self.new none needed.old.items needed.new.items) }
+    {
+        if !self.is_found(rule, node) {
+            return Ok(());
+        }
+        self.meet(graph, node, needed)?;
+        self.need_also(rule, node)?;
+        Ok(())
+    }
+
+    /// Where a rule has needs that aren't settled, and a file stands before others now, the order may not fit.
+    fn note_growth(&mut self, rule: RuleId, growth: &Growth)
+        ensures { self.new ≡ self.old }
+    {
         if !growth.in_order && self.has_unsettled(rule) {
             self.is_ordered = false;
         }
-        self.admit(graph, needed)
     }
 
     /// The place from which on a file of a rule may be one to be scanned.
@@ -174,6 +254,7 @@ impl Plan {
         requires { GoesNow self.old rule.0 }
         ensures states { self.new.states ≡ slice_set self.old.states rule.0 state }
         ensures halted { self.new.halted ≡ self.old.halted }
+        ensures rules { self.new.rules ≡ self.old.rules }
     {
         self.queue.put(rule, false);
         self.states.set(rule, state);
@@ -184,6 +265,7 @@ impl Plan {
         requires { GoesNow self.old rule.0 }
         ensures states { self.new.states ≡ slice_set self.old.states rule.0 RuleState.Settled }
         ensures halted { self.new.halted ≡ self.old.halted }
+        ensures rules { self.new.rules ≡ self.old.rules }
     {
         self.decided(rule, RuleState::Settled);
         for place in 0..self.target_count(rule) {

@@ -1,9 +1,12 @@
 //! What the plan keeps of a rule.
-ghost use Rattle.std.specs.Prelude.{◌≡◌, ◌≤◌, true, length, slice_get, IfOk};
-ghost use Rattle.task_plan.specs.Settled.{needs_of, AreDoneTo, AreScannedTo, IsDoneAt, KeepsNeeds, IsThrough, IsLonger};
+ghost use Rattle.std.specs.Prelude.{◌≡◌, ◌≤◌, true, length, slice_get, IfOk, OnOk};
+ghost use Rattle.task_plan.specs.Settled.{needs_of, next_of, AreDoneTo, AreScannedTo, IsDoneAt, KeepsNeeds, IsThrough};
+ghost use Rattle.task_plan.specs.Loaded.{IsBlank};
+ghost use Rattle.task_plan.specs.Listed.{AreDeps, IsGrown, IsListing, KeepsNamed, KeepsNames, Takes};
 
 use crate::files::Files;
 use crate::reach::{Growth, Reach};
+use crate::sets::add_all;
 use crate::states::States;
 use indexmap::IndexSet;
 use scons_base::{Memory, NodeId};
@@ -19,14 +22,15 @@ pub(crate) struct Task {
     /// How many of the dependencies the rule itself names.
     pub(crate) named: usize,
     pub(crate) reach: Reach,
+    /// Whether its files and dependencies are those that follow from the scans. They aren't where memory was wanting.
+    pub(crate) is_listed: bool,
     /// The needs before this place are done.
     pub(crate) passed: usize,
 }
 
 impl Task {
     pub(crate) fn new(alloc: Global) -> Task
-        ensures passed { result.passed ≡ 0 }
-        ensures whole { result.reach.whole ≡ 0 }
+        ensures { IsBlank result }
     {
         Task {
             targets: Vec::new(alloc),
@@ -34,6 +38,7 @@ impl Task {
             deps: IndexSet::new(alloc),
             named: 0,
             reach: Reach::new(alloc),
+            is_listed: true,
             passed: 0,
         }
     }
@@ -64,6 +69,13 @@ impl Task {
         }
     }
 
+    /// The file that is looked at next.
+    pub(crate) fn next_file(&self) -> Option<NodeId>
+        ensures { result ≡ next_of self.now }
+    {
+        self.reach.files.get_index(self.reach.next).copied()
+    }
+
     /// The place of the first need that isn't done, from where the rule stands on.
     #[tactic(auto, using(crate::proofs::NeedLemmas::done_more))]
     pub(crate) fn first_undone(&self, files: &Files, states: &States) -> usize
@@ -92,20 +104,31 @@ impl Task {
     pub(crate) fn take(&mut self, node: NodeId, found: Vec<NodeId>) -> Result<Growth, Memory>
         requires scanned { AreScannedTo self.old self.old.reach.whole }
         requires within { self.old.passed ≤ length (needs_of self.old) }
+        requires listing { IsListing self.old }
         ensures scanned { AreScannedTo self.new self.new.reach.whole }
         ensures needs { KeepsNeeds self.old self.new }
+        ensures listing { IsListing self.new }
+        ensures names { KeepsNames self.old self.new }
+        ensures takes { OnOk result (Takes self.old node found.items self.new) }
     {
-        let growth = self.reach.scanned(node, found)?;
+        let is_listed = self.is_listed;
+        self.is_listed = false;
+        let growth = self.reach.scanned(node, found, is_listed)?;
         self.grow(&growth)?;
+        self.is_listed = true;
         Ok(growth)
     }
 
     /// Takes over what a scan changed.
-    #[tactic(auto, using(crate::proofs::NeedLemmas::keeps_longer))]
+    #[tactic(auto, using(crate::proofs::ListedLemmas::growing))]
     fn grow(&mut self, growth: &Growth) -> Result<(), Memory>
-        requires { self.old.passed ≤ length (needs_of self.old) }
+        requires within { self.old.passed ≤ length (needs_of self.old) }
+        requires named { self.old.named ≤ length self.old.deps.keys }
+        requires grown { growth.now.in_order ≡ true → IsGrown self.old growth.now.new.items }
+        ensures rest { self.new ≡ record self.old { deps = self.new.deps; passed = self.new.passed } }
         ensures needs { KeepsNeeds self.old self.new }
-        ensures reach { self.new.reach ≡ self.old.reach }
+        ensures named { KeepsNamed self.old self.new }
+        ensures deps { OnOk result (AreDeps self.new self.new.reach.files.keys) }
     {
         if growth.in_order {
             add_all(&mut self.deps, growth.new.as_slice())
@@ -115,10 +138,13 @@ impl Task {
     }
 
     /// Lists the dependencies anew: those that the rule names, and then its files.
-    #[tactic(auto, using(crate::proofs::NeedLemmas::keeps_none))]
+    #[tactic(auto, using(crate::proofs::ListedLemmas::listing_anew))]
     fn list_anew(&mut self) -> Result<(), Memory>
+        requires { self.old.named ≤ length self.old.deps.keys }
+        ensures rest { self.new ≡ record self.old { deps = self.new.deps; passed = self.new.passed } }
         ensures needs { KeepsNeeds self.old self.new }
-        ensures reach { self.new.reach ≡ self.old.reach }
+        ensures named { KeepsNamed self.old self.new }
+        ensures deps { OnOk result (AreDeps self.new self.new.reach.files.keys) }
     {
         self.passed = 0;
         self.deps.truncate(self.named);
@@ -132,14 +158,4 @@ impl Task {
             None => false,
         }
     }
-}
-
-#[tactic(auto, using(crate::proofs::ListLemmas::longer_steps))]
-fn add_all(deps: &mut IndexSet<NodeId>, nodes: &[NodeId]) -> Result<(), Memory>
-    ensures { IsLonger deps.old.keys deps.new.keys }
-{
-    for node in nodes {
-        let _ = deps.insert(*node)?;
-    }
-    Ok(())
 }

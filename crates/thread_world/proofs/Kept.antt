@@ -42,4 +42,5 @@ step_none rows running out idle empty = record {
 }
 
 pub keeps_of : (call : Call) (fault : Counts → Counts) (refused : Type 0) (old new : MemWorld) → TreeCall call fault refused old new → Keeps old new
-keeps_of call fault refused old new each = record { banks = each.banks; table = each.table; orders = each.orders }
+keeps_of call fault refused old new each =
+    record { banks = each.banks; table = each.table; orders = each.orders; removals = each.removals }

@@ -19,7 +19,7 @@ impl<T: Wait, G: Gate> World for ThreadWorld<T, G> {
     ghost use Rattle.world_mem.specs.AsAround.{around_of};
     ghost use Rattle.world_mem.specs.Blocked.{AreBlocked, IsInTheWay};
     ghost use Rattle.world_mem.specs.CallCounts.{counted};
-    ghost use Rattle.world_mem.specs.EachCall.{Keeps, TreeCall};
+    ghost use Rattle.world_mem.specs.EachCall.{Keeps, RecordsRemoval, RemoveCall, TreeCall};
     ghost use Rattle.world_mem.specs.Ending.{faults_after};
     ghost use Rattle.world_mem.specs.Held.{held_of};
     ghost use Rattle.world_mem.specs.Kept.{counts_of, tree_fault, start_fault};
@@ -144,7 +144,8 @@ impl<T: Wait, G: Gate> World for ThreadWorld<T, G> {
         ensures rose { OnErr result (TreeFails (thread_meaning.counts self.old) (thread_meaning.counts self.new)) }
         ensures exactly { IsErr result ↔ (262144 ≤ recorded self.old.world) }
         ensures stays { OnErr result (self.new.world.state ≡ self.old.world.state) }
-        ensures each { TreeCall Call.Remove tree_fault (IsErr result) self.old.world self.new.world }
+        ensures removals { RecordsRemoval path.now self.old.world self.new.world }
+        ensures each { RemoveCall (IsErr result) self.old.world self.new.world }
     {
         self.world.remove(path)
     }

@@ -11,6 +11,7 @@ pub mod Taken
 pub mod Plain
 pub mod Unmade
 pub mod Idle
+pub mod Went
 pub mod LeftTargets
 pub mod LeftOver
 pub mod Raised

@@ -38,11 +38,11 @@ or_true : (a : Bool) → (a || true) ≡ true
 or_true true = refl
 or_true false = refl
 
-or_left : (a b : Bool) → a ≡ true → (a || b) ≡ true
+pub or_left : (a b : Bool) → a ≡ true → (a || b) ≡ true
 or_left true b h = refl
 or_left false b h = absurd (cc h)
 
-or_right : (a b : Bool) → b ≡ true → (a || b) ≡ true
+pub or_right : (a b : Bool) → b ≡ true → (a || b) ≡ true
 or_right true b h = refl
 or_right false b h = h
 
@@ -149,19 +149,19 @@ gained_dirs job fresh old new always raised each d = elim (cases_Bool (is_in fre
 pub not_always : (dirs : Dirs) (d : List ℕ) → is_dir dirs d ≡ false → is_always d ≡ false
 not_always dirs d h = not_left (is_always d) (holds_live (slot_at dirs.slots d)) h
 
--- directories that come to stand above a file
-pub edited_dirs : (path : List ℕ) (fresh : List (List ℕ)) (old new : List ℕ → Bool) → ((d : List ℕ) → new d ≡ (is_in fresh d || old d))
-    → ((d : List ℕ) → Contains fresh d ↔ (LiesBelow path d × (old d ≡ false))) → (d : List ℕ) → (new d ≡ true) ↔ ((old d ≡ true) ⊎ LiesBelow path d)
-edited_dirs path fresh old new raised each d = (
+-- directories that come to stand: all that were wanted and didn't stand
+pub raised_by : (wanted : List ℕ → Type 0) (fresh : List (List ℕ)) (old new : List ℕ → Bool) → ((d : List ℕ) → new d ≡ (is_in fresh d || old d))
+    → ((d : List ℕ) → Contains fresh d ↔ (wanted d × (old d ≡ false))) → (d : List ℕ) → (new d ≡ true) ↔ ((old d ≡ true) ⊎ wanted d)
+raised_by wanted fresh old new raised each d = (
   λ y. elim (or_cases (is_in fresh d) (old d) (sym (raised d) ∙ y)) [
     | inl h ↦ inr ((each d).0 (in_list fresh d h)).0
     | inr h ↦ inl h
   ],
   λ h. raised d ∙ elim h [
     | inl y ↦ or_right (is_in fresh d) (old d) y
-    | inr below ↦ elim (cases_Bool (old d)) [
+    | inr want ↦ elim (cases_Bool (old d)) [
       | inl y ↦ or_right (is_in fresh d) (old d) y
-      | inr n ↦ or_left (is_in fresh d) (old d) (list_in fresh d ((each d).1 (below, n)))
+      | inr n ↦ or_left (is_in fresh d) (old d) (list_in fresh d ((each d).1 (want, n)))
     ]
   ],
 )

@@ -2,6 +2,8 @@
 use Rattle.std.specs.Prelude.{◌≡◌, ◌++◌, ◌⊎◌, ℕ, List, ◌∷◌, IsSome, IsTrue, Contains, ◌<◌, length, take}
 use Rattle.std.specs.List.{slice_index_or}
 use Rattle.world_api.specs.Around.{Around, IsRunningTarget}
+use Rattle.world_mem.specs.declared.refusal.NewRefusal.{NewRefusal}
+use Rattle.world_mem.specs.declared.refusal.NewRefusal.TheVariants.{Place}
 
 -- a path goes on behind another's text with a slash
 abbrev pub LiesBelow : List ℕ → List ℕ → Type 0
@@ -27,13 +29,18 @@ IsTaken around path = IsSome (around.tree path) ⊎ IsRunningTarget around.runni
 abbrev pub IsBarred : Around → List ℕ → Type 0
 IsBarred around path = IsTrue (around.dirs path) ⊎ HasAbove (IsTaken around) path
 
+-- no caller may set the bytes of a path: a running job makes it, or it can't be a file
+abbrev pub IsKept : Around → List ℕ → Type 0
+IsKept around path = IsRunningTarget around.running path ⊎ IsBarred around path
+
 -- a path can't be a directory: a file or the target of a running job stands there or above it
 abbrev pub IsInTheWay : Around → List ℕ → Type 0
 IsInTheWay around path = IsTaken around path ⊎ HasAbove (IsTaken around) path
 
 -- a target of a job can't be a file, or lies below or above another target of the job
 abbrev pub AreBlocked : Around → List (List ℕ) → Type 0
-AreBlocked around targets = (target : List ℕ) × Contains targets target × (IsBarred around target ⊎ IsBlocked (Contains targets) target)
+AreBlocked around targets = (target : List ℕ) × Contains targets target
+    × (IsBarred around target ⊎ IsBlocked (Contains targets) target)
 
 -- a list of files has one at a path
 abbrev pub HasFile : List (List ℕ × List ℕ) → List ℕ → Type 0
@@ -47,3 +54,7 @@ IsRefused files place = (file : List ℕ × List ℕ) × (place < length files) 
 -- the first of these
 abbrev pub IsFirstRefused : List (List ℕ × List ℕ) → ℕ → Type 0
 IsFirstRefused files place = IsRefused files place × ((earlier : ℕ) → earlier < place → IsRefused files earlier → ⊥)
+
+-- a refusal that names a place names the first
+abbrev pub NamesFirst : List (List ℕ × List ℕ) → NewRefusal → Type 0
+NamesFirst files refusal = (place : ℕ) → refusal ≡ Place place → IsFirstRefused files place

@@ -3,6 +3,14 @@ use Rattle.std.specs.Prelude.{◌≡◌, ◌≢◌, ◌++◌, ◌∷◌, [], ◌
 use Rattle.world_api.specs.Around.{Around}
 use Rattle.world_mem.specs.Blocked.{LiesBelow}
 
+-- each other file is as it was
+abbrev pub FilesStay : List ℕ → Around → Around → Type 0
+FilesStay path old new = (other : List ℕ) → other ≢ path → new.tree other ≡ old.tree other
+
+-- and so is its stamp
+abbrev pub StampsStay : List ℕ → Around → Around → Type 0
+StampsStay path old new = (other : List ℕ) → other ≢ path → new.stamps other ≡ old.stamps other
+
 -- a file holds these bytes, which have been met from then on, and the directories above it stand
 pub record Edits (path bytes : List ℕ) (old new : Around) : Type 0 where
   pub file : new.tree path ≡ Some bytes

@@ -36,7 +36,10 @@ burned fuse = option_map (λ left. left - 1) fuse
 
 -- the calls after one more
 abbrev pub counted : Call → Calls → Calls
-counted call calls = record calls { made = slice_set calls.made (place_of call) (next (count_of call calls)); fuse = burned calls.fuse }
+counted call calls = record calls {
+  made = slice_set calls.made (place_of call) (next (count_of call calls));
+  fuse = burned calls.fuse;
+}
 
 abbrev pub is_listed : List (Call × ℕ) → Call → ℕ → Bool
 is_listed failing call number = list_any (λ pair. (place_of pair.0 == place_of call) && (pair.1 == number)) failing

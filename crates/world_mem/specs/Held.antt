@@ -22,5 +22,6 @@ found b (x ∷ xs) h = elim (cases_Bool (bytes_eq b x)) [
   | inr n ↦ later b x xs (found b xs (or_second (bytes_eq b x) (list_any (bytes_eq b) xs) n h))
 ]
 
-pub held_of : (s : State) (path bytes : List ℕ) → (around_of s).tree path ≡ Some bytes → Contains (around_of s).met bytes
+pub held_of : (s : State) (path bytes : List ℕ) → (around_of s).tree path ≡ Some bytes
+    → Contains (around_of s).met bytes
 held_of s path bytes is = found bytes (met_of s.met.items) (s.held path bytes is)

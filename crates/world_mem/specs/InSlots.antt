@@ -81,7 +81,8 @@ marked (at ∷ rest) slot path old = marked rest slot path (written at slot path
 -- after a write of each of these contents; what is listed first stands
 abbrev pub settled : ℕ → Given → List ℕ → Option Slot → Option Slot
 settled stamp [] path old = old
-settled stamp (entry ∷ rest) path old = written entry.0 (Settled (file_with stamp entry.0 entry.1)) path (settled stamp rest path old)
+settled stamp (entry ∷ rest) path old =
+    written entry.0 (Settled (file_with stamp entry.0 entry.1)) path (settled stamp rest path old)
 
 -- the path of a file that lies directly in a directory
 abbrev pub name_in : List ℕ → Option File → List (List ℕ)

@@ -17,16 +17,20 @@ none_closed path closed = absurd (let lt : closed.1.0 < 0 = closed.1.1 in omega 
 pub reads_as_of : (w : MemWorld) → meaning.IsImage world_meaning w (world_meaning.seen w)
 reads_as_of w bank = reads_store (store_of w.banks) bank w.banks.whole
 
-pub here_now : (turns : List Turn) (machine : Machine) (n : ℕ) (around : Around) (banks : Banks) → IsHere machine around banks → IsMoment turns machine n around banks
+pub here_now : (turns : List Turn) (machine : Machine) (n : ℕ) (around : Around) (banks : Banks)
+    → IsHere machine around banks → IsMoment turns machine n around banks
 here_now turns machine zero around banks here = here
 here_now [] machine (suc n) around banks here = here
 here_now (turn ∷ older) machine (suc n) around banks here = inl here
 
-pub counts_now_of : (w : MemWorld) (time : ℕ) (banks : Banks) → meaning.IsImage world_meaning w banks → world_meaning.left_since w time (world_meaning.around w) banks
+pub counts_now_of : (w : MemWorld) (time : ℕ) (banks : Banks) → meaning.IsImage world_meaning w banks
+    → world_meaning.left_since w time (world_meaning.around w) banks
 counts_now_of w time banks image =
-    here_now (reverse w.turns.items) (machine_of w) (length w.turns.items - max time w.horizon) (world_meaning.around w) banks (refl, image)
+    let since = length w.turns.items - max time w.horizon in
+    here_now (reverse w.turns.items) (machine_of w) since (world_meaning.around w) banks (refl, image)
 
-pub only_now_of : (w : MemWorld) (around : Around) (banks : Banks) → world_meaning.left_since w (world_meaning.clock w) around banks
+pub only_now_of : (w : MemWorld) (around : Around) (banks : Banks)
+    → world_meaning.left_since w (world_meaning.clock w) around banks
     → (around ≡ world_meaning.around w) × meaning.IsImage world_meaning w banks
 only_now_of w around banks left =
     let none : length w.turns.items - max (length w.turns.items) w.horizon ≡ 0 = omega arith in

@@ -15,7 +15,12 @@ names given = map (λ entry. entry.0) given
 
 -- every target of a running job is among these
 abbrev pub Cover : List RunningJob → Given → Type 0
-Cover running given = (run : RunningJob) (path : List ℕ) → Contains running run → Contains run.job.targets path → Contains (names given) path
+Cover running given = (run : RunningJob) (path : List ℕ) → Contains running run → Contains run.job.targets path
+    → Contains (names given) path
+
+-- each of these is a target of a running job
+abbrev pub AreTargets : Given → List Running → Type 0
+AreTargets given running = (path : List ℕ) → Contains (names given) path → IsRunningTarget running path
 
 abbrev junk : List ℕ
 junk = codes "junk"
@@ -50,8 +55,8 @@ number_after number (entry ∷ rest) = number_after (next_number number) rest
 abbrev pub makings : List ActRow → List Running → Given
 makings rows running = flat_map (λ run. makes rows run.job run.given) running
 
--- What a stop leaves: these contents at the targets of the jobs that ran, which have been met from then on; nothing runs,
--- and the log is empty.
+-- What a stop leaves: these contents at the targets of the jobs that ran, which have been met from then on; nothing
+-- runs, and the log is empty.
 pub record Leaves (left : Given) (old new : Around) : Type 0 where
   pub targets : (path : List ℕ) → IsRunningTarget old.running path → new.tree path ≡ listed left path
   pub files : (path : List ℕ) → (IsRunningTarget old.running path → ⊥) → new.tree path ≡ old.tree path

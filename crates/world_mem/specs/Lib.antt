@@ -6,12 +6,17 @@ pub mod Ending
 pub mod InSlots
 pub mod Standing
 pub mod Blocked
+pub mod Raises
+pub mod Settles
+pub mod Slotwise
 pub mod Planned
 pub mod Kept
+pub mod Runs
 pub mod AsAround
 pub mod Stamps
 pub mod Held
 pub mod Left
+pub mod LeftBy
 pub mod ByHand
 pub mod Files
 pub mod Undone

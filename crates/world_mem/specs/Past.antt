@@ -34,7 +34,8 @@ back_by Tree machine = record machine { course = before machine.course }
 
 -- what is around, with what a stop may leave of the banks
 abbrev pub IsHere : Machine → Around → Banks → Type 0
-IsHere machine around banks = (around ≡ machine.course.around) × ((bank : Bank) → IsImage machine.store bank (banks bank))
+IsHere machine around banks =
+    (around ≡ machine.course.around) × ((bank : Bank) → IsImage machine.store bank (banks bank))
 
 -- so it is, or was at one of so many states before
 abbrev pub IsMoment : List Turn → Machine → ℕ → Around → Banks → Type 0

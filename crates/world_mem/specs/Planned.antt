@@ -1,12 +1,13 @@
 -- What a job makes and how it ends: known as it starts, by the table and by what it is given.
-use Rattle.std.specs.Prelude.{ℕ, List, ◌++◌, codes, Some, map}
-use Rattle.world_api.specs.Act.{Content, Given, act}
+use Rattle.std.specs.Prelude.{◌≡◌, ℕ, List, ◌++◌, codes, Option, Some, map}
+use Rattle.world_api.specs.Act.{Content, Given, Law, act}
 use Rattle.world_api.specs.declared.job.Job.{Job}
 use Rattle.world_api.specs.declared.job.Outcome.{Outcome}
+use Rattle.world_api.specs.declared.job.Work.TheVariants.{Copy, Write}
 use Rattle.world_api.specs.declared.job.Outcome.TheVariants.{Done, Failed, Broken, NoMemory}
 use Rattle.world_mem.specs.Default.{line}
 use Rattle.world_mem.specs.Listed.{listed}
-use Rattle.world_mem.specs.Table.{law_of, outcome_of}
+use Rattle.world_mem.specs.Table.{law_of, outcome_of, shell_content}
 use Rattle.world_mem.specs.declared.plan.Recipe.{Recipe}
 use Rattle.world_mem.specs.declared.plan.Recipe.TheVariants.{Same, Listed, Lines}
 use Rattle.world_mem.specs.declared.table.ActRow.{ActRow}
@@ -19,7 +20,8 @@ gives (Lines front back) target = Some (front.items ++ line (codes "-> " ++ targ
 
 -- each target with what the action makes there
 abbrev pub makes : List ActRow → Job → Given → Given
-makes rows job given = map (λ target. (target, act (law_of rows) job.work job.signed job.targets given target)) job.targets
+makes rows job given =
+    map (λ target. (target, act (law_of rows) job.work job.signed job.targets given target)) job.targets
 
 abbrev pub ends : List ActRow → Job → Given → Outcome
 ends rows job given = outcome_of rows job.work job.signed given
@@ -30,3 +32,22 @@ IsPlain Done = Unit {0}
 IsPlain (Failed code) = Unit {0}
 IsPlain Broken = ⊥
 IsPlain NoMemory = ⊥
+
+-- a content is what a job makes that writes the first of these texts
+abbrev pub IsFirstText : List (List ℕ) → Content → Type 0
+IsFirstText texts content = (law : Law) (targets : List (List ℕ)) (given : Given) (target : List ℕ)
+    → content ≡ act law Write texts targets given target
+
+-- a content is what a job makes that copies the first of what it is given
+abbrev pub IsFirstContent : Given → Content → Type 0
+IsFirstContent given content = (law : Law) (signed targets : List (List ℕ)) (target : List ℕ)
+    → content ≡ act law Copy signed targets given target
+
+-- a recipe makes what the shell makes by a row, or without one
+abbrev pub IsShellRecipe : Option ActRow → List (List ℕ) → Given → Recipe → Type 0
+IsShellRecipe row signed given recipe = (target : List ℕ) → gives recipe target ≡ shell_content row signed given target
+
+-- a recipe makes what the action of a job makes
+abbrev pub IsRecipeOf : List ActRow → Job → Given → Recipe → Type 0
+IsRecipeOf rows job given recipe = (target : List ℕ)
+    → gives recipe target ≡ act (law_of rows) job.work job.signed job.targets given target

@@ -1,8 +1,8 @@
 //! Which directories stand.
-ghost use Rattle.std.specs.Prelude.{◌≡◌, ◌⊎◌, ◌||◌, ◌↔◌, ◌<◌, IsTrue, List, ℕ, false, IsSome, IfOk, OnOk, Contains, length};
-ghost use Rattle.std.specs.List.{slice_index_or};
+ghost use Rattle.std.specs.Prelude.{◌≡◌, ◌⊎◌, ◌||◌, ◌↔◌, IsTrue, List, ℕ, IfOk, OnOk};
 ghost use Rattle.world_mem.specs.Blocked.{LiesBelow};
-ghost use Rattle.world_mem.specs.InSlots.{slot_at};
+ghost use Rattle.world_mem.specs.Raises.{Adds, Gains};
+ghost use Rattle.world_mem.specs.Settles.{HavePlaces};
 ghost use Rattle.world_mem.specs.Standing.{is_dir, is_in, is_always};
 ghost use Rattle.world_mem.specs.declared.slots.Slot.{Slot};
 
@@ -40,7 +40,7 @@ impl Dirs {
         path: &PathText,
         fresh: &mut Paths,
     ) -> Result<(), Memory>
-        ensures { OnOk result ((dir : List ℕ) → Contains fresh.new dir ↔ (Contains fresh.old dir ⊎ (LiesBelow path.now dir × (is_dir self.now dir ≡ false)))) }
+        ensures { OnOk result (Adds self.now (LiesBelow path.now) fresh.old fresh.new) }
     {
         let bytes = path.as_str().as_bytes();
         for (place, byte) in bytes.iter().enumerate() {
@@ -53,7 +53,7 @@ impl Dirs {
 
     /// Adds a path and those above it that don't stand.
     pub fn missing(&self, alloc: Global, path: &PathText, fresh: &mut Paths) -> Result<(), Memory>
-        ensures { OnOk result ((dir : List ℕ) → Contains fresh.new dir ↔ (Contains fresh.old dir ⊎ (((path.now ≡ dir) ⊎ LiesBelow path.now dir) × (is_dir self.now dir ≡ false)))) }
+        ensures { OnOk result (Adds self.now (λ dir. (path.now ≡ dir) ⊎ LiesBelow path.now dir) fresh.old fresh.new) }
     {
         self.missing_above(alloc, path, fresh)?;
         self.note(alloc, path.as_str().as_bytes(), fresh)
@@ -61,7 +61,7 @@ impl Dirs {
 
     /// Adds a directory that doesn't stand.
     fn note(&self, alloc: Global, dir: &[u8], fresh: &mut Paths) -> Result<(), Memory>
-        ensures { OnOk result ((other : List ℕ) → Contains fresh.new other ↔ (Contains fresh.old other ⊎ ((dir.now ≡ other) × (is_dir self.now other ≡ false)))) }
+        ensures { OnOk result (Adds self.now (λ other. dir.now ≡ other) fresh.old fresh.new) }
     {
         if self.stands(dir) {
             return Ok(());
@@ -71,7 +71,7 @@ impl Dirs {
 
     /// Lets those above a path stand.
     pub fn raise_above(&mut self, alloc: Global, path: &PathText) -> Result<(), Memory>
-        ensures { OnOk result ((dir : List ℕ) → IsTrue (is_dir self.new dir) ↔ (IsTrue (is_dir self.old dir) ⊎ LiesBelow path.now dir)) }
+        ensures { OnOk result (Gains (LiesBelow path.now) self.old self.new) }
     {
         let mut fresh = Paths::new(Vec::new(alloc));
         self.missing_above(alloc, path, &mut fresh)?;
@@ -83,14 +83,14 @@ impl Dirs {
     /// Makes a place for each of these.
     pub fn make_places(&mut self, alloc: Global, fresh: &Paths) -> Result<(), Memory>
         ensures same { (dir : List ℕ) → is_dir self.new dir ≡ is_dir self.old dir }
-        ensures places { OnOk result ((k : ℕ) (d : List ℕ) → k < length fresh.now → IsSome (slot_at self.new.slots (slice_index_or fresh.now k d))) }
+        ensures places { OnOk result (HavePlaces fresh.now self.new.slots) }
     {
         self.slots.make_places(alloc, fresh)
     }
 
     /// Lets these stand, which have their places.
     pub fn raise(&mut self, fresh: &Paths)
-        requires { (k : ℕ) (d : List ℕ) → k < length fresh.now → IsSome (slot_at self.old.slots (slice_index_or fresh.now k d)) }
+        requires { HavePlaces fresh.now self.old.slots }
         ensures { (dir : List ℕ) → is_dir self.new dir ≡ (is_in fresh.now dir || is_dir self.old dir) }
     {
         self.slots.mark(fresh, 0);

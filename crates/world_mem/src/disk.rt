@@ -17,11 +17,11 @@ impl Disk for MemWorld {
     ghost use Rattle.mem_banks.specs.AsStore.{store_of};
     ghost use Rattle.mem_banks.specs.Past.{synced};
     ghost use Rattle.world_mem.specs.CallCounts.{Fails};
-    ghost use Rattle.world_mem.specs.EachCall.{DiskCall};
+    ghost use Rattle.world_mem.specs.EachCall.{DiskCall, Looks};
     ghost use Rattle.world_mem.specs.Laws.{reads_as_of, counts_now_of, only_now_of};
-    ghost use Rattle.world_mem.specs.Means.{world_meaning};
+    ghost use Rattle.world_mem.specs.Means.{world_meaning, seen_in, tells, AreReadAt};
     ghost use Rattle.world_mem.specs.Room.{recorded, HasRoom};
-    ghost use Rattle.world_mem.specs.Refuses.{Writes};
+    ghost use Rattle.world_mem.specs.Refuses.{IsCutAt, IsTornAt, LacksRoom, Writes};
     ghost use Rattle.world_mem.specs.declared.calls.Call.{Call};
 
     ghost meaning = { world_meaning };
@@ -43,6 +43,7 @@ impl Disk for MemWorld {
         ensures rose { OnErr result (DiskFails (world_meaning.counts self.old) (world_meaning.counts self.new)) }
         ensures exactly { IsErr result ↔ Fails Call.Size self.old.calls }
         ensures stays { self.new.banks ≡ self.old.banks }
+        ensures looks { Looks self.old self.new }
         ensures each { DiskCall Call.Size (IsErr result) self.old self.new }
     {
         if self.calls.next(Call::Size) != Verdict::Goes {
@@ -54,7 +55,7 @@ impl Disk for MemWorld {
 
     fn read_at(&mut self, bank: Bank, place: u64, into: &mut [u8]) -> Result<(), Fault>
         requires { world_meaning.tells self.old → place + length into.old ≤ length (world_meaning.seen self.old bank) }
-        ensures read { world_meaning.tells self.new → OnOk result (into.new ≡ slice_range (world_meaning.seen self.new bank) place (place + length into.old)) }
+        ensures read { tells self.new → OnOk result (AreReadAt bank place (length into.old) self.new into.new) }
         ensures banks { world_meaning.tells self.new → BanksKept world_meaning self.old self.new }
         ensures around { world_meaning.tells self.new → world_meaning.around self.new ≡ world_meaning.around self.old }
         ensures told { Told world_meaning self.old self.new }
@@ -64,6 +65,8 @@ impl Disk for MemWorld {
         ensures rose { OnErr result (DiskFails (world_meaning.counts self.old) (world_meaning.counts self.new)) }
         ensures exactly { IsErr result ↔ Fails Call.ReadAt self.old.calls }
         ensures stays { self.new.banks ≡ self.old.banks }
+        ensures untouched { OnErr result (into.new ≡ into.old) }
+        ensures looks { Looks self.old self.new }
         ensures each { DiskCall Call.ReadAt (IsErr result) self.old self.new }
     {
         if self.calls.next(Call::ReadAt) != Verdict::Goes {
@@ -80,17 +83,17 @@ impl Disk for MemWorld {
     fn write_at(&mut self, bank: Bank, place: u64, bytes: &[u8]) -> Result<(), Fault>
         requires within { world_meaning.tells self.old → place ≤ length (world_meaning.seen self.old bank) }
         requires small { place + length bytes.now ≤ 2 ^ 41 }
-        ensures written { world_meaning.tells self.new → OnOk result (Holds (world_meaning.seen self.old bank) place bytes.now (world_meaning.seen self.new bank)) }
-        ensures cut { world_meaning.tells self.new → OnErr result (Torn place (length bytes.now) (world_meaning.seen self.old bank) (world_meaning.seen self.new bank)) }
-        ensures image { world_meaning.tells self.new → Follows (Torn place (length bytes.now)) (world_meaning.image self.old bank) (world_meaning.image self.new bank) }
-        ensures other { world_meaning.tells self.new → (other : Bank) → other ≢ bank → BankKept world_meaning other self.old self.new }
+        ensures written { tells self.new → OnOk result (Holds (seen_in self.old bank) place bytes.now (seen_in self.new bank)) }
+        ensures cut { tells self.new → OnErr result (IsCutAt place (length bytes.now) bank self.old self.new) }
+        ensures image { tells self.new → IsTornAt place (length bytes.now) bank self.old self.new }
+        ensures other { tells self.new → (other : Bank) → other ≢ bank → BankKept world_meaning other self.old self.new }
         ensures around { world_meaning.tells self.new → world_meaning.around self.new ≡ world_meaning.around self.old }
         ensures told { Told world_meaning self.old self.new }
         ensures recalls { Recalls world_meaning self.old self.new }
         ensures time { Throughout world_meaning self.old self.new (AtEither world_meaning self.old self.new) }
         ensures kept { OnOk result (world_meaning.counts self.new ≡ world_meaning.counts self.old) }
         ensures rose { OnErr result (DiskFails (world_meaning.counts self.old) (world_meaning.counts self.new)) }
-        ensures exactly { IsErr result ↔ (Fails Call.WriteAt self.old.calls ⊎ ((bytes.now ≢ []) × (HasRoom self.old place (length bytes.now) → ⊥))) }
+        ensures exactly { IsErr result ↔ (Fails Call.WriteAt self.old.calls ⊎ LacksRoom self.old place bytes.now) }
         ensures writes { Writes bank place bytes.now self.old self.new }
         ensures each { DiskCall Call.WriteAt (IsErr result) self.old self.new }
     {
@@ -125,6 +128,7 @@ impl Disk for MemWorld {
         ensures rose { OnErr result (DiskFails (world_meaning.counts self.old) (world_meaning.counts self.new)) }
         ensures exactly { IsErr result ↔ (Fails Call.Sync self.old.calls ⊎ (262144 ≤ recorded self.old)) }
         ensures synced { OnOk result (store_of self.new.banks ≡ synced bank (store_of self.old.banks)) }
+        ensures count { self.new.banks.written ≡ self.old.banks.written }
         ensures stays { OnErr result (self.new.banks ≡ self.old.banks) }
         ensures each { DiskCall Call.Sync (IsErr result) self.old self.new }
     {
@@ -163,6 +167,7 @@ impl MemWorld {
         requires some { 0 < count }
         requires room { HasRoom self.old place count }
         ensures banks { store_of self.new.banks ≡ wrote bank place bytes.now count (store_of self.old.banks) }
+        ensures written { self.new.banks.written ≡ self.old.banks.written + count }
         ensures turns { self.new.turns.items ≡ self.old.turns.items ++ Turn.Disk ∷ [] }
         ensures state { self.new.state ≡ self.old.state }
         ensures horizon { self.new.horizon ≡ self.old.horizon }

@@ -1,7 +1,7 @@
-//! A world in memory whose jobs run elsewhere, as on threads: a start in two steps, between which what runs the job can refuse it,
-//! and an ending that is told.
-ghost use Rattle.std.specs.Prelude.{◌≡◌, ◌≢◌, ◌⊎◌, ◌<◌, ◌++◌, ℕ, List, Err, Contains, IfOk, OnOk, length};
-ghost use Rattle.std.specs.List.{remove, slice_index_or};
+//! A world in memory whose jobs run elsewhere, as on threads: a start in two steps, between which what runs the job can
+//! refuse it, and an ending that is told.
+ghost use Rattle.std.specs.Prelude.{◌≡◌, ◌≢◌, ◌⊎◌, ◌<◌, Err, Contains, IfOk, OnOk, length};
+ghost use Rattle.std.specs.List.{remove};
 
 use crate::calls::{Call, Verdict};
 use crate::past::Turn;
@@ -31,9 +31,8 @@ impl Entering {
 }
 
 impl MemWorld {
-    ghost use Rattle.std.specs.Prelude.{None};
     ghost use Rattle.world_api.specs.Around.{Running, given_of};
-    ghost use Rattle.world_api.specs.Calls.{CanStart, Starts, Ends};
+    ghost use Rattle.world_api.specs.Calls.{CanStart, Ends};
     ghost use Rattle.world_api.specs.Causes.{StartFails, HasOutcomeCause};
     ghost use Rattle.world_api.specs.Meaning.{Recalls, Throughout, Meanwhile};
     ghost use Rattle.world_mem.specs.AsAround.{around_of};
@@ -41,11 +40,15 @@ impl MemWorld {
     ghost use Rattle.world_mem.specs.CallCounts.{Fails};
     ghost use Rattle.world_mem.specs.EachCall.{Keeps, TreeCall};
     ghost use Rattle.world_mem.specs.Ending.{faults_after};
-    ghost use Rattle.world_mem.specs.Kept.{contents_in, counts_of, start_fault};
+    ghost use Rattle.world_mem.specs.Kept.{counts_of, start_fault};
     ghost use Rattle.world_mem.specs.Means.{machine_of, world_meaning};
-    ghost use Rattle.world_mem.specs.Planned.{makes};
-    ghost use Rattle.world_mem.specs.Ready.{MayEnter};
+    ghost use Rattle.world_mem.specs.Raises.{Raises, SameDirs};
+    ghost use Rattle.world_mem.specs.Ready.{MayEnter, StartsTold};
+    ghost use Rattle.world_mem.specs.Refuses.{CantStart};
+    ghost use Rattle.world_mem.specs.Runs.{run_at, LeavesNoneAt};
+    ghost use Rattle.world_mem.specs.Stamps.{StampsRun};
     ghost use Rattle.world_mem.specs.Told.{IsTold};
+    ghost use Rattle.world_mem.specs.Waits.{MeetsRow};
     ghost use Rattle.world_mem.specs.declared.calls.Call.{Call};
     ghost use Rattle.world_mem.specs.declared.event.Event.{Event};
 
@@ -62,7 +65,7 @@ impl MemWorld {
         ensures kept { result ≢ Err AskRefusal.Fault → self.new.faults ≡ self.old.faults }
         ensures rose { result ≡ Err AskRefusal.Fault → StartFails (counts_of self.old.faults) (counts_of self.new.faults) }
         ensures listed { Fails Call.Start self.old.calls → result ≡ Err AskRefusal.Fault }
-        ensures only { result ≡ Err AskRefusal.Fault → Fails Call.Start self.old.calls ⊎ AreBlocked (around_of self.old.state) job.targets }
+        ensures only { result ≡ Err AskRefusal.Fault → CantStart self.old job.targets }
         ensures clear { OnOk result (AreBlocked (around_of self.old.state) job.targets → ⊥) }
         ensures each { TreeCall Call.Start start_fault (result ≡ Err AskRefusal.Fault) self.old self.new }
     {
@@ -79,9 +82,11 @@ impl MemWorld {
     /// Starts a job for which all was taken.
     pub fn enter(&mut self, entering: Entering)
         requires { MayEnter entering self.old }
-        ensures started { entering.event ≡ Event.Started entering.run.job self.old.faults → Starts entering.run.job (counts_of self.old.faults) (around_of self.old.state) (around_of self.new.state) }
+        ensures started { StartsTold entering self.old self.new }
+        ensures raised { Raises entering.run.job (around_of self.old.state) (around_of self.new.state) }
         ensures recalls { Recalls world_meaning self.old self.new }
         ensures time { Throughout world_meaning self.old self.new (Meanwhile world_meaning self.old self.new) }
+        ensures stamp { self.new.state.stamp ≡ self.old.state.stamp }
         ensures faults { self.new.faults ≡ self.old.faults }
         ensures calls { self.new.calls ≡ self.old.calls }
         ensures keeps { Keeps self.old self.new }
@@ -93,17 +98,19 @@ impl MemWorld {
     /// Ends the job at a place among those that run as it is told, with these contents at its targets where it is done.
     pub fn end(&mut self, place: usize, outcome: Outcome, made: Listing<Content>) -> Ended
         requires place { place < length (around_of self.old.state).running }
-        requires told { (d : Running) → IsTold self.old.state.table (slice_index_or (around_of self.old.state).running place d) outcome made }
+        requires told { (d : Running) → IsTold self.old.state.table (run_at (around_of self.old.state) place d) outcome made }
         ensures around { Ends (Unit {0}) result (around_of self.old.state) (around_of self.new.state) }
         ensures recalls { Recalls world_meaning self.old self.new }
         ensures time { Throughout world_meaning self.old self.new (Meanwhile world_meaning self.old self.new) }
         ensures cause { HasOutcomeCause outcome (counts_of self.old.faults) (counts_of self.new.faults) }
         ensures once { self.new.faults ≡ faults_after outcome self.old.faults }
         ensures rest { (around_of self.new.state).running ≡ remove (around_of self.old.state).running place }
+        ensures stamps { StampsRun place self.old.state self.new.state }
+        ensures dirs { SameDirs (around_of self.old.state) (around_of self.new.state) }
         ensures outcome { result.outcome ≡ outcome }
-        ensures chosen { (d : Running) → result.id ≡ (slice_index_or (around_of self.old.state).running place d).job.id }
-        ensures absent { (d : Running) (path : List ℕ) → outcome ≢ Outcome.Done → Contains (slice_index_or (around_of self.old.state).running place d).job.targets path → (around_of self.new.state).tree path ≡ None }
-        ensures met { (d : Running) → outcome ≡ Outcome.Done → (around_of self.new.state).met ≡ (around_of self.old.state).met ++ contents_in (makes self.old.state.table (slice_index_or (around_of self.old.state).running place d).job (slice_index_or (around_of self.old.state).running place d).given) }
+        ensures chosen { (d : Running) → result.id ≡ (run_at (around_of self.old.state) place d).job.id }
+        ensures absent { LeavesNoneAt place outcome (around_of self.old.state) (around_of self.new.state) }
+        ensures met { (d : Running) → MeetsRow self.old (run_at (around_of self.old.state) place d) outcome self.new }
         ensures unmet { outcome ≢ Outcome.Done → (around_of self.new.state).met ≡ (around_of self.old.state).met }
         ensures calls { self.new.calls ≡ self.old.calls }
         ensures keeps { Keeps self.old self.new }

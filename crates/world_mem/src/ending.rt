@@ -1,12 +1,10 @@
 //! How a job ends.
-ghost use Rattle.std.specs.Prelude.{◌≡◌, ◌≢◌, ◌++◌, ◌+◌, ◌<◌, ◌≤◌, ◌⊎◌, ℕ, List, Some, None, IsSome, IsTrue, Contains, map, vec_len};
-ghost use Rattle.std.specs.List.{list_any};
-ghost use Rattle.std.specs.Str.{bytes_eq};
+ghost use Rattle.std.specs.Prelude.{◌≡◌, ◌≢◌, ◌++◌, ◌+◌, ◌<◌, ◌≤◌, ℕ, List, Some, None, Contains, map, vec_len};
 ghost use Rattle.std.specs.Vec.{vec_capacity};
-ghost use Rattle.world_api.specs.Act.{Content};
-ghost use Rattle.world_mem.specs.InSlots.{slot_at, file_of, content_of, mark_of, stamp_at};
-ghost use Rattle.world_mem.specs.declared.slots.File.{File};
+ghost use Rattle.world_mem.specs.InSlots.{slot_at, content_of, mark_of};
 ghost use Rattle.world_mem.specs.Kept.{met_of, contents_in};
+ghost use Rattle.world_mem.specs.Settles.{AreStamped, HeldOrMet, HoldMade, StillNamed};
+ghost use Rattle.world_mem.specs.Slotwise.{HoldNone, NoneMarked, OthersStay};
 
 use crate::contents::Contents;
 use crate::room::add;
@@ -26,17 +24,17 @@ pub fn conclude(
     requires names { map (λ entry. entry.0) made ≡ job.now.targets }
     requires same { kept ≡ made }
     requires room { vec_len met.old < vec_capacity met.old }
-    ensures others { (path : List ℕ) → (Contains job.now.targets path → ⊥) → slot_at slots.new path ≡ slot_at slots.old path }
-    ensures done { outcome ≡ Outcome.Done → (makes : List ℕ → Content) → made ≡ map (λ target. (target, makes target)) job.now.targets → (path : List ℕ) → Contains job.now.targets path → IsSome (slot_at slots.old path) → content_of (slot_at slots.new path) ≡ makes path }
-    ensures absent { outcome ≢ Outcome.Done → (path : List ℕ) → Contains job.now.targets path → content_of (slot_at slots.new path) ≡ None }
-    ensures stamped { (path : List ℕ) → Contains job.now.targets path → IsSome (content_of (slot_at slots.new path)) → stamp_at (slot_at slots.new path) ≡ stamp }
+    ensures others { OthersStay job.now.targets slots.old slots.new }
+    ensures done { outcome ≡ Outcome.Done → HoldMade made job.now.targets slots.old slots.new }
+    ensures absent { outcome ≢ Outcome.Done → HoldNone job.now.targets slots.new }
+    ensures stamped { AreStamped stamp job.now.targets slots.new }
     ensures unmarked { (path : List ℕ) → Contains job.now.targets path → mark_of (slot_at slots.new path) ≡ None }
-    ensures marks { (path : List ℕ) (id : ℕ) → mark_of (slot_at slots.new path) ≡ Some id → mark_of (slot_at slots.old path) ≡ Some id }
-    ensures held { (path bytes : List ℕ) → content_of (slot_at slots.new path) ≡ Some bytes → (content_of (slot_at slots.old path) ≡ Some bytes) ⊎ IsTrue (list_any (bytes_eq bytes) (met_of met.new.items)) }
+    ensures marks { NoneMarked slots.old slots.new }
+    ensures held { HeldOrMet (met_of met.new.items) slots.old slots.new }
     ensures met { outcome ≡ Outcome.Done → met_of met.new.items ≡ met_of met.old.items ++ contents_in kept }
     ensures unmet { outcome ≢ Outcome.Done → met.new.items ≡ met.old.items }
     ensures more { (more : List (List ℕ)) × (met_of met.new.items ≡ met_of met.old.items ++ more) }
-    ensures named { (path : List ℕ) (file : File) → (file_of (slot_at slots.old path) ≡ Some file → file.name ≡ path) → file_of (slot_at slots.new path) ≡ Some file → file.name ≡ path }
+    ensures named { StillNamed slots.old slots.new }
     ensures length { vec_len met.new ≤ vec_len met.old + 1 }
     ensures capacity { vec_capacity met.old ≤ vec_capacity met.new }
 {

@@ -14,13 +14,14 @@ use world_api::{Content, Ended, Job, Outcome};
 
 impl State {
     ghost use Rattle.world_api.specs.Around.{Running};
-    ghost use Rattle.world_api.specs.Calls.{CanStart, Starts, Ends};
+    ghost use Rattle.world_api.specs.Calls.{CanStart, Ends};
     ghost use Rattle.world_mem.specs.AsAround.{around_of};
     ghost use Rattle.world_mem.specs.AsCourse.{course_of};
-    ghost use Rattle.world_mem.specs.Kept.{contents_in, counts_of};
     ghost use Rattle.world_mem.specs.Past.{before};
-    ghost use Rattle.world_mem.specs.Planned.{makes};
-    ghost use Rattle.world_mem.specs.Ready.{IsReady};
+    ghost use Rattle.world_mem.specs.Raises.{Raises};
+    ghost use Rattle.world_mem.specs.Ready.{IsReady, StartsAs};
+    ghost use Rattle.world_mem.specs.Runs.{run_at, LeavesNoneAt, MeetsMadeAt};
+    ghost use Rattle.world_mem.specs.Stamps.{StampsRun};
     ghost use Rattle.world_mem.specs.Told.{IsTold};
     ghost use Rattle.world_mem.specs.declared.event.Event.{Event};
 
@@ -49,9 +50,11 @@ impl State {
     /// Starts a job that is ready.
     pub(crate) fn enter_ready(&mut self, entering: Entering)
         requires { IsReady entering self.old }
-        ensures started { (faults : Faults) → entering.event ≡ Event.Started entering.run.job faults → Starts entering.run.job (counts_of faults) (around_of self.old) (around_of self.new) }
+        ensures started { StartsAs entering (around_of self.old) (around_of self.new) }
+        ensures raised { Raises entering.run.job (around_of self.old) (around_of self.new) }
         ensures back { before (course_of self.new) ≡ course_of self.old }
         ensures more { vec_len self.new.running ≡ vec_len self.old.running + 1 }
+        ensures stamp { self.new.stamp ≡ self.old.stamp }
         ensures removals { self.new.removals ≡ self.old.removals }
         ensures table { self.new.table ≡ self.old.table }
     {
@@ -61,15 +64,17 @@ impl State {
     /// Ends the job at a place among those that run as it is told, with these contents at its targets where it is done.
     pub(crate) fn end_as(&mut self, place: usize, outcome: Outcome, made: Listing<Content>) -> Ended
         requires place { place < length (around_of self.old).running }
-        requires told { (d : Running) → IsTold self.old.table (slice_index_or (around_of self.old).running place d) outcome made }
+        requires told { (d : Running) → IsTold self.old.table (run_at (around_of self.old) place d) outcome made }
         ensures ended { Ends (Unit {0}) result (around_of self.old) (around_of self.new) }
         ensures back { before (course_of self.new) ≡ course_of self.old }
-        ensures chosen { (d : Running) → result.id ≡ (slice_index_or (around_of self.old).running place d).job.id }
+        ensures chosen { (d : Running) → result.id ≡ (run_at (around_of self.old) place d).job.id }
         ensures outcome { result.outcome ≡ outcome }
-        ensures absent { (d : Running) (path : List ℕ) → outcome ≢ Outcome.Done → Contains (slice_index_or (around_of self.old).running place d).job.targets path → (around_of self.new).tree path ≡ None }
-        ensures met { (d : Running) → outcome ≡ Outcome.Done → (around_of self.new).met ≡ (around_of self.old).met ++ contents_in (makes self.old.table (slice_index_or (around_of self.old).running place d).job (slice_index_or (around_of self.old).running place d).given) }
+        ensures absent { LeavesNoneAt place outcome (around_of self.old) (around_of self.new) }
+        ensures met { MeetsMadeAt self.old.table place outcome (around_of self.old) (around_of self.new) }
         ensures unmet { outcome ≢ Outcome.Done → (around_of self.new).met ≡ (around_of self.old).met }
         ensures rest { self.new.running.items ≡ remove self.old.running.items place }
+        ensures stamps { StampsRun place self.old self.new }
+        ensures dirs { self.new.dirs ≡ self.old.dirs }
         ensures fewer { vec_len self.new.running + 1 ≡ vec_len self.old.running }
         ensures removals { self.new.removals ≡ self.old.removals }
         ensures table { self.new.table ≡ self.old.table }
@@ -88,6 +93,8 @@ impl State {
         ensures course { course_of self.new ≡ course_of self.old }
         ensures running { self.new.running.items ≡ self.old.running.items }
         ensures len { vec_len self.new.running ≡ vec_len self.old.running }
+        ensures dirs { self.new.dirs ≡ self.old.dirs }
+        ensures stamp { self.new.stamp ≡ self.old.stamp }
         ensures removals { self.new.removals ≡ self.old.removals }
         ensures table { self.new.table ≡ self.old.table }
     {

@@ -22,6 +22,7 @@ mod same;
 mod shared;
 mod sink;
 mod slots;
+mod start;
 mod state;
 mod stop;
 mod table;

@@ -1,12 +1,12 @@
 //! What a job makes, and how it ends: known as it starts.
 ghost use Rattle.std.specs.Prelude.{◌≡◌, List, ℕ, IfOk, map};
 ghost use Rattle.std.specs.Option.{option_copied};
-ghost use Rattle.world_api.specs.Act.{Given, Law, act};
-ghost use Rattle.world_api.specs.declared.job.Work.TheVariants.{Copy, Write};
+ghost use Rattle.world_api.specs.Act.{Law, act};
+ghost use Rattle.world_api.specs.declared.job.Work.TheVariants.{Copy};
 ghost use Rattle.world_api.specs.Around.{given_of};
 ghost use Rattle.world_mem.specs.InSlots.{slot_at, content_of};
-ghost use Rattle.world_mem.specs.Table.{shell_content, law_of, outcome_by};
-ghost use Rattle.world_mem.specs.Planned.{makes, ends, gives};
+ghost use Rattle.world_mem.specs.Table.{shell_content, outcome_by};
+ghost use Rattle.world_mem.specs.Planned.{makes, ends, gives, IsFirstContent, IsFirstText, IsRecipeOf, IsShellRecipe};
 
 use crate::contents::{Contents, copy_content};
 use crate::slots::Slots;
@@ -25,7 +25,7 @@ enum Recipe<'a> {
 }
 
 fn first_content(given: &Contents) -> Result<Content, Memory>
-    ensures { IfOk result (λ content. (law : Law) (signed targets : List (List ℕ)) (target : List ℕ) → content ≡ act law Copy signed targets given.now target) }
+    ensures { IfOk result (IsFirstContent given.now) }
 {
     match given.as_slice().first() {
         Some((_, content)) => copy_content(content),
@@ -34,7 +34,7 @@ fn first_content(given: &Contents) -> Result<Content, Memory>
 }
 
 fn first_text(alloc: Global, texts: &Texts) -> Result<Content, Memory>
-    ensures { IfOk result (λ content. (law : Law) (targets : List (List ℕ)) (given : Given) (target : List ℕ) → content ≡ act law Write texts.now targets given target) }
+    ensures { IfOk result (IsFirstText texts.now) }
 {
     match texts.as_slice().first() {
         Some(text) => Ok(Some(Blob::of(alloc, text.as_str().as_bytes())?)),
@@ -49,7 +49,7 @@ fn shell_recipe<'a>(
     signed: &Texts,
     given: &Contents,
 ) -> Result<Recipe<'a>, Memory>
-    ensures { IfOk result (λ recipe. (target : List ℕ) → gives recipe target ≡ shell_content (option_copied row.entry) signed.now given.now target) }
+    ensures { IfOk result (IsShellRecipe (option_copied row.entry) signed.now given.now) }
 {
     match row {
         Some(row) => match &row.made {
@@ -69,7 +69,7 @@ fn recipe_of<'a>(
     job: &Job,
     given: &Contents,
 ) -> Result<Recipe<'a>, Memory>
-    ensures { IfOk result (λ recipe. (target : List ℕ) → gives recipe target ≡ act (law_of table.now) job.now.work job.now.signed job.now.targets given.now target) }
+    ensures { IfOk result (IsRecipeOf table.now job.now given.now) }
 {
     match job.work {
         Work::Shell => {

@@ -1,8 +1,9 @@
 //! Room that is taken before it is needed.
-ghost use Rattle.std.specs.Prelude.{◌≡◌, ◌++◌, ◌∷◌, [], ◌+◌, ◌-◌, ◌<◌, ◌≤◌, ℕ, List, Some, IsSome, OnOk, length, vec_len};
-ghost use Rattle.std.specs.List.{slice_index_or};
+ghost use Rattle.std.specs.Prelude.{◌≡◌, ◌++◌, ◌∷◌, [], ◌+◌, ◌<◌, ◌≤◌, ℕ, List, Some, OnOk, vec_len};
 ghost use Rattle.std.specs.Vec.{vec_capacity};
 ghost use Rattle.world_mem.specs.InSlots.{slot_at, content_of, file_of, mark_of};
+ghost use Rattle.world_mem.specs.Settles.{HavePlaces};
+ghost use Rattle.world_mem.specs.Slotwise.{SlotsStay};
 ghost use Rattle.world_mem.specs.Standing.{is_dir};
 ghost use Rattle.world_mem.specs.declared.slots.Slot.{Slot};
 
@@ -81,13 +82,13 @@ pub fn make_places(
     targets: &Paths,
     fresh: &Paths,
 ) -> Result<(), Memory>
-    ensures kept { (path : List ℕ) (slot : Slot) → slot_at slots.old path ≡ Some slot → slot_at slots.new path ≡ Some slot }
+    ensures kept { SlotsStay slots.old slots.new }
     ensures same { (path : List ℕ) → content_of (slot_at slots.new path) ≡ content_of (slot_at slots.old path) }
     ensures files { (path : List ℕ) → file_of (slot_at slots.new path) ≡ file_of (slot_at slots.old path) }
     ensures marks { (path : List ℕ) → mark_of (slot_at slots.new path) ≡ mark_of (slot_at slots.old path) }
     ensures dirs { (dir : List ℕ) → is_dir dirs.new dir ≡ is_dir dirs.old dir }
-    ensures places { OnOk result ((k : ℕ) (d : List ℕ) → k < length targets.now → IsSome (slot_at slots.new (slice_index_or targets.now k d))) }
-    ensures fresh { OnOk result ((k : ℕ) (d : List ℕ) → k < length fresh.now → IsSome (slot_at dirs.new.slots (slice_index_or fresh.now k d))) }
+    ensures places { OnOk result (HavePlaces targets.now slots.new) }
+    ensures fresh { OnOk result (HavePlaces fresh.now dirs.new.slots) }
 {
     dirs.make_places(alloc, fresh)?;
     slots.make_places(alloc, targets)

@@ -1,5 +1,6 @@
 //! A sink in memory.
-ghost use Rattle.std.specs.Prelude.{◌≡◌, ◌≢◌, ◌+◌, ◌*◌, ◌-◌, ◌^◌, min, ◌<◌, ◌≤◌, ◌⊎◌, ◌↔◌, ℕ, List, [], ◌++◌, Ok, Err, length, IfOk, OnOk, OnErr, IsTrue, Contains, vec_len};
+ghost use Rattle.std.specs.Prelude.{◌≡◌, ◌+◌, ◌-◌, ◌^◌, min, ◌<◌, ◌≤◌, ◌⊎◌, ◌↔◌, ◌++◌, [], length, vec_len};
+ghost use Rattle.std.specs.Prelude.{IfOk, OnOk, OnErr, IsTrue, Contains};
 ghost use Rattle.std.specs.Vec.{vec_capacity};
 
 use scons_base::Memory;
@@ -52,7 +53,7 @@ impl MemSink {
 impl Sink for MemSink {
     ghost use Rattle.world_api.specs.Printed.{taken};
     ghost use Rattle.scons_base.specs.Rising.{Rose};
-    ghost use Rattle.world_mem.specs.SinkMeans.{sink_meaning};
+    ghost use Rattle.world_mem.specs.SinkMeans.{sink_meaning, IsListedWrite, Prints};
 
     ghost meaning = { sink_meaning };
 
@@ -61,12 +62,12 @@ impl Sink for MemSink {
         ensures some { IfOk result (λ count. 0 < count) }
         ensures within { IfOk result (λ count. count ≤ length bytes.now) }
         ensures told { sink_meaning.tells self.new → sink_meaning.tells self.old }
-        ensures printed { sink_meaning.tells self.new → sink_meaning.text self.new ≡ sink_meaning.text self.old ++ taken result bytes.now }
+        ensures printed { sink_meaning.tells self.new → Prints (taken result bytes.now) self.old self.new }
         ensures kept { OnOk result (sink_meaning.faults self.new ≡ sink_meaning.faults self.old) }
         ensures rose { OnErr result (Rose (sink_meaning.faults self.old) (sink_meaning.faults self.new)) }
         ensures once { OnErr result (self.new.faults ≡ min (self.old.faults + 1) (2 ^ 64 - 1)) }
-        ensures fails { OnErr result (Contains self.old.failing.items self.old.writes ⊎ (4194304 < vec_len self.old.text + length bytes.now)) }
-        ensures goes { OnOk result ((Contains self.old.failing.items self.old.writes → ⊥) × (vec_len self.old.text + length bytes.now ≤ 4194304)) }
+        ensures fails { OnErr result (IsListedWrite self.old ⊎ (4194304 < vec_len self.old.text + length bytes.now)) }
+        ensures goes { OnOk result ((IsListedWrite self.old → ⊥) × (vec_len self.old.text + length bytes.now ≤ 4194304)) }
         ensures whole { IfOk result (λ count. count ≡ length bytes.now) }
         ensures counted { self.new.writes ≡ min (self.old.writes + 1) (2 ^ 64 - 1) }
         ensures failing { self.new.failing ≡ self.old.failing }

@@ -1,12 +1,15 @@
 //! The tree as it is kept: a slot for each path that was ever a file or a target.
-ghost use Rattle.std.specs.Prelude.{◌≡◌, ◌≢◌, AllPairs, List, ℕ, None, Some, IsTrue, false, Contains, ◌↔◌, IfOk, IfErr, OnOk, OnErr, if◌then◌else◌, IsSome, ◌<◌, ◌++◌, length};
+ghost use Rattle.std.specs.Prelude.{◌≡◌, ◌≢◌, ◌↔◌, ◌++◌, AllPairs, List, ℕ, None, Some, IsTrue, Contains, IsSome};
+ghost use Rattle.std.specs.Prelude.{IfOk, IfErr, OnOk, OnErr, if◌then◌else◌};
 ghost use Rattle.std.specs.Option.{option_copied, is_some};
-ghost use Rattle.std.specs.List.{slice_index_or};
 ghost use Rattle.std.specs.Str.{bytes_eq};
 ghost use Rattle.scons_base.specs.Parts.{dir_of};
-ghost use Rattle.world_mem.specs.Blocked.{LiesBelow, HasAbove, HasBelow, IsBlocked, IsRefused, IsFirstRefused};
+ghost use Rattle.world_mem.specs.Blocked.{LiesBelow, HasAbove, HasBelow, IsBlocked, IsRefused, NamesFirst};
 ghost use Rattle.world_mem.specs.Files.{AreFiles, file_in};
-ghost use Rattle.world_mem.specs.InSlots.{slot_at, file_of, file_with, content_of, mark_of, stamp_at, file_at, name_in, written, emptied, taken, marked, settled, Stands, is_live, holds_live};
+ghost use Rattle.world_mem.specs.InSlots.{slot_at, file_of, file_with, content_of, mark_of, stamp_at, file_at, name_in};
+ghost use Rattle.world_mem.specs.InSlots.{written, emptied, taken, marked, settled, Stands, is_live, holds_live};
+ghost use Rattle.world_mem.specs.Settles.{HavePlaces};
+ghost use Rattle.world_mem.specs.Slotwise.{AreFilesIn, AreMarked, AreNamed, IsPut, IsWritten, SlotsStay};
 ghost use Rattle.world_mem.specs.declared.refusal.NewRefusal.{NewRefusal};
 ghost use Rattle.world_mem.specs.declared.slots.File.{File};
 ghost use Rattle.world_mem.specs.declared.slots.Slot.{Slot};
@@ -82,7 +85,7 @@ impl Slots {
     /// The files directly in a directory.
     pub fn list(&self, alloc: Global, dir: &PathText) -> Result<Paths, Memory>
         requires { (path : List ℕ) (file : File) → file_of (slot_at self.now path) ≡ Some file → file.name ≡ path }
-        ensures each { IfOk result (λ paths. (path : List ℕ) → Contains paths path ↔ (IsSome (content_of (slot_at self.now path)) × (dir_of path ≡ dir.now))) }
+        ensures each { IfOk result (AreFilesIn self.now dir.now) }
         ensures once { IfOk result (λ paths. AllPairs (λ one other. one ≢ other) paths) }
     {
         let mut paths = Paths::new(Vec::new(alloc));
@@ -181,9 +184,9 @@ impl Slots {
         ensures files { OnOk result ((path : List ℕ) → content_of (slot_at self.new path) ≡ file_at files.now path) }
         ensures unmarked { OnOk result ((path : List ℕ) → mark_of (slot_at self.new path) ≡ None) }
         ensures stamps { OnOk result ((path : List ℕ) → stamp_at (slot_at self.new path) ≡ 0) }
-        ensures named { OnOk result ((path : List ℕ) (file : File) → file_of (slot_at self.new path) ≡ Some file → file.name ≡ path) }
+        ensures named { OnOk result (AreNamed self.new) }
         ensures stand { OnOk result ((place : ℕ) → IsRefused files.now place → ⊥) }
-        ensures place { IfErr result (λ refusal. (place : ℕ) → refusal ≡ NewRefusal.Place place → IsFirstRefused files.now place) }
+        ensures place { IfErr result (NamesFirst files.now) }
     {
         for (place, (path, bytes)) in files.iter().enumerate() {
             if self.has_file(path) || self.is_blocked(alloc, path)? {
@@ -197,7 +200,7 @@ impl Slots {
 
     /// Puts a slot at a path.
     pub fn put(&mut self, alloc: Global, path: &PathText, slot: Slot) -> Result<(), Memory>
-        ensures ok { OnOk result ((other : List ℕ) → slot_at self.new other ≡ (if bytes_eq path.now other then Some slot else slot_at self.old other)) }
+        ensures ok { OnOk result (IsPut path.now slot self.old self.new) }
         ensures err { OnErr result ((other : List ℕ) → slot_at self.new other ≡ slot_at self.old other) }
     {
         let key = Vec::from_slice(alloc, path.as_str().as_bytes())?;
@@ -216,7 +219,7 @@ impl Slots {
 
     /// Makes a slot at a path that has none.
     pub fn make_place(&mut self, alloc: Global, path: &PathText) -> Result<(), Memory>
-        ensures kept { (other : List ℕ) (slot : Slot) → slot_at self.old other ≡ Some slot → slot_at self.new other ≡ Some slot }
+        ensures kept { SlotsStay self.old self.new }
         ensures same { (other : List ℕ) → content_of (slot_at self.new other) ≡ content_of (slot_at self.old other) }
         ensures files { (other : List ℕ) → file_of (slot_at self.new other) ≡ file_of (slot_at self.old other) }
         ensures live { (other : List ℕ) → holds_live (slot_at self.new other) ≡ holds_live (slot_at self.old other) }
@@ -231,12 +234,12 @@ impl Slots {
 
     /// Makes a slot at each path that has none.
     pub fn make_places(&mut self, alloc: Global, paths: &Paths) -> Result<(), Memory>
-        ensures kept { (other : List ℕ) (slot : Slot) → slot_at self.old other ≡ Some slot → slot_at self.new other ≡ Some slot }
+        ensures kept { SlotsStay self.old self.new }
         ensures same { (other : List ℕ) → content_of (slot_at self.new other) ≡ content_of (slot_at self.old other) }
         ensures files { (other : List ℕ) → file_of (slot_at self.new other) ≡ file_of (slot_at self.old other) }
         ensures live { (other : List ℕ) → holds_live (slot_at self.new other) ≡ holds_live (slot_at self.old other) }
         ensures marks { (other : List ℕ) → mark_of (slot_at self.new other) ≡ mark_of (slot_at self.old other) }
-        ensures stand { OnOk result ((k : ℕ) (d : List ℕ) → k < length paths.now → IsSome (slot_at self.new (slice_index_or paths.now k d))) }
+        ensures stand { OnOk result (HavePlaces paths.now self.new) }
     {
         for path in paths.as_slice() {
             self.make_place(alloc, path)?;
@@ -246,7 +249,7 @@ impl Slots {
 
     /// Marks the slots of a job's targets.
     pub fn mark(&mut self, targets: &Paths, id: u32)
-        ensures { (path : List ℕ) → slot_at self.new path ≡ marked targets.now (Slot.Running id) path (slot_at self.old path) }
+        ensures { AreMarked targets.now (Slot.Running id) self.old self.new }
     {
         for target in targets.as_slice() {
             self.write(target, Slot::Running(id));
@@ -255,7 +258,7 @@ impl Slots {
 
     /// Leaves no file at these paths.
     pub fn clear(&mut self, targets: &Paths)
-        ensures { (path : List ℕ) → slot_at self.new path ≡ marked targets.now (Slot.Settled None) path (slot_at self.old path) }
+        ensures { AreMarked targets.now (Slot.Settled None) self.old self.new }
     {
         for target in targets.as_slice() {
             self.write(target, Slot::Settled(None));
@@ -273,7 +276,7 @@ impl Slots {
     }
 
     fn settle_one(&mut self, path: PathText, content: Content, stamp: u64)
-        ensures { (other : List ℕ) → slot_at self.new other ≡ written path (Slot.Settled (file_with stamp path content)) other (slot_at self.old other) }
+        ensures { IsWritten path (Slot.Settled (file_with stamp path content)) self.old self.new }
     {
         if let Some(place) = self.slots.get_mut(path.as_str().as_bytes()) {
             *place = Slot::Settled(file_with(path, content, stamp));

@@ -1,14 +1,15 @@
 //! The files, the jobs that run and the past.
 ghost use Rattle.std.specs.Prelude.{◌≡◌, ◌≢◌, ◌+◌, ◌-◌, ◌<◌, ◌≤◌, ℕ, List, Some, IsTrue, Contains, length, vec_len, IfOk, IfErr, map, [], ◌∷◌};
-ghost use Rattle.std.specs.List.{slice_index_or, list_any};
+ghost use Rattle.std.specs.List.{list_any};
 ghost use Rattle.std.specs.Str.{bytes_eq};
 ghost use Rattle.std.specs.Vec.{vec_capacity};
 ghost use Rattle.world_mem.specs.InSlots.{slot_at, file_of, content_of, mark_of, file_at};
 ghost use Rattle.world_api.specs.Around.{started_of};
-ghost use Rattle.world_mem.specs.Kept.{met_of, contents_in, entry_of, IdsApart, is_target};
+ghost use Rattle.world_mem.specs.Kept.{met_of, contents_in, entry_of, AreOwned, HoldMet, IdsApart, MarkTargets};
 ghost use Rattle.std.specs.Prelude.{◌↔◌, ◌⊎◌, OnOk};
 ghost use Rattle.world_mem.specs.Blocked.{HasBelow, HasFile};
 ghost use Rattle.world_mem.specs.Planned.{makes, ends};
+ghost use Rattle.world_mem.specs.Raises.{Gains};
 ghost use Rattle.world_mem.specs.Standing.{is_dir};
 ghost use Rattle.world_mem.specs.declared.running.RunningJob.{RunningJob};
 ghost use Rattle.world_mem.specs.declared.slots.File.{File};
@@ -17,11 +18,10 @@ ghost use Rattle.world_mem.specs.declared.slots.Slot.TheVariants as slot;
 use crate::contents::{Contents, group_of};
 use crate::dirs::Dirs;
 use crate::ending::conclude;
-use crate::event::{Event, Faults};
+use crate::event::Event;
 use crate::past::{Change, Ending};
-use crate::plan::{given_of, made_by, outcome_of};
 use crate::refusal::NewRefusal;
-use crate::room::{add, make_places, widen, widen_all};
+use crate::room::{add, widen};
 use crate::running::RunningJob;
 use crate::slots::{File, Slot, Slots, file_of};
 use crate::table::ActTable;
@@ -52,14 +52,14 @@ pub struct State {
     ghost removals_within: { removals ≤ 262144 },
     ghost past_capacity: { 262144 ≤ vec_capacity past },
     ghost past_room: { vec_len past + vec_len running + (262144 - removals) ≤ vec_capacity past },
-    ghost owned: { (run : RunningJob) (path : List ℕ) → Contains running.items run → Contains run.job.targets path → slot_at slots path ≡ Some (slot.Running run.job.id) },
-    ghost marks: { (path : List ℕ) (id : ℕ) → mark_of (slot_at slots path) ≡ Some id → IsTrue (is_target running.items path) },
+    ghost owned: { AreOwned running.items slots },
+    ghost marks: { MarkTargets running.items slots },
     ghost apart: { IdsApart running.items },
     ghost planned: { (run : RunningJob) → Contains running.items run → run.made ≡ makes table run.job run.given },
     ghost kept: { (run : RunningJob) → Contains running.items run → run.kept ≡ run.made },
     ghost gains: { (run : RunningJob) → Contains running.items run → run.gained ≡ length (contents_in run.made) },
     ghost ending: { (run : RunningJob) → Contains running.items run → run.outcome ≡ ends table run.job run.given },
-    ghost held: { (path bytes : List ℕ) → content_of (slot_at slots path) ≡ Some bytes → IsTrue (list_any (bytes_eq bytes) (met_of met.items)) },
+    ghost held: { HoldMet met.items slots },
     ghost named: { (path : List ℕ) (file : File) → file_of (slot_at slots path) ≡ Some file → file.name ≡ path },
     ghost started: { jobs.items ≡ started_of (map entry_of log.items) },
 }
@@ -76,20 +76,25 @@ pub struct Entering {
 impl State {
     ghost use Rattle.std.specs.Prelude.{◌++◌, ◌||◌, if◌then◌else◌, OnErr, IsSome, None, false, unwrap_or, codes};
     ghost use Rattle.std.specs.List.{remove};
-    ghost use Rattle.std.specs.Option.{option_copied};
+    ghost use Rattle.std.specs.Option.{option_copied, is_some};
     ghost use Rattle.world_api.specs.Around.{IsUnused, IsRunningTarget, Running, given_of};
     ghost use Rattle.world_api.specs.Calls.{Asks, MakesDir, Removes, CanStart, Starts, Ends};
     ghost use Rattle.world_api.specs.Reads.{IsListing, kind_of, stamp_of};
     ghost use Rattle.world_mem.specs.AsAround.{around_of};
     ghost use Rattle.world_mem.specs.AsCourse.{course_of};
-    ghost use Rattle.world_mem.specs.Blocked.{AreBlocked, IsBarred, IsInTheWay, IsRefused, IsFirstRefused, LiesBelow};
+    ghost use Rattle.world_mem.specs.Blocked.{AreBlocked, IsBarred, IsInTheWay, IsRefused, LiesBelow, NamesFirst};
     ghost use Rattle.world_mem.specs.Standing.{is_always, is_in};
     ghost use Rattle.world_mem.specs.declared.refusal.NewRefusal.{NewRefusal};
-    ghost use Rattle.world_mem.specs.ByHand.{Edits, Loses};
+    ghost use Rattle.world_mem.specs.ByHand.{Edits, FilesStay, Loses, StampsStay};
     ghost use Rattle.world_mem.specs.InSlots.{settled};
     ghost use Rattle.world_mem.specs.CallCounts.{next};
     ghost use Rattle.world_mem.specs.Kept.{counts_of};
-    ghost use Rattle.world_mem.specs.Stamps.{Stamps};
+    ghost use Rattle.world_mem.specs.Left.{Cover};
+    ghost use Rattle.world_mem.specs.Raises.{AreDirsOf};
+    ghost use Rattle.world_mem.specs.Runs.{run_at, EndsBy, LeavesNoneAt, MeetsMadeAt};
+    ghost use Rattle.world_mem.specs.Settles.{HavePlaces};
+    ghost use Rattle.world_mem.specs.Slotwise.{AreSettled};
+    ghost use Rattle.world_mem.specs.Stamps.{Stamps, StampsRun};
     ghost use Rattle.world_mem.specs.Past.{before};
     ghost use Rattle.world_mem.specs.Table.{law_of};
 
@@ -99,7 +104,7 @@ impl State {
         table: ActTable,
     ) -> Result<State, NewRefusal>
         ensures tree { IfOk result (λ state. (path : List ℕ) → (around_of state).tree path ≡ file_at files.now path) }
-        ensures dirs { IfOk result (λ state. (dir : List ℕ) → IsTrue ((around_of state).dirs dir) ↔ (IsTrue (is_always dir) ⊎ HasBelow (HasFile files.now) dir)) }
+        ensures dirs { IfOk result (λ state. AreDirsOf files.now (around_of state)) }
         ensures running { IfOk result (λ state. (around_of state).running ≡ []) }
         ensures none { IfOk result (λ state. vec_len state.running ≡ 0) }
         ensures log { IfOk result (λ state. (around_of state).log ≡ []) }
@@ -111,7 +116,7 @@ impl State {
         ensures stamp { IfOk result (λ state. state.stamp ≡ 0) }
         ensures stamps { IfOk result (λ state. (path : List ℕ) → (around_of state).stamps path ≡ 0) }
         ensures stand { OnOk result ((place : ℕ) → IsRefused files.now place → ⊥) }
-        ensures place { IfErr result (λ refusal. (place : ℕ) → refusal ≡ NewRefusal.Place place → IsFirstRefused files.now place) }
+        ensures place { IfErr result (NamesFirst files.now) }
     {
         let mut slots = Slots::new(alloc);
         slots.fill(alloc, files)?;
@@ -166,7 +171,7 @@ impl State {
 
     /// The files directly in a directory.
     pub fn list(&self, alloc: Global, dir: &PathText) -> Result<Paths, Memory>
-        ensures { IfOk result (IsListing (around_of self.now) dir.now) }
+        ensures files { IfOk result (IsListing (around_of self.now) dir.now) }
     {
         self.slots.list(alloc, dir)
     }
@@ -209,11 +214,13 @@ impl State {
     }
 
     /// Removes a file. Says whether one stood there.
+    #[tactic(auto, using(crate::proofs::Went::stands))]
     pub fn remove(&mut self, path: &PathText) -> bool
         requires unused { IsUnused (around_of self.old).running path.now }
         requires room { self.old.removals < 262144 }
         ensures removed { Removes path.now (around_of self.old) (around_of self.new) }
         ensures gone { (around_of self.new).tree path.now ≡ None }
+        ensures stood { result ≡ is_some ((around_of self.old).tree path.now) }
         ensures back { IsTrue result → before (course_of self.new) ≡ course_of self.old }
         ensures same { result ≡ false → course_of self.new ≡ course_of self.old }
         ensures removals { self.new.removals ≡ self.old.removals + (if result then 1 else 0) }
@@ -262,215 +269,22 @@ impl State {
         Ok(())
     }
 
-    /// Starts a job.
-    pub fn start(&mut self, alloc: Global, job: Job, faults: Faults) -> Result<(), Memory>
-        requires { CanStart job (around_of self.old) }
-        ensures ok { OnOk result (Starts job (counts_of faults) (around_of self.old) (around_of self.new)) }
-        ensures back { OnOk result (before (course_of self.new) ≡ course_of self.old) }
-        ensures same { OnErr result (course_of self.new ≡ course_of self.old) }
-        ensures removals { self.new.removals ≡ self.old.removals }
-        ensures more { OnOk result (vec_len self.new.running ≡ vec_len self.old.running + 1) }
-        ensures fewer { OnErr result (vec_len self.new.running ≡ vec_len self.old.running) }
-        ensures table { self.new.table ≡ self.old.table }
-        ensures stamp { self.new.stamp ≡ self.old.stamp }
-    {
-        let entering = self.prepare(alloc, job, faults)?;
-        self.make_room(alloc, &entering)?;
-        self.enter(entering);
-        Ok(())
-    }
-
-    pub(crate) fn prepare(
-        &self,
-        alloc: Global,
-        job: Job,
-        faults: Faults,
-    ) -> Result<Entering, Memory>
-        ensures job { IfOk result (λ e. e.run.job ≡ job) }
-        ensures given { IfOk result (λ e. e.run.given ≡ given_of (around_of self.now).tree job.deps) }
-        ensures made { IfOk result (λ e. e.run.made ≡ makes self.now.table job e.run.given) }
-        ensures kept { IfOk result (λ e. e.run.kept ≡ e.run.made) }
-        ensures gains { IfOk result (λ e. e.run.gained ≡ length (contents_in e.run.made)) }
-        ensures outcome { IfOk result (λ e. e.run.outcome ≡ ends self.now.table job e.run.given) }
-        ensures event { IfOk result (λ e. e.event ≡ Event.Started job faults) }
-        ensures started { IfOk result (λ e. e.job ≡ job) }
-        ensures dirs { IfOk result (λ e. (dir : List ℕ) → Contains e.dirs dir ↔ (((target : List ℕ) × Contains job.targets target × LiesBelow target dir) × (is_dir self.now.dirs dir ≡ false))) }
-    {
-        let event = Event::Started(job.copy(alloc)?, faults);
-        let started = job.copy(alloc)?;
-        let mut dirs = Paths::new(Vec::new(alloc));
-        self.missing_above(alloc, &job.targets, &mut dirs)?;
-        let run = self.plan(alloc, job)?;
-        Ok(Entering {
-            run,
-            event,
-            job: started,
-            dirs,
-        })
-    }
-
-    fn missing_above(&self, alloc: Global, targets: &Paths, dirs: &mut Paths) -> Result<(), Memory>
-        requires { dirs.old ≡ [] }
-        ensures { OnOk result ((dir : List ℕ) → Contains dirs.new dir ↔ (((target : List ℕ) × Contains targets.now target × LiesBelow target dir) × (is_dir self.now.dirs dir ≡ false))) }
-    {
-        for target in targets.as_slice() {
-            self.dirs.missing_above(alloc, target, dirs)?;
-        }
-        Ok(())
-    }
-
-    fn plan(&self, alloc: Global, job: Job) -> Result<RunningJob, Memory>
-        ensures job { IfOk result (λ run. run.job ≡ job) }
-        ensures given { IfOk result (λ run. run.given ≡ given_of (around_of self.now).tree job.deps) }
-        ensures made { IfOk result (λ run. run.made ≡ makes self.now.table job run.given) }
-        ensures kept { IfOk result (λ run. run.kept ≡ run.made) }
-        ensures gains { IfOk result (λ run. run.gained ≡ length (contents_in run.made)) }
-        ensures outcome { IfOk result (λ run. run.outcome ≡ ends self.now.table job run.given) }
-    {
-        let given = given_of(alloc, &self.slots, &job.deps)?;
-        let made = made_by(alloc, &self.table, &job, &given)?;
-        let kept = made.copy()?;
-        let outcome = outcome_of(&self.table, &job, &given);
-        let gained = made.files();
-        Ok(RunningJob {
-            job,
-            given,
-            outcome,
-            made,
-            kept,
-            gained,
-        })
-    }
-
-    /// Takes the room for a job, its start and its ending.
-    pub(crate) fn make_room(&mut self, alloc: Global, entering: &Entering) -> Result<(), Memory>
-        ensures course { course_of self.new ≡ course_of self.old }
-        ensures running { self.new.running.items ≡ self.old.running.items }
-        ensures running_len { vec_len self.new.running ≡ vec_len self.old.running }
-        ensures log { self.new.log.items ≡ self.old.log.items }
-        ensures met { self.new.met.items ≡ self.old.met.items }
-        ensures past { self.new.past.items ≡ self.old.past.items }
-        ensures dirs { (dir : List ℕ) → is_dir self.new.dirs dir ≡ is_dir self.old.dirs dir }
-        ensures table { self.new.table ≡ self.old.table }
-        ensures stamp { self.new.stamp ≡ self.old.stamp }
-        ensures removals { self.new.removals ≡ self.old.removals }
-        ensures places { OnOk result ((k : ℕ) (d : List ℕ) → k < length entering.now.run.job.targets → IsSome (slot_at self.new.slots (slice_index_or entering.now.run.job.targets k d))) }
-        ensures fresh { OnOk result ((k : ℕ) (d : List ℕ) → k < length entering.now.dirs → IsSome (slot_at self.new.dirs.slots (slice_index_or entering.now.dirs k d))) }
-        ensures log_room { OnOk result (vec_len self.new.log + vec_len self.new.running + 2 ≤ vec_capacity self.new.log) }
-        ensures met_room { OnOk result (vec_len self.new.met + vec_len self.new.running + 1 ≤ vec_capacity self.new.met) }
-        ensures run_room { OnOk result (vec_len self.new.running + 1 ≤ vec_capacity self.new.running) }
-        ensures job_room { OnOk result (vec_len self.new.jobs + 1 ≤ vec_capacity self.new.jobs) }
-        ensures past_room { OnOk result (vec_len self.new.past + vec_len self.new.running + (262144 - self.new.removals) + 2 ≤ vec_capacity self.new.past) }
-    {
-        self.make_places(alloc, &entering.run.job.targets, &entering.dirs)?;
-        self.widen()?;
-        Ok(())
-    }
-
-    /// Makes the places of a job's targets, and of the directories above them.
-    fn make_places(&mut self, alloc: Global, targets: &Paths, fresh: &Paths) -> Result<(), Memory>
-        ensures course { course_of self.new ≡ course_of self.old }
-        ensures running { self.new.running ≡ self.old.running }
-        ensures log { self.new.log ≡ self.old.log }
-        ensures met { self.new.met ≡ self.old.met }
-        ensures past { self.new.past ≡ self.old.past }
-        ensures dirs { (dir : List ℕ) → is_dir self.new.dirs dir ≡ is_dir self.old.dirs dir }
-        ensures table { self.new.table ≡ self.old.table }
-        ensures stamp { self.new.stamp ≡ self.old.stamp }
-        ensures removals { self.new.removals ≡ self.old.removals }
-        ensures places { OnOk result ((k : ℕ) (d : List ℕ) → k < length targets.now → IsSome (slot_at self.new.slots (slice_index_or targets.now k d))) }
-        ensures fresh { OnOk result ((k : ℕ) (d : List ℕ) → k < length fresh.now → IsSome (slot_at self.new.dirs.slots (slice_index_or fresh.now k d))) }
-    {
-        make_places(alloc, &mut self.slots, &mut self.dirs, targets, fresh)
-    }
-
-    /// Takes the room for one job more in what is listed.
-    fn widen(&mut self) -> Result<(), Memory>
-        ensures course { course_of self.new ≡ course_of self.old }
-        ensures running { self.new.running.items ≡ self.old.running.items }
-        ensures running_len { vec_len self.new.running ≡ vec_len self.old.running }
-        ensures log { self.new.log.items ≡ self.old.log.items }
-        ensures met { self.new.met.items ≡ self.old.met.items }
-        ensures past { self.new.past.items ≡ self.old.past.items }
-        ensures slots { self.new.slots ≡ self.old.slots }
-        ensures dirs { self.new.dirs ≡ self.old.dirs }
-        ensures table { self.new.table ≡ self.old.table }
-        ensures stamp { self.new.stamp ≡ self.old.stamp }
-        ensures removals { self.new.removals ≡ self.old.removals }
-        ensures log_room { OnOk result (vec_len self.new.log + vec_len self.new.running + 2 ≤ vec_capacity self.new.log) }
-        ensures met_room { OnOk result (vec_len self.new.met + vec_len self.new.running + 1 ≤ vec_capacity self.new.met) }
-        ensures run_room { OnOk result (vec_len self.new.running + 1 ≤ vec_capacity self.new.running) }
-        ensures job_room { OnOk result (vec_len self.new.jobs + 1 ≤ vec_capacity self.new.jobs) }
-        ensures past_room { OnOk result (vec_len self.new.past + vec_len self.new.running + (262144 - self.new.removals) + 2 ≤ vec_capacity self.new.past) }
-    {
-        let changes = self.running.len() + (CALL_ROOM - self.removals) + 2;
-        widen_all(
-            &mut self.past,
-            &mut self.log,
-            &mut self.met,
-            &mut self.jobs,
-            &mut self.running,
-            changes,
-        )
-    }
-
-    pub(crate) fn enter(&mut self, entering: Entering)
-        requires new_id { (other : RunningJob) → Contains self.old.running.items other → other.job.id ≢ entering.run.job.id }
-        requires own_targets { (other : RunningJob) (path : List ℕ) → Contains self.old.running.items other → Contains entering.run.job.targets path → Contains other.job.targets path → ⊥ }
-        requires clear { (path : List ℕ) → Contains entering.run.job.targets path → content_of (slot_at self.old.slots path) ≡ None }
-        requires made { entering.run.made ≡ makes self.old.table entering.run.job entering.run.given }
-        requires kept { entering.run.kept ≡ entering.run.made }
-        requires gains { entering.run.gained ≡ length (contents_in entering.run.made) }
-        requires outcome { entering.run.outcome ≡ ends self.old.table entering.run.job entering.run.given }
-        requires places { (k : ℕ) (d : List ℕ) → k < length entering.run.job.targets → IsSome (slot_at self.old.slots (slice_index_or entering.run.job.targets k d)) }
-        requires fresh { (k : ℕ) (d : List ℕ) → k < length entering.dirs → IsSome (slot_at self.old.dirs.slots (slice_index_or entering.dirs k d)) }
-        requires absent { (dir : List ℕ) → Contains entering.dirs dir → is_dir self.old.dirs dir ≡ false }
-        requires started { started_of (entry_of entering.event ∷ []) ≡ entering.job ∷ [] }
-        requires log_room { vec_len self.old.log + vec_len self.old.running + 2 ≤ vec_capacity self.old.log }
-        requires met_room { vec_len self.old.met + vec_len self.old.running + 1 ≤ vec_capacity self.old.met }
-        requires run_room { vec_len self.old.running + 1 ≤ vec_capacity self.old.running }
-        requires job_room { vec_len self.old.jobs + 1 ≤ vec_capacity self.old.jobs }
-        requires past_room { vec_len self.old.past + vec_len self.old.running + (262144 - self.old.removals) + 2 ≤ vec_capacity self.old.past }
-        ensures others { (path : List ℕ) → (Contains entering.run.job.targets path → ⊥) → slot_at self.new.slots path ≡ slot_at self.old.slots path }
-        ensures dirs { (dir : List ℕ) → is_dir self.new.dirs dir ≡ (is_in entering.dirs dir || is_dir self.old.dirs dir) }
-        ensures running { self.new.running.items ≡ self.old.running.items ++ entering.run ∷ [] }
-        ensures running_len { vec_len self.new.running ≡ vec_len self.old.running + 1 }
-        ensures log { self.new.log.items ≡ self.old.log.items ++ entering.event ∷ [] }
-        ensures met { self.new.met.items ≡ self.old.met.items }
-        ensures back { before (course_of self.new) ≡ course_of self.old }
-        ensures table { self.new.table ≡ self.old.table }
-        ensures stamp { self.new.stamp ≡ self.old.stamp }
-        ensures removals { self.new.removals ≡ self.old.removals }
-    {
-        let Entering {
-            run,
-            event,
-            job,
-            dirs,
-        } = entering;
-        self.slots.mark(&run.job.targets, run.job.id);
-        self.dirs.raise(&dirs);
-        add(&mut self.running, run);
-        add(&mut self.log, event);
-        add(&mut self.jobs, job);
-        add(&mut self.past, Change::Started(dirs));
-    }
-
     /// Ends the job at a place among those that run, the oldest at 0: as planned, or as it is cut.
     pub fn end(&mut self, place: usize, cut: Option<Outcome>) -> Ended
         requires place { place < length (around_of self.old).running }
         requires cut { cut ≢ Some Outcome.Done }
         ensures ended { Ends (Unit {0}) result (around_of self.old) (around_of self.new) }
         ensures back { before (course_of self.new) ≡ course_of self.old }
-        ensures chosen { (d : Running) → result.id ≡ (slice_index_or (around_of self.old).running place d).job.id }
-        ensures outcome { (d : Running) → result.outcome ≡ unwrap_or cut (ends self.old.table (slice_index_or (around_of self.old).running place d).job (slice_index_or (around_of self.old).running place d).given) }
-        ensures absent { (d : Running) (path : List ℕ) → result.outcome ≢ Outcome.Done → Contains (slice_index_or (around_of self.old).running place d).job.targets path → (around_of self.new).tree path ≡ None }
-        ensures met { (d : Running) → result.outcome ≡ Outcome.Done → (around_of self.new).met ≡ (around_of self.old).met ++ contents_in (makes self.old.table (slice_index_or (around_of self.old).running place d).job (slice_index_or (around_of self.old).running place d).given) }
+        ensures chosen { (d : Running) → result.id ≡ (run_at (around_of self.old) place d).job.id }
+        ensures outcome { EndsBy self.old.table place cut result.outcome (around_of self.old) }
+        ensures absent { LeavesNoneAt place result.outcome (around_of self.old) (around_of self.new) }
+        ensures met { MeetsMadeAt self.old.table place result.outcome (around_of self.old) (around_of self.new) }
         ensures unmet { result.outcome ≢ Outcome.Done → (around_of self.new).met ≡ (around_of self.old).met }
         ensures rest { self.new.running.items ≡ remove self.old.running.items place }
-        ensures stamps { (d : Running) → Stamps (Contains (slice_index_or (around_of self.old).running place d).job.targets) self.old self.new }
+        ensures stamps { StampsRun place self.old self.new }
         ensures fewer { vec_len self.new.running + 1 ≡ vec_len self.old.running }
         ensures no_memory { cut ≢ Some Outcome.NoMemory → result.outcome ≢ Outcome.NoMemory }
+        ensures dirs { self.new.dirs ≡ self.old.dirs }
         ensures removals { self.new.removals ≡ self.old.removals }
         ensures table { self.new.table ≡ self.old.table }
     {
@@ -560,11 +374,11 @@ impl State {
         requires name { file.name ≡ path.now }
         requires group { group ≡ (path.now, Some file.bytes) ∷ [] }
         requires place { IsSome (slot_at self.old.slots path.now) }
-        requires places { (k : ℕ) (d : List ℕ) → k < length fresh.now → IsSome (slot_at self.old.dirs.slots (slice_index_or fresh.now k d)) }
+        requires places { HavePlaces fresh.now self.old.dirs.slots }
         requires room { vec_len self.old.met + vec_len self.old.running + 1 ≤ vec_capacity self.old.met }
         ensures file { (around_of self.new).tree path.now ≡ Some file.bytes }
-        ensures others { (other : List ℕ) → other ≢ path.now → (around_of self.new).tree other ≡ (around_of self.old).tree other }
-        ensures stamps { (other : List ℕ) → other ≢ path.now → (around_of self.new).stamps other ≡ (around_of self.old).stamps other }
+        ensures others { FilesStay path.now (around_of self.old) (around_of self.new) }
+        ensures stamps { StampsStay path.now (around_of self.old) (around_of self.new) }
         ensures stamp { self.new.stamp ≡ file.stamp }
         ensures stamped { (around_of self.new).stamps path.now ≡ file.stamp }
         ensures dirs { (dir : List ℕ) → is_dir self.new.dirs dir ≡ (is_in fresh.now dir || is_dir self.old.dirs dir) }
@@ -585,13 +399,13 @@ impl State {
     pub fn leave(&mut self, targets: Contents, kept: Contents)
         requires room { vec_len self.old.met < vec_capacity self.old.met }
         requires same { kept ≡ targets }
-        requires covers { (run : RunningJob) (path : List ℕ) → Contains self.old.running.items run → Contains run.job.targets path → Contains (map (λ entry. entry.0) targets) path }
+        requires covers { Cover self.old.running.items targets }
         ensures gone { self.new.removals ≡ 0 }
         ensures idle { vec_len self.new.running ≡ 0 }
         ensures none { self.new.running.items ≡ [] }
         ensures log { self.new.log.items ≡ [] }
         ensures stamp { self.new.stamp ≡ next self.old.stamp }
-        ensures settled { (path : List ℕ) → slot_at self.new.slots path ≡ settled self.new.stamp targets path (slot_at self.old.slots path) }
+        ensures settled { AreSettled self.new.stamp targets self.old.slots self.new.slots }
         ensures met { self.new.met.items ≡ self.old.met.items ++ kept ∷ [] }
         ensures dirs { self.new.dirs ≡ self.old.dirs }
         ensures table { self.new.table ≡ self.old.table }
@@ -625,7 +439,7 @@ fn with_room<T: Drop>(alloc: Global, room: usize) -> Result<Vec<T>, Memory>
 
 /// Lets the directories above the files stand.
 fn raise_above(alloc: Global, dirs: &mut Dirs, files: &[(PathText, Blob)]) -> Result<(), Memory>
-    ensures { OnOk result ((dir : List ℕ) → IsTrue (is_dir dirs.new dir) ↔ (IsTrue (is_dir dirs.old dir) ⊎ HasBelow (HasFile files.now) dir)) }
+    ensures { OnOk result (Gains (HasBelow (HasFile files.now)) dirs.old dirs.new) }
 {
     for (path, _) in files {
         dirs.raise_above(alloc, path)?;

@@ -79,22 +79,23 @@ impl MemWorld {
     ghost use Rattle.world_mem.specs.AsAround.{around_of};
     ghost use Rattle.world_mem.specs.CallCounts.{Fails};
     ghost use Rattle.world_api.specs.Around.{IsRunningTarget};
-    ghost use Rattle.world_mem.specs.Left.{Leaves, makings, names};
-    ghost use Rattle.world_mem.specs.Means.{world_meaning};
+    ghost use Rattle.world_mem.specs.Left.{AreTargets, Leaves};
+    ghost use Rattle.world_mem.specs.LeftBy.{AreLeft, AreSynced, LeavesBy, banks_of, outcomes_of};
+    ghost use Rattle.world_mem.specs.Means.{world_meaning, image_in, seen_in};
     ghost use Rattle.world_mem.specs.Room.{recorded};
     ghost use Rattle.world_mem.specs.Stamps.{Stamps};
     ghost use Rattle.world_mem.specs.Stays.{Stays, IsAnew};
     ghost use Rattle.world_mem.specs.declared.calls.Call.{Call};
 
-    /// One outcome of a stop at this moment, chosen by `pick`: nothing runs, the log is empty, and no call is to fail. By pick
-    /// 0 every write stands, by 1 none that wasn't synced.
+    /// One outcome of a stop at this moment, chosen by `pick`: nothing runs, the log is empty, and no call is to fail. By
+    /// pick 0 every write stands, by 1 none that wasn't synced.
     pub fn stop(self, pick: u32) -> Result<MemWorld, (MemWorld, Memory)>
         ensures image { IfOk result (λ world. (bank : Bank) → world_meaning.image self bank (world_meaning.seen world bank)) }
-        ensures picked { IfOk result (λ world. (bank : Bank) → world_meaning.seen world bank ≡ left_of pick (store_of self.banks) bank) }
-        ensures stands { pick ≡ 0 → IfOk result (λ world. (bank : Bank) → world_meaning.seen world bank ≡ world_meaning.seen self bank) }
-        ensures lost { pick % 4 ≡ 1 → IfOk result (λ world. (bank : Bank) → world_meaning.seen world bank ≡ synced_in (store_of self.banks) bank) }
+        ensures picked { IfOk result (λ world. AreLeft pick (store_of self.banks) (seen_in world)) }
+        ensures stands { pick ≡ 0 → IfOk result (λ world. (bank : Bank) → seen_in world bank ≡ seen_in self bank) }
+        ensures lost { pick % 4 ≡ 1 → IfOk result (λ world. AreSynced (store_of self.banks) (seen_in world)) }
         ensures settled { IfOk result (λ world. (bank : Bank) → IsSettled world_meaning world bank) }
-        ensures left { IfOk result (λ world. Leaves (left_over pick (makings self.state.table (around_of self.state).running)) (around_of self.state) (around_of world.state)) }
+        ensures left { IfOk result (λ world. LeavesBy pick self.state world.state) }
         ensures stamps { IfOk result (λ world. Stamps (IsRunningTarget (around_of self.state).running) self.state world.state) }
         ensures idle { IfOk result (λ world. (around_of world.state).running ≡ []) }
         ensures clock { IfOk result (λ world. world_meaning.clock world ≡ 0) }
@@ -122,13 +123,13 @@ impl MemWorld {
 
     /// What a stop leaves, and room to keep it.
     fn left_by(&mut self, pick: u32) -> Result<Left, Memory>
-        ensures image { IfOk result (λ left. (bank : Bank) → world_meaning.image self.old bank (one_of bank left.a.items left.b.items)) }
-        ensures picked { IfOk result (λ left. (bank : Bank) → one_of bank left.a.items left.b.items ≡ left_of pick (store_of self.old.banks) bank) }
-        ensures stands { pick ≡ 0 → IfOk result (λ left. (bank : Bank) → one_of bank left.a.items left.b.items ≡ world_meaning.seen self.old bank) }
-        ensures lost { pick % 4 ≡ 1 → IfOk result (λ left. (bank : Bank) → one_of bank left.a.items left.b.items ≡ synced_in (store_of self.old.banks) bank) }
-        ensures targets { IfOk result (λ left. left.targets ≡ left_over pick (makings self.new.state.table (around_of self.new.state).running)) }
+        ensures image { IfOk result (λ left. (bank : Bank) → image_in self.old bank (banks_of left bank)) }
+        ensures picked { IfOk result (λ left. AreLeft pick (store_of self.old.banks) (banks_of left)) }
+        ensures stands { pick ≡ 0 → IfOk result (λ left. (bank : Bank) → banks_of left bank ≡ seen_in self.old bank) }
+        ensures lost { pick % 4 ≡ 1 → IfOk result (λ left. AreSynced (store_of self.old.banks) (banks_of left)) }
+        ensures targets { IfOk result (λ left. left.targets ≡ outcomes_of pick self.new.state) }
         ensures covers { IfOk result (λ left. Cover self.new.state.running.items left.targets) }
-        ensures only { IfOk result (λ left. (path : List ℕ) → Contains (names left.targets) path → IsRunningTarget (around_of self.new.state).running path) }
+        ensures only { IfOk result (λ left. AreTargets left.targets (around_of self.new.state).running) }
         ensures room { OnOk result (vec_len self.new.state.met < vec_capacity self.new.state.met) }
         ensures stays { Stays self.old self.new }
         ensures table { self.new.state.table ≡ self.old.state.table }
@@ -149,7 +150,7 @@ impl MemWorld {
     /// Goes on with what was left.
     fn go_on(&mut self, left: Left)
         requires covers { Cover self.old.state.running.items left.targets }
-        requires only { (path : List ℕ) → Contains (names left.targets) path → IsRunningTarget (around_of self.old.state).running path }
+        requires only { AreTargets left.targets (around_of self.old.state).running }
         requires room { vec_len self.old.state.met < vec_capacity self.old.state.met }
         ensures seen { (bank : Bank) → world_meaning.seen self.new bank ≡ one_of bank left.a.items left.b.items }
         ensures settled { (bank : Bank) → IsSettled world_meaning self.new bank }

@@ -56,7 +56,8 @@ fn cut_of(verdict: Verdict) -> Option<Outcome>
 }
 
 impl World for MemWorld {
-    ghost use Rattle.std.specs.Prelude.{◌↔◌, ◌⊎◌, ◌++◌, [], List, None, Contains, IsTrue, IsErr, OnOk, OnErr, unwrap_or};
+    ghost use Rattle.std.specs.List.{remove};
+    ghost use Rattle.std.specs.Prelude.{◌↔◌, ◌⊎◌, [], List, None, Contains, IsTrue, IsErr, OnOk, OnErr, unwrap_or};
     ghost use Rattle.scons_base.specs.Parts.{is_absolute};
     ghost use Rattle.world_api.specs.Around.{IsUnused, Running};
     ghost use Rattle.world_api.specs.Calls.{Asks, MakesDir, Removes, CanStart, IsClosed, IsOpen, Starts, Ends};
@@ -70,12 +71,15 @@ impl World for MemWorld {
     ghost use Rattle.world_mem.specs.Held.{held_of};
     ghost use Rattle.world_mem.specs.Kept.{tree_fault, start_fault};
     ghost use Rattle.world_mem.specs.Laws.{none_closed};
-    ghost use Rattle.world_mem.specs.Means.{world_meaning};
+    ghost use Rattle.world_mem.specs.EachCall.{Keeps, Looks, RecordsRemoval, RemoveCall, TreeCall};
+    ghost use Rattle.world_mem.specs.Means.{world_meaning, around_in, closed_in, counts_in, tells};
+    ghost use Rattle.world_mem.specs.Raises.{Raises, SameDirs};
     ghost use Rattle.world_mem.specs.Room.{recorded};
-    ghost use Rattle.world_mem.specs.EachCall.{Keeps, TreeCall};
-    ghost use Rattle.world_mem.specs.Refuses.{IsGoneAnyway};
+    ghost use Rattle.world_mem.specs.Runs.{LeavesNone};
+    ghost use Rattle.world_mem.specs.Ready.{StartsNow};
+    ghost use Rattle.world_mem.specs.Refuses.{CantMake, CantStart, IsGoneAnyway};
     ghost use Rattle.world_mem.specs.Stamps.{Stamps};
-    ghost use Rattle.world_mem.specs.Waits.{ended_by, row_ending, row_contents};
+    ghost use Rattle.world_mem.specs.Waits.{ended_by, place_by, EndsAsListed, MeetsRow};
     ghost use Rattle.world_mem.specs.declared.calls.Call.{Call};
 
     ghost held = { λ w told path bytes is off. held_of w.state path bytes is };
@@ -83,16 +87,17 @@ impl World for MemWorld {
     ghost shut = { λ w told path closed. none_closed path closed };
 
     fn top_path(&mut self) -> Result<PathText, AskRefusal>
-        ensures top { world_meaning.tells self.new → IfOk result (λ path. path ≡ (world_meaning.around self.new).top) }
+        ensures top { tells self.new → IfOk result (λ path. path ≡ (around_in self.new).top) }
         ensures absolute { IfOk result (λ path. IsTrue (is_absolute path)) }
-        ensures around { world_meaning.tells self.new → Asks (world_meaning.around self.old) (world_meaning.around self.new) }
-        ensures banks { world_meaning.tells self.new → BanksKept world_meaning self.old self.new }
+        ensures around { tells self.new → Asks (around_in self.old) (around_in self.new) }
+        ensures banks { tells self.new → BanksKept world_meaning self.old self.new }
         ensures told { Told world_meaning self.old self.new }
         ensures recalls { Recalls world_meaning self.old self.new }
         ensures time { Throughout world_meaning self.old self.new (Meanwhile world_meaning self.old self.new) }
-        ensures kept { result ≢ Err AskRefusal.Fault → world_meaning.counts self.new ≡ world_meaning.counts self.old }
-        ensures rose { result ≡ Err AskRefusal.Fault → TreeFails (world_meaning.counts self.old) (world_meaning.counts self.new) }
+        ensures kept { result ≢ Err AskRefusal.Fault → counts_in self.new ≡ counts_in self.old }
+        ensures rose { result ≡ Err AskRefusal.Fault → TreeFails (counts_in self.old) (counts_in self.new) }
         ensures exactly { result ≡ Err AskRefusal.Fault ↔ Fails Call.TopPath self.old.calls }
+        ensures looks { Looks self.old self.new }
         ensures each { TreeCall Call.TopPath tree_fault (result ≡ Err AskRefusal.Fault) self.old self.new }
     {
         if self.calls.next(Call::TopPath) != Verdict::Goes {
@@ -106,16 +111,17 @@ impl World for MemWorld {
     }
 
     fn kind(&mut self, path: &PathText) -> Result<Kind, Fault>
-        ensures kind { world_meaning.tells self.new → IfOk result (λ kind. kind ≡ kind_of (world_meaning.around self.new) path.now) }
-        ensures shut { IsClosed (world_meaning.closed self.old) path.now → IfOk result (λ kind. kind ≡ Kind.Absent) }
-        ensures around { world_meaning.tells self.new → Asks (world_meaning.around self.old) (world_meaning.around self.new) }
-        ensures banks { world_meaning.tells self.new → BanksKept world_meaning self.old self.new }
+        ensures kind { tells self.new → IfOk result (λ kind. kind ≡ kind_of (around_in self.new) path.now) }
+        ensures shut { IsClosed (closed_in self.old) path.now → IfOk result (λ kind. kind ≡ Kind.Absent) }
+        ensures around { tells self.new → Asks (around_in self.old) (around_in self.new) }
+        ensures banks { tells self.new → BanksKept world_meaning self.old self.new }
         ensures told { Told world_meaning self.old self.new }
         ensures recalls { Recalls world_meaning self.old self.new }
         ensures time { Throughout world_meaning self.old self.new (Meanwhile world_meaning self.old self.new) }
-        ensures kept { OnOk result (world_meaning.counts self.new ≡ world_meaning.counts self.old) }
-        ensures rose { OnErr result (TreeFails (world_meaning.counts self.old) (world_meaning.counts self.new)) }
+        ensures kept { OnOk result (counts_in self.new ≡ counts_in self.old) }
+        ensures rose { OnErr result (TreeFails (counts_in self.old) (counts_in self.new)) }
         ensures exactly { IsErr result ↔ Fails Call.Kind self.old.calls }
+        ensures looks { Looks self.old self.new }
         ensures each { TreeCall Call.Kind tree_fault (IsErr result) self.old self.new }
     {
         if self.calls.next(Call::Kind) != Verdict::Goes {
@@ -126,19 +132,20 @@ impl World for MemWorld {
     }
 
     fn read_file(&mut self, path: &PathText, limit: u64) -> Result<Content, ReadRefusal>
-        ensures content { world_meaning.tells self.new → IfOk result (λ content. content ≡ (world_meaning.around self.new).tree path.now) }
+        ensures content { tells self.new → IfOk result (λ content. content ≡ (around_in self.new).tree path.now) }
         ensures within { IfOk result (λ content. IfSome content (λ bytes. length bytes ≤ limit)) }
-        ensures large { world_meaning.tells self.new → IfErr result (IsOver ((world_meaning.around self.new).tree path.now)) }
+        ensures large { tells self.new → IfErr result (IsOver ((around_in self.new).tree path.now)) }
         ensures over { IfErr result (λ refusal. (size : ℕ) → refusal ≡ ReadRefusal.TooLarge size → limit < size) }
-        ensures shut { IsClosed (world_meaning.closed self.old) path.now → IfOk result (λ content. content ≡ None) }
-        ensures around { world_meaning.tells self.new → Asks (world_meaning.around self.old) (world_meaning.around self.new) }
-        ensures banks { world_meaning.tells self.new → BanksKept world_meaning self.old self.new }
+        ensures shut { IsClosed (closed_in self.old) path.now → IfOk result (λ content. content ≡ None) }
+        ensures around { tells self.new → Asks (around_in self.old) (around_in self.new) }
+        ensures banks { tells self.new → BanksKept world_meaning self.old self.new }
         ensures told { Told world_meaning self.old self.new }
         ensures recalls { Recalls world_meaning self.old self.new }
         ensures time { Throughout world_meaning self.old self.new (Meanwhile world_meaning self.old self.new) }
-        ensures kept { result ≢ Err ReadRefusal.Fault → world_meaning.counts self.new ≡ world_meaning.counts self.old }
-        ensures rose { result ≡ Err ReadRefusal.Fault → TreeFails (world_meaning.counts self.old) (world_meaning.counts self.new) }
+        ensures kept { result ≢ Err ReadRefusal.Fault → counts_in self.new ≡ counts_in self.old }
+        ensures rose { result ≡ Err ReadRefusal.Fault → TreeFails (counts_in self.old) (counts_in self.new) }
         ensures exactly { result ≡ Err ReadRefusal.Fault ↔ Fails Call.ReadFile self.old.calls }
+        ensures looks { Looks self.old self.new }
         ensures each { TreeCall Call.ReadFile tree_fault (result ≡ Err ReadRefusal.Fault) self.old self.new }
     {
         if self.calls.next(Call::ReadFile) != Verdict::Goes {
@@ -149,16 +156,17 @@ impl World for MemWorld {
     }
 
     fn list(&mut self, dir: &PathText) -> Result<Paths, AskRefusal>
-        ensures files { world_meaning.tells self.new → IfOk result (IsListing (world_meaning.around self.new) dir.now) }
-        ensures shut { IfOk result (λ paths. (path : List ℕ) → Contains paths path → IsClosed (world_meaning.closed self.old) path → ⊥) }
-        ensures around { world_meaning.tells self.new → Asks (world_meaning.around self.old) (world_meaning.around self.new) }
-        ensures banks { world_meaning.tells self.new → BanksKept world_meaning self.old self.new }
+        ensures files { tells self.new → IfOk result (IsListing (around_in self.new) dir.now) }
+        ensures shut { IfOk result (λ paths. (path : List ℕ) → Contains paths path → IsClosed (closed_in self.old) path → ⊥) }
+        ensures around { tells self.new → Asks (around_in self.old) (around_in self.new) }
+        ensures banks { tells self.new → BanksKept world_meaning self.old self.new }
         ensures told { Told world_meaning self.old self.new }
         ensures recalls { Recalls world_meaning self.old self.new }
         ensures time { Throughout world_meaning self.old self.new (Meanwhile world_meaning self.old self.new) }
-        ensures kept { result ≢ Err AskRefusal.Fault → world_meaning.counts self.new ≡ world_meaning.counts self.old }
-        ensures rose { result ≡ Err AskRefusal.Fault → TreeFails (world_meaning.counts self.old) (world_meaning.counts self.new) }
+        ensures kept { result ≢ Err AskRefusal.Fault → counts_in self.new ≡ counts_in self.old }
+        ensures rose { result ≡ Err AskRefusal.Fault → TreeFails (counts_in self.old) (counts_in self.new) }
         ensures exactly { result ≡ Err AskRefusal.Fault ↔ Fails Call.List self.old.calls }
+        ensures looks { Looks self.old self.new }
         ensures each { TreeCall Call.List tree_fault (result ≡ Err AskRefusal.Fault) self.old self.new }
     {
         if self.calls.next(Call::List) != Verdict::Goes {
@@ -169,16 +177,17 @@ impl World for MemWorld {
     }
 
     fn stamp(&mut self, path: &PathText) -> Result<Option<u64>, Fault>
-        ensures stamp { world_meaning.tells self.new → IfOk result (λ stamp. stamp ≡ stamp_of (world_meaning.around self.new) path.now) }
-        ensures shut { IsClosed (world_meaning.closed self.old) path.now → IfOk result (λ stamp. stamp ≡ None) }
-        ensures around { world_meaning.tells self.new → Asks (world_meaning.around self.old) (world_meaning.around self.new) }
-        ensures banks { world_meaning.tells self.new → BanksKept world_meaning self.old self.new }
+        ensures stamp { tells self.new → IfOk result (λ stamp. stamp ≡ stamp_of (around_in self.new) path.now) }
+        ensures shut { IsClosed (closed_in self.old) path.now → IfOk result (λ stamp. stamp ≡ None) }
+        ensures around { tells self.new → Asks (around_in self.old) (around_in self.new) }
+        ensures banks { tells self.new → BanksKept world_meaning self.old self.new }
         ensures told { Told world_meaning self.old self.new }
         ensures recalls { Recalls world_meaning self.old self.new }
         ensures time { Throughout world_meaning self.old self.new (Meanwhile world_meaning self.old self.new) }
-        ensures kept { OnOk result (world_meaning.counts self.new ≡ world_meaning.counts self.old) }
-        ensures rose { OnErr result (TreeFails (world_meaning.counts self.old) (world_meaning.counts self.new)) }
+        ensures kept { OnOk result (counts_in self.new ≡ counts_in self.old) }
+        ensures rose { OnErr result (TreeFails (counts_in self.old) (counts_in self.new)) }
         ensures exactly { IsErr result ↔ Fails Call.Stamp self.old.calls }
+        ensures looks { Looks self.old self.new }
         ensures each { TreeCall Call.Stamp tree_fault (IsErr result) self.old self.new }
     {
         if self.calls.next(Call::Stamp) != Verdict::Goes {
@@ -189,16 +198,16 @@ impl World for MemWorld {
     }
 
     fn make_dir(&mut self, path: &PathText) -> Result<(), AskRefusal>
-        requires { IsClosed (world_meaning.closed self.old) path.now → ⊥ }
-        ensures made { world_meaning.tells self.new → OnOk result (MakesDir path.now (world_meaning.around self.old) (world_meaning.around self.new)) }
-        ensures refused { world_meaning.tells self.new → OnErr result (Asks (world_meaning.around self.old) (world_meaning.around self.new)) }
-        ensures banks { world_meaning.tells self.new → BanksKept world_meaning self.old self.new }
+        requires { IsClosed (closed_in self.old) path.now → ⊥ }
+        ensures made { tells self.new → OnOk result (MakesDir path.now (around_in self.old) (around_in self.new)) }
+        ensures refused { tells self.new → OnErr result (Asks (around_in self.old) (around_in self.new)) }
+        ensures banks { tells self.new → BanksKept world_meaning self.old self.new }
         ensures told { Told world_meaning self.old self.new }
         ensures recalls { Recalls world_meaning self.old self.new }
         ensures time { Throughout world_meaning self.old self.new (Meanwhile world_meaning self.old self.new) }
-        ensures kept { result ≢ Err AskRefusal.Fault → world_meaning.counts self.new ≡ world_meaning.counts self.old }
-        ensures rose { result ≡ Err AskRefusal.Fault → TreeFails (world_meaning.counts self.old) (world_meaning.counts self.new) }
-        ensures exactly { result ≡ Err AskRefusal.Fault ↔ (Fails Call.MakeDir self.old.calls ⊎ IsInTheWay (world_meaning.around self.old) path.now) }
+        ensures kept { result ≢ Err AskRefusal.Fault → counts_in self.new ≡ counts_in self.old }
+        ensures rose { result ≡ Err AskRefusal.Fault → TreeFails (counts_in self.old) (counts_in self.new) }
+        ensures exactly { result ≡ Err AskRefusal.Fault ↔ CantMake self.old path.now }
         ensures each { TreeCall Call.MakeDir tree_fault (result ≡ Err AskRefusal.Fault) self.old self.new }
     {
         let goes = self.calls.next(Call::MakeDir) == Verdict::Goes;
@@ -215,20 +224,22 @@ impl World for MemWorld {
     }
 
     /// Removes a file. Where the call is listed as one that fails, with an odd number, the file is gone nevertheless.
+    #[tactic(auto, using(crate::proofs::Went::still_none))]
     fn remove(&mut self, path: &PathText) -> Result<(), Fault>
-        requires { world_meaning.tells self.old → IsUnused (world_meaning.around self.old).running path.now }
-        ensures gone { world_meaning.tells self.new → OnOk result ((world_meaning.around self.new).tree path.now ≡ None) }
-        ensures around { world_meaning.tells self.new → Removes path.now (world_meaning.around self.old) (world_meaning.around self.new) }
-        ensures banks { world_meaning.tells self.new → BanksKept world_meaning self.old self.new }
+        requires { tells self.old → IsUnused (around_in self.old).running path.now }
+        ensures gone { tells self.new → OnOk result ((around_in self.new).tree path.now ≡ None) }
+        ensures around { tells self.new → Removes path.now (around_in self.old) (around_in self.new) }
+        ensures banks { tells self.new → BanksKept world_meaning self.old self.new }
         ensures told { Told world_meaning self.old self.new }
         ensures recalls { Recalls world_meaning self.old self.new }
         ensures time { Throughout world_meaning self.old self.new (Meanwhile world_meaning self.old self.new) }
-        ensures kept { OnOk result (world_meaning.counts self.new ≡ world_meaning.counts self.old) }
-        ensures rose { OnErr result (TreeFails (world_meaning.counts self.old) (world_meaning.counts self.new)) }
+        ensures kept { OnOk result (counts_in self.new ≡ counts_in self.old) }
+        ensures rose { OnErr result (TreeFails (counts_in self.old) (counts_in self.new)) }
         ensures exactly { IsErr result ↔ (Fails Call.Remove self.old.calls ⊎ (262144 ≤ recorded self.old)) }
         ensures anyway { IsGoneAnyway self.old → (around_of self.new.state).tree path.now ≡ None }
         ensures stays { OnErr result ((IsGoneAnyway self.old → ⊥) → self.new.state ≡ self.old.state) }
-        ensures each { TreeCall Call.Remove tree_fault (IsErr result) self.old self.new }
+        ensures removals { RecordsRemoval path.now self.old self.new }
+        ensures each { RemoveCall (IsErr result) self.old self.new }
     {
         let odd = self.calls.count(Call::Remove) % 2 == 1;
         let verdict = self.calls.next(Call::Remove);
@@ -247,19 +258,20 @@ impl World for MemWorld {
 
     /// Starts a job, unless the call is listed as one that fails, or a target can't be a file.
     fn start(&mut self, job: Job) -> Result<(), AskRefusal>
-        requires free { world_meaning.tells self.old → CanStart job (world_meaning.around self.old) }
-        requires reachable { IsOpen (world_meaning.closed self.old) job }
-        ensures started { world_meaning.tells self.new → OnOk result (Starts job (world_meaning.counts self.old) (world_meaning.around self.old) (world_meaning.around self.new)) }
-        ensures refused { world_meaning.tells self.new → OnErr result (Asks (world_meaning.around self.old) (world_meaning.around self.new)) }
-        ensures banks { world_meaning.tells self.new → BanksKept world_meaning self.old self.new }
+        requires free { tells self.old → CanStart job (around_in self.old) }
+        requires reachable { IsOpen (closed_in self.old) job }
+        ensures started { tells self.new → OnOk result (StartsNow job self.old self.new) }
+        ensures refused { tells self.new → OnErr result (Asks (around_in self.old) (around_in self.new)) }
+        ensures banks { tells self.new → BanksKept world_meaning self.old self.new }
         ensures told { Told world_meaning self.old self.new }
         ensures recalls { Recalls world_meaning self.old self.new }
         ensures time { Throughout world_meaning self.old self.new (Meanwhile world_meaning self.old self.new) }
-        ensures kept { result ≢ Err AskRefusal.Fault → world_meaning.counts self.new ≡ world_meaning.counts self.old }
-        ensures rose { result ≡ Err AskRefusal.Fault → StartFails (world_meaning.counts self.old) (world_meaning.counts self.new) }
+        ensures kept { result ≢ Err AskRefusal.Fault → counts_in self.new ≡ counts_in self.old }
+        ensures rose { result ≡ Err AskRefusal.Fault → StartFails (counts_in self.old) (counts_in self.new) }
         ensures listed { Fails Call.Start self.old.calls → result ≡ Err AskRefusal.Fault }
-        ensures only { result ≡ Err AskRefusal.Fault → Fails Call.Start self.old.calls ⊎ AreBlocked (world_meaning.around self.old) job.targets }
-        ensures clear { OnOk result (AreBlocked (world_meaning.around self.old) job.targets → ⊥) }
+        ensures only { result ≡ Err AskRefusal.Fault → CantStart self.old job.targets }
+        ensures raised { OnOk result (Raises job (around_of self.old.state) (around_of self.new.state)) }
+        ensures clear { OnOk result (AreBlocked (around_in self.old) job.targets → ⊥) }
         ensures each { TreeCall Call.Start start_fault (result ≡ Err AskRefusal.Fault) self.old self.new }
     {
         let goes = self.calls.next(Call::Start) == Verdict::Goes;
@@ -276,19 +288,21 @@ impl World for MemWorld {
 
     /// Ends the job that the orders choose: as the table says, or as the call is listed.
     fn wait(&mut self) -> Ended
-        requires { world_meaning.tells self.old → (world_meaning.around self.old).running ≢ [] }
-        ensures around { world_meaning.tells self.new → Ends (world_meaning.sure self.new) result (world_meaning.around self.old) (world_meaning.around self.new) }
-        ensures banks { world_meaning.tells self.new → BanksKept world_meaning self.old self.new }
+        requires { tells self.old → (around_in self.old).running ≢ [] }
+        ensures around { tells self.new → Ends (world_meaning.sure self.new) result (around_in self.old) (around_in self.new) }
+        ensures banks { tells self.new → BanksKept world_meaning self.old self.new }
         ensures told { Told world_meaning self.old self.new }
         ensures recalls { Recalls world_meaning self.old self.new }
         ensures time { Throughout world_meaning self.old self.new (Meanwhile world_meaning self.old self.new) }
-        ensures cause { HasOutcomeCause result.outcome (world_meaning.counts self.old) (world_meaning.counts self.new) }
+        ensures cause { HasOutcomeCause result.outcome (counts_in self.old) (counts_in self.new) }
         ensures once { self.new.faults ≡ faults_after result.outcome self.old.faults }
         ensures chosen { (d : Running) → result.id ≡ (ended_by self.old d).job.id }
-        ensures ends { (d : Running) → result.outcome ≡ unwrap_or (cut_of (verdict_of Call.Wait self.old.calls)) (row_ending self.old (ended_by self.old d)) }
-        ensures absent { (d : Running) (path : List ℕ) → result.outcome ≢ Outcome.Done → Contains (ended_by self.old d).job.targets path → (around_of self.new.state).tree path ≡ None }
-        ensures met { (d : Running) → result.outcome ≡ Outcome.Done → (around_of self.new.state).met ≡ (around_of self.old.state).met ++ row_contents self.old (ended_by self.old d) }
+        ensures ends { EndsAsListed self.old result.outcome }
+        ensures absent { (d : Running) → LeavesNone (ended_by self.old d) result.outcome (around_of self.new.state) }
+        ensures met { (d : Running) → MeetsRow self.old (ended_by self.old d) result.outcome self.new }
         ensures unmet { result.outcome ≢ Outcome.Done → (around_of self.new.state).met ≡ (around_of self.old.state).met }
+        ensures rest { (around_of self.new.state).running ≡ remove (around_of self.old.state).running (place_by self.old) }
+        ensures dirs { SameDirs (around_of self.old.state) (around_of self.new.state) }
         ensures no_memory { result.outcome ≢ Outcome.NoMemory }
         ensures stamps { (d : Running) → Stamps (Contains (ended_by self.old d).job.targets) self.old.state self.new.state }
         ensures counted { self.new.calls ≡ counted Call.Wait self.old.calls }
@@ -312,6 +326,7 @@ impl MemWorld {
     ghost use Rattle.world_api.specs.Calls.{Removes};
     ghost use Rattle.world_api.specs.Meaning.{Recalls, Throughout, Meanwhile};
     ghost use Rattle.world_mem.specs.AsAround.{around_of};
+    ghost use Rattle.world_mem.specs.EachCall.{RecordsRemoval};
     ghost use Rattle.world_mem.specs.Means.{world_meaning};
     ghost use Rattle.world_mem.specs.Room.{recorded};
     ghost use Rattle.std.specs.Prelude.{None};
@@ -330,6 +345,7 @@ impl MemWorld {
         ensures orders { self.new.orders ≡ self.old.orders }
         ensures table { self.new.state.table ≡ self.old.state.table }
         ensures stamp { self.new.state.stamp ≡ self.old.state.stamp }
+        ensures removals { RecordsRemoval path.now self.old self.new }
     {
         if !self.state.remove(path) {
             return;

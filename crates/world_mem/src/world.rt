@@ -1,11 +1,11 @@
 //! The world in memory, and its calls that are no calls of a world.
 ghost use Rattle.std.specs.Prelude.{◌≡◌, ◌+◌, ◌-◌, ◌<◌, ◌≤◌, ◌++◌, ◌∷◌, [], ℕ, List, None, Some, Contains, IfOk, length, vec_len};
 ghost use Rattle.std.specs.Vec.{vec_capacity};
-ghost use Rattle.world_api.specs.Around.{Running};
 ghost use Rattle.mem_banks.specs.AsStore.{store_of};
 ghost use Rattle.mem_banks.specs.declared.change.Change.TheVariants as changes;
 ghost use Rattle.mem_banks.specs.declared.change.Write.{Write};
 ghost use Rattle.world_mem.specs.AsAround.{around_of};
+ghost use Rattle.world_mem.specs.Runs.{AreUnmade};
 
 use crate::calls::{Call, Calls};
 use crate::event::Faults;
@@ -32,8 +32,9 @@ pub struct MemWorld {
     pub(crate) orders: Vec<u32>,
     pub(crate) faults: Faults,
     pub(crate) alloc: Global,
-    ghost unmade: { (run : Running) (path : List ℕ) → Contains (around_of state).running run → Contains run.job.targets path → (around_of state).tree path ≡ None },
-    ghost turns_room: { vec_len turns + vec_len state.running + (262144 - (vec_len banks.changes + state.removals)) ≤ vec_capacity turns },
+    ghost unmade: { AreUnmade (around_of state) },
+    ghost turns_room: { vec_len turns + vec_len state.running + (262144 - (vec_len banks.changes + state.removals))
+        ≤ vec_capacity turns },
     ghost since: { horizon ≤ length turns.items },
     ghost recorded_within: { vec_len banks.changes + state.removals ≤ 262144 },
     ghost turns_capacity: { 262144 ≤ vec_capacity turns },
@@ -41,22 +42,22 @@ pub struct MemWorld {
 }
 
 impl MemWorld {
-    ghost use Rattle.std.specs.Prelude.{◌↔◌, ◌⊎◌, nat_le, map, not, Err, IfErr, OnOk, OnErr, IsTrue};
+    ghost use Rattle.std.specs.Prelude.{◌↔◌, nat_le, map, not, Err, IfErr, OnOk, OnErr, IsTrue};
     ghost use Rattle.mem_banks.specs.Past.{is_dirty};
     ghost use Rattle.world_api.specs.Meaning.{IsSettled};
     ghost use Rattle.world_api.specs.declared.disk.Bank.{Bank};
-    ghost use Rattle.world_api.specs.Around.{IsRunningTarget, started_of};
+    ghost use Rattle.world_api.specs.Around.{started_of};
     ghost use Rattle.world_mem.specs.ByHand.{Edits, Loses};
     ghost use Rattle.world_mem.specs.Files.{AreFiles};
     ghost use Rattle.world_mem.specs.Stamps.{Stamps};
     ghost use Rattle.world_mem.specs.Stays.{Stays, IsAnew};
-    ghost use Rattle.world_mem.specs.Blocked.{IsBarred, IsRefused, IsFirstRefused, HasBelow, HasFile};
+    ghost use Rattle.world_mem.specs.Blocked.{IsKept, IsRefused, NamesFirst};
     ghost use Rattle.world_mem.specs.CallCounts.{count_of};
     ghost use Rattle.world_mem.specs.InSlots.{file_at};
-    ghost use Rattle.world_mem.specs.Kept.{counts_of};
+    ghost use Rattle.world_mem.specs.Kept.{counts_of, no_faults};
     ghost use Rattle.world_mem.specs.Means.{world_meaning};
     ghost use Rattle.world_mem.specs.Room.{recorded};
-    ghost use Rattle.world_mem.specs.Standing.{is_always};
+    ghost use Rattle.world_mem.specs.Raises.{AreDirsOf};
     ghost use Rattle.world_mem.specs.Table.{law_of};
     ghost use Rattle.world_mem.specs.declared.calls.Call.{Call};
     ghost use Rattle.world_mem.specs.declared.refusal.NewRefusal.{NewRefusal};
@@ -71,15 +72,20 @@ impl MemWorld {
         failing: Vec<(Call, u32)>,
     ) -> Result<MemWorld, NewRefusal>
         ensures tree { IfOk result (λ world. (path : List ℕ) → (around_of world.state).tree path ≡ file_at files.items path) }
-        ensures dirs { IfOk result (λ world. (dir : List ℕ) → IsTrue ((around_of world.state).dirs dir) ↔ (IsTrue (is_always dir) ⊎ HasBelow (HasFile files.items) dir)) }
+        ensures dirs { IfOk result (λ world. AreDirsOf files.items (around_of world.state)) }
         ensures running { IfOk result (λ world. (around_of world.state).running ≡ []) }
         ensures log { IfOk result (λ world. (around_of world.state).log ≡ []) }
         ensures met { IfOk result (λ world. (around_of world.state).met ≡ map (λ file. file.1) files.items) }
         ensures law { IfOk result (λ world. (around_of world.state).law ≡ law_of table) }
         ensures table { IfOk result (λ world. world.state.table ≡ table) }
         ensures seen { IfOk result (λ world. (bank : Bank) → world_meaning.seen world bank ≡ []) }
+        ensures settled { IfOk result (λ world. (bank : Bank) → IsSettled world_meaning world bank) }
+        ensures changes { IfOk result (λ world. (store_of world.banks).changes ≡ []) }
+        ensures room { IfOk result (λ world. recorded world ≡ 0) }
+        ensures written { IfOk result (λ world. world.banks.written ≡ 0) }
+        ensures anew { IfOk result IsAnew }
         ensures clock { IfOk result (λ world. world_meaning.clock world ≡ 0) }
-        ensures counts { IfOk result (λ world. counts_of world.faults ≡ record { disk_faults = 0; tree_faults = 0; start_faults = 0; action_failures = 0 }) }
+        ensures counts { IfOk result (λ world. counts_of world.faults ≡ no_faults) }
         ensures calls { IfOk result (λ world. (call : Call) → count_of call world.calls ≡ 0) }
         ensures orders { IfOk result (λ world. world.orders ≡ orders) }
         ensures stamp { IfOk result (λ world. world.state.stamp ≡ 0) }
@@ -87,7 +93,7 @@ impl MemWorld {
         ensures failing { IfOk result (λ world. world.calls.failing ≡ failing) }
         ensures unfused { IfOk result (λ world. world.calls.fuse ≡ None) }
         ensures stand { OnOk result ((place : ℕ) → IsRefused files.items place → ⊥) }
-        ensures place { IfErr result (λ refusal. (place : ℕ) → refusal ≡ NewRefusal.Place place → IsFirstRefused files.items place) }
+        ensures place { IfErr result (NamesFirst files.items) }
     {
         let state = State::new(alloc, &files, table)?;
         let banks = MemBanks::new(alloc)?;
@@ -142,11 +148,12 @@ impl MemWorld {
     pub fn edit(&mut self, path: &PathText, bytes: &[u8]) -> Result<(), EditRefusal>
         ensures edited { OnOk result (Edits path.now bytes.now (around_of self.old.state) (around_of self.new.state)) }
         ensures same { OnErr result (Stays self.old self.new) }
-        ensures place { result ≡ Err EditRefusal.Place ↔ (IsRunningTarget (around_of self.old.state).running path.now ⊎ IsBarred (around_of self.old.state) path.now) }
+        ensures place { result ≡ Err EditRefusal.Place ↔ IsKept (around_of self.old.state) path.now }
         ensures idle { (around_of self.old.state).running ≡ [] → (around_of self.new.state).running ≡ [] }
         ensures clock { world_meaning.clock self.new ≡ world_meaning.clock self.old }
         ensures anew { OnOk result (IsAnew self.new) }
         ensures stamps { OnOk result (Stamps (λ other. other ≡ path.now) self.old.state self.new.state) }
+        ensures removals { self.new.state.removals ≡ self.old.state.removals }
         ensures table { self.new.state.table ≡ self.old.state.table }
         ensures banks { self.new.banks ≡ self.old.banks }
         ensures faults { self.new.faults ≡ self.old.faults }
@@ -168,6 +175,7 @@ impl MemWorld {
         ensures clock { world_meaning.clock self.new ≡ world_meaning.clock self.old }
         ensures anew { IsAnew self.new }
         ensures stamp { self.new.state.stamp ≡ self.old.state.stamp }
+        ensures removals { self.new.state.removals ≡ self.old.state.removals }
         ensures table { self.new.state.table ≡ self.old.state.table }
         ensures banks { self.new.banks ≡ self.old.banks }
         ensures faults { self.new.faults ≡ self.old.faults }

@@ -1,5 +1,11 @@
+use Rattle.std.proofs.Common.{◌≡◌, true, drop}
 use Rattle.task_plan.specs.Plans.{Meets}
+use Rattle.task_plan.specs.Admits.{Admits, are_rules, queues}
 use Rattle.task_plan.proofs.plan.Plan.admit.Given as goal
 
 abbrev pub invariant-loop-place : goal.invariant-loop-place
-invariant-loop-place l = Meets l.initial.self l.self
+invariant-loop-place l = record {
+  meets : Meets l.initial.self l.self;
+  rules : are_rules l.graph l.needed.items ≡ true;
+  admits : Admits l.graph l.initial.self l.self (queues l.initial.needed.items) (drop l.place l.needed.items);
+}

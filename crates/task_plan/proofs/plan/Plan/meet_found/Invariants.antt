@@ -1,5 +1,9 @@
 use Rattle.task_plan.specs.Plans.{Meets}
+use Rattle.task_plan.specs.Admits.{Brings, none}
 use Rattle.task_plan.proofs.plan.Plan.meet_found.Given as goal
 
 abbrev pub invariant-loop-node : goal.invariant-loop-node
-invariant-loop-node l = Meets l.initial.self l.self
+invariant-loop-node l = record {
+  meets : Meets l.initial.self l.self;
+  brings : Brings l.graph l.initial.self l.self none l.initial.needed.items l.needed.items;
+}

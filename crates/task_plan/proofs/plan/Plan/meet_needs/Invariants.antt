@@ -1,5 +1,9 @@
 use Rattle.task_plan.specs.Plans.{Meets}
+use Rattle.task_plan.specs.Admits.{Brings, none}
 use Rattle.task_plan.proofs.plan.Plan.meet_needs.Given as goal
 
 abbrev pub invariant-loop-place : goal.invariant-loop-place
-invariant-loop-place l = Meets l.initial.self l.self
+invariant-loop-place l = record {
+  meets : Meets l.initial.self l.self;
+  brings : Brings l.graph l.initial.self l.self none l.initial.needed.items l.needed.items;
+}

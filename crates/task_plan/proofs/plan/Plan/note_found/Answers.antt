@@ -1,6 +1,8 @@
-use Rattle.std.proofs.Common.{arith, ◌≡◌, ◌<◌, length, get_or, true, false, refl}
-use Rattle.std.proofs.lemmas.Option.{slice_get_read}
+use Rattle.std.proofs.Common.{arith, ◌≡◌, ◌<◌, ◌≤◌, ◌∙◌, ap, length, get_or, true, false, refl, sym, Some, None}
+use Rattle.std.proofs.lemmas.Option.{slice_get_read, same_Some}
+use Rattle.task_plan.specs.Settled.{next_of}
 use Rattle.task_plan.proofs.TrackLemmas.{tracked_at, tracked_take}
+use Rattle.task_plan.proofs.NoteLemmas.{notes_unmarked, notes_past, notes_nothing, notes_file}
 use Rattle.task_plan.proofs.plan.Plan.note_found.Goals as goal
 
 pub take-requires-clause-scanned : goal.take-requires-clause-scanned
@@ -17,6 +19,13 @@ take-requires-clause-within c =
     let at = slice_get_read i.tasks.items (length i.tasks.items) c.args.rule.0 c.index_mut.result.now refl within c.index_mut.ensures.value in
     (tracked_at i.states i.queue i.tasks.items i.files.origins.items i.scannable c.args.rule.0 c.index_mut.result.now c.self.invariant at).needs.within
 
+pub take-requires-clause-listing : goal.take-requires-clause-listing
+take-requires-clause-listing c =
+    let i = c.self.inside in
+    let within : c.args.rule.0 < length i.tasks.items = omega (arith, i.tasks.ok.0, c.len.ensures, c.if-number-len.false) in
+    let at = slice_get_read i.tasks.items (length i.tasks.items) c.args.rule.0 c.index_mut.result.now refl within c.index_mut.ensures.value in
+    (tracked_at i.states i.queue i.tasks.items i.files.origins.items i.scannable c.args.rule.0 c.index_mut.result.now c.self.invariant at).listing
+
 pub invariant_of-self : goal.invariant_of-self
 invariant_of-self c =
     let i = c.self.inside in
@@ -26,7 +35,7 @@ invariant_of-self c =
     let not = c.if-not-contains.false in
     let marked : get_or i.scannable c.args.rule.0 false ≡ true = cc in
     rw c.put.ensures
-    (tracked_take i.states i.queue i.tasks.items i.files.origins.items i.scannable c.args.rule.0 c.index_mut.result.now c.take.new.self at marked c.take.ensures.needs c.take.ensures.scanned c.self.invariant)
+    (tracked_take i.states i.queue i.tasks.items i.files.origins.items i.scannable c.args.rule.0 c.index_mut.result.now c.take.new.self at marked c.take.ensures.needs c.take.ensures.scanned c.take.ensures.listing c.self.invariant)
 
 pub invariant_of-self-in-Some : goal.invariant_of-self-in-Some
 invariant_of-self-in-Some c =
@@ -37,4 +46,41 @@ invariant_of-self-in-Some c =
     let not = c.if-not-contains.false in
     let marked : get_or i.scannable c.args.rule.0 false ≡ true = cc in
     rw c.put.ensures
-    (tracked_take i.states i.queue i.tasks.items i.files.origins.items i.scannable c.args.rule.0 c.index_mut.result.now c.take.new.self at marked c.take.ensures.needs c.take.ensures.scanned c.self.invariant)
+    (tracked_take i.states i.queue i.tasks.items i.files.origins.items i.scannable c.args.rule.0 c.index_mut.result.now c.take.new.self at marked c.take.ensures.needs c.take.ensures.scanned c.take.ensures.listing c.self.invariant)
+
+pub returns-then-not-contains-clause-notes : goal.returns-then-not-contains-clause-notes
+returns-then-not-contains-clause-notes c =
+    let i = c.self.inside in
+    let is = c.contains.ensures in
+    let not = c.if-not-contains.true in
+    let unmarked : get_or i.scannable c.args.rule.0 false ≡ false = cc in
+    rw (sym c.self.view_is) (notes_unmarked i.states i.queue i.halted i.tasks.items i.files.origins.items i.scannable c.args.rule.0 unmarked)
+
+pub returns-then-number-len-clause-notes : goal.returns-then-number-len-clause-notes
+returns-then-number-len-clause-notes c =
+    let i = c.self.inside in
+    let past : length i.tasks.items ≤ c.args.rule.0 = omega (arith, i.tasks.ok.0, c.len.ensures, c.if-number-len.true) in
+    rw (sym c.self.view_is) (notes_past i.states i.queue i.halted i.tasks.items i.files.origins.items i.scannable c.args.rule.0 past)
+
+pub returns-in-None-clause-notes : goal.returns-in-None-clause-notes
+returns-in-None-clause-notes c =
+    let i = c.self.inside in
+    let within : c.args.rule.0 < length i.tasks.items = omega (arith, i.tasks.ok.0, c.len.ensures, c.if-number-len.false) in
+    let read = slice_get_read i.tasks.items (length i.tasks.items) c.args.rule.0 c.index.result.now refl within c.index.ensures in
+    rw (sym c.self.view_is)
+    (notes_nothing i.states i.queue i.halted i.tasks.items i.files.origins.items i.scannable c.args.rule.0 c.index.result.now read (sym c.in-None.ensures))
+
+pub returns-in_ok-take-in-Some-clause-notes : goal.returns-in_ok-take-in-Some-clause-notes
+returns-in_ok-take-in-Some-clause-notes c =
+    let i = c.self.inside in
+    let within : c.args.rule.0 < length i.tasks.items = omega (arith, i.tasks.ok.0, c.len.ensures, c.if-number-len.false) in
+    let at = slice_get_read i.tasks.items (length i.tasks.items) c.args.rule.0 c.index_mut.result.now refl within c.index_mut.ensures.value in
+    let read = slice_get_read i.tasks.items (length i.tasks.items) c.args.rule.0 c.index.result.now refl within c.index.ensures in
+    let same : c.index_mut.result.now ≡ c.index.result.now = same_Some _ _ (sym at ∙ read) in
+    let next : next_of c.index_mut.result.now ≡ Some c.in-Some.node = ap next_of same ∙ sym c.in-Some.ensures in
+    let is = c.contains.ensures in
+    let not = c.if-not-contains.false in
+    let marked : get_or i.scannable c.args.rule.0 false ≡ true = cc in
+    rw (sym c.self.view_is, c.put.ensures)
+    (notes_file i.states i.queue i.halted i.tasks.items i.files.origins.items i.scannable c.args.rule.0 c.index_mut.result.now c.take.new.self c.in-Some.node c.args.found.items at marked next
+    (c.self.invariant.marked c.args.rule.0 marked).waits c.take.ensures.names c.in_ok-take-in-Some.ensures.takes)

@@ -1,6 +1,8 @@
 use Rattle.std.proofs.Common.{sym}
 use Rattle.task_plan.specs.Plans.{AreWaiting}
+use Rattle.std.proofs.lemmas.Result.{on_ok_weaker}
 use Rattle.task_plan.proofs.PlanLemmas.{goes_on}
+use Rattle.task_plan.proofs.AdmitLemmas.{fits_step}
 use Rattle.task_plan.proofs.TrackLemmas.{waiting_of}
 use Rattle.task_plan.proofs.plan.Plan.step.Goals as goal
 
@@ -8,4 +10,10 @@ pub returns-clause-onward : goal.returns-clause-onward
 returns-clause-onward c =
     let i = c.self.inside in
     let w : AreWaiting c.args.self.now.states c.args.self.now.queue = rw (sym c.self.view_is) (waiting_of i.states i.queue i.tasks.items i.files.origins.items i.scannable c.self.invariant) in
-    goes_on c.args.self.now c.args.event c.take.new.self.states w c.take.ensures.states
+    goes_on c.args.self.now c.args.event c.take-taken.new.self.states w c.take-taken.ensures.states
+
+pub returns-clause-fits : goal.returns-clause-fits
+returns-clause-fits c =
+    let i = c.self.inside in
+    let w : AreWaiting c.args.self.now.states c.args.self.now.queue = rw (sym c.self.view_is) (waiting_of i.states i.queue i.tasks.items i.files.origins.items i.scannable c.self.invariant) in
+    on_ok_weaker c.take-taken.result (λ k. fits_step c.args.graph.now c.args.self.now c.take-taken.new.self c.args.event w c.take-taken.ensures.states k) c.take-taken.ensures.knows

@@ -4,8 +4,7 @@ use Rattle.task_plan.proofs.reach.Reach.note_whole.Given as goal
 
 abbrev pub invariant-loop-self : goal.invariant-loop-self
 invariant-loop-self l = record {
-  files : l.self.files ≡ l.initial.self.files;
-  found : l.self.found ≡ l.initial.self.found;
+  rest : l.self ≡ record l.initial.self { whole = l.self.whole };
   whole : AreScannedIn l.self.found.entries l.self.files.keys l.self.whole;
 }
 

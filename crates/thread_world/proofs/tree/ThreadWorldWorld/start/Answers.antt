@@ -69,6 +69,7 @@ returns-clause-keeps g c = record {
   banks = c.enter.ensures.keeps.banks ∙ c.hand_on.ensures.keeps.banks;
   table = c.enter.ensures.keeps.table ∙ c.hand_on.ensures.keeps.table;
   orders = c.enter.ensures.keeps.orders ∙ c.hand_on.ensures.keeps.orders;
+  removals = c.enter.ensures.keeps.removals ∙ c.hand_on.ensures.keeps.removals;
 }
 
 pub returns-clause-banks : goal.returns-clause-banks

@@ -4,6 +4,7 @@ use Rattle.std.specs.List.{slice_index_or}
 use Rattle.world_api.specs.Act.{Given}
 use Rattle.world_mem.specs.AsAround.{around_of}
 use Rattle.world_mem.specs.AsCourse.{course_of}
+use Rattle.world_mem.specs.Blocked.{LiesBelow}
 use Rattle.world_mem.specs.CallCounts.{next}
 use Rattle.world_mem.specs.InSlots.{slot_at}
 use Rattle.world_mem.specs.Kept.{met_of, contents_in, running_of, entry_of}
@@ -17,7 +18,7 @@ use Rattle.world_mem.specs.declared.slots.File.{File}
 use Rattle.world_mem.specs.declared.slots.Slots.{Slots}
 use Rattle.world_mem.proofs.Fresh.{from_nothing}
 use Rattle.world_mem.proofs.Marks.{met-push}
-use Rattle.world_mem.proofs.Raised.{edited_dirs}
+use Rattle.world_mem.proofs.Raised.{raised_by}
 use Rattle.world_mem.proofs.state.State.edit.Goals as goal
 
 at_err : {T E : Type 0} (result : Result T E) (P : Type 0) → P → OnErr result P
@@ -65,7 +66,7 @@ returns-clause-edited c =
       file = c.put.ensures.file ∙ ap (λ (file : File). Some file.bytes) c.in_ok-file.ensures;
       files = λ other apart. c.put.ensures.others other apart ∙ ap (λ (course : Course). course.around.tree other) course;
       stamps = λ other apart. c.put.ensures.stamps other apart ∙ ap (λ (course : Course). course.around.stamps other) course;
-      dirs = edited_dirs c.args.path.now fresh (is_dir old.dirs) (is_dir c.put.new.self.dirs)
+      dirs = raised_by (LiesBelow c.args.path.now) fresh (is_dir old.dirs) (is_dir c.put.new.self.dirs)
           (λ dir. c.put.ensures.dirs dir ∙ ap (λ b. is_in fresh dir || b) (ap (λ (course : Course). course.around.dirs dir) course))
           (λ dir. from_nothing c.new-fresh.result fresh dir _ (c.new-fresh.ensures ∙ c.new-2.ensures.items) (c.in_ok-missing_above.ensures dir));
       met = ap met_of c.put.ensures.met ∙ met-push mid.met.items c.in_ok-group.group

@@ -1,8 +1,10 @@
-use Rattle.std.proofs.Common.{rules, ◌≡◌, ◌∙◌, ◌<◌, sym, ap, length, map, List}
+use Rattle.std.proofs.Common.{rules, ◌≡◌, ◌∙◌, ◌<◌, sym, ap, subst, Contains, length, map, List}
 use Rattle.std.specs.List.{slice_index_or}
 use Rattle.std.proofs.lemmas.List.{length-map}
 use Rattle.world_api.specs.declared.job.Outcome.TheVariants.{Done}
+use Rattle.world_mem.specs.CallCounts.{next}
 use Rattle.world_mem.specs.Kept.{running_of}
+use Rattle.world_mem.specs.Stamps.{Stamps}
 use Rattle.world_mem.specs.Planned.{ends}
 use Rattle.world_mem.specs.declared.running.RunningJob.{RunningJob}
 use Rattle.world_mem.specs.declared.table.ActRow.{ActRow}
@@ -32,3 +34,10 @@ returns-clause-absent c = λ d path bad own. c.end-2.ensures.absent d path (λ d
 
 pub returns-clause-unmet : goal.returns-clause-unmet
 returns-clause-unmet c = λ bad. c.end-2.ensures.unmet (λ done. bad (sym (c.end-2.ensures.outcome c.end-2.ensures.ended.which) ∙ done))
+
+pub returns-then-eq-clause-stamps : goal.returns-then-eq-clause-stamps
+returns-then-eq-clause-stamps c = λ d.
+    let place = c.args.place in
+    let mid = c.refill.new.self in
+    let stamps = subst (λ (runs : List RunningJob). Stamps (Contains (slice_index_or (map running_of runs) place d).job.targets) mid c.end.new.self) c.refill.ensures.running (c.end.ensures.stamps d) in
+    record { counted = stamps.counted ∙ ap next c.refill.ensures.stamp; stamped = stamps.stamped }

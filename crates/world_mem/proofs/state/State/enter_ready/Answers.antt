@@ -1,16 +1,17 @@
-use Rattle.std.proofs.Common.{◌≡◌, ◌∙◌, sym, ap, refl, ℕ, List, ◌∷◌, ◌++◌, [], map}
+use Rattle.std.proofs.Common.{◌≡◌, ◌∙◌, sym, ap, refl, ℕ, List, Contains, ◌∷◌, ◌++◌, [], map}
 use Rattle.std.proofs.lemmas.List.{map-append}
 use Rattle.world_api.specs.Act.{Content}
 use Rattle.world_api.specs.Around.{given_of, started_of}
 use Rattle.world_api.specs.declared.job.Job.{Job}
 use Rattle.world_mem.specs.AsAround.{around_of}
+use Rattle.world_mem.specs.Blocked.{HasBelow}
 use Rattle.world_mem.specs.InSlots.{content_of, stamp_at}
 use Rattle.world_mem.specs.Kept.{met_of, running_of, entry_of}
 use Rattle.world_mem.specs.Standing.{is_dir}
 use Rattle.world_mem.specs.Table.{law_of}
 use Rattle.world_mem.specs.declared.event.Event.{Event}
 use Rattle.world_mem.proofs.Membership.{contains_map}
-use Rattle.world_mem.proofs.Raised.{gained_dirs, not_always}
+use Rattle.world_mem.proofs.Raised.{gained_dirs, not_always, raised_by}
 use Rattle.world_mem.proofs.state.State.enter_ready.Goals as goal
 
 pub enter-requires-clause-new_id : goal.enter-requires-clause-new_id
@@ -48,3 +49,9 @@ returns-clause-started c = λ faults event.
       law = ap law_of c.enter.ensures.table;
       top = refl;
     }
+
+pub returns-clause-raised : goal.returns-clause-raised
+returns-clause-raised c =
+    let old = c.args.self.now in
+    let run = c.args.entering.run in
+    raised_by (HasBelow (Contains run.job.targets)) c.args.entering.dirs (is_dir old.dirs) (is_dir c.enter.new.self.dirs) c.enter.ensures.dirs c.requires.dirs

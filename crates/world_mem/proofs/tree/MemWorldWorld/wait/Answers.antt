@@ -1,15 +1,20 @@
-use Rattle.std.proofs.Common.{◌≡◌, ◌≢◌, ◌%◌, refl, sym, subst, Option, Some, ℕ, length, slice_index, slice_index_or, Contains}
+use Rattle.std.proofs.Common.{◌≡◌, ◌≢◌, ◌∙◌, ◌%◌, refl, sym, ap, map, subst, Option, Some, ℕ, length, slice_index, slice_index_or, Contains}
 use Rattle.world_mem.specs.AsAround.{around_of}
 use Rattle.world_mem.specs.CallCounts.{count_of}
 use Rattle.world_mem.specs.declared.calls.Call.TheVariants.{Wait}
 use Rattle.mem_banks.specs.AsStore.{store_of}
 use Rattle.world_mem.specs.declared.past.Turn.TheVariants.{Tree}
+use Rattle.std.specs.List.{remove}
+use Rattle.world_mem.specs.Kept.{running_of}
 use Rattle.world_mem.specs.Stamps.{Stamps}
+use Rattle.world_mem.specs.Standing.{is_dir}
+use Rattle.world_mem.specs.declared.dirs.Dirs.{Dirs}
 use Rattle.world_api.specs.declared.job.Outcome.{Outcome}
 use Rattle.world_api.specs.declared.job.Outcome.TheVariants.{NoMemory}
 use Rattle.world_mem.proofs.Plain.{cut_memory}
 use Rattle.world_mem.proofs.Passing.{turn_recalls, turn_tree}
 use Rattle.world_mem.proofs.Unmade.{unmade_of}
+use Rattle.world_mem.proofs.Without.{map_without}
 use Rattle.world_mem.proofs.tree.MemWorldWorld.wait.Goals as goal
 
 pub invariant_of-self-clause-unmade : goal.invariant_of-self-clause-unmade
@@ -39,3 +44,13 @@ returns-clause-absent c = λ d path bad own.
     let running = (around_of c.args.self.now.state).running in
     let place : c.place_of-place.result ≡ slice_index c.args.self.now.orders.items (count_of Wait c.args.self.now.calls) % length running = cc in
     c.end-ended.ensures.absent d path bad (subst (λ (n : ℕ). Contains (slice_index_or running n d).job.targets path) (sym place) own)
+
+pub returns-clause-rest : goal.returns-clause-rest
+returns-clause-rest c =
+    let runs = c.args.self.now.state.running.items in
+    let running = (around_of c.args.self.now.state).running in
+    let place : c.place_of-place.result ≡ slice_index c.args.self.now.orders.items (count_of Wait c.args.self.now.calls) % length running = cc in
+    ap (map running_of) c.end-ended.ensures.rest ∙ map_without running_of runs c.place_of-place.result ∙ ap (remove running) place
+
+pub returns-clause-dirs : goal.returns-clause-dirs
+returns-clause-dirs c = λ dir. ap (λ (dirs : Dirs). is_dir dirs dir) c.end-ended.ensures.dirs

@@ -1,5 +1,7 @@
 use Rattle.std.proofs.Common.{refl, ap, ◌∙◌, map}
 use Rattle.world_mem.specs.Kept.{running_of}
+use Rattle.world_mem.specs.Standing.{is_dir}
+use Rattle.world_mem.specs.declared.dirs.Dirs.{Dirs}
 use Rattle.world_mem.proofs.Without.{map_without}
 use Rattle.mem_banks.specs.AsStore.{store_of}
 use Rattle.world_mem.specs.declared.past.Turn.TheVariants.{Tree}
@@ -18,3 +20,6 @@ returns-clause-time c = turn_tree Tree _ _ (record { turns = c.push.ensures.item
 
 pub returns-clause-rest : goal.returns-clause-rest
 returns-clause-rest c = ap (map running_of) c.end_as-ended.ensures.rest ∙ map_without running_of c.args.self.now.state.running.items c.args.place
+
+pub returns-clause-dirs : goal.returns-clause-dirs
+returns-clause-dirs c = λ dir. ap (λ (dirs : Dirs). is_dir dirs dir) c.end_as-ended.ensures.dirs

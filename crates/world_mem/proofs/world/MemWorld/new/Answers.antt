@@ -7,6 +7,8 @@ use Rattle.world_mem.specs.Standing.{is_always}
 use Rattle.world_mem.specs.Blocked.{IsRefused, IsFirstRefused, HasBelow, HasFile}
 use Rattle.world_mem.specs.declared.refusal.NewRefusal.TheVariants.{Place}
 use Rattle.mem_banks.specs.AsStore.{store_of}
+use Rattle.mem_banks.specs.Past.{bytes_in, IsLeft}
+use Rattle.mem_banks.specs.declared.change.Change.{Change}
 use Rattle.world_mem.proofs.Dirty.{counts_none}
 use Rattle.world_mem.proofs.Unmade.{unmade_of}
 use Rattle.world_mem.proofs.world.MemWorld.new.Goals as goal
@@ -35,3 +37,14 @@ returns-clause-stand c =
 pub returns-clause-dirs : goal.returns-clause-dirs
 returns-clause-dirs c =
     subst (λ (files : List (List ℕ × List ℕ)). (dir : List ℕ) → IsTrue ((around_of c.in_ok-state.state).dirs dir) ↔ (IsTrue (is_always dir) ⊎ HasBelow (HasFile files) dir)) c.deref.ensures.value c.in_ok-state.ensures.dirs
+
+pub returns-clause-room : goal.returns-clause-room
+returns-clause-room c =
+    let none = ap length c.in_ok-banks.ensures.changes in
+    let count = length-reverse c.in_ok-banks.banks.changes.items in
+    omega (arith, none, count, c.in_ok-banks.banks.changes.ok.0, c.in_ok-state.ensures.removals)
+
+pub returns-clause-settled : goal.returns-clause-settled
+returns-clause-settled c = λ bank outcome left.
+    let store = store_of c.in_ok-banks.banks in
+    subst (λ (changes : List Change). IsLeft bank changes (bytes_in store bank) store.saved outcome) c.in_ok-banks.ensures.changes left

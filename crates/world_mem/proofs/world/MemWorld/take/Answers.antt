@@ -3,6 +3,7 @@ use Rattle.mem_banks.specs.AsStore.{store_of}
 use Rattle.world_mem.specs.declared.past.Turn.TheVariants.{Tree}
 use Rattle.world_mem.proofs.Passing.{idle_recalls, idle_tree, turn_recalls, turn_tree}
 use Rattle.world_mem.proofs.Unmade.{unmade_of}
+use Rattle.world_mem.proofs.Went.{used}
 use Rattle.world_mem.proofs.world.MemWorld.take.Goals as goal
 
 pub invariant_of-self-clause-unmade : goal.invariant_of-self-clause-unmade
@@ -22,3 +23,9 @@ returns-clause-recalls c = turn_recalls Tree _ _ (record { turns = c.push.ensure
 
 pub returns-clause-time : goal.returns-clause-time
 returns-clause-time c = turn_tree Tree _ _ (record { turns = c.push.ensures.items; horizon = refl; since = c.args.self.now.since; machine = λ i. record { course = c.remove.ensures.back c.if-not-remove.false i; store = store_of c.args.self.now.banks } })
+
+pub returns-then-not-remove-clause-removals : goal.returns-then-not-remove-clause-removals
+returns-then-not-remove-clause-removals c = used c.args.self.now.state c.remove.new.self c.args.path.now c.remove.result c.remove.ensures.stood c.remove.ensures.gone c.remove.ensures.removals
+
+pub returns-clause-removals : goal.returns-clause-removals
+returns-clause-removals c = used c.args.self.now.state c.remove.new.self c.args.path.now c.remove.result c.remove.ensures.stood c.remove.ensures.gone c.remove.ensures.removals

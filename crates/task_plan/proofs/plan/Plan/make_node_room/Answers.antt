@@ -1,0 +1,7 @@
+use Rattle.task_plan.proofs.TrackLemmas.{tracked_origins}
+use Rattle.task_plan.proofs.plan.Plan.make_node_room.Goals as goal
+
+pub invariant_of-self : goal.invariant_of-self
+invariant_of-self c =
+    let i = c.self.inside in
+    tracked_origins i.states i.queue i.tasks.items i.files.origins.items c.reach.new.self.origins.items i.scannable c.reach.ensures c.self.invariant

@@ -1,0 +1,8 @@
+use Rattle.task_plan.proofs.TrackLemmas.{tracked_origin}
+use Rattle.task_plan.proofs.plan.Plan.note_origin.Goals as goal
+
+pub invariant_of-self : goal.invariant_of-self
+invariant_of-self c =
+    let i = c.self.inside in
+    rw c.set_origin.ensures
+    (tracked_origin i.states i.queue i.tasks.items i.files.origins.items i.scannable c.args.node.0 c.args.origin (c.is_unmet.ensures c.if-is_unmet.true) c.self.invariant)

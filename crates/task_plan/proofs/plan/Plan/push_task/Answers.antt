@@ -1,0 +1,18 @@
+use Rattle.std.proofs.Common.{◌∙◌, ◌∷◌, [], ap, refl, sym}
+use Rattle.std.specs.Prelude.{map}
+use Rattle.std.proofs.lemmas.List.{map-append}
+use Rattle.task_plan.specs.Settled.{kept_of}
+use Rattle.task_plan.proofs.TrackLemmas.{tracked_push, tracked_blank}
+use Rattle.task_plan.proofs.AdmitLemmas.{widens_more}
+use Rattle.task_plan.proofs.plan.Plan.push_task.Goals as goal
+
+pub invariant_of-self-2 : goal.invariant_of-self-2
+invariant_of-self-2 c =
+    let i = c.self.inside in
+    rw (c.in_ok-push.ensures {u = tt}).items
+    (tracked_push i.states i.queue i.tasks.items i.files.origins.items i.scannable c.new.result (tracked_blank i.states i.files.origins.items c.new.result c.new.ensures) c.self.invariant)
+
+pub returns-clause-widens : goal.returns-clause-widens
+returns-clause-widens c =
+    let i = c.self.inside in
+    rw (sym c.self.view_is) (widens_more _ _ (kept_of c.new.result) refl (ap (map kept_of) (c.in_ok-push.ensures {u = tt}).items ∙ map-append kept_of i.tasks.items (c.new.result ∷ [])))

@@ -1,0 +1,8 @@
+use Rattle.std.proofs.Common.{refl}
+use Rattle.task_plan.proofs.plan.Plan.take_noted.Goals as goal
+
+pub returns-in-Some-clause-admits : goal.returns-in-Some-clause-admits
+returns-in-Some-clause-admits c = rw c.in-Some.is c.take_growth.ensures.admits
+
+pub returns-in-None-clause-admits : goal.returns-in-None-clause-admits
+returns-in-None-clause-admits c = rw c.in-None.is refl

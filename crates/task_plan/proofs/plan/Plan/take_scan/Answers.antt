@@ -1,0 +1,23 @@
+use Rattle.std.proofs.Common.{◌≡◌, get_or, false, refl, sym, None}
+use Rattle.std.specs.Prelude.{map, slice_get}
+use Rattle.std.proofs.lemmas.Result.{on_ok_weaker}
+use Rattle.task_plan.specs.Settled.{next_of}
+use Rattle.task_plan.proofs.WantLemmas.{planned, unwanted_by}
+use Rattle.task_plan.proofs.AdmitLemmas.{scans_none, scans_still}
+use Rattle.task_plan.proofs.plan.Plan.take_scan.Goals as goal
+
+pub returns-then-not-contains-clause-scans : goal.returns-then-not-contains-clause-scans
+returns-then-not-contains-clause-scans c =
+    let i = c.self.inside in
+    let is = c.contains.ensures in
+    let not = c.if-not-contains.true in
+    let unmarked : get_or i.scannable c.args.rule.0 false ≡ false = cc in
+    let p = planned i.states i.queue i.halted i.tasks.items i.files.origins.items i.scannable in
+    rw (sym c.self.view_is)
+    (scans_none c.args.graph.now p p c.args.rule.0 c.args.found.items (unwanted_by (get_or i.scannable c.args.rule.0 false) (slice_get (map next_of i.tasks.items) c.args.rule.0) unmarked) refl refl)
+
+pub returns-clause-scans : goal.returns-clause-scans
+returns-clause-scans c =
+    on_ok_weaker c.scanned-taken.result
+    (λ s. scans_still c.args.graph.now c.args.self.now c.scanned-taken.new.self c.halt_where.new.self c.args.rule.0 c.args.found.items s c.halt_where.ensures.states c.halt_where.ensures.rules)
+    c.scanned-taken.ensures.scans
