@@ -1,8 +1,6 @@
 -- What was at fault outside while scripts ran: it is told by how they ended.
 use Rattle.std.proofs.Common.{◌≡◌, ◌≢◌, ℕ, Result, Ok, Err}
 use Rattle.std.specs.Prelude.{Option}
-use Rattle.py_host.specs.Calls.{Answered, answers, refuses}
-use Rattle.py_host.specs.Meaning.{Meaning as HostMeaning}
 use Rattle.py_host.specs.Lent.{lent}
 use Rattle.py_host.proofs.Lending.{lent_simulates}
 use Rattle.py_heap.specs.Heap.{Objects}
@@ -20,10 +18,9 @@ use Rattle.py_eval.specs.Answers.{IsFound}
 use Rattle.py_eval.specs.declared.scripts.Ran.{Ran}
 use Rattle.world_api.specs.Meaning.{Meaning}
 use Rattle.world_api.specs.Printed.{SinkMeaning}
-use Rattle.world_api.proofs.Looking.{files_same}
-use Rattle.scons_host.specs.Causes.{Outside, IsLater, HasKeptCause, HasEndCause, HasCause}
+use Rattle.scons_host.specs.Causes.{Outside}
 use Rattle.scons_host.specs.Reading.{Seen, outside_of, Keeps, Serves, Refuses, reading}
-use Rattle.scons_host.specs.Running.{HasKindCause, HasFaultCause, HasRunCause}
+use Rattle.scons_host.specs.Running.{HasKindCause, HasRunCause}
 use Rattle.scons_host.specs.Laws.{serves_same, serves_joined, refuses_after}
 use Rattle.scons_host.specs.declared.end.HostEnd.{HostEnd}
 

@@ -1,4 +1,3 @@
-use Rattle.scons_host.specs.Causes.{outside}
 use Rattle.scons_host.specs.Seeing.{seen_of, held_of}
 use Rattle.scons_host.proofs.Carrying.{run_caused}
 use Rattle.scons_host.proofs.reading.run_all.Goals as goal
