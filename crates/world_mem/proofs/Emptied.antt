@@ -2,14 +2,16 @@
 use Rattle.std.proofs.Common.{◌≡◌, ◌∙◌, ap, Contains, sym, refl, subst, cond, ℕ, List, Bool, true, false, Option, Some, None}
 use Rattle.std.specs.List.{list_any}
 use Rattle.std.specs.Str.{bytes_eq}
-use Rattle.world_mem.specs.InSlots.{slot_at, content_of, file_of, mark_of, emptied, taken}
+use Rattle.world_mem.specs.InSlots.{slot_at, content_of, file_of, mark_of, emptied, holds_live, taken}
 use Rattle.world_mem.specs.Kept.{met_of, is_target}
+use Rattle.world_mem.specs.Raises.{InDirs}
 use Rattle.world_mem.specs.declared.running.RunningJob.{RunningJob}
 use Rattle.world_mem.specs.declared.slots.File.{File}
 use Rattle.world_mem.specs.declared.slots.Slot.{Slot}
 use Rattle.world_mem.specs.declared.slots.Slot.TheVariants.{Running, Settled}
 use Rattle.world_mem.specs.declared.slots.Slots.{Slots}
 use Rattle.world_mem.specs.declared.state.State.{State}
+use Rattle.world_mem.proofs.InDirs.{still_in_dirs, live_taken}
 
 mark_by : (b : Bool) (old : Option Slot) → mark_of (cond b (emptied old) old) ≡ mark_of old
 mark_by false old = refl
@@ -58,3 +60,6 @@ module _ (state : State) (at : List ℕ) (new : Slots) (slots : (other : List �
 
   pub still_named : (path : List ℕ) (file : File) → file_of (slot_at new path) ≡ Some file → file.name ≡ path
   still_named path file h = state.named path file (taken-file at path (slot_at state.slots path) file (ap file_of (sym (slots path)) ∙ h))
+
+  pub still_above : InDirs new state.dirs
+  still_above = still_in_dirs state.slots new state.dirs state.dirs state.in_dirs (λ path live. live_taken at path (slot_at state.slots path) (ap holds_live (sym (slots path)) ∙ live)) (λ dir stood. stood)

@@ -15,6 +15,7 @@ pub mod Went
 pub mod LeftTargets
 pub mod LeftOver
 pub mod Raised
+pub mod InDirs
 pub mod Fresh
 pub mod Backs
 pub mod Passing

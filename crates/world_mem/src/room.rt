@@ -1,7 +1,7 @@
 //! Room that is taken before it is needed.
 ghost use Rattle.std.specs.Prelude.{◌≡◌, ◌++◌, ◌∷◌, [], ◌+◌, ◌<◌, ◌≤◌, ℕ, List, Some, OnOk, vec_len};
 ghost use Rattle.std.specs.Vec.{vec_capacity};
-ghost use Rattle.world_mem.specs.InSlots.{slot_at, content_of, file_of, mark_of};
+ghost use Rattle.world_mem.specs.InSlots.{slot_at, content_of, file_of, holds_live, mark_of};
 ghost use Rattle.world_mem.specs.Settles.{HavePlaces};
 ghost use Rattle.world_mem.specs.Slotwise.{SlotsStay};
 ghost use Rattle.world_mem.specs.Standing.{is_dir};
@@ -86,6 +86,7 @@ pub fn make_places(
     ensures same { (path : List ℕ) → content_of (slot_at slots.new path) ≡ content_of (slot_at slots.old path) }
     ensures files { (path : List ℕ) → file_of (slot_at slots.new path) ≡ file_of (slot_at slots.old path) }
     ensures marks { (path : List ℕ) → mark_of (slot_at slots.new path) ≡ mark_of (slot_at slots.old path) }
+    ensures live { (path : List ℕ) → holds_live (slot_at slots.new path) ≡ holds_live (slot_at slots.old path) }
     ensures dirs { (dir : List ℕ) → is_dir dirs.new dir ≡ is_dir dirs.old dir }
     ensures places { OnOk result (HavePlaces targets.now slots.new) }
     ensures fresh { OnOk result (HavePlaces fresh.now dirs.new.slots) }

@@ -4,7 +4,7 @@ ghost use Rattle.std.specs.Prelude.{IfOk, IfErr, OnOk, OnErr, if◌then◌else�
 ghost use Rattle.std.specs.Option.{option_copied, is_some};
 ghost use Rattle.std.specs.Str.{bytes_eq};
 ghost use Rattle.scons_base.specs.Parts.{dir_of};
-ghost use Rattle.world_mem.specs.Blocked.{LiesBelow, HasAbove, HasBelow, IsBlocked, IsRefused, NamesFirst};
+ghost use Rattle.world_mem.specs.Blocked.{LiesBelow, HasAbove, HasBelow, HasFile, IsBlocked, IsRefused, NamesFirst};
 ghost use Rattle.world_mem.specs.Files.{AreFiles, file_in};
 ghost use Rattle.world_mem.specs.InSlots.{slot_at, file_of, file_with, content_of, mark_of, stamp_at, file_at, name_in};
 ghost use Rattle.world_mem.specs.InSlots.{written, emptied, taken, marked, settled, Stands, is_live, holds_live};
@@ -182,6 +182,7 @@ impl Slots {
     pub fn fill(&mut self, alloc: Global, files: &[(PathText, Blob)]) -> Result<(), NewRefusal>
         requires { (path : List ℕ) → slot_at self.old path ≡ None }
         ensures files { OnOk result ((path : List ℕ) → content_of (slot_at self.new path) ≡ file_at files.now path) }
+        ensures only { OnOk result ((path : List ℕ) → Stands self.new path → HasFile files.now path) }
         ensures unmarked { OnOk result ((path : List ℕ) → mark_of (slot_at self.new path) ≡ None) }
         ensures stamps { OnOk result ((path : List ℕ) → stamp_at (slot_at self.new path) ≡ 0) }
         ensures named { OnOk result (AreNamed self.new) }

@@ -23,7 +23,7 @@ impl State {
     ghost use Rattle.world_mem.specs.Kept.{contents_in, counts_of, entry_of, HaveOwn};
     ghost use Rattle.world_mem.specs.Past.{before};
     ghost use Rattle.world_mem.specs.Planned.{makes, ends};
-    ghost use Rattle.world_mem.specs.Raises.{Raises};
+    ghost use Rattle.world_mem.specs.Raises.{HasDirs, Raises};
     ghost use Rattle.world_mem.specs.Ready.{AreMissing, HasPastRoom};
     ghost use Rattle.world_mem.specs.Settles.{HavePlaces};
     ghost use Rattle.world_mem.specs.Slotwise.{HoldNone, OthersStay};
@@ -197,6 +197,7 @@ impl State {
         requires outcome { entering.run.outcome ≡ ends self.old.table entering.run.job entering.run.given }
         requires places { HavePlaces entering.run.job.targets self.old.slots }
         requires fresh { HavePlaces entering.dirs self.old.dirs.slots }
+        requires above { (path : List ℕ) → Contains entering.run.job.targets path → HasDirs self.old.dirs entering.dirs path }
         requires absent { (dir : List ℕ) → Contains entering.dirs dir → is_dir self.old.dirs dir ≡ false }
         requires started { started_of (entry_of entering.event ∷ []) ≡ entering.job ∷ [] }
         requires log_room { vec_len self.old.log + vec_len self.old.running + 2 ≤ vec_capacity self.old.log }

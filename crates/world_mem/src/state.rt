@@ -9,7 +9,7 @@ ghost use Rattle.world_mem.specs.Kept.{met_of, contents_in, entry_of, AreOwned, 
 ghost use Rattle.std.specs.Prelude.{◌↔◌, ◌⊎◌, OnOk};
 ghost use Rattle.world_mem.specs.Blocked.{HasBelow, HasFile};
 ghost use Rattle.world_mem.specs.Planned.{makes, ends};
-ghost use Rattle.world_mem.specs.Raises.{Gains};
+ghost use Rattle.world_mem.specs.Raises.{Gains, InDirs};
 ghost use Rattle.world_mem.specs.Standing.{is_dir};
 ghost use Rattle.world_mem.specs.declared.running.RunningJob.{RunningJob};
 ghost use Rattle.world_mem.specs.declared.slots.File.{File};
@@ -62,6 +62,7 @@ pub struct State {
     ghost held: { HoldMet met.items slots },
     ghost named: { (path : List ℕ) (file : File) → file_of (slot_at slots path) ≡ Some file → file.name ≡ path },
     ghost started: { jobs.items ≡ started_of (map entry_of log.items) },
+    ghost in_dirs: { InDirs slots dirs },
 }
 
 /// What a job that is to run is entered with.
@@ -89,8 +90,8 @@ impl State {
     ghost use Rattle.world_mem.specs.InSlots.{settled};
     ghost use Rattle.world_mem.specs.CallCounts.{next};
     ghost use Rattle.world_mem.specs.Kept.{counts_of};
-    ghost use Rattle.world_mem.specs.Left.{Cover};
-    ghost use Rattle.world_mem.specs.Raises.{AreDirsOf};
+    ghost use Rattle.world_mem.specs.Left.{AreTargets, Cover};
+    ghost use Rattle.world_mem.specs.Raises.{AreDirsOf, HasDirs};
     ghost use Rattle.world_mem.specs.Runs.{run_at, EndsBy, LeavesNoneAt, MeetsMadeAt};
     ghost use Rattle.world_mem.specs.Settles.{HavePlaces};
     ghost use Rattle.world_mem.specs.Slotwise.{AreSettled};
@@ -172,6 +173,7 @@ impl State {
     /// The files directly in a directory.
     pub fn list(&self, alloc: Global, dir: &PathText) -> Result<Paths, Memory>
         ensures files { IfOk result (IsListing (around_of self.now) dir.now) }
+        ensures none { (around_of self.now).dirs dir.now ≡ false → IfOk result (λ paths. paths ≡ []) }
     {
         self.slots.list(alloc, dir)
     }
@@ -375,6 +377,7 @@ impl State {
         requires group { group ≡ (path.now, Some file.bytes) ∷ [] }
         requires place { IsSome (slot_at self.old.slots path.now) }
         requires places { HavePlaces fresh.now self.old.dirs.slots }
+        requires above { HasDirs self.old.dirs fresh.now path.now }
         requires room { vec_len self.old.met + vec_len self.old.running + 1 ≤ vec_capacity self.old.met }
         ensures file { (around_of self.new).tree path.now ≡ Some file.bytes }
         ensures others { FilesStay path.now (around_of self.old) (around_of self.new) }
@@ -400,6 +403,7 @@ impl State {
         requires room { vec_len self.old.met < vec_capacity self.old.met }
         requires same { kept ≡ targets }
         requires covers { Cover self.old.running.items targets }
+        requires only { AreTargets targets (around_of self.old).running }
         ensures gone { self.new.removals ≡ 0 }
         ensures idle { vec_len self.new.running ≡ 0 }
         ensures none { self.new.running.items ≡ [] }

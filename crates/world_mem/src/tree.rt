@@ -57,7 +57,7 @@ fn cut_of(verdict: Verdict) -> Option<Outcome>
 
 impl World for MemWorld {
     ghost use Rattle.std.specs.List.{remove};
-    ghost use Rattle.std.specs.Prelude.{◌↔◌, ◌⊎◌, [], List, None, Contains, IsTrue, IsErr, OnOk, OnErr, unwrap_or};
+    ghost use Rattle.std.specs.Prelude.{◌↔◌, ◌⊎◌, [], List, None, false, Contains, IsTrue, IsErr, OnOk, OnErr, unwrap_or};
     ghost use Rattle.scons_base.specs.Parts.{is_absolute};
     ghost use Rattle.world_api.specs.Around.{IsUnused, Running};
     ghost use Rattle.world_api.specs.Calls.{Asks, MakesDir, Removes, CanStart, IsClosed, IsOpen, Starts, Ends};
@@ -157,6 +157,7 @@ impl World for MemWorld {
 
     fn list(&mut self, dir: &PathText) -> Result<Paths, AskRefusal>
         ensures files { tells self.new → IfOk result (IsListing (around_in self.new) dir.now) }
+        ensures none { (around_of self.new.state).dirs dir.now ≡ false → IfOk result (λ paths. paths ≡ []) }
         ensures shut { IfOk result (λ paths. (path : List ℕ) → Contains paths path → IsClosed (closed_in self.old) path → ⊥) }
         ensures around { tells self.new → Asks (around_in self.old) (around_in self.new) }
         ensures banks { tells self.new → BanksKept world_meaning self.old self.new }

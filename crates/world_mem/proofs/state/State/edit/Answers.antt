@@ -17,6 +17,7 @@ use Rattle.world_mem.specs.declared.running.RunningJob.{RunningJob}
 use Rattle.world_mem.specs.declared.slots.File.{File}
 use Rattle.world_mem.specs.declared.slots.Slots.{Slots}
 use Rattle.world_mem.proofs.Fresh.{from_nothing}
+use Rattle.world_mem.proofs.InDirs.{has_dirs}
 use Rattle.world_mem.proofs.Marks.{met-push}
 use Rattle.world_mem.proofs.Raised.{raised_by}
 use Rattle.world_mem.proofs.state.State.edit.Goals as goal
@@ -45,6 +46,15 @@ put-requires-clause-place c =
 pub put-requires-clause-places : goal.put-requires-clause-places
 put-requires-clause-places c = λ k d lt.
     subst (λ (dirs : Dirs). IsSome (slot_at dirs.slots (slice_index_or c.missing_above.new.fresh k d))) (sym c.in_ok-widen_met.ensures.dirs) (c.in_ok-make_places.ensures.fresh k d lt)
+
+pub put-requires-clause-above : goal.put-requires-clause-above
+put-requires-clause-above c =
+    let old = c.args.self.now in
+    let fresh = c.missing_above.new.fresh in
+    let course : course_of c.widen_met.new.self ≡ course_of old = c.in_ok-widen_met.ensures.course ∙ c.make_places.ensures.course in
+    has_dirs c.widen_met.new.self.dirs fresh c.args.path.now
+    (λ dir below absent. (from_nothing c.new-fresh.result fresh dir _ (c.new-fresh.ensures ∙ c.new-2.ensures.items) (c.in_ok-missing_above.ensures dir)).1
+    (below, sym (ap (λ (course : Course). course.around.dirs dir) course) ∙ absent))
 
 pub returns-clause-stamps : goal.returns-clause-stamps
 returns-clause-stamps c =

@@ -1,7 +1,7 @@
-use Rattle.std.proofs.Common.{rules, ◌≡◌, ◌≢◌, ◌∙◌, sym, ap, subst, inl, inr, ◌<◌, ℕ, List, Some, Option, Contains, [], ◌∷◌, ◌++◌, length, map, take, drop, suc, refl, true, is_some, None, reverse, insert, unwrap_or}
+use Rattle.std.proofs.Common.{rules, ◌≡◌, ◌≢◌, ◌∙◌, sym, ap, subst, inl, inr, ◌<◌, ℕ, List, Some, Option, Contains, [], ◌∷◌, ◌++◌, length, map, take, drop, suc, refl, true, false, is_some, None, reverse, insert, unwrap_or}
 use Rattle.std.specs.List.{slice_index_or, list_any, remove}
 use Rattle.std.specs.Str.{bytes_eq}
-use Rattle.world_mem.specs.InSlots.{slot_at, content_of, stamp_at}
+use Rattle.world_mem.specs.InSlots.{slot_at, content_of, holds_live, stamp_at}
 use Rattle.world_mem.specs.Kept.{met_of, contents_in, IdsApart, is_target, running_of, entry_of}
 use Rattle.world_mem.specs.Planned.{ends, makes, IsPlain}
 use Rattle.world_api.specs.Around as api
@@ -11,6 +11,10 @@ use Rattle.world_api.specs.Act.{act}
 use Rattle.world_mem.specs.Table.{law_of}
 use Rattle.world_mem.specs.declared.running.RunningJob.{RunningJob}
 use Rattle.world_mem.specs.declared.slots.Slot.TheVariants.{Running}
+use Rattle.world_mem.specs.Standing.{is_in}
+use Rattle.std.proofs.lemmas.Bool.{cases_Bool}
+use Rattle.world_mem.proofs.InDirs.{still_in_dirs}
+use Rattle.world_mem.proofs.Raised.{in_list, list_in}
 use Rattle.world_mem.proofs.Apart.{apart-remove}
 use Rattle.world_mem.proofs.Marks.{made_of, found_before}
 use Rattle.world_mem.proofs.Backs.{pushed, newest, same_around, target_back, target_stamp_back, job_back, last_back, met_back, none_back}
@@ -247,3 +251,16 @@ invariant_of-self-clause-started c =
     sym (append-nil old.jobs.items)
     ∙ started_more old.jobs.items old.log.items _ [] old.started refl
     ∙ ap (λ (log : List Event). api.started_of (map entry_of log)) (sym c.add.ensures.items)
+
+pub invariant_of-self-clause-in_dirs : goal.invariant_of-self-clause-in_dirs
+invariant_of-self-clause-in_dirs c =
+    let old = c.args.self.now in
+    let run = c.remove-job.result in
+    let lt : c.args.place < length old.running.items = rw length-map at c.requires.place in
+    let here : Contains old.running.items run = (c.args.place, lt, sym c.remove-job.ensures.value) in
+    still_in_dirs old.slots c.conclude.new.slots old.dirs old.dirs old.in_dirs
+    (λ path live. elim (cases_Bool (is_in run.job.targets path)) [
+      | inl y ↦ ap holds_live (old.owned run path here (in_list run.job.targets path y))
+      | inr n ↦ ap holds_live (sym (c.conclude.ensures.others path (λ own. let x : true ≡ false = sym (list_in run.job.targets path own) ∙ n in cc x))) ∙ live
+    ])
+    (λ dir stood. stood)

@@ -1,9 +1,10 @@
 use Rattle.std.proofs.Common.{◌≡◌, ◌∙◌, sym, ap, subst, ℕ, List, Some, Contains, IsSome, refl, true, [], ◌∷◌, ◌++◌, inl, inr, length, map, reverse}
-use Rattle.world_mem.specs.InSlots.{slot_at, file_of, content_of, mark_of}
+use Rattle.world_mem.specs.InSlots.{slot_at, file_of, content_of, holds_live, mark_of}
 use Rattle.world_mem.specs.Kept.{IdsApart, is_target, contents_in, running_of, entry_of}
 use Rattle.world_mem.specs.Planned.{makes, ends}
 use Rattle.world_mem.specs.declared.running.RunningJob.{RunningJob}
 use Rattle.world_mem.specs.declared.slots.Slot.TheVariants.{Running}
+use Rattle.world_mem.proofs.InDirs.{more_in_dirs}
 use Rattle.world_mem.proofs.Apart.{apart-push}
 use Rattle.world_mem.proofs.Marks.{marked-off, marked-on, marked-empty, marked-named}
 use Rattle.world_mem.proofs.Backs.{pushed, newest, same_around, started_back, started_stamp_back, dirs_back, last_back}
@@ -102,3 +103,13 @@ invariant_of-self-clause-started c =
     c.add-3.ensures.items
     ∙ started_more old.jobs.items old.log.items c.args.entering.event (c.args.entering.job ∷ []) old.started c.requires.started
     ∙ ap (λ (log : List Event). started_of (map entry_of log)) (sym c.add-2.ensures.items)
+
+pub invariant_of-self-clause-in_dirs : goal.invariant_of-self-clause-in_dirs
+invariant_of-self-clause-in_dirs c =
+    let old = c.args.self.now in
+    let run = c.args.entering.run in
+    more_in_dirs old.slots c.mark.new.self old.dirs c.raise.new.self c.args.entering.dirs old.in_dirs c.raise.ensures
+    (λ path live. elim (marked-where run.job.targets (Running run.job.id) path (slot_at old.slots path)) [
+      | inl same ↦ inl (ap holds_live (sym (c.mark.ensures path ∙ same)) ∙ live)
+      | inr own ↦ inr (c.requires.above path own)
+    ])

@@ -11,6 +11,7 @@ use Rattle.world_mem.specs.Standing.{is_dir}
 use Rattle.world_mem.specs.Table.{law_of}
 use Rattle.world_mem.specs.declared.event.Event.{Event}
 use Rattle.world_mem.proofs.Membership.{contains_map}
+use Rattle.world_mem.proofs.InDirs.{has_dirs}
 use Rattle.world_mem.proofs.Raised.{gained_dirs, not_always, raised_by}
 use Rattle.world_mem.proofs.state.State.enter_ready.Goals as goal
 
@@ -49,6 +50,10 @@ returns-clause-started c = λ faults event.
       law = ap law_of c.enter.ensures.table;
       top = refl;
     }
+
+pub enter-requires-clause-above : goal.enter-requires-clause-above
+enter-requires-clause-above c = λ path own.
+    has_dirs c.args.self.now.dirs c.args.entering.dirs path (λ dir below absent. (c.requires.dirs dir).1 ((path, own, below), absent))
 
 pub returns-clause-raised : goal.returns-clause-raised
 returns-clause-raised c =

@@ -1,9 +1,15 @@
-use Rattle.std.proofs.Common.{◌≡◌, ◌∙◌, sym, ap, subst, List, ℕ, Option, Some, None, true, inl, inr}
+use Rattle.std.proofs.Common.{◌≡◌, ◌∙◌, sym, ap, subst, List, ℕ, Option, Some, None, true, false, inl, inr}
 use Rattle.std.specs.List.{list_any}
 use Rattle.std.specs.Str.{bytes_eq}
-use Rattle.world_mem.specs.InSlots.{slot_at, file_of, content_of, mark_of}
+use Rattle.world_mem.specs.InSlots.{slot_at, file_of, content_of, holds_live, mark_of}
 use Rattle.world_mem.specs.Kept.{met_of, contents_in}
-use Rattle.world_mem.proofs.Marks.{settled-content, settled-named, found_before, found_in_push, met-push}
+use Rattle.world_mem.specs.Left.{names}
+use Rattle.world_mem.specs.Standing.{is_in}
+use Rattle.std.proofs.lemmas.Bool.{cases_Bool}
+use Rattle.world_mem.proofs.InDirs.{still_in_dirs}
+use Rattle.world_mem.proofs.Raised.{in_list, list_in}
+use Rattle.world_mem.proofs.Taken.{stands}
+use Rattle.world_mem.proofs.Marks.{settled-content, settled-off, settled-named, found_before, found_in_push, met-push}
 use Rattle.world_mem.proofs.Owners.{fewer-settled, unmarked-settled, target_of}
 use Rattle.world_mem.proofs.state.State.leave.Goals as goal
 
@@ -30,3 +36,14 @@ pub invariant_of-self-clause-named : goal.invariant_of-self-clause-named
 invariant_of-self-clause-named c = λ path file h.
     let old = c.args.self.now in
     settled-named _ c.args.targets path (slot_at old.slots path) file (old.named path file) (ap file_of (sym (c.settle.ensures path)) ∙ h)
+
+pub invariant_of-self-clause-in_dirs : goal.invariant_of-self-clause-in_dirs
+invariant_of-self-clause-in_dirs c =
+    let old = c.args.self.now in
+    let left = c.args.targets in
+    still_in_dirs old.slots c.settle.new.self old.dirs old.dirs old.in_dirs
+    (λ path live. elim (cases_Bool (is_in (names left) path)) [
+      | inl y ↦ stands old path (inr (c.requires.only path (in_list (names left) path y)))
+      | inr n ↦ ap holds_live (sym (c.settle.ensures path ∙ settled-off _ left path (slot_at old.slots path) (λ own. let x : true ≡ false = sym (list_in (names left) path own) ∙ n in cc x))) ∙ live
+    ])
+    (λ dir stood. stood)

@@ -4,6 +4,7 @@ use Rattle.world_mem.specs.Standing.{is_dir, is_in}
 use Rattle.world_mem.specs.declared.past.Change.TheVariants.{Made}
 use Rattle.world_mem.proofs.Backs.{pushed, newest, same_around, dirs_back}
 use Rattle.world_mem.proofs.Fresh.{from_nothing}
+use Rattle.world_mem.proofs.InDirs.{still_in_dirs, grown_dirs}
 use Rattle.world_mem.proofs.Raised.{made_dirs, not_always}
 use Rattle.world_mem.proofs.state.State.make_dir.Goals as goal
 
@@ -36,3 +37,10 @@ returns-clause-back c =
     (λ dir h. ((from_nothing c.new-fresh.result fresh dir _ (c.new-fresh.ensures ∙ c.new.ensures.items) (c.in_ok-missing.ensures dir)).0 h).1))
     (λ _. refl)
     refl refl refl refl refl)
+
+pub invariant_of-self-2-clause-in_dirs : goal.invariant_of-self-2-clause-in_dirs
+invariant_of-self-2-clause-in_dirs c =
+    let old = c.args.self.now in
+    let fresh = c.missing.new.fresh in
+    still_in_dirs old.slots old.slots old.dirs c.raise.new.self old.in_dirs (λ path live. live)
+    (grown_dirs old.dirs c.raise.new.self fresh (λ dir. c.raise.ensures dir ∙ ap (λ b. is_in fresh dir || b) (c.in_ok-make_places.ensures.same dir)))

@@ -3,7 +3,7 @@ use Rattle.std.specs.List.{list_any}
 use Rattle.std.specs.Str.{bytes_eq}
 use Rattle.world_mem.specs.Kept.{met_of, contents_in}
 use Rattle.world_mem.proofs.Marks.{found_in_push, file_met, met-push, contents_in-files}
-use Rattle.std.proofs.Common.{◌↔◌, ◌⊎◌, IsTrue}
+use Rattle.std.proofs.Common.{◌↔◌, ◌⊎◌, IsTrue, inr}
 use Rattle.world_mem.specs.Blocked.{HasBelow, HasFile}
 use Rattle.world_mem.specs.Standing.{is_dir}
 use Rattle.world_mem.proofs.state.State.new.Goals as goal
@@ -33,3 +33,6 @@ invariant_of-result-clause-named c = λ path file h. c.in_ok-fill.ensures.named 
 pub returns-clause-dirs : goal.returns-clause-dirs
 returns-clause-dirs c = λ dir.
     subst (λ b. IsTrue (is_dir c.raise_above.new.dirs dir) ↔ (IsTrue b ⊎ HasBelow (HasFile c.args.files.now) dir)) (c.new-dirs.ensures dir) (c.in_ok-raise_above.ensures dir)
+
+pub invariant_of-result-clause-in_dirs : goal.invariant_of-result-clause-in_dirs
+invariant_of-result-clause-in_dirs c = λ path dir stands below. (c.in_ok-raise_above.ensures dir).1 (inr (path, c.in_ok-fill.ensures.only path stands, below))

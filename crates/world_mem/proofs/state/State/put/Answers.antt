@@ -1,9 +1,11 @@
 use Rattle.std.proofs.Common.{◌≡◌, ◌∙◌, sym, ap, subst, List, ℕ, Option, Some, Contains, true, inl, inr, []}
 use Rattle.std.specs.List.{list_any}
 use Rattle.std.specs.Str.{bytes_eq}
-use Rattle.world_mem.specs.InSlots.{slot_at, file_of, content_of, mark_of}
+use Rattle.world_mem.specs.InSlots.{slot_at, file_of, content_of, holds_live, mark_of}
 use Rattle.world_mem.specs.Kept.{met_of, contents_in, running_of}
 use Rattle.world_mem.specs.declared.slots.Slot.TheVariants.{Settled}
+use Rattle.world_mem.specs.Raises.{HasDirs}
+use Rattle.world_mem.proofs.InDirs.{live_written, more_in_dirs}
 use Rattle.world_mem.proofs.Marks.{written_off, written-content, written-named, found_before, found_in_push, met-push, in_option}
 use Rattle.world_mem.proofs.Membership.{contains_map}
 use Rattle.world_mem.proofs.Owners.{fewer-written}
@@ -39,3 +41,12 @@ pub invariant_of-self-clause-named : goal.invariant_of-self-clause-named
 invariant_of-self-clause-named c = λ path file h.
     let old = c.args.self.now in
     written-named c.args.path.now c.args.file path (slot_at old.slots path) file c.requires.name (old.named path file) (ap file_of (sym (c.write.ensures path)) ∙ h)
+
+pub invariant_of-self-clause-in_dirs : goal.invariant_of-self-clause-in_dirs
+invariant_of-self-clause-in_dirs c =
+    let old = c.args.self.now in
+    more_in_dirs old.slots c.write.new.self old.dirs c.raise.new.self c.args.fresh.now old.in_dirs c.raise.ensures
+    (λ path live. elim (live_written c.args.path.now (Settled (Some c.args.file)) path (slot_at old.slots path) (ap holds_live (sym (c.write.ensures path)) ∙ live)) [
+      | inl before ↦ inl before
+      | inr same ↦ inr (subst (HasDirs old.dirs c.args.fresh.now) same c.requires.above)
+    ])

@@ -3,7 +3,7 @@ use Rattle.world_mem.specs.AsCourse.{course_of}
 use Rattle.world_mem.specs.InSlots.{slot_at}
 use Rattle.world_mem.specs.declared.past.Change.TheVariants.{Removed}
 use Rattle.world_mem.proofs.Backs.{pushed, newest, same_around, file_back, stamp_back}
-use Rattle.world_mem.proofs.Emptied.{still_owned, still_marks, still_held, still_named}
+use Rattle.world_mem.proofs.Emptied.{still_above, still_owned, still_marks, still_held, still_named}
 use Rattle.world_mem.proofs.state.State.remove.Goals as goal
 
 pub returns-in-Some-clause-back : goal.returns-in-Some-clause-back
@@ -43,3 +43,9 @@ invariant_of-self-in-None-clause-held c = still_held c.args.self.now c.args.path
 
 pub invariant_of-self-in-None-clause-named : goal.invariant_of-self-in-None-clause-named
 invariant_of-self-in-None-clause-named c = still_named c.args.self.now c.args.path.now c.take.new.self c.take.ensures.slots
+
+pub invariant_of-self-clause-in_dirs : goal.invariant_of-self-clause-in_dirs
+invariant_of-self-clause-in_dirs c = still_above c.args.self.now c.args.path.now c.take.new.self c.take.ensures.slots
+
+pub invariant_of-self-in-None-clause-in_dirs : goal.invariant_of-self-in-None-clause-in_dirs
+invariant_of-self-in-None-clause-in_dirs c = still_above c.args.self.now c.args.path.now c.take.new.self c.take.ensures.slots
