@@ -19,6 +19,7 @@ use crate::place::Place;
 use crate::saying::{First, Saying, Sayings, first_of, is_over, literal_of, stands_for_itself};
 use crate::setting::Setting;
 use crate::task::{Call, Task};
+use crate::variable_name::VariableName;
 use env_text::{Selection, Step, next_part};
 use scons_base::limits::REFERENCE_LIMIT;
 use scons_base::{Memory, Text};
@@ -27,7 +28,7 @@ use scons_base::{Memory, Text};
 pub(crate) fn read_on<'a>(
     setting: &Setting<'a>,
     desk: &mut Desk<'a>,
-    owner: Text,
+    owner: VariableName,
     place: Place,
 ) -> Result<(), SubstFault>
     ensures { Steps setting.now (λ w names. reads w (deeper_of w names) names owner (reading_from place.text place.at)) desk.old desk.new result }
@@ -36,7 +37,7 @@ pub(crate) fn read_on<'a>(
     match next_part(text.as_str(), at) {
         Step::End => Ok(()),
         Step::BadBrace => Err(SubstFault::BadBrace {
-            name: owner,
+            name: owner.text(setting.alloc)?,
             at: at as u64,
         }),
         Step::Part(part, next) => {
@@ -51,7 +52,7 @@ pub(crate) fn read_on<'a>(
 fn read_part<'a>(
     setting: &Setting<'a>,
     desk: &mut Desk<'a>,
-    owner: Text,
+    owner: VariableName,
     at: usize,
     rest: Place,
     part: OwnedPart,
@@ -78,7 +79,7 @@ fn read_part<'a>(
 }
 
 /// The rest of a text is left to do.
-fn push_rest<'a>(stack: &mut Stack<'a>, owner: Text, rest: Place) -> Result<(), Memory>
+fn push_rest<'a>(stack: &mut Stack<'a>, owner: VariableName, rest: Place) -> Result<(), Memory>
     ensures { OnOk result ((locals : Locals) → tasks_of locals stack.new.tasks.items
         ≡ read owner rest.text rest.at ∷ tasks_of locals stack.old.tasks.items) }
 {
@@ -88,7 +89,7 @@ fn push_rest<'a>(stack: &mut Stack<'a>, owner: Text, rest: Place) -> Result<(), 
 fn read_call<'a>(
     setting: &Setting<'a>,
     desk: &mut Desk<'a>,
-    owner: Text,
+    owner: VariableName,
     rest: Place,
     call: Call,
 ) -> Result<(), SubstFault>
@@ -103,10 +104,10 @@ fn read_call<'a>(
 fn read_variable<'a>(
     setting: &Setting<'a>,
     desk: &mut Desk<'a>,
-    owner: Text,
+    owner: VariableName,
     at: usize,
     rest: Place,
-    name: Text,
+    name: VariableName,
     selection: Selection,
     attribute: Option<Text>,
 ) -> Result<(), SubstFault>
@@ -123,7 +124,7 @@ fn read_variable<'a>(
             say_all(setting, desk, name, sayings)
         }
         None => Err(SubstFault::BadAttr {
-            name: owner,
+            name: owner.text(setting.alloc)?,
             at: at as u64,
         }),
     }
@@ -143,7 +144,7 @@ fn said_as<'a>(holding: Holding<'a>, attribute: &Option<Text>) -> Option<Sayings
 pub(crate) fn held_in<'a>(
     setting: &Setting<'a>,
     names: &Names,
-    name: &Text,
+    name: &VariableName,
 ) -> Result<Holding<'a>, Memory>
     ensures { IfOk result (λ h. content_of h ≡ content_in (setting_of setting.now) names.now name.now) }
 {
@@ -157,7 +158,7 @@ pub(crate) fn held_in<'a>(
 pub(crate) fn say_all<'a>(
     setting: &Setting<'a>,
     desk: &mut Desk<'a>,
-    name: Text,
+    name: VariableName,
     sayings: Sayings<'a>,
 ) -> Result<(), SubstFault>
     requires { is_open name desk.old.names ≡ true → sayings_of setting.now.locals.now sayings ≡ [] }
@@ -173,7 +174,7 @@ pub(crate) fn say_all<'a>(
 fn say_opened<'a>(
     setting: &Setting<'a>,
     desk: &mut Desk<'a>,
-    name: Text,
+    name: VariableName,
     sayings: Sayings<'a>,
 ) -> Result<(), SubstFault>
     requires { is_open name desk.old.names ≡ true → sayings_of setting.now.locals.now sayings ≡ [] }
@@ -189,7 +190,7 @@ fn say_opened<'a>(
 }
 
 /// Opens a variable that isn't open.
-fn open(desk: &mut Desk<'_>, name: &Text) -> Result<(), Memory>
+fn open(desk: &mut Desk<'_>, name: &VariableName) -> Result<(), Memory>
     requires { is_open name.now desk.old.names ≡ false }
     ensures { OnOk result ((locals : Locals) → desk_of locals desk.new ≡ with_open name.now (desk_of locals desk.old)) }
 {
@@ -201,7 +202,7 @@ fn open(desk: &mut Desk<'_>, name: &Text) -> Result<(), Memory>
 pub(crate) fn say_more<'a>(
     setting: &Setting<'a>,
     desk: &mut Desk<'a>,
-    name: Text,
+    name: VariableName,
     sayings: Sayings<'a>,
 ) -> Result<(), SubstFault>
     ensures { Steps setting.now (λ w names. says_more (text_at w names name) (sayings_of w.locals sayings.entry)) desk.old desk.new result }
@@ -219,7 +220,7 @@ pub(crate) fn say_more<'a>(
 fn say_first<'a>(
     setting: &Setting<'a>,
     desk: &mut Desk<'a>,
-    name: Text,
+    name: VariableName,
     first: First<'a>,
 ) -> Result<(), SubstFault>
     ensures { Steps setting.now (λ w names. says_all (text_at w names name) (first_and_rest w.locals first.entry)) desk.old desk.new result }
@@ -235,7 +236,7 @@ fn say_first<'a>(
 fn say_before<'a>(
     setting: &Setting<'a>,
     desk: &mut Desk<'a>,
-    name: Text,
+    name: VariableName,
     saying: Saying,
     rest: Sayings<'a>,
 ) -> Result<(), SubstFault>
@@ -246,7 +247,11 @@ fn say_before<'a>(
 }
 
 /// Further things that a variable says are left to do.
-fn push_sayings<'a>(stack: &mut Stack<'a>, name: &Text, rest: Sayings<'a>) -> Result<(), Memory>
+fn push_sayings<'a>(
+    stack: &mut Stack<'a>,
+    name: &VariableName,
+    rest: Sayings<'a>,
+) -> Result<(), Memory>
     ensures { OnOk result ((locals : Locals) → tasks_of locals stack.new.tasks.items
         ≡ say name.now (sayings_of locals rest.entry) ∷ tasks_of locals stack.old.tasks.items) }
 {
@@ -258,7 +263,7 @@ fn push_sayings<'a>(stack: &mut Stack<'a>, name: &Text, rest: Sayings<'a>) -> Re
 fn say_one<'a>(
     setting: &Setting<'a>,
     desk: &mut Desk<'a>,
-    name: Text,
+    name: VariableName,
     saying: Saying,
 ) -> Result<(), SubstFault>
     ensures { Steps setting.now (λ w names. says_one (text_at w names name) saying) desk.old desk.new result }
@@ -274,7 +279,7 @@ fn say_one<'a>(
 pub(crate) fn say_inside<'a>(
     setting: &Setting<'a>,
     desk: &mut Desk<'a>,
-    name: Text,
+    name: VariableName,
     saying: Saying,
 ) -> Result<(), SubstFault>
     ensures { Steps setting.now (λ w names. says_one (deeper_of w names name) saying) desk.old desk.new result }
@@ -289,7 +294,7 @@ pub(crate) fn say_inside<'a>(
 fn read_inside<'a>(
     setting: &Setting<'a>,
     desk: &mut Desk<'a>,
-    name: Text,
+    name: VariableName,
     text: Text,
 ) -> Result<(), SubstFault>
     ensures { Steps setting.now (λ w names. deeper_of w names name text) desk.old desk.new result }
@@ -305,7 +310,7 @@ fn read_inside<'a>(
 pub(crate) fn expand<'a>(
     setting: &Setting<'a>,
     desk: &mut Desk<'a>,
-    name: Text,
+    name: VariableName,
 ) -> Result<(), SubstFault>
     ensures { Steps setting.now (λ w names. expands w (deeper_of w names) names name) desk.old desk.new result }
 {
@@ -317,7 +322,7 @@ pub(crate) fn expand<'a>(
 pub(crate) fn begin<'a>(
     setting: &Setting<'a>,
     desk: &mut Desk<'a>,
-    owner: Text,
+    owner: VariableName,
     text: Text,
 ) -> Result<(), SubstFault>
     ensures { Steps setting.now (λ w names. text_at w names owner text) desk.old desk.new result }
