@@ -1,5 +1,5 @@
 //! How a text is read, and the variables in it.
-ghost use Rattle.std.specs.Prelude.{◌≡◌, [], ◌∷◌, true, false, Some, None, IfOk, OnOk, MatchOption};
+ghost use Rattle.std.specs.Prelude.{◌≡◌, ◌≢◌, [], ◌∷◌, true, false, Some, None, IfOk, OnOk, MatchOption};
 ghost use Rattle.env_text.specs.Readings.{reading_from};
 ghost use Rattle.env_subst.specs.Settings.{setting_of};
 ghost use Rattle.env_subst.specs.Contents.{content_of, said_by};
@@ -23,6 +23,7 @@ use crate::variable_name::VariableName;
 use env_text::{Selection, Step, next_part};
 use scons_base::limits::REFERENCE_LIMIT;
 use scons_base::{Memory, Text};
+use std::alloc::Global;
 
 /// Reads on from a place of a text of the variable `owner`.
 pub(crate) fn read_on<'a>(
@@ -36,15 +37,38 @@ pub(crate) fn read_on<'a>(
     let Place { text, at } = place;
     match next_part(text.as_str(), at) {
         Step::End => Ok(()),
-        Step::BadBrace => Err(SubstFault::BadBrace {
-            name: owner.text(setting.alloc)?,
-            at: at as u64,
-        }),
+        Step::BadBrace => Err(bad_brace(setting.alloc, &owner, at)),
         Step::Part(part, next) => {
             let part = owned(setting.alloc, part)?;
             let rest = Place { text, at: next };
             read_part(setting, desk, owner, at, rest, part)
         }
+    }
+}
+
+/// The fault of a brace at a place of a text of the variable `owner`.
+fn bad_brace(alloc: Global, owner: &VariableName, at: usize) -> SubstFault
+    ensures { result ≢ SubstFault.Memory → result ≡ SubstFault.BadBrace owner.now at }
+{
+    match owner.text(alloc) {
+        Ok(name) => SubstFault::BadBrace {
+            name,
+            at: at as u64,
+        },
+        Err(_) => SubstFault::Memory,
+    }
+}
+
+/// The fault of an attribute at a place of a text of the variable `owner`.
+fn bad_attribute(alloc: Global, owner: &VariableName, at: usize) -> SubstFault
+    ensures { result ≢ SubstFault.Memory → result ≡ SubstFault.BadAttr owner.now at }
+{
+    match owner.text(alloc) {
+        Ok(name) => SubstFault::BadAttr {
+            name,
+            at: at as u64,
+        },
+        Err(_) => SubstFault::Memory,
     }
 }
 
@@ -123,10 +147,7 @@ fn read_variable<'a>(
             push_rest(&mut desk.tasks, owner, rest)?;
             say_all(setting, desk, name, sayings)
         }
-        None => Err(SubstFault::BadAttr {
-            name: owner.text(setting.alloc)?,
-            at: at as u64,
-        }),
+        None => Err(bad_attribute(setting.alloc, &owner, at)),
     }
 }
 
