@@ -6,9 +6,9 @@ use Rattle.task_plan.proofs.cycles.Walk.enter.Goals as goal
 
 pub returns-in_ok-enter_needs-in-New : goal.returns-in_ok-enter_needs-in-New
 returns-in_ok-enter_needs-in-New c =
-    let opens = c.in_ok-open.ensures {u = tt} in
+    let opens = c.in_ok-open-in-New.ensures {u = tt} in
     walk_opens c.args.states.now (map kept_of c.args.tasks.now) c.args.files.now.origins.items c.args.self.now c.open.new.self c.enter_needs.new.self c.args.rule c.requires.walk c.requires.led
-    opens.chain opens.steps opens.colours c.enter_needs.ensures.rest (c.in_ok-enter_needs.ensures {u = tt}).enters
+    opens.chain opens.steps opens.colours c.enter_needs.ensures.rest (c.in_ok-enter_needs-in-New.ensures {u = tt}).enters
 
 pub returns-in-Open : goal.returns-in-Open
 returns-in-Open c =
