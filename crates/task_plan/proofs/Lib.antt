@@ -14,3 +14,4 @@ pub mod WantLemmas
 pub mod AdmitLemmas
 pub mod FollowLemmas
 pub mod NoteLemmas
+pub mod CycleLemmas

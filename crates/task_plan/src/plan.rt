@@ -7,6 +7,7 @@ ghost use Rattle.scons_base.specs.declared.ids.NodeId.{NodeId};
 ghost use Rattle.task_plan.specs.States.{is_running, state_of};
 ghost use Rattle.task_plan.specs.Settled.{deps_of};
 ghost use Rattle.task_plan.specs.Plans.{AreMet, Meets, IsDecidedNext, IsScannedNext, IsReadyToScan, IsIdle, Goes, GoesOn, is_scan, is_halt};
+ghost use Rattle.task_plan.specs.Cycles.{IsCycle};
 ghost use Rattle.task_plan.specs.Admits.{Admits, Fits, AllFollow, IsFirstAt, Knows, none};
 
 use crate::cycles::cycle_of;
@@ -204,17 +205,22 @@ impl Plan {
         Ok(())
     }
 
-    /// Rules of which each needs the next, and the last needs the first. There are none exactly where no needed rule
-    /// waits for itself, by the files scanned so far.
-    pub fn cycle(&self) -> Result<Option<Listing<RuleId>>, Memory> {
-        let cycle = cycle_of(
+    /// Rules of which each waits for the next, and the last waits for the first. There are none exactly where no needed
+    /// rule waits for itself, by the files scanned so far.
+    pub fn cycle(&self) -> Result<Option<Listing<RuleId>>, Memory>
+        ensures real { IfOk result (λ found. IfSome found (λ cycle.
+            IsCycle self.now.states self.now.rules self.now.origins cycle)) }
+    {
+        match cycle_of(
             self.alloc,
             &self.states,
             &self.tasks,
             &self.files,
             self.roots.as_slice(),
-        )?;
-        Ok(cycle.map(Listing::new))
+        )? {
+            Some(cycle) => Ok(Some(Listing::new(cycle))),
+            None => Ok(None),
+        }
     }
 
     /// For each rule that needs, directly or through others, one of these rules at fault, and is none of them: itself and

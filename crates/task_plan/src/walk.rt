@@ -1,5 +1,10 @@
 //! The steps of a walk over rules and what they need.
 
+ghost use Rattle.std.specs.Prelude.{OnOk, IfSome};
+ghost use Rattle.task_plan.specs.Settled.{needs_of};
+ghost use Rattle.task_plan.specs.Cycles.{IsMadeBy};
+ghost use Rattle.task_plan.specs.Walks.{Enters};
+
 use crate::files::Files;
 use crate::task::Task;
 use scons_base::{Memory, RuleId};
@@ -22,16 +27,27 @@ pub(crate) fn step_limit(tasks: &[Task], roots: &[RuleId]) -> usize {
 }
 
 /// Puts the rules that a rule needs on the steps, the first on top.
-pub(crate) fn enter_needs(task: &Task, files: &Files, steps: &mut Vec<Step>) -> Result<(), Memory> {
+pub(crate) fn enter_needs(task: &Task, files: &Files, steps: &mut Vec<Step>) -> Result<(), Memory>
+    ensures { OnOk result (Enters files.now.origins.items (needs_of task.now) steps.old.items steps.new.items) }
+{
     for place in (0..task.needs()).rev() {
-        if let Some(rule) = rule_needed(task, files, place) {
-            steps.push(Step::Enter(rule))?;
-        }
+        enter_need(task, files, place, steps)?;
+    }
+    Ok(())
+}
+
+fn enter_need(task: &Task, files: &Files, place: usize, steps: &mut Vec<Step>) -> Result<(), Memory>
+    ensures { OnOk result (Enters files.now.origins.items (needs_of task.now) steps.old.items steps.new.items) }
+{
+    if let Some(rule) = rule_needed(task, files, place) {
+        steps.push(Step::Enter(rule))?;
     }
     Ok(())
 }
 
 /// The rule of the file that a rule needs at this place.
-fn rule_needed(task: &Task, files: &Files, place: usize) -> Option<RuleId> {
+fn rule_needed(task: &Task, files: &Files, place: usize) -> Option<RuleId>
+    ensures { IfSome result (IsMadeBy files.now.origins.items (needs_of task.now)) }
+{
     files.rule_of(task.need(place)?)
 }
