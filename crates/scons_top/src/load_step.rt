@@ -3,6 +3,7 @@
 ghost use Rattle.std.specs.Prelude.{◌≡◌, [], IfOk};
 ghost use Rattle.world_api.specs.Statuses.{HasStatus};
 ghost use Rattle.world_mem.specs.AsAround.{around_of};
+ghost use Rattle.scons_top.specs.Stops.{SinkReports};
 
 use crate::ending::good;
 use crate::report::Report;
@@ -23,6 +24,7 @@ pub(crate) fn load<O: Sink>(
     out: &mut O,
 ) -> Result<Report, Stop>
     ensures faults { IfOk result (λ report. report.faults ≡ []) }
+    ensures reports { SinkReports O.meaning out.old out.new result }
     ensures status { IfOk result (λ report. HasStatus report.status report.faults) }
 {
     let inner = build_words(alloc, words.jobs)?;
@@ -59,16 +61,15 @@ fn edit(alloc: Global, world: &mut MemWorld) -> Result<(), Memory>
 }
 
 /// A build over a world that refuses nothing: only memory may be wanting.
-fn build_once(alloc: Global, words: &Words, world: &mut MemWorld) -> Result<(), Stop>
+fn build_once(alloc: Global, words: &Words, world: &mut MemWorld) -> Result<(), Memory>
     requires { (around_of world.old.state).running ≡ [] }
     ensures { (around_of world.new.state).running ≡ [] }
 {
     let mut out = MemSink::new(alloc, Vec::new(alloc))?;
     let mut err = MemSink::new(alloc, Vec::new(alloc))?;
-    let report = run(alloc, words, world, &mut out, &mut err)?;
-    match report.status {
-        0 => Ok(()),
-        _ => Err(Stop::Memory),
+    match run(alloc, words, world, &mut out, &mut err) {
+        Ok(report) if report.status == 0 => Ok(()),
+        _ => Err(Memory),
     }
 }
 

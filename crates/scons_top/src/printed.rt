@@ -1,6 +1,7 @@
 //! What a run writes on standard output besides the lines of rules.
 ghost use Rattle.std.specs.Prelude.{IfErr};
 ghost use Rattle.scons_top.specs.Faults.{IsLateStop};
+ghost use Rattle.scons_top.specs.Stops.{SinkStep};
 
 use crate::stop::Stop;
 use scons_base::Memory;
@@ -13,7 +14,8 @@ pub(crate) fn say<O: Sink>(
     words: &Words,
     text: Result<String, Memory>,
 ) -> Result<(), Stop>
-    ensures { IfErr result IsLateStop }
+    ensures late { IfErr result IsLateStop }
+    ensures step { SinkStep (O.meaning.faults out.old) (O.meaning.faults out.new) result }
 {
     if !words.quiet && !words.silent {
         print(out, text?.as_str())?;
@@ -27,7 +29,8 @@ pub(crate) fn tell<O: Sink>(
     words: &Words,
     text: Result<String, Memory>,
 ) -> Result<(), Stop>
-    ensures { IfErr result IsLateStop }
+    ensures late { IfErr result IsLateStop }
+    ensures step { SinkStep (O.meaning.faults out.old) (O.meaning.faults out.new) result }
 {
     if !words.silent {
         print(out, text?.as_str())?;
