@@ -1,6 +1,6 @@
 -- What was at fault outside as a run goes on, and that it is told as it ends.
 use Rattle.std.proofs.Common.{◌≡◌, ◌≢◌, ◌∙◌, ◌≤◌, inl, inr, sym, subst, refl, ap, ℕ, zero, suc, List, [], ◌∷◌, ◌++◌, true, false, Bool, Some, map, Contains, arith}
-use Rattle.std.specs.Prelude.{All, Result, Ok, Err, IsErrAnd, IfErr}
+use Rattle.std.specs.Prelude.{All, Result, Ok, Err, IsErrAnd, IfErr, OnErr}
 use Rattle.std.proofs.lemmas.Bool.{false≢true}
 use Rattle.std.proofs.lemmas.List.Elements.{All-push, All-nil, All-cons, All-map, All-weaker, All-pop, Contains-append_left, Contains-push}
 use Rattle.scons_base.specs.Rising.{Rose}
@@ -10,7 +10,7 @@ use Rattle.world_api.specs.Looks.{IsTreeAlone}
 use Rattle.world_api.specs.Meaning.{Meaning}
 use Rattle.rule_graph.specs.declared.build_fault.BuildFault.{BuildFault}
 use Rattle.rule_graph.specs.declared.build_fault.BuildFault.TheVariants as fault
-use Rattle.build_files.specs.Causes.{HasEndCause}
+use Rattle.build_files.specs.Causes.{HasEndCause, HasLookCause}
 use Rattle.build_files.specs.Causes.{HasFaultCause as HasLookFault}
 use Rattle.build_files.specs.declared.end.ListEnd.{ListEnd}
 use Rattle.build_files.specs.declared.end.ListEnd.TheVariants as list_end
@@ -22,6 +22,8 @@ use Rattle.scons_host.specs.Causes.{HasEndCause as HasHostCause, at_counts}
 use Rattle.scons_host.specs.Causes.{Outside as HostOutside}
 use Rattle.scons_host.specs.declared.end.HostEnd.{HostEnd}
 use Rattle.scons_host.specs.declared.end.HostEnd.TheVariants as host_end
+use Rattle.scons_words.specs.declared.fault.WordsFault.{WordsFault}
+use Rattle.scons_words.specs.declared.fault.WordsFault.TheVariants as words_fault
 use Rattle.build_run.specs.Causes.{Outside, outside, IsLater, AreCaused}
 use Rattle.build_run.specs.Causes.{HasCause as HasBuildCause, HasAny as HasAnyBuild, AreTold as AreBuildTold}
 use Rattle.build_run.specs.Causes.{IsTreeFault as IsBuildTree, IsStartFault as IsBuildStart, IsActionFault as IsBuildAction}
@@ -33,7 +35,7 @@ use Rattle.scons_top.specs.declared.stop.Stop.{Stop}
 use Rattle.scons_top.specs.declared.stop.Stop.TheVariants as stop
 use Rattle.scons_top.specs.Faults.{IsLateStop}
 use Rattle.scons_top.specs.Causes.{HasCause, IsTreeFault, IsStartFault, IsActionFault, HasAny, AreTold, IsCaused}
-use Rattle.scons_top.specs.Stops.{top_of, stop_of_list, stop_of_host, stop_of_store, HasWorldCause, HasWorldStop, WorldStep, IsInside, InnerStep, HasSinkStop, SinkStep, OnWorld, OutFails, HasStopFault, HasStop, Step, ReportStep}
+use Rattle.scons_top.specs.Stops.{top_of, stop_of_words, stop_of_list, stop_of_host, stop_of_store, HasWorldCause, HasWorldStop, WorldStep, IsInside, IsTopStop, InnerStep, HasSinkStop, SinkStep, OnWorld, OutFails, HasStopFault, HasStop, Step, ReportStep}
 use Rattle.scons_top.specs.Endings.{Found}
 use Rattle.scons_top.proofs.Watching.{watches_same, watches_host, watches_look, watches_store, later_same, later_tree, later_disk, later_look, later_list, later_store}
 
@@ -511,5 +513,41 @@ list_later a b out err h = record {
   out = omega arith;
   err = omega arith;
 }
+
+-- exits of looks
+pub look_exit : {T : Type 0} (a b : Counts) (r : Result T Stop) (e : ListEnd) → IsErrAnd r (λ s. IsLateStop s × (s ≡ stop_of_list e)) → HasEndCause a b e → WorldStep a b r
+look_exit a b (Ok value) e is h = absurd is
+look_exit a b (Err s) e is h = look_stop a b e s is.1 h
+
+pub look_exit_as : {T : Type 0} (a b : Counts) (r : Result T ListEnd) (e : ListEnd) → IsErrAnd r (λ x. x ≡ e) → HasEndCause a b e → HasLookCause a b r
+look_exit_as a b (Ok value) e is h = absurd is
+look_exit_as a b (Err x) e is h = subst (HasEndCause a b) (sym is) h
+
+pub look_back : (a b c : Counts) (e : ListEnd) → b ≡ a → HasEndCause b c e → HasEndCause a c e
+look_back a b c e same h = subst (λ x. HasEndCause x c e) same h
+
+-- a step with no call outside that ends for a stop of its own
+pub inner_exit : {T : Type 0} (r : Result T Stop) → IsErrAnd r IsInside → InnerStep r
+inner_exit (Ok value) is = absurd is
+inner_exit (Err s) is = is
+
+pub memory_inside : IsInside stop.Memory
+memory_inside = λ counts. later_same counts counts refl
+
+-- the top that can't be named
+pub memory_top : IsTopStop stop.Memory
+memory_top = λ old new h. later_tree old new h
+
+-- refused words
+pub words_stop : (a : Outside) (e : WordsFault) → HasStop a a (stop_of_words e)
+words_stop a (words_fault.At place kind) = record { counts = refl; out = refl; err = refl }
+words_stop a words_fault.Memory = later_here a
+
+-- what is so whatever came
+pub on_err : {T E : Type 0} (P : Type 0) (r : Result T E) → P → OnErr r P
+on_err P (Ok value) p = tt
+on_err P (Err e) p = p
+
+pub ruleset late = (memory_late, refused_late)
 
 pub ruleset causing = (watches_same, watches_host, watches_look, watches_store, later_same, later_tree, later_disk, later_look, later_list, later_store, look_stop, inside, sink_memory, sink_refused, memory_late, refused_late, inner_memory)

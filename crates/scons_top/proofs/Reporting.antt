@@ -18,7 +18,7 @@ use Rattle.scons_top.specs.declared.stop.Stop.{Stop}
 use Rattle.scons_top.specs.declared.stop.Stop.TheVariants as stop
 use Rattle.scons_top.specs.Causes.{HasCause, AreTold}
 use Rattle.scons_top.specs.Stops.{top_of, HasWorldCause, SinkStep, ReportStep}
-use Rattle.scons_top.specs.Endings.{Found, ErrFinds, ErrReports, ErrEnds, AddsUnwritten, AddsUnprinted, Closes}
+use Rattle.scons_top.specs.Endings.{Found, ErrFinds, ErrReports, ErrEnds, AddsStopped, AddsUnwritten, AddsUnprinted, Closes}
 use Rattle.scons_top.proofs.Causing.{found_as, found_list, found_wanting, found_dropped, found_err, found_out, stop_found, world_found, found_report, wanting_report, exit_report}
 
 module _ {E : Type 0} (e : SinkMeaning E) where
@@ -102,10 +102,13 @@ each_added old faults new ys f t false is more kept each =
 pub whole : (xs all : List BuildFault) → map (λ y. y) xs ≡ all → xs ≡ all
 whole xs all same = sym (map_same xs) ∙ same
 
-pub unwritten : (s : Stop) (old new : List Top) (lost : Bool) → s ≢ stop.Memory → (lost ≡ false → new ≡ old ++ top.OutFault ∷ []) → (lost ≡ true → new ≡ old) → AddsUnwritten (Err s) old new lost
+pub unwritten : (s : Stop) (old new : List Top) (lost : Bool) → s ≢ stop.Memory → (lost ≡ false → new ≡ old ++ top.OutFault ∷ []) → (lost ≡ true → new ≡ old) → AddsStopped s old new lost
 unwritten (stop.Fault f) old new lost not added kept = (added, kept)
 unwritten (stop.Build f) old new lost not added kept = (added, kept)
 unwritten stop.Memory old new lost not added kept = absurd (not refl)
+
+pub unwritten_lost : (s : Stop) (old : List Top) → s ≡ stop.Memory → AddsStopped s old old true
+unwritten_lost s old is = subst (λ x. AddsStopped x old old true) (sym is) (refl, refl)
 
 -- whether memory was wanting
 

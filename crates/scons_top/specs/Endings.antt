@@ -41,10 +41,14 @@ ListEnds o e fault out err new_out new_err result = (old new : Counts) → HasWo
     → ReportStep (outside old (o.faults out) (e.faults err)) (outside new (o.faults new_out) (e.faults new_err)) result
 
 -- the fault that a last line wasn't written is added, unless memory is wanting
+abbrev pub AddsStopped : Stop → List Top → List Top → Bool → Type 0
+AddsStopped stop.Memory old new lost = (new ≡ old) × (lost ≡ true)
+AddsStopped other old new lost = (lost ≡ false → new ≡ old ++ top.OutFault ∷ []) × (lost ≡ true → new ≡ old)
+
+-- the same, where it may have been written
 abbrev pub AddsUnwritten : Result (Unit {0}) Stop → List Top → List Top → Bool → Type 0
 AddsUnwritten (Ok value) old new lost = (new ≡ old) × (lost ≡ false)
-AddsUnwritten (Err stop.Memory) old new lost = (new ≡ old) × (lost ≡ true)
-AddsUnwritten (Err other) old new lost = (lost ≡ false → new ≡ old ++ top.OutFault ∷ []) × (lost ≡ true → new ≡ old)
+AddsUnwritten (Err s) old new lost = AddsStopped s old new lost
 
 -- the faults of a build are reported, once the last line was written or not
 abbrev pub Closes : List BuildFault → Bool → Result (Unit {0}) Stop → Report → Type 0

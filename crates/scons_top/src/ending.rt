@@ -1,12 +1,12 @@
 //! How a run ends: its last lines and its report.
-ghost use Rattle.std.specs.Prelude.{◌≡◌, ◌≢◌, ◌++◌, ◌∷◌, [], true, false, All, Contains, map, IfErr, OnOk, OnErr};
+ghost use Rattle.std.specs.Prelude.{◌≡◌, ◌≢◌, ◌++◌, ◌∷◌, [], true, false, All, Contains, map, IfOk, IfErr, OnOk, OnErr};
 ghost use Rattle.scons_top.specs.Faults.{IsEarly, IsEarlyStop, IsLate, IsLateStop, EarlyOnlyIf};
-ghost use Rattle.scons_top.specs.Endings.{ErrFinds, ErrEnds, ErrReports, AddsUnwritten, Closes};
-ghost use Rattle.scons_top.specs.Stops.{SinkStep, top_of};
+ghost use Rattle.scons_top.specs.Endings.{ErrFinds, ErrEnds, ErrReports, AddsStopped, AddsUnwritten, Closes};
+ghost use Rattle.scons_top.specs.Stops.{SinkStep, SinkReports, top_of};
 ghost use Rattle.scons_top.specs.declared.report.Top.{Top};
 ghost use Rattle.world_api.specs.Statuses.{HasStatus};
 
-use crate::printed::{say, tell};
+use crate::printed::{print_text, say, tell};
 use crate::report::{Report, Top};
 use crate::requests::Request;
 use crate::stop::Stop;
@@ -48,6 +48,20 @@ pub(crate) fn good(alloc: Global) -> Report
     ensures status { HasStatus result.status result.faults }
 {
     report(Listing::empty(alloc), Listing::empty(alloc), false)
+}
+
+/// Prints the one text of a run without a fault.
+pub(crate) fn show<O: Sink>(
+    alloc: Global,
+    out: &mut O,
+    text: Result<String, Memory>,
+) -> Result<Report, Stop>
+    ensures reports { SinkReports O.meaning out.old out.new result }
+    ensures faults { IfOk result (λ report. report.faults ≡ []) }
+    ensures status { IfOk result (λ report. HasStatus report.status report.faults) }
+{
+    print_text(out, text)?;
+    Ok(good(alloc))
 }
 
 /// The report of a run that one fault ended: it is printed, and, where standard error refuses, so is that.
@@ -242,8 +256,18 @@ fn add_unwritten(faults: &mut Listing<Top>, written: Result<(), Stop>) -> bool
 {
     match written {
         Ok(()) => false,
-        Err(Stop::Memory) => true,
-        Err(_) => add(faults, Top::OutFault),
+        Err(stop) => add_stopped(faults, stop),
+    }
+}
+
+/// Adds the fault for which a last line wasn't written, and says whether memory was wanting.
+fn add_stopped(faults: &mut Listing<Top>, stop: Stop) -> bool
+    ensures late { EarlyOnlyIf ⊥ faults.old → EarlyOnlyIf ⊥ faults.new }
+    ensures adds { AddsStopped stop faults.old faults.new result }
+{
+    match stop {
+        Stop::Memory => true,
+        _ => add(faults, Top::OutFault),
     }
 }
 

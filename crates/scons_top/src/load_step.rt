@@ -5,7 +5,7 @@ ghost use Rattle.world_api.specs.Statuses.{HasStatus};
 ghost use Rattle.world_mem.specs.AsAround.{around_of};
 ghost use Rattle.scons_top.specs.Stops.{SinkReports};
 
-use crate::ending::good;
+use crate::ending::show;
 use crate::report::Report;
 use crate::stop::Stop;
 use crate::top::run;
@@ -13,7 +13,7 @@ use scons_base::{Blob, Listing, Memory, PathText, Paths, Texts};
 use scons_report::load_text;
 use scons_words::Words;
 use std::alloc::Global;
-use world_api::{Sink, print};
+use world_api::Sink;
 use world_mem::{ActTable, MemSink, MemWorld};
 
 /// Builds twice, and says how many rules were started.
@@ -27,13 +27,17 @@ pub(crate) fn load<O: Sink>(
     ensures reports { SinkReports O.meaning out.old out.new result }
     ensures status { IfOk result (λ report. HasStatus report.status report.faults) }
 {
+    show(alloc, out, measured(alloc, words, rules))
+}
+
+/// Builds twice over a world in memory, and gives the line that says so.
+fn measured(alloc: Global, words: &Words, rules: u32) -> Result<String, Memory> {
     let inner = build_words(alloc, words.jobs)?;
     let mut world = world_of(alloc, rules)?;
     build_once(alloc, &inner, &mut world)?;
     edit(alloc, &mut world)?;
     build_once(alloc, &inner, &mut world)?;
-    print(out, load_text(alloc, rules)?.as_str())?;
-    Ok(good(alloc))
+    load_text(alloc, rules)
 }
 
 /// The world with the script and the sources.

@@ -17,10 +17,10 @@ pub(crate) fn say<O: Sink>(
     ensures late { IfErr result IsLateStop }
     ensures step { SinkStep (O.meaning.faults out.old) (O.meaning.faults out.new) result }
 {
-    if !words.quiet && !words.silent {
-        print(out, text?.as_str())?;
+    if words.quiet || words.silent {
+        return Ok(());
     }
-    Ok(())
+    print_text(out, text)
 }
 
 /// Writes a line that `-Q` leaves.
@@ -32,8 +32,19 @@ pub(crate) fn tell<O: Sink>(
     ensures late { IfErr result IsLateStop }
     ensures step { SinkStep (O.meaning.faults out.old) (O.meaning.faults out.new) result }
 {
-    if !words.silent {
-        print(out, text?.as_str())?;
+    if words.silent {
+        return Ok(());
     }
+    print_text(out, text)
+}
+
+/// Prints a text that could be made.
+#[tactic(auto, using(crate::proofs::Causing::late))]
+pub(crate) fn print_text<O: Sink>(out: &mut O, text: Result<String, Memory>) -> Result<(), Stop>
+    ensures late { IfErr result IsLateStop }
+    ensures step { SinkStep (O.meaning.faults out.old) (O.meaning.faults out.new) result }
+{
+    let text = text?;
+    print(out, text.as_str())?;
     Ok(())
 }

@@ -15,7 +15,7 @@ ghost use Rattle.world_api.specs.Meaning.{Told};
 use crate::build_step::build_requests;
 use crate::clean_step::clean_requests;
 use crate::dry_step::list_requests;
-use crate::ending::{ended, good};
+use crate::ending::{ended, show};
 use crate::load_step::load;
 use crate::reading::read;
 use crate::report::Report;
@@ -26,7 +26,7 @@ use scons_base::Text;
 use scons_report::help_text;
 use scons_words::{Words, read_words};
 use std::alloc::Global;
-use world_api::{Sink, World, print};
+use world_api::{Sink, World};
 
 /// The command: takes its words, reads the scripts, and cleans, lists or builds what is requested. A run whose words or
 /// scripts are at fault, or that is asked for what there isn't, leaves the world as it was; and so do `-n` and `-h`.
@@ -120,8 +120,7 @@ fn help<O: Sink>(alloc: Global, graph: &Graph, out: &mut O) -> Result<Report, St
     ensures faults { IfOk result (λ report. report.faults ≡ []) }
     ensures status { IfOk result (λ report. HasStatus report.status report.faults) }
 {
-    print(out, help_text(alloc, graph)?.as_str())?;
-    Ok(good(alloc))
+    show(alloc, out, help_text(alloc, graph))
 }
 
 /// Cleans, lists or builds what is requested.

@@ -3,20 +3,21 @@ use Rattle.scons_top.specs.Faults.{IsEarly}
 use Rattle.scons_top.specs.declared.report.Top.{Top}
 use Rattle.scons_top.specs.declared.report.Top.TheVariants as top
 use Rattle.scons_top.proofs.Early.{added}
+use Rattle.scons_top.proofs.Causing.{on_err}
 use Rattle.scons_top.proofs.Reporting.{finds_dropped, finds_wanting, finds_printed, finds_refused, finds_refused_dropped}
 use Rattle.scons_top.proofs.ending.keep.Goals as goal
 
 pub returns-in_err-push-clause-lacks : goal.returns-in_err-push-clause-lacks
-returns-in_err-push-clause-lacks g c = finds_dropped g.E.Sink.meaning _ c.args.fault _ _ c.in_err-push.ensures.err
+returns-in_err-push-clause-lacks g c = on_err _ c.from_residual.result (finds_dropped g.E.Sink.meaning _ c.args.fault _ _ c.in_err-push.ensures.err)
 
 pub returns-in_err-text-clause-lacks : goal.returns-in_err-text-clause-lacks
-returns-in_err-text-clause-lacks g c = finds_wanting g.E.Sink.meaning _ _ _ c.in_ok-push.ensures.ok
+returns-in_err-text-clause-lacks g c = on_err _ c.from_residual-in_err-text.result (finds_wanting g.E.Sink.meaning _ _ _ c.in_ok-push.ensures.ok)
 
 pub returns-in-Ok-clause-finds : goal.returns-in-Ok-clause-finds
 returns-in-Ok-clause-finds g c = finds_printed g.E.Sink.meaning _ _ _ _ c.in-Ok.ensures.ok.faults c.in_ok-push.ensures.ok
 
 pub returns-in_err-push-2-clause-lacks : goal.returns-in_err-push-2-clause-lacks
-returns-in_err-push-2-clause-lacks g c = finds_refused_dropped g.E.Sink.meaning _ _ _ _ c.in-Err.ensures.err.faults (c.in_err-push-2.ensures.err ∙ c.in_ok-push.ensures.ok)
+returns-in_err-push-2-clause-lacks g c = on_err _ c.from_residual-in_err-push-2.result (finds_refused_dropped g.E.Sink.meaning _ _ _ _ c.in-Err.ensures.err.faults (c.in_err-push-2.ensures.err ∙ c.in_ok-push.ensures.ok))
 
 pub returns-in-Err-clause-early : goal.returns-in-Err-clause-early
 returns-in-Err-clause-early g c = λ each.
