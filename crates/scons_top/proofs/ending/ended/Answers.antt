@@ -11,7 +11,7 @@ returns-in-Fault-clause-causes g c = subst (λ (s : Stop). ErrEnds g.E.Sink.mean
 pub returns-in-Build-clause-causes : goal.returns-in-Build-clause-causes
 returns-in-Build-clause-causes g c =
     let m = g.E.Sink.meaning in
-    subst (λ (s : Stop). ErrEnds m s c.args.err.now c.kept-2.new.err c.kept-2.result) (sym c.in-Build.is) (reports_as m (top_of c.in-Build.fault) c.from.result _ _ _ c.from.ensures.1 c.kept-2.ensures.causes)
+    subst (λ (s : Stop). ErrEnds m s c.args.err.now c.kept-in-Build.new.err c.kept-in-Build.result) (sym c.in-Build.is) (reports_as m (top_of c.in-Build.fault) c.from.result _ _ _ c.from.ensures.1 c.kept-in-Build.ensures.causes)
 
 pub returns-in-Memory-clause-causes : goal.returns-in-Memory-clause-causes
 returns-in-Memory-clause-causes g c =

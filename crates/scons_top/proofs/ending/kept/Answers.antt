@@ -6,4 +6,4 @@ pub returns-in-Ok-clause-causes : goal.returns-in-Ok-clause-causes
 returns-in-Ok-clause-causes g c = reports_kept g.E.Sink.meaning c.args.fault _ _ _ _ c.report.result false c.empty-faults.ensures c.in-Ok.ensures.finds c.report.ensures.faults c.report.ensures.memory
 
 pub returns-in-Err-clause-causes : goal.returns-in-Err-clause-causes
-returns-in-Err-clause-causes g c = reports_kept g.E.Sink.meaning c.args.fault _ _ _ _ c.report-2.result true c.empty-faults.ensures c.in-Err.ensures.lacks c.report-2.ensures.faults c.report-2.ensures.memory
+returns-in-Err-clause-causes g c = reports_kept g.E.Sink.meaning c.args.fault _ _ _ _ c.report-in-Err.result true c.empty-faults.ensures c.in-Err.ensures.lacks c.report-in-Err.ensures.faults c.report-in-Err.ensures.memory
