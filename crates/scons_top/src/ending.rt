@@ -256,14 +256,14 @@ fn add_unwritten(faults: &mut Listing<Top>, written: Result<(), Stop>) -> bool
 {
     match written {
         Ok(()) => false,
-        Err(stop) => add_stopped(faults, stop),
+        Err(stop) => add_stopped(faults, &stop),
     }
 }
 
 /// Adds the fault for which a last line wasn't written, and says whether memory was wanting.
-fn add_stopped(faults: &mut Listing<Top>, stop: Stop) -> bool
+fn add_stopped(faults: &mut Listing<Top>, stop: &Stop) -> bool
     ensures late { EarlyOnlyIf ⊥ faults.old → EarlyOnlyIf ⊥ faults.new }
-    ensures adds { AddsStopped stop faults.old faults.new result }
+    ensures adds { AddsStopped stop.now faults.old faults.new result }
 {
     match stop {
         Stop::Memory => true,

@@ -14,17 +14,17 @@ pub loop-fault-preserved : goal.loop-fault-preserved
 loop-fault-preserved c = record {
   late = λ e. c.add-lost.ensures.late (c.loop-fault.invariant.late e);
   added = λ is.
-      let t = c.has_lost.ensures is in
+      let t = c.has_lost-lacks.ensures is in
       all_added _ _ _ _ _ c.from.result c.from.ensures.1 (c.add-lost.ensures.added t.1) (c.loop-fault.invariant.added t.0);
   each = each_added _ _ _ _ _ c.from.result _ c.from.ensures.1 c.add-lost.ensures.added c.add-lost.ensures.lost c.loop-fault.invariant.each;
 }
 
 pub returns-clause-added : goal.returns-clause-added
 returns-clause-added c = λ is.
-    let t = YieldsList-end (YieldsList-from_vec c.args.found (c.into_iter.ensures.rest ∙ c.into_vec.ensures) (c.into_iter.ensures.len ∙ (c.into_vec.result.ok.0 ∙ ap length c.into_vec.ensures))) c.loop-fault.yielded _ c.loop-fault.yielded_by _ _ c.in-None.is c.next.ensures.steps in
+    let t = YieldsList-end (YieldsList-from_vec c.args.found (c.into_iter-fault-iterator.ensures.rest ∙ c.into_vec-fault-items.ensures) (c.into_iter-fault-iterator.ensures.len ∙ (c.into_vec-fault-items.result.ok.0 ∙ ap length c.into_vec-fault-items.ensures))) c.loop-fault.yielded _ c.loop-fault.yielded_by _ _ c.in-None.is c.next.ensures.steps in
     c.loop-fault.invariant.added is ∙ ap (λ (ys : List BuildFault). c.args.faults.now ++ map top_of ys) (whole _ _ t.0)
 
 pub returns-clause-each : goal.returns-clause-each
 returns-clause-each c =
-    let t = YieldsList-end (YieldsList-from_vec c.args.found (c.into_iter.ensures.rest ∙ c.into_vec.ensures) (c.into_iter.ensures.len ∙ (c.into_vec.result.ok.0 ∙ ap length c.into_vec.ensures))) c.loop-fault.yielded _ c.loop-fault.yielded_by _ _ c.in-None.is c.next.ensures.steps in
+    let t = YieldsList-end (YieldsList-from_vec c.args.found (c.into_iter-fault-iterator.ensures.rest ∙ c.into_vec-fault-items.ensures) (c.into_iter-fault-iterator.ensures.len ∙ (c.into_vec-fault-items.result.ok.0 ∙ ap length c.into_vec-fault-items.ensures))) c.loop-fault.yielded _ c.loop-fault.yielded_by _ _ c.in-None.is c.next.ensures.steps in
     subst (λ (ys : List BuildFault). All (Contains (c.args.faults.now ++ map top_of ys)) c.loop-fault.faults) (whole _ _ t.0) c.loop-fault.invariant.each

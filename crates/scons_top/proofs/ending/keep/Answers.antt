@@ -19,11 +19,11 @@ returns-in-Ok-clause-finds g c = finds_printed g.E.Sink.meaning _ _ _ _ c.in-Ok.
 pub returns-in_err-push-in-Err-clause-lacks : goal.returns-in_err-push-in-Err-clause-lacks
 returns-in_err-push-in-Err-clause-lacks g c = on_err _ c.from_residual-in_err-push-in-Err.result (finds_refused_dropped g.E.Sink.meaning _ _ _ _ c.in-Err.ensures.err.faults (c.in_err-push-in-Err.ensures.err ∙ c.in_ok-push.ensures.ok))
 
-pub returns-in_ok-push-in-Err-clause-early : goal.returns-in_ok-push-in-Err-clause-early
-returns-in_ok-push-in-Err-clause-early g c = λ each.
+pub returns-clause-early : goal.returns-clause-early
+returns-clause-early g c = λ each.
     let P = IsEarly c.args.fault in
     added P _ _ _ c.in_ok-push-in-Err.ensures.ok (λ is. absurd is) (added P _ _ _ c.in_ok-push.ensures.ok (λ is. is) each)
 
-pub returns-in_ok-push-in-Err-clause-finds : goal.returns-in_ok-push-in-Err-clause-finds
-returns-in_ok-push-in-Err-clause-finds g c =
+pub returns-clause-finds : goal.returns-clause-finds
+returns-clause-finds g c =
     finds_refused g.E.Sink.meaning _ _ _ _ c.in-Err.ensures.err.faults (c.in_ok-push-in-Err.ensures.ok ∙ ap (λ (fs : List Top). fs ++ top.OutFault ∷ []) c.in_ok-push.ensures.ok)
