@@ -100,6 +100,7 @@ fn prepared(alloc: Global, envs: &mut Envs, env: EnvId, what: &str, size: u32) -
         "items" => items(alloc, envs, env, size),
         "references" => references(alloc, envs, env, size),
         "names" => names(alloc, envs, env, size),
+        "named_items" => named_items(alloc, envs, env, size),
         "dollars" => repeated(alloc, "$$", size),
         "marks" => repeated(alloc, "$(a$)", size),
         "calls" => calls(alloc, envs, env, size, true),
@@ -133,10 +134,26 @@ fn names(alloc: Global, envs: &mut Envs, env: EnvId, size: u32) -> Option<String
     requires { env.0 < length envs.old }
     ensures { IfSome result (λ _. env.0 < length envs.new) }
 {
+    let value = Text::new(repeated(alloc, "a$$", size)?);
+    named(alloc, envs, env, size, EnvValue::Text(value))
+}
+
+/// The same of a list with so many items.
+fn named_items(alloc: Global, envs: &mut Envs, env: EnvId, size: u32) -> Option<String>
+    requires { env.0 < length envs.old }
+    ensures { IfSome result (λ _. env.0 < length envs.new) }
+{
+    let items = many(alloc, "a$$", size)?;
+    named(alloc, envs, env, size, EnvValue::List(items))
+}
+
+/// A variable with a name of so many characters.
+fn named(alloc: Global, envs: &mut Envs, env: EnvId, size: u32, value: EnvValue) -> Option<String>
+    requires { env.0 < length envs.old }
+    ensures { IfSome result (λ _. env.0 < length envs.new) }
+{
     let name = repeated(alloc, "N", size)?;
-    let value = repeated(alloc, "a$$", size)?;
-    envs.set(env, name.as_str(), EnvValue::Text(Text::new(value)))
-        .ok()?;
+    envs.set(env, name.as_str(), value).ok()?;
     format!(in alloc; "${name}").ok()
 }
 

@@ -1,9 +1,9 @@
 //! Why a look at the files of a build ended.
-ghost use Rattle.std.specs.Prelude.{◌≡◌, ◌≢◌};
 ghost use Rattle.world_api.specs.Causes.{TreeFails};
 ghost use Rattle.world_api.specs.Counts.{Counts};
 ghost use Rattle.build_files.specs.declared.end.ListEnd.TheVariants as end;
 ghost use Rattle.build_files.specs.Causes.{HasEndCause, IsInside};
+ghost use Rattle.build_files.specs.Ends.{IsReadEnd};
 
 use node_tree::NodeRefusal;
 use rule_graph::{BuildFault, RuleFault, What};
@@ -39,7 +39,7 @@ impl ListEnd {
     /// The file at this path wasn't read.
     #[tactic(auto, using(crate::proofs::Looking::looking))]
     pub(crate) fn read(path: &PathText, refusal: ReadRefusal) -> ListEnd
-        ensures { (old new : Counts) → (refusal ≢ ReadRefusal.Fault → new ≡ old) → (refusal ≡ ReadRefusal.Fault → TreeFails old new) → HasEndCause old new result }
+        ensures { IsReadEnd refusal result }
     {
         match refusal {
             ReadRefusal::Fault => ListEnd::tree(path),

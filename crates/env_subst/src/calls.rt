@@ -15,6 +15,7 @@ use crate::reading::held_in;
 use crate::saying::{First, Saying, Sayings, first_of, is_over};
 use crate::setting::Setting;
 use crate::task::{Call, Task};
+use crate::variable_name::VariableName;
 use env_pieces::Pieces;
 use scons_base::{Memory, PathText, Paths, Text};
 use std::alloc::Global;
@@ -270,7 +271,11 @@ fn affix<'a>(
 }
 
 /// Something is left to do, and then a suffix.
-fn push_middle<'a>(stack: &mut Stack<'a>, suffix: Text, middle: Task<'a>) -> Result<(), Memory>
+fn push_middle<'a>(
+    stack: &mut Stack<'a>,
+    suffix: VariableName,
+    middle: Task<'a>,
+) -> Result<(), Memory>
     ensures { OnOk result ((locals : Locals) → tasks_of locals stack.new.tasks.items
         ≡ plain locals middle.entry ∷ (expand suffix ∷ tasks_of locals stack.old.tasks.items)) }
 {

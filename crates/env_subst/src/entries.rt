@@ -18,6 +18,7 @@ use crate::reading::held_in;
 use crate::saying::{First, Saying, Sayings, first_of, is_literal};
 use crate::setting::Setting;
 use crate::substitution::{ReadText, read_text};
+use crate::variable_name::VariableName;
 use env_text::name_alone;
 use scons_base::limits::REFERENCE_LIMIT;
 use scons_base::{Memory, Text};
@@ -26,7 +27,7 @@ use std::mem;
 /// What a variable still says.
 #[derive(Drop)]
 pub(crate) struct Frame<'a> {
-    pub(crate) name: Text,
+    pub(crate) name: VariableName,
     pub(crate) rest: Sayings<'a>,
 }
 
@@ -58,7 +59,7 @@ pub(crate) enum EntryStep {
 pub(crate) enum Found {
     Nothing,
     Entry(LibItem),
-    Variable(Text),
+    Variable(VariableName),
 }
 
 /// The entries of a variable, none of which is taken yet.
@@ -74,7 +75,7 @@ pub(crate) fn entries_of<'a>(setting: &Setting<'a>, name: &str) -> Result<Entrie
         names: Names::new(alloc),
         references: 0,
     };
-    open(setting, &mut entries, Text::of(alloc, name)?)?;
+    open(setting, &mut entries, VariableName::of(alloc, name)?)?;
     Ok(entries)
 }
 
@@ -115,7 +116,7 @@ fn go_on<'a>(
 fn take<'a>(
     setting: &Setting<'a>,
     entries: &mut Entries<'a>,
-    name: Text,
+    name: VariableName,
     first: First<'a>,
 ) -> Result<EntryStep, SubstFault>
     ensures { let w = setting_of setting.now in
@@ -158,7 +159,7 @@ fn pop<'a>(frames: &mut Frames<'a>) -> Option<Frame<'a>>
 fn enter<'a>(
     setting: &Setting<'a>,
     entries: &mut Entries<'a>,
-    name: Text,
+    name: VariableName,
 ) -> Result<EntryStep, SubstFault>
     ensures { let w = setting_of setting.now in
         Steps w (spec.variable_entries (spec.entries_at w entries.old.names) name entries.old.references
@@ -170,7 +171,11 @@ fn enter<'a>(
 }
 
 /// Opens a variable: inside its own value it says nothing.
-fn open<'a>(setting: &Setting<'a>, entries: &mut Entries<'a>, name: Text) -> Result<(), SubstFault>
+fn open<'a>(
+    setting: &Setting<'a>,
+    entries: &mut Entries<'a>,
+    name: VariableName,
+) -> Result<(), SubstFault>
     ensures { let w = setting_of setting.now in
         MatchResult result (λ _. entries_left w entries.new ≡ opened w name entries.old)
         (λ e. e ≢ SubstFault.Memory → opened w name entries.old ≡ spec.fails e) }
@@ -191,7 +196,7 @@ fn open<'a>(setting: &Setting<'a>, entries: &mut Entries<'a>, name: Text) -> Res
 fn found_in(
     setting: &Setting<'_>,
     names: &mut Names,
-    name: &Text,
+    name: &VariableName,
     saying: Saying,
     references: usize,
 ) -> Result<(Found, usize), SubstFault>
@@ -208,7 +213,7 @@ fn found_in(
 fn text_found(
     setting: &Setting<'_>,
     names: &mut Names,
-    name: &Text,
+    name: &VariableName,
     text: Text,
     references: usize,
 ) -> Result<(Found, usize), SubstFault>
@@ -217,7 +222,7 @@ fn text_found(
 {
     match name_alone(text.as_str()) {
         Some(variable) => {
-            let variable = Text::of(setting.alloc, variable)?;
+            let variable = VariableName::of(setting.alloc, variable)?;
             Ok((Found::Variable(variable), references))
         }
         None if is_literal(text.as_str()) => Ok((named(text), references)),
@@ -229,7 +234,7 @@ fn text_found(
 fn read_found(
     setting: &Setting<'_>,
     names: &mut Names,
-    name: &Text,
+    name: &VariableName,
     text: Text,
     references: usize,
 ) -> Result<(Found, usize), SubstFault>

@@ -26,6 +26,7 @@ mod select;
 mod setting;
 mod substitution;
 mod task;
+mod variable_name;
 
 pub use command::{CommandLines, command_lines, lines, path_text};
 pub use env_pieces::Mode;

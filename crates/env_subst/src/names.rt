@@ -3,8 +3,9 @@ ghost use Rattle.std.specs.Prelude.{◌≡◌, ◌++◌, ◌∷◌, [], ◌≤�
 ghost use Rattle.env_subst.specs.Expansions.{is_open};
 ghost use Rattle.env_subst.specs.Desks.{outer_names};
 
+use crate::variable_name::VariableName;
 use indexmap::IndexSet;
-use scons_base::{Memory, Text};
+use scons_base::Memory;
 use std::alloc::Global;
 use std::marker::Model;
 
@@ -14,7 +15,7 @@ const FEW: usize = 8;
 /// The variables whose values are being read, the outermost first.
 #[derive(Drop)]
 pub(crate) struct Names {
-    names: IndexSet<Text>,
+    names: IndexSet<VariableName>,
 }
 
 impl Model for Names {
@@ -40,7 +41,7 @@ impl Names {
         self.names.len()
     }
 
-    pub(crate) fn is_open(&self, name: &Text) -> bool
+    pub(crate) fn is_open(&self, name: &VariableName) -> bool
         ensures { result ≡ is_open name.now self.now }
     {
         if self.names.len() <= FEW {
@@ -50,7 +51,7 @@ impl Names {
         }
     }
 
-    pub(crate) fn enter(&mut self, name: Text) -> Result<(), Memory>
+    pub(crate) fn enter(&mut self, name: VariableName) -> Result<(), Memory>
         requires { is_open name self.old ≡ false }
         ensures ok { OnOk result (self.new ≡ self.old ++ name ∷ []) }
     {
@@ -65,7 +66,7 @@ impl Names {
     }
 }
 
-fn is_among(names: &[Text], name: &Text) -> bool
+fn is_among(names: &[VariableName], name: &VariableName) -> bool
     ensures { result ≡ is_open name.now names.now }
 {
     names.iter().any(|there| name == there)

@@ -4,6 +4,7 @@ ghost use Rattle.env_text.specs.Views.{plain};
 ghost use Rattle.env_subst.specs.Parts.{owned_part};
 
 use crate::task::Call;
+use crate::variable_name::VariableName;
 use env_pieces::Mark;
 use env_text::{Part, Selection};
 use scons_base::{Memory, Text};
@@ -15,7 +16,7 @@ pub(crate) enum OwnedPart {
     Text(Text),
     Mark(Mark),
     Variable {
-        name: Text,
+        name: VariableName,
         selection: Selection,
         attribute: Option<Text>,
     },
@@ -34,7 +35,7 @@ pub(crate) fn owned(alloc: Global, part: Part<'_>) -> Result<OwnedPart, Memory>
             selection,
             attribute: None,
         } => Ok(OwnedPart::Variable {
-            name: Text::of(alloc, name)?,
+            name: VariableName::of(alloc, name)?,
             selection,
             attribute: None,
         }),
@@ -43,7 +44,7 @@ pub(crate) fn owned(alloc: Global, part: Part<'_>) -> Result<OwnedPart, Memory>
             selection,
             attribute: Some(attribute),
         } => Ok(OwnedPart::Variable {
-            name: Text::of(alloc, name)?,
+            name: VariableName::of(alloc, name)?,
             selection,
             attribute: Some(Text::of(alloc, attribute)?),
         }),
@@ -53,9 +54,9 @@ pub(crate) fn owned(alloc: Global, part: Part<'_>) -> Result<OwnedPart, Memory>
             suffix,
             directories,
         } => Ok(OwnedPart::Call(Call {
-            prefix: Text::of(alloc, prefix)?,
-            list: Text::of(alloc, list)?,
-            suffix: Text::of(alloc, suffix)?,
+            prefix: VariableName::of(alloc, prefix)?,
+            list: VariableName::of(alloc, list)?,
+            suffix: VariableName::of(alloc, suffix)?,
             directories,
             room: 0,
         })),

@@ -1,5 +1,5 @@
 //! How a text is read, and the variables in it.
-ghost use Rattle.std.specs.Prelude.{◌≡◌, [], ◌∷◌, true, false, Some, None, IfOk, OnOk, MatchOption};
+ghost use Rattle.std.specs.Prelude.{◌≡◌, ◌≢◌, [], ◌∷◌, true, false, Some, None, IfOk, OnOk, MatchOption};
 ghost use Rattle.env_text.specs.Readings.{reading_from};
 ghost use Rattle.env_subst.specs.Settings.{setting_of};
 ghost use Rattle.env_subst.specs.Contents.{content_of, said_by};
@@ -19,15 +19,17 @@ use crate::place::Place;
 use crate::saying::{First, Saying, Sayings, first_of, is_over, literal_of, stands_for_itself};
 use crate::setting::Setting;
 use crate::task::{Call, Task};
+use crate::variable_name::VariableName;
 use env_text::{Selection, Step, next_part};
 use scons_base::limits::REFERENCE_LIMIT;
 use scons_base::{Memory, Text};
+use std::alloc::Global;
 
 /// Reads on from a place of a text of the variable `owner`.
 pub(crate) fn read_on<'a>(
     setting: &Setting<'a>,
     desk: &mut Desk<'a>,
-    owner: Text,
+    owner: VariableName,
     place: Place,
 ) -> Result<(), SubstFault>
     ensures { Steps setting.now (λ w names. reads w (deeper_of w names) names owner (reading_from place.text place.at)) desk.old desk.new result }
@@ -35,10 +37,7 @@ pub(crate) fn read_on<'a>(
     let Place { text, at } = place;
     match next_part(text.as_str(), at) {
         Step::End => Ok(()),
-        Step::BadBrace => Err(SubstFault::BadBrace {
-            name: owner,
-            at: at as u64,
-        }),
+        Step::BadBrace => Err(bad_brace(setting.alloc, &owner, at)),
         Step::Part(part, next) => {
             let part = owned(setting.alloc, part)?;
             let rest = Place { text, at: next };
@@ -47,11 +46,37 @@ pub(crate) fn read_on<'a>(
     }
 }
 
+/// The fault of a brace at a place of a text of the variable `owner`.
+fn bad_brace(alloc: Global, owner: &VariableName, at: usize) -> SubstFault
+    ensures { result ≢ SubstFault.Memory → result ≡ SubstFault.BadBrace owner.now at }
+{
+    match owner.text(alloc) {
+        Ok(name) => SubstFault::BadBrace {
+            name,
+            at: at as u64,
+        },
+        Err(_) => SubstFault::Memory,
+    }
+}
+
+/// The fault of an attribute at a place of a text of the variable `owner`.
+fn bad_attribute(alloc: Global, owner: &VariableName, at: usize) -> SubstFault
+    ensures { result ≢ SubstFault.Memory → result ≡ SubstFault.BadAttr owner.now at }
+{
+    match owner.text(alloc) {
+        Ok(name) => SubstFault::BadAttr {
+            name,
+            at: at as u64,
+        },
+        Err(_) => SubstFault::Memory,
+    }
+}
+
 /// Reads a part of a text of the variable `owner`, and leaves the rest of the text to do.
 fn read_part<'a>(
     setting: &Setting<'a>,
     desk: &mut Desk<'a>,
-    owner: Text,
+    owner: VariableName,
     at: usize,
     rest: Place,
     part: OwnedPart,
@@ -78,7 +103,7 @@ fn read_part<'a>(
 }
 
 /// The rest of a text is left to do.
-fn push_rest<'a>(stack: &mut Stack<'a>, owner: Text, rest: Place) -> Result<(), Memory>
+fn push_rest<'a>(stack: &mut Stack<'a>, owner: VariableName, rest: Place) -> Result<(), Memory>
     ensures { OnOk result ((locals : Locals) → tasks_of locals stack.new.tasks.items
         ≡ read owner rest.text rest.at ∷ tasks_of locals stack.old.tasks.items) }
 {
@@ -88,7 +113,7 @@ fn push_rest<'a>(stack: &mut Stack<'a>, owner: Text, rest: Place) -> Result<(), 
 fn read_call<'a>(
     setting: &Setting<'a>,
     desk: &mut Desk<'a>,
-    owner: Text,
+    owner: VariableName,
     rest: Place,
     call: Call,
 ) -> Result<(), SubstFault>
@@ -103,10 +128,10 @@ fn read_call<'a>(
 fn read_variable<'a>(
     setting: &Setting<'a>,
     desk: &mut Desk<'a>,
-    owner: Text,
+    owner: VariableName,
     at: usize,
     rest: Place,
-    name: Text,
+    name: VariableName,
     selection: Selection,
     attribute: Option<Text>,
 ) -> Result<(), SubstFault>
@@ -122,10 +147,7 @@ fn read_variable<'a>(
             push_rest(&mut desk.tasks, owner, rest)?;
             say_all(setting, desk, name, sayings)
         }
-        None => Err(SubstFault::BadAttr {
-            name: owner,
-            at: at as u64,
-        }),
+        None => Err(bad_attribute(setting.alloc, &owner, at)),
     }
 }
 
@@ -143,7 +165,7 @@ fn said_as<'a>(holding: Holding<'a>, attribute: &Option<Text>) -> Option<Sayings
 pub(crate) fn held_in<'a>(
     setting: &Setting<'a>,
     names: &Names,
-    name: &Text,
+    name: &VariableName,
 ) -> Result<Holding<'a>, Memory>
     ensures { IfOk result (λ h. content_of h ≡ content_in (setting_of setting.now) names.now name.now) }
 {
@@ -157,7 +179,7 @@ pub(crate) fn held_in<'a>(
 pub(crate) fn say_all<'a>(
     setting: &Setting<'a>,
     desk: &mut Desk<'a>,
-    name: Text,
+    name: VariableName,
     sayings: Sayings<'a>,
 ) -> Result<(), SubstFault>
     requires { is_open name desk.old.names ≡ true → sayings_of setting.now.locals.now sayings ≡ [] }
@@ -173,7 +195,7 @@ pub(crate) fn say_all<'a>(
 fn say_opened<'a>(
     setting: &Setting<'a>,
     desk: &mut Desk<'a>,
-    name: Text,
+    name: VariableName,
     sayings: Sayings<'a>,
 ) -> Result<(), SubstFault>
     requires { is_open name desk.old.names ≡ true → sayings_of setting.now.locals.now sayings ≡ [] }
@@ -189,7 +211,7 @@ fn say_opened<'a>(
 }
 
 /// Opens a variable that isn't open.
-fn open(desk: &mut Desk<'_>, name: &Text) -> Result<(), Memory>
+fn open(desk: &mut Desk<'_>, name: &VariableName) -> Result<(), Memory>
     requires { is_open name.now desk.old.names ≡ false }
     ensures { OnOk result ((locals : Locals) → desk_of locals desk.new ≡ with_open name.now (desk_of locals desk.old)) }
 {
@@ -201,7 +223,7 @@ fn open(desk: &mut Desk<'_>, name: &Text) -> Result<(), Memory>
 pub(crate) fn say_more<'a>(
     setting: &Setting<'a>,
     desk: &mut Desk<'a>,
-    name: Text,
+    name: VariableName,
     sayings: Sayings<'a>,
 ) -> Result<(), SubstFault>
     ensures { Steps setting.now (λ w names. says_more (text_at w names name) (sayings_of w.locals sayings.entry)) desk.old desk.new result }
@@ -219,7 +241,7 @@ pub(crate) fn say_more<'a>(
 fn say_first<'a>(
     setting: &Setting<'a>,
     desk: &mut Desk<'a>,
-    name: Text,
+    name: VariableName,
     first: First<'a>,
 ) -> Result<(), SubstFault>
     ensures { Steps setting.now (λ w names. says_all (text_at w names name) (first_and_rest w.locals first.entry)) desk.old desk.new result }
@@ -235,7 +257,7 @@ fn say_first<'a>(
 fn say_before<'a>(
     setting: &Setting<'a>,
     desk: &mut Desk<'a>,
-    name: Text,
+    name: VariableName,
     saying: Saying,
     rest: Sayings<'a>,
 ) -> Result<(), SubstFault>
@@ -246,7 +268,11 @@ fn say_before<'a>(
 }
 
 /// Further things that a variable says are left to do.
-fn push_sayings<'a>(stack: &mut Stack<'a>, name: &Text, rest: Sayings<'a>) -> Result<(), Memory>
+fn push_sayings<'a>(
+    stack: &mut Stack<'a>,
+    name: &VariableName,
+    rest: Sayings<'a>,
+) -> Result<(), Memory>
     ensures { OnOk result ((locals : Locals) → tasks_of locals stack.new.tasks.items
         ≡ say name.now (sayings_of locals rest.entry) ∷ tasks_of locals stack.old.tasks.items) }
 {
@@ -258,7 +284,7 @@ fn push_sayings<'a>(stack: &mut Stack<'a>, name: &Text, rest: Sayings<'a>) -> Re
 fn say_one<'a>(
     setting: &Setting<'a>,
     desk: &mut Desk<'a>,
-    name: Text,
+    name: VariableName,
     saying: Saying,
 ) -> Result<(), SubstFault>
     ensures { Steps setting.now (λ w names. says_one (text_at w names name) saying) desk.old desk.new result }
@@ -274,7 +300,7 @@ fn say_one<'a>(
 pub(crate) fn say_inside<'a>(
     setting: &Setting<'a>,
     desk: &mut Desk<'a>,
-    name: Text,
+    name: VariableName,
     saying: Saying,
 ) -> Result<(), SubstFault>
     ensures { Steps setting.now (λ w names. says_one (deeper_of w names name) saying) desk.old desk.new result }
@@ -289,7 +315,7 @@ pub(crate) fn say_inside<'a>(
 fn read_inside<'a>(
     setting: &Setting<'a>,
     desk: &mut Desk<'a>,
-    name: Text,
+    name: VariableName,
     text: Text,
 ) -> Result<(), SubstFault>
     ensures { Steps setting.now (λ w names. deeper_of w names name text) desk.old desk.new result }
@@ -305,7 +331,7 @@ fn read_inside<'a>(
 pub(crate) fn expand<'a>(
     setting: &Setting<'a>,
     desk: &mut Desk<'a>,
-    name: Text,
+    name: VariableName,
 ) -> Result<(), SubstFault>
     ensures { Steps setting.now (λ w names. expands w (deeper_of w names) names name) desk.old desk.new result }
 {
@@ -317,7 +343,7 @@ pub(crate) fn expand<'a>(
 pub(crate) fn begin<'a>(
     setting: &Setting<'a>,
     desk: &mut Desk<'a>,
-    owner: Text,
+    owner: VariableName,
     text: Text,
 ) -> Result<(), SubstFault>
     ensures { Steps setting.now (λ w names. text_at w names owner text) desk.old desk.new result }

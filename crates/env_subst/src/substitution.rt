@@ -18,6 +18,7 @@ use crate::names::Names;
 use crate::reading::{begin, expand, read_on, say_inside, say_more};
 use crate::setting::Setting;
 use crate::task::Task;
+use crate::variable_name::VariableName;
 use env_pieces::{FormFault, Mode, Piece, Pieces, form_of, text_of};
 use env_vars::Envs;
 use scons_base::{EnvId, Memory, Text};
@@ -76,7 +77,7 @@ pub(crate) fn pieces_of(
         env,
         locals,
     };
-    let empty = Text::of(alloc, "")?;
+    let empty = VariableName::of(alloc, "")?;
     let text = Text::of(alloc, text)?;
     let read = read_pieces(&setting, Names::new(alloc), empty, text, 0)?;
     Ok(read.pieces.finish()?)
@@ -102,7 +103,7 @@ pub(crate) struct ReadText {
 pub(crate) fn read_text(
     setting: &Setting<'_>,
     names: Names,
-    owner: Text,
+    owner: VariableName,
     text: Text,
     references: usize,
 ) -> Result<ReadText, SubstFault>
@@ -130,7 +131,7 @@ pub(crate) fn read_text(
 fn read_pieces(
     setting: &Setting<'_>,
     names: Names,
-    owner: Text,
+    owner: VariableName,
     text: Text,
     references: usize,
 ) -> Result<ReadPieces, SubstFault>

@@ -1,15 +1,16 @@
 //! What is left to do while a text is read.
 use crate::place::Place;
 use crate::saying::{Saying, Sayings};
+use crate::variable_name::VariableName;
 use env_pieces::Pieces;
 use scons_base::{Paths, Text};
 
 /// A call of `_concat`, by the names of its variables.
-#[derive(Debug, Drop)]
+#[derive(Drop)]
 pub(crate) struct Call {
-    pub(crate) prefix: Text,
-    pub(crate) list: Text,
-    pub(crate) suffix: Text,
+    pub(crate) prefix: VariableName,
+    pub(crate) list: VariableName,
+    pub(crate) suffix: VariableName,
     pub(crate) directories: bool,
     /// How many bytes might still come when the call began.
     pub(crate) room: usize,
@@ -22,21 +23,21 @@ pub(crate) enum Task<'a> {
     Put(Text),
     /// What is left from a place of a text, which is the value of a variable, or an item of it.
     Read {
-        owner: Text,
+        owner: VariableName,
         place: Place,
     },
     /// Further things that the innermost variable says, a space in front of each.
     Say {
-        name: Text,
+        name: VariableName,
         rest: Sayings<'a>,
     },
     /// One thing that a variable says.
     Inside {
-        name: Text,
+        name: VariableName,
         saying: Saying,
     },
     /// All that a variable says.
-    Expand(Text),
+    Expand(VariableName),
     /// Pieces as they stand.
     PutAll(Pieces),
     /// Further items of a call.

@@ -51,6 +51,7 @@ impl Environments {
         if env.0 <= self.last.0 { env } else { EnvId(0) }
     }
 
+    /// A new environment with the default variables; its number. `TooMany` where there is no further number.
     pub fn make(&mut self) -> Result<EnvId, NameFault> {
         self.last = self.envs.make()?;
         Ok(self.last)
@@ -102,25 +103,30 @@ impl Environments {
         Ok(self.envs.given(self.held(env), name.as_str(), value)?)
     }
 
+    /// The value of a variable, if it has one.
     pub fn get(&self, env: EnvId, name: &str) -> Option<&EnvValue> {
         self.envs.get(self.held(env), name)
     }
 
+    /// Gives a variable a value in place of the one that it had. `BadName` where the name is no identifier.
     pub fn set(&mut self, env: EnvId, name: &str, value: EnvValue) -> Result<(), EnvFault> {
         let env = self.held(env);
         self.envs.set(env, name, value)
     }
 
+    /// `Append`: a value behind the one that the variable has.
     pub fn append(&mut self, env: EnvId, name: &str, value: EnvValue) -> Result<(), EnvFault> {
         let env = self.held(env);
         self.envs.append(env, name, value)
     }
 
+    /// `Prepend`: a value in front of the one that the variable has.
     pub fn prepend(&mut self, env: EnvId, name: &str, value: EnvValue) -> Result<(), EnvFault> {
         let env = self.held(env);
         self.envs.prepend(env, name, value)
     }
 
+    /// `AppendUnique`: those items behind the variable's that it doesn't have yet.
     pub fn append_unique(
         &mut self,
         env: EnvId,
@@ -131,6 +137,7 @@ impl Environments {
         self.envs.append_unique(env, name, value)
     }
 
+    /// `SetDefault`: a value for a variable that has none.
     pub fn set_default(&mut self, env: EnvId, name: &str, value: EnvValue) -> Result<(), EnvFault> {
         let env = self.held(env);
         self.envs.set_default(env, name, value)
@@ -185,6 +192,7 @@ impl Environments {
         }
     }
 
+    /// Gives an environment a decider of its own.
     pub fn set_decider(&mut self, env: EnvId, decider: Decider) -> Result<(), NameFault> {
         match self.settings.get_mut(&env.0) {
             Some(setting) => setting.decider = Some(decider),
@@ -204,6 +212,7 @@ impl Environments {
         self.settings.get(&env.0)?.builders.get(name).copied()
     }
 
+    /// Gives an environment the builder of this number under a name, in place of one that stood there.
     pub fn set_builder(&mut self, env: EnvId, name: &Text, builder: u32) -> Result<(), NameFault> {
         let name = String::from_str(self.alloc, name.as_str())?;
         match self.settings.get_mut(&env.0) {

@@ -1,3 +1,5 @@
+use Rattle.std.specs.Prelude.{Err}
+use Rattle.std.proofs.Common.{◌∙◌, sym, ap}
 use Rattle.env_text.specs.Views.{plain}
 use Rattle.env_subst.specs.Settings.{setting_of}
 use Rattle.env_subst.specs.Parts.{owned_part}
@@ -12,10 +14,11 @@ returns-in-End c =
     (desk_of l c.args.desk.now) (c.in-End.ensures {u = tt}).reads
 
 pub returns-in-BadBrace : goal.returns-in-BadBrace
-returns-in-BadBrace c = λ _.
+returns-in-BadBrace c = λ known.
     let l = c.args.setting.now.locals.now in
     read_fails (setting_of c.args.setting.now) c.args.desk.now.names c.args.owner c.args.place.text c.as_str.result.now c.args.place.at c.as_str.ensures
     (desk_of l c.args.desk.now) (c.in-BadBrace.ensures {u = tt}).reads
+    ∙ ap (λ e. Err e) (sym (c.bad_brace.ensures known))
 
 pub returns-in_ok-part-in-Part : goal.returns-in_ok-part-in-Part
 returns-in_ok-part-in-Part c =

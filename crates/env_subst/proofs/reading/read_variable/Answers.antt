@@ -1,4 +1,5 @@
-use Rattle.std.proofs.Common.{◌∙◌, ◌∷◌, sym, refl}
+use Rattle.std.specs.Prelude.{Err}
+use Rattle.std.proofs.Common.{◌∙◌, ◌∷◌, sym, refl, ap}
 use Rattle.std.proofs.lemmas.Result.{err_from_is_err_and}
 use Rattle.env_subst.specs.Settings.{setting_of}
 use Rattle.env_subst.specs.Contents.{content_of}
@@ -40,7 +41,7 @@ returns-in_ok-push_rest-in-Some c =
     c.say_all.ensures
 
 pub returns-in-None : goal.returns-in-None
-returns-in-None c = λ _.
+returns-in-None c = λ known.
     let l = c.args.setting.now.locals.now in
     let w = setting_of c.args.setting.now in
     let d = c.args.desk.now in
@@ -51,3 +52,4 @@ returns-in-None c = λ _.
     ∙ refers_badly w (desk more d.names d.pieces c.in_ok-desk.field-0) c.args.owner c.args.at c.args.name c.args.selection c.args.attribute
     (content_of c.in_ok-held.held) (content_of c.taken-holding.result) (c.in_ok-held.ensures {u = tt}) c.taken-holding.ensures
     ((c.in-None.ensures {u = tt}) l)
+    ∙ ap (λ e. Err e) (sym (c.bad_attribute.ensures known))
