@@ -1,5 +1,5 @@
 //! The reading of all scripts, from the words of the command line to a graph.
-ghost use Rattle.scons_host.specs.Causes.{Outside, HasStopCause, HasLookCause, HasEndCause, HasCause, HasKeptCause, IsEndOf, IsOwn, EndsLook, ReadingCauses, WorldCauses};
+ghost use Rattle.scons_host.specs.Causes.{Outside, outside, HasStopCause, HasLookCause, HasEndCause, HasCause, HasKeptCause, IsEndOf, IsOwn, EndsLook, ReadingCauses, WorldCauses};
 ghost use Rattle.scons_host.specs.Running.{HasFaultCause, HasRunCause};
 ghost use Rattle.world_api.specs.Looks.{LooksAtFiles};
 ghost use Rattle.scons_host.specs.Prints.{Prints};
@@ -221,14 +221,30 @@ fn run_all<W: World, O: Sink>(
         end: None,
         refusals: 0,
     };
+    let outcome = run_kept(world, out, state, &mut kept, heap, script);
+    told(state, kept, outcome)
+}
+
+/// Runs the scripts over a host that keeps its refusals.
+fn run_kept<W: World, O: Sink>(
+    world: &mut W,
+    out: &mut O,
+    state: &mut State,
+    kept: &mut Kept,
+    heap: Heap,
+    script: &Script,
+) -> Result<Ran, EvalFault>
+    ensures looks { LooksAtFiles W.meaning world.old world.new }
+    ensures prints { Prints O.meaning out.old out.new }
+    ensures cause { HasRunCause (outside W.meaning O.meaning world.old out.old) (outside W.meaning O.meaning world.new out.new) kept.new.end result }
+{
     let mut host = ReadingHost {
         world,
         out,
-        state: &mut *state,
-        kept: &mut kept,
+        state,
+        kept,
     };
-    let outcome = run(script, heap, &mut host, Budget::new(UNIT_LIMIT));
-    told(state, kept, outcome)
+    run(script, heap, &mut host, Budget::new(UNIT_LIMIT))
 }
 
 /// Whether the scripts ran, or the end that their fault is.

@@ -8,13 +8,15 @@ use Rattle.world_api.specs.Causes.{Later, TreeFails, DiskFails}
 use Rattle.world_api.specs.Counts.{Counts}
 use Rattle.world_api.specs.Looks.{IsTreeAlone}
 use Rattle.world_api.specs.Meaning.{Meaning}
+use Rattle.world_api.specs.declared.refusal.AskRefusal.{AskRefusal}
+use Rattle.world_api.specs.declared.refusal.AskRefusal.TheVariants as ask
 use Rattle.rule_graph.specs.declared.build_fault.BuildFault.{BuildFault}
 use Rattle.rule_graph.specs.declared.build_fault.BuildFault.TheVariants as fault
 use Rattle.build_files.specs.Causes.{HasEndCause, HasLookCause}
 use Rattle.build_files.specs.Causes.{HasFaultCause as HasLookFault}
 use Rattle.build_files.specs.declared.end.ListEnd.{ListEnd}
 use Rattle.build_files.specs.declared.end.ListEnd.TheVariants as list_end
-use Rattle.scons_report.specs.Causes.{HasFaultCause as HasListFault}
+use Rattle.scons_report.specs.Causes.{HasFaultCause as HasListFault, HasEndCause as HasListEnd}
 use Rattle.sign_store.specs.Reached.{HasFaultCause as HasStoreCause}
 use Rattle.sign_store.specs.declared.refusals.StoreRefusal.{StoreRefusal}
 use Rattle.sign_store.specs.declared.refusals.StoreRefusal.TheVariants as refusal
@@ -64,6 +66,13 @@ list_fault a b fault.OutFault h = absurd h
 list_fault a b (fault.TooLarge path size) h = h
 list_fault a b (fault.TooMany what count) h = h
 
+-- a list that isn't given for a fault, or for want of memory
+pub list_faulty : (a b : Counts) (e : ListEnd) (f g : BuildFault) → e ≡ list_end.Fault f → f ≡ g → HasListEnd a b e → HasWorldCause a b (top_of g)
+list_faulty a b e f g is same h = subst (λ x. HasWorldCause a b (top_of x)) same (list_fault a b f (subst (HasListEnd a b) is h))
+
+pub list_alone : (a b : Counts) (e : ListEnd) → e ≡ list_end.Memory → HasListEnd a b e → IsTreeAlone a b
+list_alone a b e is h = subst (HasListEnd a b) is h
+
 pub look_end : (a b : Counts) (e : ListEnd) → HasEndCause a b e → HasWorldStop a b (stop_of_list e)
 look_end a b (list_end.Fault f) h = look_fault a b f h
 look_end a b list_end.Memory h = later_look {T = Unit {0}} a b (Err list_end.Memory) h
@@ -77,6 +86,10 @@ store_end m old new r refusal.Fault is h = h.rose is
 store_end m old new r (refusal.Foreign bank) is h = h.kept (λ other. let no = sym is ∙ other in cc)
 store_end m old new r (refusal.Large size) is h = h.kept (λ other. let no = sym is ∙ other in cc)
 store_end m old new r refusal.Memory is h = later_same (m.counts old) (m.counts new) (h.kept (λ other. let no = sym is ∙ other in cc))
+
+-- a store that is read or begun
+pub store_well : {W T : Type 0} (m : Meaning W) (old new : W) (r : Result T StoreRefusal) (value : T) → r ≡ Ok value → HasStoreCause m old new r → m.counts new ≡ m.counts old
+store_well m old new r value is h = h.kept (λ other. let no = sym is ∙ other in cc)
 
 -- a store that isn't read or begun is a stop
 pub store_stop : {W T : Type 0} (m : Meaning W) (old new : W) (r : Result T StoreRefusal) (e : StoreRefusal) (s : Stop) → s ≡ stop_of_store e → r ≡ Err e → HasStoreCause m old new r → HasWorldStop (m.counts old) (m.counts new) s
@@ -533,6 +546,18 @@ inner_exit (Err s) is = is
 
 pub memory_inside : IsInside stop.Memory
 memory_inside = λ counts. later_same counts counts refl
+
+-- the top directory was named
+pub top_named : {T : Type 0} (a b : Counts) (asked : Result T AskRefusal) (value : T) (r : Result (Unit {0}) Stop) → asked ≡ Ok value → r ≡ Ok tt → (asked ≢ Err ask.Fault → b ≡ a) → WorldStep a b r
+top_named a b asked value r is said kept = subst (WorldStep a b) (sym said) (kept (λ other. let no = sym is ∙ other in cc))
+
+-- or not, for want of memory
+pub top_wanting : {T : Type 0} (a b : Counts) (asked : Result T AskRefusal) (why : AskRefusal) (r : Result (Unit {0}) Stop) → asked ≡ Err why → why ≡ ask.Memory → r ≡ Err stop.Memory → (asked ≢ Err ask.Fault → b ≡ a) → WorldStep a b r
+top_wanting a b asked why r is so said kept = subst (WorldStep a b) (sym said) (later_same a b (kept (λ other. let no = sym (is ∙ ap Err so) ∙ other in cc)))
+
+-- or not, since the file tree refused
+pub top_refused : {T : Type 0} (a b : Counts) (asked : Result T AskRefusal) (why : AskRefusal) (r : Result (Unit {0}) Stop) (s : Stop) → asked ≡ Err why → why ≡ ask.Fault → r ≡ Err s → IsTopStop s → (asked ≡ Err ask.Fault → TreeFails a b) → WorldStep a b r
+top_refused a b asked why r s is so said stops rose = subst (WorldStep a b) (sym said) (stops a b (rose (is ∙ ap Err so)))
 
 -- the top that can't be named
 pub memory_top : IsTopStop stop.Memory

@@ -1,6 +1,6 @@
 use Rattle.std.proofs.Common.{◌∙◌, refl}
 use Rattle.scons_top.proofs.Watching.{watches_on}
-use Rattle.scons_top.proofs.Causing.{same_world, same_out, exit_report, exit_store, report_memory, world_stop, store_end, sink_stop, stop_back, report_back, list_fault, list_later}
+use Rattle.scons_top.proofs.Causing.{same_world, same_out, exit_report, exit_store, report_memory, world_stop, store_end, store_well, sink_stop, stop_back, report_back, list_alone, list_faulty, list_later}
 use Rattle.scons_top.proofs.dry_step.list_requests.Goals as goal
 
 pub returns-in_err-nodes-clause-reports : goal.returns-in_err-nodes-clause-reports
@@ -14,14 +14,14 @@ returns-in_err-view-clause-reports g c =
 pub returns-in_err-say-clause-reports : goal.returns-in_err-say-clause-reports
 returns-in_err-say-clause-reports g c =
     let r = c.from_residual-in_err-say in
-    exit_report _ _ r.result _ r.ensures.1 (stop_back _ _ _ _ (same_world _ _ _ _ (c.view_of.ensures.cause.kept (λ e. cc))) (sink_stop _ _ _ _ _ c.in_err-say.ensures.step))
+    exit_report _ _ r.result _ r.ensures.1 (stop_back _ _ _ _ (same_world _ _ _ _ (store_well _ _ _ c.view_of.result _ c.in_ok-view.was c.view_of.ensures.cause)) (sink_stop _ _ _ _ _ c.in_err-say.ensures.step))
 
 pub returns-in-Ok-clause-watches : goal.returns-in-Ok-clause-watches
 returns-in-Ok-clause-watches g c = watches_on _ _ _ _ c.view_of.ensures.watches c.list_of.ensures.watches
 
 pub returns-in-Ok-clause-reports : goal.returns-in-Ok-clause-reports
 returns-in-Ok-clause-reports g c =
-    let same = same_world _ _ _ _ c.in-Ok.ensures.cause ∙ (same_out _ _ _ _ c.in_ok-say.ensures.step ∙ same_world _ _ _ _ (c.view_of.ensures.cause.kept (λ e. cc))) in
+    let same = same_world _ _ _ _ c.in-Ok.ensures.cause ∙ (same_out _ _ _ _ c.in_ok-say.ensures.step ∙ same_world _ _ _ _ (store_well _ _ _ c.view_of.result _ c.in_ok-view.was c.view_of.ensures.cause)) in
     report_back _ _ _ c.tell_rules.result same (c.tell_rules.ensures.reports _ _)
 
 pub returns-in-Err-Memory-clause-watches : goal.returns-in-Err-Memory-clause-watches
@@ -29,13 +29,13 @@ returns-in-Err-Memory-clause-watches g c = watches_on _ _ _ _ c.view_of.ensures.
 
 pub returns-in-Err-Memory-clause-reports : goal.returns-in-Err-Memory-clause-reports
 returns-in-Err-Memory-clause-reports g c =
-    let same = same_out _ _ _ _ c.in_ok-say.ensures.step ∙ same_world _ _ _ _ (c.view_of.ensures.cause.kept (λ e. cc)) in
-    stop_back _ _ _ _ same (list_later _ _ _ _ c.in-Err-Memory.ensures.cause)
+    let same = same_out _ _ _ _ c.in_ok-say.ensures.step ∙ same_world _ _ _ _ (store_well _ _ _ c.view_of.result _ c.in_ok-view.was c.view_of.ensures.cause) in
+    stop_back _ _ _ _ same (list_later _ _ _ _ (list_alone _ _ _ c.in-Err-Memory.field-0-is c.in-Err-Memory.ensures.cause))
 
 pub returns-clause-watches : goal.returns-clause-watches
 returns-clause-watches g c = watches_on _ _ _ _ c.view_of.ensures.watches c.list_of.ensures.watches
 
 pub returns-clause-reports : goal.returns-clause-reports
 returns-clause-reports g c =
-    let same = same_out _ _ _ _ c.in_ok-say.ensures.step ∙ same_world _ _ _ _ (c.view_of.ensures.cause.kept (λ e. cc)) in
-    report_back _ _ _ c.end_with.result same (c.end_with.ensures.reports _ _ (list_fault _ _ _ c.in-Err-Fault.ensures.cause))
+    let same = same_out _ _ _ _ c.in_ok-say.ensures.step ∙ same_world _ _ _ _ (store_well _ _ _ c.view_of.result _ c.in_ok-view.was c.view_of.ensures.cause) in
+    report_back _ _ _ c.end_with.result same (c.end_with.ensures.reports _ _ (list_faulty _ _ _ _ _ c.in-Err-Fault.field-0-is (cc c.in-Err-Fault.fault-is) c.in-Err-Fault.ensures.cause))

@@ -21,10 +21,10 @@ loop-fault-preserved c = record {
 
 pub returns-clause-added : goal.returns-clause-added
 returns-clause-added c = λ is.
-    let t = YieldsList-end (YieldsList-from_vec c.args.found (c.into_iter-fault-iterator.ensures.rest ∙ c.into_vec-fault-items.ensures) (c.into_iter-fault-iterator.ensures.len ∙ (c.into_vec-fault-items.result.ok.0 ∙ ap length c.into_vec-fault-items.ensures))) c.loop-fault.yielded _ c.loop-fault.yielded_by _ _ c.in-None.is c.next.ensures.steps in
+    let t = YieldsList-end (YieldsList-from_vec c.args.found (c.into_iter-fault-iterator.ensures.into_iter_gives.0 ∙ c.into_vec-fault-items.ensures) (c.into_iter-fault-iterator.ensures.into_iter_gives.1 ∙ (c.into_vec-fault-items.result.ok.0 ∙ ap length c.into_vec-fault-items.ensures))) c.loop-fault.yielded _ c.loop-fault.yielded_by _ c.next.new.self c.in-None.is c.next.ensures.steps in
     c.loop-fault.invariant.added is ∙ ap (λ (ys : List BuildFault). c.args.faults.now ++ map top_of ys) (whole _ _ t.0)
 
 pub returns-clause-each : goal.returns-clause-each
 returns-clause-each c =
-    let t = YieldsList-end (YieldsList-from_vec c.args.found (c.into_iter-fault-iterator.ensures.rest ∙ c.into_vec-fault-items.ensures) (c.into_iter-fault-iterator.ensures.len ∙ (c.into_vec-fault-items.result.ok.0 ∙ ap length c.into_vec-fault-items.ensures))) c.loop-fault.yielded _ c.loop-fault.yielded_by _ _ c.in-None.is c.next.ensures.steps in
+    let t = YieldsList-end (YieldsList-from_vec c.args.found (c.into_iter-fault-iterator.ensures.into_iter_gives.0 ∙ c.into_vec-fault-items.ensures) (c.into_iter-fault-iterator.ensures.into_iter_gives.1 ∙ (c.into_vec-fault-items.result.ok.0 ∙ ap length c.into_vec-fault-items.ensures))) c.loop-fault.yielded _ c.loop-fault.yielded_by _ c.next.new.self c.in-None.is c.next.ensures.steps in
     subst (λ (ys : List BuildFault). All (Contains (c.args.faults.now ++ map top_of ys)) c.loop-fault.faults) (whole _ _ t.0) c.loop-fault.invariant.each

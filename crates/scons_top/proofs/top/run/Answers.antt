@@ -22,6 +22,9 @@ returns-clause-early g c =
 pub returns-in_err-graph-clause-reports : goal.returns-in_err-graph-clause-reports
 returns-in_err-graph-clause-reports g c = exit_report _ _ c.from_residual.result _ c.from_residual.ensures.1 (c.in_err-graph.ensures.steps _)
 
+pub returns-then-words-clause-reports : goal.returns-then-words-clause-reports
+returns-then-words-clause-reports g c = report_back _ _ _ c.help.result (c.in_ok-graph.ensures.steps _) (c.help.ensures.reports _ _)
+
 pub returns-in_err-requests-clause-reports : goal.returns-in_err-requests-clause-reports
 returns-in_err-requests-clause-reports g c =
     let r = c.from_residual-in_err-requests in
