@@ -1,5 +1,5 @@
 -- What was at fault outside while scripts ran: it is told by how they ended.
-use Rattle.std.proofs.Common.{◌≡◌, ◌≢◌, ℕ, Result, Ok, Err}
+use Rattle.std.proofs.Common.{◌≡◌, ◌≢◌, subst, refl, ℕ, Result, Ok, Err}
 use Rattle.std.specs.Prelude.{Option}
 use Rattle.py_host.specs.Lent.{lent}
 use Rattle.py_host.proofs.Lending.{lent_simulates}
@@ -20,7 +20,7 @@ use Rattle.world_api.specs.Meaning.{Meaning}
 use Rattle.world_api.specs.Printed.{SinkMeaning}
 use Rattle.scons_host.specs.Causes.{Outside}
 use Rattle.scons_host.specs.Reading.{Seen, outside_of, Keeps, Serves, Refuses, reading}
-use Rattle.scons_host.specs.Running.{HasKindCause, HasRunCause}
+use Rattle.scons_host.specs.Running.{HasKindCause, HasFaultCause, HasRunCause}
 use Rattle.scons_host.specs.Laws.{serves_same, serves_joined, refuses_after}
 use Rattle.scons_host.specs.declared.end.HostEnd.{HostEnd}
 
@@ -90,3 +90,14 @@ own_kind old new kept (kind.Value e) not cause = cause
 own_kind old new kept kind.Args not cause = cause
 own_kind old new kept kind.NotCallable not cause = cause
 own_kind old new kept kind.Depth not cause = cause
+
+-- what an end of the scripts says, case by case
+pub run_well : (old new : Outside) (kept : Option HostEnd) (r : Result Ran EvalFault) → HasRunCause old new kept r → (x : Ran) → r ≡ Ok x → new ≡ old
+run_well old new kept r h x is = subst (λ (y : Result Ran EvalFault). HasRunCause old new kept y) is h
+
+pub run_faulty : (old new : Outside) (kept : Option HostEnd) (r : Result Ran EvalFault) → HasRunCause old new kept r → (e : EvalFault) → r ≡ Err e → HasFaultCause old new kept e
+run_faulty old new kept r h e is = subst (λ (y : Result Ran EvalFault). HasRunCause old new kept y) is h
+
+pub run_told : {T : Type 0} (old new : Outside) (kept : Option HostEnd) (r : Result T EvalFault) → ((x : T) → r ≡ Ok x → new ≡ old) → ((e : EvalFault) → r ≡ Err e → HasFaultCause old new kept e) → HasRunCause old new kept r
+run_told old new kept (Ok x) well faulty = well x refl
+run_told old new kept (Err e) well faulty = faulty e refl
