@@ -71,8 +71,7 @@ outs_taken store (busy ∷ busies) zero d lt outs = outs
 outs_taken store (busy ∷ busies) (suc i) d lt outs =
     let inside : i < length busies = omega (arith, lt) in
     let rest = outs_taken store busies i d inside outs.2 in
-    let taken = get_or busies i d in
-    (
+    let taken = get_or busies i d in (
       rest.0,
       (λ other h. elim (in_front (remove busies i) busy other h) [
         | inl same ↦ subst (λ (b : Busy). IsBeside taken b) same (beside_turned busy taken (outs.1 taken (Contains-get_or busies i d inside)))
@@ -106,31 +105,31 @@ held_count (busy ∷ busies) = let rest = held_count busies in omega (arith, res
 pub stored_over : {W : Type 0} (m : Meaning W) (old new : W) (store : Store) (busies : List Busy) (shut : Bool) → (m.tells new → m.tells old) → (m.tells new → BanksKept m old new) → IsStored m old store busies shut → IsStored m new store busies shut
 stored_over m old new store busies shut back banks s = record {
   live = s.live;
-  kept = λ open. keeps_on m old new store.bank store.end (map_of store) back banks (s.kept open);
+  kept = λ unshut. keeps_on m old new store.bank store.end (map_of store) back banks (s.kept unshut);
   outs = s.outs;
 }
 
 pub stored_first : {W : Type 0} (m : Meaning W) (world : W) (store : Store) (busies : List Busy) (shut : Bool) → busies ≡ [] → is_live store ≡ true → IsKept m world store → IsStored m world store busies shut
 stored_first m world store busies shut none live kept = record {
-  live = λ open. live;
-  kept = λ open. kept;
-  outs = λ open. subst (AreOut store) (sym none) tt;
+  live = λ unshut. live;
+  kept = λ unshut. kept;
+  outs = λ unshut. subst (AreOut store) (sym none) tt;
 }
 
 -- the same tickets, and a disk that has refused as before
 pub stored_alike : {W : Type 0} (m : Meaning W) (world : W) (store : Store) (busies same : List Busy) (shut as_shut : Bool) → same ≡ busies → as_shut ≡ shut → IsStored m world store busies shut → IsStored m world store same as_shut
 stored_alike m world store busies same shut as_shut all alike s = record {
-  live = λ open. s.live (sym alike ∙ open);
-  kept = λ open. s.kept (sym alike ∙ open);
-  outs = λ open. subst (AreOut store) (sym all) (s.outs (sym alike ∙ open));
+  live = λ unshut. s.live (sym alike ∙ unshut);
+  kept = λ unshut. s.kept (sym alike ∙ unshut);
+  outs = λ unshut. subst (AreOut store) (sym all) (s.outs (sym alike ∙ unshut));
 }
 
 -- a store that isn't called any more
 pub stored_shut : {W : Type 0} (m : Meaning W) (world : W) (store : Store) (busies : List Busy) (shut : Bool) → shut ≡ true → IsStored m world store busies shut
 stored_shut m world store busies shut is = record {
-  live = λ open. absurd (false≢true (sym open ∙ is));
-  kept = λ open. absurd (false≢true (sym open ∙ is));
-  outs = λ open. absurd (false≢true (sym open ∙ is));
+  live = λ unshut. absurd (false≢true (sym unshut ∙ is));
+  kept = λ unshut. absurd (false≢true (sym unshut ∙ is));
+  outs = λ unshut. absurd (false≢true (sym unshut ∙ is));
 }
 
 -- ---- the store over its own calls
@@ -162,25 +161,25 @@ others_still old new ticket busies keeps nones own =
 pub stored_beside : {W : Type 0} (m : Meaning W) (world : W) (old new : Store) (ticket : Ticket) (busies : List Busy) (shut : Bool) → is_live new ≡ is_live old → KeepsBanks old new → map_of new ≡ map_of old
     → KeepsOthers ticket old new → (shut ≡ false → HasOwnRoom ticket busies) → IsStored m world old busies shut → IsStored m world new busies shut
 stored_beside m world old new ticket busies shut live banks map keeps own s = record {
-  live = λ open. live ∙ s.live open;
-  kept = λ open. kept_as m world old new banks map (s.kept open);
-  outs = λ open. others_still old new ticket busies keeps (none_same old new map) (own open) (s.outs open);
+  live = λ unshut. live ∙ s.live unshut;
+  kept = λ unshut. kept_as m world old new banks map (s.kept unshut);
+  outs = λ unshut. others_still old new ticket busies keeps (none_same old new map) (own unshut) (s.outs unshut);
 }
 
 -- after a ticket was given out
 pub stored_prepared : {W : Type 0} (m : Meaning W) (world : W) (old new : Store) (busies : List Busy) (shut : Bool) → is_live new ≡ is_live old → KeepsBanks old new → map_of new ≡ map_of old → KeepsOut old new
     → IsStored m world old busies shut → IsStored m world new busies shut
 stored_prepared m world old new busies shut live banks map keeps s = record {
-  live = λ open. live ∙ s.live open;
-  kept = λ open. kept_as m world old new banks map (s.kept open);
-  outs = λ open. outs_still old new busies
+  live = λ unshut. live ∙ s.live unshut;
+  kept = λ unshut. kept_as m world old new banks map (s.kept unshut);
+  outs = λ unshut. outs_still old new busies
       (λ busy h out.
       let t = out.ticket in
       record {
         ticket = record { rec = t.rec; out = keeps.each t.rec busy.ticket t.out; same = t.same };
         none = none_same old new map busy.hold.targets out.none;
       })
-      (s.outs open);
+      (s.outs unshut);
 }
 
 -- a new ticket's room is its own
@@ -191,9 +190,9 @@ own_room old ticket busies fresh outs busy h = let t = (out_in old busies busy o
 pub stored_withdrawn : {W : Type 0} (m : Meaning W) (old new : W) (store after : Store) (ticket : Ticket) (busies : List Busy) (targets : List (List ℕ)) (shut : Bool) → is_live after ≡ is_live store → IsKept m new after
     → map_of after ≡ with_each targets None (map_of store) → KeepsOthers ticket store after → HasOwnRoom ticket busies → IsStored m old store busies shut → IsStored m new after busies shut
 stored_withdrawn m old new store after ticket busies targets shut live kept map keeps own s = record {
-  live = λ open. live ∙ s.live open;
-  kept = λ open. kept;
-  outs = λ open. others_still store after ticket busies keeps (none_without store after targets map) own (s.outs open);
+  live = λ unshut. live ∙ s.live unshut;
+  kept = λ unshut. kept;
+  outs = λ unshut. others_still store after ticket busies keeps (none_without store after targets map) own (s.outs unshut);
 }
 
 none_apart : (b : Bool) (x y : Option Rec) → b ≢ true → x ≡ None → cond b y x ≡ None
@@ -226,9 +225,9 @@ pub stored_put : {W : Type 0} (m : Meaning W) (old new : W) (store after : Store
     → ((rec : Rec) → IsOut store rec busy.ticket → IsKept m old store → IsKept m new after) → ((rec : Rec) → IsOut store rec busy.ticket → KeepsApart busy.ticket rec.targets store after)
     → ((rec : Rec) → IsTicket store rec busy.ticket → map_of after ≡ with_each rec.targets (Some rec) (map_of store)) → IsStored m old store (busy ∷ busies) shut → IsStored m new after busies shut
 stored_put m old new store after busy busies shut live keeps apart map s = record {
-  live = λ open. live ∙ s.live open;
-  kept = λ open. let t = (s.outs open).0.ticket in keeps t.rec t.out (s.kept open);
-  outs = λ open. let outs = s.outs open in let t = outs.0.ticket in outs_put store after busy busies outs (apart t.rec t.out) (map t.rec t.out.own);
+  live = λ unshut. live ∙ s.live unshut;
+  kept = λ unshut. let t = (s.outs unshut).0.ticket in keeps t.rec t.out (s.kept unshut);
+  outs = λ unshut. let outs = s.outs unshut in let t = outs.0.ticket in outs_put store after busy busies outs (apart t.rec t.out) (map t.rec t.out.own);
 }
 
 -- with the ticket of a job that was started
@@ -238,16 +237,16 @@ pub stored_added : {W : Type 0} (m : Meaning W) (world : W) (store : Store) (new
 stored_added m world store new busies shut out own apart s = record {
   live = s.live;
   kept = s.kept;
-  outs = λ open. outs_push store busies new (s.outs open) out
+  outs = λ unshut. outs_push store busies new (s.outs unshut) out
       (λ busy h. record { room = λ e. own busy h (sym e); targets = λ path there here. apart busy.hold path (held_in busies busy h) here there });
 }
 
 -- without the ticket of one that ended otherwise
 pub stored_left : {W : Type 0} (m : Meaning W) (world : W) (store : Store) (busy : Busy) (busies : List Busy) (shut : Bool) → IsStored m world store (busy ∷ busies) shut → IsStored m world store busies shut
-stored_left m world store busy busies shut s = record { live = s.live; kept = s.kept; outs = λ open. (s.outs open).2 }
+stored_left m world store busy busies shut s = record { live = s.live; kept = s.kept; outs = λ unshut. (s.outs unshut).2 }
 
 pub room_beside : {W : Type 0} (m : Meaning W) (world : W) (store : Store) (busy : Busy) (busies : List Busy) (shut : Bool) → IsStored m world store (busy ∷ busies) shut → shut ≡ false → HasOwnRoom busy.ticket busies
-room_beside m world store busy busies shut s open other h = ((s.outs open).1 other h).room
+room_beside m world store busy busies shut s unshut other h = ((s.outs unshut).1 other h).room
 
 -- ---- withdrawals
 
@@ -286,7 +285,7 @@ last_of (first ∷ xs) x y same = let rest : xs ++ x ∷ [] ≡ xs ++ y ∷ [] =
 
 -- one that is taken out of the tickets
 pub stored_taken : {W : Type 0} (m : Meaning W) (world : W) (store : Store) (busies left : List Busy) (busy : Busy) (shut : Bool) → (AreOut store busies → AreOut store (busy ∷ left)) → IsStored m world store busies shut → IsStored m world store (busy ∷ left) shut
-stored_taken m world store busies left busy shut outs s = record { live = s.live; kept = s.kept; outs = λ open. outs (s.outs open) }
+stored_taken m world store busies left busy shut outs s = record { live = s.live; kept = s.kept; outs = λ unshut. outs (s.outs unshut) }
 
 -- the plan is told of the rule of this number
 pub rule_of : (rule : RuleId) (id : ℕ) → rule.0 ≡ id → DoneOk rule ≡ DoneOk (record { 0 = id })

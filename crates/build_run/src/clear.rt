@@ -31,7 +31,7 @@ pub(crate) fn clear<W: World>(
 ) -> Result<(), ListEnd>
     requires unclosed { W.meaning.closed world.old ≡ [] }
     requires joined { IsJoined W.meaning world.old (holds_in tickets.now) }
-    requires open { account.old.is_store_shut ≡ false }
+    requires unshut { account.old.is_store_shut ≡ false }
     requires stored { IsStored W.meaning world.old store.old tickets.now account.old.is_store_shut }
     requires apart { (hold : Hold) → Contains (holds_in tickets.now) hold → KeepsApart job.now hold }
     requires ticket { IsTicketFor store.old ticket.now job.now.targets }
@@ -58,7 +58,7 @@ fn withdraw<W: World>(
     ticket: &Ticket,
     tickets: &Tickets,
 ) -> Result<(), ListEnd>
-    requires open { account.old.is_store_shut ≡ false }
+    requires unshut { account.old.is_store_shut ≡ false }
     requires stored { IsStored W.meaning world.old store.old tickets.now account.old.is_store_shut }
     requires ticket { IsTicketFor store.old ticket.now job.now.targets }
     requires room { HasOwnRoom ticket.now tickets.now }

@@ -34,7 +34,7 @@ pub(crate) fn launch<W: World, O: Sink>(
 ) -> Result<(), ListEnd>
     requires unclosed { W.meaning.closed world.old ≡ [] }
     requires joined { IsJoined W.meaning world.old (holds_in tickets.now) }
-    requires open { account.old.is_store_shut ≡ false }
+    requires unshut { account.old.is_store_shut ≡ false }
     requires stored { IsStored W.meaning world.old store.old tickets.now account.old.is_store_shut }
     requires apart { (hold : Hold) → Contains (holds_in tickets.now) hold → KeepsApart job hold }
     requires ticket { IsTicketFor store.old ticket.now job.targets }

@@ -17,7 +17,7 @@ returns-in-Ok-clause-stored g c =
     stored_put g.W.Disk.meaning _ c.put.new.world c.args.store.now c.put.new.self c.args.busy c.args.tickets.now c.args.account.now.is_store_shut c.in-Ok.ensures.live c.in-Ok.ensures.keeps c.in-Ok.ensures.outs c.in-Ok.ensures.map c.requires
 
 pub returns-in-Ok-clause-puts : goal.returns-in-Ok-clause-puts
-returns-in-Ok-clause-puts g c = λ open. c.in-Ok.ensures.map
+returns-in-Ok-clause-puts g c = λ unshut. c.in-Ok.ensures.map
 
 pub returns-in-Err-clause-keeps : goal.returns-in-Err-clause-keeps
 returns-in-Err-clause-keeps g c = λ start out a. c.end.ensures.keeps start _ out (disk_fault start (ledger_of c.args.account.now) _ _ out _ c.in-Err.ensures.rose a)
@@ -26,4 +26,4 @@ pub returns-in-Err-clause-stored : goal.returns-in-Err-clause-stored
 returns-in-Err-clause-stored g c = stored_shut g.W.Disk.meaning _ _ _ _ c.end.ensures.shut
 
 pub returns-in-Err-clause-puts : goal.returns-in-Err-clause-puts
-returns-in-Err-clause-puts g c = λ open. absurd (false≢true (sym open ∙ c.end.ensures.shut))
+returns-in-Err-clause-puts g c = λ unshut. absurd (false≢true (sym unshut ∙ c.end.ensures.shut))

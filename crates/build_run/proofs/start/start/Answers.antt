@@ -64,4 +64,4 @@ pub returns-in-Err-clause-stored : goal.returns-in-Err-clause-stored
 returns-in-Err-clause-stored g c =
     let own = own_room c.args.store.now c.in_ok-ticket.ticket c.args.tickets.now c.in_ok-ticket.ensures.fresh (c.requires.stored.outs c.if-account-is_store_shut.false) in
     stored_beside g.W.Disk.meaning c.launch.new.world c.launch.new.store c.give_up.new.store c.in_ok-ticket.ticket c.args.tickets.now c.launch.new.account.is_store_shut c.give_up.ensures.live c.give_up.ensures.banks c.give_up.ensures.map
-    c.give_up.ensures.outs (λ open. own) c.launch.ensures.stored
+    c.give_up.ensures.outs (λ unshut. own) c.launch.ensures.stored
