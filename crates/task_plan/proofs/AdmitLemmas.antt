@@ -1,10 +1,9 @@
 -- How rules come to be known, one step after another.
-use Rattle.std.proofs.Common.{arith, ◌≡◌, ◌≢◌, ◌<◌, ◌≤◌, ◌∙◌, ◌⊎◌, inl, inr, ℕ, zero, suc, ◌+◌, List, [], ◌∷◌, ◌++◌, Bool, true, false, ◌&&◌, ◌||◌, ap, sym, refl, length, set, drop, get_or, Option, Some, None, append_assoc}
-use Rattle.std.specs.Prelude.{slice_get, map, nat_eq, nat_lt, MatchOption, if◌then◌else◌}
-use Rattle.std.specs.List.{list_any, list_all}
-use Rattle.std.proofs.lemmas.List.{append-nil, length-map, drop_all, drop_more, drop-append-le, map-set}
+use Rattle.std.proofs.Common.{arith, ◌≡◌, ◌≢◌, ◌<◌, ◌≤◌, ◌∙◌, ◌⊎◌, inl, inr, ℕ, zero, suc, ◌+◌, List, [], ◌∷◌, ◌++◌, Bool, true, false, ◌||◌, ap, sym, refl, length, set, drop, Option, Some, None, append_assoc}
+use Rattle.std.specs.Prelude.{slice_get, nat_eq, nat_lt, MatchOption, if◌then◌else◌}
+use Rattle.std.proofs.lemmas.List.{append-nil, drop_all, drop_more, drop-append-le}
 use Rattle.std.proofs.lemmas.List.Folds.{list_any-append, list_all-append}
-use Rattle.std.proofs.lemmas.Option.{same_Some, none-some, slice_get_within, slice_get-get_or, get_or_from_slice_get}
+use Rattle.std.proofs.lemmas.Option.{same_Some, slice_get_within, get_or_from_slice_get}
 use Rattle.std.proofs.lemmas.Bool.Decides.{nat_tests}
 use Rattle.scons_base.specs.declared.ids.NodeId.{NodeId}
 use Rattle.scons_base.specs.declared.ids.RuleId.{RuleId}
@@ -14,7 +13,7 @@ use Rattle.task_plan.specs.States.{state_of, is_running}
 use Rattle.task_plan.specs.Queues.{is_open}
 use Rattle.task_plan.specs.Settled.{Kept, kept_of, first_kept}
 use Rattle.task_plan.specs.Loaded.{IsTaskOf}
-use Rattle.task_plan.specs.Plans.{Planned, Stays, wanted, AreWaiting, AreMet, Goes, decided, ended}
+use Rattle.task_plan.specs.Plans.{Planned, Stays, wanted, AreWaiting, Goes}
 use Rattle.task_plan.specs.Admits.{IsFirstAt, IsKnown, Fits, TakesScan, ScansFile, IsUnchanged, Scans, Knows, queues, IsSame, Widens, StaysAt, Admission, ComesAt, Admits, are_rules, Brings, none, IsBegun, NotesFile, NotesNone}
 use Rattle.task_plan.specs.declared.states.RuleState.{RuleState}
 use Rattle.task_plan.specs.declared.states.RuleState.TheVariants.{Unneeded, Waiting, Running, Settled, Failed, Lacking}

@@ -1,5 +1,5 @@
 -- How rules come to be needed, and with them what the graph says of them to be known.
-use Rattle.std.specs.Prelude.{◌≡◌, ◌≢◌, ◌⊎◌, ◌++◌, ℕ, Bool, true, false, List, [], ◌∷◌, Option, Some, None, MatchOption, length, map, slice_get, get_or, nat_eq, nat_lt, if◌then◌else◌}
+use Rattle.std.specs.Prelude.{◌≡◌, ◌≢◌, ◌⊎◌, ◌++◌, ℕ, Bool, true, false, List, [], Some, None, MatchOption, length, slice_get, nat_eq, nat_lt}
 use Rattle.std.specs.List.{list_any, list_all}
 use Rattle.scons_base.specs.declared.ids.NodeId.{NodeId}
 use Rattle.scons_base.specs.declared.ids.RuleId.{RuleId}
@@ -10,7 +10,6 @@ use Rattle.task_plan.specs.Named.{put_all, named_of, scanned_of, left_out_of}
 use Rattle.task_plan.specs.Settled.{Kept, first_kept}
 use Rattle.task_plan.specs.Listed.{IsReach, with_found}
 use Rattle.task_plan.specs.Plans.{Planned, wanted}
-use Rattle.task_plan.specs.declared.states.RuleState.{RuleState}
 use Rattle.task_plan.specs.declared.states.RuleState.TheVariants.{Unneeded, Waiting}
 use Rattle.task_plan.specs.declared.want.PlanEvent.{PlanEvent}
 use Rattle.task_plan.specs.declared.want.PlanEvent.TheVariants.{Scanned, Fresh, Started, DoneOk, DoneFailed, Absent, Halt}

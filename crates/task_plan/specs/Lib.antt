@@ -9,3 +9,5 @@ pub mod Loaded
 pub mod Tracked
 pub mod Plans
 pub mod Admits
+pub mod Cycles
+pub mod Walks

@@ -1,10 +1,9 @@
 //! How the plan meets files, and with them the rules that are needed.
 
-ghost use Rattle.std.specs.Prelude.{◌≡◌, ◌<◌, ◌≤◌, [], Some, false, true, length, slice_get, slice_set, nat_eq, OnOk, MatchOption};
+ghost use Rattle.std.specs.Prelude.{◌≡◌, ◌<◌, ◌≤◌, [], Some, false, true, length, slice_get, slice_set, nat_eq, OnOk};
 ghost use Rattle.scons_base.specs.declared.ids.NodeId.{NodeId};
 ghost use Rattle.task_plan.specs.Settled.{CanScan, kept_of};
 ghost use Rattle.task_plan.specs.Plans.{Meets, Stays};
-ghost use Rattle.task_plan.specs.Loaded.{IsTaskOf};
 ghost use Rattle.task_plan.specs.Listed.{IsListing};
 ghost use Rattle.task_plan.specs.Admits.{Widens, Admits, Brings, IsBegun, are_rules, queues, none};
 

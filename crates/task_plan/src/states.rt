@@ -2,6 +2,7 @@
 ghost use Rattle.std.specs.Prelude.{◌≡◌, ◌++◌, ◌∷◌, ◌<◌, ◌≤◌, ◌+◌, ◌^◌, [], ℕ, if◌then◌else◌, OnOk, OnErr, true, length, slice_set};
 ghost use Rattle.std.specs.List.{count_by};
 ghost use Rattle.task_plan.specs.States.{state_of, is_running};
+ghost use Rattle.task_plan.specs.Cycles.{is_unsettled as is_unsettled_of};
 ghost use Rattle.task_plan.specs.Plans.{AreMet};
 
 use scons_base::{Memory, RuleId};
@@ -94,6 +95,17 @@ impl States {
         ensures { result ≡ true → state_of self.now rule.0 ≡ RuleState.Unneeded }
     {
         self.of(rule) == RuleState::Unneeded
+    }
+
+    /// Whether a rule is needed, and isn't settled.
+    pub(crate) fn is_unsettled(&self, rule: RuleId) -> bool
+        ensures { result ≡ is_unsettled_of (state_of self.now rule.0) }
+    {
+        match self.of(rule) {
+            RuleState::Waiting | RuleState::Running | RuleState::Failed | RuleState::Lacking =>
+                true,
+            RuleState::Unneeded | RuleState::Settled => false,
+        }
     }
 
     pub(crate) fn set(&mut self, rule: RuleId, state: RuleState)

@@ -1,5 +1,5 @@
 //! What the plan keeps of a rule.
-ghost use Rattle.std.specs.Prelude.{◌≡◌, ◌≤◌, true, length, slice_get, IfOk, OnOk};
+ghost use Rattle.std.specs.Prelude.{◌≡◌, ◌≤◌, true, length, slice_get, OnOk};
 ghost use Rattle.task_plan.specs.Settled.{needs_of, next_of, AreDoneTo, AreScannedTo, IsDoneAt, KeepsNeeds, IsThrough};
 ghost use Rattle.task_plan.specs.Loaded.{IsBlank};
 ghost use Rattle.task_plan.specs.Listed.{AreDeps, IsGrown, IsListing, KeepsNamed, KeepsNames, Takes};

@@ -1,4 +1,4 @@
-use Rattle.std.proofs.Common.{arith, ◌≤◌, length, length-set}
+use Rattle.std.proofs.Common.{arith, length-set}
 use Rattle.task_plan.proofs.PlanLemmas.{met_set}
 use Rattle.task_plan.proofs.TrackLemmas.{tracked_met}
 use Rattle.task_plan.specs.declared.states.RuleState.TheVariants.{Waiting}

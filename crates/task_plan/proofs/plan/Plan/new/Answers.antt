@@ -1,4 +1,4 @@
-use Rattle.std.proofs.Common.{◌∙◌, ap, sym}
+use Rattle.std.proofs.Common.{ap}
 use Rattle.task_plan.specs.States.{state_of}
 use Rattle.task_plan.proofs.AdmitLemmas.{knows_first, fits_first}
 use Rattle.task_plan.proofs.plan.Plan.new.Goals as goal

@@ -1,4 +1,4 @@
-use Rattle.std.proofs.Common.{◌≡◌, get_or, false, refl, sym, None}
+use Rattle.std.proofs.Common.{◌≡◌, get_or, false, refl, sym}
 use Rattle.std.specs.Prelude.{map, slice_get}
 use Rattle.std.proofs.lemmas.Result.{on_ok_weaker}
 use Rattle.task_plan.specs.Settled.{next_of}
