@@ -6,8 +6,8 @@ use Rattle.task_plan.proofs.cycles.Walk.enter.Goals as goal
 
 pub returns-in_ok-enter_needs-in-New : goal.returns-in_ok-enter_needs-in-New
 returns-in_ok-enter_needs-in-New c =
-    let opens = c.in_ok-open.ensures {u = tt} in
-    let needs = c.in_ok-enter_needs.ensures {u = tt} in
+    let opens = c.in_ok-open-in-New.ensures {u = tt} in
+    let needs = c.in_ok-enter_needs-in-New.ensures {u = tt} in
     walk_opens c.args.states.now (map kept_of c.args.tasks.now) c.args.files.now.origins.items c.args.self.now c.open.new.self c.enter_needs.new.self c.args.rule c.requires (sym c.in-New.ensures)
     opens.chain opens.steps opens.colours c.enter_needs.ensures.rest needs.enters needs.all
 
