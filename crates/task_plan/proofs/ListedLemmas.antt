@@ -1,12 +1,10 @@
 -- The lists of a rule follow from its scans, whatever else changes of it.
-use Rattle.std.proofs.Common.{arith, ◌≡◌, ◌<◌, ◌≤◌, ◌∙◌, ℕ, ◌+◌, List, [], ◌∷◌, ◌++◌, Bool, true, false, ap, sym, refl, length, take, Some, None, length-append}
-use Rattle.std.specs.Prelude.{slice_get, map}
-use Rattle.std.proofs.lemmas.List.{take-append-le, take-take, length-take-le, take_all}
+use Rattle.std.proofs.Common.{arith, ◌≡◌, ◌≤◌, ◌∙◌, ℕ, List, [], Bool, true, false, ap, sym, length, take, length-append}
+use Rattle.std.proofs.lemmas.List.{take-append-le, length-take-le, take_all}
 use Rattle.scons_base.specs.declared.ids.NodeId.{NodeId}
-use Rattle.task_plan.specs.Settled.{IsLonger, is_scanned}
+use Rattle.task_plan.specs.Settled.{IsLonger}
 use Rattle.task_plan.specs.Named.{put_all}
-use Rattle.task_plan.specs.Listed.{found_of, sources_in, IsReach, IsWalked, IsSameReach, AreDeps, IsListed, IsListing, IsGrown, KeepsNamed, KeepsNames, AreAhead}
-use Rattle.task_plan.specs.declared.reach.Reach.{Reach}
+use Rattle.task_plan.specs.Listed.{IsWalked, IsSameReach, AreDeps, IsListing, IsGrown, KeepsNamed, KeepsNames}
 use Rattle.task_plan.specs.declared.task.Task.{Task}
 use Rattle.task_plan.proofs.NeedLemmas.{keeps_longer, keeps_none}
 use Rattle.task_plan.proofs.NamedLemmas.{put_all-append, put_all_longer}

@@ -1,5 +1,5 @@
 -- What the graph says of a rule, as it is taken in.
-use Rattle.std.proofs.Common.{arith, ◌≡◌, ◌<◌, ◌≤◌, ◌∙◌, ℕ, suc, ◌+◌, ◌||◌, List, [], ◌∷◌, ◌++◌, Bool, true, false, ap, sym, refl, length, take, Some, None}
+use Rattle.std.proofs.Common.{arith, ◌≡◌, ◌≤◌, ◌∙◌, ℕ, suc, ◌+◌, ◌||◌, List, [], ◌∷◌, ◌++◌, Bool, true, false, ap, sym, refl, length, take, Some}
 use Rattle.std.specs.Prelude.{slice_get, map, filter, nat_eq, unwrap_or, if◌then◌else◌}
 use Rattle.std.specs.List.{flat_map}
 use Rattle.std.proofs.lemmas.List.{take_all}
@@ -8,10 +8,10 @@ use Rattle.scons_base.specs.declared.ids.NodeId.{NodeId}
 use Rattle.scons_base.specs.Parts.{suffix_of}
 use Rattle.rule_graph.specs.declared.rule.Rule.{Rule}
 use Rattle.rule_graph.specs.Graphs.{RuleGraph}
-use Rattle.task_plan.specs.Named.{stands, put, put_all, ignored_of, with_sources, sources_of, named_of, with_targets, left_out_of, is_scanned_node, is_scanned_suffix, scanned_of}
-use Rattle.task_plan.specs.Settled.{IsLonger, Kept, kept_of, first_kept}
-use Rattle.task_plan.specs.Listed.{included, found_of, sources_in, IsReach, IsWalked, IsListed, IsListing}
-use Rattle.task_plan.specs.Loaded.{IsBlankReach, IsBlank, NotesNeeds, IsTaskOf}
+use Rattle.task_plan.specs.Named.{stands, put_all, ignored_of, sources_of, named_of, with_targets, left_out_of, is_scanned_node, is_scanned_suffix, scanned_of}
+use Rattle.task_plan.specs.Settled.{Kept, kept_of, first_kept}
+use Rattle.task_plan.specs.Listed.{included, found_of, sources_in, IsWalked, IsListing}
+use Rattle.task_plan.specs.Loaded.{IsBlank, NotesNeeds, IsTaskOf}
 use Rattle.task_plan.specs.declared.reach.Reach.{Reach}
 use Rattle.task_plan.specs.declared.task.Task.{Task}
 use Rattle.task_plan.proofs.NamedLemmas.{filter_stands, stands_longer, put_all_longer, put_all_there}

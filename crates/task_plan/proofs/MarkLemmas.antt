@@ -1,5 +1,5 @@
 -- The tree of marks: what a write changes, and where the least member stands.
-use Rattle.std.proofs.Common.{arith, ◌≡◌, ◌≢◌, ◌<◌, ◌≤◌, ◌∙◌, ◌⊎◌, inl, inr, ℕ, zero, suc, ◌+◌, ◌*◌, ◌-◌, ◌/◌, ◌^◌, List, Bool, true, false, ◌||◌, ap, sym, refl, length, set, drop, get_or, Some, None, get_or-set_other, get_or-set_same, subst, length-set, length-drop, add-one, replicate}
+use Rattle.std.proofs.Common.{arith, ◌≡◌, ◌≢◌, ◌<◌, ◌≤◌, ◌∙◌, ◌⊎◌, inl, inr, ℕ, zero, suc, ◌+◌, ◌*◌, ◌-◌, ◌/◌, ◌^◌, List, Bool, true, false, ◌||◌, ap, sym, refl, length, set, get_or, Some, None, get_or-set_other, get_or-set_same, subst, length-set, length-drop, add-one, replicate}
 use Rattle.std.specs.Prelude.{if◌then◌else◌, ltb}
 use Rattle.std.proofs.lemmas.List.{get_or-replicate, get_or_past, length-replicate}
 use Rattle.std.specs.List.{position, position_or_len}
@@ -8,8 +8,7 @@ use Rattle.std.proofs.Math.Pow.{pow-lt}
 use Rattle.std.proofs.lemmas.Bool.{lt-ltb, ltb-true, ltb-false}
 use Rattle.std.proofs.lemmas.List.Sums.{position_or_len_is}
 use Rattle.std.proofs.lemmas.Bool.Decides.{nat_tests}
-use Rattle.std.proofs.lemmas.List.{drop-set-lt, drop-set-add, get_or-drop}
-use Rattle.std.proofs.lemmas.Grind.{common_steps}
+use Rattle.std.proofs.lemmas.List.{drop-set-lt, get_or-drop}
 use Rattle.task_plan.specs.Marks.{mark_at, below, IsTree, leaves}
 
 pub apart : (i p : ℕ) → (i ≡ p) ⊎ (i ≢ p)

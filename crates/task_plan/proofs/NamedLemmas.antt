@@ -1,13 +1,10 @@
 -- Nodes put behind others, one after another.
-use Rattle.std.proofs.Common.{arith, ◌≡◌, ◌≢◌, ◌<◌, ◌≤◌, ◌∙◌, ◌⊎◌, inl, inr, ℕ, zero, suc, ◌+◌, List, [], ◌∷◌, ◌++◌, Bool, true, false, ◌||◌, ap, sym, refl, length, take, get_or, append_assoc, Some, None}
-use Rattle.std.specs.Prelude.{if◌then◌else◌, nat_eq, filter, slice_get}
-use Rattle.std.specs.List.{fold, list_any}
-use Rattle.std.proofs.lemmas.List.{append-nil, take_more}
+use Rattle.std.proofs.Common.{arith, ◌≡◌, ◌<◌, ◌∙◌, ℕ, ◌+◌, List, [], ◌∷◌, ◌++◌, Bool, true, false, ◌||◌, ap, sym, refl, length, take, get_or}
+use Rattle.std.specs.Prelude.{if◌then◌else◌, nat_eq, filter}
+use Rattle.std.proofs.lemmas.List.{take_more}
 use Rattle.std.proofs.lemmas.List.Sums.{fold_more, fold-append}
 use Rattle.std.proofs.lemmas.List.Folds.{list_any-append}
 use Rattle.std.proofs.lemmas.Bool.Decides.{nat_tests}
-use Rattle.std.proofs.lemmas.Option.{same_Some, slice_get_within, none-some}
-use Rattle.indexmap.specs.IndexSet.{insert_key}
 use Rattle.scons_base.specs.declared.ids.NodeId.{NodeId}
 use Rattle.task_plan.specs.Settled.{IsLonger}
 use Rattle.task_plan.specs.Named.{stands, put, put_all}

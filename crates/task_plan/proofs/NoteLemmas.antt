@@ -1,15 +1,15 @@
 -- What a scan of a rule's next file makes of what is known.
-use Rattle.std.proofs.Common.{arith, ◌≡◌, ◌≢◌, ◌<◌, ◌≤◌, ◌∙◌, ℕ, zero, suc, List, [], ◌∷◌, Bool, true, false, ap, sym, refl, length, set, get_or, Option, Some, None}
+use Rattle.std.proofs.Common.{arith, ◌≡◌, ◌≤◌, ◌∙◌, ℕ, zero, suc, List, [], ◌∷◌, Bool, true, false, ap, sym, refl, length, set, get_or, Some, None}
 use Rattle.std.specs.Prelude.{slice_get, map}
 use Rattle.std.specs.Option.{option_map}
 use Rattle.std.proofs.lemmas.Option.{slice_get-map}
 use Rattle.scons_base.specs.declared.ids.NodeId.{NodeId}
 use Rattle.task_plan.specs.States.{state_of}
 use Rattle.task_plan.specs.Queues.{Queued}
-use Rattle.task_plan.specs.Settled.{Kept, kept_of, next_of}
+use Rattle.task_plan.specs.Settled.{kept_of, next_of}
 use Rattle.task_plan.specs.Listed.{KeepsNames, Takes}
 use Rattle.task_plan.specs.Plans.{Planned, wanted}
-use Rattle.task_plan.specs.Admits.{TakesScan, IsUnchanged, NotesFile, NotesNone}
+use Rattle.task_plan.specs.Admits.{NotesFile, NotesNone}
 use Rattle.task_plan.specs.declared.states.RuleState.{RuleState}
 use Rattle.task_plan.specs.declared.states.RuleState.TheVariants.{Waiting}
 use Rattle.task_plan.specs.declared.files.Origin.{Origin}

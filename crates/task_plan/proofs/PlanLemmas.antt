@@ -1,11 +1,11 @@
 -- What the states of a plan come to, and that what can be decided waits.
-use Rattle.std.proofs.Common.{arith, ◌≡◌, ◌≢◌, ◌<◌, ◌≤◌, ◌∙◌, ◌⊎◌, inl, inr, ℕ, zero, suc, ◌+◌, List, [], ◌∷◌, ◌++◌, Bool, true, false, ◌&&◌, ◌||◌, ap, sym, refl, length, set, get_or, Option, Some, None, get_or-set_other, get_or-set_same, subst, length-set}
+use Rattle.std.proofs.Common.{arith, ◌≡◌, ◌≢◌, ◌≤◌, ◌∙◌, ◌⊎◌, inl, inr, ℕ, zero, suc, ◌+◌, List, [], ◌∷◌, ◌++◌, Bool, true, false, ap, sym, refl, length, set, get_or-set_other, get_or-set_same, length-set}
 use Rattle.std.specs.Prelude.{if◌then◌else◌, ltb}
 use Rattle.std.proofs.lemmas.Bool.{ltb-false, ltb-true}
-use Rattle.std.proofs.lemmas.List.{get_or_past, get_or_append_left}
+use Rattle.std.proofs.lemmas.List.{get_or_past}
 use Rattle.task_plan.specs.States.{state_of, stage, is_running}
 use Rattle.task_plan.specs.Queues.{Queued, is_open}
-use Rattle.task_plan.specs.Plans.{Planned, AreWaiting, AreMet, Meets, Stays, GoesOn, Goes, decided, ended}
+use Rattle.task_plan.specs.Plans.{Planned, AreWaiting, AreMet, Meets, Stays, GoesOn, Goes}
 use Rattle.task_plan.specs.declared.states.RuleState.{RuleState}
 use Rattle.task_plan.specs.declared.states.RuleState.TheVariants.{Unneeded, Waiting, Running, Settled, Failed, Lacking}
 use Rattle.task_plan.specs.declared.want.PlanEvent.{PlanEvent}
@@ -162,4 +162,4 @@ pub same_meets : (a b : Planned) → b ≡ a → Meets a b
 same_meets a b e = rw e (meets_same a)
 
 pub stays_trans : (a b c : Planned) → Stays a b → Stays b c → Stays a c
-stays_trans a b c m n = record { states = n.states ∙ m.states; halted = n.halted ∙ m.halted; rules = n.rules ∙ m.rules }
+stays_trans a b c m n = record { states = n.states ∙ m.states; halted = n.halted ∙ m.halted; rules = n.rules ∙ m.rules; origins = n.origins ∙ m.origins }

@@ -1,14 +1,14 @@
 -- What a write to a queue changes, and which open rule is the first.
-use Rattle.std.proofs.Common.{arith, ◌≡◌, ◌≢◌, ◌<◌, ◌≤◌, ◌∙◌, ◌⊎◌, inl, inr, ℕ, suc, ◌+◌, List, [], ◌∷◌, Bool, true, false, ◌&&◌, ap, sym, refl, length, set, get_or, Option, Some, None, get_or-set_other, get_or-set_same, subst, length-set, replicate}
+use Rattle.std.proofs.Common.{arith, ◌≡◌, ◌≢◌, ◌<◌, ◌≤◌, ◌∙◌, ◌⊎◌, inl, inr, ℕ, ◌+◌, List, Bool, true, false, ◌&&◌, ap, sym, refl, length, set, get_or, Option, Some, None, get_or-set_other, get_or-set_same, length-set, replicate}
 use Rattle.std.specs.Prelude.{slice_get, nat_lt, ltb, IfSome, IfNone, cond}
 use Rattle.std.specs.List.{position, position_or_len}
 use Rattle.std.proofs.lemmas.List.Sums.{fails_before_first}
 use Rattle.std.proofs.lemmas.Bool.{lt-ltb, le-ltb, ltb-false, ltb-true}
 use Rattle.std.proofs.lemmas.List.{get_or-replicate, get_or_past, length-replicate}
-use Rattle.std.proofs.lemmas.Option.{slice_get_within, slice_get_past}
+use Rattle.std.proofs.lemmas.Option.{slice_get_within}
 use Rattle.std.proofs.lemmas.List.Quantifiers.{position-Some}
 use Rattle.scons_base.specs.declared.ids.RuleId.{RuleId}
-use Rattle.task_plan.specs.Queues.{Queued, unnumbered, number_of, is_placed, is_open, AreNumbers, IsQueue, IsFirst}
+use Rattle.task_plan.specs.Queues.{unnumbered, AreNumbers, IsQueue, IsFirst}
 use Rattle.task_plan.proofs.MarkLemmas.{apart}
 
 opened_put : (order : List RuleId) (numbers : List ℕ) (opens : List Bool) (r n m : ℕ) (v : Bool) → IsQueue order numbers opens

@@ -10,16 +10,13 @@ use Rattle.std.proofs.lemmas.Bool.Decides.{nat_tests}
 use Rattle.std.proofs.lemmas.List.Quantifiers.{position-Some}
 use Rattle.std.proofs.lemmas.List.{take-append-le, take_all, drop_at, length-take-le}
 use Rattle.std.proofs.lemmas.Option.{slice_get_within, slice_get-get_or, same_Some, none-some}
-use Rattle.indexmap.specs.IndexMap.{insert_entry}
 use Rattle.scons_base.specs.declared.ids.NodeId.{NodeId}
 use Rattle.task_plan.specs.Settled.{IsLonger, is_scanned}
 use Rattle.task_plan.specs.Named.{put_all}
-use Rattle.task_plan.specs.Listed.{included, found_of, with_found, sources_in, IsFoundBefore, IsReachTo, IsReach, AreAhead, AreAheadTo, IsWalked, IsWalking, IsNext, IsAppended, IsSameReach}
+use Rattle.task_plan.specs.Listed.{included, found_of, with_found, sources_in, IsReachTo, AreAhead, AreAheadTo, IsWalked, IsWalking, IsNext, IsAppended, IsSameReach}
 use Rattle.task_plan.specs.declared.reach.Reach.{Reach}
-use Rattle.task_plan.proofs.MarkLemmas.{apart}
-use Rattle.task_plan.proofs.PlanLemmas.{true_false}
-use Rattle.task_plan.proofs.ListLemmas.{get-front, get-within, longer_same, some_lookup}
-use Rattle.task_plan.proofs.WalkLemmas.{reach_next, reach_skip, reach_back, reach_all, reach_to_all, reach_insert, reach_none, scanned_other, included_this, node_same}
+use Rattle.task_plan.proofs.ListLemmas.{get-within, some_lookup}
+use Rattle.task_plan.proofs.WalkLemmas.{reach_next, reach_skip, reach_back, reach_all, reach_to_all, reach_insert, reach_none, included_this, node_same}
 
 -- whether a file was scanned, by what contracts see of the scans
 pub scanned_seen : {X : Type 0} (g : X → List NodeId) (n : NodeId) (es : List (NodeId × X)) → is_scanned (map (λ e. (e.0, g e.1)) es) n ≡ is_scanned es n

@@ -1,18 +1,18 @@
 -- What a plan keeps true of its rules stays so through each change.
 use Rattle.std.proofs.Common.{arith, ◌≡◌, ◌≢◌, ◌<◌, ◌≤◌, ◌∙◌, ◌⊎◌, inl, inr, ℕ, zero, suc, ◌+◌, List, [], ◌∷◌, ◌++◌, Bool, true, false, ap, sym, refl, length, set, get_or, take, Option, Some, None, get_or-set_other, length-set, length-append}
-use Rattle.std.specs.Prelude.{slice_get, map, nat_eq}
-use Rattle.std.specs.List.{list_all, list_any}
+use Rattle.std.specs.Prelude.{slice_get}
+use Rattle.std.specs.List.{list_all}
 use Rattle.std.proofs.lemmas.Option.{same_Some, none-some}
 use Rattle.scons_base.specs.declared.ids.NodeId.{NodeId}
-use Rattle.task_plan.specs.States.{state_of, is_running}
+use Rattle.task_plan.specs.States.{state_of}
 use Rattle.task_plan.specs.Queues.{Queued, is_open}
-use Rattle.task_plan.specs.Settled.{origin_of, is_settled, is_done, is_done_from, is_scanned, needs_of, AreScannedIn, AreDoneTo, AreScannedTo, KeepsNeeds, IsThrough, CanScan}
+use Rattle.task_plan.specs.Settled.{origin_of, is_settled, is_done, is_done_from, is_scanned, needs_of, AreDoneTo, AreScannedTo, KeepsNeeds, IsThrough, CanScan}
 use Rattle.task_plan.specs.Listed.{IsListing}
 use Rattle.task_plan.specs.Loaded.{IsBlank}
 use Rattle.task_plan.specs.Tracked.{IsTracked, IsOpened, IsMarked, AreTracked}
 use Rattle.task_plan.specs.Plans.{AreMet, AreWaiting}
 use Rattle.task_plan.specs.declared.states.RuleState.{RuleState}
-use Rattle.task_plan.specs.declared.states.RuleState.TheVariants.{Unneeded, Waiting, Running, Settled, Failed, Lacking}
+use Rattle.task_plan.specs.declared.states.RuleState.TheVariants.{Unneeded, Waiting, Running}
 use Rattle.task_plan.specs.declared.files.Origin.{Origin}
 use Rattle.task_plan.specs.declared.files.Origin.TheVariants.{Unmet, Source, Made}
 use Rattle.task_plan.specs.declared.task.Task.{Task}

@@ -1,20 +1,17 @@
 -- The files of a rule, breadth first, as one file after another is scanned.
-use Rattle.std.proofs.Common.{arith, ◌≡◌, ◌≢◌, ◌<◌, ◌≤◌, ◌∙◌, ◌⊎◌, inl, inr, ℕ, zero, suc, ◌+◌, ◌-◌, List, [], ◌∷◌, ◌++◌, Bool, true, false, ◌||◌, ap, sym, refl, length, take, drop, get_or, Option, Some, None, append_assoc}
-use Rattle.std.specs.Prelude.{if◌then◌else◌, nat_eq, slice_get, map, unwrap_or, cond}
-use Rattle.std.specs.List.{fold, flat_map, list_any, IsDistinct, AllByRecursion}
-use Rattle.std.specs.Map.{lookup}
-use Rattle.std.specs.Option.{option_map}
-use Rattle.std.proofs.lemmas.List.{append-nil, take_more, take_all, take-append-le, length-append, length-take-le}
+use Rattle.std.proofs.Common.{arith, ◌≡◌, ◌≢◌, ◌<◌, ◌≤◌, ◌∙◌, ◌⊎◌, inl, inr, ℕ, zero, suc, ◌+◌, ◌-◌, List, [], ◌∷◌, ◌++◌, Bool, true, false, ◌||◌, ap, sym, refl, length, take, get_or, Some}
+use Rattle.std.specs.Prelude.{if◌then◌else◌, nat_eq, slice_get, map}
+use Rattle.std.specs.List.{flat_map}
+use Rattle.std.proofs.lemmas.List.{append-nil, take_more, take_all, take-append-le, length-append}
 use Rattle.std.proofs.lemmas.List.Concat.{flat_map-append}
-use Rattle.std.proofs.lemmas.Option.{same_Some, slice_get_within, none-some, get_or_from_slice_get}
+use Rattle.std.proofs.lemmas.Option.{same_Some, slice_get_within, get_or_from_slice_get}
 use Rattle.indexmap.specs.IndexMap.{insert_entry}
 use Rattle.scons_base.specs.declared.ids.NodeId.{NodeId}
-use Rattle.task_plan.specs.Settled.{IsLonger, is_scanned}
+use Rattle.task_plan.specs.Settled.{is_scanned}
 use Rattle.task_plan.specs.Named.{stands, put, put_all}
-use Rattle.task_plan.specs.Listed.{included, with_found, IsFoundBefore, IsReachTo, IsReach, AreAhead, AreAheadTo}
-use Rattle.task_plan.proofs.MarkLemmas.{apart}
+use Rattle.task_plan.specs.Listed.{included, with_found, IsFoundBefore, IsReachTo, IsReach, AreAheadTo}
 use Rattle.task_plan.proofs.PlanLemmas.{true_false}
-use Rattle.task_plan.proofs.ListLemmas.{get-front, get-within, get-behind, longer_same}
+use Rattle.task_plan.proofs.ListLemmas.{get-front, get-within, get-behind}
 use Rattle.task_plan.proofs.NamedLemmas.{put_all-append, put_all_longer}
 
 nat_same : (m n : ℕ) → nat_eq m n ≡ true → m ≡ n

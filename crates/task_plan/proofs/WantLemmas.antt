@@ -1,17 +1,16 @@
 -- What a plan wants next, by what it keeps true of its rules.
-use Rattle.std.proofs.Common.{◌≡◌, ◌≤◌, ◌∙◌, ℕ, zero, suc, List, [], ◌∷◌, ◌++◌, Bool, true, false, ◌&&◌, ◌||◌, ap, sym, refl, length, set, take, get_or, Option, Some, None}
+use Rattle.std.proofs.Common.{◌≡◌, ◌≤◌, ◌∙◌, ℕ, zero, suc, List, [], ◌∷◌, Bool, true, false, ◌||◌, ap, sym, refl, length, set, take, get_or, Option, Some, None}
 use Rattle.std.specs.Prelude.{slice_get, map, nat_eq, if◌then◌else◌}
-use Rattle.std.specs.List.{list_all, list_any, position}
+use Rattle.std.specs.List.{list_all, position}
 use Rattle.std.specs.Option.{option_map, option_and_then}
 use Rattle.std.proofs.lemmas.Option.{same_Some, slice_get-map}
 use Rattle.std.proofs.lemmas.List.{take_all, map-set}
 use Rattle.std.proofs.lemmas.List.Folds.{list_all-append}
 use Rattle.std.proofs.lemmas.List.Quantifiers.{position-Some}
 use Rattle.scons_base.specs.declared.ids.NodeId.{NodeId}
-use Rattle.task_plan.specs.States.{state_of}
 use Rattle.task_plan.specs.Queues.{Queued, is_open, IsFirst}
-use Rattle.task_plan.specs.Settled.{is_done, is_scanned, needs_of, AreScannedIn, CanScan, Kept, kept_of, next_of, IsReady}
-use Rattle.task_plan.specs.Tracked.{IsTracked, IsOpened, IsMarked, AreTracked}
+use Rattle.task_plan.specs.Settled.{is_done, is_scanned, needs_of, kept_of, next_of}
+use Rattle.task_plan.specs.Tracked.{AreTracked}
 use Rattle.task_plan.specs.Plans.{Planned, CanDecide, IsDecidedNext, IsReadyToScan}
 use Rattle.task_plan.specs.declared.states.RuleState.{RuleState}
 use Rattle.task_plan.specs.declared.files.Origin.{Origin}

@@ -8,4 +8,5 @@ pub mod Listed
 pub mod Loaded
 pub mod Tracked
 pub mod Plans
+pub mod Met
 pub mod Admits

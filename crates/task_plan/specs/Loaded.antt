@@ -1,11 +1,11 @@
 -- How what the graph says of a rule is taken in, step by step.
-use Rattle.std.specs.Prelude.{◌≡◌, ◌++◌, ℕ, Bool, true, List, [], ◌∷◌, length}
+use Rattle.std.specs.Prelude.{◌≡◌, true, [], length}
 use Rattle.rule_graph.specs.declared.rule.Rule.{Rule}
 use Rattle.rule_graph.specs.Graphs.{RuleGraph}
 use Rattle.task_plan.specs.declared.reach.Reach.{Reach}
 use Rattle.task_plan.specs.declared.task.Task.{Task}
 use Rattle.task_plan.specs.Named.{ignored_of, named_of, scanned_of}
-use Rattle.task_plan.specs.Settled.{Kept, kept_of, first_kept}
+use Rattle.task_plan.specs.Settled.{kept_of, first_kept}
 use Rattle.task_plan.specs.Listed.{IsListing}
 
 -- nothing was scanned

@@ -1,5 +1,5 @@
 -- A set of small numbers, as a list that has `true` at the members, and the tree that keeps it.
-use Rattle.std.specs.Prelude.{◌≡◌, ◌<◌, ◌+◌, ◌*◌, ◌^◌, ℕ, Bool, true, false, ◌||◌, List, get_or, length, drop}
+use Rattle.std.specs.Prelude.{◌≡◌, ◌<◌, ◌+◌, ◌*◌, ◌^◌, ℕ, Bool, false, ◌||◌, List, get_or, length, drop}
 
 -- what stands at a place of the tree
 abbrev pub mark_at : List Bool → ℕ → Bool

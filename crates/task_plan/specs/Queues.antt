@@ -1,5 +1,5 @@
 -- Rules in an order, some of which are open: the first open one is to be decided next.
-use Rattle.std.specs.Prelude.{◌≡◌, ◌<◌, ◌≤◌, ◌⊎◌, ◌^◌, ◌-◌, ℕ, Bool, true, false, List, Some, length, get_or, slice_get, nat_lt}
+use Rattle.std.specs.Prelude.{◌≡◌, ◌<◌, ◌≤◌, ◌^◌, ◌-◌, ℕ, Bool, true, false, List, Some, length, get_or, slice_get, nat_lt}
 use Rattle.scons_base.specs.declared.ids.RuleId.{RuleId}
 
 -- the order, the place of each rule in it, and whether the rule at each place is open

@@ -1,5 +1,5 @@
 //! A set of small numbers whose least member is found at once, and that changes without taking memory.
-ghost use Rattle.std.specs.Prelude.{◌≡◌, ◌≤◌, ◌<◌, ◌*◌, ◌+◌, ◌^◌, if◌then◌else◌, IfOk, ℕ, Bool, false, true, get_or, length, slice_set};
+ghost use Rattle.std.specs.Prelude.{◌≡◌, ◌≤◌, ◌<◌, ◌*◌, ◌+◌, if◌then◌else◌, IfOk, ℕ, Bool, false, true, get_or, length, slice_set};
 ghost use Rattle.std.specs.List.{position};
 ghost use Rattle.task_plan.specs.Marks.{below as below_of, mark_at};
 

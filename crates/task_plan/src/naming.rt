@@ -1,6 +1,6 @@
 //! What a rule names: what it needs before any file is scanned, and the first files to scan.
 ghost use Rattle.std.specs.Prelude.{◌≡◌, ◌++◌, ◌<◌, [], if◌then◌else◌, OnOk, IfOk, length, filter};
-ghost use Rattle.task_plan.specs.Named.{put as put_of, put_all as put_all_of, with_sources, with_targets, scanned_of, is_scanned_node, is_scanned_suffix};
+ghost use Rattle.task_plan.specs.Named.{put_all as put_all_of, with_sources, with_targets, is_scanned_node, is_scanned_suffix};
 ghost use Rattle.task_plan.specs.Loaded.{NotesNeeds, IsBlank, IsTaskOf};
 
 use crate::sets::{add, add_all, put_all};

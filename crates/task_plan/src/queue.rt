@@ -1,5 +1,5 @@
 //! The needed rules in the build order, and which of them can be decided now.
-ghost use Rattle.std.specs.Prelude.{◌≡◌, ◌&&◌, ℕ, false, true, IfOk, IfNone, IfSome, length, slice_get, slice_set};
+ghost use Rattle.std.specs.Prelude.{◌≡◌, ◌&&◌, ℕ, false, IfOk, IfNone, IfSome, length, slice_get, slice_set};
 ghost use Rattle.task_plan.specs.Queues.{number_of, is_placed, is_open as is_open_of, AreNumbers, IsFirst};
 
 use crate::marks::Marks;

@@ -1,10 +1,10 @@
 //! The files that a rule scans, breadth first.
-ghost use Rattle.std.specs.Prelude.{◌≡◌, ◌≤◌, ◌<◌, ◌+◌, ◌++◌, List, false, true, length, slice_get, take, drop, OnOk, IfOk, IfSome, is_some, if◌then◌else◌};
+ghost use Rattle.std.specs.Prelude.{◌≡◌, ◌≤◌, ◌<◌, ◌+◌, ◌++◌, false, true, length, slice_get, drop, OnOk, IfOk, IfSome, is_some, if◌then◌else◌};
 ghost use Rattle.scons_base.specs.declared.ids.NodeId.{NodeId};
 ghost use Rattle.task_plan.specs.Named.{put_all as put_all_of};
 ghost use Rattle.task_plan.specs.Settled.{is_scanned as is_scanned_of, IsScannedAt, AreScannedIn, IsLonger};
 ghost use Rattle.task_plan.specs.Loaded.{IsBlankReach};
-ghost use Rattle.task_plan.specs.Listed.{found_of, with_found, sources_in, included as included_by, IsNext, IsAppended, IsReachTo, AreAhead, AreAheadTo, IsWalked, IsWalking, IsSameReach};
+ghost use Rattle.task_plan.specs.Listed.{found_of, with_found, included as included_by, IsNext, IsAppended, AreAhead, IsWalked, IsWalking, IsSameReach};
 
 use crate::sets::put_all;
 use indexmap::{IndexMap, IndexSet};
@@ -96,6 +96,8 @@ impl Reach {
         ensures whole { AreScannedIn self.new.found.entries self.new.files.keys self.new.whole }
         ensures found { OnOk result (found_of self.new ≡ with_found (found_of self.old) node included.items) }
         ensures walked { OnOk result (IsWalked self.new) }
+        ensures news { IfOk result (λ g. put_all_of self.old.excluded.keys self.old.files.keys included.items
+            ≡ self.old.files.keys ++ g.new.items) }
         ensures growth { IfOk result (λ g. g.in_order ≡ true →
             (is_listed ≡ true) × (self.new.files.keys ≡ self.old.files.keys ++ g.new.items)) }
     {

@@ -1,4 +1,3 @@
-use Rattle.task_plan.specs.Queues.{unnumbered}
 use Rattle.task_plan.proofs.QueueLemmas.{AreNumbersTo}
 use Rattle.task_plan.proofs.queue.numbers_of.Given as goal
 

@@ -1,4 +1,4 @@
-use Rattle.std.proofs.Common.{◌≡◌, [], take}
+use Rattle.std.proofs.Common.{◌≡◌, take}
 use Rattle.task_plan.specs.Settled.{IsLonger}
 use Rattle.task_plan.specs.Named.{put_all}
 use Rattle.task_plan.proofs.sets.put_all.Given as goal

@@ -1,4 +1,4 @@
-use Rattle.std.proofs.Common.{◌≡◌, ◌-◌, ◌<◌, ◌≤◌, ◌^◌}
+use Rattle.std.proofs.Common.{◌≡◌, ◌-◌, ◌<◌, ◌^◌}
 use Rattle.task_plan.proofs.marks.Marks.new.Given as goal
 
 abbrev pub invariant-loop-room : goal.invariant-loop-room

@@ -1,6 +1,6 @@
-use Rattle.std.proofs.Common.{◌≡◌, ◌<◌, ◌*◌, ◌/◌, length}
+use Rattle.std.proofs.Common.{◌≡◌}
 use Rattle.task_plan.specs.Marks.{IsRoom, leaves}
-use Rattle.task_plan.proofs.MarkLemmas.{IsTreeBut, IsWriting}
+use Rattle.task_plan.proofs.MarkLemmas.{IsWriting}
 use Rattle.task_plan.proofs.marks.Marks.put.Given as goal
 
 abbrev pub invariant-loop-place : goal.invariant-loop-place

@@ -1,4 +1,4 @@
-use Rattle.std.proofs.Common.{arith, ◌≡◌, ◌<◌, ◌≤◌, ◌∙◌, ap, length, get_or, true, false, refl, sym, Some, None}
+use Rattle.std.proofs.Common.{arith, ◌≡◌, ◌<◌, ◌≤◌, ◌∙◌, ap, length, get_or, true, false, refl, sym, Some}
 use Rattle.std.proofs.lemmas.Option.{slice_get_read, same_Some}
 use Rattle.task_plan.specs.Settled.{next_of}
 use Rattle.task_plan.proofs.TrackLemmas.{tracked_at, tracked_take}

@@ -1,4 +1,4 @@
-use Rattle.std.proofs.Common.{◌∙◌, [], sym, ap}
+use Rattle.std.proofs.Common.{◌∙◌, sym, ap}
 use Rattle.task_plan.specs.Named.{put_all}
 use Rattle.task_plan.proofs.ReachLemmas.{seen_some, seen_none, scanned_some, scanned_nothing}
 use Rattle.task_plan.proofs.reach.Reach.include.Goals as goal

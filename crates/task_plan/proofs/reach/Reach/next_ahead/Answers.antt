@@ -1,4 +1,4 @@
-use Rattle.std.proofs.Common.{arith, ◌≤◌, sym}
+use Rattle.std.proofs.Common.{arith, ◌≤◌}
 use Rattle.task_plan.proofs.ReachLemmas.{is_next}
 use Rattle.task_plan.proofs.reach.Reach.next_ahead.Goals as goal
 

@@ -1,4 +1,4 @@
-use Rattle.std.proofs.Common.{◌≡◌, ◌∙◌, ap, refl, sym}
+use Rattle.std.proofs.Common.{◌≡◌, ◌∙◌, ap, refl}
 use Rattle.std.specs.Prelude.{map}
 use Rattle.task_plan.specs.Named.{put_all}
 use Rattle.task_plan.proofs.ListLemmas.{scanned_insert, scanned_longer}
