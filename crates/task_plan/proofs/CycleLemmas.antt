@@ -1,19 +1,20 @@
 -- What a walk finds that looks for a rule which waits for itself.
-use Rattle.std.proofs.Common.{arith, ◌≡◌, ◌≢◌, ◌<◌, ◌≤◌, ◌∙◌, ◌⊎◌, inl, inr, ℕ, zero, suc, ◌+◌, ◌-◌, List, [], ◌∷◌, ◌++◌, Bool, true, false, ◌||◌, ap, sym, refl, length, set, take, drop, get_or, Some, length-append, get_or-set_other, subst, replicate}
+use Rattle.std.proofs.Common.{arith, ◌≡◌, ◌≢◌, ◌<◌, ◌≤◌, ◌∙◌, ◌⊎◌, inl, inr, ℕ, zero, suc, ◌+◌, ◌-◌, List, [], ◌∷◌, ◌++◌, Bool, true, false, ◌||◌, ap, sym, refl, length, set, take, drop, get_or, Some, None, length-append, get_or-set_other, subst, replicate}
 use Rattle.std.specs.Prelude.{slice_get, map, nat_eq}
 use Rattle.std.proofs.lemmas.Bool.Decides.{nat_tests}
 use Rattle.std.proofs.lemmas.List.{take-append-le, take_all, length-drop, get_or-replicate, length-replicate, get_or_past}
 use Rattle.std.proofs.lemmas.List.Folds.{list_any-append, list_any_more}
-use Rattle.std.proofs.lemmas.Option.{same_Some, slice_get_within, slice_get-get_or}
+use Rattle.std.proofs.lemmas.Option.{same_Some, none-some, slice_get_within, slice_get-get_or}
 use Rattle.scons_base.specs.declared.ids.NodeId.{NodeId}
 use Rattle.scons_base.specs.declared.ids.RuleId.{RuleId}
-use Rattle.task_plan.specs.Settled.{Kept, kept_of, needs_of}
+use Rattle.task_plan.specs.Settled.{Kept, kept_of, needs_of, origin_of}
 use Rattle.task_plan.specs.States.{state_of}
 use Rattle.task_plan.specs.Admits.{queues}
 use Rattle.task_plan.specs.Cycles.{is_unsettled, WaitsFor, IsChain, IsLed, IsCycle}
-use Rattle.task_plan.specs.Walks.{colour_of, Enters, EntersNeeds, IsWithin, AreOpen, IsBefore, IsOther, IsBegun, IsWalk, ComesBack}
+use Rattle.task_plan.specs.Walks.{colour_of, IsToCome, Enters, EntersNeeds, AreEnteredAt, AllEntered, AreToEnter, IsExplored, IsWithin, AreOpen, IsBefore, IsOther, IsBegun, IsWalk, ComesBack}
 use Rattle.task_plan.specs.declared.states.RuleState.{RuleState}
 use Rattle.task_plan.specs.declared.files.Origin.{Origin}
+use Rattle.task_plan.specs.declared.files.Origin.TheVariants.{Made}
 use Rattle.task_plan.specs.declared.task.Task.{Task}
 use Rattle.task_plan.specs.declared.walk.Step.{Step}
 use Rattle.task_plan.specs.declared.walk.Step.TheVariants.{Enter, Leave}
@@ -22,7 +23,8 @@ use Rattle.task_plan.specs.declared.cycles.Colour.TheVariants.{New, Open, Closed
 use Rattle.task_plan.specs.declared.cycles.Walk.{Walk}
 use Rattle.task_plan.proofs.MarkLemmas.{apart}
 use Rattle.task_plan.proofs.PlanLemmas.{true_false}
-use Rattle.task_plan.proofs.ListLemmas.{get-front, get-within, get-behind}
+use Rattle.task_plan.proofs.ListLemmas.{get-front, get-last, get-within, get-behind}
+use Rattle.task_plan.proofs.ExploreLemmas.{explored_leaves, explored_met, explored_enters, explored_first}
 use Rattle.task_plan.proofs.WantLemmas.{kept_at}
 
 -- two lists that end with one item each are equal where what stands before is, and the items are
@@ -175,22 +177,28 @@ closed_at colours chain rule r (inr ne) a h =
 
 module _ (st : List RuleState) (k : List Kept) (o : List Origin) where
   -- the walk is within one rule more
-  pub walk_opens : (u v w : Walk) (rule : RuleId) → IsWalk st k o u → IsLed st k o u.chain.items rule → v.chain.items ≡ u.chain.items ++ rule ∷ [] → v.steps.items ≡ u.steps.items ++ Leave rule ∷ []
-      → v.colours.items ≡ set u.colours.items rule.0 Open → w ≡ record v { steps = w.steps } → EntersNeeds st k o rule v.steps.items w.steps.items → IsWalk st k o w
-  walk_opens u v w rule i l c s h e n =
+  pub walk_opens : (u v w : Walk) (rule : RuleId) → IsBefore st k o u (Enter rule) → colour_of u.colours.items rule.0 ≡ New → v.chain.items ≡ u.chain.items ++ rule ∷ [] → v.steps.items ≡ u.steps.items ++ Leave rule ∷ []
+      → v.colours.items ≡ set u.colours.items rule.0 Open → w ≡ record v { steps = w.steps } → EntersNeeds st k o rule v.steps.items w.steps.items
+      → AllEntered st k o rule v.steps.items w.steps.items → IsWalk st k o w
+  walk_opens u v w rule i fresh c s h e n all =
+      let before = entering st k o u.steps.items u.chain.items rule i.within in
+      let enters : EntersNeeds st k o rule (u.steps.items ++ Leave rule ∷ []) w.steps.items = rw s at n in
+      let entered : AllEntered st k o rule (u.steps.items ++ Leave rule ∷ []) w.steps.items = rw s at all in
       let chain : w.chain.items ≡ u.chain.items ++ rule ∷ [] = ap (λ (x : Walk). x.chain.items) e ∙ c in
       let colours : w.colours.items ≡ set u.colours.items rule.0 Open = ap (λ (x : Walk). x.colours.items) e ∙ h in
-      let first : IsWithin st k o v.steps.items (u.chain.items ++ rule ∷ []) = rw s (IsWithin.leaves rule i.within) in
+      let first : IsWithin st k o v.steps.items (u.chain.items ++ rule ∷ []) = rw s (IsWithin.leaves rule before.within) in
       record {
         within = rw chain (within_enters st k o rule u.chain.items v.steps.items w.steps.items n first);
-        chain = rw chain (chain_more st k o u.chain.items rule i.chain l);
+        chain = rw chain (chain_more st k o u.chain.items rule i.chain before.led);
         opened = rw (chain, colours) (record { each = λ r f. opened_at u.colours.items u.chain.items rule r (apart r rule.0) i.opened f });
+        explored = rw colours (explored_enters st k o u.colours.items u.steps.items w.steps.items rule i.explored fresh enters entered);
       }
 
   -- it leaves the last
-  pub walk_leaves : (u v : Walk) (steps : List Step) (rule : RuleId) → IsWithin st k o (steps ++ Leave rule ∷ []) u.chain.items → IsChain st k o u.chain.items → AreOpen u.colours.items u.chain.items → v.steps.items ≡ steps
+  pub walk_leaves : (u v : Walk) (steps : List Step) (rule : RuleId) → IsWithin st k o (steps ++ Leave rule ∷ []) u.chain.items → IsChain st k o u.chain.items → AreOpen u.colours.items u.chain.items
+      → IsExplored st k o u.colours.items (steps ++ Leave rule ∷ []) → v.steps.items ≡ steps
       → v.chain.items ≡ take (length u.chain.items - 1) u.chain.items → v.colours.items ≡ set u.colours.items rule.0 Closed → IsWalk st k o v
-  walk_leaves u v steps rule w c a s e h =
+  walk_leaves u v steps rule w c a x s e h =
       let l = leaving st k o steps u.chain.items rule w in
       let n = ap length l.is in
       let m = length-append l.rest (rule ∷ []) in
@@ -203,6 +211,7 @@ module _ (st : List RuleState) (k : List Kept) (o : List Origin) where
         within = rw (s, chain) l.within;
         chain = rw chain (chain_front st k o l.rest rule before);
         opened = rw (chain, h) (record { each = λ r f. closed_at u.colours.items l.rest rule r (apart r rule.0) opened f });
+        explored = rw (s, h) (explored_leaves st k o u.colours.items steps rule x);
       }
 
   -- a step was taken off
@@ -210,30 +219,32 @@ module _ (st : List RuleState) (k : List Kept) (o : List Origin) where
   walk_before u v step i e s =
       let chain : v.chain.items ≡ u.chain.items = ap (λ (x : Walk). x.chain.items) e in
       let colours : v.colours.items ≡ u.colours.items = ap (λ (x : Walk). x.colours.items) e in
-      record { within = rw chain (rw s at i.within); chain = rw chain i.chain; opened = rw (chain, colours) i.opened }
+      record { within = rw chain (rw s at i.within); chain = rw chain i.chain; opened = rw (chain, colours) i.opened; explored = rw colours (rw s at i.explored) }
 
-  -- the walk enters a rule
-  pub before_entering : (u : Walk) (rule : RuleId) → IsBefore st k o u (Enter rule) → IsWalk st k o u
-  before_entering u rule i = record { within = (entering st k o u.steps.items u.chain.items rule i.within).within; chain = i.chain; opened = i.opened }
-
-  pub before_led : (u : Walk) (rule : RuleId) → IsBefore st k o u (Enter rule) → IsLed st k o u.chain.items rule
-  before_led u rule i = (entering st k o u.steps.items u.chain.items rule i.within).led
+  -- the walk comes to a rule that it is through with
+  pub walk_met : (u : Walk) (rule : RuleId) → IsBefore st k o u (Enter rule) → colour_of u.colours.items rule.0 ≡ Closed → IsWalk st k o u
+  walk_met u rule i h = record {
+    within = (entering st k o u.steps.items u.chain.items rule i.within).within;
+    chain = i.chain;
+    opened = i.opened;
+    explored = explored_met st k o u.colours.items u.steps.items rule i.explored h;
+  }
 
   -- or it leaves one
   pub before_leaving : (u v : Walk) (rule : RuleId) → IsBefore st k o u (Leave rule) → v.steps ≡ u.steps → v.chain.items ≡ take (length u.chain.items - 1) u.chain.items
       → v.colours.items ≡ set u.colours.items rule.0 Closed → IsWalk st k o v
-  before_leaving u v rule i t c h = walk_leaves u v u.steps.items rule i.within i.chain i.opened (ap (λ x. x.items) t) c h
+  before_leaving u v rule i t c h = walk_leaves u v u.steps.items rule i.within i.chain i.opened i.explored (ap (λ x. x.items) t) c h
 
   -- or there is no step
   pub walk_same : (u v : Walk) → IsWalk st k o u → v ≡ record u { steps = v.steps } → v.steps.items ≡ u.steps.items → IsWalk st k o v
   walk_same u v i e s =
       let chain : v.chain.items ≡ u.chain.items = ap (λ (x : Walk). x.chain.items) e in
       let colours : v.colours.items ≡ u.colours.items = ap (λ (x : Walk). x.colours.items) e in
-      record { within = rw (s, chain) i.within; chain = rw chain i.chain; opened = rw (chain, colours) i.opened }
+      record { within = rw (s, chain) i.within; chain = rw chain i.chain; opened = rw (chain, colours) i.opened; explored = rw (s, colours) i.explored }
 
   -- the walk is within the rule already
-  pub comes_back : (w : Walk) (rule : RuleId) → IsWalk st k o w → IsLed st k o w.chain.items rule → colour_of w.colours.items rule.0 ≡ Open → ComesBack st k o w.chain.items rule
-  comes_back w rule i l h = record { linked = i.chain; among = i.opened.each rule.0 h; led = l }
+  pub comes_back : (w : Walk) (rule : RuleId) → IsBefore st k o w (Enter rule) → colour_of w.colours.items rule.0 ≡ Open → ComesBack st k o w.chain.items rule
+  comes_back w rule i h = record { linked = i.chain; among = i.opened.each rule.0 h; led = (entering st k o w.steps.items w.chain.items rule i.within).led }
 
   get-drop : {X : Type 0} (xs : List X) (i n : ℕ) → slice_get (drop i xs) n ≡ slice_get xs (i + n)
   get-drop xs zero n = ap (slice_get xs) (let e : n ≡ 0 + n = omega arith in e)
@@ -265,27 +276,120 @@ none_open_by n r (inr le) h = let e : Closed ≡ Open = sym (get_or_past (replic
 either : (n m : ℕ) → (n < m) ⊎ (m ≤ n)
 either n m = grind arith
 
-pub begun_new : (w : Walk) (n : ℕ) → w.steps.items ≡ [] → w.chain.items ≡ [] → w.colours.items ≡ replicate n New → IsBegun w
+new_closed : (n r : ℕ) → r < n → colour_of (replicate n New) r ≡ Closed → ⊥
+new_closed n r lt h = let e : New ≡ Closed = sym (get_or-replicate n r New Closed lt) ∙ h in cc
+
+pub begun_new : (w : Walk) (n : ℕ) → w.steps.items ≡ [] → w.chain.items ≡ [] → w.colours.items ≡ replicate n New → IsBegun n w
 begun_new w n s c e = record {
   within = λ st k o. rw s IsWithin.nothing;
   chain = c;
   opened = record { each = λ r h. absurd (none_open_by n r (either r n) (sym (ap (λ x. colour_of x r) e) ∙ h)) };
+  fresh = λ r lt h. new_closed n r lt (sym (ap (λ x. colour_of x r) e) ∙ h);
+  entering = λ m rule h. none-some (Leave rule) (ap (λ x. slice_get x m) (sym s) ∙ h);
 }
 
--- one more is to be entered
-pub begun_more : (u w : Walk) (rule : RuleId) → IsBegun u → w.chain ≡ u.chain → w.colours ≡ u.colours → w.steps.items ≡ u.steps.items ++ Enter rule ∷ [] → IsBegun w
-begun_more u w rule b c d s = record {
-  within = λ st k o. rw s (IsWithin.enters rule (led_none st k o rule) (b.within st k o));
-  chain = ap (λ x. x.items) c ∙ b.chain;
-  opened = rw d b.opened;
-}
+module _ (n : ℕ) (u w : Walk) (rule : RuleId) (e : w ≡ record u { steps = w.steps }) (s : w.steps.items ≡ u.steps.items ++ Enter rule ∷ []) where
+  leave_by : (m : ℕ) (r : RuleId) → IsBegun n u → (slice_get u.steps.items m ≡ Some (Leave r)) ⊎ (Leave r ≡ Enter rule) → ⊥
+  leave_by m r b (inl h) = b.entering m r h
+  leave_by m r b (inr h) = let no : Leave r ≡ Enter rule = h in cc
 
-pub begun_walk : (st : List RuleState) (k : List Kept) (o : List Origin) (w : Walk) → IsBegun w → IsWalk st k o w
-begun_walk st k o w b = record {
-  within = rw b.chain (b.within st k o);
-  chain = record { each = λ n x y e f. absurd (let lt = slice_get_within w.chain.items n x e in let none = ap length b.chain in omega arith) };
-  opened = record { each = λ r h. rw b.chain (b.opened.each r h) };
+  -- one more is to be entered
+  pub begun_more : IsBegun n u → IsBegun n w
+  begun_more b =
+      let chain : w.chain.items ≡ u.chain.items = ap (λ (x : Walk). x.chain.items) e in
+      let colours : w.colours.items ≡ u.colours.items = ap (λ (x : Walk). x.colours.items) e in
+      record {
+        within = λ st k o. rw s (IsWithin.enters rule (led_none st k o rule) (b.within st k o));
+        chain = chain ∙ b.chain;
+        opened = rw colours b.opened;
+        fresh = λ r lt h. b.fresh r lt (sym (ap (λ x. colour_of x r) colours) ∙ h);
+        entering = λ m r h. leave_by m r b (get-last u.steps.items (Enter rule) m (Leave r) (ap (λ x. slice_get x m) (sym s) ∙ h));
+      }
+
+  come_at : (p : ℕ) (r : RuleId) → (slice_get u.steps.items p ≡ Some (Enter r)) ⊎ (slice_get u.steps.items p ≡ Some (Leave r)) → (slice_get w.steps.items p ≡ Some (Enter r)) ⊎ (slice_get w.steps.items p ≡ Some (Leave r))
+  come_at p r (inl h) = inl (ap (λ x. slice_get x p) s ∙ get-front u.steps.items (Enter rule ∷ []) p (Enter r) h)
+  come_at p r (inr h) = inr (ap (λ x. slice_get x p) s ∙ get-front u.steps.items (Enter rule ∷ []) p (Leave r) h)
+
+  to_come_on : (r : RuleId) → IsToCome u.steps.items 0 r → IsToCome w.steps.items 0 r
+  to_come_on r t = record { place = t.place; behind = t.behind; at = come_at t.place r t.at }
+
+  -- as many as before are
+  pub to_enter_still : (i : ℕ) → AreToEnter n i u → AreToEnter n i w
+  to_enter_still i a = record { begun = begun_more a.begun; each = λ r lt. to_come_on r (a.each r lt) }
+
+  last_step : {X : Type 0} (xs : List X) (x : X) → slice_get (xs ++ x ∷ []) (length xs) ≡ Some x
+  last_step [] x = refl
+  last_step (y ∷ xs) x = last_step xs x
+
+  to_enter_by : (i : ℕ) (r : RuleId) → rule.0 ≡ i → AreToEnter n i u → (r.0 < i) ⊎ (i ≤ r.0) → r.0 < i + 1 → IsToCome w.steps.items 0 r
+  to_enter_by i r same a (inl lt) more = to_come_on r (a.each r lt)
+  to_enter_by i r same a (inr le) more =
+      let number : rule.0 ≡ r.0 = omega arith in
+      let this : rule ≡ r = ap (λ (m : ℕ). let x : RuleId = record { 0 = m } in x) number in
+      record { place = length u.steps.items; behind = omega arith; at = inl (ap (λ x. slice_get x (length u.steps.items)) s ∙ last_step u.steps.items (Enter rule) ∙ ap (λ x. Some (Enter x)) this) }
+
+  -- and the next one
+  pub to_enter_more : (i : ℕ) → rule.0 ≡ i → AreToEnter n i u → AreToEnter n (i + 1) w
+  to_enter_more i same a = record { begun = begun_more a.begun; each = λ r lt. to_enter_by i r same a (either r.0 i) lt }
+
+pub to_enter_none : (n : ℕ) (w : Walk) → IsBegun n w → AreToEnter n 0 w
+to_enter_none n w b = record { begun = b; each = λ r lt. absurd (omega arith) }
+
+pub begun_walk : (st : List RuleState) (k : List Kept) (o : List Origin) (n : ℕ) (w : Walk) → n ≡ length k → AreToEnter n n w → IsWalk st k o w
+begun_walk st k o n w same a =
+    let b = a.begun in
+    record {
+      within = rw b.chain (b.within st k o);
+      chain = record { each = λ n x y e f. absurd (let lt = slice_get_within w.chain.items n x e in let none = ap length b.chain in omega arith) };
+      opened = record { each = λ r h. rw b.chain (b.opened.each r h) };
+      explored = explored_first st k o w.colours.items w.steps.items (λ r lt h. b.fresh r (omega arith) h) b.entering (λ rule lt. a.each rule (omega arith));
+    }
+
+-- the rule of a file is entered, or none makes it
+pub entered_this : (o : List Origin) (files : List NodeId) (place : ℕ) (old new : List Step) (rule : RuleId) → new ≡ old ++ Enter rule ∷ []
+    → ((file : NodeId) (r : RuleId) → slice_get files place ≡ Some file → origin_of o file.0 ≡ Made r → Some rule ≡ Some r) → AreEnteredAt o files place old new
+entered_this o files place old new rule e f = record {
+  each = λ file r at made.
+      let same : rule ≡ r = same_Some rule r (f file r at made) in
+      record { place = length old; behind = omega arith; at = inl (ap (λ x. slice_get x (length old)) e ∙ step_last old (Enter rule) ∙ ap (λ x. Some (Enter x)) same) };
 }
+  where
+    step_last : {X : Type 0} (xs : List X) (x : X) → slice_get (xs ++ x ∷ []) (length xs) ≡ Some x
+    step_last [] x = refl
+    step_last (y ∷ xs) x = step_last xs x
+
+pub entered_none : (o : List Origin) (files : List NodeId) (place : ℕ) (old : List Step) → ((file : NodeId) (r : RuleId) → slice_get files place ≡ Some file → origin_of o file.0 ≡ Made r → None ≡ Some r)
+    → AreEnteredAt o files place old old
+entered_none o files place old f = record { each = λ file r at made. absurd (none-some r (f file r at made)) }
+
+-- what was entered before stands there still
+pub enters_front : (o : List Origin) (files : List NodeId) (old new : List Step) → Enters o files old new → (n : ℕ) (s : Step) → slice_get old n ≡ Some s → slice_get new n ≡ Some s
+enters_front o files old new Enters.none n s e = e
+enters_front o files old new (Enters.more {steps = steps} rule m f) n s e = get-front steps (Enter rule ∷ []) n s (enters_front o files old steps f n s e)
+
+pub enters_longer : (o : List Origin) (files : List NodeId) (old new : List Step) → Enters o files old new → length old ≤ length new
+enters_longer o files old new Enters.none = omega arith
+enters_longer o files old new (Enters.more {steps = steps} rule m f) = let l = enters_longer o files old steps f in let n = length-append steps (Enter rule ∷ []) in omega arith
+
+module _ (o : List Origin) (files : List NodeId) (first old new : List Step) (e : Enters o files old new) where
+  front_by : (p : ℕ) (r : RuleId) → (slice_get old p ≡ Some (Enter r)) ⊎ (slice_get old p ≡ Some (Leave r)) → (slice_get new p ≡ Some (Enter r)) ⊎ (slice_get new p ≡ Some (Leave r))
+  front_by p r (inl h) = inl (enters_front o files old new e p (Enter r) h)
+  front_by p r (inr h) = inr (enters_front o files old new e p (Leave r) h)
+
+  entered_by : (place p : ℕ) (file : NodeId) (rule : RuleId) → Enters o files first old → ((q : ℕ) (f : NodeId) (r : RuleId) → place + 1 ≤ q → slice_get files q ≡ Some f → origin_of o f.0 ≡ Made r → IsToCome old (length first) r)
+      → AreEnteredAt o files place old new → place ≤ p → (p < place + 1) ⊎ (place + 1 ≤ p) → slice_get files p ≡ Some file → origin_of o file.0 ≡ Made rule → IsToCome new (length first) rule
+  entered_by place p file rule before f a le (inl lt) at made =
+      let same : p ≡ place = omega arith in
+      let t = a.each file rule (ap (slice_get files) (sym same) ∙ at) made in
+      let l = enters_longer o files first old before in
+      let b = t.behind in
+      record { place = t.place; behind = omega arith; at = t.at }
+  entered_by place p file rule before f a le (inr past) at made = let t = f p file rule past at made in record { place = t.place; behind = t.behind; at = front_by t.place rule t.at }
+
+  -- the rules of one file more are entered
+  pub entered_more : (place : ℕ) → Enters o files first old → ((q : ℕ) (f : NodeId) (r : RuleId) → place + 1 ≤ q → slice_get files q ≡ Some f → origin_of o f.0 ≡ Made r → IsToCome old (length first) r)
+      → AreEnteredAt o files place old new → (p : ℕ) (file : NodeId) (rule : RuleId) → place ≤ p → slice_get files p ≡ Some file → origin_of o file.0 ≡ Made rule → IsToCome new (length first) rule
+  entered_more place before f a p file rule le at made = entered_by place p file rule before f a le (either p (place + 1)) at made
 
 or_neither : (a b : Bool) → a ≡ false → b ≡ false → (a || b) ≡ false
 or_neither true b e f = absurd (cc)

@@ -14,4 +14,5 @@ pub mod WantLemmas
 pub mod AdmitLemmas
 pub mod FollowLemmas
 pub mod NoteLemmas
+pub mod ExploreLemmas
 pub mod CycleLemmas

@@ -1,5 +1,5 @@
 -- What a rule needs, as the list of it grows.
-use Rattle.std.proofs.Common.{arith, ◌≡◌, ◌≤◌, ℕ, ◌+◌, ◌-◌, List, ◌++◌, ap, sym, refl, length, append_assoc, length-append}
+use Rattle.std.proofs.Common.{arith, ◌≡◌, ◌≤◌, ℕ, ◌+◌, List, ◌++◌, ap, sym, refl, length, append_assoc, length-append}
 use Rattle.std.proofs.lemmas.Option.{slice_get_within}
 use Rattle.std.proofs.lemmas.List.{take-append-le}
 use Rattle.task_plan.specs.declared.states.RuleState.{RuleState}

@@ -1,5 +1,5 @@
 -- What the states of a plan come to, and that what can be decided waits.
-use Rattle.std.proofs.Common.{arith, ◌≡◌, ◌≢◌, ◌≤◌, ◌∙◌, ◌⊎◌, inl, inr, ℕ, zero, suc, ◌+◌, List, [], ◌∷◌, ◌++◌, Bool, true, false, ap, sym, refl, length, set, get_or-set_other, get_or-set_same, length-set}
+use Rattle.std.proofs.Common.{arith, ◌≡◌, ◌≢◌, ◌≤◌, ◌∙◌, ◌⊎◌, inl, inr, ℕ, zero, suc, List, [], ◌∷◌, ◌++◌, Bool, true, false, ap, sym, refl, length, set, get_or-set_other, get_or-set_same, length-set}
 use Rattle.std.specs.Prelude.{if◌then◌else◌, ltb}
 use Rattle.std.proofs.lemmas.Bool.{ltb-false, ltb-true}
 use Rattle.std.proofs.lemmas.List.{get_or_past}

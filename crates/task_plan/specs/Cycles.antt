@@ -47,3 +47,7 @@ pub record IsCycle (states : List RuleState) (rules : List Kept) (origins : List
   pub first : RuleId
   pub at : slice_get cycle 0 ≡ Some first
   pub back : IsLed states rules origins cycle first
+
+-- no rules are such a cycle
+pub record HasNoCycle (states : List RuleState) (rules : List Kept) (origins : List Origin) : Type 0 where
+  pub none : (cycle : List RuleId) → IsCycle states rules origins cycle → ⊥

@@ -1,11 +1,13 @@
 -- What a walk that looks for a cycle keeps true of its steps.
-use Rattle.std.specs.Prelude.{◌≡◌, ◌++◌, ◌∷◌, [], ℕ, true, false, List, Some, get_or, nat_eq, slice_get}
+use Rattle.std.specs.Prelude.{◌≡◌, ◌<◌, ◌≤◌, ◌+◌, ◌⊎◌, ◌++◌, ◌∷◌, [], ℕ, Bool, true, false, List, Some, get_or, length, nat_eq, slice_get}
+use Rattle.std.specs.List.{list_any}
 use Rattle.scons_base.specs.declared.ids.RuleId.{RuleId}
 use Rattle.task_plan.specs.Admits.{queues}
-use Rattle.task_plan.specs.Settled.{Kept}
+use Rattle.task_plan.specs.Settled.{Kept, origin_of}
 use Rattle.task_plan.specs.Cycles.{IsMadeBy, WaitsFor, IsChain, IsLed}
 use Rattle.task_plan.specs.declared.states.RuleState.{RuleState}
 use Rattle.task_plan.specs.declared.files.Origin.{Origin}
+use Rattle.task_plan.specs.declared.files.Origin.TheVariants.{Made}
 use Rattle.scons_base.specs.declared.ids.NodeId.{NodeId}
 use Rattle.task_plan.specs.declared.walk.Step.{Step}
 use Rattle.task_plan.specs.declared.walk.Step.TheVariants.{Enter, Leave}
@@ -16,6 +18,50 @@ use Rattle.task_plan.specs.declared.cycles.Walk.{Walk}
 -- how far the walk is with a rule; there is nothing to see of one that it doesn't know
 abbrev pub colour_of : List Colour → ℕ → Colour
 colour_of colours rule = get_or colours rule Closed
+
+-- a rule is to be entered or left by a step from a place on
+pub record IsToCome (steps : List Step) (from : ℕ) (rule : RuleId) : Type 0 where
+  pub place : ℕ
+  pub behind : from ≤ place
+  pub at : (slice_get steps place ≡ Some (Enter rule)) ⊎ (slice_get steps place ≡ Some (Leave rule))
+
+-- the walk is through with a rule, or comes to it from a place on
+abbrev pub IsSeen : List Colour → List Step → ℕ → RuleId → Type 0
+IsSeen colours steps from rule = (colour_of colours rule.0 ≡ Closed) ⊎ IsToCome steps from rule
+
+-- whether a number stands among these
+abbrev pub among : List ℕ → ℕ → Bool
+among order n = list_any (λ m. nat_eq m n) order
+
+-- a rule stands among these, or nothing is known of it
+abbrev pub IsPast : List Kept → List ℕ → ℕ → Type 0
+IsPast rules order n = (among order n ≡ true) ⊎ (length rules ≤ n)
+
+-- rules in an order, each of which waits for those behind it alone
+pub data AreOrdered (states : List RuleState) (rules : List Kept) (origins : List Origin) : List ℕ → Type 0 where
+  nothing : AreOrdered states rules origins []
+  more : {order : List ℕ} (rule : RuleId) → ((other : RuleId) → WaitsFor states rules origins rule other → IsPast rules order other.0) → AreOrdered states rules origins order
+      → AreOrdered states rules origins (rule.0 ∷ order)
+
+-- What the walk is through with stands in such an order. What a rule waits for that it is to leave is seen before that, and each rule is seen.
+pub record IsExplored (states : List RuleState) (rules : List Kept) (origins : List Origin) (colours : List Colour) (steps : List Step) : Type 0 where
+  pub order : List ℕ
+  pub ordered : AreOrdered states rules origins order
+  pub closed : (r : ℕ) → colour_of colours r ≡ Closed → IsPast rules order r
+  pub followed : (n : ℕ) (rule other : RuleId) → slice_get steps n ≡ Some (Leave rule) → WaitsFor states rules origins rule other → IsSeen colours steps (n + 1) other
+  pub seen : (rule : RuleId) → rule.0 < length rules → IsSeen colours steps 0 rule
+
+-- the rules that make these files are to come behind the steps that were there
+pub record AreEntered (origins : List Origin) (files : List NodeId) (old new : List Step) : Type 0 where
+  pub each : (place : ℕ) (file : NodeId) (rule : RuleId) → slice_get files place ≡ Some file → origin_of origins file.0 ≡ Made rule → IsToCome new (length old) rule
+
+-- so is the rule that makes the file at this place
+pub record AreEnteredAt (origins : List Origin) (files : List NodeId) (place : ℕ) (old new : List Step) : Type 0 where
+  pub each : (file : NodeId) (rule : RuleId) → slice_get files place ≡ Some file → origin_of origins file.0 ≡ Made rule → IsToCome new (length old) rule
+
+-- all that a rule waits for is to come behind the steps that were there
+pub record AllEntered (states : List RuleState) (rules : List Kept) (origins : List Origin) (rule : RuleId) (old new : List Step) : Type 0 where
+  pub each : (other : RuleId) → WaitsFor states rules origins rule other → IsToCome new (length old) other
 
 -- rules that make some of these files were put on the steps
 pub data Enters (origins : List Origin) (files : List NodeId) : List Step → List Step → Type 0 where
@@ -45,22 +91,31 @@ pub record IsWalk (states : List RuleState) (rules : List Kept) (origins : List 
   pub within : IsWithin states rules origins walk.steps.items walk.chain.items
   pub chain : IsChain states rules origins walk.chain.items
   pub opened : AreOpen walk.colours.items walk.chain.items
+  pub explored : IsExplored states rules origins walk.colours.items walk.steps.items
 
 -- another rule stands at this place, or none
 pub record IsOther (chain : List RuleId) (place rule : ℕ) : Type 0 where
   pub each : (other : RuleId) → slice_get chain place ≡ Some other → nat_eq other.0 rule ≡ false
 
--- the walk is within no rule yet, and is to enter some
-pub record IsBegun (walk : Walk) : Type 0 where
+-- the walk is within no rule yet, and through with none of the first so many; it is to enter some
+pub record IsBegun (count : ℕ) (walk : Walk) : Type 0 where
   pub within : (states : List RuleState) (rules : List Kept) (origins : List Origin) → IsWithin states rules origins walk.steps.items []
   pub chain : walk.chain.items ≡ []
   pub opened : AreOpen walk.colours.items []
+  pub fresh : (r : ℕ) → r < count → colour_of walk.colours.items r ≡ Closed → ⊥
+  pub entering : (n : ℕ) (rule : RuleId) → slice_get walk.steps.items n ≡ Some (Leave rule) → ⊥
+
+-- of the rules the first so many are to be entered
+pub record AreToEnter (count upto : ℕ) (walk : Walk) : Type 0 where
+  pub begun : IsBegun count walk
+  pub each : (rule : RuleId) → rule.0 < upto → IsToCome walk.steps.items 0 rule
 
 -- with this step put back it is a walk
 pub record IsBefore (states : List RuleState) (rules : List Kept) (origins : List Origin) (walk : Walk) (step : Step) : Type 0 where
   pub within : IsWithin states rules origins (walk.steps.items ++ step ∷ []) walk.chain.items
   pub chain : IsChain states rules origins walk.chain.items
   pub opened : AreOpen walk.colours.items walk.chain.items
+  pub explored : IsExplored states rules origins walk.colours.items (walk.steps.items ++ step ∷ [])
 
 -- the walk came to a rule again that it is within
 pub record ComesBack (states : List RuleState) (rules : List Kept) (origins : List Origin) (chain : List RuleId) (rule : RuleId) : Type 0 where

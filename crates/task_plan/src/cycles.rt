@@ -1,18 +1,18 @@
 //! Rules that wait for themselves.
 
-ghost use Rattle.std.specs.Prelude.{◌≡◌, ◌++◌, ◌∷◌, [], List, Some, false, true, map, slice_get, slice_set, IfOk, OnOk, IfSome, MatchOption, length, take, ◌-◌};
+ghost use Rattle.std.specs.Prelude.{◌≡◌, ◌++◌, ◌∷◌, [], List, Some, false, true, map, slice_get, slice_set, IfOk, OnOk, IfSome, IfNone, MatchOption, length, take, ◌-◌};
 ghost use Rattle.scons_base.specs.declared.ids.RuleId.{RuleId};
 ghost use Rattle.task_plan.specs.Settled.{Kept, kept_of};
 ghost use Rattle.task_plan.specs.Admits.{queues};
-ghost use Rattle.task_plan.specs.Cycles.{IsCycle, IsLed};
-ghost use Rattle.task_plan.specs.Walks.{ComesBack, EntersNeeds, IsBefore, IsBegun, IsOther, IsWalk, colour_of};
+ghost use Rattle.task_plan.specs.Cycles.{HasNoCycle, IsCycle};
+ghost use Rattle.task_plan.specs.Walks.{AllEntered, AreToEnter, ComesBack, EntersNeeds, IsBefore, IsBegun, IsOther, IsWalk, colour_of};
 ghost use Rattle.task_plan.specs.declared.states.RuleState.{RuleState};
 ghost use Rattle.task_plan.specs.declared.files.Origin.{Origin};
 
 use crate::files::Files;
 use crate::states::States;
 use crate::task::Task;
-use crate::walk::{Step, enter_needs};
+use crate::walk::{Step, enter_needs, rule_of_number};
 use scons_base::{Memory, RuleId};
 use std::alloc::Global;
 
@@ -33,8 +33,8 @@ struct Walk {
     steps: Vec<Step>,
 }
 
-/// Rules of which each waits for the next, and the last waits for the first; where these roots lead to some, of those that
-/// they lead to. There are never as many steps as there are numbers.
+/// Rules of which each waits for the next, and the last waits for the first, if there are any; where these roots lead to
+/// some, of those that they lead to. There are never as many steps as there are numbers.
 pub(crate) fn cycle_of(
     alloc: Global,
     states: &States,
@@ -42,12 +42,14 @@ pub(crate) fn cycle_of(
     files: &Files,
     roots: &[RuleId],
 ) -> Result<Option<Vec<RuleId>>, Memory>
-    ensures { IfOk result (λ found. IfSome found (λ cycle.
+    ensures real { IfOk result (λ found. IfSome found (λ cycle.
         IsCycle states.now (map kept_of tasks.now) files.now.origins.items cycle.items)) }
+    ensures none { IfOk result (λ found. IfNone found
+        (HasNoCycle states.now (map kept_of tasks.now) files.now.origins.items)) }
 {
     let mut walk = Walk::new(alloc, tasks.len(), roots)?;
     for _step in 0..usize::MAX {
-        if walk.steps.is_empty() {
+        if walk.is_done() {
             return Ok(None);
         }
         if let Some(rule) = walk.go_on(states, tasks, files)? {
@@ -58,19 +60,57 @@ pub(crate) fn cycle_of(
 }
 
 impl Walk {
-    /// A walk that is to enter these rules.
+    /// A walk that is to enter all rules, and these first.
     fn new(alloc: Global, rules: usize, roots: &[RuleId]) -> Result<Walk, Memory>
-        ensures { IfOk result IsBegun }
+        ensures { IfOk result (AreToEnter rules rules) }
     {
-        let mut walk = Walk {
+        let mut walk = Walk::blank(alloc, rules)?;
+        walk.enter_all(rules)?;
+        for root in roots {
+            walk.put(*root)?;
+        }
+        Ok(walk)
+    }
+
+    /// A walk without steps.
+    fn blank(alloc: Global, rules: usize) -> Result<Walk, Memory>
+        ensures { IfOk result (IsBegun rules) }
+    {
+        Ok(Walk {
             colours: Vec::from_elem(alloc, Colour::New, rules)?,
             chain: Vec::new(alloc),
             steps: Vec::new(alloc),
-        };
-        for root in roots {
-            walk.steps.push(Step::Enter(*root))?;
+        })
+    }
+
+    /// The first so many rules are to be entered.
+    fn enter_all(&mut self, rules: usize) -> Result<(), Memory>
+        requires { IsBegun rules self.old }
+        ensures { OnOk result (AreToEnter rules rules self.new) }
+    {
+        for number in 0..rules {
+            let Some(rule) = rule_of_number(number) else {
+                return Err(Memory);
+            };
+            self.put(rule)?;
         }
-        Ok(walk)
+        Ok(())
+    }
+
+    /// A rule is to be entered before all others.
+    fn put(&mut self, rule: RuleId) -> Result<(), Memory>
+        ensures rest { self.new ≡ record self.old { steps = self.new.steps } }
+        ensures steps { OnOk result (self.new.steps.items ≡ self.old.steps.items ++ Step.Enter rule ∷ []) }
+    {
+        self.steps.push(Step::Enter(rule))?;
+        Ok(())
+    }
+
+    /// Whether there is no step.
+    fn is_done(&self) -> bool
+        ensures { result ≡ true → self.now.steps.items ≡ [] }
+    {
+        self.steps.is_empty()
     }
 
     /// Takes a step. Gives a rule that the walk came to again while it is within it.
@@ -130,8 +170,7 @@ impl Walk {
         files: &Files,
         rule: RuleId,
     ) -> Result<Option<RuleId>, Memory>
-        requires walk { IsWalk states.now (map kept_of tasks.now) files.now.origins.items self.old }
-        requires led { IsLed states.now (map kept_of tasks.now) files.now.origins.items self.old.chain.items rule }
+        requires { IsBefore states.now (map kept_of tasks.now) files.now.origins.items self.old (Step.Enter rule) }
         ensures { IfOk result (λ found. MatchOption found
             (IsWalk states.now (map kept_of tasks.now) files.now.origins.items self.new)
             (λ rule. ComesBack states.now (map kept_of tasks.now) files.now.origins.items self.new.chain.items rule)) }
@@ -178,6 +217,8 @@ impl Walk {
     ) -> Result<(), Memory>
         ensures rest { self.new ≡ record self.old { steps = self.new.steps } }
         ensures enters { OnOk result (EntersNeeds states.now (map kept_of tasks.now) files.now.origins.items rule
+            self.old.steps.items self.new.steps.items) }
+        ensures all { OnOk result (AllEntered states.now (map kept_of tasks.now) files.now.origins.items rule
             self.old.steps.items self.new.steps.items) }
     {
         if !states.is_unsettled(rule) {

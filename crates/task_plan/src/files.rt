@@ -1,5 +1,6 @@
 //! What the plan keeps of a file.
 ghost use Rattle.std.specs.Prelude.{◌≡◌, ℕ, true, slice_set, IfSome};
+ghost use Rattle.scons_base.specs.declared.ids.RuleId.{RuleId};
 ghost use Rattle.task_plan.specs.Settled.{origin_of, is_done as is_done_of};
 
 use crate::states::{RuleState, States};
@@ -74,7 +75,8 @@ impl Files {
 
     /// The rule of a file that was met.
     pub(crate) fn rule_of(&self, node: NodeId) -> Option<RuleId>
-        ensures { IfSome result (λ rule. origin_of self.now.origins.items node.0 ≡ Origin.Made rule) }
+        ensures some { IfSome result (λ rule. origin_of self.now.origins.items node.0 ≡ Origin.Made rule) }
+        ensures made { (rule : RuleId) → origin_of self.now.origins.items node.0 ≡ Origin.Made rule → result ≡ Some rule }
     {
         match self.origin(node) {
             Origin::Made(rule) => Some(rule),

@@ -1,13 +1,13 @@
 //! The plan of a build.
 
-ghost use Rattle.std.specs.Prelude.{◌≡◌, ◌≢◌, ◌<◌, ◌||◌, [], ℕ, false, true, IfOk, OnOk, IfSome, if◌then◌else◌, nat_lt, is_err};
+ghost use Rattle.std.specs.Prelude.{◌≡◌, ◌≢◌, ◌<◌, ◌||◌, [], ℕ, false, true, IfOk, OnOk, IfSome, IfNone, if◌then◌else◌, nat_lt, is_err};
 ghost use Rattle.std.specs.List.{count_by};
 ghost use Rattle.scons_base.specs.declared.ids.RuleId.{RuleId};
 ghost use Rattle.scons_base.specs.declared.ids.NodeId.{NodeId};
 ghost use Rattle.task_plan.specs.States.{is_running, state_of};
 ghost use Rattle.task_plan.specs.Settled.{deps_of};
 ghost use Rattle.task_plan.specs.Plans.{AreMet, Meets, IsDecidedNext, IsScannedNext, IsReadyToScan, IsIdle, Goes, GoesOn, is_scan, is_halt};
-ghost use Rattle.task_plan.specs.Cycles.{IsCycle};
+ghost use Rattle.task_plan.specs.Cycles.{HasNoCycle, IsCycle};
 ghost use Rattle.task_plan.specs.Admits.{Admits, Fits, AllFollow, IsFirstAt, Knows, none};
 
 use crate::cycles::cycle_of;
@@ -17,6 +17,7 @@ use crate::marks::Marks;
 use crate::queue::Queue;
 use crate::states::{RuleState, States};
 use crate::task::Task;
+use crate::walk::rule_of_number;
 use crate::want::{PlanEvent, Want};
 use rule_graph::Graph;
 use scons_base::{Listing, Memory, NodeId, RuleId};
@@ -210,6 +211,8 @@ impl Plan {
     pub fn cycle(&self) -> Result<Option<Listing<RuleId>>, Memory>
         ensures real { IfOk result (λ found. IfSome found (λ cycle.
             IsCycle self.now.states self.now.rules self.now.origins cycle)) }
+        ensures none { IfOk result (λ found. IfNone found
+            (HasNoCycle self.now.states self.now.rules self.now.origins)) }
     {
         match cycle_of(
             self.alloc,
@@ -229,10 +232,4 @@ impl Plan {
         let held = held_by(self.alloc, &self.tasks, &self.files, faulty)?;
         Ok(Listing::new(held))
     }
-}
-
-fn rule_of_number(number: usize) -> Option<RuleId>
-    ensures { IfSome result (λ rule. rule.0 ≡ number) }
-{
-    Some(RuleId(u32::try_from(number).ok()?))
 }

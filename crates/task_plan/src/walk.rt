@@ -1,9 +1,12 @@
 //! The steps of a walk over rules and what they need.
 
-ghost use Rattle.std.specs.Prelude.{OnOk, IfSome};
-ghost use Rattle.task_plan.specs.Settled.{needs_of};
+ghost use Rattle.std.specs.Prelude.{◌≡◌, Some, OnOk, IfSome, slice_get};
+ghost use Rattle.scons_base.specs.declared.ids.NodeId.{NodeId};
+ghost use Rattle.scons_base.specs.declared.ids.RuleId.{RuleId};
+ghost use Rattle.task_plan.specs.Settled.{needs_of, origin_of};
 ghost use Rattle.task_plan.specs.Cycles.{IsMadeBy};
-ghost use Rattle.task_plan.specs.Walks.{Enters};
+ghost use Rattle.task_plan.specs.Walks.{AreEntered, AreEnteredAt, Enters};
+ghost use Rattle.task_plan.specs.declared.files.Origin.{Origin};
 
 use crate::files::Files;
 use crate::task::Task;
@@ -28,7 +31,8 @@ pub(crate) fn step_limit(tasks: &[Task], roots: &[RuleId]) -> usize {
 
 /// Puts the rules that a rule needs on the steps, the first on top.
 pub(crate) fn enter_needs(task: &Task, files: &Files, steps: &mut Vec<Step>) -> Result<(), Memory>
-    ensures { OnOk result (Enters files.now.origins.items (needs_of task.now) steps.old.items steps.new.items) }
+    ensures enters { OnOk result (Enters files.now.origins.items (needs_of task.now) steps.old.items steps.new.items) }
+    ensures all { OnOk result (AreEntered files.now.origins.items (needs_of task.now) steps.old.items steps.new.items) }
 {
     for place in (0..task.needs()).rev() {
         enter_need(task, files, place, steps)?;
@@ -37,7 +41,8 @@ pub(crate) fn enter_needs(task: &Task, files: &Files, steps: &mut Vec<Step>) -> 
 }
 
 fn enter_need(task: &Task, files: &Files, place: usize, steps: &mut Vec<Step>) -> Result<(), Memory>
-    ensures { OnOk result (Enters files.now.origins.items (needs_of task.now) steps.old.items steps.new.items) }
+    ensures enters { OnOk result (Enters files.now.origins.items (needs_of task.now) steps.old.items steps.new.items) }
+    ensures all { OnOk result (AreEnteredAt files.now.origins.items (needs_of task.now) place steps.old.items steps.new.items) }
 {
     if let Some(rule) = rule_needed(task, files, place) {
         steps.push(Step::Enter(rule))?;
@@ -47,7 +52,19 @@ fn enter_need(task: &Task, files: &Files, place: usize, steps: &mut Vec<Step>) -
 
 /// The rule of the file that a rule needs at this place.
 fn rule_needed(task: &Task, files: &Files, place: usize) -> Option<RuleId>
-    ensures { IfSome result (IsMadeBy files.now.origins.items (needs_of task.now)) }
+    ensures some { IfSome result (IsMadeBy files.now.origins.items (needs_of task.now)) }
+    ensures made { (file : NodeId) (rule : RuleId) → slice_get (needs_of task.now) place ≡ Some file
+        → origin_of files.now.origins.items file.0 ≡ Origin.Made rule → result ≡ Some rule }
 {
-    files.rule_of(task.need(place)?)
+    match task.need(place) {
+        Some(node) => files.rule_of(node),
+        None => None,
+    }
+}
+
+/// The rule with this number.
+pub(crate) fn rule_of_number(number: usize) -> Option<RuleId>
+    ensures { IfSome result (λ rule. rule.0 ≡ number) }
+{
+    Some(RuleId(u32::try_from(number).ok()?))
 }

@@ -1,15 +1,10 @@
 use Rattle.std.specs.Prelude.{map}
 use Rattle.task_plan.specs.Settled.{kept_of}
-use Rattle.task_plan.proofs.CycleLemmas.{before_entering, before_led, before_leaving}
+use Rattle.task_plan.proofs.CycleLemmas.{before_leaving}
 use Rattle.task_plan.proofs.cycles.Walk.take.Goals as goal
 
-pub enter-requires-clause-walk : goal.enter-requires-clause-walk
-enter-requires-clause-walk c =
-    before_entering c.args.states.now (map kept_of c.args.tasks.now) c.args.files.now.origins.items c.args.self.now c.in-Enter.rule (rw c.in-Enter.is at c.requires)
-
-pub enter-requires-clause-led : goal.enter-requires-clause-led
-enter-requires-clause-led c =
-    before_led c.args.states.now (map kept_of c.args.tasks.now) c.args.files.now.origins.items c.args.self.now c.in-Enter.rule (rw c.in-Enter.is at c.requires)
+pub enter-requires : goal.enter-requires
+enter-requires c = rw c.in-Enter.is at c.requires
 
 pub returns-in-Leave : goal.returns-in-Leave
 returns-in-Leave c =

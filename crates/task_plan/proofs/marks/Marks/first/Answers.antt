@@ -1,4 +1,4 @@
-use Rattle.std.proofs.Common.{◌≡◌, ◌∙◌, ◌^◌, false, true, sym, arith, ap}
+use Rattle.std.proofs.Common.{◌≡◌, ◌∙◌, ◌^◌, false, sym, arith, ap}
 use Rattle.task_plan.specs.Marks.{mark_at}
 use Rattle.task_plan.proofs.MarkLemmas.{IsLeast, first_unmarked, first_least, next_level, within_tree}
 use Rattle.task_plan.proofs.marks.Marks.first.Goals as goal
