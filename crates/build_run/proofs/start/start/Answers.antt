@@ -10,6 +10,9 @@ use Rattle.build_run.proofs.Causing.{exit_same, exit_inside, inside, shut_fault}
 use Rattle.build_run.proofs.Outs.{own_room, stored_prepared, stored_beside, stored_added}
 use Rattle.build_run.proofs.start.start.Goals as goal
 
+pub returns-then-account-is_store_shut-clause-ends : goal.returns-then-account-is_store_shut-clause-ends
+returns-then-account-is_store_shut-clause-ends g c = λ start err a. shut_fault start (ledger_of c.args.account.now) _ c.if-account-is_store_shut.true a
+
 pub returns-in_err-text-clause-ends : goal.returns-in_err-text-clause-ends
 returns-in_err-text-clause-ends g c = λ start err a. exit_inside start (ledger_of c.args.account.now) _ _ err c.from_residual.result c.from_residual.ensures.1 a
 
