@@ -1,9 +1,9 @@
 //! The build of what was requested.
-ghost use Rattle.std.specs.Prelude.{◌≡◌, [], IfOk, IfErr};
+ghost use Rattle.std.specs.Prelude.{◌≡◌, [], true, IfOk, IfErr};
 ghost use Rattle.build_run.specs.Goings.{Passes, Goes};
 ghost use Rattle.scons_top.specs.Faults.{IsLateStop, EarlyOnlyIf};
 ghost use Rattle.world_api.specs.Statuses.{HasStatus};
-ghost use Rattle.sign_store.specs.Stores.{IsStoredIn};
+ghost use Rattle.sign_store.specs.Stores.{IsKept, is_live};
 
 use crate::ending::{closed, tell_done, tell_faulty};
 use crate::printed::say;
@@ -62,7 +62,8 @@ pub(crate) fn build_requests<W: World, O: Sink, E: Sink>(
 #[tactic(auto, using(crate::proofs::Watching::watching))]
 fn begin_store<W: World>(alloc: Global, world: &mut W) -> Result<Store, Stop>
     ensures goes { Goes W.meaning world.old world.new }
-    ensures stands { W.meaning.tells world.new → IfOk result (IsStoredIn (W.meaning.seen world.new)) }
+    ensures live { IfOk result (λ store. is_live store ≡ true) }
+    ensures keeps { IfOk result (IsKept W.meaning world.new) }
     ensures late { IfErr result IsLateStop }
 {
     match Store::begin(alloc, world) {
