@@ -77,9 +77,7 @@ outs_taken store (busy ∷ busies) (suc i) d lt outs =
         | inl same ↦ subst (λ (b : Busy). IsBeside taken b) same (beside_turned busy taken (outs.1 taken (Contains-get_or busies i d inside)))
         | inr more ↦ rest.1 other more
       ]),
-      outs.0,
-      (λ other h. outs.1 other (removed_in busies i other inside h)),
-      rest.2,
+      (outs.0, (λ other h. outs.1 other (removed_in busies i other inside h)), rest.2),
     )
 
 out_in : (store : Store) (busies : List Busy) (busy : Busy) → AreOut store busies → Contains busies busy → IsOutFor store busy

@@ -1,5 +1,5 @@
 -- The tickets of the running rules, and the store that they are of.
-use Rattle.std.specs.Prelude.{◌≡◌, ◌≢◌, ℕ, Bool, false, List, [], ◌∷◌, ◌++◌, Contains, Some}
+use Rattle.std.specs.Prelude.{◌≡◌, ◌≢◌, ℕ, Bool, false, true, List, [], ◌∷◌, ◌++◌, Contains, Some}
 use Rattle.world_api.specs.Around.{Finished}
 use Rattle.world_api.specs.Meaning.{Meaning}
 use Rattle.world_api.specs.declared.job.Outcome.TheVariants.{Done}
@@ -78,3 +78,12 @@ PutsDone busies old new shut event = (rule : RuleId) → event ≡ DoneOk rule �
 abbrev pub TellsDone : {W : Type 0} → Meaning W → W → W → PlanEvent → Type 0
 TellsDone m old new event = m.tells new → (id : ℕ) → (m.around new).log ≡ (m.around old).log ++ Finished id Done ∷ []
     → event ≡ DoneOk (record { 0 = id })
+
+-- and only then
+abbrev pub TellsOnlyDone : {W : Type 0} → Meaning W → W → W → PlanEvent → Type 0
+TellsOnlyDone m old new event = m.tells new → (rule : RuleId) → event ≡ DoneOk rule
+    → (m.around new).log ≡ (m.around old).log ++ Finished rule.0 Done ∷ []
+
+-- where the plan is told of no rule that is done, no path has another record
+abbrev pub KeepsUnlessDone : Store → Store → PlanEvent → Type 0
+KeepsUnlessDone old new event = ((rule : RuleId) → event ≢ DoneOk rule) → map_of new ≡ map_of old

@@ -1,8 +1,10 @@
 //! What follows from the ending of an action.
-ghost use Rattle.std.specs.Prelude.{◌≡◌, ◌≤◌, ◌<◌, ◌+◌, ◌++◌, ◌∷◌, [], length};
+ghost use Rattle.std.specs.Prelude.{◌≡◌, ◌≢◌, ◌≤◌, ◌<◌, ◌+◌, ◌++◌, ◌∷◌, [], length};
 ghost use Rattle.build_run.specs.Goings.{Passes, Goes, IsJoined};
 ghost use Rattle.build_run.specs.Holds.{holds_in, without};
-ghost use Rattle.build_run.specs.Outs.{IsStored, PutsDone, PutsIfDone, PutsUnlessShut, TellsDone};
+ghost use Rattle.build_run.specs.Outs.{IsStored, KeepsUnlessDone, PutsDone, PutsIfDone, PutsUnlessShut, TellsDone, TellsOnlyDone};
+ghost use Rattle.scons_base.specs.declared.ids.RuleId.{RuleId};
+ghost use Rattle.sign_store.specs.Stores.{map_of};
 ghost use Rattle.world_api.specs.Around.{Finished};
 ghost use Rattle.build_run.specs.Ledgers.{ledger_of, EndKeeps, Settles, ErrSettles};
 ghost use Rattle.world_api.specs.Causes.{HasOutcomeCause};
@@ -40,7 +42,9 @@ pub(crate) fn take_ending<W: World, E: Sink>(
     ensures no_more { length tickets.new ≤ length tickets.old }
     ensures stored { IsStored W.meaning world.new store.new tickets.new account.new.is_store_shut }
     ensures done { TellsDone W.meaning world.old world.new result }
+    ensures only { TellsOnlyDone W.meaning world.old world.new result }
     ensures puts { PutsDone tickets.old store.old store.new account.new.is_store_shut result }
+    ensures kept { KeepsUnlessDone store.old store.new result }
 {
     let ended = wait(world, tickets);
     let Some(busy) = tickets.take(ended.id) else {
@@ -92,7 +96,9 @@ fn settle<W: World, E: Sink>(
     ensures around { W.meaning.tells world.new → W.meaning.around world.new ≡ W.meaning.around world.old }
     ensures stored { IsStored W.meaning world.new store.new tickets.now account.new.is_store_shut }
     ensures done { outcome ≡ Outcome.Done → result ≡ PlanEvent.DoneOk busy.hold.rule }
+    ensures only { (rule : RuleId) → result ≡ PlanEvent.DoneOk rule → outcome ≡ Outcome.Done }
     ensures puts { PutsIfDone store.old store.new busy account.new.is_store_shut result }
+    ensures kept { outcome ≢ Outcome.Done → map_of store.new ≡ map_of store.old }
 {
     let rule = busy.hold.rule;
     match outcome {

@@ -1,5 +1,7 @@
 use Rattle.std.proofs.Common.{refl}
 use Rattle.sign_store.proofs.Keeping.{stands_in}
+use Rattle.build_run.specs.Ledgers.{ledger_of}
+use Rattle.build_run.proofs.Causing.{disk_fault}
 use Rattle.build_run.proofs.Outs.{stored_withdrawn, stored_shut, withdrawn, ticket_still}
 use Rattle.build_run.proofs.clear.withdraw.Goals as goal
 
@@ -25,3 +27,6 @@ returns-in-Ok-clause-ticket g c = ticket_still c.args.store.now c.withdraw.new.s
 
 pub returns-in-Err-clause-stored : goal.returns-in-Err-clause-stored
 returns-in-Err-clause-stored g c = stored_shut g.W.Disk.meaning _ _ _ _ refl
+
+pub returns-in-Err-clause-keeps : goal.returns-in-Err-clause-keeps
+returns-in-Err-clause-keeps g c = λ start out err a. disk_fault start (ledger_of c.args.account.now) _ _ out err c.in-Err.ensures.rose a

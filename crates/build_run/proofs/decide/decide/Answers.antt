@@ -22,14 +22,14 @@ make-requires-clause-stored g c =
     let looks = c.present.ensures.looks in
     stored_over g.W.Disk.meaning _ _ c.args.store.now c.args.tickets.now c.args.account.now.is_store_shut looks.told.told looks.banks c.requires.stored
 
-pub returns-in_err-report_missing-clause-stored : goal.returns-in_err-report_missing-clause-stored
-returns-in_err-report_missing-clause-stored g c =
+pub returns-in_err-report_missing-in-Lacks-clause-stored : goal.returns-in_err-report_missing-in-Lacks-clause-stored
+returns-in_err-report_missing-in-Lacks-clause-stored g c =
     let looks = c.present.ensures.looks in
     stored_alike g.W.Disk.meaning _ c.args.store.now _ _ _ _ refl c.report_missing.ensures.shut
     (stored_over g.W.Disk.meaning _ _ c.args.store.now c.args.tickets.now c.args.account.now.is_store_shut looks.told.told looks.banks c.requires.stored)
 
-pub returns-in-Lacks-clause-stored : goal.returns-in-Lacks-clause-stored
-returns-in-Lacks-clause-stored g c =
+pub returns-in_ok-report_missing-in-Lacks-clause-stored : goal.returns-in_ok-report_missing-in-Lacks-clause-stored
+returns-in_ok-report_missing-in-Lacks-clause-stored g c =
     let looks = c.present.ensures.looks in
     stored_alike g.W.Disk.meaning _ c.args.store.now _ _ _ _ refl c.report_missing.ensures.shut
     (stored_over g.W.Disk.meaning _ _ c.args.store.now c.args.tickets.now c.args.account.now.is_store_shut looks.told.told looks.banks c.requires.stored)

@@ -14,8 +14,8 @@ returns-in_err-is_stale-clause-stored g c =
     let looks = c.is_stale.ensures.looks in
     stored_over g.W.Disk.meaning _ _ c.args.store.now c.args.tickets.now c.args.account.now.is_store_shut looks.told.told looks.banks c.requires.stored
 
-pub returns-then-not-is_stale-clause-stored : goal.returns-then-not-is_stale-clause-stored
-returns-then-not-is_stale-clause-stored g c =
+pub returns-then-not-branch-clause-stored : goal.returns-then-not-branch-clause-stored
+returns-then-not-branch-clause-stored g c =
     let looks = c.is_stale.ensures.looks in
     stored_over g.W.Disk.meaning _ _ c.args.store.now c.args.tickets.now c.args.account.now.is_store_shut looks.told.told looks.banks c.requires.stored
 

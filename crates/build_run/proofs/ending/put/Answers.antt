@@ -7,10 +7,10 @@ use Rattle.build_run.proofs.Outs.{stored_put, stored_shut}
 use Rattle.build_run.proofs.ending.put.Goals as goal
 
 pub put-requires-clause-live : goal.put-requires-clause-live
-put-requires-clause-live g c = c.requires.live c.if-account-is_store_shut.false
+put-requires-clause-live g c = c.requires.live c.if-account.false
 
 pub put-requires-clause-stands : goal.put-requires-clause-stands
-put-requires-clause-stands g c = stands_in g.W.Disk.meaning c.args.world.now c.args.store.now (g.met.W.Disk.reads_as c.args.world.now) (c.requires.kept c.if-account-is_store_shut.false)
+put-requires-clause-stands g c = stands_in g.W.Disk.meaning c.args.world.now c.args.store.now (g.met.W.Disk.reads_as c.args.world.now) (c.requires.kept c.if-account.false)
 
 pub returns-in-Ok-clause-stored : goal.returns-in-Ok-clause-stored
 returns-in-Ok-clause-stored g c =
@@ -19,11 +19,11 @@ returns-in-Ok-clause-stored g c =
 pub returns-in-Ok-clause-puts : goal.returns-in-Ok-clause-puts
 returns-in-Ok-clause-puts g c = λ unshut. c.in-Ok.ensures.map
 
-pub returns-in-Err-clause-keeps : goal.returns-in-Err-clause-keeps
-returns-in-Err-clause-keeps g c = λ start out a. c.end.ensures.keeps start _ out (disk_fault start (ledger_of c.args.account.now) _ _ out _ c.in-Err.ensures.rose a)
+pub returns-clause-keeps : goal.returns-clause-keeps
+returns-clause-keeps g c = λ start out a. c.end.ensures.keeps start _ out (disk_fault start (ledger_of c.args.account.now) _ _ out _ c.in-Err.ensures.rose a)
 
-pub returns-in-Err-clause-stored : goal.returns-in-Err-clause-stored
-returns-in-Err-clause-stored g c = stored_shut g.W.Disk.meaning _ _ _ _ c.end.ensures.shut
+pub returns-clause-stored : goal.returns-clause-stored
+returns-clause-stored g c = stored_shut g.W.Disk.meaning _ _ _ _ c.end.ensures.shut
 
-pub returns-in-Err-clause-puts : goal.returns-in-Err-clause-puts
-returns-in-Err-clause-puts g c = λ unshut. absurd (false≢true (sym unshut ∙ c.end.ensures.shut))
+pub returns-clause-puts : goal.returns-clause-puts
+returns-clause-puts g c = λ unshut. absurd (false≢true (sym unshut ∙ c.end.ensures.shut))

@@ -1,6 +1,8 @@
-use Rattle.std.proofs.Common.{◌≡◌, ◌∙◌, ◌++◌, ◌∷◌, [], ap, length, sym, arith}
+use Rattle.std.proofs.Common.{◌≡◌, ◌∙◌, ◌++◌, ◌∷◌, [], ap, length, refl, sym, arith}
 use Rattle.world_api.specs.Around.{Around, Finished}
 use Rattle.world_api.specs.declared.job.Outcome.TheVariants.{Done}
+use Rattle.world_api.specs.declared.job.Outcome.{Outcome}
+use Rattle.scons_base.specs.declared.ids.RuleId.{RuleId}
 use Rattle.build_run.specs.Holds.{holds_in}
 use Rattle.build_run.specs.Ledgers.{Ledger, ledger_of}
 use Rattle.build_run.proofs.Holding.{no_more}
@@ -36,8 +38,14 @@ returns-in_default-clause-done g c = λ told id log.
     let fewer = c.wait-ended.ensures.fewer told in
     absurd (omega (arith, fewer, ap length c.take.ensures.left, held_count c.take.new.self, ap length c.in_default.ensures.none))
 
+pub returns-in_default-clause-only : goal.returns-in_default-clause-only
+returns-in_default-clause-only g c = λ told rule e. absurd cc
+
 pub returns-in_default-clause-puts : goal.returns-in_default-clause-puts
 returns-in_default-clause-puts g c = λ rule e. absurd cc
+
+pub returns-in_default-clause-kept : goal.returns-in_default-clause-kept
+returns-in_default-clause-kept g c = λ other. refl
 
 pub returns-clause-no_more : goal.returns-clause-no_more
 returns-clause-no_more g c =
@@ -69,3 +77,18 @@ pub returns-clause-puts : goal.returns-clause-puts
 returns-clause-puts g c = λ rule e.
     let put = c.settle.ensures.puts rule e in
     record { busy = c.in-Some.busy; among = c.in-Some.ensures.among; own = put.0; puts = put.1 }
+
+pub returns-clause-only : goal.returns-clause-only
+returns-clause-only g c = λ told rule e.
+    let m = g.W.Disk.meaning in
+    let ended = c.wait-ended.result in
+    let before = (m.around c.args.world.now).log in
+    let told_then = c.settle.ensures.goes.passes.told.told told in
+    let own : ended.id ≡ rule.0 = sym c.in-Some.ensures.rule ∙ ap (λ (r : RuleId). r.0) (c.settle.ensures.puts rule e).0 in
+    ap (λ (around : Around). around.log) (c.settle.ensures.around told)
+    ∙ (c.wait-ended.ensures.log told_then
+    ∙ (ap (λ id. before ++ Finished id ended.outcome ∷ []) own
+    ∙ ap (λ (outcome : Outcome). before ++ Finished rule.0 outcome ∷ []) (c.settle.ensures.only rule e)))
+
+pub returns-clause-kept : goal.returns-clause-kept
+returns-clause-kept g c = λ other. c.settle.ensures.kept (λ done. other c.in-Some.busy.hold.rule (c.settle.ensures.done done))

@@ -10,8 +10,8 @@ use Rattle.build_run.proofs.Causing.{exit_same, exit_inside, inside, shut_fault}
 use Rattle.build_run.proofs.Outs.{own_room, stored_prepared, stored_beside, stored_added}
 use Rattle.build_run.proofs.start.start.Goals as goal
 
-pub returns-then-account-is_store_shut-clause-ends : goal.returns-then-account-is_store_shut-clause-ends
-returns-then-account-is_store_shut-clause-ends g c = λ start err a. shut_fault start (ledger_of c.args.account.now) _ c.if-account-is_store_shut.true a
+pub returns-then-account-clause-ends : goal.returns-then-account-clause-ends
+returns-then-account-clause-ends g c = λ start err a. shut_fault start (ledger_of c.args.account.now) _ c.if-account.true a
 
 pub returns-in_err-text-clause-ends : goal.returns-in_err-text-clause-ends
 returns-in_err-text-clause-ends g c = λ start err a. exit_inside start (ledger_of c.args.account.now) _ _ err c.from_residual.result c.from_residual.ensures.1 a
@@ -29,19 +29,19 @@ returns-in_err-ticket-clause-ends g c = λ start err a.
 
 pub returns-in_err-ticket-clause-stored : goal.returns-in_err-ticket-clause-stored
 returns-in_err-ticket-clause-stored g c =
-    let p = c.prepare-ticket.ensures in
-    stored_prepared g.W.Disk.meaning _ c.args.store.now c.prepare-ticket.new.store c.args.tickets.now c.args.account.now.is_store_shut p.live p.banks p.map p.outs c.requires.stored
+    let p = c.prepare.ensures in
+    stored_prepared g.W.Disk.meaning _ c.args.store.now c.prepare.new.store c.args.tickets.now c.args.account.now.is_store_shut p.live p.banks p.map p.outs c.requires.stored
 
 pub launch-requires-clause-stored : goal.launch-requires-clause-stored
 launch-requires-clause-stored g c =
-    let p = c.prepare-ticket.ensures in
-    stored_prepared g.W.Disk.meaning _ c.args.store.now c.prepare-ticket.new.store c.args.tickets.now c.args.account.now.is_store_shut p.live p.banks p.map p.outs c.requires.stored
+    let p = c.prepare.ensures in
+    stored_prepared g.W.Disk.meaning _ c.args.store.now c.prepare.new.store c.args.tickets.now c.args.account.now.is_store_shut p.live p.banks p.map p.outs c.requires.stored
 
 pub launch-requires-clause-ticket : goal.launch-requires-clause-ticket
 launch-requires-clause-ticket g c = record { rec = c.args.now; out = c.in_ok-ticket.ensures.out; same = sym c.in_ok-job.ensures }
 
 pub launch-requires-clause-room : goal.launch-requires-clause-room
-launch-requires-clause-room g c = own_room c.args.store.now c.in_ok-ticket.ticket c.args.tickets.now c.in_ok-ticket.ensures.fresh (c.requires.stored.outs c.if-account-is_store_shut.false)
+launch-requires-clause-room g c = own_room c.args.store.now c.in_ok-ticket.ticket c.args.tickets.now c.in_ok-ticket.ensures.fresh (c.requires.stored.outs c.if-account.false)
 
 pub returns-in-Ok-clause-joined : goal.returns-in-Ok-clause-joined
 returns-in-Ok-clause-joined g c =
@@ -55,7 +55,7 @@ returns-in-Ok-clause-stored g c =
     let busies = c.args.tickets.now in
     let new : Busy = record { hold = c.in_ok-hold.hold; ticket = c.in_ok-ticket.ticket } in
     let apart = c.are_apart.ensures c.if-not-are_apart.false in
-    let own = own_room c.args.store.now new.ticket busies c.in_ok-ticket.ensures.fresh (c.requires.stored.outs c.if-account-is_store_shut.false) in
+    let own = own_room c.args.store.now new.ticket busies c.in_ok-ticket.ensures.fresh (c.requires.stored.outs c.if-account.false) in
     let shut = c.launch.new.account.is_store_shut in
     subst (λ (all : List Busy). IsStored m c.launch.new.world c.launch.new.store all shut) (sym c.add.ensures)
     (stored_added m c.launch.new.world c.launch.new.store new busies shut
@@ -63,8 +63,8 @@ returns-in-Ok-clause-stored g c =
     (λ hold path among here there. (apart hold among).made path (subst (λ (h : Hold). Contains h.targets path) c.in_ok-hold.ensures here) there)
     c.launch.ensures.stored)
 
-pub returns-in-Err-clause-stored : goal.returns-in-Err-clause-stored
-returns-in-Err-clause-stored g c =
-    let own = own_room c.args.store.now c.in_ok-ticket.ticket c.args.tickets.now c.in_ok-ticket.ensures.fresh (c.requires.stored.outs c.if-account-is_store_shut.false) in
+pub returns-clause-stored : goal.returns-clause-stored
+returns-clause-stored g c =
+    let own = own_room c.args.store.now c.in_ok-ticket.ticket c.args.tickets.now c.in_ok-ticket.ensures.fresh (c.requires.stored.outs c.if-account.false) in
     stored_beside g.W.Disk.meaning c.launch.new.world c.launch.new.store c.give_up.new.store c.in_ok-ticket.ticket c.args.tickets.now c.launch.new.account.is_store_shut c.give_up.ensures.live c.give_up.ensures.banks c.give_up.ensures.map
     c.give_up.ensures.outs (λ unshut. own) c.launch.ensures.stored
