@@ -1,5 +1,5 @@
 -- What was at fault outside while scripts ran: it is told by how they ended.
-use Rattle.std.proofs.Common.{◌≡◌, ◌≢◌, subst, refl, ℕ, Result, Ok, Err}
+use Rattle.std.proofs.Common.{◌≡◌, ◌≢◌, subst, ℕ, Result, Ok, Err}
 use Rattle.std.specs.Prelude.{Option}
 use Rattle.py_host.specs.Lent.{lent}
 use Rattle.py_host.proofs.Lending.{lent_simulates}
@@ -18,11 +18,12 @@ use Rattle.py_eval.specs.Answers.{IsFound}
 use Rattle.py_eval.specs.declared.scripts.Ran.{Ran}
 use Rattle.world_api.specs.Meaning.{Meaning}
 use Rattle.world_api.specs.Printed.{SinkMeaning}
-use Rattle.scons_host.specs.Causes.{Outside}
+use Rattle.scons_host.specs.Causes.{Outside, outside}
 use Rattle.scons_host.specs.Reading.{Seen, outside_of, Keeps, Serves, Refuses, reading}
 use Rattle.scons_host.specs.Running.{HasKindCause, HasFaultCause, HasRunCause}
 use Rattle.scons_host.specs.Laws.{serves_same, serves_joined, refuses_after}
 use Rattle.scons_host.specs.declared.end.HostEnd.{HostEnd}
+use Rattle.scons_host.specs.declared.host.ReadingHost.{ReadingHost}
 
 module _ {W S : Type 0} (m : Meaning W) (p : SinkMeaning S) where
   abbrev CarriedKind : EvalKind → Seen W S → Seen W S → Type 0
@@ -82,6 +83,14 @@ module _ {W S : Type 0} (m : Meaning W) (p : SinkMeaning S) where
   run_caused see held t o u h h2 (Err (fault.At script line k)) found keeps = kind_caused k (see h) (see h2) (carried (simulated (lent_simulates see held (reading m p)) found))
   run_caused see held t o u h h2 (Err fault.Memory) found keeps = record { counts = keeps.looks.counts; out = keeps.prints.faults }
 
+  -- what was lent to the host is what it held in the end
+  pub run_given : {T : Type 0} (old : Outside) (h : ReadingHost W S) (world : W) (out : S) (kept : Option HostEnd) (r : Result T EvalFault)
+      → h.world.now ≡ world → h.out.now ≡ out → h.kept.now.end ≡ kept → HasRunCause old (outside m p h.world.now h.out.now) h.kept.now.end r → HasRunCause old (outside m p world out) kept r
+  run_given old h world out kept r w o k cause =
+      subst (λ (x : W). HasRunCause old (outside m p x out) kept r) w
+      (subst (λ (x : S). HasRunCause old (outside m p h.world.now x) kept r) o
+      (subst (λ (x : Option HostEnd). HasRunCause old (outside m p h.world.now h.out.now) x r) k cause))
+
 -- with a fault of the scripts' own nothing was at fault
 pub own_kind : (old new : Outside) (kept : Option HostEnd) (k : EvalKind) → k ≢ kind.Host → HasKindCause old new kept k → new ≡ old
 own_kind old new kept kind.Host not cause = absurd (not cc)
@@ -90,14 +99,3 @@ own_kind old new kept (kind.Value e) not cause = cause
 own_kind old new kept kind.Args not cause = cause
 own_kind old new kept kind.NotCallable not cause = cause
 own_kind old new kept kind.Depth not cause = cause
-
--- what an end of the scripts says, case by case
-pub run_well : (old new : Outside) (kept : Option HostEnd) (r : Result Ran EvalFault) → HasRunCause old new kept r → (x : Ran) → r ≡ Ok x → new ≡ old
-run_well old new kept r h x is = subst (λ (y : Result Ran EvalFault). HasRunCause old new kept y) is h
-
-pub run_faulty : (old new : Outside) (kept : Option HostEnd) (r : Result Ran EvalFault) → HasRunCause old new kept r → (e : EvalFault) → r ≡ Err e → HasFaultCause old new kept e
-run_faulty old new kept r h e is = subst (λ (y : Result Ran EvalFault). HasRunCause old new kept y) is h
-
-pub run_told : {T : Type 0} (old new : Outside) (kept : Option HostEnd) (r : Result T EvalFault) → ((x : T) → r ≡ Ok x → new ≡ old) → ((e : EvalFault) → r ≡ Err e → HasFaultCause old new kept e) → HasRunCause old new kept r
-run_told old new kept (Ok x) well faulty = well x refl
-run_told old new kept (Err e) well faulty = faulty e refl

@@ -1,5 +1,7 @@
+use Rattle.std.proofs.Common.{rules}
+use Rattle.py_tree.specs.Tree.{script_tree}
 use Rattle.scons_host.specs.Seeing.{seen_of, held_of}
-use Rattle.scons_host.proofs.Carrying.{run_caused, run_well, run_faulty, run_told}
+use Rattle.scons_host.proofs.Carrying.{run_caused, run_given}
 use Rattle.scons_host.proofs.reading.run_kept.Goals as goal
 
 pub returns-clause-cause : goal.returns-clause-cause
@@ -7,5 +9,6 @@ returns-clause-cause g c =
     let m = g.W.Disk.meaning in
     let p = g.O.Sink.meaning in
     let e = c.run.ensures in
-    let h = run_caused m p seen_of held_of _ _ _ _ _ c.run.result e.found e.keeps.1 in
-    run_told _ _ _ c.run.result (run_well _ _ _ c.run.result h) (run_faulty _ _ _ c.run.result h)
+    let host = c.run.new.host in
+    let caused = run_caused m p seen_of held_of (script_tree c.args.script.now) c.args.heap c.new.result _ host c.run.result e.found e.keeps.1 in
+    run_given m p _ host _ _ _ c.run.result (search rules) (search rules) (search rules) caused

@@ -1,16 +1,7 @@
-use Rattle.std.proofs.Common.{◌≡◌, ◌∙◌, subst, sym}
-use Rattle.std.specs.Prelude.{Result, Ok, Err, IsErrAnd}
-use Rattle.world_api.specs.Counts.{Counts}
+use Rattle.std.proofs.Common.{◌∙◌}
 use Rattle.world_api.proofs.Looking.{files_joined}
-use Rattle.scons_host.specs.Causes.{HasStopCause, HasLookCause, IsInside}
-use Rattle.scons_host.specs.Looking.{inside}
-use Rattle.scons_host.specs.declared.stop.Stop.{Stop}
+use Rattle.scons_host.proofs.Exits.{inside_exit}
 use Rattle.scons_host.proofs.scripts.opened.Goals as goal
-
--- the exit of a `?` with a stop for which nothing outside is at fault
-inside_exit : {T : Type 0} (a b : Counts) (r : Result T Stop) (s : Stop) → IsErrAnd r (λ x. x ≡ s) → b ≡ a → IsInside s → HasLookCause a b r
-inside_exit a b (Ok value) s is same i = absurd is
-inside_exit a b (Err x) s is same i = subst (HasStopCause a b) (sym is) (inside a b s same i)
 
 pub returns-in_err-bytes-clause-looks : goal.returns-in_err-bytes-clause-looks
 returns-in_err-bytes-clause-looks g c = files_joined g.W.Disk.meaning c.args.world.now c.loop-path.world c.read.new.world c.loop-path.invariant.looks c.read.ensures.looks
