@@ -4,7 +4,9 @@ use Rattle.py_meaning.specs.declared.fault.EvalFault.{EvalFault}
 use Rattle.py_meaning.specs.declared.fault.EvalFault.TheVariants as fault
 use Rattle.py_meaning.specs.declared.fault.EvalKind.{EvalKind}
 use Rattle.py_meaning.specs.declared.fault.EvalKind.TheVariants as kind
-use Rattle.scons_host.specs.Causes.{Outside, IsLater, HasKeptCause}
+use Rattle.world_api.specs.Meaning.{Meaning}
+use Rattle.world_api.specs.Printed.{SinkMeaning}
+use Rattle.scons_host.specs.Causes.{Outside, outside, IsLater, HasKeptCause}
 use Rattle.scons_host.specs.declared.end.HostEnd.{HostEnd}
 
 -- what is kept of the host's refusal has its cause; with a fault of the scripts' own nothing was at fault
@@ -20,3 +22,7 @@ HasFaultCause old new kept fault.Memory = IsLater old new
 abbrev pub HasRunCause : {T : Type 0} → Outside → Outside → Option HostEnd → Result T EvalFault → Type 0
 HasRunCause old new kept (Ok value) = new ≡ old
 HasRunCause old new kept (Err e) = HasFaultCause old new kept e
+
+-- the same of scripts over a world and a sink
+abbrev pub ScriptsCause : {W O T : Type 0} → Meaning W → SinkMeaning O → W → O → W → O → Option HostEnd → Result T EvalFault → Type 0
+ScriptsCause m o world out new_world new_out kept result = HasRunCause (outside m o world out) (outside m o new_world new_out) kept result

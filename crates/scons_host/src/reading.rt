@@ -1,6 +1,6 @@
 //! The reading of all scripts, from the words of the command line to a graph.
-ghost use Rattle.scons_host.specs.Causes.{Outside, outside, HasStopCause, HasLookCause, HasEndCause, HasCause, HasKeptCause, IsEndOf, IsOwn, EndsLook, ReadingCauses, WorldCauses};
-ghost use Rattle.scons_host.specs.Running.{HasFaultCause, HasRunCause};
+ghost use Rattle.scons_host.specs.Causes.{Outside, HasStopCause, HasLookCause, HasEndCause, HasCause, HasKeptCause, IsEndOf, IsOwn, EndsLook, ReadingCauses, WorldCauses};
+ghost use Rattle.scons_host.specs.Running.{HasFaultCause, HasRunCause, ScriptsCause};
 ghost use Rattle.world_api.specs.Looks.{LooksAtFiles};
 ghost use Rattle.scons_host.specs.Prints.{Prints};
 ghost use Rattle.world_api.specs.Counts.{Counts};
@@ -236,7 +236,7 @@ fn run_kept<W: World, O: Sink>(
 ) -> Result<Ran, EvalFault>
     ensures looks { LooksAtFiles W.meaning world.old world.new }
     ensures prints { Prints O.meaning out.old out.new }
-    ensures cause { HasRunCause (outside W.meaning O.meaning world.old out.old) (outside W.meaning O.meaning world.new out.new) kept.new.end result }
+    ensures cause { ScriptsCause W.meaning O.meaning world.old out.old world.new out.new kept.new.end result }
 {
     let mut host = ReadingHost {
         world,
