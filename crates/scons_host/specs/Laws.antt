@@ -1,5 +1,5 @@
 -- The host of scripts keeps what every host keeps to.
-use Rattle.std.specs.Prelude.{◌≡◌, ◌≤◌, ◌+◌, ◌-◌, ℕ, List, [], ◌++◌, Option, Some, None, min, Result, Ok, Err, OnOk, OnErr}
+use Rattle.std.specs.Prelude.{◌≡◌, ◌≤◌, ℕ, List, [], ◌++◌, Option, Some, None, Result, Ok, Err, OnOk, OnErr}
 use Rattle.std.proofs.Common.{arith, refl, sym, ap, subst, ◌∙◌, append_assoc, append-nil}
 use Rattle.py_host.specs.Calls.{Answered, answers, refuses}
 use Rattle.py_host.specs.Meaning.{IsKept, IsDetermined}
@@ -14,7 +14,7 @@ use Rattle.scons_host.specs.declared.end.HostEnd.TheVariants as end
 use Rattle.scons_host.specs.declared.kept.Kept.{Kept}
 use Rattle.scons_host.specs.declared.stop.Stop.{Stop}
 use Rattle.scons_host.specs.declared.stop.Stop.TheVariants as stop
-use Rattle.scons_host.specs.Causes.{Outside, at_counts, outside, HasStopCause, HasLookCause, HasEndCause, HasCause, IsOwn, IsEndOf, KeepsEnd, HasKeptCause}
+use Rattle.scons_host.specs.Causes.{Outside, at_counts, HasStopCause, HasLookCause, HasEndCause, HasCause, IsOwn, IsEndOf, KeepsEnd, HasKeptCause}
 use Rattle.world_api.specs.Looks.{LooksAtFiles}
 use Rattle.scons_host.specs.Prints.{Prints}
 use Rattle.scons_host.specs.Reading.{Seen, seen, outside_of, Keeps, Serves, Refuses, Does, reading}
