@@ -101,6 +101,7 @@ fn prepared(alloc: Global, envs: &mut Envs, env: EnvId, what: &str, size: u32) -
         "references" => references(alloc, envs, env, size),
         "names" => names(alloc, envs, env, size),
         "named_items" => named_items(alloc, envs, env, size),
+        "called_items" => called_items(alloc, envs, env, size),
         "dollars" => repeated(alloc, "$$", size),
         "marks" => repeated(alloc, "$(a$)", size),
         "calls" => calls(alloc, envs, env, size, true),
@@ -145,6 +146,20 @@ fn named_items(alloc: Global, envs: &mut Envs, env: EnvId, size: u32) -> Option<
 {
     let items = many(alloc, "a$$", size)?;
     named(alloc, envs, env, size, EnvValue::List(items))
+}
+
+/// A call over so many items, each of which is read apart, of a list with a name of so many characters.
+fn called_items(alloc: Global, envs: &mut Envs, env: EnvId, size: u32) -> Option<String>
+    requires { env.0 < length envs.old }
+    ensures { IfSome result (λ _. env.0 < length envs.new) }
+{
+    let items = many(alloc, "a$E", size)?;
+    let name = repeated(alloc, "N", size)?;
+    envs.set(env, name.as_str(), EnvValue::List(items)).ok()?;
+    let mut text = String::from_str(alloc, "${_concat(P, ").ok()?;
+    text.push_str(name.as_str()).ok()?;
+    text.push_str(", S, __env__)}").ok()?;
+    Some(text)
 }
 
 /// A variable with a name of so many characters.

@@ -9,3 +9,4 @@ pub mod Shown
 pub mod EntrySteps
 pub mod CharCuts
 pub mod Spelled
+pub mod Layers

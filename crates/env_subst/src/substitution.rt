@@ -25,7 +25,7 @@ use scons_base::{EnvId, Memory, Text};
 use std::alloc::Global;
 
 /// How many tasks there is room for at first.
-const TASKS: usize = 16;
+const TASKS: usize = 8;
 
 /// The form of what a text of an environment stands for.
 pub fn subst(

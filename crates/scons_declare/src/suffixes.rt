@@ -17,9 +17,18 @@ pub(crate) fn affixes_of(
     prefix: &str,
     suffix: &str,
 ) -> Result<Affixes, NameFault> {
-    let prefix = state.envs.subst(env, prefix, &state.locals, Mode::Text)?;
-    let suffix = state.envs.subst(env, suffix, &state.locals, Mode::Text)?;
-    Ok(Affixes { prefix, suffix })
+    Ok(Affixes {
+        prefix: affix_of(state, env, prefix)?,
+        suffix: affix_of(state, env, suffix)?,
+    })
+}
+
+/// A `Command` has neither, so an empty text is common.
+fn affix_of(state: &Declarations, env: EnvId, text: &str) -> Result<Text, NameFault> {
+    if text.is_empty() {
+        return Ok(Text::of(state.alloc, "")?);
+    }
+    Ok(state.envs.subst(env, text, &state.locals, Mode::Text)?)
 }
 
 /// A suffix as a builder was given it, with a dot where it begins with a letter.

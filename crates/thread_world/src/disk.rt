@@ -5,15 +5,16 @@ use crate::world::ThreadWorld;
 use world_api::{Bank, Disk, Fault};
 
 impl<T, G> Disk for ThreadWorld<T, G> {
-    ghost use Rattle.std.specs.Prelude.{◌≢◌, ◌^◌, [], IsOk, IsErr, IfOk, OnOk, OnErr, slice_range};
+    ghost use Rattle.std.specs.Prelude.{◌≢◌, ◌^◌, [], IsOk, IsErr, IfOk, OnOk, OnErr};
     ghost use Rattle.mem_banks.specs.AsStore.{store_of};
     ghost use Rattle.mem_banks.specs.Past.{synced};
-    ghost use Rattle.world_api.specs.Banks.{Holds, Torn, Follows};
+    ghost use Rattle.world_api.specs.Banks.{Holds};
     ghost use Rattle.world_api.specs.Causes.{DiskFails};
     ghost use Rattle.world_api.specs.Meaning.{IsSettled, Told, Recalls, BankKept, BanksKept, Throughout, AtEither};
     ghost use Rattle.world_mem.specs.EachCall.{DiskCall};
     ghost use Rattle.world_mem.specs.Laws.{reads_as_of, counts_now_of, only_now_of};
-    ghost use Rattle.world_mem.specs.Refuses.{Writes};
+    ghost use Rattle.world_mem.specs.Means.{tells, seen_in, AreReadAt};
+    ghost use Rattle.world_mem.specs.Refuses.{IsCutAt, IsTornAt, Writes};
     ghost use Rattle.world_mem.specs.Room.{recorded, HasRoom};
     ghost use Rattle.world_mem.specs.declared.calls.Call.{Call};
     ghost use Rattle.thread_world.specs.Means.{thread_meaning};
@@ -44,7 +45,7 @@ impl<T, G> Disk for ThreadWorld<T, G> {
 
     fn read_at(&mut self, bank: Bank, place: u64, into: &mut [u8]) -> Result<(), Fault>
         requires { thread_meaning.tells self.old → place + length into.old ≤ length (thread_meaning.seen self.old bank) }
-        ensures read { thread_meaning.tells self.new → OnOk result (into.new ≡ slice_range (thread_meaning.seen self.new bank) place (place + length into.old)) }
+        ensures read { tells self.new.world → OnOk result (AreReadAt bank place (length into.old) self.new.world into.new) }
         ensures banks { thread_meaning.tells self.new → BanksKept thread_meaning self.old self.new }
         ensures around { thread_meaning.tells self.new → thread_meaning.around self.new ≡ thread_meaning.around self.old }
         ensures told { Told thread_meaning self.old self.new }
@@ -62,9 +63,10 @@ impl<T, G> Disk for ThreadWorld<T, G> {
     fn write_at(&mut self, bank: Bank, place: u64, bytes: &[u8]) -> Result<(), Fault>
         requires within { thread_meaning.tells self.old → place ≤ length (thread_meaning.seen self.old bank) }
         requires small { place + length bytes.now ≤ 2 ^ 41 }
-        ensures written { thread_meaning.tells self.new → OnOk result (Holds (thread_meaning.seen self.old bank) place bytes.now (thread_meaning.seen self.new bank)) }
-        ensures cut { thread_meaning.tells self.new → OnErr result (Torn place (length bytes.now) (thread_meaning.seen self.old bank) (thread_meaning.seen self.new bank)) }
-        ensures image { thread_meaning.tells self.new → Follows (Torn place (length bytes.now)) (thread_meaning.image self.old bank) (thread_meaning.image self.new bank) }
+        ensures written { tells self.new.world
+            → OnOk result (Holds (seen_in self.old.world bank) place bytes.now (seen_in self.new.world bank)) }
+        ensures cut { tells self.new.world → OnErr result (IsCutAt place (length bytes.now) bank self.old.world self.new.world) }
+        ensures image { tells self.new.world → IsTornAt place (length bytes.now) bank self.old.world self.new.world }
         ensures other { thread_meaning.tells self.new → (other : Bank) → other ≢ bank → BankKept thread_meaning other self.old self.new }
         ensures around { thread_meaning.tells self.new → thread_meaning.around self.new ≡ thread_meaning.around self.old }
         ensures told { Told thread_meaning self.old self.new }

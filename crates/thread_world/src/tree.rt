@@ -12,7 +12,7 @@ impl<T: Wait, G: Gate> World for ThreadWorld<T, G> {
     ghost use Rattle.std.specs.Prelude.{[], List, None, Err, Contains, IsTrue, IsOk, IsErr, IfErr, IfSome, OnOk, OnErr};
     ghost use Rattle.scons_base.specs.Parts.{is_absolute};
     ghost use Rattle.world_api.specs.Around.{IsUnused};
-    ghost use Rattle.world_api.specs.Calls.{Asks, MakesDir, Removes, CanStart, IsClosed, IsOpen, Starts, Ends};
+    ghost use Rattle.world_api.specs.Calls.{Asks, MakesDir, Removes, CanStart, IsClosed, IsOpen, Ends};
     ghost use Rattle.world_api.specs.Causes.{TreeFails, StartFails, HasOutcomeCause};
     ghost use Rattle.world_api.specs.Meaning.{Told, Recalls, BanksKept, Throughout, Meanwhile};
     ghost use Rattle.world_api.specs.Reads.{IsOver, IsListing, kind_of, stamp_of};
@@ -24,6 +24,8 @@ impl<T: Wait, G: Gate> World for ThreadWorld<T, G> {
     ghost use Rattle.world_mem.specs.Held.{held_of};
     ghost use Rattle.world_mem.specs.Kept.{counts_of, tree_fault, start_fault};
     ghost use Rattle.world_mem.specs.Laws.{none_closed};
+    ghost use Rattle.world_mem.specs.Means.{tells, around_in};
+    ghost use Rattle.world_mem.specs.Ready.{StartsNow};
     ghost use Rattle.world_mem.specs.Room.{recorded};
     ghost use Rattle.world_mem.specs.declared.calls.Call.{Call};
     ghost use Rattle.thread_world.specs.Ends.{EndsOne};
@@ -118,7 +120,7 @@ impl<T: Wait, G: Gate> World for ThreadWorld<T, G> {
 
     fn make_dir(&mut self, path: &PathText) -> Result<(), AskRefusal>
         requires { IsClosed (thread_meaning.closed self.old) path.now → ⊥ }
-        ensures made { thread_meaning.tells self.new → OnOk result (MakesDir path.now (thread_meaning.around self.old) (thread_meaning.around self.new)) }
+        ensures made { tells self.new.world → OnOk result (MakesDir path.now (around_in self.old.world) (around_in self.new.world)) }
         ensures refused { thread_meaning.tells self.new → OnErr result (Asks (thread_meaning.around self.old) (thread_meaning.around self.new)) }
         ensures banks { thread_meaning.tells self.new → BanksKept thread_meaning self.old self.new }
         ensures told { Told thread_meaning self.old self.new }
@@ -154,7 +156,7 @@ impl<T: Wait, G: Gate> World for ThreadWorld<T, G> {
     fn start(&mut self, job: Job) -> Result<(), AskRefusal>
         requires free { thread_meaning.tells self.old → CanStart job (thread_meaning.around self.old) }
         requires reachable { IsOpen (thread_meaning.closed self.old) job }
-        ensures started { thread_meaning.tells self.new → OnOk result (Starts job (thread_meaning.counts self.old) (thread_meaning.around self.old) (thread_meaning.around self.new)) }
+        ensures started { tells self.new.world → OnOk result (StartsNow job self.old.world self.new.world) }
         ensures refused { thread_meaning.tells self.new → OnErr result (Asks (thread_meaning.around self.old) (thread_meaning.around self.new)) }
         ensures banks { thread_meaning.tells self.new → BanksKept thread_meaning self.old self.new }
         ensures told { Told thread_meaning self.old self.new }
@@ -176,7 +178,8 @@ impl<T: Wait, G: Gate> World for ThreadWorld<T, G> {
     /// Ends the job whose ending the pool has next, as that ending says.
     fn wait(&mut self) -> Ended
         requires { thread_meaning.tells self.old → (thread_meaning.around self.old).running ≢ [] }
-        ensures around { thread_meaning.tells self.new → Ends (thread_meaning.sure self.new) result (thread_meaning.around self.old) (thread_meaning.around self.new) }
+        ensures around { tells self.new.world
+            → Ends (thread_meaning.sure self.new) result (around_in self.old.world) (around_in self.new.world) }
         ensures banks { thread_meaning.tells self.new → BanksKept thread_meaning self.old self.new }
         ensures told { Told thread_meaning self.old self.new }
         ensures recalls { Recalls thread_meaning self.old self.new }

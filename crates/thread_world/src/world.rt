@@ -32,8 +32,7 @@ where
     G: Gate + Send + Sync + Drop + 'static,
 {
     ghost use Rattle.std.specs.Prelude.{[], ℕ, IfOk, IfErr, OnOk};
-    ghost use Rattle.world_mem.specs.Blocked.{IsRefused, IsFirstRefused};
-    ghost use Rattle.world_mem.specs.declared.refusal.NewRefusal.{NewRefusal};
+    ghost use Rattle.world_mem.specs.Blocked.{IsRefused, NamesFirst};
     ghost use Rattle.thread_world.specs.New.{IsNew};
 
     /// A world with these files in which nothing has run, and no worker yet.
@@ -47,7 +46,7 @@ where
         ensures fresh { IfOk result (λ made. IsNew files.items table made.world) }
         ensures out { IfOk result (λ made. out_of made.pool.out ≡ []) }
         ensures stand { OnOk result ((place : ℕ) → IsRefused files.items place → ⊥) }
-        ensures place { IfErr result (λ refusal. (place : ℕ) → refusal ≡ NewRefusal.Place place → IsFirstRefused files.items place) }
+        ensures place { IfErr result (NamesFirst files.items) }
     {
         let shared = SharedTable::new(alloc, table.copy()?)?;
         let world = MemWorld::new(alloc, files, table, Vec::new(alloc), Vec::new(alloc))?;
@@ -65,9 +64,9 @@ impl<T, G> ThreadWorld<T, G> {
     ghost use Rattle.std.specs.Prelude.{◌↔◌, ◌⊎◌, [], not, Err, IfOk, OnOk, OnErr, IsTrue};
     ghost use Rattle.mem_banks.specs.AsStore.{store_of};
     ghost use Rattle.mem_banks.specs.Past.{is_dirty};
-    ghost use Rattle.world_api.specs.Around.{IsRunningTarget, started_of};
+    ghost use Rattle.world_api.specs.Around.{started_of};
     ghost use Rattle.world_api.specs.Meaning.{IsSettled};
-    ghost use Rattle.world_mem.specs.Blocked.{IsBarred};
+    ghost use Rattle.world_mem.specs.Blocked.{IsKept};
     ghost use Rattle.world_mem.specs.ByHand.{Edits, Loses};
     ghost use Rattle.world_mem.specs.Files.{AreFiles};
     ghost use Rattle.world_mem.specs.Means.{world_meaning};
@@ -108,7 +107,7 @@ impl<T, G> ThreadWorld<T, G> {
     pub fn edit(&mut self, path: &PathText, bytes: &[u8]) -> Result<(), EditRefusal>
         ensures edited { OnOk result (Edits path.now bytes.now (around_of self.old.world.state) (around_of self.new.world.state)) }
         ensures same { OnErr result (Stays self.old.world self.new.world) }
-        ensures place { result ≡ Err EditRefusal.Place ↔ (IsRunningTarget (around_of self.old.world.state).running path.now ⊎ IsBarred (around_of self.old.world.state) path.now) }
+        ensures place { result ≡ Err EditRefusal.Place ↔ IsKept (around_of self.old.world.state) path.now }
         ensures anew { OnOk result (IsAnew self.new.world) }
         ensures stamps { OnOk result (Stamps (λ other. other ≡ path.now) self.old.world.state self.new.world.state) }
         ensures idle { (around_of self.old.world.state).running ≡ [] → (around_of self.new.world.state).running ≡ [] }
