@@ -20,11 +20,7 @@ use Rattle.world_api.specs.Meaning.{Meaning}
 use Rattle.world_api.specs.Printed.{SinkMeaning}
 use Rattle.scons_host.specs.Causes.{Outside, outside}
 use Rattle.scons_host.specs.Reading.{Seen, outside_of, Keeps, Serves, Refuses, reading}
-<<<<<<< HEAD
-use Rattle.scons_host.specs.Running.{HasKindCause, HasFaultCause, HasRunCause}
-=======
 use Rattle.scons_host.specs.Running.{HasKindCause, HasRunCause}
->>>>>>> b7c8acfb555cb7bfb8bd60138f3132a82e8330db
 use Rattle.scons_host.specs.Laws.{serves_same, serves_joined, refuses_after}
 use Rattle.scons_host.specs.declared.end.HostEnd.{HostEnd}
 use Rattle.scons_host.specs.declared.host.ReadingHost.{ReadingHost}
