@@ -4,7 +4,7 @@ use Rattle.std.specs.Prelude.{All, Result, Ok, Err, IsErrAnd, IfErr, OnErr}
 use Rattle.std.proofs.lemmas.Bool.{false≢true}
 use Rattle.std.proofs.lemmas.List.Elements.{All-push, All-nil, All-cons, All-map, All-weaker, All-pop, Contains-append_left, Contains-push}
 use Rattle.scons_base.specs.Rising.{Rose}
-use Rattle.world_api.specs.Causes.{Later, TreeFails, DiskFails}
+use Rattle.world_api.specs.Causes.{TreeFails, DiskFails}
 use Rattle.world_api.specs.Counts.{Counts}
 use Rattle.world_api.specs.Looks.{IsTreeAlone}
 use Rattle.world_api.specs.Meaning.{Meaning}
