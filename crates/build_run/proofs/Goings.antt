@@ -11,9 +11,7 @@ use Rattle.world_api.specs.Meaning.{Meaning, Told}
 use Rattle.world_api.specs.declared.job.Job.{Job}
 use Rattle.world_api.specs.declared.job.Ended.{Ended}
 use Rattle.world_api.proofs.Moments.{tells_on}
-use Rattle.sign_store.specs.Stores.{KeepsBanks}
-use Rattle.sign_store.specs.declared.store.Store.{Store}
-use Rattle.build_run.specs.Goings.{Passes, Goes, Stays, IsJoined, IsStored, Leaves}
+use Rattle.build_run.specs.Goings.{Passes, Goes, Stays, IsJoined, Leaves}
 use Rattle.build_run.specs.Holds.{hold_for, hold_of, holds_of, without, KeepsApart, AreApart}
 use Rattle.build_run.specs.declared.tickets.Hold.{Hold}
 use Rattle.build_run.proofs.Holding.{apart_push, apart_without, without_middle}
@@ -51,18 +49,6 @@ stays_on m old mid new p q = record {
 -- the tickets say the same of the world after calls that start and end no job
 pub joined_on : {W : Type 0} (m : Meaning W) (old new : W) (holds : List Hold) → Goes m old new → IsJoined m old holds → IsJoined m new holds
 joined_on m old new holds p j = record { apart = j.apart; runs = λ t. ap holds_of (p.runs t) ∙ j.runs (p.passes.told.told t) }
-
--- a store that stood in the banks stands there still
-pub stored_on : {W : Type 0} (m : Meaning W) (old new : W) (store : Store) (shut : Bool) → Stays m old new → IsStored m old store shut → IsStored m new store shut
-stored_on m old new store shut p s = λ live t. record {
-  place = let was = (s live (p.goes.passes.told.told t)).place in subst (λ (bytes : List ℕ). store.end < length bytes) (sym (p.banks t store.bank).same) was;
-}
-
--- the store after a call without a disk
-pub stored_as : {W : Type 0} (m : Meaning W) (world : W) (old new : Store) (shut : Bool) → KeepsBanks old new → IsStored m world old shut → IsStored m world new shut
-stored_as m world old new shut p s = λ live t. record {
-  place = let was = (s live t).place in subst (λ bank. new.end < length (m.seen world bank)) (sym p.bank) (subst (λ (place : ℕ). place < length (m.seen world old.bank)) (sym p.end) was);
-}
 
 mapped : (running : List Running) (run : Running) → Contains running run → Contains (holds_of running) (hold_of run)
 mapped running run h = (h.0, rw length-map h.1, get_or-map hold_of running h.0 run (hold_of run) h.1 ∙ ap hold_of h.2)

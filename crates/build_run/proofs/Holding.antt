@@ -45,8 +45,8 @@ pub apart_without : (id : ℕ) (holds : List Hold) → AreApart holds → AreApa
 apart_without id [] apart = apart
 apart_without id (hold ∷ holds) apart = apart_by (hold.rule.0 == id) holds (without id holds) hold (left_in id holds) apart (apart_without id holds apart.1)
 
-in_pushed : (holds : List Hold) (x other : Hold) → Contains (holds ++ x ∷ []) other → Contains holds other ⊎ (x ≡ other)
-in_pushed holds x other h = Contains-push_cases holds x other h
+pub in_pushed : {X : Type 0} (xs : List X) (x other : X) → Contains (xs ++ x ∷ []) other → Contains xs other ⊎ (x ≡ other)
+in_pushed xs x other h = Contains-push_cases xs x other h
 
 pub apart_push : (holds : List Hold) (x : Hold) → AreApart holds → ((hold : Hold) → Contains holds hold → hold.rule.0 ≢ x.rule.0) → AreApart (holds ++ x ∷ [])
 apart_push [] x apart new = ((λ other h. absurd (omega (arith, h.1))), tt)
@@ -94,7 +94,7 @@ some_busy [] i lt = absurd (omega arith)
 some_busy (b ∷ bs) i lt = b
 
 -- a place is given only within the list
-within : (id : ℕ) (bs : List Busy) (i : ℕ) → position (has_id id) bs ≡ Some i → i < length bs
+pub within : (id : ℕ) (bs : List Busy) (i : ℕ) → position (has_id id) bs ≡ Some i → i < length bs
 within id bs i is = grind (arith, nat_tests)
 
 pub taken_at : (id : ℕ) (bs : List Busy) (i : ℕ) → position (has_id id) bs ≡ Some i → map of_busy (remove bs i) ≡ without id (map of_busy bs)

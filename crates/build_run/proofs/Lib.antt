@@ -1,4 +1,4 @@
 pub mod Holding
 pub mod Goings
 pub mod Causing
-pub mod Withdrawing
+pub mod Outs

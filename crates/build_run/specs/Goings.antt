@@ -1,10 +1,8 @@
 -- What goes on while a build makes its calls.
-use Rattle.std.specs.Prelude.{◌≡◌, ◌≢◌, Bool, false, ℕ, List, None, Contains, Result, OnOk}
+use Rattle.std.specs.Prelude.{◌≡◌, ◌≢◌, ℕ, List, None, Contains, Result, OnOk}
 use Rattle.world_api.specs.Around.{Around, IsRunningTarget, IsUnused}
 use Rattle.world_api.specs.Causes.{Later}
 use Rattle.world_api.specs.Meaning.{Meaning, Told, BanksKept}
-use Rattle.sign_store.specs.Stores.{IsStoredIn}
-use Rattle.sign_store.specs.declared.store.Store.{Store}
 use Rattle.build_run.specs.declared.tickets.Hold.{Hold}
 use Rattle.build_run.specs.Holds.{holds_of, AreApart}
 
@@ -27,10 +25,6 @@ pub record Stays {W : Type 0} (m : Meaning W) (old new : W) : Type 0 where
 pub record IsJoined {W : Type 0} (m : Meaning W) (world : W) (holds : List Hold) : Type 0 where
   pub apart : AreApart holds
   pub runs : m.tells world → holds_of (m.around world).running ≡ holds
-
--- the store stands in the banks, unless the disk has refused
-abbrev pub IsStored : {W : Type 0} → Meaning W → W → Store → Bool → Type 0
-IsStored m world store shut = shut ≡ false → m.tells world → IsStoredIn (m.seen world) store
 
 -- what was no file and isn't a target of a running job is none still
 abbrev pub Leaves : List ℕ → Around → Around → Type 0

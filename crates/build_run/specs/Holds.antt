@@ -2,6 +2,7 @@
 use Rattle.std.specs.Prelude.{◌≢◌, ◌==◌, ℕ, List, [], ◌∷◌, map, Contains, if◌then◌else◌}
 use Rattle.world_api.specs.declared.job.Job.{Job}
 use Rattle.world_api.specs.Around.{Running}
+use Rattle.build_run.specs.declared.tickets.Busy.{Busy}
 use Rattle.build_run.specs.declared.tickets.Hold.{Hold}
 
 abbrev pub hold_for : Job → Hold
@@ -13,6 +14,10 @@ hold_of run = hold_for run.job
 -- what the running jobs keep to themselves
 abbrev pub holds_of : List Running → List Hold
 holds_of running = map hold_of running
+
+-- what the rules of these tickets keep to themselves
+abbrev pub holds_in : List Busy → List Hold
+holds_in busies = map (λ busy. busy.hold) busies
 
 -- those that are left without the first of this number
 abbrev pub without : ℕ → List Hold → List Hold

@@ -3,3 +3,4 @@ pub mod Goings
 pub mod Causes
 pub mod Ledgers
 pub mod Withdrawals
+pub mod Outs

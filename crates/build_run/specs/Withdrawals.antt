@@ -1,17 +1,17 @@
 -- Before a job starts nothing is recorded of what it makes.
 use Rattle.std.specs.Prelude.{◌≡◌, ℕ, true, List, None}
-use Rattle.deciders.specs.declared.recorded.Rec.{Rec}
-use Rattle.sign_store.specs.Stores.{IsTicket, map_of}
-use Rattle.sign_store.specs.Tables.{is_among}
+use Rattle.world_api.specs.Banks.{Banks}
+use Rattle.world_api.specs.Meaning.{Meaning, IsImage}
+use Rattle.sign_store.specs.Ends.{image_in}
+use Rattle.sign_store.specs.Stores.{map_of}
+use Rattle.sign_store.specs.Tables.{Map, is_among}
 use Rattle.sign_store.specs.declared.store.Store.{Store}
-use Rattle.sign_store.specs.declared.ticket.Ticket.{Ticket}
 
--- the store has no record of any of these paths
-abbrev pub AreWithdrawn : Store → List (List ℕ) → Type 0
-AreWithdrawn store paths = (path : List ℕ) → is_among paths path ≡ true → map_of store path ≡ None
+-- none of these paths has a record
+abbrev pub HasNone : Map → List (List ℕ) → Type 0
+HasNone map paths = (path : List ℕ) → is_among paths path ≡ true → map path ≡ None
 
--- the store's ticket is for a record of these targets
-pub record IsTicketFor (store : Store) (ticket : Ticket) (targets : List (List ℕ)) : Type 0 where
-  pub rec : Rec
-  pub own : IsTicket store rec ticket
-  pub same : rec.targets ≡ targets
+-- none has one in the store, nor in any banks that a stop may leave now
+pub record AreWithdrawn {W : Type 0} (m : Meaning W) (world : W) (store : Store) (paths : List (List ℕ)) : Type 0 where
+  pub map : HasNone (map_of store) paths
+  pub images : m.tells world → (banks : Banks) → IsImage m world banks → HasNone (image_in banks) paths

@@ -1,8 +1,8 @@
 //! A build from its first look to its answer.
-ghost use Rattle.std.specs.Prelude.{◌≡◌, [], IfOk};
+ghost use Rattle.std.specs.Prelude.{◌≡◌, [], true, IfOk};
 ghost use Rattle.world_api.specs.Causes.{Later};
 ghost use Rattle.world_api.specs.Meaning.{Told};
-ghost use Rattle.sign_store.specs.Stores.{IsStoredIn};
+ghost use Rattle.sign_store.specs.Stores.{IsKept, is_live};
 ghost use Rattle.build_files.specs.Causes.{HasLookCause, IsQuiet};
 ghost use Rattle.build_run.specs.Causes.{BuildCauses, IsInner};
 ghost use Rattle.build_run.specs.Goings.{Stays};
@@ -56,7 +56,8 @@ pub fn build<W: World, O: Sink, E: Sink>(
 ) -> BuildEnd
     requires unclosed { W.meaning.closed world.old ≡ [] }
     requires idle { W.meaning.tells world.old → (W.meaning.around world.old).running ≡ [] }
-    requires stored { W.meaning.tells world.old → IsStoredIn (W.meaning.seen world.old) store.old }
+    requires live { is_live store.old ≡ true }
+    requires kept { IsKept W.meaning world.old store.old }
     ensures told { Told W.meaning world.old world.new }
     ensures later { Later (W.meaning.counts world.old) (W.meaning.counts world.new) }
     ensures idle { W.meaning.tells world.new → (W.meaning.around world.new).running ≡ [] }

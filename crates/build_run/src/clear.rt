@@ -1,11 +1,12 @@
 //! Clearing the way of an action: the directories of its targets stand, their records are withdrawn, and they are removed.
-ghost use Rattle.std.specs.Prelude.{◌≡◌, ℕ, List, [], None, Contains, OnOk};
-ghost use Rattle.build_run.specs.Goings.{Goes, Stays, IsJoined, IsStored, Leaves, AreGone, AreUnused};
+ghost use Rattle.std.specs.Prelude.{◌≡◌, [], None, false, Contains, OnOk};
+ghost use Rattle.build_run.specs.Goings.{Goes, Stays, IsJoined, Leaves, AreGone, AreUnused};
 ghost use Rattle.build_files.specs.Causes.{HasLookCause};
 ghost use Rattle.build_run.specs.Ledgers.{ledger_of, with_done, WorldKeeps};
-ghost use Rattle.build_run.specs.Holds.{KeepsApart};
+ghost use Rattle.build_run.specs.Holds.{holds_in, KeepsApart};
+ghost use Rattle.build_run.specs.Outs.{IsStored, IsTicketFor, HasOwnRoom};
 ghost use Rattle.build_run.specs.declared.tickets.Hold.{Hold};
-ghost use Rattle.build_run.specs.Withdrawals.{AreWithdrawn, IsTicketFor};
+ghost use Rattle.build_run.specs.Withdrawals.{AreWithdrawn};
 ghost use Rattle.world_api.specs.Around.{IsUnused};
 
 use crate::account::Account;
@@ -29,37 +30,44 @@ pub(crate) fn clear<W: World>(
     tickets: &Tickets,
 ) -> Result<(), ListEnd>
     requires unclosed { W.meaning.closed world.old ≡ [] }
-    requires joined { IsJoined W.meaning world.old tickets.now }
-    requires stored { IsStored W.meaning world.old store.old account.old.is_store_shut }
-    requires apart { (hold : Hold) → Contains tickets.now hold → KeepsApart job.now hold }
+    requires joined { IsJoined W.meaning world.old (holds_in tickets.now) }
+    requires unshut { account.old.is_store_shut ≡ false }
+    requires stored { IsStored W.meaning world.old store.old tickets.now account.old.is_store_shut }
+    requires apart { (hold : Hold) → Contains (holds_in tickets.now) hold → KeepsApart job.now hold }
+    requires ticket { IsTicketFor store.old ticket.now job.now.targets }
+    requires room { HasOwnRoom ticket.now tickets.now }
     ensures goes { Goes W.meaning world.old world.new }
     ensures keeps { WorldKeeps W.meaning world.old world.new (ledger_of account.old) (with_done (ledger_of account.new) result) }
-    ensures stored { IsStored W.meaning world.new store.new account.new.is_store_shut }
+    ensures stored { IsStored W.meaning world.new store.new tickets.now account.new.is_store_shut }
     ensures gone { AreGone W.meaning world.new job.now.targets result }
-    ensures withdrawn { IsTicketFor store.old ticket.now job.now.targets → OnOk result (AreWithdrawn store.new job.now.targets) }
+    ensures withdrawn { OnOk result (AreWithdrawn W.meaning world.new store.new job.now.targets) }
+    ensures ticket { OnOk result (IsTicketFor store.new ticket.now job.now.targets) }
 {
     let targets = job.targets.as_slice();
     make_dirs(account.alloc, world, dirs, targets)?;
-    withdraw(account, store, world, ticket)?;
+    withdraw(account, store, world, job, ticket, tickets)?;
     remove_all(world, targets)
 }
 
-/// Withdraws the records of a ticket. A store that refuses is noted.
+/// Withdraws the records of a job's targets, of which this is the ticket. A store that refuses is noted.
 fn withdraw<W: World>(
     account: &mut Account,
     store: &mut Store,
     world: &mut W,
+    job: &Job,
     ticket: &Ticket,
+    tickets: &Tickets,
 ) -> Result<(), ListEnd>
-    requires { IsStored W.meaning world.old store.old account.old.is_store_shut }
+    requires unshut { account.old.is_store_shut ≡ false }
+    requires stored { IsStored W.meaning world.old store.old tickets.now account.old.is_store_shut }
+    requires ticket { IsTicketFor store.old ticket.now job.now.targets }
+    requires room { HasOwnRoom ticket.now tickets.now }
     ensures goes { Goes W.meaning world.old world.new }
     ensures keeps { WorldKeeps W.meaning world.old world.new (ledger_of account.old) (with_done (ledger_of account.new) result) }
-    ensures stored { IsStored W.meaning world.new store.new account.new.is_store_shut }
-    ensures withdrawn { (targets : List (List ℕ)) → IsTicketFor store.old ticket.now targets → OnOk result (AreWithdrawn store.new targets) }
+    ensures stored { IsStored W.meaning world.new store.new tickets.now account.new.is_store_shut }
+    ensures withdrawn { OnOk result (AreWithdrawn W.meaning world.new store.new job.now.targets) }
+    ensures ticket { OnOk result (IsTicketFor store.new ticket.now job.now.targets) }
 {
-    if account.is_store_shut {
-        return Err(ListEnd::Fault(BuildFault::StoreFault));
-    }
     match store.withdraw(world, ticket) {
         Ok(()) => Ok(()),
         Err(_) => {

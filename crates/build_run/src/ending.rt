@@ -1,7 +1,11 @@
 //! What follows from the ending of an action.
-ghost use Rattle.std.specs.Prelude.{◌≡◌, ◌≤◌, ◌<◌, ◌+◌, length};
-ghost use Rattle.build_run.specs.Goings.{Passes, Goes, IsJoined, IsStored};
-ghost use Rattle.build_run.specs.Holds.{without};
+ghost use Rattle.std.specs.Prelude.{◌≡◌, ◌≢◌, ◌≤◌, ◌<◌, ◌+◌, ◌++◌, ◌∷◌, [], length};
+ghost use Rattle.build_run.specs.Goings.{Passes, Goes, IsJoined};
+ghost use Rattle.build_run.specs.Holds.{holds_in, without};
+ghost use Rattle.build_run.specs.Outs.{IsStored, KeepsUnlessDone, PutsDone, PutsIfDone, PutsUnlessShut, TellsDone, TellsOnlyDone};
+ghost use Rattle.scons_base.specs.declared.ids.RuleId.{RuleId};
+ghost use Rattle.sign_store.specs.Stores.{map_of};
+ghost use Rattle.world_api.specs.Around.{Finished};
 ghost use Rattle.build_run.specs.Ledgers.{ledger_of, EndKeeps, Settles, ErrSettles};
 ghost use Rattle.world_api.specs.Causes.{HasOutcomeCause};
 ghost use Rattle.world_api.specs.Meaning.{BanksKept};
@@ -13,7 +17,7 @@ use crate::tickets::{Busy, Tickets};
 use build_files::{ListEnd, first_target};
 use rule_graph::{BuildFault, Graph};
 use scons_base::RuleId;
-use sign_store::{Store, Ticket};
+use sign_store::Store;
 use task_plan::PlanEvent;
 use world_api::{Ended, Outcome, Sink, World};
 
@@ -29,14 +33,18 @@ pub(crate) fn take_ending<W: World, E: Sink>(
     options: &Options,
 ) -> PlanEvent
     requires some { 0 < length tickets.old }
-    requires joined { IsJoined W.meaning world.old tickets.old }
-    requires stored { IsStored W.meaning world.old store.old account.old.is_store_shut }
+    requires joined { IsJoined W.meaning world.old (holds_in tickets.old) }
+    requires stored { IsStored W.meaning world.old store.old tickets.old account.old.is_store_shut }
     ensures passes { Passes W.meaning world.old world.new }
     ensures keeps { EndKeeps W.meaning E.meaning world.old err.old world.new err.new (ledger_of account.old) (ledger_of account.new) }
-    ensures joined { IsJoined W.meaning world.new tickets.new }
+    ensures joined { IsJoined W.meaning world.new (holds_in tickets.new) }
     ensures fewer { W.meaning.tells world.new → length tickets.new + 1 ≡ length tickets.old }
     ensures no_more { length tickets.new ≤ length tickets.old }
-    ensures stored { IsStored W.meaning world.new store.new account.new.is_store_shut }
+    ensures stored { IsStored W.meaning world.new store.new tickets.new account.new.is_store_shut }
+    ensures done { TellsDone W.meaning world.old world.new result }
+    ensures only { TellsOnlyDone W.meaning world.old world.new result }
+    ensures puts { PutsDone tickets.old store.old store.new account.new.is_store_shut result }
+    ensures kept { KeepsUnlessDone store.old store.new result }
 {
     let ended = wait(world, tickets);
     let Some(busy) = tickets.take(ended.id) else {
@@ -51,6 +59,7 @@ pub(crate) fn take_ending<W: World, E: Sink>(
         err,
         options,
         busy,
+        tickets,
         ended.outcome,
     )
 }
@@ -58,10 +67,11 @@ pub(crate) fn take_ending<W: World, E: Sink>(
 /// Waits until a job ends.
 fn wait<W: World>(world: &mut W, tickets: &Tickets) -> Ended
     requires some { 0 < length tickets.now }
-    requires joined { IsJoined W.meaning world.old tickets.now }
+    requires joined { IsJoined W.meaning world.old (holds_in tickets.now) }
     ensures passes { Passes W.meaning world.old world.new }
-    ensures joined { IsJoined W.meaning world.new (without result.id tickets.now) }
-    ensures fewer { W.meaning.tells world.new → length (without result.id tickets.now) + 1 ≡ length tickets.now }
+    ensures joined { IsJoined W.meaning world.new (without result.id (holds_in tickets.now)) }
+    ensures fewer { W.meaning.tells world.new → length (without result.id (holds_in tickets.now)) + 1 ≡ length tickets.now }
+    ensures log { W.meaning.tells world.new → (W.meaning.around world.new).log ≡ (W.meaning.around world.old).log ++ Finished result.id result.outcome ∷ [] }
     ensures cause { HasOutcomeCause result.outcome (W.meaning.counts world.old) (W.meaning.counts world.new) }
     ensures banks { W.meaning.tells world.new → BanksKept W.meaning world.old world.new }
 {
@@ -77,22 +87,27 @@ fn settle<W: World, E: Sink>(
     err: &mut E,
     options: &Options,
     busy: Busy,
+    tickets: &Tickets,
     outcome: Outcome,
 ) -> PlanEvent
-    requires { IsStored W.meaning world.old store.old account.old.is_store_shut }
+    requires { IsStored W.meaning world.old store.old (busy ∷ tickets.now) account.old.is_store_shut }
     ensures goes { Goes W.meaning world.old world.new }
     ensures settles { Settles W.meaning E.meaning outcome world.old err.old world.new err.new (ledger_of account.old) (ledger_of account.new) }
-    ensures stored { IsStored W.meaning world.new store.new account.new.is_store_shut }
+    ensures around { W.meaning.tells world.new → W.meaning.around world.new ≡ W.meaning.around world.old }
+    ensures stored { IsStored W.meaning world.new store.new tickets.now account.new.is_store_shut }
+    ensures done { outcome ≡ Outcome.Done → result ≡ PlanEvent.DoneOk busy.hold.rule }
+    ensures only { (rule : RuleId) → result ≡ PlanEvent.DoneOk rule → outcome ≡ Outcome.Done }
+    ensures puts { PutsIfDone store.old store.new busy account.new.is_store_shut result }
+    ensures kept { outcome ≢ Outcome.Done → map_of store.new ≡ map_of store.old }
 {
-    let Busy { hold, ticket } = busy;
-    let rule = hold.rule;
+    let rule = busy.hold.rule;
     match outcome {
         Outcome::Done => {
-            put(account, store, world, err, ticket);
+            put(account, store, world, err, busy, tickets);
             PlanEvent::DoneOk(rule)
         }
         outcome => {
-            give_up(account.is_store_shut, store, ticket);
+            give_up(account.is_store_shut, store, busy.ticket);
             not_done(graph, account, err, options, rule, outcome);
             PlanEvent::DoneFailed(rule)
         }
@@ -105,17 +120,20 @@ fn put<W: World, E: Sink>(
     store: &mut Store,
     world: &mut W,
     err: &mut E,
-    ticket: Ticket,
+    busy: Busy,
+    tickets: &Tickets,
 )
-    requires { IsStored W.meaning world.old store.old account.old.is_store_shut }
+    requires { IsStored W.meaning world.old store.old (busy ∷ tickets.now) account.old.is_store_shut }
     ensures goes { Goes W.meaning world.old world.new }
     ensures keeps { EndKeeps W.meaning E.meaning world.old err.old world.new err.new (ledger_of account.old) (ledger_of account.new) }
-    ensures stored { IsStored W.meaning world.new store.new account.new.is_store_shut }
+    ensures around { W.meaning.tells world.new → W.meaning.around world.new ≡ W.meaning.around world.old }
+    ensures stored { IsStored W.meaning world.new store.new tickets.now account.new.is_store_shut }
+    ensures puts { PutsUnlessShut store.old store.new busy.ticket account.new.is_store_shut }
 {
     if account.is_store_shut {
         return;
     }
-    match store.put(world, ticket) {
+    match store.put(world, busy.ticket) {
         Ok(()) => {}
         Err(_) => {
             account.is_store_shut = true;

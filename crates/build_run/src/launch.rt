@@ -1,10 +1,12 @@
 //! Starting a job.
-ghost use Rattle.std.specs.Prelude.{◌≡◌, ◌++◌, ◌∷◌, [], None, List, ℕ, Contains, OnOk, OnErr};
-ghost use Rattle.build_run.specs.Goings.{Passes, IsJoined, IsStored, AreAbsent};
+ghost use Rattle.std.specs.Prelude.{◌≡◌, ◌++◌, ◌∷◌, [], false, Contains, OnOk, OnErr};
+ghost use Rattle.build_run.specs.Goings.{Passes, IsJoined, AreAbsent};
 ghost use Rattle.build_run.specs.Ledgers.{ledger_of, with_done, StartEnds, OutKeeps, WorldEnds, IsUnstarted};
-ghost use Rattle.build_run.specs.Holds.{hold_for, KeepsApart};
+ghost use Rattle.build_run.specs.Holds.{hold_for, holds_in, KeepsApart};
+ghost use Rattle.build_run.specs.Outs.{IsStored, IsTicketFor, HasOwnRoom};
 ghost use Rattle.build_run.specs.declared.tickets.Hold.{Hold};
-ghost use Rattle.build_run.specs.Withdrawals.{AreWithdrawn, IsTicketFor};
+ghost use Rattle.build_run.specs.Withdrawals.{AreWithdrawn, HasNone};
+ghost use Rattle.sign_store.specs.Stores.{map_of};
 ghost use Rattle.world_api.specs.Meaning.{BanksKept};
 
 use crate::account::Account;
@@ -31,15 +33,19 @@ pub(crate) fn launch<W: World, O: Sink>(
     ticket: &Ticket,
 ) -> Result<(), ListEnd>
     requires unclosed { W.meaning.closed world.old ≡ [] }
-    requires joined { IsJoined W.meaning world.old tickets.now }
-    requires stored { IsStored W.meaning world.old store.old account.old.is_store_shut }
-    requires apart { (hold : Hold) → Contains tickets.now hold → KeepsApart job hold }
+    requires joined { IsJoined W.meaning world.old (holds_in tickets.now) }
+    requires unshut { account.old.is_store_shut ≡ false }
+    requires stored { IsStored W.meaning world.old store.old tickets.now account.old.is_store_shut }
+    requires apart { (hold : Hold) → Contains (holds_in tickets.now) hold → KeepsApart job hold }
     requires ticket { IsTicketFor store.old ticket.now job.targets }
+    requires room { HasOwnRoom ticket.now tickets.now }
     ensures passes { Passes W.meaning world.old world.new }
     ensures ends { StartEnds W.meaning O.meaning world.old out.old world.new out.new account.old account.new result }
-    ensures started { OnOk result (IsJoined W.meaning world.new (tickets.now ++ hold_for job ∷ [])) }
-    ensures refused { OnErr result (IsJoined W.meaning world.new tickets.now) }
-    ensures stored { IsStored W.meaning world.new store.new account.new.is_store_shut }
+    ensures started { OnOk result (IsJoined W.meaning world.new (holds_in tickets.now ++ hold_for job ∷ [])) }
+    ensures refused { OnErr result (IsJoined W.meaning world.new (holds_in tickets.now)) }
+    ensures stored { IsStored W.meaning world.new store.new tickets.now account.new.is_store_shut }
+    ensures ticket { OnOk result (IsTicketFor store.new ticket.now job.targets) }
+    ensures none { OnOk result (HasNone (map_of store.new) job.targets) }
 {
     clear(dirs, account, store, world, &job, ticket, tickets)?;
     show(account, out, text)?;
@@ -60,7 +66,7 @@ fn show<O: Sink>(account: &mut Account, out: &mut O, text: &str) -> Result<(), L
     }
 }
 
-/// Starts a job, of whose targets nothing is recorded any more.
+/// Starts a job, of whose targets nothing is recorded any more, neither in the store nor in what a stop may leave.
 fn begin<W: World>(
     graph: &Graph,
     world: &mut W,
@@ -69,15 +75,15 @@ fn begin<W: World>(
     store: &Store,
 ) -> Result<(), ListEnd>
     requires unclosed { W.meaning.closed world.old ≡ [] }
-    requires joined { IsJoined W.meaning world.old tickets.now }
-    requires apart { (hold : Hold) → Contains tickets.now hold → KeepsApart job hold }
+    requires joined { IsJoined W.meaning world.old (holds_in tickets.now) }
+    requires apart { (hold : Hold) → Contains (holds_in tickets.now) hold → KeepsApart job hold }
     requires clear { AreAbsent W.meaning world.old job.targets }
-    requires withdrawn { AreWithdrawn store.now job.targets }
+    requires withdrawn { AreWithdrawn W.meaning world.old store.now job.targets }
     ensures passes { Passes W.meaning world.old world.new }
     ensures banks { W.meaning.tells world.new → BanksKept W.meaning world.old world.new }
     ensures ends { WorldEnds W.meaning world.old world.new result }
-    ensures started { OnOk result (IsJoined W.meaning world.new (tickets.now ++ hold_for job ∷ [])) }
-    ensures refused { OnErr result (IsJoined W.meaning world.new tickets.now) }
+    ensures started { OnOk result (IsJoined W.meaning world.new (holds_in tickets.now ++ hold_for job ∷ [])) }
+    ensures refused { OnErr result (IsJoined W.meaning world.new (holds_in tickets.now)) }
 {
     let rule = RuleId(job.id);
     match world.start(job) {

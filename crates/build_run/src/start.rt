@@ -1,18 +1,20 @@
 //! How the action of a stale rule starts.
-ghost use Rattle.std.specs.Prelude.{◌≡◌, ◌<◌, ◌≤◌, [], length, IfOk};
-ghost use Rattle.build_run.specs.Goings.{Passes, IsJoined, IsStored};
+ghost use Rattle.std.specs.Prelude.{◌≡◌, ◌<◌, ◌≤◌, [], length, true, IfOk};
+ghost use Rattle.build_run.specs.Goings.{Passes, IsJoined};
+ghost use Rattle.build_run.specs.Holds.{holds_in};
 ghost use Rattle.build_files.specs.Causes.{IsQuiet};
 ghost use Rattle.build_run.specs.Ledgers.{StartEnds};
-ghost use Rattle.sign_store.specs.Stores.{IsTicket, KeepsBanks};
+ghost use Rattle.build_run.specs.Outs.{IsStored};
+ghost use Rattle.sign_store.specs.Stores.{IsOut, IsFresh, KeepsBanks, KeepsOthers, KeepsOut, is_live, map_of};
 
 use crate::account::Account;
 use crate::building::Options;
 use crate::launch::launch;
 use crate::tickets::{Hold, Tickets};
 use build_files::{ListEnd, rule_at};
-use deciders::Rec;
+use deciders::{Rec, is_valid};
 use indexmap::IndexSet;
-use rule_graph::{Graph, What};
+use rule_graph::{BuildFault, Graph, What};
 use scons_base::{Memory, PathText, Paths, RuleId};
 use scons_report::rule_text;
 use sign_store::{PrepareRefusal, Store, Ticket};
@@ -22,7 +24,7 @@ use world_api::{Job, Sink, World, copy_lines};
 /// Starts the action of a rule with this record. All memory is taken before anything of the rule is touched.
 ///
 /// A plan gives each rule once, and after those that make what it reads. So no job comes up that gets in the way of one
-/// that runs; such a one would be answered as want of memory is.
+/// that runs; such a one would be answered as want of memory is. After a fault of the store nothing starts.
 pub(crate) fn start<W: World, O: Sink>(
     graph: &Graph,
     tickets: &mut Tickets,
@@ -37,21 +39,24 @@ pub(crate) fn start<W: World, O: Sink>(
 ) -> Result<(), ListEnd>
     requires unclosed { W.meaning.closed world.old ≡ [] }
     requires room { length tickets.old < 64 }
-    requires joined { IsJoined W.meaning world.old tickets.old }
-    requires stored { IsStored W.meaning world.old store.old account.old.is_store_shut }
+    requires joined { IsJoined W.meaning world.old (holds_in tickets.old) }
+    requires stored { IsStored W.meaning world.old store.old tickets.old account.old.is_store_shut }
     ensures passes { Passes W.meaning world.old world.new }
     ensures ends { StartEnds W.meaning O.meaning world.old out.old world.new out.new account.old account.new result }
     ensures room { length tickets.new ≤ 64 }
-    ensures joined { IsJoined W.meaning world.new tickets.new }
-    ensures stored { IsStored W.meaning world.new store.new account.new.is_store_shut }
+    ensures joined { IsJoined W.meaning world.new (holds_in tickets.new) }
+    ensures stored { IsStored W.meaning world.new store.new tickets.new account.new.is_store_shut }
 {
+    if account.is_store_shut {
+        return Err(ListEnd::Fault(BuildFault::StoreFault));
+    }
     let text = shown_text(account.alloc, graph, options, rule)?;
     let job = job_of(account.alloc, graph, rule, &now)?;
     let hold = Hold::of(&job)?;
     if !tickets.are_apart(&job) {
         return Err(ListEnd::Memory);
     }
-    let ticket = prepare(store, now)?;
+    let ticket = prepare(account.alloc, store, now)?;
     match launch(
         graph,
         tickets,
@@ -94,18 +99,31 @@ fn shown_text(
 
 /// A ticket is given up, unless the store has refused: then it isn't called again.
 pub(crate) fn give_up(is_store_shut: bool, store: &mut Store, ticket: Ticket)
-    ensures { KeepsBanks store.old store.new }
+    ensures map { map_of store.new ≡ map_of store.old }
+    ensures banks { KeepsBanks store.old store.new }
+    ensures live { is_live store.new ≡ is_live store.old }
+    ensures outs { KeepsOthers ticket store.old store.new }
 {
     if !is_store_shut {
         store.give_up(ticket);
     }
 }
 
-fn prepare(store: &mut Store, now: Rec) -> Result<Ticket, ListEnd>
-    ensures ticket { IfOk result (IsTicket store.new now) }
+/// The ticket for a record. Each rule has a target, and names none and no dependency twice; a record that does would be
+/// answered as want of memory is.
+fn prepare(alloc: Global, store: &mut Store, now: Rec) -> Result<Ticket, ListEnd>
+    requires { is_live store.old ≡ true }
+    ensures out { IfOk result (IsOut store.new now) }
+    ensures fresh { IfOk result (IsFresh store.old) }
+    ensures outs { KeepsOut store.old store.new }
+    ensures map { map_of store.new ≡ map_of store.old }
     ensures banks { KeepsBanks store.old store.new }
+    ensures live { is_live store.new ≡ is_live store.old }
     ensures quiet { IsQuiet result }
 {
+    if !is_valid(alloc, &now)? {
+        return Err(ListEnd::Memory);
+    }
     match store.prepare(now) {
         Ok(ticket) => Ok(ticket),
         Err(PrepareRefusal::Full(count)) => Err(ListEnd::too_many(What::StoreBytes, count)),

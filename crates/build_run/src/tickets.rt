@@ -1,7 +1,9 @@
 //! The rules whose actions run, each with the ticket for its record.
-ghost use Rattle.std.specs.Prelude.{◌≡◌, ◌==◌, position, ◌++◌, ◌∷◌, ◌<◌, [], List, ℕ, true, false, length, Contains, IfOk, IfSome};
+ghost use Rattle.std.specs.Prelude.{◌≡◌, ◌==◌, position, ◌++◌, ◌∷◌, ◌<◌, [], List, ℕ, true, false, length, Contains, IfOk, IfSome, IfNone};
+ghost use Rattle.sign_store.specs.declared.store.Store.{Store};
 ghost use Rattle.build_run.specs.declared.tickets.Hold.{Hold};
-ghost use Rattle.build_run.specs.Holds.{hold_for, without, KeepsApart};
+ghost use Rattle.build_run.specs.Holds.{hold_for, holds_in, without, KeepsApart};
+ghost use Rattle.build_run.specs.Outs.{AreOut};
 
 use scons_base::limits::JOB_LIMIT;
 use scons_base::{Memory, PathText, Paths, RuleId};
@@ -66,12 +68,12 @@ pub(crate) struct Tickets {
 }
 
 impl Model for Tickets {
-    ghost use Rattle.std.specs.Prelude.{List, ◌≤◌, map, vec_capacity};
-    ghost use Rattle.build_run.specs.declared.tickets.Hold.{Hold};
+    ghost use Rattle.std.specs.Prelude.{List, ◌≤◌, vec_capacity};
+    ghost use Rattle.build_run.specs.declared.tickets.Busy.{Busy};
 
-    ghost Value = { List Hold };
+    ghost Value = { List Busy };
 
-    ghost view = { λ t. map (λ b. b.hold) t.busy.items };
+    ghost view = { λ t. t.busy.items };
 
     ghost invariant = { λ t. 64 ≤ vec_capacity t.busy };
 }
@@ -93,14 +95,14 @@ impl Tickets {
 
     pub(crate) fn add(&mut self, hold: Hold, ticket: Ticket)
         requires { length self.old < 64 }
-        ensures { self.new ≡ self.old ++ hold ∷ [] }
+        ensures { self.new ≡ self.old ++ record { hold = hold; ticket = ticket } ∷ [] }
     {
         let _ = self.busy.push(Busy { hold, ticket });
     }
 
     /// Whether a job keeps apart from each that runs.
     pub(crate) fn are_apart(&self, job: &Job) -> bool
-        ensures { result ≡ true → (hold : Hold) → Contains self.now hold → KeepsApart job.now hold }
+        ensures { result ≡ true → (hold : Hold) → Contains (holds_in self.now) hold → KeepsApart job.now hold }
     {
         for busy in &self.busy {
             if !busy.hold.is_apart(job) {
@@ -112,8 +114,11 @@ impl Tickets {
 
     /// Takes out the rule with this number.
     pub(crate) fn take(&mut self, id: u32) -> Option<Busy>
-        ensures left { self.new ≡ without id self.old }
+        ensures left { holds_in self.new ≡ without id (holds_in self.old) }
         ensures rule { IfSome result (λ busy. busy.hold.rule.0 ≡ id) }
+        ensures among { IfSome result (λ busy. Contains self.old busy) }
+        ensures outs { (store : Store) → AreOut store self.old → IfSome result (λ busy. AreOut store (busy ∷ self.new)) }
+        ensures none { IfNone result (self.new ≡ self.old) }
     {
         let place = place_of(self.busy.as_slice(), id)?;
         Some(self.busy.remove(place))

@@ -1,8 +1,10 @@
 //! The turns of a build: what the plan wants is done, and the plan is told what came of it.
 ghost use Rattle.std.specs.Prelude.{◌≡◌, ◌≤◌, ◌<◌, [], length};
 ghost use Rattle.build_files.specs.Causes.{HasLookCause};
-ghost use Rattle.build_run.specs.Goings.{Stays, Passes, IsJoined, IsStored};
+ghost use Rattle.build_run.specs.Goings.{Stays, Passes, IsJoined};
+ghost use Rattle.build_run.specs.Holds.{holds_in};
 ghost use Rattle.build_run.specs.Ledgers.{ledger_of, with_done, AllKeeps, AllEnds, EndKeeps, ErrKeeps, Keeps};
+ghost use Rattle.build_run.specs.Outs.{IsStored};
 ghost use Rattle.scons_base.specs.declared.ids.RuleId.{RuleId};
 
 use crate::account::Account;
@@ -30,8 +32,8 @@ pub(crate) fn go_on<W: World, O: Sink, E: Sink>(
 )
     requires unclosed { W.meaning.closed world.old ≡ [] }
     requires none { run.old.tickets ≡ [] }
-    requires joined { IsJoined W.meaning world.old run.old.tickets }
-    requires stored { IsStored W.meaning world.old store.old account.old.is_store_shut }
+    requires joined { IsJoined W.meaning world.old (holds_in run.old.tickets) }
+    requires stored { IsStored W.meaning world.old store.old run.old.tickets account.old.is_store_shut }
     ensures passes { Passes W.meaning world.old world.new }
     ensures keeps { AllKeeps W.meaning O.meaning E.meaning world.old out.old err.old world.new out.new err.new account.old account.new }
     ensures idle { W.meaning.tells world.new → (W.meaning.around world.new).running ≡ [] }
@@ -52,12 +54,12 @@ fn take_turns<W: World, O: Sink, E: Sink>(
 )
     requires unclosed { W.meaning.closed world.old ≡ [] }
     requires none { run.old.tickets ≡ [] }
-    requires joined { IsJoined W.meaning world.old run.old.tickets }
-    requires stored { IsStored W.meaning world.old store.old account.old.is_store_shut }
+    requires joined { IsJoined W.meaning world.old (holds_in run.old.tickets) }
+    requires stored { IsStored W.meaning world.old store.old run.old.tickets account.old.is_store_shut }
     ensures passes { Passes W.meaning world.old world.new }
     ensures keeps { AllKeeps W.meaning O.meaning E.meaning world.old out.old err.old world.new out.new err.new account.old account.new }
-    ensures joined { IsJoined W.meaning world.new run.new.tickets }
-    ensures stored { IsStored W.meaning world.new store.new account.new.is_store_shut }
+    ensures joined { IsJoined W.meaning world.new (holds_in run.new.tickets) }
+    ensures stored { IsStored W.meaning world.new store.new run.new.tickets account.new.is_store_shut }
 {
     for _turn in 0..u64::MAX {
         let wanted = want(run, options);
@@ -80,8 +82,8 @@ fn wait_for_all<W: World, E: Sink>(
     err: &mut E,
     options: &Options,
 )
-    requires joined { IsJoined W.meaning world.old run.old.tickets }
-    requires stored { IsStored W.meaning world.old store.old account.old.is_store_shut }
+    requires joined { IsJoined W.meaning world.old (holds_in run.old.tickets) }
+    requires stored { IsStored W.meaning world.old store.old run.old.tickets account.old.is_store_shut }
     ensures passes { Passes W.meaning world.old world.new }
     ensures keeps { EndKeeps W.meaning E.meaning world.old err.old world.new err.new (ledger_of account.old) (ledger_of account.new) }
     ensures idle { W.meaning.tells world.new → (W.meaning.around world.new).running ≡ [] }
@@ -113,13 +115,13 @@ fn take_turn<W: World, O: Sink, E: Sink>(
     requires some { wanted ≡ Want.Wait → 0 < length run.old.tickets }
     requires room { (rule : RuleId) → wanted ≡ Want.Decide rule → length run.old.tickets < 64 }
     requires limit { length run.old.tickets ≤ 64 }
-    requires joined { IsJoined W.meaning world.old run.old.tickets }
-    requires stored { IsStored W.meaning world.old store.old account.old.is_store_shut }
+    requires joined { IsJoined W.meaning world.old (holds_in run.old.tickets) }
+    requires stored { IsStored W.meaning world.old store.old run.old.tickets account.old.is_store_shut }
     ensures passes { Passes W.meaning world.old world.new }
     ensures ends { AllEnds W.meaning O.meaning E.meaning world.old out.old err.old world.new out.new err.new account.old account.new result }
     ensures limit { length run.new.tickets ≤ 64 }
-    ensures joined { IsJoined W.meaning world.new run.new.tickets }
-    ensures stored { IsStored W.meaning world.new store.new account.new.is_store_shut }
+    ensures joined { IsJoined W.meaning world.new (holds_in run.new.tickets) }
+    ensures stored { IsStored W.meaning world.new store.new run.new.tickets account.new.is_store_shut }
 {
     match wanted {
         Want::Scan(rule, file) => scan(graph, &mut run.inputs, world, rule, file),

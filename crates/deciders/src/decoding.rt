@@ -97,7 +97,7 @@ fn parts_of(alloc: Global, bytes: &[u8]) -> Result<(Rec, &[u8]), Unread>
 }
 
 /// Whether it has a target, and names no target and no dependency twice.
-fn is_valid(alloc: Global, rec: &Rec) -> Result<bool, Memory>
+pub fn is_valid(alloc: Global, rec: &Rec) -> Result<bool, Memory>
     ensures { IfOk result (λ valid. valid ≡ is_valid rec.now) }
 {
     if rec.targets.as_slice().is_empty() || !are_once(alloc, rec.targets.as_slice())? {

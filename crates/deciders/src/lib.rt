@@ -16,7 +16,7 @@ mod unread;
 
 pub use changes::{changed, same};
 pub use content::{Digest, digest_of};
-pub use decoding::{decode, decode_paths};
+pub use decoding::{decode, decode_paths, is_valid};
 pub use encoding::{encode, push_paths, push_record};
 pub use lengths::{paths_len, spelled_len};
 pub use recorded::{Dep, Rec, rec_of};

@@ -3,3 +3,5 @@ pub mod Laws
 pub mod Looking
 pub mod Prints
 pub mod Reading
+pub mod Running
+pub mod Seeing

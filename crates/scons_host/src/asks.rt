@@ -1,6 +1,6 @@
 //! What the host asks of the world. It looks at files, and changes none.
-ghost use Rattle.std.specs.Prelude.{◌≡◌, Err, OnErr};
-ghost use Rattle.scons_base.specs.Rising.{Rose};
+ghost use Rattle.std.specs.Prelude.{◌≡◌, ◌≢◌, Err, OnOk, OnErr};
+ghost use Rattle.scons_host.specs.Causes.{TreeFailsOn};
 ghost use Rattle.world_api.specs.Looks.{LooksAtFiles};
 
 use scons_base::{PathText, Paths};
@@ -8,14 +8,16 @@ use world_api::{AskRefusal, Content, Fault, Kind, ReadRefusal, World};
 
 pub fn top_of<W: World>(world: &mut W) -> Result<PathText, AskRefusal>
     ensures looks { LooksAtFiles W.meaning world.old world.new }
-    ensures cause { result ≡ Err AskRefusal.Fault → Rose (W.meaning.counts world.old).tree_faults (W.meaning.counts world.new).tree_faults }
+    ensures kept { result ≢ Err AskRefusal.Fault → W.meaning.counts world.new ≡ W.meaning.counts world.old }
+    ensures rose { result ≡ Err AskRefusal.Fault → TreeFailsOn W.meaning world.old world.new }
 {
     world.top_path()
 }
 
 pub fn kind_of<W: World>(world: &mut W, path: &PathText) -> Result<Kind, Fault>
     ensures looks { LooksAtFiles W.meaning world.old world.new }
-    ensures cause { OnErr result (Rose (W.meaning.counts world.old).tree_faults (W.meaning.counts world.new).tree_faults) }
+    ensures kept { OnOk result (W.meaning.counts world.new ≡ W.meaning.counts world.old) }
+    ensures rose { OnErr result (TreeFailsOn W.meaning world.old world.new) }
 {
     world.kind(path)
 }
@@ -26,14 +28,16 @@ pub fn bytes_of<W: World>(
     limit: u64,
 ) -> Result<Content, ReadRefusal>
     ensures looks { LooksAtFiles W.meaning world.old world.new }
-    ensures cause { result ≡ Err ReadRefusal.Fault → Rose (W.meaning.counts world.old).tree_faults (W.meaning.counts world.new).tree_faults }
+    ensures kept { result ≢ Err ReadRefusal.Fault → W.meaning.counts world.new ≡ W.meaning.counts world.old }
+    ensures rose { result ≡ Err ReadRefusal.Fault → TreeFailsOn W.meaning world.old world.new }
 {
     world.read_file(path, limit)
 }
 
 pub fn files_of<W: World>(world: &mut W, dir: &PathText) -> Result<Paths, AskRefusal>
     ensures looks { LooksAtFiles W.meaning world.old world.new }
-    ensures cause { result ≡ Err AskRefusal.Fault → Rose (W.meaning.counts world.old).tree_faults (W.meaning.counts world.new).tree_faults }
+    ensures kept { result ≢ Err AskRefusal.Fault → W.meaning.counts world.new ≡ W.meaning.counts world.old }
+    ensures rose { result ≡ Err AskRefusal.Fault → TreeFailsOn W.meaning world.old world.new }
 {
     world.list(dir)
 }

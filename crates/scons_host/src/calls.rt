@@ -1,7 +1,6 @@
 //! Calls of objects: names of SCons, methods of environments and builders.
-ghost use Rattle.std.specs.Prelude.{IfErr};
 ghost use Rattle.py_host.specs.Extends.{Extends};
-ghost use Rattle.scons_host.specs.Causes.{HasStopCause};
+ghost use Rattle.scons_host.specs.Causes.{HasLookCause};
 ghost use Rattle.world_api.specs.Looks.{LooksAtFiles};
 
 use crate::answers::{flat_value, split_value};
@@ -36,7 +35,7 @@ pub fn call<W: World>(
     args: &Args,
 ) -> Result<Reply, Stop>
     ensures looks { LooksAtFiles W.meaning world.old world.new }
-    ensures cause { IfErr result (HasStopCause (W.meaning.counts world.old) (W.meaning.counts world.new)) }
+    ensures cause { HasLookCause (W.meaning.counts world.old) (W.meaning.counts world.new) result }
     ensures stands { Extends heap.old heap.new }
 {
     let (env, request) = requested(state, heap, object, args)?;
@@ -86,7 +85,7 @@ fn answered<W: World>(
     request: Request,
 ) -> Result<Reply, Stop>
     ensures looks { LooksAtFiles W.meaning world.old world.new }
-    ensures cause { IfErr result (HasStopCause (W.meaning.counts world.old) (W.meaning.counts world.new)) }
+    ensures cause { HasLookCause (W.meaning.counts world.old) (W.meaning.counts world.new) result }
     ensures stands { Extends heap.old heap.new }
 {
     match request {

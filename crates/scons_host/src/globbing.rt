@@ -1,7 +1,6 @@
 //! Glob: the files of the tree that a pattern may match.
-ghost use Rattle.std.specs.Prelude.{IfErr};
 ghost use Rattle.py_host.specs.Extends.{Extends};
-ghost use Rattle.scons_host.specs.Causes.{HasStopCause};
+ghost use Rattle.scons_host.specs.Causes.{HasLookCause};
 ghost use Rattle.world_api.specs.Looks.{LooksAtFiles};
 
 use crate::asks::files_of;
@@ -22,7 +21,7 @@ pub fn glob<W: World>(
     pattern: &Text,
 ) -> Result<Value, Stop>
     ensures looks { LooksAtFiles W.meaning world.old world.new }
-    ensures cause { IfErr result (HasStopCause (W.meaning.counts world.old) (W.meaning.counts world.new)) }
+    ensures cause { HasLookCause (W.meaning.counts world.old) (W.meaning.counts world.new) result }
     ensures stands { Extends heap.old heap.new }
 {
     let dirs = dirs_of(state, env, pattern)?;
@@ -57,7 +56,7 @@ fn matched(
 #[tactic(auto, using(crate::specs::Looking::looking))]
 fn list<W: World>(world: &mut W, dir: &PathText, files: &mut Paths) -> Result<(), Stop>
     ensures looks { LooksAtFiles W.meaning world.old world.new }
-    ensures cause { IfErr result (HasStopCause (W.meaning.counts world.old) (W.meaning.counts world.new)) }
+    ensures cause { HasLookCause (W.meaning.counts world.old) (W.meaning.counts world.new) result }
 {
     match files_of(world, dir) {
         Ok(listed) => {
@@ -66,7 +65,7 @@ fn list<W: World>(world: &mut W, dir: &PathText, files: &mut Paths) -> Result<()
             }
             Ok(())
         }
-        Err(AskRefusal::Fault) => Err(Stop::Tree(dir.copy()?)),
+        Err(AskRefusal::Fault) => Err(Stop::tree(dir)),
         Err(AskRefusal::Memory) => Err(Stop::Memory),
     }
 }

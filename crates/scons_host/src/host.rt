@@ -29,7 +29,7 @@ const NOWHERE: Place = Place { script: 0, line: 0 };
 
 /// Keeps why a call is refused that stands at a place.
 fn refuse(state: &State, kept: &mut Kept, place: Place, stop: Stop) -> HostRefusal
-    ensures end { KeepsEnd stop kept.old.end kept.new.end }
+    ensures end { result ≡ HostRefusal.Host → KeepsEnd stop kept.new.end }
     ensures later { kept.old.refusals ≤ kept.new.refusals }
     ensures counted { result ≡ HostRefusal.Host → Rose kept.old.refusals kept.new.refusals }
 {
@@ -40,16 +40,13 @@ fn refuse(state: &State, kept: &mut Kept, place: Place, stop: Stop) -> HostRefus
 }
 
 impl<W: World, O: Sink> Host for ReadingHost<'_, '_, '_, '_, W, O> {
-    ghost use Rattle.py_host.specs.Lent.{lent};
-    ghost use Rattle.py_host.proofs.Lending.{lent_kept, lent_determined};
-    ghost use Rattle.scons_host.specs.Reading.{seen, held, reading};
-    ghost use Rattle.scons_host.specs.Laws.{reading_kept, reading_determined};
+    ghost use Rattle.scons_host.specs.Seeing.{host_meaning, host_kept, host_determined};
 
-    ghost meaning = { lent (λ h. seen h.world.now h.out.now h.kept.now) (λ h. held h.world.ghost_name h.out.ghost_name h.state.ghost_name h.kept.ghost_name) (reading W.meaning O.meaning) };
+    ghost meaning = { host_meaning W.meaning O.meaning };
 
-    ghost kept = { lent_kept (λ h. seen h.world.now h.out.now h.kept.now) (λ h. held h.world.ghost_name h.out.ghost_name h.state.ghost_name h.kept.ghost_name) (reading W.meaning O.meaning) (reading_kept W.meaning O.meaning) };
+    ghost kept = { host_kept W.meaning O.meaning };
 
-    ghost determined = { lent_determined (λ h. seen h.world.now h.out.now h.kept.now) (λ h. held h.world.ghost_name h.out.ghost_name h.state.ghost_name h.kept.ghost_name) (reading W.meaning O.meaning) (reading_determined W.meaning O.meaning) };
+    ghost determined = { host_determined W.meaning O.meaning };
 
     fn name(&mut self, name: &str) -> Option<Value> {
         if name == "ARGUMENTS" {

@@ -1,7 +1,7 @@
 //! What the host keeps of its refusals.
-ghost use Rattle.std.specs.Prelude.{◌≡◌, ◌≤◌};
+ghost use Rattle.std.specs.Prelude.{◌≡◌, ◌≤◌, IfSome};
 ghost use Rattle.scons_base.specs.Rising.{Rose};
-ghost use Rattle.scons_host.specs.Causes.{KeepsEnd};
+ghost use Rattle.scons_host.specs.Causes.{IsEndOf, KeepsEnd};
 
 use crate::end::HostEnd;
 use crate::stop::Stop;
@@ -18,21 +18,30 @@ pub struct Kept {
 impl Kept {
     /// Keeps why a call is refused, which stands on a line of a script.
     pub fn refuse(&mut self, script: PathText, line: u32, stop: Stop) -> HostRefusal
-        ensures end { KeepsEnd stop self.old.end self.new.end }
+        ensures end { result ≡ HostRefusal.Host → KeepsEnd stop self.new.end }
         ensures later { self.old.refusals ≤ self.new.refusals }
         ensures counted { result ≡ HostRefusal.Host → Rose self.old.refusals self.new.refusals }
     {
-        let end = match stop {
-            Stop::Memory => return HostRefusal::Memory,
-            Stop::Here(kind) => HostEnd::Reading(script, line, kind),
-            Stop::There(script, line, kind) => HostEnd::Reading(script, line, kind),
-            Stop::Tree(path) => HostEnd::Tree(path),
-            Stop::Out => HostEnd::Out,
-            Stop::TooLarge(path, size) => HostEnd::TooLarge(path, size),
-            Stop::TooMany(what, count) => HostEnd::TooMany(what, count),
+        let Some(end) = end_of(script, line, stop) else {
+            return HostRefusal::Memory;
         };
         self.end = Some(end);
         self.refusals = self.refusals.saturating_add(1);
         HostRefusal::Host
+    }
+}
+
+/// The end of a stop on a line of a script; none of want of memory, which isn't told by the host.
+fn end_of(script: PathText, line: u32, stop: Stop) -> Option<HostEnd>
+    ensures { IfSome result (IsEndOf stop) }
+{
+    match stop {
+        Stop::Memory => None,
+        Stop::Here(kind) => Some(HostEnd::Reading(script, line, kind)),
+        Stop::There(script, line, kind) => Some(HostEnd::Reading(script, line, kind)),
+        Stop::Tree(path) => Some(HostEnd::Tree(path)),
+        Stop::Out => Some(HostEnd::Out),
+        Stop::TooLarge(path, size) => Some(HostEnd::TooLarge(path, size)),
+        Stop::TooMany(what, count) => Some(HostEnd::TooMany(what, count)),
     }
 }

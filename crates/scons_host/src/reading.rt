@@ -1,19 +1,20 @@
 //! The reading of all scripts, from the words of the command line to a graph.
-ghost use Rattle.std.specs.Prelude.{◌≡◌, ◌⊎◌, ℕ, Some, IfErr};
-ghost use Rattle.scons_host.specs.Causes.{HasStopCause, HasEndCause, IsEndOf, IsOwn};
+ghost use Rattle.scons_host.specs.Causes.{Outside, HasStopCause, HasLookCause, HasEndCause, HasCause, HasKeptCause, IsEndOf, IsOwn, EndsLook, ReadingCauses, WorldCauses};
+ghost use Rattle.scons_host.specs.Running.{HasFaultCause, HasRunCause, ScriptsCause};
 ghost use Rattle.world_api.specs.Looks.{LooksAtFiles};
 ghost use Rattle.scons_host.specs.Prints.{Prints};
 ghost use Rattle.world_api.specs.Counts.{Counts};
+ghost use Rattle.world_api.specs.Causes.{TreeFails};
 
-use crate::asks::{kind_of, top_of};
+use crate::asks::top_of;
 use crate::end::{HostEnd, ReadKind};
 use crate::host::ReadingHost;
 use crate::kept::Kept;
-use crate::rules::graph_of;
+use crate::rules::{graph_of, is_file};
 use crate::scripts::first;
 use crate::state::State;
 use crate::stop::{Refusal, Stop};
-use py_eval::{EvalFault, EvalKind, run};
+use py_eval::{EvalFault, EvalKind, Ran, run};
 use py_heap::{Budget, Heap};
 use py_tree::Script;
 use rule_graph::Graph;
@@ -21,7 +22,7 @@ use scons_base::limits::UNIT_LIMIT;
 use scons_base::{Memory, PathText};
 use scons_words::Words;
 use std::alloc::Global;
-use world_api::{AskRefusal, Kind, Sink, World};
+use world_api::{AskRefusal, Sink, World};
 
 /// The names that a first script has where none is asked for.
 const FIRST: [&str; 3] = ["SConstruct", "Sconstruct", "sconstruct"];
@@ -35,7 +36,7 @@ pub fn read_scripts<W: World, O: Sink>(
 ) -> Result<Graph, HostEnd>
     ensures looks { LooksAtFiles W.meaning world.old world.new }
     ensures prints { Prints O.meaning out.old out.new }
-    ensures cause { IfErr result (HasEndCause (W.meaning.counts world.old) (W.meaning.counts world.new) (O.meaning.faults out.old) (O.meaning.faults out.new)) }
+    ensures causes { ReadingCauses W.meaning O.meaning world.old out.old world.new out.new result }
 {
     let mut heap = Heap::new(alloc);
     match begun(alloc, world, &mut heap, words) {
@@ -55,7 +56,7 @@ fn read_on<W: World, O: Sink>(
 ) -> Result<Graph, HostEnd>
     ensures looks { LooksAtFiles W.meaning world.old world.new }
     ensures prints { Prints O.meaning out.old out.new }
-    ensures cause { IfErr result (HasEndCause (W.meaning.counts world.old) (W.meaning.counts world.new) (O.meaning.faults out.old) (O.meaning.faults out.new)) }
+    ensures causes { ReadingCauses W.meaning O.meaning world.old out.old world.new out.new result }
 {
     match run_all(world, out, &mut state, heap, script) {
         Ok(()) => graph_end(alloc, world, state),
@@ -66,7 +67,7 @@ fn read_on<W: World, O: Sink>(
 /// The graph of what all scripts have declared.
 fn graph_end<W: World>(alloc: Global, world: &mut W, state: State) -> Result<Graph, HostEnd>
     ensures looks { LooksAtFiles W.meaning world.old world.new }
-    ensures cause { (faults more : ℕ) → IfErr result (HasEndCause (W.meaning.counts world.old) (W.meaning.counts world.new) faults more) }
+    ensures causes { WorldCauses W.meaning world.old world.new result }
 {
     let State {
         declared,
@@ -78,7 +79,7 @@ fn graph_end<W: World>(alloc: Global, world: &mut W, state: State) -> Result<Gra
 
 /// The graph, or the end that a stop gives.
 fn ended_by(alloc: Global, graph: Result<Graph, Stop>) -> Result<Graph, HostEnd>
-    ensures cause { (old new : Counts) (faults more : ℕ) → IfErr graph (HasStopCause old new) → IfErr result (HasEndCause old new faults more) }
+    ensures { EndsLook graph result }
 {
     match graph {
         Ok(graph) => Ok(graph),
@@ -95,7 +96,7 @@ fn begun<W: World>(
     words: &Words,
 ) -> Result<(State, Script), Stop>
     ensures looks { LooksAtFiles W.meaning world.old world.new }
-    ensures cause { IfErr result (HasStopCause (W.meaning.counts world.old) (W.meaning.counts world.new)) }
+    ensures cause { HasLookCause (W.meaning.counts world.old) (W.meaning.counts world.new) result }
 {
     let top = top_path(alloc, world)?;
     let mut state = State::new(alloc, heap, top, words)?;
@@ -105,7 +106,7 @@ fn begun<W: World>(
 
 /// The state beside its first script.
 fn joined(state: State, script: Result<Script, Stop>) -> Result<(State, Script), Stop>
-    ensures cause { (old new : Counts) → IfErr script (HasStopCause old new) → IfErr result (HasStopCause old new) }
+    ensures { (old new : Counts) → HasLookCause old new script → HasLookCause old new result }
 {
     match script {
         Ok(script) => Ok((state, script)),
@@ -116,12 +117,23 @@ fn joined(state: State, script: Result<Script, Stop>) -> Result<(State, Script),
 #[tactic(auto, using(crate::specs::Looking::looking))]
 fn top_path<W: World>(alloc: Global, world: &mut W) -> Result<PathText, Stop>
     ensures looks { LooksAtFiles W.meaning world.old world.new }
-    ensures cause { IfErr result (HasStopCause (W.meaning.counts world.old) (W.meaning.counts world.new)) }
+    ensures cause { HasLookCause (W.meaning.counts world.old) (W.meaning.counts world.new) result }
 {
     match top_of(world) {
         Ok(path) => Ok(path),
-        Err(AskRefusal::Fault) => Err(Stop::Tree(read_path(alloc, ".")?)),
+        Err(AskRefusal::Fault) => Err(no_top(alloc)),
         Err(AskRefusal::Memory) => Err(Stop::Memory),
+    }
+}
+
+/// The tree refused to tell its top.
+#[tactic(auto, using(crate::specs::Looking::looking))]
+fn no_top(alloc: Global) -> Stop
+    ensures { (old new : Counts) → TreeFails old new → HasStopCause old new result }
+{
+    match read_path(alloc, ".") {
+        Ok(path) => Stop::Tree(path),
+        Err(_) => Stop::Memory,
     }
 }
 
@@ -152,7 +164,7 @@ fn end_of(alloc: Global, stop: Stop) -> HostEnd
 #[tactic(auto, using(crate::specs::Looking::looking))]
 fn first_script<W: World>(state: &mut State, world: &mut W, words: &Words) -> Result<Script, Stop>
     ensures looks { LooksAtFiles W.meaning world.old world.new }
-    ensures cause { IfErr result (HasStopCause (W.meaning.counts world.old) (W.meaning.counts world.new)) }
+    ensures cause { HasLookCause (W.meaning.counts world.old) (W.meaning.counts world.new) result }
 {
     let path = first_path(state, world, words)?;
     first(state, world, path)
@@ -162,7 +174,7 @@ fn first_script<W: World>(state: &mut State, world: &mut W, words: &Words) -> Re
 #[tactic(auto, using(crate::specs::Looking::looking))]
 fn first_path<W: World>(state: &mut State, world: &mut W, words: &Words) -> Result<PathText, Stop>
     ensures looks { LooksAtFiles W.meaning world.old world.new }
-    ensures cause { IfErr result (HasStopCause (W.meaning.counts world.old) (W.meaning.counts world.new)) }
+    ensures cause { HasLookCause (W.meaning.counts world.old) (W.meaning.counts world.new) result }
 {
     match words.scripts.as_slice() {
         [] => standing(state.alloc, world),
@@ -182,14 +194,12 @@ fn named(state: &mut State, path: &PathText, further: &[PathText]) -> Result<Pat
 #[tactic(auto, using(crate::specs::Looking::looking))]
 fn standing<W: World>(alloc: Global, world: &mut W) -> Result<PathText, Stop>
     ensures looks { LooksAtFiles W.meaning world.old world.new }
-    ensures cause { IfErr result (HasStopCause (W.meaning.counts world.old) (W.meaning.counts world.new)) }
+    ensures cause { HasLookCause (W.meaning.counts world.old) (W.meaning.counts world.new) result }
 {
     for name in FIRST {
         let path = read_path(alloc, name)?;
-        match kind_of(world, &path) {
-            Ok(Kind::File) => return Ok(path),
-            Ok(_) => {}
-            Err(_) => return Err(Stop::Tree(path)),
+        if is_file(world, &path)? {
+            return Ok(path);
         }
     }
     Ok(read_path(alloc, FIRST[0])?)
@@ -205,19 +215,42 @@ fn run_all<W: World, O: Sink>(
 ) -> Result<(), HostEnd>
     ensures looks { LooksAtFiles W.meaning world.old world.new }
     ensures prints { Prints O.meaning out.old out.new }
-    ensures cause { IfErr result (HasEndCause (W.meaning.counts world.old) (W.meaning.counts world.new) (O.meaning.faults out.old) (O.meaning.faults out.new)) }
+    ensures causes { ReadingCauses W.meaning O.meaning world.old out.old world.new out.new result }
 {
     let mut kept = Kept {
         end: None,
         refusals: 0,
     };
+    let outcome = run_kept(world, out, state, &mut kept, heap, script);
+    told(state, kept, outcome)
+}
+
+/// Runs the scripts over a host that keeps its refusals.
+fn run_kept<W: World, O: Sink>(
+    world: &mut W,
+    out: &mut O,
+    state: &mut State,
+    kept: &mut Kept,
+    heap: Heap,
+    script: &Script,
+) -> Result<Ran, EvalFault>
+    ensures looks { LooksAtFiles W.meaning world.old world.new }
+    ensures prints { Prints O.meaning out.old out.new }
+    ensures cause { ScriptsCause W.meaning O.meaning world.old out.old world.new out.new kept.new.end result }
+{
     let mut host = ReadingHost {
         world,
         out,
-        state: &mut *state,
-        kept: &mut kept,
+        state,
+        kept,
     };
-    let outcome = run(script, heap, &mut host, Budget::new(UNIT_LIMIT));
+    run(script, heap, &mut host, Budget::new(UNIT_LIMIT))
+}
+
+/// Whether the scripts ran, or the end that their fault is.
+fn told(state: &State, kept: Kept, outcome: Result<Ran, EvalFault>) -> Result<(), HostEnd>
+    ensures { (old new : Outside) → HasRunCause old new kept.end outcome → HasCause old new result }
+{
     match outcome {
         Ok(_) => Ok(()),
         Err(fault) => Err(ended(state, kept, fault)),
@@ -226,20 +259,33 @@ fn run_all<W: World, O: Sink>(
 
 /// The end that a fault of the evaluator is.
 fn ended(state: &State, kept: Kept, fault: EvalFault) -> HostEnd
-    ensures { (kept.end ≡ Some result) ⊎ IsOwn result }
+    ensures { (old new : Outside) → HasFaultCause old new kept.end fault → HasEndCause old new result }
 {
     match fault {
-        EvalFault::At {
-            kind: EvalKind::Host,
-            ..
-        } => match kept.end {
-            Some(end) => end,
-            None => HostEnd::Memory,
-        },
-        EvalFault::At { script, line, kind } => match state.script_at(script) {
-            Ok(path) => HostEnd::Reading(path, line, ReadKind::Eval(kind)),
-            Err(_) => HostEnd::Memory,
+        EvalFault::At { script, line, kind } => match kind {
+            EvalKind::Host => kept_end(kept),
+            kind => own_end(state, script, line, kind),
         },
         EvalFault::Memory => HostEnd::Memory,
+    }
+}
+
+/// The end that the host has kept.
+fn kept_end(kept: Kept) -> HostEnd
+    ensures { (old new : Outside) → HasKeptCause old new kept.end → HasEndCause old new result }
+{
+    match kept.end {
+        Some(end) => end,
+        None => HostEnd::Memory,
+    }
+}
+
+/// The end of a fault of the scripts' own.
+fn own_end(state: &State, script: u64, line: u32, kind: EvalKind) -> HostEnd
+    ensures { IsOwn result }
+{
+    match state.script_at(script) {
+        Ok(path) => HostEnd::Reading(path, line, ReadKind::Eval(kind)),
+        Err(_) => HostEnd::Memory,
     }
 }

@@ -1,6 +1,6 @@
 //! After all scripts: the declared rules go into the graph, and the world is asked which libraries are files.
 ghost use Rattle.std.specs.Prelude.{IfErr};
-ghost use Rattle.scons_host.specs.Causes.{HasStopCause, IsInside};
+ghost use Rattle.scons_host.specs.Causes.{HasLookCause, IsInside};
 ghost use Rattle.world_api.specs.Looks.{LooksAtFiles};
 ghost use Rattle.world_api.specs.Counts.{Counts};
 
@@ -23,7 +23,7 @@ pub fn graph_of<W: World>(
     scripts: &Paths,
 ) -> Result<Graph, Stop>
     ensures looks { LooksAtFiles W.meaning world.old world.new }
-    ensures cause { IfErr result (HasStopCause (W.meaning.counts world.old) (W.meaning.counts world.new)) }
+    ensures cause { HasLookCause (W.meaning.counts world.old) (W.meaning.counts world.new) result }
 {
     let mut reading = RuleReading::new(alloc, declared)?;
     let added = add_all(alloc, world, &mut reading, scripts);
@@ -32,7 +32,7 @@ pub fn graph_of<W: World>(
 
 /// The graph, where all rules were added.
 fn finished(reading: RuleReading, scripts: &Paths, added: Result<(), Stop>) -> Result<Graph, Stop>
-    ensures cause { (old new : Counts) → IfErr added (HasStopCause old new) → IfErr result (HasStopCause old new) }
+    ensures cause { (old new : Counts) → HasLookCause old new added → HasLookCause old new result }
 {
     match added {
         Ok(()) => made(reading, scripts),
@@ -42,7 +42,7 @@ fn finished(reading: RuleReading, scripts: &Paths, added: Result<(), Stop>) -> R
 
 /// The graph of the rules that were added.
 fn made(reading: RuleReading, scripts: &Paths) -> Result<Graph, Stop>
-    ensures inside { (old new : Counts) → IfErr result (HasStopCause old new) }
+    ensures { IfErr result IsInside }
 {
     match reading.finish() {
         Ok(graph) => Ok(graph),
@@ -59,7 +59,7 @@ fn add_all<W: World>(
     scripts: &Paths,
 ) -> Result<(), Stop>
     ensures looks { LooksAtFiles W.meaning world.old world.new }
-    ensures cause { IfErr result (HasStopCause (W.meaning.counts world.old) (W.meaning.counts world.new)) }
+    ensures cause { HasLookCause (W.meaning.counts world.old) (W.meaning.counts world.new) result }
 {
     for number in 0..reading.count() {
         add(alloc, world, reading, number, scripts)?;
@@ -77,7 +77,7 @@ fn add<W: World>(
     scripts: &Paths,
 ) -> Result<(), Stop>
     ensures looks { LooksAtFiles W.meaning world.old world.new }
-    ensures cause { IfErr result (HasStopCause (W.meaning.counts world.old) (W.meaning.counts world.new)) }
+    ensures cause { HasLookCause (W.meaning.counts world.old) (W.meaning.counts world.new) result }
 {
     let place = reading.place(number);
     let wanted = match reading.wanted(number) {
@@ -95,7 +95,7 @@ fn add<W: World>(
 #[tactic(auto, using(crate::specs::Looking::looking))]
 fn found<W: World>(alloc: Global, world: &mut W, wanted: &Listing<Wanted>) -> Result<Paths, Stop>
     ensures looks { LooksAtFiles W.meaning world.old world.new }
-    ensures cause { IfErr result (HasStopCause (W.meaning.counts world.old) (W.meaning.counts world.new)) }
+    ensures cause { HasLookCause (W.meaning.counts world.old) (W.meaning.counts world.new) result }
 {
     let mut libraries = Paths::new(Vec::new(alloc));
     for library in wanted.as_slice() {
@@ -108,7 +108,7 @@ fn found<W: World>(alloc: Global, world: &mut W, wanted: &Listing<Wanted>) -> Re
 #[tactic(auto, using(crate::specs::Looking::looking))]
 fn find<W: World>(world: &mut W, wanted: &Wanted, libraries: &mut Paths) -> Result<(), Stop>
     ensures looks { LooksAtFiles W.meaning world.old world.new }
-    ensures cause { IfErr result (HasStopCause (W.meaning.counts world.old) (W.meaning.counts world.new)) }
+    ensures cause { HasLookCause (W.meaning.counts world.old) (W.meaning.counts world.new) result }
 {
     for asked in wanted.asked.as_slice() {
         if is_file(world, &asked.file)? {
@@ -122,14 +122,15 @@ fn find<W: World>(world: &mut W, wanted: &Wanted, libraries: &mut Paths) -> Resu
     Ok(())
 }
 
+/// Whether a file stands at a path.
 #[tactic(auto, using(crate::specs::Looking::looking))]
-fn is_file<W: World>(world: &mut W, path: &PathText) -> Result<bool, Stop>
+pub fn is_file<W: World>(world: &mut W, path: &PathText) -> Result<bool, Stop>
     ensures looks { LooksAtFiles W.meaning world.old world.new }
-    ensures cause { IfErr result (HasStopCause (W.meaning.counts world.old) (W.meaning.counts world.new)) }
+    ensures cause { HasLookCause (W.meaning.counts world.old) (W.meaning.counts world.new) result }
 {
     match kind_of(world, path) {
         Ok(kind) => Ok(kind == Kind::File),
-        Err(_) => Err(Stop::Tree(path.copy()?)),
+        Err(_) => Err(Stop::tree(path)),
     }
 }
 

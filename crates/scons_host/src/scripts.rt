@@ -1,7 +1,7 @@
 //! Scripts: the calls of SConscript, and the first scripts.
 ghost use Rattle.std.specs.Prelude.{IfErr};
 ghost use Rattle.py_host.specs.Extends.{Extends};
-ghost use Rattle.scons_host.specs.Causes.{HasStopCause, IsInside};
+ghost use Rattle.scons_host.specs.Causes.{HasLookCause, IsInside};
 ghost use Rattle.world_api.specs.Looks.{LooksAtFiles};
 
 use crate::asks::bytes_of;
@@ -35,7 +35,7 @@ pub fn open_scripts<W: World>(
     files: ScriptFiles,
 ) -> Result<Reply, Stop>
     ensures looks { LooksAtFiles W.meaning world.old world.new }
-    ensures cause { IfErr result (HasStopCause (W.meaning.counts world.old) (W.meaning.counts world.new)) }
+    ensures cause { HasLookCause (W.meaning.counts world.old) (W.meaning.counts world.new) result }
     ensures stands { Extends heap.old heap.new }
 {
     push_call(state, caller, env, files)?;
@@ -92,7 +92,7 @@ pub fn script_done<W: World>(
     heap: &mut Heap,
 ) -> Result<Reply, Stop>
     ensures looks { LooksAtFiles W.meaning world.old world.new }
-    ensures cause { IfErr result (HasStopCause (W.meaning.counts world.old) (W.meaning.counts world.new)) }
+    ensures cause { HasLookCause (W.meaning.counts world.old) (W.meaning.counts world.new) result }
     ensures stands { Extends heap.old heap.new }
 {
     keep_returned(state)?;
@@ -114,7 +114,7 @@ fn keep_returned(state: &mut State) -> Result<(), Refusal> {
 #[tactic(auto, using(crate::specs::Looking::looking))]
 fn go_on<W: World>(state: &mut State, world: &mut W, heap: &mut Heap) -> Result<Reply, Stop>
     ensures looks { LooksAtFiles W.meaning world.old world.new }
-    ensures cause { IfErr result (HasStopCause (W.meaning.counts world.old) (W.meaning.counts world.new)) }
+    ensures cause { HasLookCause (W.meaning.counts world.old) (W.meaning.counts world.new) result }
     ensures stands { Extends heap.old heap.new }
 {
     let next = match state.open.last_mut() {
@@ -145,7 +145,7 @@ fn ended(state: &mut State, heap: &mut Heap) -> Result<Value, Refusal>
 #[tactic(auto, using(crate::specs::Looking::looking))]
 fn begun<W: World>(state: &mut State, world: &mut W, file: &Given) -> Result<Script, Stop>
     ensures looks { LooksAtFiles W.meaning world.old world.new }
-    ensures cause { IfErr result (HasStopCause (W.meaning.counts world.old) (W.meaning.counts world.new)) }
+    ensures cause { HasLookCause (W.meaning.counts world.old) (W.meaning.counts world.new) result }
 {
     let place = found(state, file)?;
     match opened(state, world, &place)? {
@@ -174,7 +174,7 @@ fn opened<W: World>(
     place: &ScriptPlace,
 ) -> Result<Option<Script>, Stop>
     ensures looks { LooksAtFiles W.meaning world.old world.new }
-    ensures cause { IfErr result (HasStopCause (W.meaning.counts world.old) (W.meaning.counts world.new)) }
+    ensures cause { HasLookCause (W.meaning.counts world.old) (W.meaning.counts world.new) result }
 {
     for path in place.candidates.as_slice() {
         if let Some(bytes) = read(world, path)? {
@@ -197,11 +197,11 @@ fn begin(state: &mut State, path: &PathText, dir: &PathText) -> Result<(), Refus
 #[tactic(auto, using(crate::specs::Looking::looking))]
 fn read<W: World>(world: &mut W, path: &PathText) -> Result<Option<Blob>, Stop>
     ensures looks { LooksAtFiles W.meaning world.old world.new }
-    ensures cause { IfErr result (HasStopCause (W.meaning.counts world.old) (W.meaning.counts world.new)) }
+    ensures cause { HasLookCause (W.meaning.counts world.old) (W.meaning.counts world.new) result }
 {
     match bytes_of(world, path, SCRIPT_LIMIT) {
         Ok(content) => Ok(content),
-        Err(ReadRefusal::Fault) => Err(Stop::Tree(path.copy()?)),
+        Err(ReadRefusal::Fault) => Err(Stop::tree(path)),
         Err(ReadRefusal::TooLarge(size)) => Err(Stop::TooLarge(path.copy()?, size)),
         Err(ReadRefusal::Memory) => Err(Stop::Memory),
     }
@@ -231,7 +231,7 @@ fn script_of(alloc: Global, path: &PathText, bytes: &Blob) -> Result<Script, Sto
 #[tactic(auto, using(crate::specs::Looking::looking))]
 pub fn next_first<W: World>(state: &mut State, world: &mut W) -> Result<Option<Script>, Stop>
     ensures looks { LooksAtFiles W.meaning world.old world.new }
-    ensures cause { IfErr result (HasStopCause (W.meaning.counts world.old) (W.meaning.counts world.new)) }
+    ensures cause { HasLookCause (W.meaning.counts world.old) (W.meaning.counts world.new) result }
 {
     let Some(path) = state.first.pop_front() else {
         return Ok(None);
@@ -244,7 +244,7 @@ pub fn next_first<W: World>(state: &mut State, world: &mut W) -> Result<Option<S
 #[tactic(auto, using(crate::specs::Looking::looking))]
 pub fn first<W: World>(state: &mut State, world: &mut W, path: PathText) -> Result<Script, Stop>
     ensures looks { LooksAtFiles W.meaning world.old world.new }
-    ensures cause { IfErr result (HasStopCause (W.meaning.counts world.old) (W.meaning.counts world.new)) }
+    ensures cause { HasLookCause (W.meaning.counts world.old) (W.meaning.counts world.new) result }
 {
     match read(world, &path)? {
         Some(bytes) => {

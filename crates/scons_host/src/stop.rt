@@ -29,6 +29,23 @@ pub enum Stop {
     Memory,
 }
 
+impl Stop {
+    ghost use Rattle.world_api.specs.Causes.{TreeFails};
+    ghost use Rattle.world_api.specs.Counts.{Counts};
+    ghost use Rattle.scons_host.specs.Causes.{HasStopCause};
+
+    /// The tree refused at this path.
+    #[tactic(auto, using(crate::specs::Looking::looking))]
+    pub fn tree(path: &PathText) -> Stop
+        ensures { (old new : Counts) → TreeFails old new → HasStopCause old new result }
+    {
+        match path.copy() {
+            Ok(path) => Stop::Tree(path),
+            Err(_) => Stop::Memory,
+        }
+    }
+}
+
 /// The refusal of a call that isn't taken, by the name that is called.
 pub fn refused(alloc: Global, name: &str, fault: CallFault) -> Refusal {
     match fault {

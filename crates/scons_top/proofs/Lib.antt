@@ -1,2 +1,4 @@
 mod Watching
 mod Early
+mod Causing
+mod Reporting

@@ -1,2 +1,5 @@
+pub mod Causes
+pub mod Endings
 pub mod Faults
+pub mod Stops
 pub mod Watching

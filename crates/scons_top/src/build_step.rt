@@ -1,9 +1,10 @@
 //! The build of what was requested.
-ghost use Rattle.std.specs.Prelude.{◌≡◌, [], IfOk, IfErr};
+ghost use Rattle.std.specs.Prelude.{◌≡◌, [], true, IfOk, IfErr};
 ghost use Rattle.build_run.specs.Goings.{Passes, Goes};
 ghost use Rattle.scons_top.specs.Faults.{IsLateStop, EarlyOnlyIf};
 ghost use Rattle.world_api.specs.Statuses.{HasStatus};
-ghost use Rattle.sign_store.specs.Stores.{IsStoredIn};
+ghost use Rattle.sign_store.specs.Stores.{IsKept, is_live};
+ghost use Rattle.scons_top.specs.Stops.{Reports, SinkStep, WorldStep};
 
 use crate::ending::{closed, tell_done, tell_faulty};
 use crate::printed::say;
@@ -32,6 +33,7 @@ pub(crate) fn build_requests<W: World, O: Sink, E: Sink>(
     requires unclosed { W.meaning.closed world.old ≡ [] }
     requires idle { W.meaning.tells world.old → (W.meaning.around world.old).running ≡ [] }
     ensures passes { Passes W.meaning world.old world.new }
+    ensures reports { Reports W.meaning O.meaning E.meaning world.old out.old err.old world.new out.new err.new result }
     ensures idle { W.meaning.tells world.new → (W.meaning.around world.new).running ≡ [] }
     ensures late { IfErr result IsLateStop }
     ensures faults { IfOk result (λ report. EarlyOnlyIf ⊥ report.faults) }
@@ -59,10 +61,12 @@ pub(crate) fn build_requests<W: World, O: Sink, E: Sink>(
     Ok(closed(alloc, end.faults, end.skipped, end.memory, written))
 }
 
-#[tactic(auto, using(crate::proofs::Watching::watching))]
+#[tactic(auto, using(crate::proofs::Causing::causing))]
 fn begin_store<W: World>(alloc: Global, world: &mut W) -> Result<Store, Stop>
     ensures goes { Goes W.meaning world.old world.new }
-    ensures stands { W.meaning.tells world.new → IfOk result (IsStoredIn (W.meaning.seen world.new)) }
+    ensures step { WorldStep (W.meaning.counts world.old) (W.meaning.counts world.new) result }
+    ensures live { IfOk result (λ store. is_live store ≡ true) }
+    ensures keeps { IfOk result (IsKept W.meaning world.new) }
     ensures late { IfErr result IsLateStop }
 {
     match Store::begin(alloc, world) {
@@ -88,7 +92,9 @@ fn tell_end<O: Sink>(
     requests: &[Request],
     end: &BuildEnd,
     out: &mut O,
-) -> Result<(), Stop> {
+) -> Result<(), Stop>
+    ensures { SinkStep (O.meaning.faults out.old) (O.meaning.faults out.new) result }
+{
     if end.memory || end.is_out_shut {
         return Ok(());
     }

@@ -1,6 +1,8 @@
 //! Cleaning: the targets of what was requested are removed.
 ghost use Rattle.std.specs.Prelude.{◌≡◌, [], IfOk, IfErr, IsTrue};
+ghost use Rattle.build_files.specs.Causes.{HasLookCause};
 ghost use Rattle.build_run.specs.Goings.{Stays};
+ghost use Rattle.scons_top.specs.Stops.{OutSteps, OutReports};
 ghost use Rattle.scons_top.specs.Faults.{IsLateStop};
 ghost use Rattle.world_api.specs.Statuses.{HasStatus};
 ghost use Rattle.scons_top.specs.Watching.{Watches};
@@ -30,6 +32,7 @@ pub(crate) fn clean_requests<W: World, O: Sink>(
 ) -> Result<Report, Stop>
     requires idle { W.meaning.tells world.old → (W.meaning.around world.old).running ≡ [] }
     ensures stays { Stays W.meaning world.old world.new }
+    ensures reports { OutReports W.meaning O.meaning world.old out.old world.new out.new result }
     ensures dry { IsTrue words.now.dry → Watches W.meaning world.old world.new }
     ensures late { IfErr result IsLateStop }
     ensures faults { IfOk result (λ report. report.faults ≡ []) }
@@ -53,6 +56,7 @@ fn clean_rules<W: World, O: Sink>(
 ) -> Result<(), Stop>
     requires idle { W.meaning.tells world.old → (W.meaning.around world.old).running ≡ [] }
     ensures stays { Stays W.meaning world.old world.new }
+    ensures steps { OutSteps W.meaning O.meaning world.old out.old world.new out.new result }
     ensures dry { IsTrue words.now.dry → Watches W.meaning world.old world.new }
     ensures late { IfErr result IsLateStop }
 {
@@ -73,6 +77,7 @@ fn clean_all<W: World, O: Sink>(
 ) -> Result<(), Stop>
     requires idle { W.meaning.tells world.old → (W.meaning.around world.old).running ≡ [] }
     ensures stays { Stays W.meaning world.old world.new }
+    ensures steps { OutSteps W.meaning O.meaning world.old out.old world.new out.new result }
     ensures dry { IsTrue words.now.dry → Watches W.meaning world.old world.new }
     ensures late { IfErr result IsLateStop }
 {
@@ -92,6 +97,7 @@ fn clean<W: World, O: Sink>(
 ) -> Result<(), Stop>
     requires idle { W.meaning.tells world.old → (W.meaning.around world.old).running ≡ [] }
     ensures stays { Stays W.meaning world.old world.new }
+    ensures steps { OutSteps W.meaning O.meaning world.old out.old world.new out.new result }
     ensures dry { IsTrue words.now.dry → Watches W.meaning world.old world.new }
     ensures late { IfErr result IsLateStop }
 {
@@ -105,6 +111,7 @@ fn clean<W: World, O: Sink>(
 fn is_removed<W: World>(words: &Words, world: &mut W, path: &PathText) -> Result<bool, ListEnd>
     requires idle { W.meaning.tells world.old → (W.meaning.around world.old).running ≡ [] }
     ensures stays { Stays W.meaning world.old world.new }
+    ensures cause { HasLookCause (W.meaning.counts world.old) (W.meaning.counts world.new) result }
     ensures dry { IsTrue words.now.dry → Watches W.meaning world.old world.new }
 {
     if kind_of(world, path)? != Kind::File {
@@ -117,10 +124,11 @@ fn is_removed<W: World>(words: &Words, world: &mut W, path: &PathText) -> Result
     Ok(true)
 }
 
-#[tactic(auto, using(crate::proofs::Watching::watching))]
+#[tactic(auto, using(crate::proofs::Causing::causing))]
 fn remove<W: World>(world: &mut W, path: &PathText) -> Result<(), ListEnd>
     requires idle { W.meaning.tells world.old → (W.meaning.around world.old).running ≡ [] }
     ensures stays { Stays W.meaning world.old world.new }
+    ensures cause { HasLookCause (W.meaning.counts world.old) (W.meaning.counts world.new) result }
 {
     match world.remove(path) {
         Ok(()) => Ok(()),

@@ -1,7 +1,11 @@
 //! A dry run: what a build would start is listed.
-ghost use Rattle.std.specs.Prelude.{IfOk};
+ghost use Rattle.std.specs.Prelude.{◌≡◌, ◌++◌, ◌∷◌, [], true, false, IfOk};
 ghost use Rattle.scons_top.specs.Faults.{EarlyOnlyIf};
 ghost use Rattle.world_api.specs.Statuses.{HasStatus};
+ghost use Rattle.scons_report.specs.Causes.{HasListCause};
+ghost use Rattle.sign_store.specs.Reached.{HasFaultCause};
+ghost use Rattle.scons_top.specs.Endings.{ListEnds, AddsUnprinted};
+ghost use Rattle.scons_top.specs.Stops.{SinkReports, Reports};
 ghost use Rattle.scons_top.specs.Watching.{Watches};
 
 use crate::build_step::nodes_of;
@@ -16,7 +20,7 @@ use scons_report::{ListEnd, building_text, dry_list, fault_text, rule_text};
 use scons_words::Words;
 use sign_store::{Store, StoreRefusal, View};
 use std::alloc::Global;
-use world_api::{Sink, World, print};
+use world_api::{Fault, Sink, World, print};
 
 /// Reads the store, and lists what would be started.
 pub(crate) fn list_requests<W: World, O: Sink, E: Sink>(
@@ -29,6 +33,7 @@ pub(crate) fn list_requests<W: World, O: Sink, E: Sink>(
     err: &mut E,
 ) -> Result<Report, Stop>
     ensures watches { Watches W.meaning world.old world.new }
+    ensures reports { Reports W.meaning O.meaning E.meaning world.old out.old err.old world.new out.new err.new result }
     ensures faults { IfOk result (λ report. EarlyOnlyIf ⊥ report.faults) }
     ensures status { IfOk result (λ report. HasStatus report.status report.faults) }
 {
@@ -43,15 +48,16 @@ pub(crate) fn list_requests<W: World, O: Sink, E: Sink>(
 }
 
 /// What the store holds.
-#[tactic(auto, using(crate::proofs::Watching::watching))]
+#[tactic(auto, using(crate::proofs::Causing::causing))]
 fn view_of<W: World>(alloc: Global, world: &mut W) -> Result<View, StoreRefusal>
     ensures watches { Watches W.meaning world.old world.new }
+    ensures cause { HasFaultCause W.meaning world.old world.new result }
 {
     Store::read(alloc, world)
 }
 
 /// The rules that would be started.
-#[tactic(auto, using(crate::proofs::Watching::watching))]
+#[tactic(auto, using(crate::proofs::Causing::causing))]
 fn list_of<W: World>(
     alloc: Global,
     graph: &mut Graph,
@@ -60,6 +66,7 @@ fn list_of<W: World>(
     world: &mut W,
 ) -> Result<Listing<RuleId>, ListEnd>
     ensures watches { Watches W.meaning world.old world.new }
+    ensures cause { HasListCause (W.meaning.counts world.old) (W.meaning.counts world.new) result }
 {
     dry_list(alloc, graph, nodes, view, world)
 }
@@ -73,6 +80,7 @@ fn tell_rules<O: Sink>(
     rules: &[RuleId],
     out: &mut O,
 ) -> Result<Report, Stop>
+    ensures reports { SinkReports O.meaning out.old out.new result }
     ensures faults { IfOk result (λ report. EarlyOnlyIf ⊥ report.faults) }
     ensures status { IfOk result (λ report. HasStatus report.status report.faults) }
 {
@@ -102,13 +110,34 @@ fn end_with<O: Sink, E: Sink>(
 ) -> Result<Report, Stop>
     ensures faults { IfOk result (λ report. EarlyOnlyIf ⊥ report.faults) }
     ensures status { IfOk result (λ report. HasStatus report.status report.faults) }
+    ensures reports { ListEnds O.meaning E.meaning fault out.old err.old out.new err.new result }
 {
+    let text = fault_text(alloc, &fault)?;
     let mut faults = Listing::empty(alloc);
-    let is_printed = print(err, fault_text(alloc, &fault)?.as_str()).is_ok();
     faults.push(fault)?;
+    let printed = print(err, text.as_str());
     let written = tell_faulty(alloc, words, faults.as_slice(), out);
-    if !is_printed {
-        faults.push(BuildFault::OutFault)?;
+    let lost = add_unprinted(&mut faults, printed);
+    Ok(closed(alloc, faults, Listing::empty(alloc), lost, written))
+}
+
+/// Adds the fault that a text wasn't printed, and says whether memory was wanting.
+fn add_unprinted(faults: &mut Listing<BuildFault>, printed: Result<(), Fault>) -> bool
+    ensures { AddsUnprinted printed faults.old faults.new result }
+{
+    match printed {
+        Ok(()) => false,
+        Err(_) => add_out(faults),
     }
-    Ok(closed(alloc, faults, Listing::empty(alloc), false, written))
+}
+
+/// Adds the fault that a sink refused, and says whether memory was wanting.
+fn add_out(faults: &mut Listing<BuildFault>) -> bool
+    ensures added { result ≡ false → faults.new ≡ faults.old ++ BuildFault.OutFault ∷ [] }
+    ensures lost { result ≡ true → faults.new ≡ faults.old }
+{
+    match faults.push(BuildFault::OutFault) {
+        Ok(()) => false,
+        Err(_) => true,
+    }
 }

@@ -1,9 +1,12 @@
 //! How a run ends: its last lines and its report.
-ghost use Rattle.std.specs.Prelude.{◌≡◌, [], IfErr};
+ghost use Rattle.std.specs.Prelude.{◌≡◌, ◌≢◌, ◌++◌, ◌∷◌, [], true, false, All, Contains, map, IfOk, IfErr, OnOk, OnErr};
 ghost use Rattle.scons_top.specs.Faults.{IsEarly, IsEarlyStop, IsLate, IsLateStop, EarlyOnlyIf};
+ghost use Rattle.scons_top.specs.Endings.{ErrFinds, ErrEnds, ErrReports, AddsStopped, AddsUnwritten, Closes};
+ghost use Rattle.scons_top.specs.Stops.{SinkStep, SinkReports, top_of};
+ghost use Rattle.scons_top.specs.declared.report.Top.{Top};
 ghost use Rattle.world_api.specs.Statuses.{HasStatus};
 
-use crate::printed::{say, tell};
+use crate::printed::{print_text, say, tell};
 use crate::report::{Report, Top};
 use crate::requests::Request;
 use crate::stop::Stop;
@@ -25,6 +28,7 @@ pub(crate) fn report(
 ) -> Report
     ensures faults { result.faults ≡ faults }
     ensures status { HasStatus result.status result.faults }
+    ensures memory { result.status ≢ 3 → memory ≡ false }
 {
     let status = match memory {
         true => 3,
@@ -46,10 +50,25 @@ pub(crate) fn good(alloc: Global) -> Report
     report(Listing::empty(alloc), Listing::empty(alloc), false)
 }
 
+/// Prints the one text of a run without a fault.
+pub(crate) fn show<O: Sink>(
+    alloc: Global,
+    out: &mut O,
+    text: Result<String, Memory>,
+) -> Result<Report, Stop>
+    ensures reports { SinkReports O.meaning out.old out.new result }
+    ensures faults { IfOk result (λ report. report.faults ≡ []) }
+    ensures status { IfOk result (λ report. HasStatus report.status report.faults) }
+{
+    print_text(out, text)?;
+    Ok(good(alloc))
+}
+
 /// The report of a run that one fault ended: it is printed, and, where standard error refuses, so is that.
 pub(crate) fn ended<E: Sink>(alloc: Global, stop: Stop, err: &mut E) -> Report
     ensures early { EarlyOnlyIf (IsEarlyStop stop) result.faults }
     ensures status { HasStatus result.status result.faults }
+    ensures causes { ErrEnds E.meaning stop err.old err.new result }
 {
     match stop {
         Stop::Fault(fault) => {
@@ -68,10 +87,13 @@ pub(crate) fn ended<E: Sink>(alloc: Global, stop: Stop, err: &mut E) -> Report
 fn kept<E: Sink>(alloc: Global, err: &mut E, fault: Top, text: Result<String, Memory>) -> Report
     ensures early { EarlyOnlyIf (IsEarly fault) result.faults }
     ensures status { HasStatus result.status result.faults }
+    ensures causes { ErrReports E.meaning fault err.old err.new result }
 {
     let mut faults = Listing::empty(alloc);
-    let memory = keep(err, fault, text, &mut faults).is_err();
-    report(faults, Listing::empty(alloc), memory)
+    match keep(err, fault, text, &mut faults) {
+        Ok(()) => report(faults, Listing::empty(alloc), false),
+        Err(_) => report(faults, Listing::empty(alloc), true),
+    }
 }
 
 /// Prints the text of a fault and keeps the fault.
@@ -82,12 +104,18 @@ fn keep<E: Sink>(
     faults: &mut Listing<Top>,
 ) -> Result<(), Memory>
     ensures early { EarlyOnlyIf (IsEarly fault) faults.old → EarlyOnlyIf (IsEarly fault) faults.new }
+    ensures finds { OnOk result (ErrFinds E.meaning err.old err.new (faults.old ++ fault ∷ []) faults.new false) }
+    ensures lacks { OnErr result (ErrFinds E.meaning err.old err.new (faults.old ++ fault ∷ []) faults.new true) }
 {
     faults.push(fault)?;
-    if print(err, text?.as_str()).is_err() {
-        faults.push(Top::OutFault)?;
+    let text = text?;
+    match print(err, text.as_str()) {
+        Ok(()) => Ok(()),
+        Err(_) => {
+            faults.push(Top::OutFault)?;
+            Ok(())
+        }
     }
-    Ok(())
 }
 
 /// Writes the last lines of a run without a fault: what was up to date, and that it is done.
@@ -99,18 +127,36 @@ pub(crate) fn tell_done<O: Sink>(
     started: &[RuleId],
     out: &mut O,
 ) -> Result<(), Stop>
-    ensures { IfErr result IsLateStop }
+    ensures late { IfErr result IsLateStop }
+    ensures step { SinkStep (O.meaning.faults out.old) (O.meaning.faults out.new) result }
 {
     let marks = marks_of(alloc, graph, started)?;
     for request in requests {
-        let word = request.word.as_str();
-        if request.is_plain {
-            tell(out, words, nothing_text(alloc, word))?;
-        } else if !has_marked(graph, marks.as_slice(), request.nodes.as_slice()) {
-            tell(out, words, up_to_date_text(alloc, word))?;
-        }
+        tell_request(alloc, graph, words, request, marks.as_slice(), out)?;
     }
     say(out, words, done_text(alloc))
+}
+
+/// Writes what was up to date of what was requested by one word.
+fn tell_request<O: Sink>(
+    alloc: Global,
+    graph: &Graph,
+    words: &Words,
+    request: &Request,
+    marks: &[bool],
+    out: &mut O,
+) -> Result<(), Stop>
+    ensures late { IfErr result IsLateStop }
+    ensures step { SinkStep (O.meaning.faults out.old) (O.meaning.faults out.new) result }
+{
+    let word = request.word.as_str();
+    if request.is_plain {
+        return tell(out, words, nothing_text(alloc, word));
+    }
+    if has_marked(graph, marks, request.nodes.as_slice()) {
+        return Ok(());
+    }
+    tell(out, words, up_to_date_text(alloc, word))
 }
 
 /// Which rules were started, by their numbers.
@@ -139,7 +185,8 @@ pub(crate) fn tell_faulty<O: Sink>(
     faults: &[BuildFault],
     out: &mut O,
 ) -> Result<(), Stop>
-    ensures { IfErr result IsLateStop }
+    ensures late { IfErr result IsLateStop }
+    ensures step { SinkStep (O.meaning.faults out.old) (O.meaning.faults out.new) result }
 {
     if words.keep && faults.iter().all(goes_on) {
         say(out, words, done_with_errors_text(alloc))
@@ -166,39 +213,73 @@ pub(crate) fn closed(
 ) -> Report
     ensures late { EarlyOnlyIf ⊥ result.faults }
     ensures status { HasStatus result.status result.faults }
+    ensures causes { Closes found memory written result }
 {
     let mut faults = Listing::empty(alloc);
     let lacks = add_all(&mut faults, found);
     let lost = add_unwritten(&mut faults, written);
-    report(faults, skipped, memory || lacks || lost)
+    report(faults, skipped, was_wanting(memory, lacks, lost))
+}
+
+/// Whether memory was wanting for a build, for its faults or for the last one.
+fn was_wanting(memory: bool, lacks: bool, lost: bool) -> bool
+    ensures { result ≡ false → (memory ≡ false) × (lacks ≡ false) × (lost ≡ false) }
+{
+    memory || lacks || lost
 }
 
 /// Adds the faults of a build, and says whether memory was wanting.
 fn add_all(faults: &mut Listing<Top>, found: Listing<BuildFault>) -> bool
-    ensures { EarlyOnlyIf ⊥ faults.old → EarlyOnlyIf ⊥ faults.new }
+    ensures late { EarlyOnlyIf ⊥ faults.old → EarlyOnlyIf ⊥ faults.new }
+    ensures added { result ≡ false → faults.new ≡ faults.old ++ map top_of found }
+    ensures each { All (Contains (faults.old ++ map top_of found)) faults.new }
 {
     let mut lacks = false;
     for fault in found.into_vec() {
-        lacks |= add(faults, Top::from(fault));
+        let lost = add(faults, Top::from(fault));
+        lacks = has_lost(lacks, lost);
     }
     lacks
 }
 
+/// Whether a fault was lost, the last or one before it.
+fn has_lost(before: bool, last: bool) -> bool
+    ensures { result ≡ false → (before ≡ false) × (last ≡ false) }
+{
+    before || last
+}
+
 /// Adds the fault that a last line wasn't written, and says whether memory was wanting.
 fn add_unwritten(faults: &mut Listing<Top>, written: Result<(), Stop>) -> bool
-    ensures { EarlyOnlyIf ⊥ faults.old → EarlyOnlyIf ⊥ faults.new }
+    ensures late { EarlyOnlyIf ⊥ faults.old → EarlyOnlyIf ⊥ faults.new }
+    ensures adds { AddsUnwritten written faults.old faults.new result }
 {
     match written {
         Ok(()) => false,
-        Err(Stop::Memory) => true,
-        Err(_) => add(faults, Top::OutFault),
+        Err(stop) => add_stopped(faults, &stop),
+    }
+}
+
+/// Adds the fault for which a last line wasn't written, and says whether memory was wanting.
+fn add_stopped(faults: &mut Listing<Top>, stop: &Stop) -> bool
+    ensures late { EarlyOnlyIf ⊥ faults.old → EarlyOnlyIf ⊥ faults.new }
+    ensures adds { AddsStopped stop.now faults.old faults.new result }
+{
+    match stop {
+        Stop::Memory => true,
+        _ => add(faults, Top::OutFault),
     }
 }
 
 /// Adds a fault, and says whether memory was wanting.
 fn add(faults: &mut Listing<Top>, fault: Top) -> bool
     requires { IsLate fault }
-    ensures { EarlyOnlyIf ⊥ faults.old → EarlyOnlyIf ⊥ faults.new }
+    ensures late { EarlyOnlyIf ⊥ faults.old → EarlyOnlyIf ⊥ faults.new }
+    ensures added { result ≡ false → faults.new ≡ faults.old ++ fault ∷ [] }
+    ensures lost { result ≡ true → faults.new ≡ faults.old }
 {
-    faults.push(fault).is_err()
+    match faults.push(fault) {
+        Ok(()) => false,
+        Err(_) => true,
+    }
 }

@@ -3,8 +3,9 @@
 ghost use Rattle.std.specs.Prelude.{◌≡◌, [], IfOk};
 ghost use Rattle.world_api.specs.Statuses.{HasStatus};
 ghost use Rattle.world_mem.specs.AsAround.{around_of};
+ghost use Rattle.scons_top.specs.Stops.{SinkReports};
 
-use crate::ending::good;
+use crate::ending::show;
 use crate::report::Report;
 use crate::stop::Stop;
 use crate::top::run;
@@ -12,7 +13,7 @@ use scons_base::{Blob, Listing, Memory, PathText, Paths, Texts};
 use scons_report::load_text;
 use scons_words::Words;
 use std::alloc::Global;
-use world_api::{Sink, print};
+use world_api::Sink;
 use world_mem::{ActTable, MemSink, MemWorld};
 
 /// Builds twice, and says how many rules were started.
@@ -23,15 +24,20 @@ pub(crate) fn load<O: Sink>(
     out: &mut O,
 ) -> Result<Report, Stop>
     ensures faults { IfOk result (λ report. report.faults ≡ []) }
+    ensures reports { SinkReports O.meaning out.old out.new result }
     ensures status { IfOk result (λ report. HasStatus report.status report.faults) }
 {
+    show(alloc, out, measured(alloc, words, rules))
+}
+
+/// Builds twice over a world in memory, and gives the line that says so.
+fn measured(alloc: Global, words: &Words, rules: u32) -> Result<String, Memory> {
     let inner = build_words(alloc, words.jobs)?;
     let mut world = world_of(alloc, rules)?;
     build_once(alloc, &inner, &mut world)?;
     edit(alloc, &mut world)?;
     build_once(alloc, &inner, &mut world)?;
-    print(out, load_text(alloc, rules)?.as_str())?;
-    Ok(good(alloc))
+    load_text(alloc, rules)
 }
 
 /// The world with the script and the sources.
@@ -59,16 +65,15 @@ fn edit(alloc: Global, world: &mut MemWorld) -> Result<(), Memory>
 }
 
 /// A build over a world that refuses nothing: only memory may be wanting.
-fn build_once(alloc: Global, words: &Words, world: &mut MemWorld) -> Result<(), Stop>
+fn build_once(alloc: Global, words: &Words, world: &mut MemWorld) -> Result<(), Memory>
     requires { (around_of world.old.state).running ≡ [] }
     ensures { (around_of world.new.state).running ≡ [] }
 {
     let mut out = MemSink::new(alloc, Vec::new(alloc))?;
     let mut err = MemSink::new(alloc, Vec::new(alloc))?;
-    let report = run(alloc, words, world, &mut out, &mut err)?;
-    match report.status {
-        0 => Ok(()),
-        _ => Err(Stop::Memory),
+    match run(alloc, words, world, &mut out, &mut err) {
+        Ok(report) if report.status == 0 => Ok(()),
+        _ => Err(Memory),
     }
 }
 

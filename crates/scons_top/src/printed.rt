@@ -1,6 +1,7 @@
 //! What a run writes on standard output besides the lines of rules.
 ghost use Rattle.std.specs.Prelude.{IfErr};
 ghost use Rattle.scons_top.specs.Faults.{IsLateStop};
+ghost use Rattle.scons_top.specs.Stops.{SinkStep};
 
 use crate::stop::Stop;
 use scons_base::Memory;
@@ -13,12 +14,13 @@ pub(crate) fn say<O: Sink>(
     words: &Words,
     text: Result<String, Memory>,
 ) -> Result<(), Stop>
-    ensures { IfErr result IsLateStop }
+    ensures late { IfErr result IsLateStop }
+    ensures step { SinkStep (O.meaning.faults out.old) (O.meaning.faults out.new) result }
 {
-    if !words.quiet && !words.silent {
-        print(out, text?.as_str())?;
+    if words.quiet || words.silent {
+        return Ok(());
     }
-    Ok(())
+    print_text(out, text)
 }
 
 /// Writes a line that `-Q` leaves.
@@ -27,10 +29,22 @@ pub(crate) fn tell<O: Sink>(
     words: &Words,
     text: Result<String, Memory>,
 ) -> Result<(), Stop>
-    ensures { IfErr result IsLateStop }
+    ensures late { IfErr result IsLateStop }
+    ensures step { SinkStep (O.meaning.faults out.old) (O.meaning.faults out.new) result }
 {
-    if !words.silent {
-        print(out, text?.as_str())?;
+    if words.silent {
+        return Ok(());
     }
+    print_text(out, text)
+}
+
+/// Prints a text that could be made.
+#[tactic(auto, using(crate::proofs::Causing::late))]
+pub(crate) fn print_text<O: Sink>(out: &mut O, text: Result<String, Memory>) -> Result<(), Stop>
+    ensures late { IfErr result IsLateStop }
+    ensures step { SinkStep (O.meaning.faults out.old) (O.meaning.faults out.new) result }
+{
+    let text = text?;
+    print(out, text.as_str())?;
     Ok(())
 }

@@ -1,4 +1,6 @@
 //! The reading of the scripts.
+ghost use Rattle.scons_host.specs.Causes.{ReadingCauses};
+ghost use Rattle.scons_top.specs.Stops.{IsTopStop, OutSteps, WorldStep};
 ghost use Rattle.scons_top.specs.Watching.{Watches};
 
 use crate::printed::say;
@@ -19,6 +21,7 @@ pub(crate) fn read<W: World, O: Sink>(
     words: &Words,
 ) -> Result<Graph, Stop>
     ensures watches { Watches W.meaning world.old world.new }
+    ensures steps { OutSteps W.meaning O.meaning world.old out.old world.new out.new result }
 {
     ask_for_top(alloc, world)?;
     say(out, words, reading_text(alloc))?;
@@ -28,7 +31,7 @@ pub(crate) fn read<W: World, O: Sink>(
 }
 
 /// What the scripts declare.
-#[tactic(auto, using(crate::proofs::Watching::watching))]
+#[tactic(auto, using(crate::proofs::Causing::causing))]
 fn graph_of<W: World, O: Sink>(
     alloc: Global,
     world: &mut W,
@@ -36,14 +39,16 @@ fn graph_of<W: World, O: Sink>(
     words: &Words,
 ) -> Result<Graph, HostEnd>
     ensures watches { Watches W.meaning world.old world.new }
+    ensures causes { ReadingCauses W.meaning O.meaning world.old out.old world.new out.new result }
 {
     read_scripts(alloc, world, out, words)
 }
 
 /// Sees that the top directory can be named.
-#[tactic(auto, using(crate::proofs::Watching::watching))]
+#[tactic(auto, using(crate::proofs::Causing::causing))]
 fn ask_for_top<W: World>(alloc: Global, world: &mut W) -> Result<(), Stop>
     ensures watches { Watches W.meaning world.old world.new }
+    ensures step { WorldStep (W.meaning.counts world.old) (W.meaning.counts world.new) result }
 {
     match world.top_path() {
         Ok(_) => Ok(()),
@@ -53,7 +58,9 @@ fn ask_for_top<W: World>(alloc: Global, world: &mut W) -> Result<(), Stop>
 }
 
 /// The fault that the top directory can't be named.
-fn no_top(alloc: Global) -> Stop {
+fn no_top(alloc: Global) -> Stop
+    ensures { IsTopStop result }
+{
     match PathText::read(alloc, ".") {
         Ok(top) => Stop::Build(BuildFault::TreeFault(top)),
         Err(_) => Stop::Memory,

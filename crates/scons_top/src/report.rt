@@ -1,5 +1,7 @@
 //! What a run answers.
+ghost use Rattle.std.specs.Prelude.{◌≡◌};
 ghost use Rattle.scons_top.specs.Faults.{IsLate};
+ghost use Rattle.scons_top.specs.Stops.{top_of};
 
 use rule_graph::{BuildFault, What};
 use scons_base::{Listing, PathText, Paths, Text};
@@ -39,7 +41,7 @@ pub enum Top {
 }
 
 impl From<BuildFault> for Top {
-    ghost from_gives = { λ _ fault. IsLate fault };
+    ghost from_gives = { λ f top. IsLate top × (top ≡ top_of f) };
 
     fn from(fault: BuildFault) -> Self {
         match fault {

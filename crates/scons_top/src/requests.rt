@@ -1,4 +1,6 @@
 //! What the words ask for.
+ghost use Rattle.build_files.specs.Causes.{HasLookCause};
+ghost use Rattle.scons_top.specs.Stops.{WorldStep, InnerStep, IsInside};
 ghost use Rattle.scons_top.specs.Watching.{Watches};
 
 use crate::report::Top;
@@ -27,6 +29,7 @@ pub(crate) fn requests_of<W: World>(
     words: &Words,
 ) -> Result<Vec<Request>, Stop>
     ensures watches { Watches W.meaning world.old world.new }
+    ensures step { WorldStep (W.meaning.counts world.old) (W.meaning.counts world.new) result }
 {
     let asked = match words.requested.as_slice() {
         [] => defaults_of(alloc, graph)?,
@@ -42,6 +45,7 @@ fn requests_for<W: World>(
     asked: &[Text],
 ) -> Result<Vec<Request>, Stop>
     ensures watches { Watches W.meaning world.old world.new }
+    ensures step { WorldStep (W.meaning.counts world.old) (W.meaning.counts world.new) result }
 {
     let mut requests = Vec::new(alloc);
     for word in asked {
@@ -74,6 +78,7 @@ fn request_of<W: World>(
     word: &Text,
 ) -> Result<Request, Stop>
     ensures watches { Watches W.meaning world.old world.new }
+    ensures step { WorldStep (W.meaning.counts world.old) (W.meaning.counts world.new) result }
 {
     if let Some(members) = graph.alias(word.as_str()) {
         let nodes = Vec::from_slice(alloc, members)?;
@@ -98,6 +103,7 @@ fn file_request<W: World>(
     path: &PathText,
 ) -> Result<Request, Stop>
     ensures watches { Watches W.meaning world.old world.new }
+    ensures step { WorldStep (W.meaning.counts world.old) (W.meaning.counts world.new) result }
 {
     match kind_of(world, path)? {
         Kind::File => node_request(alloc, graph, word, path, true),
@@ -112,7 +118,9 @@ fn absent_request(
     graph: &Graph,
     word: &Text,
     path: &PathText,
-) -> Result<Request, Stop> {
+) -> Result<Request, Stop>
+    ensures { InnerStep result }
+{
     let below = targets_below(alloc, graph, path)?;
     if below.is_empty() {
         return Err(unknown(word));
@@ -127,12 +135,16 @@ fn node_request(
     word: &Text,
     path: &PathText,
     is_plain: bool,
-) -> Result<Request, Stop> {
+) -> Result<Request, Stop>
+    ensures { InnerStep result }
+{
     let nodes = vec![in alloc; graph.intern(path)?]?;
     made(word, nodes, is_plain)
 }
 
-fn made(word: &Text, nodes: Vec<NodeId>, is_plain: bool) -> Result<Request, Stop> {
+fn made(word: &Text, nodes: Vec<NodeId>, is_plain: bool) -> Result<Request, Stop>
+    ensures { InnerStep result }
+{
     Ok(Request {
         word: word.copy()?,
         nodes,
@@ -141,7 +153,9 @@ fn made(word: &Text, nodes: Vec<NodeId>, is_plain: bool) -> Result<Request, Stop
 }
 
 /// The fault that a word stands for nothing.
-fn unknown(word: &Text) -> Stop {
+fn unknown(word: &Text) -> Stop
+    ensures { IsInside result }
+{
     match word.copy() {
         Ok(word) => Stop::Fault(Top::UnknownTarget(word)),
         Err(_) => Stop::Memory,
@@ -149,9 +163,10 @@ fn unknown(word: &Text) -> Stop {
 }
 
 /// Whether a path has a declared rule or a copy rule.
-#[tactic(auto, using(crate::proofs::Watching::watching))]
+#[tactic(auto, using(crate::proofs::Causing::causing))]
 fn has_rule<W: World>(world: &mut W, graph: &Graph, path: &PathText) -> Result<bool, ListEnd>
     ensures watches { Watches W.meaning world.old world.new }
+    ensures cause { HasLookCause (W.meaning.counts world.old) (W.meaning.counts world.new) result }
 {
     match graph.find(path) {
         Some(node) if graph.rule_of(node).is_some() => Ok(true),
@@ -160,9 +175,10 @@ fn has_rule<W: World>(world: &mut W, graph: &Graph, path: &PathText) -> Result<b
 }
 
 /// What stands at a path.
-#[tactic(auto, using(crate::proofs::Watching::watching))]
+#[tactic(auto, using(crate::proofs::Causing::causing))]
 pub(crate) fn kind_of<W: World>(world: &mut W, path: &PathText) -> Result<Kind, ListEnd>
     ensures watches { Watches W.meaning world.old world.new }
+    ensures cause { HasLookCause (W.meaning.counts world.old) (W.meaning.counts world.new) result }
 {
     match world.kind(path) {
         Ok(kind) => Ok(kind),

@@ -1,5 +1,9 @@
 //! Why a run ended before its last step.
+ghost use Rattle.std.specs.Prelude.{◌≡◌};
+ghost use Rattle.rule_graph.specs.declared.build_fault.BuildFault.TheVariants as fault;
+ghost use Rattle.scons_top.specs.declared.stop.Stop.TheVariants as stop;
 ghost use Rattle.scons_top.specs.Faults.{IsLateStop};
+ghost use Rattle.scons_top.specs.Stops.{IsInside, stop_of_words, stop_of_list, stop_of_host, stop_of_store};
 
 use crate::report::Top;
 use build_files::ListEnd;
@@ -23,7 +27,7 @@ pub(crate) enum Stop {
 }
 
 impl From<Memory> for Stop {
-    ghost from_gives = { λ _ stop. IsLateStop stop };
+    ghost from_gives = { λ _ s. s ≡ stop.Memory };
 
     fn from(_: Memory) -> Self {
         Stop::Memory
@@ -31,7 +35,7 @@ impl From<Memory> for Stop {
 }
 
 impl From<AllocError> for Stop {
-    ghost from_gives = { λ _ stop. IsLateStop stop };
+    ghost from_gives = { λ _ s. s ≡ stop.Memory };
 
     fn from(_: AllocError) -> Self {
         Stop::Memory
@@ -39,7 +43,7 @@ impl From<AllocError> for Stop {
 }
 
 impl<T: Drop> From<AllocFailed<T>> for Stop {
-    ghost from_gives = { λ _ stop. IsLateStop stop };
+    ghost from_gives = { λ _ s. s ≡ stop.Memory };
 
     fn from(_: AllocFailed<T>) -> Self {
         Stop::Memory
@@ -48,7 +52,7 @@ impl<T: Drop> From<AllocFailed<T>> for Stop {
 
 /// A sink refused.
 impl From<Fault> for Stop {
-    ghost from_gives = { λ _ stop. IsLateStop stop };
+    ghost from_gives = { λ _ s. s ≡ stop.Build fault.OutFault };
 
     fn from(_: Fault) -> Self {
         Stop::Build(BuildFault::OutFault)
@@ -56,7 +60,7 @@ impl From<Fault> for Stop {
 }
 
 impl From<ListEnd> for Stop {
-    ghost from_gives = { λ _ stop. IsLateStop stop };
+    ghost from_gives = { λ e s. IsLateStop s × (s ≡ stop_of_list e) };
 
     fn from(end: ListEnd) -> Self {
         match end {
@@ -67,6 +71,8 @@ impl From<ListEnd> for Stop {
 }
 
 impl From<NodeRefusal> for Stop {
+    ghost from_gives = { λ _ s. IsInside s };
+
     fn from(refusal: NodeRefusal) -> Self {
         match refusal {
             NodeRefusal::Full(count) => Stop::Build(BuildFault::TooMany(What::Nodes, count)),
@@ -76,6 +82,8 @@ impl From<NodeRefusal> for Stop {
 }
 
 impl From<WordsFault> for Stop {
+    ghost from_gives = { λ e s. s ≡ stop_of_words e };
+
     fn from(fault: WordsFault) -> Self {
         match fault {
             WordsFault::At(place, kind) => Stop::Fault(Top::Usage(place, kind)),
@@ -85,6 +93,8 @@ impl From<WordsFault> for Stop {
 }
 
 impl From<HostEnd> for Stop {
+    ghost from_gives = { λ e s. s ≡ stop_of_host e };
+
     fn from(end: HostEnd) -> Self {
         match end {
             HostEnd::Reading(file, line, kind) => Stop::Fault(Top::Reading(file, line, kind)),
@@ -98,7 +108,7 @@ impl From<HostEnd> for Stop {
 }
 
 impl From<StoreRefusal> for Stop {
-    ghost from_gives = { λ _ stop. IsLateStop stop };
+    ghost from_gives = { λ e s. IsLateStop s × (s ≡ stop_of_store e) };
 
     fn from(refusal: StoreRefusal) -> Self {
         match refusal {

@@ -2,6 +2,8 @@
 ghost use Rattle.std.specs.Prelude.{◌≡◌, [], Ok, IfOk, IfErr, Contains, IsTrue};
 ghost use Rattle.world_api.specs.Looks.{Looks};
 ghost use Rattle.build_run.specs.Goings.{Passes};
+ghost use Rattle.scons_top.specs.Causes.{RunCauses};
+ghost use Rattle.scons_top.specs.Stops.{Reports, SinkReports};
 ghost use Rattle.scons_top.specs.Faults.{IsEarly, IsEarlyStop, EarlyOnlyIf};
 ghost use Rattle.world_api.specs.Statuses.{HasStatus};
 ghost use Rattle.scons_top.specs.declared.report.Top.{Top};
@@ -13,7 +15,7 @@ ghost use Rattle.world_api.specs.Meaning.{Told};
 use crate::build_step::build_requests;
 use crate::clean_step::clean_requests;
 use crate::dry_step::list_requests;
-use crate::ending::{ended, good};
+use crate::ending::{ended, show};
 use crate::load_step::load;
 use crate::reading::read;
 use crate::report::Report;
@@ -24,7 +26,7 @@ use scons_base::Text;
 use scons_report::help_text;
 use scons_words::{Words, read_words};
 use std::alloc::Global;
-use world_api::{Sink, World, print};
+use world_api::{Sink, World};
 
 /// The command: takes its words, reads the scripts, and cleans, lists or builds what is requested. A run whose words or
 /// scripts are at fault, or that is asked for what there isn't, leaves the world as it was; and so do `-n` and `-h`.
@@ -44,6 +46,7 @@ pub fn scons<W: World, O: Sink, E: Sink>(
     ensures help { (said : Words) → read words.now ≡ Ok said → IsTrue said.help → Looks W.meaning world.old world.new }
     ensures unchanged { (fault : Top) → Contains result.faults fault → IsEarly fault → Looks W.meaning world.old world.new }
     ensures status { HasStatus result.status result.faults }
+    ensures causes { RunCauses W.meaning O.meaning E.meaning world.old out.old err.old world.new out.new err.new result }
 {
     match take_words(alloc, words, world, out, err) {
         Ok(report) => report,
@@ -61,6 +64,7 @@ fn take_words<W: World, O: Sink, E: Sink>(
     requires unclosed { W.meaning.closed world.old ≡ [] }
     requires idle { W.meaning.tells world.old → (W.meaning.around world.old).running ≡ [] }
     ensures passes { Passes W.meaning world.old world.new }
+    ensures reports { Reports W.meaning O.meaning E.meaning world.old out.old err.old world.new out.new err.new result }
     ensures idle { W.meaning.tells world.new → (W.meaning.around world.new).running ≡ [] }
     ensures dry { (said : Words) → read words.now ≡ Ok said → IsTrue said.dry → Looks W.meaning world.old world.new }
     ensures help { (said : Words) → read words.now ≡ Ok said → IsTrue said.help → Looks W.meaning world.old world.new }
@@ -86,6 +90,7 @@ pub(crate) fn run<W: World, O: Sink, E: Sink>(
     requires unclosed { W.meaning.closed world.old ≡ [] }
     requires idle { W.meaning.tells world.old → (W.meaning.around world.old).running ≡ [] }
     ensures passes { Passes W.meaning world.old world.new }
+    ensures reports { Reports W.meaning O.meaning E.meaning world.old out.old err.old world.new out.new err.new result }
     ensures idle { W.meaning.tells world.new → (W.meaning.around world.new).running ≡ [] }
     ensures dry { IsTrue words.now.dry → Looks W.meaning world.old world.new }
     ensures help { IsTrue words.now.help → Looks W.meaning world.old world.new }
@@ -111,11 +116,11 @@ pub(crate) fn run<W: World, O: Sink, E: Sink>(
 
 /// Writes the help texts of the scripts.
 fn help<O: Sink>(alloc: Global, graph: &Graph, out: &mut O) -> Result<Report, Stop>
+    ensures reports { SinkReports O.meaning out.old out.new result }
     ensures faults { IfOk result (λ report. report.faults ≡ []) }
     ensures status { IfOk result (λ report. HasStatus report.status report.faults) }
 {
-    print(out, help_text(alloc, graph)?.as_str())?;
-    Ok(good(alloc))
+    show(alloc, out, help_text(alloc, graph))
 }
 
 /// Cleans, lists or builds what is requested.
@@ -131,6 +136,7 @@ fn serve<W: World, O: Sink, E: Sink>(
     requires unclosed { W.meaning.closed world.old ≡ [] }
     requires idle { W.meaning.tells world.old → (W.meaning.around world.old).running ≡ [] }
     ensures passes { Passes W.meaning world.old world.new }
+    ensures reports { Reports W.meaning O.meaning E.meaning world.old out.old err.old world.new out.new err.new result }
     ensures idle { W.meaning.tells world.new → (W.meaning.around world.new).running ≡ [] }
     ensures dry { IsTrue words.now.dry → Looks W.meaning world.old world.new }
     ensures early { IfErr result (λ stop. IsEarlyStop stop → Looks W.meaning world.old world.new) }

@@ -27,7 +27,8 @@ use world_api::{Bank, Disk, Fault};
 /// What an entry has beside its payload: its gate and its length.
 const ENTRY_LEN: u64 = 5;
 
-/// The records of paths, over a live bank.
+/// The records of paths, over a live bank. Once the disk has refused, a record is looked up and a ticket given up, and no
+/// other call is made.
 #[derive(Drop)]
 pub struct Store {
     alloc: Global,
@@ -126,6 +127,7 @@ impl Store {
 
     /// Takes all memory that the withdrawal and the put of a record need, and keeps room for both in the bank.
     pub fn prepare(&mut self, rec: Rec) -> Result<Ticket, PrepareRefusal>
+        requires live { is_live self.old ≡ true }
         ensures map { map_of self.new ≡ map_of self.old }
         ensures ticket { IfOk result (IsTicket self.new rec) }
         ensures fits { OnOk result (Fits self.old rec) }
@@ -194,7 +196,8 @@ impl Store {
     /// Takes the records of a ticket's targets away. Where none of them has one the disk isn't called.
     #[tactic(auto, using(crate::proofs::DiskLemmas::calls))]
     pub fn withdraw<W: Disk>(&mut self, world: &mut W, ticket: &Ticket) -> Result<(), Fault>
-        requires { W.meaning.tells world.old → IsStoredIn (W.meaning.seen world.old) self.old }
+        requires live { is_live self.old ≡ true }
+        requires stands { W.meaning.tells world.old → IsStoredIn (W.meaning.seen world.old) self.old }
         ensures map { WithdrawsRecord self.old self.new ticket.now result }
         ensures same { OnErr result (IsUntouched self.old self.new) }
         ensures moments { WithdrawsThroughout W.meaning world.old world.new self.old ticket.now }
@@ -224,7 +227,8 @@ impl Store {
     /// Gives each target of a ticket its record.
     #[tactic(auto, using(crate::proofs::DiskLemmas::calls))]
     pub fn put<W: Disk>(&mut self, world: &mut W, ticket: Ticket) -> Result<(), Fault>
-        requires { W.meaning.tells world.old → IsStoredIn (W.meaning.seen world.old) self.old }
+        requires live { is_live self.old ≡ true }
+        requires stands { W.meaning.tells world.old → IsStoredIn (W.meaning.seen world.old) self.old }
         ensures map { PutsRecord self.old self.new ticket result }
         ensures same { OnErr result (IsUntouched self.old self.new) }
         ensures freed { OnOk result (FreesRoom ticket.room self.old self.new) }
@@ -278,7 +282,8 @@ impl Store {
     /// is left out.
     #[tactic(auto, using(crate::proofs::DiskLemmas::calls))]
     fn append<W: Disk>(&mut self, world: &mut W, room: usize, entry: &[u8]) -> Result<(), Fault>
-        requires { W.meaning.tells world.old → IsStoredIn (W.meaning.seen world.old) self.old }
+        requires live { is_live self.old ≡ true }
+        requires stands { W.meaning.tells world.old → IsStoredIn (W.meaning.seen world.old) self.old }
         ensures map { self.new.map ≡ self.old.map }
         ensures moments { AddsThroughout W.meaning world.old world.new self.old room entry.now }
         ensures keeps { AddKeeps W.meaning world.old world.new self.old self.new room entry.now result }

@@ -16,6 +16,9 @@ pub fn many_text(
 ) -> Result<String> {
     let paths = paths_of(alloc, count)?;
     let rec = record_for(alloc, paths.copy().map_err(|_| anyhow!("memory ran out"))?)?;
+    if !store.is_live() {
+        return Err(anyhow!("the store is dead"));
+    }
     let Ok(ticket) = store.prepare(rec) else {
         return Err(anyhow!("the bank is full"));
     };

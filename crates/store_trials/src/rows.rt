@@ -191,6 +191,9 @@ impl Rows {
         let Some(store) = &mut self.store else {
             return Err(anyhow!("no store was begun"));
         };
+        if !store.is_live() {
+            return Err(anyhow!("the store is dead"));
+        }
         match store.prepare(rec) {
             Ok(ticket) => {
                 self.ticket = Some(ticket);
@@ -204,7 +207,7 @@ impl Rows {
     fn withdraw_row(&mut self, alloc: Global) -> Result<String> {
         match (&mut self.store, &self.ticket) {
             (Some(store), Some(ticket)) => {
-                if store.withdraw(&mut self.banks, ticket).is_err() {
+                if !store.is_live() || store.withdraw(&mut self.banks, ticket).is_err() {
                     return Ok(String::from_str(alloc, "fault\n")?);
                 }
                 self.banks_text(alloc)
@@ -216,7 +219,7 @@ impl Rows {
     fn put_row(&mut self, alloc: Global) -> Result<String> {
         match (&mut self.store, self.ticket.take()) {
             (Some(store), Some(ticket)) => {
-                if store.put(&mut self.banks, ticket).is_err() {
+                if !store.is_live() || store.put(&mut self.banks, ticket).is_err() {
                     return Ok(String::from_str(alloc, "fault\n")?);
                 }
                 self.banks_text(alloc)
@@ -260,13 +263,20 @@ impl Rows {
 }
 
 fn put_anew(store: &mut Store, banks: &mut Banks, rec: Rec) -> Result<()> {
+    if !store.is_live() {
+        return Err(anyhow!("the store is dead"));
+    }
     let Ok(ticket) = store.prepare(rec) else {
         return Err(anyhow!("the bank is full"));
     };
-    if store.withdraw(banks, &ticket).is_err() || store.put(banks, ticket).is_err() {
-        return Err(anyhow!("a bank refused"));
+    let put = match store.withdraw(banks, &ticket) {
+        Ok(()) => store.put(banks, ticket),
+        Err(fault) => Err(fault),
+    };
+    match put {
+        Ok(()) => Ok(()),
+        Err(_) => Err(anyhow!("a bank refused")),
     }
-    Ok(())
 }
 
 fn bank_of(text: &str) -> Result<Bank> {

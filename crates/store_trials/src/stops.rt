@@ -67,7 +67,10 @@ fn is_put(alloc: Global, banks: &mut Banks, rec: Rec) -> bool {
     let Ok(ticket) = store.prepare(rec) else {
         return false;
     };
-    store.withdraw(banks, &ticket).is_ok() && store.put(banks, ticket).is_ok()
+    match store.withdraw(banks, &ticket) {
+        Ok(()) => store.put(banks, ticket).is_ok(),
+        Err(_) => false,
+    }
 }
 
 /// What is read behind a stop: of what was written last none may be there, or any number of the front bytes.

@@ -1,7 +1,14 @@
 use Rattle.build_run.specs.Causes.{outside}
 use Rattle.build_run.specs.Ledgers.{ledger_of, ledger_of_end, blank}
 use Rattle.build_run.proofs.Causing.{at_first, account_as, same_counts, look_end, ended, caused}
+use Rattle.build_run.proofs.Outs.{stored_first, stored_over}
 use Rattle.build_run.proofs.building.build.Goals as goal
+
+pub go_on-requires-clause-stored : goal.go_on-requires-clause-stored
+go_on-requires-clause-stored g c =
+    let stays = c.begin.ensures.stays in
+    stored_over g.W.Disk.meaning _ _ c.args.store.now _ _ stays.goes.passes.told.told stays.banks
+    (stored_first g.W.Disk.meaning c.args.world.now c.args.store.now _ _ c.in-Ok.ensures.none c.requires.live c.requires.kept)
 
 pub returns-in-Ok-clause-causes : goal.returns-in-Ok-clause-causes
 returns-in-Ok-clause-causes g c =

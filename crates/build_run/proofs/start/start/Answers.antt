@@ -1,7 +1,17 @@
-use Rattle.std.proofs.Common.{sym}
+use Rattle.std.proofs.Common.{◌∙◌, ◌++◌, ◌∷◌, List, [], Contains, ap, subst, sym}
+use Rattle.std.proofs.lemmas.List.{map-append}
+use Rattle.build_run.specs.Holds.{holds_in}
+use Rattle.build_run.specs.Goings.{IsJoined}
 use Rattle.build_run.specs.Ledgers.{ledger_of}
-use Rattle.build_run.proofs.Causing.{exit_same, exit_inside, inside}
+use Rattle.build_run.specs.Outs.{IsOutFor, IsStored}
+use Rattle.build_run.specs.declared.tickets.Busy.{Busy}
+use Rattle.build_run.specs.declared.tickets.Hold.{Hold}
+use Rattle.build_run.proofs.Causing.{exit_same, exit_inside, inside, shut_fault}
+use Rattle.build_run.proofs.Outs.{own_room, stored_prepared, stored_beside, stored_added}
 use Rattle.build_run.proofs.start.start.Goals as goal
+
+pub returns-then-account-clause-ends : goal.returns-then-account-clause-ends
+returns-then-account-clause-ends g c = λ start err a. shut_fault start (ledger_of c.args.account.now) _ c.if-account.true a
 
 pub returns-in_err-text-clause-ends : goal.returns-in_err-text-clause-ends
 returns-in_err-text-clause-ends g c = λ start err a. exit_inside start (ledger_of c.args.account.now) _ _ err c.from_residual.result c.from_residual.ensures.1 a
@@ -17,5 +27,44 @@ returns-in_err-ticket-clause-ends g c = λ start err a.
     let before = ledger_of c.args.account.now in
     exit_same start before _ c.from_residual-in_err-ticket.result _ c.from_residual-in_err-ticket.ensures.1 (inside start before _ _ err _ c.in_err-ticket.ensures.quiet a)
 
+pub returns-in_err-ticket-clause-stored : goal.returns-in_err-ticket-clause-stored
+returns-in_err-ticket-clause-stored g c =
+    let p = c.prepare.ensures in
+    stored_prepared g.W.Disk.meaning _ c.args.store.now c.prepare.new.store c.args.tickets.now c.args.account.now.is_store_shut p.live p.banks p.map p.outs c.requires.stored
+
+pub launch-requires-clause-stored : goal.launch-requires-clause-stored
+launch-requires-clause-stored g c =
+    let p = c.prepare.ensures in
+    stored_prepared g.W.Disk.meaning _ c.args.store.now c.prepare.new.store c.args.tickets.now c.args.account.now.is_store_shut p.live p.banks p.map p.outs c.requires.stored
+
 pub launch-requires-clause-ticket : goal.launch-requires-clause-ticket
-launch-requires-clause-ticket g c = record { rec = c.args.now; own = c.in_ok-ticket.ensures.ticket; same = sym c.in_ok-job.ensures }
+launch-requires-clause-ticket g c = record { rec = c.args.now; out = c.in_ok-ticket.ensures.out; same = sym c.in_ok-job.ensures }
+
+pub launch-requires-clause-room : goal.launch-requires-clause-room
+launch-requires-clause-room g c = own_room c.args.store.now c.in_ok-ticket.ticket c.args.tickets.now c.in_ok-ticket.ensures.fresh (c.requires.stored.outs c.if-account.false)
+
+pub returns-in-Ok-clause-joined : goal.returns-in-Ok-clause-joined
+returns-in-Ok-clause-joined g c =
+    let busies = c.args.tickets.now in
+    let added = ap holds_in c.add.ensures ∙ (map-append (λ (b : Busy). b.hold) busies (record { hold = c.in_ok-hold.hold; ticket = c.in_ok-ticket.ticket } ∷ []) ∙ ap (λ (h : Hold). holds_in busies ++ h ∷ []) c.in_ok-hold.ensures) in
+    subst (λ (holds : List Hold). IsJoined g.W.Disk.meaning c.launch.new.world holds) (sym added) c.in-Ok.ensures.started
+
+pub returns-in-Ok-clause-stored : goal.returns-in-Ok-clause-stored
+returns-in-Ok-clause-stored g c =
+    let m = g.W.Disk.meaning in
+    let busies = c.args.tickets.now in
+    let new : Busy = record { hold = c.in_ok-hold.hold; ticket = c.in_ok-ticket.ticket } in
+    let apart = c.are_apart.ensures c.if-not-are_apart.false in
+    let own = own_room c.args.store.now new.ticket busies c.in_ok-ticket.ensures.fresh (c.requires.stored.outs c.if-account.false) in
+    let shut = c.launch.new.account.is_store_shut in
+    subst (λ (all : List Busy). IsStored m c.launch.new.world c.launch.new.store all shut) (sym c.add.ensures)
+    (stored_added m c.launch.new.world c.launch.new.store new busies shut
+    (subst (λ (h : Hold). IsOutFor c.launch.new.store (record { hold = h; ticket = new.ticket })) (sym c.in_ok-hold.ensures) (record { ticket = c.in-Ok.ensures.ticket; none = c.in-Ok.ensures.none })) own
+    (λ hold path among here there. (apart hold among).made path (subst (λ (h : Hold). Contains h.targets path) c.in_ok-hold.ensures here) there)
+    c.launch.ensures.stored)
+
+pub returns-clause-stored : goal.returns-clause-stored
+returns-clause-stored g c =
+    let own = own_room c.args.store.now c.in_ok-ticket.ticket c.args.tickets.now c.in_ok-ticket.ensures.fresh (c.requires.stored.outs c.if-account.false) in
+    stored_beside g.W.Disk.meaning c.launch.new.world c.launch.new.store c.give_up.new.store c.in_ok-ticket.ticket c.args.tickets.now c.launch.new.account.is_store_shut c.give_up.ensures.live c.give_up.ensures.banks c.give_up.ensures.map
+    c.give_up.ensures.outs (λ unshut. own) c.launch.ensures.stored

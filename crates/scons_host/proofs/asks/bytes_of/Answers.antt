@@ -5,6 +5,3 @@ pub returns-clause-looks : goal.returns-clause-looks
 returns-clause-looks g c =
     let e = c.read_file.ensures in
     read g.W.Disk.meaning _ _ e.told e.recalls e.around e.banks c.read_file.result e.kept e.rose
-
-pub returns-clause-cause : goal.returns-clause-cause
-returns-clause-cause g c e = (c.read_file.ensures.rose e).rose

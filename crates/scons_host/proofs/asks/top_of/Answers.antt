@@ -5,6 +5,3 @@ pub returns-clause-looks : goal.returns-clause-looks
 returns-clause-looks g c =
     let e = c.top_path.ensures in
     asked g.W.Disk.meaning _ _ e.told e.recalls e.around e.banks c.top_path.result e.kept e.rose
-
-pub returns-clause-cause : goal.returns-clause-cause
-returns-clause-cause g c e = (c.top_path.ensures.rose e).rose

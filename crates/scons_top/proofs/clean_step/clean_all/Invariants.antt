@@ -1,4 +1,6 @@
+use Rattle.std.proofs.Common.{◌≡◌, ℕ}
 use Rattle.std.specs.Prelude.{IsTrue}
+use Rattle.build_run.specs.Causes.{outside}
 use Rattle.build_run.specs.Goings.{Stays}
 use Rattle.scons_top.specs.Watching.{Watches}
 use Rattle.scons_top.proofs.clean_step.clean_all.Given as goal
@@ -6,5 +8,6 @@ use Rattle.scons_top.proofs.clean_step.clean_all.Given as goal
 abbrev pub invariant-loop-target : goal.invariant-loop-target
 invariant-loop-target g l = record {
   stays : Stays g.W.Disk.meaning l.fn.world l.world;
+  same : (err : ℕ) → outside (g.W.Disk.meaning.counts l.world) (g.O.Sink.meaning.faults l.out) err ≡ outside (g.W.Disk.meaning.counts l.fn.world) (g.O.Sink.meaning.faults l.fn.out) err;
   dry : IsTrue l.words.dry → Watches g.W.Disk.meaning l.fn.world l.world;
 }

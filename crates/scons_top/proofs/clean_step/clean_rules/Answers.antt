@@ -1,5 +1,7 @@
+use Rattle.std.proofs.Common.{◌∙◌}
 use Rattle.build_run.proofs.Goings.{stays_on}
 use Rattle.scons_top.proofs.Watching.{idle_on, watches_on}
+use Rattle.scons_top.proofs.Causing.{exit_memory, exit_step, stop_back}
 use Rattle.scons_top.proofs.clean_step.clean_rules.Goals as goal
 
 pub clean_all-requires : goal.clean_all-requires
@@ -14,5 +16,17 @@ returns-in_err-clean_all-clause-dry g c = λ is. watches_on _ _ _ _ (c.loop-rule
 pub loop-rule-preserved : goal.loop-rule-preserved
 loop-rule-preserved g c = record {
   stays = stays_on _ _ _ _ c.loop-rule.invariant.stays c.clean_all.ensures.stays;
+  same = λ err. c.in_ok-clean_all.ensures.steps err ∙ c.loop-rule.invariant.same err;
   dry = λ is. watches_on _ _ _ _ (c.loop-rule.invariant.dry is) (c.clean_all.ensures.dry is);
 }
+
+pub returns-in_err-clean_all-clause-steps : goal.returns-in_err-clean_all-clause-steps
+returns-in_err-clean_all-clause-steps g c = λ err.
+    let r = c.from_residual-in_err-clean_all in
+    exit_step _ _ r.result _ r.ensures.1 (stop_back _ _ _ _ (c.loop-rule.invariant.same err) (c.in_err-clean_all.ensures.steps err))
+
+pub returns-in_err-rule_at-clause-steps : goal.returns-in_err-rule_at-clause-steps
+returns-in_err-rule_at-clause-steps g c = λ err. exit_memory _ _ c.from_residual.result c.from_residual.ensures.1 (c.loop-rule.invariant.same err)
+
+pub returns-clause-steps : goal.returns-clause-steps
+returns-clause-steps g c = λ err. c.loop-rule.invariant.same err

@@ -1,11 +1,52 @@
+use Rattle.std.proofs.Common.{◌∙◌, refl}
+use Rattle.build_run.specs.Causes.{outside}
+use Rattle.scons_top.specs.declared.stop.Stop.TheVariants as stop
 use Rattle.scons_top.proofs.Watching.{watches_on}
+use Rattle.scons_top.proofs.Causing.{same_world, same_out, exit_report, exit_store, report_memory, world_stop, store_end, store_well, sink_stop, stop_back, report_back, list_alone, list_faulty, list_later}
 use Rattle.scons_top.proofs.dry_step.list_requests.Goals as goal
+
+pub returns-in_err-nodes-clause-reports : goal.returns-in_err-nodes-clause-reports
+returns-in_err-nodes-clause-reports g c = report_memory _ _ c.from_residual.result c.from_residual.ensures.1 refl
+
+pub returns-in_err-view-clause-reports : goal.returns-in_err-view-clause-reports
+returns-in_err-view-clause-reports g c =
+    let r = c.from_residual-in_err-view in
+    exit_store _ _ r.result _ r.ensures.1 (world_stop _ _ _ _ _ (store_end _ _ _ c.view_of.result _ c.in_err-view.was c.view_of.ensures.cause))
+
+pub returns-in_err-say-clause-reports : goal.returns-in_err-say-clause-reports
+returns-in_err-say-clause-reports g c =
+    let r = c.from_residual-in_err-say in
+    exit_report _ _ r.result _ r.ensures.1 (stop_back _ _ _ _ (same_world _ _ _ _ (store_well _ _ _ c.view_of.result _ c.in_ok-view.was c.view_of.ensures.cause)) (sink_stop _ _ _ _ _ c.in_err-say.ensures.step))
 
 pub returns-in-Ok-clause-watches : goal.returns-in-Ok-clause-watches
 returns-in-Ok-clause-watches g c = watches_on _ _ _ _ c.view_of.ensures.watches c.list_of.ensures.watches
 
+pub returns-in-Ok-clause-reports : goal.returns-in-Ok-clause-reports
+returns-in-Ok-clause-reports g c =
+    let same = same_world _ _ _ _ c.in-Ok.ensures.cause ∙ (same_out _ _ _ _ c.in_ok-say.ensures.step ∙ same_world _ _ _ _ (store_well _ _ _ c.view_of.result _ c.in_ok-view.was c.view_of.ensures.cause)) in
+    report_back _ _ _ c.tell_rules.result same (c.tell_rules.ensures.reports _ _)
+
 pub returns-in-Err-Memory-clause-watches : goal.returns-in-Err-Memory-clause-watches
 returns-in-Err-Memory-clause-watches g c = watches_on _ _ _ _ c.view_of.ensures.watches c.list_of.ensures.watches
 
+pub returns-in-Err-Memory-clause-reports : goal.returns-in-Err-Memory-clause-reports
+returns-in-Err-Memory-clause-reports g c =
+    let m = g.W.Disk.meaning in
+    let old = m.counts c.args.world.now in
+    let read = m.counts c.view_of.new.world in
+    let new = m.counts c.list_of.new.world in
+    let out = g.O.Sink.meaning.faults c.args.out.now in
+    let said = g.O.Sink.meaning.faults c.say.new.out in
+    let err = g.E.Sink.meaning.faults c.args.err.now in
+    let well = store_well m c.args.world.now c.view_of.new.world c.view_of.result _ c.in_ok-view.was c.view_of.ensures.cause in
+    let same = same_out read out said err c.in_ok-say.ensures.step ∙ same_world old read out err well in
+    let alone = list_alone read new c.in-Err-Memory.field-0 c.in-Err-Memory.field-0-is c.in-Err-Memory.ensures.cause in
+    stop_back (outside old out err) (outside read said err) (outside new said err) stop.Memory same (list_later read new said err alone)
+
 pub returns-clause-watches : goal.returns-clause-watches
 returns-clause-watches g c = watches_on _ _ _ _ c.view_of.ensures.watches c.list_of.ensures.watches
+
+pub returns-clause-reports : goal.returns-clause-reports
+returns-clause-reports g c =
+    let same = same_out _ _ _ _ c.in_ok-say.ensures.step ∙ same_world _ _ _ _ (store_well _ _ _ c.view_of.result _ c.in_ok-view.was c.view_of.ensures.cause) in
+    report_back _ _ _ c.end_with.result same (c.end_with.ensures.reports _ _ (list_faulty _ _ _ _ _ c.in-Err-Fault.field-0-is refl c.in-Err-Fault.ensures.cause))

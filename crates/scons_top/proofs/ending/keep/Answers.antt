@@ -1,10 +1,29 @@
+use Rattle.std.proofs.Common.{◌∙◌, ◌++◌, ◌∷◌, [], ap, List}
 use Rattle.scons_top.specs.Faults.{IsEarly}
+use Rattle.scons_top.specs.declared.report.Top.{Top}
+use Rattle.scons_top.specs.declared.report.Top.TheVariants as top
 use Rattle.scons_top.proofs.Early.{added}
+use Rattle.scons_top.proofs.Causing.{on_err}
+use Rattle.scons_top.proofs.Reporting.{finds_dropped, finds_wanting, finds_printed, finds_refused, finds_refused_dropped}
 use Rattle.scons_top.proofs.ending.keep.Goals as goal
 
-pub returns-in_ok-push-2 : goal.returns-in_ok-push-2
-returns-in_ok-push-2 g c = record {
-  early = λ each.
-      let P = IsEarly c.args.fault in
-      added P _ _ _ c.in_ok-push-2.ensures.ok (λ is. absurd is) (added P _ _ _ c.in_ok-push.ensures.ok (λ is. is) each);
-}
+pub returns-in_err-push-clause-lacks : goal.returns-in_err-push-clause-lacks
+returns-in_err-push-clause-lacks g c = on_err _ c.from_residual.result (finds_dropped g.E.Sink.meaning _ c.args.fault _ _ c.in_err-push.ensures.err)
+
+pub returns-in_err-text-clause-lacks : goal.returns-in_err-text-clause-lacks
+returns-in_err-text-clause-lacks g c = on_err _ c.from_residual-in_err-text.result (finds_wanting g.E.Sink.meaning _ _ _ c.in_ok-push.ensures.ok)
+
+pub returns-in-Ok-clause-finds : goal.returns-in-Ok-clause-finds
+returns-in-Ok-clause-finds g c = finds_printed g.E.Sink.meaning _ _ _ _ c.in-Ok.ensures.ok.faults c.in_ok-push.ensures.ok
+
+pub returns-in_err-push-in-Err-clause-lacks : goal.returns-in_err-push-in-Err-clause-lacks
+returns-in_err-push-in-Err-clause-lacks g c = on_err _ c.from_residual-in_err-push-in-Err.result (finds_refused_dropped g.E.Sink.meaning _ _ _ _ c.in-Err.ensures.err.faults (c.in_err-push-in-Err.ensures.err ∙ c.in_ok-push.ensures.ok))
+
+pub returns-clause-early : goal.returns-clause-early
+returns-clause-early g c = λ each.
+    let P = IsEarly c.args.fault in
+    added P _ _ _ c.in_ok-push-in-Err.ensures.ok (λ is. absurd is) (added P _ _ _ c.in_ok-push.ensures.ok (λ is. is) each)
+
+pub returns-clause-finds : goal.returns-clause-finds
+returns-clause-finds g c =
+    finds_refused g.E.Sink.meaning _ _ _ _ c.in-Err.ensures.err.faults (c.in_ok-push-in-Err.ensures.ok ∙ ap (λ (fs : List Top). fs ++ top.OutFault ∷ []) c.in_ok-push.ensures.ok)

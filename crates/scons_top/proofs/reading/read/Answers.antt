@@ -1,11 +1,36 @@
+use Rattle.std.proofs.Common.{◌∙◌}
 use Rattle.scons_top.proofs.Watching.{watches_on}
+use Rattle.scons_top.proofs.Causing.{same_world, same_out, host_same, exit_step, world_stop, sink_stop, host_end_at, stop_back}
 use Rattle.scons_top.proofs.reading.read.Goals as goal
 
+pub returns-in_err-ask_for_top-clause-steps : goal.returns-in_err-ask_for_top-clause-steps
+returns-in_err-ask_for_top-clause-steps g c = λ err. exit_step _ _ c.from_residual.result _ c.from_residual.ensures.1 (world_stop _ _ _ err _ c.in_err-ask_for_top.ensures.step)
+
+pub returns-in_err-say-clause-steps : goal.returns-in_err-say-clause-steps
+returns-in_err-say-clause-steps g c = λ err.
+    let r = c.from_residual-in_err-say in
+    exit_step _ _ r.result _ r.ensures.1 (stop_back _ _ _ _ (same_world _ _ _ err c.in_ok-ask_for_top.ensures.step) (sink_stop _ _ _ err _ c.in_err-say.ensures.step))
+
 pub returns-in_err-graph : goal.returns-in_err-graph
-returns-in_err-graph g c = record { watches = watches_on _ _ _ _ c.ask_for_top.ensures.watches c.graph_of.ensures.watches }
+returns-in_err-graph g c = record {
+  watches = watches_on _ _ _ _ c.ask_for_top.ensures.watches c.graph_of.ensures.watches;
+  steps = λ err.
+      let r = c.from_residual-in_err-graph in
+      let same = same_out _ _ _ err c.in_ok-say.ensures.step ∙ same_world _ _ _ err c.in_ok-ask_for_top.ensures.step in
+      exit_step _ _ r.result _ r.ensures.1 (stop_back _ _ _ _ same (host_end_at _ _ _ _ err _ c.in_err-graph.ensures.causes));
+}
 
 pub returns-in_err-say-2 : goal.returns-in_err-say-2
-returns-in_err-say-2 g c = record { watches = watches_on _ _ _ _ c.ask_for_top.ensures.watches c.graph_of.ensures.watches }
+returns-in_err-say-2 g c = record {
+  watches = watches_on _ _ _ _ c.ask_for_top.ensures.watches c.graph_of.ensures.watches;
+  steps = λ err.
+      let r = c.from_residual-in_err-say-2 in
+      let same = host_same _ _ _ _ err c.in_ok-graph.ensures.causes ∙ (same_out _ _ _ err c.in_ok-say.ensures.step ∙ same_world _ _ _ err c.in_ok-ask_for_top.ensures.step) in
+      exit_step _ _ r.result _ r.ensures.1 (stop_back _ _ _ _ same (sink_stop _ _ _ err _ c.in_err-say-2.ensures.step));
+}
 
 pub returns : goal.returns
-returns g c = record { watches = watches_on _ _ _ _ c.ask_for_top.ensures.watches c.graph_of.ensures.watches }
+returns g c = record {
+  watches = watches_on _ _ _ _ c.ask_for_top.ensures.watches c.graph_of.ensures.watches;
+  steps = λ err. same_out _ _ _ err c.in_ok-say-2.ensures.step ∙ (host_same _ _ _ _ err c.in_ok-graph.ensures.causes ∙ (same_out _ _ _ err c.in_ok-say.ensures.step ∙ same_world _ _ _ err c.in_ok-ask_for_top.ensures.step));
+}

@@ -1,5 +1,9 @@
+use Rattle.std.proofs.Common.{◌≡◌}
 use Rattle.scons_top.specs.Watching.{Watches}
 use Rattle.scons_top.proofs.requests.requests_for.Given as goal
 
 abbrev pub invariant-loop-word : goal.invariant-loop-word
-invariant-loop-word g l = Watches g.W.Disk.meaning l.fn.world l.world
+invariant-loop-word g l = record {
+  watches : Watches g.W.Disk.meaning l.fn.world l.world;
+  same : g.W.Disk.meaning.counts l.world ≡ g.W.Disk.meaning.counts l.fn.world;
+}

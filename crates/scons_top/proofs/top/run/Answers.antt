@@ -1,5 +1,7 @@
 use Rattle.world_api.proofs.Looking.{looks_joined}
 use Rattle.scons_top.proofs.Early.{any_stop, stop_after}
+use Rattle.std.proofs.Common.{◌∙◌}
+use Rattle.scons_top.proofs.Causing.{same_world, exit_report, world_stop, stop_back, report_back}
 use Rattle.scons_top.proofs.top.run.Goals as goal
 
 pub returns-in_err-requests-clause-dry : goal.returns-in_err-requests-clause-dry
@@ -16,3 +18,17 @@ returns-clause-dry g c = λ is.
 pub returns-clause-early : goal.returns-clause-early
 returns-clause-early g c =
     stop_after _ _ _ _ c.serve.result (looks_joined _ _ _ _ c.read.ensures.watches.looks c.requests_of.ensures.watches.looks) c.serve.ensures.early
+
+pub returns-in_err-graph-clause-reports : goal.returns-in_err-graph-clause-reports
+returns-in_err-graph-clause-reports g c = exit_report _ _ c.from_residual.result _ c.from_residual.ensures.1 (c.in_err-graph.ensures.steps _)
+
+pub returns-then-words-clause-reports : goal.returns-then-words-clause-reports
+returns-then-words-clause-reports g c = report_back _ _ _ c.help.result (c.in_ok-graph.ensures.steps _) (c.help.ensures.reports _ _)
+
+pub returns-in_err-requests-clause-reports : goal.returns-in_err-requests-clause-reports
+returns-in_err-requests-clause-reports g c =
+    let r = c.from_residual-in_err-requests in
+    exit_report _ _ r.result _ r.ensures.1 (stop_back _ _ _ _ (c.in_ok-graph.ensures.steps _) (world_stop _ _ _ _ _ c.in_err-requests.ensures.step))
+
+pub returns-clause-reports : goal.returns-clause-reports
+returns-clause-reports g c = report_back _ _ _ c.serve.result (same_world _ _ _ _ c.in_ok-requests.ensures.step ∙ c.in_ok-graph.ensures.steps _) c.serve.ensures.reports

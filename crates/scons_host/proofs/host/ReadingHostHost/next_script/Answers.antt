@@ -1,18 +1,26 @@
 use Rattle.std.proofs.Common.{◌≡◌, refl}
 use Rattle.py_host.specs.declared.refusal.HostRefusal.TheVariants as refusal
 use Rattle.py_host.proofs.Extending.{extends_same}
-use Rattle.scons_host.specs.Laws.{keeps_refused}
+use Rattle.scons_host.specs.Laws.{keeps_answered, serves_answered, keeps_refused, refuses_looked}
 use Rattle.scons_host.proofs.host.ReadingHostHost.next_script.Goals as goal
+
+pub returns-in-Ok-clause-ok : goal.returns-in-Ok-clause-ok
+returns-in-Ok-clause-ok g c =
+    let h = c.args.self.now in
+    (refl, (serves_answered g.W.Disk.meaning g.O.Sink.meaning h.world.now c.next_first.new.world h.out.now h.kept.now c.next_first.ensures.looks c.in-Ok.ensures.cause, extends_same c.args._heap.now))
+
+pub returns-in-Ok-clause-keeps : goal.returns-in-Ok-clause-keeps
+returns-in-Ok-clause-keeps g c =
+    let h = c.args.self.now in
+    (refl, keeps_answered g.W.Disk.meaning g.O.Sink.meaning h.world.now c.next_first.new.world h.out.now h.kept.now c.next_first.ensures.looks)
 
 pub returns-in-Err-clause-keeps : goal.returns-in-Err-clause-keeps
 returns-in-Err-clause-keeps g c =
     let h = c.args.self.now in
-    let m = g.W.Disk.meaning in
-    (refl, keeps_refused m g.O.Sink.meaning h.world.now c.next_first.new.world h.out.now h.kept.now c.refuse.new.kept c.in-Err.stop c.next_first.ensures.looks c.in-Err.ensures.cause c.refuse.ensures.end c.refuse.ensures.later)
+    (refl, keeps_refused g.W.Disk.meaning g.O.Sink.meaning h.world.now c.next_first.new.world h.out.now h.kept.now c.refuse.new.kept c.next_first.ensures.looks c.refuse.ensures.later)
 
 pub returns-in-Err-clause-refused : goal.returns-in-Err-clause-refused
 returns-in-Err-clause-refused g c = λ e.
     let h = c.args.self.now in
-    let m = g.W.Disk.meaning in
     let is : c.refuse.result ≡ refusal.Host = cc in
-    (refl, (keeps_refused m g.O.Sink.meaning h.world.now c.next_first.new.world h.out.now h.kept.now c.refuse.new.kept c.in-Err.stop c.next_first.ensures.looks c.in-Err.ensures.cause c.refuse.ensures.end c.refuse.ensures.later, c.refuse.ensures.counted is, extends_same c.args._heap.now))
+    (refl, (refuses_looked g.W.Disk.meaning g.O.Sink.meaning h.world.now c.next_first.new.world h.out.now h.kept.now c.refuse.new.kept c.in-Err.stop c.next_first.ensures.looks c.in-Err.ensures.cause (c.refuse.ensures.end is) (c.refuse.ensures.counted is), extends_same c.args._heap.now))

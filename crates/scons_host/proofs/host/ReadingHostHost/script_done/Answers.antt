@@ -1,29 +1,25 @@
-use Rattle.std.proofs.Common.{◌≡◌, refl, arith}
+use Rattle.std.proofs.Common.{◌≡◌, refl}
 use Rattle.py_host.specs.declared.refusal.HostRefusal.TheVariants as refusal
-use Rattle.scons_host.specs.Laws.{keeps_answered, keeps_refused}
+use Rattle.scons_host.specs.Laws.{keeps_answered, serves_answered, keeps_refused, refuses_looked}
 use Rattle.scons_host.proofs.host.ReadingHostHost.script_done.Goals as goal
 
 pub returns-in-Ok-clause-ok : goal.returns-in-Ok-clause-ok
 returns-in-Ok-clause-ok g c =
     let h = c.args.self.now in
-    let m = g.W.Disk.meaning in
-    (refl, (keeps_answered m g.O.Sink.meaning h.world.now c.script_done.new.world h.out.now h.kept.now c.script_done.ensures.looks, omega arith, c.script_done.ensures.stands))
+    (refl, (serves_answered g.W.Disk.meaning g.O.Sink.meaning h.world.now c.script_done.new.world h.out.now h.kept.now c.script_done.ensures.looks c.in-Ok.ensures.cause, c.script_done.ensures.stands))
 
 pub returns-in-Ok-clause-keeps : goal.returns-in-Ok-clause-keeps
 returns-in-Ok-clause-keeps g c =
     let h = c.args.self.now in
-    let m = g.W.Disk.meaning in
-    (refl, keeps_answered m g.O.Sink.meaning h.world.now c.script_done.new.world h.out.now h.kept.now c.script_done.ensures.looks)
+    (refl, keeps_answered g.W.Disk.meaning g.O.Sink.meaning h.world.now c.script_done.new.world h.out.now h.kept.now c.script_done.ensures.looks)
 
 pub returns-in-Err-clause-keeps : goal.returns-in-Err-clause-keeps
 returns-in-Err-clause-keeps g c =
     let h = c.args.self.now in
-    let m = g.W.Disk.meaning in
-    (refl, keeps_refused m g.O.Sink.meaning h.world.now c.script_done.new.world h.out.now h.kept.now c.refuse.new.kept c.in-Err.stop c.script_done.ensures.looks c.in-Err.ensures.cause c.refuse.ensures.end c.refuse.ensures.later)
+    (refl, keeps_refused g.W.Disk.meaning g.O.Sink.meaning h.world.now c.script_done.new.world h.out.now h.kept.now c.refuse.new.kept c.script_done.ensures.looks c.refuse.ensures.later)
 
 pub returns-in-Err-clause-refused : goal.returns-in-Err-clause-refused
 returns-in-Err-clause-refused g c = λ e.
     let h = c.args.self.now in
-    let m = g.W.Disk.meaning in
     let is : c.refuse.result ≡ refusal.Host = cc in
-    (refl, (keeps_refused m g.O.Sink.meaning h.world.now c.script_done.new.world h.out.now h.kept.now c.refuse.new.kept c.in-Err.stop c.script_done.ensures.looks c.in-Err.ensures.cause c.refuse.ensures.end c.refuse.ensures.later, c.refuse.ensures.counted is, c.script_done.ensures.stands))
+    (refl, (refuses_looked g.W.Disk.meaning g.O.Sink.meaning h.world.now c.script_done.new.world h.out.now h.kept.now c.refuse.new.kept c.in-Err.stop c.script_done.ensures.looks c.in-Err.ensures.cause (c.refuse.ensures.end is) (c.refuse.ensures.counted is), c.script_done.ensures.stands))

@@ -1,0 +1,15 @@
+use Rattle.scons_top.proofs.Causing.{world_found}
+use Rattle.scons_top.proofs.Reporting.{listed, list_wanting}
+use Rattle.scons_top.proofs.dry_step.end_with.Goals as goal
+
+pub returns-in_err-text-clause-reports : goal.returns-in_err-text-clause-reports
+returns-in_err-text-clause-reports g c = λ old new h. list_wanting old new _ _ c.args.fault c.from_residual.result h c.from_residual.ensures.1
+
+pub returns-in_err-push-clause-reports : goal.returns-in_err-push-clause-reports
+returns-in_err-push-clause-reports g c = λ old new h. list_wanting old new _ _ c.args.fault c.from_residual-in_err-push.result h c.from_residual-in_err-push.ensures.1
+
+pub returns-clause-reports : goal.returns-clause-reports
+returns-clause-reports g c = λ old new h.
+    let first = world_found old new _ _ c.args.fault h in
+    let all = listed g.E.Sink.meaning _ new _ _ _ _ c.args.fault _ _ _ _ _ c.empty-faults.ensures c.in_ok-push.ensures.ok c.print-printed.ensures.ok c.print-printed.ensures.err c.add_unprinted-lost.ensures first in
+    c.closed.ensures.causes _ new _ _ _ all c.tell_faulty-written.ensures.step

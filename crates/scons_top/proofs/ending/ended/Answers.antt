@@ -1,0 +1,20 @@
+use Rattle.std.proofs.Common.{◌∙◌, sym, subst}
+use Rattle.scons_top.specs.Endings.{ErrEnds}
+use Rattle.scons_top.specs.Stops.{top_of}
+use Rattle.scons_top.specs.declared.stop.Stop.{Stop}
+use Rattle.scons_top.proofs.Reporting.{ends_wanting, reports_as}
+use Rattle.scons_top.proofs.ending.ended.Goals as goal
+
+pub returns-in-Fault-clause-causes : goal.returns-in-Fault-clause-causes
+returns-in-Fault-clause-causes g c = subst (λ (s : Stop). ErrEnds g.E.Sink.meaning s c.args.err.now c.kept.new.err c.kept.result) (sym c.in-Fault.is) c.kept.ensures.causes
+
+pub returns-in-Build-clause-causes : goal.returns-in-Build-clause-causes
+returns-in-Build-clause-causes g c =
+    let m = g.E.Sink.meaning in
+    subst (λ (s : Stop). ErrEnds m s c.args.err.now c.kept-in-Build.new.err c.kept-in-Build.result) (sym c.in-Build.is) (reports_as m (top_of c.in-Build.fault) c.from.result _ _ _ c.from.ensures.1 c.kept-in-Build.ensures.causes)
+
+pub returns-in-Memory-clause-causes : goal.returns-in-Memory-clause-causes
+returns-in-Memory-clause-causes g c =
+    let m = g.E.Sink.meaning in
+    let err = c.args.err.now in
+    subst (λ (s : Stop). ErrEnds m s err err c.report.result) (sym c.in-Memory.is) (ends_wanting m err c.report.result (c.report.ensures.faults ∙ c.empty.ensures) c.report.ensures.memory)

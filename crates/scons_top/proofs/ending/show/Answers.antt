@@ -1,0 +1,8 @@
+use Rattle.scons_top.proofs.Causing.{same_out, exit_report, sink_stop, good_step}
+use Rattle.scons_top.proofs.ending.show.Goals as goal
+
+pub returns-in_err-print_text-clause-reports : goal.returns-in_err-print_text-clause-reports
+returns-in_err-print_text-clause-reports g c = λ counts err. exit_report _ _ c.from_residual.result _ c.from_residual.ensures.1 (sink_stop counts _ _ err _ c.in_err-print_text.ensures.step)
+
+pub returns-clause-reports : goal.returns-clause-reports
+returns-clause-reports g c = λ counts err. good_step _ _ c.good.result (same_out counts _ _ err c.in_ok-print_text.ensures.step) c.good.ensures.faults

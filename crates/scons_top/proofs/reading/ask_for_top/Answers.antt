@@ -1,0 +1,12 @@
+use Rattle.scons_top.proofs.Causing.{top_named, top_wanting, top_refused}
+use Rattle.scons_top.proofs.reading.ask_for_top.Goals as goal
+use Rattle.scons_top.proofs.reading.ask_for_top.Goals.{in-Ok, in-Err-Memory, in-Err-Fault}
+
+pub returns-clause-step : goal.returns-clause-step
+returns-clause-step g c =
+    let top = c.top_path in
+    elim c.match-top_path.branch [
+      | in-Ok w ↦ top_named _ _ top.result _ c.match-top_path.result w.in-Ok.is w.result-is top.ensures.kept
+      | in-Err-Memory w ↦ top_wanting _ _ top.result _ c.match-top_path.result w.in-Err-Memory.is w.in-Err-Memory.field-0-is w.result-is top.ensures.kept
+      | in-Err-Fault w ↦ top_refused _ _ top.result _ c.match-top_path.result _ w.in-Err-Fault.is w.in-Err-Fault.field-0-is w.result-is w.no_top.ensures top.ensures.rose
+    ]

@@ -1,0 +1,17 @@
+use Rattle.scons_top.proofs.Causing.{look_exit, inner_step, world_memory}
+use Rattle.scons_top.proofs.requests.file_request.Goals as goal
+
+pub returns-in_err-kind_of-clause-step : goal.returns-in_err-kind_of-clause-step
+returns-in_err-kind_of-clause-step g c = look_exit _ _ c.from_residual.result _ c.from_residual.ensures.1 c.in_err-kind_of.ensures.cause
+
+pub returns-in-File-clause-step : goal.returns-in-File-clause-step
+returns-in-File-clause-step g c = inner_step _ _ c.node_request.result c.in_ok-kind_of.ensures.cause c.node_request.ensures
+
+pub returns-in_err-targets_below-in-Dir-clause-step : goal.returns-in_err-targets_below-in-Dir-clause-step
+returns-in_err-targets_below-in-Dir-clause-step g c = let r = c.from_residual-in_err-targets_below-in-Dir in world_memory _ _ r.result r.ensures.1 c.in_ok-kind_of.ensures.cause
+
+pub returns-in_ok-targets_below-in-Dir-clause-step : goal.returns-in_ok-targets_below-in-Dir-clause-step
+returns-in_ok-targets_below-in-Dir-clause-step g c = inner_step _ _ c.made.result c.in_ok-kind_of.ensures.cause c.made.ensures
+
+pub returns-in-Absent-clause-step : goal.returns-in-Absent-clause-step
+returns-in-Absent-clause-step g c = inner_step _ _ c.absent_request.result c.in_ok-kind_of.ensures.cause c.absent_request.ensures
