@@ -11,8 +11,10 @@ pub mod ListedLemmas
 pub mod LoadLemmas
 pub mod TrackLemmas
 pub mod WantLemmas
+pub mod MetLemmas
 pub mod AdmitLemmas
 pub mod FollowLemmas
 pub mod NoteLemmas
 pub mod ExploreLemmas
 pub mod CycleLemmas
+pub mod MetNeeds

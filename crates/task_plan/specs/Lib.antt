@@ -8,6 +8,7 @@ pub mod Listed
 pub mod Loaded
 pub mod Tracked
 pub mod Plans
+pub mod Met
 pub mod Admits
 pub mod Cycles
 pub mod Walks

@@ -76,11 +76,12 @@ pub record Meets (old new : Planned) : Type 0 where
   pub states : AreMet old.states new.states
   pub halted : new.halted ≡ old.halted
 
--- no state changes, nor what is known of a rule
+-- no state changes, nor what is known of a rule or of a file
 pub record Stays (old new : Planned) : Type 0 where
   pub states : new.states ≡ old.states
   pub halted : new.halted ≡ old.halted
   pub rules : new.rules ≡ old.rules
+  pub origins : new.origins ≡ old.origins
 
 -- a rule that can be decided is in this state now; of another one nothing is taken
 abbrev pub decided : Planned → ℕ → RuleState → List RuleState

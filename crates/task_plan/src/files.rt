@@ -1,7 +1,8 @@
 //! What the plan keeps of a file.
-ghost use Rattle.std.specs.Prelude.{◌≡◌, ℕ, true, slice_set, IfSome};
+ghost use Rattle.std.specs.Prelude.{◌≡◌, ℕ, true, slice_set, IfSome, ◌≤◌, ◌+◌, false, length, OnOk};
 ghost use Rattle.scons_base.specs.declared.ids.RuleId.{RuleId};
 ghost use Rattle.task_plan.specs.Settled.{origin_of, is_done as is_done_of};
+ghost use Rattle.task_plan.specs.Met.{is_met};
 
 use crate::states::{RuleState, States};
 use scons_base::{Memory, NodeId, RuleId};
@@ -37,16 +38,20 @@ impl Files {
 
     /// Makes room for nodes below this number.
     pub(crate) fn reach(&mut self, nodes: u32) -> Result<(), Memory>
-        ensures { (n : ℕ) → origin_of self.new.origins.items n ≡ origin_of self.old.origins.items n }
+        ensures same { (n : ℕ) → origin_of self.new.origins.items n ≡ origin_of self.old.origins.items n }
+        ensures longer { length self.old.origins.items ≤ length self.new.origins.items }
+        ensures room { OnOk result (nodes ≤ length self.new.origins.items) }
     {
-        for _ in self.origins.len()..nodes as usize {
+        while self.origins.len() < nodes as usize {
             self.add()?;
         }
         Ok(())
     }
 
     fn add(&mut self) -> Result<(), Memory>
-        ensures { (n : ℕ) → origin_of self.new.origins.items n ≡ origin_of self.old.origins.items n }
+        ensures same { (n : ℕ) → origin_of self.new.origins.items n ≡ origin_of self.old.origins.items n }
+        ensures longer { length self.old.origins.items ≤ length self.new.origins.items }
+        ensures more { OnOk result (length self.new.origins.items ≡ length self.old.origins.items + 1) }
     {
         self.waiters.push(Vec::new(self.alloc))?;
         self.origins.push(Origin::Unmet)?;
@@ -65,7 +70,8 @@ impl Files {
 
     /// Whether a file wasn't met.
     pub(crate) fn is_unmet(&self, node: NodeId) -> bool
-        ensures { result ≡ true → origin_of self.now.origins.items node.0 ≡ Origin.Unmet }
+        ensures unmet { result ≡ true → origin_of self.now.origins.items node.0 ≡ Origin.Unmet }
+        ensures met { result ≡ false → is_met self.now.origins.items node ≡ true }
     {
         match self.origin(node) {
             Origin::Unmet => true,

@@ -1,10 +1,12 @@
 //! How the plan meets files, and with them the rules that are needed.
 
-ghost use Rattle.std.specs.Prelude.{◌≡◌, ◌<◌, ◌≤◌, [], Some, false, true, length, slice_get, slice_set, nat_eq, OnOk};
+ghost use Rattle.std.specs.Prelude.{◌≡◌, ◌<◌, ◌≤◌, [], Some, false, true, length, slice_get, slice_set, nat_eq, OnOk, ◌≢◌, ◌+◌, ◌∷◌};
 ghost use Rattle.scons_base.specs.declared.ids.NodeId.{NodeId};
-ghost use Rattle.task_plan.specs.Settled.{CanScan, kept_of};
+ghost use Rattle.task_plan.specs.States.{state_of};
+ghost use Rattle.task_plan.specs.Settled.{CanScan, kept_of, origin_of};
 ghost use Rattle.task_plan.specs.Plans.{Meets, Stays};
 ghost use Rattle.task_plan.specs.Listed.{IsListing};
+ghost use Rattle.task_plan.specs.Met.{Finds, HasRoom, needs_at};
 ghost use Rattle.task_plan.specs.Admits.{Widens, Admits, Brings, IsBegun, are_rules, queues, none};
 
 use crate::files::{Files, Origin};
@@ -22,36 +24,67 @@ impl Plan {
     pub(crate) fn make_room(&mut self, graph: &Graph) -> Result<(), Memory>
         ensures meets { Meets self.old self.new }
         ensures widens { Widens self.old self.new }
+        ensures room { OnOk result (HasRoom graph.now self.new) }
     {
         self.make_node_room(graph.len())?;
-        for _added in self.tasks.len()..graph.rules() as usize {
-            self.add_task()?;
-        }
-        self.make_mark_room()
+        self.make_rule_room(graph.rules())?;
+        self.make_mark_room()?;
+        Ok(())
     }
 
     #[tactic(auto, using(crate::proofs::TrackLemmas::tracked_origins))]
     fn make_node_room(&mut self, nodes: u32) -> Result<(), Memory>
-        ensures { Stays self.old self.new }
+        ensures meets { Meets self.old self.new }
+        ensures widens { Widens self.old self.new }
+        ensures room { OnOk result (nodes ≤ length self.new.origins) }
     {
         self.files.reach(nodes)
     }
 
-    /// Makes room for one rule more.
+    /// Makes room for this many rules.
     #[tactic(auto, using(crate::proofs::AdmitLemmas::scanning))]
-    fn add_task(&mut self) -> Result<(), Memory>
+    fn make_rule_room(&mut self, rules: u32) -> Result<(), Memory>
         ensures meets { Meets self.old self.new }
         ensures widens { Widens self.old self.new }
+        ensures room { OnOk result (rules ≤ length self.new.states) }
     {
-        self.push_task()?;
-        self.add_state()
+        while self.rule_count() < rules as usize {
+            self.push_task()?;
+        }
+        self.make_state_room()?;
+        Ok(())
+    }
+
+    /// Rules that have room aren't needed.
+    #[tactic(auto, using(crate::proofs::AdmitLemmas::scanning))]
+    fn make_state_room(&mut self) -> Result<(), Memory>
+        ensures meets { Meets self.old self.new }
+        ensures widens { Widens self.old self.new }
+        ensures room { OnOk result (length self.old.rules ≤ length self.new.states) }
+    {
+        while self.state_count() < self.rule_count() {
+            self.add_state()?;
+        }
+        Ok(())
+    }
+
+    fn rule_count(&self) -> usize
+        ensures { result ≡ length self.now.rules }
+    {
+        self.tasks.len()
+    }
+
+    fn state_count(&self) -> usize
+        ensures { result ≡ length self.now.states }
+    {
+        self.states.len()
     }
 
     #[tactic(auto, using(crate::proofs::TrackLemmas::pushing))]
     fn push_task(&mut self) -> Result<(), Memory>
         ensures meets { Meets self.old self.new }
         ensures widens { Widens self.old self.new }
-        ensures room { OnOk result (length self.new.states < length self.new.rules) }
+        ensures more { OnOk result (length self.new.rules ≡ length self.old.rules + 1) }
     {
         self.tasks.push(Task::new(self.alloc))?;
         Ok(())
@@ -62,6 +95,8 @@ impl Plan {
         requires { length self.old.states < length self.old.rules }
         ensures meets { Meets self.old self.new }
         ensures widens { Widens self.old self.new }
+        ensures rules { self.new.rules ≡ self.old.rules }
+        ensures more { OnOk result (length self.new.states ≡ length self.old.states + 1) }
     {
         self.states.add()
     }
@@ -82,8 +117,10 @@ impl Plan {
     /// Meets the requested nodes.
     #[tactic(auto, using(crate::proofs::AdmitLemmas::scanning))]
     pub(crate) fn meet_roots(&mut self, graph: &Graph, requested: &[NodeId]) -> Result<(), Memory>
+        requires { HasRoom graph.now self.old }
         ensures meets { Meets self.old self.new }
         ensures admits { OnOk result (Admits graph.now self.old self.new none []) }
+        ensures finds { OnOk result (Finds graph.now self.old self.new requested.now) }
     {
         let mut needed = Vec::new(self.alloc);
         self.meet_requested(graph, requested, &mut needed)?;
@@ -98,8 +135,10 @@ impl Plan {
         requested: &[NodeId],
         needed: &mut Vec<RuleId>,
     ) -> Result<(), Memory>
+        requires { HasRoom graph.now self.old }
         ensures meets { Meets self.old self.new }
         ensures brings { OnOk result (Brings graph.now self.old self.new none needed.old.items needed.new.items) }
+        ensures finds { OnOk result (Finds graph.now self.old self.new requested.now) }
     {
         for node in requested {
             self.meet(graph, *node, needed)?;
@@ -125,10 +164,13 @@ impl Plan {
         node: NodeId,
         needed: &mut Vec<RuleId>,
     ) -> Result<(), Memory>
+        requires { HasRoom graph.now self.old }
         ensures meets { Meets self.old self.new }
         ensures brings { OnOk result (Brings graph.now self.old self.new none needed.old.items needed.new.items) }
+        ensures rules { self.new.rules ≡ self.old.rules }
+        ensures finds { OnOk result (Finds graph.now self.old self.new (node ∷ [])) }
     {
-        if self.files.origin(node) != Origin::Unmet {
+        if !self.files.is_unmet(node) {
             return Ok(());
         }
         match graph.rule_of(node) {
@@ -151,9 +193,13 @@ impl Plan {
         rule: RuleId,
         needed: &mut Vec<RuleId>,
     ) -> Result<(), Memory>
-        requires { rule.0 < length graph.now.rules }
+        requires rule { rule.0 < length graph.now.rules }
+        requires room { length graph.now.rules ≤ length self.old.states }
         ensures meets { Meets self.old self.new }
         ensures brings { OnOk result (Brings graph.now self.old self.new none needed.old.items needed.new.items) }
+        ensures rules { self.new.rules ≡ self.old.rules }
+        ensures origins { self.new.origins ≡ self.old.origins }
+        ensures needed { state_of self.new.states rule.0 ≢ RuleState.Unneeded }
     {
         if self.begins_need(rule) {
             needed.push(rule)?;
@@ -164,31 +210,36 @@ impl Plan {
     /// Notes where a file that wasn't met comes from.
     #[tactic(auto, using(crate::proofs::TrackLemmas::tracked_origin))]
     fn note_origin(&mut self, node: NodeId, origin: Origin)
-        ensures { Stays self.old self.new }
+        requires { origin_of self.old.origins node.0 ≡ Origin.Unmet }
+        ensures { self.new ≡ record self.old { origins = slice_set self.old.origins node.0 origin } }
     {
-        if self.files.is_unmet(node) {
-            self.files.set_origin(node, origin);
-        }
+        self.files.set_origin(node, origin);
     }
 
     /// A rule is needed: whether it wasn't before.
     fn begins_need(&mut self, rule: RuleId) -> bool
+        requires { rule.0 < length self.old.states }
         ensures meets { Meets self.old self.new }
         ensures begun { result ≡ true → IsBegun self.old self.new rule.0 }
         ensures same { result ≡ false → self.new ≡ self.old }
+        ensures rules { self.new.rules ≡ self.old.rules }
+        ensures origins { self.new.origins ≡ self.old.origins }
+        ensures needed { state_of self.new.states rule.0 ≢ RuleState.Unneeded }
     {
-        let begins = self.states.is_unneeded(rule);
-        if begins {
-            self.states.set(rule, RuleState::Waiting);
+        if !self.states.is_unneeded(rule) {
+            return false;
         }
-        begins
+        self.states.set(rule, RuleState::Waiting);
+        true
     }
 
     /// Takes the needed rules in, with those that they need in turn. There are never as many as there are numbers.
     pub(crate) fn admit(&mut self, graph: &Graph, mut needed: Vec<RuleId>) -> Result<(), Memory>
-        requires { are_rules graph.now needed.items ≡ true }
+        requires rules { are_rules graph.now needed.items ≡ true }
+        requires room { HasRoom graph.now self.old }
         ensures meets { Meets self.old self.new }
         ensures admits { OnOk result (Admits graph.now self.old self.new (queues needed.items) []) }
+        ensures finds { OnOk result (Finds graph.now self.old self.new []) }
     {
         for place in 0..usize::MAX {
             let Some(rule) = rule_at(&needed, place) else {
@@ -199,16 +250,17 @@ impl Plan {
         Err(Memory)
     }
 
-    #[tactic(auto, using(crate::proofs::AdmitLemmas::admitting))]
     fn admit_one(
         &mut self,
         graph: &Graph,
         rule: RuleId,
         needed: &mut Vec<RuleId>,
     ) -> Result<(), Memory>
-        requires { rule.0 < length graph.now.rules }
+        requires rule { rule.0 < length graph.now.rules }
+        requires room { HasRoom graph.now self.old }
         ensures meets { Meets self.old self.new }
         ensures brings { OnOk result (Brings graph.now self.old self.new (nat_eq rule.0) needed.old.items needed.new.items) }
+        ensures finds { OnOk result (Finds graph.now self.old self.new []) }
     {
         let task = task_of(self.alloc, graph, graph.rule(rule))?;
         self.put_task(rule, task);
@@ -227,6 +279,7 @@ impl Plan {
         ensures meets { Meets self.old self.new }
         ensures states { self.new.states ≡ self.old.states }
         ensures rules { self.new.rules ≡ slice_set self.old.rules rule.0 (kept_of task) }
+        ensures origins { self.new.origins ≡ self.old.origins }
         ensures room { length self.old.states ≤ length self.old.rules }
     {
         let number = rule.0 as usize;
@@ -245,14 +298,13 @@ impl Plan {
         rule: RuleId,
         needed: &mut Vec<RuleId>,
     ) -> Result<(), Memory>
+        requires { HasRoom graph.now self.old }
         ensures meets { Meets self.old self.new }
         ensures brings { OnOk result (Brings graph.now self.old self.new none needed.old.items needed.new.items) }
+        ensures rules { self.new.rules ≡ self.old.rules }
+        ensures finds { OnOk result (Finds graph.now self.old self.new (needs_at self.old.rules rule.0)) }
     {
-        let count = match self.tasks.get(rule.0 as usize) {
-            Some(task) => task.needs(),
-            None => 0,
-        };
-        for place in 0..count {
+        for place in 0..self.need_count(rule) {
             let Some(node) = self.need(rule, place) else {
                 return Ok(());
             };
@@ -270,19 +322,38 @@ impl Plan {
         rule: RuleId,
         needed: &mut Vec<RuleId>,
     ) -> Result<(), Memory>
+        requires { HasRoom graph.now self.old }
         ensures meets { Meets self.old self.new }
         ensures brings { OnOk result (Brings graph.now self.old self.new none needed.old.items needed.new.items) }
+        ensures rules { self.new.rules ≡ self.old.rules }
+        ensures finds { OnOk result (Finds graph.now self.old self.new (node ∷ [])) }
     {
         self.meet(graph, node, needed)?;
-        if !self.is_ready(node) {
-            self.wait_for(node, rule)?;
+        if self.is_ready(node) {
+            return Ok(());
         }
+        self.wait_for(node, rule)?;
         Ok(())
     }
 
+    /// How many files a rule needs.
+    fn need_count(&self, rule: RuleId) -> usize
+        ensures { result ≡ length (needs_at self.now.rules rule.0) }
+    {
+        match self.tasks.get(rule.0 as usize) {
+            Some(task) => task.needs(),
+            None => 0,
+        }
+    }
+
     /// The file that a rule needs at this place.
-    fn need(&self, rule: RuleId, place: usize) -> Option<NodeId> {
-        self.tasks.get(rule.0 as usize)?.need(place)
+    fn need(&self, rule: RuleId, place: usize) -> Option<NodeId>
+        ensures { result ≡ slice_get (needs_at self.now.rules rule.0) place }
+    {
+        match self.tasks.get(rule.0 as usize) {
+            Some(task) => task.need(place),
+            None => None,
+        }
     }
 
     /// Lets a rule wait for a file.

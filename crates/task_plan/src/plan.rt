@@ -1,6 +1,6 @@
 //! The plan of a build.
 
-ghost use Rattle.std.specs.Prelude.{◌≡◌, ◌≢◌, ◌<◌, ◌||◌, [], ℕ, false, true, IfOk, OnOk, IfSome, IfNone, if◌then◌else◌, nat_lt, is_err};
+ghost use Rattle.std.specs.Prelude.{◌≡◌, ◌≢◌, ◌<◌, ◌||◌, [], ℕ, false, true, IfOk, OnOk, IfSome, IfNone, if◌then◌else◌, nat_lt, is_err, List, length};
 ghost use Rattle.std.specs.List.{count_by};
 ghost use Rattle.scons_base.specs.declared.ids.RuleId.{RuleId};
 ghost use Rattle.scons_base.specs.declared.ids.NodeId.{NodeId};
@@ -8,6 +8,8 @@ ghost use Rattle.task_plan.specs.States.{is_running, state_of};
 ghost use Rattle.task_plan.specs.Settled.{deps_of};
 ghost use Rattle.task_plan.specs.Plans.{AreMet, Meets, IsDecidedNext, IsScannedNext, IsReadyToScan, IsIdle, Goes, GoesOn, is_scan, is_halt};
 ghost use Rattle.task_plan.specs.Cycles.{HasNoCycle, IsCycle};
+ghost use Rattle.task_plan.specs.Met.{are_met, AllMet, AreFrom, AreNodes, IsReached, Finds, FindsBy};
+ghost use Rattle.rule_graph.specs.Rules.{are_below};
 ghost use Rattle.task_plan.specs.Admits.{Admits, Fits, AllFollow, IsFirstAt, Knows, none};
 
 use crate::cycles::cycle_of;
@@ -73,6 +75,12 @@ impl Plan {
             → IsFirstAt graph.now plan.rules rule) }
         ensures fits { IfOk result (λ plan. Fits graph.now plan) }
         ensures follow { IfOk result AllFollow }
+        ensures origins { IfOk result (AreFrom graph.now) }
+        ensures met { IfOk result (λ plan. are_below (length graph.now.nodes) requested.now ≡ true
+            → are_met plan.origins requested.now ≡ true) }
+        ensures needs { IfOk result AllMet }
+        ensures reached { IfOk result (λ plan. are_below (length graph.now.nodes) requested.now ≡ true
+            → (rule : ℕ) → IsReached graph.now requested.now rule → state_of plan.states rule ≢ RuleState.Unneeded) }
     {
         let mut plan = Plan::empty(alloc)?;
         plan.begin(graph, requested)?;
@@ -85,6 +93,7 @@ impl Plan {
     fn empty(alloc: Global) -> Result<Plan, Memory>
         ensures states { IfOk result (λ plan. plan.states ≡ []) }
         ensures halted { IfOk result (λ plan. plan.halted ≡ false) }
+        ensures origins { IfOk result (λ plan. plan.origins ≡ []) }
     {
         Ok(Plan {
             states: States::new(alloc),
@@ -104,6 +113,7 @@ impl Plan {
     fn begin(&mut self, graph: &Graph, requested: &[NodeId]) -> Result<(), Memory>
         ensures meets { Meets self.old self.new }
         ensures admits { OnOk result (Admits graph.now self.old self.new none []) }
+        ensures finds { OnOk result (Finds graph.now self.old self.new requested.now) }
     {
         self.make_room(graph)?;
         self.meet_roots(graph, requested)?;
@@ -180,9 +190,13 @@ impl Plan {
         ensures knows { OnOk result (Knows graph.now self.old event self.new) }
         ensures fits { OnOk result (Fits graph.now self.old → Fits graph.now self.new) }
         ensures follow { AllFollow self.new }
+        ensures origins { OnOk result (AreFrom graph.now self.old → AreFrom graph.now self.new) }
+        ensures needs { OnOk result (AreNodes graph.now event → Fits graph.now self.old
+            → AllMet self.old → AllMet self.new) }
     {
         // What the plan keeps is known of its fields alone.
         let _halted = self.halted;
+        self.follows();
         let taken = self.take(graph, event);
         self.follows();
         taken
@@ -193,6 +207,7 @@ impl Plan {
         ensures halted { self.new.halted ≡ (self.old.halted || (is_halt event || is_err result)) }
         ensures memory { is_scan event ≡ false → is_err result ≡ false }
         ensures knows { OnOk result (Knows graph.now self.old event self.new) }
+        ensures finds { OnOk result (FindsBy graph.now self.old event self.new) }
     {
         match event {
             PlanEvent::Scanned(rule, found) => return self.take_scan(graph, rule, found.into_vec()),

@@ -96,6 +96,8 @@ impl Reach {
         ensures whole { AreScannedIn self.new.found.entries self.new.files.keys self.new.whole }
         ensures found { OnOk result (found_of self.new ≡ with_found (found_of self.old) node included.items) }
         ensures walked { OnOk result (IsWalked self.new) }
+        ensures news { IfOk result (λ g. put_all_of self.old.excluded.keys self.old.files.keys included.items
+            ≡ self.old.files.keys ++ g.new.items) }
         ensures growth { IfOk result (λ g. g.in_order ≡ true →
             (is_listed ≡ true) × (self.new.files.keys ≡ self.old.files.keys ++ g.new.items)) }
     {

@@ -1,7 +1,8 @@
 //! What the events change.
 
-ghost use Rattle.std.specs.Prelude.{◌≡◌, ◌||◌, is_err, slice_set, OnOk, IfOk, MatchOption, []};
+ghost use Rattle.std.specs.Prelude.{◌≡◌, ◌||◌, is_err, slice_set, OnOk, IfOk, IfSome, MatchOption, ◌∷◌, []};
 ghost use Rattle.task_plan.specs.Plans.{AreMet, Meets, Stays, GoesNow, decided as decided_of, ended};
+ghost use Rattle.task_plan.specs.Met.{AreNews, Finds, FindsFile, HasRoom};
 ghost use Rattle.task_plan.specs.Admits.{Admits, Brings, NotesFile, NotesNone, Scans, none};
 
 use crate::order::depth_first;
@@ -23,6 +24,7 @@ impl Plan {
         ensures states { AreMet self.old.states self.new.states }
         ensures halted { self.new.halted ≡ (self.old.halted || is_err result) }
         ensures scans { OnOk result (Scans graph.now self.old rule.0 found.items self.new) }
+        ensures finds { OnOk result (FindsFile graph.now self.old self.new rule.0 found.items) }
     {
         if !self.scannable.contains(rule.0 as usize) {
             return Ok(());
@@ -37,6 +39,7 @@ impl Plan {
         ensures states { self.new.states ≡ self.old.states }
         ensures halted { self.new.halted ≡ (self.old.halted || fails) }
         ensures rules { self.new.rules ≡ self.old.rules }
+        ensures origins { self.new.origins ≡ self.old.origins }
     {
         if fails {
             self.halted = true;
@@ -48,6 +51,7 @@ impl Plan {
         ensures states { self.new.states ≡ decided_of self.old rule.0 RuleState.Settled }
         ensures halted { self.new.halted ≡ self.old.halted }
         ensures rules { self.new.rules ≡ self.old.rules }
+        ensures origins { self.new.origins ≡ self.old.origins }
     {
         if self.queue.is_open(rule) {
             self.settle(rule);
@@ -59,6 +63,7 @@ impl Plan {
         ensures states { self.new.states ≡ decided_of self.old rule.0 state }
         ensures halted { self.new.halted ≡ self.old.halted }
         ensures rules { self.new.rules ≡ self.old.rules }
+        ensures origins { self.new.origins ≡ self.old.origins }
     {
         if self.queue.is_open(rule) {
             self.decided(rule, state);
@@ -70,6 +75,7 @@ impl Plan {
         ensures states { self.new.states ≡ ended self.old rule.0 RuleState.Settled }
         ensures halted { self.new.halted ≡ self.old.halted }
         ensures rules { self.new.rules ≡ self.old.rules }
+        ensures origins { self.new.origins ≡ self.old.origins }
     {
         if self.states.of(rule) == RuleState::Running {
             self.settle(rule);
@@ -81,6 +87,7 @@ impl Plan {
         ensures states { self.new.states ≡ ended self.old rule.0 RuleState.Failed }
         ensures halted { self.new.halted ≡ self.old.halted }
         ensures rules { self.new.rules ≡ self.old.rules }
+        ensures origins { self.new.origins ≡ self.old.origins }
     {
         if self.states.of(rule) == RuleState::Running {
             self.decided(rule, RuleState::Failed);
@@ -91,6 +98,7 @@ impl Plan {
     fn scanned(&mut self, graph: &Graph, rule: RuleId, found: Vec<NodeId>) -> Result<(), Memory>
         ensures meets { Meets self.old self.new }
         ensures scans { OnOk result (Scans graph.now self.old rule.0 found.items self.new) }
+        ensures finds { OnOk result (FindsFile graph.now self.old self.new rule.0 found.items) }
     {
         let noted = self.note_found(rule, found)?;
         self.take_noted(graph, rule, &noted)?;
@@ -108,6 +116,7 @@ impl Plan {
         ensures meets { Meets self.old self.new }
         ensures admits { OnOk result (MatchOption noted.now (self.new ≡ self.old)
             (λ _. Admits graph.now self.old self.new none [])) }
+        ensures finds { OnOk result (IfSome noted.now (λ growth. Finds graph.now self.old self.new growth.new.items)) }
     {
         match noted {
             Some(growth) => self.take_growth(graph, rule, growth),
@@ -128,8 +137,10 @@ impl Plan {
     fn note_found(&mut self, rule: RuleId, found: Vec<NodeId>) -> Result<Option<Growth>, Memory>
         ensures meets { Meets self.old self.new }
         ensures states { self.new.states ≡ self.old.states }
+        ensures origins { self.new.origins ≡ self.old.origins }
         ensures notes { IfOk result (λ growth. MatchOption growth (NotesNone self.old self.new rule.0)
             (λ _. NotesFile self.old self.new rule.0 found.items)) }
+        ensures news { IfOk result (λ growth. IfSome growth (λ g. AreNews self.old rule.0 found.items g.new.items)) }
     {
         let number = rule.0 as usize;
         if !self.scannable.contains(number) {
@@ -152,6 +163,7 @@ impl Plan {
     fn take_growth(&mut self, graph: &Graph, rule: RuleId, growth: &Growth) -> Result<(), Memory>
         ensures meets { Meets self.old self.new }
         ensures admits { OnOk result (Admits graph.now self.old self.new none []) }
+        ensures finds { OnOk result (Finds graph.now self.old self.new growth.now.new.items) }
     {
         self.make_room(graph)?;
         let mut needed = Vec::new(self.alloc);
@@ -173,8 +185,10 @@ impl Plan {
         growth: &Growth,
         needed: &mut Vec<RuleId>,
     ) -> Result<(), Memory>
+        requires { HasRoom graph.now self.old }
         ensures meets { Meets self.old self.new }
         ensures brings { OnOk result (Brings graph.now self.old self.new none needed.old.items needed.new.items) }
+        ensures finds { OnOk result (Finds graph.now self.old self.new growth.now.new.items) }
     {
         for node in &growth.new {
             self.meet_one_found(graph, rule, *node, needed)?;
@@ -182,7 +196,7 @@ impl Plan {
         Ok(())
     }
 
-    /// Meets a file that came by a scan alone.
+    /// Meets a file that came by a scan. Its rule is waited for where the file came by that alone.
     #[tactic(auto, using(crate::proofs::AdmitLemmas::meeting))]
     fn meet_one_found(
         &mut self,
@@ -191,13 +205,15 @@ impl Plan {
         node: NodeId,
         needed: &mut Vec<RuleId>,
     ) -> Result<(), Memory>
+        requires { HasRoom graph.now self.old }
         ensures meets { Meets self.old self.new }
         ensures brings { OnOk result (Brings graph.now self.old self.new none needed.old.items needed.new.items) }
+        ensures finds { OnOk result (Finds graph.now self.old self.new (node ∷ [])) }
     {
+        self.meet(graph, node, needed)?;
         if !self.is_found(rule, node) {
             return Ok(());
         }
-        self.meet(graph, node, needed)?;
         self.need_also(rule, node)?;
         Ok(())
     }
@@ -255,6 +271,7 @@ impl Plan {
         ensures states { self.new.states ≡ slice_set self.old.states rule.0 state }
         ensures halted { self.new.halted ≡ self.old.halted }
         ensures rules { self.new.rules ≡ self.old.rules }
+        ensures origins { self.new.origins ≡ self.old.origins }
     {
         self.queue.put(rule, false);
         self.states.set(rule, state);
@@ -266,6 +283,7 @@ impl Plan {
         ensures states { self.new.states ≡ slice_set self.old.states rule.0 RuleState.Settled }
         ensures halted { self.new.halted ≡ self.old.halted }
         ensures rules { self.new.rules ≡ self.old.rules }
+        ensures origins { self.new.origins ≡ self.old.origins }
     {
         self.decided(rule, RuleState::Settled);
         for place in 0..self.target_count(rule) {

@@ -1,5 +1,6 @@
 //! What the plan keeps of a rule.
-ghost use Rattle.std.specs.Prelude.{◌≡◌, ◌≤◌, true, length, slice_get, OnOk};
+ghost use Rattle.std.specs.Prelude.{◌≡◌, ◌≤◌, true, length, slice_get, OnOk, ◌++◌, IfOk};
+ghost use Rattle.task_plan.specs.Named.{put_all as put_all_of};
 ghost use Rattle.task_plan.specs.Settled.{needs_of, next_of, AreDoneTo, AreScannedTo, IsDoneAt, KeepsNeeds, IsThrough};
 ghost use Rattle.task_plan.specs.Loaded.{IsBlank};
 ghost use Rattle.task_plan.specs.Listed.{AreDeps, IsGrown, IsListing, KeepsNamed, KeepsNames, Takes};
@@ -110,6 +111,8 @@ impl Task {
         ensures listing { IsListing self.new }
         ensures names { KeepsNames self.old self.new }
         ensures takes { OnOk result (Takes self.old node found.items self.new) }
+        ensures news { IfOk result (λ growth. put_all_of self.old.reach.excluded.keys self.old.reach.files.keys
+            found.items ≡ self.old.reach.files.keys ++ growth.new.items) }
     {
         let is_listed = self.is_listed;
         self.is_listed = false;

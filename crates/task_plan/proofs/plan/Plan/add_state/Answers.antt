@@ -15,4 +15,4 @@ invariant_of-self c =
     tracked_met i.states c.add.new.self i.queue i.tasks.items i.files.origins.items i.scannable c.add.ensures.meets le c.self.invariant
 
 pub returns-clause-widens : goal.returns-clause-widens
-returns-clause-widens c = rw (sym c.self.view_is) (widens_states _ _ c.add.ensures.same refl)
+returns-clause-widens c = rw (sym c.self.view_is) (widens_states _ _ c.add.ensures.same refl refl c.add.ensures.longer)

@@ -1,5 +1,6 @@
-use Rattle.std.proofs.Common.{sym}
+use Rattle.std.proofs.Common.{[], refl, sym}
 use Rattle.task_plan.proofs.PlanLemmas.{meets_same, meets_trans}
+use Rattle.task_plan.proofs.MetLemmas.{room_still, finds_same, finds_on}
 use Rattle.task_plan.proofs.AdmitLemmas.{admits_first, admits_next, admits_end, rules_next, rule_in}
 use Rattle.task_plan.specs.Admits.{queues}
 use Rattle.task_plan.proofs.plan.Plan.admit.Goals as goal
@@ -7,23 +8,29 @@ use Rattle.task_plan.proofs.plan.Plan.admit.Goals as goal
 pub loop-place-init : goal.loop-place-init
 loop-place-init c = record {
   meets = meets_same c.args.self.now;
-  rules = c.requires;
+  rules = c.requires.rules;
+  room = c.requires.room;
+  finds = finds_same c.args.graph.now c.args.self.now c.args.self.now refl;
   admits = admits_first c.args.graph.now c.args.self.now c.args.needed.items;
 }
 
-pub admit_one-requires : goal.admit_one-requires
-admit_one-requires c = rule_in c.args.graph.now c.loop-place.needed.items c.loop-place.place c.in-Some.rule c.loop-place.invariant.rules (sym c.in-Some.ensures)
+pub admit_one-requires-clause-rule : goal.admit_one-requires-clause-rule
+admit_one-requires-clause-rule c = rule_in c.args.graph.now c.loop-place.needed.items c.loop-place.place c.in-Some.rule c.loop-place.invariant.rules (sym c.in-Some.ensures)
 
 pub loop-place-preserved : goal.loop-place-preserved
 loop-place-preserved c =
     let i = c.loop-place.invariant in
     let g = c.args.graph.now in
     let s = queues c.args.needed.items in
+    let k = c.in_ok-admit_one.ensures in
     record {
       meets = meets_trans c.args.self.now c.loop-place.self c.admit_one.new.self i.meets c.admit_one.ensures.meets;
-      rules = rules_next g c.loop-place.self c.admit_one.new.self _ c.loop-place.needed.items c.admit_one.new.needed.items i.rules c.in_ok-admit_one.ensures.brings;
-      admits = admits_next g c.args.self.now c.loop-place.self c.admit_one.new.self s c.loop-place.needed.items c.admit_one.new.needed.items c.loop-place.place c.in-Some.rule (sym c.in-Some.ensures) i.admits
-          c.in_ok-admit_one.ensures.brings;
+      rules = rules_next g c.loop-place.self c.admit_one.new.self _ c.loop-place.needed.items c.admit_one.new.needed.items i.rules k.brings;
+      room = room_still g c.loop-place.self c.admit_one.new.self i.room k.brings.admits.keeps;
+      finds = finds_on g c.args.self.now c.loop-place.self c.admit_one.new.self [] i.finds k.brings.admits.keeps k.finds;
+      admits =
+          admits_next g c.args.self.now c.loop-place.self c.admit_one.new.self s c.loop-place.needed.items c.admit_one.new.needed.items c.loop-place.place c.in-Some.rule (sym c.in-Some.ensures) i.admits
+          k.brings;
     }
 
 pub returns-in_default-clause-admits : goal.returns-in_default-clause-admits

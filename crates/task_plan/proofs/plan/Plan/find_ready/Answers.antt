@@ -22,4 +22,4 @@ returns-then-waits c =
     let i = c.self.inside in
     let within : c.args.rule.0 < length i.tasks.items = omega (arith, i.tasks.ok.0, c.len.ensures, c.if-number-len.true) in
     let at = slice_get_read i.tasks.items (length i.tasks.items) c.args.rule.0 c.index_mut.result.now refl within c.index_mut.ensures.value in
-    rw (sym c.self.view_is) (record { states = refl; halted = refl; rules = kept_still i.tasks.items c.args.rule.0 c.index_mut.result.now _ at refl })
+    rw (sym c.self.view_is) (record { states = refl; halted = refl; origins = refl; rules = kept_still i.tasks.items c.args.rule.0 c.index_mut.result.now _ at refl })

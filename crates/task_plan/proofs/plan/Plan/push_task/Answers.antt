@@ -1,4 +1,4 @@
-use Rattle.std.proofs.Common.{◌∙◌, ◌∷◌, [], ap, refl, sym}
+use Rattle.std.proofs.Common.{arith, ◌∙◌, ◌∷◌, [], ap, refl, sym, length, length-append}
 use Rattle.std.specs.Prelude.{map}
 use Rattle.std.proofs.lemmas.List.{map-append}
 use Rattle.task_plan.specs.Settled.{kept_of}
@@ -15,4 +15,12 @@ invariant_of-self-2 c =
 pub returns-clause-widens : goal.returns-clause-widens
 returns-clause-widens c =
     let i = c.self.inside in
-    rw (sym c.self.view_is) (widens_more _ _ (kept_of c.new.result) refl (ap (map kept_of) (c.in_ok-push.ensures {u = tt}).items ∙ map-append kept_of i.tasks.items (c.new.result ∷ [])))
+    rw (sym c.self.view_is) (widens_more _ _ (kept_of c.new.result) refl (ap (map kept_of) (c.in_ok-push.ensures {u = tt}).items ∙ map-append kept_of i.tasks.items (c.new.result ∷ [])) refl)
+
+pub returns-clause-more : goal.returns-clause-more
+returns-clause-more c =
+    let i = c.self.inside in
+    let e = ap (map kept_of) (c.in_ok-push.ensures {u = tt}).items ∙ map-append kept_of i.tasks.items (c.new.result ∷ []) in
+    let n = ap length e in
+    let m = length-append (map kept_of i.tasks.items) (kept_of c.new.result ∷ []) in
+    rw (sym c.self.view_is) (omega arith)

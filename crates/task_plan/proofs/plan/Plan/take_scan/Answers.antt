@@ -4,6 +4,8 @@ use Rattle.std.proofs.lemmas.Result.{on_ok_weaker}
 use Rattle.task_plan.specs.Settled.{next_of}
 use Rattle.task_plan.proofs.WantLemmas.{planned, unwanted_by}
 use Rattle.task_plan.proofs.AdmitLemmas.{scans_none, scans_still}
+use Rattle.task_plan.proofs.MetLemmas.{keeps_same, finds_same}
+use Rattle.task_plan.proofs.MetNeeds.{finds_unwanted, finds_file_still}
 use Rattle.task_plan.proofs.plan.Plan.take_scan.Goals as goal
 
 pub returns-then-not-contains-clause-scans : goal.returns-then-not-contains-clause-scans
@@ -19,5 +21,22 @@ returns-then-not-contains-clause-scans c =
 pub returns-clause-scans : goal.returns-clause-scans
 returns-clause-scans c =
     on_ok_weaker c.scanned-taken.result
-    (λ s. scans_still c.args.graph.now c.args.self.now c.scanned-taken.new.self c.halt_where.new.self c.args.rule.0 c.args.found.items s c.halt_where.ensures.states c.halt_where.ensures.rules)
+    (λ s. scans_still c.args.graph.now c.args.self.now c.scanned-taken.new.self c.halt_where.new.self c.args.rule.0 c.args.found.items s c.halt_where.ensures.states c.halt_where.ensures.rules c.halt_where.ensures.origins)
     c.scanned-taken.ensures.scans
+
+pub returns-then-not-contains-clause-finds : goal.returns-then-not-contains-clause-finds
+returns-then-not-contains-clause-finds c =
+    let i = c.self.inside in
+    let is = c.contains.ensures in
+    let not = c.if-not-contains.true in
+    let unmarked : get_or i.scannable c.args.rule.0 false ≡ false = cc in
+    let p = planned i.states i.queue i.halted i.tasks.items i.files.origins.items i.scannable in
+    rw (sym c.self.view_is)
+    (finds_unwanted c.args.graph.now p p c.args.rule.0 c.args.found.items (unwanted_by (get_or i.scannable c.args.rule.0 false) (slice_get (map next_of i.tasks.items) c.args.rule.0) unmarked)
+    (keeps_same p p refl refl) (finds_same c.args.graph.now p p refl))
+
+pub returns-clause-finds : goal.returns-clause-finds
+returns-clause-finds c =
+    on_ok_weaker c.scanned-taken.result
+    (λ d. finds_file_still c.args.graph.now c.args.self.now c.scanned-taken.new.self c.halt_where.new.self c.args.rule.0 c.args.found.items d c.halt_where.ensures.states c.halt_where.ensures.origins)
+    c.scanned-taken.ensures.finds
