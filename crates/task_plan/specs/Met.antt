@@ -55,6 +55,10 @@ pub data IsReached (graph : RuleGraph) (nodes : List NodeId) : ℕ → Type 0 wh
   needs : {rule other : ℕ} (of : Rule) (node : NodeId) → IsReached graph nodes rule → slice_get graph.rules rule ≡ Some of → stands (of.required ++ named_of of) node ≡ true
       → rule_of graph.rules node.0 ≡ Some other → IsReached graph nodes other
 
+-- those rules are needed, where the nodes are the graph's
+pub record AllReached (graph : RuleGraph) (nodes : List NodeId) (states : List RuleState) : Type 0 where
+  pub each : are_below (length graph.nodes) nodes ≡ true → (rule : ℕ) → IsReached graph nodes rule → state_of states rule ≢ Unneeded
+
 -- the nodes of an event are the graph's
 abbrev pub AreNodes : RuleGraph → PlanEvent → Type 0
 AreNodes graph (Scanned rule found) = are_below (length graph.nodes) found ≡ true

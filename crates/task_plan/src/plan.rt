@@ -1,6 +1,6 @@
 //! The plan of a build.
 
-ghost use Rattle.std.specs.Prelude.{◌≡◌, ◌≢◌, ◌<◌, ◌||◌, [], ℕ, false, true, IfOk, OnOk, IfSome, IfNone, if◌then◌else◌, nat_lt, is_err, List, length};
+ghost use Rattle.std.specs.Prelude.{◌≡◌, ◌≢◌, ◌<◌, ◌||◌, [], ℕ, false, true, IfOk, OnOk, IfSome, IfNone, if◌then◌else◌, nat_lt, is_err, length};
 ghost use Rattle.std.specs.List.{count_by};
 ghost use Rattle.scons_base.specs.declared.ids.RuleId.{RuleId};
 ghost use Rattle.scons_base.specs.declared.ids.NodeId.{NodeId};
@@ -8,7 +8,7 @@ ghost use Rattle.task_plan.specs.States.{is_running, state_of};
 ghost use Rattle.task_plan.specs.Settled.{deps_of};
 ghost use Rattle.task_plan.specs.Plans.{AreMet, Meets, IsDecidedNext, IsScannedNext, IsReadyToScan, IsIdle, Goes, GoesOn, is_scan, is_halt};
 ghost use Rattle.task_plan.specs.Cycles.{HasNoCycle, IsCycle};
-ghost use Rattle.task_plan.specs.Met.{are_met, AllMet, AreFrom, AreNodes, IsReached, Finds, FindsBy};
+ghost use Rattle.task_plan.specs.Met.{are_met, AllMet, AllReached, AreFrom, AreNodes, Finds, FindsBy};
 ghost use Rattle.rule_graph.specs.Rules.{are_below};
 ghost use Rattle.task_plan.specs.Admits.{Admits, Fits, AllFollow, IsFirstAt, Knows, none};
 
@@ -79,8 +79,7 @@ impl Plan {
         ensures met { IfOk result (λ plan. are_below (length graph.now.nodes) requested.now ≡ true
             → are_met plan.origins requested.now ≡ true) }
         ensures needs { IfOk result AllMet }
-        ensures reached { IfOk result (λ plan. are_below (length graph.now.nodes) requested.now ≡ true
-            → (rule : ℕ) → IsReached graph.now requested.now rule → state_of plan.states rule ≢ RuleState.Unneeded) }
+        ensures reached { IfOk result (λ plan. AllReached graph.now requested.now plan.states) }
     {
         let mut plan = Plan::empty(alloc)?;
         plan.begin(graph, requested)?;

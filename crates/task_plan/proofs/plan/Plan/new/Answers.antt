@@ -27,10 +27,13 @@ pub returns-clause-met : goal.returns-clause-met
 returns-clause-met c = c.in_ok-begin.ensures.finds.met
 
 pub returns-clause-reached : goal.returns-clause-reached
-returns-clause-reached c = λ below rule i.
+returns-clause-reached c =
     let g = c.args.graph.now in
     let a = c.in_ok-plan.plan in
     let b = c.begin.new.self in
     let none = λ (r : ℕ). ap (λ s. state_of s r) c.in_ok-plan.ensures.states in
     let k = c.in_ok-begin.ensures in
-    reached_needed g b c.args.requested.now (knows_first g a b none k.admits) (k.finds.from (from_nothing g a c.in_ok-plan.ensures.origins)) (all_met_first g a b none k.admits) (k.finds.met below) rule i
+    let from = k.finds.from (from_nothing g a c.in_ok-plan.ensures.origins) in
+    record {
+      each = λ below rule i. reached_needed g b c.args.requested.now (knows_first g a b none k.admits) from (all_met_first g a b none k.admits) (k.finds.met below) rule i;
+    }
