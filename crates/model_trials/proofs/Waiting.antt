@@ -1,5 +1,5 @@
 -- Numbers that lead to themselves, and rules that wait for themselves.
-use Rattle.std.proofs.Common.{◌≡◌, ◌<◌, ◌+◌, ℕ, zero, suc, List, [], ◌∷◌, ◌++◌, Option, Some, None, map, length, get_or, refl, sym, ap, subst, ◌∙◌, arith, ◌⊎◌, inl, inr, ⊎_elim}
+use Rattle.std.proofs.Common.{◌≡◌, ◌<◌, ℕ, zero, suc, List, [], ◌∷◌, Option, None, map, length, get_or, refl, sym, ap, subst, ◌∙◌, arith, ◌⊎◌, inl, inr, ⊎_elim}
 use Rattle.std.specs.List.{slice_get}
 use Rattle.build_model.specs.Rules.{Path, Rule, Among, here, there}
 use Rattle.build_model.specs.Reach.{unseen, breadth_first}

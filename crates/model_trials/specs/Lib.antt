@@ -3,3 +3,5 @@ pub mod Plain
 pub mod Orders
 pub mod Loops
 pub mod Cyclic
+pub mod Staling
+pub mod Making

@@ -1,10 +1,19 @@
 -- Small graphs, as the model of builds sees them.
 use Rattle.std.specs.Prelude.{◌≡◌, ℕ, suc, false, List, [], ◌∷◌, ◌++◌, if◌then◌else◌}
 use Rattle.std.specs.Str.{bytes_eq}
-use Rattle.build_model.specs.Rules.{Path, Rule, content}
+use Rattle.build_model.specs.Rules.{Path, Rule, Decider, content, timestamp_newer, timestamp_match, content_timestamp}
 use Rattle.build_model.specs.Reach.{breadth_first}
+use Rattle.model_trials.specs.declared.reach.PlainDecider.{PlainDecider}
+use Rattle.model_trials.specs.declared.reach.PlainDecider.TheVariants.{Content, TimestampNewer, TimestampMatch, ContentTimestamp}
 use Rattle.model_trials.specs.declared.reach.PlainRule.{PlainRule}
 use Rattle.model_trials.specs.declared.reach.Scan.{Scan}
+
+-- the decider that a plain one stands for
+abbrev pub decider_of : PlainDecider → Decider
+decider_of Content = content
+decider_of TimestampNewer = timestamp_newer
+decider_of TimestampMatch = timestamp_match
+decider_of ContentTimestamp = content_timestamp
 
 -- the rule that plain lists stand for
 abbrev pub as_rule : PlainRule → Rule
@@ -20,8 +29,8 @@ as_rule r = record {
   libraries = r.libraries.items;
   ignored = r.ignored.items;
   required = r.required.items;
-  always = false;
-  decider = content;
+  always = r.always;
+  decider = decider_of r.decider;
 }
 
 -- what a file includes, as far as files were scanned

@@ -7,6 +7,15 @@ use crate::spots::{Spot, joined, those, unseen};
 use scons_base::Memory;
 use std::alloc::Global;
 
+/// By what a dependency counts as changed.
+#[derive(Clone, Copy)]
+pub enum PlainDecider {
+    Content,
+    TimestampNewer,
+    TimestampMatch,
+    ContentTimestamp,
+}
+
 /// A rule, as plain lists of paths.
 #[derive(Drop)]
 pub struct PlainRule {
@@ -19,6 +28,8 @@ pub struct PlainRule {
     pub libraries: Vec<Spot>,
     pub ignored: Vec<Spot>,
     pub required: Vec<Spot>,
+    pub always: bool,
+    pub decider: PlainDecider,
     /// The files that were scanned for it.
     pub scans: Vec<Scan>,
 }
@@ -124,20 +135,44 @@ fn first_scanned(alloc: Global, rule: &PlainRule) -> Result<Vec<Spot>, Memory>
 pub fn scan_list(alloc: Global, limit: usize, rule: &PlainRule) -> Result<Vec<Spot>, Memory>
     ensures { IfOk result (λ files. files.items ≡ scan_list_of limit (included_of rule.now.scans.items) (as_rule rule.now)) }
 {
+    scan_list_over(alloc, limit, rule, rule.scans.as_slice())
+}
+
+/// The same over what was scanned besides.
+fn scan_list_over(
+    alloc: Global,
+    limit: usize,
+    rule: &PlainRule,
+    scans: &[Scan],
+) -> Result<Vec<Spot>, Memory>
+    ensures { IfOk result (λ files. files.items ≡ scan_list_of limit (included_of scans.now) (as_rule rule.now)) }
+{
     let first = first_scanned(alloc, rule)?;
     let out = left_out(alloc, rule)?;
     let seen = joined(alloc, first.as_slice(), out.as_slice())?;
-    breadth_first(alloc, rule.scans.as_slice(), limit, seen, first)
+    breadth_first(alloc, scans, limit, seen, first)
 }
 
 /// The dependencies of a rule, in order.
 pub fn reach(alloc: Global, limit: usize, rule: &PlainRule) -> Result<Vec<Spot>, Memory>
     ensures { IfOk result (λ all. all.items ≡ reach_of limit (included_of rule.now.scans.items) (as_rule rule.now)) }
 {
+    reach_over(alloc, limit, rule, rule.scans.as_slice())
+}
+
+/// The same over what was scanned besides.
+pub(crate) fn reach_over(
+    alloc: Global,
+    limit: usize,
+    rule: &PlainRule,
+    scans: &[Scan],
+) -> Result<Vec<Spot>, Memory>
+    ensures { IfOk result (λ all. all.items ≡ reach_of limit (included_of scans.now) (as_rule rule.now)) }
+{
     let named = declared(alloc, rule)?;
     let out = left_out(alloc, rule)?;
     let seen = joined(alloc, named.as_slice(), out.as_slice())?;
-    let files = scan_list(alloc, limit, rule)?;
+    let files = scan_list_over(alloc, limit, rule, scans)?;
     let found = unseen(alloc, seen.as_slice(), files.as_slice())?;
     joined(alloc, named.as_slice(), found.as_slice())
 }

@@ -1,6 +1,8 @@
 //! Paths of small graphs, and plain lists of them.
-ghost use Rattle.std.specs.Prelude.{◌≡◌, ◌∷◌, ◌++◌, [], IfOk, OnOk};
+ghost use Rattle.std.specs.Prelude.{◌≡◌, ◌∷◌, ◌++◌, [], IfOk, OnOk, nat_eq};
 ghost use Rattle.std.specs.Str.{bytes_eq};
+ghost use Rattle.std.specs.Cmp.{partial_equiv_from_equiv};
+ghost use Rattle.std.specs.Cmp.Lexicographic.{pointwise, nat_list_eq_equiv};
 ghost use Rattle.build_model.specs.Reach.{has as is_in, unseen as unseen_of, those as those_of};
 
 use scons_base::Memory;
@@ -21,6 +23,16 @@ impl Model for Spot {
     ghost view = { λ s. s.letter ∷ [] };
 
     ghost inverse = { λ p. record { letter = slice_index p 0 } };
+}
+
+impl PartialEq for Spot {
+    ghost eq = { pointwise nat_eq };
+
+    ghost laws = { partial_equiv_from_equiv nat_list_eq_equiv };
+
+    fn eq(&self, other: &Self) -> bool {
+        self.letter == other.letter
+    }
 }
 
 impl Spot {

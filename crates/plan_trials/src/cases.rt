@@ -3,7 +3,7 @@ ghost use Rattle.std.specs.Prelude.{◌≡◌, true};
 ghost use Rattle.rule_graph.specs.Rules.{are_below, IsRule};
 
 use crate::row::Row;
-use model_trials::reach::{PlainRule, Scan};
+use model_trials::reach::{PlainDecider, PlainRule, Scan};
 use model_trials::spots::Spot;
 use rule_graph::{Graph, Rule};
 use scons_base::{Listing, Memory, NodeId, PathText, Paths, Text, Texts};
@@ -157,7 +157,7 @@ fn spots(alloc: Global, digits: &[u8]) -> Result<Vec<Spot>, Memory> {
 }
 
 /// A rule that makes the node of its number, and needs nothing.
-fn plain_rule(alloc: Global, number: u8, keeps_sources: bool) -> Result<PlainRule, Memory> {
+pub fn plain_rule(alloc: Global, number: u8, keeps_sources: bool) -> Result<PlainRule, Memory> {
     let targets = vec![in alloc; Spot::new(number)]?;
     Ok(PlainRule {
         number: number as usize,
@@ -169,6 +169,8 @@ fn plain_rule(alloc: Global, number: u8, keeps_sources: bool) -> Result<PlainRul
         libraries: Vec::new(alloc),
         ignored: Vec::new(alloc),
         required: Vec::new(alloc),
+        always: false,
+        decider: PlainDecider::Content,
         scans: Vec::new(alloc),
     })
 }

@@ -2,18 +2,20 @@
 //! `build_model`.
 //!
 //! A line of standard input is a row: roles, shape and endings (`row.rt`). Each graph of four rules with one source, and at
-//! most two needs of each rule, is run so at one, two and three jobs.
+//! most two needs of each rule, is run so at one, two and three jobs. A row of words asks when a rule is due (`dues.rt`).
 #![tactic(auto)]
 
 mod cases;
 mod choices;
 mod compare;
+mod dues;
 mod facts;
 mod row;
 mod trial;
 
 use crate::cases::{Case, is_first_of_its_kind};
 use crate::choices::Choices;
+use crate::dues::run_due;
 use crate::row::Row;
 use crate::trial::{Tally, Trial, Wrong};
 use scons_base::Memory;
@@ -40,6 +42,9 @@ fn main(rt: HostRuntime) -> io::Result<()> {
 
 /// Runs all graphs in the way of a row, and says how many there were, or what is wrong first.
 fn run_row(alloc: Global, line: &str) -> Result<String, Memory> {
+    if line.contains(' ') {
+        return run_due(alloc, line);
+    }
     let row = Row::read(alloc, line)?;
     let mut tally = Tally {
         graphs: 0,

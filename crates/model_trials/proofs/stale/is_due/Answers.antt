@@ -1,0 +1,15 @@
+use Rattle.std.proofs.Common.{refl}
+use Rattle.build_model.specs.Stale.{IsDue}
+use Rattle.model_trials.specs.Plain.{as_rule}
+use Rattle.model_trials.specs.Staling.{as_record, tree_of, stamps_of, records_of}
+use Rattle.model_trials.proofs.Dues.{answers_due}
+use Rattle.model_trials.proofs.stale.is_due.Goals as goal
+
+pub returns-then-rule : goal.returns-then-rule
+returns-then-rule c = (λ _. IsDue.is_always c.if-rule.true, λ _. refl)
+
+pub returns : goal.returns
+returns c =
+    answers_due (tree_of c.args.files.now) (stamps_of c.args.files.now) (records_of c.args.records.now) (as_rule c.args.rule.now)
+    (as_record c.args.now.now) c.as_slice-targets.result.now c.first_stamp.result c.any_due.result c.as_slice-targets.ensures.value
+    c.first_stamp.ensures c.any_due.ensures c.if-rule.false
