@@ -1,20 +1,19 @@
 -- What a walk finds that looks for a rule which waits for itself.
-use Rattle.std.proofs.Common.{arith, ◌≡◌, ◌≢◌, ◌<◌, ◌≤◌, ◌∙◌, ◌⊎◌, inl, inr, ℕ, zero, suc, ◌+◌, ◌-◌, List, [], ◌∷◌, ◌++◌, Bool, true, false, ◌||◌, ap, sym, refl, length, set, take, drop, get_or, Some, None, length-append, get_or-set_other, subst, replicate}
+use Rattle.std.proofs.Common.{arith, ◌≡◌, ◌≢◌, ◌<◌, ◌≤◌, ◌∙◌, ◌⊎◌, inl, inr, ℕ, zero, suc, ◌+◌, ◌-◌, List, [], ◌∷◌, ◌++◌, Bool, true, false, ◌||◌, ap, sym, refl, length, set, take, drop, get_or, Some, length-append, get_or-set_other, subst, replicate}
 use Rattle.std.specs.Prelude.{slice_get, map, nat_eq}
 use Rattle.std.proofs.lemmas.Bool.Decides.{nat_tests}
 use Rattle.std.proofs.lemmas.List.{take-append-le, take_all, length-drop, get_or-replicate, length-replicate, get_or_past}
 use Rattle.std.proofs.lemmas.List.Folds.{list_any-append, list_any_more}
 use Rattle.std.proofs.lemmas.Option.{same_Some, none-some, slice_get_within, slice_get-get_or}
-use Rattle.scons_base.specs.declared.ids.NodeId.{NodeId}
 use Rattle.scons_base.specs.declared.ids.RuleId.{RuleId}
-use Rattle.task_plan.specs.Settled.{Kept, kept_of, needs_of, origin_of}
+use Rattle.task_plan.specs.Settled.{Kept, kept_of, needs_of}
 use Rattle.task_plan.specs.States.{state_of}
 use Rattle.task_plan.specs.Admits.{queues}
 use Rattle.task_plan.specs.Cycles.{is_unsettled, WaitsFor, IsChain, IsLed, IsCycle}
-use Rattle.task_plan.specs.Walks.{colour_of, IsToCome, Enters, EntersNeeds, AreEnteredAt, AllEntered, AreToEnter, IsExplored, IsWithin, AreOpen, IsBefore, IsOther, IsBegun, IsWalk, ComesBack}
+use Rattle.task_plan.specs.Orders.{makers_of}
+use Rattle.task_plan.specs.Walks.{colour_of, IsToCome, EntersNeeds, AllEntered, AreToEnter, IsExplored, IsWithin, AreOpen, IsBefore, IsOther, IsBegun, IsWalk, ComesBack, with_entered}
 use Rattle.task_plan.specs.declared.states.RuleState.{RuleState}
 use Rattle.task_plan.specs.declared.files.Origin.{Origin}
-use Rattle.task_plan.specs.declared.files.Origin.TheVariants.{Made}
 use Rattle.task_plan.specs.declared.task.Task.{Task}
 use Rattle.task_plan.specs.declared.walk.Step.{Step}
 use Rattle.task_plan.specs.declared.walk.Step.TheVariants.{Enter, Leave}
@@ -26,6 +25,7 @@ use Rattle.task_plan.proofs.PlanLemmas.{true_false}
 use Rattle.task_plan.proofs.ListLemmas.{get-front, get-last, get-within, get-behind}
 use Rattle.task_plan.proofs.ExploreLemmas.{explored_leaves, explored_met, explored_enters, explored_first}
 use Rattle.task_plan.proofs.WantLemmas.{kept_at}
+use Rattle.task_plan.proofs.EnterLemmas.{maker_made}
 
 -- two lists that end with one item each are equal where what stands before is, and the items are
 last_same : {X : Type 0} (xs ys : List X) (x y : X) → xs ++ x ∷ [] ≡ ys ++ y ∷ [] → (xs ≡ ys) × (x ≡ y)
@@ -40,16 +40,19 @@ last_same (a ∷ xs) (b ∷ ys) x y e =
 never_last : {X : Type 0} (xs : List X) (x : X) → [] ≡ xs ++ x ∷ [] → ⊥
 never_last xs x e = let n = ap length e in let m = length-append xs (x ∷ []) in omega arith
 
-pub enters_trans : (o : List Origin) (files : List NodeId) (a b c : List Step) → Enters o files a b → Enters o files b c → Enters o files a c
-enters_trans o files a b c e Enters.none = e
-enters_trans o files a b c e (Enters.more rule m f) = Enters.more rule m (enters_trans o files a b _ e f)
+enters_each : (st : List RuleState) (k : List Kept) (o : List Origin) (rule : RuleId) (needed : List RuleId) (old : List Step)
+    → ((n : ℕ) (other : RuleId) → slice_get needed n ≡ Some other → WaitsFor st k o rule other) → EntersNeeds st k o rule old (with_entered old needed)
+enters_each st k o rule [] old f = EntersNeeds.none
+enters_each st k o rule (other ∷ needed) old f = EntersNeeds.more other (f 0 other refl) (enters_each st k o rule needed old (λ n next e. f (suc n) next e))
 
 -- a rule of the steps leads to those that it needs
 pub enters_needs : (st : List RuleState) (ts : List Task) (o : List Origin) (rule : RuleId) (task : Task) (old new : List Step) → is_unsettled (state_of st rule.0) ≡ true → slice_get ts rule.0 ≡ Some task
-    → Enters o (needs_of task) old new → EntersNeeds st (map kept_of ts) o rule old new
-enters_needs st ts o rule task old new u at Enters.none = EntersNeeds.none
-enters_needs st ts o rule task old new u at (Enters.more other m e) =
-    EntersNeeds.more other (record { unsettled = u; kept = kept_of task; at = kept_at ts rule.0 task at; needs = m }) (enters_needs st ts o rule task old _ u at e)
+    → new ≡ with_entered old (makers_of o (needs_of task)) → EntersNeeds st (map kept_of ts) o rule old new
+enters_needs st ts o rule task old new u at e =
+    let needs = λ (n : ℕ) (other : RuleId) (h : slice_get (makers_of o (needs_of task)) n ≡ Some other). maker_made o (needs_of task) n other h in
+    rw e
+    (enters_each st (map kept_of ts) o rule (makers_of o (needs_of task)) old
+    (λ n other h. record { unsettled = u; kept = kept_of task; at = kept_at ts rule.0 task at; needs = needs n other h }))
 
 module _ (st : List RuleState) (k : List Kept) (o : List Origin) where
   pub led_none : (rule : RuleId) → IsLed st k o [] rule
@@ -132,7 +135,7 @@ module _ (st : List RuleState) (k : List Kept) (o : List Origin) where
   split : (n m : ℕ) → (n < m) ⊎ (m ≤ n)
   split n m = grind arith
 
-  chain_more : (chain : List RuleId) (rule : RuleId) → IsChain st k o chain → IsLed st k o chain rule → IsChain st k o (chain ++ rule ∷ [])
+  pub chain_more : (chain : List RuleId) (rule : RuleId) → IsChain st k o chain → IsLed st k o chain rule → IsChain st k o (chain ++ rule ∷ [])
   chain_more chain rule c l = record { each = λ n a b e f. chain_more_at chain rule n a b (split (n + 1) (length chain)) c l e f }
 
 -- whether a rule stands among these and one more
@@ -344,52 +347,6 @@ begun_walk st k o n w same a =
       opened = record { each = λ r h. rw b.chain (b.opened.each r h) };
       explored = explored_first st k o w.colours.items w.steps.items (λ r lt h. b.fresh r (omega arith) h) b.entering (λ rule lt. a.each rule (omega arith));
     }
-
--- the rule of a file is entered, or none makes it
-pub entered_this : (o : List Origin) (files : List NodeId) (place : ℕ) (old new : List Step) (rule : RuleId) → new ≡ old ++ Enter rule ∷ []
-    → ((file : NodeId) (r : RuleId) → slice_get files place ≡ Some file → origin_of o file.0 ≡ Made r → Some rule ≡ Some r) → AreEnteredAt o files place old new
-entered_this o files place old new rule e f = record {
-  each = λ file r at made.
-      let same : rule ≡ r = same_Some rule r (f file r at made) in
-      record { place = length old; behind = omega arith; at = inl (ap (λ x. slice_get x (length old)) e ∙ step_last old (Enter rule) ∙ ap (λ x. Some (Enter x)) same) };
-}
-  where
-    step_last : {X : Type 0} (xs : List X) (x : X) → slice_get (xs ++ x ∷ []) (length xs) ≡ Some x
-    step_last [] x = refl
-    step_last (y ∷ xs) x = step_last xs x
-
-pub entered_none : (o : List Origin) (files : List NodeId) (place : ℕ) (old : List Step) → ((file : NodeId) (r : RuleId) → slice_get files place ≡ Some file → origin_of o file.0 ≡ Made r → None ≡ Some r)
-    → AreEnteredAt o files place old old
-entered_none o files place old f = record { each = λ file r at made. absurd (none-some r (f file r at made)) }
-
--- what was entered before stands there still
-pub enters_front : (o : List Origin) (files : List NodeId) (old new : List Step) → Enters o files old new → (n : ℕ) (s : Step) → slice_get old n ≡ Some s → slice_get new n ≡ Some s
-enters_front o files old new Enters.none n s e = e
-enters_front o files old new (Enters.more {steps = steps} rule m f) n s e = get-front steps (Enter rule ∷ []) n s (enters_front o files old steps f n s e)
-
-pub enters_longer : (o : List Origin) (files : List NodeId) (old new : List Step) → Enters o files old new → length old ≤ length new
-enters_longer o files old new Enters.none = omega arith
-enters_longer o files old new (Enters.more {steps = steps} rule m f) = let l = enters_longer o files old steps f in let n = length-append steps (Enter rule ∷ []) in omega arith
-
-module _ (o : List Origin) (files : List NodeId) (first old new : List Step) (e : Enters o files old new) where
-  front_by : (p : ℕ) (r : RuleId) → (slice_get old p ≡ Some (Enter r)) ⊎ (slice_get old p ≡ Some (Leave r)) → (slice_get new p ≡ Some (Enter r)) ⊎ (slice_get new p ≡ Some (Leave r))
-  front_by p r (inl h) = inl (enters_front o files old new e p (Enter r) h)
-  front_by p r (inr h) = inr (enters_front o files old new e p (Leave r) h)
-
-  entered_by : (place p : ℕ) (file : NodeId) (rule : RuleId) → Enters o files first old → ((q : ℕ) (f : NodeId) (r : RuleId) → place + 1 ≤ q → slice_get files q ≡ Some f → origin_of o f.0 ≡ Made r → IsToCome old (length first) r)
-      → AreEnteredAt o files place old new → place ≤ p → (p < place + 1) ⊎ (place + 1 ≤ p) → slice_get files p ≡ Some file → origin_of o file.0 ≡ Made rule → IsToCome new (length first) rule
-  entered_by place p file rule before f a le (inl lt) at made =
-      let same : p ≡ place = omega arith in
-      let t = a.each file rule (ap (slice_get files) (sym same) ∙ at) made in
-      let l = enters_longer o files first old before in
-      let b = t.behind in
-      record { place = t.place; behind = omega arith; at = t.at }
-  entered_by place p file rule before f a le (inr past) at made = let t = f p file rule past at made in record { place = t.place; behind = t.behind; at = front_by t.place rule t.at }
-
-  -- the rules of one file more are entered
-  pub entered_more : (place : ℕ) → Enters o files first old → ((q : ℕ) (f : NodeId) (r : RuleId) → place + 1 ≤ q → slice_get files q ≡ Some f → origin_of o f.0 ≡ Made r → IsToCome old (length first) r)
-      → AreEnteredAt o files place old new → (p : ℕ) (file : NodeId) (rule : RuleId) → place ≤ p → slice_get files p ≡ Some file → origin_of o file.0 ≡ Made rule → IsToCome new (length first) rule
-  entered_more place before f a p file rule le at made = entered_by place p file rule before f a le (either p (place + 1)) at made
 
 or_neither : (a b : Bool) → a ≡ false → b ≡ false → (a || b) ≡ false
 or_neither true b e f = absurd (cc)

@@ -6,7 +6,8 @@ use Rattle.scons_base.specs.declared.ids.RuleId.{RuleId}
 use Rattle.task_plan.specs.States.{state_of}
 use Rattle.task_plan.specs.Settled.{Kept, kept_of, needs_of}
 use Rattle.task_plan.specs.Cycles.{is_unsettled, WaitsFor, IsCycle}
-use Rattle.task_plan.specs.Walks.{colour_of, IsToCome, IsSeen, among, IsPast, AreOrdered, IsExplored, AreEntered, AllEntered, EntersNeeds}
+use Rattle.task_plan.specs.Orders.{makers_of}
+use Rattle.task_plan.specs.Walks.{colour_of, IsToCome, IsSeen, among, IsPast, AreOrdered, IsExplored, AllEntered, EntersNeeds, with_entered}
 use Rattle.task_plan.specs.declared.states.RuleState.{RuleState}
 use Rattle.task_plan.specs.declared.files.Origin.{Origin}
 use Rattle.task_plan.specs.declared.task.Task.{Task}
@@ -17,6 +18,7 @@ use Rattle.task_plan.specs.declared.cycles.Colour.TheVariants.{New, Open, Closed
 use Rattle.task_plan.proofs.MarkLemmas.{apart}
 use Rattle.task_plan.proofs.ListLemmas.{get-front, get-last}
 use Rattle.task_plan.proofs.WantLemmas.{kept_at}
+use Rattle.task_plan.proofs.EnterLemmas.{made_maker, entered_comes}
 
 nat_same : (m n : ℕ) → nat_eq m n ≡ true → m ≡ n
 nat_same m n e = grind arith
@@ -286,13 +288,14 @@ module _ (st : List RuleState) (k : List Kept) (o : List Origin) where
       seen = λ r lt. new_seen 0 r (x.seen r lt);
     }
 
--- what a rule waits for is to come where all its needs are
-pub all_entered : (st : List RuleState) (ts : List Task) (o : List Origin) (rule : RuleId) (task : Task) (old new : List Step) → slice_get ts rule.0 ≡ Some task → AreEntered o (needs_of task) old new
-    → AllEntered st (map kept_of ts) o rule old new
-all_entered st ts o rule task old new at f = record {
+-- what a rule waits for is to come where the rules of all its needs are
+pub all_entered : (st : List RuleState) (ts : List Task) (o : List Origin) (rule : RuleId) (task : Task) (old new : List Step) → slice_get ts rule.0 ≡ Some task
+    → new ≡ with_entered old (makers_of o (needs_of task)) → AllEntered st (map kept_of ts) o rule old new
+all_entered st ts o rule task old new at e = record {
   each = λ other w.
       let same : w.kept ≡ kept_of task = same_Some w.kept (kept_of task) (sym w.at ∙ kept_at ts rule.0 task at) in
-      f.each w.needs.place w.needs.file other (sym (ap (λ k. slice_get (k.required ++ k.deps) w.needs.place) same) ∙ w.needs.at) w.needs.made;
+      let made = made_maker o (needs_of task) w.needs.place w.needs.file other (sym (ap (λ k. slice_get (k.required ++ k.deps) w.needs.place) same) ∙ w.needs.at) w.needs.made in
+      subst (λ (s : List Step). IsToCome s (length old) other) (sym e) (entered_comes old (makers_of o (needs_of task)) made.0 other made.1);
 }
 
 pub none_entered : (st : List RuleState) (k : List Kept) (o : List Origin) (rule : RuleId) (old new : List Step) → is_unsettled (state_of st rule.0) ≡ false → AllEntered st k o rule old new

@@ -1,5 +1,5 @@
 -- Lists that are read by places and from the front on.
-use Rattle.std.proofs.Common.{arith, ◌≡◌, ◌≢◌, ◌<◌, ◌≤◌, ◌∙◌, ◌⊎◌, inl, inr, ℕ, zero, suc, ◌+◌, ◌-◌, List, [], ◌∷◌, ◌++◌, Bool, true, false, ◌&&◌, ◌||◌, ap, sym, refl, length, set, get_or, take, Some, append_assoc}
+use Rattle.std.proofs.Common.{arith, ◌≡◌, ◌≢◌, ◌<◌, ◌≤◌, ◌∙◌, ◌⊎◌, inl, inr, ℕ, zero, suc, ◌+◌, ◌-◌, List, [], ◌∷◌, ◌++◌, Bool, true, false, ◌&&◌, ◌||◌, ap, sym, refl, length, set, get_or, take, Some, None, append_assoc}
 use Rattle.std.specs.Prelude.{slice_get, is_some, cond, if◌then◌else◌, nat_eq}
 use Rattle.std.specs.List.{list_any, list_all}
 use Rattle.std.specs.Map.{lookup}
@@ -79,6 +79,12 @@ pub get-within : {X : Type 0} (xs zs : List X) (i : ℕ) → i < length xs → s
 get-within [] zs i lt = absurd (omega arith)
 get-within (x ∷ xs) zs zero lt = refl
 get-within (x ∷ xs) zs (suc i) lt = get-within xs zs i (omega arith)
+
+-- a list ends before a place where nothing stands
+pub none_past : {X : Type 0} (xs : List X) (i : ℕ) → slice_get xs i ≡ None → length xs ≤ i
+none_past [] i e = omega arith
+none_past (x ∷ xs) zero e = absurd (cc)
+none_past (x ∷ xs) (suc i) e = let l = none_past xs i e in omega arith
 
 behind : {X : Type 0} (xs zs : List X) (i : ℕ) → slice_get (xs ++ zs) (length xs + i) ≡ slice_get zs i
 behind [] zs i = let e : 0 + i ≡ i = omega arith in ap (slice_get zs) e

@@ -56,14 +56,15 @@ scanned_named_by true graph rule n h =
 scanned_named_by false graph rule n h = absurd (cc)
 
 -- the sources that are scanned are among the dependencies that a rule names
-scanned_named : (graph : RuleGraph) (rule : Rule) (n : NodeId) → stands (scanned_of graph rule) n ≡ true → stands (named_of rule) n ≡ true
+pub scanned_named : (graph : RuleGraph) (rule : Rule) (n : NodeId) → stands (scanned_of graph rule) n ≡ true → stands (named_of rule) n ≡ true
 scanned_named graph rule n h = scanned_named_by rule.scans graph rule n h
 
-abbrev kept_with : List NodeId → List NodeId → List NodeId → List NodeId → List NodeId → List NodeId → List (NodeId × List NodeId) → Bool → Kept
-kept_with a b c d e f g h = record { required = a; named = b; sources = c; left_out = d; deps = e; files = f; found = g; whole = h }
+abbrev kept_with : List NodeId → List NodeId → List NodeId → List NodeId → List NodeId → List NodeId → List NodeId → List (NodeId × List NodeId) → Bool → Kept
+kept_with y a b c d e f g h = record { targets = y; required = a; named = b; sources = c; left_out = d; deps = e; files = f; found = g; whole = h }
 
-same_kept : (a b c d e f i j k l m n : List NodeId) (g o : List (NodeId × List NodeId)) (h p : Bool) → a ≡ i → b ≡ j → c ≡ k → d ≡ l → e ≡ m → f ≡ n → g ≡ o → h ≡ p → kept_with a b c d e f g h ≡ kept_with i j k l m n o p
-same_kept a b c d e f i j k l m n g o h p q r s t u v w x = rw (q, r, s, t, u, v, w, x) refl
+same_kept : (y z a b c d e f i j k l m n : List NodeId) (g o : List (NodeId × List NodeId)) (h p : Bool) → y ≡ z → a ≡ i → b ≡ j → c ≡ k → d ≡ l → e ≡ m → f ≡ n → g ≡ o → h ≡ p
+    → kept_with y a b c d e f g h ≡ kept_with z i j k l m n o p
+same_kept y z a b c d e f i j k l m n g o h p y_is q r s t u v w x = rw (y_is, q, r, s, t, u, v, w, x) refl
 
 -- a rule's lists where nothing was scanned
 first_listing : (graph : RuleGraph) (rule : Rule) (c : Task) → c.deps.keys ≡ named_of rule → c.named ≡ length (named_of rule) → take c.named c.deps.keys ≡ named_of rule → c.reach.files.keys ≡ scanned_of graph rule
@@ -97,11 +98,11 @@ task_loaded graph rule b c n e t x =
     let first : take c.named c.deps.keys ≡ named_of rule = ap (take c.named) dep ∙ take_by c.named (named_of rule) nam in
     let own : take c.reach.sources c.reach.files.keys ≡ scanned_of graph rule = ap (take c.reach.sources) fil ∙ take_by c.reach.sources (scanned_of graph rule) src in
     let none : found_of c.reach ≡ [] = ap (map (λ y. (y.0, y.1.items))) ent in
-    let kept : kept_of c ≡ first_kept graph rule = same_kept _ _ _ _ _ _ _ _ _ _ _ _ _ _ _ _ req first own out dep fil none lis in
+    let targets : c.targets.items ≡ rule.targets = t ∙ ap (λ (ys : List NodeId). ys ++ rule.targets) n.targets in
+    let kept : kept_of c ≡ first_kept graph rule = same_kept _ _ _ _ _ _ _ _ _ _ _ _ _ _ _ _ _ _ targets req first own out dep fil none lis in
     let listing : IsListing c = first_listing graph rule c dep nam first fil src ent in
     let passed : c.passed ≡ 0 = ap (λ (y : Task). y.passed) e ∙ n.passed in
     let whole : c.reach.whole ≡ 0 = ap (λ (y : Task). y.reach.whole) e ∙ n.whole in
-    let targets : c.targets.items ≡ rule.targets = t ∙ ap (λ (ys : List NodeId). ys ++ rule.targets) n.targets in
     is_task c passed whole targets kept listing
   where
     take_by : (n : ℕ) (xs : List NodeId) → n ≡ length xs → take n xs ≡ xs

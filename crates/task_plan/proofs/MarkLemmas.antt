@@ -7,9 +7,10 @@ use Rattle.std.proofs.Math.Nat.{pow-le-pow_right}
 use Rattle.std.proofs.Math.Pow.{pow-lt}
 use Rattle.std.proofs.lemmas.Bool.{lt-ltb, ltb-true, ltb-false}
 use Rattle.std.proofs.lemmas.List.Sums.{position_or_len_is}
+use Rattle.std.proofs.lemmas.List.Quantifiers.{position-Some}
 use Rattle.std.proofs.lemmas.Bool.Decides.{nat_tests}
 use Rattle.std.proofs.lemmas.List.{drop-set-lt, get_or-drop}
-use Rattle.task_plan.specs.Marks.{mark_at, below, IsTree, leaves}
+use Rattle.task_plan.specs.Marks.{mark_at, below, IsTree, IsRoom, leaves}
 
 pub apart : (i p : ℕ) → (i ≡ p) ⊎ (i ≢ p)
 apart i p = grind (arith, nat_tests)
@@ -237,3 +238,18 @@ blank tree room e = record {
 
 pub blank_leaves : (tree : List Bool) (room : ℕ) → tree ≡ replicate (2 * room) false → (n : ℕ) → get_or (leaves tree room) n false ≡ false
 blank_leaves tree room e n = get_or-drop room tree n false ∙ ap (λ t. get_or t (room + n) false) e ∙ blank_at (2 * room) (room + n)
+
+few_room : (levels : ℕ) → levels < 32 → 2 ^ levels < 2 ^ 32
+few_room zero lt = omega arith
+few_room (suc k) lt = let e : suc k ≡ k + 1 = omega arith in rw e (few_levels k (omega arith))
+
+-- the number at the least place is a small one
+pub few_first : (tree : List Bool) (room levels place : ℕ) → IsRoom room levels → IsTree tree room → IsLeast tree room place → place - room < 2 ^ 32
+few_first tree room levels place r t l =
+    let first = position-Some (λ mark. mark) (leaves tree room) (place - room) false (sym (first_least tree room place t l)) in
+    let len : length (leaves tree room) ≡ length tree - room = length-drop room tree in
+    let size = t.size in
+    let few = few_room levels r.few in
+    let power = r.power in
+    let lt = first.0 in
+    omega arith

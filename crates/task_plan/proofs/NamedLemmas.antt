@@ -28,11 +28,11 @@ pub ruleset put_steps = (longer_same, longer_trans, put_more)
 pub put_all-append : (out there xs ys : List NodeId) → put_all out there (xs ++ ys) ≡ put_all out (put_all out there xs) ys
 put_all-append out there xs ys = fold-append (put out) there xs ys
 
-or_first : (a b : Bool) → a ≡ true → (a || b) ≡ true
+pub or_first : (a b : Bool) → a ≡ true → (a || b) ≡ true
 or_first true b h = refl
 or_first false b h = absurd (cc)
 
-or_second : (a b : Bool) → b ≡ true → (a || b) ≡ true
+pub or_second : (a b : Bool) → b ≡ true → (a || b) ≡ true
 or_second true b h = refl
 or_second false b h = h
 
@@ -40,7 +40,7 @@ or_later : (a b c : Bool) → (b ≡ true → c ≡ true) → (a || b) ≡ true 
 or_later true b c f h = refl
 or_later false b c f h = f h
 
-same_eq : (n : ℕ) → nat_eq n n ≡ true
+pub same_eq : (n : ℕ) → nat_eq n n ≡ true
 same_eq n = grind (arith, nat_tests)
 
 -- one node more that passes a test, or fails it

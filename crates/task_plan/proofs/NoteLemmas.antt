@@ -3,7 +3,10 @@ use Rattle.std.proofs.Common.{arith, ◌≡◌, ◌≤◌, ◌∙◌, ℕ, zero,
 use Rattle.std.specs.Prelude.{slice_get, map}
 use Rattle.std.specs.Option.{option_map}
 use Rattle.std.proofs.lemmas.Option.{slice_get-map}
+use Rattle.std.specs.declared.alloc.Global.{Global}
+use Rattle.std.specs.declared.vec.Vec.{Vec}
 use Rattle.scons_base.specs.declared.ids.NodeId.{NodeId}
+use Rattle.scons_base.specs.declared.ids.RuleId.{RuleId}
 use Rattle.task_plan.specs.States.{state_of}
 use Rattle.task_plan.specs.Queues.{Queued}
 use Rattle.task_plan.specs.Settled.{kept_of, next_of}
@@ -26,23 +29,23 @@ none_there [] r le = refl
 none_there (x ∷ xs) zero le = absurd (omega arith)
 none_there (x ∷ xs) (suc r) le = none_there xs r (omega arith)
 
-module _ (a : List RuleState) (q : Queued) (h : Bool) (ts : List Task) (o : List Origin) (m : List Bool) (r : ℕ) where
+module _ (a : List RuleState) (q : Queued) (h : Bool) (ts : List Task) (o : List Origin) (m : List Bool) (ws : List (Vec RuleId Global)) (b : Bool) (rs : List RuleId) (r : ℕ) where
   -- no file of the rule can be scanned
-  pub notes_unmarked : get_or m r false ≡ false → NotesNone (planned a q h ts o m) (planned a q h ts o m) r
-  notes_unmarked e = notes_same (planned a q h ts o m) (planned a q h ts o m) r (unwanted_by (get_or m r false) (slice_get (map next_of ts) r) e) refl refl
+  pub notes_unmarked : get_or m r false ≡ false → NotesNone (planned a q h ts o m ws b rs) (planned a q h ts o m ws b rs) r
+  notes_unmarked e = notes_same (planned a q h ts o m ws b rs) (planned a q h ts o m ws b rs) r (unwanted_by (get_or m r false) (slice_get (map next_of ts) r) e) refl refl
 
-  pub notes_past : length ts ≤ r → NotesNone (planned a q h ts o m) (planned a q h ts o m) r
+  pub notes_past : length ts ≤ r → NotesNone (planned a q h ts o m ws b rs) (planned a q h ts o m ws b rs) r
   notes_past le =
       let past : slice_get (map next_of ts) r ≡ None = slice_get-map next_of ts r ∙ ap (option_map next_of) (none_there ts r le) in
-      notes_same (planned a q h ts o m) (planned a q h ts o m) r (wanted_past (get_or m r false) (slice_get (map next_of ts) r) past) refl refl
+      notes_same (planned a q h ts o m ws b rs) (planned a q h ts o m ws b rs) r (wanted_past (get_or m r false) (slice_get (map next_of ts) r) past) refl refl
 
-  pub notes_nothing : (task : Task) → slice_get ts r ≡ Some task → next_of task ≡ None → NotesNone (planned a q h ts o m) (planned a q h ts o m) r
+  pub notes_nothing : (task : Task) → slice_get ts r ≡ Some task → next_of task ≡ None → NotesNone (planned a q h ts o m ws b rs) (planned a q h ts o m ws b rs) r
   notes_nothing task e n =
-      notes_same (planned a q h ts o m) (planned a q h ts o m) r (wanted_none (get_or m r false) (slice_get (map next_of ts) r) (next_at ts r task e ∙ ap Some n)) refl refl
+      notes_same (planned a q h ts o m ws b rs) (planned a q h ts o m ws b rs) r (wanted_none (get_or m r false) (slice_get (map next_of ts) r) (next_at ts r task e ∙ ap Some n)) refl refl
 
   -- the next file was
   pub notes_file : (task v : Task) (file : NodeId) (inc : List NodeId) → slice_get ts r ≡ Some task → get_or m r false ≡ true → next_of task ≡ Some file → state_of a r ≡ Waiting → KeepsNames task v → Takes task file inc v
-      → NotesFile (planned a q h ts o m) (planned a q h (set ts r v) o (set m r false)) r inc
+      → NotesFile (planned a q h ts o m ws b rs) (planned a q h (set ts r v) o (set m r false) ws b rs) r inc
   notes_file task v file inc e marked n w k t = record {
     file = file;
     wants = wanted_by (get_or m r false) (slice_get (map next_of ts) r) file marked (next_at ts r task e ∙ ap Some n);
@@ -52,6 +55,7 @@ module _ (a : List RuleState) (q : Queued) (h : Bool) (ts : List Task) (o : List
       was = kept_at ts r task e;
       after = kept_of v;
       is = kept_at (set ts r v) r v (get-set_same ts r v task e);
+      targets = k.targets;
       required = k.required;
       named = k.named;
       sources = k.reach.same;

@@ -162,4 +162,4 @@ pub same_meets : (a b : Planned) → b ≡ a → Meets a b
 same_meets a b e = rw e (meets_same a)
 
 pub stays_trans : (a b c : Planned) → Stays a b → Stays b c → Stays a c
-stays_trans a b c m n = record { states = n.states ∙ m.states; halted = n.halted ∙ m.halted; rules = n.rules ∙ m.rules }
+stays_trans a b c m n = record { states = n.states ∙ m.states; halted = n.halted ∙ m.halted; rules = n.rules ∙ m.rules; origins = n.origins ∙ m.origins }

@@ -1,14 +1,17 @@
 -- What a write to a queue changes, and which open rule is the first.
-use Rattle.std.proofs.Common.{arith, ◌≡◌, ◌≢◌, ◌<◌, ◌≤◌, ◌∙◌, ◌⊎◌, inl, inr, ℕ, ◌+◌, List, Bool, true, false, ◌&&◌, ap, sym, refl, length, set, get_or, Option, Some, None, get_or-set_other, get_or-set_same, length-set, replicate}
-use Rattle.std.specs.Prelude.{slice_get, nat_lt, ltb, IfSome, IfNone, cond}
-use Rattle.std.specs.List.{position, position_or_len}
+use Rattle.std.proofs.Common.{arith, ◌≡◌, ◌≢◌, ◌<◌, ◌≤◌, ◌∙◌, ◌⊎◌, inl, inr, ℕ, ◌+◌, List, [], ◌∷◌, ◌++◌, Bool, true, false, ◌&&◌, ◌||◌, take, subst, ap, sym, refl, length, set, get_or, Option, Some, None, get_or-set_other, get_or-set_same, length-set, replicate}
+use Rattle.std.specs.Prelude.{slice_get, nat_eq, nat_lt, ltb, IfSome, IfNone, cond}
+use Rattle.std.specs.List.{position, position_or_len, list_any}
 use Rattle.std.proofs.lemmas.List.Sums.{fails_before_first}
 use Rattle.std.proofs.lemmas.Bool.{lt-ltb, le-ltb, ltb-false, ltb-true}
-use Rattle.std.proofs.lemmas.List.{get_or-replicate, get_or_past, length-replicate}
-use Rattle.std.proofs.lemmas.Option.{slice_get_within}
+use Rattle.std.proofs.lemmas.List.{get_or-replicate, get_or_past, length-replicate, take_more, take_all}
+use Rattle.std.proofs.lemmas.List.Folds.{list_any-append}
+use Rattle.std.proofs.lemmas.Bool.Decides.{nat_tests}
+use Rattle.std.proofs.lemmas.Option.{slice_get_within, get_or_from_slice_get}
 use Rattle.std.proofs.lemmas.List.Quantifiers.{position-Some}
 use Rattle.scons_base.specs.declared.ids.RuleId.{RuleId}
-use Rattle.task_plan.specs.Queues.{unnumbered, AreNumbers, IsQueue, IsFirst}
+use Rattle.task_plan.specs.Queues.{unnumbered, is_placed, AreNumbers, ArePlaced, IsQueue, IsFirst}
+use Rattle.task_plan.specs.Ordered.{AreAtPlaces, Precedes}
 use Rattle.task_plan.proofs.MarkLemmas.{apart}
 
 opened_put : (order : List RuleId) (numbers : List ℕ) (opens : List Bool) (r n m : ℕ) (v : Bool) → IsQueue order numbers opens
@@ -146,7 +149,7 @@ none_before : (xs : List Bool) (k : ℕ) (b : Bool) → ltb k (position_or_len (
 none_before xs k true h le = fails_before_first (λ mark. mark) xs k false (ltb-true k (position_or_len (λ mark. mark) xs) h)
 none_before xs k false h le = let past = ltb-false k (position_or_len (λ mark. mark) xs) h in get_or_past xs k false (omega arith)
 
-none_by : (xs : List Bool) (k : ℕ) (b : Bool) → ltb (position_or_len (λ mark. mark) xs) (length xs) ≡ b → cond b (Some (position_or_len (λ mark. mark) xs)) None ≡ None → get_or xs k false ≡ false
+pub none_by : (xs : List Bool) (k : ℕ) (b : Bool) → ltb (position_or_len (λ mark. mark) xs) (length xs) ≡ b → cond b (Some (position_or_len (λ mark. mark) xs)) None ≡ None → get_or xs k false ≡ false
 none_by xs k true h e = absurd (cc)
 none_by xs k false h e = none_before xs k (ltb k (position_or_len (λ mark. mark) xs)) refl (ltb-false (position_or_len (λ mark. mark) xs) (length xs) h)
 
@@ -168,3 +171,71 @@ first_none order numbers opens n None P q p e =
     let no : Some o.0 ≡ None = sym o.1 ∙ sym e in
     absurd (cc)
 first_none order numbers opens n (Some rule) P q p e = tt
+
+pub none_placed : (rules : List RuleId) (count : ℕ) (numbers : List ℕ) → numbers ≡ replicate count unnumbered → ArePlaced count (take 0 rules) numbers 0
+none_placed rules count numbers e = record { size = ap length e ∙ length-replicate count unnumbered; each = λ rule lt h. absurd (let none : false ≡ true = h in cc) }
+
+same_or_more : (x y : Bool) → (x || (y || false)) ≡ true → (y ≡ true) ⊎ (x ≡ true)
+same_or_more x true h = inl refl
+same_or_more true false h = inr refl
+same_or_more false false h = absurd (cc)
+
+pub same_number : (m n : ℕ) → nat_eq m n ≡ true → n ≡ m
+same_number m n h = grind (arith, nat_tests)
+
+placed_at : (rules : List RuleId) (count place r rule : ℕ) (numbers : List ℕ) → ArePlaced count rules numbers place → rule < count → (rule ≡ r) ⊎ (rule ≢ r) → (nat_eq r rule ≡ true) ⊎ (list_any (λ q. nat_eq q.0 rule) rules ≡ true)
+    → get_or (set numbers r place) rule unnumbered < place + 1
+placed_at rules count place r rule numbers a lt (inl same) h =
+    let n = a.size in
+    let within : r < length numbers = let l : r < count = rw (sym same) lt in omega arith in
+    let e : get_or (set numbers r place) rule unnumbered ≡ place = ap (λ x. get_or (set numbers r place) x unnumbered) same ∙ get_or-set_same numbers r place unnumbered within in
+    omega arith
+placed_at rules count place r rule numbers a lt (inr ne) (inl h) = absurd (ne (same_number r rule h))
+placed_at rules count place r rule numbers a lt (inr ne) (inr h) =
+    let e : get_or (set numbers r place) rule unnumbered ≡ get_or numbers rule unnumbered = get_or-set_other numbers r rule place unnumbered ne in
+    let l = a.each rule lt h in
+    omega arith
+
+-- one rule more has a place
+pub placed_more : (order : List RuleId) (count place : ℕ) (rule : RuleId) (numbers : List ℕ) → ArePlaced count (take place order) numbers place → slice_get order place ≡ Some rule
+    → ArePlaced count (take (place + 1) order) (set numbers rule.0 place) (place + 1)
+placed_more order count place rule numbers a at = record {
+  size = length-set numbers rule.0 place ∙ a.size;
+  each = λ r lt h.
+      let more : take (place + 1) order ≡ take place order ++ rule ∷ [] =
+      take_more order place rule (slice_get_within order place rule at) ∙ ap (λ y. take place order ++ y ∷ []) (get_or_from_slice_get order place rule rule at) in
+      let both = sym (list_any-append (λ q. nat_eq q.0 r) (take place order) (rule ∷ [])) ∙ ap (list_any (λ q. nat_eq q.0 r)) (sym more) ∙ h in
+      placed_at (take place order) count place rule.0 r numbers a lt (apart r rule.0) (same_or_more (list_any (λ q. nat_eq q.0 r) (take place order)) (nat_eq rule.0 r) both);
+}
+
+pub placed_all : (order : List RuleId) (count place : ℕ) (numbers : List ℕ) → length order ≤ place → place ≤ length order → ArePlaced count (take place order) numbers place → ArePlaced count order numbers (length order)
+placed_all order count place numbers le ge a =
+    let same : place ≡ length order = omega arith in
+    record { size = a.size; each = λ r lt h. subst (λ n. get_or numbers r unnumbered < n) same (a.each r lt (ap (list_any (λ q. nat_eq q.0 r)) (take_all place order le) ∙ h)) }
+
+placed_in : (order : List RuleId) (numbers : List ℕ) (opens : List Bool) (r : ℕ) → get_or numbers r unnumbered < length order → is_placed (record { order = order; numbers = numbers; opens = opens }) r ≡ true
+placed_in order numbers opens r lt = lt-ltb (get_or numbers r unnumbered) (length order) lt
+
+-- each has a place in the order
+pub queue_placed : (order : List RuleId) (numbers : List ℕ) (opens : List Bool) (count : ℕ) → ArePlaced count order numbers (length order)
+    → (r : ℕ) → r < count → list_any (λ q. nat_eq q.0 r) order ≡ true → is_placed (record { order = order; numbers = numbers; opens = opens }) r ≡ true
+queue_placed order numbers opens count a r lt h = placed_in order numbers opens r (a.each r lt h)
+
+-- an open rule stands at its place
+pub at_places : (order : List RuleId) (numbers : List ℕ) (opens : List Bool) → IsQueue order numbers opens → AreAtPlaces (record { order = order; numbers = numbers; opens = opens })
+at_places order numbers opens q = record {
+  each = λ rule o.
+      let f = q.opened (get_or numbers rule unnumbered) o in
+      q.numbered.stands rule (get_or numbers rule unnumbered) refl (slice_get_within order (get_or numbers rule unnumbered) f.0 f.1);
+}
+
+-- a rule with a smaller number stands before the other
+pub precedes_by : (order : List RuleId) (numbers : List ℕ) (opens : List Bool) (rule other : ℕ) → IsQueue order numbers opens → get_or numbers rule unnumbered < get_or numbers other unnumbered → get_or numbers other unnumbered < length order
+    → Precedes order rule other
+precedes_by order numbers opens rule other q lt in_order = record {
+  place = get_or numbers rule unnumbered;
+  further = get_or numbers other unnumbered;
+  before = lt;
+  at = q.numbered.stands rule (get_or numbers rule unnumbered) refl (omega arith);
+  behind = q.numbered.stands other (get_or numbers other unnumbered) refl in_order;
+}

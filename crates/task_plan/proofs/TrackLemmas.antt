@@ -109,6 +109,11 @@ goes_not_settled : (x : RuleState) → (x ≡ Waiting) ⊎ (x ≡ Running) → i
 goes_not_settled x (inl e) = rw e refl
 goes_not_settled x (inr e) = rw e refl
 
+-- a rule that can be decided or runs isn't settled
+pub goes_unsettled : (a : List RuleState) (q : Queued) (ts : List Task) (o : List Origin) (m : List Bool) (r : ℕ) → AreTracked a q ts o m → (is_open q r ≡ true) ⊎ (state_of a r ≡ Running) → is_settled (state_of a r) ≡ false
+goes_unsettled a q ts o m r t (inl p) = goes_not_settled (state_of a r) (inl (t.opened r p).waits)
+goes_unsettled a q ts o m r t (inr e) = goes_not_settled (state_of a r) (inr e)
+
 settled_set : (a : List RuleState) (r x : ℕ) (v : RuleState) → (x ≡ r) ⊎ (x ≢ r) → is_settled (state_of a r) ≡ false → is_settled (state_of a x) ≡ true → is_settled (state_of (set a r v) x) ≡ true
 settled_set a r x v (inl same) fails h = absurd (true_false (is_settled (state_of a r)) (rw (sym same) h) fails)
 settled_set a r x v (inr ne) fails h = rw (set_other a r x v ne) h

@@ -12,7 +12,7 @@ use Rattle.task_plan.specs.Named.{stands, put, put_all}
 use Rattle.task_plan.specs.Listed.{included, with_found, IsFoundBefore, IsReachTo, IsReach, AreAheadTo}
 use Rattle.task_plan.proofs.PlanLemmas.{true_false}
 use Rattle.task_plan.proofs.ListLemmas.{get-front, get-within, get-behind}
-use Rattle.task_plan.proofs.NamedLemmas.{put_all-append, put_all_longer}
+use Rattle.task_plan.proofs.NamedLemmas.{or_first, or_second, same_eq, put_all-append, put_all_longer}
 
 nat_same : (m n : ℕ) → nat_eq m n ≡ true → m ≡ n
 nat_same m n e = grind arith
@@ -44,9 +44,6 @@ insert_other_by false false found e k n v s t ne h = rw s (rw t h)
 pub included_other : (found : List (NodeId × List NodeId)) (k n : NodeId) (v : List NodeId) → nat_eq n.0 k.0 ≡ false → included (with_found found k v) n ≡ included found n
 included_other [] k n v ne = rw ne refl
 included_other (e ∷ found) k n v ne = insert_other_by (nat_eq k.0 e.0.0) (nat_eq n.0 e.0.0) found e k n v refl refl ne (included_other found k n v ne)
-
-same_eq : (n : ℕ) → nat_eq n n ≡ true
-same_eq n = grind arith
 
 insert_this_by : (b : Bool) (found : List (NodeId × List NodeId)) (e : NodeId × List NodeId) (k : NodeId) (v : List NodeId) → nat_eq k.0 e.0.0 ≡ b
     → included (with_found found k v) k ≡ v → included (with_found (e ∷ found) k v) k ≡ v
@@ -122,14 +119,6 @@ put_from false false there i x n le e =
     let same : x ≡ i = same_Some x i (sym e ∙ last) in
     rw same (same_eq i.0)
 
-or_first : (a b : Bool) → a ≡ true → (a || b) ≡ true
-or_first true b h = refl
-or_first false b h = absurd (cc)
-
-or_second : (a b : Bool) → b ≡ true → (a || b) ≡ true
-or_second true b h = refl
-or_second false b h = h
-
 put_all_by : (out there is : List NodeId) (i x : NodeId) (n : ℕ) → (n < length (put out there i)) ⊎ (length (put out there i) ≤ n) → length there ≤ n → slice_get (put_all out (put out there i) is) n ≡ Some x
     → (length (put out there i) ≤ n → stands is x ≡ true) → stands (i ∷ is) x ≡ true
 put_all_by out there is i x n (inl lt) le e f =
@@ -138,7 +127,7 @@ put_all_by out there is i x n (inl lt) le e f =
     or_first (nat_eq x.0 i.0) (stands is x) (put_from (stands out i) (stands there i) there i x n le here)
 put_all_by out there is i x n (inr past) le e f = or_second (nat_eq x.0 i.0) (stands is x) (f past)
 
-within_or : (n m : ℕ) → (n < m) ⊎ (m ≤ n)
+pub within_or : (n m : ℕ) → (n < m) ⊎ (m ≤ n)
 within_or n m = grind arith
 
 -- what stands behind those that were there is one of the nodes that were put there

@@ -7,8 +7,12 @@ use Rattle.std.proofs.lemmas.Option.{same_Some, slice_get-map}
 use Rattle.std.proofs.lemmas.List.{take_all, map-set}
 use Rattle.std.proofs.lemmas.List.Folds.{list_all-append}
 use Rattle.std.proofs.lemmas.List.Quantifiers.{position-Some}
+use Rattle.std.specs.declared.alloc.Global.{Global}
+use Rattle.std.specs.declared.vec.Vec.{Vec}
 use Rattle.scons_base.specs.declared.ids.NodeId.{NodeId}
+use Rattle.scons_base.specs.declared.ids.RuleId.{RuleId}
 use Rattle.task_plan.specs.Queues.{Queued, is_open, IsFirst}
+use Rattle.task_plan.specs.Noted.{notes_of}
 use Rattle.task_plan.specs.Settled.{is_done, is_scanned, needs_of, kept_of, next_of}
 use Rattle.task_plan.specs.Tracked.{AreTracked}
 use Rattle.task_plan.specs.Plans.{Planned, CanDecide, IsDecidedNext, IsReadyToScan}
@@ -21,16 +25,16 @@ scanned_map : {X Y : Type 0} (f : X → Y) (n : NodeId) (es : List (NodeId × X)
 scanned_map f n [] = refl
 scanned_map f n (e ∷ es) = ap (λ b. nat_eq n.0 e.0.0 || b) (scanned_map f n es)
 
-kept_scanned : (t : Task) (n : NodeId) → is_scanned (kept_of t).found n ≡ is_scanned t.reach.found.entries n
+pub kept_scanned : (t : Task) (n : NodeId) → is_scanned (kept_of t).found n ≡ is_scanned t.reach.found.entries n
 kept_scanned t n = scanned_map (λ v. v.items) n t.reach.found.entries
 
-abbrev pub planned : List RuleState → Queued → Bool → List Task → List Origin → List Bool → Planned
-planned a q h ts o m = record { states = a; queue = q; halted = h; rules = map kept_of ts; origins = o; marks = m; nexts = map next_of ts }
+abbrev pub planned : List RuleState → Queued → Bool → List Task → List Origin → List Bool → List (Vec RuleId Global) → Bool → List RuleId → Planned
+planned a q h ts o m ws b rs = record { states = a; queue = q; halted = h; rules = map kept_of ts; origins = o; marks = m; nexts = map next_of ts; notes = notes_of ts ws b rs }
 
 pub kept_at : (ts : List Task) (r : ℕ) (t : Task) → slice_get ts r ≡ Some t → slice_get (map kept_of ts) r ≡ Some (kept_of t)
 kept_at ts r t e = slice_get-map kept_of ts r ∙ ap (option_map kept_of) e
 
-set_here : {X : Type 0} (xs : List X) (i : ℕ) (x : X) → slice_get xs i ≡ Some x → set xs i x ≡ xs
+pub set_here : {X : Type 0} (xs : List X) (i : ℕ) (x : X) → slice_get xs i ≡ Some x → set xs i x ≡ xs
 set_here [] i x e = refl
 set_here (y ∷ ys) zero x e = let same : y ≡ x = same_Some y x e in ap (λ z. z ∷ ys) (sym same)
 set_here (y ∷ ys) (suc i) x e = ap (λ zs. y ∷ zs) (set_here ys i x e)
@@ -60,8 +64,8 @@ wanted_none false o e = refl
 all_of : {X : Type 0} (p : X → Bool) (xs : List X) (count : ℕ) → list_all p (take count xs) ≡ true → length xs ≤ count → list_all p xs ≡ true
 all_of p xs count h le = ap (list_all p) (sym (take_all count xs le)) ∙ h
 
-pub can_decide : (a : List RuleState) (q : Queued) (h : Bool) (ts : List Task) (o : List Origin) (m : List Bool) (r : ℕ) → AreTracked a q ts o m → is_open q r ≡ true → CanDecide (planned a q h ts o m) r
-can_decide a q h ts o m r t p =
+pub can_decide : (a : List RuleState) (q : Queued) (h : Bool) (ts : List Task) (o : List Origin) (m : List Bool) (ws : List (Vec RuleId Global)) (b : Bool) (rs : List RuleId) (r : ℕ) → AreTracked a q ts o m → is_open q r ≡ true → CanDecide (planned a q h ts o m ws b rs) r
+can_decide a q h ts o m ws b rs r t p =
     let k = t.opened r p in
     let i = t.each r k.task k.at in
     let done = λ (n : NodeId). is_done a o n in
@@ -79,12 +83,12 @@ can_decide a q h ts o m r t p =
       };
     }
 
-pub decided_next : (a : List RuleState) (q : Queued) (h : Bool) (ts : List Task) (o : List Origin) (m : List Bool) (r : ℕ) → AreTracked a q ts o m → IsFirst q r → h ≡ false → IsDecidedNext (planned a q h ts o m) r
-decided_next a q h ts o m r t f e = record { first = f; can = can_decide a q h ts o m r t f.opened; goes = e }
+pub decided_next : (a : List RuleState) (q : Queued) (h : Bool) (ts : List Task) (o : List Origin) (m : List Bool) (ws : List (Vec RuleId Global)) (b : Bool) (rs : List RuleId) (r : ℕ) → AreTracked a q ts o m → IsFirst q r → h ≡ false → IsDecidedNext (planned a q h ts o m ws b rs) r
+decided_next a q h ts o m ws b rs r t f e = record { first = f; can = can_decide a q h ts o m ws b rs r t f.opened; goes = e }
 
-pub ready_to_scan : (a : List RuleState) (q : Queued) (h : Bool) (ts : List Task) (o : List Origin) (m : List Bool) (r : ℕ) (task : Task) (file : NodeId) → AreTracked a q ts o m
-    → position (λ mark. mark) m ≡ Some r → slice_get ts r ≡ Some task → slice_get task.reach.files.keys task.reach.next ≡ Some file → IsReadyToScan (planned a q h ts o m) r file
-ready_to_scan a q h ts o m r task file t p e f =
+pub ready_to_scan : (a : List RuleState) (q : Queued) (h : Bool) (ts : List Task) (o : List Origin) (m : List Bool) (ws : List (Vec RuleId Global)) (b : Bool) (rs : List RuleId) (r : ℕ) (task : Task) (file : NodeId) → AreTracked a q ts o m
+    → position (λ mark. mark) m ≡ Some r → slice_get ts r ≡ Some task → slice_get task.reach.files.keys task.reach.next ≡ Some file → IsReadyToScan (planned a q h ts o m ws b rs) r file
+ready_to_scan a q h ts o m ws b rs r task file t p e f =
     let s = position-Some (λ mark. mark) m r false p in
     let k = t.marked r s.1 in
     let same : k.task ≡ task = same_Some k.task task (sym k.at ∙ e) in

@@ -7,9 +7,10 @@ use Rattle.rule_graph.specs.declared.rule.Rule.{Rule}
 use Rattle.rule_graph.specs.Graphs.{RuleGraph}
 use Rattle.task_plan.specs.States.{state_of}
 use Rattle.task_plan.specs.Named.{put_all, named_of, scanned_of, left_out_of}
-use Rattle.task_plan.specs.Settled.{Kept, first_kept}
+use Rattle.task_plan.specs.Settled.{Kept, first_kept, origin_of}
 use Rattle.task_plan.specs.Listed.{IsReach, with_found}
 use Rattle.task_plan.specs.Plans.{Planned, wanted}
+use Rattle.task_plan.specs.Met.{are_met, KeepsRoom}
 use Rattle.task_plan.specs.declared.states.RuleState.TheVariants.{Unneeded, Waiting}
 use Rattle.task_plan.specs.declared.want.PlanEvent.{PlanEvent}
 use Rattle.task_plan.specs.declared.want.PlanEvent.TheVariants.{Scanned, Fresh, Started, DoneOk, DoneFailed, Absent, Halt}
@@ -20,12 +21,20 @@ pub record IsFirstAt (graph : RuleGraph) (rules : List Kept) (rule : ℕ) : Type
   pub at : slice_get graph.rules rule ≡ Some of
   pub is : slice_get rules rule ≡ Some (first_kept graph of)
 
+-- what the graph says of a rule is known, and what it requires and depends on was met
+pub record IsAdmitted (graph : RuleGraph) (plan : Planned) (rule : ℕ) : Type 0 where
+  pub of : Rule
+  pub at : slice_get graph.rules rule ≡ Some of
+  pub is : slice_get plan.rules rule ≡ Some (first_kept graph of)
+  pub met : are_met plan.origins (of.required ++ named_of of) ≡ true
+
 -- what is known of a rule: the names that the graph has, and whole lists
 pub record IsKnown (graph : RuleGraph) (rules : List Kept) (rule : ℕ) : Type 0 where
   pub of : Rule
   pub at : slice_get graph.rules rule ≡ Some of
   pub kept : Kept
   pub is : slice_get rules rule ≡ Some kept
+  pub targets : kept.targets ≡ of.targets
   pub required : kept.required ≡ of.required
   pub named : kept.named ≡ named_of of
   pub sources : kept.sources ≡ scanned_of graph of
@@ -52,6 +61,7 @@ pub record TakesScan (old new : Planned) (rule : ℕ) (file : NodeId) (includes 
   pub was : slice_get old.rules rule ≡ Some before
   pub after : Kept
   pub is : slice_get new.rules rule ≡ Some after
+  pub targets : after.targets ≡ before.targets
   pub required : after.required ≡ before.required
   pub named : after.named ≡ before.named
   pub sources : after.sources ≡ before.sources
@@ -59,11 +69,11 @@ pub record TakesScan (old new : Planned) (rule : ℕ) (file : NodeId) (includes 
   pub found : after.found ≡ with_found before.found file includes
   pub whole : after.whole ≡ true
 
--- what is known of other needed rules stays, and of rules that are needed now what the graph says is known
+-- what is known of other needed rules stays, and of rules that are needed now what the graph says is known, and what they need was met
 pub record ScansFile (graph : RuleGraph) (old new : Planned) (rule : ℕ) (file : NodeId) (includes : List NodeId) : Type 0 where
   pub this : TakesScan old new rule file includes
   pub others : (r : ℕ) (kept : Kept) → r ≢ rule → state_of old.states r ≢ Unneeded → slice_get old.rules r ≡ Some kept → slice_get new.rules r ≡ Some kept
-  pub met : (r : ℕ) → state_of old.states r ≡ Unneeded → state_of new.states r ≢ Unneeded → IsFirstAt graph new.rules r
+  pub met : (r : ℕ) → state_of old.states r ≡ Unneeded → state_of new.states r ≢ Unneeded → IsAdmitted graph new r
 
 -- no state changes, nor what is known of a rule
 pub record IsUnchanged (old new : Planned) : Type 0 where
@@ -93,9 +103,11 @@ pub record IsSame (old new : Planned) (rule : ℕ) : Type 0 where
   pub state : state_of new.states rule ≡ state_of old.states rule
   pub kept : (kept : Kept) → slice_get old.rules rule ≡ Some kept → slice_get new.rules rule ≡ Some kept
 
--- there may be more rules that aren't needed
+-- there may be more rules that aren't needed, and more files
 pub record Widens (old new : Planned) : Type 0 where
   pub each : (rule : ℕ) → IsSame old new rule
+  pub origins : (node : ℕ) → origin_of new.origins node ≡ origin_of old.origins node
+  pub keeps : KeepsRoom old new
 
 -- a rule was neither met nor is it to be admitted
 pub record StaysAt (old new : Planned) (skip : ℕ → Bool) (queue : List RuleId) (rule : ℕ) : Type 0 where
@@ -103,9 +115,9 @@ pub record StaysAt (old new : Planned) (skip : ℕ → Bool) (queue : List RuleI
   pub skipped : skip rule ≡ false
   pub queued : queues queue rule ≡ false
 
--- what the graph says of a rule is known, or the rule isn't needed, or waits to be admitted
+-- a rule is admitted, or it isn't needed, or waits to be admitted
 abbrev pub Admission : RuleGraph → Planned → List RuleId → ℕ → Type 0
-Admission graph new queue rule = IsFirstAt graph new.rules rule ⊎ ((state_of new.states rule ≡ Unneeded) ⊎ (queues queue rule ≡ true))
+Admission graph new queue rule = IsAdmitted graph new rule ⊎ ((state_of new.states rule ≡ Unneeded) ⊎ (queues queue rule ≡ true))
 
 -- a rule was met or was to be admitted
 pub record ComesAt (graph : RuleGraph) (old new : Planned) (skip : ℕ → Bool) (queue : List RuleId) (rule : ℕ) : Type 0 where
@@ -115,6 +127,7 @@ pub record ComesAt (graph : RuleGraph) (old new : Planned) (skip : ℕ → Bool)
 -- some rules were to be admitted, others were met; those that aren't admitted yet stand in a queue
 pub record Admits (graph : RuleGraph) (old new : Planned) (skip : ℕ → Bool) (queue : List RuleId) : Type 0 where
   pub each : (rule : ℕ) → StaysAt old new skip queue rule ⊎ ComesAt graph old new skip queue rule
+  pub keeps : KeepsRoom old new
 
 abbrev pub are_rules : RuleGraph → List RuleId → Bool
 are_rules graph queue = list_all (λ q. nat_lt q.0 (length graph.rules)) queue
@@ -134,6 +147,8 @@ pub record IsBegun (old new : Planned) (rule : ℕ) : Type 0 where
   pub was : state_of old.states rule ≡ Unneeded
   pub states : (r : ℕ) → r ≢ rule → state_of new.states r ≡ state_of old.states r
   pub rules : new.rules ≡ old.rules
+  pub origins : new.origins ≡ old.origins
+  pub room : length new.states ≡ length old.states
 
 -- the file that was wanted was noted
 pub record NotesFile (old new : Planned) (rule : ℕ) (includes : List NodeId) : Type 0 where

@@ -4,10 +4,17 @@ pub mod Queues
 pub mod States
 pub mod Named
 pub mod Settled
+pub mod Noted
 pub mod Listed
 pub mod Loaded
 pub mod Tracked
 pub mod Plans
+pub mod Met
 pub mod Admits
 pub mod Cycles
+pub mod Orders
 pub mod Walks
+pub mod Watched
+pub mod Rooted
+pub mod Watching
+pub mod Ordered

@@ -83,6 +83,11 @@ pub record IsSameReach (old new : Reach) : Type 0 where
   pub within : new.sources ≤ length new.files.keys
   pub excluded : new.excluded.keys ≡ old.excluded.keys
 
+-- the files before the next one stay where they were
+pub record KeepsSeen (old new : Reach) : Type 0 where
+  pub next : new.next ≤ old.next
+  pub same : old.next < length old.files.keys → (place : ℕ) → place < new.next → slice_get new.files.keys place ≡ slice_get old.files.keys place
+
 -- the dependencies are those that the rule names, and then its files, each once
 abbrev pub AreDeps : Task → List NodeId → Type 0
 AreDeps t files = t.deps.keys ≡ put_all [] (take t.named t.deps.keys) files

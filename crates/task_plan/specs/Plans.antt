@@ -4,6 +4,7 @@ use Rattle.std.specs.Option.{option_and_then}
 use Rattle.scons_base.specs.declared.ids.NodeId.{NodeId}
 use Rattle.task_plan.specs.States.{state_of, stage, is_running}
 use Rattle.task_plan.specs.Queues.{Queued, is_open, IsFirst}
+use Rattle.task_plan.specs.Noted.{Notes}
 use Rattle.task_plan.specs.Settled.{Kept, CanScan, IsReady}
 use Rattle.task_plan.specs.declared.files.Origin.{Origin}
 use Rattle.task_plan.specs.declared.states.RuleState.{RuleState}
@@ -12,8 +13,8 @@ use Rattle.task_plan.specs.declared.want.PlanEvent.{PlanEvent}
 use Rattle.task_plan.specs.declared.want.PlanEvent.TheVariants.{Scanned, Fresh, Started, DoneOk, DoneFailed, Absent, Halt}
 
 -- How far each rule is, by its number; the needed rules in the build order, where those are open that can be decided now; whether
--- nothing further is to be scanned or decided; what is known of each rule; where each file comes from, by its number; and which rules have
--- a file that can be scanned now, with the next file of each rule.
+-- nothing further is to be scanned or decided; what is known of each rule; where each file comes from, by its number; which rules have
+-- a file that can be scanned now, with the next file of each rule; and how the plan sees to it that it overlooks nothing.
 pub record Planned : Type 0 where
   pub states : List RuleState
   pub queue : Queued
@@ -22,6 +23,7 @@ pub record Planned : Type 0 where
   pub origins : List Origin
   pub marks : List Bool
   pub nexts : List (Option NodeId)
+  pub notes : Notes
 
 -- the file that is to be scanned next for a rule, where one can be
 abbrev pub wanted : Planned → ℕ → Option NodeId
@@ -76,11 +78,12 @@ pub record Meets (old new : Planned) : Type 0 where
   pub states : AreMet old.states new.states
   pub halted : new.halted ≡ old.halted
 
--- no state changes, nor what is known of a rule
+-- no state changes, nor what is known of a rule or of a file
 pub record Stays (old new : Planned) : Type 0 where
   pub states : new.states ≡ old.states
   pub halted : new.halted ≡ old.halted
   pub rules : new.rules ≡ old.rules
+  pub origins : new.origins ≡ old.origins
 
 -- a rule that can be decided is in this state now; of another one nothing is taken
 abbrev pub decided : Planned → ℕ → RuleState → List RuleState

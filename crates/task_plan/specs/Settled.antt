@@ -48,6 +48,10 @@ pub record IsScannedAt {A : Type 0} (found : List (NodeId × A)) (files : List N
   pub at : slice_get files place ≡ Some file
   pub scanned : is_scanned found file ≡ true
 
+-- the file at a place, if there is one, wasn't scanned
+pub record IsUnscannedAt {A : Type 0} (found : List (NodeId × A)) (files : List NodeId) (place : ℕ) : Type 0 where
+  pub unscanned : (n : NodeId) → slice_get files place ≡ Some n → is_scanned found n ≡ false
+
 -- the first so many files were scanned
 pub record AreScannedIn {A : Type 0} (found : List (NodeId × A)) (files : List NodeId) (count : ℕ) : Type 0 where
   pub within : count ≤ length files
@@ -62,6 +66,10 @@ pub record IsDoneAt (states : List RuleState) (origins : List Origin) (t : Task)
   pub file : NodeId
   pub at : slice_get (needs_of t) place ≡ Some file
   pub done : is_done states origins file ≡ true
+
+-- the need at a place, if there is one, isn't done
+pub record IsUndoneAt (states : List RuleState) (origins : List Origin) (t : Task) (place : ℕ) : Type 0 where
+  pub undone : (n : NodeId) → slice_get (needs_of t) place ≡ Some n → is_done states origins n ≡ false
 
 -- the first so many needs are done
 pub record AreDoneTo (states : List RuleState) (origins : List Origin) (t : Task) (count : ℕ) : Type 0 where
@@ -88,10 +96,11 @@ pub record CanScan {A : Type 0} (states : List RuleState) (origins : List Origin
   pub unscanned : is_scanned found file ≡ false
   pub done : is_done states origins file ≡ true
 
--- What is known of a needed rule: what has to be made before it and is no dependency, the dependencies that it names, the sources that are
--- scanned for it, what is left out where it is found; then, by the files scanned so far, its dependencies, the files that are scanned for
+-- What is known of a needed rule: its targets, what has to be made before it and is no dependency, the dependencies that it names, the sources
+-- that are scanned for it, what is left out where it is found; then, by the files scanned so far, its dependencies, the files that are scanned for
 -- it, and those of them that were, with what they include; and whether these lists are whole: they aren't where memory was wanting in a scan.
 pub record Kept : Type 0 where
+  pub targets : List NodeId
   pub required : List NodeId
   pub named : List NodeId
   pub sources : List NodeId
@@ -103,6 +112,7 @@ pub record Kept : Type 0 where
 
 abbrev pub kept_of : Task → Kept
 kept_of t = record {
+  targets = t.targets.items;
   required = t.required.items;
   named = take t.named t.deps.keys;
   sources = take t.reach.sources t.reach.files.keys;
@@ -120,6 +130,7 @@ next_of t = slice_get t.reach.files.keys t.reach.next
 -- what is known of a rule of the graph for which nothing was scanned
 abbrev pub first_kept : RuleGraph → Rule → Kept
 first_kept graph rule = record {
+  targets = rule.targets;
   required = rule.required;
   named = named_of rule;
   sources = scanned_of graph rule;

@@ -1,19 +1,32 @@
--- What a walk that looks for a cycle keeps true of its steps.
+-- The steps of a walk, and what one that looks for a cycle keeps true of them.
 use Rattle.std.specs.Prelude.{◌≡◌, ◌<◌, ◌≤◌, ◌+◌, ◌⊎◌, ◌++◌, ◌∷◌, [], ℕ, Bool, true, false, List, Some, get_or, length, nat_eq, slice_get}
 use Rattle.std.specs.List.{list_any}
 use Rattle.scons_base.specs.declared.ids.RuleId.{RuleId}
 use Rattle.task_plan.specs.Admits.{queues}
-use Rattle.task_plan.specs.Settled.{Kept, origin_of}
-use Rattle.task_plan.specs.Cycles.{IsMadeBy, WaitsFor, IsChain, IsLed}
+use Rattle.task_plan.specs.Settled.{Kept}
+use Rattle.task_plan.specs.Cycles.{WaitsFor, IsChain, IsLed}
 use Rattle.task_plan.specs.declared.states.RuleState.{RuleState}
 use Rattle.task_plan.specs.declared.files.Origin.{Origin}
-use Rattle.task_plan.specs.declared.files.Origin.TheVariants.{Made}
-use Rattle.scons_base.specs.declared.ids.NodeId.{NodeId}
 use Rattle.task_plan.specs.declared.walk.Step.{Step}
 use Rattle.task_plan.specs.declared.walk.Step.TheVariants.{Enter, Leave}
 use Rattle.task_plan.specs.declared.cycles.Colour.{Colour}
 use Rattle.task_plan.specs.declared.cycles.Colour.TheVariants.{Open, Closed}
 use Rattle.task_plan.specs.declared.cycles.Walk.{Walk}
+
+-- The step on top is taken next, and is the last in the list. These rules were put on top of the steps to be entered, the first of them
+-- uppermost.
+abbrev pub with_entered : List Step → List RuleId → List Step
+with_entered steps [] = steps
+with_entered steps (rule ∷ rules) = with_entered steps rules ++ Enter rule ∷ []
+
+-- whether a rule was seen; there is nothing to see of one that has no place
+abbrev pub is_seen : List Bool → ℕ → Bool
+is_seen seen rule = get_or seen rule true
+
+-- The steps after a rule is entered that needs these. Where it was seen they stay; else all that it needs is entered, and then it is left.
+abbrev pub steps_after : Bool → RuleId → List RuleId → List Step → List Step
+steps_after true rule needed steps = steps
+steps_after false rule needed steps = with_entered (steps ++ Leave rule ∷ []) needed
 
 -- how far the walk is with a rule; there is nothing to see of one that it doesn't know
 abbrev pub colour_of : List Colour → ℕ → Colour
@@ -51,22 +64,9 @@ pub record IsExplored (states : List RuleState) (rules : List Kept) (origins : L
   pub followed : (n : ℕ) (rule other : RuleId) → slice_get steps n ≡ Some (Leave rule) → WaitsFor states rules origins rule other → IsSeen colours steps (n + 1) other
   pub seen : (rule : RuleId) → rule.0 < length rules → IsSeen colours steps 0 rule
 
--- the rules that make these files are to come behind the steps that were there
-pub record AreEntered (origins : List Origin) (files : List NodeId) (old new : List Step) : Type 0 where
-  pub each : (place : ℕ) (file : NodeId) (rule : RuleId) → slice_get files place ≡ Some file → origin_of origins file.0 ≡ Made rule → IsToCome new (length old) rule
-
--- so is the rule that makes the file at this place
-pub record AreEnteredAt (origins : List Origin) (files : List NodeId) (place : ℕ) (old new : List Step) : Type 0 where
-  pub each : (file : NodeId) (rule : RuleId) → slice_get files place ≡ Some file → origin_of origins file.0 ≡ Made rule → IsToCome new (length old) rule
-
 -- all that a rule waits for is to come behind the steps that were there
 pub record AllEntered (states : List RuleState) (rules : List Kept) (origins : List Origin) (rule : RuleId) (old new : List Step) : Type 0 where
   pub each : (other : RuleId) → WaitsFor states rules origins rule other → IsToCome new (length old) other
-
--- rules that make some of these files were put on the steps
-pub data Enters (origins : List Origin) (files : List NodeId) : List Step → List Step → Type 0 where
-  none : {steps : List Step} → Enters origins files steps steps
-  more : {old steps : List Step} (rule : RuleId) → IsMadeBy origins files rule → Enters origins files old steps → Enters origins files old (steps ++ Enter rule ∷ [])
 
 -- rules that a rule needs were put on the steps
 pub data EntersNeeds (states : List RuleState) (rules : List Kept) (origins : List Origin) (rule : RuleId) : List Step → List Step → Type 0 where

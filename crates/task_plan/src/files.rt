@@ -1,7 +1,9 @@
 //! What the plan keeps of a file.
-ghost use Rattle.std.specs.Prelude.{◌≡◌, ℕ, true, slice_set, IfSome};
-ghost use Rattle.scons_base.specs.declared.ids.RuleId.{RuleId};
+ghost use Rattle.std.specs.Prelude.{◌≡◌, ◌≤◌, ◌+◌, ◌++◌, ◌∷◌, ℕ, true, false, [], length, slice_set, OnOk};
 ghost use Rattle.task_plan.specs.Settled.{origin_of, is_done as is_done_of};
+ghost use Rattle.task_plan.specs.Met.{is_met};
+ghost use Rattle.task_plan.specs.Noted.{lists_of, waiters_of};
+ghost use Rattle.task_plan.specs.Orders.{maker_of};
 
 use crate::states::{RuleState, States};
 use scons_base::{Memory, NodeId, RuleId};
@@ -22,12 +24,14 @@ pub enum Origin {
 pub(crate) struct Files {
     pub(crate) origins: Vec<Origin>,
     /// For each file the rules for which it, once its rule is settled, is one need less.
-    waiters: Vec<Vec<RuleId>>,
+    pub(crate) waiters: Vec<Vec<RuleId>>,
     alloc: Global,
 }
 
 impl Files {
-    pub(crate) fn new(alloc: Global) -> Files {
+    pub(crate) fn new(alloc: Global) -> Files
+        ensures { result.origins.items ≡ [] }
+    {
         Files {
             origins: Vec::new(alloc),
             waiters: Vec::new(alloc),
@@ -37,16 +41,26 @@ impl Files {
 
     /// Makes room for nodes below this number.
     pub(crate) fn reach(&mut self, nodes: u32) -> Result<(), Memory>
-        ensures { (n : ℕ) → origin_of self.new.origins.items n ≡ origin_of self.old.origins.items n }
+        ensures same { (n : ℕ) → origin_of self.new.origins.items n ≡ origin_of self.old.origins.items n }
+        ensures longer { length self.old.origins.items ≤ length self.new.origins.items }
+        ensures room { OnOk result (nodes ≤ length self.new.origins.items) }
+        ensures told { (n : ℕ) → waiters_of (lists_of self.new.waiters.items) n ≡ waiters_of (lists_of self.old.waiters.items) n }
+        ensures lists { length self.old.origins.items ≤ length self.old.waiters.items
+            → length self.new.origins.items ≤ length self.new.waiters.items }
     {
-        for _ in self.origins.len()..nodes as usize {
+        while self.origins.len() < nodes as usize {
             self.add()?;
         }
         Ok(())
     }
 
     fn add(&mut self) -> Result<(), Memory>
-        ensures { (n : ℕ) → origin_of self.new.origins.items n ≡ origin_of self.old.origins.items n }
+        ensures same { (n : ℕ) → origin_of self.new.origins.items n ≡ origin_of self.old.origins.items n }
+        ensures longer { length self.old.origins.items ≤ length self.new.origins.items }
+        ensures more { OnOk result (length self.new.origins.items ≡ length self.old.origins.items + 1) }
+        ensures told { (n : ℕ) → waiters_of (lists_of self.new.waiters.items) n ≡ waiters_of (lists_of self.old.waiters.items) n }
+        ensures lists { length self.old.origins.items ≤ length self.old.waiters.items
+            → length self.new.origins.items ≤ length self.new.waiters.items }
     {
         self.waiters.push(Vec::new(self.alloc))?;
         self.origins.push(Origin::Unmet)?;
@@ -65,7 +79,8 @@ impl Files {
 
     /// Whether a file wasn't met.
     pub(crate) fn is_unmet(&self, node: NodeId) -> bool
-        ensures { result ≡ true → origin_of self.now.origins.items node.0 ≡ Origin.Unmet }
+        ensures unmet { result ≡ true → origin_of self.now.origins.items node.0 ≡ Origin.Unmet }
+        ensures met { result ≡ false → is_met self.now.origins.items node ≡ true }
     {
         match self.origin(node) {
             Origin::Unmet => true,
@@ -75,8 +90,7 @@ impl Files {
 
     /// The rule of a file that was met.
     pub(crate) fn rule_of(&self, node: NodeId) -> Option<RuleId>
-        ensures some { IfSome result (λ rule. origin_of self.now.origins.items node.0 ≡ Origin.Made rule) }
-        ensures made { (rule : RuleId) → origin_of self.now.origins.items node.0 ≡ Origin.Made rule → result ≡ Some rule }
+        ensures { result ≡ maker_of (origin_of self.now.origins.items node.0) }
     {
         match self.origin(node) {
             Origin::Made(rule) => Some(rule),
@@ -97,7 +111,8 @@ impl Files {
 
     /// Notes where a file comes from.
     pub(crate) fn set_origin(&mut self, node: NodeId, origin: Origin)
-        ensures { self.new.origins.items ≡ slice_set self.old.origins.items node.0 origin }
+        ensures origins { self.new.origins.items ≡ slice_set self.old.origins.items node.0 origin }
+        ensures rest { self.new ≡ record self.old { origins = self.new.origins } }
     {
         let number = node.0 as usize;
         if number < self.origins.len() {
@@ -106,18 +121,24 @@ impl Files {
     }
 
     /// The rules that wait for a file.
-    pub(crate) fn waiters(&self, node: NodeId) -> &[RuleId] {
+    pub(crate) fn waiters(&self, node: NodeId) -> &[RuleId]
+        ensures { result.now ≡ waiters_of (lists_of self.now.waiters.items) node.0 }
+    {
         match self.waiters.get(node.0 as usize) {
             Some(waiters) => waiters.as_slice(),
             None => &[],
         }
     }
 
+    /// A rule is to be told when a file is done.
     pub(crate) fn add_waiter(&mut self, node: NodeId, rule: RuleId) -> Result<(), Memory>
-        ensures { self.new.origins.items ≡ self.old.origins.items }
+        ensures rest { self.new ≡ record self.old { waiters = self.new.waiters } }
+        ensures waiters { OnOk result (lists_of self.new.waiters.items ≡ slice_set (lists_of self.old.waiters.items) node.0
+            (waiters_of (lists_of self.old.waiters.items) node.0 ++ rule ∷ [])) }
     {
-        if let Some(waiters) = self.waiters.get_mut(node.0 as usize) {
-            waiters.push(rule)?;
+        let number = node.0 as usize;
+        if number < self.waiters.len() {
+            self.waiters[number].push(rule)?;
         }
         Ok(())
     }

@@ -2,6 +2,7 @@
 
 use crate::files::Files;
 use crate::task::Task;
+use crate::walk::mark;
 use scons_base::{Memory, RuleId};
 use std::alloc::Global;
 
@@ -81,15 +82,4 @@ fn add_unseen(
         }
     }
     Ok(())
-}
-
-/// Marks a rule, and says whether it wasn't marked.
-fn mark(seen: &mut Vec<bool>, rule: RuleId) -> bool {
-    match seen.get_mut(rule.0 as usize) {
-        Some(seen) if !*seen => {
-            *seen = true;
-            true
-        }
-        _ => false,
-    }
 }

@@ -1,5 +1,5 @@
 //! A set of small numbers whose least member is found at once, and that changes without taking memory.
-ghost use Rattle.std.specs.Prelude.{◌≡◌, ◌≤◌, ◌<◌, ◌*◌, ◌+◌, if◌then◌else◌, IfOk, ℕ, Bool, false, true, get_or, length, slice_set};
+ghost use Rattle.std.specs.Prelude.{◌≡◌, ◌≤◌, ◌<◌, ◌*◌, ◌+◌, if◌then◌else◌, ◌^◌, IfOk, IfSome, ℕ, Bool, false, true, get_or, length, slice_set};
 ghost use Rattle.std.specs.List.{position};
 ghost use Rattle.task_plan.specs.Marks.{below as below_of, mark_at};
 
@@ -48,9 +48,12 @@ impl Marks {
         Ok(Marks { tree, room, levels })
     }
 
-    /// The same numbers, with room for at least as many.
+    /// The same numbers, with room for at least as many as these.
     pub(crate) fn widened(&self, alloc: Global, size: usize) -> Result<Marks, Memory>
-        ensures { IfOk result (λ marks. (n : ℕ) → get_or marks n false ≡ true → get_or self.now n false ≡ true) }
+        requires { length self.now ≤ size }
+        ensures fewer { IfOk result (λ marks. (n : ℕ) → get_or marks n false ≡ true → get_or self.now n false ≡ true) }
+        ensures more { IfOk result (λ marks. (n : ℕ) → get_or self.now n false ≡ true → get_or marks n false ≡ true) }
+        ensures room { IfOk result (λ marks. size ≤ length marks) }
     {
         let mut marks = Marks::new(alloc, size)?;
         for number in 0..self.room() {
@@ -92,7 +95,8 @@ impl Marks {
 
     /// The least number.
     pub(crate) fn first(&self) -> Option<usize>
-        ensures { result ≡ position (λ mark. mark) self.now }
+        ensures first { result ≡ position (λ mark. mark) self.now }
+        ensures few { IfSome result (λ number. number < 2 ^ 32) }
     {
         if !is_marked(self.tree.as_slice(), 1) {
             return None;

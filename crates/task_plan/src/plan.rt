@@ -1,6 +1,6 @@
 //! The plan of a build.
 
-ghost use Rattle.std.specs.Prelude.{◌≡◌, ◌≢◌, ◌<◌, ◌||◌, [], ℕ, false, true, IfOk, OnOk, IfSome, IfNone, if◌then◌else◌, nat_lt, is_err};
+ghost use Rattle.std.specs.Prelude.{◌≡◌, ◌≢◌, ◌<◌, ◌||◌, ◌⊎◌, [], ℕ, false, true, IfOk, OnOk, IfSome, IfNone, if◌then◌else◌, nat_lt, is_err, length, get_or, List};
 ghost use Rattle.std.specs.List.{count_by};
 ghost use Rattle.scons_base.specs.declared.ids.RuleId.{RuleId};
 ghost use Rattle.scons_base.specs.declared.ids.NodeId.{NodeId};
@@ -8,6 +8,11 @@ ghost use Rattle.task_plan.specs.States.{is_running, state_of};
 ghost use Rattle.task_plan.specs.Settled.{deps_of};
 ghost use Rattle.task_plan.specs.Plans.{AreMet, Meets, IsDecidedNext, IsScannedNext, IsReadyToScan, IsIdle, Goes, GoesOn, is_scan, is_halt};
 ghost use Rattle.task_plan.specs.Cycles.{HasNoCycle, IsCycle};
+ghost use Rattle.task_plan.specs.Watched.{IsComplete, AreTargets, IsNoneReady, IsStill, AreGoingOn, IsFinished};
+ghost use Rattle.task_plan.specs.Met.{are_met, AllMet, AllReached, AreFrom, AreNodes, Finds, FindsBy};
+ghost use Rattle.task_plan.specs.Orders.{IsOrder};
+ghost use Rattle.task_plan.specs.Ordered.{BeginsOrder, IsFirstOf, KeepsOrder, LeavesQueue, TakesBy};
+ghost use Rattle.rule_graph.specs.Rules.{are_below};
 ghost use Rattle.task_plan.specs.Admits.{Admits, Fits, AllFollow, IsFirstAt, Knows, none};
 
 use crate::cycles::cycle_of;
@@ -48,6 +53,7 @@ impl Model for Plan {
     ghost use Rattle.task_plan.specs.Tracked.{AreTracked};
     ghost use Rattle.task_plan.specs.Plans.{Planned};
     ghost use Rattle.task_plan.specs.Settled.{kept_of, next_of};
+    ghost use Rattle.task_plan.specs.Noted.{notes_of};
 
     ghost Value = { Planned };
 
@@ -59,6 +65,7 @@ impl Model for Plan {
       origins = p.files.origins.items;
       marks = p.scannable;
       nexts = map next_of p.tasks.items;
+      notes = notes_of p.tasks.items p.files.waiters.items p.is_ordered p.roots.items;
     } };
 
     ghost invariant = { λ p. AreTracked p.states p.queue p.tasks.items p.files.origins.items p.scannable };
@@ -73,6 +80,13 @@ impl Plan {
             → IsFirstAt graph.now plan.rules rule) }
         ensures fits { IfOk result (λ plan. Fits graph.now plan) }
         ensures follow { IfOk result AllFollow }
+        ensures origins { IfOk result (AreFrom graph.now) }
+        ensures met { IfOk result (λ plan. are_below (length graph.now.nodes) requested.now ≡ true
+            → are_met plan.origins requested.now ≡ true) }
+        ensures needs { IfOk result AllMet }
+        ensures reached { IfOk result (λ plan. AllReached graph.now requested.now plan.states) }
+        ensures complete { IfOk result IsComplete }
+        ensures order { IfOk result KeepsOrder }
     {
         let mut plan = Plan::empty(alloc)?;
         plan.begin(graph, requested)?;
@@ -85,6 +99,9 @@ impl Plan {
     fn empty(alloc: Global) -> Result<Plan, Memory>
         ensures states { IfOk result (λ plan. plan.states ≡ []) }
         ensures halted { IfOk result (λ plan. plan.halted ≡ false) }
+        ensures origins { IfOk result (λ plan. plan.origins ≡ []) }
+        ensures ordered { IfOk result (λ plan. plan.notes.is_ordered ≡ false) }
+        ensures roots { IfOk result (λ plan. plan.notes.roots ≡ []) }
     {
         Ok(Plan {
             states: States::new(alloc),
@@ -104,6 +121,10 @@ impl Plan {
     fn begin(&mut self, graph: &Graph, requested: &[NodeId]) -> Result<(), Memory>
         ensures meets { Meets self.old self.new }
         ensures admits { OnOk result (Admits graph.now self.old self.new none []) }
+        ensures finds { OnOk result (Finds graph.now self.old self.new requested.now) }
+        ensures complete { OnOk result (self.old.states ≡ [] → self.old.origins ≡ [] → self.old.notes.is_ordered ≡ false
+            → IsComplete self.new) }
+        ensures order { OnOk result (self.old.notes.roots ≡ [] → self.old.notes.is_ordered ≡ false → BeginsOrder self.new) }
     {
         self.make_room(graph)?;
         self.meet_roots(graph, requested)?;
@@ -123,6 +144,12 @@ impl Plan {
     pub fn next(&self) -> Want
         ensures decide { (rule : RuleId) → result ≡ Want.Decide rule → IsDecidedNext self.now rule.0 }
         ensures scan { (rule : RuleId) (node : NodeId) → result ≡ Want.Scan rule node → IsScannedNext self.now rule.0 node }
+        ensures scanned { (rule : RuleId) → result ≡ Want.Decide rule → IsComplete self.now → IsNoneReady self.now }
+        ensures still { (result ≡ Want.Wait) ⊎ (result ≡ Want.Rest) → self.now.halted ≡ false → IsComplete self.now
+            → IsStill self.now }
+        ensures first { (rule : RuleId) → result ≡ Want.Decide rule → KeepsOrder self.now → IsComplete self.now
+            → (order : List RuleId) → IsOrder self.now.rules self.now.origins self.now.notes.roots order
+            → IsFirstOf self.now order rule }
         ensures wait { result ≡ Want.Wait → IsIdle self.now × (0 < count_by is_running self.now.states) }
         ensures rest { result ≡ Want.Rest → IsIdle self.now × (count_by is_running self.now.states ≡ 0) }
     {
@@ -150,7 +177,8 @@ impl Plan {
 
     /// A rule and a file of it that can be scanned now.
     fn scan_wanted(&self) -> Option<(RuleId, NodeId)>
-        ensures { IfSome result (λ r. IsReadyToScan self.now r.0.0 r.1) }
+        ensures some { IfSome result (λ r. IsReadyToScan self.now r.0.0 r.1) }
+        ensures none { IfNone result ((rule : ℕ) → get_or self.now.marks rule false ≡ false) }
     {
         let number = self.scannable.first()?;
         let rule = rule_of_number(number)?;
@@ -158,6 +186,13 @@ impl Plan {
         let node = task.reach.files.get_index(task.reach.next)?;
         Some((rule, *node))
     }
+
+    /// Where no rule can go on, none runs, none failed, and none waits for itself, each needed rule is settled.
+    pub fn finishes(&self, _graph: &Graph)
+        ensures { IsStill self.now → AreGoingOn self.now
+            → HasNoCycle self.now.states self.now.rules self.now.origins
+            → AllMet self.now → AreFrom _graph.now self.now → Fits _graph.now self.now → IsFinished self.now }
+    {}
 
     /// The dependencies of a rule, in order, by the files scanned so far.
     pub fn deps(&self, rule: RuleId) -> &[NodeId]
@@ -180,9 +215,17 @@ impl Plan {
         ensures knows { OnOk result (Knows graph.now self.old event self.new) }
         ensures fits { OnOk result (Fits graph.now self.old → Fits graph.now self.new) }
         ensures follow { AllFollow self.new }
+        ensures origins { OnOk result (AreFrom graph.now self.old → AreFrom graph.now self.new) }
+        ensures needs { OnOk result (AreNodes graph.now event → Fits graph.now self.old
+            → AllMet self.old → AllMet self.new) }
+        ensures complete { OnOk result (AreNodes graph.now event → Fits graph.now self.old → AreFrom graph.now self.old
+            → IsComplete self.old → IsComplete self.new) }
+        ensures order { OnOk result (AreNodes graph.now event → Fits graph.now self.old → AreFrom graph.now self.old
+            → AllMet self.old → KeepsOrder self.old → KeepsOrder self.new) }
     {
         // What the plan keeps is known of its fields alone.
         let _halted = self.halted;
+        self.follows();
         let taken = self.take(graph, event);
         self.follows();
         taken
@@ -193,6 +236,11 @@ impl Plan {
         ensures halted { self.new.halted ≡ (self.old.halted || (is_halt event || is_err result)) }
         ensures memory { is_scan event ≡ false → is_err result ≡ false }
         ensures knows { OnOk result (Knows graph.now self.old event self.new) }
+        ensures finds { OnOk result (FindsBy graph.now self.old event self.new) }
+        ensures complete { OnOk result (AreNodes graph.now event → AreTargets self.old
+            → IsComplete self.old → IsComplete self.new) }
+        ensures leaves { is_scan event ≡ false → LeavesQueue self.old self.new }
+        ensures order { OnOk result (TakesBy self.old event self.new) }
     {
         match event {
             PlanEvent::Scanned(rule, found) => return self.take_scan(graph, rule, found.into_vec()),

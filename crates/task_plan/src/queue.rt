@@ -1,6 +1,8 @@
 //! The needed rules in the build order, and which of them can be decided now.
-ghost use Rattle.std.specs.Prelude.{◌≡◌, ◌&&◌, ℕ, false, IfOk, IfNone, IfSome, length, slice_get, slice_set};
-ghost use Rattle.task_plan.specs.Queues.{number_of, is_placed, is_open as is_open_of, AreNumbers, IsFirst};
+ghost use Rattle.std.specs.Prelude.{◌≡◌, ◌<◌, ◌&&◌, ℕ, true, false, IfOk, IfNone, IfSome, length, slice_get, slice_set};
+ghost use Rattle.task_plan.specs.Queues.{number_of, is_placed, is_open as is_open_of, AreNumbers, ArePlaced, IsFirst};
+ghost use Rattle.task_plan.specs.Admits.{queues};
+ghost use Rattle.task_plan.specs.Ordered.{AreAtPlaces, Precedes};
 
 use crate::marks::Marks;
 use scons_base::{Memory, RuleId};
@@ -35,6 +37,8 @@ impl Queue {
     pub(crate) fn new(alloc: Global, count: usize, rules: Vec<RuleId>) -> Result<Queue, Memory>
         ensures order { IfOk result (λ q. q.order ≡ rules.items) }
         ensures closed { IfOk result (λ q. (rule : ℕ) → is_open_of q rule ≡ false) }
+        ensures placed { IfOk result (λ q. (rule : ℕ) → rule < count → queues rules.items rule ≡ true
+            → is_placed q rule ≡ true) }
     {
         let opens = Marks::new(alloc, rules.len())?;
         let numbers = numbers_of(alloc, count, rules.as_slice())?;
@@ -47,7 +51,8 @@ impl Queue {
 
     /// How many places there are.
     pub(crate) fn len(&self) -> usize
-        ensures { result ≡ length self.now.order }
+        ensures len { result ≡ length self.now.order }
+        ensures stands { AreNumbers self.now.order self.now.numbers }
     {
         self.rules.len()
     }
@@ -67,6 +72,15 @@ impl Queue {
             Some(number) => *number,
             None => UNNUMBERED,
         }
+    }
+
+    /// Whether a rule stands in the order before another one.
+    pub(crate) fn precedes(&self, rule: RuleId, other: RuleId) -> bool
+        ensures { result ≡ true → Precedes self.now.order rule.0 other.0 }
+    {
+        let number = self.number(rule);
+        let further = self.number(other);
+        number < further && further < self.rules.len()
     }
 
     pub(crate) fn is_open(&self, rule: RuleId) -> bool
@@ -92,6 +106,7 @@ impl Queue {
     pub(crate) fn first(&self) -> Option<RuleId>
         ensures some { IfSome result (λ rule. IsFirst self.now rule.0) }
         ensures none { IfNone result ((rule : ℕ) → is_open_of self.now rule ≡ false) }
+        ensures places { AreAtPlaces self.now }
     {
         match self.opens.first() {
             Some(number) => self.at(number),
@@ -112,7 +127,8 @@ fn note_place(numbers: &mut Vec<usize>, rule: RuleId, place: usize)
 
 /// The places of rules, by their numbers.
 fn numbers_of(alloc: Global, count: usize, rules: &[RuleId]) -> Result<Vec<usize>, Memory>
-    ensures { IfOk result (λ numbers. AreNumbers rules.now numbers.items) }
+    ensures numbers { IfOk result (λ numbers. AreNumbers rules.now numbers.items) }
+    ensures placed { IfOk result (λ numbers. ArePlaced count rules.now numbers.items (length rules.now)) }
 {
     let mut numbers = Vec::from_elem(alloc, UNNUMBERED, count)?;
     for (place, rule) in rules.iter().enumerate() {

@@ -2,9 +2,9 @@
 ghost use Rattle.std.specs.Prelude.{◌≡◌, ◌≤◌, ◌<◌, ◌+◌, ◌++◌, false, true, length, slice_get, drop, OnOk, IfOk, IfSome, is_some, if◌then◌else◌};
 ghost use Rattle.scons_base.specs.declared.ids.NodeId.{NodeId};
 ghost use Rattle.task_plan.specs.Named.{put_all as put_all_of};
-ghost use Rattle.task_plan.specs.Settled.{is_scanned as is_scanned_of, IsScannedAt, AreScannedIn, IsLonger};
+ghost use Rattle.task_plan.specs.Settled.{is_scanned as is_scanned_of, IsScannedAt, IsUnscannedAt, AreScannedIn, IsLonger};
 ghost use Rattle.task_plan.specs.Loaded.{IsBlankReach};
-ghost use Rattle.task_plan.specs.Listed.{found_of, with_found, included as included_by, IsNext, IsAppended, AreAhead, IsWalked, IsWalking, IsSameReach};
+ghost use Rattle.task_plan.specs.Listed.{found_of, with_found, included as included_by, IsNext, IsAppended, AreAhead, IsWalked, IsWalking, IsSameReach, KeepsSeen};
 
 use crate::sets::put_all;
 use indexmap::{IndexMap, IndexSet};
@@ -58,7 +58,8 @@ impl Reach {
 
     /// Whether each of its files was scanned.
     pub(crate) fn is_scanned(&self) -> bool
-        ensures { result ≡ true → length self.now.files.keys ≤ self.now.whole }
+        ensures scanned { result ≡ true → length self.now.files.keys ≤ self.now.whole }
+        ensures not { result ≡ false → self.now.whole < length self.now.files.keys }
     {
         self.whole >= self.files.len()
     }
@@ -73,7 +74,8 @@ impl Reach {
 
     /// Whether the file at this place was scanned.
     fn has_scanned_at(&self, place: usize) -> bool
-        ensures { result ≡ true → IsScannedAt self.now.found.entries self.now.files.keys place }
+        ensures scanned { result ≡ true → IsScannedAt self.now.found.entries self.now.files.keys place }
+        ensures not { result ≡ false → IsUnscannedAt self.now.found.entries self.now.files.keys place }
     {
         match self.files.get_index(place) {
             Some(node) => self.has_scanned(*node),
@@ -96,6 +98,10 @@ impl Reach {
         ensures whole { AreScannedIn self.new.found.entries self.new.files.keys self.new.whole }
         ensures found { OnOk result (found_of self.new ≡ with_found (found_of self.old) node included.items) }
         ensures walked { OnOk result (IsWalked self.new) }
+        ensures unscanned { OnOk result (IsUnscannedAt self.new.found.entries self.new.files.keys self.new.whole) }
+        ensures seen { OnOk result (KeepsSeen self.old self.new) }
+        ensures news { IfOk result (λ g. put_all_of self.old.excluded.keys self.old.files.keys included.items
+            ≡ self.old.files.keys ++ g.new.items) }
         ensures growth { IfOk result (λ g. g.in_order ≡ true →
             (is_listed ≡ true) × (self.new.files.keys ≡ self.old.files.keys ++ g.new.items)) }
     {
@@ -142,6 +148,7 @@ impl Reach {
         ensures found { self.new.found ≡ self.old.found }
         ensures whole { AreScannedIn self.new.found.entries self.new.files.keys self.new.whole }
         ensures walked { OnOk result (IsWalked self.new) }
+        ensures seen { OnOk result (KeepsSeen self.old self.new) }
         ensures in_order { IfOk result (λ in_order. in_order ≡ true →
             (self.new.files ≡ self.old.files) × (is_some next ≡ true)) }
     {
@@ -186,6 +193,7 @@ impl Reach {
         requires { AreScannedIn self.old.found.entries self.old.files.keys self.old.whole }
         ensures rest { self.new ≡ record self.old { whole = self.new.whole } }
         ensures whole { AreScannedIn self.new.found.entries self.new.files.keys self.new.whole }
+        ensures unscanned { IsUnscannedAt self.new.found.entries self.new.files.keys self.new.whole }
     {
         while self.whole < self.files.len() && self.has_scanned_at(self.whole) {
             self.whole += 1;
@@ -198,6 +206,7 @@ impl Reach {
         ensures same { IsSameReach self.old self.new }
         ensures found { self.new.found ≡ self.old.found }
         ensures whole { self.new.whole ≡ 0 }
+        ensures next { self.new.next ≡ 0 }
         ensures walked { OnOk result (IsWalked self.new) }
     {
         self.whole = 0;

@@ -1,5 +1,5 @@
 //! How far the rules are, and how many run.
-ghost use Rattle.std.specs.Prelude.{◌≡◌, ◌++◌, ◌∷◌, ◌<◌, ◌≤◌, ◌+◌, ◌^◌, [], ℕ, if◌then◌else◌, OnOk, OnErr, true, length, slice_set};
+ghost use Rattle.std.specs.Prelude.{◌≡◌, ◌≢◌, ◌++◌, ◌∷◌, ◌<◌, ◌≤◌, ◌+◌, ◌^◌, [], ℕ, if◌then◌else◌, OnOk, OnErr, true, false, length, slice_set};
 ghost use Rattle.std.specs.List.{count_by};
 ghost use Rattle.task_plan.specs.States.{state_of, is_running};
 ghost use Rattle.task_plan.specs.Cycles.{is_unsettled as is_unsettled_of};
@@ -68,6 +68,7 @@ impl States {
         ensures err { OnErr result (self.new ≡ self.old) }
         ensures meets { AreMet self.old self.new }
         ensures len { length self.new ≤ length self.old + 1 }
+        ensures longer { length self.old ≤ length self.new }
         ensures same { (rule : ℕ) → state_of self.new rule ≡ state_of self.old rule }
     {
         self.states.push(RuleState::Unneeded)?;
@@ -85,14 +86,16 @@ impl States {
 
     /// Whether a rule waits.
     pub(crate) fn waits(&self, rule: RuleId) -> bool
-        ensures { result ≡ true → state_of self.now rule.0 ≡ RuleState.Waiting }
+        ensures waits { result ≡ true → state_of self.now rule.0 ≡ RuleState.Waiting }
+        ensures not { result ≡ false → state_of self.now rule.0 ≢ RuleState.Waiting }
     {
         self.of(rule) == RuleState::Waiting
     }
 
     /// Whether a rule isn't needed.
     pub(crate) fn is_unneeded(&self, rule: RuleId) -> bool
-        ensures { result ≡ true → state_of self.now rule.0 ≡ RuleState.Unneeded }
+        ensures unneeded { result ≡ true → state_of self.now rule.0 ≡ RuleState.Unneeded }
+        ensures needed { result ≡ false → state_of self.now rule.0 ≢ RuleState.Unneeded }
     {
         self.of(rule) == RuleState::Unneeded
     }

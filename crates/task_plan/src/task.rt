@@ -1,8 +1,9 @@
 //! What the plan keeps of a rule.
-ghost use Rattle.std.specs.Prelude.{◌≡◌, ◌≤◌, true, length, slice_get, OnOk};
-ghost use Rattle.task_plan.specs.Settled.{needs_of, next_of, AreDoneTo, AreScannedTo, IsDoneAt, KeepsNeeds, IsThrough};
+ghost use Rattle.std.specs.Prelude.{◌≡◌, ◌≤◌, ◌<◌, true, false, length, slice_get, OnOk, ◌++◌, IfOk, []};
+ghost use Rattle.task_plan.specs.Named.{put_all as put_all_of};
+ghost use Rattle.task_plan.specs.Settled.{needs_of, next_of, AreDoneTo, AreScannedTo, IsDoneAt, IsUndoneAt, IsUnscannedAt, KeepsNeeds, IsThrough};
 ghost use Rattle.task_plan.specs.Loaded.{IsBlank};
-ghost use Rattle.task_plan.specs.Listed.{AreDeps, IsGrown, IsListing, KeepsNamed, KeepsNames, Takes};
+ghost use Rattle.task_plan.specs.Listed.{AreDeps, IsGrown, IsListing, KeepsNamed, KeepsNames, KeepsSeen, Takes};
 
 use crate::files::Files;
 use crate::reach::{Growth, Reach};
@@ -45,7 +46,8 @@ impl Task {
 
     /// Whether all that it needs is settled, and all its files are scanned.
     pub(crate) fn is_ready(&self) -> bool
-        ensures { result ≡ true → IsThrough self.now }
+        ensures through { result ≡ true → IsThrough self.now }
+        ensures not { result ≡ false → IsThrough self.now → ⊥ }
     {
         self.passed >= self.needs() && self.reach.is_scanned()
     }
@@ -82,6 +84,7 @@ impl Task {
         requires { AreDoneTo states.now files.now.origins.items self.now self.now.passed }
         ensures done { AreDoneTo states.now files.now.origins.items self.now result }
         ensures further { self.now.passed ≤ result }
+        ensures undone { IsUndoneAt states.now files.now.origins.items self.now result }
     {
         let mut place = self.passed;
         while place < self.needs() && self.is_done_at(files, states, place) {
@@ -91,7 +94,8 @@ impl Task {
     }
 
     fn is_done_at(&self, files: &Files, states: &States, place: usize) -> bool
-        ensures { result ≡ true → IsDoneAt states.now files.now.origins.items self.now place }
+        ensures done { result ≡ true → IsDoneAt states.now files.now.origins.items self.now place }
+        ensures undone { result ≡ false → IsUndoneAt states.now files.now.origins.items self.now place }
     {
         match self.need(place) {
             Some(node) => files.is_done(states, node),
@@ -110,6 +114,13 @@ impl Task {
         ensures listing { IsListing self.new }
         ensures names { KeepsNames self.old self.new }
         ensures takes { OnOk result (Takes self.old node found.items self.new) }
+        ensures unscanned { OnOk result (IsUnscannedAt self.new.reach.found.entries self.new.reach.files.keys
+            self.new.reach.whole) }
+        ensures seen { OnOk result (KeepsSeen self.old.reach self.new.reach) }
+        ensures news { IfOk result (λ growth. put_all_of self.old.reach.excluded.keys self.old.reach.files.keys
+            found.items ≡ self.old.reach.files.keys ++ growth.new.items) }
+        ensures behind { IfOk result (λ growth. growth.in_order ≡ true
+            → self.new.deps.keys ≡ put_all_of [] self.old.deps.keys growth.new.items) }
     {
         let is_listed = self.is_listed;
         self.is_listed = false;
@@ -129,6 +140,8 @@ impl Task {
         ensures needs { KeepsNeeds self.old self.new }
         ensures named { KeepsNamed self.old self.new }
         ensures deps { OnOk result (AreDeps self.new self.new.reach.files.keys) }
+        ensures behind { OnOk result (growth.now.in_order ≡ true
+            → self.new.deps.keys ≡ put_all_of [] self.old.deps.keys growth.now.new.items) }
     {
         if growth.in_order {
             add_all(&mut self.deps, growth.new.as_slice())
@@ -149,13 +162,5 @@ impl Task {
         self.passed = 0;
         self.deps.truncate(self.named);
         add_all(&mut self.deps, self.reach.files.as_slice())
-    }
-
-    /// Whether this dependency came by a scan alone.
-    pub(crate) fn is_found(&self, node: NodeId) -> bool {
-        match self.deps.get_index_of(&node) {
-            Some(place) => place >= self.named,
-            None => false,
-        }
     }
 }

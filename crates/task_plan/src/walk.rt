@@ -1,16 +1,14 @@
 //! The steps of a walk over rules and what they need.
 
-ghost use Rattle.std.specs.Prelude.{◌≡◌, Some, OnOk, IfSome, slice_get};
-ghost use Rattle.scons_base.specs.declared.ids.NodeId.{NodeId};
-ghost use Rattle.scons_base.specs.declared.ids.RuleId.{RuleId};
+ghost use Rattle.std.specs.Prelude.{◌≡◌, [], true, not, slice_get, slice_set, option_and_then, option_to_list, IfOk, IfSome, OnOk, ◌<◌, ◌^◌, is_some};
 ghost use Rattle.task_plan.specs.Settled.{needs_of, origin_of};
-ghost use Rattle.task_plan.specs.Cycles.{IsMadeBy};
-ghost use Rattle.task_plan.specs.Walks.{AreEntered, AreEnteredAt, Enters};
-ghost use Rattle.task_plan.specs.declared.files.Origin.{Origin};
+ghost use Rattle.task_plan.specs.Orders.{maker_of, makers_of};
+ghost use Rattle.task_plan.specs.Walks.{is_seen, with_entered};
 
 use crate::files::Files;
 use crate::task::Task;
 use scons_base::{Memory, RuleId};
+use std::alloc::Global;
 
 /// A step of a walk.
 #[derive(Clone, Copy, Debug)]
@@ -19,20 +17,21 @@ pub(crate) enum Step {
     Leave(RuleId),
 }
 
-/// More steps than a walk from so many roots has: it enters each root and each need of a rule once at most, and leaves
-/// each rule once.
-pub(crate) fn step_limit(tasks: &[Task], roots: &[RuleId]) -> usize {
-    let mut limit = roots.len().saturating_add(1);
-    for task in tasks {
-        limit = limit.saturating_add(task.needs()).saturating_add(1);
+/// Steps that enter these rules, the first on top.
+pub(crate) fn enter_all(alloc: Global, rules: &[RuleId]) -> Result<Vec<Step>, Memory>
+    ensures { IfOk result (λ steps. steps.items ≡ with_entered [] rules.now) }
+{
+    let mut steps = Vec::new(alloc);
+    for place in (0..rules.len()).rev() {
+        steps.push(Step::Enter(rules[place]))?;
     }
-    limit
+    Ok(steps)
 }
 
 /// Puts the rules that a rule needs on the steps, the first on top.
 pub(crate) fn enter_needs(task: &Task, files: &Files, steps: &mut Vec<Step>) -> Result<(), Memory>
-    ensures enters { OnOk result (Enters files.now.origins.items (needs_of task.now) steps.old.items steps.new.items) }
-    ensures all { OnOk result (AreEntered files.now.origins.items (needs_of task.now) steps.old.items steps.new.items) }
+    ensures { OnOk result (steps.new.items ≡ with_entered steps.old.items
+        (makers_of files.now.origins.items (needs_of task.now))) }
 {
     for place in (0..task.needs()).rev() {
         enter_need(task, files, place, steps)?;
@@ -41,8 +40,8 @@ pub(crate) fn enter_needs(task: &Task, files: &Files, steps: &mut Vec<Step>) -> 
 }
 
 fn enter_need(task: &Task, files: &Files, place: usize, steps: &mut Vec<Step>) -> Result<(), Memory>
-    ensures enters { OnOk result (Enters files.now.origins.items (needs_of task.now) steps.old.items steps.new.items) }
-    ensures all { OnOk result (AreEnteredAt files.now.origins.items (needs_of task.now) place steps.old.items steps.new.items) }
+    ensures { OnOk result (steps.new.items ≡ with_entered steps.old.items
+        (makers_of files.now.origins.items (option_to_list (slice_get (needs_of task.now) place)))) }
 {
     if let Some(rule) = rule_needed(task, files, place) {
         steps.push(Step::Enter(rule))?;
@@ -52,9 +51,8 @@ fn enter_need(task: &Task, files: &Files, place: usize, steps: &mut Vec<Step>) -
 
 /// The rule of the file that a rule needs at this place.
 fn rule_needed(task: &Task, files: &Files, place: usize) -> Option<RuleId>
-    ensures some { IfSome result (IsMadeBy files.now.origins.items (needs_of task.now)) }
-    ensures made { (file : NodeId) (rule : RuleId) → slice_get (needs_of task.now) place ≡ Some file
-        → origin_of files.now.origins.items file.0 ≡ Origin.Made rule → result ≡ Some rule }
+    ensures { result ≡ option_and_then (λ file. maker_of (origin_of files.now.origins.items file.0))
+        (slice_get (needs_of task.now) place) }
 {
     match task.need(place) {
         Some(node) => files.rule_of(node),
@@ -62,9 +60,23 @@ fn rule_needed(task: &Task, files: &Files, place: usize) -> Option<RuleId>
     }
 }
 
+/// Notes that a rule was seen, and says whether it wasn't before.
+pub(crate) fn mark(seen: &mut Vec<bool>, rule: RuleId) -> bool
+    ensures first { result ≡ not (is_seen seen.old.items rule.0) }
+    ensures seen { seen.new.items ≡ slice_set seen.old.items rule.0 true }
+{
+    let number = rule.0 as usize;
+    if number >= seen.len() || seen[number] {
+        return false;
+    }
+    seen[number] = true;
+    true
+}
+
 /// The rule with this number.
 pub(crate) fn rule_of_number(number: usize) -> Option<RuleId>
-    ensures { IfSome result (λ rule. rule.0 ≡ number) }
+    ensures is { IfSome result (λ rule. rule.0 ≡ number) }
+    ensures some { number < 2 ^ 32 → is_some result ≡ true }
 {
     Some(RuleId(u32::try_from(number).ok()?))
 }

@@ -7,7 +7,7 @@ loop-number-init c = to_enter_none c.args.rules c.args.self.now c.requires
 
 pub loop-number-preserved : goal.loop-number-preserved
 loop-number-preserved c =
-    to_enter_more c.args.rules c.loop-number.self c.put.new.self c.in-Some.rule c.put.ensures.rest c.in_ok-put.ensures.steps c.loop-number.number c.in-Some.ensures c.loop-number.invariant
+    to_enter_more c.args.rules c.loop-number.self c.put.new.self c.in-Some.rule c.put.ensures.rest c.in_ok-put.ensures.steps c.loop-number.number c.in-Some.ensures.is c.loop-number.invariant
 
 pub returns : goal.returns
 returns c =

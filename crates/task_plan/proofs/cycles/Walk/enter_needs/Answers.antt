@@ -25,7 +25,7 @@ returns-in-Some-clause-enters c =
     let at : slice_get tasks number ≡ Some c.in-Some.task.now = slice_get_read tasks (length tasks) number c.in-Some.task.now refl within found.1 in
     let unsettled : is_unsettled (state_of c.args.states.now number) ≡ true = sym c.is_unsettled.ensures ∙ c.if-not-is_unsettled.false in
     on_ok_weaker c.enter_needs.result
-    (λ e. enters_needs c.args.states.now tasks c.args.files.now.origins.items c.args.rule c.in-Some.task.now c.args.self.now.steps.items c.enter_needs.new.steps.items unsettled at e) c.enter_needs.ensures.enters
+    (λ e. enters_needs c.args.states.now tasks c.args.files.now.origins.items c.args.rule c.in-Some.task.now c.args.self.now.steps.items c.enter_needs.new.steps.items unsettled at e) c.enter_needs.ensures
 
 pub returns-in-None-clause-enters : goal.returns-in-None-clause-enters
 returns-in-None-clause-enters c = EntersNeeds.none
@@ -43,7 +43,7 @@ returns-in-Some-clause-all c =
     let within : number < length tasks = ltb-true number (length tasks) (sym found.0) in
     let at : slice_get tasks number ≡ Some c.in-Some.task.now = slice_get_read tasks (length tasks) number c.in-Some.task.now refl within found.1 in
     on_ok_weaker c.enter_needs.result
-    (λ e. all_entered c.args.states.now tasks c.args.files.now.origins.items c.args.rule c.in-Some.task.now c.args.self.now.steps.items c.enter_needs.new.steps.items at e) c.enter_needs.ensures.all
+    (λ e. all_entered c.args.states.now tasks c.args.files.now.origins.items c.args.rule c.in-Some.task.now c.args.self.now.steps.items c.enter_needs.new.steps.items at e) c.enter_needs.ensures
 
 pub returns-in-None-clause-all : goal.returns-in-None-clause-all
 returns-in-None-clause-all c =

@@ -4,6 +4,10 @@ use Rattle.std.proofs.lemmas.Result.{on_ok_weaker}
 use Rattle.task_plan.specs.Settled.{next_of}
 use Rattle.task_plan.proofs.WantLemmas.{planned, unwanted_by}
 use Rattle.task_plan.proofs.AdmitLemmas.{scans_none, scans_still}
+use Rattle.task_plan.proofs.MetLemmas.{keeps_same, finds_same}
+use Rattle.task_plan.proofs.MetNeeds.{finds_unwanted, finds_file_still}
+use Rattle.task_plan.proofs.WatchSteps.{complete_halted}
+use Rattle.task_plan.proofs.OrderSteps.{takes_same, takes_halted, deps_halted}
 use Rattle.task_plan.proofs.plan.Plan.take_scan.Goals as goal
 
 pub returns-then-not-contains-clause-scans : goal.returns-then-not-contains-clause-scans
@@ -12,12 +16,44 @@ returns-then-not-contains-clause-scans c =
     let is = c.contains.ensures in
     let not = c.if-not-contains.true in
     let unmarked : get_or i.scannable c.args.rule.0 false ≡ false = cc in
-    let p = planned i.states i.queue i.halted i.tasks.items i.files.origins.items i.scannable in
+    let p = planned i.states i.queue i.halted i.tasks.items i.files.origins.items i.scannable i.files.waiters.items i.is_ordered i.roots.items in
     rw (sym c.self.view_is)
     (scans_none c.args.graph.now p p c.args.rule.0 c.args.found.items (unwanted_by (get_or i.scannable c.args.rule.0 false) (slice_get (map next_of i.tasks.items) c.args.rule.0) unmarked) refl refl)
 
 pub returns-clause-scans : goal.returns-clause-scans
 returns-clause-scans c =
     on_ok_weaker c.scanned-taken.result
-    (λ s. scans_still c.args.graph.now c.args.self.now c.scanned-taken.new.self c.halt_where.new.self c.args.rule.0 c.args.found.items s c.halt_where.ensures.states c.halt_where.ensures.rules)
+    (λ s. scans_still c.args.graph.now c.args.self.now c.scanned-taken.new.self c.halt_where.new.self c.args.rule.0 c.args.found.items s c.halt_where.ensures.states c.halt_where.ensures.rules c.halt_where.ensures.origins)
     c.scanned-taken.ensures.scans
+
+pub returns-then-not-contains-clause-finds : goal.returns-then-not-contains-clause-finds
+returns-then-not-contains-clause-finds c =
+    let i = c.self.inside in
+    let is = c.contains.ensures in
+    let not = c.if-not-contains.true in
+    let unmarked : get_or i.scannable c.args.rule.0 false ≡ false = cc in
+    let p = planned i.states i.queue i.halted i.tasks.items i.files.origins.items i.scannable i.files.waiters.items i.is_ordered i.roots.items in
+    rw (sym c.self.view_is)
+    (finds_unwanted c.args.graph.now p p c.args.rule.0 c.args.found.items (unwanted_by (get_or i.scannable c.args.rule.0 false) (slice_get (map next_of i.tasks.items) c.args.rule.0) unmarked)
+    (keeps_same p p refl refl) (finds_same c.args.graph.now p p refl))
+
+pub returns-clause-finds : goal.returns-clause-finds
+returns-clause-finds c =
+    on_ok_weaker c.scanned-taken.result
+    (λ d. finds_file_still c.args.graph.now c.args.self.now c.scanned-taken.new.self c.halt_where.new.self c.args.rule.0 c.args.found.items d c.halt_where.ensures.states c.halt_where.ensures.origins)
+    c.scanned-taken.ensures.finds
+
+pub returns-clause-complete : goal.returns-clause-complete
+returns-clause-complete c =
+    on_ok_weaker c.scanned-taken.result (λ f below k. complete_halted c.scanned-taken.new.self c.halt_where.new.self c.halt_where.ensures.rest (f below k)) c.scanned-taken.ensures.complete
+
+pub returns-then-not-contains-clause-order : goal.returns-then-not-contains-clause-order
+returns-then-not-contains-clause-order c = λ k. takes_same c.args.self.now c.args.rule.0
+
+pub returns-clause-order : goal.returns-clause-order
+returns-clause-order c =
+    let a = c.args.self.now in
+    let b = c.scanned-taken.new.self in
+    let d = c.halt_where.new.self in
+    let e = c.halt_where.ensures.rest in
+    on_ok_weaker c.scanned-taken.result (λ f k. takes_halted a b d c.args.rule.0 e (f (deps_halted a b d c.args.rule.0 e k))) c.scanned-taken.ensures.order

@@ -1,0 +1,46 @@
+use Rattle.std.proofs.Common.{arith, ◌+◌, take, refl}
+use Rattle.task_plan.proofs.PlanLemmas.{meets_same, meets_trans}
+use Rattle.task_plan.proofs.MetLemmas.{room_still, keeps_same, finds_on, finds_stays, finds_nothing, finds_more, finds_all}
+use Rattle.task_plan.proofs.AdmitLemmas.{widens_same, widens_stays, brings_widens, brings_none, brings_then}
+use Rattle.task_plan.proofs.WatchMeets.{meets_stays, brings_watch_same, brings_watch_then, brings_watch_keeps, keeps_roots}
+use Rattle.task_plan.specs.Admits.{none}
+use Rattle.task_plan.proofs.BeginLemmas.{roots_same, roots_trans, roots_left}
+use Rattle.task_plan.proofs.plan.Plan.meet_requested.Goals as goal
+
+pub loop-node-init : goal.loop-node-init
+loop-node-init c =
+    let g = c.args.graph.now in
+    let a = c.args.self.now in
+    record {
+      meets = meets_same a;
+      finds = finds_nothing g a c.args.requested.now;
+      room = c.requires;
+      roots = roots_same a;
+      brings = brings_none g a a c.args.needed.now.items c.args.needed.now.items (widens_same a a refl) refl;
+      watch = brings_watch_same a c.args.needed.now.items;
+    }
+
+pub loop-node-preserved : goal.loop-node-preserved
+loop-node-preserved c =
+    let g = c.args.graph.now in
+    let i = c.loop-node.invariant in
+    let a = c.args.self.now in
+    let b = c.loop-node.self in
+    let m = c.meet.new.self in
+    let k = c.in_ok-meet.ensures in
+    let d = c.add_root.new.self in
+    let s = c.add_root.ensures.stays in
+    let keeps = keeps_same m d s.origins s.states in
+    let taken = finds_more g a b m c.args.requested.now c.loop-node.node-index _ (omega arith) i.finds k.brings.admits.keeps k.finds in
+    record {
+      meets = meets_stays a m d (meets_trans a b m i.meets c.meet.ensures.meets) s;
+      finds = finds_on g a m d (take (c.loop-node.node-index + 1) c.args.requested.now) taken keeps (finds_stays g m d s);
+      room = room_still g m d (room_still g b m i.room k.brings.admits.keeps) keeps;
+      brings = brings_widens g a m d none c.args.needed.now.items c.meet.new.needed.items (brings_then g a b m none c.args.needed.now.items c.loop-node.needed.items c.meet.new.needed.items i.brings k.brings) (widens_stays m d s);
+      roots = roots_trans a b d i.roots (roots_trans b m d (roots_left b m k.order) c.in_ok-add_root.ensures.roots);
+      watch = brings_watch_keeps a m d c.args.needed.now.items c.meet.new.needed.items (brings_watch_then a b m c.args.needed.now.items c.loop-node.needed.items c.meet.new.needed.items i.watch k.watch)
+          (keeps_roots m d c.add_root.ensures.rest);
+    }
+
+pub returns-clause-finds : goal.returns-clause-finds
+returns-clause-finds c = finds_all c.args.graph.now c.args.self.now c.loop-node.self c.args.requested.now c.loop-node.node-index (omega arith) c.loop-node.invariant.finds
