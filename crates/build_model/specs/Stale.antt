@@ -55,7 +55,8 @@ pub data IsDue (t : Tree) (stamps : Stamps) (m : Records) (r : Rule) (now : Reco
   has_changed : (p : Path) (old : Record) → Among p r.targets → m p ≡ Some old →
       HasChanged r.decider (first_stamp stamps r.targets) old now → IsDue t stamps m r now
 
--- A rule is stale: it is due by content.
+-- A rule is stale, whatever its decider: it is always carried out, or a target is no file, has no record, or has a
+-- record that differs from the one of now in anything, stamps among it.
 pub data IsStale (t : Tree) (m : Records) (r : Rule) (now : Record) : Type 0 where
   is_always : r.always ≡ true → IsStale t m r now
   no_file : (p : Path) → Among p r.targets → t p ≡ None → IsStale t m r now

@@ -2,6 +2,7 @@
 use Rattle.std.specs.Prelude.{◌≡◌, ◌≢◌, ℕ, Bool, false, true, List, [], ◌∷◌, ◌++◌, Contains, Some}
 use Rattle.world_api.specs.Around.{Finished}
 use Rattle.world_api.specs.Meaning.{Meaning}
+use Rattle.world_api.specs.declared.job.Ended.{Ended}
 use Rattle.world_api.specs.declared.job.Outcome.TheVariants.{Done}
 use Rattle.scons_base.specs.declared.ids.RuleId.{RuleId}
 use Rattle.deciders.specs.declared.recorded.Rec.{Rec}
@@ -73,6 +74,10 @@ pub record HasPut (busies : List Busy) (rule : RuleId) (old new : Store) (shut :
 -- where the plan is told that a rule is done, its record was put
 abbrev pub PutsDone : List Busy → Store → Store → Bool → PlanEvent → Type 0
 PutsDone busies old new shut event = (rule : RuleId) → event ≡ DoneOk rule → HasPut busies rule old new shut
+
+-- the log goes on with this ending
+abbrev pub LogsEnding : {W : Type 0} → Meaning W → W → W → Ended → Type 0
+LogsEnding m old new ended = m.tells new → (m.around new).log ≡ (m.around old).log ++ Finished ended.id ended.outcome ∷ []
 
 -- an action that ended well by the log is told to the plan as done
 abbrev pub TellsDone : {W : Type 0} → Meaning W → W → W → PlanEvent → Type 0

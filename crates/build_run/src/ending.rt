@@ -2,10 +2,9 @@
 ghost use Rattle.std.specs.Prelude.{◌≡◌, ◌≢◌, ◌≤◌, ◌<◌, ◌+◌, ◌++◌, ◌∷◌, [], length};
 ghost use Rattle.build_run.specs.Goings.{Passes, Goes, IsJoined};
 ghost use Rattle.build_run.specs.Holds.{holds_in, without};
-ghost use Rattle.build_run.specs.Outs.{IsStored, KeepsUnlessDone, PutsDone, PutsIfDone, PutsUnlessShut, TellsDone, TellsOnlyDone};
+ghost use Rattle.build_run.specs.Outs.{IsStored, KeepsUnlessDone, LogsEnding, PutsDone, PutsIfDone, PutsUnlessShut, TellsDone, TellsOnlyDone};
 ghost use Rattle.scons_base.specs.declared.ids.RuleId.{RuleId};
 ghost use Rattle.sign_store.specs.Stores.{map_of};
-ghost use Rattle.world_api.specs.Around.{Finished};
 ghost use Rattle.build_run.specs.Ledgers.{ledger_of, EndKeeps, Settles, ErrSettles};
 ghost use Rattle.world_api.specs.Causes.{HasOutcomeCause};
 ghost use Rattle.world_api.specs.Meaning.{BanksKept};
@@ -71,7 +70,7 @@ fn wait<W: World>(world: &mut W, tickets: &Tickets) -> Ended
     ensures passes { Passes W.meaning world.old world.new }
     ensures joined { IsJoined W.meaning world.new (without result.id (holds_in tickets.now)) }
     ensures fewer { W.meaning.tells world.new → length (without result.id (holds_in tickets.now)) + 1 ≡ length tickets.now }
-    ensures log { W.meaning.tells world.new → (W.meaning.around world.new).log ≡ (W.meaning.around world.old).log ++ Finished result.id result.outcome ∷ [] }
+    ensures log { LogsEnding W.meaning world.old world.new result }
     ensures cause { HasOutcomeCause result.outcome (W.meaning.counts world.old) (W.meaning.counts world.new) }
     ensures banks { W.meaning.tells world.new → BanksKept W.meaning world.old world.new }
 {

@@ -7,6 +7,7 @@ pub mod Calls
 pub mod Reads
 pub mod Banks
 pub mod Meaning
+pub mod Laws
 pub mod Looks
 pub mod Printing
 pub mod Statuses

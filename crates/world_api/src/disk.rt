@@ -3,6 +3,7 @@ ghost use Rattle.std.specs.Prelude.{◌≡◌, ◌≢◌, ◌+◌, ◌^◌, ◌�
 ghost use Rattle.world_api.specs.Around.{Around};
 ghost use Rattle.world_api.specs.Banks.{Banks, Holds, Torn, Follows};
 ghost use Rattle.world_api.specs.Causes.{DiskFails};
+ghost use Rattle.world_api.specs.Laws.{CountsNow, HasOnlyNow};
 ghost use Rattle.world_api.specs.Meaning.{Meaning, IsImage, IsSettled, Told, Recalls, BankKept, BanksKept, Throughout, AtEither};
 
 use crate::refusal::Fault;
@@ -77,8 +78,8 @@ pub trait Disk {
     ghost reads_as: { (disk : Self) → meaning.tells disk → IsImage meaning disk (meaning.seen disk) };
 
     /// The present moment is one of those since any time.
-    ghost counts_now: { (disk : Self) → meaning.tells disk → (time : ℕ) (banks : Banks) → time ≤ meaning.clock disk → IsImage meaning disk banks → meaning.left_since disk time (meaning.around disk) banks };
+    ghost counts_now: { CountsNow meaning };
 
     /// Since now there is the present moment alone.
-    ghost only_now: { (disk : Self) → meaning.tells disk → (around : Around) (banks : Banks) → meaning.left_since disk (meaning.clock disk) around banks → (around ≡ meaning.around disk) × IsImage meaning disk banks };
+    ghost only_now: { HasOnlyNow meaning };
 }

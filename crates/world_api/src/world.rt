@@ -2,8 +2,9 @@
 ghost use Rattle.std.specs.Prelude.{◌≡◌, ◌≢◌, ◌<◌, ◌≤◌, List, ℕ, [], Some, None, false, length, IsTrue, IfOk, IfErr, IfSome, OnOk, OnErr, Contains};
 ghost use Rattle.scons_base.specs.Parts.{is_absolute};
 ghost use Rattle.world_api.specs.Around.{IsRunningTarget, IsUnused};
-ghost use Rattle.world_api.specs.Calls.{Asks, MakesDir, Removes, CanStart, IsClosed, IsOpen, Starts, Ends};
+ghost use Rattle.world_api.specs.Calls.{Asks, MakesDir, Removes, CanStart, IsClosed, IsOpen};
 ghost use Rattle.world_api.specs.Causes.{TreeFails, StartFails, HasOutcomeCause};
+ghost use Rattle.world_api.specs.Laws.{HasMetFiles, HasNoneClosed, StartsJob, EndsJob};
 ghost use Rattle.world_api.specs.Meaning.{Told, Recalls, BanksKept, Throughout, Meanwhile};
 ghost use Rattle.world_api.specs.Reads.{IsOver, IsListing, kind_of, stamp_of};
 
@@ -124,7 +125,7 @@ pub trait World: Disk {
     fn start(&mut self, job: Job) -> Result<(), AskRefusal>
         requires free { Self.meaning.tells self.old → CanStart job (Self.meaning.around self.old) }
         requires reachable { IsOpen (Self.meaning.closed self.old) job }
-        ensures started { Self.meaning.tells self.new → OnOk result (Starts job (Self.meaning.counts self.old) (Self.meaning.around self.old) (Self.meaning.around self.new)) }
+        ensures started { Self.meaning.tells self.new → OnOk result (StartsJob Self.meaning job self.old self.new) }
         ensures refused { Self.meaning.tells self.new → OnErr result (Asks (Self.meaning.around self.old) (Self.meaning.around self.new)) }
 
         ensures banks { Self.meaning.tells self.new → BanksKept Self.meaning self.old self.new }
@@ -138,7 +139,7 @@ pub trait World: Disk {
     fn wait(&mut self) -> Ended
         requires { Self.meaning.tells self.old → (Self.meaning.around self.old).running ≢ [] }
 
-        ensures around { Self.meaning.tells self.new → Ends (Self.meaning.sure self.new) result (Self.meaning.around self.old) (Self.meaning.around self.new) }
+        ensures around { Self.meaning.tells self.new → EndsJob Self.meaning result self.old self.new }
         ensures banks { Self.meaning.tells self.new → BanksKept Self.meaning self.old self.new }
         ensures told { Told Self.meaning self.old self.new }
         ensures recalls { Recalls Self.meaning self.old self.new }
@@ -146,8 +147,8 @@ pub trait World: Disk {
         ensures cause { HasOutcomeCause result.outcome (Self.meaning.counts self.old) (Self.meaning.counts self.new) };
 
     /// What a file holds that no running job writes has been met.
-    ghost held: { (world : Self) → Self.meaning.tells world → (path bytes : List ℕ) → (Self.meaning.around world).tree path ≡ Some bytes → (IsRunningTarget (Self.meaning.around world).running path → ⊥) → Contains (Self.meaning.around world).met bytes };
+    ghost held: { HasMetFiles Self.meaning };
 
     /// Nothing stands at or below a closed directory.
-    ghost shut: { (world : Self) → Self.meaning.tells world → (path : List ℕ) → IsClosed (Self.meaning.closed world) path → ((Self.meaning.around world).tree path ≡ None) × ((Self.meaning.around world).dirs path ≡ false) };
+    ghost shut: { HasNoneClosed Self.meaning };
 }
