@@ -1,6 +1,6 @@
 -- What the rules and aliases of a graph name are nodes.
-use Rattle.std.proofs.Common.{arith, ◌≡◌, ◌<◌, ◌≤◌, ◌∙◌, ℕ, suc, ◌+◌, List, [], ◌∷◌, ◌++◌, ◌&&◌, Bool, true, false, cond, ap, sym, refl, length, Some, None, Option}
-use Rattle.std.specs.Prelude.{nat_lt, slice_get, position, unwrap_or, MatchOption, Result, Ok, Err, IfOk, OnOk, OnErr, IfSome, is_some}
+use Rattle.std.proofs.Common.{arith, ◌≡◌, ◌<◌, ◌≤◌, ◌∙◌, ℕ, suc, ◌+◌, List, [], ◌∷◌, ◌++◌, ◌&&◌, ◌||◌, Bool, true, false, cond, ap, sym, refl, length, Some, None, Option}
+use Rattle.std.specs.Prelude.{nat_eq, nat_lt, slice_get, position, unwrap_or, MatchOption, Result, Ok, Err, IfOk, OnOk, OnErr, IfSome, is_some}
 use Rattle.std.specs.List.{list_all, find}
 use Rattle.std.specs.Option.{option_map}
 use Rattle.std.specs.Str.{bytes_eq}
@@ -10,10 +10,12 @@ use Rattle.std.proofs.lemmas.List.Folds.{list_all-append}
 use Rattle.scons_base.specs.declared.ids.NodeId.{NodeId}
 use Rattle.node_tree.specs.Nodes.{number_of, Interns}
 use Rattle.rule_graph.specs.declared.rule.Rule.{Rule}
-use Rattle.rule_graph.specs.Rules.{are_below, own_source, equal_rule, taken, IsRule}
+use Rattle.scons_base.specs.declared.ids.RuleId.{RuleId}
+use Rattle.rule_graph.specs.Rules.{are_below, is_target_of, rule_of, own_source, equal_rule, taken, IsRule}
 use Rattle.rule_graph.specs.Aliases.{Alias, members_of, put, with_members}
 use Rattle.rule_graph.specs.Graphs.{RuleGraph, IsGraph, rule_fault}
-use Rattle.rule_graph.proofs.RuleLemmas.{slice_get-append_left, last_at, and_left, and_right, and_both, below_more}
+use Rattle.rule_graph.proofs.Positions.{at}
+use Rattle.rule_graph.proofs.RuleLemmas.{eq-true, slice_get-append_left, last_at, and_left, and_right, and_both, below_more}
 
 find_by : (p : NodeId → Bool) (n : ℕ) (x : NodeId) (nodes : List NodeId) (t : NodeId) → are_below n (x ∷ nodes) ≡ true → (b : Bool) → cond b (Some x) (find p nodes) ≡ Some t
     → (are_below n nodes ≡ true → find p nodes ≡ Some t → t.0 < n) → t.0 < n
@@ -118,3 +120,21 @@ is_some-map f (Some x) = refl
 
 pub no_fault : (g : RuleGraph) (rule : Rule) → own_source rule ≡ None → is_some (equal_rule g.rules rule) ≡ false → taken g.rules rule.targets ≡ None → nat_lt (length g.rules) 50000 ≡ true → rule_fault g rule ≡ None
 no_fault g rule own equal free room = rw (own, equal, free, room) refl
+
+target_below : (k : ℕ) (nodes : List NodeId) (n : ℕ) → are_below k nodes ≡ true → is_target_of nodes n ≡ true → n < k
+target_below k [] n low h = absurd (cc)
+target_below k (t ∷ ts) n low h = by (nat_eq t.0 n) refl h
+  where
+    by : (b : Bool) → nat_eq t.0 n ≡ b → (b || is_target_of ts n) ≡ true → n < k
+    by true e h =
+        let same = eq-true t.0 n e in
+        let lt = ltb-true t.0 k (and_left (nat_lt t.0 k) (are_below k ts) low) in
+        omega arith
+    by false e h = target_below k ts n (and_right (nat_lt t.0 k) (are_below k ts) low) h
+
+-- what has a rule is a node
+pub node_of_rule : (found : Option RuleId) (nodes : ℕ) (rules : List Rule) (aliases : List Alias) (n : ℕ) → IsGraph nodes rules aliases → option_map (λ id. id.0) found ≡ rule_of rules n → IfSome found (λ id. n < nodes)
+node_of_rule None nodes rules aliases n g e = tt
+node_of_rule (Some id) nodes rules aliases n g e =
+    let there = at (λ r. is_target_of r.targets n) rules id.0 (sym e) in
+    target_below nodes there.0.targets n (g.each_rule id.0 there.0 there.1).targets there.2

@@ -158,6 +158,7 @@ impl Graph {
     pub fn rule_of(&self, node: NodeId) -> Option<RuleId>
         ensures of { option_map (λ id. id.0) result ≡ rule_of self.now.rules node.0 }
         ensures below { IfSome result (λ id. id.0 < length self.now.rules) }
+        ensures node { IfSome result (λ _. node.0 < length self.now.nodes) }
     {
         self.rules.rule_of(node)
     }

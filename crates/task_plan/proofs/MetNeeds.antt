@@ -14,7 +14,7 @@ use Rattle.task_plan.specs.Named.{stands, put, put_all, named_of, sources_of, ig
 use Rattle.task_plan.specs.Settled.{Kept, kept_of, first_kept, IsLonger, origin_of}
 use Rattle.task_plan.specs.Listed.{included, with_found}
 use Rattle.task_plan.specs.Plans.{Planned, AreWaiting, Stays, Goes, GoesOn, wanted}
-use Rattle.task_plan.specs.Met.{is_met_from, is_met, are_met, IsFrom, AreFrom, AreNeedsMet, AllMet, IsReached, AreNodes, AreNews, Finds, FindsFile, FindsBy, HasRoom, KeepsRoom, needs_in, needs_at}
+use Rattle.task_plan.specs.Met.{is_met_from, is_met, are_met, IsFrom, AreFrom, AreNeedsMet, AllMet, IsAskedFor, AreNodes, AreNews, Finds, FindsFile, FindsBy, HasRoom, KeepsRoom, needs_in, needs_at}
 use Rattle.task_plan.specs.Loaded.{IsTaskOf}
 use Rattle.task_plan.specs.Admits.{IsFirstAt, IsAdmitted, Fits, Follows, AllFollow, IsUnchanged, ScansFile, Knows, Widens, Admits, NotesFile, NotesNone, none}
 use Rattle.task_plan.specs.declared.task.Task.{Task}
@@ -445,11 +445,11 @@ module _ (g : RuleGraph) where
   needed_of b node r (Made rule) f m e = let same : rule.0 ≡ r = same_Some rule.0 r (sym f.0 ∙ e) in λ u. f.1 (ap (state_of b.states) same ∙ u)
 
   -- what the requested nodes lead to is needed
-  pub reached_needed : (b : Planned) (nodes : List NodeId) → ((r : ℕ) → state_of b.states r ≢ Unneeded → IsFirstAt g b.rules r) → AreFrom g b → AllMet b → are_met b.origins nodes ≡ true → (r : ℕ) → IsReached g nodes r
+  pub reached_needed : (b : Planned) (nodes : List NodeId) → ((r : ℕ) → state_of b.states r ≢ Unneeded → IsFirstAt g b.rules r) → AreFrom g b → AllMet b → are_met b.origins nodes ≡ true → (r : ℕ) → IsAskedFor g nodes r
       → state_of b.states r ≢ Unneeded
-  reached_needed b nodes k f m met r (IsReached.asked node s e) =
+  reached_needed b nodes k f m met r (IsAskedFor.asked node s e) =
       needed_of b node r (origin_of b.origins node.0) (f.each node.0) (all_stands (λ n. is_met b.origins n) nodes node met s) e
-  reached_needed b nodes k f m met r (IsReached.needs {rule = rule} of node i at s e) =
+  reached_needed b nodes k f m met r (IsAskedFor.needs {rule = rule} of node i at s e) =
       let p = λ (n : NodeId). is_met b.origins n in
       let ne = reached_needed b nodes k f m met rule i in
       let first = k rule ne in

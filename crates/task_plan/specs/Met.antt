@@ -52,14 +52,14 @@ pub record AllMet (plan : Planned) : Type 0 where
   pub each : (rule : ℕ) (kept : Kept) → state_of plan.states rule ≢ Unneeded → slice_get plan.rules rule ≡ Some kept → AreNeedsMet plan.origins kept
 
 -- the rules of these nodes, and those of all that they require and depend on by what the graph says
-pub data IsReached (graph : RuleGraph) (nodes : List NodeId) : ℕ → Type 0 where
-  asked : {rule : ℕ} (node : NodeId) → stands nodes node ≡ true → rule_of graph.rules node.0 ≡ Some rule → IsReached graph nodes rule
-  needs : {rule other : ℕ} (of : Rule) (node : NodeId) → IsReached graph nodes rule → slice_get graph.rules rule ≡ Some of → stands (of.required ++ named_of of) node ≡ true
-      → rule_of graph.rules node.0 ≡ Some other → IsReached graph nodes other
+pub data IsAskedFor (graph : RuleGraph) (nodes : List NodeId) : ℕ → Type 0 where
+  asked : {rule : ℕ} (node : NodeId) → stands nodes node ≡ true → rule_of graph.rules node.0 ≡ Some rule → IsAskedFor graph nodes rule
+  needs : {rule other : ℕ} (of : Rule) (node : NodeId) → IsAskedFor graph nodes rule → slice_get graph.rules rule ≡ Some of → stands (of.required ++ named_of of) node ≡ true
+      → rule_of graph.rules node.0 ≡ Some other → IsAskedFor graph nodes other
 
 -- those rules are needed, where the nodes are the graph's
 pub record AllReached (graph : RuleGraph) (nodes : List NodeId) (states : List RuleState) : Type 0 where
-  pub each : are_below (length graph.nodes) nodes ≡ true → (rule : ℕ) → IsReached graph nodes rule → state_of states rule ≢ Unneeded
+  pub each : are_below (length graph.nodes) nodes ≡ true → (rule : ℕ) → IsAskedFor graph nodes rule → state_of states rule ≢ Unneeded
 
 -- the nodes of an event are the graph's
 abbrev pub AreNodes : RuleGraph → PlanEvent → Type 0

@@ -1,10 +1,46 @@
--- Which rules are reached from those of the requested nodes.
-use Rattle.std.specs.Prelude.{◌≢◌, ℕ}
+-- Which rules come to be needed: those that are reached, and no others.
+use Rattle.std.specs.Prelude.{◌≡◌, ◌≢◌, ◌++◌, ℕ, true, List, []}
+use Rattle.scons_base.specs.declared.ids.NodeId.{NodeId}
+use Rattle.scons_base.specs.declared.ids.RuleId.{RuleId}
+use Rattle.rule_graph.specs.Graphs.{RuleGraph}
 use Rattle.task_plan.specs.States.{state_of}
 use Rattle.task_plan.specs.Orders.{IsReached, needed_of}
 use Rattle.task_plan.specs.Plans.{Planned}
+use Rattle.task_plan.specs.Met.{IsAskedFor}
+use Rattle.task_plan.specs.Admits.{queues}
 use Rattle.task_plan.specs.declared.states.RuleState.TheVariants.{Unneeded}
+use Rattle.task_plan.specs.declared.want.PlanEvent.{PlanEvent}
+use Rattle.task_plan.specs.declared.want.PlanEvent.TheVariants.{Scanned, Fresh, Started, DoneOk, DoneFailed, Absent, Halt}
 
 -- each needed rule is reached from the rules of the requested nodes, by what is known of the rules
 pub record AreReached (plan : Planned) : Type 0 where
   pub each : (rule : ℕ) → state_of plan.states rule ≢ Unneeded → IsReached (needed_of plan.rules plan.origins) plan.notes.roots rule
+
+-- the rules that came to be needed are asked for by these nodes, by what the graph says
+pub record NeedsNoOthers (graph : RuleGraph) (old new : Planned) (nodes : List NodeId) : Type 0 where
+  pub each : (rule : ℕ) → state_of old.states rule ≡ Unneeded → state_of new.states rule ≢ Unneeded → IsAskedFor graph nodes rule
+
+-- they were put behind others, and no rule was that isn't asked for
+pub record BringsNoOthers (graph : RuleGraph) (old new : Planned) (nodes : List NodeId) (before after : List RuleId) : Type 0 where
+  pub more : List RuleId
+  pub is : after ≡ before ++ more
+  pub all : (rule : ℕ) → state_of old.states rule ≡ Unneeded → state_of new.states rule ≢ Unneeded → queues more rule ≡ true
+  pub asked : (rule : ℕ) → queues more rule ≡ true → IsAskedFor graph nodes rule
+
+-- that is so of all nodes that ask for a rule
+pub record AdmitsNoOthers (graph : RuleGraph) (old new : Planned) (rule : ℕ) (before after : List RuleId) : Type 0 where
+  pub each : (nodes : List NodeId) → IsAskedFor graph nodes rule → BringsNoOthers graph old new nodes before after
+
+-- nodes that ask for these rules ask for all that came to be needed
+pub record EndsNoOthers (graph : RuleGraph) (old new : Planned) (rules : List RuleId) : Type 0 where
+  pub each : (nodes : List NodeId) → ((rule : ℕ) → queues rules rule ≡ true → IsAskedFor graph nodes rule) → NeedsNoOthers graph old new nodes
+
+-- the nodes that an event brings
+abbrev pub nodes_of : PlanEvent → List NodeId
+nodes_of (Scanned rule found) = found
+nodes_of (Fresh rule) = []
+nodes_of (Started rule) = []
+nodes_of (DoneOk rule) = []
+nodes_of (DoneFailed rule) = []
+nodes_of (Absent rule node) = []
+nodes_of Halt = []
