@@ -184,13 +184,13 @@ module _ (g : RuleGraph) where
   queues-append : (p q : List RuleId) (r : ℕ) → queues (p ++ q) r ≡ (queues p r || queues q r)
   queues-append p q r = list_any-append (λ x. nat_eq x.0 r) p q
 
-  in_first : (p q : List RuleId) (r : ℕ) → queues p r ≡ true → queues (p ++ q) r ≡ true
+  pub in_first : (p q : List RuleId) (r : ℕ) → queues p r ≡ true → queues (p ++ q) r ≡ true
   in_first p q r h = queues-append p q r ∙ or_first (queues p r) (queues q r) h
 
-  in_second : (p q : List RuleId) (r : ℕ) → queues q r ≡ true → queues (p ++ q) r ≡ true
+  pub in_second : (p q : List RuleId) (r : ℕ) → queues q r ≡ true → queues (p ++ q) r ≡ true
   in_second p q r h = queues-append p q r ∙ or_second (queues p r) (queues q r) h
 
-  in_either : (p q : List RuleId) (r : ℕ) → queues (p ++ q) r ≡ true → (queues p r ≡ true) ⊎ (queues q r ≡ true)
+  pub in_either : (p q : List RuleId) (r : ℕ) → queues (p ++ q) r ≡ true → (queues p r ≡ true) ⊎ (queues q r ≡ true)
   in_either p q r h = or_split (queues p r) (queues q r) (sym (queues-append p q r) ∙ h)
 
   -- first some rules are met or admitted, and then others are met

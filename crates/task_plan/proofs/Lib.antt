@@ -44,3 +44,4 @@ pub mod OrderSteps
 pub mod BeginLemmas
 pub mod ExtendLemmas
 pub mod BehindLemmas
+pub mod OtherLemmas

@@ -293,7 +293,7 @@ module _ (a b : Planned) (node : NodeId) (rule : RuleId) (e : b ≡ record a { n
 pub hears_done : (b : Planned) (rule : ℕ) (node : NodeId) → is_met b.origins node ≡ true → is_done b.states b.origins node ≡ true → IsHeard b every rule node
 hears_done b rule node m d = record { met = m; waits = λ t. absurd (true_false (is_done b.states b.origins node && true) (ap (λ x. x && true) d) t) }
 
-stands_one : (node n : NodeId) → stands (node ∷ []) n ≡ true → node ≡ n
+pub stands_one : (node n : NodeId) → stands (node ∷ []) n ≡ true → node ≡ n
 stands_one node n h = sym (node_same n node (or_one (nat_eq n.0 node.0) h))
   where
     or_one : (x : Bool) → (x || false) ≡ true → x ≡ true

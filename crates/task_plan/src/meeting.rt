@@ -12,6 +12,7 @@ ghost use Rattle.task_plan.specs.Ordered.{LeavesOrder, MeetsRoots};
 ghost use Rattle.task_plan.specs.Watching.{WidensWatch, BringsWatch, Hears, LeavesRules, PutsTask, Passes, Readies, AdmitsWatch, EndsWatch};
 ghost use Rattle.task_plan.specs.Met.{Finds, HasRoom, needs_at};
 ghost use Rattle.task_plan.specs.Admits.{Widens, Admits, Brings, IsBegun, are_rules, queues, none};
+ghost use Rattle.task_plan.specs.Rooted.{NeedsNoOthers, BringsNoOthers, AdmitsNoOthers, EndsNoOthers};
 
 use crate::files::{Files, Origin};
 use crate::naming::task_of;
@@ -143,6 +144,7 @@ impl Plan {
         ensures finds { OnOk result (Finds graph.now self.old self.new requested.now) }
         ensures watch { OnOk result (EndsWatch self.old self.new [] []) }
         ensures roots { OnOk result (MeetsRoots self.old self.new) }
+        ensures others { OnOk result (NeedsNoOthers graph.now self.old self.new requested.now) }
     {
         let mut needed = Vec::new(self.alloc);
         self.meet_requested(graph, requested, &mut needed)?;
@@ -163,6 +165,8 @@ impl Plan {
         ensures finds { OnOk result (Finds graph.now self.old self.new requested.now) }
         ensures watch { OnOk result (BringsWatch self.old self.new needed.old.items needed.new.items) }
         ensures roots { OnOk result (MeetsRoots self.old self.new) }
+        ensures others { OnOk result (BringsNoOthers graph.now self.old self.new requested.now
+            needed.old.items needed.new.items) }
     {
         for node in requested {
             self.meet(graph, *node, needed)?;
@@ -198,6 +202,8 @@ impl Plan {
         ensures leaves { LeavesRules self.old self.new }
         ensures watch { OnOk result (BringsWatch self.old self.new needed.old.items needed.new.items) }
         ensures order { OnOk result (LeavesOrder self.old self.new) }
+        ensures others { OnOk result (BringsNoOthers graph.now self.old self.new (node ∷ [])
+            needed.old.items needed.new.items) }
     {
         if !self.files.is_unmet(node) {
             return Ok(());
@@ -232,6 +238,8 @@ impl Plan {
         ensures leaves { LeavesRules self.old self.new }
         ensures watch { OnOk result (BringsWatch self.old self.new needed.old.items needed.new.items) }
         ensures order { OnOk result (LeavesOrder self.old self.new) }
+        ensures others { OnOk result (AdmitsNoOthers graph.now self.old self.new rule.0
+            needed.old.items needed.new.items) }
     {
         if self.begins_need(rule) {
             needed.push(rule)?;
@@ -279,6 +287,7 @@ impl Plan {
         ensures finds { OnOk result (Finds graph.now self.old self.new []) }
         ensures watch { OnOk result (EndsWatch self.old self.new needed.items []) }
         ensures order { OnOk result (LeavesOrder self.old self.new) }
+        ensures others { OnOk result (EndsNoOthers graph.now self.old self.new needed.items) }
     {
         for place in 0..usize::MAX {
             let Some(rule) = rule_at(&needed, place) else {
@@ -302,6 +311,8 @@ impl Plan {
         ensures finds { OnOk result (Finds graph.now self.old self.new []) }
         ensures watch { OnOk result (AdmitsWatch self.old self.new rule.0 needed.old.items needed.new.items) }
         ensures order { OnOk result (LeavesOrder self.old self.new) }
+        ensures others { OnOk result (AdmitsNoOthers graph.now self.old self.new rule.0
+            needed.old.items needed.new.items) }
     {
         let task = task_of(self.alloc, graph, graph.rule(rule))?;
         self.put_task(rule, task);
@@ -351,6 +362,8 @@ impl Plan {
         ensures watch { OnOk result (BringsWatch self.old self.new needed.old.items needed.new.items) }
         ensures hears { OnOk result (Hears graph.now self.old self.new rule.0 (needs_at self.old.rules rule.0)) }
         ensures order { OnOk result (LeavesOrder self.old self.new) }
+        ensures others { OnOk result (BringsNoOthers graph.now self.old self.new (needs_at self.old.rules rule.0)
+            needed.old.items needed.new.items) }
     {
         for place in 0..self.need_count(rule) {
             let Some(node) = self.need(rule, place) else {
@@ -379,6 +392,8 @@ impl Plan {
         ensures watch { OnOk result (BringsWatch self.old self.new needed.old.items needed.new.items) }
         ensures hears { OnOk result (Hears graph.now self.old self.new rule.0 (node ∷ [])) }
         ensures order { OnOk result (LeavesOrder self.old self.new) }
+        ensures others { OnOk result (BringsNoOthers graph.now self.old self.new (node ∷ [])
+            needed.old.items needed.new.items) }
     {
         self.meet(graph, node, needed)?;
         if self.is_ready(node) {

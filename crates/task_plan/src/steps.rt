@@ -11,6 +11,7 @@ ghost use Rattle.task_plan.specs.Ordered.{AreNeedsDone, AreReady, ComesBefore, G
 ghost use Rattle.task_plan.specs.Plans.{AreMet, Meets, Stays, GoesNow, decided as decided_of, ended};
 ghost use Rattle.task_plan.specs.Met.{is_met, AreNews, Finds, FindsFile, HasRoom};
 ghost use Rattle.task_plan.specs.Admits.{Admits, Brings, NotesFile, NotesNone, Scans, none, queues};
+ghost use Rattle.task_plan.specs.Rooted.{NeedsNoOthers, BringsNoOthers};
 
 use crate::order::depth_first;
 use crate::plan::Plan;
@@ -145,6 +146,8 @@ impl Plan {
             GrowsWatch graph.now self.old self.new rule.0 growth.new.items)) }
         ensures grows { OnOk result (IfSome noted.now (λ growth.
             GrowsInOrder self.old self.new rule.0 growth.in_order growth.new.items)) }
+        ensures others { OnOk result (IfSome noted.now (λ growth.
+            NeedsNoOthers graph.now self.old self.new growth.new.items)) }
     {
         match noted {
             Some(growth) => self.take_growth(graph, rule, growth),
@@ -201,6 +204,7 @@ impl Plan {
         ensures finds { OnOk result (Finds graph.now self.old self.new growth.now.new.items) }
         ensures watch { OnOk result (GrowsWatch graph.now self.old self.new rule.0 growth.now.new.items) }
         ensures grows { OnOk result (GrowsInOrder self.old self.new rule.0 growth.now.in_order growth.now.new.items) }
+        ensures others { OnOk result (NeedsNoOthers graph.now self.old self.new growth.now.new.items) }
     {
         self.make_room(graph)?;
         let mut needed = Vec::new(self.alloc);
@@ -231,6 +235,8 @@ impl Plan {
         ensures hears { OnOk result (Hears graph.now self.old self.new rule.0 growth.now.new.items) }
         ensures order { OnOk result (LeavesOrder self.old self.new) }
         ensures ready { OnOk result (AreReady self.new rule.0 growth.now.new.items) }
+        ensures others { OnOk result (BringsNoOthers graph.now self.old self.new growth.now.new.items
+            needed.old.items needed.new.items) }
     {
         for node in &growth.new {
             self.meet_one_found(graph, rule, *node, needed)?;
@@ -256,6 +262,8 @@ impl Plan {
         ensures hears { OnOk result (Hears graph.now self.old self.new rule.0 (node ∷ [])) }
         ensures order { OnOk result (LeavesOrder self.old self.new) }
         ensures ready { OnOk result (AreReady self.new rule.0 (node ∷ [])) }
+        ensures others { OnOk result (BringsNoOthers graph.now self.old self.new (node ∷ [])
+            needed.old.items needed.new.items) }
     {
         self.meet(graph, node, needed)?;
         self.need_also(rule, node)?;

@@ -5,6 +5,7 @@ use Rattle.task_plan.proofs.AdmitLemmas.{admits_first, admits_next, admits_end, 
 use Rattle.task_plan.proofs.LeaveLemmas.{order_same, order_trans}
 use Rattle.task_plan.proofs.WatchMeets.{ends_none, ends_next, ends_end}
 use Rattle.task_plan.specs.Admits.{queues}
+use Rattle.task_plan.proofs.OtherLemmas.{adds_first, adds_next, adds_end}
 use Rattle.task_plan.proofs.plan.Plan.admit.Goals as goal
 
 pub loop-place-init : goal.loop-place-init
@@ -16,6 +17,7 @@ loop-place-init c = record {
   finds = finds_same c.args.graph.now c.args.self.now c.args.self.now refl;
   admits = admits_first c.args.graph.now c.args.self.now c.args.needed.items;
   watch = ends_none c.args.self.now c.args.needed.items;
+  others = adds_first c.args.graph.now c.args.self.now c.args.needed.items;
 }
 
 pub admit_one-requires-clause-rule : goal.admit_one-requires-clause-rule
@@ -38,6 +40,9 @@ loop-place-preserved c =
       admits =
           admits_next g c.args.self.now c.loop-place.self c.admit_one.new.self s c.loop-place.needed.items c.admit_one.new.needed.items c.loop-place.place c.in-Some.rule (sym c.in-Some.ensures) i.admits
           k.brings;
+      others =
+          adds_next g c.args.self.now c.loop-place.self c.admit_one.new.self c.args.needed.items c.loop-place.needed.items c.admit_one.new.needed.items c.loop-place.place c.in-Some.rule (sym c.in-Some.ensures) i.others
+          k.others;
     }
 
 pub returns-in_default-clause-admits : goal.returns-in_default-clause-admits
@@ -47,3 +52,6 @@ returns-in_default-clause-admits c =
 
 pub returns-in_default-clause-watch : goal.returns-in_default-clause-watch
 returns-in_default-clause-watch c = ends_end c.args.self.now c.loop-place.self c.args.needed.items c.loop-place.needed.items c.loop-place.place (sym c.in_default.ensures) c.loop-place.invariant.watch
+
+pub returns-in_default-clause-others : goal.returns-in_default-clause-others
+returns-in_default-clause-others c = adds_end c.args.graph.now c.args.self.now c.loop-place.self c.args.needed.items c.loop-place.needed.items c.loop-place.invariant.others

@@ -4,6 +4,7 @@ use Rattle.task_plan.specs.Met.{Finds, HasRoom}
 use Rattle.task_plan.specs.Admits.{Admits, are_rules, queues}
 use Rattle.task_plan.specs.Ordered.{LeavesOrder}
 use Rattle.task_plan.specs.Watching.{EndsWatch}
+use Rattle.task_plan.proofs.OtherLemmas.{AddsNoOthers}
 use Rattle.task_plan.proofs.plan.Plan.admit.Given as goal
 
 abbrev pub invariant-loop-place : goal.invariant-loop-place
@@ -15,4 +16,5 @@ invariant-loop-place l = record {
   finds : Finds l.graph l.initial.self l.self [];
   admits : Admits l.graph l.initial.self l.self (queues l.initial.needed.items) (drop l.place l.needed.items);
   watch : EndsWatch l.initial.self l.self l.initial.needed.items (drop l.place l.needed.items);
+  others : AddsNoOthers l.graph l.initial.self l.self l.initial.needed.items l.needed.items;
 }

@@ -1,10 +1,13 @@
 use Rattle.std.proofs.Common.{arith, ◌≡◌, true, false, ap, length, refl}
+use Rattle.std.proofs.lemmas.Option.{slice_get-get_or}
 use Rattle.task_plan.proofs.PlanLemmas.{meets_same, meets_trans}
 use Rattle.task_plan.proofs.MetLemmas.{room_still, finds_nothing, finds_more, finds_all}
 use Rattle.task_plan.proofs.AdmitLemmas.{widens_same, brings_none, brings_then}
 use Rattle.task_plan.proofs.WatchMeets.{brings_watch_same, brings_watch_then, leaves_same, leaves_then, hears_none, hears_more, hears_all}
 use Rattle.task_plan.specs.Admits.{none}
 use Rattle.task_plan.proofs.LeaveLemmas.{order_same, order_trans, ready_more, ready_all}
+use Rattle.task_plan.proofs.MetNeeds.{stands_at}
+use Rattle.task_plan.proofs.OtherLemmas.{others_same, others_more}
 use Rattle.task_plan.proofs.plan.Plan.meet_found.Goals as goal
 
 pub loop-node-init : goal.loop-node-init
@@ -21,6 +24,7 @@ loop-node-init c =
       order = order_same a;
       ready = λ ok n h. absurd (let bad : false ≡ true = h in cc);
       hears = hears_none g a a c.args.rule.0;
+      others = others_same g a a c.args.growth.now.new.items c.args.needed.now.items refl;
     }
 
 pub loop-node-preserved : goal.loop-node-preserved
@@ -44,6 +48,9 @@ loop-node-preserved c =
       ready = ready_more b m c.args.rule.0 c.args.growth.now.new.items c.loop-node.node-index _ (omega arith) k.order i.ready (rw files at k.ready);
       hears = hears_more g a b m c.args.rule.0 c.args.growth.now.new.items c.loop-node.node-index _ c.args.needed.now.items c.loop-node.needed.items c.meet_one_found.new.needed.items (omega arith) i.hears i.watch k.watch
           (rw files at k.hears);
+      others =
+          others_more g a b m c.args.growth.now.new.items _ c.args.needed.now.items c.loop-node.needed.items c.meet_one_found.new.needed.items
+          (stands_at c.args.growth.now.new.items c.loop-node.node-index _ (slice_get-get_or c.args.growth.now.new.items c.loop-node.node-index _ (omega arith))) i.others (rw files at k.others);
     }
 
 pub returns-clause-finds : goal.returns-clause-finds

@@ -4,6 +4,7 @@ use Rattle.task_plan.specs.Met.{Finds, HasRoom}
 use Rattle.task_plan.specs.Admits.{Brings, none}
 use Rattle.task_plan.specs.Ordered.{AreReady, LeavesOrder}
 use Rattle.task_plan.specs.Watching.{BringsWatch, Hears, LeavesRules}
+use Rattle.task_plan.specs.Rooted.{BringsNoOthers}
 use Rattle.task_plan.proofs.plan.Plan.meet_found.Given as goal
 
 abbrev pub invariant-loop-node : goal.invariant-loop-node
@@ -17,4 +18,5 @@ invariant-loop-node l = record {
   order : LeavesOrder l.initial.self l.self;
   ready : AreReady l.self l.rule.0 (take l.node-index l.growth.new.items);
   hears : Hears l.graph l.initial.self l.self l.rule.0 (take l.node-index l.growth.new.items);
+  others : BringsNoOthers l.graph l.initial.self l.self l.growth.new.items l.initial.needed.items l.needed.items;
 }

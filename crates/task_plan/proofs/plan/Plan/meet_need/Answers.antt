@@ -3,6 +3,7 @@ use Rattle.task_plan.specs.Met.{is_met}
 use Rattle.task_plan.proofs.ListLemmas.{and_left}
 use Rattle.task_plan.proofs.WatchMeets.{brings_watch_keeps, keeps_waiting, hears_waiting, hears_done, hears_one}
 use Rattle.task_plan.proofs.LeaveLemmas.{order_trans, order_waiting}
+use Rattle.task_plan.proofs.OtherLemmas.{others_stay}
 use Rattle.task_plan.proofs.plan.Plan.meet_need.Goals as goal
 
 pub returns-then-is_ready-clause-hears : goal.returns-then-is_ready-clause-hears
@@ -28,3 +29,7 @@ returns-clause-hears c =
 pub returns-clause-order : goal.returns-clause-order
 returns-clause-order c =
     order_trans c.args.self.now c.meet.new.self c.wait_for.new.self c.in_ok-meet.ensures.order (order_waiting c.meet.new.self c.wait_for.new.self c.wait_for.ensures.rest)
+
+pub returns-clause-others : goal.returns-clause-others
+returns-clause-others c =
+    others_stay c.args.graph.now c.args.self.now c.meet.new.self c.wait_for.new.self _ c.args.needed.now.items c.meet.new.needed.items c.in_ok-meet.ensures.others c.wait_for.ensures.stays

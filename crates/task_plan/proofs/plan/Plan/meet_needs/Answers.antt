@@ -8,6 +8,8 @@ use Rattle.task_plan.proofs.LeaveLemmas.{order_same, order_trans}
 use Rattle.task_plan.proofs.WatchMeets.{brings_watch_same, brings_watch_then, leaves_same, leaves_then, hears_none, hears_next, hears_all}
 use Rattle.task_plan.specs.Met.{needs_at}
 use Rattle.task_plan.specs.Admits.{none}
+use Rattle.task_plan.proofs.MetNeeds.{stands_at}
+use Rattle.task_plan.proofs.OtherLemmas.{others_same, others_more}
 use Rattle.task_plan.proofs.plan.Plan.meet_needs.Goals as goal
 
 pub loop-place-init : goal.loop-place-init
@@ -24,6 +26,7 @@ loop-place-init c =
       leaves = leaves_same a;
       order = order_same a;
       hears = hears_none g a a c.args.rule.0;
+      others = others_same g a a (needs_at a.rules c.args.rule.0) c.args.needed.now.items refl;
     }
 
 pub loop-place-preserved : goal.loop-place-preserved
@@ -46,6 +49,8 @@ loop-place-preserved c =
       leaves = leaves_then a b d i.leaves c.meet_need.ensures.leaves;
       order = order_trans a b d i.order k.order;
       hears = hears_next g a b d c.args.rule.0 needs c.loop-place.place c.in-Some.node c.args.needed.now.items c.loop-place.needed.items c.meet_need.new.needed.items at i.hears i.watch k.watch k.hears;
+      others =
+          others_more g a b d needs c.in-Some.node c.args.needed.now.items c.loop-place.needed.items c.meet_need.new.needed.items (stands_at needs c.loop-place.place c.in-Some.node at) i.others k.others;
     }
 
 pub returns-in_default-clause-finds : goal.returns-in_default-clause-finds

@@ -4,6 +4,7 @@ use Rattle.task_plan.specs.Met.{Finds, HasRoom, needs_at}
 use Rattle.task_plan.specs.Admits.{Brings, none}
 use Rattle.task_plan.specs.Ordered.{LeavesOrder}
 use Rattle.task_plan.specs.Watching.{BringsWatch, Hears, LeavesRules}
+use Rattle.task_plan.specs.Rooted.{BringsNoOthers}
 use Rattle.task_plan.proofs.plan.Plan.meet_needs.Given as goal
 
 abbrev pub invariant-loop-place : goal.invariant-loop-place
@@ -17,4 +18,5 @@ invariant-loop-place l = record {
   leaves : LeavesRules l.initial.self l.self;
   order : LeavesOrder l.initial.self l.self;
   hears : Hears l.graph l.initial.self l.self l.rule.0 (take l.place (needs_at l.initial.self.rules l.rule.0));
+  others : BringsNoOthers l.graph l.initial.self l.self (needs_at l.initial.self.rules l.rule.0) l.initial.needed.items l.needed.items;
 }

@@ -1,10 +1,13 @@
 use Rattle.std.proofs.Common.{arith, ◌+◌, take, refl}
+use Rattle.std.proofs.lemmas.Option.{slice_get-get_or}
 use Rattle.task_plan.proofs.PlanLemmas.{meets_same, meets_trans}
 use Rattle.task_plan.proofs.MetLemmas.{room_still, keeps_same, finds_on, finds_stays, finds_nothing, finds_more, finds_all}
 use Rattle.task_plan.proofs.AdmitLemmas.{widens_same, widens_stays, brings_widens, brings_none, brings_then}
 use Rattle.task_plan.proofs.WatchMeets.{meets_stays, brings_watch_same, brings_watch_then, brings_watch_keeps, keeps_roots}
 use Rattle.task_plan.specs.Admits.{none}
 use Rattle.task_plan.proofs.BeginLemmas.{roots_same, roots_trans, roots_left}
+use Rattle.task_plan.proofs.MetNeeds.{stands_at}
+use Rattle.task_plan.proofs.OtherLemmas.{others_same, others_more, others_stay}
 use Rattle.task_plan.proofs.plan.Plan.meet_requested.Goals as goal
 
 pub loop-node-init : goal.loop-node-init
@@ -18,6 +21,7 @@ loop-node-init c =
       roots = roots_same a;
       brings = brings_none g a a c.args.needed.now.items c.args.needed.now.items (widens_same a a refl) refl;
       watch = brings_watch_same a c.args.needed.now.items;
+      others = others_same g a a c.args.requested.now c.args.needed.now.items refl;
     }
 
 pub loop-node-preserved : goal.loop-node-preserved
@@ -40,6 +44,11 @@ loop-node-preserved c =
       roots = roots_trans a b d i.roots (roots_trans b m d (roots_left b m k.order) c.in_ok-add_root.ensures.roots);
       watch = brings_watch_keeps a m d c.args.needed.now.items c.meet.new.needed.items (brings_watch_then a b m c.args.needed.now.items c.loop-node.needed.items c.meet.new.needed.items i.watch k.watch)
           (keeps_roots m d c.add_root.ensures.rest);
+      others =
+          others_stay g a m d c.args.requested.now c.args.needed.now.items c.meet.new.needed.items
+          (others_more g a b m c.args.requested.now _ c.args.needed.now.items c.loop-node.needed.items c.meet.new.needed.items
+          (stands_at c.args.requested.now c.loop-node.node-index _ (slice_get-get_or c.args.requested.now c.loop-node.node-index _ (omega arith))) i.others k.others)
+          s;
     }
 
 pub returns-clause-finds : goal.returns-clause-finds

@@ -4,6 +4,7 @@ use Rattle.task_plan.specs.Met.{Finds, HasRoom}
 use Rattle.task_plan.specs.Admits.{Brings, none}
 use Rattle.task_plan.specs.Ordered.{MeetsRoots}
 use Rattle.task_plan.specs.Watching.{BringsWatch}
+use Rattle.task_plan.specs.Rooted.{BringsNoOthers}
 use Rattle.task_plan.proofs.plan.Plan.meet_requested.Given as goal
 
 abbrev pub invariant-loop-node : goal.invariant-loop-node
@@ -14,4 +15,5 @@ invariant-loop-node l = record {
   roots : MeetsRoots l.initial.self l.self;
   brings : Brings l.graph l.initial.self l.self none l.initial.needed.items l.needed.items;
   watch : BringsWatch l.initial.self l.self l.initial.needed.items l.needed.items;
+  others : BringsNoOthers l.graph l.initial.self l.self l.requested l.initial.needed.items l.needed.items;
 }

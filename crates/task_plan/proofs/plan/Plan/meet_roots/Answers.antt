@@ -2,6 +2,7 @@ use Rattle.task_plan.proofs.MetLemmas.{room_still, finds_on}
 use Rattle.task_plan.proofs.AdmitLemmas.{brings_all, brings_rules}
 use Rattle.task_plan.proofs.WatchMeets.{brings_ends}
 use Rattle.task_plan.proofs.BeginLemmas.{roots_trans, roots_left}
+use Rattle.task_plan.proofs.OtherLemmas.{others_all}
 use Rattle.task_plan.proofs.plan.Plan.meet_roots.Goals as goal
 
 pub admit-requires-clause-rules : goal.admit-requires-clause-rules
@@ -31,3 +32,8 @@ returns-clause-roots c =
     let b = c.meet_requested.new.self in
     let d = c.admit.new.self in
     roots_trans c.args.self.now b d c.in_ok-meet_requested.ensures.roots (roots_left b d c.in_ok-admit.ensures.order)
+
+pub returns-clause-others : goal.returns-clause-others
+returns-clause-others c =
+    others_all c.args.graph.now c.args.self.now c.meet_requested.new.self c.admit.new.self c.args.requested.now c.meet_requested.new.needed.items
+    (rw c.new-needed.ensures.items at c.in_ok-meet_requested.ensures.others) c.in_ok-admit.ensures.others

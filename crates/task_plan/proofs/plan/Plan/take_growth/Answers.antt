@@ -3,6 +3,7 @@ use Rattle.task_plan.proofs.MetNeeds.{finds_grown}
 use Rattle.task_plan.proofs.AdmitLemmas.{brings_rules, grows}
 use Rattle.task_plan.proofs.WatchScans.{grows_watch}
 use Rattle.task_plan.proofs.OrderGrows.{grows_in_order}
+use Rattle.task_plan.proofs.OtherLemmas.{others_grown}
 use Rattle.task_plan.proofs.plan.Plan.take_growth.Goals as goal
 
 pub admit-requires-clause-rules : goal.admit-requires-clause-rules
@@ -47,3 +48,8 @@ returns-clause-grows c =
     grows_in_order c.args.self.now c.make_room.new.self c.meet_found.new.self c.pass.new.self c.find_ready.new.self c.note_growth.new.self c.admit.new.self c.args.rule.0 c.scan_start-start.result
     c.args.growth.now.in_order c.args.growth.now.new.items c.make_room.ensures.watch c.make_room.ensures.roots c.make_room.ensures.widens c.in_ok-meet_found.ensures.order c.in_ok-meet_found.ensures.ready
     c.meet_found.ensures.leaves c.pass.ensures.stays c.find_ready.ensures.stays c.pass.ensures.passes c.find_ready.ensures.readies n.rest n.fewer n.place c.in_ok-admit.ensures.order
+
+pub returns-clause-others : goal.returns-clause-others
+returns-clause-others c =
+    others_grown c.args.graph.now c.args.self.now c.make_room.new.self c.meet_found.new.self c.pass.new.self c.find_ready.new.self c.note_growth.new.self c.admit.new.self c.args.growth.now.new.items c.meet_found.new.needed.items
+    c.make_room.ensures.widens (rw c.new-needed.ensures.items at c.in_ok-meet_found.ensures.others) c.pass.ensures.stays c.find_ready.ensures.stays c.note_growth.ensures.stays c.in_ok-admit.ensures.others
