@@ -84,7 +84,7 @@ or_none : (x : Bool) → x ≡ false → (x || false) ≡ false
 or_none true h = h
 or_none false h = refl
 
-lt_true : (m n : ℕ) → m < n → nat_lt m n ≡ true
+pub lt_true : (m n : ℕ) → m < n → nat_lt m n ≡ true
 lt_true m n h = grind (arith, nat_tests)
 
 eq_true : (m n : ℕ) → m ≡ n → nat_eq m n ≡ true

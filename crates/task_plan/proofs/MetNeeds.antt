@@ -439,16 +439,17 @@ module _ (g : RuleGraph) where
   pub from_nothing : (a : Planned) → a.origins ≡ [] → AreFrom g a
   from_nothing a e = record { each = λ n. subst (λ (o : List Origin). IsFrom g a.states n (origin_of o n)) (sym e) tt }
 
-  needed_of : (b : Planned) (node : NodeId) (r : ℕ) (x : Origin) → IsFrom g b.states node.0 x → is_met_from x ≡ true → rule_of g.rules node.0 ≡ Some r → state_of b.states r ≢ Unneeded
-  needed_of b node r Unmet f m e = absurd (let no : false ≡ true = m in cc)
-  needed_of b node r Source f m e = absurd (none-some r (sym f ∙ e))
-  needed_of b node r (Made rule) f m e = let same : rule.0 ≡ r = same_Some rule.0 r (sym f.0 ∙ e) in λ u. f.1 (ap (state_of b.states) same ∙ u)
+  -- the rule of a met node is needed
+  pub maker_needed : (b : Planned) (node : NodeId) (r : ℕ) (x : Origin) → IsFrom g b.states node.0 x → is_met_from x ≡ true → rule_of g.rules node.0 ≡ Some r → state_of b.states r ≢ Unneeded
+  maker_needed b node r Unmet f m e = absurd (let no : false ≡ true = m in cc)
+  maker_needed b node r Source f m e = absurd (none-some r (sym f ∙ e))
+  maker_needed b node r (Made rule) f m e = let same : rule.0 ≡ r = same_Some rule.0 r (sym f.0 ∙ e) in λ u. f.1 (ap (state_of b.states) same ∙ u)
 
   -- what the requested nodes lead to is needed
   pub reached_needed : (b : Planned) (nodes : List NodeId) → ((r : ℕ) → state_of b.states r ≢ Unneeded → IsFirstAt g b.rules r) → AreFrom g b → AllMet b → are_met b.origins nodes ≡ true → (r : ℕ) → IsAskedFor g nodes r
       → state_of b.states r ≢ Unneeded
   reached_needed b nodes k f m met r (IsAskedFor.asked node s e) =
-      needed_of b node r (origin_of b.origins node.0) (f.each node.0) (all_stands (λ n. is_met b.origins n) nodes node met s) e
+      maker_needed b node r (origin_of b.origins node.0) (f.each node.0) (all_stands (λ n. is_met b.origins n) nodes node met s) e
   reached_needed b nodes k f m met r (IsAskedFor.needs {rule = rule} of node i at s e) =
       let p = λ (n : NodeId). is_met b.origins n in
       let ne = reached_needed b nodes k f m met rule i in
@@ -457,4 +458,4 @@ module _ (g : RuleGraph) where
       let needs = m.each rule (first_kept g first.of) ne first.is in
       let both = list_all-append p first.of.required (named_of first.of) ∙ and_both (list_all p first.of.required) (list_all p (named_of first.of)) needs.required needs.deps in
       let all : list_all p (of.required ++ named_of of) ≡ true = ap (λ (x : Rule). list_all p (x.required ++ named_of x)) (sym same) ∙ both in
-      needed_of b node r (origin_of b.origins node.0) (f.each node.0) (all_stands p (of.required ++ named_of of) node all s) e
+      maker_needed b node r (origin_of b.origins node.0) (f.each node.0) (all_stands p (of.required ++ named_of of) node all s) e

@@ -3,6 +3,8 @@ use Rattle.std.specs.Prelude.{◌≡◌, ◌≢◌, ◌<◌, ◌⊎◌, ◌++◌
 use Rattle.std.specs.List.{filter, list_all}
 use Rattle.scons_base.specs.declared.ids.NodeId.{NodeId}
 use Rattle.scons_base.specs.declared.ids.RuleId.{RuleId}
+use Rattle.rule_graph.specs.Rules.{rule_of}
+use Rattle.rule_graph.specs.Graphs.{RuleGraph}
 use Rattle.task_plan.specs.States.{state_of}
 use Rattle.task_plan.specs.Queues.{Queued, is_open, number_of}
 use Rattle.task_plan.specs.Settled.{Kept, origin_of, is_settled, is_done}
@@ -157,16 +159,22 @@ TakesBy old (DoneFailed rule) new = Unit {0}
 TakesBy old (Absent rule node) new = Unit {0}
 TakesBy old Halt new = Unit {0}
 
--- each root makes a file that was met
-pub record AreRoots (plan : Planned) : Type 0 where
-  pub each : (rule : RuleId) → is_among rule.0 plan.notes.roots ≡ true → (node : ℕ) × (origin_of plan.origins node ≡ Made rule)
+-- by what the graph says a rule makes a node that was met
+pub record MakesMet (graph : RuleGraph) (plan : Planned) (rule : ℕ) : Type 0 where
+  pub node : NodeId
+  pub made : rule_of graph.rules node.0 ≡ Some rule
+  pub met : is_met plan.origins node ≡ true
 
--- requested files were met, whose rules are roots
-pub record MeetsRoots (old new : Planned) : Type 0 where
+-- each root does
+pub record AreRoots (graph : RuleGraph) (plan : Planned) : Type 0 where
+  pub each : (rule : ℕ) → is_among rule plan.notes.roots ≡ true → MakesMet graph plan rule
+
+-- requested nodes were met, whose rules are roots
+pub record MeetsRoots (graph : RuleGraph) (old new : Planned) : Type 0 where
   pub fits : new.notes.is_ordered ≡ true → old.notes.is_ordered ≡ true
-  pub roots : AreRoots old → AreRoots new
+  pub roots : AreRoots graph old → AreRoots graph new
 
--- the queue has the build order where it fits, from rules that make met files on
-pub record BeginsOrder (plan : Planned) : Type 0 where
+-- the queue has the build order where it fits, from rules that make met nodes on
+pub record BeginsOrder (graph : RuleGraph) (plan : Planned) : Type 0 where
   pub ordered : plan.notes.is_ordered ≡ true → IsOrder plan.rules plan.origins plan.notes.roots plan.queue.order
-  pub roots : AreRoots plan
+  pub roots : AreRoots graph plan

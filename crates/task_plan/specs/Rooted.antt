@@ -1,7 +1,10 @@
 -- Which rules come to be needed: those that are reached, and no others.
 use Rattle.std.specs.Prelude.{◌≡◌, ◌≢◌, ◌++◌, ℕ, true, List, []}
+use Rattle.std.specs.List.{filter_map}
+use Rattle.std.specs.Option.{option_map}
 use Rattle.scons_base.specs.declared.ids.NodeId.{NodeId}
 use Rattle.scons_base.specs.declared.ids.RuleId.{RuleId}
+use Rattle.rule_graph.specs.Rules.{rule_of}
 use Rattle.rule_graph.specs.Graphs.{RuleGraph}
 use Rattle.task_plan.specs.States.{state_of}
 use Rattle.task_plan.specs.Orders.{IsReached, needed_of}
@@ -11,6 +14,10 @@ use Rattle.task_plan.specs.Admits.{queues}
 use Rattle.task_plan.specs.declared.states.RuleState.TheVariants.{Unneeded}
 use Rattle.task_plan.specs.declared.want.PlanEvent.{PlanEvent}
 use Rattle.task_plan.specs.declared.want.PlanEvent.TheVariants.{Scanned, Fresh, Started, DoneOk, DoneFailed, Absent, Halt}
+
+-- the rules that make these nodes by what the graph says, in the order of the nodes; a node that no rule makes gives none
+abbrev pub makers_in : RuleGraph → List NodeId → List RuleId
+makers_in graph nodes = filter_map (λ n. option_map (λ r. record { 0 = r }) (rule_of graph.rules n.0)) nodes
 
 -- each needed rule is reached from the rules of the requested nodes, by what is known of the rules
 pub record AreReached (plan : Planned) : Type 0 where

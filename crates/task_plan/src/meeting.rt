@@ -1,7 +1,8 @@
 //! How the plan meets files, and with them the rules that are needed.
 
-ghost use Rattle.std.specs.Prelude.{◌≡◌, ◌<◌, ◌≤◌, [], Some, false, true, length, slice_get, slice_set, nat_eq, OnOk, ◌≢◌, ◌+◌, ◌∷◌, ◌++◌};
+ghost use Rattle.std.specs.Prelude.{◌≡◌, ◌<◌, ◌≤◌, [], ℕ, Some, false, true, length, slice_get, slice_set, nat_eq, OnOk, ◌≢◌, ◌+◌, ◌∷◌, ◌++◌};
 ghost use Rattle.scons_base.specs.declared.ids.NodeId.{NodeId};
+ghost use Rattle.rule_graph.specs.Rules.{rule_of};
 ghost use Rattle.task_plan.specs.States.{state_of};
 ghost use Rattle.task_plan.specs.Settled.{CanScan, is_done, kept_of, origin_of};
 ghost use Rattle.task_plan.specs.Plans.{Meets, Stays};
@@ -12,7 +13,7 @@ ghost use Rattle.task_plan.specs.Ordered.{LeavesOrder, MeetsRoots};
 ghost use Rattle.task_plan.specs.Watching.{WidensWatch, BringsWatch, Hears, LeavesRules, PutsTask, Passes, Readies, AdmitsWatch, EndsWatch};
 ghost use Rattle.task_plan.specs.Met.{Finds, HasRoom, needs_at};
 ghost use Rattle.task_plan.specs.Admits.{Widens, Admits, Brings, IsBegun, are_rules, queues, none};
-ghost use Rattle.task_plan.specs.Rooted.{NeedsNoOthers, BringsNoOthers, AdmitsNoOthers, EndsNoOthers};
+ghost use Rattle.task_plan.specs.Rooted.{makers_in, NeedsNoOthers, BringsNoOthers, AdmitsNoOthers, EndsNoOthers};
 
 use crate::files::{Files, Origin};
 use crate::naming::task_of;
@@ -135,7 +136,7 @@ impl Plan {
         Ok(())
     }
 
-    /// Meets the requested nodes.
+    /// Meets the requested nodes. Their rules become the roots, in the order of the nodes.
     #[tactic(auto, using(crate::proofs::AdmitLemmas::scanning))]
     pub(crate) fn meet_roots(&mut self, graph: &Graph, requested: &[NodeId]) -> Result<(), Memory>
         requires { HasRoom graph.now self.old }
@@ -143,7 +144,8 @@ impl Plan {
         ensures admits { OnOk result (Admits graph.now self.old self.new none []) }
         ensures finds { OnOk result (Finds graph.now self.old self.new requested.now) }
         ensures watch { OnOk result (EndsWatch self.old self.new [] []) }
-        ensures roots { OnOk result (MeetsRoots self.old self.new) }
+        ensures roots { OnOk result (self.new.notes.roots ≡ self.old.notes.roots ++ makers_in graph.now requested.now) }
+        ensures order { OnOk result (MeetsRoots graph.now self.old self.new) }
         ensures others { OnOk result (NeedsNoOthers graph.now self.old self.new requested.now) }
     {
         let mut needed = Vec::new(self.alloc);
@@ -164,23 +166,26 @@ impl Plan {
         ensures brings { OnOk result (Brings graph.now self.old self.new none needed.old.items needed.new.items) }
         ensures finds { OnOk result (Finds graph.now self.old self.new requested.now) }
         ensures watch { OnOk result (BringsWatch self.old self.new needed.old.items needed.new.items) }
-        ensures roots { OnOk result (MeetsRoots self.old self.new) }
+        ensures roots { OnOk result (self.new.notes.roots ≡ self.old.notes.roots ++ makers_in graph.now requested.now) }
+        ensures order { OnOk result (MeetsRoots graph.now self.old self.new) }
         ensures others { OnOk result (BringsNoOthers graph.now self.old self.new requested.now
             needed.old.items needed.new.items) }
     {
         for node in requested {
             self.meet(graph, *node, needed)?;
-            self.add_root(*node)?;
+            self.add_root(graph, *node)?;
         }
         Ok(())
     }
 
-    fn add_root(&mut self, node: NodeId) -> Result<(), Memory>
+    /// The rule that the graph has for a node becomes the last root.
+    fn add_root(&mut self, graph: &Graph, node: NodeId) -> Result<(), Memory>
         ensures stays { Stays self.old self.new }
         ensures rest { self.new ≡ record self.old { notes = record self.old.notes { roots = self.new.notes.roots } } }
-        ensures roots { OnOk result (MeetsRoots self.old self.new) }
+        ensures roots { OnOk result (self.new.notes.roots ≡ self.old.notes.roots ++ makers_in graph.now (node ∷ [])) }
+        ensures below { (rule : ℕ) → rule_of graph.now.rules node.0 ≡ Some rule → node.0 < length graph.now.nodes }
     {
-        if let Some(rule) = self.files.rule_of(node) {
+        if let Some(rule) = graph.rule_of(node) {
             self.roots.push(rule)?;
         }
         Ok(())

@@ -1,6 +1,6 @@
 //! The plan of a build.
 
-ghost use Rattle.std.specs.Prelude.{◌≡◌, ◌≢◌, ◌<◌, ◌||◌, ◌⊎◌, [], ℕ, false, true, IfOk, OnOk, IfSome, IfNone, if◌then◌else◌, nat_lt, is_err, length, get_or, List};
+ghost use Rattle.std.specs.Prelude.{◌≡◌, ◌≢◌, ◌<◌, ◌||◌, ◌⊎◌, ◌++◌, [], ℕ, false, true, IfOk, OnOk, IfSome, IfNone, if◌then◌else◌, nat_lt, is_err, length, get_or, List};
 ghost use Rattle.std.specs.List.{count_by};
 ghost use Rattle.scons_base.specs.declared.ids.RuleId.{RuleId};
 ghost use Rattle.scons_base.specs.declared.ids.NodeId.{NodeId};
@@ -11,6 +11,7 @@ ghost use Rattle.task_plan.specs.Cycles.{HasNoCycle, IsCycle};
 ghost use Rattle.task_plan.specs.Watched.{IsComplete, AreTargets, IsNoneReady, IsStill, AreGoingOn, IsFinished};
 ghost use Rattle.task_plan.specs.Met.{are_met, AllMet, AllReached, AreFrom, AreNodes, Finds, FindsBy};
 ghost use Rattle.task_plan.specs.Orders.{IsOrder};
+ghost use Rattle.task_plan.specs.Rooted.{makers_in};
 ghost use Rattle.task_plan.specs.Ordered.{BeginsOrder, IsFirstOf, KeepsOrder, LeavesQueue, TakesBy};
 ghost use Rattle.rule_graph.specs.Rules.{are_below};
 ghost use Rattle.task_plan.specs.Admits.{Admits, Fits, AllFollow, IsFirstAt, Knows, none};
@@ -86,6 +87,7 @@ impl Plan {
         ensures needs { IfOk result AllMet }
         ensures reached { IfOk result (λ plan. AllReached graph.now requested.now plan.states) }
         ensures complete { IfOk result IsComplete }
+        ensures roots { IfOk result (λ plan. plan.notes.roots ≡ makers_in graph.now requested.now) }
         ensures order { IfOk result KeepsOrder }
     {
         let mut plan = Plan::empty(alloc)?;
@@ -124,7 +126,9 @@ impl Plan {
         ensures finds { OnOk result (Finds graph.now self.old self.new requested.now) }
         ensures complete { OnOk result (self.old.states ≡ [] → self.old.origins ≡ [] → self.old.notes.is_ordered ≡ false
             → IsComplete self.new) }
-        ensures order { OnOk result (self.old.notes.roots ≡ [] → self.old.notes.is_ordered ≡ false → BeginsOrder self.new) }
+        ensures roots { OnOk result (self.new.notes.roots ≡ self.old.notes.roots ++ makers_in graph.now requested.now) }
+        ensures order { OnOk result (self.old.notes.roots ≡ [] → self.old.notes.is_ordered ≡ false
+            → BeginsOrder graph.now self.new) }
     {
         self.make_room(graph)?;
         self.meet_roots(graph, requested)?;

@@ -1,7 +1,7 @@
 use Rattle.task_plan.proofs.AdmitLemmas.{begins}
 use Rattle.task_plan.proofs.MetNeeds.{finds_begun}
 use Rattle.task_plan.proofs.WatchSteps.{begins_complete}
-use Rattle.task_plan.proofs.BeginLemmas.{begins_order}
+use Rattle.task_plan.proofs.BeginLemmas.{makers_begun, begins_order}
 use Rattle.task_plan.proofs.LeaveLemmas.{order_widens}
 use Rattle.task_plan.proofs.plan.Plan.begin.Goals as goal
 
@@ -18,8 +18,14 @@ pub returns-clause-complete : goal.returns-clause-complete
 returns-clause-complete c =
     begins_complete c.args.self.now c.make_room.new.self c.meet_roots.new.self c.put_in_order.new.self c.make_room.ensures.watch c.in_ok-make_room.ensures.marks c.in_ok-meet_roots.ensures.watch c.in_ok-put_in_order.ensures.orders
 
+pub returns-clause-roots : goal.returns-clause-roots
+returns-clause-roots c =
+    let m = c.meet_roots.new.self in
+    makers_begun c.args.graph.now c.args.self.now.notes.roots c.make_room.new.self.notes.roots m.notes.roots c.put_in_order.new.self.notes.roots c.args.requested.now
+    c.make_room.ensures.roots c.in_ok-meet_roots.ensures.roots c.in_ok-put_in_order.ensures.puts.roots
+
 pub returns-clause-order : goal.returns-clause-order
 returns-clause-order c =
     let a = c.args.self.now in
     let b = c.make_room.new.self in
-    begins_order a b c.meet_roots.new.self c.put_in_order.new.self (order_widens a b c.make_room.ensures.watch c.make_room.ensures.roots) c.in_ok-meet_roots.ensures.roots c.put_in_order.ensures.stays c.in_ok-put_in_order.ensures.puts
+    begins_order c.args.graph.now a b c.meet_roots.new.self c.put_in_order.new.self (order_widens a b c.make_room.ensures.watch c.make_room.ensures.roots) c.in_ok-meet_roots.ensures.order c.put_in_order.ensures.stays c.in_ok-put_in_order.ensures.puts

@@ -1,3 +1,4 @@
+use Rattle.std.proofs.Common.{◌∙◌}
 use Rattle.task_plan.proofs.MetLemmas.{room_still, finds_on}
 use Rattle.task_plan.proofs.AdmitLemmas.{brings_all, brings_rules}
 use Rattle.task_plan.proofs.WatchMeets.{brings_ends}
@@ -28,10 +29,14 @@ returns-clause-watch c =
     brings_ends c.args.self.now c.meet_requested.new.self c.admit.new.self c.meet_requested.new.needed.items (rw c.new-needed.ensures.items at c.in_ok-meet_requested.ensures.watch) c.in_ok-admit.ensures.watch
 
 pub returns-clause-roots : goal.returns-clause-roots
-returns-clause-roots c =
+returns-clause-roots c = c.in_ok-admit.ensures.order.queue.roots ∙ c.in_ok-meet_requested.ensures.roots
+
+pub returns-clause-order : goal.returns-clause-order
+returns-clause-order c =
+    let g = c.args.graph.now in
     let b = c.meet_requested.new.self in
     let d = c.admit.new.self in
-    roots_trans c.args.self.now b d c.in_ok-meet_requested.ensures.roots (roots_left b d c.in_ok-admit.ensures.order)
+    roots_trans g c.args.self.now b d c.in_ok-meet_requested.ensures.order (roots_left g b d c.in_ok-admit.ensures.order)
 
 pub returns-clause-others : goal.returns-clause-others
 returns-clause-others c =

@@ -1,5 +1,6 @@
-use Rattle.std.proofs.Common.{ap, ℕ}
+use Rattle.std.proofs.Common.{◌∙◌, ◌++◌, ap, ℕ}
 use Rattle.task_plan.specs.States.{state_of}
+use Rattle.task_plan.specs.Rooted.{makers_in}
 use Rattle.task_plan.proofs.AdmitLemmas.{knows_first, fits_first}
 use Rattle.task_plan.proofs.MetNeeds.{all_met_first, from_nothing, reached_needed}
 use Rattle.task_plan.proofs.BeginLemmas.{keeps_first}
@@ -41,6 +42,9 @@ returns-clause-reached c =
 
 pub returns-clause-complete : goal.returns-clause-complete
 returns-clause-complete c = c.in_ok-begin.ensures.complete c.in_ok-plan.ensures.states c.in_ok-plan.ensures.origins c.in_ok-plan.ensures.ordered
+
+pub returns-clause-roots : goal.returns-clause-roots
+returns-clause-roots c = c.in_ok-begin.ensures.roots ∙ ap (λ r. r ++ makers_in c.args.graph.now c.args.requested.now) c.in_ok-plan.ensures.roots
 
 pub returns-clause-order : goal.returns-clause-order
 returns-clause-order c =
