@@ -123,14 +123,14 @@ no_fault g rule own equal free room = rw (own, equal, free, room) refl
 
 target_below : (k : ℕ) (nodes : List NodeId) (n : ℕ) → are_below k nodes ≡ true → is_target_of nodes n ≡ true → n < k
 target_below k [] n low h = absurd (cc)
-target_below k (t ∷ ts) n low h = by (nat_eq t.0 n) refl h
+target_below k (t ∷ ts) n low h = by (nat_eq t.0 n) refl h (target_below k ts n (and_right (nat_lt t.0 k) (are_below k ts) low))
   where
-    by : (b : Bool) → nat_eq t.0 n ≡ b → (b || is_target_of ts n) ≡ true → n < k
-    by true e h =
+    by : (b : Bool) → nat_eq t.0 n ≡ b → (b || is_target_of ts n) ≡ true → (is_target_of ts n ≡ true → n < k) → n < k
+    by true e h rest =
         let same = eq-true t.0 n e in
         let lt = ltb-true t.0 k (and_left (nat_lt t.0 k) (are_below k ts) low) in
         omega arith
-    by false e h = target_below k ts n (and_right (nat_lt t.0 k) (are_below k ts) low) h
+    by false e h rest = rest h
 
 -- what has a rule is a node
 pub node_of_rule : (found : Option RuleId) (nodes : ℕ) (rules : List Rule) (aliases : List Alias) (n : ℕ) → IsGraph nodes rules aliases → option_map (λ id. id.0) found ≡ rule_of rules n → IfSome found (λ id. n < nodes)

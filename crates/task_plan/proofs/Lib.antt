@@ -44,3 +44,5 @@ pub mod OrderSteps
 pub mod BeginLemmas
 pub mod ExtendLemmas
 pub mod BehindLemmas
+pub mod HeldLemmas
+pub mod HoldLemmas

@@ -18,3 +18,4 @@ pub mod Watched
 pub mod Rooted
 pub mod Watching
 pub mod Ordered
+pub mod Held
