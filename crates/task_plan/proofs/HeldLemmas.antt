@@ -1,5 +1,5 @@
 -- What walks from the rules at fault find, and that it is what those hold.
-use Rattle.std.proofs.Common.{arith, ◌≡◌, ◌≢◌, ◌<◌, ◌≤◌, ◌∙◌, ◌⊎◌, inl, inr, ⊎_elim, ℕ, zero, suc, ◌+◌, List, [], ◌∷◌, ◌++◌, Bool, true, false, ◌||◌, not, Option, Some, None, ap, sym, refl, subst, length, set, get_or, take, get_or-set_other, length-set, length-append, replicate}
+use Rattle.std.proofs.Common.{arith, ◌≡◌, ◌≢◌, ◌<◌, ◌≤◌, ◌∙◌, ◌⊎◌, inl, inr, ℕ, zero, suc, ◌+◌, List, [], ◌∷◌, ◌++◌, Bool, true, false, ◌||◌, not, Option, Some, None, ap, sym, refl, subst, length, set, get_or, take, get_or-set_other, length-set, length-append, replicate}
 use Rattle.std.specs.Prelude.{slice_get, map, nat_eq}
 use Rattle.std.specs.List.{list_any, IsDistinct}
 use Rattle.std.specs.Option.{option_map}
@@ -18,7 +18,8 @@ use Rattle.task_plan.specs.Admits.{queues}
 use Rattle.task_plan.specs.Orders.{is_among}
 use Rattle.task_plan.specs.Walks.{is_seen}
 use Rattle.task_plan.specs.Watched.{targets_at}
-use Rattle.task_plan.specs.Held.{WaitsOn, IsHeldBy, AreHeld, firsts, HasAllHeld, HasEachOnce, IsFirstFault, HaveFirstFaults, IsFollowed, Finds, IsBlankHeld, AreAllSeen, WalksTo}
+use Rattle.task_plan.specs.Held.{WaitsOn, IsHeldBy, AreHeld, firsts, HasAllHeld, HasEachOnce, IsFirstFault, HaveFirstFaults}
+use Rattle.task_plan.specs.Holding.{IsFollowed, Finds, IsBlankHeld, AreAllSeen, WalksTo}
 use Rattle.task_plan.specs.declared.held.Held.{Held}
 use Rattle.task_plan.proofs.MarkLemmas.{apart}
 use Rattle.task_plan.proofs.PlanLemmas.{true_false}

@@ -1,5 +1,5 @@
 -- A rule that waits, and needs one that isn't settled, waits on it, where the plan overlooks nothing.
-use Rattle.std.proofs.Common.{arith, ◌≡◌, ◌<◌, ◌≤◌, ◌∙◌, ◌⊎◌, inl, inr, ℕ, ◌++◌, Bool, true, false, ◌&&◌, List, Option, Some, None, ap, sym, refl, length}
+use Rattle.std.proofs.Common.{◌≡◌, ◌<◌, ◌∙◌, ℕ, ◌++◌, Bool, true, false, ◌&&◌, List, Option, Some, None, ap, refl, length}
 use Rattle.std.specs.Prelude.{slice_get}
 use Rattle.std.proofs.lemmas.Option.{slice_get_within}
 use Rattle.scons_base.specs.declared.ids.RuleId.{RuleId}
@@ -7,9 +7,8 @@ use Rattle.task_plan.specs.States.{state_of}
 use Rattle.task_plan.specs.Settled.{Kept, is_settled, is_done, is_done_from}
 use Rattle.task_plan.specs.Plans.{Planned}
 use Rattle.task_plan.specs.Orders.{is_among, makers_of, needed_in, needed_of}
-use Rattle.task_plan.specs.Watched.{every, is_told, IsSought, IsComplete, AreTargets}
-use Rattle.task_plan.specs.Held.{WaitsOn, IsHeldBy, WaitOnNeeds, NeedsFault}
-use Rattle.task_plan.specs.declared.states.RuleState.TheVariants.{Waiting}
+use Rattle.task_plan.specs.Watched.{IsSought, IsComplete, AreTargets}
+use Rattle.task_plan.specs.Held.{IsHeldBy, WaitOnNeeds, NeedsFault}
 use Rattle.task_plan.proofs.EnterLemmas.{maker_made}
 use Rattle.task_plan.proofs.NextLemmas.{HasPlaces}
 use Rattle.task_plan.proofs.ReachedLemmas.{none_among}

@@ -1,5 +1,5 @@
 -- Rules that a rule at fault holds: they wait for it, or for others that do.
-use Rattle.std.specs.Prelude.{◌≡◌, ◌<◌, ◌≤◌, ◌++◌, ◌∷◌, [], ℕ, Bool, true, false, List, Some, length, map, nat_eq, slice_get, slice_set}
+use Rattle.std.specs.Prelude.{◌≡◌, ◌<◌, ℕ, true, false, List, Some, length, map, nat_eq, slice_get}
 use Rattle.std.specs.List.{IsDistinct}
 use Rattle.scons_base.specs.declared.ids.NodeId.{NodeId}
 use Rattle.scons_base.specs.declared.ids.RuleId.{RuleId}
@@ -10,10 +10,8 @@ use Rattle.task_plan.specs.Settled.{Kept, is_settled}
 use Rattle.task_plan.specs.Plans.{Planned}
 use Rattle.task_plan.specs.Admits.{queues}
 use Rattle.task_plan.specs.Orders.{is_among, needed_of}
-use Rattle.task_plan.specs.Walks.{is_seen}
 use Rattle.task_plan.specs.Watched.{targets_at}
 use Rattle.task_plan.specs.declared.states.RuleState.TheVariants.{Waiting}
-use Rattle.task_plan.specs.declared.held.Held.{Held}
 
 -- a rule waits for a target of another one: it stands among the rules that are told when that file is done
 pub record WaitsOn (rules : List Kept) (waiters : List (List RuleId)) (rule other : ℕ) : Type 0 where
@@ -21,7 +19,7 @@ pub record WaitsOn (rules : List Kept) (waiters : List (List RuleId)) (rule othe
   pub made : stands (targets_at rules other) target ≡ true
   pub told : queues (waiters_of waiters target.0) rule ≡ true
 
--- A rule is held by another one: it isn't at fault itself, has a place, and waits for that one, or for a rule that is held by it in turn.
+-- A rule at fault holds another one: that isn't at fault itself, has a place, and waits for the rule at fault, or for one that is held in turn.
 pub data IsHeldBy (rules : List Kept) (waiters : List (List RuleId)) (faulty : List RuleId) (fault : ℕ) : ℕ → Type 0 where
   directly : {rule : ℕ} → is_among rule faulty ≡ false → rule < length rules → WaitsOn rules waiters rule fault → IsHeldBy rules waiters faulty fault rule
   in_turn : {rule : ℕ} (other : ℕ) → is_among rule faulty ≡ false → rule < length rules → WaitsOn rules waiters rule other → IsHeldBy rules waiters faulty fault other
@@ -69,33 +67,3 @@ pub data NeedsFault (plan : Planned) (faulty : List RuleId) (fault : ℕ) : ℕ 
 -- such a rule is held by that one
 abbrev pub HoldWhatNeeds : Planned → Type 0
 HoldWhatNeeds plan = (faulty : List RuleId) (fault rule : ℕ) → NeedsFault plan faulty fault rule → IsHeldBy plan.rules plan.notes.waiters faulty fault rule
-
--- whatever waits for a rule was seen
-pub record IsFollowed (rules : List Kept) (waiters : List (List RuleId)) (seen : List Bool) (other : ℕ) : Type 0 where
-  pub all : (rule : ℕ) → WaitsOn rules waiters rule other → is_seen seen rule ≡ true
-
--- Rules of a kind that weren't seen are, one after another, and each stands behind those found before, with this one at fault.
-pub data Finds (Kind : ℕ → Type 0) (fault : RuleId) (seen : List Bool) (pairs : List (RuleId × RuleId)) : List Bool → List (RuleId × RuleId) → Type 0 where
-  nothing : Finds Kind fault seen pairs seen pairs
-  one_more : {later : List Bool} {found : List (RuleId × RuleId)} (rule : RuleId) → Kind rule.0 → is_seen later rule.0 ≡ false → Finds Kind fault seen pairs later found
-      → Finds Kind fault seen pairs (slice_set later rule.0 true) (found ++ (rule, fault) ∷ [])
-
-abbrev pub FindsIn : (ℕ → Type 0) → RuleId → Held → Held → Type 0
-FindsIn Kind fault old new = Finds Kind fault old.seen.items old.pairs.items new.seen.items new.pairs.items
-
--- of so many rules those at fault were seen, and no others; none was found
-pub record IsBlankHeld (count : ℕ) (faulty : List RuleId) (held : Held) : Type 0 where
-  pub size : length held.seen.items ≡ count
-  pub same : (rule : ℕ) → rule < count → is_seen held.seen.items rule ≡ is_among rule faulty
-  pub none : held.pairs.items ≡ []
-
--- each rule can be seen, and those at fault were
-pub record AreAllSeen (rules : List Kept) (faulty : List RuleId) (seen : List Bool) : Type 0 where
-  pub size : length seen ≡ length rules
-  pub each : (rule : ℕ) → is_among rule faulty ≡ true → is_seen seen rule ≡ true
-
--- A walk from a rule at fault found what that holds. Whatever waits for it was seen, and whatever waits for what was found before a place.
-pub record WalksTo (rules : List Kept) (waiters : List (List RuleId)) (fault : RuleId) (old new : Held) (place : ℕ) : Type 0 where
-  pub finds : (faulty : List RuleId) → AreAllSeen rules faulty old.seen.items → FindsIn (IsHeldBy rules waiters faulty fault.0) fault old new
-  pub first : IsFollowed rules waiters new.seen.items fault.0
-  pub others : (n : ℕ) (pair : RuleId × RuleId) → length old.pairs.items ≤ n → n < place → slice_get new.pairs.items n ≡ Some pair → IsFollowed rules waiters new.seen.items pair.0.0

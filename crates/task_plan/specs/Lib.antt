@@ -19,3 +19,4 @@ pub mod Rooted
 pub mod Watching
 pub mod Ordered
 pub mod Held
+pub mod Holding

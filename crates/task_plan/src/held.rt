@@ -7,7 +7,8 @@ ghost use Rattle.task_plan.specs.Noted.{lists_of};
 ghost use Rattle.task_plan.specs.Admits.{queues};
 ghost use Rattle.task_plan.specs.Walks.{is_seen};
 ghost use Rattle.task_plan.specs.Watched.{targets_at};
-ghost use Rattle.task_plan.specs.Held.{AreHeld, HasAllHeld, HasEachOnce, HaveFirstFaults, FindsIn, IsBlankHeld, IsFollowed, WaitsOn, WalksTo};
+ghost use Rattle.task_plan.specs.Held.{AreHeld, HasAllHeld, HasEachOnce, HaveFirstFaults, WaitsOn};
+ghost use Rattle.task_plan.specs.Holding.{FindsIn, IsBlankHeld, IsFollowed, WalksTo};
 
 use crate::files::Files;
 use crate::task::Task;
@@ -23,16 +24,18 @@ struct Held {
     seen: Vec<bool>,
 }
 
-/// For each rule that needs, directly or through others, one of these rules at fault, and is none of them: itself and that
-/// rule.
+/// For each rule that waits, directly or through others, for one of these rules at fault, and is none of them: itself and
+/// the first of these, in their order, for which it does.
 pub(crate) fn held_by(
     alloc: Global,
     tasks: &[Task],
     files: &Files,
     faulty: &[RuleId],
 ) -> Result<Vec<(RuleId, RuleId)>, Memory>
-    ensures real { IfOk result (λ held. AreHeld (map kept_of tasks.now) (lists_of files.now.waiters.items) faulty.now held.items) }
-    ensures all { IfOk result (λ held. HasAllHeld (map kept_of tasks.now) (lists_of files.now.waiters.items) faulty.now held.items) }
+    ensures real { IfOk result (λ held.
+        AreHeld (map kept_of tasks.now) (lists_of files.now.waiters.items) faulty.now held.items) }
+    ensures all { IfOk result (λ held.
+        HasAllHeld (map kept_of tasks.now) (lists_of files.now.waiters.items) faulty.now held.items) }
     ensures once { IfOk result (λ held. HasEachOnce held.items) }
     ensures first { IfOk result (λ held.
         HaveFirstFaults (map kept_of tasks.now) (lists_of files.now.waiters.items) faulty.now held.items) }
@@ -60,10 +63,11 @@ impl Held {
         })
     }
 
-    /// Adds what a rule at fault holds, and wasn't found before. There are never as many rules as there are numbers.
+    /// Adds what a rule at fault holds, and wasn't found before. What was found is walked over in its order, and there are
+    /// never as many rules as there are numbers.
     fn add_held(&mut self, tasks: &[Task], files: &Files, fault: RuleId) -> Result<(), Memory>
-        ensures { OnOk result (WalksTo (map kept_of tasks.now) (lists_of files.now.waiters.items) fault self.old self.new
-            (length self.new.pairs.items)) }
+        ensures { OnOk result (WalksTo (map kept_of tasks.now) (lists_of files.now.waiters.items) fault
+            self.old self.new (length self.new.pairs.items)) }
     {
         let start = self.pairs.len();
         self.add_waiting(tasks, files, fault, fault)?;
@@ -94,8 +98,8 @@ impl Held {
         rule: RuleId,
         fault: RuleId,
     ) -> Result<(), Memory>
-        ensures finds { OnOk result (FindsIn (λ r. WaitsOn (map kept_of tasks.now) (lists_of files.now.waiters.items) r rule.0)
-            fault self.old self.new) }
+        ensures finds { OnOk result (FindsIn
+            (λ r. WaitsOn (map kept_of tasks.now) (lists_of files.now.waiters.items) r rule.0) fault self.old self.new) }
         ensures all { OnOk result (IsFollowed (map kept_of tasks.now) (lists_of files.now.waiters.items)
             self.new.seen.items rule.0) }
     {

@@ -275,8 +275,8 @@ impl Plan {
         }
     }
 
-    /// For each rule that needs, directly or through others, one of these rules at fault, and is none of them: itself and
-    /// that rule.
+    /// For each rule that waits, directly or through others, for one of these rules at fault, and is none of them: itself
+    /// and the first of these, in their order, for which it does.
     pub fn held_by(&self, faulty: &[RuleId]) -> Result<Listing<(RuleId, RuleId)>, Memory>
         ensures real { IfOk result (AreHeld self.now.rules self.now.notes.waiters faulty.now) }
         ensures all { IfOk result (HasAllHeld self.now.rules self.now.notes.waiters faulty.now) }
@@ -290,8 +290,10 @@ impl Plan {
     /// A rule that waits, and needs one that isn't settled, waits on it. So where that one is at fault it holds the rule, and
     /// whatever else needs it through rules that wait.
     pub fn holds(&self, _graph: &Graph)
-        ensures waits { IsComplete self.now → AreFrom _graph.now self.now → Fits _graph.now self.now → WaitOnNeeds self.now }
-        ensures held { IsComplete self.now → AreFrom _graph.now self.now → Fits _graph.now self.now → HoldWhatNeeds self.now }
+        ensures waits { IsComplete self.now → AreFrom _graph.now self.now → Fits _graph.now self.now
+            → WaitOnNeeds self.now }
+        ensures held { IsComplete self.now → AreFrom _graph.now self.now → Fits _graph.now self.now
+            → HoldWhatNeeds self.now }
     {
         // What the plan keeps is known of its fields alone.
         let _halted = self.halted;

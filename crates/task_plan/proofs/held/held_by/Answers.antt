@@ -3,7 +3,7 @@ use Rattle.std.specs.Prelude.{map}
 use Rattle.std.proofs.lemmas.List.{length-map}
 use Rattle.task_plan.specs.Settled.{kept_of}
 use Rattle.task_plan.specs.Noted.{lists_of}
-use Rattle.task_plan.specs.Held.{IsBlankHeld}
+use Rattle.task_plan.specs.Holding.{IsBlankHeld}
 use Rattle.task_plan.proofs.HeldLemmas.{found_nothing, found_at, all_found}
 use Rattle.task_plan.proofs.held.held_by.Goals as goal
 

@@ -1,10 +1,10 @@
-use Rattle.std.proofs.Common.{arith, ◌≡◌, ◌≤◌, length, sym, subst}
+use Rattle.std.proofs.Common.{arith, ◌≤◌, length, sym, subst}
 use Rattle.std.specs.Prelude.{map}
 use Rattle.scons_base.specs.declared.ids.RuleId.{RuleId}
 use Rattle.task_plan.specs.Settled.{kept_of}
 use Rattle.task_plan.specs.Noted.{lists_of}
-use Rattle.task_plan.specs.Walks.{is_seen}
-use Rattle.task_plan.specs.Held.{FindsIn, IsFollowed, WaitsOn, WalksTo}
+use Rattle.task_plan.specs.Held.{WaitsOn}
+use Rattle.task_plan.specs.Holding.{FindsIn, IsFollowed}
 use Rattle.task_plan.proofs.HeldLemmas.{pair_at, no_pair_at, walk_first, walk_next, walk_end}
 use Rattle.task_plan.proofs.held.Held.add_held.Goals as goal
 

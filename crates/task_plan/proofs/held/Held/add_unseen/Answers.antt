@@ -1,7 +1,7 @@
 use Rattle.std.proofs.Common.{arith, ◌≡◌, true}
 use Rattle.scons_base.specs.declared.ids.RuleId.{RuleId}
 use Rattle.task_plan.specs.Walks.{is_seen}
-use Rattle.task_plan.specs.Held.{Finds}
+use Rattle.task_plan.specs.Holding.{Finds}
 use Rattle.task_plan.proofs.HeldLemmas.{seen_still, each_next, added_next, all_added}
 use Rattle.task_plan.proofs.held.Held.add_unseen.Goals as goal
 

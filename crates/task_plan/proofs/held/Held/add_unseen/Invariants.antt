@@ -3,7 +3,7 @@ use Rattle.std.specs.Prelude.{slice_get}
 use Rattle.scons_base.specs.declared.ids.RuleId.{RuleId}
 use Rattle.task_plan.specs.Admits.{queues}
 use Rattle.task_plan.specs.Walks.{is_seen}
-use Rattle.task_plan.specs.Held.{FindsIn}
+use Rattle.task_plan.specs.Holding.{FindsIn}
 use Rattle.task_plan.proofs.held.Held.add_unseen.Given as goal
 
 abbrev pub invariant-loop-rule : goal.invariant-loop-rule

@@ -5,7 +5,7 @@ use Rattle.task_plan.specs.Settled.{kept_of}
 use Rattle.task_plan.specs.Noted.{lists_of, waiters_of}
 use Rattle.task_plan.specs.Admits.{queues}
 use Rattle.task_plan.specs.Walks.{is_seen}
-use Rattle.task_plan.specs.Held.{Finds}
+use Rattle.task_plan.specs.Holding.{Finds}
 use Rattle.task_plan.proofs.HeldLemmas.{seen_still, each_next, waiting_next, all_waiting}
 use Rattle.task_plan.proofs.held.Held.add_waiting.Goals as goal
 

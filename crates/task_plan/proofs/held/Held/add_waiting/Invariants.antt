@@ -5,7 +5,8 @@ use Rattle.task_plan.specs.Settled.{kept_of}
 use Rattle.task_plan.specs.Noted.{lists_of, waiters_of}
 use Rattle.task_plan.specs.Admits.{queues}
 use Rattle.task_plan.specs.Walks.{is_seen}
-use Rattle.task_plan.specs.Held.{FindsIn, WaitsOn}
+use Rattle.task_plan.specs.Held.{WaitsOn}
+use Rattle.task_plan.specs.Holding.{FindsIn}
 use Rattle.task_plan.proofs.held.Held.add_waiting.Given as goal
 
 abbrev pub invariant-loop-target : goal.invariant-loop-target
