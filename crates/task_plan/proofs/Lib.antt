@@ -45,3 +45,5 @@ pub mod BeginLemmas
 pub mod ExtendLemmas
 pub mod BehindLemmas
 pub mod OtherLemmas
+pub mod HeldLemmas
+pub mod HoldLemmas

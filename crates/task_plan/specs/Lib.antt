@@ -18,3 +18,5 @@ pub mod Watched
 pub mod Rooted
 pub mod Watching
 pub mod Ordered
+pub mod Held
+pub mod Holding

@@ -1,9 +1,19 @@
 //! The rules that wait for a rule at fault.
 
+ghost use Rattle.std.specs.Prelude.{◌≡◌, ℕ, true, length, map, slice_get, IfOk, OnOk};
+ghost use Rattle.std.specs.Option.{option_map};
+ghost use Rattle.task_plan.specs.Settled.{kept_of};
+ghost use Rattle.task_plan.specs.Noted.{lists_of};
+ghost use Rattle.task_plan.specs.Admits.{queues};
+ghost use Rattle.task_plan.specs.Walks.{is_seen};
+ghost use Rattle.task_plan.specs.Watched.{targets_at};
+ghost use Rattle.task_plan.specs.Held.{AreHeld, HasAllHeld, HasEachOnce, HaveFirstFaults, WaitsOn};
+ghost use Rattle.task_plan.specs.Holding.{FindsIn, IsBlankHeld, IsFollowed, WalksTo};
+
 use crate::files::Files;
 use crate::task::Task;
 use crate::walk::mark;
-use scons_base::{Memory, RuleId};
+use scons_base::{Memory, NodeId, RuleId};
 use std::alloc::Global;
 
 /// Rules that were found to wait, each with the one at fault.
@@ -12,74 +22,124 @@ struct Held {
     pairs: Vec<(RuleId, RuleId)>,
     /// The rules that were found or are at fault, by their numbers.
     seen: Vec<bool>,
-    alloc: Global,
 }
 
-/// For each rule that needs, directly or through others, one of these rules at fault, and is none of them: itself and that
-/// rule.
+/// For each rule that waits, directly or through others, for one of these rules at fault, and is none of them: itself and
+/// the first of these, in their order, for which it does.
 pub(crate) fn held_by(
     alloc: Global,
     tasks: &[Task],
     files: &Files,
     faulty: &[RuleId],
-) -> Result<Vec<(RuleId, RuleId)>, Memory> {
-    let mut held = Held {
-        pairs: Vec::new(alloc),
-        seen: Vec::from_elem(alloc, false, tasks.len())?,
-        alloc,
-    };
-    for rule in faulty {
-        mark(&mut held.seen, *rule);
-    }
-    for rule in faulty {
-        held.add(tasks, files, *rule)?;
+) -> Result<Vec<(RuleId, RuleId)>, Memory>
+    ensures real { IfOk result (λ held.
+        AreHeld (map kept_of tasks.now) (lists_of files.now.waiters.items) faulty.now held.items) }
+    ensures all { IfOk result (λ held.
+        HasAllHeld (map kept_of tasks.now) (lists_of files.now.waiters.items) faulty.now held.items) }
+    ensures once { IfOk result (λ held. HasEachOnce held.items) }
+    ensures first { IfOk result (λ held.
+        HaveFirstFaults (map kept_of tasks.now) (lists_of files.now.waiters.items) faulty.now held.items) }
+{
+    let mut held = Held::new(alloc, tasks.len(), faulty)?;
+    for fault in faulty {
+        held.add_held(tasks, files, *fault)?;
     }
     let Held { pairs, .. } = held;
     Ok(pairs)
 }
 
 impl Held {
-    /// Adds what waits for this rule, and wasn't found before.
-    fn add(&mut self, tasks: &[Task], files: &Files, faulty: RuleId) -> Result<(), Memory> {
-        let mut reached = Vec::new(self.alloc);
-        reached.push(faulty)?;
-        for place in 0..tasks.len() {
-            let Some(rule) = reached.get(place).copied() else {
-                break;
-            };
-            if place > 0 {
-                self.pairs.push((rule, faulty))?;
-            }
-            if let Some(task) = tasks.get(rule.0 as usize) {
-                add_waiting(task, files, &mut self.seen, &mut reached)?;
-            }
+    /// Of this many rules those at fault were seen, and none was found.
+    fn new(alloc: Global, rules: usize, faulty: &[RuleId]) -> Result<Held, Memory>
+        ensures { IfOk result (IsBlankHeld rules faulty.now) }
+    {
+        let mut seen = Vec::from_elem(alloc, false, rules)?;
+        for fault in faulty {
+            mark(&mut seen, *fault);
         }
+        Ok(Held {
+            pairs: Vec::new(alloc),
+            seen,
+        })
+    }
+
+    /// Adds what a rule at fault holds, and wasn't found before. What was found is walked over in its order, and there are
+    /// never as many rules as there are numbers.
+    fn add_held(&mut self, tasks: &[Task], files: &Files, fault: RuleId) -> Result<(), Memory>
+        ensures { OnOk result (WalksTo (map kept_of tasks.now) (lists_of files.now.waiters.items) fault
+            self.old self.new (length self.new.pairs.items)) }
+    {
+        let start = self.pairs.len();
+        self.add_waiting(tasks, files, fault, fault)?;
+        for place in start..usize::MAX {
+            let Some(rule) = self.rule_at(place) else {
+                return Ok(());
+            };
+            self.add_waiting(tasks, files, rule, fault)?;
+        }
+        Err(Memory)
+    }
+
+    /// The rule that was found at this place.
+    fn rule_at(&self, place: usize) -> Option<RuleId>
+        ensures { result ≡ option_map (λ pair. pair.0) (slice_get self.now.pairs.items place) }
+    {
+        match self.pairs.get(place) {
+            Some((rule, _)) => Some(*rule),
+            None => None,
+        }
+    }
+
+    /// Adds the rules that wait for a target of this one, and weren't seen, for one at fault.
+    fn add_waiting(
+        &mut self,
+        tasks: &[Task],
+        files: &Files,
+        rule: RuleId,
+        fault: RuleId,
+    ) -> Result<(), Memory>
+        ensures finds { OnOk result (FindsIn
+            (λ r. WaitsOn (map kept_of tasks.now) (lists_of files.now.waiters.items) r rule.0) fault self.old self.new) }
+        ensures all { OnOk result (IsFollowed (map kept_of tasks.now) (lists_of files.now.waiters.items)
+            self.new.seen.items rule.0) }
+    {
+        let targets = targets_of(tasks, rule);
+        for target in targets {
+            self.add_unseen(files.waiters(*target), fault)?;
+        }
+        Ok(())
+    }
+
+    /// Adds those of these rules that weren't seen.
+    fn add_unseen(&mut self, rules: &[RuleId], fault: RuleId) -> Result<(), Memory>
+        ensures finds { OnOk result (FindsIn (λ r. queues rules.now r ≡ true) fault self.old self.new) }
+        ensures all { OnOk result ((r : ℕ) → queues rules.now r ≡ true → is_seen self.new.seen.items r ≡ true) }
+    {
+        for rule in rules {
+            self.add(*rule, fault)?;
+        }
+        Ok(())
+    }
+
+    /// Adds a rule, unless it was seen.
+    fn add(&mut self, rule: RuleId, fault: RuleId) -> Result<(), Memory>
+        ensures finds { OnOk result (FindsIn (λ r. r ≡ rule.0) fault self.old self.new) }
+        ensures seen { OnOk result (is_seen self.new.seen.items rule.0 ≡ true) }
+    {
+        if !mark(&mut self.seen, rule) {
+            return Ok(());
+        }
+        self.pairs.push((rule, fault))?;
         Ok(())
     }
 }
 
-/// Adds the rules that wait for a target of this one, and weren't seen.
-fn add_waiting(
-    task: &Task,
-    files: &Files,
-    seen: &mut Vec<bool>,
-    reached: &mut Vec<RuleId>,
-) -> Result<(), Memory> {
-    for target in &task.targets {
-        add_unseen(files.waiters(*target), seen, reached)?;
+/// The targets of a rule.
+fn targets_of(tasks: &[Task], rule: RuleId) -> &[NodeId]
+    ensures { result.now ≡ targets_at (map kept_of tasks.now) rule.0 }
+{
+    match tasks.get(rule.0 as usize) {
+        Some(task) => task.targets.as_slice(),
+        None => &[],
     }
-    Ok(())
-}
-
-fn add_unseen(
-    waiters: &[RuleId],
-    seen: &mut Vec<bool>,
-    reached: &mut Vec<RuleId>,
-) -> Result<(), Memory> {
-    for rule in waiters {
-        if mark(seen, *rule) {
-            reached.push(*rule)?;
-        }
-    }
-    Ok(())
 }

@@ -8,6 +8,7 @@ ghost use Rattle.task_plan.specs.States.{is_running, state_of};
 ghost use Rattle.task_plan.specs.Settled.{deps_of};
 ghost use Rattle.task_plan.specs.Plans.{AreMet, Meets, IsDecidedNext, IsScannedNext, IsReadyToScan, IsIdle, Goes, GoesOn, is_scan, is_halt};
 ghost use Rattle.task_plan.specs.Cycles.{HasNoCycle, IsCycle};
+ghost use Rattle.task_plan.specs.Held.{AreHeld, HasAllHeld, HasEachOnce, HaveFirstFaults, WaitOnNeeds, HoldWhatNeeds};
 ghost use Rattle.task_plan.specs.Watched.{IsComplete, AreTargets, IsNoneReady, IsStill, AreGoingOn, IsFinished};
 ghost use Rattle.task_plan.specs.Met.{are_met, AllMet, AllReached, AreFrom, AreNodes, Finds, FindsBy};
 ghost use Rattle.task_plan.specs.Orders.{IsOrder};
@@ -278,10 +279,27 @@ impl Plan {
         }
     }
 
-    /// For each rule that needs, directly or through others, one of these rules at fault, and is none of them: itself and
-    /// that rule.
-    pub fn held_by(&self, faulty: &[RuleId]) -> Result<Listing<(RuleId, RuleId)>, Memory> {
+    /// For each rule that waits, directly or through others, for one of these rules at fault, and is none of them: itself
+    /// and the first of these, in their order, for which it does.
+    pub fn held_by(&self, faulty: &[RuleId]) -> Result<Listing<(RuleId, RuleId)>, Memory>
+        ensures real { IfOk result (AreHeld self.now.rules self.now.notes.waiters faulty.now) }
+        ensures all { IfOk result (HasAllHeld self.now.rules self.now.notes.waiters faulty.now) }
+        ensures once { IfOk result HasEachOnce }
+        ensures first { IfOk result (HaveFirstFaults self.now.rules self.now.notes.waiters faulty.now) }
+    {
         let held = held_by(self.alloc, &self.tasks, &self.files, faulty)?;
         Ok(Listing::new(held))
+    }
+
+    /// A rule that waits, and needs one that isn't settled, waits on it. So where that one is at fault it holds the rule, and
+    /// whatever else needs it through rules that wait.
+    pub fn holds(&self, _graph: &Graph)
+        ensures waits { IsComplete self.now → AreFrom _graph.now self.now → Fits _graph.now self.now
+            → WaitOnNeeds self.now }
+        ensures held { IsComplete self.now → AreFrom _graph.now self.now → Fits _graph.now self.now
+            → HoldWhatNeeds self.now }
+    {
+        // What the plan keeps is known of its fields alone.
+        let _halted = self.halted;
     }
 }
