@@ -84,12 +84,16 @@ first_past : (s t : RuleState) → s ≡ Unneeded → (t ≡ s) ⊎ ((s ≡ Unne
 first_past s t u (inl e) h = true_false (is_past t) h (ap is_past (e ∙ u))
 first_past s t u (inr w) h = true_false (is_past t) h (ap is_past w.1)
 
+-- roots that make met files are needed
+pub roots_needed : (graph : RuleGraph) (b : Planned) → AreFrom graph b → AreRoots b → (rule : ℕ) → is_among rule b.notes.roots ≡ true → state_of b.states rule ≢ Unneeded
+roots_needed graph b from roots rule h = let k = roots.each (record { 0 = rule }) h in made_needed graph b.states k.0 (origin_of b.origins k.0) (record { 0 = rule }) k.1 (from.each k.0)
+
 -- a plan keeps to the order at first
 pub keeps_first : (graph : RuleGraph) (a b : Planned) → ((r : ℕ) → state_of a.states r ≡ Unneeded) → AreMet a.states b.states → AreFrom graph b → BeginsOrder b → KeepsOrder b
 keeps_first graph a b none m from o = record {
   ordered = λ ok. let i = o.ordered ok in record { met = left b.states i.met; visits = order_left b b.queue.order (settled_needs b done) i };
   done = done;
-  roots = λ rule h. let k = o.roots.each (record { 0 = rule }) h in made_needed graph b.states k.0 (origin_of b.origins k.0) (record { 0 = rule }) k.1 (from.each k.0);
+  roots = roots_needed graph b from o.roots;
 }
   where
     done : (rule : ℕ) (kept : Kept) → is_past (state_of b.states rule) ≡ true → slice_get b.rules rule ≡ Some kept → AreNeedsDone b kept

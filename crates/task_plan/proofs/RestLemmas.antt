@@ -76,7 +76,7 @@ unfolding IsDistinct
 distinct_more x xs h d = (apart_each x xs h, d)
 
 -- the place of a rule in a chain
-place_in : (chain : List RuleId) (rule : RuleId) → queues chain rule.0 ≡ true → (i : ℕ) × (slice_get chain i ≡ Some rule)
+pub place_in : (chain : List RuleId) (rule : RuleId) → queues chain rule.0 ≡ true → (i : ℕ) × (slice_get chain i ≡ Some rule)
 place_in [] rule h = absurd (cc)
 place_in (x ∷ chain) rule h = by (nat_eq x.0 rule.0) refl h (place_in chain rule)
   where

@@ -11,6 +11,7 @@ ghost use Rattle.task_plan.specs.Tracked.{IsUnreadyAt, AreUnreadyTo};
 ghost use Rattle.task_plan.specs.Ordered.{LeavesOrder, MeetsRoots};
 ghost use Rattle.task_plan.specs.Watching.{WidensWatch, BringsWatch, Hears, LeavesRules, PutsTask, Passes, Readies, AdmitsWatch, EndsWatch};
 ghost use Rattle.task_plan.specs.Met.{Finds, HasRoom, needs_at};
+ghost use Rattle.task_plan.specs.Rooted.{makers_in, NeedsNoOthers};
 ghost use Rattle.task_plan.specs.Admits.{Widens, Admits, Brings, IsBegun, are_rules, queues, none};
 
 use crate::files::{Files, Origin};
@@ -142,7 +143,9 @@ impl Plan {
         ensures admits { OnOk result (Admits graph.now self.old self.new none []) }
         ensures finds { OnOk result (Finds graph.now self.old self.new requested.now) }
         ensures watch { OnOk result (EndsWatch self.old self.new [] []) }
-        ensures roots { OnOk result (MeetsRoots self.old self.new) }
+        ensures order { OnOk result (MeetsRoots self.old self.new) }
+        ensures others { OnOk result (NeedsNoOthers graph.now self.old self.new requested.now) }
+        ensures roots { OnOk result (self.new.notes.roots ≡ self.old.notes.roots ++ makers_in graph.now requested.now) }
     {
         let mut needed = Vec::new(self.alloc);
         self.meet_requested(graph, requested, &mut needed)?;

@@ -26,8 +26,14 @@ pub returns-clause-watch : goal.returns-clause-watch
 returns-clause-watch c =
     brings_ends c.args.self.now c.meet_requested.new.self c.admit.new.self c.meet_requested.new.needed.items (rw c.new-needed.ensures.items at c.in_ok-meet_requested.ensures.watch) c.in_ok-admit.ensures.watch
 
-pub returns-clause-roots : goal.returns-clause-roots
-returns-clause-roots c =
+pub returns-clause-order : goal.returns-clause-order
+returns-clause-order c =
     let b = c.meet_requested.new.self in
     let d = c.admit.new.self in
     roots_trans c.args.self.now b d c.in_ok-meet_requested.ensures.roots (roots_left b d c.in_ok-admit.ensures.order)
+
+pub returns-clause-others : goal.returns-clause-others
+returns-clause-others c = ?
+
+pub returns-clause-roots : goal.returns-clause-roots
+returns-clause-roots c = ?

@@ -24,3 +24,6 @@ returns-in-Some-clause-grows c = rw c.in-Some.is c.take_growth.ensures.grows
 
 pub returns-in-None-clause-grows : goal.returns-in-None-clause-grows
 returns-in-None-clause-grows c = rw c.in-None.is tt
+
+pub returns-in-Some-clause-others : goal.returns-in-Some-clause-others
+returns-in-Some-clause-others c = ?
