@@ -112,7 +112,7 @@ module _ (g : RuleGraph) where
       met rule made =
           and_left (is_met b.origins node) true (k.met (and_both (nat_lt node.0 (length g.nodes)) true (lt_true node.0 (length g.nodes) (below rule made)) refl))
 
-  roots_nothing : (a : Planned) → a.notes.roots ≡ [] → AreRoots g a
+  pub roots_nothing : (a : Planned) → a.notes.roots ≡ [] → AreRoots g a
   roots_nothing a e = record { each = λ rule h. none_among rule (ap (is_among rule) (sym e) ∙ h) }
 
   -- there is room, then the roots are met, and then the order is seen to
@@ -135,12 +135,16 @@ first_past : (s t : RuleState) → s ≡ Unneeded → (t ≡ s) ⊎ ((s ≡ Unne
 first_past s t u (inl e) h = true_false (is_past t) h (ap is_past (e ∙ u))
 first_past s t u (inr w) h = true_false (is_past t) h (ap is_past w.1)
 
+-- roots that make met files are needed
+pub roots_needed : (graph : RuleGraph) (b : Planned) → AreFrom graph b → AreRoots graph b → (rule : ℕ) → is_among rule b.notes.roots ≡ true → state_of b.states rule ≢ Unneeded
+roots_needed graph b from roots rule h = let k = roots.each rule h in maker_needed graph b k.node rule (origin_of b.origins k.node.0) (from.each k.node.0) k.met k.made
+
 -- a plan keeps to the order at first
 pub keeps_first : (graph : RuleGraph) (a b : Planned) → ((r : ℕ) → state_of a.states r ≡ Unneeded) → AreMet a.states b.states → AreFrom graph b → BeginsOrder graph b → KeepsOrder b
 keeps_first graph a b none m from o = record {
   ordered = λ ok. let i = o.ordered ok in record { met = left b.states i.met; visits = order_left b b.queue.order (settled_needs b done) i };
   done = done;
-  roots = λ rule h. let k = o.roots.each rule h in maker_needed graph b k.node rule (origin_of b.origins k.node.0) (from.each k.node.0) k.met k.made;
+  roots = roots_needed graph b from o.roots;
 }
   where
     done : (rule : ℕ) (kept : Kept) → is_past (state_of b.states rule) ≡ true → slice_get b.rules rule ≡ Some kept → AreNeedsDone b kept

@@ -29,7 +29,6 @@ pub mod WatchScans
 pub mod WatchSteps
 pub mod RestLemmas
 pub mod RootLemmas
-pub mod GrowLemmas
 pub mod LookLemmas
 pub mod OrderLemmas
 pub mod ReachedLemmas
@@ -41,6 +40,7 @@ pub mod LeaveLemmas
 pub mod ScanLemmas
 pub mod OrderGrows
 pub mod OrderSteps
+pub mod RootSteps
 pub mod BeginLemmas
 pub mod ExtendLemmas
 pub mod BehindLemmas

@@ -2,19 +2,17 @@
 use Rattle.std.proofs.Common.{arith, ◌≡◌, ◌≢◌, ◌<◌, ◌≤◌, ◌∙◌, ◌⊎◌, inl, inr, ℕ, ◌+◌, List, [], Bool, true, false, ap, sym, refl, length, get_or, Option, Some, None, nat_eq}
 use Rattle.std.specs.Prelude.{slice_get, ltb, is_some}
 use Rattle.std.specs.List.{position}
-use Rattle.std.proofs.lemmas.Bool.{ltb-true, ltb-false}
+use Rattle.std.proofs.lemmas.Bool.{ltb-true}
 use Rattle.std.proofs.lemmas.Option.{same_Some}
-use Rattle.std.proofs.lemmas.List.{get_or_past}
 use Rattle.std.proofs.lemmas.List.Quantifiers.{position-Some}
 use Rattle.scons_base.specs.declared.ids.RuleId.{RuleId}
 use Rattle.task_plan.specs.States.{state_of}
 use Rattle.task_plan.specs.Queues.{is_placed, number_of, AreNumbers}
 use Rattle.task_plan.specs.Plans.{Planned}
 use Rattle.task_plan.specs.Admits.{none}
-use Rattle.task_plan.specs.Watched.{every, AreWatched, IsOffered, AreQueued, IsInOrder, AreAllPlaced, ArePlacedTo, HasNotes, IsComplete}
+use Rattle.task_plan.specs.Watched.{every, AreWatched, IsOffered, AreQueued, IsInOrder, HasNotes, IsComplete}
 use Rattle.task_plan.specs.Watching.{Offers, Orders}
-use Rattle.task_plan.specs.declared.states.RuleState.{RuleState}
-use Rattle.task_plan.specs.declared.states.RuleState.TheVariants.{Unneeded, Waiting}
+use Rattle.task_plan.specs.declared.states.RuleState.TheVariants.{Waiting}
 use Rattle.task_plan.proofs.MarkLemmas.{apart}
 use Rattle.task_plan.proofs.PlanLemmas.{true_false}
 use Rattle.task_plan.proofs.ListLemmas.{none_past}
@@ -91,19 +89,8 @@ some_marked m e f = by (position (λ mark. mark) m) refl e
 pub orders_same : (a : Planned) → IsInOrder a → Orders a a
 orders_same a i = record { watched = λ s w. w; queued = λ s q. q; ordered = i; room = λ h. h }
 
-waiting_within : (states : List RuleState) (r : ℕ) → state_of states r ≡ Waiting → r < length states
-waiting_within states r w = by (ltb r (length states)) refl
-  where
-    by : (x : Bool) → ltb r (length states) ≡ x → r < length states
-    by true e = ltb-true r (length states) e
-    by false e = let unneeded : Unneeded ≡ Waiting = sym (get_or_past states r Unneeded (ltb-false r (length states) e)) ∙ w in absurd (cc)
-
--- there are no rules behind these
-pub all_placed : (plan : Planned) (count : ℕ) → length plan.states ≤ count → ArePlacedTo plan count → AreAllPlaced plan
-all_placed plan count room to = record { each = λ r w. to.each r (let lt = waiting_within plan.states r w in omega arith) w }
-
 -- the order was made anew, and each rule was opened that can be decided
-pub ordered_anew : (a b d : Planned) → b ≡ record a { queue = b.queue } → d ≡ record b { queue = d.queue } → AreAllPlaced b → ((r : ℕ) → is_placed d.queue r ≡ is_placed b.queue r)
+pub ordered_anew : (a b d : Planned) → b ≡ record a { queue = b.queue } → d ≡ record b { queue = d.queue } → ((r : ℕ) → state_of a.states r ≡ Waiting → is_placed b.queue r ≡ true) → ((r : ℕ) → is_placed d.queue r ≡ is_placed b.queue r)
     → ((r : ℕ) → is_placed b.queue r ≡ true → IsOffered d r) → Orders a (record d { notes = record d.notes { is_ordered = true } })
 ordered_anew a b d e f placed same offers = record {
   watched = λ s w. record {
@@ -130,7 +117,7 @@ ordered_anew a b d e f placed same offers = record {
     both = f ∙ ap (λ (x : Planned). record x { queue = d.queue }) e
 
     stands : (r : ℕ) → state_of d.states r ≡ Waiting → is_placed d.queue r ≡ true
-    stands r w = same r ∙ placed.each r (sym (ap (λ y. state_of y.states r) f) ∙ w)
+    stands r w = same r ∙ placed r (sym (ap (λ y. state_of y.states r) both) ∙ w)
 
 -- the order is seen to, and then a rule is opened
 pub looked_on : (a b c : Planned) (rule : ℕ) → Orders a b → Offers b c rule → HasNotes a → AreWatched a every none → AreQueued a (nat_eq rule) → IsComplete c

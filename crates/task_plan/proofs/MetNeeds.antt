@@ -273,12 +273,12 @@ module _ (g : RuleGraph) where
   all_met_scan a b rule inc None w s d below f fa fb m = all_met_same a b d.keeps.met (λ r ne u. ne (ap (λ x. state_of x r) s.states ∙ u)) s.rules m
   all_met_scan a b rule inc (Some file) w s d below f fa fb m = all_met_scanned a b rule file inc s d w below f m fa fb
 
-  needed_back_decided : (a : Planned) (new : List RuleState) (rule r : ℕ) (v : RuleState) (o : Bool) → AreWaiting a.states a.queue → is_open a.queue rule ≡ o → new ≡ (if o then set a.states rule v else a.states)
+  pub needed_back_decided : (a : Planned) (new : List RuleState) (rule r : ℕ) (v : RuleState) (o : Bool) → AreWaiting a.states a.queue → is_open a.queue rule ≡ o → new ≡ (if o then set a.states rule v else a.states)
       → state_of new r ≢ Unneeded → state_of a.states r ≢ Unneeded
   needed_back_decided a new rule r v true w o e ne = needed_set g a.states rule r v (waits_needed g a rule (w.waits rule o)) (apart r rule) (λ u. ne (ap (λ x. state_of x r) e ∙ u))
   needed_back_decided a new rule r v false w o e ne = λ u. ne (ap (λ x. state_of x r) e ∙ u)
 
-  needed_back_ended : (a : Planned) (new : List RuleState) (rule r : ℕ) (v : RuleState) (o : Bool) → is_running (state_of a.states rule) ≡ o → new ≡ (if o then set a.states rule v else a.states)
+  pub needed_back_ended : (a : Planned) (new : List RuleState) (rule r : ℕ) (v : RuleState) (o : Bool) → is_running (state_of a.states rule) ≡ o → new ≡ (if o then set a.states rule v else a.states)
       → state_of new r ≢ Unneeded → state_of a.states r ≢ Unneeded
   needed_back_ended a new rule r v true o e ne = needed_set g a.states rule r v (running_needed g (state_of a.states rule) o) (apart r rule) (λ u. ne (ap (λ x. state_of x r) e ∙ u))
   needed_back_ended a new rule r v false o e ne = λ u. ne (ap (λ x. state_of x r) e ∙ u)
@@ -308,7 +308,7 @@ module _ (g : RuleGraph) where
   unneeded_stage : (x : RuleState) → x ≡ Unneeded → stage x ≡ 0
   unneeded_stage x e = rw e refl
 
-  still_on : (a b : Planned) → GoesOn a.states b.states → AreNeededStill a b
+  pub still_on : (a b : Planned) → GoesOn a.states b.states → AreNeededStill a b
   still_on a b k = record {
     still = λ r n u.
         let on = k.on r in

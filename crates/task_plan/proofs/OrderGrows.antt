@@ -257,7 +257,7 @@ flat_has_by f false x by n xs e i h k = list_any-append (λ m. nat_eq n.0 m.0) (
     second true y e = refl
     second false y e = e
 
-flat_has : (f : NodeId → List NodeId) (xs : List NodeId) (by n : NodeId) → stands xs by ≡ true → stands (f by) n ≡ true → stands (flat_map f xs) n ≡ true
+pub flat_has : (f : NodeId → List NodeId) (xs : List NodeId) (by n : NodeId) → stands xs by ≡ true → stands (f by) n ≡ true → stands (flat_map f xs) n ≡ true
 flat_has f [] by n h k = absurd (cc)
 flat_has f (x ∷ xs) by n h k = flat_has_by f (nat_eq by.0 x.0) x by n xs refl (λ s. flat_has f xs by n s k) h k
 

@@ -1,7 +1,7 @@
 -- The queue keeps to the build order through each event.
-use Rattle.std.proofs.Common.{◌≡◌, ◌≢◌, ◌∙◌, ◌⊎◌, inl, inr, ℕ, List, [], ◌++◌, Bool, true, false, ap, sym, refl, subst, append-nil, get_or, Option, Some, None}
+use Rattle.std.proofs.Common.{◌≡◌, ◌≢◌, ◌∙◌, ◌⊎◌, inl, inr, ⊎_elim, ℕ, List, [], ◌++◌, Bool, true, false, ap, sym, refl, subst, append-nil, get_or, Option, Some, None}
 use Rattle.std.specs.Prelude.{slice_get, map, if◌then◌else◌, MatchOption, IfSome, IfNone}
-use Rattle.std.specs.List.{list_all}
+use Rattle.std.specs.List.{list_all, flat_map}
 use Rattle.std.specs.Option.{option_and_then}
 use Rattle.std.proofs.lemmas.Option.{same_Some, none-some, slice_get_within}
 use Rattle.std.specs.declared.alloc.Global.{Global}
@@ -19,6 +19,7 @@ use Rattle.task_plan.specs.Plans.{Planned, Stays, CanDecide, Goes, is_scan, want
 use Rattle.task_plan.specs.Met.{is_met, are_met, AreFrom, AllMet, FindsBy}
 use Rattle.task_plan.specs.Admits.{Fits, AllFollow, Follows, Admits, StaysAt, ComesAt, IsUnchanged, NotesFile, NotesNone, ScansFile, Scans, Knows, none}
 use Rattle.task_plan.specs.Orders.{needed_of, IsOrder}
+use Rattle.task_plan.specs.Rooted.{news_in}
 use Rattle.task_plan.specs.Ordered.{left, GrowsInOrder, KeepsDeps, KeepsOrder, LeavesQueue, PutsInOrder, ScansOrder, TakesBy, TakesFiles, TakesOrder}
 use Rattle.task_plan.specs.declared.states.RuleState.{RuleState}
 use Rattle.task_plan.specs.declared.states.RuleState.TheVariants.{Unneeded, Waiting}
@@ -28,14 +29,18 @@ use Rattle.task_plan.specs.declared.want.PlanEvent.{PlanEvent}
 use Rattle.task_plan.specs.declared.want.PlanEvent.TheVariants.{Scanned, Fresh, Started, DoneOk, DoneFailed, Absent, Halt}
 use Rattle.std.proofs.lemmas.List.Folds.{list_all-append}
 use Rattle.task_plan.proofs.ListLemmas.{and_both}
+use Rattle.task_plan.proofs.PlanLemmas.{true_false}
+use Rattle.task_plan.proofs.WalkLemmas.{included_this}
+use Rattle.task_plan.proofs.NextLemmas.{place_of_stands}
+use Rattle.task_plan.proofs.RootLemmas.{news_put}
 use Rattle.task_plan.proofs.ReachedLemmas.{none_among}
 use Rattle.task_plan.proofs.NamedLemmas.{put_all_longer, stands_longer}
-use Rattle.task_plan.proofs.MetNeeds.{all_put_all, all_stands, all_each, stands_at, put_all_has}
+use Rattle.task_plan.proofs.MetNeeds.{all_put_all, all_stands, all_each, stands_at, put_all_in, put_all_has}
 use Rattle.task_plan.proofs.WantLemmas.{planned, kept_scanned, next_at}
 use Rattle.task_plan.proofs.StandLemmas.{kept_is}
 use Rattle.task_plan.proofs.KeepingLemmas.{event_keeps}
 use Rattle.task_plan.proofs.ScanLemmas.{HasTasks, scans_others, scan_keeps, takes_then}
-use Rattle.task_plan.proofs.OrderGrows.{needs_kept, reached_still, found_more}
+use Rattle.task_plan.proofs.OrderGrows.{needs_kept, flat_has, reached_still, found_more}
 use Rattle.task_plan.proofs.LeaveLemmas.{leaves_same}
 
 pub scans_same : (a : Planned) (rule : ℕ) → ScansOrder a a rule
@@ -88,10 +93,11 @@ noted_order in_order news graph a b c d rule inc (Some g) states origins notes s
     let on = kept_on graph b c rule admits (λ u. needed (sym (ap (λ x. state_of x rule) states) ∙ u)) in
     takes_then a c d rule (needs_kept a b c rule (in_order g) (news g) states origins files grows on notes.waits (deps_back a c d rule s.rules k)) s.states s.rules s.origins p
 
--- the file that is wanted wasn't scanned, and its rule waits
+-- the file that is wanted stands among the files of its rule and wasn't scanned, and the rule waits
 pub record IsUnscanned (p : Planned) (rule : ℕ) : Type 0 where
   pub waits : (file : NodeId) → wanted p rule ≡ Some file → state_of p.states rule ≡ Waiting
   pub not : (file : NodeId) (kept : Kept) → wanted p rule ≡ Some file → slice_get p.rules rule ≡ Some kept → is_scanned kept.found file ≡ false
+  pub among : (file : NodeId) (kept : Kept) → wanted p rule ≡ Some file → slice_get p.rules rule ≡ Some kept → stands kept.files file ≡ true
 
 marked_by : (b : Bool) (o : Option (Option NodeId)) (file : NodeId) → (if b then option_and_then (λ f. f) o else None) ≡ Some file → b ≡ true
 marked_by true o file e = refl
@@ -110,6 +116,10 @@ is_unscanned a q h ts o m ws b rs r t = record {
       let same : k.file ≡ file = same_Some k.file file (sym k.next ∙ next) in
       let is = kept_is ts r k.task kept k.at at in
       ap (λ (x : Kept). is_scanned x.found file) is ∙ kept_scanned k.task file ∙ ap (is_scanned k.task.reach.found.entries) (sym same) ∙ k.can.unscanned;
+  among = λ file kept e at.
+      let k = t.marked r (marked_by (get_or m r false) (slice_get (map next_of ts) r) file e) in
+      let next : slice_get k.task.reach.files.keys k.task.reach.next ≡ Some file = wanted_next (get_or m r false) (slice_get (map next_of ts) r) (next_of k.task) file (next_at ts r k.task k.at) e in
+      ap (λ (x : Kept). stands x.files file) (kept_is ts r k.task kept k.at at) ∙ stands_at k.task.reach.files.keys k.task.reach.next file next;
 }
 
 module _ (graph : RuleGraph) (a b : Planned) (rule : ℕ) (inc : List NodeId) (un : IsUnscanned a rule) (fits : Fits graph a) (met : AllMet a) (fa : AllFollow a) (fb : AllFollow b) where
@@ -156,6 +166,16 @@ module _ (graph : RuleGraph) (a b : Planned) (rule : ℕ) (inc : List NodeId) (u
         (all_each (λ n. stands after.deps n) before.named (λ i n at. named_there n (ap (λ x. stands x n) s.this.named ∙ stands_at before.named i n at)))
         (all_each (λ n. stands after.deps n) before.files (λ i n at. file_there n (reached_still before.sources before.left_out before.found after.found before.files after.files follows.files reach more n i at)))
 
+    -- the new files are dependencies
+    pub news_there : (n : NodeId) → stands (news_in (slice_get a.rules rule) inc) n ≡ true → stands after.deps n ≡ true
+    news_there n h =
+        let k = news_put before.left_out before.files inc n (ap (λ o. stands (news_in o inc) n) (sym s.this.was) ∙ h) in
+        let includes : stands (included after.found file) n ≡ true = ap (λ f. stands (included f file) n) s.this.found ∙ ap (λ xs. stands xs n) (included_this before.found file inc) ∙ k.includes in
+        let place = place_of_stands before.files file (un.among file before w s.this.was) in
+        let still = reached_still before.sources before.left_out before.found after.found before.files after.files follows.files reach more file place.0 place.1 in
+        let put = put_all_in before.left_out before.sources (flat_map (included after.found) after.files) n (flat_has (included after.found) after.files file n still includes) in
+        file_there n (ap (λ xs. stands xs n) reach.whole ∙ ⊎_elim (λ o. absurd (true_false (stands before.left_out n) o k.not_out)) (λ i. i) put)
+
     deps_stay : (x y : Kept) → slice_get a.rules rule ≡ Some x → slice_get b.rules rule ≡ Some y → (n : NodeId) → stands x.deps n ≡ true → stands y.deps n ≡ true
     deps_stay x y was is n h =
         let one : before ≡ x = same_Some before x (sym s.this.was ∙ was) in
@@ -170,7 +190,7 @@ module _ (graph : RuleGraph) (a b : Planned) (rule : ℕ) (inc : List NodeId) (u
   keeps_deps_by (Some file) w s = record { met = needs_met; stays = deps_stay file w s }
 
   -- a scanned rule depends on all that it depended on
-  keeps_deps : Scans graph a rule inc b → KeepsDeps a b rule
+  pub keeps_deps : Scans graph a rule inc b → KeepsDeps a b rule
   keeps_deps s = keeps_deps_by (wanted a rule) refl s
 
 has_tasks : (graph : RuleGraph) (p : Planned) → Fits graph p → HasTasks p

@@ -16,6 +16,7 @@ use Rattle.task_plan.specs.Plans.{Planned}
 use Rattle.task_plan.specs.Met.{IsFrom, AreFrom, AreNews}
 use Rattle.task_plan.specs.Admits.{queues, none, Fits}
 use Rattle.task_plan.specs.Watched.{every, targets_in, targets_at, AreWatched, AreQueued, HasNotes, IsComplete, AreTargets}
+use Rattle.task_plan.specs.Rooted.{AreReached}
 use Rattle.task_plan.specs.Watching.{WidensWatch, NotesWatch, GrowsWatch, EndsWatch, Orders}
 use Rattle.task_plan.specs.declared.states.RuleState.TheVariants.{Unneeded, Waiting}
 use Rattle.task_plan.specs.declared.files.Origin.TheVariants.{Made}
@@ -28,15 +29,15 @@ queued_fewer a rule q = record { placed = q.placed; opened = λ ok r no. q.opene
 
 -- what was noted was taken in, or nothing was
 pub scanned_complete : {X : Type 0} (P : X → Type 0) (g : RuleGraph) (news : X → List NodeId) (a b c d : Planned) (rule : ℕ) (inc : List NodeId) (o : Option X) → IfNone o (b ≡ a) → IfSome o (λ x. NotesWatch a b rule (news x))
-    → IfSome o (λ x. AreNews a rule inc (news x)) → MatchOption o (c ≡ b) P → IfSome o (λ x. GrowsWatch g b c rule (news x)) → (HasNotes c → AreWatched c every none → AreQueued c (nat_eq rule) → IsComplete d)
-    → are_below (length g.nodes) inc ≡ true → IsComplete a → IsComplete d
-scanned_complete P g news a b c d rule inc None e n w f k look below i =
+    → IfSome o (λ x. AreNews a rule inc (news x)) → MatchOption o (c ≡ b) P → IfSome o (λ x. GrowsWatch g b c rule (news x)) → (AreReached d → HasNotes c → AreWatched c every none → AreQueued c (nat_eq rule) → IsComplete d)
+    → are_below (length g.nodes) inc ≡ true → AreReached d → IsComplete a → IsComplete d
+scanned_complete P g news a b c d rule inc None e n w f k look below reached i =
     let same : c ≡ a = f ∙ e in
-    look (subst HasNotes (sym same) i.room) (subst (λ (x : Planned). AreWatched x every none) (sym same) i.watched) (subst (λ (x : Planned). AreQueued x (nat_eq rule)) (sym same) (queued_fewer a rule i.queued))
-scanned_complete P g news a b c d rule inc (Some x) e n w f k look below i =
+    look reached (subst HasNotes (sym same) i.room) (subst (λ (x : Planned). AreWatched x every none) (sym same) i.watched) (subst (λ (x : Planned). AreQueued x (nat_eq rule)) (sym same) (queued_fewer a rule i.queued))
+scanned_complete P g news a b c d rule inc (Some x) e n w f k look below reached i =
     let room = n.room i.room in
     let new_below = news_below g w.kept.left_out w.kept.files inc (news x) w.is below in
-    look (k.room room) (k.watched new_below room (n.half i.watched) (n.watched i.watched)) (k.queued (n.queued i.queued))
+    look reached (k.room room) (k.watched new_below room (n.half i.watched) (n.watched i.watched)) (k.queued (n.queued i.queued))
 
 -- nothing is overlooked where nothing further is done
 pub complete_halted : (a b : Planned) → b ≡ record a { halted = b.halted } → IsComplete a → IsComplete b

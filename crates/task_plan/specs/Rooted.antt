@@ -1,5 +1,5 @@
 -- Which rules come to be needed: those that are reached, and no others.
-use Rattle.std.specs.Prelude.{◌≡◌, ◌≢◌, ◌++◌, ℕ, true, List, []}
+use Rattle.std.specs.Prelude.{◌≡◌, ◌≢◌, ◌++◌, ℕ, true, List, [], Option, Some, None, drop, length, slice_get}
 use Rattle.std.specs.List.{filter_map}
 use Rattle.std.specs.Option.{option_map}
 use Rattle.scons_base.specs.declared.ids.NodeId.{NodeId}
@@ -7,6 +7,8 @@ use Rattle.scons_base.specs.declared.ids.RuleId.{RuleId}
 use Rattle.rule_graph.specs.Rules.{rule_of}
 use Rattle.rule_graph.specs.Graphs.{RuleGraph}
 use Rattle.task_plan.specs.States.{state_of}
+use Rattle.task_plan.specs.Named.{put_all}
+use Rattle.task_plan.specs.Settled.{Kept}
 use Rattle.task_plan.specs.Orders.{IsReached, needed_of}
 use Rattle.task_plan.specs.Plans.{Planned}
 use Rattle.task_plan.specs.Met.{IsAskedFor}
@@ -19,9 +21,10 @@ use Rattle.task_plan.specs.declared.want.PlanEvent.TheVariants.{Scanned, Fresh, 
 abbrev pub makers_in : RuleGraph → List NodeId → List RuleId
 makers_in graph nodes = filter_map (λ n. option_map (λ r. record { 0 = r }) (rule_of graph.rules n.0)) nodes
 
--- each needed rule is reached from the rules of the requested nodes, by what is known of the rules
+-- the needed rules are those that are reached from the rules of the requested nodes, by what is known of the rules
 pub record AreReached (plan : Planned) : Type 0 where
   pub each : (rule : ℕ) → state_of plan.states rule ≢ Unneeded → IsReached (needed_of plan.rules plan.origins) plan.notes.roots rule
+  pub only : (rule : ℕ) → IsReached (needed_of plan.rules plan.origins) plan.notes.roots rule → state_of plan.states rule ≢ Unneeded
 
 -- the rules that came to be needed are asked for by these nodes, by what the graph says
 pub record NeedsNoOthers (graph : RuleGraph) (old new : Planned) (nodes : List NodeId) : Type 0 where
@@ -42,12 +45,17 @@ pub record AdmitsNoOthers (graph : RuleGraph) (old new : Planned) (rule : ℕ) (
 pub record EndsNoOthers (graph : RuleGraph) (old new : Planned) (rules : List RuleId) : Type 0 where
   pub each : (nodes : List NodeId) → ((rule : ℕ) → queues rules rule ≡ true → IsAskedFor graph nodes rule) → NeedsNoOthers graph old new nodes
 
--- the nodes that an event brings
-abbrev pub nodes_of : PlanEvent → List NodeId
-nodes_of (Scanned rule found) = found
-nodes_of (Fresh rule) = []
-nodes_of (Started rule) = []
-nodes_of (DoneOk rule) = []
-nodes_of (DoneFailed rule) = []
-nodes_of (Absent rule node) = []
-nodes_of Halt = []
+-- the files that come to a rule where a file includes these: less those that stand among its files or are left out
+abbrev pub news_in : Option Kept → List NodeId → List NodeId
+news_in None includes = []
+news_in (Some kept) includes = drop (length kept.files) (put_all kept.left_out kept.files includes)
+
+-- the files that come to a rule by an event: only a scan finds any
+abbrev pub news_of : Planned → PlanEvent → List NodeId
+news_of plan (Scanned rule found) = news_in (slice_get plan.rules rule.0) found
+news_of plan (Fresh rule) = []
+news_of plan (Started rule) = []
+news_of plan (DoneOk rule) = []
+news_of plan (DoneFailed rule) = []
+news_of plan (Absent rule node) = []
+news_of plan Halt = []

@@ -64,18 +64,6 @@ pub record IsOffered (plan : Planned) (rule : ℕ) : Type 0 where
   pub opened : (kept : Kept) (at : Places) → state_of plan.states rule ≡ Waiting → slice_get plan.rules rule ≡ Some kept → slice_get plan.notes.places rule ≡ Some at
       → length (kept.required ++ kept.deps) ≤ at.passed → length kept.files ≤ at.whole → is_open plan.queue rule ≡ true
 
--- a rule stands in the order, if it waits
-abbrev pub IsPlacedAt : Planned → ℕ → Type 0
-IsPlacedAt plan rule = state_of plan.states rule ≡ Waiting → is_placed plan.queue rule ≡ true
-
--- each rule that waits stands in the order
-pub record AreAllPlaced (plan : Planned) : Type 0 where
-  pub each : (rule : ℕ) → IsPlacedAt plan rule
-
--- that is so of the first so many rules
-pub record ArePlacedTo (plan : Planned) (count : ℕ) : Type 0 where
-  pub each : (rule : ℕ) → rule < count → IsPlacedAt plan rule
-
 -- where the order fits, each rule that waits stands in it, and that is so of each but some
 pub record AreQueued (plan : Planned) (apart : ℕ → Bool) : Type 0 where
   pub placed : plan.notes.is_ordered ≡ true → (rule : ℕ) → state_of plan.states rule ≡ Waiting → is_placed plan.queue rule ≡ true

@@ -12,7 +12,7 @@ ghost use Rattle.task_plan.specs.Held.{AreHeld, HasAllHeld, HasEachOnce, HaveFir
 ghost use Rattle.task_plan.specs.Watched.{IsComplete, AreTargets, IsNoneReady, IsStill, AreGoingOn, IsFinished};
 ghost use Rattle.task_plan.specs.Met.{are_met, AllMet, AllReached, AreFrom, AreNodes, Finds, FindsBy};
 ghost use Rattle.task_plan.specs.Orders.{IsOrder};
-ghost use Rattle.task_plan.specs.Rooted.{makers_in};
+ghost use Rattle.task_plan.specs.Rooted.{makers_in, news_of, AreReached, NeedsNoOthers};
 ghost use Rattle.task_plan.specs.Ordered.{BeginsOrder, IsFirstOf, KeepsOrder, LeavesQueue, TakesBy};
 ghost use Rattle.rule_graph.specs.Rules.{are_below};
 ghost use Rattle.task_plan.specs.Admits.{Admits, Fits, AllFollow, IsFirstAt, Knows, none};
@@ -87,6 +87,7 @@ impl Plan {
             → are_met plan.origins requested.now ≡ true) }
         ensures needs { IfOk result AllMet }
         ensures reached { IfOk result (λ plan. AllReached graph.now requested.now plan.states) }
+        ensures only { IfOk result AreReached }
         ensures complete { IfOk result IsComplete }
         ensures roots { IfOk result (λ plan. plan.notes.roots ≡ makers_in graph.now requested.now) }
         ensures order { IfOk result KeepsOrder }
@@ -125,9 +126,11 @@ impl Plan {
         ensures meets { Meets self.old self.new }
         ensures admits { OnOk result (Admits graph.now self.old self.new none []) }
         ensures finds { OnOk result (Finds graph.now self.old self.new requested.now) }
-        ensures complete { OnOk result (self.old.states ≡ [] → self.old.origins ≡ [] → self.old.notes.is_ordered ≡ false
-            → IsComplete self.new) }
         ensures roots { OnOk result (self.new.notes.roots ≡ self.old.notes.roots ++ makers_in graph.now requested.now) }
+        ensures only { OnOk result (self.old.states ≡ [] → self.old.origins ≡ [] → self.old.notes.roots ≡ []
+            → AreReached self.new) }
+        ensures complete { OnOk result (self.old.states ≡ [] → self.old.origins ≡ [] → self.old.notes.roots ≡ []
+            → self.old.notes.is_ordered ≡ false → IsComplete self.new) }
         ensures order { OnOk result (self.old.notes.roots ≡ [] → self.old.notes.is_ordered ≡ false
             → BeginsOrder graph.now self.new) }
     {
@@ -223,8 +226,11 @@ impl Plan {
         ensures origins { OnOk result (AreFrom graph.now self.old → AreFrom graph.now self.new) }
         ensures needs { OnOk result (AreNodes graph.now event → Fits graph.now self.old
             → AllMet self.old → AllMet self.new) }
+        ensures only { OnOk result (AreNodes graph.now event → Fits graph.now self.old → AreFrom graph.now self.old
+            → AllMet self.old → AreReached self.old → AreReached self.new) }
+        ensures roots { OnOk result (self.new.notes.roots ≡ self.old.notes.roots) }
         ensures complete { OnOk result (AreNodes graph.now event → Fits graph.now self.old → AreFrom graph.now self.old
-            → IsComplete self.old → IsComplete self.new) }
+            → AllMet self.old → AreReached self.old → IsComplete self.old → IsComplete self.new) }
         ensures order { OnOk result (AreNodes graph.now event → Fits graph.now self.old → AreFrom graph.now self.old
             → AllMet self.old → KeepsOrder self.old → KeepsOrder self.new) }
     {
@@ -242,7 +248,10 @@ impl Plan {
         ensures memory { is_scan event ≡ false → is_err result ≡ false }
         ensures knows { OnOk result (Knows graph.now self.old event self.new) }
         ensures finds { OnOk result (FindsBy graph.now self.old event self.new) }
-        ensures complete { OnOk result (AreNodes graph.now event → AreTargets self.old
+        ensures others { OnOk result (is_scan event ≡ true
+            → NeedsNoOthers graph.now self.old self.new (news_of self.old event)) }
+        ensures roots { OnOk result (self.new.notes.roots ≡ self.old.notes.roots) }
+        ensures complete { OnOk result (AreNodes graph.now event → AreTargets self.old → AreReached self.new
             → IsComplete self.old → IsComplete self.new) }
         ensures leaves { is_scan event ≡ false → LeavesQueue self.old self.new }
         ensures order { OnOk result (TakesBy self.old event self.new) }

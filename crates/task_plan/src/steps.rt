@@ -5,11 +5,12 @@ ghost use Rattle.rule_graph.specs.Rules.{are_below};
 ghost use Rattle.task_plan.specs.Queues.{is_placed};
 ghost use Rattle.task_plan.specs.Settled.{Kept, is_settled};
 ghost use Rattle.task_plan.specs.Noted.{Places, waiters_of};
-ghost use Rattle.task_plan.specs.Watched.{every, targets_at, IsHeard, AreWatched, IsOffered, AreQueued, AreAllPlaced, IsPlacedAt, HasNotes, IsComplete, AreTargets};
+ghost use Rattle.task_plan.specs.Watched.{every, targets_at, IsHeard, AreWatched, IsOffered, AreQueued, HasNotes, IsComplete, AreTargets};
 ghost use Rattle.task_plan.specs.Watching.{KeepsWatch, BringsWatch, Hears, LeavesRules, Offers, Decides, Tells, StartsBefore, Releases, NotesWatch, GrowsWatch, Orders};
 ghost use Rattle.task_plan.specs.Ordered.{AreNeedsDone, AreReady, ComesBefore, GrowsInOrder, IsInPlace, KeepsDeps, LeavesOrder, LeavesQueue, PutsInOrder, TakesFiles, TakesOrder};
 ghost use Rattle.task_plan.specs.Plans.{AreMet, Meets, Stays, GoesNow, decided as decided_of, ended};
 ghost use Rattle.task_plan.specs.Met.{is_met, AreNews, Finds, FindsFile, HasRoom};
+ghost use Rattle.task_plan.specs.Rooted.{news_in, AreReached, NeedsNoOthers};
 ghost use Rattle.task_plan.specs.Admits.{Admits, Brings, NotesFile, NotesNone, Scans, none, queues};
 ghost use Rattle.task_plan.specs.Rooted.{NeedsNoOthers, BringsNoOthers};
 
@@ -18,7 +19,6 @@ use crate::plan::Plan;
 use crate::queue::Queue;
 use crate::reach::Growth;
 use crate::states::RuleState;
-use crate::walk::rule_of_number;
 use rule_graph::Graph;
 use scons_base::{Memory, NodeId, RuleId};
 
@@ -34,7 +34,10 @@ impl Plan {
         ensures halted { self.new.halted ≡ (self.old.halted || is_err result) }
         ensures scans { OnOk result (Scans graph.now self.old rule.0 found.items self.new) }
         ensures finds { OnOk result (FindsFile graph.now self.old self.new rule.0 found.items) }
-        ensures complete { OnOk result (are_below (length graph.now.nodes) found.items ≡ true
+        ensures others { OnOk result (NeedsNoOthers graph.now self.old self.new
+            (news_in (slice_get self.old.rules rule.0) found.items)) }
+        ensures roots { OnOk result (self.new.notes.roots ≡ self.old.notes.roots) }
+        ensures complete { OnOk result (are_below (length graph.now.nodes) found.items ≡ true → AreReached self.new
             → IsComplete self.old → IsComplete self.new) }
         ensures order { OnOk result (KeepsDeps self.old self.new rule.0 → TakesOrder self.old self.new rule.0) }
     {
@@ -121,7 +124,10 @@ impl Plan {
         ensures meets { Meets self.old self.new }
         ensures scans { OnOk result (Scans graph.now self.old rule.0 found.items self.new) }
         ensures finds { OnOk result (FindsFile graph.now self.old self.new rule.0 found.items) }
-        ensures complete { OnOk result (are_below (length graph.now.nodes) found.items ≡ true
+        ensures others { OnOk result (NeedsNoOthers graph.now self.old self.new
+            (news_in (slice_get self.old.rules rule.0) found.items)) }
+        ensures roots { OnOk result (self.new.notes.roots ≡ self.old.notes.roots) }
+        ensures complete { OnOk result (are_below (length graph.now.nodes) found.items ≡ true → AreReached self.new
             → IsComplete self.old → IsComplete self.new) }
         ensures order { OnOk result (KeepsDeps self.old self.new rule.0 → TakesOrder self.old self.new rule.0) }
     {
@@ -158,7 +164,7 @@ impl Plan {
     /// Sees to the order, and whether a rule can be decided.
     fn look_on(&mut self, rule: RuleId) -> Result<(), Memory>
         ensures stays { Stays self.old self.new }
-        ensures complete { OnOk result (HasNotes self.old → AreWatched self.old every none
+        ensures complete { OnOk result (AreReached self.new → HasNotes self.old → AreWatched self.old every none
             → AreQueued self.old (nat_eq rule.0) → IsComplete self.new) }
         ensures puts { OnOk result (PutsInOrder self.old self.new) }
     {
@@ -458,41 +464,16 @@ impl Plan {
     /// Orders the needed rules anew where the order doesn't fit and every file that can be scanned was.
     pub(crate) fn put_in_order(&mut self) -> Result<(), Memory>
         ensures stays { Stays self.old self.new }
-        ensures orders { OnOk result (Orders self.old self.new) }
+        ensures orders { OnOk result (AreReached self.old → Orders self.old self.new) }
         ensures puts { OnOk result (PutsInOrder self.old self.new) }
     {
         if !self.is_ordered && self.scannable.first().is_none() {
             let order = depth_first(self.alloc, &self.tasks, &self.files, self.roots.as_slice())?;
             self.take_order(order)?;
-            if !self.has_all_placed() {
-                return Err(Memory);
-            }
             self.note_all();
             self.is_ordered = true;
         }
         Ok(())
-    }
-
-    /// Whether each rule that waits stands in the order. Each is reached by what rules need, so it does.
-    fn has_all_placed(&self) -> bool
-        ensures { result ≡ true → AreAllPlaced self.now }
-    {
-        for number in 0..self.tasks.len() {
-            if !self.is_placed_where_waiting(number) {
-                return false;
-            }
-        }
-        true
-    }
-
-    /// Whether the rule with this number stands in the order, if it waits.
-    fn is_placed_where_waiting(&self, number: usize) -> bool
-        ensures { result ≡ true → IsPlacedAt self.now number }
-    {
-        match rule_of_number(number) {
-            Some(rule) => !self.states.waits(rule) || self.queue.number(rule) < self.queue.len(),
-            None => false,
-        }
     }
 
     /// The rules stand in this order from now on, and none is open.

@@ -5,6 +5,7 @@ use Rattle.std.proofs.Common.{[]}
 use Rattle.task_plan.specs.Admits.{Admits, none}
 use Rattle.task_plan.proofs.WatchSteps.{scanned_complete}
 use Rattle.task_plan.proofs.OrderSteps.{noted_order}
+use Rattle.task_plan.proofs.RootSteps.{noted_others, noted_roots}
 use Rattle.task_plan.proofs.plan.Plan.scanned.Goals as goal
 
 pub returns-clause-scans : goal.returns-clause-scans
@@ -30,3 +31,16 @@ returns-clause-order c =
     let t = c.in_ok-take_noted.ensures in
     noted_order (λ (x : Growth). x.in_order) (λ (x : Growth). x.new.items) c.args.graph.now c.args.self.now c.note_found.new.self c.take_noted.new.self c.look_on.new.self c.args.rule.0 c.args.found.items c.in_ok-noted.noted
     c.note_found.ensures.states c.note_found.ensures.origins n.notes n.none n.files t.admits t.grows c.look_on.ensures.stays c.in_ok-look_on.ensures.puts
+
+pub returns-clause-others : goal.returns-clause-others
+returns-clause-others c =
+    let t = c.in_ok-take_noted.ensures in
+    noted_others (λ (_ : Growth). Admits c.args.graph.now c.note_found.new.self c.take_noted.new.self none []) (λ (x : Growth). x.new.items) c.args.graph.now c.args.self.now c.note_found.new.self c.take_noted.new.self c.look_on.new.self c.args.rule.0 c.args.found.items c.in_ok-noted.noted
+    c.note_found.ensures.states c.in_ok-noted.ensures.news t.admits t.others c.look_on.ensures.stays
+
+pub returns-clause-roots : goal.returns-clause-roots
+returns-clause-roots c =
+    let n = c.in_ok-noted.ensures in
+    let t = c.in_ok-take_noted.ensures in
+    noted_roots (λ (_ : Growth). Admits c.args.graph.now c.note_found.new.self c.take_noted.new.self none []) (λ (x : Growth). x.in_order) (λ (x : Growth). x.new.items) c.args.self.now c.note_found.new.self c.take_noted.new.self c.look_on.new.self c.args.rule.0 c.in_ok-noted.noted
+    n.none n.files t.admits t.grows c.in_ok-look_on.ensures.puts

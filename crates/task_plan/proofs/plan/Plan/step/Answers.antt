@@ -1,7 +1,8 @@
 use Rattle.std.proofs.Common.{◌≡◌, ℕ, true, sym}
-use Rattle.task_plan.specs.Plans.{AreWaiting, CanDecide}
+use Rattle.task_plan.specs.Plans.{AreWaiting, CanDecide, is_scan}
 use Rattle.task_plan.specs.Met.{FindsBy}
 use Rattle.task_plan.specs.Admits.{Knows}
+use Rattle.task_plan.specs.Rooted.{NeedsNoOthers, news_of}
 use Rattle.std.proofs.lemmas.Result.{on_ok_weaker}
 use Rattle.task_plan.proofs.PlanLemmas.{goes_on}
 use Rattle.task_plan.proofs.AdmitLemmas.{fits_step}
@@ -10,6 +11,7 @@ use Rattle.task_plan.proofs.TrackLemmas.{waiting_of}
 use Rattle.task_plan.proofs.WatchSteps.{targets_of}
 use Rattle.task_plan.specs.Queues.{is_open}
 use Rattle.task_plan.proofs.OrderSteps.{IsUnscanned, is_unscanned, order_step}
+use Rattle.task_plan.proofs.RootSteps.{others_by, reached_step}
 use Rattle.task_plan.proofs.WantLemmas.{can_decide}
 use Rattle.task_plan.proofs.plan.Plan.step.Goals as goal
 
@@ -40,8 +42,28 @@ returns-clause-needs c =
     (λ k d n f m. all_met_step c.args.graph.now c.args.self.now c.take-taken.new.self c.args.event w c.take-taken.ensures.states k d n f c.follows.ensures c.follows-2.ensures m) c.take-taken.ensures.knows
     c.take-taken.ensures.finds
 
+pub returns-clause-only : goal.returns-clause-only
+returns-clause-only c =
+    let i = c.self.inside in
+    let g = c.args.graph.now in
+    let a = c.args.self.now in
+    let b = c.take-taken.new.self in
+    let e = c.args.event in
+    let s = c.take-taken.ensures in
+    let w : AreWaiting a.states a.queue = rw (sym c.self.view_is) (waiting_of i.states i.queue i.tasks.items i.files.origins.items i.scannable c.self.invariant) in
+    let on = goes_on a e b.states w s.states in
+    let un : (r : ℕ) → IsUnscanned a r =
+    rw (sym c.self.view_is) (λ r. is_unscanned i.states i.queue i.halted i.tasks.items i.files.origins.items i.scannable i.files.waiters.items i.is_ordered i.roots.items r c.self.invariant) in
+    on_ok_both {P = Knows g a e b × FindsBy g a e b} {Q = (b.notes.roots ≡ a.notes.roots) × (is_scan e ≡ true → NeedsNoOthers g a b (news_of a e))} c.take-taken.result
+    (λ p q n fits from met r.
+    reached_step g a b e on p.0 p.1 from (from_step g a b e on p.1 from) fits (fits_step g a b e w s.states p.0 fits) met
+    (all_met_step g a b e w s.states p.0 p.1 n fits c.follows.ensures c.follows-2.ensures met) c.follows.ensures c.follows-2.ensures un q.0 (others_by g a b e w s.states q.1) r)
+    (on_ok_both c.take-taken.result (λ k d. (k, d)) s.knows s.finds) (on_ok_both c.take-taken.result (λ x o. (x, o)) s.roots s.others)
+
 pub returns-clause-complete : goal.returns-clause-complete
-returns-clause-complete c = on_ok_weaker c.take-taken.result (λ f n fits from k. f n (targets_of c.args.graph.now c.args.self.now fits from) k) c.take-taken.ensures.complete
+returns-clause-complete c =
+    let a = c.args.self.now in
+    on_ok_both c.take-taken.result (λ f reached n fits from met r k. f n (targets_of c.args.graph.now a fits from) (reached n fits from met r) k) c.take-taken.ensures.complete (returns-clause-only c)
 
 pub returns-clause-order : goal.returns-clause-order
 returns-clause-order c =

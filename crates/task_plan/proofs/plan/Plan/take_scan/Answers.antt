@@ -1,13 +1,18 @@
-use Rattle.std.proofs.Common.{◌≡◌, get_or, false, refl, sym}
+use Rattle.std.proofs.Common.{◌≡◌, ◌∙◌, get_or, false, ap, refl, sym}
 use Rattle.std.specs.Prelude.{map, slice_get}
 use Rattle.std.proofs.lemmas.Result.{on_ok_weaker}
+use Rattle.task_plan.specs.States.{state_of}
 use Rattle.task_plan.specs.Settled.{next_of}
+use Rattle.task_plan.specs.Plans.{Planned}
+use Rattle.task_plan.specs.Rooted.{news_in, AreReached}
 use Rattle.task_plan.proofs.WantLemmas.{planned, unwanted_by}
 use Rattle.task_plan.proofs.AdmitLemmas.{scans_none, scans_still}
 use Rattle.task_plan.proofs.MetLemmas.{keeps_same, finds_same}
 use Rattle.task_plan.proofs.MetNeeds.{finds_unwanted, finds_file_still}
 use Rattle.task_plan.proofs.WatchSteps.{complete_halted}
 use Rattle.task_plan.proofs.OrderSteps.{takes_same, takes_halted, deps_halted}
+use Rattle.task_plan.proofs.RootLemmas.{reached_same}
+use Rattle.task_plan.proofs.RootSteps.{others_none}
 use Rattle.task_plan.proofs.plan.Plan.take_scan.Goals as goal
 
 pub returns-then-not-contains-clause-scans : goal.returns-then-not-contains-clause-scans
@@ -45,7 +50,11 @@ returns-clause-finds c =
 
 pub returns-clause-complete : goal.returns-clause-complete
 returns-clause-complete c =
-    on_ok_weaker c.scanned-taken.result (λ f below k. complete_halted c.scanned-taken.new.self c.halt_where.new.self c.halt_where.ensures.rest (f below k)) c.scanned-taken.ensures.complete
+    let b = c.scanned-taken.new.self in
+    let d = c.halt_where.new.self in
+    let e = c.halt_where.ensures in
+    let back : AreReached d → AreReached b = reached_same d b (sym e.states) (sym e.rules) (sym e.origins) (sym (ap (λ (x : Planned). x.notes.roots) e.rest)) in
+    on_ok_weaker c.scanned-taken.result (λ f below reached k. complete_halted b d e.rest (f below (back reached) k)) c.scanned-taken.ensures.complete
 
 pub returns-then-not-contains-clause-order : goal.returns-then-not-contains-clause-order
 returns-then-not-contains-clause-order c = λ k. takes_same c.args.self.now c.args.rule.0
@@ -57,3 +66,12 @@ returns-clause-order c =
     let d = c.halt_where.new.self in
     let e = c.halt_where.ensures.rest in
     on_ok_weaker c.scanned-taken.result (λ f k. takes_halted a b d c.args.rule.0 e (f (deps_halted a b d c.args.rule.0 e k))) c.scanned-taken.ensures.order
+
+pub returns-then-not-contains-clause-others : goal.returns-then-not-contains-clause-others
+returns-then-not-contains-clause-others c = let a = c.args.self.now in others_none c.args.graph.now a a (news_in (slice_get a.rules c.args.rule.0) c.args.found.items) refl
+
+pub returns-clause-others : goal.returns-clause-others
+returns-clause-others c = on_ok_weaker c.scanned-taken.result (λ k. record { each = λ r u ne. k.each r u (λ v. ne (ap (λ s. state_of s r) c.halt_where.ensures.states ∙ v)) }) c.scanned-taken.ensures.others
+
+pub returns-clause-roots : goal.returns-clause-roots
+returns-clause-roots c = on_ok_weaker c.scanned-taken.result (λ e. ap (λ (x : Planned). x.notes.roots) c.halt_where.ensures.rest ∙ e) c.scanned-taken.ensures.roots
