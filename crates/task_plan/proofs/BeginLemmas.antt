@@ -1,5 +1,5 @@
 -- The roots are the rules of the requested nodes, and the queue keeps to the build order from the beginning on.
-use Rattle.std.proofs.Common.{◌≡◌, ◌<◌, ◌≤◌, ◌∙◌, ◌⊎◌, inl, inr, ⊎_elim, ℕ, ◌+◌, List, [], ◌∷◌, ◌++◌, Bool, true, false, ◌||◌, Option, Some, None, ap, sym, refl, length, get_or, take, append_assoc, append-nil}
+use Rattle.std.proofs.Common.{◌≢◌, ◌≡◌, ◌<◌, ◌≤◌, ◌∙◌, ◌⊎◌, inl, inr, ⊎_elim, ℕ, ◌+◌, List, [], ◌∷◌, ◌++◌, Bool, true, false, ◌||◌, Option, Some, None, ap, sym, refl, length, get_or, take, append_assoc, append-nil}
 use Rattle.std.specs.Prelude.{nat_eq, nat_lt, slice_get, option_to_list}
 use Rattle.std.specs.List.{cons_option}
 use Rattle.std.specs.Option.{option_map}
