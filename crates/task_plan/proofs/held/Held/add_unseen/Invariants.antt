@@ -8,6 +8,6 @@ use Rattle.task_plan.proofs.held.Held.add_unseen.Given as goal
 
 abbrev pub invariant-loop-rule : goal.invariant-loop-rule
 invariant-loop-rule l = record {
-  finds : FindsIn (λ r. queues l.rules r ≡ true) l.fault l.initial.self l.self;
+  finds : FindsIn (λ r. queues l.rules r ≡ true) l.fn.fault l.initial.self l.self;
   all : (n : ℕ) (rule : RuleId) → n < l.rule-index → slice_get l.rules n ≡ Some rule → is_seen l.self.seen.items rule.0 ≡ true;
 }

@@ -11,7 +11,7 @@ use Rattle.task_plan.proofs.held.Held.add_waiting.Given as goal
 
 abbrev pub invariant-loop-target : goal.invariant-loop-target
 invariant-loop-target l = record {
-  finds : FindsIn (λ r. WaitsOn (map kept_of l.tasks) (lists_of l.files.waiters.items) r l.fn.rule.0) l.fault l.initial.self l.self;
+  finds : FindsIn (λ r. WaitsOn (map kept_of l.tasks) (lists_of l.files.waiters.items) r l.fn.rule.0) l.fn.fault l.initial.self l.self;
   all : (n : ℕ) (target : NodeId) → n < l.target-index → slice_get l.targets n ≡ Some target
       → (r : ℕ) → queues (waiters_of (lists_of l.files.waiters.items) target.0) r ≡ true → is_seen l.self.seen.items r ≡ true;
 }
