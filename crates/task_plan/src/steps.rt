@@ -10,9 +10,8 @@ ghost use Rattle.task_plan.specs.Watching.{KeepsWatch, BringsWatch, Hears, Leave
 ghost use Rattle.task_plan.specs.Ordered.{AreNeedsDone, AreReady, ComesBefore, GrowsInOrder, IsInPlace, KeepsDeps, LeavesOrder, LeavesQueue, PutsInOrder, TakesFiles, TakesOrder};
 ghost use Rattle.task_plan.specs.Plans.{AreMet, Meets, Stays, GoesNow, decided as decided_of, ended};
 ghost use Rattle.task_plan.specs.Met.{is_met, AreNews, Finds, FindsFile, HasRoom};
-ghost use Rattle.task_plan.specs.Rooted.{news_in, AreReached, NeedsNoOthers};
+ghost use Rattle.task_plan.specs.Rooted.{news_in, AreReached, BringsNoOthers, NeedsNoOthers};
 ghost use Rattle.task_plan.specs.Admits.{Admits, Brings, NotesFile, NotesNone, Scans, none, queues};
-ghost use Rattle.task_plan.specs.Rooted.{NeedsNoOthers, BringsNoOthers};
 
 use crate::order::depth_first;
 use crate::plan::Plan;
