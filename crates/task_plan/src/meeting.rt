@@ -179,6 +179,7 @@ impl Plan {
     }
 
     /// The rule that the graph has for a node becomes the last root.
+    #[tactic(auto, using(crate::proofs::BeginLemmas::makers_one))]
     fn add_root(&mut self, graph: &Graph, node: NodeId) -> Result<(), Memory>
         ensures stays { Stays self.old self.new }
         ensures rest { self.new ≡ record self.old { notes = record self.old.notes { roots = self.new.notes.roots } } }
