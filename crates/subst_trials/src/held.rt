@@ -1,11 +1,6 @@
-//! What variables hold after a call, each in a new environment.
-ghost use Rattle.std.specs.Prelude.{◌<◌, ◌≤◌, length, IfSome};
-
-use crate::values::value;
-use crate::written::put_value;
-use env_vars::{EnvFault, EnvValue, Envs};
-use scons_base::{EnvId, Text};
-use std::alloc::Global;
+//! What variables hold after calls, each in a new environment.
+use crate::trial::{Call, Trial};
+use scons_base::EnvId;
 
 /// What a variable may hold before it is set: what a new environment has, or a value of each kind.
 const HELD: [&str; 8] = [
@@ -19,170 +14,89 @@ const HELD: [&str; 8] = [
     "{A:-1}",
 ];
 
-/// A call that gives a variable a value.
-#[derive(Clone, Copy)]
-enum Call {
-    Append,
-    Prepend,
-    AppendUnique,
-    Set,
-    SetDefault,
-}
-
-/// For each of the names in the first field what it holds after a value is appended, prepended, appended uniquely, and given
-/// as a default, where it held the second field and is given the third.
-pub(crate) fn added(alloc: Global, rest: &str) -> Option<String> {
-    let (names, fields) = rest.split_once('|')?;
-    let (holds, given) = fields.split_once('|')?;
-    let mut lines = String::new(alloc);
+/// For each of the names in the first field what it holds after each call, where it held the second field and is given the
+/// third; where there are two fields, it held what a new environment has.
+pub(crate) fn put_called(trial: &mut Trial, calls: &[Call], text: &str) {
+    let Some((names, fields)) = text.split_once('|') else {
+        return trial.told.refuse();
+    };
+    let (holds, given) = fields.split_once('|').unwrap_or(("absent", fields));
     for name in names.split(' ') {
-        write!(lines, "{name}|{holds}|{given}").ok()?;
-        put_after(alloc, &mut lines, Call::Append, name, holds, given)?;
-        put_after(alloc, &mut lines, Call::Prepend, name, holds, given)?;
-        put_after(alloc, &mut lines, Call::AppendUnique, name, holds, given)?;
-        put_after(alloc, &mut lines, Call::SetDefault, name, holds, given)?;
-        lines.push_str("|\n").ok()?;
+        trial.told.put_all(&[name, "|", fields]);
+        put_calls(trial, calls, name, holds, given);
+        trial.told.put("|\n");
     }
-    Some(lines)
 }
 
 /// What `X`, a word-list variable, a list variable and `CPPDEFINES` hold after they are set to a value, over each of the values
 /// that they may hold.
-pub(crate) fn taken(alloc: Global, given: &str) -> Option<String> {
-    let mut lines = String::new(alloc);
+pub(crate) fn put_taken(trial: &mut Trial, given: &str) {
     for holds in HELD {
-        write!(lines, "{given} over {holds}").ok()?;
-        for name in ["X", "CCFLAGS", "LIBS", "CPPDEFINES"] {
-            put_after(alloc, &mut lines, Call::Set, name, holds, given)?;
+        trial.told.put_all(&[given, " over ", holds]);
+        put_calls(trial, &[Call::Set], "X", holds, given);
+        put_calls(trial, &[Call::Set], "CCFLAGS", holds, given);
+        put_calls(trial, &[Call::Set], "LIBS", holds, given);
+        put_calls(trial, &[Call::Set], "CPPDEFINES", holds, given);
+        trial.told.put("|\n");
+    }
+}
+
+/// What a variable that holds one value holds after each call with another one. `absent` leaves it as a new environment has it.
+fn put_calls(trial: &mut Trial, calls: &[Call], name: &str, holds: &str, given: &str) {
+    let env = trial.env();
+    for call in calls {
+        trial.renew();
+        if holds != "absent" {
+            trial.change_to(Call::Set, name, holds);
         }
-        lines.push_str("|\n").ok()?;
+        trial.put_changed(*call, name, given);
     }
-    Some(lines)
-}
-
-/// What each of the names in the first field holds after it is set to the second.
-pub(crate) fn named(alloc: Global, rest: &str) -> Option<String> {
-    let (names, given) = rest.split_once('|')?;
-    let mut lines = String::new(alloc);
-    for name in names.split(' ') {
-        write!(lines, "{name}|{given}").ok()?;
-        put_after(alloc, &mut lines, Call::Set, name, "absent", given)?;
-        lines.push_str("|\n").ok()?;
-    }
-    Some(lines)
-}
-
-/// What each of the names in the first field holds in a new environment after the second is given as a default.
-pub(crate) fn defaults(alloc: Global, rest: &str) -> Option<String> {
-    let (names, given) = rest.split_once('|')?;
-    let mut lines = String::new(alloc);
-    for name in names.split(' ') {
-        write!(lines, "{name}|{given}").ok()?;
-        put_after(alloc, &mut lines, Call::SetDefault, name, "absent", given)?;
-        lines.push_str("|\n").ok()?;
-    }
-    Some(lines)
+    trial.enter(env);
 }
 
 /// What each of these variables holds in a new environment.
-pub(crate) fn initial(alloc: Global, names: &str) -> Option<String> {
-    let mut envs = Envs::new(alloc);
-    let env = envs.make().ok()?;
-    let mut lines = String::new(alloc);
+pub(crate) fn put_initial(trial: &mut Trial, names: &str) {
+    let env = trial.env();
+    trial.renew();
     for name in names.split(' ') {
-        write!(lines, "{name}|").ok()?;
-        put_value(&mut lines, envs.get(env, name))?;
-        lines.push_str("|\n").ok()?;
+        trial.told.put_all(&[name, "|"]);
+        trial.put_held(name);
+        trial.told.put("|\n");
     }
-    Some(lines)
+    trial.enter(env);
 }
 
-/// Puts what a variable that holds one value holds after a call with another one. `absent` leaves it as a new environment has
-/// it, and a `!` says that the kinds don't fit.
-fn put_after(
-    alloc: Global,
-    line: &mut String,
-    call: Call,
-    name: &str,
-    holds: &str,
-    given: &str,
-) -> Option<()> {
-    line.push('|').ok()?;
-    let mut envs = Envs::new(alloc);
-    let env = envs.make().ok()?;
-    if holds != "absent" {
-        envs.set(env, name, value(alloc, holds)?).ok()?;
-    }
-    let given = value(alloc, given)?;
-    let answer = match call {
-        Call::Append => envs.append(env, name, given),
-        Call::Prepend => envs.prepend(env, name, given),
-        Call::AppendUnique => envs.append_unique(env, name, given),
-        Call::Set => envs.set(env, name, given),
-        Call::SetDefault => envs.set_default(env, name, given),
-    };
-    match answer {
-        Ok(()) => put_value(line, envs.get(env, name)),
-        Err(EnvFault::Kinds) => line.push('!').ok(),
-        Err(EnvFault::Memory) => None,
-    }
-}
-
-/// The values that a variable has in a new environment, a clone of it and overlays, which were changed apart.
-pub(crate) fn apart(alloc: Global) -> Option<String> {
-    let mut envs = Envs::new(alloc);
-    let env = envs.make().ok()?;
-    let clone = changed_clone(alloc, &mut envs, env)?;
-    let overlay = overlaid(alloc, &mut envs, env)?;
-    let front = changed_overlay(alloc, &mut envs, overlay)?;
-    let flat = envs.clone_of(front).ok()?;
-    envs.set(env, "X", EnvValue::Int(3)).ok()?;
-    let mut lines = String::new(alloc);
+/// The values that variables have in a new environment, a clone of it, an overlay, one in front of that and its clone, which
+/// were changed apart.
+pub(crate) fn put_apart(trial: &mut Trial) {
+    let env = trial.env();
+    let first = trial.renew();
+    trial.change_to(Call::Set, "CCFLAGS", "'-O'");
+    let clone = trial.enter_clone();
+    trial.change_to(Call::Append, "CCFLAGS", "' -g'");
+    trial.enter(first);
+    trial.change_to(Call::Set, "X", "1");
+    trial.change_to(Call::Overlay, "CC", "'tcc'");
+    let overlay = trial.env();
+    let front = trial.enter_overlay(&[]);
+    trial.change_to(Call::Append, "CC", "' -m'");
+    trial.change_to(Call::SetDefault, "X", "2");
+    let flat = trial.enter_clone();
+    trial.enter(first);
+    trial.change_to(Call::Set, "X", "3");
     for name in ["CCFLAGS", "CC", "X"] {
-        lines.push_str(name).ok()?;
-        for id in [env, clone, overlay, front, flat] {
-            lines.push('|').ok()?;
-            put_value(&mut lines, envs.get(id, name))?;
-        }
-        lines.push_str("|\n").ok()?;
+        put_in_each(trial, &[first, clone, overlay, front, flat], name);
     }
-    Some(lines)
+    trial.enter(env);
 }
 
-/// A clone whose flags are added to, of an environment with flags.
-fn changed_clone(alloc: Global, envs: &mut Envs, env: EnvId) -> Option<EnvId>
-    requires { env.0 < length envs.old }
-    ensures kept { length envs.old ≤ length envs.new }
-    ensures made { IfSome result (λ id. id.0 < length envs.new) }
-{
-    envs.set(env, "CCFLAGS", value(alloc, "'-O'")?).ok()?;
-    let clone = envs.clone_of(env).ok()?;
-    envs.append(clone, "CCFLAGS", value(alloc, "' -g'")?).ok()?;
-    Some(clone)
-}
-
-/// An overlay with a compiler of its own, of an environment that gets a number.
-fn overlaid(alloc: Global, envs: &mut Envs, env: EnvId) -> Option<EnvId>
-    requires { env.0 < length envs.old }
-    ensures kept { length envs.old ≤ length envs.new }
-    ensures made { IfSome result (λ id. id.0 < length envs.new) }
-{
-    let mut names = Vec::new(alloc);
-    names
-        .push((Text::of(alloc, "CC").ok()?, value(alloc, "'tcc'")?))
-        .ok()?;
-    envs.set(env, "X", EnvValue::Int(1)).ok()?;
-    envs.overlay(env, names.as_slice()).ok()
-}
-
-/// An overlay of an overlay, in which the compiler is added to and a number set that shows behind it.
-fn changed_overlay(alloc: Global, envs: &mut Envs, overlay: EnvId) -> Option<EnvId>
-    requires { overlay.0 < length envs.old }
-    ensures kept { length envs.old ≤ length envs.new }
-    ensures made { IfSome result (λ id. id.0 < length envs.new) }
-{
-    let front = envs.overlay(overlay, &[]).ok()?;
-    envs.append(front, "CC", value(alloc, "' -m'")?).ok()?;
-    envs.set_default(front, "X", EnvValue::Int(2)).ok()?;
-    Some(front)
+/// What a variable holds in each environment.
+fn put_in_each(trial: &mut Trial, envs: &[EnvId], name: &str) {
+    trial.told.put(name);
+    for env in envs {
+        trial.enter(*env);
+        trial.told.put("|");
+        trial.put_held(name);
+    }
+    trial.told.put("|\n");
 }

@@ -18,6 +18,7 @@ mod held;
 mod parts;
 mod rule;
 mod shown;
+mod told;
 mod trial;
 mod values;
 mod widest;
@@ -25,22 +26,26 @@ mod written;
 
 use crate::answer::answer;
 use crate::trial::Trial;
-use std::io::{self, BufRead, BufReader};
+use std::io;
 
 fn main(rt: HostRuntime) -> io::Result<()> {
-    let alloc = rt.alloc();
-    let Some(mut trial) = Trial::new(alloc) else {
-        return println!(rt; "memory ran out");
-    };
-    for line in BufReader::new(alloc, rt.reader())?.lines(alloc) {
-        let line = line?;
+    let table = io::read_to_string(rt.alloc(), rt.reader())?;
+    match Trial::new(rt.alloc()) {
+        Some(mut trial) => {
+            answer_all(&mut trial, table.as_str());
+            rt.print(trial.told.as_str())
+        }
+        None => rt.println("memory ran out"),
+    }
+}
+
+/// Tells what each line of the table gives.
+fn answer_all(trial: &mut Trial, table: &str) {
+    for line in table.lines() {
         if line.is_empty() || line.starts_with('#') {
             continue;
         }
-        match answer(alloc, &mut trial, line.as_str()) {
-            Some(text) => print!(rt; "{text}")?,
-            None => println!(rt; "refused: {line}")?,
-        }
+        answer(trial, line);
+        trial.told.end(line);
     }
-    Ok(())
 }

@@ -1,106 +1,83 @@
-//! What answers show.
-use env_subst::{CommandLines, LibItem, SubstFault};
-use scons_base::{Listing, Paths, Texts};
+//! How forms, lists of them and faults are told.
+use crate::told::Told;
+use env_subst::{LibItem, SubstFault};
+use scons_base::{PathText, Text};
 
 /// The length from which on a form shows only how many bytes it has.
 const LONG: usize = 200;
 
 /// A form behind a `|`.
-pub(crate) fn put_form(line: &mut String, form: Result<String, SubstFault>) -> Option<()> {
+pub(crate) fn put_form(told: &mut Told, form: &Result<String, SubstFault>) {
     match form {
-        Ok(form) if form.len() >= LONG => write!(line, "|{} bytes", form.len()).ok(),
-        Ok(form) => put_text(line, form.as_str()),
-        Err(fault) => put_fault(line, fault),
+        Ok(form) if form.len() >= LONG => {
+            told.put("|");
+            told.show(form.len());
+            told.put(" bytes");
+        }
+        Ok(form) => put_text(told, form.as_str()),
+        Err(fault) => put_fault(told, fault),
     }
 }
 
 /// A text behind a `|`, with escapes.
-fn put_text(line: &mut String, text: &str) -> Option<()> {
-    let alloc = *line.allocator();
-    let text = text.replace(alloc, "\t", "\\t").ok()?;
-    let text = text.as_str().replace(alloc, "\n", "\\n").ok()?;
-    line.push('|').ok()?;
-    line.push_str(text.as_str()).ok()
+fn put_text(told: &mut Told, text: &str) {
+    told.put("|");
+    for character in text.chars() {
+        match character {
+            '\t' => told.put("\\t"),
+            '\n' => told.put("\\n"),
+            other => told.show(other),
+        }
+    }
 }
 
-fn put_fault(line: &mut String, fault: SubstFault) -> Option<()> {
+/// A fault behind a `|`.
+pub(crate) fn put_fault(told: &mut Told, fault: &SubstFault) {
     match fault {
-        SubstFault::BadBrace { name, at } => write!(
-            line,
-            "|!BadBrace [{}] {at}",
-            name.as_str()
-        ).ok(),
-        SubstFault::BadAttr { name, at } => write!(line, "|!BadAttr [{}] {at}", name.as_str()).ok(),
-        SubstFault::Marks(piece) => write!(line, "|!Marks {piece}").ok(),
-        SubstFault::TooLong(bytes) => write!(line, "|!TooLong {bytes}").ok(),
-        SubstFault::TooMany(references) => write!(line, "|!TooMany {references}").ok(),
-        SubstFault::BadPath(fault) => write!(line, "|!BadPath: {fault}").ok(),
-        SubstFault::Memory => write!(line, "|!Memory").ok(),
-    }
-}
-
-/// Each directory behind a `|`.
-pub(crate) fn put_dirs(line: &mut String, found: Result<Paths, SubstFault>) -> Option<()> {
-    match found {
-        Ok(paths) => put_paths(line, &paths),
-        Err(fault) => put_fault(line, fault),
-    }
-}
-
-fn put_paths(line: &mut String, paths: &Paths) -> Option<()> {
-    for path in paths.as_slice() {
-        put_text(line, path.as_str())?;
-    }
-    Some(())
-}
-
-/// Each line behind a `|`.
-pub(crate) fn put_texts(line: &mut String, forms: Result<Texts, SubstFault>) -> Option<()> {
-    match forms {
-        Ok(texts) => {
-            for text in texts.as_slice() {
-                put_text(line, text.as_str())?;
-            }
-            Some(())
+        SubstFault::BadBrace { name, at } => put_place(told, "|!BadBrace [", name, *at),
+        SubstFault::BadAttr { name, at } => put_place(told, "|!BadAttr [", name, *at),
+        SubstFault::Marks(piece) => put_number(told, "|!Marks ", *piece as u64),
+        SubstFault::TooLong(bytes) => put_number(told, "|!TooLong ", *bytes),
+        SubstFault::TooMany(references) => put_number(told, "|!TooMany ", *references),
+        SubstFault::BadPath(fault) => {
+            told.put("|!BadPath: ");
+            told.show(*fault);
         }
-        Err(fault) => put_fault(line, fault),
+        SubstFault::Memory => told.put("|!Memory"),
     }
 }
 
-/// The lines as text, and behind them as signed.
-pub(crate) fn put_command(
-    line: &mut String,
-    lines: Result<CommandLines, SubstFault>,
-) -> Option<()> {
-    match lines {
-        Ok(lines) => {
-            put_texts(line, Ok(lines.plain))?;
-            line.push_str("|signed").ok()?;
-            put_texts(line, Ok(lines.signed))
-        }
-        Err(fault) => put_fault(line, fault),
+/// The name of a variable and a place in its value.
+fn put_place(told: &mut Told, fault: &str, name: &Text, at: u64) {
+    told.put_all(&[fault, name.as_str(), "] "]);
+    told.show(at);
+}
+
+fn put_number(told: &mut Told, fault: &str, number: u64) {
+    told.put(fault);
+    told.show(number);
+}
+
+/// Each path behind a `|`.
+pub(crate) fn put_paths(told: &mut Told, paths: &[PathText]) {
+    for path in paths {
+        put_text(told, path.as_str());
+    }
+}
+
+/// Each text behind a `|`.
+pub(crate) fn put_texts(told: &mut Told, texts: &[Text]) {
+    for text in texts {
+        put_text(told, text.as_str());
     }
 }
 
 /// Each library behind a `|`, a node in angle brackets.
-pub(crate) fn put_libs(
-    line: &mut String,
-    found: Result<Listing<LibItem>, SubstFault>,
-) -> Option<()> {
-    match found {
-        Ok(items) => {
-            for item in items.as_slice() {
-                put_lib(line, item)?;
-            }
-            Some(())
+pub(crate) fn put_libs(told: &mut Told, items: &[LibItem]) {
+    for item in items {
+        match item {
+            LibItem::Name(name) => put_text(told, name.as_str()),
+            LibItem::Node(path) => told.put_all(&["|<", path.as_str(), ">"]),
         }
-        Err(fault) => put_fault(line, fault),
-    }
-}
-
-fn put_lib(line: &mut String, item: &LibItem) -> Option<()> {
-    match item {
-        LibItem::Name(name) => put_text(line, name.as_str()),
-        LibItem::Node(path) => write!(line, "|<{}>", path.as_str()).ok(),
     }
 }

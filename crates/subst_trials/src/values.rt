@@ -1,79 +1,108 @@
-//! How the table writes values: `nil`, `true`, `false`, a number `7`, a text `'a b'`, a word list `w[a,b]`, a list
-//! `['a b',7,<n.c>,A=1,B]` of a text, a number, a path and pairs with a value and without one, and a dict `{A:7,B:'x'}`.
+//! How the table writes values: `nil`, `true`, `false`, a number `7`, a text `'a b'` or `9*c` for one so many times, a word list
+//! `w[a,b]`, a list `['a b',7,<n.c>,A=1,B]` of a text, a number, a path and pairs with a value and without one, and a dict
+//! `{A:7,B:'x'}`.
 use env_vars::{EnvValue, Item};
 use scons_base::{Listing, PathText, Text, Texts};
 use std::alloc::Global;
 
 /// The value that is written so.
 pub(crate) fn value(alloc: Global, text: &str) -> Option<EnvValue> {
-    match text {
-        "nil" => return Some(EnvValue::Nil),
-        "true" => return Some(EnvValue::Bool(true)),
-        "false" => return Some(EnvValue::Bool(false)),
-        _ => {}
-    }
     if let Some(words) = between(text, "w[", "]") {
-        return Some(EnvValue::Words(words_in(alloc, words)?));
+        return words_in(alloc, words);
     }
     if let Some(items) = between(text, "[", "]") {
-        return Some(EnvValue::List(items_in(alloc, items)?));
+        return items_in(alloc, items);
     }
     if let Some(pairs) = between(text, "{", "}") {
-        return Some(EnvValue::Pairs(pairs_in(alloc, pairs)?));
+        return pairs_in(alloc, pairs);
     }
-    match item(alloc, text)? {
+    match text {
+        "nil" => Some(EnvValue::Nil),
+        "true" => Some(EnvValue::Bool(true)),
+        "false" => Some(EnvValue::Bool(false)),
+        _ => value_of(item(alloc, text)?),
+    }
+}
+
+/// What stands between an opening and a closing.
+fn between<'a>(text: &'a str, open: &str, close: &str) -> Option<&'a str> {
+    text.strip_prefix(open)?.strip_suffix(close)
+}
+
+/// The value that an item is by itself.
+fn value_of(item: Item) -> Option<EnvValue> {
+    match item {
         Item::Text(text) => Some(EnvValue::Text(text)),
         Item::Int(number) => Some(EnvValue::Int(number)),
         _ => None,
     }
 }
 
-fn between<'a>(text: &'a str, open: &str, close: &str) -> Option<&'a str> {
-    text.strip_prefix(open)?.strip_suffix(close)
-}
-
-fn words_in(alloc: Global, text: &str) -> Option<Texts> {
-    let mut words = Vec::new(alloc);
+fn words_in(alloc: Global, text: &str) -> Option<EnvValue> {
+    let mut words = Texts::new(Vec::new(alloc));
     for word in text.split_terminator(',') {
-        words.push(Text::of(alloc, word).ok()?).ok()?;
+        if words.push(text_of(alloc, word)?).is_err() {
+            return None;
+        }
     }
-    Some(Texts::new(words))
+    Some(EnvValue::Words(words))
 }
 
-fn items_in(alloc: Global, text: &str) -> Option<Listing<Item>> {
-    let mut items = Vec::new(alloc);
+fn items_in(alloc: Global, text: &str) -> Option<EnvValue> {
+    let mut items = Listing::empty(alloc);
     for part in text.split_terminator(',') {
-        items.push(item(alloc, part)?).ok()?;
+        if items.push(item(alloc, part)?).is_err() {
+            return None;
+        }
     }
-    Some(Listing::new(items))
+    Some(EnvValue::List(items))
 }
 
-fn pairs_in(alloc: Global, text: &str) -> Option<Listing<(Text, Item)>> {
-    let mut pairs = Vec::new(alloc);
+fn pairs_in(alloc: Global, text: &str) -> Option<EnvValue> {
+    let mut pairs = Listing::empty(alloc);
     for part in text.split_terminator(',') {
-        let (name, value) = part.split_once(':')?;
-        pairs
-            .push((Text::of(alloc, name).ok()?, item(alloc, value)?))
-            .ok()?;
+        if pairs.push(pair(alloc, part)?).is_err() {
+            return None;
+        }
     }
-    Some(Listing::new(pairs))
+    Some(EnvValue::Pairs(pairs))
+}
+
+fn pair(alloc: Global, text: &str) -> Option<(Text, Item)> {
+    let (name, value) = text.split_once(':')?;
+    Some((text_of(alloc, name)?, item(alloc, value)?))
 }
 
 fn item(alloc: Global, text: &str) -> Option<Item> {
     if let Some(inside) = between(text, "'", "'") {
-        return Some(Item::Text(Text::of(alloc, inside).ok()?));
+        return Some(Item::Text(text_of(alloc, inside)?));
     }
     if let Some(path) = between(text, "<", ">") {
         return Some(Item::Node(PathText::read(alloc, path).ok()?));
     }
-    if let Ok(number) = text.parse::<i64>() {
-        return Some(Item::Int(number));
+    match text.parse::<i64>() {
+        Ok(number) => Some(Item::Int(number)),
+        Err(_) => named_item(alloc, text),
     }
-    match text.split_once('=') {
-        Some((name, value)) => Some(Item::Pair(
-            Text::of(alloc, name).ok()?,
-            Some(Text::of(alloc, value).ok()?),
-        )),
-        None => Some(Item::Pair(Text::of(alloc, text).ok()?, None)),
+}
+
+/// A name with a value or without one, or a text so many times.
+fn named_item(alloc: Global, text: &str) -> Option<Item> {
+    if let Some((name, value)) = text.split_once('=') {
+        let name = text_of(alloc, name)?;
+        return Some(Item::Pair(name, Some(text_of(alloc, value)?)));
     }
+    match text.split_once('*') {
+        Some((count, part)) => many_times(alloc, count, part),
+        None => Some(Item::Pair(text_of(alloc, text)?, None)),
+    }
+}
+
+fn many_times(alloc: Global, count: &str, part: &str) -> Option<Item> {
+    let text = part.repeat(alloc, count.parse::<usize>().ok()?).ok()?;
+    Some(Item::Text(Text::new(text)))
+}
+
+fn text_of(alloc: Global, text: &str) -> Option<Text> {
+    Text::of(alloc, text).ok()
 }

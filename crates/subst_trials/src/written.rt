@@ -1,59 +1,61 @@
-//! How answers write values: as the table writes them, and `absent` where there is none.
+//! How values are told: as the table writes them, and `absent` where there is none.
+use crate::told::Told;
 use env_vars::{EnvValue, Item};
 use scons_base::Text;
 
-/// Puts a value.
-pub(crate) fn put_value(line: &mut String, value: Option<&EnvValue>) -> Option<()> {
+/// Tells a value.
+pub(crate) fn put_value(told: &mut Told, value: Option<&EnvValue>) {
     match value {
-        None => line.push_str("absent").ok(),
-        Some(EnvValue::Nil) => line.push_str("nil").ok(),
-        Some(EnvValue::Bool(flag)) => write!(line, "{flag}").ok(),
-        Some(EnvValue::Int(number)) => write!(line, "{number}").ok(),
-        Some(EnvValue::Text(text)) => write!(line, "'{}'", text.as_str()).ok(),
-        Some(EnvValue::Words(words)) => put_words(line, words.as_slice()),
-        Some(EnvValue::List(items)) => put_items(line, items.as_slice()),
-        Some(EnvValue::Pairs(pairs)) => put_pairs(line, pairs.as_slice()),
+        None => told.put("absent"),
+        Some(EnvValue::Nil) => told.put("nil"),
+        Some(EnvValue::Bool(flag)) => told.show(*flag),
+        Some(EnvValue::Int(number)) => told.show(*number),
+        Some(EnvValue::Text(text)) => told.put_all(&["'", text.as_str(), "'"]),
+        Some(EnvValue::Words(words)) => put_words(told, words.as_slice()),
+        Some(EnvValue::List(items)) => put_items(told, items.as_slice()),
+        Some(EnvValue::Pairs(pairs)) => put_pairs(told, pairs.as_slice()),
     }
 }
 
-fn put_words(line: &mut String, words: &[Text]) -> Option<()> {
-    line.push_str("w[").ok()?;
+fn put_words(told: &mut Told, words: &[Text]) {
+    told.put("w[");
     let mut comma = "";
     for word in words {
-        write!(line, "{comma}{}", word.as_str()).ok()?;
+        told.put(comma);
+        told.put(word.as_str());
         comma = ",";
     }
-    line.push(']').ok()
+    told.put("]");
 }
 
-fn put_items(line: &mut String, items: &[Item]) -> Option<()> {
-    line.push('[').ok()?;
+fn put_items(told: &mut Told, items: &[Item]) {
+    told.put("[");
     let mut comma = "";
     for item in items {
-        line.push_str(comma).ok()?;
-        put_item(line, item)?;
+        told.put(comma);
+        put_item(told, item);
         comma = ",";
     }
-    line.push(']').ok()
+    told.put("]");
 }
 
-fn put_pairs(line: &mut String, pairs: &[(Text, Item)]) -> Option<()> {
-    line.push('{').ok()?;
+fn put_pairs(told: &mut Told, pairs: &[(Text, Item)]) {
+    told.put("{");
     let mut comma = "";
     for (name, item) in pairs {
-        write!(line, "{comma}{}:", name.as_str()).ok()?;
-        put_item(line, item)?;
+        told.put_all(&[comma, name.as_str(), ":"]);
+        put_item(told, item);
         comma = ",";
     }
-    line.push('}').ok()
+    told.put("}");
 }
 
-fn put_item(line: &mut String, item: &Item) -> Option<()> {
+fn put_item(told: &mut Told, item: &Item) {
     match item {
-        Item::Text(text) => write!(line, "'{}'", text.as_str()).ok(),
-        Item::Int(number) => write!(line, "{number}").ok(),
-        Item::Node(path) => write!(line, "<{}>", path.as_str()).ok(),
-        Item::Pair(name, None) => line.push_str(name.as_str()).ok(),
-        Item::Pair(name, Some(value)) => write!(line, "{}={}", name.as_str(), value.as_str()).ok(),
+        Item::Text(text) => told.put_all(&["'", text.as_str(), "'"]),
+        Item::Int(number) => told.show(*number),
+        Item::Node(path) => told.put_all(&["<", path.as_str(), ">"]),
+        Item::Pair(name, None) => told.put(name.as_str()),
+        Item::Pair(name, Some(value)) => told.put_all(&[name.as_str(), "=", value.as_str()]),
     }
 }
