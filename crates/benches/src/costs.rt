@@ -1,211 +1,124 @@
 //! What substitution costs: texts and variables of a size, each expanded to text.
-ghost use Rattle.std.specs.Prelude.{◌<◌, length, IfSome};
-
-use crate::substitution::{locals, number};
-use anyhow::Result;
-use env_subst::{Mode, lib_names, subst};
-use env_vars::{EnvValue, Envs, Item};
+use crate::number;
+use crate::rule_env::RuleEnv;
+use env_subst::Mode;
+use env_vars::{EnvValue, Item};
 use scons_base::limits::TEXT_LIMIT;
-use scons_base::{EnvId, Listing, Text};
+use scons_base::{Listing, Text};
 use std::alloc::Global;
+use std::io;
 
-/// Expands what the first argument names, in the size that the second says.
-pub fn expand(rt: &HostRuntime, what: Option<String>, size: Option<String>) -> Result<()> {
-    let size = number(size)?;
-    let what = what.unwrap_or(String::new(rt.alloc()));
-    match expanded(rt.alloc(), what.as_str(), size) {
-        Some(count) => println!(rt; "{count}")?,
-        None => println!(rt; "refused")?,
+/// How many times sixteen bytes are the longest text that a script may hold.
+const LONGEST: u32 = (TEXT_LIMIT / 16) as u32;
+
+/// Expands what a word names, in a size.
+pub fn expand(rt: &HostRuntime, what: &str, size: &str) -> io::Result<()> {
+    match expanded(rt.alloc(), what, size) {
+        Some(count) => rt.println(count),
+        None => rt.println("refused"),
     }
-    Ok(())
 }
 
 /// How many bytes or items come of it.
-fn expanded(alloc: Global, what: &str, size: u32) -> Option<usize> {
+fn expanded(alloc: Global, what: &str, size: &str) -> Option<usize> {
+    let size = number(size)?;
+    let mut env = RuleEnv::new(alloc)?;
+    measured(&mut env, what, size)
+}
+
+fn measured(env: &mut RuleEnv, what: &str, size: u32) -> Option<usize> {
+    let name = "N".repeat(env.alloc, size as usize).ok()?;
+    set(env, what, name.as_str(), size)?;
+    counted(env, what, name.as_str(), size)
+}
+
+fn counted(env: &RuleEnv, what: &str, name: &str, size: u32) -> Option<usize> {
     match what {
-        "libs" => libraries(alloc, size),
-        "given" => given(alloc, size),
-        _ => bytes(alloc, what, size),
+        "libs" => env.libraries(),
+        "given" => env.items_given("ITEMS", many(env.alloc, "y$E", size)?),
+        _ => bytes(env, what, name, size),
     }
 }
 
-/// How many libraries there are where lists stand in each other, so many: each has a text with a reference and then the name of
-/// the next list.
-fn libraries(alloc: Global, size: u32) -> Option<usize> {
-    let mut envs = Envs::new(alloc);
-    let env = envs.make().ok()?;
-    set_libraries(alloc, &mut envs, env, size)?;
-    let locals = locals(alloc)?;
-    Some(lib_names(alloc, &envs, env, &locals).ok()?.as_slice().len())
+/// How many bytes the expansion has of the text that a word names.
+fn bytes(env: &RuleEnv, what: &str, name: &str, size: u32) -> Option<usize> {
+    let text = text_of(env.alloc, what, name, size as usize)?;
+    env.bytes_of(text.as_str(), Mode::Text)
 }
 
-fn set_libraries(alloc: Global, envs: &mut Envs, env: EnvId, size: u32) -> Option<()>
-    requires { env.0 < length envs.old }
-    ensures { IfSome result (λ _. env.0 < length envs.new) }
-{
-    'lists: for i in 0..size {
-        let mut items = Listing::empty(alloc);
-        items.push(Item::Text(Text::of(alloc, "x$E").ok()?)).ok()?;
-        let next = further(alloc, i.saturating_add(1), true)?;
-        items.push(Item::Text(Text::new(next))).ok()?;
-        let name = format!(in alloc; "L{i}").ok()?;
-        envs.set(env, name.as_str(), EnvValue::List(items)).ok()?;
+/// Sets the variables that are needed. The name has so many characters.
+fn set(env: &mut RuleEnv, what: &str, name: &str, size: u32) -> Option<()> {
+    match what {
+        "items" | "given" => set_many(env, "ITEMS", "x", size),
+        "references" => set_long(env, "T", "0123456789abcdef", LONGEST),
+        "names" => set_long(env, name, "a$$", size),
+        "named_items" => set_many(env, name, "a$$", size),
+        "called_items" => set_many(env, name, "a$E", size),
+        "calls" => set_lists(env, "x", "$L", "", size),
+        "items_with_calls" => set_lists(env, "x", "y${_concat(P, L", ", S, __env__)}", size),
+        "libs" => {
+            set_many(env, "LIBS", "$L0", 1)?;
+            set_lists(env, "x$E", "$L", "", size)
+        }
+        _ => Some(()),
     }
-    let mut items = Listing::empty(alloc);
-    items.push(Item::Text(Text::of(alloc, "$L0").ok()?)).ok()?;
-    envs.set(env, "LIBS", EnvValue::List(items)).ok()?;
+}
+
+/// Sets a list of so many items that are this text.
+fn set_many(env: &mut RuleEnv, name: &str, text: &str, times: u32) -> Option<()> {
+    let items = many(env.alloc, text, times)?;
+    env.set(name, items)
+}
+
+/// Sets a text so many times.
+fn set_long(env: &mut RuleEnv, name: &str, text: &str, times: u32) -> Option<()> {
+    let long = text.repeat(env.alloc, times as usize).ok()?;
+    env.set(name, EnvValue::Text(Text::new(long)))
+}
+
+/// Sets lists in each other, so many: each has an item, and then one with the number of the next list between two texts.
+fn set_lists(env: &mut RuleEnv, item: &str, before: &str, behind: &str, size: u32) -> Option<()> {
+    for i in 0..size {
+        let next = format!(in env.alloc; "{before}{}{behind}", i.saturating_add(1)).ok()?;
+        set_list(env, i, item, next.as_str())?;
+    }
     Some(())
 }
 
-/// How many items a list has that is given to a clone, where the variable has as many.
-fn given(alloc: Global, size: u32) -> Option<usize> {
-    let mut envs = Envs::new(alloc);
-    let env = envs.make().ok()?;
-    envs.set(env, "ITEMS", EnvValue::List(many(alloc, "x", size)?))
-        .ok()?;
-    match envs.given(env, "ITEMS", EnvValue::List(many(alloc, "y$E", size)?)) {
-        Ok(EnvValue::List(items)) => Some(items.as_slice().len()),
+/// Sets the list of this number to two items.
+fn set_list(env: &mut RuleEnv, number: u32, item: &str, next: &str) -> Option<()> {
+    let name = format!(in env.alloc; "L{number}").ok()?;
+    let mut items = Listing::empty(env.alloc);
+    push(env.alloc, &mut items, item)?;
+    push(env.alloc, &mut items, next)?;
+    env.set(name.as_str(), EnvValue::List(items))
+}
+
+fn text_of(alloc: Global, what: &str, name: &str, size: usize) -> Option<String> {
+    match what {
+        "items" => String::from_str(alloc, "$ITEMS").ok(),
+        "references" => "${T[0]}".repeat(alloc, size).ok(),
+        "names" | "named_items" => format!(in alloc; "${name}").ok(),
+        "called_items" => format!(in alloc; "${{_concat(P, {name}, S, __env__)}}").ok(),
+        "dollars" => "$$".repeat(alloc, size).ok(),
+        "marks" => "$(a$)".repeat(alloc, size).ok(),
+        "calls" | "items_with_calls" => {
+            String::from_str(alloc, "${_concat(P, L0, S, __env__)}").ok()
+        }
         _ => None,
     }
 }
 
 /// So many items that are this text.
-fn many(alloc: Global, text: &str, size: u32) -> Option<Listing<Item>> {
+fn many(alloc: Global, text: &str, times: u32) -> Option<EnvValue> {
     let mut items = Listing::empty(alloc);
-    for _ in 0..size {
-        items.push(Item::Text(Text::of(alloc, text).ok()?)).ok()?;
-    }
-    Some(items)
-}
-
-/// How many bytes the expansion has.
-fn bytes(alloc: Global, what: &str, size: u32) -> Option<usize> {
-    let mut envs = Envs::new(alloc);
-    let env = envs.make().ok()?;
-    let text = prepared(alloc, &mut envs, env, what, size)?;
-    let locals = locals(alloc)?;
-    Some(
-        subst(alloc, &envs, env, text.as_str(), &locals, Mode::Text)
-            .ok()?
-            .len(),
-    )
-}
-
-/// The text to be expanded, and the variables that it needs.
-fn prepared(alloc: Global, envs: &mut Envs, env: EnvId, what: &str, size: u32) -> Option<String>
-    requires { env.0 < length envs.old }
-    ensures { IfSome result (λ _. env.0 < length envs.new) }
-{
-    match what {
-        "items" => items(alloc, envs, env, size),
-        "references" => references(alloc, envs, env, size),
-        "names" => names(alloc, envs, env, size),
-        "named_items" => named_items(alloc, envs, env, size),
-        "called_items" => called_items(alloc, envs, env, size),
-        "dollars" => repeated(alloc, "$$", size),
-        "marks" => repeated(alloc, "$(a$)", size),
-        "calls" => calls(alloc, envs, env, size, true),
-        "items_with_calls" => calls(alloc, envs, env, size, false),
-        _ => None,
-    }
-}
-
-/// A list of so many items.
-fn items(alloc: Global, envs: &mut Envs, env: EnvId, size: u32) -> Option<String>
-    requires { env.0 < length envs.old }
-    ensures { IfSome result (λ _. env.0 < length envs.new) }
-{
-    envs.set(env, "ITEMS", EnvValue::List(many(alloc, "x", size)?))
-        .ok()?;
-    repeated(alloc, "$ITEMS", 1)
-}
-
-/// So many references to a character of the longest text that a script may hold.
-fn references(alloc: Global, envs: &mut Envs, env: EnvId, size: u32) -> Option<String>
-    requires { env.0 < length envs.old }
-    ensures { IfSome result (λ _. env.0 < length envs.new) }
-{
-    let long = repeated(alloc, "0123456789abcdef", (TEXT_LIMIT / 16) as u32)?;
-    envs.set(env, "T", EnvValue::Text(Text::new(long))).ok()?;
-    repeated(alloc, "${T[0]}", size)
-}
-
-/// A variable with a name of so many characters, whose value has so many parts.
-fn names(alloc: Global, envs: &mut Envs, env: EnvId, size: u32) -> Option<String>
-    requires { env.0 < length envs.old }
-    ensures { IfSome result (λ _. env.0 < length envs.new) }
-{
-    let value = Text::new(repeated(alloc, "a$$", size)?);
-    named(alloc, envs, env, size, EnvValue::Text(value))
-}
-
-/// The same of a list with so many items.
-fn named_items(alloc: Global, envs: &mut Envs, env: EnvId, size: u32) -> Option<String>
-    requires { env.0 < length envs.old }
-    ensures { IfSome result (λ _. env.0 < length envs.new) }
-{
-    let items = many(alloc, "a$$", size)?;
-    named(alloc, envs, env, size, EnvValue::List(items))
-}
-
-/// A call over so many items, each of which is read apart, of a list with a name of so many characters.
-fn called_items(alloc: Global, envs: &mut Envs, env: EnvId, size: u32) -> Option<String>
-    requires { env.0 < length envs.old }
-    ensures { IfSome result (λ _. env.0 < length envs.new) }
-{
-    let items = many(alloc, "a$E", size)?;
-    let name = repeated(alloc, "N", size)?;
-    envs.set(env, name.as_str(), EnvValue::List(items)).ok()?;
-    let mut text = String::from_str(alloc, "${_concat(P, ").ok()?;
-    text.push_str(name.as_str()).ok()?;
-    text.push_str(", S, __env__)}").ok()?;
-    Some(text)
-}
-
-/// A variable with a name of so many characters.
-fn named(alloc: Global, envs: &mut Envs, env: EnvId, size: u32, value: EnvValue) -> Option<String>
-    requires { env.0 < length envs.old }
-    ensures { IfSome result (λ _. env.0 < length envs.new) }
-{
-    let name = repeated(alloc, "N", size)?;
-    envs.set(env, name.as_str(), value).ok()?;
-    format!(in alloc; "${name}").ok()
-}
-
-/// Calls in each other, so many: each list has an item, and then the name of the next list, or a text with a call of it.
-fn calls(alloc: Global, envs: &mut Envs, env: EnvId, size: u32, alone: bool) -> Option<String>
-    requires { env.0 < length envs.old }
-    ensures { IfSome result (λ _. env.0 < length envs.new) }
-{
-    'lists: for i in 0..size {
-        let mut items = Listing::empty(alloc);
-        items.push(Item::Text(Text::of(alloc, "x").ok()?)).ok()?;
-        let next = i.saturating_add(1);
-        let further = further(alloc, next, alone)?;
-        items.push(Item::Text(Text::new(further))).ok()?;
-        let name = format!(in alloc; "L{i}").ok()?;
-        envs.set(env, name.as_str(), EnvValue::List(items)).ok()?;
-    }
-    repeated(alloc, "${_concat(P, L0, S, __env__)}", 1)
-}
-
-/// The name of the list of this number, or a text with a call of it.
-fn further(alloc: Global, number: u32, alone: bool) -> Option<String> {
-    if alone {
-        return format!(in alloc; "$L{number}").ok();
-    }
-    let mut text = String::from_str(alloc, "y${_concat(P, L").ok()?;
-    let rest = format!(in alloc; "{number}, S, __env__)").ok()?;
-    text.push_str(rest.as_str()).ok()?;
-    text.push('}').ok()?;
-    Some(text)
-}
-
-/// A text so many times.
-fn repeated(alloc: Global, text: &str, times: u32) -> Option<String> {
-    let mut repeated = String::new(alloc);
     for _ in 0..times {
-        repeated.push_str(text).ok()?;
+        push(alloc, &mut items, text)?;
     }
-    Some(repeated)
+    Some(EnvValue::List(items))
+}
+
+fn push(alloc: Global, items: &mut Listing<Item>, text: &str) -> Option<()> {
+    let text = Text::of(alloc, text).ok()?;
+    items.push(Item::Text(text)).ok()
 }

@@ -1,32 +1,44 @@
 //! 100,000 paths that get a number, and are found again.
-use anyhow::Result;
 use node_tree::Nodes;
 use scons_base::PathText;
 use std::alloc::Global;
+use std::io;
 
 const PATHS: u32 = 100_000;
 
-pub fn intern_and_find(rt: &HostRuntime) -> Result<()> {
-    match counts(rt.alloc()) {
-        Some((nodes, found)) => println!(rt; "{nodes} nodes, {found} found")?,
-        None => println!(rt; "refused")?,
+pub fn intern_and_find(rt: &HostRuntime) -> io::Result<()> {
+    let mut nodes = Nodes::new(rt.alloc());
+    if !intern_all(rt.alloc(), &mut nodes) {
+        return rt.println("refused");
     }
-    Ok(())
+    let found = found(rt.alloc(), &nodes);
+    println!(rt; "{} nodes, {found} found", nodes.len())
 }
 
-/// How many nodes there are, and how many paths were found again.
-fn counts(alloc: Global) -> Option<(u32, u32)> {
-    let mut nodes = Nodes::new(alloc);
+/// Gives each path a number, and says whether there was memory for it.
+fn intern_all(alloc: Global, nodes: &mut Nodes) -> bool {
     for i in 0..PATHS {
-        nodes.intern(&path(alloc, i)?).ok()?;
+        let Some(path) = path(alloc, i) else {
+            return false;
+        };
+        if nodes.intern(&path).is_err() {
+            return false;
+        }
     }
+    true
+}
+
+/// How many paths are found again.
+fn found(alloc: Global, nodes: &Nodes) -> u32 {
     let mut found = 0u32;
     for i in 0..PATHS {
-        if nodes.find(&path(alloc, i)?).is_some() {
+        if let Some(path) = path(alloc, i)
+            && nodes.find(&path).is_some()
+        {
             found = found.saturating_add(1);
         }
     }
-    Some((nodes.len(), found))
+    found
 }
 
 fn path(alloc: Global, i: u32) -> Option<PathText> {

@@ -1,8 +1,8 @@
 //! A million items of a list: appended, indexed, joined and sorted.
-use anyhow::{Result, anyhow};
 use py_heap::{Budget, Heap, Value, ValueFault};
 use py_methods::{Name, method};
 use py_operators::index;
+use std::io;
 use std::time::Instant;
 
 const ITEMS: i64 = 1_000_000;
@@ -13,22 +13,30 @@ const UNITS: u64 = 100_000_000;
 const STEP: i64 = 614_657;
 
 /// Says how long each operation took.
-pub fn time_operations(rt: &HostRuntime) -> Result<()> {
+pub fn time_operations(rt: &HostRuntime) -> io::Result<()> {
     let mut heap = Heap::new(rt.alloc());
     let mut budget = Budget::new(UNITS);
-    let list = heap.list(&[]).map_err(refused)?;
-    let appended = time_appends(rt, &mut heap, &mut budget, list)?;
-    let (indexed, sum) = time_indexes(rt, &mut heap, &mut budget, list)?;
-    let joined = time_join(rt, &mut heap, &mut budget)?;
-    let sorted = time_sort(rt, &mut heap, &mut budget, list)?;
-    println!(rt;
-        "py_value: append {appended}, index {indexed}, join {joined}, sort {sorted} microseconds, sum {sum}"
-    )?;
-    Ok(())
+    let Ok(list) = heap.list(&[]) else {
+        return rt.println("refused");
+    };
+    time_over(rt, &mut heap, &mut budget, list)
 }
 
-fn refused(fault: ValueFault) -> anyhow::Error {
-    anyhow!("{fault:?}")
+fn time_over(
+    rt: &HostRuntime,
+    heap: &mut Heap,
+    budget: &mut Budget,
+    list: Value,
+) -> io::Result<()> {
+    let append = time_appends(rt, heap, budget, list)?;
+    let start = Instant::now(rt)?;
+    let sum = sum_of(heap, budget, list).unwrap_or(0);
+    let index = start.elapsed(rt)?.as_micros();
+    let join = time_join(rt, heap, budget)?;
+    let sort = time_sort(rt, heap, budget, list)?;
+    println!(rt;
+        "py_value: append {append}, index {index}, join {join}, sort {sort} microseconds, sum {sum}"
+    )
 }
 
 fn time_appends(
@@ -36,9 +44,34 @@ fn time_appends(
     heap: &mut Heap,
     budget: &mut Budget,
     list: Value,
-) -> Result<u128> {
+) -> io::Result<u128> {
     let start = Instant::now(rt)?;
-    append_all(heap, budget, list).map_err(refused)?;
+    if append_all(heap, budget, list).is_err() {
+        rt.println("refused")?;
+    }
+    Ok(start.elapsed(rt)?.as_micros())
+}
+
+fn time_join(rt: &HostRuntime, heap: &mut Heap, budget: &mut Budget) -> io::Result<u128> {
+    let texts = texts(heap, budget).unwrap_or(Value::Nil);
+    let comma = heap.text(",").unwrap_or(Value::Nil);
+    let start = Instant::now(rt)?;
+    if method(heap, budget, comma, Name::Join, &[texts]).is_err() {
+        rt.println("refused")?;
+    }
+    Ok(start.elapsed(rt)?.as_micros())
+}
+
+fn time_sort(
+    rt: &HostRuntime,
+    heap: &mut Heap,
+    budget: &mut Budget,
+    list: Value,
+) -> io::Result<u128> {
+    let start = Instant::now(rt)?;
+    if method(heap, budget, list, Name::Sort, &[]).is_err() {
+        rt.println("refused")?;
+    }
     Ok(start.elapsed(rt)?.as_micros())
 }
 
@@ -46,24 +79,9 @@ fn append_all(heap: &mut Heap, budget: &mut Budget, list: Value) -> Result<(), V
     let mut item = 0;
     for _ in 0..ITEMS {
         method(heap, budget, list, Name::Append, &[Value::Int(item)])?;
-        item = next(item);
+        item = item.wrapping_add(STEP) % ITEMS;
     }
     Ok(())
-}
-
-fn next(item: i64) -> i64 {
-    item.wrapping_add(STEP) % ITEMS
-}
-
-fn time_indexes(
-    rt: &HostRuntime,
-    heap: &mut Heap,
-    budget: &mut Budget,
-    list: Value,
-) -> Result<(u128, i64)> {
-    let start = Instant::now(rt)?;
-    let sum = sum_of(heap, budget, list).map_err(refused)?;
-    Ok((start.elapsed(rt)?.as_micros(), sum))
 }
 
 fn sum_of(heap: &mut Heap, budget: &mut Budget, list: Value) -> Result<i64, ValueFault> {
@@ -76,14 +94,6 @@ fn sum_of(heap: &mut Heap, budget: &mut Budget, list: Value) -> Result<i64, Valu
     Ok(sum)
 }
 
-fn time_join(rt: &HostRuntime, heap: &mut Heap, budget: &mut Budget) -> Result<u128> {
-    let texts = texts(heap, budget).map_err(refused)?;
-    let comma = heap.text(",").map_err(refused)?;
-    let start = Instant::now(rt)?;
-    method(heap, budget, comma, Name::Join, &[texts]).map_err(refused)?;
-    Ok(start.elapsed(rt)?.as_micros())
-}
-
 /// A list of a million texts of two bytes.
 fn texts(heap: &mut Heap, budget: &mut Budget) -> Result<Value, ValueFault> {
     let list = heap.list(&[])?;
@@ -92,10 +102,4 @@ fn texts(heap: &mut Heap, budget: &mut Budget) -> Result<Value, ValueFault> {
         method(heap, budget, list, Name::Append, &[text])?;
     }
     Ok(list)
-}
-
-fn time_sort(rt: &HostRuntime, heap: &mut Heap, budget: &mut Budget, list: Value) -> Result<u128> {
-    let start = Instant::now(rt)?;
-    method(heap, budget, list, Name::Sort, &[]).map_err(refused)?;
-    Ok(start.elapsed(rt)?.as_micros())
 }

@@ -1,6 +1,0 @@
-use Rattle.std.proofs.Common.{◌<◌, length}
-use Rattle.benches.proofs.costs.calls.Given as goal
-
--- the environment stays
-abbrev pub invariant-lists : goal.invariant-lists
-invariant-lists l = l.env.0 < length l.envs
