@@ -1,0 +1,18 @@
+-- What trials tell, and what of it is refused.
+use Rattle.std.specs.Prelude.{◌≡◌, ℕ, List, Bool, true, false, ◌++◌}
+
+-- what is told so far, as bytes, and whether the line that is told of is refused
+pub record Telling : Type 0 where
+  pub text : List ℕ
+  pub is_refused : Bool
+
+-- These bytes are told behind what was told before. Where they aren't, the line is refused, and a line that was refused stays so.
+pub record Tells (old new : Telling) (bytes : List ℕ) : Type 0 where
+  pub whole : new.is_refused ≡ false → new.text ≡ old.text ++ bytes
+  pub stays : old.is_refused ≡ true → new.is_refused ≡ true
+
+-- Nothing is told. This is so, or the line is refused, and a line that was refused stays so.
+pub record Reads (old new : Telling) (P : Type 0) : Type 0 where
+  pub told : new.text ≡ old.text
+  pub so : new.is_refused ≡ false → P
+  pub stays : old.is_refused ≡ true → new.is_refused ≡ true
