@@ -1,76 +1,110 @@
 //! What lines on paths ask for.
-use crate::written::text_of;
+use crate::written::{path_of, text_of};
 use scons_base::{PathFault, PathText};
 use std::alloc::Global;
+use trial_text::Told;
 
-/// A path that is read, with its bytes where it is long.
-pub(crate) fn read(alloc: Global, field: &str) -> Option<String> {
-    let answer = PathText::read(alloc, text_of(alloc, field)?.as_str());
-    let mut line = format!(in alloc; "read {field}: ").ok()?;
-    put_path(&mut line, answer)?;
-    Some(line)
+/// A path that is read, or how many bytes a long one has.
+pub(crate) fn put_read(alloc: Global, told: &mut Told, field: &str) {
+    told.put_all(&["read ", field, ": "]);
+    match text_of(alloc, field) {
+        Some(text) => put_path(told, &PathText::read(alloc, text.as_str())),
+        None => told.refuse(),
+    }
 }
 
 /// What a text names from a directory, where the top directory is the first field, and the one spelling of that.
-pub(crate) fn resolve(alloc: Global, rest: &str) -> Option<String> {
-    let (top, fields) = rest.split_once('|')?;
-    let (dir, field) = fields.split_once('|')?;
-    let top = path(alloc, top)?;
-    let answer = PathText::resolve(
-        alloc,
-        &top,
-        &path(alloc, dir)?,
-        text_of(alloc, field)?.as_str(),
-    );
-    let mut line = format!(in alloc; "{field} from {dir}: ").ok()?;
-    let again = match &answer {
-        Ok(path) => Some(path.spelled(&top).ok()?),
-        Err(_) => None,
-    };
-    put_path(&mut line, answer)?;
-    if let Some(again) = again {
-        line.push_str(", again ").ok()?;
-        put_text(&mut line, again.as_str())?;
+pub(crate) fn put_resolved(alloc: Global, told: &mut Told, rest: &str) {
+    let (top, fields) = rest.split_once('|').unwrap_or((rest, ""));
+    let (dir, field) = fields.split_once('|').unwrap_or((fields, ""));
+    told.put_all(&[field, " from ", dir, ": "]);
+    match text_of(alloc, field) {
+        Some(text) => put_named(alloc, told, top, dir, text.as_str()),
+        None => told.refuse(),
     }
-    Some(line)
+}
+
+fn put_named(alloc: Global, told: &mut Told, top: &str, dir: &str, text: &str) {
+    let Some(top) = path_of(alloc, top) else {
+        return told.refuse();
+    };
+    let Some(dir) = path_of(alloc, dir) else {
+        return told.refuse();
+    };
+    let answer = PathText::resolve(alloc, &top, &dir, text);
+    put_path(told, &answer);
+    if let Ok(path) = &answer {
+        put_again(told, &top, path);
+    }
+}
+
+fn put_again(told: &mut Told, top: &PathText, path: &PathText) {
+    told.put(", again ");
+    match path.spelled(top) {
+        Ok(again) => put_text(told, again.as_str()),
+        Err(_) => told.refuse(),
+    }
 }
 
 /// The name, suffix, base and directory of a path.
-pub(crate) fn parts(alloc: Global, field: &str) -> Option<String> {
-    let path = path(alloc, field)?;
-    let mut line = format!(in alloc; "{field}|{}|{}", path.name(), path.suffix()).ok()?;
-    write!(line, "|{}|{}", path.base(), path.dir()).ok()?;
-    Some(line)
+pub(crate) fn put_parts(alloc: Global, told: &mut Told, field: &str) {
+    match path_of(alloc, field) {
+        Some(path) => told.put_all(&[
+            field,
+            "|",
+            path.name(),
+            "|",
+            path.suffix(),
+            "|",
+            path.base(),
+            "|",
+            path.dir(),
+        ]),
+        None => told.refuse(),
+    }
 }
 
 /// Whether a path lies below a directory, and the path in its place below `/src`.
-pub(crate) fn below(alloc: Global, rest: &str) -> Option<String> {
-    let (field, dir) = rest.split_once('|')?;
-    let (path, from) = (path(alloc, field)?, path(alloc, dir)?);
-    let mut line = format!(in alloc; "{field} below {dir}: {}", path.is_below(&from)).ok()?;
-    match path.moved(&from, &crate::paths::path(alloc, "/src")?).ok()? {
-        Some(moved) => write!(line, ", {}", moved.as_str()).ok()?,
-        None => line.push_str(", none").ok()?,
+pub(crate) fn put_below(alloc: Global, told: &mut Told, rest: &str) {
+    let (field, dir) = rest.split_once('|').unwrap_or((rest, ""));
+    told.put_all(&[field, " below ", dir, ": "]);
+    let Some(path) = path_of(alloc, field) else {
+        return told.refuse();
+    };
+    let Some(from) = path_of(alloc, dir) else {
+        return told.refuse();
+    };
+    told.show(path.is_below(&from));
+    put_moved(alloc, told, &path, &from);
+}
+
+fn put_moved(alloc: Global, told: &mut Told, path: &PathText, from: &PathText) {
+    let Some(to) = path_of(alloc, "/src") else {
+        return told.refuse();
+    };
+    match path.moved(from, &to) {
+        Ok(Some(moved)) => told.put_all(&[", ", moved.as_str()]),
+        Ok(None) => told.put(", none"),
+        Err(_) => told.refuse(),
     }
-    Some(line)
 }
 
-pub(crate) fn path(alloc: Global, field: &str) -> Option<PathText> {
-    PathText::read(alloc, text_of(alloc, field)?.as_str()).ok()
-}
-
-fn put_path(line: &mut String, answer: Result<PathText, PathFault>) -> Option<()> {
+fn put_path(told: &mut Told, answer: &Result<PathText, PathFault>) {
     match answer {
-        Ok(path) => put_text(line, path.as_str()),
-        Err(fault) => write!(line, "!{fault}").ok(),
+        Ok(path) => put_text(told, path.as_str()),
+        Err(fault) => {
+            told.put("!");
+            told.show(fault);
+        }
     }
 }
 
 /// A text, or how many bytes a long one has.
-fn put_text(line: &mut String, text: &str) -> Option<()> {
+fn put_text(told: &mut Told, text: &str) {
     if text.len() > 200 {
-        write!(line, "{} bytes", text.len()).ok()
+        told.show(text.len());
+        told.put(" bytes");
     } else {
-        line.push_str(text).ok()
+        told.put(text);
     }
 }

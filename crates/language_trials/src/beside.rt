@@ -1,6 +1,6 @@
 //! What no script can ask: which of two equal texts stands where in a sorted list, how an object is refused, and what a
 //! heap tells of values of each kind.
-use crate::told::Told;
+use trial_text::Told;
 use py_heap::{Budget, Heap, HostId, Value, ValueFault};
 use py_methods::{Name, method};
 use py_operators::index;

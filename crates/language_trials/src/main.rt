@@ -7,14 +7,13 @@ mod beside;
 mod made;
 mod runs;
 mod scripts;
-mod told;
 mod trees;
 mod values;
 mod width;
 
 use crate::beside::put_beside;
 use crate::runs::put_runs;
-use crate::told::Told;
+use trial_text::Told;
 use crate::trees::put_trees;
 use crate::values::put_values;
 use std::alloc::Global;

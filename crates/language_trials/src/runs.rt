@@ -6,7 +6,7 @@
 //! A line `--- run` begins a script that a call of `run` begins, and `--- next` one behind the first. `--- sum N` stands for the
 //! assignment of a sum of N ones to `x`.
 use crate::scripts::{put_kind, script_of};
-use crate::told::Told;
+use trial_text::Told;
 use eval_hosts::{Printing, Replying};
 use py_eval::{EvalFault, Exit, Ran, run};
 use py_heap::{Budget, Heap};

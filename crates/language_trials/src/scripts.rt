@@ -1,5 +1,5 @@
 //! What the parts of the table have in common: texts as scripts, and how faults are told.
-use crate::told::Told;
+use trial_text::Told;
 use py_eval::EvalKind;
 use py_lex::lex;
 use py_parse::parse;

@@ -7,7 +7,7 @@
 //! The trees are those that `ast` of CPython 3.11 has, which keeps no parentheses and no comma at the end. Python refuses a
 //! script that has a fault here, or means something else by it.
 use crate::made::{blocks, repeated, tokens_of};
-use crate::told::Told;
+use trial_text::Told;
 use crate::width::width;
 use py_lex::lex;
 use py_parse::{ParseFault, ParseKind, parse};

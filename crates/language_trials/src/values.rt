@@ -5,7 +5,7 @@
 //! One that ends in a call of `print` tells what that prints. `an_object` stands for an object, `a_path` for one that shows
 //! as a path, and `a_function` for a function.
 use crate::scripts::{put_kind, script_of};
-use crate::told::Told;
+use trial_text::Told;
 use eval_hosts::Replying;
 use py_eval::{EvalFault, Ran, run};
 use py_heap::{Budget, Heap, HostId};

@@ -9,39 +9,34 @@
 mod seen;
 mod trial;
 
-use crate::seen::run;
+use crate::seen::put_run;
 use crate::trial::Trial;
-use anyhow::Result;
-use std::io::{BufRead, BufReader};
+use std::alloc::Global;
+use std::io;
+use trial_text::Told;
 
-fn main(rt: HostRuntime) -> Result<()> {
-    let alloc = rt.alloc();
-    let mut last = None;
-    for line in BufReader::new(alloc, rt.reader())?.lines(alloc) {
-        let line = line?;
-        match line.as_str().strip_prefix("== ") {
-            Some(name) => {
-                end(&rt, &last)?;
-                last = Some(Trial::new(alloc, name)?);
-            }
-            None => take(&mut last, line.as_str())?,
+fn main(rt: HostRuntime) -> io::Result<()> {
+    let table = io::read_to_string(rt.alloc(), rt.reader())?;
+    let mut told = Told::new(rt.alloc());
+    put_all(rt.alloc(), &mut told, table.as_str());
+    rt.print(told.as_str())
+}
+
+/// Tells what each trial of the table left.
+fn put_all(alloc: Global, told: &mut Told, table: &str) {
+    for part in table.split("== ") {
+        if let Some((name, lines)) = part.split_once('\n') {
+            told.put_all(&["== ", name, "\n"]);
+            put_trial(alloc, told, lines);
+            told.end(name);
         }
     }
-    end(&rt, &last)
 }
 
-/// Gives a line to the trial that it stands in.
-fn take(trial: &mut Option<Trial>, line: &str) -> Result<()> {
-    match trial {
-        Some(trial) => trial.take(line),
-        None => Ok(()),
+fn put_trial(alloc: Global, told: &mut Told, lines: &str) {
+    let mut trial = Trial::new(alloc);
+    for line in lines.lines() {
+        trial.take(told, line);
     }
-}
-
-/// Runs a trial whose lines were taken, if there is one.
-fn end(rt: &HostRuntime, trial: &Option<Trial>) -> Result<()> {
-    if let Some(trial) = trial {
-        rt.print(run(rt.alloc(), trial)?.as_str())?;
-    }
-    Ok(())
+    put_run(alloc, told, &trial);
 }

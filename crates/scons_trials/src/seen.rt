@@ -1,152 +1,174 @@
-//! What a trial's run left, as text.
-ghost use Rattle.std.specs.Prelude.{◌≡◌, [], IfOk};
+//! What a trial's run leaves, as text.
+ghost use Rattle.std.specs.Prelude.{◌≡◌, []};
 ghost use Rattle.world_mem.specs.AsAround.{around_of};
 
-use crate::trial::Trial;
-use anyhow::{Context, Result, bail};
+use crate::trial::{Source, Trial};
 use one_rule::{Report, scons};
 use scons_base::{Blob, PathText, Text, Texts};
 use std::alloc::Global;
 use std::str;
+use trial_text::Told;
 use world_api::World;
 use world_mem::{ActRow, ActTable, Made, MemSink, MemWorld};
 
 /// The most bytes of a target that are written.
 const TARGET_LIMIT: u64 = 1000;
 
-/// Runs a trial, and writes its status, what it printed, and its target.
-pub fn run(alloc: Global, trial: &Trial) -> Result<String> {
-    let mut world = world_of(alloc, trial)?;
-    let mut text = String::new(alloc);
-    add_run(alloc, trial, &mut world, &mut text)?;
-    add_target(alloc, &mut world, &mut text)?;
-    Ok(text)
-}
-
-fn world_of(alloc: Global, trial: &Trial) -> Result<MemWorld>
-    ensures { IfOk result (λ world. (around_of world.state).running ≡ []) }
-{
-    let files = files_of(alloc, trial)?;
-    let table = table_of(alloc, trial.action)?;
-    let calls = Vec::from_slice(alloc, trial.calls.as_slice())?;
-    match MemWorld::new(alloc, files, table, Vec::new(alloc), calls) {
-        Ok(world) => Ok(world),
-        Err(_) => bail!("no world"),
+/// Runs a trial, and tells its status, what it printed, and its target.
+pub fn put_run(alloc: Global, told: &mut Told, trial: &Trial) {
+    let mut files = Vec::new(alloc);
+    add_files(alloc, told, trial, &mut files);
+    let mut rows = Vec::new(alloc);
+    if let Some(status) = trial.action {
+        add_failing(alloc, told, &mut rows, status);
     }
+    put_over(alloc, told, trial, files, ActTable::new(rows));
 }
 
 /// The script, the source, and an old target.
-fn files_of(alloc: Global, trial: &Trial) -> Result<Vec<(PathText, Blob)>> {
-    let mut files = Vec::new(alloc);
-    add_file(alloc, &mut files, "SConstruct", trial.script.as_ref())?;
-    add_file(alloc, &mut files, "s", trial.source.as_ref())?;
-    let old = blob_of(alloc, b"old".as_slice())?;
-    add_file(alloc, &mut files, "o", Some(&old))?;
-    Ok(files)
+fn add_files(alloc: Global, told: &mut Told, trial: &Trial, files: &mut Vec<(PathText, Blob)>) {
+    if let Some(script) = trial.script {
+        add_script(alloc, told, files, script);
+    }
+    match trial.source {
+        Source::Usual => add_bytes(alloc, told, files, "s", b"abc".as_slice()),
+        Source::Large(size) => add_large(alloc, told, files, size),
+        Source::Absent => {}
+    }
+    add_bytes(alloc, told, files, "o", b"old".as_slice());
 }
 
-/// Adds a file where there is content for one.
-fn add_file(
+fn add_script(alloc: Global, told: &mut Told, files: &mut Vec<(PathText, Blob)>, text: &str) {
+    match text.replace(alloc, "\\n", "\n") {
+        Ok(text) => add_bytes(alloc, told, files, "SConstruct", text.as_bytes()),
+        Err(_) => told.refuse(),
+    }
+}
+
+fn add_bytes(
     alloc: Global,
+    told: &mut Told,
     files: &mut Vec<(PathText, Blob)>,
     path: &str,
-    content: Option<&Blob>,
-) -> Result<()> {
-    if let Some(content) = content {
-        let path = path_of(alloc, path)?;
-        files.push((path, blob_of(alloc, content.as_slice())?))?;
+    bytes: &[u8],
+) {
+    match Blob::of(alloc, bytes) {
+        Ok(bytes) => add_file(alloc, told, files, path, bytes),
+        Err(_) => told.refuse(),
     }
-    Ok(())
 }
 
-fn blob_of(alloc: Global, bytes: &[u8]) -> Result<Blob> {
-    Blob::of(alloc, bytes).ok().context(format_args!("memory"))
+/// A source of so many bytes.
+fn add_large(alloc: Global, told: &mut Told, files: &mut Vec<(PathText, Blob)>, size: u32) {
+    match Vec::from_elem(alloc, b'a', size as usize) {
+        Ok(bytes) => add_file(alloc, told, files, "s", Blob::new(bytes)),
+        Err(_) => told.refuse(),
+    }
+}
+
+fn add_file(
+    alloc: Global,
+    told: &mut Told,
+    files: &mut Vec<(PathText, Blob)>,
+    path: &str,
+    bytes: Blob,
+) {
+    match PathText::read(alloc, path) {
+        Ok(path) => told.keep(files, (path, bytes)),
+        Err(_) => told.refuse(),
+    }
 }
 
 /// The action, where it fails.
-fn table_of(alloc: Global, action: Option<i32>) -> Result<ActTable> {
-    let mut rows = Vec::new(alloc);
-    if let Some(status) = action {
-        rows.push(failing_row(alloc, status)?)?;
+fn add_failing(alloc: Global, told: &mut Told, rows: &mut Vec<ActRow>, status: i32) {
+    let mut lines = Vec::new(alloc);
+    match Text::of(alloc, "mk") {
+        Ok(line) => told.keep(&mut lines, line),
+        Err(_) => told.refuse(),
     }
-    Ok(ActTable::new(rows))
+    told.keep(
+        rows,
+        ActRow {
+            signed: Texts::new(lines),
+            given: None,
+            made: Made::Fail(status),
+        },
+    );
 }
 
-fn failing_row(alloc: Global, status: i32) -> Result<ActRow> {
-    let line = Text::of(alloc, "mk").ok().context(format_args!("memory"))?;
-    Ok(ActRow {
-        signed: Texts::new(vec![in alloc; line]?),
-        given: None,
-        made: Made::Fail(status),
-    })
+fn put_over(
+    alloc: Global,
+    told: &mut Told,
+    trial: &Trial,
+    files: Vec<(PathText, Blob)>,
+    table: ActTable,
+) {
+    let Ok(calls) = Vec::from_slice(alloc, trial.calls.as_slice()) else {
+        return told.refuse();
+    };
+    match MemWorld::new(alloc, files, table, Vec::new(alloc), calls) {
+        Ok(mut world) => put_in(alloc, told, trial, &mut world),
+        Err(_) => told.refuse(),
+    }
 }
 
-fn add_run(alloc: Global, trial: &Trial, world: &mut MemWorld, text: &mut String) -> Result<()>
+fn put_in(alloc: Global, told: &mut Told, trial: &Trial, world: &mut MemWorld)
     requires { (around_of world.old.state).running ≡ [] }
 {
-    let mut out = sink_of(alloc, trial.out.as_slice())?;
-    let mut err = sink_of(alloc, trial.err.as_slice())?;
-    let report = scons(alloc, trial.words.as_slice(), world, &mut out, &mut err);
-    add_report(alloc, trial.name.as_str(), &report, text)?;
-    add_told(out.text(), err.text(), text)
+    match (sink_of(alloc, &trial.out), sink_of(alloc, &trial.err)) {
+        (Some(mut out), Some(mut err)) => {
+            let report = scons(alloc, trial.words.as_slice(), world, &mut out, &mut err);
+            put_report(told, &report);
+            told.put_bytes(out.text());
+            put_errors(told, err.text());
+        }
+        _ => told.refuse(),
+    }
+    put_target(alloc, told, world);
 }
 
 /// A sink whose writes of these numbers fail.
-fn sink_of(alloc: Global, failing: &[u32]) -> Result<MemSink> {
-    MemSink::new(alloc, Vec::from_slice(alloc, failing)?)
-        .ok()
-        .context(format_args!("memory"))
+fn sink_of(alloc: Global, failing: &Vec<u32>) -> Option<MemSink> {
+    MemSink::new(alloc, Vec::from_slice(alloc, failing.as_slice()).ok()?).ok()
 }
 
-fn add_report(alloc: Global, name: &str, report: &Report, text: &mut String) -> Result<()> {
-    let status = report.status;
-    let faults = report.faults.as_slice().len();
-    let line = format!(in alloc; "== {name}\nstatus {status}, {faults} faults\n")?;
-    text.push_str(line.as_str())?;
-    Ok(())
+fn put_report(told: &mut Told, report: &Report) {
+    told.put("status ");
+    told.show(report.status);
+    told.put(", ");
+    told.show(report.faults.as_slice().len());
+    told.put(" faults\n");
 }
 
-/// Adds what was told on standard output, and behind it each line of standard error, marked.
-fn add_told(out: &[u8], err: &[u8], text: &mut String) -> Result<()> {
-    text.push_str(text_of(out)?)?;
-    for line in text_of(err)?.lines() {
-        text.push_str("! ")?;
-        text.push_str(line)?;
-        text.push_str("\n")?;
+/// Each line of standard error, marked.
+fn put_errors(told: &mut Told, bytes: &[u8]) {
+    match str::from_utf8(bytes) {
+        Ok(text) => put_marked(told, text),
+        Err(_) => told.refuse(),
     }
-    Ok(())
 }
 
-fn add_target(alloc: Global, world: &mut MemWorld, text: &mut String) -> Result<()> {
-    let path = path_of(alloc, "o")?;
+fn put_marked(told: &mut Told, text: &str) {
+    for line in text.lines() {
+        told.put_all(&["! ", line, "\n"]);
+    }
+}
+
+fn put_target(alloc: Global, told: &mut Told, world: &mut MemWorld) {
+    let Ok(path) = PathText::read(alloc, "o") else {
+        return told.refuse();
+    };
     match world.read_file(&path, TARGET_LIMIT) {
-        Ok(Some(bytes)) => add_content(bytes.as_slice(), text),
-        Ok(None) => {
-            text.push_str("o is no file\n")?;
-            Ok(())
-        }
-        Err(_) => {
-            text.push_str("o cannot be read\n")?;
-            Ok(())
-        }
+        Ok(Some(bytes)) => put_content(told, bytes.as_slice()),
+        Ok(None) => told.put("o is no file\n"),
+        Err(_) => told.put("o cannot be read\n"),
     }
 }
 
-fn add_content(bytes: &[u8], text: &mut String) -> Result<()> {
-    text.push_str("o: ")?;
-    text.push_str(text_of(bytes)?)?;
-    if !text.as_str().ends_with("\n") {
-        text.push_str("\n")?;
+fn put_content(told: &mut Told, bytes: &[u8]) {
+    told.put("o: ");
+    told.put_bytes(bytes);
+    if !bytes.ends_with(b"\n".as_slice()) {
+        told.put("\n");
     }
-    Ok(())
-}
-
-fn path_of(alloc: Global, text: &str) -> Result<PathText> {
-    PathText::read(alloc, text)
-        .ok()
-        .context(format_args!("{text} is no path"))
-}
-
-fn text_of(bytes: &[u8]) -> Result<&str> {
-    str::from_utf8(bytes).ok().context(format_args!("no text"))
 }

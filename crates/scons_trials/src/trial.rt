@@ -1,23 +1,26 @@
 //! A run to be tried, and what stands in its way.
-
-use anyhow::{Context, Result, bail};
-use scons_base::{Blob, Text};
+use scons_base::Text;
 use std::alloc::Global;
+use trial_text::Told;
 use world_mem::Call;
 
-/// The script of a trial that has no other.
-const SCRIPT: &str = "Command('o', 's', 'mk')\n";
-
-/// The source of a trial that has no other.
-const SOURCE: &str = "abc";
+/// The source of a trial.
+#[derive(Clone, Copy)]
+pub enum Source {
+    Usual,
+    /// So many bytes.
+    Large(u32),
+    Absent,
+}
 
 /// A run, and what stands in its way.
 #[derive(Drop)]
-pub struct Trial {
-    pub name: String,
+pub struct Trial<'a> {
+    alloc: Global,
     pub words: Vec<Text>,
-    pub script: Option<Blob>,
-    pub source: Option<Blob>,
+    /// The script's text, with `\n` for a line feed, if there is a script.
+    pub script: Option<&'a str>,
+    pub source: Source,
     /// The status that the action fails with.
     pub action: Option<i32>,
     /// The calls of the world that fail: which, and its number from 0.
@@ -27,81 +30,75 @@ pub struct Trial {
     pub err: Vec<u32>,
 }
 
-impl Trial {
+impl<'a> Trial<'a> {
     /// A run that nothing stands in the way of.
-    pub fn new(alloc: Global, name: &str) -> Result<Trial> {
-        Ok(Trial {
-            name: String::from_str(alloc, name)?,
+    pub fn new(alloc: Global) -> Trial<'a> {
+        Trial {
+            alloc,
             words: Vec::new(alloc),
-            script: Some(blob(alloc, SCRIPT)?),
-            source: Some(blob(alloc, SOURCE)?),
+            script: Some("Command('o', 's', 'mk')\\n"),
+            source: Source::Usual,
             action: None,
             calls: Vec::new(alloc),
             out: Vec::new(alloc),
             err: Vec::new(alloc),
-        })
+        }
     }
 
     /// Takes a line of the trial.
-    pub fn take(&mut self, line: &str) -> Result<()> {
-        let alloc = *self.words.allocator();
-        let (key, rest) = split(line);
+    pub fn take(&mut self, told: &mut Told, line: &'a str) {
+        let (key, rest) = line.split_once(' ').unwrap_or((line, ""));
         match key {
-            "word" => self.words.push(Text::of(alloc, rest).ok().context(format_args!("memory"))?)?,
-            "script" => self.script = Some(blob(
-                alloc,
-                rest.replace(alloc, "\\n", "\n")?.as_str(),
-            )?),
+            "word" => self.take_word(told, rest),
+            "script" => self.script = Some(rest),
             "no" if rest == "script" => self.script = None,
-            "no" if rest == "source" => self.source = None,
-            "large" => {
-                let bytes = Vec::from_elem(alloc, b'a', number(rest)? as usize)?;
-                self.source = Some(Blob::new(bytes));
-            }
-            "action" => self.action = Some(code(rest)?),
-            "call" => {
-                let (call, place) = split(rest);
-                self.calls.push((call_of(call)?, number(place)?))?;
-            }
-            "out" => self.out.push(number(rest)?)?,
-            "err" => self.err.push(number(rest)?)?,
-            _ => bail!("{line} says nothing of a trial"),
+            "no" if rest == "source" => self.source = Source::Absent,
+            "large" => self.source = Source::Large(told.number(rest)),
+            "action" => self.take_action(told, rest),
+            "call" => self.take_call(told, rest),
+            "out" => take_number(told, &mut self.out, rest),
+            "err" => take_number(told, &mut self.err, rest),
+            _ => told.refuse(),
         }
-        Ok(())
+    }
+
+    fn take_word(&mut self, told: &mut Told, word: &str) {
+        match Text::of(self.alloc, word) {
+            Ok(word) => told.keep(&mut self.words, word),
+            Err(_) => told.refuse(),
+        }
+    }
+
+    fn take_action(&mut self, told: &mut Told, code: &str) {
+        match code.parse::<i32>() {
+            Ok(code) => self.action = Some(code),
+            Err(_) => told.refuse(),
+        }
+    }
+
+    /// Takes the name of a call and its number.
+    fn take_call(&mut self, told: &mut Told, rest: &str) {
+        let (name, number) = rest.split_once(' ').unwrap_or((rest, ""));
+        let number = told.number(number);
+        match call_of(name) {
+            Some(call) => told.keep(&mut self.calls, (call, number)),
+            None => told.refuse(),
+        }
     }
 }
 
-/// The first word, and what stands behind the blank after it.
-fn split(line: &str) -> (&str, &str) {
-    match line.split_once(" ") {
-        Some(parts) => parts,
-        None => (line, ""),
-    }
-}
-
-fn number(text: &str) -> Result<u32> {
-    text.parse::<u32>()
-        .ok()
-        .context(format_args!("{text} is no number"))
-}
-
-fn code(text: &str) -> Result<i32> {
-    text.parse::<i32>()
-        .ok()
-        .context(format_args!("{text} is no code"))
-}
-
-fn blob(alloc: Global, text: &str) -> Result<Blob> {
-    Ok(Blob::new(Vec::from_slice(alloc, text.as_bytes())?))
+fn take_number(told: &mut Told, numbers: &mut Vec<u32>, field: &str) {
+    let number = told.number(field);
+    told.keep(numbers, number);
 }
 
 /// The calls that a run of this command makes.
-fn call_of(name: &str) -> Result<Call> {
-    Ok(match name {
-        "read_file" => Call::ReadFile,
-        "remove" => Call::Remove,
-        "start" => Call::Start,
-        "wait" => Call::Wait,
-        _ => bail!("{name} is no call of this command"),
-    })
+fn call_of(name: &str) -> Option<Call> {
+    match name {
+        "read_file" => Some(Call::ReadFile),
+        "remove" => Some(Call::Remove),
+        "start" => Some(Call::Start),
+        "wait" => Some(Call::Wait),
+        _ => None,
+    }
 }

@@ -18,7 +18,6 @@ mod held;
 mod parts;
 mod rule;
 mod shown;
-mod told;
 mod trial;
 mod values;
 mod widest;

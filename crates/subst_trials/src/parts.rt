@@ -2,7 +2,7 @@
 ghost use Rattle.std.specs.Prelude.{◌<◌, ◌≤◌, ◌^◌, length, IfOk};
 ghost use Rattle.scons_base.specs.declared.limits.TheConstants.{SUBST_LIMIT};
 
-use crate::told::Told;
+use trial_text::Told;
 use env_pieces::{FormFault, Mark, Mode, Piece, PieceFault, Pieces, form_of};
 use env_text::{Index, Part, Selection, Step, next_part};
 use scons_base::Memory;

@@ -1,5 +1,5 @@
 //! How forms, lists of them and faults are told.
-use crate::told::Told;
+use trial_text::Told;
 use env_subst::{LibItem, SubstFault};
 use scons_base::{PathText, Text};
 

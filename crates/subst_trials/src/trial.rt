@@ -3,7 +3,7 @@ ghost use Rattle.std.specs.Prelude.{◌<◌, length};
 
 use crate::rule::plain_rule;
 use crate::shown::{put_fault, put_form, put_libs, put_paths, put_texts};
-use crate::told::Told;
+use trial_text::Told;
 use crate::values::value;
 use crate::written::put_value;
 use env_subst::{Locals, Mode, command_lines, dirs, lib_names, lines, path_text, subst};

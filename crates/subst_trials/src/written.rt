@@ -1,5 +1,5 @@
 //! How values are told: as the table writes them, and `absent` where there is none.
-use crate::told::Told;
+use trial_text::Told;
 use env_vars::{EnvValue, Item};
 use scons_base::Text;
 
