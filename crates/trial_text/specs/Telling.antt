@@ -1,5 +1,6 @@
 -- What trials tell, and what of it is refused.
 use Rattle.std.specs.Prelude.{◌≡◌, ℕ, List, Bool, true, false, ◌++◌}
+use Rattle.std.specs.Str.Parse.{IsNumeral, digits_value, without_leading_plus}
 
 -- what is told so far, as bytes, and whether the line that is told of is refused
 pub record Telling : Type 0 where
@@ -16,3 +17,8 @@ pub record Reads (old new : Telling) (P : Type 0) : Type 0 where
   pub told : new.text ≡ old.text
   pub so : new.is_refused ≡ false → P
   pub stays : old.is_refused ≡ true → new.is_refused ≡ true
+
+-- A field is this number in decimal digits; a plus may stand before them.
+pub record IsNumber (field : List ℕ) (number : ℕ) : Type 0 where
+  pub numeral : IsNumeral 10 (without_leading_plus field)
+  pub value : number ≡ digits_value 10 (without_leading_plus field)

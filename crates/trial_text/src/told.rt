@@ -1,8 +1,6 @@
 //! What is told so far, and whether the line that is told of is refused.
-ghost use Rattle.std.specs.Prelude.{◌≡◌, ℕ, List, Bool, true, false, [], ◌∷◌, ◌++◌, ◌×◌, codes, concat, map, IfSome, Ok, string_bytes};
-ghost use Rattle.std.specs.Str.{IsUtf8};
-ghost use Rattle.std.specs.Str.Parse.{ParsesUnsigned};
-ghost use Rattle.trial_text.specs.Telling.{Telling, Tells, Reads};
+ghost use Rattle.std.specs.Prelude.{◌≡◌, ℕ, List, Bool, true, false, [], ◌∷◌, ◌++◌, codes, flat_map, IfSome, string_bytes};
+ghost use Rattle.trial_text.specs.Telling.{Telling, Tells, Reads, IsNumber};
 
 use std::alloc::Global;
 use std::fmt::Display;
@@ -43,7 +41,7 @@ impl Told {
 
     /// Tells texts one behind another.
     pub fn put_all(&mut self, texts: &[&str])
-        ensures { Tells self.old self.new (concat (map (λ text. text.now) texts.now)) }
+        ensures { Tells self.old self.new (flat_map (λ text. text.now) texts.now) }
     {
         for text in texts {
             self.put(text);
@@ -91,7 +89,7 @@ impl Told {
 
     /// The number that a field is; 0 where it is none, which refuses the line.
     pub fn number(&mut self, field: &str) -> u32
-        ensures { Reads self.old self.new (ParsesUnsigned 32 10 field.now (Ok result)) }
+        ensures { Reads self.old self.new (IsNumber field.now result) }
     {
         match field.parse::<u32>() {
             Ok(number) => number,
