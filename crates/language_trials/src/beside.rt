@@ -1,11 +1,11 @@
 //! What no script can ask: which of two equal texts stands where in a sorted list, how an object is refused, and what a
 //! heap tells of values of each kind.
-use trial_text::Told;
 use py_heap::{Budget, Heap, HostId, Value, ValueFault};
 use py_methods::{Name, method};
 use py_operators::index;
 use scons_base::limits::UNIT_LIMIT;
 use std::alloc::Global;
+use trial_text::Told;
 
 /// A line for each.
 pub fn put_beside(alloc: Global, told: &mut Told) {

@@ -13,11 +13,11 @@ mod width;
 
 use crate::beside::put_beside;
 use crate::runs::put_runs;
-use trial_text::Told;
 use crate::trees::put_trees;
 use crate::values::put_values;
 use std::alloc::Global;
 use std::io;
+use trial_text::Told;
 
 fn main(rt: HostRuntime) -> io::Result<()> {
     let table = io::read_to_string(rt.alloc(), rt.reader())?;

@@ -6,12 +6,12 @@
 //! A line `--- run` begins a script that a call of `run` begins, and `--- next` one behind the first. `--- sum N` stands for the
 //! assignment of a sum of N ones to `x`.
 use crate::scripts::{put_kind, script_of};
-use trial_text::Told;
 use eval_hosts::{Printing, Replying};
 use py_eval::{EvalFault, Exit, Ran, run};
 use py_heap::{Budget, Heap};
 use py_tree::Script;
 use std::alloc::Global;
+use trial_text::Told;
 
 /// How scripts are tried.
 #[derive(Clone, Copy)]

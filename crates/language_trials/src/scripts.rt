@@ -1,10 +1,10 @@
 //! What the parts of the table have in common: texts as scripts, and how faults are told.
-use trial_text::Told;
 use py_eval::EvalKind;
 use py_lex::lex;
 use py_parse::parse;
 use py_tree::Script;
 use std::alloc::Global;
+use trial_text::Told;
 
 /// The tree of a text; none where it is no script.
 pub fn script_of(alloc: Global, text: &str) -> Option<Script> {

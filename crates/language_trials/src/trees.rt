@@ -7,13 +7,13 @@
 //! The trees are those that `ast` of CPython 3.11 has, which keeps no parentheses and no comma at the end. Python refuses a
 //! script that has a fault here, or means something else by it.
 use crate::made::{blocks, repeated, tokens_of};
-use trial_text::Told;
 use crate::width::width;
 use py_lex::lex;
 use py_parse::{ParseFault, ParseKind, parse};
 use py_token::Tokens;
 use py_tree::Script;
 use std::alloc::{AllocError, Global};
+use trial_text::Told;
 
 /// What is told of a tree.
 #[derive(Clone, Copy)]

@@ -5,13 +5,13 @@
 //! One that ends in a call of `print` tells what that prints. `an_object` stands for an object, `a_path` for one that shows
 //! as a path, and `a_function` for a function.
 use crate::scripts::{put_kind, script_of};
-use trial_text::Told;
 use eval_hosts::Replying;
 use py_eval::{EvalFault, Ran, run};
 use py_heap::{Budget, Heap, HostId};
 use py_tree::Script;
 use scons_base::limits::UNIT_LIMIT;
 use std::alloc::{AllocError, Global};
+use trial_text::Told;
 
 /// The number of the object that stands for the name `value`, and shows as a path here.
 const PATH: HostId = HostId(0);

@@ -2,11 +2,11 @@
 ghost use Rattle.std.specs.Prelude.{◌<◌, ◌≤◌, ◌^◌, length, IfOk};
 ghost use Rattle.scons_base.specs.declared.limits.TheConstants.{SUBST_LIMIT};
 
-use trial_text::Told;
 use env_pieces::{FormFault, Mark, Mode, Piece, PieceFault, Pieces, form_of};
 use env_text::{Index, Part, Selection, Step, next_part};
 use scons_base::Memory;
 use std::alloc::Global;
+use trial_text::Told;
 
 /// Tells the parts of a text one behind another, and a `!` with the place where it can't be read.
 pub(crate) fn put_parts(told: &mut Told, text: &str) {

@@ -1,7 +1,7 @@
 //! How forms, lists of them and faults are told.
-use trial_text::Told;
 use env_subst::{LibItem, SubstFault};
 use scons_base::{PathText, Text};
+use trial_text::Told;
 
 /// The length from which on a form shows only how many bytes it has.
 const LONG: usize = 200;

@@ -3,13 +3,13 @@ ghost use Rattle.std.specs.Prelude.{◌<◌, length};
 
 use crate::rule::plain_rule;
 use crate::shown::{put_fault, put_form, put_libs, put_paths, put_texts};
-use trial_text::Told;
 use crate::values::value;
 use crate::written::put_value;
 use env_subst::{Locals, Mode, command_lines, dirs, lib_names, lines, path_text, subst};
 use env_vars::{EnvFault, EnvValue, Envs, GivenFault};
 use scons_base::{EnvId, Text};
 use std::alloc::Global;
+use trial_text::Told;
 
 /// A call that gives a variable a value.
 #[derive(Clone, Copy)]

@@ -1,7 +1,7 @@
 //! How values are told: as the table writes them, and `absent` where there is none.
-use trial_text::Told;
 use env_vars::{EnvValue, Item};
 use scons_base::Text;
+use trial_text::Told;
 
 /// Tells a value.
 pub(crate) fn put_value(told: &mut Told, value: Option<&EnvValue>) {
