@@ -1,151 +1,201 @@
 //! Plans that are made, and run to their end.
-use crate::graphs::Bench;
-use anyhow::{Context, Result};
+use crate::graphs::{SOURCES, add_chain, add_ring, add_wide, empty_graph};
 use rule_graph::Graph;
 use scons_base::{Listing, NodeId, RuleId};
 use std::alloc::Global;
+use std::io;
 use std::time::Instant;
 use task_plan::{Plan, PlanEvent, Want};
+use trial_text::Told;
 
 /// How many headers a source includes.
-const INCLUDES: usize = 4;
+const INCLUDES: u32 = 4;
 
 /// A step from one header to the next, so that they come in no order.
-const STEP: usize = 7;
+const STEP: u32 = 7;
 
 /// How many events there may be.
 const EVENTS: u64 = 100_000_000;
 
-/// How many events a run takes in which each rule is fresh.
-pub fn run(rt: &HostRuntime, bench: &mut Bench, count: u32) -> Result<()> {
-    bench.add_wide(rt.alloc(), count)?;
-    let mut plan = plan_of(rt.alloc(), bench)?;
-    let events = run_plan(rt.alloc(), bench, &mut plan)?;
-    let rest = plan.next();
-    println!(rt; "{count} rules: {events} events, then {rest:?}")?;
-    Ok(())
-}
-
-/// How long it takes to make the plan and to run it.
-pub fn time(rt: &HostRuntime, bench: &mut Bench, count: u32) -> Result<()> {
-    bench.add_wide(rt.alloc(), count)?;
-    let start = Instant::now(rt)?;
-    let mut plan = plan_of(rt.alloc(), bench)?;
-    let made = start.elapsed(rt)?.as_micros();
-    let events = run_plan(rt.alloc(), bench, &mut plan)?;
-    let run = start.elapsed(rt)?.as_micros();
-    println!(rt; "{count} rules: made in {made}, run by {events} events in {run} microseconds")?;
-    Ok(())
-}
-
-/// How many rules of a chain are held where its first one fails.
-pub fn held(rt: &HostRuntime, bench: &mut Bench, count: u32) -> Result<()> {
-    bench.add_chain(rt.alloc(), count)?;
-    let mut plan = plan_of(rt.alloc(), bench)?;
-    let failed = fail_all(rt.alloc(), bench, &mut plan)?;
-    let held = held_by(&plan, failed.as_slice())?;
-    println!(rt; "{count} rules: {} failed, {held} held", failed.len())?;
-    Ok(())
-}
-
-fn held_by(plan: &Plan, failed: &[RuleId]) -> Result<usize> {
-    let held = plan.held_by(failed).ok().context(format_args!("held"))?;
-    Ok(held.len())
-}
-
-/// How long the cycle is that is found in a ring.
-pub fn cycle(rt: &HostRuntime, bench: &mut Bench, count: u32) -> Result<()> {
-    bench.add_ring(rt.alloc(), count)?;
-    let mut plan = plan_of(rt.alloc(), bench)?;
-    let events = run_plan(rt.alloc(), bench, &mut plan)?;
-    let len = cycle_len(&plan)?;
-    println!(rt; "{count} rules: {events} events, a cycle of {len}")?;
-    Ok(())
-}
-
-fn cycle_len(plan: &Plan) -> Result<usize> {
-    match plan.cycle().ok().context(format_args!("cycle"))? {
-        Some(rules) => Ok(rules.len()),
-        None => Ok(0),
+/// Tells what the bench of a word finds on so many rules.
+pub fn put_bench(rt: &HostRuntime, told: &mut Told, word: &str, count: u32) {
+    match empty_graph(rt.alloc()) {
+        Some(mut graph) => put_over(rt, told, &mut graph, word, count),
+        None => told.refuse(),
     }
 }
 
-/// Runs a plan in which each rule that is started fails, and gives those rules.
-fn fail_all(alloc: Global, bench: &Bench, plan: &mut Plan) -> Result<Vec<RuleId>> {
-    let mut failed = Vec::new(alloc);
+/// The same over a graph that it adds the rules to.
+fn put_over(rt: &HostRuntime, told: &mut Told, graph: &mut Graph, word: &str, count: u32) {
+    told.show(count);
+    told.put(" rules: ");
+    match word {
+        "run" => put_run(rt.alloc(), told, graph, count),
+        "time" => put_time(rt, told, graph, count),
+        "held" => put_held(rt.alloc(), told, graph, count),
+        "cycle" => put_cycle(rt.alloc(), told, graph, count),
+        _ => told.refuse(),
+    }
+    told.put("\n");
+}
+
+/// How many events a run takes in which each rule is fresh.
+fn put_run(alloc: Global, told: &mut Told, graph: &mut Graph, count: u32) {
+    let wanted = add_wide(alloc, told, graph, count);
+    if let Some(mut plan) = plan_of(alloc, told, graph, wanted) {
+        put_events(alloc, told, graph, &mut plan, count);
+        told.show(format_args!("then {:?}", plan.next()));
+    }
+}
+
+/// How long it takes to make the plan and to run it.
+fn put_time(rt: &HostRuntime, told: &mut Told, graph: &mut Graph, count: u32) {
+    let wanted = add_wide(rt.alloc(), told, graph, count);
+    let start = Instant::now(rt);
+    if let Some(mut plan) = plan_of(rt.alloc(), told, graph, wanted) {
+        let made = micros_since(rt, told, &start);
+        let events = run_plan(rt.alloc(), told, graph, &mut plan, count);
+        let run = micros_since(rt, told, &start);
+        told.put("made in ");
+        told.show(made);
+        told.put(", run by ");
+        told.show(events);
+        told.put(" events in ");
+        told.show(run);
+        told.put(" microseconds");
+    }
+}
+
+/// How many rules of a chain are held where its first one fails.
+fn put_held(alloc: Global, told: &mut Told, graph: &mut Graph, count: u32) {
+    let wanted = add_chain(alloc, told, graph, count);
+    if let Some(mut plan) = plan_of(alloc, told, graph, wanted) {
+        let mut failed = Vec::new(alloc);
+        fail_all(alloc, told, graph, &mut plan, &mut failed);
+        told.show(failed.len());
+        told.put(" failed, ");
+        put_held_by(told, &plan, failed.as_slice());
+    }
+}
+
+/// How long the cycle is that is found in a ring.
+fn put_cycle(alloc: Global, told: &mut Told, graph: &mut Graph, count: u32) {
+    let wanted = add_ring(alloc, told, graph, count);
+    if let Some(mut plan) = plan_of(alloc, told, graph, wanted) {
+        put_events(alloc, told, graph, &mut plan, count);
+        put_cycle_of(told, &plan);
+    }
+}
+
+fn plan_of(alloc: Global, told: &mut Told, graph: &Graph, wanted: NodeId) -> Option<Plan> {
+    match Plan::new(alloc, graph, &[wanted]) {
+        Ok(plan) => Some(plan),
+        Err(_) => {
+            told.refuse();
+            None
+        }
+    }
+}
+
+fn micros_since(rt: &HostRuntime, told: &mut Told, start: &io::Result<Instant>) -> u128 {
+    if let Ok(start) = start
+        && let Ok(time) = start.elapsed(rt)
+    {
+        return time.as_micros();
+    }
+    told.refuse();
+    0
+}
+
+fn put_events(alloc: Global, told: &mut Told, graph: &Graph, plan: &mut Plan, count: u32) {
+    let events = run_plan(alloc, told, graph, plan, count);
+    told.show(events);
+    told.put(" events, ");
+}
+
+fn put_held_by(told: &mut Told, plan: &Plan, failed: &[RuleId]) {
+    match plan.held_by(failed) {
+        Ok(held) => {
+            told.show(held.len());
+            told.put(" held");
+        }
+        Err(_) => told.refuse(),
+    }
+}
+
+fn put_cycle_of(told: &mut Told, plan: &Plan) {
+    told.put("a cycle of ");
+    match plan.cycle() {
+        Ok(Some(rules)) => told.show(rules.len()),
+        Ok(None) => told.put("0"),
+        Err(_) => told.refuse(),
+    }
+}
+
+/// Runs a plan in which each rule that is started fails, and adds those rules.
+fn fail_all(
+    alloc: Global,
+    told: &mut Told,
+    graph: &Graph,
+    plan: &mut Plan,
+    failed: &mut Vec<RuleId>,
+) {
     for _ in 0..EVENTS {
         let event = match plan.next() {
             Want::Scan(rule, _) => PlanEvent::Scanned(rule, Listing::empty(alloc)),
             Want::Decide(rule) => {
-                failed.push(rule)?;
+                told.keep(failed, rule);
                 PlanEvent::Started(rule)
             }
-            _ => match running(plan, failed.as_slice()) {
-                Some(rule) => PlanEvent::DoneFailed(rule),
-                None => break,
+            Want::Wait => match failed.last() {
+                Some(rule) => PlanEvent::DoneFailed(*rule),
+                None => return,
             },
+            Want::Rest => return,
         };
-        step(plan, &bench.graph, event)?;
-    }
-    Ok(failed)
-}
-
-/// The rule that was started last, where one runs.
-fn running(plan: &Plan, started: &[RuleId]) -> Option<RuleId> {
-    match plan.next() {
-        Want::Wait => started.last().copied(),
-        _ => None,
+        if plan.step(graph, event).is_err() {
+            return told.refuse();
+        }
     }
 }
 
-fn plan_of(alloc: Global, bench: &Bench) -> Result<Plan> {
-    Plan::new(alloc, &bench.graph, &[bench.wanted])
-        .ok()
-        .context(format_args!("plan"))
-}
-
-fn step(plan: &mut Plan, graph: &Graph, event: PlanEvent) -> Result<()> {
-    plan.step(graph, event).ok().context(format_args!("step"))
-}
-
-/// Runs a plan to its end, and says how many events that took.
-fn run_plan(alloc: Global, bench: &Bench, plan: &mut Plan) -> Result<u64> {
-    let mut at: usize = 0;
+/// Runs a plan of so many rules to its end, and says how many events that took.
+fn run_plan(alloc: Global, told: &mut Told, graph: &Graph, plan: &mut Plan, count: u32) -> u64 {
+    let mut at: u32 = 0;
     for events in 0..EVENTS {
         let event = match plan.next() {
             Want::Scan(rule, file) => {
                 at = at.wrapping_add(STEP);
-                PlanEvent::Scanned(rule, included(alloc, bench, file, at)?)
+                let headers = if is_source(graph, file) {
+                    count / SOURCES
+                } else {
+                    0
+                };
+                PlanEvent::Scanned(rule, headers_from(alloc, told, headers, at))
             }
             Want::Decide(rule) => PlanEvent::Fresh(rule),
-            _ => return Ok(events),
+            _ => return events,
         };
-        step(plan, &bench.graph, event)?;
-    }
-    Ok(EVENTS)
-}
-
-/// What a file includes: a source some headers from a place on, and a header none.
-fn included(alloc: Global, bench: &Bench, file: NodeId, place: usize) -> Result<Listing<NodeId>> {
-    let mut found = Vec::new(alloc);
-    if is_source(&bench.graph, file) {
-        for further in 0..INCLUDES {
-            if let Some(header) = around(bench.headers.as_slice(), place.wrapping_add(further)) {
-                found.push(header)?;
-            }
+        if plan.step(graph, event).is_err() {
+            told.refuse();
+            return events;
         }
     }
-    Ok(Listing::new(found))
+    EVENTS
 }
 
-/// The header at a place, where the first one follows on the last one.
-fn around(headers: &[NodeId], place: usize) -> Option<NodeId> {
-    if headers.is_empty() {
-        return None;
+/// Some of so many headers from a place on, where the first one follows on the last one.
+fn headers_from(alloc: Global, told: &mut Told, headers: u32, place: u32) -> Listing<NodeId> {
+    let mut found = Vec::new(alloc);
+    for further in 0..INCLUDES {
+        if let Some(header) = place.wrapping_add(further).checked_rem(headers) {
+            told.keep(&mut found, NodeId(header));
+        }
     }
-    Some(headers[place % headers.len()])
+    Listing::new(found)
 }
 
+/// Whether a file includes headers.
 fn is_source(graph: &Graph, file: NodeId) -> bool {
     file.0 < graph.len() && graph.path(file).suffix() == ".c"
 }

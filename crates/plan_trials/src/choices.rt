@@ -1,6 +1,6 @@
 //! Every way through a tree of choices, one after the other.
-use scons_base::Memory;
 use std::alloc::Global;
+use trial_text::Told;
 
 /// A choice that was made, of so many.
 #[derive(Clone, Copy)]
@@ -33,33 +33,30 @@ impl Choices {
     }
 
     /// Picks one of so many.
-    pub fn pick(&mut self, of: usize) -> Result<usize, Memory> {
+    pub fn pick(&mut self, told: &mut Told, of: usize) -> usize {
         let at = self.at;
         self.at = at.saturating_add(1);
         if let Some(choice) = self.made.get(at) {
-            return Ok(choice.picked);
+            return choice.picked;
         }
-        self.made.push(Choice { picked: 0, of })?;
-        Ok(0)
+        told.keep(&mut self.made, Choice { picked: 0, of });
+        0
     }
 
-    /// Goes on to the next way, where there is one.
-    pub fn advance(&mut self) -> Result<bool, Memory> {
+    /// Goes on to the next way, where there is one; behind the last one they begin anew.
+    pub fn advance(&mut self, told: &mut Told) -> bool {
         self.at = 0;
         for _ in 0..self.made.len() {
-            let Some(choice) = self.made.pop() else {
-                break;
-            };
-            let picked = choice.picked.saturating_add(1);
-            if picked < choice.of {
-                self.made.push(Choice {
-                    picked,
-                    of: choice.of,
-                })?;
-                self.same = self.made.len();
-                return Ok(true);
+            if let Some(choice) = self.made.pop() {
+                let picked = choice.picked.saturating_add(1);
+                if picked < choice.of {
+                    let of = choice.of;
+                    told.keep(&mut self.made, Choice { picked, of });
+                    break;
+                }
             }
         }
-        Ok(false)
+        self.same = self.made.len();
+        self.same > 0
     }
 }

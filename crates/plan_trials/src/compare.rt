@@ -1,37 +1,33 @@
 //! A plan beside the slow functions.
-
-use crate::cases::{RULES, spot_of};
+use crate::cases::RULES;
+use crate::facts::known;
+use crate::graphs::spot_of;
 use crate::trial::{Trial, Wrong};
-use model_trials::spots::Spot;
-use scons_base::{Memory, NodeId, RuleId};
-use std::alloc::Global;
+use model_trials::needs::number_of;
+use model_trials::spots::{Spot, has};
+use scons_base::{NodeId, RuleId};
 use task_plan::{Plan, RuleState, Want};
+use trial_text::Told;
 
-impl Trial {
+impl<'a> Trial<'a> {
     /// What is wrong with a plan, and with what it wants.
-    pub fn compare(
-        &mut self,
-        alloc: Global,
-        plan: &Plan,
-        want: Want,
-    ) -> Result<Option<Wrong>, Memory> {
-        if self.is_old {
-            self.is_old = false;
-            self.facts.take(alloc, self.case.rules.as_slice())?;
-        }
+    pub fn compare(&self, told: &mut Told, plan: &Plan, want: Want) -> Wrong {
         if !self.facts.is_whole {
-            return Ok(Some(Wrong::SlowFunctions));
+            return Some("the slow functions disagree");
         }
         if !self.has_deps(plan) {
-            return Ok(Some(Wrong::Deps));
+            return Some("other dependencies");
         }
-        let wrong = self.compare_cycle(plan)?;
-        Ok(wrong.or(self.compare_want(want)))
+        let wrong = self.compare_cycle(told, plan);
+        if wrong.is_some() {
+            return wrong;
+        }
+        self.compare_want(want)
     }
 
     /// Whether each needed rule has its dependencies, by the files scanned so far.
     fn has_deps(&self, plan: &Plan) -> bool {
-        for rule in 0..u32::from(RULES) {
+        for rule in 0..RULES {
             let number = rule as usize;
             if self.facts.order.contains(&number)
                 && !are_same(self.facts.deps_of(number), plan.deps(RuleId(rule)))
@@ -43,12 +39,11 @@ impl Trial {
     }
 
     /// There is a cycle where a needed rule waits for itself.
-    fn compare_cycle(&self, plan: &Plan) -> Result<Option<Wrong>, Memory> {
-        match plan.cycle()? {
-            Some(rules) if self.is_cycle(rules.as_slice()) => Ok(None),
-            Some(_) => Ok(Some(Wrong::Cycle)),
-            None if self.facts.is_cyclic => Ok(Some(Wrong::NoCycle)),
-            None => Ok(None),
+    fn compare_cycle(&self, told: &mut Told, plan: &Plan) -> Wrong {
+        match known(told, plan.cycle()) {
+            Some(rules) if !self.is_cycle(rules.as_slice()) => Some("its cycle is none"),
+            None if self.facts.is_cyclic => Some("a cycle isn't found"),
+            _ => None,
         }
     }
 
@@ -69,37 +64,84 @@ impl Trial {
     }
 
     /// What is wanted next.
-    fn compare_want(&self, want: Want) -> Option<Wrong> {
-        let runs = self.running() > 0;
-        let scans = !self.halted && self.scans_any();
-        let first = if self.halted || scans {
+    fn compare_want(&self, want: Want) -> Wrong {
+        let runs = self.progress.running() > 0;
+        let scans = !self.progress.halted && self.scans_any();
+        let first = if self.progress.halted || scans {
             None
         } else {
             self.first()
         };
         match want {
-            Want::Scan(rule, file) if scans && self.scans(rule.0 as usize, &spot_of(file)) => None,
-            Want::Scan(..) => Some(Wrong::Scan),
+            Want::Scan(rule, file) if scans && self.scans(rule, file) => None,
+            Want::Scan(..) => Some("a scan that isn't due"),
             Want::Decide(rule) if first == Some(rule.0 as usize) => None,
-            Want::Decide(_) => Some(Wrong::Decision),
-            Want::Wait if !runs => Some(Wrong::Wait),
-            Want::Rest if runs => Some(Wrong::Rest),
-            _ if scans || first.is_some() => Some(Wrong::Idle),
-            Want::Rest if !self.is_done() => Some(Wrong::RestsEarly),
+            Want::Decide(_) => Some("a decision that isn't due"),
+            Want::Wait if !runs => Some("it waits for nothing"),
+            Want::Rest if runs => Some("it rests while something runs"),
+            _ if scans || first.is_some() => Some("it is idle"),
+            Want::Rest if !self.is_done() => Some("it rests early"),
             _ => None,
         }
     }
 
+    /// Whether a file waits for nothing.
+    fn is_ready(&self, file: &Spot) -> bool {
+        match number_of(self.rules.as_slice(), file) {
+            Some(rule) => self.progress.is(rule, RuleState::Settled),
+            None => true,
+        }
+    }
+
+    /// Whether a file of a rule can be scanned now.
+    fn scans(&self, rule: RuleId, file: NodeId) -> bool {
+        let (number, spot) = (rule.0 as usize, spot_of(file));
+        has(&spot, self.facts.unscanned_of(number))
+            && self.is_ready(&spot)
+            && self.facts.order.contains(&number)
+    }
+
+    /// Whether some file can be scanned now.
+    fn scans_any(&self) -> bool {
+        for rule in &self.facts.order {
+            let files = self.facts.unscanned_of(*rule);
+            if files.iter().any(|file| self.is_ready(file)) {
+                return true;
+            }
+        }
+        false
+    }
+
+    /// Whether all that a rule needs is settled.
+    fn has_needs(&self, rule: usize) -> bool {
+        let needs = self.facts.needs_of(rule);
+        needs
+            .iter()
+            .all(|need| self.progress.is(*need, RuleState::Settled))
+    }
+
+    /// The first rule in the build order that can be decided.
+    fn first(&self) -> Option<usize> {
+        for rule in &self.facts.order {
+            if self.progress.is(*rule, RuleState::Waiting)
+                && self.facts.unscanned_of(*rule).is_empty()
+                && self.has_needs(*rule)
+            {
+                return Some(*rule);
+            }
+        }
+        None
+    }
+
     /// Whether each needed rule is settled, or something keeps them from that.
     fn is_done(&self) -> bool {
-        self.halted
-            || self.faulty
-            || self.facts.is_cyclic
-            || self
-                .facts
-                .order
-                .iter()
-                .all(|rule| self.is(*rule, RuleState::Settled))
+        if self.progress.halted || self.progress.faulty || self.facts.is_cyclic {
+            return true;
+        }
+        let order = self.facts.order.as_slice();
+        order
+            .iter()
+            .all(|rule| self.progress.is(*rule, RuleState::Settled))
     }
 }
 
@@ -107,10 +149,9 @@ fn are_same(spots: &[Spot], nodes: &[NodeId]) -> bool {
     if spots.len() != nodes.len() {
         return false;
     }
-    for (place, spot) in spots.iter().enumerate() {
-        match nodes.get(place) {
-            Some(node) if node.0 == u32::from(spot.letter()) => {}
-            _ => return false,
+    for (spot, node) in spots.iter().zip(nodes) {
+        if node.0 != u32::from(spot.letter()) {
+            return false;
         }
     }
     true

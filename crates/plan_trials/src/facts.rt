@@ -1,5 +1,4 @@
 //! What the slow functions say of a graph, as far as files were scanned.
-
 use model_trials::loops::{has_loop, led_from, list_at};
 use model_trials::needs::needs;
 use model_trials::order::in_order;
@@ -7,6 +6,7 @@ use model_trials::reach::{PlainRule, reach, scan_list};
 use model_trials::spots::Spot;
 use scons_base::{Listing, Memory};
 use std::alloc::Global;
+use trial_text::Told;
 
 /// More than the files that are scanned for a rule.
 const LIMIT: usize = 16;
@@ -41,58 +41,73 @@ impl Facts {
     }
 
     /// The facts by these rules, where the target of the first one is requested.
-    pub fn take(&mut self, alloc: Global, rules: &[PlainRule]) -> Result<(), Memory> {
-        self.order.clear();
+    pub fn take(&mut self, alloc: Global, told: &mut Told, rules: &[PlainRule]) {
         self.needs.clear();
         self.deps.clear();
         self.unscanned.clear();
         for rule in rules {
-            self.take_needs(alloc, rules, rule)?;
-            self.take_files(alloc, rule)?;
+            self.take_needs(alloc, told, rules, rule);
+            self.take_deps(alloc, told, rule);
+            self.take_files(alloc, told, rule);
         }
-        self.take_order(alloc)
+        self.take_order(alloc, told);
     }
 
     /// What a rule needs.
     fn take_needs(
         &mut self,
         alloc: Global,
+        told: &mut Told,
         rules: &[PlainRule],
         rule: &PlainRule,
-    ) -> Result<(), Memory> {
-        let needed = needs(alloc, LIMIT, rules, rule)?;
-        self.needs.push(Listing::new(needed))?;
-        Ok(())
+    ) {
+        match needs(alloc, LIMIT, rules, rule) {
+            Ok(needs) => told.keep(&mut self.needs, Listing::new(needs)),
+            Err(_) => told.refuse(),
+        }
     }
 
-    /// What a rule depends on, and what isn't scanned for it.
-    fn take_files(&mut self, alloc: Global, rule: &PlainRule) -> Result<(), Memory> {
-        self.deps.push(reach(alloc, LIMIT, rule)?)?;
-        self.unscanned.push(unscanned(alloc, rule)?)?;
-        Ok(())
+    /// What a rule depends on.
+    fn take_deps(&mut self, alloc: Global, told: &mut Told, rule: &PlainRule) {
+        match reach(alloc, LIMIT, rule) {
+            Ok(deps) => told.keep(&mut self.deps, deps),
+            Err(_) => told.refuse(),
+        }
     }
 
-    fn take_order(&mut self, alloc: Global) -> Result<(), Memory> {
+    /// What isn't scanned for a rule.
+    fn take_files(&mut self, alloc: Global, told: &mut Told, rule: &PlainRule) {
+        match scan_list(alloc, LIMIT, rule) {
+            Ok(mut files) => {
+                files.retain(|file| !is_scanned(rule, file));
+                told.keep(&mut self.unscanned, files);
+            }
+            Err(_) => told.refuse(),
+        }
+    }
+
+    fn take_order(&mut self, alloc: Global, told: &mut Told) {
         self.is_whole = false;
-        let needs = self.needs.as_slice();
-        let Some(order) = in_order(alloc, needs, &[0])? else {
-            return Ok(());
-        };
-        self.order = order;
-        self.take_loop(alloc)
+        match in_order(alloc, self.needs.as_slice(), &[0]) {
+            Ok(Some(order)) => {
+                self.order = order;
+                self.take_loop(alloc, told);
+            }
+            Ok(None) => {}
+            Err(_) => told.refuse(),
+        }
     }
 
     /// Whether a needed rule leads to itself, and whether the needed rules are those of the order.
-    fn take_loop(&mut self, alloc: Global) -> Result<(), Memory> {
+    fn take_loop(&mut self, alloc: Global, told: &mut Told) {
         let needs = self.needs.as_slice();
         let order = self.order.as_slice();
-        let needed = led_from(alloc, needs, STEPS, &[0])?;
-        let is_cyclic = has_loop(alloc, needs, STEPS, order)?;
+        let is_cyclic = known(told, has_loop(alloc, needs, STEPS, order));
+        let needed = known(told, led_from(alloc, needs, STEPS, &[0]));
         if let (Some(needed), Some(is_cyclic)) = (needed, is_cyclic) {
             self.is_whole = are_same(needed.as_slice(), order);
             self.is_cyclic = is_cyclic;
         }
-        Ok(())
     }
 
     pub fn needs_of(&self, rule: usize) -> &[usize] {
@@ -105,6 +120,17 @@ impl Facts {
 
     pub fn unscanned_of(&self, rule: usize) -> &[Spot] {
         spots_at(self.unscanned.as_slice(), rule)
+    }
+}
+
+/// What was asked for, where it is known; want of memory refuses the line.
+pub fn known<T: Drop>(told: &mut Told, answer: Result<Option<T>, Memory>) -> Option<T> {
+    match answer {
+        Ok(known) => known,
+        Err(_) => {
+            told.refuse();
+            None
+        }
     }
 }
 
@@ -121,14 +147,7 @@ fn are_same(some: &[usize], others: &[usize]) -> bool {
     some.len() == others.len() && some.iter().all(|number| others.contains(number))
 }
 
-/// The files of a rule that are scanned, and weren't yet.
-fn unscanned(alloc: Global, rule: &PlainRule) -> Result<Vec<Spot>, Memory> {
-    let all = scan_list(alloc, LIMIT, rule)?;
-    let mut files = Vec::new(alloc);
-    for file in &all {
-        if !rule.scans.iter().any(|scan| scan.file.is(file)) {
-            files.push(*file)?;
-        }
-    }
-    Ok(files)
+/// Whether a file was scanned for a rule.
+fn is_scanned(rule: &PlainRule, file: &Spot) -> bool {
+    rule.scans.iter().any(|scan| scan.file.is(file))
 }

@@ -3,17 +3,16 @@
 //! `ROLES:SHAPE:ENDINGS:EVERY`. Roles are given to needs in turns. In the shape `t` turns needs round, `i` lets targets include
 //! the needs of their rules, `g` ignores first needs, `c` lets each second rule copy, and with `a` the first rule alone has needs.
 //! Among endings `f` are failed ones, `e` come while something else is wanted, `u` are fresh rules, `a` lacking ones, `h` halts.
-//! Of each so many graphs one is tried.
+//! Of each so many graphs one is tried, and where the row doesn't say of how many, each is.
 ghost use Rattle.std.specs.Prelude.{◌<◌};
 
-use scons_base::Memory;
-use std::alloc::Global;
+use trial_text::Told;
 
 /// What is tried with each graph.
 #[derive(Drop)]
-pub struct Row {
+pub struct Row<'a> {
     /// The roles of needs, in turns: `s` source, `d` depends, `l` library, `r` required, `f` found in the scanned source.
-    roles: String,
+    roles: &'a str,
     pub scans: bool,
     /// Needs stand the other way round.
     pub turned: bool,
@@ -31,20 +30,23 @@ pub struct Row {
     pub fresh: bool,
     pub lacks: bool,
     pub halts: bool,
-    /// Of each so many graphs one is tried, and where this is none, all are.
+    /// Of each so many graphs one is tried.
     every: u32,
 }
 
-impl Row {
-    /// The row of a text: roles, shape and endings, with a colon between.
-    pub fn read(alloc: Global, line: &str) -> Result<Row, Memory> {
+impl<'a> Row<'a> {
+    /// The row of a text: roles, shape, endings and of how many graphs one is tried, with a colon between.
+    pub fn read(told: &mut Told, line: &'a str) -> Row<'a> {
         let mut parts = line.split(':');
         let roles = parts.next().unwrap_or("");
         let shape = parts.next().unwrap_or("");
         let ends = parts.next().unwrap_or("");
-        let every = parts.next().unwrap_or("");
-        Ok(Row {
-            roles: String::from_str(alloc, roles)?,
+        let every = match parts.next() {
+            Some(every) if !every.is_empty() => told.number(every),
+            _ => 1,
+        };
+        Row {
+            roles,
             scans: roles.contains('f'),
             turned: shape.contains('t'),
             inner: shape.contains('i'),
@@ -56,16 +58,13 @@ impl Row {
             fresh: ends.contains('u'),
             lacks: ends.contains('a'),
             halts: ends.contains('h'),
-            every: every.parse::<u32>().unwrap_or(0),
-        })
+            every,
+        }
     }
 
     /// Whether the graph of this number is tried.
     pub fn tries(&self, number: u32) -> bool {
-        if self.every == 0 {
-            return true;
-        }
-        number % self.every == 0
+        number.is_multiple_of(self.every)
     }
 
     /// How many ways an action may end.
@@ -85,11 +84,12 @@ impl Row {
     }
 
     /// The role of a rule's need.
-    pub fn role(&self, rule: usize, place: usize) -> u8 {
+    pub fn role(&self, rule: u32, place: usize) -> u8 {
         let roles = self.roles.as_bytes();
         if roles.is_empty() {
             return b'd';
         }
-        roles[rule.wrapping_mul(2).wrapping_add(place) % roles.len()]
+        let turn = (rule as usize).wrapping_mul(2).wrapping_add(place);
+        roles[turn % roles.len()]
     }
 }
