@@ -1,5 +1,5 @@
 -- A disk that tells nothing but how often it was at fault.
-use Rattle.std.specs.Prelude.{ℕ, List, [], Bool, false, None}
+use Rattle.std.specs.Prelude.{ℕ, [], false, None}
 use Rattle.world_api.specs.Around.{Around}
 use Rattle.world_api.specs.Counts.{Counts}
 use Rattle.world_api.specs.Meaning.{Meaning}

@@ -4,11 +4,12 @@ ghost use Rattle.std.specs.Prelude.{ℕ, ◌≡◌, ◌+◌, ◌-◌, ◌^◌, m
 ghost use Rattle.world_api.specs.Causes.{DiskFails};
 ghost use Rattle.store_trials.specs.Silent.{silent, counts_of};
 
-use std::alloc::{AllocError, Global};
+use std::alloc::Global;
+use trial_text::Told;
 use world_api::{Bank, Disk, Fault};
 
 #[derive(Drop)]
-pub struct Banks {
+pub(crate) struct Banks {
     a: Vec<u8>,
     b: Vec<u8>,
     /// The size that a bank says it has, in place of its own.
@@ -19,17 +20,30 @@ pub struct Banks {
 }
 
 impl Banks {
-    pub fn new(alloc: Global) -> Banks {
+    pub(crate) fn new(alloc: Global) -> Banks {
+        Banks::of(Vec::new(alloc), Vec::new(alloc))
+    }
+
+    /// Banks of these bytes.
+    pub(crate) fn of(a: Vec<u8>, b: Vec<u8>) -> Banks {
         Banks {
-            a: Vec::new(alloc),
-            b: Vec::new(alloc),
+            a,
+            b,
             claim: None,
             calls_left: None,
             faults: 0,
         }
     }
 
-    pub fn bytes(&self, bank: Bank) -> &[u8] {
+    /// Banks of the same bytes.
+    pub(crate) fn copy(&self, alloc: Global, told: &mut Told) -> Banks {
+        Banks::of(
+            copy_of(alloc, told, self.a.as_slice()),
+            copy_of(alloc, told, self.b.as_slice()),
+        )
+    }
+
+    pub(crate) fn bytes(&self, bank: Bank) -> &[u8] {
         match bank {
             Bank::A => self.a.as_slice(),
             Bank::B => self.b.as_slice(),
@@ -37,7 +51,7 @@ impl Banks {
     }
 
     /// Puts other bytes into a bank. No bank claims another size from then on.
-    pub fn set(&mut self, bank: Bank, bytes: Vec<u8>) {
+    pub(crate) fn set(&mut self, bank: Bank, bytes: Vec<u8>) {
         self.claim = None;
         match bank {
             Bank::A => self.a = bytes,
@@ -46,25 +60,17 @@ impl Banks {
     }
 
     /// Lets a bank say that it has so many bytes.
-    pub fn claim(&mut self, bank: Bank, size: u64) {
+    pub(crate) fn claim(&mut self, bank: Bank, size: u64) {
         self.claim = Some((bank, size));
     }
 
-    /// Banks of the same bytes.
-    pub fn copy(&self, alloc: Global) -> Result<Banks, AllocError> {
-        let mut copy = Banks::new(alloc);
-        copy.a = Vec::from_slice(alloc, self.a.as_slice())?;
-        copy.b = Vec::from_slice(alloc, self.b.as_slice())?;
-        Ok(copy)
-    }
-
     /// Answers so many calls, and refuses all behind them.
-    pub fn stop_after(&mut self, calls: u64) {
+    pub(crate) fn stop_after(&mut self, calls: u64) {
         self.calls_left = Some(calls);
     }
 
     /// Answers all calls.
-    pub fn go_on(&mut self) {
+    pub(crate) fn go_on(&mut self) {
         self.calls_left = None;
     }
 
@@ -112,11 +118,26 @@ fn write(bank: &mut Vec<u8>, place: usize, bytes: &[u8]) -> Result<(), Fault> {
     for byte in bytes {
         match bank.get_mut(at) {
             Some(held) => *held = *byte,
-            None => bank.push(*byte).map_err(|_| Fault)?,
+            None => {
+                if bank.push(*byte).is_err() {
+                    return Err(Fault);
+                }
+            }
         }
         at = at.saturating_add(1);
     }
     Ok(())
+}
+
+/// The same bytes once more. Where memory is short for them there are none, and the line is refused.
+pub(crate) fn copy_of(alloc: Global, told: &mut Told, bytes: &[u8]) -> Vec<u8> {
+    match Vec::from_slice(alloc, bytes) {
+        Ok(copy) => copy,
+        Err(_) => {
+            told.refuse();
+            Vec::new(alloc)
+        }
+    }
 }
 
 impl Disk for Banks {

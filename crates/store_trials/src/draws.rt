@@ -3,17 +3,17 @@ ghost use Rattle.std.specs.Prelude.{◌<◌};
 
 /// A generator by one product and one sum.
 #[derive(Drop)]
-pub struct Draws {
+pub(crate) struct Draws {
     state: u64,
 }
 
 impl Draws {
-    pub fn new(seed: u64) -> Draws {
+    pub(crate) fn new(seed: u64) -> Draws {
         Draws { state: seed }
     }
 
     /// The next number below a bound, 0 where nothing is below it.
-    pub fn below(&mut self, bound: usize) -> usize
+    pub(crate) fn below(&mut self, bound: usize) -> usize
         ensures { 0 < bound → result < bound }
     {
         self.state = self

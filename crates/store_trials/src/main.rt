@@ -10,29 +10,40 @@
 //! it where it has a stamp. Bytes are hexadecimal.
 #![tactic(auto)]
 
+mod alone;
+mod banks;
 mod disk;
 mod draws;
-mod many;
+mod fields;
 mod mutations;
+mod puts;
+mod readings;
 mod record;
 mod rows;
+mod runs;
 mod shown;
 mod spoilt;
 mod stops;
 mod tally;
-mod told;
 
-use anyhow::Result;
-use rows::Rows;
+use crate::rows::Rows;
+use std::alloc::Global;
+use std::io;
+use trial_text::Told;
 
-fn main(rt: HostRuntime) -> Result<()> {
-    let alloc = rt.alloc();
+fn main(rt: HostRuntime) -> io::Result<()> {
+    let table = io::read_to_string(rt.alloc(), rt.reader())?;
+    let mut told = Told::new(rt.alloc());
+    put_rows(rt.alloc(), &mut told, table.as_str());
+    rt.print(told.as_str())
+}
+
+/// Tells each row, and below it what it gives.
+fn put_rows(alloc: Global, told: &mut Told, table: &str) {
     let mut rows = Rows::new(alloc);
-    for line in rt.lines(alloc) {
-        let line = line?;
-        println!(rt; "{line}")?;
-        let answer = rows.answer(alloc, line.as_str())?;
-        print!(rt; "{answer}")?;
+    for row in table.lines() {
+        told.put_all(&[row, "\n"]);
+        rows.put_row(alloc, told, row);
+        told.end(row);
     }
-    Ok(())
 }

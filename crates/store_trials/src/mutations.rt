@@ -1,8 +1,8 @@
 //! Ways to spoil a bank.
-use crate::disk::Banks;
+use crate::disk::{Banks, copy_of};
 use crate::draws::Draws;
-use anyhow::Result;
 use std::alloc::Global;
+use trial_text::Told;
 use world_api::Bank;
 
 /// A bank isn't doubled past this many bytes.
@@ -14,44 +14,36 @@ const LENGTH: usize = 4;
 /// The least size that is over the limit of a bank.
 const LARGE: u64 = (1 << 40) + 1;
 
-/// Banks of these bytes, spoilt one to three times.
-pub fn spoil(
-    alloc: Global,
-    draws: &mut Draws,
-    a: &[u8],
-    b: &[u8],
-    banks: &mut Banks,
-) -> Result<()> {
-    let mut a = Vec::from_slice(alloc, a)?;
-    let mut b = Vec::from_slice(alloc, b)?;
+/// Banks like these, spoilt one to three times.
+pub(crate) fn spoilt(alloc: Global, told: &mut Told, draws: &mut Draws, banks: &Banks) -> Banks {
+    let mut a = copy_of(alloc, told, banks.bytes(Bank::A));
+    let mut b = copy_of(alloc, told, banks.bytes(Bank::B));
     let times = draws.below(3).saturating_add(1);
     for _ in 0..times {
         match draws.below(2) {
-            0 => spoil_bank(alloc, draws, &mut a)?,
-            _ => spoil_bank(alloc, draws, &mut b)?,
+            0 => spoil(alloc, told, draws, &mut a),
+            _ => spoil(alloc, told, draws, &mut b),
         }
     }
-    banks.set(Bank::A, a);
-    banks.set(Bank::B, b);
+    let mut spoilt = Banks::of(a, b);
     match draws.below(64) {
-        0 => banks.claim(Bank::A, LARGE),
-        1 => banks.claim(Bank::B, LARGE),
+        0 => spoilt.claim(Bank::A, LARGE),
+        1 => spoilt.claim(Bank::B, LARGE),
         _ => {}
     }
-    Ok(())
+    spoilt
 }
 
-fn spoil_bank(alloc: Global, draws: &mut Draws, bank: &mut Vec<u8>) -> Result<()> {
+fn spoil(alloc: Global, told: &mut Told, draws: &mut Draws, bank: &mut Vec<u8>) {
     match draws.below(4) {
         0 => flip(draws, bank.as_mut_slice()),
         1 => {
             let len = draws.below(bank.len().saturating_add(1));
             bank.truncate(len);
         }
-        2 => double(alloc, bank)?,
+        2 => double(alloc, told, bank),
         _ => set_length(draws, bank.as_mut_slice()),
     }
-    Ok(())
 }
 
 /// Changes one bit.
@@ -59,30 +51,18 @@ fn flip(draws: &mut Draws, bank: &mut [u8]) {
     let place = draws.below(bank.len());
     let bit = draws.below(8);
     if let Some(byte) = bank.get_mut(place) {
-        *byte ^= mask_of(bit);
-    }
-}
-
-fn mask_of(bit: usize) -> u8 {
-    match bit {
-        0 => 1,
-        1 => 2,
-        2 => 4,
-        3 => 8,
-        4 => 16,
-        5 => 32,
-        6 => 64,
-        _ => 128,
+        *byte ^= 1 << bit;
     }
 }
 
 /// Puts the bytes of a small bank behind it once more.
-fn double(alloc: Global, bank: &mut Vec<u8>) -> Result<()> {
+fn double(alloc: Global, told: &mut Told, bank: &mut Vec<u8>) {
     if bank.len() <= SMALL {
-        let same = Vec::from_slice(alloc, bank.as_slice())?;
-        bank.extend_from_slice(same.as_slice())?;
+        let same = copy_of(alloc, told, bank.as_slice());
+        if bank.extend_from_slice(same.as_slice()).is_err() {
+            told.refuse();
+        }
     }
-    Ok(())
 }
 
 /// Puts a length at some place.

@@ -1,82 +1,95 @@
 //! Records as rows write them.
-use anyhow::{Result, anyhow};
-use deciders::{Dep, Rec, digest_of, rec_of};
+use crate::fields::{keep_path, long_number};
+use deciders::{Dep, Digest, Rec, digest_of};
 use scons_base::{Listing, PathText, Paths, Text, Texts};
 use std::alloc::Global;
+use trial_text::Told;
 use world_api::{Decider, Work};
 
-/// The record that a text writes.
-pub fn record_of(alloc: Global, text: &str) -> Result<Rec> {
-    let mut parts = text.split(';');
-    let head = parts.next().unwrap_or("").trim();
-    let signed = parts.next().unwrap_or("").trim();
-    let deps = parts.next().unwrap_or("").trim();
-    let (work, targets) = match head.split_once(' ') {
-        Some(parts) => parts,
-        None => (head, ""),
-    };
-    let mut paths = Vec::new(alloc);
-    for target in targets.split_whitespace() {
-        paths.push(PathText::read(alloc, target)?)?;
+/// The record that a text writes. Where a part of it can't be read the line is refused, and the record lacks it.
+pub(crate) fn record_of(alloc: Global, told: &mut Told, text: &str) -> Rec {
+    let (head, rest) = text.split_once(';').unwrap_or((text, ""));
+    let (signed, deps) = rest.split_once(';').unwrap_or((rest, ""));
+    let (work, targets) = head.split_once(' ').unwrap_or((head, ""));
+    Rec {
+        work: work_of(told, work),
+        targets: Paths::new(targets_of(alloc, told, targets)),
+        signed: Texts::new(lines_of(alloc, told, signed.trim())),
+        deps: Listing::new(deps_of(alloc, told, deps)),
     }
-    Ok(rec_of(
-        work_of(work)?,
-        Paths::new(paths),
-        lines_of(alloc, signed)?,
-        deps_of(alloc, deps)?,
-    )
-    .map_err(|_| anyhow!("memory ran out"))?)
 }
 
-fn work_of(word: &str) -> Result<Work> {
+fn work_of(told: &mut Told, word: &str) -> Work {
     match word {
-        "Shell" => Ok(Work::Shell),
-        "Copy" => Ok(Work::Copy),
-        "Write" => Ok(Work::Write),
-        _ => Err(anyhow!("no work is called {word}")),
-    }
-}
-
-pub fn decider_of(word: &str) -> Result<Decider> {
-    match word {
-        "content" => Ok(Decider::Content),
-        "timestamp-newer" => Ok(Decider::Newer),
-        "timestamp-match" => Ok(Decider::Match),
-        "content-timestamp" => Ok(Decider::ContentMatch),
-        _ => Err(anyhow!("no decider is called {word}")),
-    }
-}
-
-fn lines_of(alloc: Global, text: &str) -> Result<Texts> {
-    let mut lines = Vec::new(alloc);
-    if !text.is_empty() {
-        for line in text.split('|') {
-            lines.push(Text::new(String::from_str(alloc, line)?))?;
+        "Shell" => Work::Shell,
+        "Copy" => Work::Copy,
+        "Write" => Work::Write,
+        _ => {
+            told.refuse();
+            Work::Shell
         }
     }
-    Ok(Texts::new(lines))
 }
 
-fn deps_of(alloc: Global, text: &str) -> Result<Listing<Dep>> {
+pub(crate) fn decider_of(word: &str) -> Option<Decider> {
+    match word {
+        "content" => Some(Decider::Content),
+        "timestamp-newer" => Some(Decider::Newer),
+        "timestamp-match" => Some(Decider::Match),
+        "content-timestamp" => Some(Decider::ContentMatch),
+        _ => None,
+    }
+}
+
+fn targets_of(alloc: Global, told: &mut Told, text: &str) -> Vec<PathText> {
+    let mut targets = Vec::new(alloc);
+    for word in text.split_whitespace() {
+        keep_path(alloc, told, &mut targets, word);
+    }
+    targets
+}
+
+fn lines_of(alloc: Global, told: &mut Told, text: &str) -> Vec<Text> {
+    let mut lines = Vec::new(alloc);
+    for line in text.split_terminator('|') {
+        keep_line(alloc, told, &mut lines, line);
+    }
+    lines
+}
+
+fn keep_line(alloc: Global, told: &mut Told, lines: &mut Vec<Text>, line: &str) {
+    match Text::of(alloc, line) {
+        Ok(line) => told.keep(lines, line),
+        Err(_) => told.refuse(),
+    }
+}
+
+fn deps_of(alloc: Global, told: &mut Told, text: &str) -> Vec<Dep> {
     let mut deps = Vec::new(alloc);
     for word in text.split_whitespace() {
-        deps.push(dep_of(alloc, word)?)?;
+        keep_dep(alloc, told, &mut deps, word);
     }
-    Ok(Listing::new(deps))
+    deps
 }
 
-fn dep_of(alloc: Global, word: &str) -> Result<Dep> {
+fn keep_dep(alloc: Global, told: &mut Told, deps: &mut Vec<Dep>, word: &str) {
     let (file, stamp) = match word.split_once('@') {
-        Some((file, stamp)) => (file, Some(stamp.parse::<u64>()?)),
+        Some((file, stamp)) => (file, Some(long_number(told, stamp))),
         None => (word, None),
     };
     let (name, digest) = match file.split_once('=') {
         Some((name, content)) => (name, Some(digest_of(content.as_bytes()))),
         None => (file, None),
     };
-    Ok(Dep {
-        name: PathText::read(alloc, name)?,
-        digest,
-        stamp,
-    })
+    match PathText::read(alloc, name) {
+        Ok(name) => told.keep(
+            deps,
+            Dep {
+                name,
+                digest,
+                stamp,
+            },
+        ),
+        Err(_) => told.refuse(),
+    }
 }

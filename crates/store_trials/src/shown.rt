@@ -1,84 +1,88 @@
 //! How rows show what they give.
-use anyhow::{Result, anyhow};
-use c_scanner::Include;
 use deciders::{Dep, Rec};
+use scons_base::{PathText, Text};
 use sign_store::StoreRefusal;
-use std::alloc::Global;
+use trial_text::Told;
 use world_api::{Bank, Work};
 
-/// Include words, with the marks that SCons's own pattern takes them between.
-pub fn includes_text(alloc: Global, includes: &[Include]) -> Result<String> {
-    let mut text = String::new(alloc);
-    for include in includes {
-        let name = String::from_utf8_lossy(alloc, include.name.as_slice())?;
-        let mark = if include.quoted { "\"" } else { "<" };
-        text.push_str(mark)?;
-        text.push_str(name.as_str())?;
-        text.push('\n')?;
-    }
-    Ok(text)
+/// A number, and what it counts.
+pub(crate) fn put_count(told: &mut Told, count: usize, what: &str) {
+    told.show(count);
+    told.put(what);
 }
 
-pub fn bytes_text(alloc: Global, bytes: &[u8]) -> Result<String> {
-    let mut text = hex::encode(alloc, bytes)?;
-    text.push('\n')?;
-    Ok(text)
+/// A word, and a size behind it, in a line of its own.
+pub(crate) fn put_size(told: &mut Told, word: &str, size: u64) {
+    told.put(word);
+    told.show(size);
+    told.put("\n");
+}
+
+/// Bytes as hexadecimal digits.
+pub(crate) fn put_hex(told: &mut Told, bytes: &[u8]) {
+    for byte in bytes {
+        told.show(format_args!("{byte:02x}"));
+    }
 }
 
 /// What was found of a path.
-pub fn found_text(alloc: Global, found: Option<&Rec>) -> Result<String> {
+pub(crate) fn put_found(told: &mut Told, found: Option<&Rec>) {
     match found {
-        Some(rec) => record_text(alloc, rec),
-        None => Ok(String::from_str(alloc, "none\n")?),
+        Some(rec) => put_record(told, rec),
+        None => told.put("none\n"),
     }
 }
 
-pub fn refusal_text(alloc: Global, refusal: StoreRefusal) -> Result<String> {
+pub(crate) fn put_refusal(told: &mut Told, refusal: StoreRefusal) {
     match refusal {
-        StoreRefusal::Fault => Ok(String::from_str(alloc, "fault\n")?),
-        StoreRefusal::Foreign(Bank::A) => Ok(String::from_str(alloc, "foreign A\n")?),
-        StoreRefusal::Foreign(Bank::B) => Ok(String::from_str(alloc, "foreign B\n")?),
-        StoreRefusal::Large(size) => Ok(format!(in alloc; "large {size}\n")?),
-        StoreRefusal::Memory => Err(anyhow!("memory ran out")),
+        StoreRefusal::Fault => told.put("fault\n"),
+        StoreRefusal::Foreign(Bank::A) => told.put("foreign A\n"),
+        StoreRefusal::Foreign(Bank::B) => told.put("foreign B\n"),
+        StoreRefusal::Large(size) => put_size(told, "large ", size),
+        StoreRefusal::Memory => told.refuse(),
     }
 }
 
-pub fn record_text(alloc: Global, rec: &Rec) -> Result<String> {
-    let work = match rec.work {
+pub(crate) fn put_record(told: &mut Told, rec: &Rec) {
+    told.put(match rec.work {
         Work::Shell => "Shell",
         Work::Copy => "Copy",
         Work::Write => "Write",
-    };
-    let mut text = String::from_str(alloc, work)?;
-    for target in rec.targets.as_slice() {
-        text.push(' ')?;
-        text.push_str(target.as_str())?;
-    }
-    text.push(';')?;
-    for line in rec.signed.as_slice() {
-        text.push_str(" |")?;
-        text.push_str(line.as_str())?;
-    }
-    text.push(';')?;
-    for dep in rec.deps.as_slice() {
-        let dep = dep_text(alloc, dep)?;
-        text.push_str(dep.as_str())?;
-    }
-    text.push('\n')?;
-    Ok(text)
+    });
+    put_targets(told, rec.targets.as_slice());
+    told.put(";");
+    put_signed(told, rec.signed.as_slice());
+    told.put(";");
+    put_deps(told, rec.deps.as_slice());
+    told.put("\n");
 }
 
-fn dep_text(alloc: Global, dep: &Dep) -> Result<String> {
-    let name = dep.name.as_str();
-    let digest = match dep.digest {
-        Some(digest) => {
-            let bytes = digest.0;
-            hex::encode(alloc, bytes.as_slice())?
-        }
-        None => String::from_str(alloc, "absent")?,
-    };
-    match dep.stamp {
-        Some(stamp) => Ok(format!(in alloc; " {name} {digest} {stamp}")?),
-        None => Ok(format!(in alloc; " {name} {digest}")?),
+fn put_targets(told: &mut Told, targets: &[PathText]) {
+    for target in targets {
+        told.put_all(&[" ", target.as_str()]);
+    }
+}
+
+fn put_signed(told: &mut Told, lines: &[Text]) {
+    for line in lines {
+        told.put_all(&[" |", line.as_str()]);
+    }
+}
+
+fn put_deps(told: &mut Told, deps: &[Dep]) {
+    for dep in deps {
+        put_dep(told, dep);
+    }
+}
+
+fn put_dep(told: &mut Told, dep: &Dep) {
+    told.put_all(&[" ", dep.name.as_str(), " "]);
+    match &dep.digest {
+        Some(digest) => put_hex(told, digest.0.as_slice()),
+        None => told.put("absent"),
+    }
+    if let Some(stamp) = dep.stamp {
+        told.put(" ");
+        told.show(stamp);
     }
 }

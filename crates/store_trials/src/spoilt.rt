@@ -1,81 +1,66 @@
 //! Bank A, spoilt at each of its places in turn.
-use crate::disk::Banks;
-use anyhow::{Result, anyhow};
+use crate::disk::{Banks, copy_of};
+use crate::fields::pair;
+use crate::runs::put_runs;
+use crate::shown::put_count;
 use scons_base::PathText;
 use sign_store::{Store, StoreRefusal};
 use std::alloc::Global;
+use trial_text::Told;
 use world_api::Bank;
 
 /// The bank cut at each length: what is read of a path, and how long the bank of the begun store is.
-pub fn cuts_text(alloc: Global, bank: &[u8], path: &PathText) -> Result<String> {
-    let mut text = String::new(alloc);
+pub(crate) fn put_cuts(alloc: Global, told: &mut Told, bank: &[u8], path: &PathText) {
     for len in 0..bank.len().saturating_add(1) {
-        let mut bytes = Vec::from_slice(alloc, bank)?;
-        bytes.truncate(len);
-        let mut banks = banks_of(alloc, bytes);
-        let read = read_text(alloc, &mut banks, path)?;
-        let begun = begun_text(alloc, &mut banks)?;
-        text.push_str(format!(in alloc; "{len}: {read}, {begun}\n")?.as_str())?;
-    }
-    Ok(text)
-}
-
-/// The bank with one byte changed, at each place: what is read of a path. Places in a row with one answer share a line.
-pub fn flips_text(alloc: Global, bank: &[u8], mask: u8, path: &PathText) -> Result<String> {
-    let mut text = String::new(alloc);
-    let mut first = 0;
-    let mut held = "";
-    for place in 0..bank.len() {
-        let mut banks = banks_of(alloc, flipped(alloc, bank, place, mask)?);
-        let read = read_text(alloc, &mut banks, path)?;
-        if read != held {
-            add_run(alloc, &mut text, first, place, held)?;
-            first = place;
-            held = read;
-        }
-    }
-    add_run(alloc, &mut text, first, bank.len(), held)?;
-    Ok(text)
-}
-
-/// Adds the answer of the places from one up to another.
-fn add_run(alloc: Global, text: &mut String, first: usize, end: usize, held: &str) -> Result<()> {
-    if first < end {
-        let last = end - 1;
-        text.push_str(format!(in alloc; "{first} to {last}: {held}\n")?.as_str())?;
-    }
-    Ok(())
-}
-
-fn flipped(alloc: Global, bank: &[u8], place: usize, mask: u8) -> Result<Vec<u8>> {
-    let mut bytes = Vec::from_slice(alloc, bank)?;
-    if let Some(byte) = bytes.get_mut(place) {
-        *byte ^= mask;
-    }
-    Ok(bytes)
-}
-
-fn banks_of(alloc: Global, a: Vec<u8>) -> Banks {
-    let mut banks = Banks::new(alloc);
-    banks.set(Bank::A, a);
-    banks
-}
-
-fn read_text(alloc: Global, banks: &mut Banks, path: &PathText) -> Result<&'static str> {
-    match Store::read(alloc, banks) {
-        Ok(view) if view.get(path).is_some() => Ok("a record"),
-        Ok(_) => Ok("none"),
-        Err(StoreRefusal::Foreign(_)) => Ok("foreign"),
-        Err(_) => Err(anyhow!("a bank can't be read")),
+        put_count(told, len, ": ");
+        put_cut(alloc, told, &bank[..len], path);
     }
 }
 
-fn begun_text(alloc: Global, banks: &mut Banks) -> Result<String> {
-    match Store::begin(alloc, banks) {
+fn put_cut(alloc: Global, told: &mut Told, bank: &[u8], path: &PathText) {
+    let mut banks = Banks::of(copy_of(alloc, told, bank), Vec::new(alloc));
+    put_read(alloc, told, &mut banks, path);
+    match Store::begin(alloc, &mut banks) {
         Ok(_) => {
-            let len = banks.bytes(Bank::A).len();
-            Ok(format!(in alloc; "begun with {len} bytes")?)
+            told.put(", begun with ");
+            put_count(told, banks.bytes(Bank::A).len(), " bytes\n");
         }
-        Err(_) => Ok(String::from_str(alloc, "not begun")?),
+        Err(_) => told.put(", not begun\n"),
+    }
+}
+
+/// `MASK PATH`: the bank with the bits of the mask changed in one byte, at each place: what is read of the path. Places in a
+/// row with one answer share a line.
+pub(crate) fn put_flips(alloc: Global, told: &mut Told, bank: &[u8], text: &str) {
+    let (mask, path) = pair(told, text);
+    match (mask.parse::<u8>(), PathText::read(alloc, path)) {
+        (Ok(mask), Ok(path)) => put_flips_of(alloc, told, bank, mask, &path),
+        _ => told.refuse(),
+    }
+}
+
+fn put_flips_of(alloc: Global, told: &mut Told, bank: &[u8], mask: u8, path: &PathText) {
+    let mut answers = Told::new(alloc);
+    for place in 0..bank.len() {
+        let mut bytes = copy_of(alloc, &mut answers, bank);
+        if let Some(byte) = bytes.get_mut(place) {
+            *byte ^= mask;
+        }
+        let mut banks = Banks::of(bytes, Vec::new(alloc));
+        put_read(alloc, &mut answers, &mut banks, path);
+        answers.put("\n");
+    }
+    put_runs(told, &answers, "");
+}
+
+fn put_read(alloc: Global, told: &mut Told, banks: &mut Banks, path: &PathText) {
+    match Store::read(alloc, banks) {
+        Ok(view) => told.put(if view.get(path).is_some() {
+            "a record"
+        } else {
+            "none"
+        }),
+        Err(StoreRefusal::Foreign(_)) => told.put("foreign"),
+        Err(_) => told.refuse(),
     }
 }

@@ -1,12 +1,15 @@
 //! A record that is put over given banks, and stopped at each of its calls of the disk.
-use crate::disk::Banks;
+use crate::disk::{Banks, copy_of};
+use crate::puts::is_put;
 use crate::record::record_of;
-use crate::shown::{found_text, refusal_text};
+use crate::runs::put_runs;
+use crate::shown::{put_found, put_refusal};
 use crate::tally::is_begun_as;
-use anyhow::{Result, anyhow};
 use deciders::Rec;
+use scons_base::PathText;
 use sign_store::Store;
 use std::alloc::Global;
+use trial_text::Told;
 use world_api::Bank;
 
 /// More calls than there are.
@@ -14,99 +17,85 @@ const MANY_CALLS: u64 = 100;
 
 /// A store is begun, and a record withdrawn and put: for each number of calls, up to those that suffice, what is read of
 /// the record's first target behind a stop there. Numbers in a row with one answer share a line.
-pub fn stops_text(alloc: Global, banks: &Banks, row: &str) -> Result<String> {
-    let mut text = String::new(alloc);
-    let mut first = 0;
-    let mut held = String::new(alloc);
-    let mut before = banks.copy(alloc)?;
+pub(crate) fn put_stops(alloc: Global, told: &mut Told, banks: &Banks, row: &str) {
+    let mut answers = Told::new(alloc);
     for calls in 0..MANY_CALLS {
-        let (after, is_done) = stopped_after(alloc, banks, row, calls)?;
-        let read = answers_text(alloc, &before, &after, &record_of(alloc, row)?)?;
-        if read.as_str() != held.as_str() {
-            add_run(alloc, &mut text, first, calls, held.as_str())?;
-            first = calls;
-            held = read;
-        }
+        let is_done = put_stop(alloc, &mut answers, banks, row, calls);
         if is_done {
-            add_run(
-                alloc,
-                &mut text,
-                first,
-                calls.saturating_add(1),
-                held.as_str(),
-            )?;
-            return Ok(text);
+            return put_runs(told, &answers, " calls");
         }
-        before = after;
     }
-    Err(anyhow!("no number of calls suffices"))
+    told.refuse();
 }
 
-/// Adds the answer of the numbers from one up to another.
-fn add_run(alloc: Global, text: &mut String, first: u64, end: u64, held: &str) -> Result<()> {
-    if first < end {
-        let last = end - 1;
-        text.push_str(format!(in alloc; "{first} to {last} calls: {held}\n")?.as_str())?;
-    }
-    Ok(())
+/// Tells in one line what is read behind a stop after so many calls, and answers whether those were all.
+fn put_stop(alloc: Global, told: &mut Told, banks: &Banks, row: &str, calls: u64) -> bool {
+    let rec = record_of(alloc, told, row);
+    let mut before = banks.copy(alloc, told);
+    put_until(alloc, told, &mut before, row, calls.saturating_sub(1));
+    let mut after = banks.copy(alloc, told);
+    let is_done = put_until(alloc, told, &mut after, row, calls);
+    put_answers(alloc, told, &before, &after, rec.targets.as_slice());
+    is_done
 }
 
-/// The banks once so many calls were answered, and whether those were all.
-fn stopped_after(alloc: Global, banks: &Banks, row: &str, calls: u64) -> Result<(Banks, bool)> {
-    let mut stopped = banks.copy(alloc)?;
-    stopped.stop_after(calls);
-    let is_done = is_put(alloc, &mut stopped, record_of(alloc, row)?);
-    stopped.go_on();
-    Ok((stopped, is_done))
+/// Puts a record over the banks, of which so many calls are answered: whether those were all.
+fn put_until(alloc: Global, told: &mut Told, banks: &mut Banks, row: &str, calls: u64) -> bool {
+    let rec = record_of(alloc, told, row);
+    banks.stop_after(calls);
+    let is_done = is_put_anew(alloc, banks, rec);
+    banks.go_on();
+    is_done
 }
 
-fn is_put(alloc: Global, banks: &mut Banks, rec: Rec) -> bool {
-    let Ok(mut store) = Store::begin(alloc, banks) else {
-        return false;
-    };
-    let Ok(ticket) = store.prepare(rec) else {
-        return false;
-    };
-    match store.withdraw(banks, &ticket) {
-        Ok(()) => store.put(banks, ticket).is_ok(),
+fn is_put_anew(alloc: Global, banks: &mut Banks, rec: Rec) -> bool {
+    match Store::begin(alloc, banks) {
+        Ok(mut store) => is_put(&mut store, banks, rec),
         Err(_) => false,
     }
 }
 
 /// What is read behind a stop: of what was written last none may be there, or any number of the front bytes.
-fn answers_text(alloc: Global, before: &Banks, after: &Banks, rec: &Rec) -> Result<String> {
-    let mut answers = Vec::new(alloc);
-    answers.push(answer_text(alloc, &mut before.copy(alloc)?, rec)?)?;
-    add_torn(alloc, before, after, Bank::A, rec, &mut answers)?;
-    add_torn(alloc, before, after, Bank::B, rec, &mut answers)?;
-    let mut text = String::new(alloc);
-    for answer in answers.as_slice() {
-        if !text.is_empty() {
-            text.push_str(" or ")?;
-        }
-        text.push_str(answer.as_str().trim())?;
-    }
-    Ok(text)
+fn put_answers(
+    alloc: Global,
+    told: &mut Told,
+    before: &Banks,
+    after: &Banks,
+    targets: &[PathText],
+) {
+    let mut answers = Told::new(alloc);
+    put_answer(alloc, &mut answers, before.copy(alloc, told), targets);
+    put_torn(alloc, &mut answers, before, after, Bank::A, targets);
+    put_torn(alloc, &mut answers, before, after, Bank::B, targets);
+    put_joined(told, &answers);
 }
 
-fn add_torn(
+/// Tells lines in one, with `or` between.
+fn put_joined(told: &mut Told, answers: &Told) {
+    for (place, answer) in answers.as_str().lines().enumerate() {
+        told.put(if place == 0 { "" } else { " or " });
+        told.put(answer);
+    }
+    told.put("\n");
+    if answers.is_refused() {
+        told.refuse();
+    }
+}
+
+fn put_torn(
     alloc: Global,
+    answers: &mut Told,
     before: &Banks,
     after: &Banks,
     bank: Bank,
-    rec: &Rec,
-    answers: &mut Vec<String>,
-) -> Result<()> {
+    targets: &[PathText],
+) {
     let (was, now) = (before.bytes(bank), after.bytes(bank));
     for len in same_front(was, now)..now.len().saturating_add(1) {
-        let mut torn = after.copy(alloc)?;
-        torn.set(bank, torn_of(alloc, was, now, len)?);
-        let answer = answer_text(alloc, &mut torn, rec)?;
-        if !answers.iter().any(|held| held.as_str() == answer.as_str()) {
-            answers.push(answer)?;
-        }
+        let mut torn = after.copy(alloc, answers);
+        torn.set(bank, torn_of(alloc, answers, was, now, len));
+        put_answer(alloc, answers, torn, targets);
     }
-    Ok(())
 }
 
 /// How many bytes in front are the same.
@@ -121,24 +110,53 @@ fn same_front(was: &[u8], now: &[u8]) -> usize {
 }
 
 /// So many bytes of now, and behind them those that were there.
-fn torn_of(alloc: Global, was: &[u8], now: &[u8], len: usize) -> Result<Vec<u8>> {
-    let mut bytes = Vec::from_slice(alloc, now)?;
+fn torn_of(alloc: Global, told: &mut Told, was: &[u8], now: &[u8], len: usize) -> Vec<u8> {
+    let mut bytes = copy_of(alloc, told, now);
     bytes.truncate(len);
-    for byte in was.iter().skip(len) {
-        bytes.push(*byte)?;
+    if bytes
+        .extend_from_slice(was.get(len..).unwrap_or(&[]))
+        .is_err()
+    {
+        told.refuse();
     }
-    Ok(bytes)
+    bytes
+}
+
+/// Tells in a line what is read of banks, where no line tells it yet.
+fn put_answer(alloc: Global, answers: &mut Told, banks: Banks, targets: &[PathText]) {
+    let mut banks = banks;
+    let mut answer = Told::new(alloc);
+    put_read(alloc, &mut answer, &mut banks, targets);
+    if !has_line(answers.as_str(), answer.as_str().trim_end()) {
+        answers.put(answer.as_str());
+    }
+    if answer.is_refused() {
+        answers.refuse();
+    }
+}
+
+fn has_line(lines: &str, wanted: &str) -> bool {
+    for line in lines.lines() {
+        if line == wanted {
+            return true;
+        }
+    }
+    false
 }
 
 /// What is read of the first target. A store over the banks has to have the same, and is read as such again.
-fn answer_text(alloc: Global, banks: &mut Banks, rec: &Rec) -> Result<String> {
-    let targets = rec.targets.as_slice();
+fn put_read(alloc: Global, told: &mut Told, banks: &mut Banks, targets: &[PathText]) {
     let Some(path) = targets.first() else {
-        return Err(anyhow!("the record has no target"));
+        return told.refuse();
     };
     match Store::read(alloc, banks) {
-        Ok(view) if is_begun_as(alloc, banks, &view, targets) => found_text(alloc, view.get(path)),
-        Ok(_) => Ok(String::from_str(alloc, "begun as another map")?),
-        Err(refusal) => refusal_text(alloc, refusal),
+        Ok(view) => {
+            if is_begun_as(alloc, banks, &view, targets) {
+                put_found(told, view.get(path));
+            } else {
+                told.put("begun as another map\n");
+            }
+        }
+        Err(refusal) => put_refusal(told, refusal),
     }
 }

@@ -1,29 +1,44 @@
 //! What the store makes of many spoilt banks.
 use crate::disk::Banks;
 use crate::draws::Draws;
-use crate::mutations::spoil;
-use anyhow::Result;
+use crate::fields::pair;
+use crate::mutations::spoilt;
+use crate::shown::put_count;
 use deciders::{Rec, same};
-use scons_base::PathText;
+use scons_base::{PathFault, PathText};
 use sign_store::{Store, StoreRefusal, View};
 use std::alloc::Global;
 use std::str;
+use trial_text::Told;
 use world_api::Bank;
 
 /// How many banks were read as what.
 #[derive(Drop)]
-pub struct Tally {
-    maps: u64,
+struct Tally {
+    maps: usize,
     /// How many of the maps have a record.
-    filled: u64,
-    foreign: u64,
-    large: u64,
+    filled: usize,
+    foreign: usize,
+    large: usize,
     /// How many were begun as something else than they were read, or read as something else afterwards.
-    differing: u64,
+    differing: usize,
+}
+
+/// `COUNT SEED`: spoils the banks anew, so many times, and begins a store over each.
+pub(crate) fn put_tally(alloc: Global, told: &mut Told, banks: &Banks, text: &str) {
+    let (count, seed) = pair(told, text);
+    let mut draws = Draws::new(u64::from(told.number(seed)));
+    let mut tally = Tally::new();
+    for _ in 0..told.number(count) {
+        let mut spoilt = spoilt(alloc, told, &mut draws, banks);
+        let names = names_in(alloc, told, &spoilt);
+        tally.begin(alloc, &mut spoilt, names.as_slice());
+    }
+    tally.put(told);
 }
 
 impl Tally {
-    pub fn new() -> Tally {
+    fn new() -> Tally {
         Tally {
             maps: 0,
             filled: 0,
@@ -33,81 +48,94 @@ impl Tally {
         }
     }
 
-    /// Spoils the banks anew, so many times, and begins a store over each.
-    pub fn run(&mut self, alloc: Global, banks: &Banks, count: u64, seed: u64) -> Result<()> {
-        let mut draws = Draws::new(seed);
-        let mut spoilt = Banks::new(alloc);
-        for _ in 0..count {
-            let (a, b) = (banks.bytes(Bank::A), banks.bytes(Bank::B));
-            spoil(alloc, &mut draws, a, b, &mut spoilt)?;
-            self.begin(alloc, &mut spoilt)?;
-        }
-        Ok(())
-    }
-
     /// Reads the banks, begins a store, and reads them again.
-    fn begin(&mut self, alloc: Global, banks: &mut Banks) -> Result<()> {
-        let names = names_of(alloc, banks)?;
-        match Store::read(alloc, banks) {
-            Ok(view) => self.begin_map(alloc, banks, &view, names.as_slice()),
-            Err(refusal) => self.refuse(alloc, banks, refusal),
-        }
-        Ok(())
-    }
-
-    fn begin_map(&mut self, alloc: Global, banks: &mut Banks, view: &View, names: &[PathText]) {
-        self.maps = self.maps.saturating_add(1);
-        if names.iter().any(|name| view.get(name).is_some()) {
-            self.filled = self.filled.saturating_add(1);
-        }
-        if !is_begun_as(alloc, banks, view, names) {
-            self.differing = self.differing.saturating_add(1);
-        }
-    }
-
-    fn refuse(&mut self, alloc: Global, banks: &mut Banks, refusal: StoreRefusal) {
-        let counter = match refusal {
-            StoreRefusal::Foreign(_) => &mut self.foreign,
-            StoreRefusal::Large(_) => &mut self.large,
-            _ => &mut self.differing,
+    fn begin(&mut self, alloc: Global, banks: &mut Banks, names: &[PathText]) {
+        let is_one = match Store::read(alloc, banks) {
+            Ok(view) => {
+                self.count_map(&view, names);
+                is_begun_as(alloc, banks, &view, names)
+            }
+            Err(refusal) => {
+                self.count_refusal(refusal);
+                is_refused_as(alloc, banks, refusal)
+            }
         };
-        *counter = counter.saturating_add(1);
-        if !is_refused_as(alloc, banks, refusal) {
-            self.differing = self.differing.saturating_add(1);
+        if !is_one {
+            count(&mut self.differing);
         }
     }
 
-    pub fn text(&self, alloc: Global) -> Result<String> {
-        let Tally {
-            maps,
-            filled,
-            foreign,
-            large,
-            differing,
-        } = self;
-        Ok(format!(in alloc;
-            "{maps} maps, {filled} with a record; {foreign} foreign; {large} large; {differing} differ\n"
-        )?)
+    fn count_map(&mut self, view: &View, names: &[PathText]) {
+        count(&mut self.maps);
+        if has_any(view, names) {
+            count(&mut self.filled);
+        }
     }
+
+    fn count_refusal(&mut self, refusal: StoreRefusal) {
+        match refusal {
+            StoreRefusal::Foreign(_) => count(&mut self.foreign),
+            StoreRefusal::Large(_) => count(&mut self.large),
+            _ => count(&mut self.differing),
+        }
+    }
+
+    fn put(&self, told: &mut Told) {
+        put_count(told, self.maps, " maps, ");
+        put_count(told, self.filled, " with a record; ");
+        put_count(told, self.foreign, " foreign; ");
+        put_count(told, self.large, " large; ");
+        put_count(told, self.differing, " differ\n");
+    }
+}
+
+fn count(counter: &mut usize) {
+    *counter = counter.saturating_add(1);
+}
+
+fn has_any(view: &View, names: &[PathText]) -> bool {
+    for name in names {
+        if view.get(name).is_some() {
+            return true;
+        }
+    }
+    false
 }
 
 /// Whether the store of the banks is the map that was read, and is read again.
-pub fn is_begun_as(alloc: Global, banks: &mut Banks, view: &View, names: &[PathText]) -> bool {
-    let Ok(store) = Store::begin(alloc, banks) else {
-        return false;
-    };
-    let Ok(after) = Store::read(alloc, banks) else {
-        return false;
-    };
-    names.iter().all(|name| is_one(view.get(name), store.get(name))
-        && is_one(view.get(name), after.get(name)))
+pub(crate) fn is_begun_as(
+    alloc: Global,
+    banks: &mut Banks,
+    view: &View,
+    names: &[PathText],
+) -> bool {
+    match Store::begin(alloc, banks) {
+        Ok(store) => is_read_again(alloc, banks, view, &store, names),
+        Err(_) => false,
+    }
 }
 
-fn is_refused_as(alloc: Global, banks: &mut Banks, refusal: StoreRefusal) -> bool {
-    match Store::begin(alloc, banks) {
-        Ok(_) => false,
-        Err(other) => other == refusal,
+fn is_read_again(
+    alloc: Global,
+    banks: &mut Banks,
+    view: &View,
+    store: &Store,
+    names: &[PathText],
+) -> bool {
+    match Store::read(alloc, banks) {
+        Ok(after) => are_one(view, store, &after, names),
+        Err(_) => false,
     }
+}
+
+fn are_one(view: &View, store: &Store, after: &View, names: &[PathText]) -> bool {
+    for name in names {
+        let rec = view.get(name);
+        if !is_one(rec, store.get(name)) || !is_one(rec, after.get(name)) {
+            return false;
+        }
+    }
+    true
 }
 
 fn is_one(a: Option<&Rec>, b: Option<&Rec>) -> bool {
@@ -118,28 +146,43 @@ fn is_one(a: Option<&Rec>, b: Option<&Rec>) -> bool {
     }
 }
 
-/// Each path that stands at some place of a bank, behind its length.
-pub fn names_of(alloc: Global, banks: &Banks) -> Result<Vec<PathText>> {
-    let mut names = Vec::new(alloc);
-    add_names(alloc, banks.bytes(Bank::A), &mut names)?;
-    add_names(alloc, banks.bytes(Bank::B), &mut names)?;
-    Ok(names)
+fn is_refused_as(alloc: Global, banks: &mut Banks, refusal: StoreRefusal) -> bool {
+    match Store::begin(alloc, banks) {
+        Ok(_) => false,
+        Err(other) => other == refusal,
+    }
 }
 
-fn add_names(alloc: Global, bank: &[u8], names: &mut Vec<PathText>) -> Result<()> {
+/// Each path that stands at some place of a bank, behind its length.
+pub(crate) fn names_in(alloc: Global, told: &mut Told, banks: &Banks) -> Vec<PathText> {
+    let mut names = Vec::new(alloc);
+    keep_names(alloc, told, &mut names, banks.bytes(Bank::A));
+    keep_names(alloc, told, &mut names, banks.bytes(Bank::B));
+    names
+}
+
+fn keep_names(alloc: Global, told: &mut Told, names: &mut Vec<PathText>, bank: &[u8]) {
     for place in 0..bank.len() {
-        if let Some(name) = name_at(alloc, &bank[place..]) {
-            names.push(name)?;
+        if let Some(text) = text_at(&bank[place..]) {
+            keep_name(alloc, told, names, text);
         }
     }
-    Ok(())
 }
 
-fn name_at(alloc: Global, bytes: &[u8]) -> Option<PathText> {
+/// The text behind its length, where these bytes begin with one.
+fn text_at(bytes: &[u8]) -> Option<&str> {
     if bytes.len() < 4 {
         return None;
     }
     let len = u32::from_be_bytes([bytes[0], bytes[1], bytes[2], bytes[3]]) as usize;
-    let text = bytes[4..].get(..len)?;
-    PathText::read(alloc, str::from_utf8(text).ok()?).ok()
+    str::from_utf8(bytes[4..].get(..len)?).ok()
+}
+
+/// Puts a text that is a path behind a list.
+fn keep_name(alloc: Global, told: &mut Told, names: &mut Vec<PathText>, text: &str) {
+    match PathText::read(alloc, text) {
+        Ok(name) => told.keep(names, name),
+        Err(PathFault::Memory) => told.refuse(),
+        Err(_) => {}
+    }
 }

@@ -1,6 +1,6 @@
--- A world in which at most one job runs.
-use Rattle.std.proofs.Common.{◌≡◌, ◌∙◌, sym, ap, subst, ℕ, zero, suc, List, [], ◌∷◌, ◌++◌, None, length, arith, length-append, Contains, refl}
-use Rattle.world_api.specs.Around.{Around, Running, IsUnused}
+-- A world in which no job runs yet, and one of one target starts.
+use Rattle.std.proofs.Common.{◌≡◌, sym, subst, ℕ, zero, suc, List, [], ◌∷◌, None, length, arith, Contains, refl}
+use Rattle.world_api.specs.Around.{Around}
 use Rattle.world_api.specs.Calls.{CanStart}
 use Rattle.world_api.specs.declared.job.Job.{Job}
 
@@ -19,15 +19,6 @@ can_start job around none clear = record {
   settled = λ run path h dep. nothing_in around.running run none h;
   clear = clear;
 }
-
-pub unused : (around : Around) (path : List ℕ) → around.running ≡ [] → IsUnused around.running path
-unused around path none run h = nothing_in around.running run none h
-
--- the one job ends
-pub last_ended : (xs front back : List Running) (run : Running) → xs ≡ front ++ run ∷ back → length xs ≡ 1 → length (front ++ back) ≡ 0
-last_ended xs front back run was one =
-    let all = ap (λ (l : List Running). length l) was in
-    omega (arith, all, one, length-append front (run ∷ back), length-append front back)
 
 -- the only path of a list
 pub only_path : (paths : List (List ℕ)) (p path : List ℕ) → paths ≡ p ∷ [] → Contains paths path → path ≡ p

@@ -1,178 +1,142 @@
 //! The calls that leave the running jobs as they are.
-ghost use Rattle.std.specs.Prelude.{◌≡◌};
-ghost use Rattle.world_mem.specs.AsAround.{around_of};
+ghost use Rattle.world_trials.specs.Jobs.{KeepsJobs};
 
-use crate::bytes::{bank_of, bytes_of, pair_of, path_of, text_of};
-use anyhow::{Result, bail};
+use crate::fields::{bank_of, bytes_of, pair};
+use crate::shown::{
+    put_asked, put_bytes, put_content, put_done, put_kind, put_list, put_refusal, put_size,
+    put_stamp,
+};
+use scons_base::PathText;
 use std::alloc::Global;
-use world_api::{AskRefusal, Bank, Content, Disk, Fault, Kind, ReadRefusal, World};
+use trial_text::Told;
+use world_api::{Bank, Disk, World};
 use world_mem::MemWorld;
 
 /// The most bytes that a row reads or writes.
-const BYTES: usize = 65_536;
+pub(crate) const BYTES: usize = 65_536;
 
-/// Makes the call of a row of a disk. `None` where it is no such call.
-pub fn disk_call(
+/// Makes the call of a row of a disk, and tells what it gives. `false` where it is no such call.
+pub(crate) fn disk_call(
     alloc: Global,
+    told: &mut Told,
     world: &mut MemWorld,
     verb: &str,
     rest: &str,
-) -> Result<Option<String>>
-    ensures { (around_of world.new.state).running ≡ (around_of world.old.state).running }
+) -> bool
+    ensures { KeepsJobs world.old world.new }
 {
-    let text = match verb {
-        "size" => size(alloc, world, bank_of(rest)?)?,
-        "read" => read(alloc, world, rest)?,
-        "write" => write(alloc, world, rest)?,
-        "sync" => done(alloc, world.sync(bank_of(rest)?))?,
-        _ => return Ok(None),
+    let (bank, rest) = rest.split_once(' ').unwrap_or((rest, ""));
+    let Some(bank) = bank_of(bank) else {
+        return false;
     };
-    Ok(Some(text))
-}
-
-fn done(alloc: Global, answer: Result<(), Fault>) -> Result<String> {
-    let text = if answer.is_ok() { "ok" } else { "fault" };
-    Ok(String::from_str(alloc, text)?)
-}
-
-fn size(alloc: Global, world: &mut MemWorld, bank: Bank) -> Result<String>
-    ensures { (around_of world.new.state).running ≡ (around_of world.old.state).running }
-{
-    match world.size(bank) {
-        Ok(size) => Ok(format!(in alloc; "{size}")?),
-        Err(_) => Ok(String::from_str(alloc, "fault")?),
+    match verb {
+        "size" => put_size(told, world.size(bank)),
+        "read" => read(alloc, told, world, bank, rest),
+        "write" => write(alloc, told, world, bank, rest),
+        "sync" => put_done(told, world.sync(bank).is_ok()),
+        _ => return false,
     }
+    true
 }
 
-/// `BANK PLACE COUNT`.
-fn read(alloc: Global, world: &mut MemWorld, text: &str) -> Result<String>
-    ensures { (around_of world.new.state).running ≡ (around_of world.old.state).running }
+/// `PLACE COUNT`.
+fn read(alloc: Global, told: &mut Told, world: &mut MemWorld, bank: Bank, text: &str)
+    ensures { KeepsJobs world.old world.new }
 {
-    let (bank, rest) = pair_of(text)?;
-    let (place, count) = pair_of(rest)?;
-    let (bank, place, count) = (
-        bank_of(bank)?,
-        place.parse::<u64>()?,
-        count.parse::<usize>()?,
-    );
+    let (place, count) = pair(told, text);
+    let (place, count) = (told.number(place) as usize, told.number(count) as usize);
     let held = world.bank(bank).len();
-    if count > BYTES || place > held as u64 || held - (place as usize) < count {
-        bail!("no such range");
+    if count > BYTES || place > held || held - place < count {
+        return told.refuse();
     }
-    let mut into = Vec::from_elem(alloc, 0, count)?;
-    match world.read_at(bank, place, into.as_mut_slice()) {
-        Ok(()) => text_of(alloc, into.as_slice()),
-        Err(_) => Ok(String::from_str(alloc, "fault")?),
-    }
-}
-
-/// `BANK PLACE BYTES`.
-fn write(alloc: Global, world: &mut MemWorld, text: &str) -> Result<String>
-    ensures { (around_of world.new.state).running ≡ (around_of world.old.state).running }
-{
-    let (bank, rest) = pair_of(text)?;
-    let (place, bytes) = pair_of(rest)?;
-    let (bank, place, bytes) = (
-        bank_of(bank)?,
-        place.parse::<u64>()?,
-        bytes_of(alloc, bytes)?,
-    );
-    let held = world.bank(bank).len();
-    if bytes.len() > BYTES || place > held as u64 || place > 1 << 32 {
-        bail!("no such range");
-    }
-    done(alloc, world.write_at(bank, place, bytes.as_slice()))
-}
-
-/// Makes the call of a row that asks a world for what stands. `None` where it is no such call.
-pub fn look(alloc: Global, world: &mut MemWorld, verb: &str, rest: &str) -> Result<Option<String>>
-    ensures { (around_of world.new.state).running ≡ (around_of world.old.state).running }
-{
-    let text = match verb {
-        "top" => top(alloc, world)?,
-        "kind" => kind(alloc, world, rest)?,
-        "content" => content(alloc, world, rest)?,
-        "list" => list(alloc, world, rest)?,
-        "stamp" => stamp(alloc, world, rest)?,
-        "make_dir" => make_dir(alloc, world, rest)?,
-        _ => return Ok(None),
+    let Ok(mut into) = Vec::from_elem(alloc, 0, count) else {
+        return told.refuse();
     };
-    Ok(Some(text))
+    match world.read_at(bank, place as u64, into.as_mut_slice()) {
+        Ok(()) => put_bytes(told, into.as_slice()),
+        Err(_) => told.put("fault"),
+    }
 }
 
-fn top(alloc: Global, world: &mut MemWorld) -> Result<String>
-    ensures { (around_of world.new.state).running ≡ (around_of world.old.state).running }
+/// `PLACE BYTES`.
+fn write(alloc: Global, told: &mut Told, world: &mut MemWorld, bank: Bank, text: &str)
+    ensures { KeepsJobs world.old world.new }
+{
+    let (place, bytes) = pair(told, text);
+    let place = told.number(place);
+    match bytes_of(alloc, bytes) {
+        Some(bytes) => write_at(told, world, bank, place, bytes.as_slice()),
+        None => told.refuse(),
+    }
+}
+
+fn write_at(told: &mut Told, world: &mut MemWorld, bank: Bank, place: u32, bytes: &[u8])
+    ensures { KeepsJobs world.old world.new }
+{
+    let held = world.bank(bank).len();
+    if bytes.len() > BYTES || place as usize > held {
+        return told.refuse();
+    }
+    put_done(told, world.write_at(bank, place as u64, bytes).is_ok());
+}
+
+/// Asks a world for what stands, and tells what it gives. `false` where the row is no such call.
+pub(crate) fn look(
+    alloc: Global,
+    told: &mut Told,
+    world: &mut MemWorld,
+    verb: &str,
+    rest: &str,
+) -> bool
+    ensures { KeepsJobs world.old world.new }
+{
+    match verb {
+        "top" => put_top(told, world),
+        "content" => content(alloc, told, world, rest),
+        "kind" | "list" | "stamp" | "make_dir" => look_at(alloc, told, world, verb, rest),
+        _ => return false,
+    }
+    true
+}
+
+fn put_top(told: &mut Told, world: &mut MemWorld)
+    ensures { KeepsJobs world.old world.new }
 {
     match world.top_path() {
-        Ok(path) => Ok(String::from_str(alloc, path.as_str())?),
-        Err(AskRefusal::Fault) => Ok(String::from_str(alloc, "fault")?),
-        Err(AskRefusal::Memory) => bail!("memory ran out"),
+        Ok(path) => told.put(path.as_str()),
+        Err(refusal) => put_refusal(told, refusal),
     }
-}
-
-fn kind(alloc: Global, world: &mut MemWorld, path: &str) -> Result<String>
-    ensures { (around_of world.new.state).running ≡ (around_of world.old.state).running }
-{
-    let text = match world.kind(&path_of(alloc, path)?) {
-        Ok(Kind::Absent) => "nothing",
-        Ok(Kind::File) => "a file",
-        Ok(Kind::Dir) => "a directory",
-        Err(_) => "fault",
-    };
-    Ok(String::from_str(alloc, text)?)
 }
 
 /// `LIMIT PATH`.
-fn content(alloc: Global, world: &mut MemWorld, text: &str) -> Result<String>
-    ensures { (around_of world.new.state).running ≡ (around_of world.old.state).running }
+fn content(alloc: Global, told: &mut Told, world: &mut MemWorld, text: &str)
+    ensures { KeepsJobs world.old world.new }
 {
-    let (limit, path) = pair_of(text)?;
-    let (limit, path) = (limit.parse::<u64>()?, path_of(alloc, path)?);
-    content_text(alloc, world.read_file(&path, limit))
-}
-
-fn content_text(alloc: Global, content: Result<Content, ReadRefusal>) -> Result<String> {
-    match content {
-        Ok(Some(bytes)) => text_of(alloc, bytes.as_slice()),
-        Ok(None) => Ok(String::from_str(alloc, "no file")?),
-        Err(ReadRefusal::Fault) => Ok(String::from_str(alloc, "fault")?),
-        Err(ReadRefusal::TooLarge(size)) => Ok(format!(in alloc; "too large: {size}")?),
-        Err(ReadRefusal::Memory) => bail!("memory ran out"),
+    let (limit, path) = pair(told, text);
+    let limit = told.number(limit);
+    match PathText::read(alloc, path) {
+        Ok(path) => put_content(told, world.read_file(&path, limit as u64)),
+        Err(_) => told.refuse(),
     }
 }
 
-fn list(alloc: Global, world: &mut MemWorld, dir: &str) -> Result<String>
-    ensures { (around_of world.new.state).running ≡ (around_of world.old.state).running }
+fn look_at(alloc: Global, told: &mut Told, world: &mut MemWorld, verb: &str, path: &str)
+    ensures { KeepsJobs world.old world.new }
 {
-    let paths = match world.list(&path_of(alloc, dir)?) {
-        Ok(paths) => paths,
-        Err(AskRefusal::Fault) => return Ok(String::from_str(alloc, "fault")?),
-        Err(AskRefusal::Memory) => bail!("memory ran out"),
-    };
-    let mut text = format!(in alloc; "{} files", paths.as_slice().len())?;
-    for path in paths.as_slice() {
-        text.push(' ')?;
-        text.push_str(path.as_str())?;
-    }
-    Ok(text)
-}
-
-fn stamp(alloc: Global, world: &mut MemWorld, path: &str) -> Result<String>
-    ensures { (around_of world.new.state).running ≡ (around_of world.old.state).running }
-{
-    match world.stamp(&path_of(alloc, path)?) {
-        Ok(Some(stamp)) => Ok(format!(in alloc; "{stamp}")?),
-        Ok(None) => Ok(String::from_str(alloc, "no file")?),
-        Err(_) => Ok(String::from_str(alloc, "fault")?),
+    match PathText::read(alloc, path) {
+        Ok(path) => ask(told, world, verb, &path),
+        Err(_) => told.refuse(),
     }
 }
 
-fn make_dir(alloc: Global, world: &mut MemWorld, path: &str) -> Result<String>
-    ensures { (around_of world.new.state).running ≡ (around_of world.old.state).running }
+fn ask(told: &mut Told, world: &mut MemWorld, verb: &str, path: &PathText)
+    ensures { KeepsJobs world.old world.new }
 {
-    match world.make_dir(&path_of(alloc, path)?) {
-        Ok(()) => Ok(String::from_str(alloc, "ok")?),
-        Err(AskRefusal::Fault) => Ok(String::from_str(alloc, "fault")?),
-        Err(AskRefusal::Memory) => bail!("memory ran out"),
+    match verb {
+        "kind" => put_kind(told, world.kind(path)),
+        "list" => put_list(told, world.list(path)),
+        "stamp" => put_stamp(told, world.stamp(path)),
+        "make_dir" => put_asked(told, world.make_dir(path)),
+        _ => told.refuse(),
     }
 }

@@ -1,75 +1,65 @@
 //! The rows of the table.
+use crate::cuts::put_cuts;
 use crate::held::Held;
-use crate::stops::{banks_text, cuts_text, records_text};
-use anyhow::{Result, anyhow, bail};
+use crate::stops::{put_banks, put_records};
 use std::alloc::Global;
+use trial_text::Told;
 
-/// The world that was made last, and the rows of calls since.
+/// The world that was made last, and the rows of calls since, a line for each.
 #[derive(Drop)]
-pub struct Rows {
+pub(crate) struct Rows {
     held: Option<Held>,
-    calls: Vec<String>,
+    calls: String,
 }
 
 impl Rows {
-    pub fn new(alloc: Global) -> Rows {
+    pub(crate) fn new(alloc: Global) -> Rows {
         Rows {
             held: None,
-            calls: Vec::new(alloc),
+            calls: String::new(alloc),
         }
     }
 
-    /// What a row gives, in lines of its own.
-    pub fn answer(&mut self, alloc: Global, row: &str) -> Result<String> {
-        let (verb, rest) = match row.split_once(' ') {
-            Some(parts) => parts,
-            None => (row, ""),
-        };
+    /// Tells what a row gives, in lines of its own.
+    pub(crate) fn put_row(&mut self, alloc: Global, told: &mut Told, row: &str) {
+        let (verb, rest) = row.split_once(' ').unwrap_or((row, ""));
         match verb {
-            "" | "#" => Ok(String::new(alloc)),
-            "new" => self.begin(alloc, rest),
-            "stops" => banks_text(alloc, self.calls.as_slice()),
-            "records" => records_text(alloc, self.calls.as_slice(), rest),
-            "cuts" => {
-                let Some((path, bytes)) = rest.split_once(' ') else {
-                    return Err(anyhow!("two words are wanted"));
-                };
-                cuts_text(alloc, path, bytes)
-            }
-            "stop" => self.stop(alloc, rest),
-            _ => self.row(alloc, row, verb, rest),
+            "" | "#" => {}
+            "new" => self.begin(alloc, told, rest),
+            "stop" => self.stop(told, rest),
+            "stops" => put_banks(alloc, told, self.calls.as_str()),
+            "records" => put_records(alloc, told, self.calls.as_str(), rest),
+            "cuts" => put_cuts(alloc, told, rest),
+            _ => self.put_call(alloc, told, row, verb, rest),
         }
     }
 
-    fn begin(&mut self, alloc: Global, failures: &str) -> Result<String> {
+    /// Begins with another world.
+    fn begin(&mut self, alloc: Global, told: &mut Told, failures: &str) {
         self.calls.clear();
-        self.held = Some(Held::new(alloc, failures)?);
-        Ok(String::new(alloc))
+        self.held = Held::new(alloc, told, failures);
     }
 
-    fn stop(&mut self, alloc: Global, pick: &str) -> Result<String> {
-        let Some(held) = self.held.take() else {
-            bail!("no world was made");
-        };
-        self.held = Some(held.stopped(pick.parse::<u32>()?)?);
-        Ok(String::new(alloc))
+    fn stop(&mut self, told: &mut Told, pick: &str) {
+        let pick = told.number(pick);
+        match self.held.take() {
+            Some(held) => self.held = held.stopped(told, pick),
+            None => told.refuse(),
+        }
     }
 
-    fn row(&mut self, alloc: Global, row: &str, verb: &str, rest: &str) -> Result<String> {
+    /// Makes a call, or changes or shows the world by hand.
+    fn put_call(&mut self, alloc: Global, told: &mut Told, row: &str, verb: &str, rest: &str) {
         let Some(held) = &mut self.held else {
-            bail!("no world was made");
+            return told.refuse();
         };
-        let mut text = match held.call(alloc, verb, rest)? {
-            Some(text) => {
-                self.calls.push(String::from_str(alloc, row)?)?;
-                text
+        if held.call(alloc, told, verb, rest) {
+            if self.calls.push_str(row).is_err() || self.calls.push('\n').is_err() {
+                told.refuse();
             }
-            None => match held.by_hand(alloc, verb, rest)? {
-                Some(text) => text,
-                None => bail!("no row begins with {verb}"),
-            },
-        };
-        text.push('\n')?;
-        Ok(text)
+        } else {
+            held.by_hand(alloc, told, verb, rest);
+        }
+        told.put("\n");
     }
 }

@@ -1,109 +1,116 @@
 //! The calls of some rows, stopped after each of them.
-use crate::bytes::{bytes_of, path_of, text_of};
-use crate::held::Held;
-use anyhow::{Result, bail};
+use crate::calls::disk_call;
+use crate::held::bare_world;
+use crate::shown::{put_bytes, put_hex};
+use deciders::{Dep, Rec};
 use scons_base::PathText;
+use sign_store::Store;
 use std::alloc::Global;
+use trial_text::Told;
 use world_api::Bank;
+use world_mem::MemWorld;
 
 /// How many picks are tried at each stop.
 const PICKS: u32 = 8;
 
 /// For each number of calls, and each pick: what is left of both banks.
-pub fn banks_text(alloc: Global, rows: &[String]) -> Result<String> {
-    let mut text = String::new(alloc);
-    for count in 0..rows.len().saturating_add(1) {
+pub(crate) fn put_banks(alloc: Global, told: &mut Told, calls: &str) {
+    for count in 0..calls.lines().count().saturating_add(1) {
         for pick in 0..PICKS {
-            let left = stopped_after(alloc, rows, count, pick)?;
-            let a = text_of(alloc, left.world().bank(Bank::A))?;
-            let b = text_of(alloc, left.world().bank(Bank::B))?;
-            text.push_str(format!(in alloc; "{count} {pick}: A {a}, B {b}\n")?.as_str())?;
+            match stopped_after(alloc, told, calls, count, pick) {
+                Some(left) => put_left(told, &left, count, pick),
+                None => told.refuse(),
+            }
         }
     }
-    Ok(text)
+}
+
+fn put_left(told: &mut Told, left: &MemWorld, count: usize, pick: u32) {
+    told.show(count);
+    told.put(" ");
+    told.show(pick);
+    told.put(": A ");
+    put_bytes(told, left.bank(Bank::A));
+    told.put(", B ");
+    put_bytes(told, left.bank(Bank::B));
+    told.put("\n");
 }
 
 /// For each number of calls: whether the banks that are left have a record for a path, by each pick.
-pub fn records_text(alloc: Global, rows: &[String], path: &str) -> Result<String> {
-    let path = path_of(alloc, path)?;
-    let mut text = String::new(alloc);
-    for count in 0..rows.len().saturating_add(1) {
-        text.push_str(format!(in alloc; "{count}:")?.as_str())?;
-        for pick in 0..PICKS {
-            let left = stopped_after(alloc, rows, count, pick)?;
-            text.push(' ')?;
-            text.push_str(record_text(alloc, left, &path)?.as_str())?;
+pub(crate) fn put_records(alloc: Global, told: &mut Told, calls: &str, path: &str) {
+    match PathText::read(alloc, path) {
+        Ok(path) => {
+            for count in 0..calls.lines().count().saturating_add(1) {
+                told.show(count);
+                told.put(":");
+                put_picks(alloc, told, calls, count, &path);
+                told.put("\n");
+            }
         }
-        text.push('\n')?;
+        Err(_) => told.refuse(),
     }
-    Ok(text)
 }
 
-/// What the first so many bytes of a bank say of a path, for each number of bytes. Numbers in a row with one answer share a
-/// line.
-pub fn cuts_text(alloc: Global, path: &str, bytes: &str) -> Result<String> {
-    let (path, bytes) = (path_of(alloc, path)?, bytes_of(alloc, bytes)?);
-    let mut text = String::new(alloc);
-    let mut first = 0;
-    let mut held = cut_text(alloc, &path, &bytes[..0])?;
-    for len in 0..bytes.len().saturating_add(1) {
-        let answer = cut_text(alloc, &path, &bytes[..len])?;
-        if answer != held {
-            add_run(alloc, &mut text, first, len, held.as_str())?;
-            first = len;
-            held = answer;
+fn put_picks(alloc: Global, told: &mut Told, calls: &str, count: usize, path: &PathText) {
+    for pick in 0..PICKS {
+        told.put(" ");
+        match stopped_after(alloc, told, calls, count, pick) {
+            Some(mut left) => put_record(alloc, told, &mut left, path),
+            None => told.refuse(),
         }
     }
-    add_run(
-        alloc,
-        &mut text,
-        first,
-        bytes.len().saturating_add(1),
-        held.as_str(),
-    )?;
-    Ok(text)
 }
 
-/// Adds the answer of the lengths from one up to another.
-fn add_run(alloc: Global, text: &mut String, first: usize, end: usize, held: &str) -> Result<()> {
-    let last = end.saturating_sub(1);
-    text.push_str(format!(in alloc; "{first} to {last}: {held}\n")?.as_str())?;
-    Ok(())
-}
-
-fn cut_text(alloc: Global, path: &PathText, bytes: &[u8]) -> Result<String> {
-    let mut held = Held::new(alloc, "")?;
-    let digits = hex::encode(alloc, bytes)?;
-    let write = format!(in alloc; "A 0 x{digits}")?;
-    call(alloc, &mut held, "write", write.as_str())?;
-    call(alloc, &mut held, "sync", "A")?;
-    record_text(alloc, held, path)
-}
-
-/// A world of its own, on which the first rows were called, and which was stopped then.
-fn stopped_after(alloc: Global, rows: &[String], count: usize, pick: u32) -> Result<Held> {
-    let mut held = Held::new(alloc, "")?;
-    for row in &rows[..count.min(rows.len())] {
-        let (verb, rest) = match row.as_str().split_once(' ') {
-            Some(parts) => parts,
-            None => (row.as_str(), ""),
-        };
-        call(alloc, &mut held, verb, rest)?;
-    }
-    held.stopped(pick)
-}
-
-fn call(alloc: Global, held: &mut Held, verb: &str, rest: &str) -> Result<()> {
-    match held.disk_call(alloc, verb, rest)? {
-        Some(_) => Ok(()),
-        None => bail!("{verb} is no call of a disk"),
+/// A world of its own, on which the first calls were made, and which was stopped then.
+fn stopped_after(
+    alloc: Global,
+    told: &mut Told,
+    calls: &str,
+    count: usize,
+    pick: u32,
+) -> Option<MemWorld> {
+    match bare_world(alloc, Vec::new(alloc)) {
+        Some(mut world) => {
+            call_first(alloc, told, &mut world, calls, count);
+            world.stop(pick).ok()
+        }
+        None => None,
     }
 }
 
-/// The digest of the first dependency of the path's record, or `none`.
-fn record_text(alloc: Global, mut held: Held, path: &PathText) -> Result<String> {
-    match held.record(alloc, path)? {
-        Some(digest) => Ok(digest),
-        None => Ok(String::from_str(alloc, "none")?),
+/// Makes the first so many of the calls, each of which is one of a disk. What they give isn't told again.
+fn call_first(alloc: Global, told: &mut Told, world: &mut MemWorld, calls: &str, count: usize) {
+    let mut answers = Told::new(alloc);
+    for row in calls.lines().take(count) {
+        let (verb, rest) = row.split_once(' ').unwrap_or((row, ""));
+        if !disk_call(alloc, &mut answers, world, verb, rest) {
+            told.refuse();
+        }
+    }
+    if answers.is_refused() {
+        told.refuse();
+    }
+}
+
+/// The digest of the first dependency of the record that the banks have for a path, or `none`.
+pub(crate) fn put_record(alloc: Global, told: &mut Told, world: &mut MemWorld, path: &PathText) {
+    match Store::read(alloc, world) {
+        Ok(view) => put_digest(told, view.get(path)),
+        Err(_) => told.refuse(),
+    }
+}
+
+fn put_digest(told: &mut Told, found: Option<&Rec>) {
+    let Some(rec) = found else {
+        return told.put("none");
+    };
+    match rec.deps.as_slice().first() {
+        Some(
+            Dep {
+                digest: Some(digest),
+                ..
+            },
+        ) => put_hex(told, digest.0.as_slice()),
+        _ => told.refuse(),
     }
 }
