@@ -1,142 +1,145 @@
-//! A graph as text: each rule with its nodes and lines, then the aliases that are asked for, defaults and helps.
+//! How a graph is told: each rule with its nodes and lines, then the aliases that are asked for, defaults and helps.
 use rule_graph::{Graph, Rule, Wish};
-use scons_base::{Memory, NodeId, RuleId, Texts};
-use std::alloc::Global;
+use scons_base::{NodeId, PathText, RuleId, Text};
+use trial_text::Told;
 use world_api::{Decider, Line, Work};
 
-/// The rules of a graph in their order, the members of the aliases of these names, defaults and helps.
-pub fn graph_text(alloc: Global, graph: &Graph, aliases: &Texts) -> Result<String, Memory> {
-    let mut text = String::new(alloc);
-    for number in 0..graph.rules() {
-        push_rule(&mut text, alloc, graph, graph.rule(RuleId(number)))?;
-    }
-    for name in aliases.as_slice() {
-        if let Some(members) = graph.alias(name.as_str()) {
-            let title = format!(in alloc; "alias {}", name.as_str())?;
-            push_nodes(&mut text, graph, title.as_str(), members)?;
-        }
-    }
-    for wish in graph.defaults() {
-        let (kind, name) = match wish {
-            Wish::Alias(name) => ("alias", name.as_str()),
-            Wish::Path(path) => ("path", path.as_str()),
-        };
-        let line = format!(in alloc; "default {kind} {name}\n")?;
-        text.push_str(line.as_str())?;
-    }
+/// Tells the rules of a graph in their order, the members of the aliases of these names, defaults and helps.
+pub(crate) fn put_graph(told: &mut Told, graph: &Graph, aliases: &[Text]) {
+    put_rules(told, graph);
+    put_aliases(told, graph, aliases);
+    put_defaults(told, graph.defaults());
     for help in graph.helps() {
-        let line = format!(in alloc; "help {}\n", help.as_str())?;
-        text.push_str(line.as_str())?;
+        told.put_all(&["help ", help.as_str(), "\n"]);
     }
-    Ok(text)
 }
 
-fn push_rule(text: &mut String, alloc: Global, graph: &Graph, rule: &Rule) -> Result<(), Memory> {
-    push_names(text, graph, rule.targets.as_slice())?;
-    text.push_str(" <-")?;
-    if !rule.sources.is_empty() {
-        text.push(' ')?;
+fn put_rules(told: &mut Told, graph: &Graph) {
+    for number in 0..graph.rules() {
+        put_rule(told, graph, graph.rule(RuleId(number)));
     }
-    push_names(text, graph, rule.sources.as_slice())?;
-    push_marks(text, rule)?;
-    text.push('\n')?;
-    push_nodes(text, graph, "  libs", rule.libs.as_slice())?;
-    push_nodes(text, graph, "  depends", rule.depends.as_slice())?;
-    push_nodes(text, graph, "  required", rule.required.as_slice())?;
-    push_nodes(text, graph, "  ignored", rule.ignored.as_slice())?;
-    if rule.scans && !rule.paths.as_slice().is_empty() {
-        text.push_str("  search")?;
-        for path in rule.paths.as_slice() {
-            text.push(' ')?;
-            text.push_str(path.as_str())?;
+}
+
+fn put_aliases(told: &mut Told, graph: &Graph, names: &[Text]) {
+    for name in names {
+        if let Some(members) = graph.alias(name.as_str()) {
+            put_alias(told, graph, name.as_str(), members);
         }
-        text.push('\n')?;
     }
-    push_lines(text, alloc, rule)
+}
+
+/// A line with an alias and its members, where it has members.
+fn put_alias(told: &mut Told, graph: &Graph, name: &str, members: &[NodeId]) {
+    if !members.is_empty() {
+        told.put_all(&["alias ", name]);
+        put_paths(told, graph, " ", members);
+        told.put("\n");
+    }
+}
+
+fn put_defaults(told: &mut Told, wishes: &[Wish]) {
+    for wish in wishes {
+        match wish {
+            Wish::Alias(name) => told.put_all(&["default alias ", name.as_str(), "\n"]),
+            Wish::Path(path) => told.put_all(&["default path ", path.as_str(), "\n"]),
+        }
+    }
+}
+
+fn put_rule(told: &mut Told, graph: &Graph, rule: &Rule) {
+    put_paths(told, graph, "", rule.targets.as_slice());
+    told.put(" <-");
+    put_paths(told, graph, " ", rule.sources.as_slice());
+    put_marks(told, rule);
+    told.put("\n");
+    put_nodes(told, graph, "  libs ", rule.libs.as_slice());
+    put_nodes(told, graph, "  depends ", rule.depends.as_slice());
+    put_nodes(told, graph, "  required ", rule.required.as_slice());
+    put_nodes(told, graph, "  ignored ", rule.ignored.as_slice());
+    if rule.scans {
+        put_search(told, rule.paths.as_slice());
+    }
+    put_lines(told, rule.lines.as_slice());
+    put_signed(told, rule);
 }
 
 /// What is told of a rule beside its nodes and lines.
-fn push_marks(text: &mut String, rule: &Rule) -> Result<(), Memory> {
+fn put_marks(told: &mut Told, rule: &Rule) {
     match rule.work {
         Work::Shell => {}
-        Work::Copy => text.push_str(" (copy)")?,
-        Work::Write => text.push_str(" (write)")?,
+        Work::Copy => told.put(" (copy)"),
+        Work::Write => told.put(" (write)"),
     }
     match rule.decider {
         Decider::Content => {}
-        Decider::Newer => text.push_str(" (newer)")?,
-        Decider::Match => text.push_str(" (match)")?,
-        Decider::ContentMatch => text.push_str(" (content-match)")?,
+        Decider::Newer => told.put(" (newer)"),
+        Decider::Match => told.put(" (match)"),
+        Decider::ContentMatch => told.put(" (content-match)"),
     }
     if rule.always {
-        text.push_str(" (always)")?;
+        told.put(" (always)");
     }
-    Ok(())
 }
 
-/// The lines, and the signed lines that differ from them.
-fn push_lines(text: &mut String, alloc: Global, rule: &Rule) -> Result<(), Memory> {
-    for line in rule.lines.as_slice() {
-        push_line(text, line)?;
+/// A line with nodes behind a title, where there are nodes.
+fn put_nodes(told: &mut Told, graph: &Graph, title: &str, nodes: &[NodeId]) {
+    if !nodes.is_empty() {
+        put_paths(told, graph, title, nodes);
+        told.put("\n");
     }
-    for (place, signed) in rule.signed.as_slice().iter().enumerate() {
-        let same = match rule.lines.as_slice().get(place) {
-            Some(line) => line.text == *signed,
-            None => false,
-        };
-        if !same {
-            let line = format!(in alloc; "  signed {}\n", signed.as_str())?;
-            text.push_str(line.as_str())?;
-        }
-    }
-    Ok(())
 }
 
-fn push_line(text: &mut String, line: &Line) -> Result<(), Memory> {
-    text.push_str("  ")?;
-    if line.quiet {
-        text.push('@')?;
+/// The paths of nodes with a blank between two of them, and a text before the first.
+fn put_paths(told: &mut Told, graph: &Graph, first: &str, nodes: &[NodeId]) {
+    let mut before = first;
+    for node in nodes {
+        told.put(before);
+        put_path(told, graph, *node);
+        before = " ";
     }
-    if line.ignore {
-        text.push('-')?;
-    }
-    text.push_str(line.text.as_str())?;
-    text.push('\n')?;
-    Ok(())
 }
 
-/// A line with a title and nodes, where there are nodes.
-fn push_nodes(
-    text: &mut String,
-    graph: &Graph,
-    title: &str,
-    nodes: &[NodeId],
-) -> Result<(), Memory> {
-    if nodes.is_empty() {
-        return Ok(());
-    }
-    text.push_str(title)?;
-    text.push(' ')?;
-    push_names(text, graph, nodes)?;
-    text.push('\n')?;
-    Ok(())
-}
-
-fn push_names(text: &mut String, graph: &Graph, nodes: &[NodeId]) -> Result<(), Memory> {
-    for (place, node) in nodes.iter().enumerate() {
-        if place > 0 {
-            text.push(' ')?;
-        }
-        text.push_str(name_of(graph, *node))?;
-    }
-    Ok(())
-}
-
-/// The path of a node that is one of the graph's.
-fn name_of(graph: &Graph, node: NodeId) -> &str {
+/// The path of a node, which is one of the graph's.
+fn put_path(told: &mut Told, graph: &Graph, node: NodeId) {
     if node.0 < graph.len() {
-        graph.path(node).as_str()
+        told.put(graph.path(node).as_str());
     } else {
-        ""
+        told.refuse();
+    }
+}
+
+/// A line with the directories in which included files are looked for, where there are any.
+fn put_search(told: &mut Told, dirs: &[PathText]) {
+    if dirs.is_empty() {
+        return;
+    }
+    told.put("  search");
+    for dir in dirs {
+        told.put_all(&[" ", dir.as_str()]);
+    }
+    told.put("\n");
+}
+
+fn put_lines(told: &mut Told, lines: &[Line]) {
+    for line in lines {
+        let quiet = if line.quiet { "@" } else { "" };
+        let ignore = if line.ignore { "-" } else { "" };
+        told.put_all(&["  ", quiet, ignore, line.text.as_str(), "\n"]);
+    }
+}
+
+/// The signed lines that differ from the lines in their places.
+fn put_signed(told: &mut Told, rule: &Rule) {
+    for (place, signed) in rule.signed.as_slice().iter().enumerate() {
+        if !is_line(rule.lines.as_slice().get(place), signed) {
+            told.put_all(&["  signed ", signed.as_str(), "\n"]);
+        }
+    }
+}
+
+fn is_line(line: Option<&Line>, signed: &Text) -> bool {
+    match line {
+        Some(line) => line.text == *signed,
+        None => false,
     }
 }

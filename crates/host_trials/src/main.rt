@@ -8,39 +8,26 @@
 mod graph_text;
 mod trial;
 
-use scons_base::Memory;
+use crate::trial::put_trial;
 use std::alloc::Global;
 use std::io;
-use trial::Trial;
+use trial_text::Told;
 
 fn main(rt: HostRuntime) -> io::Result<()> {
-    let alloc = rt.alloc();
-    let mut lines = Vec::new(alloc);
-    for line in rt.lines(alloc) {
-        lines.push(line?)?;
-    }
-    match outcomes(alloc, lines.as_slice()) {
-        Ok(text) => print!(rt; "{text}"),
-        Err(Memory) => println!(rt; "memory"),
-    }
+    let table = io::read_to_string(rt.alloc(), rt.reader())?;
+    let mut told = Told::new(rt.alloc());
+    put_all(rt.alloc(), &mut told, table.as_str());
+    rt.print(told.as_str())
 }
 
-/// What comes of each trial, behind its heading.
-fn outcomes(alloc: Global, lines: &[String]) -> Result<String, Memory> {
-    let mut text = String::new(alloc);
-    let mut trial = Trial::of(alloc, "")?;
-    for (place, line) in lines.iter().enumerate() {
-        if line.as_str().starts_with("=== ") {
-            if place > 0 {
-                text.push_str(trial.outcome(alloc)?.as_str())?;
-            }
-            text.push_str(line.as_str())?;
-            text.push('\n')?;
-            trial = Trial::of(alloc, line.as_str())?;
-        } else {
-            trial.add_line(line.as_str())?;
+/// Tells each heading, and behind it what comes of its trial.
+fn put_all(alloc: Global, told: &mut Told, table: &str) {
+    for part in table.split("=== ") {
+        if !part.is_empty() {
+            let (heading, files) = part.split_once('\n').unwrap_or((part, ""));
+            told.put_all(&["=== ", heading, "\n"]);
+            put_trial(alloc, told, heading, files);
+            told.end(heading);
         }
     }
-    text.push_str(trial.outcome(alloc)?.as_str())?;
-    Ok(text)
 }

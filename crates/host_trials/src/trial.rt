@@ -1,125 +1,124 @@
 //! Scripts to try, and what comes of their reading.
-use crate::graph_text::graph_text;
-use scons_base::{Blob, Memory, PathText, Text, Texts};
-use scons_host::{HostEnd, read_scripts};
+use crate::graph_text::put_graph;
+use rule_graph::Graph;
+use scons_base::{Blob, PathText, Text};
+use scons_host::{HostEnd, ReadKind, read_scripts};
 use scons_words::{Words, WordsFault, read_words};
 use std::alloc::Global;
+use trial_text::Told;
 use world_mem::{ActTable, MemSink, MemWorld};
 
-#[derive(Drop)]
-pub struct Trial {
-    words: Vec<Text>,
-    /// The files behind the one whose lines are being added.
-    files: Vec<(PathText, Blob)>,
-    name: String,
-    text: String,
-}
-
-impl Trial {
-    /// A trial whose heading gives its name and its words.
-    pub fn of(alloc: Global, heading: &str) -> Result<Trial, Memory> {
-        let mut words = Vec::new(alloc);
-        for word in heading.split_whitespace().skip(2) {
-            words.push(Text::of(alloc, word)?)?;
+/// What comes of the words of a heading and of the files behind it.
+pub(crate) fn put_trial(alloc: Global, told: &mut Told, heading: &str, files: &str) {
+    let words = words_of(alloc, told, heading);
+    match read_words(alloc, words.as_slice()) {
+        Ok(words) => put_reading(alloc, told, &words, files),
+        Err(WordsFault::At(place, kind)) => {
+            told.put("word ");
+            told.show(place);
+            told.put_all(&[": ", kind.name(), "\n"]);
         }
-        Ok(Trial {
-            words,
-            files: Vec::new(alloc),
-            name: String::from_str(alloc, "SConstruct")?,
-            text: String::new(alloc),
-        })
-    }
-
-    /// A line of a file, or one that begins a further file.
-    pub fn add_line(&mut self, line: &str) -> Result<(), Memory> {
-        let alloc = *self.words.allocator();
-        match line.strip_prefix("--- ") {
-            Some(name) => {
-                self.end_file(alloc)?;
-                self.name = String::from_str(alloc, name)?;
-            }
-            None => {
-                self.text.push_str(line)?;
-                self.text.push('\n')?;
-            }
-        }
-        Ok(())
-    }
-
-    fn end_file(&mut self, alloc: Global) -> Result<(), Memory> {
-        if let Ok(path) = PathText::read(alloc, self.name.as_str()) {
-            let bytes = Vec::from_slice(alloc, self.text.as_bytes())?;
-            self.files.push((path, Blob::new(bytes)))?;
-        }
-        self.text = String::new(alloc);
-        Ok(())
-    }
-
-    /// What is printed, and the graph or the fault.
-    pub fn outcome(&mut self, alloc: Global) -> Result<String, Memory> {
-        self.end_file(alloc)?;
-        match read_words(alloc, self.words.as_slice()) {
-            Ok(words) => self.reading(alloc, &words),
-            Err(WordsFault::At(place, kind)) => {
-                Ok(format!(in alloc; "word {place}: {}\n", kind.name())?)
-            }
-            Err(WordsFault::Memory) => Ok(String::from_str(alloc, "memory\n")?),
-        }
-    }
-
-    fn reading(&mut self, alloc: Global, words: &Words) -> Result<String, Memory> {
-        match self.world(alloc)? {
-            Some(mut world) => shown(alloc, &mut world, words),
-            None => Ok(String::from_str(alloc, "no such tree\n")?),
-        }
-    }
-
-    /// The tree of the files, if it can be one.
-    fn world(&mut self, alloc: Global) -> Result<Option<MemWorld>, Memory> {
-        let files = std::mem::replace(&mut self.files, Vec::new(alloc));
-        let table = ActTable::new(Vec::new(alloc));
-        match MemWorld::new(alloc, files, table, Vec::new(alloc), Vec::new(alloc)) {
-            Ok(world) => Ok(Some(world)),
-            Err(_) => Ok(None),
-        }
+        Err(WordsFault::Memory) => told.refuse(),
     }
 }
 
-/// What the scripts print, and the graph or the fault.
-fn shown(alloc: Global, world: &mut MemWorld, words: &Words) -> Result<String, Memory> {
-    let mut sink = MemSink::new(alloc, Vec::new(alloc))?;
-    let told = read_told(alloc, world, &mut sink, words)?;
-    joined(alloc, sink.text(), told.as_str())
-}
-
-fn joined(alloc: Global, printed: &[u8], told: &str) -> Result<String, Memory> {
-    let mut text = String::new(alloc);
-    if let Ok(printed) = str::from_utf8(printed) {
-        text.push_str(printed)?;
+/// The words behind the name of a heading.
+fn words_of(alloc: Global, told: &mut Told, heading: &str) -> Vec<Text> {
+    let mut words = Vec::new(alloc);
+    for word in heading.split_whitespace().skip(1) {
+        match Text::of(alloc, word) {
+            Ok(word) => told.keep(&mut words, word),
+            Err(_) => told.refuse(),
+        }
     }
-    text.push_str(told)?;
-    Ok(text)
+    words
 }
 
-/// The graph, or the fault.
-fn read_told(
+/// What the scripts among these files print, and the graph or the fault.
+fn put_reading(alloc: Global, told: &mut Told, words: &Words, files: &str) {
+    match world_of(alloc, told, files) {
+        Some(mut world) => put_read(alloc, told, words, &mut world),
+        None => told.refuse(),
+    }
+}
+
+/// The tree of the files, if it can be one.
+fn world_of(alloc: Global, told: &mut Told, files: &str) -> Option<MemWorld> {
+    let files = files_of(alloc, told, files);
+    let table = ActTable::new(Vec::new(alloc));
+    MemWorld::new(alloc, files, table, Vec::new(alloc), Vec::new(alloc)).ok()
+}
+
+fn files_of(alloc: Global, told: &mut Told, text: &str) -> Vec<(PathText, Blob)> {
+    let mut files = Vec::new(alloc);
+    for (place, part) in text.split("--- ").enumerate() {
+        let (path, content) = named(place, part);
+        match file_of(alloc, path, content) {
+            Some(file) => told.keep(&mut files, file),
+            None => told.refuse(),
+        }
+    }
+    files
+}
+
+/// The path of a file and its content. The first one has no line for its path.
+fn named(place: usize, part: &str) -> (&str, &str) {
+    if place == 0 {
+        ("SConstruct", part)
+    } else {
+        part.split_once('\n').unwrap_or((part, ""))
+    }
+}
+
+fn file_of(alloc: Global, path: &str, content: &str) -> Option<(PathText, Blob)> {
+    let path = PathText::read(alloc, path).ok()?;
+    let content = Blob::of(alloc, content.as_bytes()).ok()?;
+    Some((path, content))
+}
+
+fn put_read(alloc: Global, told: &mut Told, words: &Words, world: &mut MemWorld) {
+    match MemSink::new(alloc, Vec::new(alloc)) {
+        Ok(mut sink) => put_printed(alloc, told, words, world, &mut sink),
+        Err(_) => told.refuse(),
+    }
+}
+
+fn put_printed(
     alloc: Global,
+    told: &mut Told,
+    words: &Words,
     world: &mut MemWorld,
     sink: &mut MemSink,
-    words: &Words,
-) -> Result<String, Memory> {
-    match read_scripts(alloc, world, sink, words) {
-        Ok(graph) => graph_text(alloc, &graph, &words.requested),
+) {
+    let outcome = read_scripts(alloc, world, sink, words);
+    told.put_bytes(sink.text());
+    put_outcome(alloc, told, words, &outcome);
+}
+
+/// The graph, or why there is none.
+fn put_outcome(alloc: Global, told: &mut Told, words: &Words, outcome: &Result<Graph, HostEnd>) {
+    match outcome {
+        Ok(graph) => put_graph(told, graph, words.requested.as_slice()),
         Err(HostEnd::Reading(path, line, kind)) => {
-            let kind = kind.text(alloc)?;
-            Ok(format!(in alloc; "{}, line {line}: {kind}\n", path.as_str())?)
+            told.put_all(&[path.as_str(), ", line "]);
+            told.show(*line);
+            put_kind(alloc, told, kind);
         }
-        Err(HostEnd::Tree(path)) => Ok(format!(in alloc; "TreeFault {}\n", path.as_str())?),
-        Err(HostEnd::Out) => Ok(String::from_str(alloc, "OutFault\n")?),
+        Err(HostEnd::Tree(path)) => told.put_all(&["TreeFault ", path.as_str(), "\n"]),
+        Err(HostEnd::Out) => told.put("OutFault\n"),
         Err(HostEnd::TooLarge(path, size)) => {
-            Ok(format!(in alloc; "TooLarge {} {size}\n", path.as_str())?)
+            told.put_all(&["TooLarge ", path.as_str(), " "]);
+            told.show(*size);
+            told.put("\n");
         }
-        Err(HostEnd::TooMany(what, count)) => Ok(format!(in alloc; "TooMany {what:?} {count}\n")?),
-        Err(HostEnd::Memory) => Ok(String::from_str(alloc, "memory\n")?),
+        Err(HostEnd::TooMany(what, count)) => told.show(format_args!("TooMany {what:?} {count}\n")),
+        Err(HostEnd::Memory) => told.refuse(),
+    }
+}
+
+fn put_kind(alloc: Global, told: &mut Told, kind: &ReadKind) {
+    match kind.text(alloc) {
+        Ok(text) => told.put_all(&[": ", text.as_str(), "\n"]),
+        Err(_) => told.refuse(),
     }
 }

@@ -2,24 +2,22 @@
 //! edited, headers that are made, in whatever order their jobs end, an action that fails, and two rules whose jobs meet.
 #![tactic(auto)]
 
-mod idle;
 mod meeting;
 mod rows;
 mod runs;
 mod start;
 mod trial;
 
-use anyhow::Result;
+use crate::rows::{put_edited, put_failed, put_made, put_met};
+use std::io;
+use trial_text::Told;
 
-fn main(rt: HostRuntime) -> Result<()> {
+fn main(rt: HostRuntime) -> io::Result<()> {
     let alloc = rt.alloc();
-    let edited = rows::edited(alloc, rt)?;
-    rt.print(edited.as_str())?;
-    let made = rows::made(alloc, rt)?;
-    rt.print(made.as_str())?;
-    let failed = rows::failed(alloc, rt)?;
-    rt.print(failed.as_str())?;
-    let met = rows::met(alloc, rt)?;
-    rt.print(met.as_str())?;
-    Ok(())
+    let mut told = Told::new(alloc);
+    put_edited(alloc, rt, &mut told);
+    put_made(alloc, rt, &mut told);
+    put_failed(alloc, rt, &mut told);
+    put_met(alloc, rt, &mut told);
+    rt.print(told.as_str())
 }

@@ -1,5 +1,4 @@
 //! Jobs that run at the same time, or the gate says that they didn't.
-use anyhow::Result;
 use job_runner::Gate;
 use std::alloc::Global;
 use std::sync::Arc;
@@ -10,37 +9,38 @@ const TURNS: u32 = 100_000_000;
 
 /// How many jobs have come to the gate, and how many went on without the other.
 #[derive(Drop)]
-pub struct Meeting {
+pub(crate) struct Meeting {
     come: AtomicU64,
     missed: AtomicU64,
 }
 
 impl Meeting {
     /// A gate to which nobody has come.
-    pub fn shared(alloc: Global) -> Result<Arc<Meeting, Global>> {
+    pub(crate) fn shared(alloc: Global) -> Option<Arc<Meeting, Global>> {
         let meeting = Meeting {
             come: AtomicU64::new(0),
             missed: AtomicU64::new(0),
         };
-        Ok(Arc::new(alloc, meeting)?)
+        Arc::new(alloc, meeting).ok()
     }
 
-    pub fn missed(&self) -> u64 {
+    pub(crate) fn missed(&self) -> u64 {
         self.missed.load(Ordering::SeqCst)
     }
 }
 
 /// A gate that holds each job until two have come.
 #[derive(Drop)]
-pub struct Door {
+pub(crate) struct Door {
     meeting: Arc<Meeting, Global>,
 }
 
 impl Door {
-    pub fn to(meeting: &Arc<Meeting, Global>) -> Result<Door> {
-        Ok(Door {
-            meeting: Arc::try_clone(meeting)?,
-        })
+    pub(crate) fn to(meeting: &Arc<Meeting, Global>) -> Option<Door> {
+        match Arc::try_clone(meeting) {
+            Ok(meeting) => Some(Door { meeting }),
+            Err(_) => None,
+        }
     }
 }
 

@@ -1,123 +1,155 @@
-//! The trials.
+//! The trials: each tells its name, and behind it what its steps give.
 use crate::meeting::{Door, Meeting};
 use crate::start::Start;
 use crate::trial::Trial;
-use anyhow::Result;
 use job_runner::{Gate, NoGate};
 use std::alloc::Global;
-use std::sync::Wait;
+use std::sync::{Arc, Wait};
 use std::thread::Threads;
+use trial_text::Told;
 
 /// A header that two sources include is edited, and both objects and the program are made again.
-pub fn edited<T>(alloc: Global, rt: T) -> Result<String>
+pub(crate) fn put_edited<T>(alloc: Global, rt: T, told: &mut Told)
 where
     T: Threads + Wait + Clone + Send + Sync + Drop + 'static,
 {
+    let name = "a header that is edited";
+    told.put_all(&["== ", name, "\n"]);
+    match Trial::new(rt, headers(alloc, told), NoGate) {
+        Some(mut trial) => edit_header(told, &mut trial),
+        None => told.refuse(),
+    }
+    told.end(name);
+}
+
+fn headers(alloc: Global, told: &mut Told) -> Start {
     let mut start = Start::new(alloc);
-    headers(&mut start)?;
-    let mut trial = Trial::new(alloc, rt, start, NoGate)?;
-    edit_header(&mut trial)?;
-    Ok(trial.into_text())
+    start.file(told, "SConstruct", "Program('app', ['a.c', 'b.c'])\n");
+    start.file(told, "a.c", "#include \"x.h\"\n");
+    start.file(told, "b.c", "#include \"x.h\"\n");
+    start.file(told, "x.h", "one\n");
+    start
 }
 
-fn headers(start: &mut Start) -> Result<()> {
-    start.file("SConstruct", "Program('app', ['a.c', 'b.c'])\n")?;
-    start.file("a.c", "#include \"x.h\"\n")?;
-    start.file("b.c", "#include \"x.h\"\n")?;
-    start.file("x.h", "one\n")
-}
-
-fn edit_header<T: Wait + Drop, G: Gate + Drop>(trial: &mut Trial<T, G>) -> Result<()> {
-    trial.head("a header that is edited")?;
-    trial.run("-Q -j2")?;
-    trial.edit("x.h", "two\n")?;
-    trial.run("-Q -j2")?;
-    trial.run("-Q -j2")
+fn edit_header<T: Wait + Drop, G: Gate + Drop>(told: &mut Told, trial: &mut Trial<T, G>) {
+    trial.run(told, "-Q -j2");
+    trial.edit(told, "x.h", "two\n");
+    trial.run(told, "-Q -j2");
+    trial.run(told, "-Q -j2");
 }
 
 /// Two headers are made, of which the first includes the second, and a source includes the first: the text of its object names each
 /// dependency.
-pub fn made<T>(alloc: Global, rt: T) -> Result<String>
+pub(crate) fn put_made<T>(alloc: Global, rt: T, told: &mut Told)
 where
     T: Threads + Wait + Clone + Send + Sync + Drop + 'static,
 {
-    let mut start = Start::new(alloc);
-    makers(&mut start)?;
-    let mut trial = Trial::new(alloc, rt, start, NoGate)?;
-    make_headers(&mut trial)?;
-    Ok(trial.into_text())
+    let name = "headers that are made";
+    told.put_all(&["== ", name, "\n"]);
+    match Trial::new(rt, makers(alloc, told), NoGate) {
+        Some(mut trial) => make_headers(told, &mut trial),
+        None => told.refuse(),
+    }
+    told.end(name);
 }
 
-fn makers(start: &mut Start) -> Result<()> {
-    start.makes("mk1", "g1.h", "#include \"g2.h\"\n")?;
+fn makers(alloc: Global, told: &mut Told) -> Start {
+    let mut start = Start::new(alloc);
+    start.makes(told, "mk1", "g1.h", "#include \"g2.h\"\n");
     start.file(
+        told,
         "SConstruct",
         "Command('g1.h', 'g1.in', 'mk1')\nCommand('g2.h', 'g2.in', 'mk2')\nObject('a.c')\n",
-    )?;
-    start.file("g1.in", "1")?;
-    start.file("g2.in", "2")?;
-    start.file("a.c", "#include \"g1.h\"\n")
+    );
+    start.file(told, "g1.in", "1");
+    start.file(told, "g2.in", "2");
+    start.file(told, "a.c", "#include \"g1.h\"\n");
+    start
 }
 
-fn make_headers<T: Wait + Drop, G: Gate + Drop>(trial: &mut Trial<T, G>) -> Result<()> {
-    trial.head("headers that are made")?;
-    trial.run("-Q -j3")?;
-    trial.show("a.o")
+fn make_headers<T: Wait + Drop, G: Gate + Drop>(told: &mut Told, trial: &mut Trial<T, G>) {
+    trial.run(told, "-Q -j3");
+    trial.show(told, "a.o");
 }
 
 /// Of two targets that a third is made of, one fails as long as its source holds `0`.
-pub fn failed<T>(alloc: Global, rt: T) -> Result<String>
+pub(crate) fn put_failed<T>(alloc: Global, rt: T, told: &mut Told)
 where
     T: Threads + Wait + Clone + Send + Sync + Drop + 'static,
 {
-    let mut start = Start::new(alloc);
-    joined(&mut start)?;
-    let mut trial = Trial::new(alloc, rt, start, NoGate)?;
-    fail_first(&mut trial)?;
-    Ok(trial.into_text())
+    let name = "an action that fails";
+    told.put_all(&["== ", name, "\n"]);
+    match Trial::new(rt, joined(alloc, told), NoGate) {
+        Some(mut trial) => fail_first(told, &mut trial),
+        None => told.refuse(),
+    }
+    told.end(name);
 }
 
-fn joined(start: &mut Start) -> Result<()> {
-    start.fails("bad", "s1", "0")?;
+fn joined(alloc: Global, told: &mut Told) -> Start {
+    let mut start = Start::new(alloc);
+    start.fails(told, "bad", "s1", "0");
     start.file(
+        told,
         "SConstruct",
         "Command('a', 's1', 'bad')\nCommand('b', 's2', 'good')\nCommand('c', ['a', 'b'], 'join')\n",
-    )?;
-    start.file("s1", "0")?;
-    start.file("s2", "x")
+    );
+    start.file(told, "s1", "0");
+    start.file(told, "s2", "x");
+    start
 }
 
-fn fail_first<T: Wait + Drop, G: Gate + Drop>(trial: &mut Trial<T, G>) -> Result<()> {
-    trial.head("an action that fails")?;
-    trial.run("-j2 -k")?;
-    trial.edit("s1", "1")?;
-    trial.run("-Q")
+fn fail_first<T: Wait + Drop, G: Gate + Drop>(told: &mut Told, trial: &mut Trial<T, G>) {
+    trial.run(told, "-j2 -k");
+    trial.edit(told, "s1", "1");
+    trial.run(told, "-Q");
 }
 
 /// Two rules that have nothing to do with one another, each of whose jobs is held until the other has come.
-pub fn met<T>(alloc: Global, rt: T) -> Result<String>
+pub(crate) fn put_met<T>(alloc: Global, rt: T, told: &mut Told)
 where
     T: Threads + Wait + Clone + Send + Sync + Drop + 'static,
 {
-    let mut start = Start::new(alloc);
-    apart(&mut start)?;
-    let meeting = Meeting::shared(alloc)?;
-    let door = Door::to(&meeting)?;
-    let mut trial = Trial::new(alloc, rt, start, door)?;
-    meet(&mut trial, &meeting)?;
-    Ok(trial.into_text())
+    let name = "two jobs that meet";
+    told.put_all(&["== ", name, "\n"]);
+    match Meeting::shared(alloc) {
+        Some(meeting) => put_meeting(alloc, rt, told, &meeting),
+        None => told.refuse(),
+    }
+    told.end(name);
 }
 
-fn apart(start: &mut Start) -> Result<()> {
+fn put_meeting<T>(alloc: Global, rt: T, told: &mut Told, meeting: &Arc<Meeting, Global>)
+where
+    T: Threads + Wait + Clone + Send + Sync + Drop + 'static,
+{
+    let Some(door) = Door::to(meeting) else {
+        return told.refuse();
+    };
+    match Trial::new(rt, apart(alloc, told), door) {
+        Some(mut trial) => meet(told, &mut trial, meeting),
+        None => told.refuse(),
+    }
+}
+
+fn apart(alloc: Global, told: &mut Told) -> Start {
+    let mut start = Start::new(alloc);
     start.file(
+        told,
         "SConstruct",
         "Command('a', 's', 'one')\nCommand('b', 's', 'two')\n",
-    )?;
-    start.file("s", "abc")
+    );
+    start.file(told, "s", "abc");
+    start
 }
 
-fn meet<T: Wait + Drop, G: Gate + Drop>(trial: &mut Trial<T, G>, meeting: &Meeting) -> Result<()> {
-    trial.head("two jobs that meet")?;
-    trial.run("-Q -j2")?;
-    trial.add_missed(meeting.missed())
+/// The run, and how many of two jobs went on without the other.
+fn meet<T: Wait + Drop, G: Gate + Drop>(
+    told: &mut Told,
+    trial: &mut Trial<T, G>,
+    meeting: &Meeting,
+) {
+    trial.run(told, "-Q -j2");
+    told.show(meeting.missed());
+    told.put(" of 2 jobs went on without the other\n");
 }

@@ -1,59 +1,61 @@
-//! Runs of the command over a world on threads.
-use crate::idle::IdleWorld;
-use anyhow::{Context, Result};
-use job_runner::Gate;
-use scons_base::Text;
+//! The words of a run, what it prints, and how its report and a file are told.
+use scons_base::{Blob, PathText, Text};
 use scons_top::Report;
 use std::alloc::Global;
-use std::str;
-use std::sync::Wait;
+use trial_text::Told;
 use world_mem::MemSink;
 
-/// What a run answered, and what it wrote.
+/// Standard output and standard error.
 #[derive(Drop)]
-pub struct Ran {
-    pub report: Report,
-    out: MemSink,
-    err: MemSink,
+pub(crate) struct Sinks {
+    pub(crate) out: MemSink,
+    pub(crate) err: MemSink,
 }
 
-impl Ran {
-    pub fn of<T: Wait + Drop, G: Gate + Drop>(
-        alloc: Global,
-        world: &mut IdleWorld<T, G>,
-        words: &[Text],
-    ) -> Result<Ran> {
-        let mut out = sink(alloc)?;
-        let mut err = sink(alloc)?;
-        let report = world.run(alloc, words, &mut out, &mut err);
-        Ok(Ran { report, out, err })
+impl Sinks {
+    pub(crate) fn new(alloc: Global) -> Option<Sinks> {
+        let out = MemSink::new(alloc, Vec::new(alloc)).ok()?;
+        let err = MemSink::new(alloc, Vec::new(alloc)).ok()?;
+        Some(Sinks { out, err })
     }
 
-    /// Adds what stands on standard output, and behind it what stands on standard error.
-    pub fn add_told(&self, text: &mut String) -> Result<()> {
-        text.push_str(text_of(self.out.text())?)?;
-        text.push_str(text_of(self.err.text())?)?;
-        Ok(())
+    /// Tells what stands on standard output, and behind it what stands on standard error.
+    pub(crate) fn put(&self, told: &mut Told) {
+        told.put_bytes(self.out.text());
+        told.put_bytes(self.err.text());
     }
 }
 
 /// The words between blanks.
-pub fn words_of(alloc: Global, text: &str) -> Result<Vec<Text>> {
+pub(crate) fn words_of(alloc: Global, told: &mut Told, text: &str) -> Vec<Text> {
     let mut words = Vec::new(alloc);
-    for word in text.split(" ") {
-        if !word.is_empty() {
-            words.push(Text::of(alloc, word).ok().context(format_args!("memory"))?)?;
+    for word in text.split_whitespace() {
+        match Text::of(alloc, word) {
+            Ok(word) => told.keep(&mut words, word),
+            Err(_) => told.refuse(),
         }
     }
-    Ok(words)
+    words
 }
 
-pub fn text_of(bytes: &[u8]) -> Result<&str> {
-    str::from_utf8(bytes).ok().context(format_args!("no text"))
+pub(crate) fn put_report(told: &mut Told, report: &Report, jobs: usize) {
+    told.put("status ");
+    told.show(report.status);
+    told.put(", ");
+    told.show(jobs);
+    told.put(" jobs so far\n");
+    for (held, by) in report.skipped.as_slice() {
+        told.put_all(&[held.as_str(), " was held back by ", by.as_str(), "\n"]);
+    }
 }
 
-fn sink(alloc: Global) -> Result<MemSink> {
-    MemSink::new(alloc, Vec::new(alloc))
-        .ok()
-        .context(format_args!("memory"))
+/// A file's path and what it holds, which stands among these.
+pub(crate) fn put_file(told: &mut Told, files: &[(PathText, Blob)], path: &str) {
+    for (name, content) in files {
+        if name.as_str() == path {
+            told.put_all(&[path, ":\n"]);
+            return told.put_bytes(content.as_slice());
+        }
+    }
+    told.refuse();
 }

@@ -1,19 +1,19 @@
 //! What a trial begins with.
-use anyhow::{Context, Result};
 use scons_base::{Blob, PathText, Text, Texts};
 use std::alloc::Global;
-use world_mem::{ActRow, ActTable, Contents, Made};
+use trial_text::Told;
+use world_mem::{ActRow, Contents, Made};
 
 /// The files that stand, and what commands make of them.
 #[derive(Drop)]
-pub struct Start {
-    alloc: Global,
-    files: Vec<(PathText, Blob)>,
-    rows: Vec<ActRow>,
+pub(crate) struct Start {
+    pub(crate) alloc: Global,
+    pub(crate) files: Vec<(PathText, Blob)>,
+    pub(crate) rows: Vec<ActRow>,
 }
 
 impl Start {
-    pub fn new(alloc: Global) -> Start {
+    pub(crate) fn new(alloc: Global) -> Start {
         Start {
             alloc,
             files: Vec::new(alloc),
@@ -21,64 +21,56 @@ impl Start {
         }
     }
 
-    pub fn file(&mut self, path: &str, content: &str) -> Result<()> {
-        let path = path_of(self.alloc, path)?;
-        let content = blob_of(self.alloc, content)?;
-        self.files.push((path, content))?;
-        Ok(())
+    pub(crate) fn file(&mut self, told: &mut Told, path: &str, content: &str) {
+        match file_of(self.alloc, path, content) {
+            Some(file) => told.keep(&mut self.files, file),
+            None => told.refuse(),
+        }
     }
 
     /// A command makes this file.
-    pub fn makes(&mut self, line: &str, path: &str, content: &str) -> Result<()> {
-        let made = Made::Files(self.contents(path, content)?);
-        self.row(line, None, made)
+    pub(crate) fn makes(&mut self, told: &mut Told, line: &str, path: &str, content: &str) {
+        let row = ActRow {
+            signed: lines_of(self.alloc, told, line),
+            given: None,
+            made: Made::Files(contents_of(self.alloc, told, path, content)),
+        };
+        told.keep(&mut self.rows, row);
     }
 
     /// A command fails where a file holds this.
-    pub fn fails(&mut self, line: &str, path: &str, content: &str) -> Result<()> {
-        let given = self.contents(path, content)?;
-        self.row(line, Some(given), Made::Fail(1))
+    pub(crate) fn fails(&mut self, told: &mut Told, line: &str, path: &str, content: &str) {
+        let row = ActRow {
+            signed: lines_of(self.alloc, told, line),
+            given: Some(contents_of(self.alloc, told, path, content)),
+            made: Made::Fail(1),
+        };
+        told.keep(&mut self.rows, row);
     }
-
-    pub fn into_parts(self) -> (Vec<(PathText, Blob)>, ActTable) {
-        let Start { files, rows, .. } = self;
-        (files, ActTable::new(rows))
-    }
-
-    fn contents(&self, path: &str, content: &str) -> Result<Contents> {
-        let path = path_of(self.alloc, path)?;
-        let content = blob_of(self.alloc, content)?;
-        let mut pairs = Vec::new(self.alloc);
-        pairs.push((path, Some(content)))?;
-        Ok(Contents::new(pairs))
-    }
-
-    fn row(&mut self, line: &str, given: Option<Contents>, made: Made) -> Result<()> {
-        let signed = signed_of(self.alloc, line)?;
-        self.rows.push(ActRow {
-            signed,
-            given,
-            made,
-        })?;
-        Ok(())
-    }
-}
-
-pub fn path_of(alloc: Global, text: &str) -> Result<PathText> {
-    PathText::read(alloc, text)
-        .ok()
-        .context(format_args!("{text} is no path"))
-}
-
-fn blob_of(alloc: Global, text: &str) -> Result<Blob> {
-    Blob::of(alloc, text.as_bytes())
-        .ok()
-        .context(format_args!("memory"))
 }
 
 /// One line as the signed lines of an action.
-fn signed_of(alloc: Global, line: &str) -> Result<Texts> {
+fn lines_of(alloc: Global, told: &mut Told, line: &str) -> Texts {
     let mut lines = Vec::new(alloc);
-    lines.push(Text::of(alloc, line).ok().context(format_args!("memory"))?)?;
-    Ok(Texts::new(lines))
+    match Text::of(alloc, line) {
+        Ok(line) => told.keep(&mut lines, line),
+        Err(_) => told.refuse(),
+    }
+    Texts::new(lines)
+}
+
+/// One file as contents.
+fn contents_of(alloc: Global, told: &mut Told, path: &str, content: &str) -> Contents {
+    let mut pairs = Vec::new(alloc);
+    match file_of(alloc, path, content) {
+        Some((path, content)) => told.keep(&mut pairs, (path, Some(content))),
+        None => told.refuse(),
+    }
+    Contents::new(pairs)
+}
+
+fn file_of(alloc: Global, path: &str, content: &str) -> Option<(PathText, Blob)> {
+    let path = PathText::read(alloc, path).ok()?;
+    let content = Blob::of(alloc, content.as_bytes()).ok()?;
+    Some((path, content))
 }

@@ -1,20 +1,25 @@
-//! One trial: its world, and what was written of it.
-use crate::idle::IdleWorld;
-use crate::runs::{Ran, text_of, words_of};
-use crate::start::{Start, path_of};
-use anyhow::Result;
+//! One trial: its world on threads, and the steps that are taken over it.
+ghost use Rattle.std.specs.Prelude.{◌≡◌, []};
+ghost use Rattle.world_mem.specs.AsAround.{around_of};
+
+use crate::runs::{Sinks, put_file, put_report, words_of};
+use crate::start::Start;
 use job_runner::Gate;
-use scons_base::{Blob, PathText};
-use scons_top::Report;
+use scons_base::{PathText, Text};
+use scons_top::{Report, scons};
 use std::alloc::Global;
 use std::sync::Wait;
 use std::thread::Threads;
+use thread_world::ThreadWorld;
+use trial_text::Told;
+use world_mem::ActTable;
 
+/// A world between two runs of the command: nothing runs in it.
 #[derive(Drop)]
-pub struct Trial<T, G> {
+pub(crate) struct Trial<T, G> {
     alloc: Global,
-    world: IdleWorld<T, G>,
-    text: String,
+    world: ThreadWorld<T, G>,
+    ghost idle: { (around_of world.world.state).running ≡ [] },
 }
 
 impl<T, G> Trial<T, G>
@@ -22,84 +27,56 @@ where
     T: Threads + Wait + Clone + Send + Sync + Drop + 'static,
     G: Gate + Send + Sync + Drop + 'static,
 {
-    pub fn new(alloc: Global, rt: T, start: Start, gate: G) -> Result<Trial<T, G>> {
-        let (files, table) = start.into_parts();
-        let world = IdleWorld::new(alloc, rt, files, table, gate)?;
-        Ok(Trial {
-            alloc,
-            world,
-            text: String::new(alloc),
-        })
+    pub(crate) fn new(rt: T, start: Start, gate: G) -> Option<Trial<T, G>> {
+        let Start { alloc, files, rows } = start;
+        match ThreadWorld::new(alloc, rt, files, ActTable::new(rows), gate) {
+            Ok(world) => Some(Trial { alloc, world }),
+            Err(_) => None,
+        }
     }
 }
 
 impl<T: Wait + Drop, G: Gate + Drop> Trial<T, G> {
-    /// A head over what follows.
-    pub fn head(&mut self, name: &str) -> Result<()> {
-        let line = format!(in self.alloc; "== {name}\n")?;
-        self.text.push_str(line.as_str())?;
-        Ok(())
-    }
-
-    pub fn edit(&mut self, path: &str, content: &str) -> Result<()> {
-        let path = path_of(self.alloc, path)?;
-        self.world.edit(&path, content.as_bytes())
+    /// Edits a file.
+    pub(crate) fn edit(&mut self, told: &mut Told, path: &str, content: &str) {
+        let Ok(path) = PathText::read(self.alloc, path) else {
+            return told.refuse();
+        };
+        if self.world.edit(&path, content.as_bytes()).is_err() {
+            told.refuse();
+        }
     }
 
     /// The command with these words: what it printed, its status, how many jobs have started so far, and what it held back.
-    pub fn run(&mut self, words: &str) -> Result<()> {
-        let words = words_of(self.alloc, words)?;
-        let ran = Ran::of(self.alloc, &mut self.world, words.as_slice())?;
-        ran.add_told(&mut self.text)?;
-        let jobs = self.world.jobs().len();
-        add_report(self.alloc, &ran.report, jobs, &mut self.text)
+    pub(crate) fn run(&mut self, told: &mut Told, words: &str) {
+        let words = words_of(self.alloc, told, words);
+        match Sinks::new(self.alloc) {
+            Some(mut sinks) => self.run_over(told, words.as_slice(), &mut sinks),
+            None => told.refuse(),
+        }
+    }
+
+    fn run_over(&mut self, told: &mut Told, words: &[Text], sinks: &mut Sinks) {
+        let report = self.command(words, sinks);
+        sinks.put(told);
+        put_report(told, &report, self.world.jobs().len());
+    }
+
+    fn command(&mut self, words: &[Text], sinks: &mut Sinks) -> Report {
+        scons(
+            self.alloc,
+            words,
+            &mut self.world,
+            &mut sinks.out,
+            &mut sinks.err,
+        )
     }
 
     /// What a file holds.
-    pub fn show(&mut self, path: &str) -> Result<()> {
-        let files = self.world.files()?;
-        let path = path_of(self.alloc, path)?;
-        if let Some(bytes) = content(files.as_slice(), &path) {
-            add_file(self.alloc, &path, bytes, &mut self.text)?;
-        }
-        Ok(())
-    }
-
-    /// How many of two jobs went on without the other.
-    pub fn add_missed(&mut self, missed: u64) -> Result<()> {
-        let line = format!(in self.alloc; "{missed} of 2 jobs went on without the other\n")?;
-        self.text.push_str(line.as_str())?;
-        Ok(())
-    }
-
-    pub fn into_text(self) -> String {
-        let Trial { text, .. } = self;
-        text
-    }
-}
-
-fn add_report(alloc: Global, report: &Report, jobs: usize, text: &mut String) -> Result<()> {
-    let status = report.status;
-    let line = format!(in alloc; "status {status}, {jobs} jobs so far\n")?;
-    text.push_str(line.as_str())?;
-    for (held, by) in report.skipped.as_slice() {
-        let (held, by) = (held.as_str(), by.as_str());
-        text.push_str(format!(in alloc; "{held} was held back by {by}\n")?.as_str())?;
-    }
-    Ok(())
-}
-
-fn content<'a>(files: &'a [(PathText, Blob)], path: &PathText) -> Option<&'a Blob> {
-    for (name, bytes) in files {
-        if name == path {
-            return Some(bytes);
+    pub(crate) fn show(&self, told: &mut Told, path: &str) {
+        match self.world.files() {
+            Ok(files) => put_file(told, files.as_slice(), path),
+            Err(_) => told.refuse(),
         }
     }
-    None
-}
-
-fn add_file(alloc: Global, path: &PathText, bytes: &Blob, text: &mut String) -> Result<()> {
-    let (name, told) = (path.as_str(), text_of(bytes.as_slice())?);
-    text.push_str(format!(in alloc; "{name}:\n{told}")?.as_str())?;
-    Ok(())
 }
