@@ -1,5 +1,5 @@
 -- What trials tell, and what of it is refused.
-use Rattle.std.specs.Prelude.{◌≡◌, ℕ, List, Bool, true, false, ◌++◌}
+use Rattle.std.specs.Prelude.{◌≡◌, ℕ, List, Bool, true, false, ◌++◌, ◌<◌, ◌^◌}
 use Rattle.std.specs.Str.Parse.{IsNumeral, digits_value, without_leading_plus}
 
 -- what is told so far, as bytes, and whether the line that is told of is refused
@@ -22,3 +22,4 @@ pub record Reads (old new : Telling) (P : Type 0) : Type 0 where
 pub record IsNumber (field : List ℕ) (number : ℕ) : Type 0 where
   pub numeral : IsNumeral 10 (without_leading_plus field)
   pub value : number ≡ digits_value 10 (without_leading_plus field)
+  pub fits : number < 2 ^ 32

@@ -89,7 +89,8 @@ impl Told {
 
     /// The number that a field is; 0 where it is none, which refuses the line.
     pub fn number(&mut self, field: &str) -> u32
-        ensures { Reads self.old self.new (IsNumber field.now result) }
+        ensures read { Reads self.old self.new (IsNumber field.now result) }
+        ensures only { (number : ℕ) → IsNumber field.now number → self.new.is_refused ≡ self.old.is_refused }
     {
         match field.parse::<u32>() {
             Ok(number) => number,
