@@ -48,25 +48,20 @@ fn put_cut(alloc: Global, told: &mut Told, path: &PathText, bytes: &[u8]) {
 
 /// Tells answers to the numbers from 0 on, which stand in a line each: those in a row that are the same share one.
 fn put_runs(told: &mut Told, answers: &str) {
-    let (mut first, mut end): (usize, usize) = (0, 0);
-    let mut before = "";
-    for answer in answers.lines() {
-        if first < end && answer != before {
-            put_run(told, first, end, before);
-            first = end;
+    let mut first: usize = 0;
+    for (number, answer) in answers.lines().enumerate() {
+        let next = number.saturating_add(1);
+        if answers.lines().nth(next) != Some(answer) {
+            put_run(told, first, number, answer);
+            first = next;
         }
-        before = answer;
-        end = end.saturating_add(1);
-    }
-    if first < end {
-        put_run(told, first, end, before);
     }
 }
 
-/// The answer to the numbers from one on, up to the one before another.
-fn put_run(told: &mut Told, first: usize, end: usize, answer: &str) {
+/// The answer to the numbers from one to another.
+fn put_run(told: &mut Told, first: usize, last: usize, answer: &str) {
     told.show(first);
     told.put(" to ");
-    told.show(end.saturating_sub(1));
+    told.show(last);
     told.put_all(&[": ", answer, "\n"]);
 }
