@@ -13,15 +13,15 @@ pub(crate) fn flattened(
     let mut met = IndexSet::new(alloc);
     let mut nodes = Vec::new(alloc);
     push_copies(&mut nodes, given)?;
-    'rounds: for _ in 0..usize::MAX {
+    'rounds: for _ in 0..state.aliases.len().saturating_add(1) {
         let mut next = Vec::new(alloc);
         let is_done = expand_once(alloc, state, &mut met, &mut next, nodes.as_slice())?;
         nodes = next;
         if is_done {
-            return Ok(nodes);
+            break;
         }
     }
-    Err(Memory)
+    Ok(nodes)
 }
 
 /// Puts the members of each alias in its place; tells whether there was none.
