@@ -149,7 +149,7 @@ fn made(
         Name::Clone => Call::Clone(variables),
         Name::Append => Call::Change(Change::Append, variables),
         Name::Prepend => Call::Change(Change::Prepend, variables),
-        Name::AppendUnique => Call::Change(Change::AppendUnique, variables),
+        Name::AppendUnique => append_unique(alloc, from, variables)?,
         Name::Replace => Call::Change(Change::Replace, variables),
         Name::SetDefault => Call::Change(Change::SetDefault, variables),
         Name::Subst => Call::Subst(text(alloc, from), mode(from)),
@@ -165,6 +165,18 @@ fn made(
         name => return said(alloc, name, from),
     };
     Ok(Request::Declare(call))
+}
+
+/// `AppendUnique(delete_existing, ..)`. Items that move behind the others are left out here.
+fn append_unique(
+    alloc: Global,
+    from: &mut Arguments,
+    variables: Variables,
+) -> Result<Call, CallFault> {
+    match take(from) {
+        Some(Argument::Flag(true)) => Err(CallFault::LeftOut(Text::of(alloc, "delete_existing")?)),
+        _ => Ok(Call::Change(Change::AppendUnique, variables)),
+    }
 }
 
 /// What is asked by the names that say something of nodes.

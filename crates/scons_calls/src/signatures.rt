@@ -48,6 +48,8 @@ macro_rules! any {
 
 const VARIABLES: &[Parameter] = &[];
 
+const UNIQUE: &[Parameter] = &[option!("delete_existing", Flag)];
+
 const TEXT_AND_DEFAULT: &[Parameter] = &[one!("key", Text), option!("default", Any)];
 
 const TEXT_AND_MODE: &[Parameter] = &[one!("text", Text), option!("raw", Mode)];
@@ -125,7 +127,8 @@ pub fn signature(name: Name) -> Signature {
             VARIABLES,
             Others::Variables,
         ),
-        Name::Append | Name::Prepend | Name::AppendUnique => (VARIABLES, Others::Variables),
+        Name::Append | Name::Prepend => (VARIABLES, Others::Variables),
+        Name::AppendUnique => (UNIQUE, Others::Variables),
         Name::Replace | Name::SetDefault => (VARIABLES, Others::Variables),
         Name::Get => (TEXT_AND_DEFAULT, Others::Refused),
         Name::Subst => (TEXT_AND_MODE, Others::Refused),

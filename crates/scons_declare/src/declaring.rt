@@ -76,12 +76,17 @@ fn declare_rules(
             let site = plain_site(state, env, place);
             install_as(state, site, targets.as_slice(), sources.as_slice())
         }
-        _ => declare_said(state, env, call),
+        _ => declare_said(state, env, place, call),
     }
 }
 
 /// The calls that say something of targets.
-fn declare_said(state: &mut Declarations, env: EnvId, call: &Call) -> Result<Answer, NameFault> {
+fn declare_said(
+    state: &mut Declarations,
+    env: EnvId,
+    place: Place,
+    call: &Call,
+) -> Result<Answer, NameFault> {
     let (saying, targets, nodes) = match call {
         Call::Depends { targets, nodes } => (Saying::Depends, targets.as_slice(), nodes.as_slice()),
         Call::Requires { targets, nodes } => (
@@ -98,6 +103,7 @@ fn declare_said(state: &mut Declarations, env: EnvId, call: &Call) -> Result<Ans
             return say(
                 state,
                 env,
+                place,
                 Saying::Always,
                 targets.as_slice(),
                 none.as_slice(),
@@ -105,7 +111,7 @@ fn declare_said(state: &mut Declarations, env: EnvId, call: &Call) -> Result<Ans
         }
         _ => return Ok(Answer::Nothing),
     };
-    say(state, env, saying, targets, nodes)
+    say(state, env, place, saying, targets, nodes)
 }
 
 /// `File(name)`

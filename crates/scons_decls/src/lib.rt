@@ -38,5 +38,5 @@ pub use made::Made;
 pub use place::Place;
 pub use profile::{refuse_variable, refuse_variables};
 pub use rule::{Declaration, Recipe};
-pub use said::{Asked, Said, Saying};
+pub use said::{AliasParts, Asked, Said, Saying};
 pub use scripts::ScriptPlace;

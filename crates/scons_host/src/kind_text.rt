@@ -86,6 +86,8 @@ fn name_text(alloc: Global, fault: &NameFault) -> Told {
         NameFault::EmptyAction => word(alloc, "EmptyAction"),
         NameFault::NotExported(name) => with_text(alloc, "NotExported", name),
         NameFault::BadPath(fault) => path_text(alloc, fault),
+        NameFault::ShellPath(path) => with_path(alloc, "BadPath", path),
+        NameFault::NoRule(path) => with_path(alloc, "NoRule", path),
         NameFault::Variant(fault) => variant_text(alloc, fault),
         NameFault::Kinds(name) => with_text(alloc, "Kinds", name),
         NameFault::ScriptDepth => word(alloc, "ScriptDepth"),

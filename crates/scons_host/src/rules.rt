@@ -138,8 +138,9 @@ pub fn is_file<W: World>(world: &mut W, path: &PathText) -> Result<bool, Stop>
 fn told(scripts: &Paths, place: Option<Place>, fault: RuleReadFault) -> Stop
     ensures { IsInside result }
 {
-    let fault = match fault {
-        RuleReadFault::Name(fault) => fault,
+    let (place, fault) = match fault {
+        RuleReadFault::Name(fault) => (place, fault),
+        RuleReadFault::At(place, fault) => (Some(place), fault),
         RuleReadFault::TooMany(what, count) => return Stop::TooMany(what, count),
         RuleReadFault::Memory => return Stop::Memory,
     };

@@ -11,8 +11,10 @@ mod finish;
 mod interning;
 mod libraries;
 mod line;
+mod orders;
 mod reading;
 mod said;
+mod shell;
 mod sources;
 
 pub use fault::RuleReadFault;
