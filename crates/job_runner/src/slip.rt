@@ -1,11 +1,11 @@
 //! What goes over a board: a job as it is handed in, and its ending.
 ghost use Rattle.std.specs.Prelude.{◌≡◌, ◌↔◌, ◌⊎◌, ◌∷◌, [], IsTrue, MatchOption};
 
+use act_table::SharedTable;
 use scons_base::{Listing, PathText, Text};
 use std::alloc::Global;
 use std::sync::Arc;
 use world_api::{Content, Job, Line, Outcome};
-use world_mem::SharedTable;
 
 /// A job that is handed in. Over a memory world it goes with what its dependencies hold and with the table of actions, over the real
 /// one without.

@@ -11,6 +11,7 @@ pub mod OrderLemmas
 pub mod NumberLemmas
 pub mod FormLemmas
 pub mod CompactLemmas
+pub mod LenLemmas
 pub mod BeginLemmas
 pub mod BankLemmas
 pub mod StepLemmas

@@ -11,6 +11,7 @@
 
 mod banks;
 mod compact;
+mod compact_len;
 mod entries;
 mod head;
 mod image;

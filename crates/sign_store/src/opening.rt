@@ -16,6 +16,7 @@ ghost use Rattle.sign_store.specs.Readings.{AreReadable, IsOutside, IsRefusal, c
 
 use crate::banks::{Sizes, fill, read_body, read_head, sizes_of, write_synced};
 use crate::compact::{FIRST_GENERATION, can_be_worth, compact_form, empty_form, is_worth};
+use crate::compact_len::compact_len;
 use crate::entries::{EndGate, load};
 use crate::head::{Choice, HEAD_LEN, chosen, other};
 use crate::map::RecordMap;
@@ -250,6 +251,7 @@ fn mend<W: Disk>(world: &mut W, bank: Bank, gate: EndGate, end: u64) -> Result<(
 /// Goes over to the other bank with the compact form of the map, where that is worth it.
 fn compact<W: Disk>(alloc: Global, world: &mut W, opened: Opened) -> Result<Opened, StoreRefusal>
     requires end { opened.end ≤ 2 ^ 40 }
+    requires ordered { IsOrdered opened.map }
     requires stands { W.meaning.tells world.old → opened.end < length (W.meaning.seen world.old opened.bank) }
     ensures moments { CompactsThroughout W.meaning world.old world.new opened }
     ensures opened { Compacts W.meaning world.old world.new opened result }
@@ -266,10 +268,10 @@ fn compact<W: Disk>(alloc: Global, world: &mut W, opened: Opened) -> Result<Open
     if !can_be_worth(opened.generation, live) {
         return Ok(opened);
     }
-    let form = compact_form(alloc, &opened.map, opened.generation + 1)?;
-    if !is_worth(live, form.len() as u64 + 1) {
+    if !is_worth(live, compact_len(&opened.map)) {
         return Ok(opened);
     }
+    let form = compact_form(alloc, &opened.map, opened.generation + 1)?;
     go_over(world, opened, form.as_slice())
 }
 

@@ -13,8 +13,9 @@ use Rattle.world_api.specs.Around.{Running}
 use Rattle.world_api.specs.declared.job.Outcome.{Outcome}
 use Rattle.world_api.specs.declared.job.Outcome.TheVariants.{Done, NoMemory}
 use Rattle.world_mem.specs.Planned.{makes, ends}
-use Rattle.world_mem.specs.Told.{contents_of, paired, IsTold}
-use Rattle.world_mem.specs.declared.table.ActRow.{ActRow}
+use Rattle.act_table.specs.Filled.{contents_of, paired}
+use Rattle.world_mem.specs.Told.{IsTold}
+use Rattle.act_table.specs.declared.table.ActRow.{ActRow}
 use Rattle.world_mem.proofs.Membership.{still_in}
 use Rattle.thread_world.specs.Comes.{answer_by, comes_by, comes_to}
 use Rattle.thread_world.specs.Step.{InStep, IsWhole, listed, run_of}

@@ -7,8 +7,8 @@ use Rattle.job_runner.specs.declared.slip.Slip.{Slip}
 use Rattle.world_api.specs.Act.{Content, Given}
 use Rattle.world_api.specs.Around.{Running, Tree, given_of}
 use Rattle.world_api.specs.declared.job.Job.{Job}
-use Rattle.world_mem.specs.Told.{contents_of, paired}
-use Rattle.world_mem.specs.declared.table.ActRow.{ActRow}
+use Rattle.act_table.specs.Filled.{contents_of, paired}
+use Rattle.act_table.specs.declared.table.ActRow.{ActRow}
 use Rattle.world_mem.proofs.Membership.{push_all}
 use Rattle.thread_world.specs.Handed.{IsSlipFor}
 use Rattle.thread_world.specs.Step.{InStep, IsWhole, listed, run_of}

@@ -11,7 +11,7 @@ use Rattle.world_mem.specs.EachCall.{Keeps, TreeCall}
 use Rattle.world_mem.specs.declared.calls.Call.{Call}
 use Rattle.world_mem.specs.declared.calls.Calls.{Calls}
 use Rattle.world_mem.specs.declared.state.State.{State}
-use Rattle.world_mem.specs.declared.table.ActRow.{ActRow}
+use Rattle.act_table.specs.declared.table.ActRow.{ActRow}
 use Rattle.world_mem.specs.declared.world.MemWorld.{MemWorld}
 use Rattle.thread_world.specs.Step.{InStep, IsSpared, run_of}
 

@@ -3,8 +3,8 @@ use Rattle.std.proofs.Common.{◌≡◌, ◌∙◌, sym, ap, ℕ, List, Option, 
 use Rattle.job_runner.specs.Answers.{Answer}
 use Rattle.job_runner.specs.declared.slip.Slip.{Slip}
 use Rattle.world_api.specs.Act.{Content}
-use Rattle.world_mem.specs.Told.{paired}
-use Rattle.world_mem.specs.declared.table.ActRow.{ActRow}
+use Rattle.act_table.specs.Filled.{paired}
+use Rattle.act_table.specs.declared.table.ActRow.{ActRow}
 use Rattle.thread_world.specs.Comes.{answer_by, comes_by, comes_to}
 
 abbrev unwrapped : (x : Answer) (o : Option Answer) → Answer

@@ -5,8 +5,8 @@ use Rattle.job_runner.specs.declared.slip.Slip.{Slip}
 use Rattle.world_api.specs.Act.{Content, Given}
 use Rattle.world_api.specs.declared.job.Job.{Job}
 use Rattle.world_mem.specs.Planned.{makes, ends}
-use Rattle.world_mem.specs.Told.{contents_of, paired}
-use Rattle.world_mem.specs.declared.table.ActRow.{ActRow}
+use Rattle.act_table.specs.Filled.{contents_of, paired}
+use Rattle.act_table.specs.declared.table.ActRow.{ActRow}
 
 -- by a table: what its row says, and what the row makes at each target
 abbrev pub answer_by : List ActRow → Job → Given → Answer

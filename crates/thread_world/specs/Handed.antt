@@ -5,10 +5,10 @@ use Rattle.world_api.specs.Around.{Tree, given_of}
 use Rattle.world_api.specs.declared.job.Job.{Job}
 use Rattle.world_mem.specs.AsAround.{around_of}
 use Rattle.world_mem.specs.Ready.{MayEnter}
-use Rattle.world_mem.specs.Told.{contents_of}
+use Rattle.act_table.specs.Filled.{contents_of}
 use Rattle.world_mem.specs.declared.event.Event.TheVariants.{Started}
 use Rattle.world_mem.specs.declared.state.Entering.{Entering}
-use Rattle.world_mem.specs.declared.table.ActRow.{ActRow}
+use Rattle.act_table.specs.declared.table.ActRow.{ActRow}
 use Rattle.world_mem.specs.declared.world.MemWorld.{MemWorld}
 
 -- what goes to a worker: the job, what its dependencies hold, and the table

@@ -10,7 +10,7 @@ use Rattle.world_mem.specs.Means.{world_meaning}
 use Rattle.world_mem.specs.Standing.{is_always}
 use Rattle.world_mem.specs.Table.{law_of}
 use Rattle.world_mem.specs.declared.calls.Call.{Call}
-use Rattle.world_mem.specs.declared.table.ActRow.{ActRow}
+use Rattle.act_table.specs.declared.table.ActRow.{ActRow}
 use Rattle.world_mem.specs.declared.world.MemWorld.{MemWorld}
 
 -- these files stand and the directories above them, the banks are empty, nothing has failed or was called, and no call is to fail

@@ -3,9 +3,9 @@ use Rattle.std.specs.Prelude.{◌≡◌, ℕ, List, [], Option, Some, None, Cont
 use Rattle.job_runner.specs.declared.slip.Slip.{Slip}
 use Rattle.world_api.specs.Act.{Content}
 use Rattle.world_api.specs.Around.{Running}
-use Rattle.world_mem.specs.Told.{paired}
+use Rattle.act_table.specs.Filled.{paired}
 use Rattle.world_mem.specs.declared.calls.Calls.{Calls}
-use Rattle.world_mem.specs.declared.table.ActRow.{ActRow}
+use Rattle.act_table.specs.declared.table.ActRow.{ActRow}
 
 -- the contents, where there are any
 abbrev pub listed : Option (List Content) → List Content

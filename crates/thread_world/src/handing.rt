@@ -11,16 +11,17 @@ ghost use Rattle.world_mem.specs.CallCounts.{Fails, counted};
 ghost use Rattle.world_mem.specs.EachCall.{Keeps};
 ghost use Rattle.world_mem.specs.Kept.{counts_of, start_fault};
 ghost use Rattle.world_mem.specs.Means.{machine_of};
-ghost use Rattle.world_mem.specs.Told.{contents_of};
+ghost use Rattle.act_table.specs.Filled.{contents_of};
 ghost use Rattle.world_mem.specs.declared.calls.Call.{Call};
 
 use crate::runner::TableRunner;
+use act_table::SharedTable;
 use job_runner::{Ending, Gate, Pool, Slip};
 use scons_base::{Listing, Memory};
 use std::alloc::Global;
 use std::sync::Wait;
 use world_api::{AskRefusal, Content, Job};
-use world_mem::{Entering, MemWorld, SharedTable};
+use world_mem::{Entering, MemWorld};
 
 /// Takes all that the start of a job needs, and hands the job to the pool, with what it is given and with the table.
 pub fn hand_on<T: Wait, G: Gate>(

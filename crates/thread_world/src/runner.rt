@@ -3,12 +3,13 @@ ghost use Rattle.std.specs.Prelude.{◌≡◌, Some, IfOk};
 ghost use Rattle.job_runner.specs.Answers.{Answer, IsAnswer};
 ghost use Rattle.thread_world.specs.Comes.{answer_by, comes_to};
 
+use act_table::{ActTable, Contents, paired};
 use job_runner::{Ending, Runner, Slip};
 use scons_base::{Listing, Memory};
 use std::alloc::Global;
 use std::sync::Arc;
 use world_api::{Content, Job, Outcome};
-use world_mem::{ActTable, Contents, made_by, outcome_of, paired};
+use world_mem::{made_by, outcome_of};
 
 /// Runs a job by the table of actions that its slip has, over what the slip says that the job is given.
 #[derive(Drop)]

@@ -5,13 +5,14 @@ ghost use Rattle.world_mem.specs.AsAround.{around_of};
 ghost use Rattle.thread_world.specs.Step.{InStep, IsSpared};
 
 use crate::runner::TableRunner;
+use act_table::{ActTable, SharedTable};
 use job_runner::{Gate, Pool};
 use scons_base::{Blob, Memory, PathText};
 use std::alloc::Global;
 use std::sync::Wait;
 use std::thread::Threads;
 use world_api::{Bank, Job};
-use world_mem::{ActTable, Call, EditRefusal, Files, MemWorld, NewRefusal, SharedTable};
+use world_mem::{Call, EditRefusal, Files, MemWorld, NewRefusal};
 
 /// A world in memory, and the pool that runs its jobs: what is out of the pool is what runs in the world, in the same order, each job
 /// with what it was given as it started and with the world's table. No call is made to fail.

@@ -10,7 +10,7 @@ use Rattle.world_mem.specs.AsAround.{around_of}
 use Rattle.world_mem.specs.InSlots.{slot_at, content_of, stamp_at, file_with, settled}
 use Rattle.world_mem.specs.Kept.{running_of, entry_of, met_of}
 use Rattle.world_mem.specs.Left.{names, Cover, left_at, left_over, next_number, number_after, makings, Leaves}
-use Rattle.world_mem.specs.Listed.{listed}
+use Rattle.act_table.specs.Listed.{listed}
 use Rattle.world_mem.specs.Planned.{makes}
 use Rattle.world_mem.specs.Standing.{is_dir}
 use Rattle.world_mem.specs.Table.{law_of}
@@ -20,7 +20,7 @@ use Rattle.world_mem.specs.declared.running.RunningJob.{RunningJob}
 use Rattle.world_mem.specs.declared.slots.Slot.{Slot}
 use Rattle.world_mem.specs.declared.slots.Slot.TheVariants.{Settled}
 use Rattle.world_mem.specs.declared.state.State.{State}
-use Rattle.world_mem.specs.declared.table.ActRow.{ActRow}
+use Rattle.act_table.specs.declared.table.ActRow.{ActRow}
 use Rattle.world_mem.proofs.Marks.{settled-off, settled-some, written_on_if, written_off_if, made_content, met-push}
 use Rattle.world_mem.proofs.Membership.{contains_unmap}
 

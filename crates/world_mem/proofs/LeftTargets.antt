@@ -13,7 +13,7 @@ use Rattle.world_mem.specs.Left.{names, Cover}
 use Rattle.world_mem.specs.Planned.{makes}
 use Rattle.world_mem.specs.Table.{law_of}
 use Rattle.world_mem.specs.declared.running.RunningJob.{RunningJob}
-use Rattle.world_mem.specs.declared.table.ActRow.{ActRow}
+use Rattle.act_table.specs.declared.table.ActRow.{ActRow}
 use Rattle.world_mem.proofs.Membership.{names_of_pairs, contains_map}
 
 in_flat : {X : Type 0} (f : X → List (List ℕ)) (xs : List X) (x : X) (path : List ℕ) → Contains xs x → Contains (f x) path → Contains (flat_map f xs) path

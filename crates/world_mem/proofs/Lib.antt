@@ -25,8 +25,6 @@ pub mod Started
 pub mod Anew
 pub mod Stamped
 pub mod Dirty
-pub mod Filled
-pub mod SameContents
 pub mod Readied
 pub mod Without
 pub mod ToldPlan

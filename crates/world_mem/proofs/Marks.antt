@@ -13,7 +13,8 @@ use Rattle.world_mem.specs.declared.slots.File.{File}
 use Rattle.world_mem.specs.declared.slots.Slot.{Slot}
 use Rattle.world_mem.specs.declared.slots.Slot.TheVariants.{Settled}
 use Rattle.world_mem.specs.InSlots.{file_at, file_of, file_with, written, marked, settled, content_of}
-use Rattle.world_mem.specs.Kept.{contents_in, met_of}
+use Rattle.act_table.specs.Listed.{contents_in}
+use Rattle.world_mem.specs.Kept.{met_of}
 
 pub in_front : (x : List ℕ) (xs : List (List ℕ)) (path : List ℕ) → x ≡ path → Contains (x ∷ xs) path
 in_front x xs path e = (0, omega arith, e)
@@ -265,35 +266,6 @@ made_of f (x ∷ xs) bytes h = elim (Contains-append_cases (option_to_list (f x)
     one_of None bytes h = absurd (omega (arith, h.1))
     one_of (Some y) bytes (zero, lt, is) = ap Some is
     one_of (Some y) bytes (suc k, lt, is) = absurd (omega (arith, lt))
-
--- the files of one entry more
-pub files-push : (entries : Given) (entry : List ℕ × Content) → contents_in (entries ++ entry ∷ []) ≡ contents_in entries ++ option_to_list entry.1
-files-push [] entry = append-nil (option_to_list entry.1)
-files-push (x ∷ xs) entry = ap (λ rest. option_to_list x.1 ++ rest) (files-push xs entry) ∙ sym (append_assoc (option_to_list x.1) (contents_in xs) (option_to_list entry.1))
-
--- how many files there are among the first of these entries, with one entry more
-files-more : (entries : Given) (k : ℕ) (entry : List ℕ × Content) → k < length entries → entry ≡ get_or entries k entry
-    → length (contents_in (take (k + 1) entries)) ≡ length (contents_in (take k entries)) + length (option_to_list entry.1)
-files-more entries k entry lt is =
-    ap (λ es. length (contents_in es)) (take_more entries k entry lt ∙ ap (λ e. take k entries ++ e ∷ []) (sym is))
-    ∙ ap length (files-push (take k entries) entry)
-    ∙ length-append (contents_in (take k entries)) (option_to_list entry.1)
-
-one_if : (content : Content) → is_some content ≡ true → length (option_to_list content) ≡ 1
-one_if None h = absurd (let e : false ≡ true = h in cc e)
-one_if (Some bytes) h = refl
-
-none_if : (content : Content) → is_some content ≡ false → length (option_to_list content) ≡ 0
-none_if None h = refl
-none_if (Some bytes) h = absurd (let e : true ≡ false = h in cc e)
-
-pub files-one_more : (entries : Given) (k : ℕ) (entry : List ℕ × Content) → k < length entries → entry ≡ get_or entries k entry → is_some entry.1 ≡ true
-    → length (contents_in (take (k + 1) entries)) ≡ length (contents_in (take k entries)) + 1
-files-one_more entries k entry lt is some = files-more entries k entry lt is ∙ ap (λ n. length (contents_in (take k entries)) + n) (one_if entry.1 some)
-
-pub files-none_more : (entries : Given) (k : ℕ) (entry : List ℕ × Content) → k < length entries → entry ≡ get_or entries k entry → is_some entry.1 ≡ false
-    → length (contents_in (take (k + 1) entries)) ≡ length (contents_in (take k entries))
-files-none_more entries k entry lt is none = files-more entries k entry lt is ∙ ap (λ n. length (contents_in (take k entries)) + n) (none_if entry.1 none) ∙ add-zero (length (contents_in (take k entries)))
 
 -- a file that is written stands there, or what stood before
 pub written-content : (at : List ℕ) (file : Option File) (path : List ℕ) (old : Option Slot) (bytes : List ℕ) → content_of (written at (Settled file) path old) ≡ Some bytes → (content_of (Some (Settled file)) ≡ Some bytes) ⊎ (content_of old ≡ Some bytes)

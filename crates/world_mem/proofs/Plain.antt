@@ -10,10 +10,11 @@ use Rattle.world_mem.specs.Ending.{cut_of}
 use Rattle.world_mem.specs.declared.calls.Verdict.{Verdict}
 use Rattle.world_mem.specs.declared.calls.Verdict.TheVariants.{Goes, Listed, Spent}
 use Rattle.world_mem.specs.Planned.{ends, IsPlain}
-use Rattle.world_mem.specs.Table.{row_for, shell_outcome, outcome_of, outcome_by}
-use Rattle.world_mem.specs.declared.table.ActRow.{ActRow}
-use Rattle.world_mem.specs.declared.table.Made.{Made}
-use Rattle.world_mem.specs.declared.table.Made.TheVariants.{Files, Fail}
+use Rattle.act_table.specs.Rows.{row_for}
+use Rattle.world_mem.specs.Table.{shell_outcome, outcome_of, outcome_by}
+use Rattle.act_table.specs.declared.table.ActRow.{ActRow}
+use Rattle.act_table.specs.declared.table.Made.{Made}
+use Rattle.act_table.specs.declared.table.Made.TheVariants.{Files, Fail}
 
 made_plain : (made : Made) → IsPlain (outcome_by made)
 made_plain (Files contents) = tt

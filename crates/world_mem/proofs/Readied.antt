@@ -9,7 +9,7 @@ use Rattle.world_api.specs.declared.job.Job.{Job}
 use Rattle.world_mem.specs.AsAround.{around_of}
 use Rattle.world_mem.specs.AsCourse.{course_of}
 use Rattle.world_mem.specs.InSlots.{slot_at}
-use Rattle.world_mem.specs.Kept.{contents_in}
+use Rattle.act_table.specs.Listed.{contents_in}
 use Rattle.world_mem.specs.Past.{Course}
 use Rattle.world_mem.specs.Planned.{makes, ends}
 use Rattle.world_mem.specs.Ready.{IsMissing, IsReady}
@@ -18,7 +18,7 @@ use Rattle.world_mem.specs.declared.event.Event.TheVariants.{Started}
 use Rattle.world_mem.specs.declared.event.Faults.{Faults}
 use Rattle.world_mem.specs.declared.state.Entering.{Entering}
 use Rattle.world_mem.specs.declared.state.State.{State}
-use Rattle.world_mem.specs.declared.table.ActRow.{ActRow}
+use Rattle.act_table.specs.declared.table.ActRow.{ActRow}
 
 -- what a plan is, over the state that it was made of
 pub record IsPlanned (e : Entering) (of_job : Job) (of_faults : Faults) (old : State) : Type 0 where

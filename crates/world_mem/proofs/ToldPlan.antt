@@ -8,9 +8,10 @@ use Rattle.world_api.specs.declared.job.Outcome.{Outcome}
 use Rattle.world_api.specs.declared.job.Outcome.TheVariants.{Done}
 use Rattle.world_mem.specs.Kept.{running_of}
 use Rattle.world_mem.specs.Planned.{makes, ends}
-use Rattle.world_mem.specs.Told.{IsTold, contents_of}
+use Rattle.act_table.specs.Filled.{contents_of}
+use Rattle.world_mem.specs.Told.{IsTold}
 use Rattle.world_mem.specs.declared.running.RunningJob.{RunningJob}
-use Rattle.world_mem.specs.declared.table.ActRow.{ActRow}
+use Rattle.act_table.specs.declared.table.ActRow.{ActRow}
 use Rattle.world_mem.proofs.Membership.{same_at}
 
 pub planned_contents : (rows : List ActRow) (runs : List RunningJob) (place : ℕ) (outcome : Outcome) (made : List Content)

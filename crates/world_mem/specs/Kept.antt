@@ -1,9 +1,9 @@
 -- What a world in memory keeps of the past.
-use Rattle.std.specs.Prelude.{◌≡◌, ◌<◌, Bool, ℕ, List, [], ◌∷◌, ◌++◌, length, Some, IsTrue, Contains}
+use Rattle.std.specs.Prelude.{◌≡◌, ◌<◌, Bool, ℕ, List, length, Some, IsTrue, Contains}
 use Rattle.std.specs.List.{flat_map, slice_index_or, list_any}
-use Rattle.std.specs.Option.{option_to_list}
 use Rattle.std.specs.Str.{bytes_eq}
 use Rattle.world_api.specs.Act.{Given}
+use Rattle.act_table.specs.Listed.{contents_in}
 use Rattle.world_api.specs.Around.{Running, Entry, Started, Finished}
 use Rattle.world_api.specs.Counts.{Counts}
 use Rattle.world_mem.specs.CallCounts.{next}
@@ -50,11 +50,6 @@ running_of run = record { job = run.job; given = run.given }
 -- whether a running job makes a path
 abbrev pub is_target : List RunningJob → List ℕ → Bool
 is_target running path = list_any (λ run. list_any (bytes_eq path) run.job.targets) running
-
--- the contents in a list of paths with their contents
-abbrev pub contents_in : Given → List (List ℕ)
-contents_in [] = []
-contents_in (entry ∷ rest) = option_to_list entry.1 ++ contents_in rest
 
 abbrev pub met_of : List Given → List (List ℕ)
 met_of groups = flat_map contents_in groups

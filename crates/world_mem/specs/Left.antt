@@ -3,11 +3,11 @@ use Rattle.std.specs.Prelude.{◌≡◌, ℕ, List, [], ◌∷◌, ◌++◌, ◌
 use Rattle.std.specs.List.{flat_map}
 use Rattle.world_api.specs.Act.{Content, Given}
 use Rattle.world_api.specs.Around.{Around, Running, IsRunningTarget}
-use Rattle.world_mem.specs.Kept.{contents_in}
-use Rattle.world_mem.specs.Listed.{listed}
+use Rattle.act_table.specs.Listed.{contents_in}
+use Rattle.act_table.specs.Listed.{listed}
 use Rattle.world_mem.specs.Planned.{makes}
 use Rattle.world_mem.specs.declared.running.RunningJob.{RunningJob}
-use Rattle.world_mem.specs.declared.table.ActRow.{ActRow}
+use Rattle.act_table.specs.declared.table.ActRow.{ActRow}
 
 -- the paths in a list of paths with their contents
 abbrev pub names : Given → List (List ℕ)

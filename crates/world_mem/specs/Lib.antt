@@ -1,4 +1,3 @@
-pub mod Listed
 pub mod Default
 pub mod Table
 pub mod CallCounts

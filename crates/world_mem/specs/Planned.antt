@@ -6,11 +6,11 @@ use Rattle.world_api.specs.declared.job.Outcome.{Outcome}
 use Rattle.world_api.specs.declared.job.Work.TheVariants.{Copy, Write}
 use Rattle.world_api.specs.declared.job.Outcome.TheVariants.{Done, Failed, Broken, NoMemory}
 use Rattle.world_mem.specs.Default.{line}
-use Rattle.world_mem.specs.Listed.{listed}
+use Rattle.act_table.specs.Listed.{listed}
 use Rattle.world_mem.specs.Table.{law_of, outcome_of, shell_content}
 use Rattle.world_mem.specs.declared.plan.Recipe.{Recipe}
 use Rattle.world_mem.specs.declared.plan.Recipe.TheVariants.{Same, Listed, Lines}
-use Rattle.world_mem.specs.declared.table.ActRow.{ActRow}
+use Rattle.act_table.specs.declared.table.ActRow.{ActRow}
 
 -- what a recipe makes at a target
 abbrev pub gives : Recipe → List ℕ → Content

@@ -6,7 +6,8 @@ use Rattle.world_api.specs.Calls.{CanStart, Starts}
 use Rattle.world_api.specs.declared.job.Job.{Job}
 use Rattle.world_mem.specs.AsAround.{around_of}
 use Rattle.world_mem.specs.Blocked.{LiesBelow}
-use Rattle.world_mem.specs.Kept.{contents_in, counts_of}
+use Rattle.act_table.specs.Listed.{contents_in}
+use Rattle.world_mem.specs.Kept.{counts_of}
 use Rattle.world_mem.specs.Planned.{makes, ends}
 use Rattle.world_mem.specs.Settles.{HavePlaces}
 use Rattle.world_mem.specs.Standing.{is_dir}

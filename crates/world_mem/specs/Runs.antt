@@ -4,9 +4,9 @@ use Rattle.std.specs.List.{slice_index_or}
 use Rattle.world_api.specs.Around.{Around, Running}
 use Rattle.world_api.specs.declared.job.Outcome.{Outcome}
 use Rattle.world_api.specs.declared.job.Outcome.TheVariants.{Done}
-use Rattle.world_mem.specs.Kept.{contents_in}
+use Rattle.act_table.specs.Listed.{contents_in}
 use Rattle.world_mem.specs.Planned.{ends, makes}
-use Rattle.world_mem.specs.declared.table.ActRow.{ActRow}
+use Rattle.act_table.specs.declared.table.ActRow.{ActRow}
 
 -- the running job at a place (some job runs there, so the job `d` is never it)
 abbrev pub run_at : Around → ℕ → Running → Running

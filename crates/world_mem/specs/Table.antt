@@ -1,30 +1,16 @@
 -- What the shell makes here: a table of actions, and a text of its own where no row fits.
-use Rattle.std.specs.Prelude.{ℕ, Bool, true, List, [], ◌∷◌, ◌&&◌, Option, Some, None, if◌then◌else◌}
-use Rattle.std.specs.Str.{bytes_eq}
-use Rattle.std.specs.Cmp.Lexicographic.{pointwise}
+use Rattle.std.specs.Prelude.{ℕ, List, Option, Some, None}
 use Rattle.world_api.specs.Act.{Content, Given, Law}
 use Rattle.world_api.specs.declared.job.Outcome.{Outcome}
 use Rattle.world_api.specs.declared.job.Outcome.TheVariants.{Done, Failed}
 use Rattle.world_api.specs.declared.job.Work.{Work}
 use Rattle.world_api.specs.declared.job.Work.TheVariants.{Shell, Copy, Write}
 use Rattle.world_mem.specs.Default.{default_content}
-use Rattle.world_mem.specs.Listed.{listed, same_given}
-use Rattle.world_mem.specs.declared.table.ActRow.{ActRow}
-use Rattle.world_mem.specs.declared.table.Made.{Made}
-use Rattle.world_mem.specs.declared.table.Made.TheVariants.{Files, Fail}
-
-abbrev fits_given : Option Given → Given → Bool
-fits_given None given = true
-fits_given (Some wanted) given = same_given wanted given
-
--- the signed lines are equal, and what is given is any or equal
-abbrev pub fits : ActRow → List (List ℕ) → Given → Bool
-fits row signed given = pointwise bytes_eq row.signed signed && fits_given row.given given
-
--- the first row that fits
-abbrev pub row_for : List ActRow → List (List ℕ) → Given → Option ActRow
-row_for [] signed given = None
-row_for (row ∷ rows) signed given = if fits row signed given then Some row else row_for rows signed given
+use Rattle.act_table.specs.Listed.{listed}
+use Rattle.act_table.specs.Rows.{row_for}
+use Rattle.act_table.specs.declared.table.ActRow.{ActRow}
+use Rattle.act_table.specs.declared.table.Made.{Made}
+use Rattle.act_table.specs.declared.table.Made.TheVariants.{Files, Fail}
 
 abbrev pub content_by : Made → List ℕ → Content
 content_by (Files contents) target = listed contents target

@@ -13,7 +13,7 @@ use scons_base::{Listing, Memory};
 use world_api::{AskRefusal, Content, Ended, Job, Outcome};
 
 impl Entering {
-    ghost use Rattle.world_mem.specs.Told.{contents_of};
+    ghost use Rattle.act_table.specs.Filled.{contents_of};
 
     /// What the job is given: a content for each of its dependencies.
     pub fn given(&self) -> Result<Listing<Content>, Memory>

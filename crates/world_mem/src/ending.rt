@@ -2,13 +2,14 @@
 ghost use Rattle.std.specs.Prelude.{◌≡◌, ◌≢◌, ◌++◌, ◌+◌, ◌<◌, ◌≤◌, ℕ, List, Some, None, Contains, map, vec_len};
 ghost use Rattle.std.specs.Vec.{vec_capacity};
 ghost use Rattle.world_mem.specs.InSlots.{slot_at, content_of, mark_of};
-ghost use Rattle.world_mem.specs.Kept.{met_of, contents_in};
+ghost use Rattle.act_table.specs.Listed.{contents_in};
+ghost use Rattle.world_mem.specs.Kept.{met_of};
 ghost use Rattle.world_mem.specs.Settles.{AreStamped, HeldOrMet, HoldMade, StillNamed};
 ghost use Rattle.world_mem.specs.Slotwise.{HoldNone, NoneMarked, OthersStay};
 
-use crate::contents::Contents;
 use crate::room::add;
 use crate::slots::Slots;
+use act_table::Contents;
 use world_api::{Job, Outcome};
 
 /// Settles the targets of a job that ends. What it made has been met from then on; where it isn't done nothing stands.

@@ -2,7 +2,7 @@
 ghost use Rattle.std.specs.Prelude.{◌≡◌, ◌≢◌, ◌+◌, ◌<◌, ◌≤◌, ◌++◌, ℕ, List, None, Contains, IfOk, OnOk, length, vec_len};
 ghost use Rattle.std.specs.List.{remove, slice_index_or};
 ghost use Rattle.std.specs.Vec.{vec_capacity};
-ghost use Rattle.world_mem.specs.Told.{contents_of};
+ghost use Rattle.act_table.specs.Filled.{contents_of};
 ghost use Rattle.world_mem.specs.declared.running.RunningJob.{RunningJob};
 
 use crate::event::Faults;

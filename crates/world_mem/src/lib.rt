@@ -6,7 +6,6 @@
 #![tactic(auto)]
 
 mod calls;
-mod contents;
 mod dirs;
 mod disk;
 mod elsewhere;
@@ -18,24 +17,19 @@ mod plan;
 mod refusal;
 mod room;
 mod running;
-mod same;
-mod shared;
 mod sink;
 mod slots;
 mod start;
 mod state;
 mod stop;
-mod table;
 mod text;
 mod tree;
 mod world;
 
+pub use act_table::{ActRow, ActTable, Contents, Made};
 pub use calls::Call;
-pub use contents::{Contents, paired};
 pub use plan::{made_by, outcome_of};
 pub use refusal::{EditRefusal, NewRefusal};
-pub use shared::SharedTable;
 pub use sink::MemSink;
 pub use state::Entering;
-pub use table::{ActRow, ActTable, Made};
 pub use world::{Files, MemWorld};

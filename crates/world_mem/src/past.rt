@@ -1,6 +1,6 @@
 //! What happened to the tree and its jobs, as far as it is needed to have each earlier state back.
-use crate::contents::Contents;
 use crate::slots::File;
+use act_table::Contents;
 use scons_base::Paths;
 use world_api::Job;
 

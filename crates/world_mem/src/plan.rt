@@ -8,10 +8,9 @@ ghost use Rattle.world_mem.specs.InSlots.{slot_at, content_of};
 ghost use Rattle.world_mem.specs.Table.{shell_content, outcome_by};
 ghost use Rattle.world_mem.specs.Planned.{makes, ends, gives, IsFirstContent, IsFirstText, IsRecipeOf, IsShellRecipe};
 
-use crate::contents::{Contents, copy_content};
 use crate::slots::Slots;
-use crate::table::{ActRow, ActTable, Made};
 use crate::text::{dependency_lines, framed, signed_lines};
+use act_table::{ActRow, ActTable, Contents, Made, copy_content};
 use scons_base::{Blob, Memory, PathText, Paths, Texts};
 use std::alloc::Global;
 use world_api::{Content, Job, Outcome, Work};

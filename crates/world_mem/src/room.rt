@@ -7,12 +7,12 @@ ghost use Rattle.world_mem.specs.Slotwise.{SlotsStay};
 ghost use Rattle.world_mem.specs.Standing.{is_dir};
 ghost use Rattle.world_mem.specs.declared.slots.Slot.{Slot};
 
-use crate::contents::Contents;
 use crate::dirs::Dirs;
 use crate::event::Event;
 use crate::past::Change;
 use crate::running::RunningJob;
 use crate::slots::Slots;
+use act_table::Contents;
 use scons_base::{Memory, Paths};
 use std::alloc::Global;
 use world_api::Job;

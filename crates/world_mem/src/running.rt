@@ -1,5 +1,5 @@
 //! A job that runs.
-use crate::contents::Contents;
+use act_table::Contents;
 use world_api::{Job, Outcome};
 
 /// A job that has started and not ended: what it was given, how it ends, what it makes, the same once more to keep, and

@@ -14,8 +14,8 @@ ghost use Rattle.world_mem.specs.declared.refusal.NewRefusal.{NewRefusal};
 ghost use Rattle.world_mem.specs.declared.slots.File.{File};
 ghost use Rattle.world_mem.specs.declared.slots.Slot.{Slot};
 
-use crate::contents::Contents;
 use crate::refusal::NewRefusal;
+use act_table::Contents;
 use scons_base::{Blob, Listing, Memory, PathText, Paths};
 use std::alloc::Global;
 use std::collections::BTreeMap;

@@ -20,7 +20,8 @@ impl State {
     ghost use Rattle.world_mem.specs.AsAround.{around_of};
     ghost use Rattle.world_mem.specs.AsCourse.{course_of};
     ghost use Rattle.world_mem.specs.InSlots.{slot_at, content_of};
-    ghost use Rattle.world_mem.specs.Kept.{contents_in, counts_of, entry_of, HaveOwn};
+    ghost use Rattle.act_table.specs.Listed.{contents_in};
+    ghost use Rattle.world_mem.specs.Kept.{counts_of, entry_of, HaveOwn};
     ghost use Rattle.world_mem.specs.Past.{before};
     ghost use Rattle.world_mem.specs.Planned.{makes, ends};
     ghost use Rattle.world_mem.specs.Raises.{Raises};

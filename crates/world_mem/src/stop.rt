@@ -4,9 +4,9 @@ ghost use Rattle.std.specs.List.{flat_map};
 ghost use Rattle.std.specs.Vec.{vec_capacity};
 ghost use Rattle.world_mem.specs.Left.{Cover, left_at, left_over, number_after};
 
-use crate::contents::Contents;
 use crate::state::State;
 use crate::world::MemWorld;
+use act_table::Contents;
 use mem_banks::MemBanks;
 use scons_base::{Blob, Memory, PathText};
 use std::alloc::Global;

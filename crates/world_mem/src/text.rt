@@ -3,7 +3,7 @@ ghost use Rattle.std.specs.Prelude.{◌≡◌, ◌++◌, ◌∷◌, [], codes, I
 ghost use Rattle.std.specs.List.{flat_map};
 ghost use Rattle.world_mem.specs.Default.{line, digest_text, dependency_line};
 
-use crate::contents::Contents;
+use act_table::Contents;
 use md5::{Digest, Md5};
 use scons_base::{Blob, Memory, PathText, Texts};
 use std::alloc::Global;

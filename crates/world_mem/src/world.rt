@@ -12,7 +12,7 @@ use crate::event::Faults;
 use crate::past::Turn;
 use crate::refusal::{EditRefusal, NewRefusal};
 use crate::state::State;
-use crate::table::ActTable;
+use act_table::ActTable;
 use mem_banks::{CALL_ROOM, MemBanks};
 use scons_base::{Blob, Listing, Memory, PathText};
 use std::alloc::Global;

@@ -25,7 +25,7 @@ returns-then-not-is_worth-clause-over g c = λ ordered. record {
   map = refl;
   exchanges = inr (
     λ due.
-        let yes : c.is_worth.result ≡ true = c.is_worth.ensures.1 (omega (arith, due.1, ap length (c.in_ok-form.ensures ordered), c.len.ensures)) in
+        let yes : c.is_worth.result ≡ true = c.is_worth.ensures.1 (omega (arith, due.1, c.compact_len.ensures (c.args.opened.generation + 1))) in
         let bad : true ≡ false = sym yes ∙ c.if-not-is_worth.true in absurd cc,
     refl,
     refl,
@@ -45,8 +45,12 @@ returns-clause-opened g c = λ stood map is.
 pub returns-clause-over : goal.returns-clause-over
 returns-clause-over g c = λ ordered.
     gone_over c.args.opened c.as_slice.result.now c.go_over.result
-    ((c.can_be_worth.ensures.0 c.if-not-can_be_worth.false).0, omega (arith, c.is_worth.ensures.0 c.if-not-is_worth.false, ap length (c.in_ok-form.ensures ordered), c.len.ensures))
+    ((c.can_be_worth.ensures.0 c.if-not-can_be_worth.false).0, omega (arith, c.is_worth.ensures.0 c.if-not-is_worth.false, c.compact_len.ensures (c.args.opened.generation + 1)))
     (c.as_slice.ensures.value ∙ c.in_ok-form.ensures ordered) c.go_over.ensures.over
 
 pub returns-in_err-form-clause-rests : goal.returns-in_err-form-clause-rests
 returns-in_err-form-clause-rests g c = rests_kept g.W.Disk.meaning c.args.world.now c.args.world.now c.from_residual.result (settled_same g.W.Disk.meaning c.args.world.now)
+
+pub go_over-requires-clause-small : goal.go_over-requires-clause-small
+go_over-requires-clause-small g c =
+    omega (arith, c.is_worth.ensures.0 c.if-not-is_worth.false, c.compact_len.ensures (c.args.opened.generation + 1), ap length (c.as_slice.ensures.value ∙ c.in_ok-form.ensures c.requires.ordered), c.requires.end)

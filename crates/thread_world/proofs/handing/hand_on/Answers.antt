@@ -1,7 +1,7 @@
 use Rattle.std.proofs.Common.{◌≡◌, ◌∙◌, ap, sym, Some}
 use Rattle.world_api.specs.Act.{Given}
 use Rattle.world_api.specs.declared.job.Job.{Job}
-use Rattle.world_mem.specs.Told.{contents_of}
+use Rattle.act_table.specs.Filled.{contents_of}
 use Rattle.world_mem.specs.declared.event.Event.TheVariants.{Started}
 use Rattle.thread_world.proofs.Kept.{keeps_of}
 use Rattle.thread_world.proofs.handing.hand_on.Goals as goal

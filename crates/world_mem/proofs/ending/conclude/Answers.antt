@@ -2,7 +2,8 @@ use Rattle.std.proofs.Common.{◌≡◌, ◌∙◌, sym, ap, subst, inl, inr, �
 use Rattle.std.specs.List.{list_any}
 use Rattle.std.specs.Str.{bytes_eq}
 use Rattle.world_mem.specs.InSlots.{slot_at, file_of, content_of, mark_of, stamp_at, settled}
-use Rattle.world_mem.specs.Kept.{contents_in, met_of}
+use Rattle.act_table.specs.Listed.{contents_in}
+use Rattle.world_mem.specs.Kept.{met_of}
 use Rattle.world_mem.specs.declared.slots.Slot.TheVariants.{Settled}
 use Rattle.world_mem.proofs.Marks.{marked-off, marked-empty, marked-absent, settled-off, settled-on, made_content, settled-content, settled-named, marked-named, met-push, found_in_push}
 use Rattle.world_mem.proofs.Owners.{fewer-marked, fewer-settled, unmarked-marked, unmarked-settled}

@@ -1,7 +1,7 @@
 use Rattle.std.proofs.Common.{◌∙◌, sym, ap}
-use Rattle.world_mem.specs.Told.{contents_of}
+use Rattle.act_table.specs.Filled.{contents_of}
 use Rattle.world_mem.specs.declared.running.RunningJob.{RunningJob}
-use Rattle.world_mem.proofs.Filled.{refilled_same}
+use Rattle.act_table.proofs.Filled.{refilled_same}
 use Rattle.world_mem.proofs.PutBack.{put_back}
 use Rattle.world_mem.proofs.entry.put_made.Goals as goal
 

@@ -6,7 +6,7 @@ use Rattle.world_api.specs.declared.job.Job.{Job}
 use Rattle.world_mem.specs.AsAround.{around_of}
 use Rattle.world_mem.specs.Kept.{counts_of}
 use Rattle.world_mem.specs.Past.{Machine}
-use Rattle.world_mem.specs.declared.table.ActRow.{ActRow}
+use Rattle.act_table.specs.declared.table.ActRow.{ActRow}
 use Rattle.world_mem.specs.declared.calls.Call.TheVariants.{Start}
 use Rattle.world_mem.proofs.Passing.{refused, idle_recalls, idle_tree}
 use Rattle.thread_world.proofs.Entered.{step_entered}

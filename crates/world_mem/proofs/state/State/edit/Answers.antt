@@ -7,7 +7,8 @@ use Rattle.world_mem.specs.AsCourse.{course_of}
 use Rattle.world_mem.specs.Blocked.{LiesBelow}
 use Rattle.world_mem.specs.CallCounts.{next}
 use Rattle.world_mem.specs.InSlots.{slot_at}
-use Rattle.world_mem.specs.Kept.{met_of, contents_in, running_of, entry_of}
+use Rattle.act_table.specs.Listed.{contents_in}
+use Rattle.world_mem.specs.Kept.{met_of, running_of, entry_of}
 use Rattle.world_mem.specs.Past.{Course}
 use Rattle.world_mem.specs.Standing.{is_dir, is_in}
 use Rattle.world_mem.specs.Table.{law_of}

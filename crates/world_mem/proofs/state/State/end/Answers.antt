@@ -2,7 +2,8 @@ use Rattle.std.proofs.Common.{rules, ◌≡◌, ◌≢◌, ◌∙◌, sym, ap, s
 use Rattle.std.specs.List.{slice_index_or, list_any, remove}
 use Rattle.std.specs.Str.{bytes_eq}
 use Rattle.world_mem.specs.InSlots.{slot_at, content_of, stamp_at}
-use Rattle.world_mem.specs.Kept.{met_of, contents_in, IdsApart, is_target, running_of, entry_of}
+use Rattle.act_table.specs.Listed.{contents_in}
+use Rattle.world_mem.specs.Kept.{met_of, IdsApart, is_target, running_of, entry_of}
 use Rattle.world_mem.specs.Planned.{ends, makes, IsPlain}
 use Rattle.world_api.specs.Around as api
 use Rattle.std.proofs.lemmas.List.{get_or-map, length-map, map-append}

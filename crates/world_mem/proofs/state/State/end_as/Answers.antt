@@ -7,7 +7,7 @@ use Rattle.world_mem.specs.Kept.{running_of}
 use Rattle.world_mem.specs.Stamps.{Stamps}
 use Rattle.world_mem.specs.Planned.{ends}
 use Rattle.world_mem.specs.declared.running.RunningJob.{RunningJob}
-use Rattle.world_mem.specs.declared.table.ActRow.{ActRow}
+use Rattle.act_table.specs.declared.table.ActRow.{ActRow}
 use Rattle.world_mem.proofs.ToldPlan.{planned_contents, planned_outcome}
 use Rattle.world_mem.proofs.state.State.end_as.Goals as goal
 

@@ -1,6 +1,7 @@
 use Rattle.std.proofs.Common.{◌≡◌, ◌∙◌, sym, ap, subst, ℕ, List, Some, Contains, IsSome, refl, true, [], ◌∷◌, ◌++◌, inl, inr, length, map, reverse}
 use Rattle.world_mem.specs.InSlots.{slot_at, file_of, content_of, mark_of}
-use Rattle.world_mem.specs.Kept.{IdsApart, is_target, contents_in, running_of, entry_of}
+use Rattle.act_table.specs.Listed.{contents_in}
+use Rattle.world_mem.specs.Kept.{IdsApart, is_target, running_of, entry_of}
 use Rattle.world_mem.specs.Planned.{makes, ends}
 use Rattle.world_mem.specs.declared.running.RunningJob.{RunningJob}
 use Rattle.world_mem.specs.declared.slots.Slot.TheVariants.{Running}

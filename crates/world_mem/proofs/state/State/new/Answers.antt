@@ -1,7 +1,8 @@
 use Rattle.std.proofs.Common.{◌≡◌, ◌∙◌, sym, ap, subst, List, ℕ, true, Option, Some, None, ◌++◌}
 use Rattle.std.specs.List.{list_any}
 use Rattle.std.specs.Str.{bytes_eq}
-use Rattle.world_mem.specs.Kept.{met_of, contents_in}
+use Rattle.act_table.specs.Listed.{contents_in}
+use Rattle.world_mem.specs.Kept.{met_of}
 use Rattle.world_mem.proofs.Marks.{found_in_push, file_met, met-push, contents_in-files}
 use Rattle.std.proofs.Common.{◌↔◌, ◌⊎◌, IsTrue}
 use Rattle.world_mem.specs.Blocked.{HasBelow, HasFile}

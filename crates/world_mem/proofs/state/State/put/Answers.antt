@@ -2,7 +2,8 @@ use Rattle.std.proofs.Common.{◌≡◌, ◌∙◌, sym, ap, subst, List, ℕ, O
 use Rattle.std.specs.List.{list_any}
 use Rattle.std.specs.Str.{bytes_eq}
 use Rattle.world_mem.specs.InSlots.{slot_at, file_of, content_of, mark_of}
-use Rattle.world_mem.specs.Kept.{met_of, contents_in, running_of}
+use Rattle.act_table.specs.Listed.{contents_in}
+use Rattle.world_mem.specs.Kept.{met_of, running_of}
 use Rattle.world_mem.specs.declared.slots.Slot.TheVariants.{Settled}
 use Rattle.world_mem.proofs.Marks.{written_off, written-content, written-named, found_before, found_in_push, met-push, in_option}
 use Rattle.world_mem.proofs.Membership.{contains_map}

@@ -7,7 +7,7 @@ use Rattle.world_mem.specs.Past.{Course}
 use Rattle.world_mem.specs.Planned.{makes, ends}
 use Rattle.world_mem.specs.declared.event.Event.{Event}
 use Rattle.world_mem.specs.declared.event.Event.TheVariants.{Started}
-use Rattle.world_mem.specs.declared.table.ActRow.{ActRow}
+use Rattle.act_table.specs.declared.table.ActRow.{ActRow}
 use Rattle.world_mem.proofs.Readied.{readied}
 use Rattle.world_mem.proofs.state.State.ready.Goals as goal
 

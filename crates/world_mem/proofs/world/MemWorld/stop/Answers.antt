@@ -5,7 +5,7 @@ use Rattle.world_mem.specs.AsAround.{around_of}
 use Rattle.world_mem.specs.CallCounts.{next}
 use Rattle.world_mem.specs.Left.{Leaves, left_over, makings}
 use Rattle.world_mem.specs.Past.{Machine}
-use Rattle.world_mem.specs.declared.table.ActRow.{ActRow}
+use Rattle.act_table.specs.declared.table.ActRow.{ActRow}
 use Rattle.world_mem.proofs.world.MemWorld.stop.Goals as goal
 
 pub returns-in-Ok-clause-left : goal.returns-in-Ok-clause-left

@@ -1,0 +1,30 @@
+-- How long the parts of a compact form are.
+use Rattle.std.proofs.Common.{◌≡◌, ◌∙◌, ◌+◌, ◌≤◌, ◌<◌, ℕ, zero, suc, Bool, true, false, List, [], ◌∷◌, ◌++◌, length, take, min, ◌-◌, ◌^◌, refl, sym, ap, arith, length-append}
+use Rattle.std.specs.Prelude.{filter, not}
+use Rattle.std.specs.Int.{w32, to_be_bytes}
+use Rattle.std.specs.List.{flat_map}
+use Rattle.deciders.specs.declared.recorded.Rec.{Rec}
+use Rattle.deciders.specs.Spelling.{sized, listed, spelling}
+use Rattle.sign_store.specs.declared.map.RecordMap.{RecordMap}
+use Rattle.sign_store.specs.Compacts.{withdrawal, withdrawal_of}
+use Rattle.sign_store.specs.Entries.{entry_of, put_payload, withdraw_payload}
+
+-- an entry has its gate, four bytes of length, and its payload
+entry_len : (payload : List ℕ) → length (1 ∷ entry_of payload) ≡ 5 + length payload
+entry_len payload = omega (arith, length-append (to_be_bytes w32 (length payload)) payload)
+
+pub put_len : (rec : Rec) → length (1 ∷ entry_of (put_payload rec)) ≡ 6 + length (spelling rec)
+put_len rec = omega (arith, entry_len (put_payload rec))
+
+pub sized_len : (path : List ℕ) → length (sized path) ≡ 4 + length path
+sized_len path = omega (arith, length-append (to_be_bytes w32 (length path)) path)
+
+-- none where nothing was lost
+pub none_lost : (paths : List (List ℕ)) → length (flat_map sized paths) ≡ 0 → length (withdrawal_of paths) ≡ 0
+none_lost [] none = refl
+none_lost (path ∷ paths) none = absurd (omega (arith, none, length-append (sized path) (flat_map sized paths), sized_len path))
+
+pub some_lost : (paths : List (List ℕ)) → 0 < length (flat_map sized paths) → length (withdrawal_of paths) ≡ 10 + length (flat_map sized paths)
+some_lost [] some = absurd (omega (arith, some))
+some_lost (path ∷ paths) some =
+    omega (arith, entry_len (withdraw_payload (path ∷ paths)), length-append (to_be_bytes w32 (length (path ∷ paths))) (flat_map sized (path ∷ paths)))

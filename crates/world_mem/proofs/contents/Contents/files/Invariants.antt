@@ -1,9 +1,0 @@
-use Rattle.std.proofs.Common.{◌≡◌, ◌≤◌, length, take}
-use Rattle.world_mem.specs.Kept.{contents_in}
-use Rattle.world_mem.proofs.contents.Contents.files.Given as goal
-
-abbrev pub invariant-loop-content : goal.invariant-loop-content
-invariant-loop-content l = record {
-  counted : l.count ≡ length (contents_in (take l.content-index l.content-items));
-  small : l.count ≤ l.content-index;
-}

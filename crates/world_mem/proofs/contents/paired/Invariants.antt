@@ -1,6 +1,0 @@
-use Rattle.std.proofs.Common.{◌≡◌, ◌++◌, drop}
-use Rattle.world_mem.specs.Told.{paired}
-use Rattle.world_mem.proofs.contents.paired.Given as goal
-
-abbrev pub invariant-loop-path : goal.invariant-loop-path
-invariant-loop-path l = l.pairs ++ paired (drop l.path-index l.path-items) l.rest ≡ paired l.path-items l.contents
