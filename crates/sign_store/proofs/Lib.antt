@@ -11,6 +11,7 @@ pub mod OrderLemmas
 pub mod NumberLemmas
 pub mod FormLemmas
 pub mod CompactLemmas
+pub mod CopyLemmas
 pub mod BeginLemmas
 pub mod BankLemmas
 pub mod StepLemmas

@@ -11,6 +11,7 @@
 
 mod banks;
 mod compact;
+mod copies;
 mod entries;
 mod head;
 mod image;
