@@ -12,6 +12,7 @@ pub mod NumberLemmas
 pub mod FormLemmas
 pub mod CompactLemmas
 pub mod LenLemmas
+pub mod CopyLemmas
 pub mod BeginLemmas
 pub mod BankLemmas
 pub mod StepLemmas

@@ -135,7 +135,7 @@ or_true : (b : Bool) → (b || true) ≡ true
 or_true true = refl
 or_true false = refl
 
-any_at : (p : List ℕ → Bool) (targets : List (List ℕ)) (path : List ℕ) → is_among targets path ≡ true → p path ≡ true → list_any p targets ≡ true
+pub any_at : (p : List ℕ → Bool) (targets : List (List ℕ)) (path : List ℕ) → is_among targets path ≡ true → p path ≡ true → list_any p targets ≡ true
 any_at p [] path among is = absurd cc
 any_at p (first ∷ targets) path among is = by (bytes_eq first path) refl among (any_at p targets path)
   where

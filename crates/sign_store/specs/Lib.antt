@@ -10,6 +10,7 @@ pub mod Ends
 pub mod Reached
 pub mod Forms
 pub mod Compacts
+pub mod Copies
 pub mod Beginnings
 pub mod Changing
 pub mod Stores

@@ -12,6 +12,7 @@
 mod banks;
 mod compact;
 mod compact_len;
+mod copies;
 mod entries;
 mod head;
 mod image;

@@ -32,7 +32,7 @@ const ENTRY_LEN: u64 = 5;
 #[derive(Drop)]
 pub struct Store {
     alloc: Global,
-    map: RecordMap,
+    pub(crate) map: RecordMap,
     bank: Bank,
     /// The place of the gate at which the entries end.
     end: u64,
