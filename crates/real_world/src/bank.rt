@@ -1,10 +1,21 @@
 //! The signature banks, each in a file that is opened where it is first used and made where it is first written.
-use std::fs::{File, OpenOptions};
-use std::io;
+use crate::errors::is_forbidden;
+use crate::opening::{open, open_with};
+use std::fs::{File, Metadata, OpenOptions};
 use std::io::ErrorKind;
-use std::os::unix::fs::FileExt;
+use std::os::unix::fs::{FileExt, MetadataExt};
 use std::rt::Files;
+use std::time::Clock;
+use std::{fs, io};
 use world_api::Bank;
+
+/// The name of a bank's file.
+pub fn name_of(bank: Bank) -> &'static str {
+    match bank {
+        Bank::A => ".sconsign.sig",
+        Bank::B => ".sconsign.sig.b",
+    }
+}
 
 /// Both banks.
 #[derive(Drop)]
@@ -16,19 +27,19 @@ pub struct BankFiles {
 impl BankFiles {
     pub fn new() -> BankFiles {
         BankFiles {
-            a: BankFile::new(".sconsign.sig"),
-            b: BankFile::new(".sconsign.sig.b"),
+            a: BankFile::new(name_of(Bank::A)),
+            b: BankFile::new(name_of(Bank::B)),
         }
     }
 
-    pub fn size<R: Files<File = File>>(&mut self, rt: &R, bank: Bank) -> io::Result<u64> {
+    pub fn size<R: Files<File = File> + Clock>(&mut self, rt: &R, bank: Bank) -> io::Result<u64> {
         match bank {
             Bank::A => self.a.size(rt),
             Bank::B => self.b.size(rt),
         }
     }
 
-    pub fn read_at<R: Files<File = File>>(
+    pub fn read_at<R: Files<File = File> + Clock>(
         &mut self,
         rt: &R,
         bank: Bank,
@@ -41,7 +52,7 @@ impl BankFiles {
         }
     }
 
-    pub fn write_at<R: Files<File = File>>(
+    pub fn write_at<R: Files<File = File> + Clock>(
         &mut self,
         rt: &R,
         bank: Bank,
@@ -54,7 +65,7 @@ impl BankFiles {
         }
     }
 
-    pub fn sync<R: Files<File = File>>(&mut self, rt: &R, bank: Bank) -> io::Result<()> {
+    pub fn sync<R: Files<File = File> + Clock>(&mut self, rt: &R, bank: Bank) -> io::Result<()> {
         match bank {
             Bank::A => self.a.sync(rt),
             Bank::B => self.b.sync(rt),
@@ -66,15 +77,21 @@ impl BankFiles {
 struct BankFile {
     name: &'static str,
     file: Option<File>,
+    /// Why the file is open for reading alone.
+    refusal: Option<io::Error>,
 }
 
 impl BankFile {
     fn new(name: &'static str) -> BankFile {
-        BankFile { name, file: None }
+        BankFile {
+            name,
+            file: None,
+            refusal: None,
+        }
     }
 
     /// A bank without a file has no bytes.
-    fn size<R: Files<File = File>>(&mut self, rt: &R) -> io::Result<u64> {
+    fn size<R: Files<File = File> + Clock>(&mut self, rt: &R) -> io::Result<u64> {
         self.open(rt)?;
         match &self.file {
             Some(file) => Ok(file.metadata()?.len()),
@@ -82,7 +99,7 @@ impl BankFile {
         }
     }
 
-    fn read_at<R: Files<File = File>>(
+    fn read_at<R: Files<File = File> + Clock>(
         &mut self,
         rt: &R,
         place: u64,
@@ -96,7 +113,7 @@ impl BankFile {
         }
     }
 
-    fn write_at<R: Files<File = File>>(
+    fn write_at<R: Files<File = File> + Clock>(
         &mut self,
         rt: &R,
         place: u64,
@@ -106,13 +123,16 @@ impl BankFile {
         if self.file.is_none() {
             self.make(rt)?;
         }
+        if let Some(refusal) = self.refusal {
+            return Err(refusal);
+        }
         match &self.file {
             Some(file) => file.write_all_at(bytes, place),
             None => Err(io::Error::from(ErrorKind::NotFound)),
         }
     }
 
-    fn sync<R: Files<File = File>>(&mut self, rt: &R) -> io::Result<()> {
+    fn sync<R: Files<File = File> + Clock>(&mut self, rt: &R) -> io::Result<()> {
         self.open(rt)?;
         match &self.file {
             Some(file) => file.sync_data(),
@@ -120,31 +140,65 @@ impl BankFile {
         }
     }
 
-    fn open<R: Files<File = File>>(&mut self, rt: &R) -> io::Result<()> {
-        if self.file.is_some() {
-            return Ok(());
-        }
-        match OpenOptions::new()
-            .read(true)
-            .write(true)
-            .open(rt, self.name)
-        {
-            Ok(file) => self.file = Some(file),
-            Err(error) if error.kind() == ErrorKind::NotFound => {}
-            Err(error) => return Err(error),
+    fn open<R: Files<File = File> + Clock>(&mut self, rt: &R) -> io::Result<()> {
+        if self.file.is_none() {
+            let (file, refusal) = opened(rt, self.name)?;
+            self.file = file;
+            self.refusal = refusal;
         }
         Ok(())
     }
 
-    /// Makes the file, and syncs the directory that holds its name.
-    fn make<R: Files<File = File>>(&mut self, rt: &R) -> io::Result<()> {
-        let file = OpenOptions::new()
-            .read(true)
-            .write(true)
-            .create(true)
-            .open(rt, self.name)?;
-        File::open(rt, ".")?.sync_all()?;
+    /// Makes the file, where not even a link stands, and syncs the directory that holds its name.
+    fn make<R: Files<File = File> + Clock>(&mut self, rt: &R) -> io::Result<()> {
+        let mut how = OpenOptions::new();
+        how.read(true).write(true).create_new(true);
+        let file = open_with(rt, &how, self.name)?;
+        open(rt, ".")?.sync_all()?;
         self.file = Some(file);
         Ok(())
     }
+}
+
+/// A bank's file, if there is one, and why it isn't open for writing, if so.
+type Opened = (Option<File>, Option<io::Error>);
+
+/// The file of a bank, if there is one. It is a file itself and no link to one, so that nothing else is written to.
+fn opened<R: Files<File = File> + Clock>(rt: &R, name: &str) -> io::Result<Opened> {
+    match fs::symlink_metadata(rt, name) {
+        Ok(metadata) if metadata.is_file() => {}
+        Ok(_) => return Err(no_file()),
+        Err(error) if error.kind() == ErrorKind::NotFound => return Ok((None, None)),
+        Err(error) => return Err(error),
+    }
+    let (file, refusal) = open_bank(rt, name)?;
+    let standing = fs::symlink_metadata(rt, name)?;
+    match file.metadata() {
+        Ok(metadata) if is_same(&metadata, &standing) => Ok((Some(file), refusal)),
+        Ok(_) => Err(no_file()),
+        Err(error) => Err(error),
+    }
+}
+
+/// Opens a bank, for reading alone where it may not be written.
+fn open_bank<R: Files<File = File> + Clock>(
+    rt: &R,
+    name: &str,
+) -> io::Result<(File, Option<io::Error>)> {
+    let mut how = OpenOptions::new();
+    how.read(true).write(true);
+    match open_with(rt, &how, name) {
+        Ok(file) => Ok((file, None)),
+        Err(error) if is_forbidden(error.kind()) => Ok((open(rt, name)?, Some(error))),
+        Err(error) => Err(error),
+    }
+}
+
+/// Whether both are of one file.
+fn is_same(one: &Metadata, other: &Metadata) -> bool {
+    one.dev() == other.dev() && one.ino() == other.ino()
+}
+
+fn no_file() -> io::Error {
+    io::Error::new(ErrorKind::InvalidInput, "it is a link, or no file")
 }

@@ -1,14 +1,20 @@
 //! The file tree, one call of the system for each kind of call.
 ghost use Rattle.std.specs.Prelude.{◌≡◌, ◌≢◌, ◌<◌, ◌≤◌, ℕ, length, IfOk, IfErr, IfSome};
 
+use crate::errors::{TRIES, is_absent, is_crowded, pause};
+use crate::opening::open;
 use scons_base::{Blob, PathFault, PathText, Paths};
 use std::alloc::Global;
-use std::fs::{File, Metadata};
+use std::fs::{File, Metadata, ReadDir};
 use std::io::{ErrorKind, Read};
+use std::os::unix::fs::MetadataExt;
 use std::rt::Files;
-use std::time::UNIX_EPOCH;
+use std::time::Clock;
 use std::{fs, io};
 use world_api::{AskRefusal, Content, Kind, ReadRefusal};
+
+/// How many there are in a second.
+const NANOSECONDS: u64 = 1_000_000_000;
 
 /// What the system says of a path; nothing where nothing stands there, or a link that leads nowhere.
 pub fn metadata_of<R: Files>(rt: &R, path: &PathText) -> io::Result<Option<Metadata>> {
@@ -17,11 +23,6 @@ pub fn metadata_of<R: Files>(rt: &R, path: &PathText) -> io::Result<Option<Metad
         Err(error) if is_absent(error.kind()) => Ok(None),
         Err(error) => Err(error),
     }
-}
-
-/// Whether the error says that nothing stands there.
-fn is_absent(kind: ErrorKind) -> bool {
-    matches!(kind, ErrorKind::NotFound | ErrorKind::NotADirectory)
 }
 
 /// A pipe, a socket or a device is neither a file nor a directory, and counts as nothing.
@@ -36,20 +37,21 @@ pub fn kind_of<R: Files>(rt: &R, path: &PathText) -> io::Result<Kind> {
 /// When a file last changed, in nanoseconds since 1970. A time before that counts as 0.
 pub fn stamp_of<R: Files>(rt: &R, path: &PathText) -> io::Result<Option<u64>> {
     match metadata_of(rt, path)? {
-        Some(metadata) if metadata.is_file() => Ok(Some(nanoseconds(&metadata)?)),
+        Some(metadata) if metadata.is_file() => Ok(Some(nanoseconds(&metadata))),
         _ => Ok(None),
     }
 }
 
-fn nanoseconds(metadata: &Metadata) -> io::Result<u64> {
-    match metadata.modified()?.duration_since(UNIX_EPOCH) {
-        Ok(time) => Ok(u64::try_from(time.as_nanos()).unwrap_or(u64::MAX)),
-        Err(_) => Ok(0),
-    }
+fn nanoseconds(metadata: &Metadata) -> u64 {
+    let Ok(seconds) = u64::try_from(metadata.mtime()) else {
+        return 0;
+    };
+    let rest = u64::try_from(metadata.mtime_nsec()).unwrap_or(0);
+    seconds.saturating_mul(NANOSECONDS).saturating_add(rest)
 }
 
 /// The bytes of a file that is there and isn't too large. No more than one byte over the limit is read, whatever size the system tells.
-pub fn content_of<R: Files<File = File>>(
+pub fn content_of<R: Files<File = File> + Clock>(
     rt: &R,
     alloc: Global,
     path: &PathText,
@@ -75,13 +77,13 @@ pub fn content_of<R: Files<File = File>>(
     }
 }
 
-fn bytes_of<R: Files<File = File>>(
+fn bytes_of<R: Files<File = File> + Clock>(
     rt: &R,
     alloc: Global,
     path: &PathText,
     limit: u64,
 ) -> io::Result<Vec<u8>> {
-    let file = File::open(rt, path.as_str())?;
+    let file = open(rt, path.as_str())?;
     let mut bytes = Vec::new(alloc);
     file.take(limit.saturating_add(1)).read_to_end(&mut bytes)?;
     Ok(bytes)
@@ -104,12 +106,12 @@ pub fn ask_refusal(kind: ErrorKind) -> AskRefusal {
 }
 
 /// The files directly in a directory. A name that isn't UTF-8, or that no path can have, isn't listed.
-pub fn files_in<R: Files + AllocGlobal + Clone + Drop>(
+pub fn files_in<R: Files + AllocGlobal + Clock + Clone + Drop>(
     rt: &R,
     dir: &PathText,
 ) -> Result<Paths, AskRefusal> {
     let alloc = rt.alloc();
-    let entries = match fs::read_dir(rt, dir.as_str()) {
+    let entries = match entries_in(rt, dir.as_str()) {
         Ok(entries) => entries,
         Err(error) if is_absent(error.kind()) => return Ok(Paths::new(Vec::new(alloc))),
         Err(error) => return Err(ask_refusal(error.kind())),
@@ -118,11 +120,25 @@ pub fn files_in<R: Files + AllocGlobal + Clone + Drop>(
     for entry in entries {
         match entry {
             Ok(entry) => add_file(rt, alloc, dir, entry.file_name(), &mut paths)?,
-            Err(error) if error.kind() == ErrorKind::InvalidData => {}
+            Err(error) if error.kind() == ErrorKind::InvalidFilename => {}
             Err(error) => return Err(ask_refusal(error.kind())),
         }
     }
     Ok(paths)
+}
+
+/// Opens a directory. Where too many files are open it waits a little and tries again.
+fn entries_in<R: Files + AllocGlobal + Clock + Clone + Drop>(
+    rt: &R,
+    dir: &str,
+) -> io::Result<ReadDir<R, Global>> {
+    for _ in 0..TRIES {
+        match fs::read_dir(rt, dir) {
+            Err(error) if is_crowded(&error) => pause(rt),
+            opened => return opened,
+        }
+    }
+    fs::read_dir(rt, dir)
 }
 
 fn add_file<R: Files>(

@@ -5,12 +5,17 @@
 #![tactic(auto)]
 
 mod bank;
+mod errors;
 mod files;
+mod holding;
 mod lock;
+mod opening;
 mod shell;
 mod sink;
+mod syncing;
 mod world;
 
+pub use lock::LockWish;
 pub use shell::{LockHolder, Shell};
 pub use sink::RealSink;
 pub use world::RealWorld;

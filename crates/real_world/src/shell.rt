@@ -1,15 +1,20 @@
 //! What a worker does with a job: it runs the lines by the shell, copies, or writes.
 ghost use Rattle.std.specs.Prelude.{None};
 
+use crate::errors::{TRIES, is_full, pause};
+use crate::opening::open_with;
+use crate::syncing::{broken, sync_targets};
 use job_runner::{Ending, Runner, Slip};
 use scons_base::{PathText, Text};
 use std::alloc::{AllocError, Global};
-use std::fs::File;
-use std::io::ErrorKind;
-use std::process::{Command, ExitStatus, Processes};
+use std::fs::{File, OpenOptions};
+use std::io;
+use std::io::Write;
+use std::process::{Child, Command, ExitStatus, Processes};
 use std::rt::Files;
+use std::sync::atomic::{AtomicUsize, Ordering};
 use std::sync::{Arc, OnceLock};
-use std::{fs, io};
+use std::time::Clock;
 use world_api::{Line, Outcome, Work};
 
 /// The status that stands for an ending without one, as by a signal.
@@ -18,13 +23,13 @@ const NO_CODE: i32 = 255;
 /// The one variable of each action.
 const PATH: &str = "/usr/local/bin:/bin:/usr/bin";
 
-/// A runner whose children hold the lock of the tree until they have ended.
+/// A runner whose children hold the lock of the tree until they have ended, or it lets go of it.
 pub trait LockHolder: Runner {
-    /// Whether it has the lock's file.
-    fn has_lock(&self) -> bool;
-
     /// Takes the lock's file, and says whether it has it now.
     fn take_lock(&self, file: File) -> bool;
+
+    /// Lets go of the lock, also for the children that still run.
+    fn unlock(&self);
 }
 
 /// Runs jobs by the shell. Each child has the locked file as its standard input.
@@ -32,6 +37,8 @@ pub trait LockHolder: Runner {
 pub struct Shell<R> {
     rt: R,
     lock: OnceLock<File>,
+    /// How many children run.
+    children: AtomicUsize,
 }
 
 impl<R> Shell<R> {
@@ -39,21 +46,25 @@ impl<R> Shell<R> {
         Shell {
             rt,
             lock: OnceLock::new(),
+            children: AtomicUsize::new(0),
         }
     }
 }
 
-impl<R: Files + AllocGlobal + Processes + Eprint + Drop> LockHolder for Shell<R> {
-    fn has_lock(&self) -> bool {
-        self.lock.get().is_some()
-    }
-
+impl<R: Files<File = File> + AllocGlobal + Processes + Clock + Eprint + Drop> LockHolder
+    for Shell<R> {
     fn take_lock(&self, file: File) -> bool {
         self.lock.try_set(file).is_ok()
     }
+
+    fn unlock(&self) {
+        if let Some(file) = self.lock.get() {
+            let _ = file.unlock();
+        }
+    }
 }
 
-impl<R: Files + AllocGlobal + Processes + Eprint + Drop> Runner for Shell<R> {
+impl<R: Files<File = File> + AllocGlobal + Processes + Clock + Eprint + Drop> Runner for Shell<R> {
     ghost answer = { λ slip. None };
 
     fn run(&self, slip: Arc<Slip, Global>) -> Ending {
@@ -63,6 +74,10 @@ impl<R: Files + AllocGlobal + Processes + Eprint + Drop> Runner for Shell<R> {
             Work::Copy => self.copy(job.deps.as_slice(), job.targets.as_slice()),
             Work::Write => write(&self.rt, job.signed.as_slice(), job.targets.as_slice()),
         };
+        let outcome = match outcome {
+            Outcome::Done => sync_targets(&self.rt, job.targets.as_slice()),
+            outcome => outcome,
+        };
         Ending {
             slip,
             outcome,
@@ -71,7 +86,7 @@ impl<R: Files + AllocGlobal + Processes + Eprint + Drop> Runner for Shell<R> {
     }
 }
 
-impl<R: Files + AllocGlobal + Processes + Eprint> Shell<R> {
+impl<R: Files<File = File> + AllocGlobal + Processes + Clock + Eprint> Shell<R> {
     /// Runs the lines in turn, up to the first that fails and isn't to be ignored.
     fn run_lines(&self, lines: &[Line]) -> Outcome {
         for line in lines {
@@ -104,20 +119,41 @@ impl<R: Files + AllocGlobal + Processes + Eprint> Shell<R> {
                 Some(code) => Outcome::Failed(code),
                 None => Outcome::Failed(NO_CODE),
             },
-            Err(error) if error.kind() == ErrorKind::OutOfMemory => Outcome::NoMemory,
-            Err(error) => {
-                let _ = eprintln!(&self.rt; "scons: {program}: {error}");
-                Outcome::Broken
-            }
+            Err(error) => broken(&self.rt, program, error),
         }
     }
 
     fn status_of(&self, program: &str, words: &[&str]) -> io::Result<ExitStatus> {
+        let mut child = self.started(program, words)?;
+        let _ = self.children.fetch_add(1, Ordering::SeqCst);
+        let status = child.wait();
+        let _ = self.children.fetch_sub(1, Ordering::SeqCst);
+        status
+    }
+
+    /// Starts a program. Where the system has no room for it, tries again, for as long as others run and a little longer.
+    fn started(&self, program: &str, words: &[&str]) -> io::Result<Child<R::Started>> {
+        let mut tries = TRIES;
+        for _ in 0..u64::MAX {
+            match self.spawned(program, words) {
+                Err(error) if is_full(&error) && tries > 0 => {
+                    if self.children.load(Ordering::SeqCst) == 0 {
+                        tries = tries.saturating_sub(1);
+                    }
+                    pause(&self.rt);
+                }
+                spawned => return spawned,
+            }
+        }
+        self.spawned(program, words)
+    }
+
+    fn spawned(&self, program: &str, words: &[&str]) -> io::Result<Child<R::Started>> {
         let mut command = command_of(self.rt.alloc(), program, words)?;
         if let Some(lock) = self.lock.get() {
             command.stdin(lock.try_clone()?);
         }
-        command.spawn(&self.rt)?.wait()
+        command.spawn(&self.rt)
     }
 }
 
@@ -131,12 +167,23 @@ fn command_of(alloc: Global, program: &str, words: &[&str]) -> Result<Command, A
     Ok(command)
 }
 
-fn write<R: Files>(rt: &R, signed: &[Text], targets: &[PathText]) -> Outcome {
+fn write<R: Files<File = File> + Clock + Eprint>(
+    rt: &R,
+    signed: &[Text],
+    targets: &[PathText],
+) -> Outcome {
     match (signed.first(), targets.first()) {
-        (Some(text), Some(target)) => match fs::write(rt, target.as_str(), text.as_str()) {
+        (Some(text), Some(target)) => match write_text(rt, target.as_str(), text.as_str()) {
             Ok(()) => Outcome::Done,
-            Err(_) => Outcome::Broken,
+            Err(error) => broken(rt, target.as_str(), error),
         },
         _ => Outcome::Broken,
     }
+}
+
+fn write_text<R: Files<File = File> + Clock>(rt: &R, path: &str, text: &str) -> io::Result<()> {
+    let mut how = OpenOptions::new();
+    how.write(true).create(true).truncate(true);
+    let mut file = open_with(rt, &how, path)?;
+    file.write_all(text.as_bytes())
 }

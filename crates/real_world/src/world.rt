@@ -2,9 +2,10 @@
 ghost use Rattle.std.specs.Prelude.{◌≡◌, ◌≢◌, ◌<◌, ◌≤◌, ℕ, List, [], length, IsTrue, IfOk, IfErr, IfSome};
 ghost use Rattle.scons_base.specs.Parts.{is_absolute};
 
-use crate::bank::BankFiles;
+use crate::bank::{BankFiles, name_of};
 use crate::files;
-use crate::lock::locked;
+use crate::holding::{Holding, say};
+use crate::lock::LockWish;
 use crate::shell::LockHolder;
 use job_runner::{NoGate, Pool, Runner, Slip};
 use scons_base::{Memory, PathFault, PathText, Paths};
@@ -14,16 +15,19 @@ use std::fs::File;
 use std::rt::Files;
 use std::sync::Wait;
 use std::thread::Threads;
-use std::{env, fs};
+use std::time::Clock;
+use std::{env, fs, io};
 use world_api::{
     AskRefusal, Bank, Content, Disk, Ended, Fault, Job, Kind, Outcome, ReadRefusal, World,
 };
 
-/// The real files, banks and shell. Jobs run on worker threads, as many at once as have started.
+/// The real files, banks and shell. Jobs run on worker threads, as many at once as have started. The first call of a run, which asks for
+/// the top directory, takes the lock that is wished for; without it nothing is written.
 #[derive(Drop)]
 pub struct RealWorld<R, S: Runner> {
     rt: R,
     alloc: Global,
+    holding: Holding,
     pool: Pool<R, S, NoGate>,
     banks: BankFiles,
     disk_faults: u64,
@@ -37,12 +41,13 @@ where
     R: AllocGlobal + Threads + Wait + Clone + Send + Sync + Drop + 'static,
     S: LockHolder + Send + Sync + Drop + 'static,
 {
-    pub fn new(rt: R, shell: S) -> Result<RealWorld<R, S>, Memory> {
+    pub fn new(rt: R, shell: S, wish: LockWish) -> Result<RealWorld<R, S>, Memory> {
         let alloc = rt.alloc();
         let pool = Pool::new(alloc, copied(&rt)?, shell, NoGate)?;
         Ok(RealWorld {
             rt,
             alloc,
+            holding: Holding::new(wish),
             pool,
             banks: BankFiles::new(),
             disk_faults: 0,
@@ -55,18 +60,22 @@ where
 
 impl<R, S> RealWorld<R, S>
 where
-    R: Files<File = File> + AllocGlobal + Wait + Env + Eprint + Clone + Drop,
+    R: Files<File = File> + AllocGlobal + Wait + Clock + Env + Eprint + Clone + Drop,
     S: LockHolder + Drop,
 {
-    /// Takes the lock of this tree, unless this build has it, and says whether it has it now.
-    fn is_locked(&self) -> bool {
-        let shell = self.pool.runner();
-        if shell.has_lock() {
-            return true;
-        }
-        match locked(&self.rt) {
-            Ok(file) => shell.take_lock(file),
-            Err(_) => false,
+    /// Ends a run: lets go of the lock.
+    pub fn unlock(&mut self) {
+        self.holding.end(&self.rt, self.pool.runner());
+    }
+
+    /// Whether a call on a bank went well. If not says why.
+    fn is_well(&self, bank: Bank, done: io::Result<()>) -> bool {
+        match done {
+            Ok(()) => true,
+            Err(error) => {
+                say(&self.rt, name_of(bank), error);
+                false
+            }
         }
     }
 }
@@ -81,7 +90,7 @@ fn copied<R: Clone>(rt: &R) -> Result<R, Memory> {
 
 impl<R, S> Disk for RealWorld<R, S>
 where
-    R: Files<File = File> + AllocGlobal + Wait + Env + Eprint + Clone + Drop,
+    R: Files<File = File> + AllocGlobal + Wait + Clock + Env + Eprint + Clone + Drop,
     S: LockHolder + Drop,
 {
     ghost use Rattle.real_world.specs.Silent.{nothing};
@@ -99,17 +108,19 @@ where
     } };
 
     fn size(&mut self, bank: Bank) -> Result<u64, Fault> {
-        if self.is_locked() {
-            if let Ok(size) = self.banks.size(&self.rt, bank) {
-                return Ok(size);
+        match self.banks.size(&self.rt, bank) {
+            Ok(size) => Ok(size),
+            Err(error) => {
+                say(&self.rt, name_of(bank), error);
+                self.disk_faults = self.disk_faults.saturating_add(1);
+                Err(Fault)
             }
         }
-        self.disk_faults = self.disk_faults.saturating_add(1);
-        Err(Fault)
     }
 
     fn read_at(&mut self, bank: Bank, place: u64, into: &mut [u8]) -> Result<(), Fault> {
-        if self.is_locked() && self.banks.read_at(&self.rt, bank, place, into).is_ok() {
+        let read = self.banks.read_at(&self.rt, bank, place, into);
+        if self.is_well(bank, read) {
             return Ok(());
         }
         self.disk_faults = self.disk_faults.saturating_add(1);
@@ -117,15 +128,19 @@ where
     }
 
     fn write_at(&mut self, bank: Bank, place: u64, bytes: &[u8]) -> Result<(), Fault> {
-        if self.is_locked() && self.banks.write_at(&self.rt, bank, place, bytes).is_ok() {
-            return Ok(());
+        if self.holding.may_write(&self.rt) {
+            let written = self.banks.write_at(&self.rt, bank, place, bytes);
+            if self.is_well(bank, written) {
+                return Ok(());
+            }
         }
         self.disk_faults = self.disk_faults.saturating_add(1);
         Err(Fault)
     }
 
     fn sync(&mut self, bank: Bank) -> Result<(), Fault> {
-        if self.is_locked() && self.banks.sync(&self.rt, bank).is_ok() {
+        let synced = self.banks.sync(&self.rt, bank);
+        if self.is_well(bank, synced) {
             return Ok(());
         }
         self.disk_faults = self.disk_faults.saturating_add(1);
@@ -141,10 +156,14 @@ where
 
 impl<R, S> World for RealWorld<R, S>
 where
-    R: Files<File = File> + AllocGlobal + Wait + Env + Eprint + Clone + Drop,
+    R: Files<File = File> + AllocGlobal + Wait + Clock + Env + Eprint + Clone + Drop,
     S: LockHolder + Drop,
 {
     fn top_path(&mut self) -> Result<PathText, AskRefusal> {
+        if !self.holding.begin(&self.rt, self.pool.runner()) {
+            self.tree_faults = self.tree_faults.saturating_add(1);
+            return Err(AskRefusal::Fault);
+        }
         match top_of(&self.rt) {
             Ok(path) => Ok(path),
             Err(AskRefusal::Memory) => Err(AskRefusal::Memory),
@@ -192,6 +211,10 @@ where
     }
 
     fn make_dir(&mut self, path: &PathText) -> Result<(), AskRefusal> {
+        if !self.holding.may_write(&self.rt) {
+            self.tree_faults = self.tree_faults.saturating_add(1);
+            return Err(AskRefusal::Fault);
+        }
         match fs::create_dir_all(&self.rt, path.as_str()) {
             Ok(()) => Ok(()),
             Err(error) => {
@@ -205,17 +228,15 @@ where
     }
 
     fn remove(&mut self, path: &PathText) -> Result<(), Fault> {
-        match files::remove(&self.rt, path) {
-            Ok(()) => Ok(()),
-            Err(_) => {
-                self.tree_faults = self.tree_faults.saturating_add(1);
-                Err(Fault)
-            }
+        if self.holding.may_write(&self.rt) && files::remove(&self.rt, path).is_ok() {
+            return Ok(());
         }
+        self.tree_faults = self.tree_faults.saturating_add(1);
+        Err(Fault)
     }
 
     fn start(&mut self, job: Job) -> Result<(), AskRefusal> {
-        if !self.is_locked() {
+        if !self.holding.may_write(&self.rt) {
             self.start_faults = self.start_faults.saturating_add(1);
             return Err(AskRefusal::Fault);
         }

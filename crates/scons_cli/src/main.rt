@@ -3,9 +3,10 @@
 
 mod streams;
 
-use real_world::{RealSink, RealWorld, Shell};
+use real_world::{LockWish, RealSink, RealWorld, Shell};
 use scons_base::Text;
-use scons_top::scons;
+use scons_top::{Report, Top, scons};
+use scons_words::read_words;
 use std::alloc::Global;
 use std::env::Env;
 use std::io::ErrorKind;
@@ -38,16 +39,40 @@ fn main(rt: HostRuntime) -> ExitCode {
             return ExitCode::from(FAULTS);
         }
     };
-    let mut out = RealSink::new(rt.stdout());
-    let mut err = RealSink::new(rt.stderr());
-    let Ok(mut world) = RealWorld::new(rt, Shell::new(rt)) else {
+    let mut out = RealSink::new(rt, rt.stdout());
+    let mut err = RealSink::new(rt, rt.stderr());
+    let wish = wish_of(alloc, &words);
+    let Ok(mut world) = RealWorld::new(rt, Shell::new(rt), wish) else {
         return no_memory(&rt);
     };
     let report = scons(alloc, &words, &mut world, &mut out, &mut err);
+    world.unlock();
     if report.status == NO_MEMORY {
         return no_memory(&rt);
     }
+    if has_unprinted(&report) {
+        let _ = eprintln!(rt; "scons: *** A text could not be printed.");
+    }
     ExitCode::from(report.status)
+}
+
+/// Which lock a run with these words wants. What is wrong with them is told by the run itself.
+fn wish_of(alloc: Global, words: &[Text]) -> LockWish {
+    match read_words(alloc, words) {
+        Ok(words) if words.help || words.load.is_some() => LockWish::Never,
+        Ok(words) if words.dry => LockWish::IfThere,
+        Ok(_) => LockWish::Always,
+        Err(_) => LockWish::Never,
+    }
+}
+
+/// Whether a stream refused a text: such a fault has none in the report.
+fn has_unprinted(report: &Report) -> bool {
+    report
+        .faults
+        .as_slice()
+        .iter()
+        .any(|fault| matches!(fault, Top::OutFault))
 }
 
 /// Says that memory is short: the report of such a run has no text.
