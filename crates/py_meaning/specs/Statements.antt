@@ -7,9 +7,10 @@ use Rattle.py_tree.specs.declared.expr.Operator.{Operator}
 use Rattle.py_tree.specs.declared.expr.Operator.TheVariants as operator'
 use Rattle.py_heap.specs.declared.value.Value.{Value}
 use Rattle.py_heap.specs.declared.value.Value.TheVariants as v
+use Rattle.py_heap.specs.declared.ids.ListId.{ListId}
 use Rattle.py_heap.specs.Heap.{Objects, list_at, with_list_at, truth_of}
 use Rattle.py_heap.specs.Units.{Units}
-use Rattle.py_compare.specs.Outcomes.{Outcome, then_by}
+use Rattle.py_compare.specs.Outcomes.{Outcome, then_by, mismatch}
 use Rattle.py_operators.specs.declared.op.Op.{Op}
 use Rattle.py_operators.specs.declared.op.Op.TheVariants as op
 use Rattle.py_operators.specs.Arithmetic.{product_of}
@@ -46,10 +47,14 @@ abbrev taken_over : ℕ → Value × Objects × Units → Outcome
 taken_over id (v.List new, h, u) = Ok (v.List (record { 0 = id }), with_list_at h id (list_at h new.0), u)
 taken_over id other = Ok other
 
+-- a list with the items of a value behind its own: a text has none to give, as with `+` (own; to Python they are its characters)
+abbrev pub grown_of : Objects → Units → ListId → Value → Outcome
+grown_of h u id (v.Text t) = mismatch (v.List id) (v.Text t)
+grown_of h u id y = then_by (method_of h u (v.List id) method.Extend (y ∷ [])) (λ m. Ok (v.List id, m.1, m.2))
+
 -- section 7.2.1 ("Augmented assignment statements"): a list is extended or repeated in place
 abbrev pub augmented_of : Operator → Objects → Units → Value → Value → Outcome
-augmented_of operator'.Add h u (v.List id) y =
-    then_by (method_of h u (v.List id) method.Extend (y ∷ [])) (λ m. Ok (v.List id, m.1, m.2))
+augmented_of operator'.Add h u (v.List id) y = grown_of h u id y
 augmented_of operator'.Multiply h u (v.List id) y = then_by (product_of h u (v.List id) y) (taken_over id.0)
 augmented_of k h u x y = binary_of (operator_op k) h u x y
 

@@ -1,9 +1,9 @@
 //! Operators of trees as operators on values.
 ghost use Rattle.std.specs.Prelude.{◌≡◌, ◌≢◌, Ok, Err, IfOk, IfErr};
 ghost use Rattle.py_meaning.specs.Expressions.{constant_value, comparison_op};
-ghost use Rattle.py_meaning.specs.Statements.{operator_op, augmented_of};
+ghost use Rattle.py_meaning.specs.Statements.{operator_op, grown_of, augmented_of};
 
-use py_heap::{Budget, Heap, Value, ValueFault, Values};
+use py_heap::{Budget, Heap, ListId, Value, ValueFault, Values};
 use py_methods::{Name, method};
 use py_operators::{Op, binary};
 use py_tree::{Comparison, Constant, Operator};
@@ -61,10 +61,7 @@ pub fn augmented(
 {
     match a {
         Value::List(list) => match operator {
-            Operator::Add => {
-                method(heap, budget, a, Name::Extend, &[b])?;
-                Ok(a)
-            }
+            Operator::Add => grown(heap, budget, list, b),
             Operator::Multiply => {
                 let made = binary(heap, budget, Op::Mul, a, b)?;
                 match made {
@@ -79,5 +76,25 @@ pub fn augmented(
             _ => binary(heap, budget, operator_op(operator), a, b),
         },
         _ => binary(heap, budget, operator_op(operator), a, b),
+    }
+}
+
+/// A list with the items of another value behind its own. A text gives none, as with `+`.
+fn grown(
+    heap: &mut Heap,
+    budget: &mut Budget,
+    list: ListId,
+    more: Value,
+) -> Result<Value, ValueFault>
+    ensures ok { IfOk result (λ v. grown_of heap.old budget.old list more ≡ Ok (v, heap.new, budget.new)) }
+    ensures fault { IfErr result (λ e. e ≢ ValueFault.Memory → grown_of heap.old budget.old list more ≡ Err e) }
+{
+    let value = Value::List(list);
+    match more {
+        Value::Text(_) => Err(ValueFault::Mismatch(value.kind(), more.kind())),
+        _ => {
+            method(heap, budget, value, Name::Extend, &[more])?;
+            Ok(value)
+        }
     }
 }
