@@ -3,3 +3,4 @@ pub mod PairLemmas
 pub mod VarLemmas
 pub mod GivenTexts
 pub mod Lengths
+pub mod GrownLemmas

@@ -1,6 +1,6 @@
 -- A table of variables, read as a list of pairs.
 use Rattle.std.proofs.Common.{arith, ◌≡◌, ◌≤◌, ◌<◌, ◌∙◌, ℕ, zero, suc, ◌+◌, List, [], ◌∷◌, ◌++◌, Bool, true, false, cond, ap, sym, refl, length, map, take, get_or, add-one, String, Some, None, true≢false}
-use Rattle.std.specs.Prelude.{if◌then◌else◌, string_bytes, slice_get}
+use Rattle.std.specs.Prelude.{if◌then◌else◌, string_bytes, slice_get, Result, Ok, Err, OnErr}
 use Rattle.std.specs.List.{IsDistinct}
 use Rattle.std.specs.Map.{lookup, keys_of}
 use Rattle.std.specs.Option.{option_map}
@@ -57,6 +57,9 @@ put_new : (vars : List Var) (new : Var) → ((k : ℕ) → k < length vars → b
 put_new [] new none = refl
 put_new (var ∷ vars) new none = rw (none 0 (omega arith)) (ap (λ rest. var ∷ rest) (put_new vars new (λ k h. none (suc k) (omega arith))))
 
+same_name : (name : List ℕ) → bytes_eq name name ≡ true
+same_name name = (bytes_eq-Decides name name).1 refl
+
 -- a loop's turn: one more variable is put
 pub put_more : (start vars self new : List Var) (i : ℕ) (var : Var) → slice_get vars i ≡ Some var → self ≡ put_all start (take i vars) → new ≡ put self var → new ≡ put_all start (take (i + 1) vars)
 put_more start vars self new i var at s n =
@@ -91,3 +94,36 @@ put_all_new (e ∷ entries) distinct =
 pub none_at : {X : Type 0} → (xs : List X) (i : ℕ) → slice_get xs i ≡ None → i < length xs → ⊥
 none_at [] i none l = absurd (omega arith)
 none_at (x ∷ xs) i none l = let some : slice_get (x ∷ xs) i ≡ Some (get_or (x ∷ xs) i x) = slice_get-get_or (x ∷ xs) i x l in cc
+
+-- a value put behind another one of the name takes its place
+pub put_twice : (vars : List Var) (name : List ℕ) (a b : EnvValue) → put (put vars (name, a)) (name, b) ≡ put vars (name, b)
+put_twice [] name a b = rw (same_name name) refl
+put_twice (var ∷ vars) name a b = by (bytes_eq name var.0) refl
+  where
+    by : (e : Bool) → bytes_eq name var.0 ≡ e → put (put (var ∷ vars) (name, a)) (name, b) ≡ put (var ∷ vars) (name, b)
+    by true e = rw (e, same_name name) refl
+    by false e = rw (e, e) (ap (λ rest. var ∷ rest) (put_twice vars name a b))
+
+-- the value that the name has, put again
+pub put_same : (vars : List Var) (name : List ℕ) (v : EnvValue) → value_at vars name ≡ Some v → put vars (name, v) ≡ vars
+put_same [] name v at = cc
+put_same (var ∷ vars) name v at = by (bytes_eq name var.0) refl
+  where
+    by : (e : Bool) → bytes_eq name var.0 ≡ e → put (var ∷ vars) (name, v) ≡ var ∷ vars
+    by true e =
+        let there : Some var.1 ≡ Some v = rw e at at in
+        let same : name ≡ var.0 = (bytes_eq-Decides name var.0).0 e in
+        rw e (cc)
+    by false e = rw e (ap (λ rest. var ∷ rest) (put_same vars name v (rw e at at)))
+
+pub value_at_put : (vars : List Var) (name : List ℕ) (v : EnvValue) → value_at (put vars (name, v)) name ≡ Some v
+value_at_put [] name v = rw (same_name name) refl
+value_at_put (var ∷ vars) name v = by (bytes_eq name var.0) refl
+  where
+    by : (e : Bool) → bytes_eq name var.0 ≡ e → value_at (put (var ∷ vars) (name, v)) name ≡ Some v
+    by true e = rw (e, same_name name) refl
+    by false e = rw (e, e) (value_at_put vars name v)
+
+pub on_err_true : {T E P : Type 0} (r : Result T E) → P → OnErr r P
+on_err_true (Ok x) p = tt
+on_err_true (Err y) p = p

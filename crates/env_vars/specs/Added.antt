@@ -94,6 +94,12 @@ put_items place.Behind old added = old ++ added
 put_items place.InFront old added = added ++ old
 put_items place.New old added = fold add_new old added
 
+-- the same of things that may stand there twice
+abbrev pub put_beside : {X : Type 0} → Place → List X → List X → List X
+put_beside place.Behind old added = old ++ added
+put_beside place.InFront old added = added ++ old
+put_beside place.New old added = old ++ added
+
 abbrev pub put_text : Place → List ℕ → List ℕ → List ℕ
 put_text place.Behind old added = old ++ added
 put_text place.InFront old added = added ++ old

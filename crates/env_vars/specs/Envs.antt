@@ -1,8 +1,10 @@
 -- Environments, numbered in the order in which they were made. An environment is a list of variables of its own, in
 -- front of those of the environments behind it. Only an overlay has any behind it.
-use Rattle.std.specs.Prelude.{ℕ, List, [], ◌∷◌, Option, Some, None, fold, slice_get, slice_set}
+use Rattle.std.specs.Prelude.{ℕ, Bool, true, false, List, [], ◌∷◌, Option, Some, None, fold, slice_get, slice_set}
 use Rattle.env_vars.specs.declared.value.EnvValue.{EnvValue}
+use Rattle.env_vars.specs.declared.value.EnvValue.TheVariants as value
 use Rattle.env_vars.specs.declared.place.Place.{Place}
+use Rattle.env_vars.specs.Names.{is_late_variable}
 use Rattle.env_vars.specs.Added.{as_set, added}
 use Rattle.env_vars.specs.Vars.{Var, value_at, put, put_all}
 
@@ -55,6 +57,14 @@ copied envs id = copied_by envs id (behind_of envs id)
 -- variables set, one after another
 abbrev pub set_all : List Var → List Var → List Var
 set_all vars new = fold (λ done var. put done (var.0, as_set var.0 var.1)) vars new
+
+-- whether a value counts as none where a default is given: it isn't there, or a variable that SCons doesn't have at first holds
+-- no item
+abbrev pub is_unset : List ℕ → Option EnvValue → Bool
+is_unset name None = true
+is_unset name (Some (value.Words [])) = is_late_variable name
+is_unset name (Some (value.List [])) = is_late_variable name
+is_unset name (Some v) = false
 
 -- the environments after one of them got a value for a name of its own: the others stay
 abbrev pub with_var : List Scope → ℕ → Var → List Scope

@@ -75,7 +75,7 @@ fn added_to_items(
     Ok(Some(EnvValue::List(Listing::new(items))))
 }
 
-fn items_for_words(alloc: Global, value: &EnvValue) -> Result<Option<Vec<Item>>, Memory>
+pub(crate) fn items_for_words(alloc: Global, value: &EnvValue) -> Result<Option<Vec<Item>>, Memory>
     ensures { IfOk result (λ o. option_map (λ v. v.items) o ≡ items_for_words value.now) }
 {
     let mut items = Vec::new(alloc);
@@ -90,7 +90,11 @@ fn items_for_words(alloc: Global, value: &EnvValue) -> Result<Option<Vec<Item>>,
     Ok(Some(items))
 }
 
-fn items_for_list(alloc: Global, name: &str, value: &EnvValue) -> Result<Option<Vec<Item>>, Memory>
+pub(crate) fn items_for_list(
+    alloc: Global,
+    name: &str,
+    value: &EnvValue,
+) -> Result<Option<Vec<Item>>, Memory>
     ensures { IfOk result (λ o. option_map (λ v. v.items) o ≡ items_for_list name.now value.now) }
 {
     let mut items = Vec::new(alloc);
@@ -140,7 +144,7 @@ fn push_new(items: &mut Vec<Item>, added: &[Item]) -> Result<(), Memory>
     Ok(())
 }
 
-fn is_there(items: &[Item], item: &Item) -> bool
+pub(crate) fn is_there(items: &[Item], item: &Item) -> bool
     ensures { result ≡ list_any (item_eq item.now) items.now }
 {
     items.iter().any(|there| is_same(item, there))

@@ -1,10 +1,15 @@
 //! One environment, with those behind it.
-ghost use Rattle.std.specs.Prelude.{◌≡◌, map, OnOk, OnErr, string_bytes};
-ghost use Rattle.env_vars.specs.Vars.{put};
+ghost use Rattle.std.specs.Prelude.{◌≡◌, ◌≢◌, Some, None, map, IfErr, OnOk, OnErr, string_bytes};
+ghost use Rattle.env_vars.specs.Vars.{put, value_at};
+ghost use Rattle.env_vars.specs.Added.{added_to};
+ghost use Rattle.env_vars.specs.declared.value.EnvValue.{EnvValue};
 
+use crate::fault::EnvFault;
+use crate::place::Place;
 use crate::value::EnvValue;
 use crate::vars::Vars;
 use scons_base::{EnvId, Memory};
+use std::alloc::Global;
 use std::marker::Model;
 
 /// One environment: its own variables, and the environments behind it, the nearest first.
@@ -48,5 +53,24 @@ impl Env {
         ensures err { OnErr result (self.new ≡ self.old) }
     {
         self.own.put(name, value)
+    }
+
+    /// Adds a value to a variable of its own.
+    pub(crate) fn add(
+        &mut self,
+        alloc: Global,
+        place: Place,
+        name: &str,
+        value: &EnvValue,
+    ) -> Result<(), EnvFault>
+        requires { value_at self.old.own name.now ≢ None }
+        ensures ok { OnOk result ((old new : EnvValue) × (value_at self.old.own name.now ≡ Some old)
+            × (added_to place name.now old value.now ≡ Some new)
+            × (self.new ≡ record { own = put self.old.own (name.now, new); behind = self.old.behind })) }
+        ensures kinds { IfErr result (λ e. e ≢ EnvFault.Memory → (e ≡ EnvFault.Kinds)
+            × ((old : EnvValue) × (value_at self.old.own name.now ≡ Some old) × (added_to place name.now old value.now ≡ None))) }
+        ensures err { OnErr result (self.new ≡ self.old) }
+    {
+        self.own.add(alloc, place, name, value)
     }
 }

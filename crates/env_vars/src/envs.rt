@@ -1,11 +1,12 @@
 //! The construction environments of a reading.
-ghost use Rattle.std.specs.Prelude.{◌≡◌, ◌≢◌, ◌<◌, ◌≤◌, ◌++◌, ◌∷◌, [], Some, None, length, IfOk, IfErr, OnOk, OnErr, option_copied};
+ghost use Rattle.std.specs.Prelude.{◌≡◌, ◌≢◌, ◌<◌, ◌≤◌, ◌++◌, ◌∷◌, [], Some, None, true, false, length, IfOk, IfErr, OnOk, OnErr, option_copied};
 ghost use Rattle.scons_base.specs.declared.limits.TheConstants.{TEXT_LIMIT};
 ghost use Rattle.env_vars.specs.declared.place.Place.TheVariants as place;
 ghost use Rattle.env_vars.specs.Added.{as_set, added};
 ghost use Rattle.env_vars.specs.Given.{given, size_of};
 ghost use Rattle.env_vars.specs.Initial.{initial_vars};
-ghost use Rattle.env_vars.specs.Envs.{behind_of, value_of, copied, set_all, with_var, after_adding};
+ghost use Rattle.env_vars.specs.Vars.{value_at};
+ghost use Rattle.env_vars.specs.Envs.{own_of, behind_of, value_of, copied, set_all, is_unset, with_var, after_adding};
 
 use crate::added::added_to;
 use crate::chain::{chain, copied, set_all, value_of};
@@ -14,6 +15,7 @@ use crate::fault::{EnvFault, GivenFault};
 use crate::forms::as_set;
 use crate::given::given;
 use crate::initial::initial_vars;
+use crate::names::is_late_variable;
 use crate::place::Place;
 use crate::value::EnvValue;
 use scons_base::{EnvId, Memory, Text};
@@ -158,20 +160,22 @@ impl Envs {
         self.add(Place::New, env, name, value)
     }
 
-    /// Sets a variable that isn't there.
+    /// Sets a variable that isn't there, or that has no item yet where SCons doesn't have it at first.
     pub fn set_default(&mut self, env: EnvId, name: &str, value: EnvValue) -> Result<(), EnvFault>
         requires { env.0 < length self.old }
-        ensures there { value_of self.old env.0 name.now ≢ None → self.new ≡ self.old }
-        ensures absent { value_of self.old env.0 name.now ≡ None
+        ensures there { is_unset name.now (value_of self.old env.0 name.now) ≡ false → self.new ≡ self.old }
+        ensures unset { is_unset name.now (value_of self.old env.0 name.now) ≡ true
             → OnOk result (self.new ≡ with_var self.old env.0 (name.now, as_set name.now value)) }
-        ensures only_memory { IfErr result (λ e. (e ≡ EnvFault.Memory) × (value_of self.old env.0 name.now ≡ None)) }
+        ensures only_memory { IfErr result (λ e. (e ≡ EnvFault.Memory)
+            × (is_unset name.now (value_of self.old env.0 name.now) ≡ true)) }
         ensures err { OnErr result (self.new ≡ self.old) }
         ensures count { length self.new ≡ length self.old }
     {
-        if self.get(env, name).is_some() {
-            return Ok(());
+        if is_unset(name, self.get(env, name)) {
+            self.set(env, name, value)
+        } else {
+            Ok(())
         }
-        self.set(env, name, value)
     }
 
     fn add(&mut self, place: Place, env: EnvId, name: &str, value: EnvValue) -> Result<(), EnvFault>
@@ -182,12 +186,35 @@ impl Envs {
         ensures err { OnErr result (self.new ≡ self.old) }
         ensures count { length self.new ≡ length self.old }
     {
+        if self.envs[env.0 as usize].own().get(name).is_some() {
+            return self.add_own(place, env, name, &value);
+        }
         let old = value_of(self.envs.as_slice(), env, name);
         match added(self.alloc, place, name, old, value)? {
             Some(new) => self.put(env, name, new)?,
             None => return Err(EnvFault::Kinds),
         }
         Ok(())
+    }
+
+    /// Adds a value to a variable of the environment's own.
+    fn add_own(
+        &mut self,
+        place: Place,
+        env: EnvId,
+        name: &str,
+        value: &EnvValue,
+    ) -> Result<(), EnvFault>
+        requires env { env.0 < length self.old }
+        requires own { value_at (own_of self.old env.0) name.now ≢ None }
+        ensures ok { OnOk result (after_adding place self.old env.0 name.now value.now ≡ Some self.new) }
+        ensures kinds { IfErr result (λ e. e ≢ EnvFault.Memory
+            → (e ≡ EnvFault.Kinds) × (after_adding place self.old env.0 name.now value.now ≡ None)) }
+        ensures err { OnErr result (self.new ≡ self.old) }
+        ensures count { length self.new ≡ length self.old }
+    {
+        let there = &mut self.envs[env.0 as usize];
+        there.add(self.alloc, place, name, value)
     }
 
     fn put(&mut self, env: EnvId, name: &str, value: EnvValue) -> Result<(), Memory>
@@ -199,6 +226,18 @@ impl Envs {
         let name = String::from_str(self.alloc, name)?;
         let there = &mut self.envs[env.0 as usize];
         there.put(name, value)
+    }
+}
+
+/// Whether a value counts as none where a default is given.
+fn is_unset(name: &str, value: Option<&EnvValue>) -> bool
+    ensures { result ≡ is_unset name.now (option_copied value.entry) }
+{
+    match value {
+        None => true,
+        Some(EnvValue::Words(words)) => words.as_slice().is_empty() && is_late_variable(name),
+        Some(EnvValue::List(items)) => items.is_empty() && is_late_variable(name),
+        Some(_) => false,
     }
 }
 

@@ -68,7 +68,7 @@ pub(crate) fn word_list(alloc: Global, items: Vec<Item>) -> Result<EnvValue, Mem
 }
 
 /// The texts of a list that has nothing else.
-fn texts_of(alloc: Global, items: &[Item]) -> Result<Option<Vec<Text>>, Memory>
+pub(crate) fn texts_of(alloc: Global, items: &[Item]) -> Result<Option<Vec<Text>>, Memory>
     ensures { IfOk result (λ o. option_map (λ v. v.items) o ≡ texts_of items.now) }
 {
     let mut texts = Vec::new(alloc);

@@ -13,6 +13,7 @@ mod envs;
 mod fault;
 mod forms;
 mod given;
+mod grown;
 mod initial;
 mod names;
 mod place;

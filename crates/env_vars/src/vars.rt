@@ -1,8 +1,13 @@
 //! The variables of one environment, by their names.
-ghost use Rattle.std.specs.Prelude.{◌≡◌, [], length, slice_get, IfOk, OnOk, OnErr, string_bytes, option_copied};
+ghost use Rattle.std.specs.Prelude.{◌≡◌, ◌≢◌, [], Some, None, length, slice_get, IfOk, IfErr, OnOk, OnErr, string_bytes, option_copied};
 ghost use Rattle.std.specs.Option.{option_map};
 ghost use Rattle.env_vars.specs.Vars.{value_at, put, put_all};
+ghost use Rattle.env_vars.specs.Added.{added_to};
+ghost use Rattle.env_vars.specs.declared.value.EnvValue.{EnvValue};
 
+use crate::fault::EnvFault;
+use crate::grown::add_to;
+use crate::place::Place;
 use crate::value::EnvValue;
 use indexmap::IndexMap;
 use scons_base::Memory;
@@ -48,6 +53,62 @@ impl Vars {
         Ok(())
     }
 
+    /// Puts a value in the place of the one that the name has, and gives that one.
+    fn swap(&mut self, name: String, value: EnvValue) -> Result<Option<EnvValue>, Memory>
+        ensures old { IfOk result (λ old. old ≡ value_at self.old (string_bytes name)) }
+        ensures ok { OnOk result (self.new ≡ put self.old (string_bytes name, value)) }
+        ensures err { OnErr result (self.new ≡ self.old) }
+        ensures absent { OnErr result (value_at self.old (string_bytes name) ≡ None) }
+    {
+        Ok(self.vars.insert(name, value)?)
+    }
+
+    /// Adds a value to one that is there. That one is taken out meanwhile, so that nothing of it is copied.
+    #[tactic(auto, using(crate::proofs::VarLemmas::put_twice, crate::proofs::VarLemmas::put_same, crate::proofs::VarLemmas::value_at_put))]
+    pub(crate) fn add(
+        &mut self,
+        alloc: Global,
+        place: Place,
+        name: &str,
+        value: &EnvValue,
+    ) -> Result<(), EnvFault>
+        requires { value_at self.old name.now ≢ None }
+        ensures ok { OnOk result ((old new : EnvValue) × (value_at self.old name.now ≡ Some old)
+            × (added_to place name.now old value.now ≡ Some new) × (self.new ≡ put self.old (name.now, new))) }
+        ensures kinds { IfErr result (λ e. e ≢ EnvFault.Memory → (e ≡ EnvFault.Kinds)
+            × ((old : EnvValue) × (value_at self.old name.now ≡ Some old) × (added_to place name.now old value.now ≡ None))) }
+        ensures err { OnErr result (self.new ≡ self.old) }
+    {
+        let again = owned(alloc, name)?;
+        let name = owned(alloc, name)?;
+        match self.swap(name, EnvValue::Nil)? {
+            Some(held) => self.put_added(alloc, place, again, held, value),
+            None => Err(EnvFault::Memory),
+        }
+    }
+
+    /// Puts a value that another one is added to, in the place of the one that the name has.
+    fn put_added(
+        &mut self,
+        alloc: Global,
+        place: Place,
+        name: String,
+        held: EnvValue,
+        value: &EnvValue,
+    ) -> Result<(), EnvFault>
+        requires { value_at self.old (string_bytes name) ≢ None }
+        ensures ok { OnOk result ((new : EnvValue) × (added_to place (string_bytes name) held value.now ≡ Some new)
+            × (self.new ≡ put self.old (string_bytes name, new))) }
+        ensures kinds { IfErr result (λ e. e ≢ EnvFault.Memory → (e ≡ EnvFault.Kinds)
+            × (added_to place (string_bytes name) held value.now ≡ None)) }
+        ensures err { OnErr result (self.new ≡ put self.old (string_bytes name, held)) }
+    {
+        let mut held = held;
+        let added = add_to(alloc, place, name.as_str(), &mut held, value);
+        self.swap(name, held)?;
+        added
+    }
+
     pub(crate) fn len(&self) -> usize
         ensures { result ≡ length self.now }
     {
@@ -82,4 +143,10 @@ impl Vars {
         copy.put_all(alloc, self)?;
         Ok(copy)
     }
+}
+
+fn owned(alloc: Global, name: &str) -> Result<String, Memory>
+    ensures { IfOk result (λ s. string_bytes s ≡ name.now) }
+{
+    Ok(String::from_str(alloc, name)?)
 }
