@@ -12,7 +12,7 @@ use Rattle.std.proofs.lemmas.Option.{slice_get_within}
 use Rattle.scons_base.specs.declared.ids.NodeId.{NodeId}
 use Rattle.scons_base.specs.declared.ids.RuleId.{RuleId}
 use Rattle.rule_graph.specs.declared.rule.Rule.{Rule}
-use Rattle.rule_graph.specs.Rules.{is_target_of, rule_of, is_same, equal_rule, node_eq, taken, are_below, rule_at, IsTable}
+use Rattle.rule_graph.specs.Rules.{is_target_of, rule_of, is_same, runs_same, equal_rule, node_eq, taken, are_below, rule_at, IsTable}
 use Rattle.rule_graph.proofs.Positions.{nowhere, at, longer_some, longer_none}
 
 eq-suc : (m n : ℕ) → nat_eq (suc m) (suc n) ≡ nat_eq m n
@@ -109,14 +109,14 @@ first_target (x ∷ xs) t ts e = by (nat_eq x.0 t.0) e
     by true f = refl
     by false f = absurd (cc)
 
-same_targets : (a b c d : Bool) → (a && (b && (c && d))) ≡ true → b ≡ true
-same_targets true true c d e = refl
-same_targets true false c d e = absurd (cc)
-same_targets false b c d e = absurd (cc)
+same_targets : (a b c : Bool) → (a && (b && c)) ≡ true → b ≡ true
+same_targets true true c e = refl
+same_targets true false c e = absurd (cc)
+same_targets false b c e = absurd (cc)
 
 same_target : (r rule : Rule) (t : NodeId) (ts : List NodeId) → rule.targets ≡ t ∷ ts → is_same r rule ≡ true → is_target_of r.targets t.0 ≡ true
 same_target r rule t ts first e =
-    let targets : pointwise node_eq r.targets rule.targets ≡ true = same_targets (bytes_eq r.builder rule.builder) (pointwise node_eq r.targets rule.targets) (pointwise node_eq r.sources rule.sources) (pointwise bytes_eq r.signed rule.signed) e in
+    let targets : pointwise node_eq r.targets rule.targets ≡ true = same_targets (bytes_eq r.builder rule.builder) (pointwise node_eq r.targets rule.targets) (pointwise node_eq r.sources rule.sources && (pointwise bytes_eq r.signed rule.signed && runs_same r rule)) e in
     first_target r.targets t ts (rw first at targets)
 
 -- the rule that does the same is that of the first target
@@ -203,3 +203,11 @@ longer table new rules rule valid free room entered = record {
 
 pub entered_as : (ts targets : List NodeId) (id place : ℕ) (now old x : Option ℕ) (n : ℕ) → x ≡ (if is_target_of ts n then Some id else now) → ts ≡ targets → id ≡ place → now ≡ old → x ≡ (if is_target_of targets n then Some place else old)
 entered_as ts targets id place now old x n e a b c = rw (← a, ← b, ← c) e
+
+-- two lists compared from a place on
+pub pointwise_from : {X : Type 0} (E : X → X → Bool) (xs ys : List X) (i : ℕ) (d : X) → i < length xs → i < length ys
+    → pointwise E (drop i xs) (drop i ys) ≡ (E (get_or xs i d) (get_or ys i d) && pointwise E (drop (i + 1) xs) (drop (i + 1) ys))
+pointwise_from E [] ys i d l m = absurd (omega arith)
+pointwise_from E (x ∷ xs) [] i d l m = absurd (omega arith)
+pointwise_from E (x ∷ xs) (y ∷ ys) zero d l m = refl
+pointwise_from E (x ∷ xs) (y ∷ ys) (suc i) d l m = pointwise_from E xs ys i d (omega arith) (omega arith)

@@ -7,6 +7,7 @@ use Rattle.std.specs.Cmp.Lexicographic.{pointwise}
 use Rattle.scons_base.specs.declared.limits.TheConstants.{RULE_LIMIT}
 use Rattle.scons_base.specs.declared.ids.NodeId.{NodeId}
 use Rattle.scons_base.specs.declared.ids.RuleId.{RuleId}
+use Rattle.world_api.specs.declared.job.Line.{Line}
 use Rattle.rule_graph.specs.declared.rule.Rule.{Rule}
 
 abbrev pub node_eq : NodeId → NodeId → Bool
@@ -20,11 +21,23 @@ is_target_of nodes n = list_any (λ t. nat_eq t.0 n) nodes
 abbrev pub rule_of : List Rule → ℕ → Option ℕ
 rule_of rules n = position (λ r. is_target_of r.targets n) rules
 
+abbrev flag_eq : Bool → Bool → Bool
+flag_eq true b = b
+flag_eq false b = not b
+
+-- whether two lines are run and printed alike
+abbrev pub line_eq : Line → Line → Bool
+line_eq a b = bytes_eq a.text b.text && (flag_eq a.quiet b.quiet && flag_eq a.ignore b.ignore)
+
+-- whether two rules run the same: also what of a line isn't signed, and where headers are looked for
+abbrev pub runs_same : Rule → Rule → Bool
+runs_same a b = pointwise line_eq a.lines b.lines && pointwise bytes_eq a.paths b.paths
+
 -- whether two rules do the same
 abbrev pub is_same : Rule → Rule → Bool
 is_same a b =
     bytes_eq a.builder b.builder && (pointwise node_eq a.targets b.targets
-    && (pointwise node_eq a.sources b.sources && pointwise bytes_eq a.signed b.signed))
+    && (pointwise node_eq a.sources b.sources && (pointwise bytes_eq a.signed b.signed && runs_same a b)))
 
 -- the rule that does the same as this one, by its place
 abbrev pub equal_rule : List Rule → Rule → Option ℕ

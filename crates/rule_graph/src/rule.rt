@@ -1,7 +1,8 @@
 //! A rule of the graph.
 ghost use Rattle.std.specs.Prelude.{◌≡◌};
 ghost use Rattle.std.specs.List.{find};
-ghost use Rattle.rule_graph.specs.Rules.{is_same, is_own_source, own_source};
+ghost use Rattle.std.specs.Cmp.Lexicographic.{pointwise};
+ghost use Rattle.rule_graph.specs.Rules.{line_eq, is_same, is_own_source, own_source};
 
 use scons_base::{Listing, NodeId, Paths, Text, Texts};
 use world_api::{Decider, Line, Work};
@@ -33,7 +34,7 @@ pub struct Rule {
 }
 
 impl Rule {
-    /// Whether two rules do the same: they have the same builder, targets, sources and signed lines.
+    /// Whether two rules do the same: they have the same builder, targets, sources, lines, signed lines and search paths.
     pub(crate) fn is_same(&self, other: &Rule) -> bool
         ensures { result ≡ is_same self.now other.now }
     {
@@ -41,6 +42,8 @@ impl Rule {
             && self.targets.as_slice() == other.targets.as_slice()
             && self.sources.as_slice() == other.sources.as_slice()
             && self.signed.as_slice() == other.signed.as_slice()
+            && are_same_lines(self.lines.as_slice(), other.lines.as_slice())
+            && self.paths.as_slice() == other.paths.as_slice()
     }
 
     /// The first target that is a source too.
@@ -49,6 +52,27 @@ impl Rule {
     {
         own_source_of(self.targets.as_slice(), self.sources.as_slice())
     }
+}
+
+/// Whether these lines are run and printed alike.
+fn are_same_lines(lines: &[Line], others: &[Line]) -> bool
+    ensures { result ≡ pointwise line_eq lines.now others.now }
+{
+    if lines.len() != others.len() {
+        return false;
+    }
+    for place in 0..lines.len() {
+        if !is_same_line(&lines[place], &others[place]) {
+            return false;
+        }
+    }
+    true
+}
+
+fn is_same_line(line: &Line, other: &Line) -> bool
+    ensures { result ≡ line_eq line.now other.now }
+{
+    line.text == other.text && line.quiet == other.quiet && line.ignore == other.ignore
 }
 
 fn own_source_of(targets: &[NodeId], sources: &[NodeId]) -> Option<NodeId>
