@@ -3,9 +3,10 @@ ghost use Rattle.std.specs.Prelude.{◌≡◌, ◌<◌, ◌≤◌, true, length,
 ghost use Rattle.rule_graph.specs.Rules.{are_below, IsRule};
 ghost use Rattle.scons_rules.specs.Numbers.{AreNodes};
 
+use crate::actions::actions_of;
 use crate::fault::RuleReadFault;
 use crate::interning::nodes_of;
-use crate::line::lines_of;
+use crate::line::{RuleLines, lines_of};
 use crate::reading::{RuleReading, is_cplusplus_source, sources_of};
 use crate::said::OfRule;
 use crate::sources::all_settled;
@@ -83,8 +84,7 @@ impl RuleReading {
         let Some(declaration) = self.state.rules.get(number) else {
             return Err(RuleReadFault::Memory);
         };
-        let texts = self.texts_of(declaration)?;
-        let lines = lines_of(self.alloc, &self.state, declaration.env, texts.as_slice())?;
+        let lines = self.lines_of(declaration)?;
         let work = work_of(declaration);
         let paths = match work {
             Work::Shell => self
@@ -109,6 +109,13 @@ impl RuleReading {
             decider: declaration.decider,
             builder: self.builder_of(declaration)?,
         })
+    }
+
+    fn lines_of(&self, declaration: &Declaration) -> Result<RuleLines, RuleReadFault> {
+        let texts = self.texts_of(declaration)?;
+        let env = declaration.env;
+        let actions = actions_of(self.alloc, &self.state, env, texts.as_slice())?;
+        lines_of(self.alloc, &self.state, env, actions.as_slice())
     }
 
     /// The texts whose expansions are the lines.

@@ -4,6 +4,7 @@
 //! may name it tells which files would be one (`Wanted`), and is told which were found.
 #![tactic(auto)]
 
+mod actions;
 mod adding;
 mod aliases;
 mod fault;
