@@ -1,5 +1,5 @@
 -- Items and words added to others in place.
-use Rattle.std.proofs.Common.{arith, ◌≡◌, ◌<◌, ◌∙◌, ℕ, ◌+◌, List, [], ◌∷◌, ◌++◌, ◌||◌, Bool, true, false, ap, sym, refl, length, map, take, get_or, append_assoc, Some, None}
+use Rattle.std.proofs.Common.{arith, ◌≡◌, ◌<◌, ◌∙◌, ℕ, ◌+◌, List, [], ◌∷◌, ◌++◌, ◌||◌, Bool, true, false, ap, sym, refl, length, map, take, get_or, append_assoc, Option, Some, None}
 use Rattle.std.specs.Prelude.{fold, if◌then◌else◌}
 use Rattle.std.specs.List.{list_any}
 use Rattle.std.specs.Option.{option_map}
@@ -48,17 +48,17 @@ words_more start added i d l =
     fold_more add_new start (as_items added) i (item.Text d) (omega (arith, length-map added text))
     ∙ ap (add_new (fold add_new start (take i (as_items added)))) (get_or-map text added i d (item.Text d) l)
 
+texts_by : (t : List ℕ) (xs : List Item) (o : Option (List (List ℕ))) → texts_of xs ≡ o → (ts : List (List ℕ)) → option_map (λ rest. t ∷ rest) o ≡ Some ts
+    → ((more : List (List ℕ)) → texts_of xs ≡ Some more → xs ≡ as_items more) → item.Text t ∷ xs ≡ as_items ts
+texts_by t xs None o ts e rest = absurd (cc)
+texts_by t xs (Some more) o ts e rest =
+    let whole : t ∷ more ≡ ts = cc in
+    ap (λ items. item.Text t ∷ items) (rest more o) ∙ ap as_items whole
+
 -- items that are texts alone are those of words
 texts_are : (xs : List Item) (ts : List (List ℕ)) → texts_of xs ≡ Some ts → xs ≡ as_items ts
-texts_are [] ts e = cc
-texts_are (item.Text t ∷ xs) ts e = by (texts_of xs) refl e
-  where
-    by : (o : _) → texts_of xs ≡ o → option_map (λ rest. t ∷ rest) o ≡ Some ts → item.Text t ∷ xs ≡ as_items ts
-    by None o f = absurd (cc)
-    by (Some rest) o f =
-        let inner = texts_are xs rest o in
-        let whole : t ∷ rest ≡ ts = cc in
-        ap (λ more. item.Text t ∷ more) inner ∙ ap as_items whole
+texts_are [] ts e = let none : [] ≡ ts = cc in ap as_items none
+texts_are (item.Text t ∷ xs) ts e = texts_by t xs (texts_of xs) refl ts e (texts_are xs)
 texts_are (item.Int n ∷ xs) ts e = absurd (cc)
 texts_are (item.Node p ∷ xs) ts e = absurd (cc)
 texts_are (item.Pair n t ∷ xs) ts e = absurd (cc)

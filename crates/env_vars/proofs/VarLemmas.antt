@@ -1,6 +1,6 @@
 -- A table of variables, read as a list of pairs.
 use Rattle.std.proofs.Common.{arith, ◌≡◌, ◌≤◌, ◌<◌, ◌∙◌, ℕ, zero, suc, ◌+◌, List, [], ◌∷◌, ◌++◌, Bool, true, false, cond, ap, sym, refl, length, map, take, get_or, add-one, String, Some, None, true≢false}
-use Rattle.std.specs.Prelude.{if◌then◌else◌, string_bytes, slice_get}
+use Rattle.std.specs.Prelude.{if◌then◌else◌, string_bytes, slice_get, Result, Ok, Err, OnErr}
 use Rattle.std.specs.List.{IsDistinct}
 use Rattle.std.specs.Map.{lookup, keys_of}
 use Rattle.std.specs.Option.{option_map}
@@ -123,3 +123,7 @@ value_at_put (var ∷ vars) name v = by (bytes_eq name var.0) refl
     by : (e : Bool) → bytes_eq name var.0 ≡ e → value_at (put (var ∷ vars) (name, v)) name ≡ Some v
     by true e = rw (e, same_name name) refl
     by false e = rw (e, e) (value_at_put vars name v)
+
+pub on_err_true : {T E P : Type 0} (r : Result T E) → P → OnErr r P
+on_err_true (Ok x) p = tt
+on_err_true (Err y) p = p

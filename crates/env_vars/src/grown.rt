@@ -52,12 +52,7 @@ fn grow(
 {
     match held {
         EnvValue::Words(words) => grow_words(alloc, place, words, value),
-        EnvValue::List(items) => {
-            if is_word_variable(name) {
-                return Ok(false);
-            }
-            grow_items(alloc, place, name, items, value)
-        }
+        EnvValue::List(items) => grow_list(alloc, place, name, items, value),
         _ => Ok(false),
     }
 }
@@ -85,6 +80,24 @@ fn grow_words(
     Ok(true)
 }
 
+/// Adds items to a list, unless it stands for words.
+fn grow_list(
+    alloc: Global,
+    place: Place,
+    name: &str,
+    items: &mut Listing<Item>,
+    value: &EnvValue,
+) -> Result<bool, Memory>
+    ensures ok { IfOk result (λ grown. MatchBool grown
+        (added_to place name.now (EnvValue.List items.old) value.now ≡ Some (EnvValue.List items.new)) (items.new ≡ items.old)) }
+    ensures err { OnErr result (items.new ≡ items.old) }
+{
+    if is_word_variable(name) {
+        return Ok(false);
+    }
+    grow_items(alloc, place, name, items, value)
+}
+
 /// Adds items to a list.
 fn grow_items(
     alloc: Global,
@@ -94,7 +107,8 @@ fn grow_items(
     value: &EnvValue,
 ) -> Result<bool, Memory>
     ensures ok { IfOk result (λ grown. MatchBool grown
-        (option_map (put_items place items.old) (items_for_list name.now value.now) ≡ Some items.new) (items.new ≡ items.old)) }
+        (option_map (λ added. EnvValue.List (put_items place items.old added)) (items_for_list name.now value.now)
+        ≡ Some (EnvValue.List items.new)) (items.new ≡ items.old)) }
     ensures err { OnErr result (items.new ≡ items.old) }
 {
     let Some(added) = items_for_list(alloc, name, value)? else {
