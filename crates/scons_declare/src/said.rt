@@ -128,17 +128,20 @@ fn alias_name(state: &Declarations, env: EnvId, given: &Given) -> Result<Text, N
 
 fn add_members(state: &mut Declarations, name: &Text, members: &[Given]) -> Result<(), NameFault> {
     let members = copies_of(state, members)?;
-    push_all(&mut parts_of(state, name)?.members, members)
+    let parts = parts_of(state, name)?;
+    push_all(&mut parts.members, members)
 }
 
 fn add_required(state: &mut Declarations, name: &Text, nodes: &[Given]) -> Result<(), NameFault> {
     let nodes = copies_of(state, nodes)?;
-    push_all(&mut parts_of(state, name)?.required, nodes)
+    let parts = parts_of(state, name)?;
+    push_all(&mut parts.required, nodes)
 }
 
 fn add_ignored(state: &mut Declarations, name: &Text, nodes: &[Given]) -> Result<(), NameFault> {
     let nodes = copies_of(state, nodes)?;
-    push_all(&mut parts_of(state, name)?.ignored, nodes)
+    let parts = parts_of(state, name)?;
+    push_all(&mut parts.ignored, nodes)
 }
 
 /// What an alias stands for, which is nothing where it is new.
