@@ -30,7 +30,8 @@ pub(crate) fn say(
     Ok(Answer::Targets(answer))
 }
 
-/// One target: a file is noted. What an alias depends on, or requires, is a member of it, and what it ignores is none.
+/// One target: a file is noted. What an alias depends on is a member of it, what it requires stands in front of its members, and what
+/// it ignores is none.
 fn say_of(
     state: &mut Declarations,
     env: EnvId,
@@ -42,7 +43,8 @@ fn say_of(
     if let Some(name) = alias_in(state, target) {
         let name = name.copy()?;
         match saying {
-            Saying::Depends | Saying::Requires => add_members(state, &name, nodes)?,
+            Saying::Depends => add_members(state, &name, nodes)?,
+            Saying::Requires => add_required(state, &name, nodes)?,
             Saying::Ignore => add_ignored(state, &name, nodes)?,
             Saying::Always => {}
         }
@@ -125,34 +127,37 @@ fn alias_name(state: &Declarations, env: EnvId, given: &Given) -> Result<Text, N
 }
 
 fn add_members(state: &mut Declarations, name: &Text, members: &[Given]) -> Result<(), NameFault> {
-    let copies = copies_of(state, members)?;
-    let none = Vec::new(state.alloc);
-    add_parts(state, name, copies, none)
+    let members = copies_of(state, members)?;
+    let parts = parts_of(state, name)?;
+    push_all(&mut parts.members, members)
 }
 
-fn add_ignored(state: &mut Declarations, name: &Text, ignored: &[Given]) -> Result<(), NameFault> {
-    let copies = copies_of(state, ignored)?;
-    let none = Vec::new(state.alloc);
-    add_parts(state, name, none, copies)
+fn add_required(state: &mut Declarations, name: &Text, nodes: &[Given]) -> Result<(), NameFault> {
+    let nodes = copies_of(state, nodes)?;
+    let parts = parts_of(state, name)?;
+    push_all(&mut parts.required, nodes)
 }
 
-/// Adds to what an alias stands for.
-fn add_parts(
-    state: &mut Declarations,
-    name: &Text,
-    members: Vec<Given>,
-    ignored: Vec<Given>,
-) -> Result<(), NameFault> {
+fn add_ignored(state: &mut Declarations, name: &Text, nodes: &[Given]) -> Result<(), NameFault> {
+    let nodes = copies_of(state, nodes)?;
+    let parts = parts_of(state, name)?;
+    push_all(&mut parts.ignored, nodes)
+}
+
+/// What an alias stands for, which is nothing where it is new.
+fn parts_of<'a>(state: &'a mut Declarations, name: &Text) -> Result<&'a mut AliasParts, NameFault> {
+    if !state.aliases.contains_key(name.as_str()) {
+        let parts = AliasParts {
+            required: Vec::new(state.alloc),
+            members: Vec::new(state.alloc),
+            ignored: Vec::new(state.alloc),
+        };
+        let name = String::from_str(state.alloc, name.as_str())?;
+        state.aliases.insert(name, parts)?;
+    }
     match state.aliases.get_mut(name.as_str()) {
-        Some(there) => {
-            push_all(&mut there.members, members)?;
-            push_all(&mut there.ignored, ignored)
-        }
-        None => {
-            let name = String::from_str(state.alloc, name.as_str())?;
-            state.aliases.insert(name, AliasParts { members, ignored })?;
-            Ok(())
-        }
+        Some(parts) => Ok(parts),
+        None => Err(NameFault::Memory),
     }
 }
 

@@ -33,9 +33,10 @@ pub struct Said {
     pub nodes: Listing<Given>,
 }
 
-/// What an alias stands for: its members but those that are ignored.
+/// What an alias stands for: what it requires, and behind that its members but those that are ignored.
 #[derive(Drop)]
 pub struct AliasParts {
+    pub required: Vec<Given>,
     pub members: Vec<Given>,
     pub ignored: Vec<Given>,
 }

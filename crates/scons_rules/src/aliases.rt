@@ -110,6 +110,15 @@ struct Ignored {
     aliases: IndexSet<String>,
 }
 
+impl Ignored {
+    fn new(alloc: Global) -> Ignored {
+        Ignored {
+            paths: IndexSet::new(alloc),
+            aliases: IndexSet::new(alloc),
+        }
+    }
+}
+
 /// The steps of an alias; what of them are no aliases is put behind the members.
 fn steps_of(
     alloc: Global,
@@ -117,14 +126,33 @@ fn steps_of(
     members: &mut Vec<Given>,
     parts: &AliasParts,
 ) -> Result<Vec<Step>, Memory> {
+    let none = Ignored::new(alloc);
     let ignored = ignored_by(alloc, parts)?;
     let mut steps = Vec::new(alloc);
-    for member in &parts.members {
-        if let Some(step) = step_of(&state.aliases, &ignored, members, member)? {
+    push_steps(state, &none, members, &mut steps, parts.required.as_slice())?;
+    push_steps(
+        state,
+        &ignored,
+        members,
+        &mut steps,
+        parts.members.as_slice(),
+    )?;
+    Ok(steps)
+}
+
+fn push_steps(
+    state: &Declarations,
+    ignored: &Ignored,
+    members: &mut Vec<Given>,
+    steps: &mut Vec<Step>,
+    nodes: &[Given],
+) -> Result<(), Memory> {
+    for node in nodes {
+        if let Some(step) = step_of(&state.aliases, ignored, members, node)? {
             steps.push(step)?;
         }
     }
-    Ok(steps)
+    Ok(())
 }
 
 fn step_of(
@@ -149,10 +177,7 @@ fn step_of(
 }
 
 fn ignored_by(alloc: Global, parts: &AliasParts) -> Result<Ignored, Memory> {
-    let mut ignored = Ignored {
-        paths: IndexSet::new(alloc),
-        aliases: IndexSet::new(alloc),
-    };
+    let mut ignored = Ignored::new(alloc);
     for node in &parts.ignored {
         ignore(alloc, &mut ignored, node)?;
     }
