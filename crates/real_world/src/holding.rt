@@ -10,6 +10,8 @@ use std::time::Clock;
 /// What came of a wish.
 #[derive(Clone, Copy)]
 enum Hold {
+    /// Nothing yet: no lock was asked for.
+    Unasked,
     Held,
     /// There is no lock, and why is said or needn't be.
     Nothing,
@@ -30,25 +32,31 @@ impl Holding {
     pub fn new(wish: LockWish) -> Holding {
         Holding {
             wish,
-            hold: Hold::Nothing,
+            hold: Hold::Unasked,
             is_fresh: false,
         }
     }
 
-    /// Takes the lock that is wished for, and gives it to the shell. Where it can't be had says why, unless the run may go on as one that
-    /// only looks.
+    /// Takes the lock that is wished for, unless that was done, and gives it to the shell. Where it can't be had says why, unless the run
+    /// may go on as one that only looks.
     pub fn begin<R, S>(&mut self, rt: &R, shell: &S) -> bool
     where
         R: Files<File = File> + Wait + Clock + Eprint,
         S: LockHolder,
     {
+        if !matches!(self.hold, Hold::Unasked) {
+            return true;
+        }
         match take_for(rt, self.wish) {
             Ok(Taken::Held(file, is_made)) => {
                 self.hold = Hold::Held;
                 self.is_fresh = is_made;
                 shell.take_lock(file)
             }
-            Ok(Taken::Absent) => true,
+            Ok(Taken::Absent) => {
+                self.hold = Hold::Nothing;
+                true
+            }
             Ok(Taken::Forbidden(error)) => {
                 self.hold = Hold::Forbidden(error);
                 true
@@ -67,7 +75,7 @@ impl Holding {
                 self.is_fresh = false;
                 true
             }
-            Hold::Nothing => false,
+            Hold::Unasked | Hold::Nothing => false,
             Hold::Forbidden(error) => {
                 say(rt, LOCK_NAME, error);
                 self.hold = Hold::Nothing;
