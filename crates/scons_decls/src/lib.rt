@@ -25,7 +25,7 @@ mod scripts;
 
 pub use answer::Answer;
 pub use builder::Builder;
-pub use call::{Call, Change, Maker};
+pub use call::{Call, Change, Maker, RuleCall, SayCall};
 pub use declarations::Declarations;
 pub use environments::Environments;
 pub use expand::{

@@ -1,5 +1,5 @@
 //! How a fault of a script is told: the name of its kind, and what the kind keeps, after a space each.
-use crate::end::ReadKind;
+use crate::end::{FirstRule, ReadKind};
 use env_subst::SubstFault;
 use py_eval::EvalKind;
 use py_heap::ValueFault;
@@ -15,7 +15,7 @@ impl ReadKind {
     /// The name of the innermost kind, and each value that it keeps.
     pub fn text(&self, alloc: Global) -> Result<String, Memory> {
         match self {
-            ReadKind::NoScript => word(alloc, "NoScript"),
+            ReadKind::NoScript(path) => with_path(alloc, "NoScript", path),
             ReadKind::Lex(kind) => Ok(format!(in alloc; "{kind:?}")?),
             ReadKind::Parse(ParseKind::OutOfSubset(word)) => {
                 with(alloc, "OutOfSubset", word.word())
@@ -23,7 +23,22 @@ impl ReadKind {
             ReadKind::Parse(kind) => Ok(format!(in alloc; "{kind:?}")?),
             ReadKind::Eval(kind) => eval_text(alloc, kind),
             ReadKind::Name(fault) => name_text(alloc, fault),
+            ReadKind::Key(name) => with_text(alloc, "Key", name),
+            ReadKind::TwoRules(target, first) => two_rules(alloc, target, first),
         }
+    }
+}
+
+/// The target, the line of its first rule, and the script of that where it is another one.
+fn two_rules(alloc: Global, target: &PathText, first: &FirstRule) -> Told {
+    let target = target.as_str();
+    match &first.script {
+        None => Ok(format!(in alloc; "TwoRules {target} {}", first.line)?),
+        Some(script) => Ok(format!(in alloc;
+            "TwoRules {target} {} {}",
+            first.line,
+            script.as_str()
+        )?),
     }
 }
 

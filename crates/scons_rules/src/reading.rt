@@ -45,6 +45,15 @@ impl RuleReading {
         Some(self.state.rules.get(number)?.place)
     }
 
+    /// Where the first rule of a target was declared.
+    pub fn place_of_target(&self, target: &PathText) -> Option<Place> {
+        let rules = self.state.rules.as_slice();
+        let rule = rules
+            .iter()
+            .find(|rule| has(rule.targets.as_slice(), target))?;
+        Some(rule.place)
+    }
+
     /// The libraries that a rule names: only a program names any.
     pub fn wanted(&mut self, number: usize) -> Result<Listing<Wanted>, RuleReadFault> {
         if !self.begin(number)? {
@@ -85,6 +94,10 @@ pub(crate) fn sources_of(
     declaration: &Declaration,
 ) -> Result<Paths, Memory> {
     all_settled(alloc, state, declaration.sources.as_slice())
+}
+
+fn has(paths: &[PathText], path: &PathText) -> bool {
+    paths.iter().any(|one| one == path)
 }
 
 fn smartlink_of(
