@@ -1,12 +1,11 @@
 """SCons with its modules loaded once: each run is a fork of this process, so that thousands of runs take minutes.
 
-A run does what `scons WORDS` does in a folder; `agrees` tells whether it gives what a plain start of the program gives.
+A run does what `scons WORDS` does in a folder.
 """
 import atexit
 import glob
 import importlib
 import os
-import re
 import subprocess
 import sys
 
@@ -117,12 +116,3 @@ def taken(number):
     with os.fdopen(number, "rb") as file:
         file.seek(0)
         return file.read().decode(errors="replace")
-
-
-def agrees(forked, words, tree_of):
-    """Whether a forked run and a plain start give the same, each in a tree of its own at one path."""
-    found = []
-    for run in (forked.run, lambda words, tree: by_program(forked.program, words, tree)):
-        it = run(words, tree_of())
-        found.append((it.status, it.out, re.sub(r'(?m)^ *File ".*", line \d+.*$', "", it.err)))
-    return found[0] == found[1], found
