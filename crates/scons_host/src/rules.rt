@@ -95,7 +95,10 @@ fn add<W: World>(
 fn first_rule(reading: &RuleReading, fault: &RuleReadFault) -> Option<Place> {
     match fault {
         RuleReadFault::Name(NameFault::TwoRules(target)) => reading.place_of_target(target),
-        RuleReadFault::Name(_) | RuleReadFault::TooMany(..) | RuleReadFault::Memory => None,
+        RuleReadFault::Name(_)
+        | RuleReadFault::At(..)
+        | RuleReadFault::TooMany(..)
+        | RuleReadFault::Memory => None,
     }
 }
 
