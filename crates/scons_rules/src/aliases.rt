@@ -13,15 +13,15 @@ pub(crate) fn flattened(
     let mut met = IndexSet::new(alloc);
     let mut nodes = Vec::new(alloc);
     push_copies(&mut nodes, given)?;
-    'rounds: for _ in 0..state.aliases.len().saturating_add(1) {
+    'rounds: for _ in 0..usize::MAX {
         let mut next = Vec::new(alloc);
         let is_done = expand_once(alloc, state, &mut met, &mut next, nodes.as_slice())?;
         nodes = next;
         if is_done {
-            break;
+            return Ok(nodes);
         }
     }
-    Ok(nodes)
+    Err(Memory)
 }
 
 /// Puts the members of each alias in its place; tells whether there was none.
