@@ -10,7 +10,6 @@ use crate::known::copied_from;
 use crate::lookup::{path_of, rule_at};
 use indexmap::IndexSet;
 use rule_graph::{Graph, Rule};
-use scons_base::limits::RULE_LIMIT;
 use scons_base::{Listing, Memory, NodeId, PathText, Paths, RuleId, Text, Texts};
 use std::alloc::Global;
 use world_api::{Decider, Work, World};
@@ -83,13 +82,13 @@ impl Inputs {
         ensures looks { Looks W.meaning world.old world.new }
         ensures cause { HasLookCause (W.meaning.counts world.old) (W.meaning.counts world.new) result }
     {
-        for place in 0..RULE_LIMIT as usize {
+        for place in 0..usize::MAX {
             let Some(rule) = rules.get(place).copied() else {
                 return Ok(());
             };
             self.add_named(world, graph, rule, rules)?;
         }
-        Ok(())
+        Err(ListEnd::Memory)
     }
 
     /// Adds the copy rules of the files that a rule names.

@@ -26,7 +26,7 @@ use world_api::{Sink, World};
 /// How a build is to be done.
 #[derive(Clone, Copy, Debug, PartialEq, Eq)]
 pub struct Options {
-    /// How many jobs may run at a time, from 1 on.
+    /// How many jobs may run at a time: at most 64, and 0 counts as 1.
     pub jobs: u32,
     /// Whether rules go on that don't need one that is at fault.
     pub keep: bool,

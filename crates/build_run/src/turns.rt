@@ -1,11 +1,12 @@
 //! The turns of a build: what the plan wants is done, and the plan is told what came of it.
-ghost use Rattle.std.specs.Prelude.{◌≡◌, ◌≤◌, ◌<◌, [], length};
+ghost use Rattle.std.specs.Prelude.{◌≡◌, ◌≤◌, ◌<◌, [], false, length, max, min};
 ghost use Rattle.build_files.specs.Causes.{HasLookCause};
 ghost use Rattle.build_run.specs.Goings.{Stays, Passes, IsJoined};
 ghost use Rattle.build_run.specs.Holds.{holds_in};
 ghost use Rattle.build_run.specs.Ledgers.{ledger_of, with_done, AllKeeps, AllEnds, EndKeeps, ErrKeeps, Keeps};
 ghost use Rattle.build_run.specs.Outs.{IsStored};
 ghost use Rattle.scons_base.specs.declared.ids.RuleId.{RuleId};
+ghost use Rattle.task_plan.specs.Plans.{IsIdle};
 
 use crate::account::Account;
 use crate::building::{Options, Run};
@@ -42,6 +43,7 @@ pub(crate) fn go_on<W: World, O: Sink, E: Sink>(
     wait_for_all(graph, run, account, store, world, err, options);
 }
 
+/// Does what the plan wants until it rests and nothing runs. Beyond 2^64 - 1 turns, which would take centuries, it says want of memory.
 fn take_turns<W: World, O: Sink, E: Sink>(
     graph: &mut Graph,
     run: &mut Run,
@@ -60,16 +62,18 @@ fn take_turns<W: World, O: Sink, E: Sink>(
     ensures keeps { AllKeeps W.meaning O.meaning E.meaning world.old out.old err.old world.new out.new err.new account.old account.new }
     ensures joined { IsJoined W.meaning world.new (holds_in run.new.tickets) }
     ensures stored { IsStored W.meaning world.new store.new run.new.tickets account.new.is_store_shut }
+    ensures rests { account.new.memory ≡ false → IsIdle run.new.plan × (length run.new.tickets ≡ 0) }
 {
     for _turn in 0..u64::MAX {
         let wanted = want(run, options);
         if wanted == Want::Rest {
-            break;
+            return;
         }
         let done = take_turn(graph, run, account, store, world, out, err, options, wanted);
         tell(graph, run, account, err, done);
         halt(graph, run, account);
     }
+    account.want_memory();
 }
 
 /// Waits for the jobs that run still.
@@ -163,9 +167,11 @@ fn scan<W: World>(
 fn want(run: &Run, options: &Options) -> Want
     ensures some { result ≡ Want.Wait → 0 < length run.now.tickets }
     ensures room { (rule : RuleId) → result ≡ Want.Decide rule → length run.now.tickets ≤ 64 → length run.now.tickets < 64 }
+    ensures jobs { (rule : RuleId) → result ≡ Want.Decide rule → length run.now.tickets < max (min options.now.jobs 64) 1 }
+    ensures rests { result ≡ Want.Rest → IsIdle run.now.plan × (length run.now.tickets ≡ 0) }
 {
     let running = run.tickets.len();
-    if running > 0 && running >= options.jobs.min(JOB_LIMIT) as usize {
+    if running >= most_jobs(options) {
         return Want::Wait;
     }
     match run.plan.next() {
@@ -173,6 +179,13 @@ fn want(run: &Run, options: &Options) -> Want
         Want::Wait | Want::Rest => Want::Wait,
         wanted => wanted,
     }
+}
+
+/// How many jobs may run at a time: none asked for counts as one.
+fn most_jobs(options: &Options) -> usize
+    ensures { result ≡ max (min options.now.jobs 64) 1 }
+{
+    options.jobs.min(JOB_LIMIT).max(1) as usize
 }
 
 /// Nothing new is wanted of a plan once an end has come.

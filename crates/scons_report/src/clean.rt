@@ -22,7 +22,7 @@ pub fn clean_list(
     let mut seen = Vec::from_elem(alloc, false, graph.rules() as usize)?;
     let mut steps = Vec::new(alloc);
     enter_all(graph, requested, &mut steps)?;
-    for _ in 0..step_limit(graph, requested) {
+    for _ in 0..usize::MAX {
         match steps.pop() {
             Some(Step::Enter(rule)) => {
                 if mark(&mut seen, rule) && rule.0 < graph.rules() {
@@ -31,30 +31,10 @@ pub fn clean_list(
                 }
             }
             Some(Step::Leave(rule)) => rules.push(rule)?,
-            None => break,
+            None => return Ok(Listing::new(rules)),
         }
     }
-    Ok(Listing::new(rules))
-}
-
-/// More steps than the walk has: it enters each requested node and each that a rule names once at most, and leaves each
-/// rule once.
-fn step_limit(graph: &Graph, requested: &[NodeId]) -> usize {
-    let mut limit = requested.len().saturating_add(1);
-    for number in 0..graph.rules() {
-        limit = limit.saturating_add(named_len(graph.rule(RuleId(number))));
-    }
-    limit
-}
-
-/// How many nodes a rule names, and one for itself.
-fn named_len(rule: &Rule) -> usize {
-    rule.required
-        .len()
-        .saturating_add(rule.libs.len())
-        .saturating_add(rule.depends.len())
-        .saturating_add(rule.sources.len())
-        .saturating_add(1)
+    Err(Memory)
 }
 
 /// Puts the rules of all that a rule names on the steps, the first on top.

@@ -1,7 +1,8 @@
 //! The rules that a dry run lists.
-ghost use Rattle.std.specs.Prelude.{◌≤◌, length, IfSome};
+ghost use Rattle.std.specs.Prelude.{◌≤◌, length, IfOk, IfSome};
 ghost use Rattle.world_api.specs.Looks.{Looks};
 ghost use Rattle.scons_report.specs.Causes.{HasListCause, IsInside};
+ghost use Rattle.task_plan.specs.Plans.{IsIdle};
 
 use build_files::{Inputs, ListEnd, Present, first_target, is_stale, leftovers, path_of};
 use deciders::Rec;
@@ -77,7 +78,8 @@ fn add_targets(rec: &Rec, paths: &mut IndexSet<PathText>) -> Result<(), Memory> 
     Ok(())
 }
 
-/// Goes over the rules of a plan, and gives those that are listed.
+/// Goes over the rules of a plan until it rests, and gives those that are listed. Beyond 2^64 - 1 turns, which would take centuries, it
+/// says want of memory.
 #[tactic(auto, using(crate::proofs::Ending::ending))]
 fn go_over<W: World>(
     alloc: Global,
@@ -89,6 +91,7 @@ fn go_over<W: World>(
 ) -> Result<(Plan, Vec<RuleId>), ListEnd>
     ensures looks { Looks W.meaning world.old world.new }
     ensures cause { HasListCause (W.meaning.counts world.old) (W.meaning.counts world.new) result }
+    ensures rests { IfOk result (λ gone. IsIdle gone.0) }
 {
     let mut listed = Listed {
         rules: Vec::new(alloc),
@@ -97,13 +100,13 @@ fn go_over<W: World>(
     for _turn in 0..u64::MAX {
         let wanted = plan.next();
         if matches!(wanted, Want::Wait | Want::Rest) {
-            break;
+            let Listed { rules, .. } = listed;
+            return Ok((plan, rules));
         }
         let event = take_turn(world, graph, &mut inputs, view, &plan, wanted, &mut listed)?;
         plan.step(graph, event)?;
     }
-    let Listed { rules, .. } = listed;
-    Ok((plan, rules))
+    Err(ListEnd::Memory)
 }
 
 /// Does what is wanted; each rule counts as made.
