@@ -95,34 +95,40 @@ pub none_at : {X : Type 0} → (xs : List X) (i : ℕ) → slice_get xs i ≡ No
 none_at [] i none l = absurd (omega arith)
 none_at (x ∷ xs) i none l = let some : slice_get (x ∷ xs) i ≡ Some (get_or (x ∷ xs) i x) = slice_get-get_or (x ∷ xs) i x l in cc
 
+twice_by : (var : Var) (vars : List Var) (name : List ℕ) (a b : EnvValue) (e : Bool) → bytes_eq name var.0 ≡ e
+    → put (put vars (name, a)) (name, b) ≡ put vars (name, b) → put (put (var ∷ vars) (name, a)) (name, b) ≡ put (var ∷ vars) (name, b)
+twice_by var vars name a b true e rest = rw (e, same_name name) refl
+twice_by var vars name a b false e rest = rw (e, e) (ap (λ more. var ∷ more) rest)
+
 -- a value put behind another one of the name takes its place
 pub put_twice : (vars : List Var) (name : List ℕ) (a b : EnvValue) → put (put vars (name, a)) (name, b) ≡ put vars (name, b)
 put_twice [] name a b = rw (same_name name) refl
-put_twice (var ∷ vars) name a b = by (bytes_eq name var.0) refl
-  where
-    by : (e : Bool) → bytes_eq name var.0 ≡ e → put (put (var ∷ vars) (name, a)) (name, b) ≡ put (var ∷ vars) (name, b)
-    by true e = rw (e, same_name name) refl
-    by false e = rw (e, e) (ap (λ rest. var ∷ rest) (put_twice vars name a b))
+put_twice (var ∷ vars) name a b = twice_by var vars name a b (bytes_eq name var.0) refl (put_twice vars name a b)
+
+same_by : (var : Var) (vars : List Var) (name : List ℕ) (v : EnvValue) (e : Bool) → bytes_eq name var.0 ≡ e → value_at (var ∷ vars) name ≡ Some v
+    → (value_at vars name ≡ Some v → put vars (name, v) ≡ vars) → put (var ∷ vars) (name, v) ≡ var ∷ vars
+same_by var vars name v true e has rest =
+    let there : Some var.1 ≡ Some v = rw e at has in
+    let value : v ≡ var.1 = cc in
+    let same : name ≡ var.0 = (bytes_eq-Decides name var.0).0 e in
+    rw e (ap (λ n. (n, v) ∷ vars) same ∙ ap (λ w. (var.0, w) ∷ vars) value)
+same_by var vars name v false e has rest =
+    let behind : value_at vars name ≡ Some v = rw e at has in
+    rw e (ap (λ more. var ∷ more) (rest behind))
 
 -- the value that the name has, put again
 pub put_same : (vars : List Var) (name : List ℕ) (v : EnvValue) → value_at vars name ≡ Some v → put vars (name, v) ≡ vars
-put_same [] name v at = cc
-put_same (var ∷ vars) name v at = by (bytes_eq name var.0) refl
-  where
-    by : (e : Bool) → bytes_eq name var.0 ≡ e → put (var ∷ vars) (name, v) ≡ var ∷ vars
-    by true e =
-        let there : Some var.1 ≡ Some v = rw e at at in
-        let same : name ≡ var.0 = (bytes_eq-Decides name var.0).0 e in
-        rw e (cc)
-    by false e = rw e (ap (λ rest. var ∷ rest) (put_same vars name v (rw e at at)))
+put_same [] name v has = absurd (cc)
+put_same (var ∷ vars) name v has = same_by var vars name v (bytes_eq name var.0) refl has (put_same vars name v)
+
+there_by : (var : Var) (vars : List Var) (name : List ℕ) (v : EnvValue) (e : Bool) → bytes_eq name var.0 ≡ e
+    → value_at (put vars (name, v)) name ≡ Some v → value_at (put (var ∷ vars) (name, v)) name ≡ Some v
+there_by var vars name v true e rest = rw (e, same_name name) refl
+there_by var vars name v false e rest = rw (e, e) rest
 
 pub value_at_put : (vars : List Var) (name : List ℕ) (v : EnvValue) → value_at (put vars (name, v)) name ≡ Some v
 value_at_put [] name v = rw (same_name name) refl
-value_at_put (var ∷ vars) name v = by (bytes_eq name var.0) refl
-  where
-    by : (e : Bool) → bytes_eq name var.0 ≡ e → value_at (put (var ∷ vars) (name, v)) name ≡ Some v
-    by true e = rw (e, same_name name) refl
-    by false e = rw (e, e) (value_at_put vars name v)
+value_at_put (var ∷ vars) name v = there_by var vars name v (bytes_eq name var.0) refl (value_at_put vars name v)
 
 pub on_err_true : {T E P : Type 0} (r : Result T E) → P → OnErr r P
 on_err_true (Ok x) p = tt
