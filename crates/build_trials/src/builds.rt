@@ -8,7 +8,7 @@ use world_mem::Files;
 pub(crate) struct Builds<'a> {
     pub(crate) world: &'a IdleWorld,
     pub(crate) words: &'a [Text],
-    /// The files that such a build leaves without banks, once there is no leftover copy.
+    /// The files that such a build leaves without banks.
     clean: Files,
 }
 
@@ -32,9 +32,7 @@ impl<'a> Builds<'a> {
 }
 
 fn clean_files(world: &IdleWorld, words: &[Text]) -> Option<Files> {
-    let mut built = world.again(Vec::new(world.alloc))?;
-    built.status(words)?;
-    let mut clean = built.anew(&[], &[], Vec::new(world.alloc))?;
+    let mut clean = world.anew(&[], &[], Vec::new(world.alloc))?;
     clean.status(words)?;
     clean.inner.files().ok()
 }

@@ -6,7 +6,7 @@ use Rattle.world_api.specs.declared.job.Work.TheVariants.{Copy}
 use Rattle.sign_store.specs.Copies.{IsCopyIn}
 use Rattle.sign_store.specs.Maps.{map_in}
 use Rattle.sign_store.specs.Orders.{is_held}
-use Rattle.sign_store.proofs.copies.RecordMap.copies.Given as goal
+use Rattle.sign_store.proofs.map.RecordMap.copies.Given as goal
 
 abbrev pub invariant-loop-number : goal.invariant-loop-number
 invariant-loop-number l = record {
