@@ -66,7 +66,7 @@ impl Below {
             self.targets = Some(targets_of(alloc, graph)?);
         }
         match &self.targets {
-            Some(targets) => below(alloc, targets.as_slice(), dir),
+            Some(targets) => those_below(alloc, targets.as_slice(), dir),
             None => Ok(Vec::new(alloc)),
         }
     }
@@ -94,7 +94,7 @@ fn add_targets(
 }
 
 /// Those of sorted targets that lie below a directory. All but the top directory's stand together.
-fn below(
+fn those_below(
     alloc: Global,
     targets: &[(PathText, NodeId)],
     dir: &PathText,

@@ -60,9 +60,19 @@ impl RecordMap {
         let Some(rec) = self.record_at(number) else {
             return Ok(());
         };
-        if rec.work == Work::Copy && self.holds_any(rec.targets.as_slice(), number) {
+        if is_copy(rec) && self.holds_any(rec.targets.as_slice(), number) {
             copies.push(rec.copy()?)?;
         }
         Ok(())
+    }
+}
+
+fn is_copy(rec: &Rec) -> bool
+    ensures only { result ≡ true → rec.now.work ≡ Copy }
+    ensures all { rec.now.work ≡ Copy → result ≡ true }
+{
+    match rec.work {
+        Work::Copy => true,
+        Work::Shell | Work::Write => false,
     }
 }
