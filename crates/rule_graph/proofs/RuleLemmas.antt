@@ -203,11 +203,3 @@ longer table new rules rule valid free room entered = record {
 
 pub entered_as : (ts targets : List NodeId) (id place : ℕ) (now old x : Option ℕ) (n : ℕ) → x ≡ (if is_target_of ts n then Some id else now) → ts ≡ targets → id ≡ place → now ≡ old → x ≡ (if is_target_of targets n then Some place else old)
 entered_as ts targets id place now old x n e a b c = rw (← a, ← b, ← c) e
-
--- two lists compared from a place on
-pub pointwise_from : {X : Type 0} (E : X → X → Bool) (xs ys : List X) (i : ℕ) (d : X) → i < length xs → i < length ys
-    → pointwise E (drop i xs) (drop i ys) ≡ (E (get_or xs i d) (get_or ys i d) && pointwise E (drop (i + 1) xs) (drop (i + 1) ys))
-pointwise_from E [] ys i d l m = absurd (omega arith)
-pointwise_from E (x ∷ xs) [] i d l m = absurd (omega arith)
-pointwise_from E (x ∷ xs) (y ∷ ys) zero d l m = refl
-pointwise_from E (x ∷ xs) (y ∷ ys) (suc i) d l m = pointwise_from E xs ys i d (omega arith) (omega arith)
