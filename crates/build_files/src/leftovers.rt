@@ -15,7 +15,7 @@ use world_api::{Work, World};
 
 /// The records of the leftover copies. Where no variant directory has copies, no record is looked at.
 #[tactic(auto, using(crate::proofs::Looking::looking))]
-pub fn leftovers<W: World, R: Records>(
+pub fn leftover_copies<W: World, R: Records>(
     alloc: Global,
     world: &mut W,
     graph: &Graph,

@@ -17,6 +17,6 @@ mod seen;
 pub use end::ListEnd;
 pub use inputs::Inputs;
 pub use known::{has_copy_rule, is_copied};
-pub use leftovers::{is_leftover, leftovers};
+pub use leftovers::{is_leftover, leftover_copies};
 pub use lookup::{first_target, path_of, rule_at};
 pub use record::{Present, Records, is_stale};

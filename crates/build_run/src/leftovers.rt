@@ -9,7 +9,7 @@ ghost use Rattle.sign_store.specs.Stores.{IsKept, is_live};
 
 use crate::clear::remove_all;
 use crate::start::prepare;
-use build_files::{ListEnd, leftovers};
+use build_files::{ListEnd, leftover_copies};
 use deciders::Rec;
 use rule_graph::{BuildFault, Graph};
 use scons_base::{PathText, Paths};
@@ -33,7 +33,7 @@ pub(crate) fn take_leftovers<W: World>(
     ensures live { OnOk result (is_live store.new ≡ true) }
     ensures kept { OnOk result (IsKept W.meaning world.new store.new) }
 {
-    let left = leftovers(alloc, world, graph, store)?;
+    let left = leftover_copies(alloc, world, graph, store)?;
     take_each(alloc, store, world, left.as_slice())
 }
 

@@ -4,7 +4,7 @@ ghost use Rattle.world_api.specs.Looks.{Looks};
 ghost use Rattle.scons_report.specs.Causes.{HasListCause, IsInside};
 ghost use Rattle.task_plan.specs.Plans.{IsIdle};
 
-use build_files::{Inputs, ListEnd, Present, first_target, is_stale, leftovers, path_of};
+use build_files::{Inputs, ListEnd, Present, first_target, is_stale, leftover_copies, path_of};
 use deciders::Rec;
 use indexmap::IndexSet;
 use rule_graph::{BuildFault, Graph, What};
@@ -58,7 +58,7 @@ fn paths_gone<W: World>(
     ensures looks { Looks W.meaning world.old world.new }
     ensures cause { HasListCause (W.meaning.counts world.old) (W.meaning.counts world.new) result }
 {
-    let left = leftovers(alloc, world, graph, view)?;
+    let left = leftover_copies(alloc, world, graph, view)?;
     Ok(targets_of(alloc, left.as_slice())?)
 }
 

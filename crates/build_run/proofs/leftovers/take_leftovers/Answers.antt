@@ -7,7 +7,7 @@ returns-in_err-left-clause-cause g c = take_exit _ _ c.from_residual.result _ c.
 
 pub take_each-requires-clause-kept : goal.take_each-requires-clause-kept
 take_each-requires-clause-kept g c =
-    let looks = c.leftovers-left.ensures.looks in
+    let looks = c.leftover_copies-left.ensures.looks in
     kept_over g.W.Disk.meaning _ _ c.args.store.now looks.told.told looks.banks c.requires.kept
 
 pub returns-clause-cause : goal.returns-clause-cause
