@@ -73,8 +73,9 @@ impl RuleReading {
     /// Adds the defaults, each once.
     fn add_defaults(&mut self) -> Result<(), RuleReadFault> {
         let mut met = IndexSet::new(self.alloc);
-        for asked in &self.state.defaults {
-            let wish = wish_of(&self.state, asked)?;
+        let state = &self.state;
+        for asked in &state.defaults {
+            let wish = wish_of(state, asked)?;
             if met.insert(word_of(self.alloc, &wish)?)? {
                 self.graph.add_default(wish)?;
             }
