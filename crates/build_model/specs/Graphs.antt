@@ -25,7 +25,7 @@ abbrev pub copy_rule : Path → Path → Rule
 copy_rule p q = record {
   copies = true;
   keeps_sources = true;
-  work = 0;
+  work = 1;
   signed = [];
   targets = p ∷ [];
   sources = q ∷ [];

@@ -33,6 +33,7 @@ pub record Rule : Type 0 where
   pub copies : Bool
   -- its action is to copy or to write: its sources stay dependencies, whatever is ignored
   pub keeps_sources : Bool
+  -- what its action is, by the number that records give it: 0 for the shell, 1 for a copy, 2 for a text that is written
   pub work : ℕ
   pub signed : List Bytes
   pub targets : List Path

@@ -148,7 +148,9 @@ closed_shut bank e = record {
         by false false e = absurd cc
 
     not_open : slice_index bank 0 ≡ 1 → 17 < length bank → ⊥
-    not_open gate long = opens (mark_of bank) (generation_of bank) (sym (rw (lt-leb (length bank) 17 long, gate) refl) ∙ e)
+    not_open gate long =
+        let at : head_of bank ≡ live_head (mark_of bank) (generation_of bank) = rw (lt-leb (length bank) 17 long, gate) refl in
+        opens (mark_of bank) (generation_of bank) (sym at ∙ e)
 
 pub zero_shut : (was now : List ℕ) → Holds was 0 (0 ∷ []) now → IsShut now
 zero_shut was now holds = subst IsShut (sym holds) (record { there = omega arith; closed = λ e. absurd cc })

@@ -177,7 +177,8 @@ fn put_in(version: Version, len: usize, rec: Rec) -> Change
             if len < LONGEST_RECORD {
                 Change::Put(rec)
             } else {
-                Change::Withdraw(rec.targets)
+                let Rec { targets, .. } = rec;
+                Change::Withdraw(targets)
             }
         }
         Version::Two => Change::Put(rec),

@@ -60,13 +60,13 @@ pub(crate) fn head_of(front: &[u8]) -> Head
 fn live_head(mark: &[u8], generation: u64) -> Head
     ensures { result ≡ live_head mark.now generation }
 {
-    if mark == &MARK[..] {
+    if mark[..] == MARK[..] {
         return Head::Live(Edition {
             version: Version::Two,
             generation,
         });
     }
-    if mark == &FIRST_MARK[..] && generation < u64::MAX {
+    if mark[..] == FIRST_MARK[..] && generation < u64::MAX {
         return Head::Live(Edition {
             version: Version::One,
             generation,

@@ -12,8 +12,8 @@ pub returns-then-not-can_be_due-clause-opened : goal.returns-then-not-can_be_due
 returns-then-not-can_be_due-clause-opened g c = λ stood map is.
     stays_current g.W.Disk.meaning c.args.world.now stood map c.args.opened (
     λ one lt.
-        let yes : c.can_be_due.result ≡ true = c.can_be_due.ensures.1 (lt, inl one) in
-        let bad : true ≡ false = sym yes ∙ c.if-not-can_be_due.true in absurd cc) is
+    let yes : c.can_be_due.result ≡ true = c.can_be_due.ensures.1 (lt, inl one) in
+    let bad : true ≡ false = sym yes ∙ c.if-not-can_be_due.true in absurd cc) is
 
 pub returns-then-not-can_be_due-clause-over : goal.returns-then-not-can_be_due-clause-over
 returns-then-not-can_be_due-clause-over g c = λ ordered. record {
@@ -31,8 +31,8 @@ pub returns-then-not-is_due-clause-opened : goal.returns-then-not-is_due-clause-
 returns-then-not-is_due-clause-opened g c = λ stood map is.
     stays_current g.W.Disk.meaning c.args.world.now stood map c.args.opened (
     λ one lt.
-        let yes : c.is_due.result ≡ true = c.is_due.ensures.1 (inl one) in
-        let bad : true ≡ false = sym yes ∙ c.if-not-is_due.true in absurd cc) is
+    let yes : c.is_due.result ≡ true = c.is_due.ensures.1 (inl one) in
+    let bad : true ≡ false = sym yes ∙ c.if-not-is_due.true in absurd cc) is
 
 pub returns-then-not-is_due-clause-over : goal.returns-then-not-is_due-clause-over
 returns-then-not-is_due-clause-over g c = λ ordered. record {
