@@ -31,11 +31,19 @@ impl Digest {
         ensures len { length result.now ≡ digest_len (hash_of self.now) }
     {
         match self {
-            Digest::Md5(bytes) => bytes.as_slice(),
-            Digest::Sha1(bytes) => bytes.as_slice(),
-            Digest::Sha256(bytes) => bytes.as_slice(),
+            Digest::Md5(bytes) => slice_of(bytes),
+            Digest::Sha1(bytes) => slice_of(bytes),
+            Digest::Sha256(bytes) => slice_of(bytes),
         }
     }
+}
+
+fn slice_of<const N: usize>(bytes: &[u8; N]) -> &[u8]
+    ensures bytes { result.now ≡ bytes.now }
+    ensures len { length result.now ≡ N }
+{
+    let _array = *bytes;
+    bytes.as_slice()
 }
 
 /// The digest of some content.
