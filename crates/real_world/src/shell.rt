@@ -1,5 +1,5 @@
 //! What a worker does with a job: it runs the lines by the shell, copies, or writes.
-ghost use Rattle.std.specs.Prelude.{None};
+ghost use Rattle.std.specs.Prelude.{None, true};
 
 use job_runner::{Ending, Runner, Slip};
 use scons_base::{PathText, Text};
@@ -55,6 +55,8 @@ impl<R: Files + AllocGlobal + Processes + Eprint + Drop> LockHolder for Shell<R>
 
 impl<R: Files + AllocGlobal + Processes + Eprint + Drop> Runner for Shell<R> {
     ghost answer = { λ slip. None };
+
+    ghost gave = { λ ending. true };
 
     fn run(&self, slip: Arc<Slip, Global>) -> Ending {
         let job = &slip.job;
