@@ -239,7 +239,7 @@ fn insert_all(set: &mut IndexSet<NodeId>, nodes: &[NodeId]) -> Result<(), Memory
 }
 
 /// Whether some variant directory has copies.
-fn has_copies(graph: &Graph) -> bool {
+pub(crate) fn has_copies(graph: &Graph) -> bool {
     graph
         .variants()
         .as_slice()

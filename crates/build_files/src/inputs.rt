@@ -23,6 +23,8 @@ pub struct Inputs {
     pub(crate) seen: Vec<Seen>,
     /// Paths that no rule makes and at which no file stands.
     pub(crate) unknown: IndexSet<PathText>,
+    /// Files that are looked past, as if none stood there.
+    pub(crate) gone: IndexSet<PathText>,
     pub(crate) found: Found,
     /// The rules whose files were looked at for copy rules, by their numbers.
     pub(crate) looked_at: Vec<bool>,
@@ -31,9 +33,15 @@ pub struct Inputs {
 
 impl Inputs {
     pub fn new(alloc: Global) -> Inputs {
+        Inputs::past(alloc, IndexSet::new(alloc))
+    }
+
+    /// The files of a build that looks past these.
+    pub fn past(alloc: Global, gone: IndexSet<PathText>) -> Inputs {
         Inputs {
             seen: Vec::new(alloc),
             unknown: IndexSet::new(alloc),
+            gone,
             found: Found::new(alloc),
             looked_at: Vec::new(alloc),
             alloc,
@@ -66,9 +74,25 @@ impl Inputs {
         if let Some(is_file) = self.seen(node)?.is_file {
             return Ok(is_file);
         }
-        let is_file = is_file_at(world, path)?;
+        let is_file = self.stands(world, path)?;
         self.seen(node)?.is_file = Some(is_file);
         Ok(is_file)
+    }
+
+    /// Whether a file stands at a path that isn't looked past.
+    #[tactic(auto, using(crate::proofs::Looking::looking))]
+    pub(crate) fn stands<W: World>(&self, world: &mut W, path: &PathText) -> Result<bool, ListEnd>
+        ensures looks { Looks W.meaning world.old world.new }
+        ensures cause { HasLookCause (W.meaning.counts world.old) (W.meaning.counts world.new) result }
+    {
+        if self.is_gone(path) {
+            return Ok(false);
+        }
+        is_file_at(world, path)
+    }
+
+    fn is_gone(&self, path: &PathText) -> bool {
+        !self.gone.is_empty() && self.gone.contains(path)
     }
 
     /// The digest of what a file holds, none where no file stands.
@@ -102,9 +126,21 @@ impl Inputs {
         if let Some(stamp) = self.seen(node)?.stamp {
             return Ok(stamp);
         }
-        let stamp = stamp_at(world, path_of(graph, node)?)?;
+        let stamp = self.stamp_past(world, path_of(graph, node)?)?;
         self.seen(node)?.stamp = Some(stamp);
         Ok(stamp)
+    }
+
+    /// When the file at a path last changed, none where no file stands or it is looked past.
+    #[tactic(auto, using(crate::proofs::Looking::looking))]
+    fn stamp_past<W: World>(&self, world: &mut W, path: &PathText) -> Result<Option<u64>, ListEnd>
+        ensures looks { Looks W.meaning world.old world.new }
+        ensures cause { HasLookCause (W.meaning.counts world.old) (W.meaning.counts world.new) result }
+    {
+        if self.is_gone(path) {
+            return Ok(None);
+        }
+        stamp_at(world, path)
     }
 
     /// Reads a file for its digest, and for what it includes where that is asked or its name says that it will be.
@@ -119,8 +155,20 @@ impl Inputs {
         ensures looks { Looks W.meaning world.old world.new }
         ensures cause { HasLookCause (W.meaning.counts world.old) (W.meaning.counts world.new) result }
     {
-        let content = content_at(world, path)?;
+        let content = self.content(world, path)?;
         Ok(self.keep(path, node, is_scanned, content)?)
+    }
+
+    /// What the file at a path holds, unless it is looked past.
+    #[tactic(auto, using(crate::proofs::Looking::looking))]
+    fn content<W: World>(&self, world: &mut W, path: &PathText) -> Result<Content, ListEnd>
+        ensures looks { Looks W.meaning world.old world.new }
+        ensures cause { HasLookCause (W.meaning.counts world.old) (W.meaning.counts world.new) result }
+    {
+        if self.is_gone(path) {
+            return Ok(None);
+        }
+        content_at(world, path)
     }
 
     /// Keeps what was read of a file.

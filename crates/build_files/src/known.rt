@@ -66,7 +66,7 @@ impl Inputs {
         if self.unknown.contains(path) {
             return Ok(None);
         }
-        if is_file_at(world, path)? {
+        if self.stands(world, path)? {
             return self.note(graph, path, true);
         }
         if has_copy_rule(world, graph, path)? {
@@ -136,14 +136,14 @@ pub(crate) fn copied_from<W: World>(
 }
 
 /// Whether a path lies in a variant directory with copies.
-fn is_copied(graph: &Graph, path: &PathText) -> bool {
+pub fn is_copied(graph: &Graph, path: &PathText) -> bool {
     match graph.variants().variant_of(path) {
         Some(variant) => variant.duplicate,
         None => false,
     }
 }
 
-fn is_declared(graph: &Graph, path: &PathText) -> bool {
+pub(crate) fn is_declared(graph: &Graph, path: &PathText) -> bool {
     match graph.find(path) {
         Some(node) => graph.rule_of(node).is_some(),
         None => false,

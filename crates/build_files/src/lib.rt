@@ -9,12 +9,14 @@ mod end;
 mod includes;
 mod inputs;
 mod known;
+mod leftovers;
 mod lookup;
 mod record;
 mod seen;
 
 pub use end::ListEnd;
 pub use inputs::Inputs;
-pub use known::has_copy_rule;
+pub use known::{has_copy_rule, is_copied};
+pub use leftovers::{is_leftover, leftover_copies};
 pub use lookup::{first_target, path_of, rule_at};
 pub use record::{Present, Records, is_stale};

@@ -15,17 +15,28 @@ use world_api::{Decider, World};
 /// Where the records of former builds stand.
 pub trait Records {
     fn record(&self, path: &PathText) -> Option<&Rec>;
+
+    /// The records of copies.
+    fn copies(&self, alloc: Global) -> Result<Listing<Rec>, Memory>;
 }
 
 impl Records for Store {
     fn record(&self, path: &PathText) -> Option<&Rec> {
         self.get(path)
     }
+
+    fn copies(&self, alloc: Global) -> Result<Listing<Rec>, Memory> {
+        Store::copies(self, alloc)
+    }
 }
 
 impl Records for View {
     fn record(&self, path: &PathText) -> Option<&Rec> {
         self.get(path)
+    }
+
+    fn copies(&self, alloc: Global) -> Result<Listing<Rec>, Memory> {
+        View::copies(self, alloc)
     }
 }
 

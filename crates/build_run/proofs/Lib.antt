@@ -2,3 +2,4 @@ pub mod Holding
 pub mod Goings
 pub mod Causing
 pub mod Outs
+pub mod Taking

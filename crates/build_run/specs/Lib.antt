@@ -1,6 +1,7 @@
-pub mod Holds
-pub mod Goings
 pub mod Causes
+pub mod Goings
+pub mod Holds
 pub mod Ledgers
-pub mod Withdrawals
 pub mod Outs
+pub mod Takes
+pub mod Withdrawals

@@ -6,10 +6,11 @@ ghost use Rattle.sign_store.specs.Stores.{IsKept, is_live};
 ghost use Rattle.build_files.specs.Causes.{HasLookCause, IsQuiet};
 ghost use Rattle.build_run.specs.Causes.{BuildCauses, IsInner};
 ghost use Rattle.build_run.specs.Goings.{Stays};
-ghost use Rattle.build_run.specs.Ledgers.{ledger_of, ledger_of_end, with_done, ErrKeeps};
+ghost use Rattle.build_run.specs.Ledgers.{blank, ledger_of, ledger_of_end, with_done, with_end, ErrKeeps};
 
 use crate::account::Account;
 use crate::end::BuildEnd;
+use crate::leftovers::take_leftovers;
 use crate::tickets::Tickets;
 use crate::turns::go_on;
 use build_files::{Inputs, ListEnd, first_target};
@@ -43,8 +44,44 @@ pub(crate) struct Run {
     pub(crate) dirs: IndexSet<PathText>,
 }
 
-/// Makes the requested nodes, and all that they need, as far as it is stale. When it returns nothing runs.
+/// Takes leftover copies away, and makes the requested nodes, and all that they need, as far as it is stale. When it returns
+/// nothing runs.
 pub fn build<W: World, O: Sink, E: Sink>(
+    alloc: Global,
+    graph: &mut Graph,
+    requested: &[NodeId],
+    store: &mut Store,
+    world: &mut W,
+    out: &mut O,
+    err: &mut E,
+    options: &Options,
+) -> BuildEnd
+    requires unclosed { W.meaning.closed world.old ≡ [] }
+    requires idle { W.meaning.tells world.old → (W.meaning.around world.old).running ≡ [] }
+    requires live { is_live store.old ≡ true }
+    requires kept { IsKept W.meaning world.old store.old }
+    ensures told { Told W.meaning world.old world.new }
+    ensures later { Later (W.meaning.counts world.old) (W.meaning.counts world.new) }
+    ensures idle { W.meaning.tells world.new → (W.meaning.around world.new).running ≡ [] }
+    ensures causes { BuildCauses W.meaning O.meaning E.meaning world.old out.old err.old world.new out.new err.new result.faults result.memory }
+{
+    match take_leftovers(alloc, graph, store, world) {
+        Ok(()) => make(alloc, graph, requested, store, world, out, err, options),
+        Err(end) => ended(alloc, err, end),
+    }
+}
+
+/// The answer of a build that ended before it began to make anything.
+fn ended<E: Sink>(alloc: Global, err: &mut E, end: ListEnd) -> BuildEnd
+    ensures { ErrKeeps E.meaning err.old err.new (with_end blank end) (ledger_of_end result) }
+{
+    let mut account = Account::new(alloc);
+    account.end(err, end);
+    answer(account, Listing::empty(alloc))
+}
+
+/// Makes the requested nodes, once no leftover copy stands.
+fn make<W: World, O: Sink, E: Sink>(
     alloc: Global,
     graph: &mut Graph,
     requested: &[NodeId],

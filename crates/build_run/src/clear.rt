@@ -78,7 +78,7 @@ fn withdraw<W: World>(
 }
 
 /// Removes the targets.
-fn remove_all<W: World>(world: &mut W, targets: &[PathText]) -> Result<(), ListEnd>
+pub(crate) fn remove_all<W: World>(world: &mut W, targets: &[PathText]) -> Result<(), ListEnd>
     requires { AreUnused W.meaning world.old targets.now }
     ensures stays { Stays W.meaning world.old world.new }
     ensures cause { HasLookCause (W.meaning.counts world.old) (W.meaning.counts world.new) result }

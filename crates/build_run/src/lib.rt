@@ -12,6 +12,7 @@ mod decide;
 mod end;
 mod ending;
 mod launch;
+mod leftovers;
 mod start;
 mod tickets;
 mod turns;

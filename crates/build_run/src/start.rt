@@ -111,7 +111,7 @@ pub(crate) fn give_up(is_store_shut: bool, store: &mut Store, ticket: Ticket)
 
 /// The ticket for a record. Each rule has a target, and names none and no dependency twice; a record that does would be
 /// answered as want of memory is.
-fn prepare(alloc: Global, store: &mut Store, now: Rec) -> Result<Ticket, ListEnd>
+pub(crate) fn prepare(alloc: Global, store: &mut Store, now: Rec) -> Result<Ticket, ListEnd>
     requires { is_live store.old ≡ true }
     ensures out { IfOk result (IsOut store.new now) }
     ensures fresh { IfOk result (IsFresh store.old) }

@@ -11,6 +11,8 @@ use Rattle.py_heap.specs.declared.fault.ValueFault.TheVariants as fault
 use Rattle.py_heap.specs.Heap.{Objects, Entries, text_at, list_at, tuple_at, dict_at}
 use Rattle.py_heap.specs.Dicts.{key_of, entry_at}
 use Rattle.py_heap.specs.Units.{Units, charged}
+use Rattle.py_heap.specs.Values.{kind_of}
+use Rattle.py_heap.specs.declared.kind.ValueKind.{ValueKind}
 use Rattle.py_compare.specs.Outcomes.{Outcome, then_by, mismatch}
 use Rattle.py_compare.specs.Equality.{Verdict, is_nil, place_from}
 use Rattle.py_compare.specs.Order.{order_of}
@@ -31,9 +33,9 @@ order_told test h u x y = then_by (ordered h u x y) (λ o. Ok (v.Bool (test o.0)
 abbrev pub is_among : Objects → Units → List Value → Value → Verdict
 is_among h u items x = then_by (place_from 0 h u items x) (λ found. Ok (is_some found.0, found.1))
 
-abbrev key_in : Units → Entries → Option Key → Verdict
-key_in u entries None = Err fault.Key
-key_in u entries (Some k) = Ok (is_some (entry_at entries k), u)
+abbrev key_in : Units → Entries → ValueKind → Option Key → Verdict
+key_in u entries kind None = Err (fault.KeyKind kind)
+key_in u entries kind (Some k) = Ok (is_some (entry_at entries k), u)
 
 abbrev text_in : Objects → Units → List ℕ → Value → Value → Verdict
 text_in h u s box (v.Text id) = Ok (contains s (text_at h id.0), u)
@@ -43,7 +45,7 @@ text_in h u s box x = mismatch x box
 abbrev pub within_of : Objects → Units → Value → Value → Verdict
 within_of h u x (v.List id) = is_among h u (list_at h id.0) x
 within_of h u x (v.Tuple id) = is_among h u (tuple_at h id.0) x
-within_of h u x (v.Dict id) = key_in u (dict_at h id.0) (key_of h x)
+within_of h u x (v.Dict id) = key_in u (dict_at h id.0) (kind_of x) (key_of h x)
 within_of h u x (v.Text id) = text_in h u (text_at h id.0) (v.Text id) x
 within_of h u x v.Nil = mismatch x v.Nil
 within_of h u x (v.Bool b) = mismatch x (v.Bool b)

@@ -35,7 +35,7 @@ pub fn within(
         Value::Tuple(tuple) => is_among(heap, budget, heap.tuple_at(tuple), item),
         Value::Dict(dict) => {
             let Some(key) = heap.key_of(item)? else {
-                return Err(ValueFault::Key);
+                return Err(ValueFault::KeyKind(item.kind()));
             };
             Ok(heap.entry_at(dict, &key).is_some())
         }

@@ -40,7 +40,7 @@ caused : (k : EvalKind) (script line before now : ℕ) → CountedFault k before
 caused kind.Host script line before now c = c
 caused (kind.Name n) script line before now c = tt
 caused (kind.Value e) script line before now c = tt
-caused kind.Args script line before now c = tt
+caused (kind.Args x) script line before now c = tt
 caused kind.NotCallable script line before now c = tt
 caused kind.Depth script line before now c = tt
 

@@ -1,5 +1,5 @@
 -- A call that is begun, by what is called.
-use Rattle.std.proofs.Common.{◌≡◌, ◌∙◌, ℕ, zero, suc, Bool, true, false, Option, Some, None, Result, Ok, Err, List, map, length, refl, sym, subst, ap}
+use Rattle.std.proofs.Common.{◌≡◌, ◌≢◌, ◌∙◌, ℕ, zero, suc, Bool, true, false, Option, Some, None, Result, Ok, Err, List, [], map, length, refl, sym, subst, ap}
 use Rattle.std.specs.Prelude.{slice_get}
 use Rattle.py_tree.specs.Tree.{trees, line_tree}
 use Rattle.py_tree.specs.declared.line.Line.{Line}
@@ -14,6 +14,8 @@ use Rattle.py_host.specs.Names.{Names}
 use Rattle.py_host.specs.Calls.{Arguments}
 use Rattle.py_host.specs.Meaning.{Meaning}
 use Rattle.py_meaning.specs.declared.fault.EvalKind.TheVariants as kind
+use Rattle.py_meaning.specs.declared.fault.Called.{Called}
+use Rattle.py_meaning.specs.declared.fault.Called.TheVariants as named
 use Rattle.py_meaning.specs.States.{State, Frame, Function, Out, gives, all_give, goes_on, breaks, continues, returns, ends, exits, with_frame, function_frame, place_at}
 use Rattle.py_meaning.specs.Jobs.{Callee, a_value, a_method, perform, exec_all}
 use Rattle.py_meaning.specs.Plans.{Plan}
@@ -39,10 +41,16 @@ taken_by (a_value (v.Builtin b)) count = takes b count
 taken_by (a_method x n) count = method_takes n count
 taken_by other count = false
 
+-- its name
+abbrev pub named_by : Callee → Called
+named_by (a_value (v.Builtin b)) = named.Builtin b
+named_by (a_method x n) = named.Method n
+named_by other = named.Function []
+
 abbrev fits : Callee → Arguments → Bool
 fits x given = plain_arguments (taken_by x (length given.positional)) given
 
-plain_args : {H : Type 0} (m : Meaning H) (c l : ℕ) (x : Callee) (i : IsPlain x) (given : Arguments) (s s1 : State) (h : H) → fits x given ≡ false → Halts m c (begun l x given s) h (stop.Fault s.frame.script l kind.Args) s1 h
+plain_args : {H : Type 0} (m : Meaning H) (c l : ℕ) (x : Callee) (i : IsPlain x) (given : Arguments) (s s1 : State) (h : H) → fits x given ≡ false → Halts m c (begun l x given s) h (stop.Fault s.frame.script l (kind.Args (named_by x))) s1 h
 plain_args m c l (a_value (v.Builtin b)) i given s s1 h e = rw e (stopped tt)
 plain_args m c l (a_method x n) i given s s1 h e = rw e (stopped tt)
 plain_args m c l (a_value x) i given s s1 h e = absurd i
@@ -62,7 +70,7 @@ taken_as : (b taken : Bool) (x : Callee) (given : Arguments) → taken ≡ taken
 taken_as b taken x given t e = ap (λ y. plain_arguments y given) (sym t) ∙ e
 
 -- its arguments don't fit, it is one call too deep, or it gives what its plan gives
-pub plain_refused : {H : Type 0} (m : Meaning H) (c l : ℕ) (x : Callee) (i : IsPlain x) (given : Arguments) (s s1 : State) (h : H) (taken : Bool) (z : Stop) → taken ≡ taken_by x (length given.positional) → (plain_arguments taken given ≡ false) × (z ≡ stop.Fault s.frame.script l kind.Args) → Halts m c (begun l x given s) h z s1 h
+pub plain_refused : {H : Type 0} (m : Meaning H) (c l : ℕ) (x : Callee) (i : IsPlain x) (given : Arguments) (s s1 : State) (h : H) (taken : Bool) (z : Stop) → taken ≡ taken_by x (length given.positional) → (plain_arguments taken given ≡ false) × (z ≡ stop.Fault s.frame.script l (kind.Args (named_by x))) → Halts m c (begun l x given s) h z s1 h
 plain_refused m c l x i given s s1 h taken z t w =
     subst (λ y. Halts m c (begun l x given s) h y s1 h) (sym w.1) (plain_args m c l x i given s s1 h (taken_as false taken x given t w.0))
 
@@ -103,8 +111,13 @@ not_callable m c l x given s s1 h f b o = stopped tt
 pub no_function : {H : Type 0} (m : Meaning H) (c l : ℕ) (id : FuncId) (given : Arguments) (s s1 : State) (h : H) → slice_get s.functions id.0 ≡ None → Halts m c (begun l (a_value (v.Func id)) given s) h (stop.Fault s.frame.script l kind.NotCallable) s1 h
 no_function m c l id given s s1 h e = rw e (stopped tt)
 
-pub not_bound : {H : Type 0} (m : Meaning H) (c l : ℕ) (id : FuncId) (given : Arguments) (s s1 : State) (h : H) (f : Function) → slice_get s.functions id.0 ≡ Some f → bound f.parameters given ≡ None → Halts m c (begun l (a_value (v.Func id)) given s) h (stop.Fault s.frame.script l kind.Args) s1 h
-not_bound m c l id given s s1 h f e b = rw (e, b) (stopped tt)
+bound_not : {H : Type 0} (m : Meaning H) (c l : ℕ) (id : FuncId) (given : Arguments) (s s1 : State) (h : H) (f : Function) → slice_get s.functions id.0 ≡ Some f → bound f.parameters given ≡ None → Halts m c (begun l (a_value (v.Func id)) given s) h (stop.Fault s.frame.script l (kind.Args (named.Function f.name))) s1 h
+bound_not m c l id given s s1 h f e b = rw (e, b) (stopped tt)
+
+pub not_bound : {H : Type 0} (m : Meaning H) (c l : ℕ) (id : FuncId) (given : Arguments) (s s1 : State) (h : H) (f : Function) (z : Stop) → slice_get s.functions id.0 ≡ Some f → bound f.parameters given ≡ None → (z ≢ stop.Memory → z ≡ stop.Fault s.frame.script l (kind.Args (named.Function f.name))) → Halts m c (begun l (a_value (v.Func id)) given s) h z s1 h
+not_bound m c l id given s s1 h f stop.Memory e b w = tt
+not_bound m c l id given s s1 h f z e b w =
+    subst (λ y. Halts m c (begun l (a_value (v.Func id)) given s) h y s1 h) (sym (w (λ n. cc))) (bound_not m c l id given s s1 h f e b)
 
 function_depth : {H : Type 0} (m : Meaning H) (l : ℕ) (id : FuncId) (given : Arguments) (s s1 : State) (h : H) (f : Function) (names : Names) → slice_get s.functions id.0 ≡ Some f → bound f.parameters given ≡ Some names → Halts m zero (begun l (a_value (v.Func id)) given s) h (stop.Fault s.frame.script l kind.Depth) s1 h
 function_depth m l id given s s1 h f names e b = rw (e, b) too_deep

@@ -13,12 +13,12 @@ ghost use Rattle.py_steps.specs.Leads.{left_with, left_at};
 ghost use Rattle.py_eval.specs.Bodies.{GivesOrHalts, LeadsOrHalts, FlowsOrHalts, EndsOrHalts, IsOverOrStops};
 
 use crate::asking::{pay_script, reply_to_call, reply_to_end};
-use crate::opening::{opened, plain};
+use crate::opening::{opened, plain, unfitting};
 use crate::operations::{do_builtin, do_method};
 use py_builtins::takes;
 use py_heap::{FuncId, HostId, Value};
 use py_host::{Args, Host, Reply};
-use py_meaning::{EvalKind, Exit};
+use py_meaning::{Called, EvalKind, Exit};
 use py_methods::Name;
 use py_state::{Frame, Machine, Stop, arguments_by, bound, fault};
 use py_steps::{Desk, Flow, Task};
@@ -151,14 +151,26 @@ fn call<H: Host>(
     let positional = args.positional.as_slice();
     match method {
         Some(name) => {
-            plain(frame, line, args, name.takes(positional.len()))?;
+            plain(
+                frame,
+                line,
+                args,
+                name.takes(positional.len()),
+                Called::Method(name),
+            )?;
             let _inside = opened(frame, line, calls)?;
             do_method(machine, frame, line, called, name, positional)
         }
         None => match called {
             Value::Func(id) => call_function(machine, host, frame, calls, line, id, args),
             Value::Builtin(builtin) => {
-                plain(frame, line, args, takes(builtin, positional.len()))?;
+                plain(
+                    frame,
+                    line,
+                    args,
+                    takes(builtin, positional.len()),
+                    Called::Builtin(builtin),
+                )?;
                 let _inside = opened(frame, line, calls)?;
                 do_builtin(machine, host, frame, line, builtin, positional)
             }
@@ -188,7 +200,7 @@ fn call_function<H: Host>(
         return Err(fault(frame, line, EvalKind::NotCallable));
     };
     let Some(names) = bound(machine.alloc, &function, args)? else {
-        return Err(fault(frame, line, EvalKind::Args));
+        return Err(unfitting(frame, line, &function));
     };
     let inside = opened(frame, line, calls)?;
     let body = function.body.clone()?;

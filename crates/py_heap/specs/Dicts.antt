@@ -9,6 +9,10 @@ use Rattle.py_heap.specs.declared.key.Key.TheVariants as key
 use Rattle.py_heap.specs.declared.dict.Entry.{Entry}
 use Rattle.py_heap.specs.Heap.{Objects, Entries, text_at}
 use Rattle.py_heap.specs.Keys.{key_eq}
+use Rattle.py_heap.specs.Values.{kind_of}
+use Rattle.py_heap.specs.declared.kind.ValueKind.{ValueKind}
+use Rattle.py_heap.specs.declared.fault.ValueFault.{ValueFault}
+use Rattle.py_heap.specs.declared.fault.ValueFault.TheVariants as fault
 
 -- the key that a value is, if it can be one: texts and integers can, True is 1 and False is 0
 abbrev pub key_of : Objects → Value → Option Key
@@ -17,6 +21,14 @@ key_of h (v.Bool true) = Some (key.Int (pos 1))
 key_of h (v.Bool false) = Some (key.Int (pos 0))
 key_of h (v.Text id) = Some (key.Text (text_at h id.0))
 key_of h other = None
+
+abbrev missing_by : ValueKind → Option Key → ValueFault
+missing_by kind None = fault.KeyKind kind
+missing_by kind (Some k) = fault.Key k
+
+-- the fault that a value isn't found: the key that it is, or else its kind
+abbrev pub missing : Objects → Value → ValueFault
+missing h x = missing_by (kind_of x) (key_of h x)
 
 -- the entry under a key
 abbrev pub entry_at : Entries → Key → Option Entry

@@ -6,6 +6,9 @@ use Rattle.py_heap.specs.declared.fault.ValueFault.{ValueFault}
 use Rattle.py_heap.specs.declared.fault.ValueFault.TheVariants as fault
 use Rattle.py_heap.specs.declared.key.Key.{Key}
 use Rattle.py_heap.specs.Heap.{Objects, Entries, with_text, with_list, with_tuple, with_dict, with_shown}
+use Rattle.py_heap.specs.declared.kind.ValueKind.{ValueKind}
+use Rattle.py_heap.specs.declared.kind.ValueKind.TheVariants as kind
+use Rattle.py_heap.specs.Values.{kind_of}
 use Rattle.py_heap.specs.Dicts.{key_of, put}
 use Rattle.scons_base.specs.declared.limits.TheConstants.{TEXT_LIMIT, LIST_LIMIT}
 use Rattle.py_heap.specs.Units.{limited}
@@ -45,12 +48,21 @@ abbrev pub with_pairs : Objects → Entries → List (Value × Value) → Option
 with_pairs h entries [] = Some entries
 with_pairs h entries (p ∷ ps) = and_then (λ more. with_pairs h more ps) (put_by h entries (key_of h p.0) p)
 
-abbrev dict_by : Objects → Option Entries → Result (Value × Objects) ValueFault
-dict_by h None = Err fault.Key
-dict_by h (Some entries) = limited LIST_LIMIT (length entries) (next_dict h, with_dict h entries)
+abbrev kind_unless : Option Key → ValueKind → ValueKind → ValueKind
+kind_unless None here later = here
+kind_unless (Some k) here later = later
+
+-- the kind of the first value that stands as a key and can't be one
+abbrev pub unkeyed : Objects → List (Value × Value) → ValueKind
+unkeyed h [] = kind.Nil
+unkeyed h (p ∷ ps) = kind_unless (key_of h p.0) (kind_of p.0) (unkeyed h ps)
+
+abbrev dict_by : Objects → List (Value × Value) → Option Entries → Result (Value × Objects) ValueFault
+dict_by h pairs None = Err (fault.KeyKind (unkeyed h pairs))
+dict_by h pairs (Some entries) = limited LIST_LIMIT (length entries) (next_dict h, with_dict h entries)
 
 abbrev pub given_dict : Objects → List (Value × Value) → Result (Value × Objects) ValueFault
-given_dict h pairs = dict_by h (with_pairs h [] pairs)
+given_dict h pairs = dict_by h pairs (with_pairs h [] pairs)
 
 -- an object shows by the last text given for it
 abbrev pub given_object : Objects → ℕ → List ℕ → Result (Value × Objects) ValueFault

@@ -1,19 +1,22 @@
 //! Why an operation on values gives none.
 ghost use Rattle.std.specs.Prelude.{◌≡◌};
 
+use crate::key::Key;
 use crate::kind::ValueKind;
 use scons_base::Memory as NoMemory;
 use std::alloc::{AllocError, AllocFailed};
 
 /// Why an operation on values gives none.
-#[derive(Clone, Copy, Debug, PartialEq, Eq)]
+#[derive(Debug, Drop)]
 pub enum ValueFault {
     /// The operation isn't one of these kinds. Where one value alone is at fault, both are its own.
     Mismatch(ValueKind, ValueKind),
     /// No such place in something of this length.
     Index(i64, u64),
-    /// No such key, or a value that can't be one.
-    Key,
+    /// No such key of a dict or item of a list: the one that was looked for.
+    Key(Key),
+    /// A value of this kind can't be a key; or a list has no such item, of a kind that can't be one.
+    KeyKind(ValueKind),
     /// An integer outside 64 bits.
     Overflow,
     /// A zero divisor.

@@ -1,13 +1,14 @@
 //! Things that a heap is given from outside scripts. They cost no units.
 ghost use Rattle.std.specs.Prelude.{◌≡◌, ◌≢◌, ◌++◌, [], Ok, Err, IfOk, IfErr, OnErr, Some, None, MatchOption, length, option_copied};
-ghost use Rattle.py_heap.specs.Given.{given_text, given_list, given_tuple, given_dict, given_object, with_pairs};
-ghost use Rattle.py_heap.specs.Dicts.{key_of};
+ghost use Rattle.py_heap.specs.Given.{given_text, given_list, given_tuple, given_dict, given_object, with_pairs, unkeyed};
+ghost use Rattle.py_heap.specs.Dicts.{key_of, missing};
 
 use crate::dict::Dict;
 use crate::fault::ValueFault;
 use crate::heap::Heap;
 use crate::ids::HostId;
 use crate::key::Key;
+use crate::kind::ValueKind;
 use crate::value::Value;
 use crate::values::Values;
 use scons_base::limits::{LIST_LIMIT, TEXT_LIMIT};
@@ -67,7 +68,7 @@ impl Heap {
         ensures err { OnErr result (self.new ≡ self.old) }
     {
         let Some(made) = self.dict_from(pairs)? else {
-            return Err(ValueFault::Key);
+            return Err(ValueFault::KeyKind(self.unkeyed(pairs)?));
         };
         let length = made.len() as u64;
         if length > LIST_LIMIT {
@@ -88,6 +89,28 @@ impl Heap {
             }
         }
         Ok(Some(dict))
+    }
+
+    /// The kind of the first value that stands as a key and can't be one.
+    fn unkeyed(&self, pairs: &[(Value, Value)]) -> Result<ValueKind, Memory>
+        ensures { IfOk result (λ kind. kind ≡ unkeyed self.now pairs.now) }
+    {
+        'pairs: for (given, _) in pairs {
+            if self.key_of(*given)?.is_none() {
+                return Ok(given.kind());
+            }
+        }
+        Ok(ValueKind::Nil)
+    }
+
+    /// The fault that a value isn't found, which names it.
+    pub fn missing(&self, value: Value) -> Result<ValueFault, Memory>
+        ensures { IfOk result (λ fault. fault ≡ missing self.now value) }
+    {
+        Ok(match self.key_of(value)? {
+            Some(key) => ValueFault::Key(key),
+            None => ValueFault::KeyKind(value.kind()),
+        })
     }
 
     /// The key that a value is, if it can be one.

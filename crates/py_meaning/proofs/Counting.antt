@@ -28,7 +28,7 @@ earlier_fault : (k : EvalKind) (a b c : ℕ) → a ≤ b → CountedFault k b c 
 earlier_fault kind.Host a b c l r = earlier_rise a b c l r
 earlier_fault (kind.Name n) a b c l r = omega arith
 earlier_fault (kind.Value e) a b c l r = omega arith
-earlier_fault kind.Args a b c l r = omega arith
+earlier_fault (kind.Args x) a b c l r = omega arith
 earlier_fault kind.NotCallable a b c l r = omega arith
 earlier_fault kind.Depth a b c l r = omega arith
 
@@ -40,7 +40,7 @@ own : (k : EvalKind) (a : ℕ) → IsOwn k → CountedFault k a a
 own kind.Host a i = absurd i
 own (kind.Name n) a i = omega arith
 own (kind.Value e) a i = omega arith
-own kind.Args a i = omega arith
+own (kind.Args x) a i = omega arith
 own kind.NotCallable a i = omega arith
 own kind.Depth a i = omega arith
 

@@ -19,6 +19,8 @@ use Rattle.py_host.specs.Names.{Names}
 use Rattle.py_host.specs.Calls.{Question, Arguments, Given, a_value, a_script, some_names, the_end}
 use Rattle.py_host.specs.Calls as question
 use Rattle.py_meaning.specs.declared.fault.EvalKind.TheVariants as kind
+use Rattle.py_meaning.specs.declared.fault.Called.{Called}
+use Rattle.py_meaning.specs.declared.fault.Called.TheVariants as named
 use Rattle.py_meaning.specs.States.{State, Frame, Function, Out, place_at, goes_on, breaks, continues, returns, ends}
 use Rattle.py_meaning.specs.States.{with_units, with_frame, with_globals, globals_at, function_frame, script_frame}
 use Rattle.py_host.specs.declared.place.Place.{Place}
@@ -60,7 +62,7 @@ returned caller (continues s) = value v.Nil (with_frame s caller)
 returned caller other = comes_to other
 
 abbrev pub entered : ℕ → Function → Option Names → State → Plan
-entered l f None s = faulty l kind.Args s
+entered l f None s = faulty l (kind.Args (named.Function f.name)) s
 entered l f (Some names) s =
     within_call (exec_all f.body) (with_frame s (function_frame s.frame f names)) (place_at l s) (returned s.frame)
 
@@ -68,19 +70,20 @@ abbrev function_called : ℕ → Option Function → Arguments → State → Pla
 function_called l None given s = faulty l kind.NotCallable s
 function_called l (Some f) given s = entered l f (bound f.parameters given) s
 
-abbrev if_taken : ℕ → Bool → Job → State → Plan
-if_taken l true j s = opened l j s
-if_taken l false j s = faulty l kind.Args s
+abbrev if_taken : ℕ → Called → Bool → Job → State → Plan
+if_taken l x true j s = opened l j s
+if_taken l x false j s = faulty l (kind.Args x) s
 
 abbrev pub begun : ℕ → Callee → Arguments → State → Plan
 begun l (job.a_value (v.Func id)) given s = function_called l (slice_get s.functions id.0) given s
 begun l (job.a_value (v.Builtin b)) given s =
-    if_taken l (plain_arguments (takes b (length given.positional)) given)
+    if_taken l (named.Builtin b) (plain_arguments (takes b (length given.positional)) given)
     (perform l (job.a_value (v.Builtin b)) given) s
 begun l (job.a_value (v.Object id)) given s = opened l (perform l (job.a_value (v.Object id)) given) s
 begun l (job.a_value other) given s = faulty l kind.NotCallable s
 begun l (job.a_method x n) given s =
-    if_taken l (plain_arguments (method_takes n (length given.positional)) given) (perform l (job.a_method x n) given) s
+    if_taken l (named.Method n) (plain_arguments (method_takes n (length given.positional)) given)
+    (perform l (job.a_method x n) given) s
 
 abbrev pub plan_call : ℕ → Callee → Arguments → State → Plan
 plan_call l callee given s = paid l s (begun l callee given)

@@ -14,7 +14,7 @@ use Rattle.py_heap.specs.declared.value.Value.TheVariants as v
 use Rattle.py_heap.specs.declared.fault.ValueFault.{ValueFault}
 use Rattle.py_heap.specs.declared.fault.ValueFault.TheVariants as fault
 use Rattle.py_heap.specs.Heap.{Objects, Entries, truth_of}
-use Rattle.py_heap.specs.Given.{given_text, with_pairs}
+use Rattle.py_heap.specs.Given.{given_text, with_pairs, unkeyed}
 use Rattle.py_heap.specs.Units.{Units}
 use Rattle.py_compare.specs.Outcomes.{Outcome, new_list, new_tuple, new_dict}
 use Rattle.py_compare.specs.Numbers.{fitting}
@@ -61,13 +61,13 @@ abbrev pub paired : List Value → List (Value × Value)
 paired (k ∷ x ∷ more) = (k, x) ∷ paired more
 paired other = []
 
-abbrev displayed_by : Objects → Units → Option Entries → Outcome
-displayed_by h u None = Err fault.Key
-displayed_by h u (Some entries) = new_dict h u entries
+abbrev displayed_by : Objects → Units → List (Value × Value) → Option Entries → Outcome
+displayed_by h u pairs None = Err (fault.KeyKind (unkeyed h pairs))
+displayed_by h u pairs (Some entries) = new_dict h u entries
 
 -- what a dict display makes: of a key that comes twice the last item counts
 abbrev pub displayed : Objects → Units → List Value → Outcome
-displayed h u values = displayed_by h u (with_pairs h [] (paired values))
+displayed h u values = displayed_by h u (paired values) (with_pairs h [] (paired values))
 
 -- the line of the name that an atom is
 abbrev pub named_line : Tree → Option ℕ

@@ -114,6 +114,7 @@ abbrev pub defined : List ℕ → Tree → Tree → List Value → State → Sta
 defined n ps body xs s =
     let f : Function =
     record {
+      name = n;
       script = s.frame.script;
       parameters = parameters_by ps xs;
       locals = local_names ps body;

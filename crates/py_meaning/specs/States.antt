@@ -16,6 +16,8 @@ pub record Parameter : Type 0 where
 
 -- what a `def` makes: section 8.7 ("Function definitions") of the Python language reference
 pub record Function : Type 0 where
+  -- the name that the `def` has
+  pub name : List ℕ
   -- the script in which it stands
   pub script : ℕ
   pub parameters : List Parameter

@@ -1,8 +1,11 @@
--- The words of methods.
-use Rattle.std.specs.Prelude.{ℕ, List, [], ◌∷◌, Option, Some, None, codes, if◌then◌else◌}
+-- The words of methods, and the name of what is called.
+use Rattle.std.specs.Prelude.{◌≡◌, ℕ, List, [], ◌∷◌, Option, Some, None, codes, if◌then◌else◌}
 use Rattle.std.specs.Str.{bytes_eq}
 use Rattle.py_methods.specs.declared.name.Name.{Name}
 use Rattle.py_methods.specs.declared.name.Name.TheVariants as name
+use Rattle.py_meaning.specs.declared.fault.Called.{Called}
+use Rattle.py_meaning.specs.declared.fault.Called.TheVariants as named
+use Rattle.py_meaning.specs.Lookup.{builtin_named}
 
 abbrev pub name_in : List (List ℕ × Name) → List ℕ → Option Name
 name_in [] n = None
@@ -34,3 +37,9 @@ or_next None next = next
 -- the method that a word names: of texts, lists or dicts
 abbrev pub method_named : List ℕ → Option Name
 method_named n = or_next (name_in text_words n) (or_next (name_in list_words n) (name_in dict_words n))
+
+-- the name of what is called: of a function the one that its `def` has, else the word by which it is found
+abbrev pub IsNameOf : Called → List ℕ → Type 0
+IsNameOf (named.Function name) n = n ≡ name
+IsNameOf (named.Builtin b) n = builtin_named n ≡ Some b
+IsNameOf (named.Method m) n = method_named n ≡ Some m

@@ -1,5 +1,6 @@
 //! How scripts end, and why one cannot go on.
-use py_heap::ValueFault;
+use py_heap::{Builtin, ValueFault};
+use py_methods::Name;
 use scons_base::Text;
 
 /// How the last first script ended.
@@ -10,14 +11,23 @@ pub enum Exit {
     Returned,
 }
 
+/// What is called, by its name.
+#[derive(Debug, Drop)]
+pub enum Called {
+    /// A function of a script: the name that its `def` has.
+    Function(Text),
+    Builtin(Builtin),
+    Method(Name),
+}
+
 /// Why a script can't go on.
 #[derive(Debug, Drop)]
 pub enum EvalKind {
     /// A name that stands for nothing, or for nothing yet.
     Name(Text),
     Value(ValueFault),
-    /// A call with other arguments than it takes.
-    Args,
+    /// A call with other arguments than what is called takes.
+    Args(Called),
     NotCallable,
     /// The 201st nested call.
     Depth,

@@ -6,5 +6,6 @@
 #![tactic(auto)]
 
 mod fault;
+mod words;
 
-pub use fault::{EvalFault, EvalKind, Exit};
+pub use fault::{Called, EvalFault, EvalKind, Exit};

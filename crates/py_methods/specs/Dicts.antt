@@ -10,19 +10,21 @@ use Rattle.py_heap.specs.Heap.{Objects, Entries, dict_at, with_dict_at, keys_of,
 use Rattle.py_heap.specs.Dicts.{key_of, entry_at, put, put_all}
 use Rattle.scons_base.specs.declared.limits.TheConstants.{LIST_LIMIT}
 use Rattle.py_heap.specs.Units.{Units, limited}
+use Rattle.py_heap.specs.Values.{kind_of}
+use Rattle.py_heap.specs.declared.kind.ValueKind.{ValueKind}
 use Rattle.py_compare.specs.Outcomes.{Outcome, then_by, mismatch, new_list}
 
 abbrev item_or : Value → Option Entry → Value
 item_or default None = default
 item_or default (Some e) = e.item
 
-abbrev get_by : Entries → Value → Option Key → Result Value ValueFault
-get_by entries default None = Err fault.Key
-get_by entries default (Some k) = Ok (item_or default (entry_at entries k))
+abbrev get_by : Entries → Value → ValueKind → Option Key → Result Value ValueFault
+get_by entries default kind None = Err (fault.KeyKind kind)
+get_by entries default kind (Some k) = Ok (item_or default (entry_at entries k))
 
 -- the item under a key, or else another value
 abbrev pub get_of : Objects → ℕ → Value → Value → Result Value ValueFault
-get_of h id key default = get_by (dict_at h id) default (key_of h key)
+get_of h id key default = get_by (dict_at h id) default (kind_of key) (key_of h key)
 
 abbrev default_at : Objects → ℕ → Value → Value → Key → Option Entry → Result (Value × Objects) ValueFault
 default_at h id key item k (Some e) = Ok (e.item, h)
@@ -31,7 +33,7 @@ default_at h id key item k None =
     (item, with_dict_at h id (put (dict_at h id) k key item))
 
 abbrev default_by : Objects → ℕ → Value → Value → Option Key → Result (Value × Objects) ValueFault
-default_by h id key item None = Err fault.Key
+default_by h id key item None = Err (fault.KeyKind (kind_of key))
 default_by h id key item (Some k) = default_at h id key item k (entry_at (dict_at h id) k)
 
 -- the item under a key, which is put there where there is none

@@ -6,6 +6,7 @@ use Rattle.py_heap.specs.declared.value.Value.TheVariants as v
 use Rattle.py_heap.specs.declared.fault.ValueFault.{ValueFault}
 use Rattle.py_heap.specs.declared.fault.ValueFault.TheVariants as fault
 use Rattle.py_heap.specs.Heap.{Objects, list_at, with_list_at}
+use Rattle.py_heap.specs.Dicts.{missing}
 use Rattle.py_heap.specs.Many.{with_texts}
 use Rattle.scons_base.specs.declared.limits.TheConstants.{LIST_LIMIT}
 use Rattle.py_heap.specs.Units.{Units, charged, limited}
@@ -73,25 +74,25 @@ pop_of h id a i = mismatch a i
 abbrev pub pop_last_of : Objects → ℕ → Changed
 pop_last_of h id = pop_at h id (negsuc 0)
 
-abbrev remove_by : Objects → ℕ → Option ℕ × Units → Outcome
-remove_by h id found = elim found.0 [
-  | None ↦ Err fault.Key
+abbrev remove_by : Objects → ℕ → Value → Option ℕ × Units → Outcome
+remove_by h id x found = elim found.0 [
+  | None ↦ Err (missing h x)
   | Some n ↦ Ok (v.Nil, with_list_at h id (remove (list_at h id) n), found.1)
 ]
 
--- the first item equal to a value goes
+-- the first item equal to a value goes; where there is none, the value is the fault
 abbrev pub remove_of : Objects → Units → ℕ → Value → Outcome
-remove_of h u id x = then_by (place_from 0 h u (list_at h id) x) (remove_by h id)
+remove_of h u id x = then_by (place_from 0 h u (list_at h id) x) (remove_by h id x)
 
-abbrev index_by : Objects → Option ℕ × Units → Outcome
-index_by h found = elim found.0 [
-  | None ↦ Err fault.Key
+abbrev index_by : Objects → Value → Option ℕ × Units → Outcome
+index_by h x found = elim found.0 [
+  | None ↦ Err (missing h x)
   | Some n ↦ number h found.1 (fitting (pos n))
 ]
 
 -- the place of the first item equal to a value
 abbrev pub index_of : Objects → Units → ℕ → Value → Outcome
-index_of h u id x = then_by (place_from 0 h u (list_at h id) x) (index_by h)
+index_of h u id x = then_by (place_from 0 h u (list_at h id) x) (index_by h x)
 
 abbrev pub reverse_of : Objects → ℕ → Value × Objects
 reverse_of h id = with_items h id (reverse (list_at h id))

@@ -19,10 +19,10 @@ pub(crate) fn get(
     ensures ok { IfOk result (λ v. get_of heap.now dict.0 key default ≡ Ok v) }
     ensures fault { FailsAs result (get_of heap.now dict.0 key default) }
 {
-    let Some(key) = heap.key_of(key)? else {
-        return Err(ValueFault::Key);
+    let Some(content) = heap.key_of(key)? else {
+        return Err(ValueFault::KeyKind(key.kind()));
     };
-    match heap.entry_at(dict, &key) {
+    match heap.entry_at(dict, &content) {
         Some(entry) => Ok(entry.item),
         None => Ok(default),
     }
@@ -41,7 +41,7 @@ pub(crate) fn setdefault(
     ensures err { OnErr result (heap.new ≡ heap.old) }
 {
     let Some(content) = heap.key_of(key)? else {
-        return Err(ValueFault::Key);
+        return Err(ValueFault::KeyKind(key.kind()));
     };
     match heap.entry_at(dict, &content) {
         Some(entry) => Ok(entry.item),

@@ -152,7 +152,7 @@ pub(crate) fn remove(
             heap.remove_item(list, place);
             Ok(Value::Nil)
         }
-        None => Err(ValueFault::Key),
+        None => Err(heap.missing(item)?),
     }
 }
 
@@ -169,7 +169,7 @@ pub(crate) fn index(
     let found = place_of(heap, budget, heap.list_at(list), item)?;
     match found {
         Some(place) => Ok(Value::Int(above_zero(place as u64)?)),
-        None => Err(ValueFault::Key),
+        None => Err(heap.missing(item)?),
     }
 }
 

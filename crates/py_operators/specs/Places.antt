@@ -11,6 +11,8 @@ use Rattle.py_heap.specs.Heap.{Objects, Entries, list_at, dict_at, with_list_at,
 use Rattle.py_heap.specs.Dicts.{key_of, entry_at, put}
 use Rattle.scons_base.specs.declared.limits.TheConstants.{LIST_LIMIT}
 use Rattle.py_heap.specs.Units.{limited}
+use Rattle.py_heap.specs.Values.{kind_of}
+use Rattle.py_heap.specs.declared.kind.ValueKind.{ValueKind}
 use Rattle.py_compare.specs.Outcomes.{mismatch}
 
 -- the place that an index names in something of a length: from 0 on, or back from the end
@@ -31,17 +33,17 @@ abbrev pub item_at : List Value → Value → Value → Result Value ValueFault
 item_at items a (v.Int i) = item_in items i
 item_at items a i = mismatch a i
 
-abbrev keyed_by : Option Entry → Result Value ValueFault
-keyed_by None = Err fault.Key
-keyed_by (Some e) = Ok e.item
+abbrev keyed_by : Key → Option Entry → Result Value ValueFault
+keyed_by k None = Err (fault.Key k)
+keyed_by k (Some e) = Ok e.item
 
-abbrev item_under : Entries → Option Key → Result Value ValueFault
-item_under entries None = Err fault.Key
-item_under entries (Some k) = keyed_by (entry_at entries k)
+abbrev item_under : Entries → ValueKind → Option Key → Result Value ValueFault
+item_under entries kind None = Err (fault.KeyKind kind)
+item_under entries kind (Some k) = keyed_by k (entry_at entries k)
 
--- the item under a key
+-- the item under a key, or else that key as the fault
 abbrev pub keyed : Objects → Entries → Value → Result Value ValueFault
-keyed h entries i = item_under entries (key_of h i)
+keyed h entries i = item_under entries (kind_of i) (key_of h i)
 
 -- a heap in which a place of a list has another item
 abbrev set_by : Objects → ℕ → ℤ → Value → Option ℕ → Result Objects ValueFault
@@ -57,7 +59,7 @@ set_in_list h id a i x = mismatch a i
 
 -- a heap in which a dict has an item under a key: one more item where it has no such key
 abbrev put_by : Objects → ℕ → Value → Value → Option Key → Result Objects ValueFault
-put_by h id given x None = Err fault.Key
+put_by h id given x None = Err (fault.KeyKind (kind_of given))
 put_by h id given x (Some k) =
     limited LIST_LIMIT (length (put (dict_at h id) k given x)) (with_dict_at h id (put (dict_at h id) k given x))
 

@@ -53,12 +53,12 @@ pub(crate) fn keyed(heap: &Heap, dict: DictId, key: Value) -> Result<Value, Valu
     ensures ok { IfOk result (λ v. keyed heap.now (dict_at heap.now dict.0) key ≡ Ok v) }
     ensures fault { FailsAs result (keyed heap.now (dict_at heap.now dict.0) key) }
 {
-    let Some(key) = heap.key_of(key)? else {
-        return Err(ValueFault::Key);
+    let Some(content) = heap.key_of(key)? else {
+        return Err(ValueFault::KeyKind(key.kind()));
     };
-    match heap.entry_at(dict, &key) {
+    match heap.entry_at(dict, &content) {
         Some(entry) => Ok(entry.item),
-        None => Err(ValueFault::Key),
+        None => Err(ValueFault::Key(content)),
     }
 }
 
@@ -105,7 +105,7 @@ pub(crate) fn set_entry(
     ensures err { OnErr result (heap.new ≡ heap.old) }
 {
     let Some(content) = heap.key_of(key)? else {
-        return Err(ValueFault::Key);
+        return Err(ValueFault::KeyKind(key.kind()));
     };
     let length = length_with(heap, dict, &content);
     if length > LIST_LIMIT {

@@ -17,6 +17,7 @@ pub record Store : Type 0 where
 abbrev pub function_of : code.Function → Function
 function_of f =
     record {
+      name = f.name;
       script = f.script;
       parameters = f.parameters.items;
       locals = f.locals.keys;

@@ -24,6 +24,8 @@ impl Model for Bindable {
 /// What a `def` makes.
 #[derive(Drop)]
 pub struct Function {
+    /// The name that the `def` has.
+    pub name: Text,
     /// The script in which it stands.
     pub script: u64,
     pub parameters: Vec<Bindable>,

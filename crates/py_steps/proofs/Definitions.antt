@@ -49,7 +49,7 @@ pub takes_default : (p : code.Parameter) (ps : Tree) (vs : List Value) (x : Valu
 takes_default p ps vs x xs i e = default_by p.default p.line p.name ps vs x xs i e
 
 -- the state once a function is made and its name bound
-pub made_function : (m m1 : Machine) (f : Frame) (n : List ℕ) (ps body : Tree) (xs : List Value) (made : Function) (x : Value) → made ≡ record { script = f.script; parameters = parameters_by ps xs; locals = local_names ps body; body = body } → x ≡ v.Func (record { 0 = length (store_of m).functions }) → store_of m1 ≡ record (store_of m) { functions = (store_of m).functions ++ made ∷ [] } → with_bound (state_of m1 f) n x ≡ defined n ps body xs (state_of m f)
+pub made_function : (m m1 : Machine) (f : Frame) (n : List ℕ) (ps body : Tree) (xs : List Value) (made : Function) (x : Value) → made ≡ record { name = n; script = f.script; parameters = parameters_by ps xs; locals = local_names ps body; body = body } → x ≡ v.Func (record { 0 = length (store_of m).functions }) → store_of m1 ≡ record (store_of m) { functions = (store_of m).functions ++ made ∷ [] } → with_bound (state_of m1 f) n x ≡ defined n ps body xs (state_of m f)
 made_function m m1 f n ps body xs made x e g h =
     ap (λ (y : Value). with_bound (state_of m1 f) n y) g
     ∙ ap (λ (k : Store). with_bound (state_by k f) n (v.Func (record { 0 = length (store_of m).functions }))) h
@@ -61,13 +61,13 @@ defines t base d d' s s' xs e a g =
     arrives d' (goes_on s') a
     (same (ap (λ (x : State). left (tasks_of d) (under base (values_of d)) (goes_on x)) (sym (g ∙ ap (λ (ys : List Value). defined t.name.now (parameters_in t) body ys s) e))))
 
-abbrev function_by : ℕ → List Parameter → List (List ℕ) → Tree → Function
-function_by a ps ls t = record { script = a; parameters = ps; locals = ls; body = t }
+abbrev function_by : List ℕ → ℕ → List Parameter → List (List ℕ) → Tree → Function
+function_by n a ps ls t = record { name = n; script = a; parameters = ps; locals = ls; body = t }
 
-pub function_is : (a b : ℕ) (ps qs : List Parameter) (ls ns : List (List ℕ)) (t u : Tree) → a ≡ b → ps ≡ qs → ls ≡ ns → t ≡ u → function_by a ps ls t ≡ function_by b qs ns u
-function_is a b ps qs ls ns t u e f g h = ap (λ x. function_by x ps ls t) e ∙ ap (λ x. function_by b x ls t) f ∙ ap (λ x. function_by b qs x t) g ∙ ap (λ x. function_by b qs ns x) h
+pub function_is : (n m : List ℕ) (a b : ℕ) (ps qs : List Parameter) (ls ns : List (List ℕ)) (t u : Tree) → n ≡ m → a ≡ b → ps ≡ qs → ls ≡ ns → t ≡ u → function_by n a ps ls t ≡ function_by m b qs ns u
+function_is n m a b ps qs ls ns t u d e f g h = ap (λ x. function_by x a ps ls t) d ∙ ap (λ x. function_by m x ps ls t) e ∙ ap (λ x. function_by m b x ls t) f ∙ ap (λ x. function_by m b qs x t) g ∙ ap (λ x. function_by m b qs ns x) h
 
-pub defines_at : (t : Definition) (base : ℕ) (d d' : Desk) (m m1 m2 : Machine) (f f2 : Frame) (xs : List Value) (made : Function) (x : Value) → xs ≡ above base (values_of d) → stacks_of d' ≡ record { tasks = tasks_of d; values = under base (values_of d) } → made ≡ function_by f.script (parameters_by (parameters_in t) xs) (local_names (parameters_in t) (trees (map line_tree t.block.now.value.items))) (trees (map line_tree t.block.now.value.items)) → x ≡ v.Func (record { 0 = length m.functions.items }) → store_of m1 ≡ record (store_of m) { functions = (store_of m).functions ++ made ∷ [] } → state_of m2 f2 ≡ with_bound (state_of m1 f) t.name.now x → Unfolds (left (task.Define t base ∷ tasks_of d) (values_of d) (goes_on (state_of m f))) (left (tasks_of d') (values_of d') (goes_on (state_of m2 f2)))
+pub defines_at : (t : Definition) (base : ℕ) (d d' : Desk) (m m1 m2 : Machine) (f f2 : Frame) (xs : List Value) (made : Function) (x : Value) → xs ≡ above base (values_of d) → stacks_of d' ≡ record { tasks = tasks_of d; values = under base (values_of d) } → made ≡ function_by t.name.now f.script (parameters_by (parameters_in t) xs) (local_names (parameters_in t) (trees (map line_tree t.block.now.value.items))) (trees (map line_tree t.block.now.value.items)) → x ≡ v.Func (record { 0 = length m.functions.items }) → store_of m1 ≡ record (store_of m) { functions = (store_of m).functions ++ made ∷ [] } → state_of m2 f2 ≡ with_bound (state_of m1 f) t.name.now x → Unfolds (left (task.Define t base ∷ tasks_of d) (values_of d) (goes_on (state_of m f))) (left (tasks_of d') (values_of d') (goes_on (state_of m2 f2)))
 defines_at t base d d' m m1 m2 f f2 xs made x a b c e g h =
     let body = trees (map line_tree t.block.now.value.items) in
     let place : x ≡ v.Func (record { 0 = length (store_of m).functions }) = e ∙ ap (λ (n : ℕ). v.Func (record { 0 = n })) (sym (length-map m.functions.items (λ r. function_of r.value))) in

@@ -8,7 +8,7 @@ use Rattle.py_heap.specs.declared.ids.DictId.{DictId}
 use Rattle.py_heap.specs.declared.fault.ValueFault.{ValueFault}
 use Rattle.py_heap.specs.declared.fault.ValueFault.TheVariants as fault
 use Rattle.py_heap.specs.Heap.{Objects, Entries, dict_at, with_dict}
-use Rattle.py_heap.specs.Given.{given_dict, next_dict, with_pairs}
+use Rattle.py_heap.specs.Given.{given_dict, next_dict, with_pairs, unkeyed}
 use Rattle.scons_base.specs.declared.limits.TheConstants.{LIST_LIMIT}
 use Rattle.py_heap.specs.Units.{Units, room, limited, told_length}
 use Rattle.py_meaning.specs.Plans.{Plan}
@@ -82,7 +82,7 @@ dict_unmade h u ps xs e p g = by (with_pairs h [] (paired xs)) refl
     by : (o : Option Entries) → with_pairs h [] (paired xs) ≡ o → displayed h u xs ≡ Err e
     by None t =
         let w = rw t at told in
-        let same : fault.Key ≡ e = cc in
+        let same : fault.KeyKind (unkeyed h (paired xs)) ≡ e = cc in
         rw t (ap (λ z. Err z) same)
     by (Some es) t =
         let w = rw t at told in

@@ -284,6 +284,7 @@ pub fn define(
         parameters,
         locals,
         body: definition.block.clone()?,
+        name: definition.name.copy()?,
     })?;
     machine.bind(frame, definition.name, value)?;
     Ok(())

@@ -13,16 +13,6 @@ use std::collections::VecDeque;
 /// The arguments of a call in the order of its parameters.
 pub type Arguments = VecDeque<Option<Argument>>;
 
-/// Named arguments on which SCons acts and that are left out here.
-const LEFT_OUT: &[&str] = &[
-    "tools",
-    "toolpath",
-    "parse_flags",
-    "emitter",
-    "chdir",
-    "srcdir",
-];
-
 /// The arguments of a call by a signature.
 pub fn bound(
     heap: &Heap,
@@ -55,12 +45,20 @@ fn test_names(alloc: Global, signature: &Signature, args: &Args) -> Result<(), C
 }
 
 fn test_other(alloc: Global, signature: &Signature, name: &str) -> Result<(), CallFault> {
-    if LEFT_OUT.contains(&name) {
-        return Err(CallFault::LeftOut(Text::of(alloc, name)?));
+    if signature.left_out.contains(&name) {
+        return Err(left_out(alloc, name));
     }
     match signature.others {
         Others::Refused => Err(CallFault::Arguments),
+        Others::LeftOut => Err(left_out(alloc, name)),
         Others::Variables | Others::Exports => Ok(()),
+    }
+}
+
+fn left_out(alloc: Global, name: &str) -> CallFault {
+    match Text::of(alloc, name) {
+        Ok(name) => CallFault::LeftOut(name),
+        Err(_) => CallFault::Memory,
     }
 }
 
@@ -114,6 +112,20 @@ fn argument(
     match value_at(parameter, place, args) {
         None => Ok(None),
         Some(Value::Nil) if matches!(parameter.takes, Takes::OneOrNone) => Ok(None),
+        Some(value) if is_other(parameter.kind, value) => {
+            Err(left_out(heap.allocator(), parameter.name))
+        }
         Some(value) => Ok(Some(converted(heap, objects, parameter.kind, &[value])?)),
+    }
+}
+
+/// Whether a value is another one than a kind has alone, which is left out here.
+fn is_other(kind: Kind, value: Value) -> bool {
+    match kind {
+        Kind::True => !matches!(value, Value::Bool(true) | Value::Int(1)),
+        Kind::False => !matches!(value, Value::Bool(false) | Value::Int(0)),
+        Kind::None => !matches!(value, Value::Nil),
+        Kind::Text | Kind::Place | Kind::Nodes | Kind::Lines | Kind::Names => false,
+        Kind::Exports | Kind::Flag | Kind::Mode | Kind::Any => false,
     }
 }

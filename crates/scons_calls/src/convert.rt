@@ -25,9 +25,17 @@ pub fn converted(
         (Kind::Place, [value]) => Ok(Argument::Place(place(heap, objects, *value)?)),
         (Kind::Flag, [value]) => Ok(Argument::Flag(flag(*value)?)),
         (Kind::Mode, [value]) => Ok(Argument::Mode(mode(*value)?)),
-        (Kind::True, [value @ Value::Bool(true)]) => Ok(Argument::Any(*value)),
-        (Kind::False, [value @ Value::Bool(false)]) => Ok(Argument::Any(*value)),
-        (Kind::Any, [value]) => Ok(Argument::Any(*value)),
-        _ => Err(CallFault::Arguments),
+        (Kind::True | Kind::False | Kind::None | Kind::Any, [value]) => Ok(Argument::Any(*value)),
+        (
+            Kind::Text
+            | Kind::Place
+            | Kind::Flag
+            | Kind::Mode
+            | Kind::True
+            | Kind::False
+            | Kind::None
+            | Kind::Any,
+            [] | [_, _, ..],
+        ) => Err(CallFault::Arguments),
     }
 }

@@ -1,10 +1,10 @@
 //! From the arguments of a script to typed calls: which arguments each name of SCons takes, in which places, by which
 //! names, and of which kind each is.
 //!
-//! `signatures` is the table of the names, in the order of the manual. `bind` finds the arguments of a signature,
-//! `convert` and the files behind it turn the values of each into what its kind says, and `requests` makes of them what the
-//! host is asked. Refusals come in one order everywhere: a wrong number or name first, then the kinds in the order of the
-//! signature.
+//! `signatures` is the table of the names, in the order of the manual, `left_out` that of the names that are left out.
+//! `bind` finds the arguments of a signature, `convert` and the files behind it turn the values of each into what its kind
+//! says, and `requests` makes of them what the host is asked. Refusals come in one order everywhere: a wrong number or name
+//! first, then the kinds in the order of the signature.
 #![tactic(auto)]
 
 mod argument;
@@ -13,6 +13,7 @@ mod convert;
 mod exports;
 mod fault;
 mod flattening;
+mod left_out;
 mod name;
 mod nodes;
 mod objects;
@@ -28,9 +29,10 @@ mod words;
 pub use exports::Exports;
 pub use fault::CallFault;
 pub use flattening::flattened;
-pub use name::{Name, is_left_out};
+pub use left_out::{is_left_out, is_left_out_of_environments};
+pub use name::Name;
 pub use objects::{Objects, Thing};
-pub use request::{Request, ScriptFiles};
+pub use request::{Request, ScriptFiles, Shared, Valued};
 pub use requests::{own_request_of, request_of};
 pub use values::{
     dict_value, given_value, list_value, nodes_value, text_value, texts_value, tuple_value,

@@ -1,8 +1,28 @@
-//! The names of SCons that scripts call, and those that are left out.
+//! The names of SCons that scripts call, grouped by what a call asks, and how they are written.
 
-/// A name of SCons that scripts call, in the order of the table of signatures.
+/// A name of SCons that scripts call. Each group is matched whole where its calls are made requests, so none of a group can
+/// be forgotten there.
 #[derive(Clone, Copy, PartialEq, Eq)]
 pub enum Name {
+    Builds(Builds),
+    Environs(Environs),
+    Says(Says),
+    Tells(Tells),
+    Shares(Shares),
+}
+
+/// Builders with targets and sources.
+#[derive(Clone, Copy, PartialEq, Eq)]
+pub enum Builds {
+    Object,
+    Program,
+    StaticLibrary,
+    Library,
+}
+
+/// What is called with variables, or acts on those of an environment.
+#[derive(Clone, Copy, PartialEq, Eq)]
+pub enum Environs {
     Environment,
     DefaultEnvironment,
     Clone,
@@ -11,20 +31,18 @@ pub enum Name {
     AppendUnique,
     Replace,
     SetDefault,
-    Get,
     Subst,
-    Object,
-    Program,
-    StaticLibrary,
-    Library,
     Command,
     Builder,
+    Decider,
+    Help,
+}
+
+/// What declares or says something of nodes.
+#[derive(Clone, Copy, PartialEq, Eq)]
+pub enum Says {
     Install,
     InstallAs,
-    SConscript,
-    Export,
-    Import,
-    Return,
     VariantDir,
     Depends,
     Requires,
@@ -32,15 +50,28 @@ pub enum Name {
     AlwaysBuild,
     Alias,
     Default,
-    Help,
-    Decider,
-    Glob,
     File,
     Dir,
+}
+
+/// What the host tells by itself.
+#[derive(Clone, Copy, PartialEq, Eq)]
+pub enum Tells {
+    Get,
+    Glob,
     Split,
     Flatten,
     EnsureSConsVersion,
     EnsurePythonVersion,
+}
+
+/// What scripts share with one another.
+#[derive(Clone, Copy, PartialEq, Eq)]
+pub enum Shares {
+    SConscript,
+    Export,
+    Import,
+    Return,
 }
 
 /// Where a name stands: among the names of scripts, among the methods of environments, or in both places.
@@ -53,135 +84,84 @@ pub enum Stands {
 
 /// The names as they are written.
 pub const NAMES: &[(&str, Name, Stands)] = &[
-    ("Environment", Name::Environment, Stands::AsBoth),
     (
-        "DefaultEnvironment",
-        Name::DefaultEnvironment,
+        "Environment",
+        Name::Environs(Environs::Environment),
         Stands::AsBoth,
     ),
-    ("Clone", Name::Clone, Stands::AsMethod),
-    ("Append", Name::Append, Stands::AsMethod),
-    ("Prepend", Name::Prepend, Stands::AsMethod),
-    ("AppendUnique", Name::AppendUnique, Stands::AsMethod),
-    ("Replace", Name::Replace, Stands::AsMethod),
-    ("SetDefault", Name::SetDefault, Stands::AsMethod),
-    ("get", Name::Get, Stands::AsMethod),
-    ("subst", Name::Subst, Stands::AsMethod),
-    ("Object", Name::Object, Stands::AsBoth),
-    ("Program", Name::Program, Stands::AsBoth),
-    ("StaticLibrary", Name::StaticLibrary, Stands::AsBoth),
-    ("Library", Name::Library, Stands::AsBoth),
-    ("Command", Name::Command, Stands::AsBoth),
-    ("Builder", Name::Builder, Stands::AsBoth),
-    ("Install", Name::Install, Stands::AsBoth),
-    ("InstallAs", Name::InstallAs, Stands::AsBoth),
-    ("SConscript", Name::SConscript, Stands::AsBoth),
-    ("Export", Name::Export, Stands::Alone),
-    ("Import", Name::Import, Stands::Alone),
-    ("Return", Name::Return, Stands::Alone),
-    ("VariantDir", Name::VariantDir, Stands::AsBoth),
-    ("Depends", Name::Depends, Stands::AsBoth),
-    ("Requires", Name::Requires, Stands::AsBoth),
-    ("Ignore", Name::Ignore, Stands::AsBoth),
-    ("AlwaysBuild", Name::AlwaysBuild, Stands::AsBoth),
-    ("Alias", Name::Alias, Stands::AsBoth),
-    ("Default", Name::Default, Stands::AsBoth),
-    ("Help", Name::Help, Stands::AsBoth),
-    ("Decider", Name::Decider, Stands::AsBoth),
-    ("Glob", Name::Glob, Stands::AsBoth),
-    ("File", Name::File, Stands::AsBoth),
-    ("Dir", Name::Dir, Stands::AsBoth),
-    ("Split", Name::Split, Stands::AsBoth),
-    ("Flatten", Name::Flatten, Stands::AsBoth),
+    (
+        "DefaultEnvironment",
+        Name::Environs(Environs::DefaultEnvironment),
+        Stands::AsBoth,
+    ),
+    ("Clone", Name::Environs(Environs::Clone), Stands::AsMethod),
+    ("Append", Name::Environs(Environs::Append), Stands::AsMethod),
+    (
+        "Prepend",
+        Name::Environs(Environs::Prepend),
+        Stands::AsMethod,
+    ),
+    (
+        "AppendUnique",
+        Name::Environs(Environs::AppendUnique),
+        Stands::AsMethod,
+    ),
+    (
+        "Replace",
+        Name::Environs(Environs::Replace),
+        Stands::AsMethod,
+    ),
+    (
+        "SetDefault",
+        Name::Environs(Environs::SetDefault),
+        Stands::AsMethod,
+    ),
+    ("get", Name::Tells(Tells::Get), Stands::AsMethod),
+    ("subst", Name::Environs(Environs::Subst), Stands::AsMethod),
+    ("Object", Name::Builds(Builds::Object), Stands::AsBoth),
+    ("Program", Name::Builds(Builds::Program), Stands::AsBoth),
+    (
+        "StaticLibrary",
+        Name::Builds(Builds::StaticLibrary),
+        Stands::AsBoth,
+    ),
+    ("Library", Name::Builds(Builds::Library), Stands::AsBoth),
+    ("Command", Name::Environs(Environs::Command), Stands::AsBoth),
+    ("Builder", Name::Environs(Environs::Builder), Stands::AsBoth),
+    ("Install", Name::Says(Says::Install), Stands::AsBoth),
+    ("InstallAs", Name::Says(Says::InstallAs), Stands::AsBoth),
+    (
+        "SConscript",
+        Name::Shares(Shares::SConscript),
+        Stands::AsBoth,
+    ),
+    ("Export", Name::Shares(Shares::Export), Stands::Alone),
+    ("Import", Name::Shares(Shares::Import), Stands::Alone),
+    ("Return", Name::Shares(Shares::Return), Stands::Alone),
+    ("VariantDir", Name::Says(Says::VariantDir), Stands::AsBoth),
+    ("Depends", Name::Says(Says::Depends), Stands::AsBoth),
+    ("Requires", Name::Says(Says::Requires), Stands::AsBoth),
+    ("Ignore", Name::Says(Says::Ignore), Stands::AsBoth),
+    ("AlwaysBuild", Name::Says(Says::AlwaysBuild), Stands::AsBoth),
+    ("Alias", Name::Says(Says::Alias), Stands::AsBoth),
+    ("Default", Name::Says(Says::Default), Stands::AsBoth),
+    ("Help", Name::Environs(Environs::Help), Stands::AsBoth),
+    ("Decider", Name::Environs(Environs::Decider), Stands::AsBoth),
+    ("Glob", Name::Tells(Tells::Glob), Stands::AsBoth),
+    ("File", Name::Says(Says::File), Stands::AsBoth),
+    ("Dir", Name::Says(Says::Dir), Stands::AsBoth),
+    ("Split", Name::Tells(Tells::Split), Stands::AsBoth),
+    ("Flatten", Name::Tells(Tells::Flatten), Stands::AsBoth),
     (
         "EnsureSConsVersion",
-        Name::EnsureSConsVersion,
+        Name::Tells(Tells::EnsureSConsVersion),
         Stands::AsBoth,
     ),
     (
         "EnsurePythonVersion",
-        Name::EnsurePythonVersion,
+        Name::Tells(Tells::EnsurePythonVersion),
         Stands::AsBoth,
     ),
-];
-
-/// The names of SCons that are left out: a call of one is refused by its name.
-pub const LEFT_OUT: &[&str] = &[
-    "SharedLibrary",
-    "SharedObject",
-    "LoadableModule",
-    "SideEffect",
-    "Precious",
-    "Pseudo",
-    "Clean",
-    "NoClean",
-    "NoCache",
-    "CacheDir",
-    "Repository",
-    "Variables",
-    "AddOption",
-    "GetOption",
-    "SetOption",
-    "Execute",
-    "Exit",
-    "ParseFlags",
-    "MergeFlags",
-    "ParseConfig",
-    "ParseDepends",
-    "Dump",
-    "Configure",
-    "Tool",
-    "Action",
-    "AddPostAction",
-    "AddPreAction",
-    "AddMethod",
-    "Copy",
-    "Delete",
-    "Mkdir",
-    "Move",
-    "Touch",
-    "Chmod",
-    "Scanner",
-    "Value",
-    "Entry",
-    "Textfile",
-    "Substfile",
-    "Zip",
-    "Tar",
-    "Package",
-    "Java",
-    "JavaH",
-    "Jar",
-    "CFile",
-    "CXXFile",
-    "PDF",
-    "DVI",
-    "PostScript",
-    "MSVSProject",
-    "Moc",
-    "Uic",
-    "FindFile",
-    "FindPathDirs",
-    "FindInstalledFiles",
-    "FindSourceFiles",
-    "GetBuildPath",
-    "GetBuildFailures",
-    "GetLaunchDir",
-    "Literal",
-    "Local",
-    "Platform",
-    "Progress",
-    "PyPackageDir",
-    "SConsignFile",
-    "SConscriptChdir",
-    "Stop",
-    "WhereIs",
-    "Detect",
-    "AppendENVPath",
-    "PrependENVPath",
-    "PrependUnique",
-    "InstallVersionedLib",
-    "BuildDir",
 ];
 
 impl Name {
@@ -193,30 +173,12 @@ impl Name {
         }
     }
 
-    /// The name among those of scripts that is written so.
-    pub fn of_scripts(text: &str) -> Option<Name> {
-        match named(text)? {
-            (_, Stands::AsMethod) => None,
-            (name, _) => Some(name),
-        }
-    }
-
     /// The method of environments that is written so.
     pub fn of_environments(text: &str) -> Option<Name> {
-        match named(text)? {
-            (_, Stands::Alone) => None,
-            (name, _) => Some(name),
+        let row = NAMES.iter().find(|row| row.0 == text)?;
+        match row.2 {
+            Stands::Alone => None,
+            Stands::AsMethod | Stands::AsBoth => Some(row.1),
         }
     }
-}
-
-/// The name that is written so, and where it stands.
-fn named(text: &str) -> Option<(Name, Stands)> {
-    let row = NAMES.iter().find(|row| row.0 == text)?;
-    Some((row.1, row.2))
-}
-
-/// Whether SCons has a name that is left out here.
-pub fn is_left_out(text: &str) -> bool {
-    LEFT_OUT.contains(&text)
 }

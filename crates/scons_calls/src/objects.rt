@@ -1,5 +1,5 @@
 //! The objects of scripts: what the number of each stands for. A path, an alias or a method has one object, found by hash.
-use crate::name::{LEFT_OUT, NAMES, Name, Stands};
+use crate::name::{NAMES, Name, Stands};
 use indexmap::IndexMap;
 use py_heap::HostId;
 use scons_base::{EnvId, Memory, PathText, Text};
@@ -10,8 +10,6 @@ use std::alloc::Global;
 pub enum Thing {
     /// A name of SCons.
     Name(Name),
-    /// A name of SCons that is left out.
-    LeftOut(Text),
     Env(EnvId),
     /// A method of an environment.
     Method(EnvId, Name),
@@ -50,6 +48,10 @@ impl Objects {
             methods: IndexMap::new(alloc),
             alloc,
         }
+    }
+
+    pub fn allocator(&self) -> Global {
+        self.alloc
     }
 
     /// What an object stands for.
@@ -124,10 +126,6 @@ impl Objects {
             if !matches!(stands, Stands::AsMethod) {
                 self.put_name(text, Thing::Name(*name))?;
             }
-        }
-        for text in LEFT_OUT {
-            let name = Text::of(self.alloc, text)?;
-            self.put_name(text, Thing::LeftOut(name))?;
         }
         Ok(())
     }

@@ -15,16 +15,28 @@ pub struct ScriptFiles {
 
 #[derive(Drop)]
 pub enum Request {
+    /// The nodes whose paths match a pattern.
+    Glob(Text),
+    Scripts(ScriptFiles),
+    Shares(Shared),
+    Gives(Valued),
+}
+
+/// What is asked of the names that scripts share.
+#[derive(Drop)]
+pub enum Shared {
+    Export(Exports),
+    Import(Texts),
+    Return(Texts),
+}
+
+/// What a value answers.
+#[derive(Drop)]
+pub enum Valued {
     /// A call that is declared.
     Declare(Call),
     /// A variable, or this value where there is none.
     Get(Text, Value),
-    /// The nodes whose paths match a pattern.
-    Glob(Text),
-    Scripts(ScriptFiles),
-    Export(Exports),
-    Import(Texts),
-    Return(Texts),
     /// The words of a text, or a list as it is.
     Split(Value),
     Flatten(Value),

@@ -3,9 +3,9 @@ use crate::argument::Argument;
 use crate::bind::{Arguments, bound, place_of};
 use crate::exports::Exports;
 use crate::fault::CallFault;
-use crate::name::Name;
+use crate::name::{Builds, Environs, Name, Says, Shares, Tells};
 use crate::objects::Objects;
-use crate::request::{Request, ScriptFiles};
+use crate::request::{Request, ScriptFiles, Shared, Valued};
 use crate::signature::{Others, Signature};
 use crate::signatures::{own_builder_signature, signature};
 use crate::variables::{builders, variable_of};
@@ -13,7 +13,7 @@ use env_subst::Mode;
 use py_heap::{Heap, Value};
 use py_host::{Args, Scope};
 use scons_base::{Listing, Memory, Text, Texts};
-use scons_decls::{Builder, Call, Change, Given, Maker, Nodes, Variables};
+use scons_decls::{Builder, Call, Change, Given, Maker, Nodes, RuleCall, SayCall, Variables};
 use std::alloc::Global;
 
 /// What a call of a name asks.
@@ -28,18 +28,25 @@ pub fn request_of(
     let variables = variables(heap, objects, &signature, args)?;
     let alloc = heap.allocator();
     match name {
-        Name::Object => built(alloc, Maker::Object, &mut arguments, variables),
-        Name::Program => built(alloc, Maker::Program, &mut arguments, variables),
-        Name::StaticLibrary | Name::Library => {
-            built(alloc, Maker::StaticLibrary, &mut arguments, variables)
-        }
-        Name::Export => {
-            let mut exports = exports(alloc, &mut arguments);
-            put_named(alloc, &mut exports.values, args)?;
-            Ok(Request::Export(exports))
-        }
-        name => made(alloc, name, &mut arguments, variables),
+        Name::Builds(name) => built(alloc, maker_of(name), &mut arguments, variables),
+        Name::Environs(name) => Ok(declares(environs(alloc, name, &mut arguments, variables))),
+        Name::Says(name) => Ok(declares(said(alloc, name, &mut arguments)?)),
+        Name::Tells(name) => Ok(told(alloc, name, &mut arguments)),
+        Name::Shares(name) => shared(alloc, name, &mut arguments, args),
     }
+}
+
+/// What a builder's name makes.
+fn maker_of(name: Builds) -> Maker {
+    match name {
+        Builds::Object => Maker::Object,
+        Builds::Program => Maker::Program,
+        Builds::StaticLibrary | Builds::Library => Maker::StaticLibrary,
+    }
+}
+
+fn declares(call: Call) -> Request {
+    Request::Gives(Valued::Declare(call))
 }
 
 /// What a call of an environment's own builder asks.
@@ -128,102 +135,109 @@ fn built(
         (None, sources) => (None, nodes_in(alloc, sources)),
         (targets, sources) => (Some(nodes_in(alloc, targets)), nodes_in(alloc, sources)),
     };
-    Ok(Request::Declare(Call::Build {
+    Ok(declares(Call::Rules(RuleCall::Build {
         maker,
         targets,
         sources,
         variables,
-    }))
+    })))
 }
 
-/// What the calls of all other names ask.
-fn made(
-    alloc: Global,
-    name: Name,
-    from: &mut Arguments,
-    variables: Variables,
-) -> Result<Request, CallFault> {
-    let call = match name {
-        Name::Environment => Call::Environment(variables),
-        Name::DefaultEnvironment => Call::DefaultEnvironment(variables),
-        Name::Clone => Call::Clone(variables),
-        Name::Append => Call::Change(Change::Append, variables),
-        Name::Prepend => Call::Change(Change::Prepend, variables),
-        Name::AppendUnique => Call::Change(Change::AppendUnique, variables),
-        Name::Replace => Call::Change(Change::Replace, variables),
-        Name::SetDefault => Call::Change(Change::SetDefault, variables),
-        Name::Subst => Call::Subst(text(alloc, from), mode(from)),
-        Name::Command => Call::Command {
+/// What is asked by the names that are called with variables, or act on them.
+fn environs(alloc: Global, name: Environs, from: &mut Arguments, variables: Variables) -> Call {
+    match name {
+        Environs::Environment => Call::Environment(variables),
+        Environs::DefaultEnvironment => Call::DefaultEnvironment(variables),
+        Environs::Clone => Call::Clone(variables),
+        Environs::Append => Call::Change(Change::Append, variables),
+        Environs::Prepend => Call::Change(Change::Prepend, variables),
+        Environs::AppendUnique => Call::Change(Change::AppendUnique, variables),
+        Environs::Replace => Call::Change(Change::Replace, variables),
+        Environs::SetDefault => Call::Change(Change::SetDefault, variables),
+        Environs::Subst => Call::Subst(text(alloc, from), mode(from)),
+        Environs::Command => Call::Rules(RuleCall::Command {
             targets: nodes(alloc, from),
             sources: nodes(alloc, from),
             action: texts(alloc, from),
             variables,
-        },
-        Name::Builder => Call::NewBuilder(builder_of(alloc, from)),
-        Name::Decider => Call::Decider(text(alloc, from)),
-        Name::Help => Call::Help(text(alloc, from)),
-        name => return said(alloc, name, from),
-    };
-    Ok(Request::Declare(call))
+        }),
+        Environs::Builder => Call::NewBuilder(builder_of(alloc, from)),
+        Environs::Decider => Call::Decider(text(alloc, from)),
+        Environs::Help => Call::Help(text(alloc, from)),
+    }
 }
 
 /// What is asked by the names that say something of nodes.
-fn said(alloc: Global, name: Name, from: &mut Arguments) -> Result<Request, CallFault> {
-    let call = match name {
-        Name::Install => Call::Install {
+fn said(alloc: Global, name: Says, from: &mut Arguments) -> Result<Call, CallFault> {
+    Ok(match name {
+        Says::Install => Call::Rules(RuleCall::Install {
             dirs: nodes(alloc, from),
             sources: nodes(alloc, from),
-        },
-        Name::InstallAs => Call::InstallAs {
+        }),
+        Says::InstallAs => Call::Rules(RuleCall::InstallAs {
             targets: nodes(alloc, from),
             sources: nodes(alloc, from),
-        },
-        Name::VariantDir => Call::VariantDir {
+        }),
+        Says::VariantDir => Call::VariantDir {
             variant: place(from)?,
             source: place(from)?,
             duplicate: flag(from),
         },
-        Name::Depends => Call::Depends {
+        Says::Depends => Call::Says(SayCall::Depends {
             targets: nodes(alloc, from),
             nodes: nodes(alloc, from),
-        },
-        Name::Requires => Call::Requires {
+        }),
+        Says::Requires => Call::Says(SayCall::Requires {
             targets: nodes(alloc, from),
             nodes: nodes(alloc, from),
-        },
-        Name::Ignore => Call::Ignore {
+        }),
+        Says::Ignore => Call::Says(SayCall::Ignore {
             targets: nodes(alloc, from),
             nodes: nodes(alloc, from),
-        },
-        Name::AlwaysBuild => Call::AlwaysBuild(nodes(alloc, from)),
-        Name::Alias => Call::Alias {
+        }),
+        Says::AlwaysBuild => Call::Says(SayCall::AlwaysBuild(nodes(alloc, from))),
+        Says::Alias => Call::Says(SayCall::Alias {
             names: nodes(alloc, from),
             members: nodes(alloc, from),
-        },
-        Name::Default => Call::Default(wanted(alloc, from)?),
-        Name::File => Call::File(place(from)?),
-        Name::Dir => Call::Dir(place(from)?),
-        name => return asked(alloc, name, from),
-    };
-    Ok(Request::Declare(call))
+        }),
+        Says::Default => Call::Default(wanted(alloc, from)?),
+        Says::File => Call::File(place(from)?),
+        Says::Dir => Call::Dir(place(from)?),
+    })
 }
 
 /// What is asked of the host alone.
-fn asked(alloc: Global, name: Name, from: &mut Arguments) -> Result<Request, CallFault> {
+fn told(alloc: Global, name: Tells, from: &mut Arguments) -> Request {
+    match name {
+        Tells::Get => Request::Gives(Valued::Get(text(alloc, from), any(from))),
+        Tells::Glob => Request::Glob(text(alloc, from)),
+        Tells::Split => Request::Gives(Valued::Split(any(from))),
+        Tells::Flatten => Request::Gives(Valued::Flatten(any(from))),
+        Tells::EnsureSConsVersion | Tells::EnsurePythonVersion => Request::Gives(Valued::Nothing),
+    }
+}
+
+/// What is asked of other scripts.
+fn shared(
+    alloc: Global,
+    name: Shares,
+    from: &mut Arguments,
+    args: &Args,
+) -> Result<Request, CallFault> {
     Ok(match name {
-        Name::Get => Request::Get(text(alloc, from), any(from)),
-        Name::Glob => Request::Glob(text(alloc, from)),
-        Name::SConscript => Request::Scripts(ScriptFiles {
+        Shares::SConscript => Request::Scripts(ScriptFiles {
             files: nodes(alloc, from),
             exports: exports(alloc, from),
             variant: place(from).ok(),
             duplicate: flag(from),
         }),
-        Name::Import => Request::Import(texts(alloc, from)),
-        Name::Return => Request::Return(texts(alloc, from)),
-        Name::Split => Request::Split(any(from)),
-        Name::Flatten => Request::Flatten(any(from)),
-        _ => Request::Nothing,
+        Shares::Export => {
+            let mut exports = exports(alloc, from);
+            put_named(alloc, &mut exports.values, args)?;
+            Request::Shares(Shared::Export(exports))
+        }
+        Shares::Import => Request::Shares(Shared::Import(texts(alloc, from))),
+        Shares::Return => Request::Shares(Shared::Return(texts(alloc, from))),
     })
 }
 

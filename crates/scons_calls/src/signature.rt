@@ -19,7 +19,7 @@ pub enum Kind {
     Flag,
     /// How a text is substituted: 0, 1 or 2.
     Mode,
-    /// True, False or None alone: what stands for it where it isn't given.
+    /// What stands for it where it isn't given, True, False or None, and nothing else: any other value is left out here.
     True,
     False,
     None,
@@ -49,6 +49,8 @@ pub struct Parameter {
 #[derive(Clone, Copy)]
 pub enum Others {
     Refused,
+    /// SCons takes them, and they are left out here.
+    LeftOut,
     Variables,
     Exports,
 }
@@ -56,5 +58,7 @@ pub enum Others {
 #[derive(Clone, Copy)]
 pub struct Signature {
     pub parameters: &'static [Parameter],
+    /// The names of arguments on which SCons acts and that are left out here.
+    pub left_out: &'static [&'static str],
     pub others: Others,
 }

@@ -1,5 +1,5 @@
 //! The table of signatures, in the order of the manual's names.
-use crate::name::Name;
+use crate::name::{Builds, Environs, Name, Says, Shares, Tells};
 use crate::signature::{Kind, Others, Parameter, Signature, Takes};
 
 /// One argument that must stand.
@@ -48,9 +48,11 @@ macro_rules! any {
 
 const VARIABLES: &[Parameter] = &[];
 
+const UNIQUE: &[Parameter] = &[option!("delete_existing", False)];
+
 const TEXT_AND_DEFAULT: &[Parameter] = &[one!("key", Text), option!("default", Any)];
 
-const TEXT_AND_MODE: &[Parameter] = &[one!("text", Text), option!("raw", Mode)];
+const SUBST: &[Parameter] = &[one!("string", Text), option!("raw", Mode)];
 
 const BUILT: &[Parameter] = &[option!("target", Nodes), option!("source", Nodes)];
 
@@ -94,9 +96,13 @@ const REQUIRED: &[Parameter] = &[one!("target", Nodes), one!("prerequisite", Nod
 
 const TARGETS: &[Parameter] = &[some!("targets", Nodes)];
 
-const ALIAS: &[Parameter] = &[one!("alias", Nodes), option!("targets", Nodes)];
+const ALIAS: &[Parameter] = &[
+    one!("target", Nodes),
+    option!("source", Nodes),
+    option!("action", None),
+];
 
-const HELP: &[Parameter] = &[one!("text", Text)];
+const HELP: &[Parameter] = &[one!("text", Text), option!("append", False)];
 
 const DECIDER: &[Parameter] = &[one!("function", Text)];
 
@@ -118,45 +124,141 @@ const VERSION: &[Parameter] = &[
     option!("revision", Any),
 ];
 
+const NONE: &[&str] = &[];
+
+const OF_ENVIRONMENTS: &[&str] = &[
+    "platform",
+    "tools",
+    "toolpath",
+    "variables",
+    "options",
+    "parse_flags",
+];
+
+const OF_BUILDS: &[&str] = &[
+    "chdir",
+    "srcdir",
+    "parse_flags",
+    "emitter",
+    "targets",
+    "sources",
+];
+
+const OF_COMMANDS: &[&str] = &[
+    "source_scanner",
+    "target_scanner",
+    "source_factory",
+    "target_factory",
+    "chdir",
+    "srcdir",
+    "parse_flags",
+    "emitter",
+    "env",
+    "shell",
+    "targets",
+    "sources",
+];
+
+const OF_SUBST: &[&str] = &["target", "source", "conv", "executor", "overrides"];
+
+const OF_SCRIPTS: &[&str] = &["dirs", "name", "src_dir", "must_exist"];
+
+const OF_RETURNS: &[&str] = &["stop"];
+
+const OF_PLACES: &[&str] = &["directory", "create"];
+
 /// The signature of a name.
 pub fn signature(name: Name) -> Signature {
-    let (parameters, others) = match name {
-        Name::Environment | Name::DefaultEnvironment | Name::Clone => (
-            VARIABLES,
-            Others::Variables,
-        ),
-        Name::Append | Name::Prepend | Name::AppendUnique => (VARIABLES, Others::Variables),
-        Name::Replace | Name::SetDefault => (VARIABLES, Others::Variables),
-        Name::Get => (TEXT_AND_DEFAULT, Others::Refused),
-        Name::Subst => (TEXT_AND_MODE, Others::Refused),
-        Name::Object | Name::Program => (BUILT, Others::Variables),
-        Name::StaticLibrary | Name::Library => (BUILT, Others::Variables),
-        Name::Command => (COMMAND, Others::Variables),
-        Name::Builder => (BUILDER, Others::Refused),
-        Name::Install => (INSTALL, Others::Refused),
-        Name::InstallAs => (INSTALL_AS, Others::Refused),
-        Name::SConscript => (SCRIPTS, Others::Refused),
-        Name::Export => (EXPORT, Others::Exports),
-        Name::Import | Name::Return => (NAMES, Others::Refused),
-        Name::VariantDir => (VARIANT_DIR, Others::Refused),
-        Name::Depends | Name::Ignore => (SAID, Others::Refused),
-        Name::Requires => (REQUIRED, Others::Refused),
-        Name::AlwaysBuild | Name::Default => (TARGETS, Others::Refused),
-        Name::Alias => (ALIAS, Others::Refused),
-        Name::Help => (HELP, Others::Refused),
-        Name::Decider => (DECIDER, Others::Refused),
-        Name::Glob => (GLOB, Others::Refused),
-        Name::File | Name::Dir => (PLACE, Others::Refused),
-        Name::Split | Name::Flatten => (ARGUMENT, Others::Refused),
-        Name::EnsureSConsVersion | Name::EnsurePythonVersion => (VERSION, Others::Refused),
-    };
-    Signature { parameters, others }
+    match name {
+        Name::Builds(builds) => of_builds(builds),
+        Name::Environs(environs) => of_environs(environs),
+        Name::Says(says) => of_says(says),
+        Name::Tells(tells) => of_tells(tells),
+        Name::Shares(shares) => of_shares(shares),
+    }
 }
 
-/// The signature of a builder that a script has made.
+fn of_builds(builds: Builds) -> Signature {
+    match builds {
+        Builds::Object | Builds::Program => own_builder_signature(),
+        Builds::StaticLibrary | Builds::Library => own_builder_signature(),
+    }
+}
+
+fn of_environs(environs: Environs) -> Signature {
+    let (parameters, left_out, others) = match environs {
+        Environs::Environment | Environs::DefaultEnvironment | Environs::Clone => (
+            VARIABLES,
+            OF_ENVIRONMENTS,
+            Others::Variables,
+        ),
+        Environs::Append | Environs::Prepend => (VARIABLES, NONE, Others::Variables),
+        Environs::AppendUnique => (UNIQUE, NONE, Others::Variables),
+        Environs::Replace | Environs::SetDefault => (VARIABLES, NONE, Others::Variables),
+        Environs::Subst => (SUBST, OF_SUBST, Others::Refused),
+        Environs::Command => (COMMAND, OF_COMMANDS, Others::Variables),
+        Environs::Builder => (BUILDER, NONE, Others::LeftOut),
+        Environs::Decider => (DECIDER, NONE, Others::Refused),
+        Environs::Help => (HELP, NONE, Others::Refused),
+    };
+    Signature {
+        parameters,
+        left_out,
+        others,
+    }
+}
+
+fn of_says(says: Says) -> Signature {
+    let (parameters, left_out) = match says {
+        Says::Install => (INSTALL, NONE),
+        Says::InstallAs => (INSTALL_AS, NONE),
+        Says::VariantDir => (VARIANT_DIR, NONE),
+        Says::Depends | Says::Ignore => (SAID, NONE),
+        Says::Requires => (REQUIRED, NONE),
+        Says::AlwaysBuild | Says::Default => (TARGETS, NONE),
+        Says::Alias => (ALIAS, NONE),
+        Says::File | Says::Dir => (PLACE, OF_PLACES),
+    };
+    Signature {
+        parameters,
+        left_out,
+        others: Others::Refused,
+    }
+}
+
+fn of_tells(tells: Tells) -> Signature {
+    let parameters = match tells {
+        Tells::Get => TEXT_AND_DEFAULT,
+        Tells::Glob => GLOB,
+        Tells::Split | Tells::Flatten => ARGUMENT,
+        Tells::EnsureSConsVersion | Tells::EnsurePythonVersion => VERSION,
+    };
+    Signature {
+        parameters,
+        left_out: NONE,
+        others: Others::Refused,
+    }
+}
+
+fn of_shares(shares: Shares) -> Signature {
+    let (parameters, left_out, others) = match shares {
+        Shares::SConscript => (SCRIPTS, OF_SCRIPTS, Others::Refused),
+        Shares::Export => (EXPORT, NONE, Others::Exports),
+        Shares::Import => (NAMES, NONE, Others::Refused),
+        Shares::Return => (NAMES, OF_RETURNS, Others::Refused),
+    };
+    Signature {
+        parameters,
+        left_out,
+        others,
+    }
+}
+
+/// The signature of a builder, also of one that a script has made.
 pub fn own_builder_signature() -> Signature {
     Signature {
         parameters: BUILT,
+        left_out: OF_BUILDS,
         others: Others::Variables,
     }
 }

@@ -13,15 +13,31 @@ pub fn text(heap: &Heap, value: Value) -> Result<Text, CallFault> {
     }
 }
 
-/// The texts of an action, flattened.
+/// The texts of an action: one text, or a list of texts. To SCons a list in it is one command and its words; that is left
+/// out here.
 pub fn lines(heap: &Heap, values: &[Value]) -> Result<Texts, CallFault> {
-    let mut items = Vec::new(heap.allocator());
-    flattened(heap, values, &mut items)?;
+    let items = items_in(heap, values);
     let mut lines = Texts::new(Vec::new(heap.allocator()));
-    for item in &items {
-        lines.push(text(heap, *item)?)?;
+    for item in items {
+        lines.push(line(heap, *item)?)?;
     }
     Ok(lines)
+}
+
+/// What stands for lines: the items of one list, or one value. None stands for no line.
+fn items_in<'a>(heap: &'a Heap, values: &'a [Value]) -> &'a [Value] {
+    match values {
+        [Value::Nil, rest @ ..] if rest.is_empty() => rest,
+        [value] => heap.items_of(*value).unwrap_or(values),
+        _ => values,
+    }
+}
+
+fn line(heap: &Heap, value: Value) -> Result<Text, CallFault> {
+    if heap.items_of(value).is_some() {
+        return Err(CallFault::LeftOut(Text::of(heap.allocator(), "list in an action")?));
+    }
+    text(heap, value)
 }
 
 /// Names, cut at white space and flattened. `*` stands for all names.

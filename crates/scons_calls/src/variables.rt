@@ -5,7 +5,6 @@ use crate::nodes::place;
 use crate::objects::{Objects, Thing};
 use env_vars::{EnvValue, Item};
 use py_heap::{DictId, Heap, Value};
-use scons_base::limits::NESTING_LIMIT;
 use scons_base::{Listing, Text};
 use scons_decls::Given;
 
@@ -108,32 +107,31 @@ fn name_in(heap: &Heap, key: Value) -> Result<Text, CallFault> {
     }
 }
 
-/// The macros of a list: a tuple of two is a pair of a name and a value.
+/// The macros of a list, or of one value: a tuple of two is a pair of a name and a value.
 fn defines(heap: &Heap, objects: &Objects, value: Value) -> Result<Listing<Item>, CallFault> {
     let mut items = Listing::empty(heap.allocator());
-    push_defines(heap, objects, &[value], NESTING_LIMIT, &mut items)?;
+    match (value, heap.items_of(value)) {
+        (Value::Tuple(_), Some([name, value])) => items.push(define(heap, *name, *value)?)?,
+        (_, Some(inner)) => push_defines(heap, objects, inner, &mut items)?,
+        (value, None) => items.push(item(heap, objects, value)?)?,
+    }
     Ok(items)
 }
 
+/// Each item of a list: a list or tuple in it is a pair, or a name alone.
 fn push_defines(
     heap: &Heap,
     objects: &Objects,
     values: &[Value],
-    levels: u32,
     items: &mut Listing<Item>,
 ) -> Result<(), CallFault> {
     for value in values {
-        match (*value, heap.items_of(*value)) {
-            (Value::Tuple(_), Some([name, value])) => {
-                items.push(define(heap, *name, *value)?)?;
-            }
-            (_, Some(inner)) => {
-                if levels == 0 {
-                    return Err(CallFault::Arguments);
-                }
-                push_defines(heap, objects, inner, levels - 1, items)?;
-            }
-            (value, None) => items.push(item(heap, objects, value)?)?,
+        match heap.items_of(*value) {
+            Some([]) => {}
+            Some([name]) => items.push(item(heap, objects, *name)?)?,
+            Some([name, value]) => items.push(define(heap, *name, *value)?)?,
+            Some(_) => return Err(CallFault::Arguments),
+            None => items.push(item(heap, objects, *value)?)?,
         }
     }
     Ok(())

@@ -16,7 +16,7 @@ pub(crate) fn build(
     variables: &Variables,
 ) -> Result<Answer, NameFault> {
     let own = own_builder(state, env, maker)?;
-    if sources.is_empty() {
+    if sources.is_empty() && !matches!(maker, Maker::Own(_)) {
         return Err(NameFault::NoSource);
     }
     let site = site_of(state, env, place, variables)?;

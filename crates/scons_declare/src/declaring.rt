@@ -11,7 +11,8 @@ use crate::site::{plain_site, site_of};
 use env_subst::Mode;
 use scons_base::{EnvId, Listing, Text};
 use scons_decls::{
-    Answer, Call, Declarations, Given, NameFault, Place, Saying, dir_of, expanded, file_of,
+    Answer, Call, Declarations, Given, NameFault, Place, RuleCall, SayCall, Saying, dir_of,
+    expanded, file_of,
 };
 
 /// Declares a call that stands at a place and is made in an environment.
@@ -41,25 +42,26 @@ pub fn declare(
             source,
             duplicate,
         } => variant_dir(state, env, variant, source, *duplicate),
-        _ => declare_rules(state, env, place, call),
+        Call::Rules(call) => declare_rules(state, env, place, call),
+        Call::Says(call) => declare_said(state, env, place, call),
     }
 }
 
-/// The calls that declare rules, or say something of targets.
+/// The calls that declare rules.
 fn declare_rules(
     state: &mut Declarations,
     env: EnvId,
     place: Place,
-    call: &Call,
+    call: &RuleCall,
 ) -> Result<Answer, NameFault> {
     match call {
-        Call::Build {
+        RuleCall::Build {
             maker,
             targets,
             sources,
             variables,
         } => build(state, env, place, maker, targets, sources, variables),
-        Call::Command {
+        RuleCall::Command {
             targets,
             sources,
             action,
@@ -68,44 +70,56 @@ fn declare_rules(
             let site = site_of(state, env, place, variables)?;
             command(state, site, targets.as_slice(), sources.as_slice(), action)
         }
-        Call::Install { dirs, sources } => {
+        RuleCall::Install { dirs, sources } => {
             let site = plain_site(state, env, place);
             install(state, site, dirs.as_slice(), sources.as_slice())
         }
-        Call::InstallAs { targets, sources } => {
+        RuleCall::InstallAs { targets, sources } => {
             let site = plain_site(state, env, place);
             install_as(state, site, targets.as_slice(), sources.as_slice())
         }
-        _ => declare_said(state, env, call),
     }
 }
 
 /// The calls that say something of targets.
-fn declare_said(state: &mut Declarations, env: EnvId, call: &Call) -> Result<Answer, NameFault> {
+fn declare_said(
+    state: &mut Declarations,
+    env: EnvId,
+    place: Place,
+    call: &SayCall,
+) -> Result<Answer, NameFault> {
     let (saying, targets, nodes) = match call {
-        Call::Depends { targets, nodes } => (Saying::Depends, targets.as_slice(), nodes.as_slice()),
-        Call::Requires { targets, nodes } => (
+        SayCall::Depends { targets, nodes } => (
+            Saying::Depends,
+            targets.as_slice(),
+            nodes.as_slice(),
+        ),
+        SayCall::Requires { targets, nodes } => (
             Saying::Requires,
             targets.as_slice(),
             nodes.as_slice(),
         ),
-        Call::Ignore { targets, nodes } => (Saying::Ignore, targets.as_slice(), nodes.as_slice()),
-        Call::Alias { names, members } => {
+        SayCall::Ignore { targets, nodes } => (
+            Saying::Ignore,
+            targets.as_slice(),
+            nodes.as_slice(),
+        ),
+        SayCall::Alias { names, members } => {
             return alias(state, env, names.as_slice(), members.as_slice());
         }
-        Call::AlwaysBuild(targets) => {
+        SayCall::AlwaysBuild(targets) => {
             let none = Listing::empty(state.alloc);
             return say(
                 state,
                 env,
+                place,
                 Saying::Always,
                 targets.as_slice(),
                 none.as_slice(),
             );
         }
-        _ => return Ok(Answer::Nothing),
     };
-    say(state, env, saying, targets, nodes)
+    say(state, env, place, saying, targets, nodes)
 }
 
 /// `File(name)`

@@ -4,8 +4,8 @@ use env_subst::Mode;
 use env_vars::EnvValue;
 use scons_base::{EnvId, Text};
 use scons_decls::{
-    Answer, Change, Declarations, NameFault, Variables, bad_argument, expanded, refuse_variable,
-    refuse_variables,
+    Answer, Change, Declarations, NameFault, Variables, bad_argument, expanded, refuse_reading,
+    refuse_value, refuse_variable, refuse_variables,
 };
 use world_api::Decider;
 
@@ -78,6 +78,7 @@ pub(crate) fn set(
     value: &EnvValue,
 ) -> Result<Answer, NameFault> {
     refuse_variable(state.alloc, name.as_str())?;
+    refuse_value(state.alloc, value)?;
     change_one(state, env, Change::Replace, name, value)?;
     Ok(Answer::Nothing)
 }
@@ -97,7 +98,10 @@ pub(crate) fn set_builder(
 pub(crate) fn get(state: &Declarations, env: EnvId, name: &Text) -> Result<Answer, NameFault> {
     let value = match state.envs.get(env, name.as_str()) {
         Some(value) => Some(value.copy(state.alloc)?),
-        None => None,
+        None => {
+            refuse_reading(state.alloc, name.as_str())?;
+            None
+        }
     };
     Ok(Answer::Variable(value))
 }

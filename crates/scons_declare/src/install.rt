@@ -3,7 +3,7 @@ use crate::site::{Site, as_answer, declare_rule, one_path};
 use scons_base::{PathText, Paths, joined};
 use scons_decls::{Answer, Declarations, Given, NameFault, Recipe, bad_argument, dir_of, files_of};
 
-/// `Install(dir, source)`: each source is copied into each directory under its own name.
+/// `Install(dir, source)`: each source is copied into each directory under its own name. Without a source nothing is.
 pub(crate) fn install(
     state: &mut Declarations,
     site: Site,
@@ -14,9 +14,6 @@ pub(crate) fn install(
         return Err(bad_argument(state, "Install"));
     }
     let sources = files_of(state, site.env, sources, "Install")?;
-    if sources.as_slice().is_empty() {
-        return Err(NameFault::NoSource);
-    }
     let mut targets = Paths::new(Vec::new(state.alloc));
     for dir in dirs {
         let dir = dir_of(state, site.env, dir, "Install")?;

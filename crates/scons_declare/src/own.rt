@@ -31,7 +31,7 @@ fn naming_of(state: &Declarations, site: Site, builder: u32) -> Result<Naming, N
     })
 }
 
-/// `env.N(target, source)` and `env.N(source)`.
+/// `env.N(target, source)` and `env.N(source)`. Without a source and a target nothing is declared.
 pub(crate) fn own_rule(
     state: &mut Declarations,
     site: Site,
@@ -41,6 +41,9 @@ pub(crate) fn own_rule(
     sources: &[Given],
 ) -> Result<Answer, NameFault> {
     let naming = naming_of(state, site, builder)?;
+    if targets.is_none() && sources.is_empty() {
+        return as_answer(state, &[]);
+    }
     let sources = own_sources(state, site, &naming.source, name, sources)?;
     let targets = own_targets(state, site, &naming, name, targets, sources.as_slice())?;
     let answer = as_answer(state, targets.as_slice())?;

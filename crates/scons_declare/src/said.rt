@@ -2,14 +2,15 @@
 use env_subst::Mode;
 use scons_base::{EnvId, Listing, Paths, Text};
 use scons_decls::{
-    Answer, Asked, Declarations, Given, NameFault, Nodes, Said, Saying, bad_argument, expanded,
-    file_of, path_at,
+    AliasParts, Answer, Asked, Declarations, Given, NameFault, Nodes, Place, Said, Saying,
+    bad_argument, expanded, file_of, path_at,
 };
 
 /// `Depends(targets, nodes)` and its kin. They answer the targets.
 pub(crate) fn say(
     state: &mut Declarations,
     env: EnvId,
+    place: Place,
     saying: Saying,
     targets: &[Given],
     nodes: &[Given],
@@ -21,6 +22,7 @@ pub(crate) fn say(
         answer.push(say_of(state, env, saying, &mut files, target, nodes.as_slice())?)?;
     }
     state.said.push(Said {
+        place,
         saying,
         targets: files,
         nodes,
@@ -28,7 +30,8 @@ pub(crate) fn say(
     Ok(Answer::Targets(answer))
 }
 
-/// One target: a file is noted; what an alias depends on, or requires, is a member of it.
+/// One target: a file is noted. What an alias depends on is a member of it, what it requires stands in front of its
+/// members, and what it ignores is none.
 fn say_of(
     state: &mut Declarations,
     env: EnvId,
@@ -37,13 +40,15 @@ fn say_of(
     target: &Given,
     nodes: &[Given],
 ) -> Result<Given, NameFault> {
-    if let Given::Alias(name) = target {
+    if let Some(name) = alias_in(state, target) {
+        let name = name.copy()?;
         match saying {
-            Saying::Depends | Saying::Requires => add_members(state, name, nodes)?,
-            Saying::Ignore => return Err(bad_argument(state, "Ignore")),
+            Saying::Depends => add_members(state, &name, nodes)?,
+            Saying::Requires => add_required(state, &name, nodes)?,
+            Saying::Ignore => add_ignored(state, &name, nodes)?,
             Saying::Always => {}
         }
-        return Ok(Given::Alias(name.copy()?));
+        return Ok(Given::Alias(name));
     }
     let path = file_of(state, env, target, saying.name())?;
     if path.as_str() == "." {
@@ -75,10 +80,21 @@ fn member_of(
     name: &str,
     dirs: bool,
 ) -> Result<Given, NameFault> {
+    if let Some(alias) = alias_in(state, given) {
+        return Ok(Given::Alias(alias.copy()?));
+    }
     match given {
-        Given::Alias(alias) => Ok(Given::Alias(alias.copy()?)),
         Given::Dir(path) if dirs => Ok(Given::Dir(path.copy()?)),
         _ => Ok(Given::File(file_of(state, env, given, name)?)),
+    }
+}
+
+/// The name of the alias that an argument stands for. A text as it stands may name one that is declared already.
+fn alias_in<'a>(state: &Declarations, given: &'a Given) -> Option<&'a Text> {
+    match given {
+        Given::Alias(name) => Some(name),
+        Given::Text(text) if state.aliases.contains_key(text.as_str()) => Some(text),
+        _ => None,
     }
 }
 
@@ -111,15 +127,38 @@ fn alias_name(state: &Declarations, env: EnvId, given: &Given) -> Result<Text, N
 }
 
 fn add_members(state: &mut Declarations, name: &Text, members: &[Given]) -> Result<(), NameFault> {
-    let copies = copies_of(state, members)?;
-    match state.aliases.get_mut(name.as_str()) {
-        Some(there) => push_all(there, copies)?,
-        None => {
-            let name = String::from_str(state.alloc, name.as_str())?;
-            state.aliases.insert(name, copies)?;
-        }
+    let members = copies_of(state, members)?;
+    let parts = parts_of(state, name)?;
+    push_all(&mut parts.members, members)
+}
+
+fn add_required(state: &mut Declarations, name: &Text, nodes: &[Given]) -> Result<(), NameFault> {
+    let nodes = copies_of(state, nodes)?;
+    let parts = parts_of(state, name)?;
+    push_all(&mut parts.required, nodes)
+}
+
+fn add_ignored(state: &mut Declarations, name: &Text, nodes: &[Given]) -> Result<(), NameFault> {
+    let nodes = copies_of(state, nodes)?;
+    let parts = parts_of(state, name)?;
+    push_all(&mut parts.ignored, nodes)
+}
+
+/// What an alias stands for, which is nothing where it is new.
+fn parts_of<'a>(state: &'a mut Declarations, name: &Text) -> Result<&'a mut AliasParts, NameFault> {
+    if !state.aliases.contains_key(name.as_str()) {
+        let parts = AliasParts {
+            required: Vec::new(state.alloc),
+            members: Vec::new(state.alloc),
+            ignored: Vec::new(state.alloc),
+        };
+        let name = String::from_str(state.alloc, name.as_str())?;
+        state.aliases.insert(name, parts)?;
     }
-    Ok(())
+    match state.aliases.get_mut(name.as_str()) {
+        Some(parts) => Ok(parts),
+        None => Err(NameFault::Memory),
+    }
 }
 
 fn copies_of(state: &Declarations, members: &[Given]) -> Result<Vec<Given>, NameFault> {

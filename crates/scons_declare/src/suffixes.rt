@@ -59,7 +59,7 @@ pub(crate) fn affixed(
         text.push_str(prefix)?;
     }
     text.push_str(name)?;
-    if path.suffix().is_empty() && !name.ends_with(affixes.suffix.as_str()) {
+    if counted_suffix(path).is_empty() && !name.ends_with(affixes.suffix.as_str()) {
         text.push_str(affixes.suffix.as_str())?;
     }
     Ok(PathText::read(state.alloc, text.as_str())?)
@@ -89,9 +89,24 @@ fn bare_name<'a>(source: &'a PathText, known: &str) -> &'a str {
             }
         }
     }
-    match name.strip_suffix(source.suffix()) {
+    match name.strip_suffix(counted_suffix(source)) {
         Some(bare) => bare,
         None => name,
+    }
+}
+
+/// The suffix of a name as builders see it: one of digits alone is a part of the name, as of `lua5.4`.
+fn counted_suffix(path: &PathText) -> &str {
+    let suffix = path.suffix();
+    if is_number(suffix) { "" } else { suffix }
+}
+
+/// Whether a suffix is a dot and digits.
+fn is_number(suffix: &str) -> bool {
+    match suffix.as_bytes() {
+        [b'.', digits @ ..] => !digits.is_empty()
+            && digits.iter().all(|byte| byte.is_ascii_digit()),
+        _ => false,
     }
 }
 

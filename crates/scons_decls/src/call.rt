@@ -42,6 +42,22 @@ pub enum Call {
     Decider(Text),
     /// `Builder(..)`
     NewBuilder(Builder),
+    Rules(RuleCall),
+    Says(SayCall),
+    VariantDir {
+        variant: Given,
+        source: Given,
+        duplicate: bool,
+    },
+    Default(Nodes),
+    Help(Text),
+    File(Given),
+    Dir(Given),
+}
+
+/// A call that declares rules.
+#[derive(Drop)]
+pub enum RuleCall {
     Build {
         maker: Maker,
         targets: Option<Nodes>,
@@ -62,30 +78,14 @@ pub enum Call {
         targets: Nodes,
         sources: Nodes,
     },
-    VariantDir {
-        variant: Given,
-        source: Given,
-        duplicate: bool,
-    },
-    Depends {
-        targets: Nodes,
-        nodes: Nodes,
-    },
-    Requires {
-        targets: Nodes,
-        nodes: Nodes,
-    },
-    Ignore {
-        targets: Nodes,
-        nodes: Nodes,
-    },
+}
+
+/// A call that says something of targets, or of an alias.
+#[derive(Drop)]
+pub enum SayCall {
+    Depends { targets: Nodes, nodes: Nodes },
+    Requires { targets: Nodes, nodes: Nodes },
+    Ignore { targets: Nodes, nodes: Nodes },
     AlwaysBuild(Nodes),
-    Alias {
-        names: Nodes,
-        members: Nodes,
-    },
-    Default(Nodes),
-    Help(Text),
-    File(Given),
-    Dir(Given),
+    Alias { names: Nodes, members: Nodes },
 }

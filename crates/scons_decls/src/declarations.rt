@@ -1,10 +1,9 @@
 //! The state of a reading: what the scripts read so far have declared.
 use crate::builder::Builder;
 use crate::environments::Environments;
-use crate::given::Given;
 use crate::made::Made;
 use crate::rule::Declaration;
-use crate::said::{Asked, Said};
+use crate::said::{AliasParts, Asked, Said};
 use env_subst::Locals;
 use indexmap::IndexMap;
 use scons_base::{EnvId, Memory, PathText, Text, Texts};
@@ -22,7 +21,7 @@ pub struct Declarations {
     pub rules: Vec<Declaration>,
     pub made: Made,
     pub said: Vec<Said>,
-    pub aliases: IndexMap<String, Vec<Given>>,
+    pub aliases: IndexMap<String, AliasParts>,
     pub defaults: Vec<Asked>,
     pub helps: Texts,
     /// The directories of the scripts around the one that runs.

@@ -3,6 +3,7 @@ ghost use Rattle.std.specs.Prelude.{◌<◌, length};
 
 use crate::fault::NameFault;
 use crate::profile::refuse_variables;
+use crate::references::refuse_references;
 use env_subst::{
     CommandLines, LibItem, Locals, Mode, command_lines, dirs, lib_names, path_text, subst,
 };
@@ -151,6 +152,7 @@ impl Environments {
         locals: &Locals,
         mode: Mode,
     ) -> Result<Text, NameFault> {
+        refuse_references(self.alloc, text)?;
         let text = subst(self.alloc, &self.envs, self.held(env), text, locals, mode)?;
         Ok(Text::new(text))
     }
@@ -162,11 +164,13 @@ impl Environments {
         text: &str,
         locals: &Locals,
     ) -> Result<CommandLines, NameFault> {
+        refuse_references(self.alloc, text)?;
         Ok(command_lines(self.alloc, &self.envs, self.held(env), text, locals)?)
     }
 
     /// The text of a path.
     pub fn path_text(&self, env: EnvId, text: &str, locals: &Locals) -> Result<String, NameFault> {
+        refuse_references(self.alloc, text)?;
         Ok(path_text(self.alloc, &self.envs, self.held(env), text, locals)?)
     }
 

@@ -23,6 +23,10 @@ pub enum NameFault {
     EmptyAction,
     NotExported(Text),
     BadPath(PathFault),
+    /// A path that stands in lines of the shell and has a byte on which the shell acts.
+    ShellPath(PathText),
+    /// What was said of this target counts for no rule, as there is none that makes it.
+    NoRule(PathText),
     Variant(VariantFault),
     /// A value that can't be added to what the variable has.
     Kinds(Text),

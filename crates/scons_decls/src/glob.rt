@@ -16,19 +16,24 @@ struct Place {
 }
 
 impl Declarations {
-    /// The directories whose files `glob` is to be given: the pattern's own and, in a variant directory, its source.
+    /// The directories whose files `glob` is to be given: the pattern's own and, in a variant directory, its source. In a
+    /// variant directory with copies it is the source alone, since a copy whose source is gone counts for nothing.
     pub fn glob_dirs(&self, env: EnvId, pattern: &Text) -> Result<Paths, NameFault> {
         let place = place_of(self, env, pattern)?;
         let mut dirs = Paths::new(Vec::new(self.alloc));
-        if let Some(source) = source_of(self, &place.dir)? {
-            dirs.push(source)?;
+        match source_of(self, &place.dir)? {
+            Some(source) if self.is_copied(&place.dir) => dirs.push(source)?,
+            Some(source) => {
+                dirs.push(source)?;
+                dirs.push(place.dir)?;
+            }
+            None => dirs.push(place.dir)?,
         }
-        dirs.push(place.dir)?;
         Ok(dirs)
     }
 
     /// The files of a directory and the targets declared so far there whose names fit, in byte order. In a variant
-    /// directory the files of its source count too, and are named on the variant side.
+    /// directory the files and targets of its source count too, and are named on the variant side.
     pub fn glob(&self, env: EnvId, pattern: &Text, files: &Paths) -> Result<Nodes, NameFault> {
         let place = place_of(self, env, pattern)?;
         let source = source_of(self, &place.dir)?;
@@ -36,10 +41,26 @@ impl Declarations {
         if let Some(targets) = self.made.in_dir(&place.dir) {
             add_fitting(self, &mut found, &place, None, targets)?;
         }
+        if let Some(source) = &source {
+            add_made_in(self, &mut found, &place, source)?;
+        }
         add_fitting(self, &mut found, &place, source.as_ref(), files.as_slice())?;
         let mut paths = copies(self, found.as_slice())?;
         paths.sort()?;
         as_nodes(self, paths.as_slice())
+    }
+}
+
+/// Adds the declared targets of a place's source that fit.
+fn add_made_in(
+    state: &Declarations,
+    found: &mut IndexSet<PathText>,
+    place: &Place,
+    source: &PathText,
+) -> Result<(), NameFault> {
+    match state.made.in_dir(source) {
+        Some(targets) => add_fitting(state, found, place, Some(source), targets),
+        None => Ok(()),
     }
 }
 

@@ -19,13 +19,14 @@ mod made;
 mod pattern;
 mod place;
 mod profile;
+mod references;
 mod rule;
 mod said;
 mod scripts;
 
 pub use answer::Answer;
 pub use builder::Builder;
-pub use call::{Call, Change, Maker};
+pub use call::{Call, Change, Maker, RuleCall, SayCall};
 pub use declarations::Declarations;
 pub use environments::Environments;
 pub use expand::{
@@ -36,7 +37,8 @@ pub use given::{Given, Nodes, Variables};
 pub use language::{Language, language_of};
 pub use made::Made;
 pub use place::Place;
-pub use profile::{refuse_variable, refuse_variables};
+pub use profile::{refuse_reading, refuse_variable, refuse_variables};
+pub use references::refuse_value;
 pub use rule::{Declaration, Recipe};
-pub use said::{Asked, Said, Saying};
+pub use said::{AliasParts, Asked, Said, Saying};
 pub use scripts::ScriptPlace;

@@ -1,4 +1,4 @@
-//! The targets declared so far, each once, also by their directories.
+//! The targets declared so far, each once, also by their directories, and the directories above them.
 use indexmap::{IndexMap, IndexSet};
 use scons_base::{Memory, PathText};
 use std::alloc::Global;
@@ -7,6 +7,7 @@ use std::alloc::Global;
 pub struct Made {
     targets: IndexSet<PathText>,
     by_dir: IndexMap<String, Vec<PathText>>,
+    dirs: IndexSet<PathText>,
 }
 
 impl Made {
@@ -14,12 +15,18 @@ impl Made {
         Made {
             targets: IndexSet::new(alloc),
             by_dir: IndexMap::new(alloc),
+            dirs: IndexSet::new(alloc),
         }
     }
 
     /// Whether a rule was declared for the path.
     pub fn contains(&self, path: &PathText) -> bool {
         self.targets.contains(path)
+    }
+
+    /// Whether a target was declared below the path.
+    pub fn has_below(&self, path: &PathText) -> bool {
+        self.dirs.contains(path)
     }
 
     /// The targets that stand directly in a directory.
@@ -33,6 +40,7 @@ impl Made {
             return Ok(());
         }
         self.targets.insert(path.copy()?)?;
+        self.add_dirs(alloc, path)?;
         match self.by_dir.get_mut(path.dir()) {
             Some(paths) => paths.push(path.copy()?)?,
             None => {
@@ -43,5 +51,27 @@ impl Made {
             }
         }
         Ok(())
+    }
+
+    /// Notes the directories above a target, up to one that was noted before.
+    fn add_dirs(&mut self, alloc: Global, path: &PathText) -> Result<(), Memory> {
+        let mut dir = dir_of(alloc, path)?;
+        'dirs: for _ in 0..path.as_str().len() {
+            if self.dirs.contains(&dir) {
+                break;
+            }
+            let above = dir_of(alloc, &dir)?;
+            self.dirs.insert(dir)?;
+            dir = above;
+        }
+        Ok(())
+    }
+}
+
+/// The directory of a path.
+fn dir_of(alloc: Global, path: &PathText) -> Result<PathText, Memory> {
+    match PathText::read(alloc, path.dir()) {
+        Ok(dir) => Ok(dir),
+        Err(_) => Err(Memory),
     }
 }

@@ -1,54 +1,169 @@
-//! Which variables a script may set.
+//! Which variables a script may set, read and refer to.
 use crate::fault::NameFault;
+use crate::references::refuse_value;
 use env_vars::EnvValue;
 use scons_base::Text;
 use std::alloc::Global;
 
-/// The variables and arguments on which SCons acts and this program doesn't.
-const OUT_OF_PROFILE: [&str; 30] = [
-    "ENV",
+/// The variables and arguments on which SCons acts where a script sets them, and this program doesn't.
+const NOT_SET: [&str; 29] = [
     "tools",
     "toolpath",
     "parse_flags",
     "chdir",
     "srcdir",
     "emitter",
-    "OBJPREFIX",
-    "PROGPREFIX",
-    "SHOBJPREFIX",
-    "SHOBJSUFFIX",
-    "SHLIBPREFIX",
-    "SHLIBSUFFIX",
-    "SHLINK",
-    "SHCC",
-    "SHCXX",
-    "SHCCFLAGS",
-    "SHLINKFLAGS",
-    "SHLIBVERSION",
+    "BUILDERS",
     "RPATH",
+    "SHLIBVERSION",
+    "SHLIBVERSIONFLAGS",
+    "SHLIBNOVERSIONSYMLINKS",
+    "LDMODULEVERSION",
+    "SONAME",
+    "SOVERSION",
+    "PROGEMITTER",
+    "LIBEMITTER",
+    "IMPLICIT_COMMAND_DEPENDENCIES",
+    "SHELL_ENV_GENERATORS",
+    "TEMPFILEDIR",
+    "TEMPFILESUFFIX",
+    "INSTALLSTR",
+    "TARGET_ARCH",
+    "TARGET_OS",
+    "MSVC_VERSION",
+    "PRINT_CMD_LINE_FUNC",
+    "CHANGED_SOURCES",
+    "CHANGED_TARGETS",
+    "UNCHANGED_SOURCES",
+    "UNCHANGED_TARGETS",
+];
+
+/// Those that SCons gives a value by itself: a script that reads them, or refers to them in a text, is refused too.
+const LEFT_OUT: [&str; 70] = [
+    "ENV",
     "SHELL",
     "SPAWN",
     "PSPAWN",
-    "CPPSUFFIXES",
+    "ESCAPE",
+    "TEMPFILE",
+    "TEMPFILEPREFIX",
+    "TEMPFILEARGJOIN",
+    "TEMPFILEARGESCFUNC",
+    "MAXLINELENGTH",
     "SCANNERS",
-    "TARGET_ARCH",
-    "MSVC_VERSION",
+    "CPPSUFFIXES",
+    "CFILESUFFIX",
+    "CXXFILESUFFIX",
+    "OBJPREFIX",
+    "PROGPREFIX",
+    "LIBPREFIXES",
+    "LIBSUFFIXES",
+    "INSTALL",
+    "INSTALLVERSIONEDLIB",
+    "SMARTLINK",
+    "RPATHPREFIX",
+    "RPATHSUFFIX",
+    "_RPATH",
+    "__RPATH",
     "FRAMEWORKS",
     "FRAMEWORKPATH",
-    "PRINT_CMD_LINE_FUNC",
+    "STATIC_AND_SHARED_OBJECTS_ARE_THE_SAME",
+    "SHCC",
+    "SHCXX",
+    "SHCFLAGS",
+    "SHCCFLAGS",
+    "SHCXXFLAGS",
+    "SHCCCOM",
+    "SHCXXCOM",
+    "SHOBJPREFIX",
+    "SHOBJSUFFIX",
+    "SHLINK",
+    "SHLINKFLAGS",
+    "SHLINKCOM",
+    "SHLIBPREFIX",
+    "SHLIBSUFFIX",
+    "SHLIBEMITTER",
+    "SHLIBNAME",
+    "SHLIBSONAMEFLAGS",
+    "LDMODULE",
+    "LDMODULEFLAGS",
+    "LDMODULECOM",
+    "LDMODULEPREFIX",
+    "LDMODULESUFFIX",
+    "LDMODULEEMITTER",
+    "LDMODULENAME",
+    "LDMODULENOVERSIONSYMLINKS",
+    "_SHLIBVERSION",
+    "_SHLIBSUFFIX",
+    "_SHLIBSONAME",
+    "_SHLIBVERSIONFLAGS",
+    "_LDMODULESUFFIX",
+    "_LDMODULESONAME",
+    "__SHLIBVERSIONFLAGS",
+    "__LDMODULEVERSIONFLAGS",
+    "__libversionflags",
+    "__lib_either_version_flag",
+    "_concat",
+    "_stripixes",
+    "_defines",
+    "Dir",
+    "Dirs",
+    "File",
+    "RDirs",
 ];
 
-/// Refuses a variable on which SCons acts and this program doesn't.
+/// Those that SCons gives a value by itself, and that a script may give another one without effect.
+const NOT_READ: [&str; 8] = [
+    "PLATFORM",
+    "TOOLS",
+    "HOST_ARCH",
+    "HOST_OS",
+    "CCVERSION",
+    "CXXVERSION",
+    "CONFIGUREDIR",
+    "CONFIGURELOG",
+];
+
+/// Whether a text that refers to the variable is refused. What links and what looks directories up have a meaning in texts.
+pub(crate) fn is_left_out(name: &str) -> bool {
+    is_changed_list(name) || (LEFT_OUT.contains(&name) && name != "SMARTLINK" && name != "RDirs")
+}
+
+/// The lists of sources and targets by whether they changed.
+fn is_changed_list(name: &str) -> bool {
+    matches!(
+        name.as_bytes(),
+        b"CHANGED_SOURCES" | b"CHANGED_TARGETS" | b"UNCHANGED_SOURCES" | b"UNCHANGED_TARGETS"
+    )
+}
+
+/// Refuses to set a variable on which SCons acts and this program doesn't.
 pub fn refuse_variable(alloc: Global, name: &str) -> Result<(), NameFault> {
-    if OUT_OF_PROFILE.contains(&name) || name == "BUILDERS" {
-        return Err(NameFault::OutOfProfile(Text::of(alloc, name)?));
+    if NOT_SET.contains(&name) || LEFT_OUT.contains(&name) {
+        return Err(out_of_profile(alloc, name));
+    }
+    Ok(())
+}
+
+/// Refuses to read a variable that isn't there, and to which SCons gives a value.
+pub fn refuse_reading(alloc: Global, name: &str) -> Result<(), NameFault> {
+    if is_left_out(name) || NOT_READ.contains(&name) {
+        return Err(out_of_profile(alloc, name));
     }
     Ok(())
 }
 
 pub fn refuse_variables(alloc: Global, values: &[(Text, EnvValue)]) -> Result<(), NameFault> {
-    for (name, _) in values {
+    for (name, value) in values {
         refuse_variable(alloc, name.as_str())?;
+        refuse_value(alloc, value)?;
     }
     Ok(())
+}
+
+fn out_of_profile(alloc: Global, name: &str) -> NameFault {
+    match Text::of(alloc, name) {
+        Ok(name) => NameFault::OutOfProfile(name),
+        Err(_) => NameFault::Memory,
+    }
 }

@@ -69,7 +69,7 @@ impl Declarations {
     }
 
     /// Whether a path lies in a variant directory with copies.
-    fn is_copied(&self, path: &PathText) -> bool {
+    pub(crate) fn is_copied(&self, path: &PathText) -> bool {
         match self.locals.variants.variant_of(path) {
             Some(variant) => variant.duplicate,
             None => false,

@@ -38,7 +38,7 @@ module _ {W S : Type 0} (m : Meaning W) (p : SinkMeaning S) where
   later_kind kind.Host a b c f g = refuses_after m p a b c f g
   later_kind (kind.Name n) a b c f g = serves_joined m p a b c f g
   later_kind (kind.Value e) a b c f g = serves_joined m p a b c f g
-  later_kind kind.Args a b c f g = serves_joined m p a b c f g
+  later_kind (kind.Args x) a b c f g = serves_joined m p a b c f g
   later_kind kind.NotCallable a b c f g = serves_joined m p a b c f g
   later_kind kind.Depth a b c f g = serves_joined m p a b c f g
 
@@ -50,7 +50,7 @@ module _ {W S : Type 0} (m : Meaning W) (p : SinkMeaning S) where
   own kind.Host h i = absurd i
   own (kind.Name n) h i = serves_same m p h
   own (kind.Value e) h i = serves_same m p h
-  own kind.Args h i = serves_same m p h
+  own (kind.Args x) h i = serves_same m p h
   own kind.NotCallable h i = serves_same m p h
   own kind.Depth h i = serves_same m p h
 
@@ -72,7 +72,7 @@ module _ {W S : Type 0} (m : Meaning W) (p : SinkMeaning S) where
   kind_caused kind.Host h h2 c = c.cause
   kind_caused (kind.Name n) h h2 c = c.well
   kind_caused (kind.Value e) h h2 c = c.well
-  kind_caused kind.Args h h2 c = c.well
+  kind_caused (kind.Args x) h h2 c = c.well
   kind_caused kind.NotCallable h h2 c = c.well
   kind_caused kind.Depth h h2 c = c.well
 
@@ -96,6 +96,6 @@ pub own_kind : (old new : Outside) (kept : Option HostEnd) (k : EvalKind) → k 
 own_kind old new kept kind.Host not cause = absurd (not cc)
 own_kind old new kept (kind.Name n) not cause = cause
 own_kind old new kept (kind.Value e) not cause = cause
-own_kind old new kept kind.Args not cause = cause
+own_kind old new kept (kind.Args x) not cause = cause
 own_kind old new kept kind.NotCallable not cause = cause
 own_kind old new kept kind.Depth not cause = cause

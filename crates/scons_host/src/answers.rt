@@ -8,14 +8,19 @@ use scons_base::Text;
 use scons_calls::{
     Thing, flattened, given_value, list_value, nodes_value, text_value, texts_value, variable_value,
 };
-use scons_decls::{Answer, Call};
+use scons_decls::{Answer, Call, SayCall};
 
 /// Whether the answer to a call is one node, and no list.
 pub fn is_single(call: &Call) -> bool {
     match call {
         Call::File(_) | Call::Dir(_) => true,
-        Call::Alias { names, .. } => names.len() == 1,
-        _ => false,
+        Call::Says(SayCall::Alias { names, .. }) => names.len() == 1,
+        Call::Says(SayCall::Depends { .. } | SayCall::Requires { .. }) => false,
+        Call::Says(SayCall::Ignore { .. } | SayCall::AlwaysBuild(_)) => false,
+        Call::Environment(_) | Call::DefaultEnvironment(_) | Call::Clone(_) => false,
+        Call::Change(..) | Call::Set(..) | Call::SetBuilder(..) | Call::Get(_) => false,
+        Call::Subst(..) | Call::Decider(_) | Call::NewBuilder(_) | Call::Rules(_) => false,
+        Call::VariantDir { .. } | Call::Default(_) | Call::Help(_) => false,
     }
 }
 

@@ -10,9 +10,11 @@ use py_heap::{DictId, Heap, HostId, Value};
 use py_host::Place;
 use scons_base::{EnvId, PathText, Text};
 use scons_calls::{
-    Name, Thing, builder, is_identifier, is_left_out, text_value, variable_of, variable_value,
+    Name, Thing, builder, is_identifier, is_left_out_of_environments, text_value, variable_of,
+    variable_value,
 };
 use scons_decls::{Call, NameFault};
+use std::alloc::Global;
 
 /// The builders of an environment, among its variables.
 const BUILDERS: &str = "BUILDERS";
@@ -29,7 +31,10 @@ enum Subject {
     Env(EnvId),
     Builders(EnvId),
     Path(PathText),
-    Other,
+    /// A builder or an alias, which has attributes in SCons alone.
+    Made,
+    /// A name, a method, or no object of the host's.
+    Called,
 }
 
 fn subject_of(state: &State, object: HostId) -> Result<Subject, Refusal> {
@@ -37,7 +42,8 @@ fn subject_of(state: &State, object: HostId) -> Result<Subject, Refusal> {
         Some(Thing::Env(env)) => Subject::Env(*env),
         Some(Thing::Builders(env)) => Subject::Builders(*env),
         Some(Thing::File(path) | Thing::Dir(path)) => Subject::Path(path.copy()?),
-        _ => Subject::Other,
+        Some(Thing::Builder(_) | Thing::Alias(_)) => Subject::Made,
+        Some(Thing::Name(_) | Thing::Method(..) | Thing::OwnMethod(..)) | None => Subject::Called,
     })
 }
 
@@ -54,28 +60,39 @@ pub fn attribute(
     match subject_of(state, object)? {
         Subject::Env(env) => method(state, env, name),
         Subject::Path(path) => told(state, heap, &path, name),
-        Subject::Builders(_) | Subject::Other => Err(bad_argument(state.alloc, name)),
+        Subject::Builders(_) | Subject::Made => Err(left_out(state.alloc, name)),
+        Subject::Called => Err(bad_argument(state.alloc, name)),
     }
 }
 
-/// The method of an environment: a name of SCons, or a builder that the environment has.
+/// The method of an environment: a builder that the environment has, or a name of SCons.
 fn method(state: &mut State, env: EnvId, name: &str) -> Result<Value, Refusal> {
-    let alloc = state.alloc;
-    if let Some(known) = Name::of_environments(name) {
-        let id = state.objects.method(env, name, Thing::Method(env, known))?;
-        return Ok(Value::Object(id));
-    }
-    let text = Text::of(alloc, name)?;
+    let Some(thing) = method_of(state, env, name)? else {
+        return Err(no_method(state.alloc, name));
+    };
+    Ok(Value::Object(state.objects.method(env, name, thing)?))
+}
+
+/// A builder of the environment's own comes before the name of SCons that is written so.
+fn method_of(state: &State, env: EnvId, name: &str) -> Result<Option<Thing>, Refusal> {
     if state.declared.builder_of(env, name).is_some() {
-        let id = state
-            .objects
-            .method(env, name, Thing::OwnMethod(env, text))?;
-        return Ok(Value::Object(id));
+        let text = Text::of(state.alloc, name)?;
+        return Ok(Some(Thing::OwnMethod(env, text)));
     }
-    if is_left_out(name) {
-        return Err(left_out(alloc, name));
+    match Name::of_environments(name) {
+        Some(known) => Ok(Some(Thing::Method(env, known))),
+        None => Ok(None),
     }
-    Err(Refusal::Kind(ReadKind::Name(NameFault::UnknownBuilder(text))))
+}
+
+fn no_method(alloc: Global, name: &str) -> Refusal {
+    if is_left_out_of_environments(name) {
+        return left_out(alloc, name);
+    }
+    match Text::of(alloc, name) {
+        Ok(name) => Refusal::Kind(ReadKind::Name(NameFault::UnknownBuilder(name))),
+        Err(_) => Refusal::Memory,
+    }
 }
 
 /// What an attribute tells of a node or directory.
@@ -134,15 +151,15 @@ pub fn item(
             let id = state.objects.method(env, BUILDERS, Thing::Builders(env))?;
             Ok(Value::Object(id))
         }
-        Subject::Env(env) => match variable(state, place, env, name)? {
+        Subject::Env(env) => match variable(state, place, env, name.copy()?)? {
             Some(value) => Ok(variable_value(heap, &mut state.objects, &value)?),
-            None => Err(no_such_key()),
+            None => Err(no_such_key(name)),
         },
         Subject::Builders(env) => match state.declared.builder_of(env, name.as_str()) {
             Some(number) => Ok(Value::Object(state.objects.add(Thing::Builder(number))?)),
-            None => Err(no_such_key()),
+            None => Err(no_such_key(name)),
         },
-        Subject::Path(_) | Subject::Other => Err(not_indexed(state, heap, object)),
+        Subject::Path(_) | Subject::Made | Subject::Called => Err(not_indexed(state, heap, object)),
     }
 }
 
@@ -165,7 +182,7 @@ pub fn set_item(
         }
         Subject::Env(env) => set_variable(state, heap, place, env, name, value),
         Subject::Builders(env) => set_builder(state, heap, place, env, name, value),
-        Subject::Path(_) | Subject::Other => Err(not_indexed(state, heap, object)),
+        Subject::Path(_) | Subject::Made | Subject::Called => Err(not_indexed(state, heap, object)),
     }
 }
 

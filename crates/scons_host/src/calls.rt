@@ -9,11 +9,13 @@ use crate::globbing::glob;
 use crate::scopes::{imported, put_exports, return_names};
 use crate::scripts::open_scripts;
 use crate::state::State;
-use crate::stop::{Refusal, Stop, bad_argument, left_out, refused};
+use crate::stop::{Refusal, Stop, bad_argument, refused};
 use py_heap::{Heap, HostId, Value};
 use py_host::{Args, Place, Reply, Scope};
-use scons_base::{EnvId, Texts};
-use scons_calls::{CallFault, Exports, Request, Thing, own_request_of, request_of};
+use scons_base::{EnvId, Text, Texts};
+use scons_calls::{
+    CallFault, Exports, Name, Request, Shared, Thing, Valued, own_request_of, request_of,
+};
 use world_api::World;
 
 /// Where a call stands, and the names that it sees.
@@ -51,10 +53,7 @@ fn requested(
 ) -> Result<(EnvId, Request), Refusal> {
     let default = state.declared.default_env();
     match state.objects.thing(object) {
-        Some(Thing::Name(name)) => {
-            let asked = request_of(heap, &state.objects, *name, args);
-            Ok((default, taken(state, name.text(), asked)?))
-        }
+        Some(Thing::Name(name)) => named(state, heap, default, *name, args),
         Some(Thing::Method(env, name)) => {
             let asked = request_of(heap, &state.objects, *name, args);
             Ok((*env, taken(state, name.text(), asked)?))
@@ -63,9 +62,34 @@ fn requested(
             let asked = own_request_of(heap, &state.objects, name, args);
             Ok((*env, taken(state, name.as_str(), asked)?))
         }
-        Some(Thing::LeftOut(name)) => Err(left_out(state.alloc, name.as_str())),
-        _ => Err(bad_argument(state.alloc, heap.shown_of(object).unwrap_or(""))),
+        Some(Thing::Env(_) | Thing::Builders(_) | Thing::Builder(_)) | None => {
+            Err(not_called(state, heap, object))
+        }
+        Some(Thing::File(_) | Thing::Dir(_) | Thing::Alias(_)) => {
+            Err(not_called(state, heap, object))
+        }
     }
+}
+
+fn not_called(state: &State, heap: &Heap, object: HostId) -> Refusal {
+    bad_argument(state.alloc, heap.shown_of(object).unwrap_or("env"))
+}
+
+/// What a name asks of the default environment: that one's own builder where it has one that is called so.
+fn named(
+    state: &State,
+    heap: &Heap,
+    env: EnvId,
+    name: Name,
+    args: &Args,
+) -> Result<(EnvId, Request), Refusal> {
+    let text = name.text();
+    let asked = if state.declared.builder_of(env, text).is_some() {
+        own_request_of(heap, &state.objects, &Text::of(state.alloc, text)?, args)
+    } else {
+        request_of(heap, &state.objects, name, args)
+    };
+    Ok((env, taken(state, text, asked)?))
 }
 
 fn taken(state: &State, name: &str, asked: Result<Request, CallFault>) -> Result<Request, Refusal> {
@@ -91,46 +115,47 @@ fn answered<W: World>(
     match request {
         Request::Glob(pattern) => Ok(Reply::Value(glob(state, world, heap, env, &pattern)?)),
         Request::Scripts(files) => open_scripts(state, world, heap, caller, env, files),
-        request => Ok(answered_alone(state, heap, caller, env, request)?),
+        Request::Shares(asked) => Ok(shared(state, heap, caller, asked)?),
+        Request::Gives(asked) => {
+            Ok(Reply::Value(value_of(state, heap, caller.place, env, asked)?))
+        }
     }
 }
 
-/// What is answered where the world isn't asked.
+/// What is answered of the names that scripts share.
 #[tactic(auto, using(crate::specs::Looking::looking))]
-fn answered_alone(
+fn shared(
     state: &mut State,
     heap: &mut Heap,
     caller: Caller<'_>,
-    env: EnvId,
-    request: Request,
+    asked: Shared,
 ) -> Result<Reply, Refusal>
     ensures { Extends heap.old heap.new }
 {
-    match request {
-        Request::Export(exports) => exported(state, caller, exports),
-        Request::Import(names) => import(state, names),
-        Request::Return(names) => returned(state, heap, caller, names),
-        request => Ok(Reply::Value(value_of(state, heap, caller.place, env, request)?)),
+    match asked {
+        Shared::Export(exports) => exported(state, caller, exports),
+        Shared::Import(names) => import(state, names),
+        Shared::Return(names) => returned(state, heap, caller, names),
     }
 }
 
-/// The value that a request gives.
+/// The value that answers.
 #[tactic(auto, using(crate::specs::Looking::looking))]
 fn value_of(
     state: &mut State,
     heap: &mut Heap,
     place: Place,
     env: EnvId,
-    request: Request,
+    asked: Valued,
 ) -> Result<Value, Refusal>
     ensures { Extends heap.old heap.new }
 {
-    match request {
-        Request::Declare(call) => declared(state, heap, place, env, call),
-        Request::Get(name, default) => value_or(state, heap, place, env, name, default),
-        Request::Split(value) => split_value(heap, value),
-        Request::Flatten(value) => flat_value(heap, value),
-        _ => Ok(Value::Nil),
+    match asked {
+        Valued::Declare(call) => declared(state, heap, place, env, call),
+        Valued::Get(name, default) => value_or(state, heap, place, env, name, default),
+        Valued::Split(value) => split_value(heap, value),
+        Valued::Flatten(value) => flat_value(heap, value),
+        Valued::Nothing => Ok(Value::Nil),
     }
 }
 

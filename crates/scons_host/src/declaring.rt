@@ -52,7 +52,8 @@ pub fn variable(
 ) -> Result<Option<EnvValue>, Refusal> {
     match answer(state, place, env, Call::Get(name))? {
         Answer::Variable(value) => Ok(value),
-        _ => Ok(None),
+        Answer::Nothing | Answer::Env(_) | Answer::Targets(_) => Ok(None),
+        Answer::Text(_) | Answer::Builder(_) => Ok(None),
     }
 }
 

@@ -3,18 +3,29 @@ use py_eval::EvalKind;
 use py_lex::LexKind;
 use py_parse::ParseKind;
 use rule_graph::What;
-use scons_base::{Memory as NoMemory, PathText};
+use scons_base::{Memory as NoMemory, PathText, Text};
 use scons_decls::NameFault;
 
 /// Why a script isn't read.
 #[derive(Drop)]
 pub enum ReadKind {
-    /// There is no such script.
-    NoScript,
+    /// There is no script at this path.
+    NoScript(PathText),
     Lex(LexKind),
     Parse(ParseKind),
     Eval(EvalKind),
     Name(NameFault),
+    /// An environment has no variable or builder of this name.
+    Key(Text),
+    /// The target has another rule, which this place declares.
+    TwoRules(PathText, FirstRule),
+}
+
+/// Where a target's first rule is declared: on this line of the same script, or of another one.
+#[derive(Drop)]
+pub struct FirstRule {
+    pub line: u32,
+    pub script: Option<PathText>,
 }
 
 /// Why there is no graph.

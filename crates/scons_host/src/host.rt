@@ -27,14 +27,20 @@ pub struct ReadingHost<'w, 'o, 's, 'k, W: World, O: Sink> {
 /// The place of a fault that no call is at.
 const NOWHERE: Place = Place { script: 0, line: 0 };
 
-/// Keeps why a call is refused that stands at a place.
-fn refuse(state: &State, kept: &mut Kept, place: Place, stop: Stop) -> HostRefusal
+/// Keeps why something at a place is refused; `called` is the object that is called there.
+fn refuse(
+    state: &State,
+    kept: &mut Kept,
+    place: Place,
+    called: Option<HostId>,
+    stop: Stop,
+) -> HostRefusal
     ensures end { result ≡ HostRefusal.Host → KeepsEnd stop kept.new.end }
     ensures later { kept.old.refusals ≤ kept.new.refusals }
     ensures counted { result ≡ HostRefusal.Host → Rose kept.old.refusals kept.new.refusals }
 {
     match state.script_at(place.script) {
-        Ok(script) => kept.refuse(script, place.line, stop),
+        Ok(script) => kept.refuse(&state.objects, called, script, place.line, stop),
         Err(_) => HostRefusal::Memory,
     }
 }
@@ -71,7 +77,7 @@ impl<W: World, O: Sink> Host for ReadingHost<'_, '_, '_, '_, W, O> {
         };
         match call(self.state, self.world, heap, caller, object, args) {
             Ok(reply) => Ok(reply),
-            Err(stop) => Err(refuse(self.state, self.kept, place, stop)),
+            Err(stop) => Err(refuse(self.state, self.kept, place, Some(object), stop)),
         }
     }
 
@@ -84,7 +90,7 @@ impl<W: World, O: Sink> Host for ReadingHost<'_, '_, '_, '_, W, O> {
     ) -> Result<Value, HostRefusal> {
         match attribute(self.state, heap, object, name) {
             Ok(value) => Ok(value),
-            Err(refusal) => Err(refuse(self.state, self.kept, place, Stop::from(refusal))),
+            Err(refusal) => Err(refuse(self.state, self.kept, place, None, Stop::from(refusal))),
         }
     }
 
@@ -97,7 +103,7 @@ impl<W: World, O: Sink> Host for ReadingHost<'_, '_, '_, '_, W, O> {
     ) -> Result<Value, HostRefusal> {
         match item(self.state, heap, place, object, key) {
             Ok(value) => Ok(value),
-            Err(refusal) => Err(refuse(self.state, self.kept, place, Stop::from(refusal))),
+            Err(refusal) => Err(refuse(self.state, self.kept, place, None, Stop::from(refusal))),
         }
     }
 
@@ -111,14 +117,14 @@ impl<W: World, O: Sink> Host for ReadingHost<'_, '_, '_, '_, W, O> {
     ) -> Result<(), HostRefusal> {
         match set_item(self.state, heap, place, object, key, value) {
             Ok(()) => Ok(()),
-            Err(refusal) => Err(refuse(self.state, self.kept, place, Stop::from(refusal))),
+            Err(refusal) => Err(refuse(self.state, self.kept, place, None, Stop::from(refusal))),
         }
     }
 
     fn print(&mut self, text: &str) -> Result<(), HostRefusal> {
         match print(self.out, text) {
             Ok(()) => Ok(()),
-            Err(_) => Err(refuse(self.state, self.kept, NOWHERE, Stop::Out)),
+            Err(_) => Err(refuse(self.state, self.kept, NOWHERE, None, Stop::Out)),
         }
     }
 
@@ -129,14 +135,14 @@ impl<W: World, O: Sink> Host for ReadingHost<'_, '_, '_, '_, W, O> {
         };
         match script_done(self.state, self.world, heap) {
             Ok(reply) => Ok(reply),
-            Err(stop) => Err(refuse(self.state, self.kept, place, stop)),
+            Err(stop) => Err(refuse(self.state, self.kept, place, None, stop)),
         }
     }
 
     fn next_script(&mut self, _heap: &mut Heap) -> Result<Option<Script>, HostRefusal> {
         match next_first(self.state, self.world) {
             Ok(script) => Ok(script),
-            Err(stop) => Err(refuse(self.state, self.kept, NOWHERE, stop)),
+            Err(stop) => Err(refuse(self.state, self.kept, NOWHERE, None, stop)),
         }
     }
 }

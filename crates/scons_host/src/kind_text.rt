@@ -1,8 +1,8 @@
 //! How a fault of a script is told: the name of its kind, and what the kind keeps, after a space each.
-use crate::end::ReadKind;
+use crate::end::{FirstRule, ReadKind};
 use env_subst::SubstFault;
 use py_eval::EvalKind;
-use py_heap::ValueFault;
+use py_heap::{Key, ValueFault};
 use py_parse::ParseKind;
 use scons_base::{Memory, PathFault, PathText, Text};
 use scons_decls::NameFault;
@@ -15,7 +15,7 @@ impl ReadKind {
     /// The name of the innermost kind, and each value that it keeps.
     pub fn text(&self, alloc: Global) -> Result<String, Memory> {
         match self {
-            ReadKind::NoScript => word(alloc, "NoScript"),
+            ReadKind::NoScript(path) => with_path(alloc, "NoScript", path),
             ReadKind::Lex(kind) => Ok(format!(in alloc; "{kind:?}")?),
             ReadKind::Parse(ParseKind::OutOfSubset(word)) => {
                 with(alloc, "OutOfSubset", word.word())
@@ -23,7 +23,22 @@ impl ReadKind {
             ReadKind::Parse(kind) => Ok(format!(in alloc; "{kind:?}")?),
             ReadKind::Eval(kind) => eval_text(alloc, kind),
             ReadKind::Name(fault) => name_text(alloc, fault),
+            ReadKind::Key(name) => with_text(alloc, "Key", name),
+            ReadKind::TwoRules(target, first) => two_rules(alloc, target, first),
         }
+    }
+}
+
+/// The target, the line of its first rule, and the script of that where it is another one.
+fn two_rules(alloc: Global, target: &PathText, first: &FirstRule) -> Told {
+    let target = target.as_str();
+    match &first.script {
+        None => Ok(format!(in alloc; "TwoRules {target} {}", first.line)?),
+        Some(script) => Ok(format!(in alloc;
+            "TwoRules {target} {} {}",
+            first.line,
+            script.as_str()
+        )?),
     }
 }
 
@@ -51,7 +66,7 @@ fn eval_text(alloc: Global, kind: &EvalKind) -> Told {
     match kind {
         EvalKind::Name(name) => with_text(alloc, "Name", name),
         EvalKind::Value(fault) => value_text(alloc, fault),
-        EvalKind::Args => word(alloc, "Args"),
+        EvalKind::Args(called) => with(alloc, "Args", called.word()),
         EvalKind::NotCallable => word(alloc, "NotCallable"),
         EvalKind::Depth => word(alloc, "Depth"),
         EvalKind::Host => word(alloc, "Host"),
@@ -64,7 +79,9 @@ fn value_text(alloc: Global, fault: &ValueFault) -> Told {
             Ok(format!(in alloc; "Mismatch {first:?} {second:?}")?)
         }
         ValueFault::Index(place, length) => Ok(format!(in alloc; "Index {place} {length}")?),
-        ValueFault::Key => word(alloc, "Key"),
+        ValueFault::Key(Key::Int(number)) => Ok(format!(in alloc; "Key {number}")?),
+        ValueFault::Key(Key::Text(text)) => with_text(alloc, "Key", text),
+        ValueFault::KeyKind(kind) => Ok(format!(in alloc; "Key {kind:?}")?),
         ValueFault::Overflow => word(alloc, "Overflow"),
         ValueFault::Zero => word(alloc, "Zero"),
         ValueFault::BadText => word(alloc, "BadText"),
@@ -86,6 +103,8 @@ fn name_text(alloc: Global, fault: &NameFault) -> Told {
         NameFault::EmptyAction => word(alloc, "EmptyAction"),
         NameFault::NotExported(name) => with_text(alloc, "NotExported", name),
         NameFault::BadPath(fault) => path_text(alloc, fault),
+        NameFault::ShellPath(path) => with_path(alloc, "BadPath", path),
+        NameFault::NoRule(path) => with_path(alloc, "NoRule", path),
         NameFault::Variant(fault) => variant_text(alloc, fault),
         NameFault::Kinds(name) => with_text(alloc, "Kinds", name),
         NameFault::ScriptDepth => word(alloc, "ScriptDepth"),

@@ -8,6 +8,7 @@
 mod answers;
 mod asked;
 mod asks;
+mod called;
 mod calls;
 mod declaring;
 mod end;
@@ -24,5 +25,5 @@ mod scripts;
 mod state;
 mod stop;
 
-pub use end::{HostEnd, ReadKind};
+pub use end::{FirstRule, HostEnd, ReadKind};
 pub use reading::read_scripts;

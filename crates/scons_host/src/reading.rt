@@ -19,7 +19,9 @@ use py_heap::{Budget, Heap};
 use py_tree::Script;
 use rule_graph::Graph;
 use scons_base::limits::UNIT_LIMIT;
-use scons_base::{Memory, PathText};
+use scons_base::{Memory, PathText, Text};
+use scons_calls::is_left_out;
+use scons_decls::NameFault;
 use scons_words::Words;
 use std::alloc::Global;
 use world_api::{AskRefusal, Sink, World};
@@ -285,7 +287,24 @@ fn own_end(state: &State, script: u64, line: u32, kind: EvalKind) -> HostEnd
     ensures { IsOwn result }
 {
     match state.script_at(script) {
-        Ok(path) => HostEnd::Reading(path, line, ReadKind::Eval(kind)),
+        Ok(path) => HostEnd::Reading(path, line, own_kind(kind)),
         Err(_) => HostEnd::Memory,
+    }
+}
+
+/// A fault of the scripts' own.
+fn own_kind(kind: EvalKind) -> ReadKind {
+    match kind {
+        EvalKind::Name(name) => unknown(name),
+        kind => ReadKind::Eval(kind),
+    }
+}
+
+/// A name that stands for nothing may be one of SCons that is left out.
+fn unknown(name: Text) -> ReadKind {
+    if is_left_out(name.as_str()) {
+        ReadKind::Name(NameFault::OutOfProfile(name))
+    } else {
+        ReadKind::Eval(EvalKind::Name(name))
     }
 }

@@ -5,11 +5,11 @@ ghost use Rattle.world_api.specs.Looks.{LooksAtFiles};
 ghost use Rattle.world_api.specs.Counts.{Counts};
 
 use crate::asks::kind_of;
-use crate::end::ReadKind;
+use crate::end::{FirstRule, ReadKind};
 use crate::stop::Stop;
 use rule_graph::Graph;
 use scons_base::{Listing, PathText, Paths};
-use scons_decls::{Declarations, Place};
+use scons_decls::{Declarations, NameFault, Place};
 use scons_rules::{RuleReadFault, RuleReading, Wanted};
 use std::alloc::Global;
 use world_api::{Kind, World};
@@ -46,7 +46,7 @@ fn made(reading: RuleReading, scripts: &Paths) -> Result<Graph, Stop>
 {
     match reading.finish() {
         Ok(graph) => Ok(graph),
-        Err(fault) => Err(told(scripts, None, fault)),
+        Err(fault) => Err(told(scripts, None, None, fault)),
     }
 }
 
@@ -82,12 +82,23 @@ fn add<W: World>(
     let place = reading.place(number);
     let wanted = match reading.wanted(number) {
         Ok(wanted) => wanted,
-        Err(fault) => return Err(told(scripts, place, fault)),
+        Err(fault) => return Err(told(scripts, place, None, fault)),
     };
     let libraries = found(alloc, world, &wanted)?;
     match reading.add(number, &libraries) {
         Ok(()) => Ok(()),
-        Err(fault) => Err(told(scripts, place, fault)),
+        Err(fault) => Err(told(scripts, place, first_rule(reading, &fault), fault)),
+    }
+}
+
+/// Where the first rule of a target is declared that has two.
+fn first_rule(reading: &RuleReading, fault: &RuleReadFault) -> Option<Place> {
+    match fault {
+        RuleReadFault::Name(NameFault::TwoRules(target)) => reading.place_of_target(target),
+        RuleReadFault::Name(_)
+        | RuleReadFault::At(..)
+        | RuleReadFault::TooMany(..)
+        | RuleReadFault::Memory => None,
     }
 }
 
@@ -134,21 +145,39 @@ pub fn is_file<W: World>(world: &mut W, path: &PathText) -> Result<bool, Stop>
     }
 }
 
-/// The stop that a fault of a rule is, on the line of the call that declared it.
-fn told(scripts: &Paths, place: Option<Place>, fault: RuleReadFault) -> Stop
+/// The stop that a fault of a rule is, on the line of the call that declared it. `first` is where the target's first rule is.
+fn told(scripts: &Paths, place: Option<Place>, first: Option<Place>, fault: RuleReadFault) -> Stop
     ensures { IsInside result }
 {
-    let fault = match fault {
-        RuleReadFault::Name(fault) => fault,
+    let (place, fault) = match fault {
+        RuleReadFault::Name(fault) => (place, fault),
+        RuleReadFault::At(place, fault) => (Some(place), fault),
         RuleReadFault::TooMany(what, count) => return Stop::TooMany(what, count),
         RuleReadFault::Memory => return Stop::Memory,
     };
     let Some(place) = place else {
         return Stop::Here(ReadKind::Name(fault));
     };
+    let kind = kind_of_rule(scripts, place, first, fault);
     match script_at(scripts, place.script) {
-        Some(script) => Stop::There(script, place.line, ReadKind::Name(fault)),
+        Some(script) => Stop::There(script, place.line, kind),
         None => Stop::Memory,
+    }
+}
+
+/// The kind of a fault of a rule that is declared at a place.
+fn kind_of_rule(scripts: &Paths, place: Place, first: Option<Place>, fault: NameFault) -> ReadKind {
+    match (fault, first) {
+        (NameFault::TwoRules(target), Some(first)) => {
+            let script = if first.script == place.script {
+                None
+            } else {
+                script_at(scripts, first.script)
+            };
+            let line = first.line;
+            ReadKind::TwoRules(target, FirstRule { line, script })
+        }
+        (fault, _) => ReadKind::Name(fault),
     }
 }
 

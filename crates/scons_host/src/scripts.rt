@@ -150,7 +150,31 @@ fn begun<W: World>(state: &mut State, world: &mut W, file: &Given) -> Result<Scr
     let place = found(state, file)?;
     match opened(state, world, &place)? {
         Some(script) => Ok(script),
-        None => Err(Stop::Here(ReadKind::NoScript)),
+        None => Err(missing(&place)),
+    }
+}
+
+/// No script stands where one of the innermost call lies: it is missed where its source is.
+fn missing(place: &ScriptPlace) -> Stop
+    ensures { IsInside result }
+{
+    let candidates = place.candidates.as_slice();
+    let source = candidates
+        .iter()
+        .find(|path| path.dir() != place.dir.as_str());
+    match source.or(candidates.first()) {
+        Some(path) => no_script_here(path),
+        None => no_script_here(&place.dir),
+    }
+}
+
+/// There is no script at a path, on the line that reads it.
+fn no_script_here(path: &PathText) -> Stop
+    ensures { IsInside result }
+{
+    match path.copy() {
+        Ok(path) => Stop::Here(ReadKind::NoScript(path)),
+        Err(_) => Stop::Memory,
     }
 }
 
@@ -162,7 +186,7 @@ fn found(state: &mut State, file: &Given) -> Result<ScriptPlace, Refusal> {
                 .declared
                 .find_script(call.env, file, call.variant.as_ref(), call.duplicate)?,
         ),
-        None => Err(Refusal::Kind(ReadKind::NoScript)),
+        None => Err(Refusal::Kind(ReadKind::NoScript(state.top.copy()?))),
     }
 }
 
@@ -249,17 +273,27 @@ pub fn first<W: World>(state: &mut State, world: &mut W, path: PathText) -> Resu
     match read(world, &path)? {
         Some(bytes) => {
             let script = script_of(state.alloc, &path, &bytes)?;
-            let dir = dir_of(state.alloc, &path)?;
+            let dir = top_dir(state.alloc)?;
             begin(state, &path, &dir)?;
             Ok(script)
         }
-        None => Err(Stop::There(path, 0, ReadKind::NoScript)),
+        None => Err(no_first(path)),
     }
 }
 
-/// The directory that a first script lies in.
-fn dir_of(alloc: Global, path: &PathText) -> Result<PathText, Refusal> {
-    match PathText::read(alloc, path.dir()) {
+/// There is no first script at a path.
+fn no_first(path: PathText) -> Stop
+    ensures { IsInside result }
+{
+    match path.copy() {
+        Ok(copy) => Stop::There(path, 0, ReadKind::NoScript(copy)),
+        Err(_) => Stop::Memory,
+    }
+}
+
+/// The directory from which a first script's texts are read, wherever the script lies.
+fn top_dir(alloc: Global) -> Result<PathText, Refusal> {
+    match PathText::read(alloc, ".") {
         Ok(dir) => Ok(dir),
         Err(fault) => Err(Refusal::from(NameFault::from(fault))),
     }

@@ -70,9 +70,9 @@ pub fn left_out(alloc: Global, name: &str) -> Refusal {
     }
 }
 
-/// The refusal of something that there isn't, as Python tells it of a dict.
-pub fn no_such_key() -> Refusal {
-    Refusal::Kind(ReadKind::Eval(EvalKind::Value(ValueFault::Key)))
+/// The refusal of a variable or builder that an environment hasn't.
+pub fn no_such_key(name: Text) -> Refusal {
+    Refusal::Kind(ReadKind::Key(name))
 }
 
 impl From<NameFault> for Refusal {

@@ -4,8 +4,9 @@ ghost use Rattle.world_api.specs.Looks.{Looks};
 ghost use Rattle.scons_report.specs.Causes.{HasListCause, IsInside};
 ghost use Rattle.task_plan.specs.Plans.{IsIdle};
 
-use build_files::{Inputs, ListEnd, Present, first_target, is_stale, path_of};
+use build_files::{Inputs, ListEnd, Present, first_target, is_stale, leftover_copies, path_of};
 use deciders::Rec;
+use indexmap::IndexSet;
 use rule_graph::{BuildFault, Graph, What};
 use scons_base::limits::DEP_LIMIT;
 use scons_base::{Listing, Memory, NodeId, PathText, Paths, RuleId};
@@ -35,7 +36,8 @@ pub fn dry_list<W: World>(
     ensures looks { Looks W.meaning world.old world.new }
     ensures cause { HasListCause (W.meaning.counts world.old) (W.meaning.counts world.new) result }
 {
-    let mut inputs = Inputs::new(alloc);
+    let gone = paths_gone(alloc, graph, view, world)?;
+    let mut inputs = Inputs::past(alloc, gone);
     inputs.add_copies(world, graph, requested)?;
     let plan = Plan::new(alloc, graph, requested)?;
     let (plan, rules) = go_over(alloc, graph, inputs, plan, view, world)?;
@@ -43,6 +45,37 @@ pub fn dry_list<W: World>(
         Some(end) => Err(end),
         None => Ok(Listing::new(rules)),
     }
+}
+
+/// The leftover copies, which a build would take away before it looks at anything.
+#[tactic(auto, using(crate::proofs::Ending::ending))]
+fn paths_gone<W: World>(
+    alloc: Global,
+    graph: &Graph,
+    view: &View,
+    world: &mut W,
+) -> Result<IndexSet<PathText>, ListEnd>
+    ensures looks { Looks W.meaning world.old world.new }
+    ensures cause { HasListCause (W.meaning.counts world.old) (W.meaning.counts world.new) result }
+{
+    let left = leftover_copies(alloc, world, graph, view)?;
+    Ok(targets_of(alloc, left.as_slice())?)
+}
+
+/// The targets of these records.
+fn targets_of(alloc: Global, recs: &[Rec]) -> Result<IndexSet<PathText>, Memory> {
+    let mut paths = IndexSet::new(alloc);
+    for rec in recs {
+        add_targets(rec, &mut paths)?;
+    }
+    Ok(paths)
+}
+
+fn add_targets(rec: &Rec, paths: &mut IndexSet<PathText>) -> Result<(), Memory> {
+    for target in rec.targets.as_slice() {
+        let _ = paths.insert(target.copy()?)?;
+    }
+    Ok(())
 }
 
 /// Goes over the rules of a plan until it rests, and gives those that are listed. Beyond 2^64 - 1 turns, which would take centuries, it

@@ -3,11 +3,13 @@ ghost use Rattle.std.specs.Prelude.{◌≡◌, ◌<◌, ◌≤◌, true, length,
 ghost use Rattle.rule_graph.specs.Rules.{are_below, IsRule};
 ghost use Rattle.scons_rules.specs.Numbers.{AreNodes};
 
+use crate::actions::actions_of;
 use crate::fault::RuleReadFault;
 use crate::interning::nodes_of;
-use crate::line::lines_of;
+use crate::line::{RuleLines, lines_of};
 use crate::reading::{RuleReading, is_cplusplus_source, sources_of};
 use crate::said::OfRule;
+use crate::shell::refuse_for_shell;
 use crate::sources::all_settled;
 use rule_graph::Rule;
 use scons_base::{Listing, Memory, NodeId, PathText, Paths, Text, Texts};
@@ -83,16 +85,9 @@ impl RuleReading {
         let Some(declaration) = self.state.rules.get(number) else {
             return Err(RuleReadFault::Memory);
         };
-        let texts = self.texts_of(declaration)?;
-        let lines = lines_of(self.alloc, &self.state, declaration.env, texts.as_slice())?;
+        let lines = self.lines_of(declaration)?;
         let work = work_of(declaration);
-        let paths = match work {
-            Work::Shell => self
-                .state
-                .envs
-                .dirs(declaration.env, "CPPPATH", &self.state.locals)?,
-            _ => Paths::new(Vec::new(self.alloc)),
-        };
+        let paths = self.search_path(declaration)?;
         Ok(Rule {
             work,
             targets: nodes.targets,
@@ -109,6 +104,26 @@ impl RuleReading {
             decider: declaration.decider,
             builder: self.builder_of(declaration)?,
         })
+    }
+
+    /// The directories in which a rule looks for headers. An object's stand in its line.
+    fn search_path(&self, declaration: &Declaration) -> Result<Paths, RuleReadFault> {
+        if !matches!(work_of(declaration), Work::Shell) {
+            return Ok(Paths::new(Vec::new(self.alloc)));
+        }
+        let locals = &self.state.locals;
+        let dirs = self.state.envs.dirs(declaration.env, "CPPPATH", locals)?;
+        if matches!(declaration.recipe, Recipe::Object) {
+            refuse_for_shell(dirs.as_slice())?;
+        }
+        Ok(dirs)
+    }
+
+    fn lines_of(&self, declaration: &Declaration) -> Result<RuleLines, RuleReadFault> {
+        let texts = self.texts_of(declaration)?;
+        let env = declaration.env;
+        let actions = actions_of(self.alloc, &self.state, env, texts.as_slice())?;
+        lines_of(self.alloc, &self.state, env, actions.as_slice())
     }
 
     /// The texts whose expansions are the lines.
@@ -157,7 +172,7 @@ impl RuleReading {
     }
 }
 
-fn work_of(declaration: &Declaration) -> Work {
+pub(crate) fn work_of(declaration: &Declaration) -> Work {
     match declaration.recipe {
         Recipe::Install | Recipe::InstallAs => Work::Copy,
         _ => Work::Shell,

@@ -2,12 +2,14 @@
 use node_tree::NodeRefusal;
 use rule_graph::{RuleFault, What};
 use scons_base::Memory as NoMemory;
-use scons_decls::NameFault;
+use scons_decls::{NameFault, Place};
 use std::alloc::{AllocError, AllocFailed};
 
 #[derive(Drop)]
 pub enum RuleReadFault {
     Name(NameFault),
+    /// A fault of the call at this place.
+    At(Place, NameFault),
     TooMany(What, u64),
     Memory,
 }

@@ -1,12 +1,11 @@
 //! What the graph holds beside rules.
-use crate::aliases::flattened;
 use crate::fault::RuleReadFault;
 use crate::interning::nodes_of;
 use crate::reading::RuleReading;
-use crate::sources::settled;
+use indexmap::IndexSet;
 use rule_graph::{Graph, Wish};
-use scons_base::{Memory, Paths};
-use scons_decls::{Asked, Declarations, Given, NameFault};
+use scons_base::{Memory, Text};
+use scons_decls::{Asked, Declarations, NameFault, Said, Saying};
 use std::alloc::Global;
 
 impl RuleReading {
@@ -23,10 +22,21 @@ impl RuleReading {
     }
 
     fn add_rest(&mut self) -> Result<(), RuleReadFault> {
+        self.refuse_unmade()?;
         self.add_variants()?;
         self.add_aliases()?;
         self.add_defaults()?;
         self.add_helps()
+    }
+
+    /// What is said of a target that no rule makes would count for nothing. That it is always made is no matter then.
+    fn refuse_unmade(&self) -> Result<(), RuleReadFault> {
+        for said in &self.state.said {
+            if !matches!(said.saying, Saying::Always) {
+                refuse_unmade(&self.state, said)?;
+            }
+        }
+        Ok(())
     }
 
     fn add_variants(&mut self) -> Result<(), RuleReadFault> {
@@ -50,28 +60,25 @@ impl RuleReading {
 
     fn add_alias(&mut self, place: usize) -> Result<(), RuleReadFault> {
         let state = &self.state;
-        let Some((name, members)) = state.aliases.get_index(place) else {
+        let Some((name, _)) = state.aliases.get_index(place) else {
             return Ok(());
         };
-        let members = flattened(self.alloc, state, members.as_slice())?;
         let name = name.clone()?;
-        let paths = member_paths(self.alloc, state, members.as_slice())?;
+        let paths = self.aliases.files_at(self.alloc, state, place)?;
         let nodes = nodes_of(self.alloc, &mut self.graph, paths.as_slice())?;
         self.graph.add_alias(name.as_str(), nodes.as_slice())?;
         Ok(())
     }
 
+    /// Adds the defaults, each once.
     fn add_defaults(&mut self) -> Result<(), RuleReadFault> {
-        for asked in &self.state.defaults {
-            let wish = match asked {
-                Asked::Alias(name) => Wish::Alias(name.copy()?),
-                Asked::Path(path) => Wish::Path(path.copy()?),
-                Asked::Text { text, .. } if self.state.aliases.contains_key(text.as_str()) => {
-                    Wish::Alias(text.copy()?)
-                }
-                Asked::Text { path, .. } => Wish::Path(path.copy()?),
-            };
-            self.graph.add_default(wish)?;
+        let mut met = IndexSet::new(self.alloc);
+        let state = &self.state;
+        for asked in &state.defaults {
+            let wish = wish_of(state, asked)?;
+            if met.insert(word_of(self.alloc, &wish)?)? {
+                self.graph.add_default(wish)?;
+            }
         }
         Ok(())
     }
@@ -84,15 +91,32 @@ impl RuleReading {
     }
 }
 
-/// The files and directories among members.
-fn member_paths(alloc: Global, state: &Declarations, members: &[Given]) -> Result<Paths, Memory> {
-    let mut paths = Paths::new(Vec::new(alloc));
-    for member in members {
-        match member {
-            Given::File(path) => paths.push(settled(state, path)?)?,
-            Given::Dir(path) => paths.push(path.copy()?)?,
-            Given::Text(_) | Given::Alias(_) => {}
+/// Refuses what was said of the first target that no rule makes.
+fn refuse_unmade(state: &Declarations, said: &Said) -> Result<(), RuleReadFault> {
+    for target in said.targets.as_slice() {
+        if !state.made.contains(target) {
+            let fault = NameFault::NoRule(target.copy()?);
+            return Err(RuleReadFault::At(said.place, fault));
         }
     }
-    Ok(paths)
+    Ok(())
+}
+
+fn wish_of(state: &Declarations, asked: &Asked) -> Result<Wish, Memory> {
+    match asked {
+        Asked::Alias(name) => Ok(Wish::Alias(name.copy()?)),
+        Asked::Path(path) => Ok(Wish::Path(path.copy()?)),
+        Asked::Text { text, .. } if state.aliases.contains_key(text.as_str()) => {
+            Ok(Wish::Alias(text.copy()?))
+        }
+        Asked::Text { path, .. } => Ok(Wish::Path(path.copy()?)),
+    }
+}
+
+/// The word that says the same on the command line.
+fn word_of(alloc: Global, wish: &Wish) -> Result<Text, Memory> {
+    match wish {
+        Wish::Alias(name) => name.copy(),
+        Wish::Path(path) => Text::of(alloc, path.as_str()),
+    }
 }

@@ -4,6 +4,7 @@
 //! may name it tells which files would be one (`Wanted`), and is told which were found.
 #![tactic(auto)]
 
+mod actions;
 mod adding;
 mod aliases;
 mod fault;
@@ -11,8 +12,10 @@ mod finish;
 mod interning;
 mod libraries;
 mod line;
+mod orders;
 mod reading;
 mod said;
+mod shell;
 mod sources;
 
 pub use fault::RuleReadFault;

@@ -1,5 +1,6 @@
 //! The libraries that a program names.
 use crate::fault::RuleReadFault;
+use crate::shell::{refuse_for_shell, refuse_path_for_shell};
 use crate::sources::settled;
 use env_subst::{LibItem, Mode};
 use scons_base::{EnvId, Listing, PathText, Paths, Text};
@@ -27,11 +28,9 @@ pub(crate) fn wanted_by(
     env: EnvId,
 ) -> Result<Listing<Wanted>, RuleReadFault> {
     let names = state.envs.lib_names(env, &state.locals)?;
-    let mut wanted = Listing::empty(alloc);
-    if names.is_empty() {
-        return Ok(wanted);
-    }
     let dirs = state.envs.dirs(env, "LIBPATH", &state.locals)?;
+    refuse_for_shell(dirs.as_slice())?;
+    let mut wanted = Listing::empty(alloc);
     for name in names.as_slice() {
         wanted.push(wanted_one(alloc, state, env, dirs.as_slice(), name)?)?;
     }
@@ -46,15 +45,26 @@ fn wanted_one(
     item: &LibItem,
 ) -> Result<Wanted, RuleReadFault> {
     match item {
-        LibItem::Node(path) => Ok(Wanted {
-            asked: Listing::empty(alloc),
-            known: Some(settled(state, path)?),
-        }),
+        LibItem::Node(path) => library_file(alloc, state, path),
         LibItem::Name(name) => {
             let file = file_name(state, env, name)?;
             candidates(alloc, state, dirs, file.as_str())
         }
     }
+}
+
+/// A library that is named by its file, which stands in the line.
+fn library_file(
+    alloc: Global,
+    state: &Declarations,
+    path: &PathText,
+) -> Result<Wanted, RuleReadFault> {
+    let file = settled(state, path)?;
+    refuse_path_for_shell(&file)?;
+    Ok(Wanted {
+        asked: Listing::empty(alloc),
+        known: Some(file),
+    })
 }
 
 /// The name of a library's file: prefix, name and suffix.

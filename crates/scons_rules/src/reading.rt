@@ -1,13 +1,17 @@
 //! The declarations, gone over in their order.
+use crate::adding::work_of;
+use crate::aliases::Aliases;
 use crate::fault::RuleReadFault;
 use crate::libraries::{Wanted, wanted_by};
 use crate::said::SaidOf;
+use crate::shell::refuse_for_shell;
 use crate::sources::{all_settled, named_all};
 use indexmap::IndexSet;
 use rule_graph::Graph;
 use scons_base::{Listing, Memory, PathText, Paths, Text};
 use scons_decls::{Declaration, Declarations, Language, Place, Recipe, language_of};
 use std::alloc::Global;
+use world_api::Work;
 
 /// The rules of a reading on their way into the graph.
 #[derive(Drop)]
@@ -15,6 +19,7 @@ pub struct RuleReading {
     pub(crate) alloc: Global,
     pub(crate) state: Declarations,
     pub(crate) graph: Graph,
+    pub(crate) aliases: Aliases,
     pub(crate) said: SaidOf,
     /// The objects that are made of C++ sources.
     cplusplus: IndexSet<PathText>,
@@ -23,13 +28,15 @@ pub struct RuleReading {
 impl RuleReading {
     /// Nothing is in the graph yet.
     pub fn new(alloc: Global, state: Declarations) -> Result<RuleReading, Memory> {
-        let said = SaidOf::new(alloc, &state)?;
+        let aliases = Aliases::new(alloc, &state)?;
+        let said = SaidOf::new(alloc, &state, &aliases)?;
         let cplusplus = cplusplus_objects(alloc, state.rules.as_slice())?;
         let graph = Graph::new(alloc, state.locals.top.copy()?)?;
         Ok(RuleReading {
             alloc,
             state,
             graph,
+            aliases,
             said,
             cplusplus,
         })
@@ -43,6 +50,15 @@ impl RuleReading {
     /// Where a rule was declared.
     pub fn place(&self, number: usize) -> Option<Place> {
         Some(self.state.rules.get(number)?.place)
+    }
+
+    /// Where the first rule of a target was declared.
+    pub fn place_of_target(&self, target: &PathText) -> Option<Place> {
+        let rules = self.state.rules.as_slice();
+        let rule = rules
+            .iter()
+            .find(|rule| has(rule.targets.as_slice(), target))?;
+        Some(rule.place)
     }
 
     /// The libraries that a rule names: only a program names any.
@@ -67,6 +83,7 @@ impl RuleReading {
         let dir = declaration.dir.copy()?;
         let smartlink = smartlink_of(self.alloc, &self.cplusplus, declaration)?;
         let sources = sources_of(self.alloc, state, declaration)?;
+        refuse_in_lines(declaration, sources.as_slice())?;
         let sources = named_all(self.alloc, state, sources.as_slice())?;
         let targets = named_all(self.alloc, state, declaration.targets.as_slice())?;
         let locals = &mut self.state.locals;
@@ -85,6 +102,19 @@ pub(crate) fn sources_of(
     declaration: &Declaration,
 ) -> Result<Paths, Memory> {
     all_settled(alloc, state, declaration.sources.as_slice())
+}
+
+/// Refuses what of a rule's sources and targets the shell would act on.
+fn refuse_in_lines(declaration: &Declaration, sources: &[PathText]) -> Result<(), RuleReadFault> {
+    if !matches!(work_of(declaration), Work::Shell) {
+        return Ok(());
+    }
+    refuse_for_shell(sources)?;
+    refuse_for_shell(declaration.targets.as_slice())
+}
+
+fn has(paths: &[PathText], path: &PathText) -> bool {
+    paths.iter().any(|one| one == path)
 }
 
 fn smartlink_of(

@@ -1,8 +1,8 @@
 //! What was said of each target.
-use crate::aliases::flattened;
+use crate::aliases::Aliases;
 use indexmap::IndexMap;
 use scons_base::{Memory, PathText, Paths};
-use scons_decls::{Declarations, Given, Said, Saying};
+use scons_decls::{Declarations, Said, Saying};
 use std::alloc::Global;
 
 /// Each call that says something, with the files that it names.
@@ -29,20 +29,23 @@ pub(crate) struct OfRule {
 }
 
 impl SaidOf {
-    pub(crate) fn new(alloc: Global, state: &Declarations) -> Result<SaidOf, Memory> {
+    pub(crate) fn new(
+        alloc: Global,
+        state: &Declarations,
+        aliases: &Aliases,
+    ) -> Result<SaidOf, Memory> {
         let mut said = SaidOf {
             sentences: Vec::new(alloc),
             by_target: IndexMap::new(alloc),
         };
         for one in &state.said {
-            said.add(alloc, state, one)?;
+            let nodes = aliases.paths_of(alloc, state, one.nodes.as_slice())?;
+            said.add(alloc, one, nodes)?;
         }
         Ok(said)
     }
 
-    fn add(&mut self, alloc: Global, state: &Declarations, said: &Said) -> Result<(), Memory> {
-        let nodes = flattened(alloc, state, said.nodes.as_slice())?;
-        let nodes = paths_of(alloc, nodes.as_slice())?;
+    fn add(&mut self, alloc: Global, said: &Said, nodes: Paths) -> Result<(), Memory> {
         let number = self.sentences.len();
         self.sentences.push(Sentence {
             saying: said.saying,
@@ -111,15 +114,4 @@ fn push_copies(paths: &mut Paths, more: &[PathText]) -> Result<(), Memory> {
         paths.push(path.copy()?)?;
     }
     Ok(())
-}
-
-/// The paths of files and directories.
-fn paths_of(alloc: Global, nodes: &[Given]) -> Result<Paths, Memory> {
-    let mut paths = Paths::new(Vec::new(alloc));
-    for node in nodes {
-        if let Given::File(path) | Given::Dir(path) = node {
-            paths.push(path.copy()?)?;
-        }
-    }
-    Ok(paths)
 }

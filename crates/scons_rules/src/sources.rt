@@ -5,11 +5,12 @@ use scons_base::{Memory, PathText, Paths};
 use scons_decls::Declarations;
 use std::alloc::Global;
 
-/// The file that a path stands for: in a variant directory without copies its source, where the path itself is no target.
+/// The file that a path stands for: in a variant directory without copies its source, where the path itself is no target and
+/// no directory of targets.
 pub(crate) fn settled(state: &Declarations, path: &PathText) -> Result<PathText, Memory> {
     let variants = &state.locals.variants;
     match variants.variant_of(path) {
-        Some(variant) if !variant.duplicate && !state.made.contains(path) => {
+        Some(variant) if !variant.duplicate && !is_made(state, path) => {
             match variants.source_of(&state.locals.top, path)? {
                 Some(source) => Ok(source),
                 None => path.copy(),
@@ -17,6 +18,11 @@ pub(crate) fn settled(state: &Declarations, path: &PathText) -> Result<PathText,
         }
         _ => path.copy(),
     }
+}
+
+/// Whether a path is a target, or a directory of targets.
+fn is_made(state: &Declarations, path: &PathText) -> bool {
+    state.made.contains(path) || state.made.has_below(path)
 }
 
 pub(crate) fn all_settled(

@@ -49,7 +49,7 @@ pub(crate) fn list_requests<W: World, O: Sink, E: Sink>(
 
 /// What the store holds.
 #[tactic(auto, using(crate::proofs::Causing::causing))]
-fn view_of<W: World>(alloc: Global, world: &mut W) -> Result<View, StoreRefusal>
+pub(crate) fn view_of<W: World>(alloc: Global, world: &mut W) -> Result<View, StoreRefusal>
     ensures watches { Watches W.meaning world.old world.new }
     ensures cause { HasFaultCause W.meaning world.old world.new result }
 {

@@ -4,11 +4,14 @@
 //! build stand in the order in which they were found.
 #![tactic(auto)]
 
+mod below;
 mod build_step;
 mod clean_step;
 mod dry_step;
 mod ending;
 mod load_step;
+mod lookups;
+mod members;
 mod printed;
 mod reading;
 mod report;

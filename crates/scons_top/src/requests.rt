@@ -3,11 +3,13 @@ ghost use Rattle.build_files.specs.Causes.{HasLookCause};
 ghost use Rattle.scons_top.specs.Stops.{WorldStep, InnerStep, IsInside};
 ghost use Rattle.scons_top.specs.Watching.{Watches};
 
+use crate::lookups::{Lookups, is_left_over};
+use crate::members::check_members;
 use crate::report::Top;
 use crate::stop::Stop;
-use build_files::{ListEnd, has_copy_rule, path_of, rule_at};
+use build_files::{ListEnd, has_copy_rule};
 use rule_graph::{Graph, Wish};
-use scons_base::{Memory, NodeId, PathText, RuleId, Text, Texts};
+use scons_base::{Memory, NodeId, PathText, Text, Texts};
 use scons_words::Words;
 use std::alloc::Global;
 use world_api::{Kind, World};
@@ -35,21 +37,23 @@ pub(crate) fn requests_of<W: World>(
         [] => defaults_of(alloc, graph)?,
         _ => words.requested.copy()?,
     };
-    requests_for(alloc, world, graph, asked.as_slice())
+    requests_for(alloc, world, graph, words.clean, asked.as_slice())
 }
 
 fn requests_for<W: World>(
     alloc: Global,
     world: &mut W,
     graph: &mut Graph,
+    is_cleaning: bool,
     asked: &[Text],
 ) -> Result<Vec<Request>, Stop>
     ensures watches { Watches W.meaning world.old world.new }
     ensures step { WorldStep (W.meaning.counts world.old) (W.meaning.counts world.new) result }
 {
     let mut requests = Vec::new(alloc);
+    let mut lookups = Lookups::new(is_cleaning);
     for word in asked {
-        requests.push(request_of(alloc, world, graph, word)?)?;
+        requests.push(request_of(alloc, world, graph, &mut lookups, word)?)?;
     }
     Ok(requests)
 }
@@ -75,13 +79,15 @@ fn request_of<W: World>(
     alloc: Global,
     world: &mut W,
     graph: &mut Graph,
+    lookups: &mut Lookups,
     word: &Text,
 ) -> Result<Request, Stop>
     ensures watches { Watches W.meaning world.old world.new }
     ensures step { WorldStep (W.meaning.counts world.old) (W.meaning.counts world.new) result }
 {
     if let Some(members) = graph.alias(word.as_str()) {
-        let nodes = Vec::from_slice(alloc, members)?;
+        let nodes = lookups.below.members_of(alloc, graph, members)?;
+        check_members(alloc, world, graph, lookups, word, nodes.as_slice())?;
         return made(word, nodes, false);
     }
     let Ok(path) = PathText::read(alloc, word.as_str()) else {
@@ -91,7 +97,7 @@ fn request_of<W: World>(
     if has_rule(world, graph, &path)? {
         return node_request(alloc, graph, word, &path, false);
     }
-    file_request(alloc, world, graph, word, &path)
+    file_request(alloc, world, graph, lookups, word, &path)
 }
 
 /// What a word stands for that is a path without a rule.
@@ -99,6 +105,7 @@ fn file_request<W: World>(
     alloc: Global,
     world: &mut W,
     graph: &mut Graph,
+    lookups: &mut Lookups,
     word: &Text,
     path: &PathText,
 ) -> Result<Request, Stop>
@@ -106,26 +113,49 @@ fn file_request<W: World>(
     ensures step { WorldStep (W.meaning.counts world.old) (W.meaning.counts world.new) result }
 {
     match kind_of(world, path)? {
-        Kind::File => node_request(alloc, graph, word, path, true),
-        Kind::Dir => made(word, targets_below(alloc, graph, path)?, false),
-        Kind::Absent => absent_request(alloc, graph, word, path),
+        Kind::File => plain_request(alloc, world, graph, lookups, word, path),
+        Kind::Dir => made(
+            word,
+            lookups.below.targets_below(alloc, graph, path)?,
+            false,
+        ),
+        Kind::Absent => absent_request(alloc, graph, lookups, word, path),
     }
+}
+
+/// What a word stands for that is a file without a rule. A leftover copy counts as not there.
+fn plain_request<W: World>(
+    alloc: Global,
+    world: &mut W,
+    graph: &mut Graph,
+    lookups: &mut Lookups,
+    word: &Text,
+    path: &PathText,
+) -> Result<Request, Stop>
+    ensures watches { Watches W.meaning world.old world.new }
+    ensures step { WorldStep (W.meaning.counts world.old) (W.meaning.counts world.new) result }
+{
+    if is_left_over(alloc, world, graph, &mut lookups.view, path)? {
+        return absent_request(alloc, graph, lookups, word, path);
+    }
+    node_request(alloc, graph, word, path, true)
 }
 
 /// What a word stands for that is a path where nothing stands: the targets below it.
 fn absent_request(
     alloc: Global,
     graph: &Graph,
+    lookups: &mut Lookups,
     word: &Text,
     path: &PathText,
 ) -> Result<Request, Stop>
     ensures { InnerStep result }
 {
-    let below = targets_below(alloc, graph, path)?;
-    if below.is_empty() {
+    let nodes = lookups.below.targets_below(alloc, graph, path)?;
+    if nodes.is_empty() {
         return Err(unknown(word));
     }
-    made(word, below, false)
+    made(word, nodes, false)
 }
 
 /// The request of one node.
@@ -153,7 +183,7 @@ fn made(word: &Text, nodes: Vec<NodeId>, is_plain: bool) -> Result<Request, Stop
 }
 
 /// The fault that a word stands for nothing.
-fn unknown(word: &Text) -> Stop
+pub(crate) fn unknown(word: &Text) -> Stop
     ensures { IsInside result }
 {
     match word.copy() {
@@ -184,34 +214,4 @@ pub(crate) fn kind_of<W: World>(world: &mut W, path: &PathText) -> Result<Kind, 
         Ok(kind) => Ok(kind),
         Err(_) => Err(ListEnd::tree(path)),
     }
-}
-
-/// The declared targets below a directory, in the order of their paths.
-fn targets_below(alloc: Global, graph: &Graph, dir: &PathText) -> Result<Vec<NodeId>, Memory> {
-    let mut below = Vec::new(alloc);
-    for number in 0..graph.rules() {
-        add_targets(graph, number, dir, &mut below)?;
-    }
-    below.sort()?;
-    let mut nodes = Vec::with_capacity(alloc, below.len())?;
-    for (_, node) in &below {
-        nodes.push(*node)?;
-    }
-    Ok(nodes)
-}
-
-/// Adds the targets of a rule that lie below a directory.
-fn add_targets(
-    graph: &Graph,
-    number: u32,
-    dir: &PathText,
-    below: &mut Vec<(PathText, NodeId)>,
-) -> Result<(), Memory> {
-    for target in rule_at(graph, RuleId(number))?.targets.as_slice() {
-        let path = path_of(graph, *target)?;
-        if path.is_below(dir) {
-            below.push((path.copy()?, *target))?;
-        }
-    }
-    Ok(())
 }

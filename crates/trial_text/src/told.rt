@@ -1,6 +1,6 @@
 //! What is told so far, and whether the line that is told of is refused.
-ghost use Rattle.std.specs.Prelude.{◌≡◌, ℕ, List, Bool, true, false, [], ◌∷◌, ◌++◌, codes, flat_map, IfSome, string_bytes};
-ghost use Rattle.trial_text.specs.Telling.{Telling, Tells, Reads, IsNumber};
+ghost use Rattle.std.specs.Prelude.{◌≡◌, ℕ, List, Bool, true, false, [], ◌∷◌, ◌++◌, flat_map, IfSome, string_bytes};
+ghost use Rattle.trial_text.specs.Telling.{Telling, Tells, TellsRefused, Reads, IsNumber};
 
 use std::alloc::Global;
 use std::fmt::Display;
@@ -77,7 +77,7 @@ impl Told {
     /// Ends what is told of a line, and says where it was refused.
     pub fn end(&mut self, line: &str)
         ensures whole { self.old.is_refused ≡ false → self.new ≡ self.old }
-        ensures refused { self.old.is_refused ≡ true → Tells (record { text = self.old.text; is_refused = false }) self.new (codes "refused: " ++ line.now ++ codes "\n") }
+        ensures refused { self.old.is_refused ≡ true → TellsRefused self.old self.new line.now }
     {
         if self.is_refused {
             self.is_refused = false;

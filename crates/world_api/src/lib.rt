@@ -11,6 +11,7 @@
 
 mod decider;
 mod disk;
+mod hash;
 mod job;
 mod printing;
 mod refusal;
@@ -19,6 +20,7 @@ mod world;
 
 pub use decider::Decider;
 pub use disk::{Bank, Disk};
+pub use hash::Hash;
 pub use job::{Ended, Job, Line, Outcome, Work, copy_lines};
 pub use printing::print;
 pub use refusal::{AskRefusal, Fault, ReadRefusal};

@@ -1,4 +1,4 @@
-use Rattle.std.proofs.Common.{◌≡◌, ◌∙◌, List, [], ◌∷◌, map, length, Option, Some, None, Result, Ok, Err, refl, sym, subst, ap}
+use Rattle.std.proofs.Common.{◌≡◌, ◌≢◌, ◌∙◌, List, [], ◌∷◌, map, length, Option, Some, None, Result, Ok, Err, refl, sym, subst, ap}
 use Rattle.std.proofs.lemmas.Result.{err_from_is_err_and}
 use Rattle.py_tree.specs.Tree.{trees, line_tree, script_tree, argument_tree}
 use Rattle.py_heap.specs.declared.value.Value.{Value}
@@ -8,6 +8,8 @@ use Rattle.py_methods.specs.Names.{takes as method_takes}
 use Rattle.py_builtins.specs.Takes.{takes}
 use Rattle.py_host.specs.declared.reply.Reply.{Reply}
 use Rattle.py_host.specs.Calls.{arguments_of, given_of}
+use Rattle.py_meaning.specs.declared.fault.EvalKind.TheVariants as kind
+use Rattle.py_meaning.specs.declared.fault.Called.TheVariants as named
 use Rattle.py_meaning.specs.Arguments.{arguments_by, bound}
 use Rattle.py_meaning.specs.States.{Function, Frame, Out, goes_on, gives, returns, with_globals, script_frame, function_frame}
 use Rattle.py_meaning.specs.Jobs.{a_value, a_method, exec_all, inner_script, reply, call}
@@ -250,8 +252,8 @@ call_function-returns-in_default-2-clause-gives g t c =
     let f : Function = function_of c.in-Some.function.value in
     let some = sym (rw c.in-Some.is at c.in_ok-function.ensures) in
     let fits = ap (λ (x : code.Function). bound x.parameters.items given) (sym c.deref.ensures) ∙ sym c.in_ok-names.ensures in
-    subst (λ z. Halts m c.args.calls (begun c.args.line (a_value (v.Func c.args.id)) given s) c.args.host.now z s c.args.host.now) (sym c.fault-in_default-2.ensures)
-    (not_bound m c.args.calls c.args.line c.args.id given s s c.args.host.now f some (fits ∙ c.in_default-2.is))
+    not_bound m c.args.calls c.args.line c.args.id given s s c.args.host.now f c.unfitting.result some (fits ∙ c.in_default-2.is)
+    (subst (λ (x : code.Function). c.unfitting.result ≢ stop.Memory → c.unfitting.result ≡ stop.Fault s.frame.script c.args.line (kind.Args (named.Function x.name))) c.deref-in_default-2.ensures c.unfitting.ensures)
 
 pub call_function-returns-in_err-inside-clause-gives : goal.call_function-returns-in_err-inside-clause-gives
 call_function-returns-in_err-inside-clause-gives g t c =

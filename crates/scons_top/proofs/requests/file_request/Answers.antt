@@ -1,11 +1,15 @@
-use Rattle.scons_top.proofs.Causing.{look_exit, inner_step, world_memory}
+use Rattle.scons_top.proofs.Watching.{watches_on}
+use Rattle.scons_top.proofs.Causing.{look_exit, inner_step, world_back, world_memory}
 use Rattle.scons_top.proofs.requests.file_request.Goals as goal
 
 pub returns-in_err-kind_of-clause-step : goal.returns-in_err-kind_of-clause-step
 returns-in_err-kind_of-clause-step g c = look_exit _ _ c.from_residual.result _ c.from_residual.ensures.1 c.in_err-kind_of.ensures.cause
 
 pub returns-in-File-clause-step : goal.returns-in-File-clause-step
-returns-in-File-clause-step g c = inner_step _ _ c.node_request.result c.in_ok-kind_of.ensures.cause c.node_request.ensures
+returns-in-File-clause-step g c = world_back _ _ _ c.plain_request.result c.in_ok-kind_of.ensures.cause c.plain_request.ensures.step
+
+pub returns-in-File-clause-watches : goal.returns-in-File-clause-watches
+returns-in-File-clause-watches g c = watches_on _ _ _ _ c.kind_of.ensures.watches c.plain_request.ensures.watches
 
 pub returns-in_err-targets_below-in-Dir-clause-step : goal.returns-in_err-targets_below-in-Dir-clause-step
 returns-in_err-targets_below-in-Dir-clause-step g c = let r = c.from_residual-in_err-targets_below-in-Dir in world_memory _ _ r.result r.ensures.1 c.in_ok-kind_of.ensures.cause

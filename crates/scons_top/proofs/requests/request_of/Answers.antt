@@ -1,13 +1,16 @@
 use Rattle.std.proofs.Common.{refl}
 use Rattle.scons_top.proofs.Watching.{watches_on}
-use Rattle.scons_top.proofs.Causing.{world_back, look_exit, inner_step, world_memory}
+use Rattle.scons_top.proofs.Causing.{world_back, world_exit, look_exit, inner_step, world_memory}
 use Rattle.scons_top.proofs.requests.request_of.Goals as goal
 
 pub returns-in_err-nodes-clause-step : goal.returns-in_err-nodes-clause-step
 returns-in_err-nodes-clause-step g c = world_memory _ _ c.from_residual.result c.from_residual.ensures.1 refl
 
 pub returns-in-Some-clause-step : goal.returns-in-Some-clause-step
-returns-in-Some-clause-step g c = inner_step _ _ c.made.result refl c.made.ensures
+returns-in-Some-clause-step g c = inner_step _ _ c.made.result c.in_ok-check_members.ensures.step c.made.ensures
+
+pub returns-in_err-check_members-clause-step : goal.returns-in_err-check_members-clause-step
+returns-in_err-check_members-clause-step g c = let r = c.from_residual-in_err-check_members in world_exit _ _ r.result _ r.ensures.1 c.in_err-check_members.ensures.step
 
 pub returns-in_default-read-clause-step : goal.returns-in_default-read-clause-step
 returns-in_default-read-clause-step g c = c.unknown.ensures _

@@ -1,0 +1,51 @@
+use Rattle.std.proofs.Common.{◌≡◌, ◌∙◌, List, ℕ, refl, sym, subst}
+use Rattle.sign_store.proofs.Keeping.{kept_as}
+use Rattle.build_run.specs.Withdrawals.{AreWithdrawn}
+use Rattle.build_run.proofs.Goings.{goes_on}
+use Rattle.build_run.proofs.Outs.{held_ok}
+use Rattle.build_run.proofs.Taking.{kept_over, take_end, take_inside, take_exit, take_after, take_look, unused_at_rest, withdrawn_as}
+use Rattle.build_run.proofs.leftovers.take_away.Goals as goal
+
+pub withdraw-requires-clause-live : goal.withdraw-requires-clause-live
+withdraw-requires-clause-live g c = c.prepare.ensures.live ∙ c.requires.live
+
+pub withdraw-requires-clause-kept : goal.withdraw-requires-clause-kept
+withdraw-requires-clause-kept g c = kept_as g.W.Disk.meaning c.args.world.now c.args.store.now c.prepare.new.store c.prepare.ensures.banks c.prepare.ensures.map c.requires.kept
+
+pub withdraw-requires-clause-ticket : goal.withdraw-requires-clause-ticket
+withdraw-requires-clause-ticket g c = record { rec = c.args.rec; out = c.in_ok-ticket.ensures.out; same = sym c.in_ok-targets.ensures }
+
+pub remove_unrecorded-requires-clause-withdrawn : goal.remove_unrecorded-requires-clause-withdrawn
+remove_unrecorded-requires-clause-withdrawn g c =
+    subst (λ (paths : List (List ℕ)). AreWithdrawn g.W.Disk.meaning c.withdraw.new.world c.give_up.new.self paths) (sym c.as_slice.ensures)
+    (withdrawn_as g.W.Disk.meaning c.withdraw.new.world c.withdraw.new.store c.give_up.new.self _ c.give_up.ensures.map c.in_ok-withdraw.ensures.withdrawn)
+
+pub remove_unrecorded-requires-clause-unused : goal.remove_unrecorded-requires-clause-unused
+remove_unrecorded-requires-clause-unused g c = λ t path h.
+    let goes = c.withdraw.ensures.goes in
+    unused_at_rest (g.W.Disk.meaning.around c.withdraw.new.world).running path (goes.runs t ∙ c.requires.idle (goes.passes.told.told t))
+
+pub returns-clause-goes : goal.returns-clause-goes
+returns-clause-goes g c = goes_on g.W.Disk.meaning _ _ _ c.withdraw.ensures.goes c.remove_unrecorded.ensures.stays.goes
+
+pub returns-clause-cause : goal.returns-clause-cause
+returns-clause-cause g c = take_after _ _ _ c.remove_unrecorded.result c.in_ok-withdraw.ensures.cause (take_look _ _ c.remove_unrecorded.result c.remove_unrecorded.ensures.cause)
+
+pub returns-clause-live : goal.returns-clause-live
+returns-clause-live g c = held_ok c.remove_unrecorded.result (c.give_up.ensures.live ∙ c.in_ok-withdraw.ensures.live)
+
+pub returns-clause-kept : goal.returns-clause-kept
+returns-clause-kept g c =
+    let m = g.W.Disk.meaning in
+    let stays = c.remove_unrecorded.ensures.stays in
+    held_ok c.remove_unrecorded.result (kept_over m _ _ c.give_up.new.self stays.goes.passes.told.told stays.banks
+    (kept_as m c.withdraw.new.world c.withdraw.new.store c.give_up.new.self c.give_up.ensures.banks c.give_up.ensures.map c.in_ok-withdraw.ensures.kept))
+
+pub returns-in_err-targets-clause-cause : goal.returns-in_err-targets-clause-cause
+returns-in_err-targets-clause-cause g c = let r = c.from_residual in take_inside _ _ r.result refl r.ensures.1
+
+pub returns-in_err-ticket-clause-cause : goal.returns-in_err-ticket-clause-cause
+returns-in_err-ticket-clause-cause g c = let r = c.from_residual-in_err-ticket in take_exit _ _ r.result _ r.ensures.1 (take_end _ _ _ (c.in_err-ticket.ensures.quiet _))
+
+pub returns-in_err-withdraw-clause-cause : goal.returns-in_err-withdraw-clause-cause
+returns-in_err-withdraw-clause-cause g c = let r = c.from_residual-in_err-withdraw in take_exit _ _ r.result _ r.ensures.1 c.in_err-withdraw.ensures.cause

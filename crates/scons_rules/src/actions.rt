@@ -1,0 +1,132 @@
+//! The actions of a rule: one that is the name of a list variable alone stands for an action for each item.
+ghost use Rattle.std.specs.Prelude.{◌≡◌, ◌<◌, IfOk};
+ghost use Rattle.scons_base.specs.declared.limits.TheConstants.{REFERENCE_LIMIT};
+
+use crate::fault::RuleReadFault;
+use env_subst::SubstFault;
+use env_text::name_alone;
+use env_vars::{EnvValue, Item};
+use scons_base::limits::{LIST_LIMIT, REFERENCE_LIMIT};
+use scons_base::{EnvId, Memory, Text, Texts};
+use scons_decls::{Declarations, NameFault};
+use std::alloc::Global;
+
+/// The names that stand for a rule's own nodes and tool, whatever the environment has under them.
+const OWN_NAMES: [&str; 5] = ["TARGET", "TARGETS", "SOURCE", "SOURCES", "SMARTLINK"];
+
+/// What is left to look at, the last first, what was found, and how many references were followed.
+#[derive(Drop)]
+struct Actions {
+    left: Vec<Text>,
+    found: Texts,
+    references: u64,
+}
+
+/// The actions of these texts. A text that is the name of a list variable alone stands for its items, each an action in turn.
+pub(crate) fn actions_of(
+    alloc: Global,
+    state: &Declarations,
+    env: EnvId,
+    texts: &[Text],
+) -> Result<Texts, RuleReadFault> {
+    let mut actions = Actions {
+        left: Vec::new(alloc),
+        found: Texts::new(Vec::new(alloc)),
+        references: 0,
+    };
+    push_in_front(&mut actions.left, copies(alloc, texts)?)?;
+    'actions: for _ in 0..u64::MAX {
+        match actions.left.pop() {
+            Some(action) => take(alloc, state, env, &mut actions, action)?,
+            None => return Ok(actions.found),
+        }
+    }
+    Err(RuleReadFault::Memory)
+}
+
+/// An action as it stands, or what stands in its place.
+fn take(
+    alloc: Global,
+    state: &Declarations,
+    env: EnvId,
+    actions: &mut Actions,
+    action: Text,
+) -> Result<(), RuleReadFault> {
+    if let Some((name, items)) = list_named(state, env, action.as_str()) {
+        actions.references += count_one(actions)?;
+        let items = texts_in(alloc, name, items)?;
+        return Ok(push_in_front(&mut actions.left, items)?);
+    }
+    Ok(actions.found.push(action)?)
+}
+
+/// One more reference, where there may be one.
+fn count_one(actions: &Actions) -> Result<u64, RuleReadFault>
+    ensures { IfOk result (λ n. (n ≡ 1) × (actions.now.references < REFERENCE_LIMIT)) }
+{
+    if actions.references < REFERENCE_LIMIT && actions.left.len() <= LIST_LIMIT as usize {
+        return Ok(1);
+    }
+    let fault = SubstFault::TooMany(REFERENCE_LIMIT + 1);
+    Err(RuleReadFault::Name(NameFault::Subst(fault)))
+}
+
+/// The list variable whose name is all that a text says.
+fn list_named<'a>(
+    state: &'a Declarations,
+    env: EnvId,
+    text: &'a str,
+) -> Option<(&'a str, &'a EnvValue)> {
+    let name = name_alone(text)?;
+    if OWN_NAMES.contains(&name) {
+        return None;
+    }
+    let value = state.envs.get(env, name)?;
+    match value {
+        EnvValue::Words(_) | EnvValue::List(_) => Some((name, value)),
+        _ => None,
+    }
+}
+
+/// The texts of a list variable, which is refused where it has anything else.
+fn texts_in(alloc: Global, name: &str, value: &EnvValue) -> Result<Vec<Text>, RuleReadFault> {
+    match value {
+        EnvValue::Words(words) => Ok(copies(alloc, words.as_slice())?),
+        EnvValue::List(items) => item_texts(alloc, name, items.as_slice()),
+        _ => Ok(Vec::new(alloc)),
+    }
+}
+
+fn item_texts(alloc: Global, name: &str, items: &[Item]) -> Result<Vec<Text>, RuleReadFault> {
+    let mut texts = Vec::new(alloc);
+    for item in items {
+        match item {
+            Item::Text(text) => texts.push(text.copy()?)?,
+            _ => return Err(out_of_profile(alloc, name)),
+        }
+    }
+    Ok(texts)
+}
+
+fn out_of_profile(alloc: Global, name: &str) -> RuleReadFault {
+    match Text::of(alloc, name) {
+        Ok(name) => RuleReadFault::Name(NameFault::OutOfProfile(name)),
+        Err(_) => RuleReadFault::Memory,
+    }
+}
+
+fn copies(alloc: Global, texts: &[Text]) -> Result<Vec<Text>, Memory> {
+    let mut copies = Vec::new(alloc);
+    for text in texts {
+        copies.push(text.copy()?)?;
+    }
+    Ok(copies)
+}
+
+/// Puts texts before all that is left, whose last is looked at first.
+fn push_in_front(left: &mut Vec<Text>, texts: Vec<Text>) -> Result<(), Memory> {
+    let mut texts = texts;
+    texts.reverse();
+    left.append(&mut texts)?;
+    Ok(())
+}

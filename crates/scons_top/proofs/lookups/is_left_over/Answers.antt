@@ -1,0 +1,18 @@
+use Rattle.std.proofs.Common.{refl}
+use Rattle.scons_top.proofs.Watching.{watches_on}
+use Rattle.scons_top.proofs.Causing.{world_back, world_exit, look_exit}
+use Rattle.scons_top.proofs.lookups.is_left_over.Goals as goal
+
+pub returns-in_err-read_records-clause-step : goal.returns-in_err-read_records-clause-step
+returns-in_err-read_records-clause-step g c = world_exit _ _ c.from_residual.result _ c.from_residual.ensures.1 c.in_err-read_records.ensures.step
+
+pub returns-in_err-has_leftover-clause-watches : goal.returns-in_err-has_leftover-clause-watches
+returns-in_err-has_leftover-clause-watches g c = watches_on _ _ _ _ c.read_records.ensures.watches c.has_leftover.ensures.watches
+
+pub returns-in_err-has_leftover-clause-step : goal.returns-in_err-has_leftover-clause-step
+returns-in_err-has_leftover-clause-step g c =
+    let r = c.from_residual-in_err-has_leftover in
+    world_back _ _ _ r.result c.in_ok-read_records.ensures.step (look_exit _ _ r.result _ r.ensures.1 c.in_err-has_leftover.ensures.cause)
+
+pub returns-clause-watches : goal.returns-clause-watches
+returns-clause-watches g c = watches_on _ _ _ _ c.read_records.ensures.watches c.has_leftover.ensures.watches

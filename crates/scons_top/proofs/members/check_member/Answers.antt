@@ -1,0 +1,12 @@
+use Rattle.std.proofs.Common.{refl}
+use Rattle.scons_top.proofs.Causing.{inside, world_exit, world_memory}
+use Rattle.scons_top.proofs.members.check_member.Goals as goal
+
+pub returns-in_err-path-clause-step : goal.returns-in_err-path-clause-step
+returns-in_err-path-clause-step g c = world_memory _ _ c.from_residual.result c.from_residual.ensures.1 refl
+
+pub returns-in_err-is_there-clause-step : goal.returns-in_err-is_there-clause-step
+returns-in_err-is_there-clause-step g c = let r = c.from_residual-in_err-is_there in world_exit _ _ r.result _ r.ensures.1 c.in_err-is_there.ensures.step
+
+pub returns-clause-step : goal.returns-clause-step
+returns-clause-step g c = inside _ _ c.missing.result c.in_ok-is_there.ensures.step c.missing.ensures

@@ -1,0 +1,17 @@
+use Rattle.std.proofs.Common.{◌∙◌}
+use Rattle.scons_top.proofs.Watching.{watches_on}
+use Rattle.scons_top.proofs.Causing.{world_back, world_exit}
+use Rattle.scons_top.proofs.members.check_members.Goals as goal
+
+pub returns-in_err-check_member-clause-watches : goal.returns-in_err-check_member-clause-watches
+returns-in_err-check_member-clause-watches g c = watches_on _ _ _ _ c.loop-member.invariant.watches c.check_member.ensures.watches
+
+pub loop-member-preserved : goal.loop-member-preserved
+loop-member-preserved g c = record {
+  watches = watches_on _ _ _ _ c.loop-member.invariant.watches c.check_member.ensures.watches;
+  same = c.in_ok-check_member.ensures.step ∙ c.loop-member.invariant.same;
+}
+
+pub returns-in_err-check_member-clause-step : goal.returns-in_err-check_member-clause-step
+returns-in_err-check_member-clause-step g c =
+    world_back _ _ _ c.from_residual.result c.loop-member.invariant.same (world_exit _ _ c.from_residual.result _ c.from_residual.ensures.1 c.in_err-check_member.ensures.step)

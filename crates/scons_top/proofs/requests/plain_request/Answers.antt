@@ -1,0 +1,11 @@
+use Rattle.scons_top.proofs.Causing.{inner_step, world_exit}
+use Rattle.scons_top.proofs.requests.plain_request.Goals as goal
+
+pub returns-in_err-is_left_over-clause-step : goal.returns-in_err-is_left_over-clause-step
+returns-in_err-is_left_over-clause-step g c = world_exit _ _ c.from_residual.result _ c.from_residual.ensures.1 c.in_err-is_left_over.ensures.step
+
+pub returns-then-branch-clause-step : goal.returns-then-branch-clause-step
+returns-then-branch-clause-step g c = inner_step _ _ c.absent_request.result c.in_ok-is_left_over.ensures.step c.absent_request.ensures
+
+pub returns-clause-step : goal.returns-clause-step
+returns-clause-step g c = inner_step _ _ c.node_request.result c.in_ok-is_left_over.ensures.step c.node_request.ensures

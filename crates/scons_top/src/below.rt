@@ -1,0 +1,126 @@
+//! The targets below directories.
+
+use build_files::{path_of, rule_at};
+use indexmap::IndexSet;
+use rule_graph::Graph;
+use scons_base::{Memory, NodeId, PathText, RuleId};
+use std::alloc::Global;
+
+/// The declared targets in the order of their paths, from when a directory is asked for.
+#[derive(Drop)]
+pub(crate) struct Below {
+    targets: Option<Vec<(PathText, NodeId)>>,
+}
+
+impl Below {
+    pub(crate) fn new() -> Below {
+        Below { targets: None }
+    }
+
+    /// The members of an alias, each once: a directory without a rule stands for the targets below it.
+    pub(crate) fn members_of(
+        &mut self,
+        alloc: Global,
+        graph: &Graph,
+        members: &[NodeId],
+    ) -> Result<Vec<NodeId>, Memory> {
+        let mut met = IndexSet::new(alloc);
+        let mut nodes = Vec::new(alloc);
+        for member in members {
+            let (_, is_new) = met.insert_full(*member)?;
+            if is_new {
+                self.add_member(alloc, graph, *member, &mut nodes)?;
+            }
+        }
+        Ok(nodes)
+    }
+
+    /// Adds what a member of an alias stands for.
+    fn add_member(
+        &mut self,
+        alloc: Global,
+        graph: &Graph,
+        member: NodeId,
+        nodes: &mut Vec<NodeId>,
+    ) -> Result<(), Memory> {
+        if graph.rule_of(member).is_some() {
+            nodes.push(member)?;
+            return Ok(());
+        }
+        let below = self.targets_below(alloc, graph, path_of(graph, member)?)?;
+        if below.is_empty() {
+            nodes.push(member)?;
+        }
+        nodes.extend_from_slice(below.as_slice())?;
+        Ok(())
+    }
+
+    /// The declared targets below a directory, in the order of their paths.
+    pub(crate) fn targets_below(
+        &mut self,
+        alloc: Global,
+        graph: &Graph,
+        dir: &PathText,
+    ) -> Result<Vec<NodeId>, Memory> {
+        if self.targets.is_none() {
+            self.targets = Some(targets_of(alloc, graph)?);
+        }
+        match &self.targets {
+            Some(targets) => those_below(alloc, targets.as_slice(), dir),
+            None => Ok(Vec::new(alloc)),
+        }
+    }
+}
+
+/// The declared targets, in the order of their paths.
+fn targets_of(alloc: Global, graph: &Graph) -> Result<Vec<(PathText, NodeId)>, Memory> {
+    let mut targets = Vec::new(alloc);
+    for number in 0..graph.rules() {
+        add_targets(graph, RuleId(number), &mut targets)?;
+    }
+    targets.sort()?;
+    Ok(targets)
+}
+
+fn add_targets(
+    graph: &Graph,
+    rule: RuleId,
+    targets: &mut Vec<(PathText, NodeId)>,
+) -> Result<(), Memory> {
+    for target in rule_at(graph, rule)?.targets.as_slice() {
+        targets.push((path_of(graph, *target)?.copy()?, *target))?;
+    }
+    Ok(())
+}
+
+/// Those of sorted targets that lie below a directory. All but the top directory's stand together.
+fn those_below(
+    alloc: Global,
+    targets: &[(PathText, NodeId)],
+    dir: &PathText,
+) -> Result<Vec<NodeId>, Memory> {
+    let mut nodes = Vec::new(alloc);
+    let is_top = dir.as_str() == ".";
+    for (path, node) in targets.iter().skip(first_below(alloc, targets, dir)?) {
+        if path.is_below(dir) {
+            nodes.push(*node)?;
+        } else if !is_top {
+            break;
+        }
+    }
+    Ok(nodes)
+}
+
+/// The place among sorted targets from which on those below a directory can stand.
+fn first_below(
+    alloc: Global,
+    targets: &[(PathText, NodeId)],
+    dir: &PathText,
+) -> Result<usize, Memory> {
+    let front = match dir.as_str() {
+        "." => return Ok(0),
+        "/" => String::from_str(alloc, "/")?,
+        text => format!(in alloc; "{text}/")?,
+    };
+    Ok(targets.partition_point(|(path, _)| path.as_str() < front.as_str()))
+}

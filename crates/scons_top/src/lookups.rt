@@ -1,0 +1,96 @@
+//! What is looked up for the words of a run: the targets below directories, and the records of former builds.
+ghost use Rattle.build_files.specs.Causes.{HasLookCause};
+ghost use Rattle.scons_top.specs.Stops.{WorldStep};
+ghost use Rattle.scons_top.specs.Watching.{Watches};
+
+use crate::below::Below;
+use crate::dry_step::view_of;
+use crate::stop::Stop;
+use build_files::{ListEnd, is_copied, is_leftover};
+use deciders::Rec;
+use rule_graph::Graph;
+use scons_base::PathText;
+use sign_store::View;
+use std::alloc::Global;
+use world_api::World;
+
+/// What was looked up so far.
+#[derive(Drop)]
+pub(crate) struct Lookups {
+    pub(crate) below: Below,
+    /// The records of former builds, once they were asked for.
+    pub(crate) view: Option<View>,
+    /// Whether targets are to be removed: then what isn't there is no fault.
+    pub(crate) is_cleaning: bool,
+}
+
+impl Lookups {
+    pub(crate) fn new(is_cleaning: bool) -> Lookups {
+        Lookups {
+            below: Below::new(),
+            view: None,
+            is_cleaning,
+        }
+    }
+}
+
+/// Whether a file without a rule is a leftover copy. The records are read for one in a variant directory with copies alone.
+pub(crate) fn is_left_over<W: World>(
+    alloc: Global,
+    world: &mut W,
+    graph: &Graph,
+    view: &mut Option<View>,
+    path: &PathText,
+) -> Result<bool, Stop>
+    ensures watches { Watches W.meaning world.old world.new }
+    ensures step { WorldStep (W.meaning.counts world.old) (W.meaning.counts world.new) result }
+{
+    if !is_copied(graph, path) {
+        return Ok(false);
+    }
+    read_records(alloc, world, view)?;
+    Ok(has_leftover(world, graph, view, path)?)
+}
+
+/// Reads the records, unless they were read before.
+#[tactic(auto, using(crate::proofs::Causing::causing))]
+fn read_records<W: World>(alloc: Global, world: &mut W, view: &mut Option<View>) -> Result<(), Stop>
+    ensures watches { Watches W.meaning world.old world.new }
+    ensures step { WorldStep (W.meaning.counts world.old) (W.meaning.counts world.new) result }
+{
+    if view.is_some() {
+        return Ok(());
+    }
+    match view_of(alloc, world) {
+        Ok(read) => {
+            *view = Some(read);
+            Ok(())
+        }
+        Err(refusal) => Err(Stop::from(refusal)),
+    }
+}
+
+/// Whether the record of a path is of a leftover copy.
+#[tactic(auto, using(crate::proofs::Causing::causing))]
+fn has_leftover<W: World>(
+    world: &mut W,
+    graph: &Graph,
+    view: &Option<View>,
+    path: &PathText,
+) -> Result<bool, ListEnd>
+    ensures watches { Watches W.meaning world.old world.new }
+    ensures cause { HasLookCause (W.meaning.counts world.old) (W.meaning.counts world.new) result }
+{
+    match recorded(view, path) {
+        Some(rec) => is_leftover(world, graph, rec),
+        None => Ok(false),
+    }
+}
+
+/// The record of a path.
+fn recorded<'a>(view: &'a Option<View>, path: &PathText) -> Option<&'a Rec> {
+    match view {
+        Some(view) => view.get(path),
+        None => None,
+    }
+}
