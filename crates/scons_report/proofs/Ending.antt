@@ -1,5 +1,6 @@
 -- Looks one after the other, and what their ends stand for.
 use Rattle.std.proofs.Common.{◌≡◌, sym, subst}
+use Rattle.std.specs.Prelude.{Result, Ok, Err, IsErrAnd}
 use Rattle.world_api.specs.Counts.{Counts}
 use Rattle.rule_graph.specs.declared.build_fault.BuildFault.{BuildFault}
 use Rattle.rule_graph.specs.declared.build_fault.BuildFault.TheVariants as fault
@@ -7,7 +8,7 @@ use Rattle.build_files.specs.declared.end.ListEnd.{ListEnd}
 use Rattle.build_files.specs.declared.end.ListEnd.TheVariants as end
 use Rattle.build_files.specs.Causes.{HasEndCause as HasLookEnd, HasFaultCause as HasLookFault, IsInside as IsInsideLook}
 use Rattle.world_api.proofs.Looking.{looks_same, looks_joined, alone_same}
-use Rattle.scons_report.specs.Causes.{HasEndCause, HasFaultCause, IsInside}
+use Rattle.scons_report.specs.Causes.{HasEndCause, HasFaultCause, HasListCause, IsInside}
 
 of_fault : (a b : Counts) (f : BuildFault) → HasLookFault a b f → HasFaultCause a b f
 of_fault a b (fault.Missing node target) h = absurd h
@@ -38,5 +39,10 @@ inside_look a b e same is = of_look a b e (subst (λ c. HasLookEnd a c e) (sym s
 
 pub inside : (a b : Counts) (e : ListEnd) → b ≡ a → IsInside e → HasEndCause a b e
 inside a b e same is = subst (λ c. HasEndCause a c e) (sym same) (is a)
+
+-- the exit of a `?` where nothing was at fault
+pub inside_exit : {T : Type 0} (a b : Counts) (r : Result T ListEnd) → b ≡ a → IsErrAnd r IsInsideLook → HasListCause a b r
+inside_exit a b (Ok value) same is = absurd is
+inside_exit a b (Err e) same is = inside_look a b e same is
 
 pub ruleset ending = (looks_same, looks_joined, alone_same, of_look, look_after, end_after, inside_look, inside)

@@ -1,4 +1,5 @@
 //! Lists in lists, flattened depth first. The stack is the loop's own, since lists stand in each other as deep as scripts put them.
+//! A walk of more than 2^64 - 1 steps, which would take centuries, ends as want of memory.
 use indexmap::IndexSet;
 use scons_base::Memory;
 use std::alloc::Global;
@@ -73,7 +74,7 @@ impl<'a> Walk<'a> {
     fn next(&mut self) -> Result<Option<Step>, Memory> {
         'lists: for _ in 0..u64::MAX {
             let Some((place, steps)) = self.open.pop() else {
-                break;
+                return Ok(None);
             };
             if let [step, rest @ ..] = steps {
                 self.open.push((place, rest))?;
@@ -81,7 +82,7 @@ impl<'a> Walk<'a> {
             }
             self.done.push(place)?;
         }
-        Ok(None)
+        Err(Memory)
     }
 }
 
@@ -101,10 +102,10 @@ fn go_down<'a>(walk: &mut Walk<'a>, lists: &'a [Vec<Step>]) -> Result<(), Memory
         match walk.next()? {
             Some(Step::List(place)) => walk.enter(lists, place)?,
             Some(Step::Member(_)) => {}
-            None => break,
+            None => return Ok(()),
         }
     }
-    Ok(())
+    Err(Memory)
 }
 
 /// The members of one list. A list in it that is flattened isn't gone over again; only lists that hold each other are.
@@ -116,13 +117,22 @@ fn flattened(
 ) -> Result<Vec<usize>, Memory> {
     let mut walk = Walk::new(alloc);
     walk.enter(lists, place)?;
+    take_all(&mut walk, lists, flat)?;
+    Ok(Vec::from_slice(alloc, walk.members.as_slice())?)
+}
+
+fn take_all<'a>(
+    walk: &mut Walk<'a>,
+    lists: &'a [Vec<Step>],
+    flat: &[Option<Vec<usize>>],
+) -> Result<(), Memory> {
     'steps: for _ in 0..u64::MAX {
         match walk.next()? {
-            Some(step) => take(&mut walk, lists, flat, step)?,
-            None => break,
+            Some(step) => take(walk, lists, flat, step)?,
+            None => return Ok(()),
         }
     }
-    Ok(Vec::from_slice(alloc, walk.members.as_slice())?)
+    Err(Memory)
 }
 
 /// Puts a member behind those there, or those of a list that is flattened; another list is begun.

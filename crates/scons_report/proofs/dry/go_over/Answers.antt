@@ -1,5 +1,6 @@
 use Rattle.std.proofs.Common.{◌∙◌}
 use Rattle.world_api.proofs.Looking.{looks_joined}
+use Rattle.scons_report.proofs.Ending.{inside_exit}
 use Rattle.scons_report.proofs.dry.go_over.Goals as goal
 
 pub returns-in_err-event-clause-looks : goal.returns-in_err-event-clause-looks
@@ -13,3 +14,8 @@ loop-turn-preserved g c = record {
   looks = looks_joined g.W.Disk.meaning _ _ _ c.loop-turn.invariant.looks c.take_turn.ensures.looks;
   counts = c.in_ok-event.ensures.cause ∙ c.loop-turn.invariant.counts;
 }
+
+pub returns-in_err-step-clause-cause : goal.returns-in_err-step-clause-cause
+returns-in_err-step-clause-cause g c =
+    let r = c.from_residual-in_err-step in
+    inside_exit _ _ r.result (c.in_ok-event.ensures.cause ∙ c.loop-turn.invariant.counts) r.ensures.1
