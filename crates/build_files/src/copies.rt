@@ -1,5 +1,6 @@
 //! The copy rules of variant directories, added as their paths come up.
-ghost use Rattle.std.specs.Prelude.{◌<◌, ℕ, length, IfOk};
+ghost use Rattle.std.specs.List.{list_any};
+ghost use Rattle.std.specs.Prelude.{◌≡◌, ◌<◌, ℕ, length, IfOk};
 ghost use Rattle.rule_graph.specs.Rules.{IsRule};
 ghost use Rattle.build_files.specs.Causes.{HasLookCause, IsQuiet};
 ghost use Rattle.world_api.specs.Looks.{Looks};
@@ -239,7 +240,9 @@ fn insert_all(set: &mut IndexSet<NodeId>, nodes: &[NodeId]) -> Result<(), Memory
 }
 
 /// Whether some variant directory has copies.
-pub(crate) fn has_copies(graph: &Graph) -> bool {
+pub(crate) fn has_copies(graph: &Graph) -> bool
+    ensures { result ≡ list_any (λ variant. variant.duplicate) graph.now.variants }
+{
     graph
         .variants()
         .as_slice()

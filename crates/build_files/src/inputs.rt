@@ -1,5 +1,7 @@
 //! The files of a build.
+ghost use Rattle.std.specs.Prelude.{◌≡◌, IfOk};
 ghost use Rattle.build_files.specs.Causes.{HasLookCause};
+ghost use Rattle.build_files.specs.Leftovers.{stands};
 ghost use Rattle.world_api.specs.Looks.{Looks};
 
 use crate::end::ListEnd;
@@ -204,6 +206,7 @@ impl Inputs {
 pub(crate) fn is_file_at<W: World>(world: &mut W, path: &PathText) -> Result<bool, ListEnd>
     ensures looks { Looks W.meaning world.old world.new }
     ensures cause { HasLookCause (W.meaning.counts world.old) (W.meaning.counts world.new) result }
+    ensures stands { W.meaning.tells world.new → IfOk result (λ is. is ≡ stands (W.meaning.around world.new) path.now) }
 {
     match world.kind(path) {
         Ok(kind) => Ok(kind == Kind::File),

@@ -1,5 +1,7 @@
 //! Which paths are known: those that a rule makes, and those at which a file stands.
+ghost use Rattle.std.specs.Prelude.{◌≡◌, IfOk};
 ghost use Rattle.build_files.specs.Causes.{HasLookCause, IsQuiet};
+ghost use Rattle.build_files.specs.Leftovers.{is_made, is_copied, copied_from};
 ghost use Rattle.world_api.specs.Looks.{Looks};
 
 use crate::end::ListEnd;
@@ -115,6 +117,7 @@ pub(crate) fn copied_from<W: World>(
 ) -> Result<Option<PathText>, ListEnd>
     ensures looks { Looks W.meaning world.old world.new }
     ensures cause { HasLookCause (W.meaning.counts world.old) (W.meaning.counts world.new) result }
+    ensures from { W.meaning.tells world.new → IfOk result (λ source. source ≡ copied_from graph.now (W.meaning.around world.new) path.now) }
 {
     if !is_copied(graph, path) {
         return Ok(None);
@@ -122,7 +125,7 @@ pub(crate) fn copied_from<W: World>(
     let Some(source) = graph.variants().source_of(graph.top(), path)? else {
         return Ok(None);
     };
-    if is_declared(graph, &source) {
+    if is_made(graph, &source) {
         return Ok(Some(source));
     }
     if is_copied(graph, &source) {
@@ -136,14 +139,19 @@ pub(crate) fn copied_from<W: World>(
 }
 
 /// Whether a path lies in a variant directory with copies.
-pub fn is_copied(graph: &Graph, path: &PathText) -> bool {
+pub fn is_copied(graph: &Graph, path: &PathText) -> bool
+    ensures { result ≡ is_copied graph.now path.now }
+{
     match graph.variants().variant_of(path) {
         Some(variant) => variant.duplicate,
         None => false,
     }
 }
 
-pub(crate) fn is_declared(graph: &Graph, path: &PathText) -> bool {
+/// Whether a rule makes a path.
+pub(crate) fn is_made(graph: &Graph, path: &PathText) -> bool
+    ensures { result ≡ is_made graph.now path.now }
+{
     match graph.find(path) {
         Some(node) => graph.rule_of(node).is_some(),
         None => false,

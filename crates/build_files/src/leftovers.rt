@@ -1,11 +1,15 @@
 //! Copies that are left over: nothing makes them any more, and they aren't sources.
+ghost use Rattle.std.specs.Prelude.{◌≡◌, IfOk, Some, Contains, true};
 ghost use Rattle.build_files.specs.Causes.{HasLookCause};
+ghost use Rattle.build_files.specs.Leftovers.{AtRest, IsOfCopy, IsLeftover, AreLeftovers};
+ghost use Rattle.sign_store.specs.Copies.{IsCopyIn};
+ghost use Rattle.variant_dirs.specs.Variants.{source_of};
 ghost use Rattle.world_api.specs.Looks.{Looks};
 
 use crate::copies::has_copies;
 use crate::end::ListEnd;
 use crate::inputs::is_file_at;
-use crate::known::{copied_from, is_copied, is_declared};
+use crate::known::{copied_from, is_copied, is_made};
 use crate::record::Records;
 use deciders::Rec;
 use rule_graph::Graph;
@@ -23,6 +27,7 @@ pub fn leftover_copies<W: World, R: Records>(
 ) -> Result<Listing<Rec>, ListEnd>
     ensures looks { Looks W.meaning world.old world.new }
     ensures cause { HasLookCause (W.meaning.counts world.old) (W.meaning.counts world.new) result }
+    ensures left { AtRest W.meaning world.new → IfOk result (AreLeftovers graph.now (W.meaning.around world.new) (IsCopyIn (R.map records.now))) }
 {
     if !has_copies(graph) {
         return Ok(Listing::empty(alloc));
@@ -41,6 +46,7 @@ fn leftovers_of<W: World>(
 ) -> Result<Listing<Rec>, ListEnd>
     ensures looks { Looks W.meaning world.old world.new }
     ensures cause { HasLookCause (W.meaning.counts world.old) (W.meaning.counts world.new) result }
+    ensures left { AtRest W.meaning world.new → IfOk result (AreLeftovers graph.now (W.meaning.around world.new) (Contains copies.now)) }
 {
     let mut left = Listing::empty(alloc);
     for rec in copies {
@@ -57,11 +63,13 @@ fn leftovers_of<W: World>(
 pub fn is_leftover<W: World>(world: &mut W, graph: &Graph, rec: &Rec) -> Result<bool, ListEnd>
     ensures looks { Looks W.meaning world.old world.new }
     ensures cause { HasLookCause (W.meaning.counts world.old) (W.meaning.counts world.new) result }
+    ensures is { AtRest W.meaning world.new → IfOk result (λ is. is ≡ true → IsLeftover graph.now (W.meaning.around world.new) rec.now) }
+    ensures all { AtRest W.meaning world.new → IfOk result (λ is. IsLeftover graph.now (W.meaning.around world.new) rec.now → is ≡ true) }
 {
     let [path] = rec.targets.as_slice() else {
         return Ok(false);
     };
-    if is_declared(graph, path) || !was_copied(graph, path, rec)? {
+    if is_made(graph, path) || !was_copied(graph, path, rec)? {
         return Ok(false);
     }
     if copied_from(world, graph, path)?.is_some() {
@@ -71,15 +79,23 @@ pub fn is_leftover<W: World>(world: &mut W, graph: &Graph, rec: &Rec) -> Result<
 }
 
 /// Whether a record says that a path of a variant directory with copies was copied from its source there.
-fn was_copied(graph: &Graph, path: &PathText, rec: &Rec) -> Result<bool, Memory> {
-    if rec.work != Work::Copy || !is_copied(graph, path) {
-        return Ok(false);
+fn was_copied(graph: &Graph, path: &PathText, rec: &Rec) -> Result<bool, Memory>
+    ensures is { IfOk result (λ was. was ≡ true → IsOfCopy graph.now rec.now path.now) }
+    ensures all { IfOk result (λ was. IsOfCopy graph.now rec.now path.now → was ≡ true) }
+{
+    match (rec.work, rec.deps.as_slice()) {
+        (Work::Copy, [dep]) if is_copied(graph, path) => has_source(graph, path, &dep.name),
+        _ => Ok(false),
     }
-    let [dep] = rec.deps.as_slice() else {
-        return Ok(false);
-    };
+}
+
+/// Whether a path has this source.
+fn has_source(graph: &Graph, path: &PathText, name: &PathText) -> Result<bool, Memory>
+    ensures is { IfOk result (λ has. has ≡ true → source_of graph.now.variants graph.now.top path.now ≡ Some name.now) }
+    ensures all { IfOk result (λ has. source_of graph.now.variants graph.now.top path.now ≡ Some name.now → has ≡ true) }
+{
     match graph.variants().source_of(graph.top(), path)? {
-        Some(source) => Ok(source == dep.name),
+        Some(source) => Ok(source == *name),
         None => Ok(false),
     }
 }

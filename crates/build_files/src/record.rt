@@ -1,5 +1,9 @@
 //! What a rule's record would be now, and whether the rule is stale.
+ghost use Rattle.std.specs.Prelude.{◌≡◌, IfOk, option_copied};
 ghost use Rattle.build_files.specs.Causes.{HasLookCause};
+ghost use Rattle.sign_store.specs.Copies.{AreCopiesOf};
+ghost use Rattle.sign_store.specs.Stores.{map_of, map_of_view};
+ghost use Rattle.sign_store.specs.Tables.{Map};
 ghost use Rattle.world_api.specs.Looks.{Looks};
 
 use crate::end::ListEnd;
@@ -14,13 +18,20 @@ use world_api::{Decider, World};
 
 /// Where the records of former builds stand.
 pub trait Records {
-    fn record(&self, path: &PathText) -> Option<&Rec>;
+    ghost map: { Self → Map };
+
+    /// The record of a path.
+    fn record(&self, path: &PathText) -> Option<&Rec>
+        ensures { option_copied result ≡ map self.now path.now };
 
     /// The records of copies.
-    fn copies(&self, alloc: Global) -> Result<Listing<Rec>, Memory>;
+    fn copies(&self, alloc: Global) -> Result<Listing<Rec>, Memory>
+        ensures { IfOk result (AreCopiesOf (map self.now)) };
 }
 
 impl Records for Store {
+    ghost map = { map_of };
+
     fn record(&self, path: &PathText) -> Option<&Rec> {
         self.get(path)
     }
@@ -31,6 +42,8 @@ impl Records for Store {
 }
 
 impl Records for View {
+    ghost map = { map_of_view };
+
     fn record(&self, path: &PathText) -> Option<&Rec> {
         self.get(path)
     }

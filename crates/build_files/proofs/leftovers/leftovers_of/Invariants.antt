@@ -1,9 +1,14 @@
 use Rattle.std.proofs.Common.{◌≡◌}
 use Rattle.world_api.specs.Looks.{Looks}
+use Rattle.build_files.specs.Leftovers.{AtRest}
+use Rattle.build_files.proofs.Left.{AreLeftSoFar}
 use Rattle.build_files.proofs.leftovers.leftovers_of.Given as goal
 
 abbrev pub invariant-loop-rec : goal.invariant-loop-rec
-invariant-loop-rec g l = record {
-  looks : Looks g.W.Disk.meaning l.fn.world l.world;
-  counts : g.W.Disk.meaning.counts l.world ≡ g.W.Disk.meaning.counts l.fn.world;
-}
+invariant-loop-rec g l =
+    let m = g.W.Disk.meaning in
+    record {
+      looks : Looks m l.fn.world l.world;
+      counts : m.counts l.world ≡ m.counts l.fn.world;
+      left : AtRest m l.world → AreLeftSoFar l.graph (m.around l.world) l.copies l.rec-index l.left;
+    }
