@@ -137,6 +137,7 @@ copied_any (first ∷ variants) path is = by (lies_in path first.dir) is (copied
     or_true : (b : Bool) → (b || true) ≡ true
     or_true true = refl
     or_true false = refl
+
     by : (b : Bool) → has_copies (if b then Some first else variant_of variants path) ≡ true → (has_copies (variant_of variants path) ≡ true → list_any (λ variant. variant.duplicate) variants ≡ true)
         → (first.duplicate || list_any (λ variant. variant.duplicate) variants) ≡ true
     by true here later = ap (λ (b : Bool). b || list_any (λ variant. variant.duplicate) variants) here

@@ -31,12 +31,12 @@ loop-rec-preserved g c =
           let before = so_far_on graph (m.around c.loop-rec.world) around recs n c.loop-rec.left rest.1 (looks.around at.0) (c.loop-rec.invariant.left rest) in
           elim c.if-branch.branch [
             | then-branch+in_ok-copy+in_ok-push w ↦
-              let pushed = w.left-is ∙ (w.in_ok-push.ensures.ok ∙ ap (λ (rec : Rec). c.loop-rec.left ++ rec ∷ []) w.in_ok-copy.ensures) in
-              so_far_with graph around recs n c.loop-rec.left c.if-branch.left c.rec-item.result (omega (arith, c.loop-rec-test.true)) c.rec-item.is (c.in_ok-is_leftover.ensures.is at w.if-branch.true) pushed before
+                let pushed = w.left-is ∙ (w.in_ok-push.ensures.ok ∙ ap (λ (rec : Rec). c.loop-rec.left ++ rec ∷ []) w.in_ok-copy.ensures) in
+                so_far_with graph around recs n c.loop-rec.left c.if-branch.left c.rec-item.result (omega (arith, c.loop-rec-test.true)) c.rec-item.is (c.in_ok-is_leftover.ensures.is at w.if-branch.true) pushed before
             | else-branch w ↦
-              let other = so_far_past graph around recs n c.loop-rec.left c.rec-item.result (omega (arith, c.loop-rec-test.true)) c.rec-item.is
-              (λ is. false≢true (sym w.if-branch.false ∙ c.in_ok-is_leftover.ensures.all at is)) before in
-              subst (λ (left : List Rec). AreLeftSoFar graph around recs (n + 1) left) (sym w.left-is) other
+                let other = so_far_past graph around recs n c.loop-rec.left c.rec-item.result (omega (arith, c.loop-rec-test.true)) c.rec-item.is
+                (λ is. false≢true (sym w.if-branch.false ∙ c.in_ok-is_leftover.ensures.all at is)) before in
+                subst (λ (left : List Rec). AreLeftSoFar graph around recs (n + 1) left) (sym w.left-is) other
           ];
     }
 
