@@ -18,7 +18,7 @@ use Rattle.deciders.specs.declared.recorded.Rec.{Rec}
 use Rattle.build_files.specs.declared.end.ListEnd.{ListEnd}
 use Rattle.build_files.specs.Leftovers.{AtRest, has_copies, stands, is_made, is_copied, source_among, copied_from, IsOfCopy, IsLeftover, AreLeftovers}
 
-none_runs : (running : List Running) (path : List ℕ) → running ≡ [] → IsRunningTarget running path → ⊥
+pub none_runs : (running : List Running) (path : List ℕ) → running ≡ [] → IsRunningTarget running path → ⊥
 none_runs [] path rest is = omega (arith, is.1.1)
 none_runs (first ∷ running) path rest is = absurd (cc rest)
 

@@ -6,6 +6,7 @@ ghost use Rattle.build_run.specs.Ledgers.{ledger_of, with_done, WorldKeeps};
 ghost use Rattle.build_run.specs.Holds.{holds_in, KeepsApart};
 ghost use Rattle.build_run.specs.Outs.{IsStored, IsTicketFor, HasOwnRoom};
 ghost use Rattle.build_run.specs.declared.tickets.Hold.{Hold};
+ghost use Rattle.build_run.specs.Takes.{Takes};
 ghost use Rattle.build_run.specs.Withdrawals.{AreWithdrawn};
 ghost use Rattle.world_api.specs.Around.{IsUnused};
 
@@ -83,6 +84,7 @@ pub(crate) fn remove_all<W: World>(world: &mut W, targets: &[PathText]) -> Resul
     ensures stays { Stays W.meaning world.old world.new }
     ensures cause { HasLookCause (W.meaning.counts world.old) (W.meaning.counts world.new) result }
     ensures gone { AreGone W.meaning world.new targets.now result }
+    ensures only { Takes W.meaning world.old world.new (Contains targets.now) }
 {
     for target in targets {
         remove(world, target)?;
@@ -96,6 +98,7 @@ fn remove<W: World>(world: &mut W, target: &PathText) -> Result<(), ListEnd>
     ensures cause { HasLookCause (W.meaning.counts world.old) (W.meaning.counts world.new) result }
     ensures gone { W.meaning.tells world.new → OnOk result ((W.meaning.around world.new).tree target.now ≡ None) }
     ensures others { W.meaning.tells world.new → Leaves target.now (W.meaning.around world.old) (W.meaning.around world.new) }
+    ensures only { Takes W.meaning world.old world.new (λ path. path ≡ target.now) }
 {
     match world.remove(target) {
         Ok(()) => Ok(()),

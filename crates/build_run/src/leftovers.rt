@@ -1,11 +1,11 @@
 //! Leftover copies, and how a build takes them away before it looks at anything else.
-ghost use Rattle.std.specs.Prelude.{◌≡◌, [], true, OnOk};
+ghost use Rattle.std.specs.Prelude.{◌≡◌, [], true, Contains, OnOk};
 ghost use Rattle.build_files.specs.Causes.{HasLookCause};
 ghost use Rattle.build_run.specs.Goings.{Goes, Stays, AreUnused};
 ghost use Rattle.build_run.specs.Outs.{IsTicketFor};
-ghost use Rattle.build_run.specs.Takes.{HasTakeCause};
+ghost use Rattle.build_run.specs.Takes.{HasTakeCause, AreTaken, Takes, IsLeftAt, IsTargetOf};
 ghost use Rattle.build_run.specs.Withdrawals.{AreWithdrawn};
-ghost use Rattle.sign_store.specs.Stores.{IsKept, is_live};
+ghost use Rattle.sign_store.specs.Stores.{IsKept, is_live, map_of};
 
 use crate::clear::remove_all;
 use crate::start::prepare;
@@ -32,6 +32,8 @@ pub(crate) fn take_leftovers<W: World>(
     ensures cause { HasTakeCause (W.meaning.counts world.old) (W.meaning.counts world.new) result }
     ensures live { OnOk result (is_live store.new ≡ true) }
     ensures kept { OnOk result (IsKept W.meaning world.new store.new) }
+    ensures gone { AreTaken W.meaning world.new (IsLeftAt graph.now (W.meaning.around world.old) (map_of store.old)) result }
+    ensures only { Takes W.meaning world.old world.new (IsLeftAt graph.now (W.meaning.around world.old) (map_of store.old)) }
 {
     let left = leftover_copies(alloc, world, graph, store)?;
     take_each(alloc, store, world, left.as_slice())
@@ -51,6 +53,8 @@ fn take_each<W: World>(
     ensures cause { HasTakeCause (W.meaning.counts world.old) (W.meaning.counts world.new) result }
     ensures live { OnOk result (is_live store.new ≡ true) }
     ensures kept { OnOk result (IsKept W.meaning world.new store.new) }
+    ensures gone { AreTaken W.meaning world.new (IsTargetOf left.now) result }
+    ensures only { Takes W.meaning world.old world.new (IsTargetOf left.now) }
 {
     for rec in left {
         take_away(alloc, store, world, rec.copy()?)?;
@@ -72,6 +76,8 @@ fn take_away<W: World>(
     ensures cause { HasTakeCause (W.meaning.counts world.old) (W.meaning.counts world.new) result }
     ensures live { OnOk result (is_live store.new ≡ true) }
     ensures kept { OnOk result (IsKept W.meaning world.new store.new) }
+    ensures gone { AreTaken W.meaning world.new (Contains rec.targets) result }
+    ensures only { Takes W.meaning world.old world.new (Contains rec.targets) }
 {
     let targets = rec.targets.copy()?;
     let ticket = prepare(alloc, store, rec)?;
@@ -95,6 +101,7 @@ fn withdraw<W: World>(
     ensures live { OnOk result (is_live store.new ≡ true) }
     ensures kept { OnOk result (IsKept W.meaning world.new store.new) }
     ensures withdrawn { OnOk result (AreWithdrawn W.meaning world.new store.new targets.now) }
+    ensures around { W.meaning.tells world.new → W.meaning.around world.new ≡ W.meaning.around world.old }
 {
     match store.withdraw(world, ticket) {
         Ok(()) => Ok(()),
@@ -112,6 +119,8 @@ fn remove_unrecorded<W: World>(
     requires unused { AreUnused W.meaning world.old targets.now }
     ensures stays { Stays W.meaning world.old world.new }
     ensures cause { HasLookCause (W.meaning.counts world.old) (W.meaning.counts world.new) result }
+    ensures gone { AreTaken W.meaning world.new (Contains targets.now) result }
+    ensures only { Takes W.meaning world.old world.new (Contains targets.now) }
 {
     remove_all(world, targets)
 }

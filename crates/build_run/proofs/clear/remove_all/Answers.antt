@@ -1,5 +1,6 @@
-use Rattle.std.proofs.Common.{◌∙◌, arith}
+use Rattle.std.proofs.Common.{◌∙◌, List, ℕ, Contains, sym, subst, arith}
 use Rattle.build_run.proofs.Goings.{stays_on, unused_still, unused_in, gone_still}
+use Rattle.build_run.proofs.Taking.{takes_on, takes_as}
 use Rattle.build_run.proofs.clear.remove_all.Goals as goal
 
 pub remove-requires : goal.remove-requires
@@ -21,4 +22,13 @@ loop-target-preserved g c =
       gone = λ t. gone_still (m.around c.loop-target.world) (m.around c.remove.new.world) c.args.targets.now c.loop-target.target-index c.target-item.result (omega arith) c.target-item.is
           (λ path h. let before = q.told.told t in unused_in (p.runs before) (c.requires (p.passes.told.told before) path h))
           (c.loop-target.invariant.gone (q.told.told t)) (c.in_ok-remove.ensures.gone t) (c.in_ok-remove.ensures.others t);
+      only =
+          let one = takes_as m c.loop-target.world c.remove.new.world _ _ (λ path same. subst (Contains c.args.targets.now) (sym same) (c.loop-target.target-index, omega (arith, c.loop-target-test.true), sym c.target-item.is)) c.remove.ensures.only in
+          takes_on m c.args.world.now c.loop-target.world c.remove.new.world _ q.told.told p.runs c.loop-target.invariant.only one;
     }
+
+pub returns-in_err-remove-clause-only : goal.returns-in_err-remove-clause-only
+returns-in_err-remove-clause-only g c =
+    let m = g.W.Disk.meaning in
+    let one = takes_as m c.loop-target.world c.remove.new.world _ _ (λ path same. subst (Contains c.args.targets.now) (sym same) (c.loop-target.target-index, omega (arith, c.loop-target-test.true), sym c.target-item.is)) c.remove.ensures.only in
+    takes_on m c.args.world.now c.loop-target.world c.remove.new.world _ c.remove.ensures.stays.goes.passes.told.told c.loop-target.invariant.stays.goes.runs c.loop-target.invariant.only one

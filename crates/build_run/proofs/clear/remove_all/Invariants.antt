@@ -1,5 +1,6 @@
-use Rattle.std.proofs.Common.{◌≡◌, ℕ, ◌<◌, List, None, get_or}
+use Rattle.std.proofs.Common.{◌≡◌, ℕ, ◌<◌, List, None, get_or, Contains}
 use Rattle.build_run.specs.Goings.{Stays}
+use Rattle.build_run.specs.Takes.{Takes}
 use Rattle.build_run.proofs.clear.remove_all.Given as goal
 
 abbrev pub invariant-loop-target : goal.invariant-loop-target
@@ -9,4 +10,5 @@ invariant-loop-target g l =
       stays : Stays m l.fn.world l.world;
       same : m.counts l.world ≡ m.counts l.fn.world;
       gone : m.tells l.world → (k : ℕ) (d : List ℕ) → k < l.target-index → (m.around l.world).tree (get_or l.targets k d) ≡ None;
+      only : Takes m l.fn.world l.world (Contains l.targets);
     }

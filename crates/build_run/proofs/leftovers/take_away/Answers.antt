@@ -1,9 +1,10 @@
-use Rattle.std.proofs.Common.{◌≡◌, ◌∙◌, List, ℕ, refl, sym, subst}
+use Rattle.std.proofs.Common.{◌≡◌, ◌∙◌, List, ℕ, Contains, refl, sym, subst}
 use Rattle.sign_store.proofs.Keeping.{kept_as}
+use Rattle.build_run.specs.Takes.{AreTaken, Takes}
 use Rattle.build_run.specs.Withdrawals.{AreWithdrawn}
 use Rattle.build_run.proofs.Goings.{goes_on}
 use Rattle.build_run.proofs.Outs.{held_ok}
-use Rattle.build_run.proofs.Taking.{kept_over, take_end, take_inside, take_exit, take_after, take_look, unused_at_rest, withdrawn_as}
+use Rattle.build_run.proofs.Taking.{kept_over, take_end, take_inside, take_exit, take_after, take_look, unused_at_rest, withdrawn_as, takes_still, takes_on}
 use Rattle.build_run.proofs.leftovers.take_away.Goals as goal
 
 pub withdraw-requires-clause-live : goal.withdraw-requires-clause-live
@@ -49,3 +50,23 @@ returns-in_err-ticket-clause-cause g c = let r = c.from_residual-in_err-ticket i
 
 pub returns-in_err-withdraw-clause-cause : goal.returns-in_err-withdraw-clause-cause
 returns-in_err-withdraw-clause-cause g c = let r = c.from_residual-in_err-withdraw in take_exit _ _ r.result _ r.ensures.1 c.in_err-withdraw.ensures.cause
+
+pub returns-in_err-targets-clause-only : goal.returns-in_err-targets-clause-only
+returns-in_err-targets-clause-only g c = takes_still g.W.Disk.meaning _ _ _ (λ t. refl)
+
+pub returns-in_err-ticket-clause-only : goal.returns-in_err-ticket-clause-only
+returns-in_err-ticket-clause-only g c = takes_still g.W.Disk.meaning _ _ _ (λ t. refl)
+
+pub returns-in_err-withdraw-clause-only : goal.returns-in_err-withdraw-clause-only
+returns-in_err-withdraw-clause-only g c = takes_still g.W.Disk.meaning _ _ _ c.withdraw.ensures.around
+
+pub returns-clause-gone : goal.returns-clause-gone
+returns-clause-gone g c =
+    subst (λ (paths : List (List ℕ)). AreTaken g.W.Disk.meaning c.remove_unrecorded.new.world (Contains paths) c.remove_unrecorded.result) (c.as_slice.ensures ∙ c.in_ok-targets.ensures) c.remove_unrecorded.ensures.gone
+
+pub returns-clause-only : goal.returns-clause-only
+returns-clause-only g c =
+    let m = g.W.Disk.meaning in
+    let stays = c.remove_unrecorded.ensures.stays.goes in
+    let last = subst (λ (paths : List (List ℕ)). Takes m c.withdraw.new.world c.remove_unrecorded.new.world (Contains paths)) (c.as_slice.ensures ∙ c.in_ok-targets.ensures) c.remove_unrecorded.ensures.only in
+    takes_on m c.args.world.now c.withdraw.new.world c.remove_unrecorded.new.world _ stays.passes.told.told c.withdraw.ensures.goes.runs (takes_still m _ _ _ c.withdraw.ensures.around) last
