@@ -15,6 +15,7 @@ pub mod LenLemmas
 pub mod CopyLemmas
 pub mod BeginLemmas
 pub mod BankLemmas
+pub mod BlockLemmas
 pub mod StepLemmas
 pub mod OpenLemmas
 pub mod Keeping

@@ -7,7 +7,7 @@ ghost use Rattle.sign_store.specs.Orders.{IsOrdered, IsWholeChange};
 ghost use Rattle.sign_store.specs.Gates.{IsGate};
 ghost use Rattle.sign_store.specs.Readings.{IsReadTo};
 ghost use Rattle.sign_store.specs.Tables.{nothing};
-ghost use Rattle.sign_store.specs.Images.{payload_in, change_in, entry_in, applied, after_entries, entries_map};
+ghost use Rattle.sign_store.specs.Images.{length_in, payload_in, change_in, entry_in, applied, after_entries, entries_map};
 
 use crate::map::RecordMap;
 use deciders::{Rec, decode, decode_paths};
@@ -56,7 +56,7 @@ pub(crate) fn load(alloc: Global, body: &[u8]) -> Result<Loaded, Memory>
     Ok(Loaded { map, len, gate })
 }
 
-fn gate_at(body: &[u8], place: usize) -> EndGate
+pub(crate) fn gate_at(body: &[u8], place: usize) -> EndGate
     ensures gate { IsGate result place body.now }
     ensures inside { result ≢ EndGate.Missing → place < length body.now }
 {
@@ -71,7 +71,7 @@ fn gate_at(body: &[u8], place: usize) -> EndGate
 }
 
 /// Applies one entry after the other, and says how many bytes they take.
-fn apply_all(map: &mut RecordMap, alloc: Global, body: &[u8]) -> Result<usize, Memory>
+pub(crate) fn apply_all(map: &mut RecordMap, alloc: Global, body: &[u8]) -> Result<usize, Memory>
     ensures map { OnOk result (map_in map.new ≡ after_entries (length body.now) (map_in map.old) body.now) }
     ensures reads { IfOk result (λ len. IsReadTo len (map_in map.old) (map_in map.new) body.now) }
     ensures ordered { IsOrdered map.old → OnOk result (IsOrdered map.new) }
@@ -123,12 +123,21 @@ fn first_payload(bytes: &[u8]) -> Option<&[u8]>
     if bytes.len() < 5 || bytes[0] != 1 {
         return None;
     }
-    let len = u32::from_be_bytes([bytes[1], bytes[2], bytes[3], bytes[4]]) as usize;
+    let len = claimed_len(bytes);
     let rest = &bytes[5..];
     if len > rest.len() {
         return None;
     }
     Some(&rest[..len])
+}
+
+/// The length that an entry says its payload has.
+pub(crate) fn claimed_len(bytes: &[u8]) -> usize
+    requires { 5 ≤ length bytes.now }
+    ensures len { result ≡ length_in bytes.now }
+    ensures fits { result ≤ 4294967295 }
+{
+    u32::from_be_bytes([bytes[1], bytes[2], bytes[3], bytes[4]]) as usize
 }
 
 fn change_of(alloc: Global, payload: &[u8]) -> Result<Option<Change>, Memory>
