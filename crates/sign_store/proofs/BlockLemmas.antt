@@ -18,7 +18,7 @@ use Rattle.sign_store.proofs.ImageLemmas.{no_entry}
 use Rattle.sign_store.proofs.EndLemmas.{shut_reads_none, gate_at, body_cut}
 use Rattle.sign_store.proofs.FormLemmas.{leads_none, leads_then}
 use Rattle.sign_store.proofs.ReadLemmas.{no_body}
-use Rattle.sign_store.proofs.LocalLemmas.{HasEntry, entry_local, has_entry}
+use Rattle.sign_store.proofs.LocalLemmas.{entry_local, has_entry}
 
 -- ---- bytes that show an end
 
@@ -136,9 +136,11 @@ part_gate end now part place n len left is fits size shows at = by end at
     byte some =
         let front = front_is now part place n len is fits in
         let cut = length-take (n - len) (drop (place + len) now) in
-        let more : 0 < n - len = omega (arith, some, ap length front, cut) in
-        (omega (arith, some, ap length front, cut, length-drop (place + len) now),
-        ap (λ (x : List ℕ). get_or x 0 0) front ∙ get_or-take (n - len) (drop (place + len) now) 0 0 more ∙ gate_at (place + len) now)
+        let more : 0 < n - len = omega (arith, some, ap length front, cut) in (
+          omega (arith, some, ap length front, cut, length-drop (place + len) now),
+          ap (λ (x : List ℕ). get_or x 0 0) front ∙ get_or-take (n - len) (drop (place + len) now) 0 0 more ∙ gate_at (place + len) now,
+        )
+
     by : (end : EndGate) → IsGate end 0 (drop len part) → IsGate end (place + len) now
     by gate.Closed at = let b = byte at.0 in (b.0, λ e. at.1 (b.1 ∙ e))
     by gate.Open at = let b = byte at.0 in (b.0, sym b.1 ∙ at.1)

@@ -14,7 +14,6 @@ pub mod CompactLemmas
 pub mod LenLemmas
 pub mod CopyLemmas
 pub mod BeginLemmas
-pub mod BankLemmas
 pub mod BlockLemmas
 pub mod StepLemmas
 pub mod OpenLemmas

@@ -2,7 +2,7 @@
 ghost use Rattle.std.specs.Prelude.{◌≡◌, ◌≢◌, ◌+◌, ◌≤◌, ◌<◌, None, length, max, IfOk, IfErr, IfSome, OnOk};
 ghost use Rattle.world_api.specs.Meaning.{Told};
 ghost use Rattle.sign_store.specs.Blocks.{EndsThere, ShowsEnd};
-ghost use Rattle.sign_store.specs.Images.{entry_in, length_in};
+ghost use Rattle.sign_store.specs.Images.{entry_in};
 ghost use Rattle.sign_store.specs.Maps.{map_in};
 ghost use Rattle.sign_store.specs.Orders.{IsOrdered};
 ghost use Rattle.sign_store.specs.Reached.{HasFaultCause, ReadsBanks};

@@ -6,7 +6,6 @@ ghost use Rattle.sign_store.specs.Maps.{map_in};
 ghost use Rattle.sign_store.specs.Orders.{IsOrdered, IsWholeChange};
 ghost use Rattle.sign_store.specs.Gates.{IsGate};
 ghost use Rattle.sign_store.specs.Readings.{IsReadTo};
-ghost use Rattle.sign_store.specs.Tables.{nothing};
 ghost use Rattle.sign_store.specs.Images.{length_in, payload_in, change_in, entry_in, applied, after_entries, entries_map};
 
 use crate::map::RecordMap;
@@ -33,29 +32,16 @@ pub(crate) enum EndGate {
     Missing,
 }
 
-/// What the entries of a bank stand for, and how many bytes they take.
-#[derive(Drop)]
-pub(crate) struct Loaded {
-    pub map: RecordMap,
-    pub len: usize,
-    pub gate: EndGate,
-}
-
-/// Reads entries up to where they end. `body` is what stands behind the head of a bank.
-pub(crate) fn load(alloc: Global, body: &[u8]) -> Result<Loaded, Memory>
-    ensures map { IfOk result (λ loaded. map_in loaded.map ≡ entries_map body.now) }
-    ensures reads { IfOk result (λ loaded. IsReadTo loaded.len nothing (map_in loaded.map) body.now) }
-    ensures ordered { IfOk result (λ loaded. IsOrdered loaded.map) }
-    ensures len { IfOk result (λ loaded. loaded.len ≤ length body.now) }
-    ensures gate { IfOk result (λ loaded. IsGate loaded.gate loaded.len body.now) }
-    ensures inside { IfOk result (λ loaded. loaded.gate ≢ EndGate.Missing → loaded.len < length body.now) }
+/// What the entries in a body stand for, up to where they end. `body` is what stands behind the head of a bank.
+pub(crate) fn load(alloc: Global, body: &[u8]) -> Result<RecordMap, Memory>
+    ensures map { IfOk result (λ map. map_in map ≡ entries_map body.now) }
 {
     let mut map = RecordMap::new(alloc);
-    let len = apply_all(&mut map, alloc, body)?;
-    let gate = gate_at(body, len);
-    Ok(Loaded { map, len, gate })
+    apply_all(&mut map, alloc, body)?;
+    Ok(map)
 }
 
+/// The gate at a place.
 pub(crate) fn gate_at(body: &[u8], place: usize) -> EndGate
     ensures gate { IsGate result place body.now }
     ensures inside { result ≢ EndGate.Missing → place < length body.now }

@@ -11,19 +11,19 @@ returns-then-size-clause-map g c = λ told.
 pub returns-clause-map : goal.returns-clause-map
 returns-clause-map g c = λ told.
     let m = g.W.Disk.meaning in
-    let bank = m.seen c.load_bank-end.new.world c.args.bank in
-    let size : c.args.size ≡ length bank = c.requires (c.load_bank-end.ensures.told.told told) ∙ sym (ap length (c.load_bank-end.ensures.looks.banks told c.args.bank).same) in
+    let bank = m.seen c.load_bank.new.world c.args.bank in
+    let size : c.args.size ≡ length bank = c.requires (c.load_bank.ensures.told.told told) ∙ sym (ap length (c.load_bank.ensures.looks.banks told c.args.bank).same) in
     let place = c.in_ok-end.ensures.place in
-    sym (written_map c.in_ok-end.end.place (map_in c.load_bank-end.new.map) bank
-    (end_written c.in_ok-end.end (map_in c.new-map.result) (map_in c.load_bank-end.new.map) bank c.new-map.ensures.map place.0 (omega (arith, c.if-size.false, size)) (omega (arith, place.1, size)) (c.in_ok-end.ensures.read told)))
+    sym (written_map c.in_ok-end.end.place (map_in c.load_bank.new.map) bank
+    (end_written c.in_ok-end.end (map_in c.new-map.result) (map_in c.load_bank.new.map) bank c.new-map.ensures.map place.0 (omega (arith, c.if-size.false, size)) (omega (arith, place.1, size)) (c.in_ok-end.ensures.read told)))
 
 pub returns-clause-written : goal.returns-clause-written
 returns-clause-written g c = λ told long.
     let m = g.W.Disk.meaning in
-    let bank = m.seen c.load_bank-end.new.world c.args.bank in
-    let size : c.args.size ≡ length bank = c.requires (c.load_bank-end.ensures.told.told told) ∙ sym (ap length (c.load_bank-end.ensures.looks.banks told c.args.bank).same) in
+    let bank = m.seen c.load_bank.new.world c.args.bank in
+    let size : c.args.size ≡ length bank = c.requires (c.load_bank.ensures.told.told told) ∙ sym (ap length (c.load_bank.ensures.looks.banks told c.args.bank).same) in
     let place = c.in_ok-end.ensures.place in
-    end_written c.in_ok-end.end (map_in c.new-map.result) (map_in c.load_bank-end.new.map) bank c.new-map.ensures.map place.0 (omega (arith, c.if-size.false, size)) (omega (arith, place.1, size)) (c.in_ok-end.ensures.read told)
+    end_written c.in_ok-end.end (map_in c.new-map.result) (map_in c.load_bank.new.map) bank c.new-map.ensures.map place.0 (omega (arith, c.if-size.false, size)) (omega (arith, place.1, size)) (c.in_ok-end.ensures.read told)
 
 pub returns-clause-gate : goal.returns-clause-gate
 returns-clause-gate g c = λ told long. (c.in_ok-end.ensures.read told).gate_is
