@@ -20,7 +20,7 @@ use Rattle.sign_store.specs.Images.{payload_in, entry_in, after_entries, entries
 use Rattle.sign_store.specs.Ends.{EndsAt, StandsAt, image_in, with_bank}
 use Rattle.sign_store.specs.Forms.{IsBlank, IsSpare}
 use Rattle.sign_store.specs.Gates.{IsGate}
-use Rattle.sign_store.specs.Readings.{choice_of, IsReadTo}
+use Rattle.sign_store.specs.Readings.{choice_of}
 use Rattle.sign_store.specs.Beginnings.{IsWrittenTo}
 use Rattle.sign_store.specs.Tables.{Map, nothing}
 use Rattle.sign_store.proofs.ImageLemmas.{no_entry}
@@ -95,15 +95,6 @@ closed_stands bank place generation map banks counts is inside closed =
     record { generation = generation; counts = counts; ends = ends; image = stands_for bank place map banks generation counts ends }
 
 -- ---- what was read of a live bank
-
-pub read_written : (len : ℕ) (map : Map) (bank : List ℕ) → 17 < length bank → len ≤ length bank - 17 → IsReadTo len nothing map (body_of bank) → IsWrittenTo (17 + len) map bank
-read_written len map bank long inside is = record {
-  behind_head = omega arith;
-  long = long;
-  inside = omega (arith, long, inside);
-  entries = λ behind. ap (λ (x : List ℕ). entries_map (x ++ behind)) (drop-take 17 len bank) ∙ is.reads behind;
-  none = ap entry_in (sym (drop-drop len 17 bank)) ∙ is.ends;
-}
 
 -- ---- which bank may be written
 

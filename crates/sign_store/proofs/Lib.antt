@@ -14,7 +14,7 @@ pub mod CompactLemmas
 pub mod LenLemmas
 pub mod CopyLemmas
 pub mod BeginLemmas
-pub mod BankLemmas
+pub mod BlockLemmas
 pub mod StepLemmas
 pub mod OpenLemmas
 pub mod Keeping

@@ -82,3 +82,21 @@ reads_on from map body rest behind len size change is fits entry so_far =
   where
     cong2 : {a b c d : List ℕ} → a ≡ b → c ≡ d → a ++ c ≡ b ++ d
     cong2 {a} {b} {c} {d} e f = ap (λ (x : List ℕ). x ++ c) e ∙ ap (λ (x : List ℕ). b ++ x) f
+
+-- the parts of an entry
+pub record HasEntry (bytes : List ℕ) (entry : Change × ℕ) : Type 0 where
+  pub size : entry.1 ≡ length_in bytes + 5
+  pub room : length_in bytes + 5 ≤ length bytes
+  pub says : change_in (take (length_in bytes) (drop 5 bytes)) ≡ Some entry.0
+
+made_of : (size : ℕ) (o : Option Change) (entry : Change × ℕ) → option_map (λ change. (change, size)) o ≡ Some entry → o ≡ Some entry.0
+made_of size None entry e = absurd cc
+made_of size (Some change) entry e = let is : ◌≡◌ {A = Change × ℕ} (change, size) entry = cc in ap (λ (x : Change × ℕ). Some x.0) is
+
+pub has_entry : (bytes : List ℕ) (entry : Change × ℕ) → entry_in bytes ≡ Some entry → HasEntry bytes entry
+has_entry bytes entry e =
+    let a = bind (λ payload. option_map (λ change. (change, length payload + 5)) (change_in payload)) (payload_in bytes) entry e in
+    let size : entry.1 ≡ length a.0 + 5 = mapped (length a.0 + 5) (change_in a.0) entry a.2 in
+    let p = payload_parts bytes a.0 a.1 in
+    let len : length a.0 ≡ length_in bytes = omega (arith, ap length p.is, length-take (length_in bytes) (drop 5 bytes), length-drop 5 bytes, p.room) in
+    record { size = omega (arith, size, len); room = omega (arith, p.room, p.long); says = ap change_in p.is ∙ made_of (length a.0 + 5) (change_in a.0) entry a.2 }

@@ -21,9 +21,6 @@ pub front_head : (bank front : List ℕ) → 17 < length bank → front ≡ take
 front_head bank front lt is =
     head_same 17 bank front (omega arith) lt (omega (arith, ap length is, length-take 18 bank)) (ap (take 17) is ∙ take-take 17 18 bank (omega arith))
 
-pub whole_body : (bank : List ℕ) (len : ℕ) → len ≡ length bank - 17 → take len (drop 17 bank) ≡ body_of bank
-whole_body bank len is = ap (λ n. take n (drop 17 bank)) is ∙ take_rest bank 17
-
 pub no_body : (bank : List ℕ) → length bank ≤ 17 → [] ≡ body_of bank
 no_body bank le = sym (drop_all 17 bank le)
 

@@ -1,5 +1,5 @@
 //! Reading and writing the banks of a disk.
-ghost use Rattle.std.specs.Prelude.{◌≡◌, ◌≢◌, ◌≤◌, ◌<◌, ◌+◌, ◌^◌, ℕ, length, max, vec_len, IfOk, IfErr, OnOk, OnErr};
+ghost use Rattle.std.specs.Prelude.{◌≡◌, ◌≢◌, ◌≤◌, ◌<◌, ◌+◌, ◌^◌, ℕ, length, drop, take, vec_len, IfOk, IfErr, OnOk, OnErr};
 ghost use Rattle.world_api.specs.Causes.{DiskFails};
 ghost use Rattle.world_api.specs.Meaning.{Told, IsSettled};
 ghost use Rattle.world_api.specs.declared.disk.Bank.TheVariants as side;
@@ -7,7 +7,6 @@ ghost use Rattle.sign_store.specs.Changing.{AppendKeeps, AppendsThroughout, Clos
 ghost use Rattle.sign_store.specs.Ends.{IsTornThroughout, ReachesPlace, WritesAt};
 ghost use Rattle.sign_store.specs.Forms.{IsShut};
 ghost use Rattle.sign_store.specs.Heads.{head_of};
-ghost use Rattle.sign_store.specs.Images.{body_of};
 ghost use Rattle.sign_store.specs.Readings.{IsRefusal, IsOutside};
 ghost use Rattle.sign_store.specs.Reached.{HasFaultCause, KeepsSettled, ReadsBanks, SeesTheSame, Writes};
 
@@ -67,30 +66,26 @@ pub(crate) fn read_head<W: Disk>(world: &mut W, bank: Bank, size: u64) -> Result
     Ok(head_of(&front))
 }
 
-/// What stands behind the head of a bank of this size.
+/// So many bytes of a bank from a place on.
 #[tactic(auto, using(crate::proofs::DiskLemmas::calls))]
-pub(crate) fn read_body<W: Disk>(
+pub(crate) fn read_part<W: Disk>(
     alloc: Global,
     world: &mut W,
     bank: Bank,
-    size: u64,
+    place: u64,
+    len: u64,
 ) -> Result<Vec<u8>, StoreRefusal>
-    requires { W.meaning.tells world.old → size ≡ length (W.meaning.seen world.old bank) }
-    ensures body { W.meaning.tells world.new → IfOk result (λ v. v.items ≡ body_of (W.meaning.seen world.new bank)) }
-    ensures len { IfOk result (λ body. vec_len body + 17 ≡ max size 17) }
+    requires { W.meaning.tells world.old → place + len ≤ length (W.meaning.seen world.old bank) }
+    ensures part { W.meaning.tells world.new → IfOk result (λ v. v.items ≡ take len (drop place (W.meaning.seen world.new bank))) }
+    ensures len { IfOk result (λ part. vec_len part ≡ len) }
     ensures refused { IfErr result IsOutside }
     ensures cause { HasFaultCause W.meaning world.old world.new result }
-    ensures seen { W.meaning.tells world.new → SeesTheSame W.meaning world.old world.new }
     ensures looks { ReadsBanks W.meaning world.old world.new }
     ensures told { Told W.meaning world.old world.new }
 {
-    if size <= HEAD_LEN as u64 {
-        return Ok(Vec::new(alloc));
-    }
-    let len = (size - HEAD_LEN as u64) as usize;
-    let mut body = vec![in alloc; 0; len]?;
-    world.read_at(bank, HEAD_LEN as u64, body.as_mut_slice())?;
-    Ok(body)
+    let mut part = vec![in alloc; 0; len as usize]?;
+    world.read_at(bank, place, part.as_mut_slice())?;
+    Ok(part)
 }
 
 /// Writes bytes at a place of a bank, and syncs it.

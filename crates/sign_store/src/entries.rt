@@ -6,8 +6,7 @@ ghost use Rattle.sign_store.specs.Maps.{map_in};
 ghost use Rattle.sign_store.specs.Orders.{IsOrdered, IsWholeChange};
 ghost use Rattle.sign_store.specs.Gates.{IsGate};
 ghost use Rattle.sign_store.specs.Readings.{IsReadTo};
-ghost use Rattle.sign_store.specs.Tables.{nothing};
-ghost use Rattle.sign_store.specs.Images.{payload_in, change_in, entry_in, applied, after_entries, entries_map};
+ghost use Rattle.sign_store.specs.Images.{length_in, payload_in, change_in, entry_in, applied, after_entries, entries_map};
 
 use crate::map::RecordMap;
 use deciders::{Rec, decode, decode_paths};
@@ -33,30 +32,17 @@ pub(crate) enum EndGate {
     Missing,
 }
 
-/// What the entries of a bank stand for, and how many bytes they take.
-#[derive(Drop)]
-pub(crate) struct Loaded {
-    pub map: RecordMap,
-    pub len: usize,
-    pub gate: EndGate,
-}
-
-/// Reads entries up to where they end. `body` is what stands behind the head of a bank.
-pub(crate) fn load(alloc: Global, body: &[u8]) -> Result<Loaded, Memory>
-    ensures map { IfOk result (λ loaded. map_in loaded.map ≡ entries_map body.now) }
-    ensures reads { IfOk result (λ loaded. IsReadTo loaded.len nothing (map_in loaded.map) body.now) }
-    ensures ordered { IfOk result (λ loaded. IsOrdered loaded.map) }
-    ensures len { IfOk result (λ loaded. loaded.len ≤ length body.now) }
-    ensures gate { IfOk result (λ loaded. IsGate loaded.gate loaded.len body.now) }
-    ensures inside { IfOk result (λ loaded. loaded.gate ≢ EndGate.Missing → loaded.len < length body.now) }
+/// What the entries in a body stand for, up to where they end. `body` is what stands behind the head of a bank.
+pub(crate) fn load(alloc: Global, body: &[u8]) -> Result<RecordMap, Memory>
+    ensures map { IfOk result (λ map. map_in map ≡ entries_map body.now) }
 {
     let mut map = RecordMap::new(alloc);
-    let len = apply_all(&mut map, alloc, body)?;
-    let gate = gate_at(body, len);
-    Ok(Loaded { map, len, gate })
+    apply_all(&mut map, alloc, body)?;
+    Ok(map)
 }
 
-fn gate_at(body: &[u8], place: usize) -> EndGate
+/// The gate at a place.
+pub(crate) fn gate_at(body: &[u8], place: usize) -> EndGate
     ensures gate { IsGate result place body.now }
     ensures inside { result ≢ EndGate.Missing → place < length body.now }
 {
@@ -71,7 +57,7 @@ fn gate_at(body: &[u8], place: usize) -> EndGate
 }
 
 /// Applies one entry after the other, and says how many bytes they take.
-fn apply_all(map: &mut RecordMap, alloc: Global, body: &[u8]) -> Result<usize, Memory>
+pub(crate) fn apply_all(map: &mut RecordMap, alloc: Global, body: &[u8]) -> Result<usize, Memory>
     ensures map { OnOk result (map_in map.new ≡ after_entries (length body.now) (map_in map.old) body.now) }
     ensures reads { IfOk result (λ len. IsReadTo len (map_in map.old) (map_in map.new) body.now) }
     ensures ordered { IsOrdered map.old → OnOk result (IsOrdered map.new) }
@@ -123,12 +109,21 @@ fn first_payload(bytes: &[u8]) -> Option<&[u8]>
     if bytes.len() < 5 || bytes[0] != 1 {
         return None;
     }
-    let len = u32::from_be_bytes([bytes[1], bytes[2], bytes[3], bytes[4]]) as usize;
+    let len = claimed_len(bytes);
     let rest = &bytes[5..];
     if len > rest.len() {
         return None;
     }
     Some(&rest[..len])
+}
+
+/// The length that an entry says its payload has.
+pub(crate) fn claimed_len(bytes: &[u8]) -> usize
+    requires { 5 ≤ length bytes.now }
+    ensures len { result ≡ length_in bytes.now }
+    ensures fits { result ≤ 4294967295 }
+{
+    u32::from_be_bytes([bytes[1], bytes[2], bytes[3], bytes[4]]) as usize
 }
 
 fn change_of(alloc: Global, payload: &[u8]) -> Result<Option<Change>, Memory>

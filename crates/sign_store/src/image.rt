@@ -24,6 +24,6 @@ fn has_record(alloc: Global, bank: &[u8], path: &PathText) -> Result<bool, Memor
     ensures { IfOk result (λ found. found ≡ is_some (entries_map (body_of bank.now) path.now)) }
 {
     let start = HEAD_LEN.min(bank.len());
-    let loaded = load(alloc, &bank[start..])?;
-    Ok(loaded.map.has(path))
+    let map = load(alloc, &bank[start..])?;
+    Ok(map.has(path))
 }

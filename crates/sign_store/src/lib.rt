@@ -10,6 +10,7 @@
 #![tactic(auto)]
 
 mod banks;
+mod blocks;
 mod compact;
 mod compact_len;
 mod copies;

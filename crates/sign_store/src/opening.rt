@@ -14,10 +14,11 @@ ghost use Rattle.sign_store.specs.Orders.{IsOrdered};
 ghost use Rattle.sign_store.specs.Reached.{HasFaultCause, KeepsSettled, LeavesBanks, ReadsBanks, RestsUnlessFault};
 ghost use Rattle.sign_store.specs.Readings.{AreReadable, IsOutside, IsRefusal, choice_of};
 
-use crate::banks::{Sizes, fill, read_body, read_head, sizes_of, write_synced};
+use crate::banks::{Sizes, fill, read_head, sizes_of, write_synced};
+use crate::blocks::load_bank;
 use crate::compact::{FIRST_GENERATION, can_be_worth, compact_form, empty_form, is_worth};
 use crate::compact_len::compact_len;
-use crate::entries::{EndGate, load};
+use crate::entries::EndGate;
 use crate::head::{Choice, HEAD_LEN, chosen, other};
 use crate::map::RecordMap;
 use crate::refusals::StoreRefusal;
@@ -81,26 +82,20 @@ fn read_bank<W: Disk>(
     ensures looks { ReadsBanks W.meaning world.old world.new }
     ensures told { Told W.meaning world.old world.new }
 {
-    let body = read_body(alloc, world, bank, size)?;
-    let loaded = load(alloc, body.as_slice())?;
-    let end = end_place(loaded.gate, size, loaded.len);
-    Ok(Read {
-        map: loaded.map,
-        gate: loaded.gate,
-        end,
-    })
-}
-
-/// The place of the last gate in a bank of this size, whose entries take so many bytes.
-fn end_place(gate: EndGate, size: u64, len: usize) -> u64
-    requires { 17 + len < 2 ^ 64 }
-    ensures missing { gate ≡ EndGate.Missing → result ≡ size }
-    ensures there { gate ≢ EndGate.Missing → result ≡ 17 + len }
-{
-    match gate {
-        EndGate::Missing => size,
-        _ => HEAD_LEN as u64 + len as u64,
+    let mut map = RecordMap::new(alloc);
+    if size <= HEAD_LEN as u64 {
+        return Ok(Read {
+            map,
+            gate: EndGate::Missing,
+            end: size,
+        });
     }
+    let end = load_bank(alloc, world, bank, size, &mut map)?;
+    Ok(Read {
+        map,
+        gate: end.gate,
+        end: end.place,
+    })
 }
 
 /// The map of the banks, without a change of theirs.

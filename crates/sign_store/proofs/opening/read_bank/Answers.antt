@@ -1,29 +1,29 @@
-use Rattle.std.proofs.Common.{◌≡◌, ◌≤◌, List, ℕ, length, sym, ap, subst, ◌∙◌}
-use Rattle.sign_store.specs.Gates.{IsGate}
-use Rattle.sign_store.specs.Images.{body_of}
+use Rattle.std.proofs.Common.{◌≡◌, length, sym, ap, ◌∙◌, arith}
 use Rattle.sign_store.specs.Maps.{map_in}
-use Rattle.sign_store.specs.Readings.{IsReadTo}
-use Rattle.sign_store.specs.Tables.{nothing}
-use Rattle.sign_store.proofs.BankLemmas.{was_written, was_gate}
+use Rattle.sign_store.proofs.BeginLemmas.{written_map}
+use Rattle.sign_store.proofs.BlockLemmas.{end_written, short_map}
 use Rattle.sign_store.proofs.opening.read_bank.Goals as goal
+
+pub returns-then-size-clause-map : goal.returns-then-size-clause-map
+returns-then-size-clause-map g c = λ told.
+    short_map (map_in c.new-map.result) (g.W.Disk.meaning.seen c.args.world.now c.args.bank) (omega (arith, c.requires told, c.if-size.true)) c.new-map.ensures.map
+
+pub returns-clause-map : goal.returns-clause-map
+returns-clause-map g c = λ told.
+    let m = g.W.Disk.meaning in
+    let bank = m.seen c.load_bank.new.world c.args.bank in
+    let size : c.args.size ≡ length bank = c.requires (c.load_bank.ensures.told.told told) ∙ sym (ap length (c.load_bank.ensures.looks.banks told c.args.bank).same) in
+    let place = c.in_ok-end.ensures.place in
+    sym (written_map c.in_ok-end.end.place (map_in c.load_bank.new.map) bank
+    (end_written c.in_ok-end.end (map_in c.new-map.result) (map_in c.load_bank.new.map) bank c.new-map.ensures.map place.0 (omega (arith, c.if-size.false, size)) (omega (arith, place.1, size)) (c.in_ok-end.ensures.read told)))
 
 pub returns-clause-written : goal.returns-clause-written
 returns-clause-written g c = λ told long.
     let m = g.W.Disk.meaning in
-    let loaded = c.in_ok-loaded.loaded in
-    let bank = m.seen c.read_body.new.world c.args.bank in
-    let body : c.as_slice.result.now ≡ body_of bank = c.as_slice.ensures.value ∙ c.in_ok-body.ensures.body told in
-    let size : c.args.size ≡ length bank = c.requires (c.read_body.ensures.told.told told) ∙ sym (ap length (c.read_body.ensures.looks.banks told c.args.bank).same) in
-    was_written loaded.gate c.args.size loaded.len c.end_place-end.result (map_in loaded.map) bank (subst (λ (x : List ℕ). IsGate loaded.gate loaded.len x) body c.in_ok-loaded.ensures.gate)
-    (subst (λ (x : List ℕ). loaded.len ≤ length x) body c.in_ok-loaded.ensures.len) size long c.end_place-end.ensures.missing c.end_place-end.ensures.there
-    (subst (λ (x : List ℕ). IsReadTo loaded.len nothing (map_in loaded.map) x) body c.in_ok-loaded.ensures.reads)
+    let bank = m.seen c.load_bank.new.world c.args.bank in
+    let size : c.args.size ≡ length bank = c.requires (c.load_bank.ensures.told.told told) ∙ sym (ap length (c.load_bank.ensures.looks.banks told c.args.bank).same) in
+    let place = c.in_ok-end.ensures.place in
+    end_written c.in_ok-end.end (map_in c.new-map.result) (map_in c.load_bank.new.map) bank c.new-map.ensures.map place.0 (omega (arith, c.if-size.false, size)) (omega (arith, place.1, size)) (c.in_ok-end.ensures.read told)
 
 pub returns-clause-gate : goal.returns-clause-gate
-returns-clause-gate g c = λ told long.
-    let m = g.W.Disk.meaning in
-    let loaded = c.in_ok-loaded.loaded in
-    let bank = m.seen c.read_body.new.world c.args.bank in
-    let body : c.as_slice.result.now ≡ body_of bank = c.as_slice.ensures.value ∙ c.in_ok-body.ensures.body told in
-    let size : c.args.size ≡ length bank = c.requires (c.read_body.ensures.told.told told) ∙ sym (ap length (c.read_body.ensures.looks.banks told c.args.bank).same) in
-    was_gate loaded.gate c.args.size loaded.len c.end_place-end.result bank (subst (λ (x : List ℕ). IsGate loaded.gate loaded.len x) body c.in_ok-loaded.ensures.gate)
-    (subst (λ (x : List ℕ). loaded.len ≤ length x) body c.in_ok-loaded.ensures.len) size long c.end_place-end.ensures.missing c.end_place-end.ensures.there
+returns-clause-gate g c = λ told long. (c.in_ok-end.ensures.read told).gate_is

@@ -1,5 +1,5 @@
 use Rattle.sign_store.proofs.DiskLemmas.{looked}
-use Rattle.sign_store.proofs.banks.read_body.Goals as goal
+use Rattle.sign_store.proofs.banks.read_part.Goals as goal
 
 pub returns-in_err-read_at-clause-looks : goal.returns-in_err-read_at-clause-looks
 returns-in_err-read_at-clause-looks g c =
