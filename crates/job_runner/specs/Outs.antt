@@ -50,8 +50,8 @@ pub record PicksOut (place : ℕ) (ending : Ending) (old new : Lists) (out out' 
   pub own : slice_get out place ≡ Some (number, arc_value ending.slip)
   pub rest : out' ≡ remove out place
 
--- what is found is an ending that a run has given, whose slip was out at this place and is out no more; or a slip to run, and all are
--- out as they were
+-- what is found is an ending that a run has given, whose slip was out at this place and is out no more; or a slip to run, which is its
+-- turn's, and all are out as they were
 abbrev pub IsFound : (Slip → Option Answer) → (Ending → Bool) → Found → List (ℕ × Slip) → List (ℕ × Slip) → Type 0
 IsFound told gave (Ended place ending) old new = ReturnsAt place ending old new × Gives told gave ending
-IsFound told gave (Deserted turn slip) old new = new ≡ old
+IsFound told gave (Deserted turn slip) old new = (turn.slip.value ≡ arc_value slip) × (new ≡ old)

@@ -15,6 +15,7 @@ use crate::slip::{Ending, Slip};
 use scons_base::Memory;
 use std::alloc::Global;
 use std::marker::PhantomData;
+use std::snapshot::Snapshot;
 use std::sync::{Arc, Condvar, Mutex};
 
 /// The slips that a caller has out, each under its number on a board. Only a desk adds one, as it puts it on its board.
@@ -23,9 +24,25 @@ pub struct OutList {
     slips: Vec<Numbered>,
 }
 
-/// The duty to put the ending of the slip of this number, which was taken. It has no other end than that, since it can't be dropped.
+/// The duty to put the ending of this slip, which was taken under this number. It has no other end than that, since it can't be dropped.
 pub struct Turn {
     number: u64,
+    slip: Snapshot<Slip>,
+}
+
+impl Turn {
+    ghost use Rattle.std.specs.Prelude.{◌≡◌};
+    ghost use Rattle.std.specs.Arc.{arc_value};
+
+    fn of(number: u64, slip: &Arc<Slip, Global>) -> Turn
+        ensures number { result.number ≡ number }
+        ensures slip { result.slip.value ≡ arc_value slip.now }
+    {
+        Turn {
+            number,
+            slip: Snapshot::of(slip),
+        }
+    }
 }
 
 /// The board, with how many workers it has and how many it should have. Each ending on it was given by a run of the runner's type.
@@ -193,9 +210,10 @@ impl<R: Runner, G> Desk<R, G> {
         ensures none { IfNone result ((lists_of self.old.board).waiting ≡ []) }
         ensures same { IfNone result (lists_of self.new.board ≡ lists_of self.old.board) }
         ensures some { IfSome result (λ taken. Takes taken.0.number (arc_value taken.1) (lists_of self.old.board) (lists_of self.new.board)) }
+        ensures own { IfSome result (λ taken. taken.0.slip.value ≡ arc_value taken.1) }
     {
         match self.board.take() {
-            Some((number, slip)) => Some((Turn { number }, slip)),
+            Some((number, slip)) => Some((Turn::of(number, &slip), slip)),
             None => None,
         }
     }
@@ -204,6 +222,7 @@ impl<R: Runner, G> Desk<R, G> {
     pub fn take_deserted(&mut self) -> Option<(Turn, Arc<Slip, Global>)>
         ensures same { IfNone result (lists_of self.new.board ≡ lists_of self.old.board) }
         ensures some { IfSome result (λ taken. Takes taken.0.number (arc_value taken.1) (lists_of self.old.board) (lists_of self.new.board)) }
+        ensures own { IfSome result (λ taken. taken.0.slip.value ≡ arc_value taken.1) }
     {
         if self.refused && self.started == 0 {
             self.take()
@@ -212,15 +231,16 @@ impl<R: Runner, G> Desk<R, G> {
         }
     }
 
-    /// Puts the ending of a slip that is taken, or gives it back.
+    /// Puts the ending of a turn's slip, or gives it back where that isn't taken.
     pub fn put_end(&mut self, turn: Turn, ending: Ending) -> Result<(), Ending>
-        requires { Gives R.answer R.gave ending }
+        requires own { arc_value ending.slip ≡ turn.slip.value }
+        requires gives { Gives R.answer R.gave ending }
         ensures ok { OnOk result (Puts turn.number ending (lists_of self.old.board) (lists_of self.new.board)) }
         ensures back { IfErr result (λ back. back ≡ ending) }
         ensures err { OnErr result (lists_of self.new.board ≡ lists_of self.old.board) }
         ensures refused { OnErr result (Contains (lists_of self.old.board).taken (turn.number, arc_value ending.slip) → ⊥) }
     {
-        let Turn { number } = turn;
+        let Turn { number, slip: _ } = turn;
         self.board.put_end(number, ending)
     }
 

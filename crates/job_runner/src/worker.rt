@@ -1,5 +1,7 @@
 //! What the threads do. A worker waits for a slip, takes it, passes the gate, runs it, and puts its ending; one thread more starts
 //! workers as they are wanted.
+ghost use Rattle.std.specs.Prelude.{◌≡◌};
+ghost use Rattle.std.specs.Arc.{arc_value};
 ghost use Rattle.job_runner.specs.Outs.{IsFound, out_of};
 
 use crate::desk::{OutList, Shared, Turn};
@@ -26,7 +28,9 @@ impl<R: Runner, G: Gate> Shared<R, G> {
     }
 
     /// Waits for a slip, and takes it.
-    fn next_slip<T: Wait>(&self, rt: &T) -> (Turn, Arc<Slip, Global>) {
+    fn next_slip<T: Wait>(&self, rt: &T) -> (Turn, Arc<Slip, Global>)
+        ensures { result.0.slip.value ≡ arc_value result.1 }
+    {
         let mut desk = self.desk.lock(rt);
         for _ in rt.forever() {
             match desk.take() {
@@ -38,8 +42,10 @@ impl<R: Runner, G: Gate> Shared<R, G> {
         unreachable!()
     }
 
-    /// Runs a slip that was taken, and puts its ending.
-    pub fn run<T: Wait>(&self, rt: &T, turn: Turn, slip: Arc<Slip, Global>) {
+    /// Runs the slip of a turn, and puts its ending.
+    pub fn run<T: Wait>(&self, rt: &T, turn: Turn, slip: Arc<Slip, Global>)
+        requires { turn.slip.value ≡ arc_value slip }
+    {
         let leave = self.gated.pass(slip.job.id);
         let ending = self.gated.run(slip, leave);
         let _ = self.desk.lock(rt).put_end(turn, ending);

@@ -38,6 +38,8 @@ impl Gate for Door {
         self.meeting.missed.fetch_add(1, Ordering::SeqCst);
         id
     }
+
+    fn take_back(&self, _leave: u32) {}
 }
 
 /// How many of two jobs went on without the other.
@@ -53,7 +55,7 @@ where
     let door = Door {
         meeting: Arc::try_clone(&meeting)?,
     };
-    let mut pool = Pool::new(alloc, rt, Teller, door)?;
+    let mut pool = Pool::new(alloc, rt, Arc::new(alloc, Teller)?, door)?;
     pool.hand_in(slip_of(alloc, 0))?;
     pool.hand_in(slip_of(alloc, 1))?;
     let _ = pool.next_end();

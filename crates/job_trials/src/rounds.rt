@@ -68,7 +68,7 @@ pub fn run<T>(alloc: Global, rt: T) -> Result<Tally, Memory>
 where
     T: Threads + Wait + Clone + Send + Sync + Drop + 'static,
 {
-    let mut pool = Pool::new(alloc, rt, Teller, NoGate)?;
+    let mut pool = Pool::new(alloc, rt, Arc::new(alloc, Teller)?, NoGate)?;
     let mut tally = Tally {
         endings: 0,
         strange: 0,

@@ -59,4 +59,6 @@ impl Gate for Door {
         self.meeting.missed.fetch_add(1, Ordering::SeqCst);
         id
     }
+
+    fn take_back(&self, _leave: u32) {}
 }
