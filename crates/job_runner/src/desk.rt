@@ -1,8 +1,8 @@
 //! What lies under the lock: the board, whose endings are the runner's own, and how many workers there are. Beside it, what
 //! is out of it, which lies with the caller.
 //!
-//! No other file can make a desk, add a slip to a list of what is out, or take one off it: what is handed in goes onto the board and
-//! onto the list in one step, and both give it back in one.
+//! No other file can make a desk or a list of what is out, add a slip to one, or take one off it: each desk has one list, what is handed
+//! in goes onto the board and onto the list in one step, and both give it back in one.
 ghost use Rattle.job_runner.specs.Answers.{AreGiven};
 ghost use Rattle.job_runner.specs.Lists.{lists_of};
 
@@ -71,15 +71,21 @@ pub struct Shared<R: Runner, G> {
 }
 
 impl<R: Runner, G: Gate> Shared<R, G> {
-    /// An empty board, and no worker.
-    pub fn new(alloc: Global, runner: Arc<R, Global>, gate: G) -> Shared<R, G> {
-        Shared {
+    ghost use Rattle.std.specs.Prelude.{◌≡◌, []};
+    ghost use Rattle.job_runner.specs.Outs.{out_of};
+
+    /// An empty board without a worker, and the one list of what is out of it.
+    pub fn new(alloc: Global, runner: Arc<R, Global>, gate: G) -> (Shared<R, G>, OutList)
+        ensures { out_of result.1 ≡ [] }
+    {
+        let shared = Shared {
             desk: Mutex::new(Desk::new(alloc)),
             handed_in: Condvar::new(),
             wanted: Condvar::new(),
             ended: Condvar::new(),
             gated: Gated::new(runner, gate),
-        }
+        };
+        (shared, OutList::new(alloc))
     }
 }
 
@@ -90,7 +96,7 @@ impl OutList {
     ghost use Rattle.std.specs.Vec.{vec_capacity};
     ghost use Rattle.job_runner.specs.Outs.{out_of};
 
-    pub fn new(alloc: Global) -> OutList
+    fn new(alloc: Global) -> OutList
         ensures { out_of result ≡ [] }
     {
         OutList {

@@ -38,7 +38,8 @@ where
     ) -> Result<Pool<T, R, G>, Memory>
         ensures { IfOk result (λ pool. out_of pool.out ≡ []) }
     {
-        let shared = Arc::new(alloc, Shared::new(alloc, runner, gate))?;
+        let (shared, out) = Shared::new(alloc, runner, gate);
+        let shared = Arc::new(alloc, shared)?;
         let theirs = Arc::try_clone(&shared)?;
         let Ok(handle) = rt.clone() else {
             return Err(Memory);
@@ -50,7 +51,7 @@ where
             rt,
             alloc,
             shared,
-            out: OutList::new(alloc),
+            out,
         })
     }
 }

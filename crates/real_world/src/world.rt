@@ -78,7 +78,7 @@ where
 {
     /// Ends a run: lets go of the lock.
     pub fn unlock(&mut self) {
-        self.holding.end(&self.rt, &self.shell);
+        self.holding.end(&self.rt, &*self.shell);
     }
 
     /// Whether a call on a bank went well. If not says why.
@@ -173,7 +173,7 @@ where
     S: LockHolder + Drop,
 {
     fn top_path(&mut self) -> Result<PathText, AskRefusal> {
-        if !self.holding.begin(&self.rt, &self.shell) {
+        if !self.holding.begin(&self.rt, &*self.shell) {
             self.tree_faults = self.tree_faults.saturating_add(1);
             return Err(AskRefusal::Fault);
         }
