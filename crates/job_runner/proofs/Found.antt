@@ -1,5 +1,5 @@
 -- Where a taken slip is found, and where it is not.
-use Rattle.std.proofs.Common.{◌≡◌, ◌≢◌, ℕ, zero, suc, ◌+◌, ◌<◌, ◌≤◌, Bool, true, false, cond, ltb, not, List, [], ◌∷◌, ◌++◌, map, length, get_or, take, drop, Option, Some, None, refl, sym, ap, subst, ◌∙◌, eqb-true, ltb-false, arith}
+use Rattle.std.proofs.Common.{◌≡◌, ◌≢◌, ℕ, zero, suc, ◌+◌, ◌<◌, ◌≤◌, Bool, true, false, cond, ltb, not, List, [], ◌∷◌, map, length, get_or, Option, Some, None, refl, sym, ap, subst, ◌∙◌, ltb-false, arith}
 use Rattle.std.specs.Prelude.{Contains, IfNone, position, slice_get, slice_index_or, nat_eq}
 use Rattle.std.specs.List.{remove, position_or_len}
 use Rattle.std.specs.Arc.{arc_value}
@@ -7,10 +7,13 @@ use Rattle.std.specs.Option.{unwrap_or}
 use Rattle.std.proofs.lemmas.Bool.{eqb-false}
 use Rattle.job_runner.specs.Seats.{times}
 use Rattle.job_runner.specs.Slips.{slip_of}
-use Rattle.job_runner.specs.Outs.{ReturnsAt}
+use Rattle.job_runner.specs.Answers.{Answer, Gives}
+use Rattle.job_runner.specs.Lists.{Lists, IsFirst, Picks}
+use Rattle.job_runner.specs.Outs.{IsFirstOut, IsFirstNotOut, PicksOut, ReturnsAt}
 use Rattle.job_runner.specs.declared.slip.Slip.{Slip}
 use Rattle.job_runner.specs.declared.slip.Ending.{Ending}
 use Rattle.job_runner.specs.declared.entry.Numbered.{Numbered}
+use Rattle.job_runner.specs.declared.entry.Ended.{Ended}
 use Rattle.job_runner.proofs.Places.{one_place}
 
 abbrev numbers_of : List Numbered → List ℕ
@@ -79,11 +82,37 @@ pub if_none : {A : Type 0} (o : Option A) (P : Type 0) → P → IfNone o P
 if_none None P p = p
 if_none (Some x) P p = tt
 
--- the slip at this place of the list comes back
-pub returns_at : (ending : Ending) (old seen new : List Numbered) (place : ℕ) → seen ≡ old → (number : ℕ) × (slice_get (map slip_of seen) place ≡ Some (number, arc_value ending.slip))
-    → new ≡ remove old place → ReturnsAt place ending (map slip_of old) (map slip_of new)
-returns_at ending old seen new place same out rest = record {
-  number = out.0;
-  own = ap (λ (xs : List Numbered). slice_get (map slip_of xs) place) (sym same) ∙ out.1;
-  rest = ap (λ (xs : List Numbered). map slip_of xs) rest ∙ map_remove slip_of old place;
-}
+-- the first of these endings
+pub first_is : (items : List Ended) (x : Ended) → 0 < length items → x ≡ slice_index_or items 0 x
+    → slice_get {X = ℕ × Ending} (map (λ (entry : Ended). (entry.number, entry.ending)) items) 0 ≡ Some (x.number, x.ending)
+first_is [] x some is = absurd (omega arith)
+first_is (y ∷ items) x some is = ap (λ (entry : Ended). let end : ℕ × Ending = (entry.number, entry.ending) in Some end) (sym is)
+
+abbrev head_or : ℕ × Ending → Option (ℕ × Ending) → ℕ × Ending
+head_or end None = end
+head_or end (Some other) = other
+
+-- the slip of the oldest has no place
+pub first_not_out : (place : Option ℕ) (ended : List (ℕ × Ending)) (out : List (ℕ × Slip)) (number : ℕ) (slip : Slip) → IsFirst number slip ended → IfNone place (Contains out (number, slip) → ⊥)
+    → IfNone place (IsFirstNotOut ended out)
+first_not_out (Some place) ended out number slip is none = tt
+first_not_out None ended out number slip is none = λ number' ending first there.
+    let same : (is.ending, number) ≡ (ending, number') = ap (λ (o : Option (ℕ × Ending)). let end = head_or (number, is.ending) o in (end.1, end.0)) (sym is.first ∙ first) in
+    none (subst (Contains out) (ap (λ (p : Ending × ℕ). let end : ℕ × Slip = (p.1, arc_value p.0.slip) in end) (sym same) ∙ ap (λ (s : Slip). let end : ℕ × Slip = (number, s) in end) is.own) there)
+
+-- the oldest ending is picked, and its slip comes off the list
+pub picked_out : (place number : ℕ) (ending : Ending) (old new : Lists) (before after : List Numbered) → IsFirstOut place old.ended (map slip_of before)
+    → Picks number ending old new → after ≡ remove before place → PicksOut place ending old new (map slip_of before) (map slip_of after)
+picked_out place number ending old new before after found picks rest =
+    let is : (found.number, found.ending) ≡ (number, ending) = ap (head_or (number, ending)) (sym found.first ∙ ap (λ (ended : List (ℕ × Ending)). slice_get ended 0) picks.oldest) in
+    record {
+      number = number;
+      board = picks;
+      own = found.own ∙ ap (λ (end : ℕ × Ending). Some (end.0, arc_value end.1.slip)) is;
+      rest = ap (map slip_of) rest ∙ map_remove slip_of before place;
+    }
+
+-- what was picked is found
+pub found_out : (told : Slip → Option Answer) (gave : Ending → Bool) (place : ℕ) (ending : Ending) (old new : Lists) (out out' : List (ℕ × Slip)) → PicksOut place ending old new out out' → Gives told gave ending
+    → ReturnsAt place ending out out' × Gives told gave ending
+found_out told gave place ending old new out out' picks own = (record { number = picks.number; own = picks.own; rest = picks.rest }, own)

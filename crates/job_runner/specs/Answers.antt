@@ -1,5 +1,5 @@
 -- What the job of a slip comes to.
-use Rattle.std.specs.Prelude.{◌≡◌, ◌≢◌, ℕ, List, Option, Some, Contains}
+use Rattle.std.specs.Prelude.{◌≡◌, ◌≢◌, ℕ, Bool, true, List, Option, Some, Contains}
 use Rattle.std.specs.Arc.{arc_value}
 use Rattle.world_api.specs.Act.{Content}
 use Rattle.world_api.specs.declared.job.Outcome.{Outcome}
@@ -19,6 +19,10 @@ answer_of ending = record { outcome = ending.outcome; made = ending.made }
 abbrev pub IsAnswer : (Slip → Option Answer) → Ending → Type 0
 IsAnswer told ending = (answer : Answer) → told (arc_value ending.slip) ≡ Some answer → ending.outcome ≢ NoMemory → answer_of ending ≡ answer
 
+-- it is an answer, and a run gave it
+abbrev pub Gives : (Slip → Option Answer) → (Ending → Bool) → Ending → Type 0
+Gives told gave ending = IsAnswer told ending × (gave ending ≡ true)
+
 -- each of these endings is
-abbrev pub AreAnswers : (Slip → Option Answer) → List (ℕ × Ending) → Type 0
-AreAnswers told ended = (number : ℕ) (ending : Ending) → Contains ended (number, ending) → IsAnswer told ending
+abbrev pub AreGiven : (Slip → Option Answer) → (Ending → Bool) → List (ℕ × Ending) → Type 0
+AreGiven told gave ended = (number : ℕ) (ending : Ending) → Contains ended (number, ending) → Gives told gave ending

@@ -42,6 +42,12 @@ pub record Puts (number : ℕ) (ending : Ending) (old new : Lists) : Type 0 wher
   pub own : slice_get old.taken place ≡ Some (number, arc_value ending.slip)
   pub lists : new ≡ record old { taken = remove old.taken place; ended = old.ended ++ (number, ending) ∷ []; history = old.history ++ Ended number ending.outcome ∷ [] }
 
+-- the oldest of these endings has this number, and is this slip's
+pub record IsFirst (number : ℕ) (slip : Slip) (ended : List (ℕ × Ending)) : Type 0 where
+  pub ending : Ending
+  pub first : slice_get ended 0 ≡ Some (number, ending)
+  pub own : arc_value ending.slip ≡ slip
+
 -- the oldest ending that waits is picked
 pub record Picks (number : ℕ) (ending : Ending) (old new : Lists) : Type 0 where
   pub oldest : old.ended ≡ (number, ending) ∷ new.ended

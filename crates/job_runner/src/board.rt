@@ -37,7 +37,7 @@ pub struct Board {
 impl Board {
     ghost use Rattle.std.specs.Prelude.{◌≢◌, ◌++◌, ◌∷◌, ◌<◌, [], ℕ, None, IfOk, IfErr, IfNone, IfSome, OnOk, OnErr, MatchOption, Contains, slice_get};
     ghost use Rattle.std.specs.Arc.{arc_value};
-    ghost use Rattle.job_runner.specs.Lists.{lists_of, HandsIn, Takes, Puts, Picks};
+    ghost use Rattle.job_runner.specs.Lists.{lists_of, HandsIn, IsFirst, Takes, Puts, Picks};
     ghost use Rattle.job_runner.specs.Rooms.{whole_ended, whole_history};
 
     #[tactic(auto, using(crate::proofs::Replays::replay_none_yet, crate::proofs::Places::each_once))]
@@ -157,6 +157,16 @@ impl Board {
         let _ = self.taken.remove(place);
         add_last(&mut self.ended, Ended { number, ending });
         add(&mut self.history, Change::Ended(number, outcome));
+    }
+
+    /// The number and the slip of the oldest ending that waits.
+    pub fn first_end(&self) -> Option<(u64, &Slip)>
+        ensures none { IfNone result ((lists_of self.now).ended ≡ []) }
+        ensures some { IfSome result (λ first. IsFirst first.0 first.1.now (lists_of self.now).ended) }
+    {
+        let oldest = self.ended.front()?;
+        let slip: &Slip = &oldest.ending.slip;
+        Some((oldest.number, slip))
     }
 
     /// Takes the oldest ending that waits.

@@ -1,17 +1,22 @@
-//! What lies under the lock: the board, whose endings are the runner's own answers, and how many workers there are. Beside it, what
+//! What lies under the lock: the board, whose endings are the runner's own, and how many workers there are. Beside it, what
 //! is out of it, which lies with the caller.
-ghost use Rattle.job_runner.specs.Answers.{AreAnswers};
+//!
+//! No other file can make a desk or a list of what is out, add a slip to one, or take one off it: each desk has one list, what is handed
+//! in goes onto the board and onto the list in one step, and both give it back in one.
+ghost use Rattle.job_runner.specs.Answers.{AreGiven};
 ghost use Rattle.job_runner.specs.Lists.{lists_of};
 
 use crate::board::Board;
 use crate::entry::Numbered;
+use crate::gated::Gated;
 use crate::room::add;
-use crate::runner::Runner;
+use crate::runner::{Gate, Runner};
 use crate::slip::{Ending, Slip};
 use scons_base::Memory;
 use std::alloc::Global;
 use std::marker::PhantomData;
-use std::sync::Arc;
+use std::snapshot::Snapshot;
+use std::sync::{Arc, Condvar, Mutex};
 
 /// The slips that a caller has out, each under its number on a board. Only a desk adds one, as it puts it on its board.
 #[derive(Drop)]
@@ -19,32 +24,79 @@ pub struct OutList {
     slips: Vec<Numbered>,
 }
 
-/// The duty to put the ending of the slip of this number, which was taken. It has no other end than that, since it can't be dropped.
+/// The duty to put the ending of this slip, which was taken under this number. It has no other end than that, since it can't be dropped.
 pub struct Turn {
     number: u64,
+    slip: Snapshot<Slip>,
 }
 
-/// The board, with how many workers it has and how many it should have. Each ending on it is what the definition of the runner's
-/// type gives for the ending's own slip, or want of memory.
+impl Turn {
+    ghost use Rattle.std.specs.Prelude.{◌≡◌};
+    ghost use Rattle.std.specs.Arc.{arc_value};
+
+    fn of(number: u64, slip: &Arc<Slip, Global>) -> Turn
+        ensures number { result.number ≡ number }
+        ensures slip { result.slip.value ≡ arc_value slip.now }
+    {
+        Turn {
+            number,
+            slip: Snapshot::of(slip),
+        }
+    }
+}
+
+/// The board, with how many workers it has and how many it should have. Each ending on it was given by a run of the runner's type.
 #[derive(Drop)]
-pub struct Desk<R: Runner> {
+pub struct Desk<R: Runner, G> {
     board: Board,
     wanted: usize,
     started: usize,
     /// A thread couldn't be started.
     refused: bool,
-    of: PhantomData<R>,
-    ghost own: { AreAnswers R.answer (lists_of board).ended },
+    of: PhantomData<(R, G)>,
+    ghost own: { AreGiven R.answer R.gave (lists_of board).ended },
+}
+
+/// What the threads and the caller of a pool share: the lock with the one desk under it, and the runner behind its gate.
+#[derive(Drop)]
+pub struct Shared<R: Runner, G> {
+    pub desk: Mutex<Desk<R, G>>,
+    /// A slip waits.
+    pub handed_in: Condvar,
+    /// More workers are wanted.
+    pub wanted: Condvar,
+    /// An ending waits, or no worker can be started.
+    pub ended: Condvar,
+    pub gated: Gated<R, G>,
+}
+
+impl<R: Runner, G: Gate> Shared<R, G> {
+    ghost use Rattle.std.specs.Prelude.{◌≡◌, []};
+    ghost use Rattle.job_runner.specs.Outs.{out_of};
+
+    /// An empty board without a worker, and the one list of what is out of it.
+    pub fn new(alloc: Global, runner: Arc<R, Global>, gate: G) -> (Shared<R, G>, OutList)
+        ensures { out_of result.1 ≡ [] }
+    {
+        let shared = Shared {
+            desk: Mutex::new(Desk::new(alloc)),
+            handed_in: Condvar::new(),
+            wanted: Condvar::new(),
+            ended: Condvar::new(),
+            gated: Gated::new(runner, gate),
+        };
+        (shared, OutList::new(alloc))
+    }
 }
 
 impl OutList {
-    ghost use Rattle.std.specs.Prelude.{◌≡◌, ◌<◌, ◌++◌, ◌∷◌, [], IfOk, OnOk, length, vec_len};
+    ghost use Rattle.std.specs.Prelude.{◌≡◌, ◌↔◌, ◌<◌, ◌++◌, ◌∷◌, [], Some, Contains, IsTrue, IfOk, IfNone, IfSome, OnOk, slice_get, vec_len};
     ghost use Rattle.std.specs.Arc.{arc_value};
     ghost use Rattle.std.specs.List.{remove};
     ghost use Rattle.std.specs.Vec.{vec_capacity};
     ghost use Rattle.job_runner.specs.Outs.{out_of};
 
-    pub fn new(alloc: Global) -> OutList
+    fn new(alloc: Global) -> OutList
         ensures { out_of result ≡ [] }
     {
         OutList {
@@ -58,14 +110,33 @@ impl OutList {
         self.slips.len()
     }
 
-    pub fn as_slice(&self) -> &[Numbered]
-        ensures { result.now ≡ self.now.slips.items }
+    /// The place of the slip with this number, where it is this one.
+    fn place_of(&self, number: u64, slip: &Slip) -> Option<usize>
+        ensures inside { IfSome result (λ place. place < vec_len self.now.slips) }
+        ensures own { IfSome result (λ place. slice_get (out_of self.now) place ≡ Some (number, slip.now)) }
+        ensures none { IfNone result (Contains (out_of self.now) (number, slip.now) → ⊥) }
     {
-        self.slips.as_slice()
+        let mut place = 0;
+        while place < self.slips.len() {
+            if self.is_at(place, number, slip) {
+                return Some(place);
+            }
+            place += 1;
+        }
+        None
+    }
+
+    /// Whether the slip at a place has this number, and is this one.
+    fn is_at(&self, place: usize, number: u64, slip: &Slip) -> bool
+        requires { place < vec_len self.now.slips }
+        ensures { IsTrue result ↔ (slice_get (out_of self.now) place ≡ Some (number, slip.now)) }
+    {
+        let out = &self.slips[place];
+        out.number == number && out.slip.is_equal(slip)
     }
 
     /// Takes the slip at a place off the list.
-    pub fn remove(&mut self, place: usize)
+    fn remove(&mut self, place: usize)
         requires { place < vec_len self.old.slips }
         ensures { self.new.slips.items ≡ remove self.old.slips.items place }
     {
@@ -91,14 +162,14 @@ impl OutList {
     }
 }
 
-impl<R: Runner> Desk<R> {
-    ghost use Rattle.std.specs.Prelude.{◌≡◌, ◌+◌, ◌-◌, ◌≤◌, [], true, false, nat_lt, if◌then◌else◌, IfOk, IfErr, IfNone, IfSome, OnOk, OnErr, Contains};
+impl<R: Runner, G> Desk<R, G> {
+    ghost use Rattle.std.specs.Prelude.{◌≡◌, ◌+◌, ◌-◌, ◌≤◌, ◌<◌, [], vec_len, true, false, nat_lt, if◌then◌else◌, IfOk, IfErr, IfNone, IfSome, OnOk, OnErr, Contains};
     ghost use Rattle.std.specs.Arc.{arc_value};
-    ghost use Rattle.job_runner.specs.Answers.{IsAnswer};
-    ghost use Rattle.job_runner.specs.Lists.{HandsIn, Takes, Puts, Picks};
-    ghost use Rattle.job_runner.specs.Outs.{HandsOut, out_of};
+    ghost use Rattle.job_runner.specs.Answers.{Gives};
+    ghost use Rattle.job_runner.specs.Lists.{HandsIn, Takes, Puts};
+    ghost use Rattle.job_runner.specs.Outs.{HandsOut, IsFirstOut, IsFirstNotOut, PicksOut, out_of};
 
-    pub fn new(alloc: Global) -> Desk<R> {
+    fn new(alloc: Global) -> Desk<R, G> {
         Desk {
             board: Board::new(alloc),
             wanted: 0,
@@ -145,9 +216,10 @@ impl<R: Runner> Desk<R> {
         ensures none { IfNone result ((lists_of self.old.board).waiting ≡ []) }
         ensures same { IfNone result (lists_of self.new.board ≡ lists_of self.old.board) }
         ensures some { IfSome result (λ taken. Takes taken.0.number (arc_value taken.1) (lists_of self.old.board) (lists_of self.new.board)) }
+        ensures own { IfSome result (λ taken. taken.0.slip.value ≡ arc_value taken.1) }
     {
         match self.board.take() {
-            Some((number, slip)) => Some((Turn { number }, slip)),
+            Some((number, slip)) => Some((Turn::of(number, &slip), slip)),
             None => None,
         }
     }
@@ -156,6 +228,7 @@ impl<R: Runner> Desk<R> {
     pub fn take_deserted(&mut self) -> Option<(Turn, Arc<Slip, Global>)>
         ensures same { IfNone result (lists_of self.new.board ≡ lists_of self.old.board) }
         ensures some { IfSome result (λ taken. Takes taken.0.number (arc_value taken.1) (lists_of self.old.board) (lists_of self.new.board)) }
+        ensures own { IfSome result (λ taken. taken.0.slip.value ≡ arc_value taken.1) }
     {
         if self.refused && self.started == 0 {
             self.take()
@@ -164,26 +237,41 @@ impl<R: Runner> Desk<R> {
         }
     }
 
-    /// Puts the ending of a slip that is taken, or gives it back.
+    /// Puts the ending of a turn's slip, or gives it back where that isn't taken.
     pub fn put_end(&mut self, turn: Turn, ending: Ending) -> Result<(), Ending>
-        requires { IsAnswer R.answer ending }
+        requires own { arc_value ending.slip ≡ turn.slip.value }
+        requires gives { Gives R.answer R.gave ending }
         ensures ok { OnOk result (Puts turn.number ending (lists_of self.old.board) (lists_of self.new.board)) }
         ensures back { IfErr result (λ back. back ≡ ending) }
         ensures err { OnErr result (lists_of self.new.board ≡ lists_of self.old.board) }
         ensures refused { OnErr result (Contains (lists_of self.old.board).taken (turn.number, arc_value ending.slip) → ⊥) }
     {
-        let Turn { number } = turn;
+        let Turn { number, slip: _ } = turn;
         self.board.put_end(number, ending)
     }
 
-    /// Takes the oldest ending that waits.
-    pub fn pick_end(&mut self) -> Option<(u64, Ending)>
-        ensures none { IfNone result ((lists_of self.old.board).ended ≡ []) }
-        ensures same { IfNone result (lists_of self.new.board ≡ lists_of self.old.board) }
-        ensures some { IfSome result (λ picked. Picks picked.0 picked.1 (lists_of self.old.board) (lists_of self.new.board)) }
-        ensures own { IfSome result (λ picked. IsAnswer R.answer picked.1) }
+    /// Takes the oldest ending that waits, and its slip off the list of what is out, where it stands there.
+    pub fn pick_end(&mut self, out: &mut OutList) -> Option<(usize, Ending)>
+        ensures none { IfNone result (IsFirstNotOut (lists_of self.old.board).ended (out_of out.old)) }
+        ensures some { IfSome result (λ picked. PicksOut picked.0 picked.1 (lists_of self.old.board) (lists_of self.new.board) (out_of out.old) (out_of out.new)) }
+        ensures board { IfNone result (lists_of self.new.board ≡ lists_of self.old.board) }
+        ensures out { IfNone result (out_of out.new ≡ out_of out.old) }
+        ensures own { IfSome result (λ picked. Gives R.answer R.gave picked.1) }
     {
-        self.board.pick_end()
+        let place = self.place_of_first(out)?;
+        let (_, ending) = self.board.pick_end()?;
+        out.remove(place);
+        Some((place, ending))
+    }
+
+    /// The place on the list of what is out at which the slip of the oldest ending stands.
+    fn place_of_first(&self, out: &OutList) -> Option<usize>
+        ensures inside { IfSome result (λ place. place < vec_len out.now.slips) }
+        ensures own { IfSome result (λ place. IsFirstOut place (lists_of self.now.board).ended (out_of out.now)) }
+        ensures none { IfNone result (IsFirstNotOut (lists_of self.now.board).ended (out_of out.now)) }
+    {
+        let (number, slip) = self.board.first_end()?;
+        out.place_of(number, slip)
     }
 
     /// Counts a further worker as started, where one is wanted.

@@ -8,6 +8,7 @@ mod board;
 mod change;
 mod desk;
 mod entry;
+mod gated;
 mod pool;
 mod room;
 mod runner;

@@ -1,18 +1,16 @@
 //! A pool of workers round a board. Its caller alone hands slips in and is given their endings.
-ghost use Rattle.std.specs.Prelude.{◌≡◌, ◌<◌, ◌++◌, ◌∷◌, [], ℕ, Some, IfOk, IfSome, OnOk, OnErr, length, map, slice_get, vec_len};
+ghost use Rattle.std.specs.Prelude.{◌≡◌, ◌++◌, ◌∷◌, [], ℕ, IfOk, OnOk, OnErr, length};
 ghost use Rattle.std.specs.Arc.{arc_value};
-ghost use Rattle.job_runner.specs.Answers.{IsAnswer};
+ghost use Rattle.job_runner.specs.Answers.{Gives};
 ghost use Rattle.job_runner.specs.Outs.{Returns, ReturnsAt, out_of};
-ghost use Rattle.job_runner.specs.Slips.{slip_of};
 
-use crate::desk::{Desk, OutList};
-use crate::entry::{Numbered, place_of_number};
+use crate::desk::{OutList, Shared};
 use crate::runner::{Gate, Runner};
 use crate::slip::{Ending, Slip};
-use crate::worker::{Found, Shared, start_workers};
+use crate::worker::{Found, start_workers};
 use scons_base::Memory;
 use std::alloc::Global;
-use std::sync::{Arc, Condvar, Mutex, Wait};
+use std::sync::{Arc, Wait};
 use std::thread;
 use std::thread::Threads;
 
@@ -32,10 +30,16 @@ where
     G: Gate + Send + Sync + Drop + 'static,
 {
     /// A pool without workers yet, and the thread that starts them as they are wanted.
-    pub fn new(alloc: Global, rt: T, runner: R, gate: G) -> Result<Pool<T, R, G>, Memory>
+    pub fn new(
+        alloc: Global,
+        rt: T,
+        runner: Arc<R, Global>,
+        gate: G,
+    ) -> Result<Pool<T, R, G>, Memory>
         ensures { IfOk result (λ pool. out_of pool.out ≡ []) }
     {
-        let shared = Arc::new(alloc, shared_of(alloc, runner, gate))?;
+        let (shared, out) = Shared::new(alloc, runner, gate);
+        let shared = Arc::new(alloc, shared)?;
         let theirs = Arc::try_clone(&shared)?;
         let Ok(handle) = rt.clone() else {
             return Err(Memory);
@@ -47,19 +51,8 @@ where
             rt,
             alloc,
             shared,
-            out: OutList::new(alloc),
+            out,
         })
-    }
-}
-
-fn shared_of<R: Runner, G>(alloc: Global, runner: R, gate: G) -> Shared<R, G> {
-    Shared {
-        desk: Mutex::new(Desk::new(alloc)),
-        handed_in: Condvar::new(),
-        wanted: Condvar::new(),
-        ended: Condvar::new(),
-        runner,
-        gate,
     }
 }
 
@@ -69,10 +62,6 @@ impl<T: Wait, R: Runner, G: Gate> Pool<T, R, G> {
         ensures { result ≡ length (out_of self.now.out) }
     {
         self.out.len()
-    }
-
-    pub fn runner(&self) -> &R {
-        &self.shared.runner
     }
 
     /// Hands a slip in, and has a further worker started where more jobs are out than there are workers. A refusal drops the slip.
@@ -87,7 +76,7 @@ impl<T: Wait, R: Runner, G: Gate> Pool<T, R, G> {
     /// Waits for the ending of a slip that is out. Where no worker could be started a waiting slip is run here.
     pub fn next_end(&mut self) -> Ending
         ensures out { Returns result (out_of self.old.out) (out_of self.new.out) }
-        ensures own { IsAnswer R.answer result }
+        ensures own { Gives R.answer R.gave result }
     {
         self.next_place().1
     }
@@ -95,11 +84,9 @@ impl<T: Wait, R: Runner, G: Gate> Pool<T, R, G> {
     /// The same, with the place of the slip on the list of what was out.
     pub fn next_place(&mut self) -> (usize, Ending)
         ensures out { ReturnsAt result.0 result.1 (out_of self.old.out) (out_of self.new.out) }
-        ensures own { IsAnswer R.answer result.1 }
+        ensures own { Gives R.answer R.gave result.1 }
     {
-        let (place, ending) = next_of(&self.rt, &self.shared, self.out.as_slice());
-        self.out.remove(place);
-        (place, ending)
+        next_of(&self.rt, &self.shared, &mut self.out)
     }
 }
 
@@ -122,38 +109,20 @@ fn put_on<T: Wait, R: Runner, G: Gate>(
     Ok(())
 }
 
-/// Waits for an ending of a slip that is out, and gives the place of that slip too.
+/// Waits for an ending of a slip that is out, and gives the place of that slip too. A slip that no worker will run is run here.
 fn next_of<T: Wait, R: Runner, G: Gate>(
     rt: &T,
     shared: &Shared<R, G>,
-    out: &[Numbered],
+    out: &mut OutList,
 ) -> (usize, Ending)
-    ensures inside { result.0 < length out.now }
-    ensures out { (number : ℕ) × (slice_get (map slip_of out.now) result.0 ≡ Some (number, arc_value result.1.slip)) }
-    ensures own { IsAnswer R.answer result.1 }
+    ensures out { ReturnsAt result.0 result.1 (out_of out.old) (out_of out.new) }
+    ensures own { Gives R.answer R.gave result.1 }
 {
     for _ in rt.forever() {
-        match shared.find(rt) {
-            Found::Ended(number, ending) => {
-                if let Some(place) = place_of(out, number, &ending.slip) {
-                    return (place, ending);
-                }
-            }
+        match shared.find(rt, out) {
+            Found::Ended(place, ending) => return (place, ending),
             Found::Deserted(turn, slip) => shared.run(rt, turn, slip),
         }
     }
     unreachable!()
-}
-
-/// The place of the slip with this number on the list of what is out, where it is this one.
-fn place_of(out: &[Numbered], number: u64, slip: &Slip) -> Option<usize>
-    ensures inside { IfSome result (λ place. place < length out.now) }
-    ensures own { IfSome result (λ place. slice_get (map slip_of out.now) place ≡ Some (number, slip.now)) }
-{
-    let place = place_of_number(out, number)?;
-    if out[place].slip.is_equal(slip) {
-        Some(place)
-    } else {
-        None
-    }
 }

@@ -1,35 +1,20 @@
 //! What the threads do. A worker waits for a slip, takes it, passes the gate, runs it, and puts its ending; one thread more starts
 //! workers as they are wanted.
-ghost use Rattle.std.specs.Prelude.{◌≡◌, ℕ};
+ghost use Rattle.std.specs.Prelude.{◌≡◌};
 ghost use Rattle.std.specs.Arc.{arc_value};
-ghost use Rattle.job_runner.specs.Answers.{IsAnswer};
-ghost use Rattle.job_runner.specs.declared.slip.Ending.{Ending};
+ghost use Rattle.job_runner.specs.Outs.{IsFound, out_of};
 
-use crate::desk::{Desk, Turn};
+use crate::desk::{OutList, Shared, Turn};
 use crate::runner::{Gate, Runner};
 use crate::slip::{Ending, Slip};
 use std::alloc::Global;
-use std::sync::{Arc, Condvar, Mutex, Wait};
+use std::sync::{Arc, Wait};
 use std::thread;
 use std::thread::Threads;
 
-/// What the threads and the caller share.
-#[derive(Drop)]
-pub struct Shared<R: Runner, G> {
-    pub desk: Mutex<Desk<R>>,
-    /// A slip waits.
-    pub handed_in: Condvar,
-    /// More workers are wanted.
-    pub wanted: Condvar,
-    /// An ending waits, or no worker can be started.
-    pub ended: Condvar,
-    pub runner: R,
-    pub gate: G,
-}
-
-/// What the caller finds: an ending, or a slip that it has to run itself.
+/// What the caller finds: an ending, with the place at which its slip was out, or a slip that it has to run itself.
 pub enum Found {
-    Ended(u64, Ending),
+    Ended(usize, Ending),
     Deserted(Turn, Arc<Slip, Global>),
 }
 
@@ -43,7 +28,9 @@ impl<R: Runner, G: Gate> Shared<R, G> {
     }
 
     /// Waits for a slip, and takes it.
-    fn next_slip<T: Wait>(&self, rt: &T) -> (Turn, Arc<Slip, Global>) {
+    fn next_slip<T: Wait>(&self, rt: &T) -> (Turn, Arc<Slip, Global>)
+        ensures { result.0.slip.value ≡ arc_value result.1 }
+    {
         let mut desk = self.desk.lock(rt);
         for _ in rt.forever() {
             match desk.take() {
@@ -55,22 +42,24 @@ impl<R: Runner, G: Gate> Shared<R, G> {
         unreachable!()
     }
 
-    /// Runs a slip that was taken, and puts its ending.
-    pub fn run<T: Wait>(&self, rt: &T, turn: Turn, slip: Arc<Slip, Global>) {
-        self.gate.pass(slip.job.id);
-        let ending = self.runner.run(slip);
+    /// Runs the slip of a turn, and puts its ending.
+    pub fn run<T: Wait>(&self, rt: &T, turn: Turn, slip: Arc<Slip, Global>)
+        requires { turn.slip.value ≡ arc_value slip }
+    {
+        let leave = self.gated.pass(slip.job.id);
+        let ending = self.gated.run(slip, leave);
         let _ = self.desk.lock(rt).put_end(turn, ending);
         self.ended.notify_one();
     }
 
-    /// Waits for an ending, whichever, or for a slip that no worker will run.
-    pub fn find<T: Wait>(&self, rt: &T) -> Found
-        ensures { (number : ℕ) (ending : Ending) → result ≡ Found.Ended number ending → IsAnswer R.answer ending }
+    /// Waits for an ending, whichever, of a slip that is out, or for a slip that no worker will run.
+    pub fn find<T: Wait>(&self, rt: &T, out: &mut OutList) -> Found
+        ensures { IsFound R.answer R.gave result (out_of out.old) (out_of out.new) }
     {
         let mut desk = self.desk.lock(rt);
         for _ in rt.forever() {
-            if let Some((number, ending)) = desk.pick_end() {
-                return Found::Ended(number, ending);
+            if let Some((place, ending)) = desk.pick_end(out) {
+                return Found::Ended(place, ending);
             }
             match desk.take_deserted() {
                 Some((turn, slip)) => return Found::Deserted(turn, slip),

@@ -24,15 +24,22 @@ pub struct Door {
 }
 
 impl Gate for Door {
-    fn pass(&self, _id: u32) {
+    type Leave = u32;
+
+    ghost lets = { λ leave. leave };
+
+    fn pass(&self, id: u32) -> u32 {
         self.meeting.come.fetch_add(1, Ordering::SeqCst);
         for _ in 0..TURNS {
             if self.meeting.come.load(Ordering::SeqCst) >= 2 {
-                return;
+                return id;
             }
         }
         self.meeting.missed.fetch_add(1, Ordering::SeqCst);
+        id
     }
+
+    fn take_back(&self, _leave: u32) {}
 }
 
 /// How many of two jobs went on without the other.
@@ -48,7 +55,7 @@ where
     let door = Door {
         meeting: Arc::try_clone(&meeting)?,
     };
-    let mut pool = Pool::new(alloc, rt, Teller, door)?;
+    let mut pool = Pool::new(alloc, rt, Arc::new(alloc, Teller)?, door)?;
     pool.hand_in(slip_of(alloc, 0))?;
     pool.hand_in(slip_of(alloc, 1))?;
     let _ = pool.next_end();

@@ -1,5 +1,5 @@
 //! Many rounds of many jobs over one pool.
-ghost use Rattle.std.specs.Prelude.{◌≡◌, ◌%◌, None, Some, pos};
+ghost use Rattle.std.specs.Prelude.{◌≡◌, ◌%◌, None, Some, true, pos};
 ghost use Rattle.world_api.specs.declared.job.Outcome.TheVariants.{Failed};
 
 use job_runner::{Ending, NoGate, Pool, Runner, Slip};
@@ -28,6 +28,8 @@ pub struct Teller;
 
 impl Runner for Teller {
     ghost answer = { λ slip. Some (record { outcome = Failed (pos (slip.job.id % 1000)); made = None }) };
+
+    ghost gave = { λ ending. true };
 
     fn run(&self, slip: Arc<Slip, Global>) -> Ending {
         let outcome = Outcome::Failed(status_of(slip.job.id));
@@ -66,7 +68,7 @@ pub fn run<T>(alloc: Global, rt: T) -> Result<Tally, Memory>
 where
     T: Threads + Wait + Clone + Send + Sync + Drop + 'static,
 {
-    let mut pool = Pool::new(alloc, rt, Teller, NoGate)?;
+    let mut pool = Pool::new(alloc, rt, Arc::new(alloc, Teller)?, NoGate)?;
     let mut tally = Tally {
         endings: 0,
         strange: 0,

@@ -1,5 +1,5 @@
 //! What a worker does with a job: it runs the lines by the shell, copies, or writes.
-ghost use Rattle.std.specs.Prelude.{None};
+ghost use Rattle.std.specs.Prelude.{None, true};
 
 use crate::errors::{TRIES, is_full, pause};
 use crate::opening::open_with;
@@ -66,6 +66,8 @@ impl<R: Files<File = File> + AllocGlobal + Processes + Clock + Eprint + Drop> Lo
 
 impl<R: Files<File = File> + AllocGlobal + Processes + Clock + Eprint + Drop> Runner for Shell<R> {
     ghost answer = { λ slip. None };
+
+    ghost gave = { λ ending. true };
 
     fn run(&self, slip: Arc<Slip, Global>) -> Ending {
         let job = &slip.job;

@@ -13,7 +13,7 @@ use std::alloc::Global;
 use std::env::Env;
 use std::fs::File;
 use std::rt::Files;
-use std::sync::Wait;
+use std::sync::{Arc, Wait};
 use std::thread::Threads;
 use std::time::Clock;
 use std::{env, fs, io};
@@ -28,6 +28,7 @@ pub struct RealWorld<R, S: Runner> {
     rt: R,
     alloc: Global,
     holding: Holding,
+    shell: Arc<S, Global>,
     pool: Pool<R, S, NoGate>,
     banks: BankFiles,
     disk_faults: u64,
@@ -43,11 +44,13 @@ where
 {
     pub fn new(rt: R, shell: S, wish: LockWish) -> Result<RealWorld<R, S>, Memory> {
         let alloc = rt.alloc();
-        let pool = Pool::new(alloc, copied(&rt)?, shell, NoGate)?;
+        let shell = Arc::new(alloc, shell)?;
+        let pool = pool_of(&rt, &shell)?;
         Ok(RealWorld {
             rt,
             alloc,
             holding: Holding::new(wish),
+            shell,
             pool,
             banks: BankFiles::new(),
             disk_faults: 0,
@@ -58,6 +61,16 @@ where
     }
 }
 
+/// A pool that runs jobs by the shell.
+fn pool_of<R, S>(rt: &R, shell: &Arc<S, Global>) -> Result<Pool<R, S, NoGate>, Memory>
+where
+    R: AllocGlobal + Threads + Wait + Clone + Send + Sync + Drop + 'static,
+    S: LockHolder + Send + Sync + Drop + 'static,
+{
+    let runner = Arc::try_clone(shell)?;
+    Pool::new(rt.alloc(), copied(rt)?, runner, NoGate)
+}
+
 impl<R, S> RealWorld<R, S>
 where
     R: Files<File = File> + AllocGlobal + Wait + Clock + Env + Eprint + Clone + Drop,
@@ -65,7 +78,7 @@ where
 {
     /// Ends a run: lets go of the lock.
     pub fn unlock(&mut self) {
-        self.holding.end(&self.rt, self.pool.runner());
+        self.holding.end(&self.rt, &*self.shell);
     }
 
     /// Whether a call on a bank went well. If not says why.
@@ -160,7 +173,7 @@ where
     S: LockHolder + Drop,
 {
     fn top_path(&mut self) -> Result<PathText, AskRefusal> {
-        if !self.holding.begin(&self.rt, self.pool.runner()) {
+        if !self.holding.begin(&self.rt, &*self.shell) {
             self.tree_faults = self.tree_faults.saturating_add(1);
             return Err(AskRefusal::Fault);
         }

@@ -45,13 +45,20 @@ impl Door {
 }
 
 impl Gate for Door {
-    fn pass(&self, _id: u32) {
+    type Leave = u32;
+
+    ghost lets = { λ leave. leave };
+
+    fn pass(&self, id: u32) -> u32 {
         self.meeting.come.fetch_add(1, Ordering::SeqCst);
         for _ in 0..TURNS {
             if self.meeting.come.load(Ordering::SeqCst) >= 2 {
-                return;
+                return id;
             }
         }
         self.meeting.missed.fetch_add(1, Ordering::SeqCst);
+        id
     }
+
+    fn take_back(&self, _leave: u32) {}
 }

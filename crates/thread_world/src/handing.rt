@@ -42,6 +42,7 @@ pub fn hand_on<T: Wait, G: Gate>(
     ensures only { result ≡ Err AskRefusal.Fault → Fails Call.Start world.old.calls ⊎ AreBlocked (around_of world.old.state) job.targets }
     ensures clear { OnOk result (AreBlocked (around_of world.old.state) job.targets → ⊥) }
     ensures counted { world.new.calls ≡ counted Call.Start world.old.calls }
+    ensures stamp { world.new.state.stamp ≡ world.old.state.stamp }
     ensures keeps { Keeps world.old world.new }
 {
     let entering = world.prepare(job)?;

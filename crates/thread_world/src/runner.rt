@@ -1,5 +1,5 @@
 //! What a worker makes of a slip.
-ghost use Rattle.std.specs.Prelude.{◌≡◌, Some, IfOk};
+ghost use Rattle.std.specs.Prelude.{◌≡◌, Some, true, IfOk};
 ghost use Rattle.job_runner.specs.Answers.{Answer, IsAnswer};
 ghost use Rattle.thread_world.specs.Comes.{answer_by, comes_to};
 
@@ -19,6 +19,8 @@ pub struct TableRunner {
 
 impl Runner for TableRunner {
     ghost answer = { comes_to };
+
+    ghost gave = { λ ending. true };
 
     fn run(&self, slip: Arc<Slip, Global>) -> Ending {
         match come(self.alloc, &slip) {

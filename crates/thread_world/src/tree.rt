@@ -168,6 +168,7 @@ impl<T: Wait, G: Gate> World for ThreadWorld<T, G> {
         ensures clear { OnOk result (AreBlocked (around_of self.old.world.state) job.targets → ⊥) }
         ensures counted { self.new.world.calls ≡ counted Call.Start self.old.world.calls }
         ensures once { result ≡ Err AskRefusal.Fault → counts_of self.new.world.faults ≡ start_fault (counts_of self.old.world.faults) }
+        ensures stamp { self.new.world.state.stamp ≡ self.old.world.state.stamp }
         ensures keeps { Keeps self.old.world self.new.world }
     {
         let entering = hand_on(&mut self.world, &mut self.pool, &self.table, job)?;

@@ -1,5 +1,5 @@
 //! The world on threads, and its calls that are no calls of a world.
-ghost use Rattle.std.specs.Prelude.{◌≡◌};
+ghost use Rattle.std.specs.Prelude.{◌≡◌, [], IfOk};
 ghost use Rattle.job_runner.specs.Outs.{out_of};
 ghost use Rattle.world_mem.specs.AsAround.{around_of};
 ghost use Rattle.thread_world.specs.Step.{InStep, IsSpared};
@@ -9,7 +9,7 @@ use act_table::{ActTable, SharedTable};
 use job_runner::{Gate, Pool};
 use scons_base::{Blob, Memory, PathText};
 use std::alloc::Global;
-use std::sync::Wait;
+use std::sync::{Arc, Wait};
 use std::thread::Threads;
 use world_api::{Bank, Job};
 use world_mem::{Call, EditRefusal, Files, MemWorld, NewRefusal};
@@ -32,7 +32,7 @@ where
     T: Threads + Wait + Clone + Send + Sync + Drop + 'static,
     G: Gate + Send + Sync + Drop + 'static,
 {
-    ghost use Rattle.std.specs.Prelude.{[], ℕ, IfOk, IfErr, OnOk};
+    ghost use Rattle.std.specs.Prelude.{ℕ, IfErr, OnOk};
     ghost use Rattle.world_mem.specs.Blocked.{IsRefused, NamesFirst};
     ghost use Rattle.thread_world.specs.New.{IsNew};
 
@@ -51,7 +51,7 @@ where
     {
         let shared = SharedTable::new(alloc, table.copy()?)?;
         let world = MemWorld::new(alloc, files, table, Vec::new(alloc), Vec::new(alloc))?;
-        let pool = Pool::new(alloc, rt, TableRunner { alloc }, gate)?;
+        let pool = pool_of(alloc, rt, gate)?;
         Ok(ThreadWorld {
             world,
             pool,
@@ -61,8 +61,19 @@ where
     }
 }
 
+/// A pool whose runner goes by the table of each slip.
+fn pool_of<T, G>(alloc: Global, rt: T, gate: G) -> Result<Pool<T, TableRunner, G>, Memory>
+where
+    T: Threads + Wait + Clone + Send + Sync + Drop + 'static,
+    G: Gate + Send + Sync + Drop + 'static,
+    ensures { IfOk result (λ pool. out_of pool.out ≡ []) }
+{
+    let runner = Arc::new(alloc, TableRunner { alloc })?;
+    Pool::new(alloc, rt, runner, gate)
+}
+
 impl<T, G> ThreadWorld<T, G> {
-    ghost use Rattle.std.specs.Prelude.{◌↔◌, ◌⊎◌, [], not, Err, IfOk, OnOk, OnErr, IsTrue};
+    ghost use Rattle.std.specs.Prelude.{◌↔◌, ◌⊎◌, not, Err, OnOk, OnErr, IsTrue};
     ghost use Rattle.mem_banks.specs.AsStore.{store_of};
     ghost use Rattle.mem_banks.specs.Past.{is_dirty};
     ghost use Rattle.world_api.specs.Around.{started_of};

@@ -8,6 +8,7 @@ use Rattle.world_api.specs.declared.job.Outcome.{Outcome}
 use Rattle.world_mem.specs.Ending.{faults_after}
 use Rattle.world_mem.specs.Kept.{counts_of}
 use Rattle.world_mem.specs.AsAround.{around_of}
+use Rattle.world_mem.specs.Stamps.{Stamps}
 use Rattle.world_mem.specs.Waits.{row_contents}
 use Rattle.thread_world.specs.Step.{run_of}
 use Rattle.thread_world.proofs.Comes.{place_within, told_at, step_back, run_back, outcome_back}
@@ -19,7 +20,7 @@ pub end-requires-clause-place : goal.end-requires-clause-place
 end-requires-clause-place g c = place_within _ _ _ _ _ _ c.args.self.now.step c.next_place-place.ensures.out
 
 pub end-requires-clause-told : goal.end-requires-clause-told
-end-requires-clause-told g c = told_at _ _ _ _ _ _ _ c.args.self.now.step c.next_place-place.ensures.out c.next_place-place.ensures.own c.made_of-made.ensures
+end-requires-clause-told g c = told_at _ _ _ _ _ _ _ c.args.self.now.step c.next_place-place.ensures.out c.next_place-place.ensures.own.0 c.made_of-made.ensures
 
 pub invariant_of-self-clause-step : goal.invariant_of-self-clause-step
 invariant_of-self-clause-step g c =
@@ -59,10 +60,11 @@ returns-clause-ends g c =
       run = run;
       which = which;
       id = c.end.ensures.chosen run ∙ ap (λ (r : Running). r.job.id) (which run);
-      outcome = λ had. outcome ∙ outcome_back _ _ _ _ _ ending c.args.self.now.step back c.next_place-place.ensures.own (λ none. had (outcome ∙ none));
+      outcome = λ had. outcome ∙ outcome_back _ _ _ _ _ ending c.args.self.now.step back c.next_place-place.ensures.own.0 (λ none. had (outcome ∙ none));
       rest = c.end.ensures.rest;
       absent = λ bad path there. c.end.ensures.absent run path (λ done. bad (outcome ∙ done)) (subst (λ (r : Running). Contains r.job.targets path) (sym (which run)) there);
       met = λ done. c.end.ensures.met run (sym outcome ∙ done) ∙ ap (λ (r : Running). (around_of old.state).met ++ row_contents old r) (which run);
+      stamps = subst (λ (r : Running). Stamps (Contains r.job.targets) old.state c.end.new.self.state) (which run) (c.end.ensures.stamps run);
       unmet = λ bad. c.end.ensures.unmet (λ done. bad (outcome ∙ done));
     }
 
