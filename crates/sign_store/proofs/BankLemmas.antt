@@ -2,6 +2,7 @@
 use Rattle.std.proofs.Common.{◌≡◌, ℕ, ◌<◌, ◌≤◌, ◌+◌, ◌-◌, List, length, drop, refl, sym, ap, subst, ◌∙◌, arith}
 use Rattle.std.specs.Prelude.{◌≢◌, slice_index}
 use Rattle.std.proofs.lemmas.List.{length-drop, get_or-drop}
+use Rattle.deciders.specs.declared.version.Version.{Version}
 use Rattle.sign_store.specs.declared.entries.EndGate.{EndGate}
 use Rattle.sign_store.specs.declared.entries.EndGate.TheVariants as gate
 use Rattle.sign_store.specs.Beginnings.{IsWrittenTo}
@@ -22,12 +23,12 @@ gate_front gate.Closed len bank at = (omega (arith, at.0, length-drop 17 bank), 
 gate_front gate.Open len bank at = (omega (arith, at.0, length-drop 17 bank), sym (get_or-drop 17 bank len 0) ∙ at.1)
 gate_front gate.Missing len bank at = omega (arith, at, length-drop 17 bank)
 
-pub was_written : (end : EndGate) (size len place : ℕ) (map : Map) (bank : List ℕ) → IsGate end len (body_of bank) → len ≤ length (body_of bank) → size ≡ length bank → 17 < size
-    → (end ≡ gate.Missing → place ≡ size) → (end ≢ gate.Missing → place ≡ 17 + len) → IsReadTo len nothing map (body_of bank) → IsWrittenTo place map bank
-was_written end size len place map bank at within is long missing there reads =
+pub was_written : (version : Version) (end : EndGate) (size len place : ℕ) (map : Map) (bank : List ℕ) → IsGate end len (body_of bank) → len ≤ length (body_of bank) → size ≡ length bank → 17 < size
+    → (end ≡ gate.Missing → place ≡ size) → (end ≢ gate.Missing → place ≡ 17 + len) → IsReadTo version len nothing map (body_of bank) → IsWrittenTo version place map bank
+was_written version end size len place map bank at within is long missing there reads =
     let whole : 17 < length bank = omega (arith, is, long) in
-    subst (λ (p : ℕ). IsWrittenTo p map bank) (sym (end_is end size len place bank at within is whole missing there))
-    (read_written len map bank whole (omega (arith, within, length-drop 17 bank)) reads)
+    subst (λ (p : ℕ). IsWrittenTo version p map bank) (sym (end_is end size len place bank at within is whole missing there))
+    (read_written version len map bank whole (omega (arith, within, length-drop 17 bank)) reads)
 
 pub was_gate : (end : EndGate) (size len place : ℕ) (bank : List ℕ) → IsGate end len (body_of bank) → len ≤ length (body_of bank) → size ≡ length bank → 17 < size
     → (end ≡ gate.Missing → place ≡ size) → (end ≢ gate.Missing → place ≡ 17 + len) → IsGate end place bank
