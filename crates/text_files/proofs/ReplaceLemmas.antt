@@ -6,7 +6,7 @@ use Rattle.std.proofs.lemmas.Slice.Eq.{bytes_eq-Decides}
 use Rattle.std.proofs.lemmas.Grind.{same_number_lists}
 use Rattle.std.proofs.lemmas.List.{length-append, length-take, get_or-take}
 use Rattle.memchr.specs.Find.{OccursAt, Nowhere, NoneBefore}
-use Rattle.text_files.specs.Replacing.{replaced_behind, replaced}
+use Rattle.world_api.specs.Replacing.{replaced_behind, replaced}
 
 -- ---- the key in front
 

@@ -1,2 +1,2 @@
-pub mod Replacing
 pub mod Refusals
+pub mod Named

@@ -1,7 +1,7 @@
 //! Keys replaced by values, one after the other.
 ghost use Rattle.std.specs.Prelude.{◌≡◌, ◌≢◌, ◌-◌, ◌^◌, ◌++◌, All, length, min, None, IfOk, OnOk, MatchOption};
-ghost use Rattle.text_files.specs.Replacing.{replaced, replaced_all};
-ghost use Rattle.text_files.specs.Refusals.{Makes, told, too_long};
+ghost use Rattle.world_api.specs.Replacing.{replaced, replaced_all};
+ghost use Rattle.text_files.specs.Refusals.{Makes, MakesUpTo, told, too_long};
 
 use crate::refusal::TextRefusal;
 use memchr::memmem::Finder;
@@ -20,14 +20,13 @@ pub fn replace_all(
 {
     let mut made = Blob::of(alloc, bytes)?;
     for (key, value) in pairs {
-        let next = replaced_within(
+        made = replaced_within(
             alloc,
             made.as_slice(),
             key.as_slice(),
             value.as_slice(),
             limit,
         )?;
-        made = Blob::new(next);
     }
     Ok(made)
 }
@@ -39,8 +38,9 @@ fn replaced_within(
     key: &[u8],
     value: &[u8],
     limit: u64,
-) -> Result<Vec<u8>, TextRefusal>
+) -> Result<Blob, TextRefusal>
     requires { length key.now ≢ 0 }
+    ensures { MakesUpTo limit (replaced key.now value.now bytes.now) result }
 {
     let len = replaced_len(bytes, key, value);
     if len > limit {
@@ -48,7 +48,7 @@ fn replaced_within(
     }
     let mut made = Vec::new(alloc);
     push_replaced(&mut made, bytes, key, value)?;
-    Ok(made)
+    Ok(Blob::new(made))
 }
 
 /// How long the bytes are then, or the greatest number of 64 bits where that is more.

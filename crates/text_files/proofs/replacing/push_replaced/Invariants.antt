@@ -1,5 +1,5 @@
 use Rattle.std.proofs.Common.{◌≡◌, ◌++◌, length}
-use Rattle.text_files.specs.Replacing.{replaced}
+use Rattle.world_api.specs.Replacing.{replaced}
 use Rattle.text_files.proofs.replacing.push_replaced.Given as goal
 
 abbrev pub invariant-loop-place : goal.invariant-loop-place

@@ -1,6 +1,6 @@
 use Rattle.std.proofs.Common.{◌≡◌, ◌+◌, length}
 use Rattle.text_files.specs.Refusals.{told}
-use Rattle.text_files.specs.Replacing.{replaced}
+use Rattle.world_api.specs.Replacing.{replaced}
 use Rattle.text_files.proofs.replacing.replaced_len.Given as goal
 
 abbrev pub invariant-loop-place : goal.invariant-loop-place
