@@ -58,8 +58,12 @@ fn one_text(alloc: Global, text: &[u8], limit: u64) -> Result<Content, TextRefus
 fn files_read<'a>(count: &Text, given: &'a [Content]) -> Option<&'a [Content]>
     ensures { option_map (λ files. map bytes_of files.now) result ≡ files_read count.now given.now }
 {
-    let files = given.get(..number_in(count.as_str())? as usize)?;
-    if are_files(files) { Some(files) } else { None }
+    let count = number_in(count.as_str())? as usize;
+    if count <= given.len() && are_files(&given[..count]) {
+        Some(&given[..count])
+    } else {
+        None
+    }
 }
 
 fn files_written(
