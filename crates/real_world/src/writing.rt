@@ -17,6 +17,7 @@ use world_api::{Content, Job, Outcome, ReadRefusal};
 const TOO_LARGE: i32 = 1;
 
 /// Why nothing can be written.
+#[derive(Clone, Copy)]
 enum Unwritten {
     TooLarge,
     Memory,
