@@ -14,5 +14,5 @@ any_as : {read name : List ℕ} (names : List (Bor (List ℕ))) → read ≡ nam
 any_as {read} {name} names is = any_now read names ∙ ap (λ (n : List ℕ). list_any (bytes_eq n) (map (λ other. other.now) names)) is
 
 pub returns-clause-new : goal.returns-clause-new
-returns-clause-new c = 
+returns-clause-new c =
     c.in_ok-new.ensures.added ∙ ap not (any_as _ c.as_str.ensures) ∙ ap (λ (names : List (List ℕ)). not (list_any (bytes_eq c.args.path.now) names)) c.self.view_is
