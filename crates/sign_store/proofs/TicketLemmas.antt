@@ -26,6 +26,15 @@ use Rattle.sign_store.specs.Tables.{Map, has_any, with_each, is_among}
 
 -- ---- what the entries say
 
+-- a length, the mark of a put and a spelling, one behind the other
+pub put_spelt : (old with_len pushed : List ℕ) (rec : Rec) (len : ℕ) → with_len ≡ old ++ to_be_bytes w32 len → pushed ≡ with_len ++ 1 ∷ [] → len ≡ length (put_payload rec)
+    → pushed ++ spelling Two rec ≡ old ++ entry_of (put_payload rec)
+put_spelt old with_len pushed rec len lengthened marked is =
+    ap (λ (x : List ℕ). x ++ spelling Two rec) (marked ∙ ap (λ (x : List ℕ). x ++ 1 ∷ []) lengthened)
+    ∙ append_assoc (old ++ to_be_bytes w32 len) (1 ∷ []) (spelling Two rec)
+    ∙ append_assoc old (to_be_bytes w32 len) (1 ∷ spelling Two rec)
+    ∙ ap (λ (n : ℕ). old ++ (to_be_bytes w32 n ++ put_payload rec)) is
+
 pub put_says : (rec : Rec) (bytes : List ℕ) → Spells Two (spelling Two rec) rec → length (spelling Two rec) ≤ 4294967294 → bytes ≡ entry_of (put_payload rec) ++ 0 ∷ [] → IsEntry (Put rec) bytes
 put_says rec bytes spells fits is = record {
   payload = put_payload rec;
