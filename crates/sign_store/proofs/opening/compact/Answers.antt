@@ -1,9 +1,7 @@
 use Rattle.std.proofs.Common.{◌≡◌, List, ℕ, true, false, length, refl, sym, ap, subst, ◌∙◌, ◌+◌, inl, inr, arith}
-use Rattle.sign_store.specs.Compacts.{compact_bytes}
 use Rattle.sign_store.specs.Forms.{IsForm}
 use Rattle.sign_store.specs.Maps.{map_in}
 use Rattle.sign_store.proofs.DiskLemmas.{settled_same}
-use Rattle.sign_store.proofs.StepLemmas.{endures_same}
 use Rattle.sign_store.proofs.CompactLemmas.{compact_is}
 use Rattle.sign_store.proofs.OpenLemmas.{gone_over, rests_kept, stays_current}
 use Rattle.sign_store.proofs.opening.compact.Goals as goal
