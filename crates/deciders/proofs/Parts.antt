@@ -1,5 +1,5 @@
 -- The parts of a record: what is read was spelled so, and what was spelled is read again.
-use Rattle.std.proofs.Common.{◌≡◌, ℕ, zero, suc, ◌^◌, ◌<◌, ◌≤◌, Bool, true, false, cond, ltb, List, [], ◌∷◌, ◌++◌, length, take, drop, Option, Some, None, refl, sym, ap, subst, ◌∙◌, append_assoc, arith}
+use Rattle.std.proofs.Common.{◌≡◌, ℕ, zero, suc, ◌^◌, ◌<◌, ◌≤◌, Bool, true, false, ltb, List, [], ◌∷◌, ◌++◌, length, take, drop, Option, Some, None, refl, sym, ap, subst, ◌∙◌, append_assoc, arith}
 use Rattle.std.specs.Prelude.{IfSome}
 use Rattle.std.specs.List.{flat_map, AllByRecursion}
 use Rattle.std.specs.Option.{option_map_or}
@@ -18,7 +18,7 @@ use Rattle.deciders.specs.declared.version.Version.{Version}
 use Rattle.deciders.specs.declared.version.Version.TheVariants.{One, Two}
 use Rattle.deciders.specs.Digests.{as_digest, bytes_of, digest_len, hash_of, is_same}
 use Rattle.deciders.specs.Records.{is_by}
-use Rattle.deciders.specs.Spelling.{sized, listed, work_byte, hash_byte, hash_spelling, digest_spelling, stamp_spelling, dep_spelling, HasHash, IsPathText, IsDigest, IsDep, IsListOf}
+use Rattle.deciders.specs.Spelling.{sized, listed, work_byte, hash_byte, hash_spelling, digest_spelling, stamp_spelling, dep_spelling, HasHash, IsDigest, IsDep, IsListOf}
 use Rattle.deciders.specs.Reading.{◌>>=◌, number_at, path_at, work_at, hash_byte_at, hash_at, digest_bytes, digest_at, stamp_at, dep_at, many, counted}
 use Rattle.deciders.proofs.Takings.{IsBytes, IsBytes-drop, bind_some, guard_some, some_is, Takes, Takes-then, IsReader, wide32, wide64, number_takes, number_again, path_reader}
 

@@ -1,5 +1,5 @@
 -- The two laws: what is read is spelled so, and what is spelled so is read.
-use Rattle.std.proofs.Common.{◌≡◌, ℕ, ◌^◌, ◌<◌, Bool, true, false, cond, eqb, List, [], ◌∷◌, ◌++◌, length, map, Option, Some, None, refl, sym, ap, subst, ◌∙◌, append_assoc, arith}
+use Rattle.std.proofs.Common.{◌≡◌, ℕ, Bool, true, false, cond, eqb, List, [], ◌∷◌, ◌++◌, length, map, Some, None, refl, sym, ap, subst, ◌∙◌, append_assoc}
 use Rattle.std.specs.Prelude.{◌&&◌, ◌==◌, not}
 use Rattle.std.specs.List.{AllByRecursion, list_all}
 use Rattle.std.proofs.lemmas.Bool.{eqb-true}
@@ -9,9 +9,9 @@ use Rattle.deciders.specs.declared.recorded.Dep.{Dep}
 use Rattle.deciders.specs.declared.recorded.Rec.{Rec}
 use Rattle.deciders.specs.declared.version.Version.{Version}
 use Rattle.deciders.specs.Records.{is_by, is_valid, name_of, named_once}
-use Rattle.deciders.specs.Spelling.{sized, listed, work_byte, hash_spelling, dep_spelling, lists_spelling, spelling, HasHash, IsText, IsPathText, IsDep, IsListOf, IsSpellable, Spells}
+use Rattle.deciders.specs.Spelling.{sized, listed, work_byte, hash_spelling, dep_spelling, spelling, HasHash, IsText, IsPathText, IsDep, IsListOf, IsSpellable, Spells}
 use Rattle.deciders.specs.Reading.{◌>>=◌, text_at, path_at, work_at, hash_at, dep_at, counted, parts_of, record_in}
-use Rattle.deciders.proofs.Takings.{IsBytes, bind_some, guard_holds, some_is, Takes, Takes-then, IsReader, text_reader, path_reader}
+use Rattle.deciders.proofs.Takings.{IsBytes, bind_some, guard_holds, some_is, Takes, Takes-then, text_reader, path_reader}
 use Rattle.deciders.proofs.Parts.{work_takes, work_again, hash_takes, hash_again, IsDepOf, dep_reader, list_reader}
 
 both_true : (a b : Bool) → (a && b) ≡ true → (a ≡ true) × (b ≡ true)

@@ -1,13 +1,12 @@
 -- A record whose spelling is short has few parts, and short ones.
-use Rattle.std.proofs.Common.{◌≡◌, ℕ, ◌+◌, ◌^◌, ◌<◌, ◌≤◌, List, [], ◌∷◌, ◌++◌, length, All, refl, arith, length-append}
+use Rattle.std.proofs.Common.{ℕ, ◌+◌, ◌^◌, ◌<◌, ◌≤◌, List, [], ◌∷◌, ◌++◌, length, All, arith, length-append}
 use Rattle.std.specs.List.{flat_map, AllByRecursion}
 use Rattle.std.specs.Int.{w32, to_be_bytes}
 use Rattle.std.proofs.lemmas.List.Elements.{All-from_recursion}
 use Rattle.std.proofs.lemmas.List.Concat.{flat_map-cons}
-use Rattle.deciders.specs.declared.recorded.Dep.{Dep}
 use Rattle.deciders.specs.declared.recorded.Rec.{Rec}
 use Rattle.deciders.specs.declared.version.Version.{Version}
-use Rattle.deciders.specs.Spelling.{sized, listed, digest_spelling, stamp_spelling, dep_spelling, hash_spelling, lists_spelling, spelling, work_byte}
+use Rattle.deciders.specs.Spelling.{sized, listed, digest_spelling, stamp_spelling, dep_spelling, hash_spelling, lists_spelling, spelling}
 
 -- each item has more bytes than its size says
 pub record IsMore {A : Type 0} (spelled : A → List ℕ) (size : A → ℕ) : Type 0 where

@@ -1,6 +1,6 @@
 -- A bank that was read: where its entries end, and the gate there.
-use Rattle.std.proofs.Common.{◌≡◌, ℕ, ◌<◌, ◌≤◌, ◌+◌, ◌-◌, List, length, drop, refl, sym, ap, subst, ◌∙◌, arith}
-use Rattle.std.specs.Prelude.{◌≢◌, slice_index}
+use Rattle.std.proofs.Common.{◌≡◌, ℕ, ◌<◌, ◌≤◌, ◌+◌, List, length, refl, sym, subst, ◌∙◌, arith}
+use Rattle.std.specs.Prelude.{◌≢◌}
 use Rattle.std.proofs.lemmas.List.{length-drop, get_or-drop}
 use Rattle.deciders.specs.declared.version.Version.{Version}
 use Rattle.sign_store.specs.declared.entries.EndGate.{EndGate}

@@ -1,14 +1,12 @@
 -- Beginning a store: its end is mended, and another bank is filled, while the banks stand for the same map.
-use Rattle.std.proofs.Common.{◌≡◌, ℕ, zero, suc, ◌<◌, ◌≤◌, ◌+◌, ◌-◌, Bool, true, false, cond, List, [], ◌∷◌, ◌++◌, length, take, drop, get_or, max, Option, None, Some, refl, sym, ap, subst, ◌∙◌, append_assoc, inl, inr, arith}
-use Rattle.std.specs.Prelude.{◌≢◌, ◌⊎◌, ◌==◌, ◌||◌, not, slice_index, nat_lt}
+use Rattle.std.proofs.Common.{◌≡◌, ℕ, ◌<◌, ◌≤◌, ◌+◌, ◌-◌, Bool, true, false, cond, List, ◌∷◌, ◌++◌, length, take, drop, get_or, None, refl, sym, ap, subst, ◌∙◌, inl, inr, arith}
+use Rattle.std.specs.Prelude.{◌≢◌, ◌⊎◌, not, slice_index, nat_lt}
 use Rattle.std.proofs.lemmas.Bool.{lt-ltb, le-ltb}
 use Rattle.std.proofs.lemmas.Bool.Decides.{eqb_tells}
-use Rattle.std.proofs.lemmas.List.{take_at, take_all, take-take, drop_at, drop_more, drop_all, drop-drop, take-append-drop, drop-append-le, drop-take, length-append, length-take, length-drop, get_or-take, get_or-drop}
+use Rattle.std.proofs.lemmas.List.{take-take, drop_more, drop-drop, drop-take, length-drop}
 use Rattle.world_api.specs.declared.disk.Bank.{Bank}
 use Rattle.world_api.specs.declared.disk.Bank.TheVariants.{A, B}
-use Rattle.world_api.specs.Around.{Around}
-use Rattle.world_api.specs.Banks.{Banks, Holds, Torn}
-use Rattle.world_api.specs.Meaning.{Meaning, IsImage, Throughout}
+use Rattle.world_api.specs.Banks.{Banks, Torn}
 use Rattle.sign_store.specs.declared.entries.EndGate.{EndGate}
 use Rattle.sign_store.specs.declared.entries.EndGate.TheVariants.{Closed, Open, Missing}
 use Rattle.deciders.specs.declared.version.Version.{Version}
@@ -19,16 +17,15 @@ use Rattle.sign_store.specs.declared.head.Head.TheVariants as head
 use Rattle.sign_store.specs.declared.head.Choice.{Choice}
 use Rattle.sign_store.specs.declared.head.Choice.TheVariants as choice
 use Rattle.sign_store.specs.Heads.{head_of, chosen, edition_of}
-use Rattle.sign_store.specs.Images.{payload_in, entry_in, after_entries, entries_map, body_of, image_of, map_chosen}
+use Rattle.sign_store.specs.Images.{payload_in, entry_in, after_entries, entries_map, body_of, map_chosen}
 use Rattle.sign_store.specs.Ends.{EndsAt, StandsAt, image_in, with_bank}
-use Rattle.sign_store.specs.Forms.{IsBlank, IsSpare}
+use Rattle.sign_store.specs.Forms.{IsSpare}
 use Rattle.sign_store.specs.Gates.{IsGate}
 use Rattle.sign_store.specs.Readings.{choice_of, IsReadTo}
 use Rattle.sign_store.specs.Beginnings.{IsWrittenTo}
 use Rattle.sign_store.specs.Tables.{Map, nothing}
 use Rattle.sign_store.proofs.ImageLemmas.{no_entry}
 use Rattle.sign_store.proofs.EndLemmas.{shut_reads_none, gate_at, body_cut, head_same, stands_for}
-use Rattle.sign_store.proofs.FillLemmas.{choice_at}
 
 -- ---- the end of the entries
 

@@ -1,6 +1,6 @@
 -- The compact form stands for the map.
-use Rattle.std.proofs.Common.{◌≡◌, ℕ, zero, suc, ◌^◌, ◌<◌, ◌≤◌, ◌+◌, Bool, true, false, List, [], ◌∷◌, ◌++◌, length, Option, None, Some, refl, sym, ap, subst, ◌∙◌, append_assoc, add-one, arith}
-use Rattle.std.specs.Prelude.{◌≢◌, filter, not, slice_get, Result, OnOk}
+use Rattle.std.proofs.Common.{◌≡◌, ℕ, zero, suc, ◌^◌, ◌<◌, ◌≤◌, ◌+◌, Bool, true, false, List, [], ◌∷◌, ◌++◌, length, Option, None, Some, refl, sym, ap, subst, ◌∙◌, add-one, arith}
+use Rattle.std.specs.Prelude.{◌≢◌, not, slice_get, Result, OnOk}
 use Rattle.std.specs.List.{list_any}
 use Rattle.std.proofs.lemmas.List.{append-nil}
 use Rattle.deciders.specs.declared.recorded.Rec.{Rec}
@@ -9,9 +9,8 @@ use Rattle.sign_store.specs.declared.map.RecordMap.{RecordMap}
 use Rattle.sign_store.specs.Compacts.{lost_of, withdrawal_of, entries_of, entries_at, entries_up_to, compact_bytes}
 use Rattle.sign_store.specs.Entries.{entry_of, put_payload, withdraw_payload}
 use Rattle.sign_store.specs.Forms.{Leads, IsForm}
-use Rattle.sign_store.specs.Heads.{head_bytes}
 use Rattle.sign_store.specs.Maps.{map_in}
-use Rattle.sign_store.specs.Orders.{IsWhole, IsOrdered, is_held, map_up_to}
+use Rattle.sign_store.specs.Orders.{IsOrdered, is_held, map_up_to}
 use Rattle.sign_store.specs.Tables.{Map, nothing, with_each}
 use Rattle.sign_store.proofs.DiskLemmas.{then_ok}
 use Rattle.sign_store.proofs.FormLemmas.{leads_none, leads_then, leads_put, leads_withdrawal, form_is}

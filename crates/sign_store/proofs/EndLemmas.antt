@@ -1,10 +1,10 @@
 -- The bytes of a bank at the end of its entries: what a torn write leaves there, and what an opened gate adds.
-use Rattle.std.proofs.Common.{◌≡◌, ℕ, zero, suc, ◌^◌, ◌<◌, ◌≤◌, ◌+◌, ◌-◌, Bool, true, false, cond, eqb, ltb, leb, List, [], ◌∷◌, ◌++◌, length, take, drop, get_or, Option, Some, None, refl, sym, ap, subst, ◌∙◌, append_assoc, inl, inr, arith}
-use Rattle.std.specs.Prelude.{◌≢◌, ◌⊎◌, ◌||◌, ◌==◌, not, slice_index, nat_le, nat_lt}
+use Rattle.std.proofs.Common.{◌≡◌, ℕ, ◌^◌, ◌<◌, ◌≤◌, ◌+◌, ◌-◌, Bool, true, false, cond, ltb, leb, List, [], ◌∷◌, ◌++◌, length, take, drop, get_or, Option, Some, None, refl, sym, ap, subst, ◌∙◌, append_assoc, inl, inr, arith}
+use Rattle.std.specs.Prelude.{◌≢◌, ◌⊎◌, ◌||◌, ◌==◌, not, slice_index, nat_lt}
 use Rattle.std.specs.Int.{w32, w64, from_be_bytes, to_be_bytes}
 use Rattle.std.proofs.lemmas.Bool.{le-ltb, le-leb, lt-leb}
 use Rattle.std.proofs.lemmas.Bool.Decides.{eqb_tells}
-use Rattle.std.proofs.lemmas.List.{take_at, drop_at, take-append-drop, take-take, drop-take, drop-drop, drop_more, drop-append-le, length-append, length-take, length-drop, get_or-take, get_or-drop}
+use Rattle.std.proofs.lemmas.List.{take_at, drop_at, take-append-drop, take-take, drop-take, drop_more, drop-append-le, length-append, length-take, get_or-take, get_or-drop}
 use Rattle.world_api.specs.declared.disk.Bank.{Bank}
 use Rattle.world_api.specs.declared.disk.Bank.TheVariants.{A, B}
 use Rattle.world_api.specs.Banks.{Banks, Torn}
@@ -16,7 +16,7 @@ use Rattle.sign_store.specs.declared.head.Head.{Head}
 use Rattle.sign_store.specs.declared.head.Choice.TheVariants as choice
 use Rattle.sign_store.specs.Heads.{gate_of, mark_of, generation_of, head_of, chosen, edition_of}
 use Rattle.sign_store.specs.Entries.{entry_of}
-use Rattle.sign_store.specs.Images.{length_in, payload_in, change_in, entry_in, applied, after_entries, entries_map, body_of, image_of}
+use Rattle.sign_store.specs.Images.{length_in, payload_in, change_in, entry_in, applied, after_entries, entries_map, body_of}
 use Rattle.sign_store.specs.Ends.{EndsAt, StandsAt, image_in, with_bank}
 use Rattle.sign_store.specs.Tables.{Map}
 use Rattle.sign_store.proofs.ImageLemmas.{one_entry, no_entry}

@@ -1,25 +1,25 @@
 -- A bank is filled while another one counts: at every moment of it the banks stand for the same map.
-use Rattle.std.proofs.Common.{◌≡◌, ℕ, ◌<◌, ◌≤◌, ◌+◌, Bool, true, false, eqb, leb, List, [], ◌∷◌, ◌++◌, length, take, drop, get_or, max, refl, sym, ap, subst, ◌∙◌, append_assoc, inl, inr, arith}
-use Rattle.std.specs.Prelude.{◌≢◌, ◌⊎◌, ◌==◌, slice_index}
+use Rattle.std.proofs.Common.{◌≡◌, ℕ, ◌<◌, ◌≤◌, Bool, true, false, leb, List, [], ◌∷◌, ◌++◌, length, take, drop, get_or, refl, sym, ap, subst, ◌∙◌, append_assoc, inl, inr, arith}
+use Rattle.std.specs.Prelude.{◌≢◌, ◌==◌, slice_index}
 use Rattle.std.proofs.lemmas.Bool.{le-leb, lt-leb, leb-true, leb-false}
 use Rattle.std.proofs.lemmas.Bool.Decides.{eqb_tells}
-use Rattle.std.proofs.lemmas.List.{take_at, drop_at, drop_more, take-take, take-append-drop, drop-append-le, length-append, length-take, length-drop, get_or-take, get_or-drop, nil_from_length}
+use Rattle.std.proofs.lemmas.List.{take_at, drop_at, drop_more, length-append, get_or-take}
 use Rattle.world_api.specs.declared.disk.Bank.{Bank}
 use Rattle.world_api.specs.declared.disk.Bank.TheVariants.{A, B}
 use Rattle.world_api.specs.Around.{Around}
-use Rattle.world_api.specs.Banks.{Banks, Holds, Torn}
-use Rattle.world_api.specs.Meaning.{Meaning, IsImage, IsSettled, BankKept, Throughout}
+use Rattle.world_api.specs.Banks.{Banks, Torn}
+use Rattle.world_api.specs.Meaning.{Meaning, IsSettled, BankKept, Throughout}
 use Rattle.world_api.proofs.Moments.{weakens}
 use Rattle.deciders.specs.declared.version.Version.TheVariants.{Two}
-use Rattle.sign_store.specs.declared.head.Head.TheVariants.{Short, Closed, Foreign, Live}
+use Rattle.sign_store.specs.declared.head.Head.TheVariants.{Closed}
 use Rattle.sign_store.specs.declared.head.Choice.TheVariants as choice
 use Rattle.sign_store.specs.Heads.{head_of, gate_of, edition_of}
-use Rattle.sign_store.specs.Images.{entries_map, body_of, after_entries}
-use Rattle.sign_store.specs.Ends.{EndsAt, StandsAt, KeepsAt, StandsFor, IsTornFrom, AreSettled, image_in, with_bank}
-use Rattle.sign_store.specs.Forms.{IsBlank, IsSpare, IsShut, IsForm, Leads}
+use Rattle.sign_store.specs.Images.{entries_map, body_of}
+use Rattle.sign_store.specs.Ends.{EndsAt, StandsAt, StandsFor, IsTornFrom, AreSettled, image_in, with_bank}
+use Rattle.sign_store.specs.Forms.{IsBlank, IsSpare, IsShut, IsForm}
 use Rattle.sign_store.specs.Readings.{choice_of}
-use Rattle.sign_store.specs.Tables.{Map, nothing}
-use Rattle.sign_store.proofs.EndLemmas.{stands_for, ends_map, gate_at}
+use Rattle.sign_store.specs.Tables.{Map}
+use Rattle.sign_store.proofs.EndLemmas.{stands_for, gate_at}
 
 -- ---- settled banks
 

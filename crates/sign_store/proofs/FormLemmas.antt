@@ -1,17 +1,16 @@
 -- The compact form: entries that lead from no record to all of them.
-use Rattle.std.proofs.Common.{◌≡◌, ℕ, suc, ◌^◌, ◌<◌, ◌≤◌, ◌+◌, Bool, true, false, cond, leb, List, [], ◌∷◌, ◌++◌, length, take, drop, Option, None, Some, refl, sym, ap, subst, ◌∙◌, append_assoc, inl, inr, arith}
-use Rattle.std.specs.Prelude.{◌≢◌, ◌&&◌, ◌==◌, not, filter, codes}
+use Rattle.std.proofs.Common.{◌≡◌, ℕ, suc, ◌^◌, ◌<◌, ◌≤◌, ◌+◌, Bool, true, false, cond, leb, List, [], ◌∷◌, ◌++◌, length, take, drop, None, Some, refl, sym, ap, subst, ◌∙◌, append_assoc, inl, inr, arith}
+use Rattle.std.specs.Prelude.{◌≢◌, ◌==◌, not, filter, codes}
 use Rattle.std.specs.Int.{w32, w64, to_be_bytes, from_be_bytes}
 use Rattle.std.specs.Option.{option_map}
 use Rattle.std.specs.List.{flat_map, AllByRecursion}
-use Rattle.std.specs.Str.{bytes_eq}
 use Rattle.std.proofs.lemmas.Bool.{lt-leb}
 use Rattle.std.proofs.lemmas.Bool.Decides.{eqb_tells}
 use Rattle.std.proofs.lemmas.List.{take_at, drop_at, length-append, append-nil}
 use Rattle.std.proofs.lemmas.List.Concat.{flat_map-cons}
 use Rattle.deciders.specs.declared.recorded.Rec.{Rec}
 use Rattle.deciders.specs.declared.version.Version.TheVariants.{Two}
-use Rattle.deciders.specs.Spelling.{sized, listed, spelling, IsPathText, IsListOf, Spells}
+use Rattle.deciders.specs.Spelling.{sized, listed, spelling, IsPathText, IsListOf}
 use Rattle.deciders.specs.Reading.{path_at, counted}
 use Rattle.deciders.proofs.Takings.{wide32, wide64, path_reader}
 use Rattle.deciders.proofs.Parts.{list_reader}
@@ -20,7 +19,7 @@ use Rattle.deciders.proofs.Sizes.{targets_within}
 use Rattle.sign_store.specs.declared.entries.Change.{Change}
 use Rattle.sign_store.specs.declared.entries.Change.TheVariants.{Put, Withdraw}
 use Rattle.sign_store.specs.declared.head.Head.TheVariants.{Live}
-use Rattle.sign_store.specs.Heads.{head_of, head_bytes, mark_of, generation_of, edition_of}
+use Rattle.sign_store.specs.Heads.{head_of, head_bytes, generation_of, edition_of}
 use Rattle.sign_store.specs.Entries.{entry_of, put_payload, withdraw_payload}
 use Rattle.sign_store.specs.Images.{put_in, change_in, applied, after_entries}
 use Rattle.sign_store.specs.Compacts.{withdrawal_of}

@@ -1,13 +1,12 @@
 -- How long the parts of a compact form are.
-use Rattle.std.proofs.Common.{◌≡◌, ◌∙◌, ◌+◌, ◌≤◌, ◌<◌, ℕ, zero, suc, Bool, true, false, List, [], ◌∷◌, ◌++◌, length, take, min, ◌-◌, ◌^◌, refl, sym, ap, arith, length-append}
-use Rattle.std.specs.Prelude.{filter, not}
+use Rattle.std.proofs.Common.{◌≡◌, ◌∙◌, ◌+◌, ◌<◌, ℕ, List, [], ◌∷◌, length, min, ◌-◌, ◌^◌, refl, ap, arith, length-append}
 use Rattle.std.specs.Int.{w32, to_be_bytes}
 use Rattle.std.specs.List.{flat_map}
 use Rattle.deciders.specs.declared.recorded.Rec.{Rec}
 use Rattle.deciders.specs.declared.version.Version.TheVariants.{Two}
-use Rattle.deciders.specs.Spelling.{sized, listed, spelling}
+use Rattle.deciders.specs.Spelling.{sized, spelling}
 use Rattle.sign_store.specs.declared.map.RecordMap.{RecordMap}
-use Rattle.sign_store.specs.Compacts.{entries_at, entries_up_to, withdrawal, withdrawal_of}
+use Rattle.sign_store.specs.Compacts.{entries_at, entries_up_to, withdrawal_of}
 use Rattle.sign_store.specs.Entries.{entry_of, put_payload, withdraw_payload}
 use Rattle.sign_store.proofs.CompactLemmas.{next_up_to}
 

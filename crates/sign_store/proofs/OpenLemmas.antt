@@ -1,5 +1,5 @@
 -- The steps of opening a store, put together.
-use Rattle.std.proofs.Common.{◌≡◌, ℕ, ◌<◌, ◌≤◌, ◌+◌, ◌-◌, ◌^◌, Bool, true, false, cond, eqb, leb, List, [], ◌∷◌, ◌++◌, length, take, drop, max, refl, sym, ap, subst, ◌∙◌, append_assoc, inl, inr, arith}
+use Rattle.std.proofs.Common.{◌≡◌, ℕ, ◌<◌, ◌≤◌, ◌+◌, ◌-◌, ◌^◌, Bool, true, false, cond, eqb, leb, List, [], ◌∷◌, ◌++◌, length, take, drop, refl, sym, ap, subst, ◌∙◌, append_assoc, inl, inr, arith}
 use Rattle.std.specs.Prelude.{◌≢◌, ◌&&◌, nat_lt, codes, slice_index, Result, Ok, Err, IfOk, IfErr}
 use Rattle.std.specs.Str.{bytes_eq}
 use Rattle.std.proofs.lemmas.Bool.{leb-false, ltb-true}
@@ -28,7 +28,7 @@ use Rattle.sign_store.specs.Compacts.{compact_bytes}
 use Rattle.sign_store.specs.Gates.{IsGate}
 use Rattle.sign_store.specs.Heads.{head_of, live_head, mark_of, generation_of, gate_of, edition_of, other_bank}
 use Rattle.sign_store.specs.Images.{entries_map, body_of, map_chosen}
-use Rattle.sign_store.specs.Ends.{StandsAt, StandsFor, IsLeftOr, KeepsAt, AreSettled, image_in, with_bank}
+use Rattle.sign_store.specs.Ends.{StandsAt, StandsFor, IsLeftOr, KeepsAt, AreSettled, image_in}
 use Rattle.sign_store.specs.Forms.{IsSpare}
 use Rattle.sign_store.specs.Maps.{map_in}
 use Rattle.sign_store.specs.Changing.{ReopensThroughout, Starts, StartsThroughout}
@@ -39,7 +39,7 @@ use Rattle.sign_store.specs.Beginnings.{IsAtRest, CanFill, IsFilled, IsMendable,
 use Rattle.sign_store.specs.Tables.{Map, nothing}
 use Rattle.sign_store.proofs.EndLemmas.{gate_at}
 use Rattle.sign_store.proofs.FillLemmas.{choice_at}
-use Rattle.sign_store.proofs.BeginLemmas.{torn_end, live_stays, closed_stands, bank_with, spare_first, spare_beside_a, spare_beside_b, first_live, second_live}
+use Rattle.sign_store.proofs.BeginLemmas.{torn_end, live_stays, closed_stands, spare_first, spare_beside_a, spare_beside_b, first_live, second_live}
 use Rattle.sign_store.proofs.StepLemmas.{endures_then, rest_read, rest_written}
 
 pub same_banks : (a b : Banks) → ((bank : Bank) → b bank ≡ a bank) → b ≡ a

@@ -1,8 +1,8 @@
 -- Records in the order of their puts: the order stays, and what each of them adds to the map.
-use Rattle.std.proofs.Common.{◌≡◌, ℕ, zero, suc, ◌<◌, ◌≤◌, ◌+◌, Bool, true, false, cond, eqb, ltb, List, [], ◌∷◌, ◌++◌, length, vec_len, Option, None, Some, refl, sym, ap, subst, ◌∙◌, append_assoc, inl, inr, arith}
-use Rattle.std.specs.Prelude.{◌≢◌, ◌⊎◌, ◌&&◌, ◌||◌, ◌==◌, not, slice_get, filter, nat_lt}
-use Rattle.std.specs.Option.{option_and_then, option_map_or, option_map}
-use Rattle.std.specs.List.{list_any, flat_map, AllByRecursion}
+use Rattle.std.proofs.Common.{◌≡◌, ℕ, zero, suc, ◌<◌, ◌≤◌, ◌+◌, Bool, true, false, cond, ltb, List, [], ◌∷◌, ◌++◌, length, Option, None, Some, refl, sym, ap, subst, ◌∙◌, inl, inr, arith}
+use Rattle.std.specs.Prelude.{◌≢◌, ◌&&◌, ◌||◌, ◌==◌, not, slice_get, filter}
+use Rattle.std.specs.Option.{option_and_then, option_map_or}
+use Rattle.std.specs.List.{list_any}
 use Rattle.std.specs.Str.{bytes_eq}
 use Rattle.std.proofs.lemmas.Bool.{le-ltb, lt-ltb, ltb-true, ltb-false, eqb-true}
 use Rattle.std.proofs.lemmas.Bool.Decides.{eqb_tells}
@@ -17,8 +17,8 @@ use Rattle.sign_store.specs.declared.map.RecordMap.{RecordMap}
 use Rattle.sign_store.specs.Orders.{IsWhole, IsWholeChange, AreOrdered, IsOrdered, SetsNumbers, is_held, map_up_to}
 use Rattle.sign_store.specs.Images.{put_in}
 use Rattle.sign_store.specs.Maps.{map_in}
-use Rattle.sign_store.specs.Tables.{Map, number_in, is_among, with_each}
-use Rattle.sign_store.proofs.TableLemmas.{same_map, slice_get-last, stands_on}
+use Rattle.sign_store.specs.Tables.{number_in, is_among, with_each}
+use Rattle.sign_store.proofs.TableLemmas.{same_map, slice_get-last}
 
 some_same : {A : Type 0} (a b : A) → Some a ≡ Some b → a ≡ b
 some_same a b e = cc

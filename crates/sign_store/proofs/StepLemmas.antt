@@ -1,33 +1,30 @@
 -- The steps of beginning a store, one after another.
-use Rattle.std.proofs.Common.{◌≡◌, ℕ, ◌<◌, ◌≤◌, ◌+◌, Bool, true, false, leb, List, [], ◌∷◌, ◌++◌, length, take, drop, refl, sym, ap, subst, ◌∙◌, append_assoc, inl, inr, arith}
-use Rattle.std.specs.Prelude.{◌≢◌, ◌⊎◌, ◌==◌, ◌&&◌, ◌-◌, ◌^◌, nat_lt, slice_index, codes, if◌then◌else◌}
+use Rattle.std.proofs.Common.{◌≡◌, ℕ, ◌<◌, ◌+◌, Bool, true, false, leb, List, [], ◌∷◌, ◌++◌, length, take, drop, refl, sym, ap, subst, ◌∙◌, append_assoc, arith}
+use Rattle.std.specs.Prelude.{◌≢◌, ◌&&◌, ◌-◌, ◌^◌, nat_lt, slice_index, codes, if◌then◌else◌}
 use Rattle.std.specs.Str.{bytes_eq}
 use Rattle.std.proofs.lemmas.Bool.{leb-false, lt-leb}
 use Rattle.std.proofs.lemmas.List.{length-append, length-take}
-use Rattle.std.proofs.lemmas.Bool.Decides.{eqb_tells}
 use Rattle.world_api.specs.declared.disk.Bank.{Bank}
 use Rattle.world_api.specs.declared.disk.Bank.TheVariants.{A, B}
 use Rattle.world_api.specs.Around.{Around}
-use Rattle.world_api.specs.Banks.{Banks, Holds, Torn}
-use Rattle.world_api.specs.Meaning.{Meaning, IsImage, IsSettled, BankKept, BanksKept, Throughout, AtEither}
-use Rattle.world_api.proofs.Moments.{begins, chains, weakens}
-use Rattle.deciders.specs.declared.version.Version.{Version}
+use Rattle.world_api.specs.Banks.{Banks, Holds}
+use Rattle.world_api.specs.Meaning.{Meaning, IsImage, IsSettled, Throughout}
+use Rattle.world_api.proofs.Moments.{chains}
 use Rattle.deciders.specs.declared.version.Version.TheVariants.{One, Two}
 use Rattle.sign_store.specs.declared.head.Edition.{Edition}
 use Rattle.sign_store.specs.declared.entries.EndGate.{EndGate}
 use Rattle.sign_store.specs.declared.entries.EndGate.TheVariants as gate
 use Rattle.sign_store.specs.declared.head.Head.TheVariants.{Short, Closed, Foreign, Live}
-use Rattle.sign_store.specs.declared.head.Choice.TheVariants as choice
-use Rattle.sign_store.specs.Heads.{head_of, gate_of, mark_of, generation_of, edition_of, live_head}
-use Rattle.sign_store.specs.Ends.{StandsAt, StandsFor, IsTornFrom, IsLeftOr, KeepsAt, AreSettled, image_in, with_bank}
-use Rattle.sign_store.specs.Forms.{IsSpare, IsShut, IsForm}
+use Rattle.sign_store.specs.Heads.{head_of, mark_of, generation_of, edition_of, live_head}
+use Rattle.sign_store.specs.Ends.{StandsFor, IsTornFrom, image_in, with_bank}
+use Rattle.sign_store.specs.Forms.{IsShut, IsForm}
 use Rattle.sign_store.specs.Reached.{ReadsBanks, Writes, Endures}
 use Rattle.sign_store.specs.Readings.{choice_of}
-use Rattle.sign_store.specs.Beginnings.{IsAtRest, CanFill, IsFilled, IsMendable, IsAsBefore, IsWrittenTo}
+use Rattle.sign_store.specs.Beginnings.{IsAtRest, CanFill, IsFilled, IsMendable}
 use Rattle.sign_store.specs.Tables.{Map}
 use Rattle.sign_store.proofs.WriteLemmas.{held_behind}
 use Rattle.sign_store.proofs.FillLemmas.{harmless, settled_on, torn_close, torn_behind_shut, torn_open, filled_stands, filled_counts, spare_on}
-use Rattle.sign_store.proofs.BeginLemmas.{torn_mend, torn_end, live_stays, closed_stands, bank_with}
+use Rattle.sign_store.proofs.BeginLemmas.{torn_mend}
 
 -- ---- moments
 

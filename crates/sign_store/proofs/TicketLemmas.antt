@@ -1,8 +1,7 @@
 -- The entries of a ticket that is out: they say its record, and have their room.
-use Rattle.std.proofs.Common.{◌≡◌, ℕ, ◌^◌, ◌<◌, ◌≤◌, ◌+◌, Bool, true, false, cond, List, [], ◌∷◌, ◌++◌, length, get_or, Option, Some, None, refl, sym, ap, subst, ◌∙◌, append_assoc, inl, inr, arith}
+use Rattle.std.proofs.Common.{◌≡◌, ℕ, ◌<◌, ◌≤◌, ◌+◌, Bool, true, false, cond, List, [], ◌∷◌, ◌++◌, length, get_or, Option, Some, None, refl, sym, ap, subst, ◌∙◌, append_assoc, arith}
 use Rattle.std.specs.Prelude.{◌≢◌, ◌||◌, ◌&&◌, ◌==◌, not, slice_index, Result, Ok, Err, OnErr}
 use Rattle.std.specs.Option.{option_map, is_some}
-use Rattle.std.specs.List.{list_any}
 use Rattle.std.specs.Str.{bytes_eq}
 use Rattle.std.proofs.lemmas.Slice.Eq.{bytes_eq-Decides}
 use Rattle.std.specs.Int.{w32, to_be_bytes}
@@ -21,10 +20,19 @@ use Rattle.sign_store.specs.declared.ticket.Ticket.{Ticket}
 use Rattle.sign_store.specs.Entries.{entry_of, put_payload, withdraw_payload, entries_len}
 use Rattle.sign_store.specs.Ends.{IsEntry}
 use Rattle.sign_store.specs.Images.{put_in}
-use Rattle.sign_store.specs.Stores.{IsTicket, IsOut, IsUntouched, HasRoom, TakesRoom, AreApart, map_of, owed}
+use Rattle.sign_store.specs.Stores.{IsTicket, IsOut, IsUntouched, HasRoom, TakesRoom, AreApart, map_of}
 use Rattle.sign_store.specs.Tables.{Map, has_any, with_each, is_among}
 
 -- ---- what the entries say
+
+-- a length, the mark of a put and a spelling, one behind the other
+pub put_spelt : (old with_len pushed : List ℕ) (rec : Rec) (len : ℕ) → with_len ≡ old ++ to_be_bytes w32 len → pushed ≡ with_len ++ 1 ∷ [] → len ≡ length (put_payload rec)
+    → pushed ++ spelling Two rec ≡ old ++ entry_of (put_payload rec)
+put_spelt old with_len pushed rec len lengthened marked is =
+    ap (λ (x : List ℕ). x ++ spelling Two rec) (marked ∙ ap (λ (x : List ℕ). x ++ 1 ∷ []) lengthened)
+    ∙ append_assoc (old ++ to_be_bytes w32 len) (1 ∷ []) (spelling Two rec)
+    ∙ append_assoc old (to_be_bytes w32 len) (1 ∷ spelling Two rec)
+    ∙ ap (λ (n : ℕ). old ++ (to_be_bytes w32 n ++ put_payload rec)) is
 
 pub put_says : (rec : Rec) (bytes : List ℕ) → Spells Two (spelling Two rec) rec → length (spelling Two rec) ≤ 4294967294 → bytes ≡ entry_of (put_payload rec) ++ 0 ∷ [] → IsEntry (Put rec) bytes
 put_says rec bytes spells fits is = record {

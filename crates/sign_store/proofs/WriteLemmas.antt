@@ -1,18 +1,17 @@
 -- What holds at every moment of a synced write, and of an entry that is added by two of them.
-use Rattle.std.proofs.Common.{◌≡◌, ℕ, ◌^◌, ◌<◌, ◌≤◌, ◌+◌, List, [], ◌∷◌, ◌++◌, length, take, drop, max, Some, refl, sym, ap, subst, ◌∙◌, append_assoc, inl, inr, arith}
-use Rattle.std.specs.Prelude.{◌≢◌, ◌⊎◌, slice_index}
-use Rattle.std.proofs.lemmas.List.{take_at, drop_at, drop-drop, length-append, length-take, get_or-drop}
+use Rattle.std.proofs.Common.{◌≡◌, ℕ, ◌<◌, ◌≤◌, ◌+◌, List, [], ◌∷◌, ◌++◌, length, take, drop, refl, sym, ap, subst, ◌∙◌, append_assoc, inl, arith}
+use Rattle.std.specs.Prelude.{◌≢◌, slice_index}
+use Rattle.std.proofs.lemmas.List.{take_at, drop_at, drop-drop, length-append, length-take}
 use Rattle.world_api.specs.declared.disk.Bank.{Bank}
 use Rattle.world_api.specs.declared.disk.Bank.TheVariants.{A, B}
 use Rattle.world_api.specs.Around.{Around}
 use Rattle.world_api.specs.Banks.{Banks, Holds, Torn, Follows}
 use Rattle.world_api.specs.Meaning.{Meaning, IsImage, IsSettled, BankKept, BanksKept, Throughout, AtEither}
-use Rattle.world_api.proofs.Moments.{disk_call, joins, chains, weakens}
+use Rattle.world_api.proofs.Moments.{disk_call, chains, weakens}
 use Rattle.deciders.specs.declared.version.Version.TheVariants.{Two}
 use Rattle.sign_store.specs.declared.entries.Change.{Change}
-use Rattle.sign_store.specs.Entries.{entry_of}
-use Rattle.sign_store.specs.Images.{change_in, applied}
-use Rattle.sign_store.specs.Ends.{StandsAt, KeepsAt, IsEntry, IsEither, IsTornFrom, with_bank, image_in}
+use Rattle.sign_store.specs.Images.{applied}
+use Rattle.sign_store.specs.Ends.{StandsAt, KeepsAt, IsEntry, IsEither, IsTornFrom, with_bank}
 use Rattle.sign_store.specs.Tables.{Map}
 use Rattle.sign_store.proofs.EndLemmas.{torn_behind, torn_gate, gate_opened, gate_at}
 

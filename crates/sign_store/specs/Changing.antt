@@ -1,10 +1,9 @@
 -- What a change of the banks leaves, at every moment of it and behind it.
-use Rattle.std.specs.Prelude.{◌≡◌, ◌<◌, ◌+◌, ℕ, List, length, None, Some, Result, IfOk, OnOk}
+use Rattle.std.specs.Prelude.{◌≡◌, ◌+◌, ℕ, List, length, Result, IfOk, OnOk}
 use Rattle.world_api.specs.declared.disk.Bank.{Bank}
 use Rattle.world_api.specs.declared.disk.Bank.TheVariants.{A}
 use Rattle.world_api.specs.Around.{Around}
 use Rattle.world_api.specs.Meaning.{Meaning, Throughout}
-use Rattle.deciders.specs.declared.recorded.Rec.{Rec}
 use Rattle.sign_store.specs.declared.entries.Change.{Change}
 use Rattle.sign_store.specs.declared.entries.EndGate.{EndGate}
 use Rattle.deciders.specs.declared.version.Version.TheVariants.{Two}

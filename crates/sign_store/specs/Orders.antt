@@ -1,9 +1,9 @@
 -- Records in the order of their puts, each with its spelling, and what so many of them stand for.
-use Rattle.std.specs.Prelude.{◌≡◌, ◌≤◌, ◌<◌, ℕ, Bool, true, false, List, length, Option, None, Some, slice_get, nat_lt, ◌==◌, if◌then◌else◌}
+use Rattle.std.specs.Prelude.{◌≡◌, ◌≤◌, ℕ, Bool, true, false, List, length, Option, None, Some, slice_get, nat_lt, ◌==◌, if◌then◌else◌}
 use Rattle.std.specs.Option.{option_and_then, option_map_or}
 use Rattle.deciders.specs.declared.recorded.Rec.{Rec}
 use Rattle.deciders.specs.declared.version.Version.TheVariants.{Two}
-use Rattle.deciders.specs.Spelling.{Spells, IsPathText, IsListOf, spelling}
+use Rattle.deciders.specs.Spelling.{Spells, spelling}
 use Rattle.sign_store.specs.declared.entries.Change.{Change}
 use Rattle.sign_store.specs.declared.entries.Change.TheVariants.{Put, Withdraw}
 use Rattle.sign_store.specs.declared.map.RecordMap.{RecordMap}

@@ -1,4 +1,4 @@
-use Rattle.std.proofs.Common.{◌≡◌, Some, None, sym, ◌∙◌, ap, arith}
+use Rattle.std.proofs.Common.{sym, ◌∙◌, arith}
 use Rattle.deciders.proofs.RecordLaws.{record_takes, record_again}
 use Rattle.deciders.proofs.decoding.decode.Goals as goal
 

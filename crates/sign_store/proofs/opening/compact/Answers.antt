@@ -1,9 +1,7 @@
 use Rattle.std.proofs.Common.{◌≡◌, List, ℕ, true, false, length, refl, sym, ap, subst, ◌∙◌, ◌+◌, inl, inr, arith}
-use Rattle.sign_store.specs.Compacts.{compact_bytes}
 use Rattle.sign_store.specs.Forms.{IsForm}
 use Rattle.sign_store.specs.Maps.{map_in}
 use Rattle.sign_store.proofs.DiskLemmas.{settled_same}
-use Rattle.sign_store.proofs.StepLemmas.{endures_same}
 use Rattle.sign_store.proofs.CompactLemmas.{compact_is}
 use Rattle.sign_store.proofs.OpenLemmas.{gone_over, rests_kept, stays_current}
 use Rattle.sign_store.proofs.opening.compact.Goals as goal
@@ -39,7 +37,7 @@ returns-then-not-is_due-clause-over g c = λ ordered. record {
   map = refl;
   exchanges = inr (
     λ due.
-        let yes : c.is_due.result ≡ true = c.is_due.ensures.1 (elim due.1 [ inl one ↦ inl one | inr worth ↦ inr (omega (arith, worth, c.compact_len.ensures (c.args.opened.edition.generation + 1))) ]) in
+        let yes : c.is_due.result ≡ true = c.is_due.ensures.1 (elim due.1 [ inl one ↦ inl one | inr worth ↦ inr (omega (arith, worth, c.compact_len-compact.ensures (c.args.opened.edition.generation + 1))) ]) in
         let bad : true ≡ false = sym yes ∙ c.if-not-is_due.true in absurd cc,
     refl,
     refl,
@@ -59,7 +57,7 @@ returns-clause-opened g c = λ stood map is.
 pub returns-clause-over : goal.returns-clause-over
 returns-clause-over g c = λ ordered.
     gone_over c.args.opened c.as_slice.result.now c.go_over.result
-    ((c.can_be_due.ensures.0 c.if-not-can_be_due.false).0, elim (c.is_due.ensures.0 c.if-not-is_due.false) [ inl one ↦ inl one | inr worth ↦ inr (omega (arith, worth, c.compact_len.ensures (c.args.opened.edition.generation + 1))) ])
+    ((c.can_be_due.ensures.0 c.if-not-can_be_due.false).0, elim (c.is_due.ensures.0 c.if-not-is_due.false) [ inl one ↦ inl one | inr worth ↦ inr (omega (arith, worth, c.compact_len-compact.ensures (c.args.opened.edition.generation + 1))) ])
     (c.as_slice.ensures.value ∙ c.in_ok-form.ensures ordered) c.go_over.ensures.over
 
 pub returns-in_err-form-clause-rests : goal.returns-in_err-form-clause-rests
@@ -67,4 +65,4 @@ returns-in_err-form-clause-rests g c = rests_kept g.W.Disk.meaning c.args.world.
 
 pub go_over-requires-clause-small : goal.go_over-requires-clause-small
 go_over-requires-clause-small g c =
-    omega (arith, c.if-compact.false, c.compact_len.ensures (c.args.opened.edition.generation + 1), ap length (c.as_slice.ensures.value ∙ c.in_ok-form.ensures c.requires.ordered), c.requires.end)
+    omega (arith, c.if-compact-gt-BANK_LIMIT.false, c.compact_len-compact.ensures (c.args.opened.edition.generation + 1), ap length (c.as_slice.ensures.value ∙ c.in_ok-form.ensures c.requires.ordered), c.requires.end)

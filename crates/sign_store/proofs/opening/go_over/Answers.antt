@@ -1,4 +1,4 @@
-use Rattle.std.proofs.Common.{◌≡◌, List, ℕ, length, refl, sym, ap, subst, ◌∙◌, ◌+◌, arith}
+use Rattle.std.proofs.Common.{length, refl, sym, subst, ◌+◌}
 use Rattle.world_api.specs.declared.disk.Bank.{Bank}
 use Rattle.deciders.specs.declared.version.Version.TheVariants.{Two}
 use Rattle.sign_store.specs.Beginnings.{CanFill}

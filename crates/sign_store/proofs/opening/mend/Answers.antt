@@ -1,7 +1,6 @@
 use Rattle.sign_store.proofs.DiskLemmas.{both_ok, settled_same}
 use Rattle.sign_store.proofs.FillLemmas.{settled_on}
 use Rattle.sign_store.proofs.StepLemmas.{endures_same, endures_run, mend_moments}
-use Rattle.sign_store.proofs.BeginLemmas.{closed_stands}
 use Rattle.sign_store.proofs.OpenLemmas.{mended, closed_mended}
 use Rattle.sign_store.proofs.opening.mend.Goals as goal
 

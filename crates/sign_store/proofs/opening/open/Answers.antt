@@ -1,7 +1,6 @@
-use Rattle.std.proofs.Common.{◌≡◌, ap, sym, subst, ◌∙◌}
+use Rattle.std.proofs.Common.{ap, sym, subst, ◌∙◌}
 use Rattle.std.specs.Prelude.{IfOk}
 use Rattle.world_api.specs.Banks.{Banks}
-use Rattle.sign_store.specs.declared.head.Choice.TheVariants as choice
 use Rattle.sign_store.specs.declared.refusals.StoreRefusal.TheVariants as refusal
 use Rattle.sign_store.specs.Beginnings.{IsBegunOver}
 use Rattle.sign_store.specs.Ends.{image_in}

@@ -1,4 +1,4 @@
-use Rattle.std.proofs.Common.{◌≡◌, List, ℕ, refl, sym, ap, subst, ◌∙◌, length, arith}
+use Rattle.std.proofs.Common.{◌≡◌, ℕ, refl, sym, ap, subst, length, arith}
 use Rattle.world_api.specs.declared.disk.Bank.TheVariants.{A}
 use Rattle.deciders.specs.declared.version.Version.TheVariants.{Two}
 use Rattle.sign_store.specs.Ends.{StandsAt}

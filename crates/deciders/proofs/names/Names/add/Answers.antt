@@ -10,7 +10,9 @@ any_now : (name : List ℕ) (names : List (Bor (List ℕ))) → list_any (λ oth
 any_now name [] = refl
 any_now name (other ∷ names) = rw (any_now name names) refl
 
+any_as : {read name : List ℕ} (names : List (Bor (List ℕ))) → read ≡ name → list_any (λ other. pointwise nat_eq read other.now) names ≡ list_any (bytes_eq name) (map (λ other. other.now) names)
+any_as {read} {name} names is = any_now read names ∙ ap (λ (n : List ℕ). list_any (bytes_eq n) (map (λ other. other.now) names)) is
+
 pub returns-clause-new : goal.returns-clause-new
 returns-clause-new c =
-    c.in_ok-new.ensures.added ∙ ap not (any_now c.as_str.result.now c.args.self.now.paths.keys)
-    ∙ ap (λ (name : List ℕ). not (list_any (bytes_eq name) (map (λ other. other.now) c.args.self.now.paths.keys))) c.as_str.ensures
+    c.in_ok-new.ensures.added ∙ ap not (any_as _ c.as_str.ensures) ∙ ap (λ (names : List (List ℕ)). not (list_any (bytes_eq c.args.path.now) names)) c.self.view_is

@@ -1,4 +1,4 @@
-use Rattle.std.proofs.Common.{◌≡◌, ℕ, ap, sym, subst, ◌∙◌}
+use Rattle.std.proofs.Common.{ℕ, ap, sym, subst, ◌∙◌}
 use Rattle.world_api.specs.declared.disk.Bank.{Bank}
 use Rattle.sign_store.specs.declared.map.RecordMap.{RecordMap}
 use Rattle.sign_store.specs.Beginnings.{IsBegunOver}
