@@ -4,25 +4,28 @@ use Rattle.std.specs.Prelude.{◌≢◌}
 use Rattle.std.specs.Str.{bytes_eq}
 use Rattle.std.proofs.lemmas.Slice.Eq.{bytes_eq-Decides}
 use Rattle.std.proofs.lemmas.Grind.{same_number_lists}
-use Rattle.std.proofs.lemmas.List.{length-append, length-take, get_or-take}
+use Rattle.std.proofs.lemmas.List.{length-append, length-take, length-drop, get_or-take, take_all}
 use Rattle.memchr.specs.Find.{OccursAt, Nowhere, NoneBefore}
 use Rattle.world_api.specs.Replacing.{replaced_behind, replaced}
 
 -- ---- the key in front
+
+from_start : (bytes : List ℕ) (k : ℕ) → get_or bytes k 0 ≡ get_or bytes (0 + k) 0
+from_start bytes k = ap (λ (n : ℕ). get_or bytes n 0) (let e : k ≡ 0 + k = omega arith in e)
 
 in_front : (key bytes : List ℕ) → OccursAt bytes key 0 → bytes_eq (take (length key) bytes) key ≡ true
 in_front key bytes at =
     let fits = at.fits in
     let len : length (take (length key) bytes) ≡ length key = omega (arith, length-take (length key) bytes, fits) in
     (bytes_eq-Decides (take (length key) bytes) key).1
-    (same_number_lists (take (length key) bytes) key len (λ k lt. get_or-take (length key) bytes k 0 (omega (arith, lt, len)) ∙ at.reads k (omega (arith, lt, len))))
+    (same_number_lists (take (length key) bytes) key len (λ k lt. get_or-take (length key) bytes k 0 (omega (arith, lt, len)) ∙ from_start bytes k ∙ at.reads k (omega (arith, lt, len))))
 
 stands : (key bytes : List ℕ) → bytes_eq (take (length key) bytes) key ≡ true → OccursAt bytes key 0
 stands key bytes e =
     let is : take (length key) bytes ≡ key = (bytes_eq-Decides (take (length key) bytes) key).0 e in
     record {
       fits = omega (arith, ap length is, length-take (length key) bytes);
-      reads = λ j lt. sym (get_or-take (length key) bytes j 0 lt) ∙ ap (λ (x : List ℕ). get_or x j 0) is;
+      reads = λ j lt. sym (from_start bytes j) ∙ sym (get_or-take (length key) bytes j 0 lt) ∙ ap (λ (x : List ℕ). get_or x j 0) is;
     }
 
 not_in_front : (key bytes : List ℕ) → (OccursAt bytes key 0 → ⊥) → bytes_eq (take (length key) bytes) key ≡ false
@@ -73,7 +76,7 @@ pub up_to : (key value : List ℕ) (place : ℕ) (bytes : List ℕ) → length k
 unfolding replaced_behind
 up_to key value place [] some at none = absurd (let fits = at.fits in omega (arith, fits, some))
 up_to key value zero (b ∷ bytes) some at none =
-    rw (in_front key (b ∷ bytes) at) (ap (λ (x : List ℕ). value ++ x) (passed key value (length key - 1) bytes ∙ ap (replaced_behind key value 0) (behind_key key bytes b some)))
+    rw (in_front key (b ∷ bytes) at) (ap (λ (x : List ℕ). value ++ x) (passed key value (length key - 1) bytes ∙ ap (replaced_behind key value 0) (behind_key key bytes b some ∙ ap (λ (n : ℕ). drop n (b ∷ bytes)) (let e : length key ≡ 0 + length key = omega arith in e))))
 up_to key value (suc place) (b ∷ bytes) some at none =
     let shift : suc place ≡ place + 1 = omega arith in
     let at_next : OccursAt (b ∷ bytes) key (place + 1) = subst (OccursAt (b ∷ bytes) key) shift at in
@@ -92,6 +95,10 @@ unchanged key value (b ∷ bytes) none =
     rw (not_in_front key (b ∷ bytes) (none 0 (omega arith) (omega arith))) (ap (λ (x : List ℕ). b ∷ x) (unchanged key value bytes (none_later key bytes b (length bytes + 1) next)))
 
 -- ---- the loop
+
+-- a tail as a range gives it
+pub tail : (bytes : List ℕ) (n : ℕ) → take (length bytes - n) (drop n bytes) ≡ drop n bytes
+tail bytes n = take_all (length bytes - n) (drop n bytes) (omega (arith, length-drop n bytes))
 
 pub goes_on : (key value : List ℕ) (place : ℕ) (rest made all : List ℕ) → length key ≢ 0 → OccursAt rest key place → Nowhere (OccursAt rest key) 0 place → made ++ replaced key value rest ≡ all
     → ((made ++ take place rest) ++ value) ++ replaced key value (drop (place + length key) rest) ≡ all

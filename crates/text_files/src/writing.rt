@@ -73,7 +73,7 @@ fn files_written(
     texts: &[Text],
     limit: u64,
 ) -> Result<Content, TextRefusal>
-    ensures { Makes result (joined_too_long limit between.now (option_map (λ files. map bytes_of files.now) files) (pairs_in texts.now)) (made_of between.now (option_map (λ files. map bytes_of files.now) files) (pairs_in texts.now)) }
+    ensures { Makes result (joined_too_long limit between.now (option_map (λ files. map bytes_of files.now) files.entry) (pairs_in texts.now)) (made_of between.now (option_map (λ files. map bytes_of files.now) files.entry) (pairs_in texts.now)) }
 {
     let pairs = pairs_in(alloc, texts)?;
     match (files, pairs) {
