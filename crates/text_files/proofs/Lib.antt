@@ -1,1 +1,2 @@
 pub mod ReplaceLemmas
+pub mod PairLemmas
