@@ -1,5 +1,5 @@
 -- What the shell makes here: a table of actions, and a text of its own where no row fits.
-use Rattle.std.specs.Prelude.{ℕ, List, Option, Some, None, is_some, if◌then◌else◌}
+use Rattle.std.specs.Prelude.{ℕ, List, Option, Some, None, is_some, pos, if◌then◌else◌}
 use Rattle.scons_base.specs.declared.limits.TheConstants.{FILE_LIMIT}
 use Rattle.text_files.specs.Refusals.{written_too_long}
 use Rattle.world_api.specs.Act.{Content, Given, Law, act}
@@ -38,7 +38,7 @@ shell_outcome (Some row) = outcome_by row.made
 
 abbrev pub outcome_within : Option ℕ → Outcome
 outcome_within None = Done
-outcome_within (Some long) = Failed 1
+outcome_within (Some long) = Failed (pos 1)
 
 -- a write fails where what it makes would be too long on its way
 abbrev pub written_outcome : List (List ℕ) → Given → Outcome
