@@ -6,6 +6,6 @@ use Rattle.world_mem.proofs.plan.ending_by.Goals as goal
 
 pub returns-clause-made : goal.returns-clause-made
 returns-clause-made c =
-    c.in_ok-contents_by.ensures
-    ∙ map_same (λ target. (target, gives c.in_ok-recipe_of.recipe target)) (λ target. (target, content_made c.args.table.now c.args.job.now.work c.args.job.now.signed c.args.job.now.targets c.args.given.now target)) c.args.job.now.targets
-    (λ target. ap (λ (content : Option (List ℕ)). (target, content)) (c.in_ok-recipe_of.ensures.recipe target))
+    c.in_ok-made.ensures
+    ∙ map_same (λ target. (target, gives c.in_ok-outcome.recipe target)) (λ target. (target, content_made c.args.table.now c.args.job.now.work c.args.job.now.signed c.args.job.now.targets c.args.given.now target)) c.args.job.now.targets
+    (λ target. ap (λ (content : Option (List ℕ)). (target, content)) (c.in_ok-outcome.ensures.recipe target))
