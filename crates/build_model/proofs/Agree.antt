@@ -51,7 +51,7 @@ module _ (s : Setting) (r : Rule) (v w : View) (h : (p : Path) → Among p (depe
 
   pub same_record : (stamps : Stamps) → record_of s r w stamps ≡ record_of s r v stamps
   same_record stamps =
-      ap (λ l. record { work = r.work; signed = r.signed; targets = r.targets; dependencies = l })
+      ap (λ l. record { work = r.work; hash = s.hash; signed = r.signed; targets = r.targets; dependencies = l })
       (ap (map (dependency_of s r w stamps)) same_dependencies
       ∙ same_map (dependency_of s r w stamps) (dependency_of s r v stamps) (dependencies s v r)
       (λ p m. ap (λ x. record { name = p; digest = known_digest s x; stamp = stamp_kept r.decider (stamps p) }) (sym (h p m))))

@@ -26,7 +26,7 @@ unstamped_dependency s r view stamps p by =
 unstamped : (s : Setting) (r : Rule) (view : View) (stamps : Stamps) → r.decider ≡ content →
     record_of s r view stamps ≡ record_of s r view no_stamps
 unstamped s r view stamps by =
-    ap (λ l. record { work = r.work; signed = r.signed; targets = r.targets; dependencies = l })
+    ap (λ l. record { work = r.work; hash = s.hash; signed = r.signed; targets = r.targets; dependencies = l })
     (same_map (dependency_of s r view stamps) (dependency_of s r view no_stamps) (dependencies s view r)
     (λ p m. unstamped_dependency s r view stamps p by))
 
@@ -138,6 +138,7 @@ module _ (g : Graph) (t u : Tree) (sources : (p : Path) → rule_at g t p ≡ No
         includes = g.includes;
         act = g.act;
         digest = g.digest;
+        hash = g.hash;
         is_due = g.is_due;
         limit = g.limit;
       }) same_rule_at

@@ -68,7 +68,7 @@ module _ (s : Setting) (b : Build) (lawful : IsLawful s) (t u : Tree) (stamps la
 
       stamped : record_of s r (in_tree t) later ≡ record_of s r (in_tree t) stamps
       stamped =
-          ap (λ l. record { work = r.work; signed = r.signed; targets = r.targets; dependencies = l })
+          ap (λ l. record { work = r.work; hash = s.hash; signed = r.signed; targets = r.targets; dependencies = l })
           (same_map (dependency_of s r (in_tree t) later) (dependency_of s r (in_tree t) stamps) (dependencies s (in_tree t) r)
           (λ p m. ap (λ x. record { name = p; digest = known_digest s (Some (t p)); stamp = stamp_kept r.decider x }) (sym (same p m).1)))
 

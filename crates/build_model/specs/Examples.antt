@@ -63,7 +63,8 @@ graph = record {
   source_of = λ p. None;
   includes = λ r p bytes. if bytes_eq p source then header ∷ [] else [];
   act = λ work signed targets given p. joined given;
-  digest = λ bytes. bytes;
+  digest = λ hash bytes. bytes;
+  hash = 0;
   is_due = λ r t stamps m now. first_missing t r.targets;
   limit = 10;
 }
