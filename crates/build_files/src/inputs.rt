@@ -30,24 +30,28 @@ pub struct Inputs {
     pub(crate) found: Found,
     /// The rules whose files were looked at for copy rules, by their numbers.
     pub(crate) looked_at: Vec<bool>,
+    /// How many rules were declared. Those behind them copy files into variant directories.
+    pub(crate) declared: u32,
     /// What digests are made by.
     pub(crate) hash: Hash,
     pub(crate) alloc: Global,
 }
 
 impl Inputs {
-    pub fn new(alloc: Global, hash: Hash) -> Inputs {
-        Inputs::past(alloc, hash, IndexSet::new(alloc))
+    /// The files of a build over a graph in which all rules are declared ones.
+    pub fn new(alloc: Global, hash: Hash, graph: &Graph) -> Inputs {
+        Inputs::past(alloc, hash, graph, IndexSet::new(alloc))
     }
 
     /// The files of a build that looks past these.
-    pub fn past(alloc: Global, hash: Hash, gone: IndexSet<PathText>) -> Inputs {
+    pub fn past(alloc: Global, hash: Hash, graph: &Graph, gone: IndexSet<PathText>) -> Inputs {
         Inputs {
             seen: Vec::new(alloc),
             unknown: IndexSet::new(alloc),
             gone,
             found: Found::new(alloc),
             looked_at: Vec::new(alloc),
+            declared: graph.rules(),
             hash,
             alloc,
         }

@@ -38,7 +38,7 @@ pub fn dry_list<W: World>(
     ensures cause { HasListCause (W.meaning.counts world.old) (W.meaning.counts world.new) result }
 {
     let gone = paths_gone(alloc, graph, view, world)?;
-    let mut inputs = Inputs::past(alloc, hash, gone);
+    let mut inputs = Inputs::past(alloc, hash, graph, gone);
     inputs.add_copies(world, graph, requested)?;
     let plan = Plan::new(alloc, graph, requested)?;
     let (plan, rules) = go_over(alloc, graph, inputs, plan, view, world)?;
