@@ -1,11 +1,11 @@
 -- What is replaced up to the first place of a key, and where there is none.
-use Rattle.std.proofs.Common.{◌≡◌, ℕ, zero, suc, ◌<◌, ◌≤◌, ◌+◌, ◌-◌, ◌^◌, Bool, true, false, List, [], ◌∷◌, ◌++◌, length, take, drop, get_or, min, Option, Some, None, refl, sym, ap, subst, ◌∙◌, append_assoc, arith}
+use Rattle.std.proofs.Common.{◌≡◌, ℕ, zero, suc, ◌+◌, ◌-◌, Bool, true, false, List, [], ◌∷◌, ◌++◌, length, take, drop, get_or, refl, sym, ap, subst, ◌∙◌, append_assoc, arith}
 use Rattle.std.specs.Prelude.{◌≢◌}
 use Rattle.std.specs.Str.{bytes_eq}
 use Rattle.std.proofs.lemmas.Slice.Eq.{bytes_eq-Decides}
 use Rattle.std.proofs.lemmas.Grind.{same_number_lists}
 use Rattle.std.proofs.lemmas.List.{length-append, length-take, length-drop, get_or-take, take_all}
-use Rattle.memchr.specs.Find.{OccursAt, Nowhere, NoneBefore}
+use Rattle.memchr.specs.Find.{OccursAt, Nowhere}
 use Rattle.world_api.specs.Replacing.{replaced_behind, replaced}
 
 -- ---- the key in front

@@ -1,5 +1,5 @@
 -- Why a text isn't made.
-use Rattle.std.specs.Prelude.{◌≡◌, ◌<◌, ◌-◌, ◌^◌, ℕ, min, List, [], ◌∷◌, length, Option, Some, None, nat_lt, true, false, Result, Ok, Err, if◌then◌else◌}
+use Rattle.std.specs.Prelude.{◌≡◌, ◌-◌, ◌^◌, ℕ, min, List, [], ◌∷◌, length, Option, Some, None, nat_lt, true, false, Result, Ok, Err, if◌then◌else◌}
 use Rattle.text_files.specs.declared.refusal.TextRefusal.{TextRefusal}
 use Rattle.text_files.specs.declared.refusal.TextRefusal.TheVariants as refusal
 use Rattle.world_api.specs.Replacing.{Pair, replaced}

@@ -1,4 +1,4 @@
-use Rattle.std.proofs.Common.{◌≡◌, ◌+◌, ◌++◌, List, ℕ, length, drop, sym, ap, ◌∙◌}
+use Rattle.std.proofs.Common.{◌+◌, ◌++◌, List, ℕ, length, drop, sym, ap, ◌∙◌}
 use Rattle.world_api.specs.Replacing.{replaced}
 use Rattle.text_files.proofs.ReplaceLemmas.{goes_on, tail, unchanged}
 use Rattle.text_files.proofs.replacing.push_replaced.Goals as goal

@@ -1,4 +1,4 @@
-use Rattle.std.proofs.Common.{◌≡◌, ℕ, ◌<◌, List, length, sym, subst, ◌∙◌}
+use Rattle.std.proofs.Common.{ℕ, ◌<◌, List, length, sym, subst, ◌∙◌}
 use Rattle.std.specs.Prelude.{◌≢◌, slice_index_or}
 use Rattle.world_api.specs.Replacing.{Pair}
 use Rattle.text_files.proofs.PairLemmas.{keyed}
