@@ -1,5 +1,5 @@
 //! The laws: each is the contract of a function that does nothing.
-ghost use Rattle.build_model.specs.Laws.{EachStepIsClean, HoldsForAnyDecider, EachOnlyOnce, SettledBeforeStart, NoneOverCycle, AtMostJobs, CoursesAreBuilds};
+ghost use Rattle.build_model.specs.Laws.{EachStepIsClean, HoldsForAnyDecider, EachOnlyOnce, SettledBeforeStart, NoneOverCycle, AtMostJobs, CoursesAreBuilds, GivenStays};
 ghost use Rattle.build_model.specs.Headline.{GraphsAreLawful, HighEnough, IncrementalIsClean, AgainLittle};
 ghost use Rattle.build_model.specs.Resting.{NothingAfterFault, RestsRightly, KeepsGoing};
 ghost use Rattle.build_model.specs.OneJob.{AtOneJob};
@@ -53,6 +53,11 @@ pub fn busy_at_each_ending()
 /// What was seen at each moment is what stands at the end.
 pub fn courses_are_builds()
     ensures { CoursesAreBuilds }
+{}
+
+/// What the action of a job was given stands there at every later moment, whatever became of the job.
+pub fn given_stays()
+    ensures { GivenStays }
 {}
 
 /// Each rule of a graph has its place, a copy rule too.
