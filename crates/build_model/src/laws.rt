@@ -1,5 +1,6 @@
 //! The laws: each is the contract of a function that does nothing.
 ghost use Rattle.build_model.specs.Laws.{EachStepIsClean, HoldsForAnyDecider, EachOnlyOnce, SettledBeforeStart, NoneOverCycle, AtMostJobs, CoursesAreBuilds, GivenStays};
+ghost use Rattle.build_model.specs.Reach.{ScannedDecide};
 ghost use Rattle.build_model.specs.Headline.{GraphsAreLawful, HighEnough, IncrementalIsClean, AgainLittle};
 ghost use Rattle.build_model.specs.Resting.{NothingAfterFault, RestsRightly, KeepsGoing};
 ghost use Rattle.build_model.specs.OneJob.{AtOneJob};
@@ -58,6 +59,11 @@ pub fn courses_are_builds()
 /// What the action of a job was given stands there at every later moment, whatever became of the job.
 pub fn given_stays()
     ensures { GivenStays }
+{}
+
+/// What agrees on the scanned files of a rule gives it the same dependencies.
+pub fn scanned_decide()
+    ensures { ScannedDecide }
 {}
 
 /// Each rule of a graph has its place, a copy rule too.
