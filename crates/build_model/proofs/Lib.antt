@@ -20,3 +20,4 @@ pub mod Waiting
 pub mod Leaving
 pub mod Histories
 pub mod Ending
+pub mod Scanning

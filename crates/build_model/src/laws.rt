@@ -2,7 +2,7 @@
 ghost use Rattle.build_model.specs.Laws.{EachStepIsClean, HoldsForAnyDecider, EachOnlyOnce, SettledBeforeStart, NoneOverCycle, AtMostJobs, CoursesAreBuilds, GivenStays};
 ghost use Rattle.build_model.specs.Reach.{ScannedDecide};
 ghost use Rattle.build_model.specs.Headline.{GraphsAreLawful, HighEnough, IncrementalIsClean, AgainLittle};
-ghost use Rattle.build_model.specs.Resting.{NothingAfterFault, RestsRightly, KeepsGoing};
+ghost use Rattle.build_model.specs.Resting.{NothingAfterFault, AllIsFound, RestsRightly, KeepsGoing, FoundIsTakenOut};
 ghost use Rattle.build_model.specs.OneJob.{AtOneJob};
 ghost use Rattle.build_model.specs.Waiting.{BusyAtEachEnding};
 ghost use Rattle.build_model.specs.Leaving.{StaysSound, IsAgainAfter};
@@ -106,6 +106,11 @@ pub fn nothing_after_fault()
     ensures { NothingAfterFault }
 {}
 
+/// After any steps there is what is found when all is scanned that can be.
+pub fn all_is_found()
+    ensures { AllIsFound }
+{}
+
 /// Where nothing is left to do, each needed rule is settled, faulty, skipped or held.
 pub fn rests_rightly()
     ensures { RestsRightly }
@@ -115,6 +120,11 @@ pub fn rests_rightly()
 /// needed and stale was started, or is faulty, skipped or held.
 pub fn keeps_going()
     ensures { KeepsGoing }
+{}
+
+/// What was found at rest are the clean contents with the targets of hindered rules taken out.
+pub fn found_is_taken_out()
+    ensures { FoundIsTakenOut }
 {}
 
 /// What the headline asks is met: by a build of a source with a generated header from nothing, and by the next one.
