@@ -14,7 +14,9 @@ pub mod Resting
 mod Examples
 pub mod GoingOn
 pub mod Ordering
+pub mod Alike
 pub mod OneJob
+pub mod Stopped
 pub mod TakenOut
 pub mod Waiting
 pub mod Leaving

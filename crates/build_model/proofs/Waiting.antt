@@ -11,14 +11,10 @@ use Rattle.build_model.specs.OneJob.{IsPassed, is_settled, is_running, is_faulty
 use Rattle.build_model.specs.Waiting.{IsIdle, WaitsRightly, IsStaleIn, IsPending, NeedsPending, IsAwaited, IsTakenOutThen, AllWait, IsBusy, all_run, all_wait}
 use Rattle.build_model.proofs.Lists.{none_some, some_same, among_right, among_same}
 use Rattle.build_model.proofs.Ready.{Within, needs_more, needed_more, Agrees, agrees_less, tree_agrees, needs_among}
-use Rattle.build_model.proofs.Runs.{settled_done, settled_after, began_later, run_before, begun_prepared, needed_settled, through_settled, fresh_or_began}
+use Rattle.build_model.proofs.Runs.{settled_done, settled_after, began_after, run_before, begun_prepared, needed_settled, through_settled, fresh_or_began}
 use Rattle.build_model.proofs.Clean.{each_step_is_clean, settled_agrees, missing_stuck}
 use Rattle.build_model.proofs.Resting.{faulty_unsettled}
 use Rattle.build_model.proofs.TakenOut.{needed_too, found_taken_out}
-
-pub began_after : (later past : List Step) → Within (began past) (began (later ++ past))
-began_after [] past r m = m
-began_after (step ∷ later) past r m = began_later step (later ++ past) r (began_after later past r m)
 
 module _ (s : Setting) (b : Build) (top : ℕ) (later past : List Step) (build : IsBuild s b (later ++ past)) (by : IsByContent s b top)
     (low : height (settled (later ++ past)) < top) (succeeds : Succeeds s b (later ++ past)) (idle : IsIdle s b past) where

@@ -3,7 +3,7 @@ ghost use Rattle.build_model.specs.Laws.{EachStepIsClean, HoldsForAnyDecider, Ea
 ghost use Rattle.build_model.specs.Reach.{ScannedDecide};
 ghost use Rattle.build_model.specs.Headline.{GraphsAreLawful, HighEnough, IncrementalIsClean, AgainLittle};
 ghost use Rattle.build_model.specs.Resting.{NothingAfterFault, AllIsFound, RestsRightly, KeepsGoing, FoundIsTakenOut};
-ghost use Rattle.build_model.specs.OneJob.{AtOneJob};
+ghost use Rattle.build_model.specs.OneJob.{AtOneJob, FrontBegins};
 ghost use Rattle.build_model.specs.Waiting.{BusyAtEachEnding};
 ghost use Rattle.build_model.specs.Leaving.{StaysSound, IsAgainAfter};
 ghost use Rattle.build_model.specs.Histories.{HistoriesEndClean};
@@ -43,6 +43,12 @@ pub fn at_most_jobs()
 /// At one job a build that ended well followed the build order.
 pub fn at_one_job()
     ensures { AtOneJob }
+{}
+
+/// At one job and without going on after faults, at any status: what began is a front of what is due in the build order, all of
+/// it that stands before a rule at fault.
+pub fn front_begins()
+    ensures { FrontBegins }
 {}
 
 /// Before each ending of a build that ended well as many actions run as may, or whatever is stale and could be started waits
