@@ -4,7 +4,7 @@ use Rattle.build_model.specs.Rules.{Path, Content, Rule, Setting, Among, here, t
 use Rattle.build_model.specs.Reach.{scan_list}
 use Rattle.build_model.specs.Needs.{Found, NeedsThrough, Needed, needs_in_order, IsBuildOrder}
 use Rattle.build_model.specs.Contents.{Known, View, found_in, includes_of}
-use Rattle.build_model.specs.Steps.{Step, Fresh, Began, Ended, Lacks, Halts, Build, settled, began, done, running, is_over, IsReady, is_source, is_made, IsMissing, IsRunning, IsRun, present_record}
+use Rattle.build_model.specs.Steps.{Step, Fresh, Began, Ended, Lacks, Halts, Build, settled, began, done, is_over, IsReady, is_source, is_made, IsMissing, IsRunning, IsRun, present_record}
 use Rattle.build_model.specs.Resting.{IsFaulty, has_failed, lacks_one, IsFoundWhole}
 use Rattle.build_model.specs.OneJob.{IsPassed, is_settled, is_running, is_faulty, waits, SeesReady, StandsBehind, StandsBefore, IsTakenInOrder, TakesInOrder, SeesMissing, IsPast, BeginsFront}
 use Rattle.build_model.proofs.Lists.{true_false, among_right}

@@ -10,7 +10,7 @@ use Rattle.build_model.specs.Resting.{IsFaulty, has_failed, lacks_one}
 use Rattle.build_model.specs.OneJob.{IsPassed, is_settled, is_running, is_faulty, waits}
 use Rattle.build_model.specs.Waiting.{IsIdle, WaitsRightly, IsStaleIn, IsPending, NeedsPending, IsAwaited, IsTakenOutThen, AllWait, IsBusy, all_run, all_wait}
 use Rattle.build_model.proofs.Lists.{none_some, some_same, among_right, among_same}
-use Rattle.build_model.proofs.Ready.{Within, needs_more, needed_more, Agrees, agrees_less, tree_agrees, needs_among}
+use Rattle.build_model.proofs.Ready.{needs_more, needed_more, Agrees, agrees_less, tree_agrees, needs_among}
 use Rattle.build_model.proofs.Runs.{settled_done, settled_after, began_after, run_before, begun_prepared, needed_settled, through_settled, fresh_or_began}
 use Rattle.build_model.proofs.Clean.{each_step_is_clean, settled_agrees, missing_stuck}
 use Rattle.build_model.proofs.Resting.{faulty_unsettled}

@@ -1,7 +1,7 @@
 //! The laws: each is the contract of a function that does nothing.
 ghost use Rattle.build_model.specs.Laws.{EachStepIsClean, HoldsForAnyDecider, EachOnlyOnce, SettledBeforeStart, NoneOverCycle, AtMostJobs, CoursesAreBuilds, GivenStays};
 ghost use Rattle.build_model.specs.Reach.{ScannedDecide};
-ghost use Rattle.build_model.specs.Headline.{GraphsAreLawful, HighEnough, IncrementalIsClean, AgainLittle};
+ghost use Rattle.build_model.specs.Headline.{GraphsAreLawful, HighEnough, IncrementalIsClean, StaleFrontBegins, AgainLittle};
 ghost use Rattle.build_model.specs.Resting.{NothingAfterFault, AllIsFound, RestsRightly, KeepsGoing, FoundIsTakenOut};
 ghost use Rattle.build_model.specs.OneJob.{AtOneJob, FrontBegins};
 ghost use Rattle.build_model.specs.Waiting.{BusyAtEachEnding};
@@ -85,6 +85,12 @@ pub fn high_enough()
 /// A build that ended well leaves what a build from sources alone makes, and started exactly what was stale, each once.
 pub fn incremental_is_clean()
     ensures { IncrementalIsClean }
+{}
+
+/// A build by content at one job that doesn't go on after faults began, at any status, a front of the stale rules in the build
+/// order, and all of them that stand before a rule at fault.
+pub fn stale_front_begins()
+    ensures { StaleFrontBegins }
 {}
 
 /// The same build again starts only what is always carried out, and what doesn't make all its targets.
