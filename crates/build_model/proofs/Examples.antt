@@ -6,10 +6,10 @@ use Rattle.build_model.specs.Reach.{has, left_out, scan_list, scans_source, scan
 use Rattle.build_model.specs.Needs.{Found, Needs, as_dependency, NeedsThrough, directly, through, Needed, is_requested, is_needed, needs_in_order, Visits, nothing_left, met_first, IsBuildOrder}
 use Rattle.build_model.specs.Contents.{in_tree, found_in, includes_of, scanned_files, dependencies, IsLawful}
 use Rattle.build_model.specs.Records.{IsMet, IsMadeBy}
-use Rattle.build_model.specs.Stale.{IsDue, IsUpToDate, IsKept}
+use Rattle.build_model.specs.Stale.{IsDue, IsStale, IsUpToDate, IsKept}
 use Rattle.build_model.specs.Steps.{Step, Began, Ended, Build, began, IsReady, is_source, is_made, IsFound, IsPrepared, IsDecided, IsRun, present_record}
 use Rattle.build_model.specs.Moments.{MayWrite, IsCourse}
-use Rattle.build_model.specs.Graphs.{IsGraph, declared_rule, or_copy, setting, rule_at, clean_build}
+use Rattle.build_model.specs.Graphs.{Graph, IsGraph, declared_rule, or_copy, copy_at, setting, rule_at, clean_build}
 use Rattle.build_model.specs.Laws.{TestsDue}
 use Rattle.build_model.specs.Resting.{has_failed, whole_found, IsLeft, IsAtRest}
 use Rattle.build_model.specs.OneJob.{IsPassed, IsTakenFirst, IsTakenInOrder}
@@ -17,7 +17,7 @@ use Rattle.build_model.specs.Waiting.{IsIdle}
 use Rattle.build_model.specs.Headline.{BuildsByContent, clean_record, IsAgain}
 use Rattle.build_model.specs.Leaving.{IsRecordAfter, is_put, is_kept, IsUntouched}
 use Rattle.build_model.specs.Histories.{no_records, IsHistory, begins, built}
-use Rattle.build_model.specs.Examples.{notes, header, source, object, header_rule, object_rule, graph, sources_alone, all_made, first_build, first_steps, second_build, second_steps, header_job, object_job, records_kept, wide_build, stopped_build, failing_build, failing_steps, both_rules, one_way, other_way, loop_graph, MeetsOrder, AreMet}
+use Rattle.build_model.specs.Examples.{notes, header, source, object, header_rule, object_rule, graph, sources_alone, all_made, first_build, first_steps, second_build, second_steps, header_job, object_job, records_kept, wide_build, stopped_build, failing_build, failing_steps, both_rules, one_way, other_way, loop_graph, always_rule, always_graph, header_made, always_build, always_again, MeetsOrder, AreMet}
 use Rattle.build_model.proofs.Lists.{none_some, some_same, true_false, not_has, among_same}
 use Rattle.build_model.proofs.Ready.{needed_place}
 use Rattle.build_model.proofs.Made.{fresh_not_stale, due_stale}
@@ -36,13 +36,18 @@ one : {A : Type 0} (P : A → Type 0) {x y : A} → P x → Among y (x ∷ []) �
 one P p here = p
 one P p (there m) = elim m [ ]
 
-or_none : (t : Tree) (p : Path) {r : Rule} (o : Option Rule) → or_copy graph t p o ≡ Some r → o ≡ Some r
-or_none t p None e = none_some e
-or_none t p (Some x) e = e
+-- in a graph without variant directories what is needed is declared
+module _ (g : Graph) (plain : (p : Path) → g.source_of p ≡ None) (t : Tree) where
+  or_none : (p : Path) {r : Rule} (o : Option Rule) → or_copy g t p o ≡ Some r → o ≡ Some r
+  or_none p None e = none_some (sym (ap (copy_at g t p) (plain p)) ∙ e)
+  or_none p (Some x) e = e
+
+  needed_declared : {found : Found} {requested : List Path} {r : Rule} → Needed (rule_at g t) found requested r → Among r g.rules
+  needed_declared needed =
+      let place = needed_place needed in (declared_there {p = place.0} g.rules (or_none place.0 (declared_rule g.rules place.0) place.1)).0
 
 needed_among : (t : Tree) {found : Found} {requested : List Path} {r : Rule} → Needed (rule_at graph t) found requested r → Among r graph.rules
-needed_among t needed =
-    let place = needed_place needed in (declared_there {p = place.0} graph.rules (or_none t place.0 (declared_rule graph.rules place.0) place.1)).0
+needed_among t needed = needed_declared graph (λ p. refl) t needed
 
 is_graph : IsGraph graph
 is_graph = record {
@@ -544,14 +549,8 @@ loop_two P h o r here = h
 loop_two P h o r (there here) = o
 loop_two P h o r (there (there m)) = elim m [ ]
 
-loop_or_none : (p : Path) {r : Rule} (o : Option Rule) → or_copy loop_graph sources_alone p o ≡ Some r → o ≡ Some r
-loop_or_none p None e = none_some e
-loop_or_none p (Some x) e = e
-
 loop_among : {f : Found} {requested : List Path} {r : Rule} → Needed (rule_at loop_graph sources_alone) f requested r → Among r loop_graph.rules
-loop_among needed =
-    let place = needed_place needed in
-    (declared_there {p = place.0} loop_graph.rules (loop_or_none place.0 (declared_rule loop_graph.rules place.0) place.1)).0
+loop_among needed = needed_declared loop_graph (λ p. refl) sources_alone needed
 
 loop_is_graph : IsGraph loop_graph
 loop_is_graph = record {
@@ -632,11 +631,8 @@ first_again = record {
       (λ q k. one (λ y. records_kept y ≡ Some (clean_record graph first_build object_rule)) refl k) r (needed_among sources_alone needed) p n;
 }
 
--- the tree between the two actions
-abbrev half_made : Tree
-half_made p = if bytes_eq p header then Some (1 ∷ []) else sources_alone p
-
-half_met : (p : Path) → Among p (source ∷ header ∷ []) → IsMet first_build.met (half_made p)
+-- between the two actions
+half_met : (p : Path) → Among p (source ∷ header ∷ []) → IsMet first_build.met (header_made p)
 half_met p here = there here
 half_met p (there here) = here
 half_met p (there (there n)) = elim n [ ]
@@ -665,10 +661,10 @@ object_changes p false true e out =
     }))
 object_changes p false false e out = refl
 
-header_course : IsCourse plain_set first_build (header_job ∷ []) half_made (λ p. None) header_steps
+header_course : IsCourse plain_set first_build (header_job ∷ []) header_made (λ p. None) header_steps
 header_course =
-    IsCourse.makes header_job here (record { began = here; not_done = λ n. elim n [ ] }) (λ p n. one (λ q. half_made q ≡ Some (1 ∷ [])) refl n)
-    (IsCourse.changes half_made (λ p. None)
+    IsCourse.makes header_job here (record { began = here; not_done = λ n. elim n [ ] }) (λ p n. one (λ q. header_made q ≡ Some (1 ∷ [])) refl n)
+    (IsCourse.changes header_made (λ p. None)
     (record { contents = λ p out. header_changes p (bytes_eq p header) refl out; times = λ p out. refl })
     (IsCourse.starts header_rule (header_decided sources_alone no_records 1 false sources_alone refl refl)
     (record { due = refl; each_met = notes_met sources_alone refl; room = one_may }) IsCourse.begins))
@@ -683,15 +679,32 @@ first_course =
       goes_on = refl;
       not_began = not_header;
       not_done = not_header;
-      prepared = object_prepared sources_alone no_records 1 half_made refl refl (omega arith) refl;
+      prepared = object_prepared sources_alone no_records 1 header_made refl refl (omega arith) refl;
     })
     (record { due = refl; each_met = half_met; room = one_may }) header_course))
+
+-- the rule that is always carried out
+always_is_again : IsAgain always_graph always_build always_again
+always_is_again = record {
+  tree = refl;
+  requested = refl;
+  records = λ r needed p n. one (λ x. Some (clean_record always_graph always_build always_rule) ≡ Some (clean_record always_graph always_build x))
+      refl (needed_declared always_graph (λ q. refl) sources_alone needed);
+}
+
+always_same : (p : Path) (h : Bool) → bytes_eq p header ≡ h → rule_at always_graph sources_alone p ≡ None →
+    sources_alone p ≡ (if h then Some (1 ∷ []) else sources_alone p)
+always_same p true e none = none_some (sym none ∙ ap (λ q. rule_at always_graph sources_alone q) ((bytes_eq-Decides p header).0 e))
+always_same p false e none = refl
 
 pub are_met : AreMet
 are_met = record {
   first = record { builds = first_builds; succeeds = both_settled sources_alone no_records 1 false all_made refl refl };
   second = record { builds = second_builds; succeeds = both_settled all_made records_kept 1 false all_made refl refl };
   again = first_again;
+  always = always_is_again;
+  always_sources = λ p none. always_same p (bytes_eq p header) refl none;
+  always_stale = (is_requested header here refl, IsStale.is_always refl);
   course = first_course;
   untouched = first_untouched;
   records = first_left;

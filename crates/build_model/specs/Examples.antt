@@ -1,5 +1,5 @@
 -- Builds that meet what laws ask: a source that includes a generated header, built from nothing, and then again; the same at
--- two jobs, and where the header's action fails; and two rules that need each other.
+-- two jobs, and where the header's action fails; two rules that need each other; and one that is always carried out.
 use Rattle.std.specs.Prelude.{◌≡◌, ◌++◌, Bool, true, false, List, [], ◌∷◌, Some, None, if◌then◌else◌, is_none}
 use Rattle.std.specs.Str.{bytes_eq}
 use Rattle.build_model.specs.Rules.{Path, Content, Tree, content, Rule, Records}
@@ -12,7 +12,7 @@ use Rattle.build_model.specs.Laws.{NeededIn, NeedsIn, TestsDue}
 use Rattle.build_model.specs.Resting.{IsAtRest, whole_found}
 use Rattle.build_model.specs.OneJob.{TakesFirst, TakesInOrder, SeesReady, SeesMissing}
 use Rattle.build_model.specs.Waiting.{WaitsRightly}
-use Rattle.build_model.specs.Headline.{clean_record, BuildsByContent, IsAgain}
+use Rattle.build_model.specs.Headline.{clean_record, IsNeeded, IsStaleBefore, BuildsByContent, IsAgain}
 use Rattle.build_model.specs.Leaving.{IsRecordAfter, IsUntouched}
 use Rattle.build_model.specs.Histories.{IsHistory}
 
@@ -149,6 +149,22 @@ other_way = making object header []
 abbrev pub loop_graph : Graph
 loop_graph = record graph { rules = one_way ∷ other_way ∷ [] }
 
+-- the header alone, by a rule that is always carried out; built once, and then again
+abbrev pub always_rule : Rule
+always_rule = record header_rule { always = true }
+
+abbrev pub always_graph : Graph
+always_graph = record graph { rules = always_rule ∷ [] }
+
+abbrev pub header_made : Tree
+header_made p = if bytes_eq p header then Some (1 ∷ []) else sources_alone p
+
+abbrev pub always_build : Build
+always_build = record first_build { requested = header ∷ []; after = header_made }
+
+abbrev pub always_again : Build
+always_again = record always_build { before = header_made; records = λ p. Some (clean_record always_graph always_build always_rule) }
+
 -- a build meets what the headline asks
 pub record MeetsPremises (b : Build) (steps : List Step) : Type 0 where
   pub builds : BuildsByContent graph b steps
@@ -174,6 +190,10 @@ pub record AreMet : Type 0 where
   pub first : MeetsPremises first_build first_steps
   pub second : MeetsPremises second_build second_steps
   pub again : IsAgain graph first_build second_build
+  -- a rule that the next build starts, with no edit between
+  pub always : IsAgain always_graph always_build always_again
+  pub always_sources : (p : Path) → rule_at always_graph sources_alone p ≡ None → sources_alone p ≡ header_made p
+  pub always_stale : IsNeeded always_graph always_again always_rule × IsStaleBefore always_graph always_again always_rule
   -- the first build as a program sees it
   pub course : IsCourse (setting graph sources_alone) first_build (object_job ∷ header_job ∷ []) all_made (λ p. None) first_steps
   -- what the first build leaves of files and records, and so a history that the second one may go on from

@@ -139,7 +139,8 @@ pub fn found_is_taken_out()
     ensures { FoundIsTakenOut }
 {}
 
-/// What the headline asks is met: by a build of a source with a generated header from nothing, and by the next one.
+/// What the laws ask is met: by builds of a source with a generated header, once and again, at one job and at two, to their end
+/// and up to a fault; over a cycle; and by a rule that is always carried out.
 pub fn premises_are_met()
     ensures { AreMet }
 {}
