@@ -11,6 +11,10 @@ pub mod Placed
 pub mod Headline
 pub mod Staying
 pub mod Resting
+mod Samples
+mod SampleOrders
+mod SampleLoops
+mod SampleCourses
 mod Examples
 pub mod GoingOn
 pub mod Ordering
