@@ -1,0 +1,5 @@
+pub mod Lists
+pub mod Testing
+pub mod Readings
+pub mod Logging
+pub mod Succeeding

@@ -1,0 +1,190 @@
+-- What stands in the log of the steps of a build, and where.
+use Rattle.std.proofs.Common.{◌≡◌, ℕ, Bool, true, false, List, [], ◌∷◌, ◌++◌, refl, sym, subst, ap, ◌∙◌, inl, inr, ◌⊎◌}
+use Rattle.world_api.specs.Around.{Entry, Started, Finished}
+use Rattle.world_api.specs.Counts.{Counts}
+use Rattle.world_api.specs.declared.job.Job.{Job}
+use Rattle.world_api.specs.declared.job.Outcome.{Outcome}
+use Rattle.world_api.specs.declared.job.Outcome.TheVariants.{Done, Failed, Broken, NoMemory}
+use Rattle.build_model.specs.Rules.{Rule, Path, Among, here, there}
+use Rattle.build_model.specs.Steps.{Step, Fresh, Began, Ended, Lacks, Halts, began, settled}
+use Rattle.build_means.specs.Logs.{is_done, IsNewId, HasStarted, AreEntries, nothing, is_fresh, has_begun, was_refused, has_ended, lacks_one, has_halted, HasBegun, BeganAt, EndedWell}
+use Rattle.build_means.proofs.Lists.{true_false}
+
+among_left : {A : Type 0} {x : A} {xs : List A} (ys : List A) → Among x xs → Among x (xs ++ ys)
+among_left ys here = here
+among_left ys (there h) = there (among_left ys h)
+
+pub among_right : {A : Type 0} {x : A} (xs : List A) {ys : List A} → Among x ys → Among x (xs ++ ys)
+among_right [] h = h
+among_right (y ∷ xs) h = there (among_right xs h)
+
+over_there : {A : Type 0} {x y : A} {xs ys : List A} → Among x xs ⊎ Among x ys → Among x (y ∷ xs) ⊎ Among x ys
+over_there (inl h) = inl (there h)
+over_there (inr h) = inr h
+
+among_either : {A : Type 0} {x : A} (xs : List A) {ys : List A} → Among x (xs ++ ys) → Among x xs ⊎ Among x ys
+among_either [] h = inr h
+among_either (y ∷ xs) here = inl here
+among_either (y ∷ xs) (there h) = over_there (among_either xs h)
+
+nil_cons : {A B : Type 0} {x : A} {xs : List A} → [] ≡ x ∷ xs → B
+nil_cons e = cc e
+
+head_or : {A : Type 0} → A → List A → A
+head_or x [] = x
+head_or x (y ∷ ys) = y
+
+tail_of : {A : Type 0} → List A → List A
+tail_of [] = []
+tail_of (x ∷ xs) = xs
+
+same_head : {A : Type 0} {x y : A} {xs ys : List A} → x ∷ xs ≡ y ∷ ys → x ≡ y
+unfolding head_or
+same_head {A} {x} e = ap (head_or x) e
+
+same_tail : {A : Type 0} {x y : A} {xs ys : List A} → x ∷ xs ≡ y ∷ ys → xs ≡ ys
+unfolding tail_of
+same_tail e = ap tail_of e
+
+-- a list with a last item, cut at an item: that is the last one, or stands before it
+cut_last : {A : Type 0} (xs front : List A) (x y : A) (back : List A) → xs ++ x ∷ [] ≡ front ++ y ∷ back →
+    ((xs ≡ front) × (x ≡ y)) ⊎ ((mid : List A) × (xs ≡ front ++ y ∷ mid))
+cut_last [] [] x y back e = inl (refl, same_head e)
+cut_last [] (z ∷ []) x y back e = nil_cons (same_tail e)
+cut_last [] (z ∷ u ∷ front) x y back e = nil_cons (same_tail e)
+cut_last (v ∷ xs) [] x y back e = inr (xs, ap (λ a. a ∷ xs) (same_head e))
+cut_last (v ∷ xs) (z ∷ front) x y back e = further (cut_last xs front x y back (same_tail e))
+  where
+    further : ((xs ≡ front) × (x ≡ y)) ⊎ ((mid : List A) × (xs ≡ front ++ y ∷ mid)) →
+        ((v ∷ xs ≡ z ∷ front) × (x ≡ y)) ⊎ ((mid : List A) × (v ∷ xs ≡ z ∷ (front ++ y ∷ mid)))
+    further (inl h) = inl (ap (λ a. a ∷ xs) (same_head e) ∙ ap (λ l. z ∷ l) h.0, h.1)
+    further (inr h) = inr (h.0, ap (λ a. a ∷ xs) (same_head e) ∙ ap (λ l. z ∷ l) h.1)
+
+job_in : Job → Entry → Job
+job_in other (Started job counts) = job
+job_in other (Finished id outcome) = other
+
+counts_in : Counts → Entry → Counts
+counts_in other (Started job counts) = counts
+counts_in other (Finished id outcome) = other
+
+same_job : {j k : Job} {c d : Counts} → Started j c ≡ Started k d → j ≡ k
+unfolding job_in
+same_job {j} e = ap (job_in j) e
+
+same_counts : {j k : Job} {c d : Counts} → Started j c ≡ Started k d → c ≡ d
+unfolding counts_in
+same_counts {c = c} e = ap (counts_in c) e
+
+module _ (IsJob : Rule → Job → Type 0) (AreAt : Counts → Type 0) where
+  longer : {entries : List Entry} {r : Rule} {id : ℕ} (more : List Entry) → HasStarted IsJob entries r id → HasStarted IsJob (entries ++ more) r id
+  longer more h = record { job = h.job; counts = h.counts; of_rule = h.of_rule; started = among_left more h.started; has_id = h.has_id }
+
+  -- each start is of a rule that began
+  pub each_start : {job : Job} {counts : Counts} {steps : List Step} {entries : List Entry} → AreEntries IsJob AreAt steps entries →
+      Among (Started job counts) entries → HasBegun IsJob AreAt steps job counts
+  each_start nothing m = elim m [ ]
+  each_start (is_fresh r h) m = let k = each_start h m in record { rule = k.rule; stands = k.stands; of_rule = k.of_rule; at = k.at }
+  each_start {job} {counts} (has_begun {past} {entries} r j c of_rule at new h) m = by (among_either entries m)
+    where
+      last : Among (Started job counts) (Started j c ∷ []) → HasBegun IsJob AreAt (Began r ∷ past) job counts
+      last here = record { rule = r; stands = here; of_rule = of_rule; at = at }
+      last (there n) = elim n [ ]
+      by : Among (Started job counts) entries ⊎ Among (Started job counts) (Started j c ∷ []) → HasBegun IsJob AreAt (Began r ∷ past) job counts
+      by (inl n) = let k = each_start h n in record { rule = k.rule; stands = there k.stands; of_rule = k.of_rule; at = k.at }
+      by (inr n) = last n
+  each_start (was_refused r h) m = let k = each_start h m in record { rule = k.rule; stands = there k.stands; of_rule = k.of_rule; at = k.at }
+  each_start {job} {counts} (has_ended {past} {entries} r id outcome s h) m = by (among_either entries m)
+    where
+      last : Among (Started job counts) (Finished id outcome ∷ []) → HasBegun IsJob AreAt (Ended r (is_done outcome) ∷ past) job counts
+      last (there n) = elim n [ ]
+      by : Among (Started job counts) entries ⊎ Among (Started job counts) (Finished id outcome ∷ []) → HasBegun IsJob AreAt (Ended r (is_done outcome) ∷ past) job counts
+      by (inl n) = let k = each_start h n in record { rule = k.rule; stands = k.stands; of_rule = k.of_rule; at = k.at }
+      by (inr n) = last n
+  each_start (lacks_one r p h) m = let k = each_start h m in record { rule = k.rule; stands = k.stands; of_rule = k.of_rule; at = k.at }
+  each_start (has_halted h) m = let k = each_start h m in record { rule = k.rule; stands = k.stands; of_rule = k.of_rule; at = k.at }
+
+  -- and each rule that began and didn't end otherwise than well has started
+  pub each_began : {q : Rule} {steps : List Step} {entries : List Entry} → AreEntries IsJob AreAt steps entries → Among q (began steps) →
+      (Among (Ended q false) steps → ⊥) → (id : ℕ) × HasStarted IsJob entries q id
+  each_began nothing m well = elim m [ ]
+  each_began (is_fresh r h) m well = each_began h m (λ n. well (there n))
+  each_began (has_begun {entries = entries} r j c of_rule at new h) here well =
+      (j.id, record { job = j; counts = c; of_rule = of_rule; started = among_right entries here; has_id = refl })
+  each_began (has_begun r j c of_rule at new h) (there m) well = let k = each_began h m (λ n. well (there n)) in (k.0, longer (Started j c ∷ []) k.1)
+  each_began (was_refused r h) here well = absurd (well here)
+  each_began (was_refused r h) (there m) well = each_began h m (λ n. well (there (there n)))
+  each_began (has_ended r id outcome s h) m well = let k = each_began h m (λ n. well (there n)) in (k.0, longer (Finished id outcome ∷ []) k.1)
+  each_began (lacks_one r p h) m well = each_began h m (λ n. well (there n))
+  each_began (has_halted h) m well = each_began h m (λ n. well (there n))
+
+  began_later : {steps : List Step} {front : List Entry} {job : Job} {counts : Counts} (step : Step) →
+      BeganAt IsJob AreAt steps front job counts → BeganAt IsJob AreAt (step ∷ steps) front job counts
+  began_later step h = record {
+    rule = h.rule; later = step ∷ h.later; past = h.past; parts = ap (λ l. step ∷ l) h.parts;
+    before = h.before; of_rule = h.of_rule; at = h.at; new_id = h.new_id;
+  }
+
+  -- where a start stands in the log, there its rule began in the steps
+  pub start_at : {steps : List Step} {entries : List Entry} → AreEntries IsJob AreAt steps entries →
+      (front : List Entry) (job : Job) (counts : Counts) (back : List Entry) → entries ≡ front ++ Started job counts ∷ back →
+      BeganAt IsJob AreAt steps front job counts
+  start_at nothing [] job counts back e = nil_cons e
+  start_at nothing (x ∷ front) job counts back e = nil_cons e
+  start_at (is_fresh r h) front job counts back e = began_later (Fresh r) (start_at h front job counts back e)
+  start_at (has_begun {past} {entries} r j c of_rule at new h) front job counts back e = by (cut_last entries front (Started j c) (Started job counts) back e)
+    where
+      last : entries ≡ front → j ≡ job → c ≡ counts → BeganAt IsJob AreAt (Began r ∷ past) front job counts
+      last same is so = record {
+        rule = r; later = []; past = past; parts = refl;
+        before = subst (λ l. AreEntries IsJob AreAt past l) same h;
+        of_rule = subst (λ k. IsJob r k) is of_rule;
+        at = subst AreAt so at;
+        new_id = subst (λ l. IsNewId l job.id) same (subst (λ k. IsNewId entries k.id) is new);
+      }
+      by : ((entries ≡ front) × (Started j c ≡ Started job counts)) ⊎ ((mid : List Entry) × (entries ≡ front ++ Started job counts ∷ mid)) →
+          BeganAt IsJob AreAt (Began r ∷ past) front job counts
+      by (inl k) = last k.0 (same_job k.1) (same_counts k.1)
+      by (inr k) = began_later (Began r) (start_at h front job counts k.0 k.1)
+  start_at (was_refused r h) front job counts back e = began_later (Ended r false) (began_later (Began r) (start_at h front job counts back e))
+  start_at (has_ended {past} {entries} r id outcome s h) front job counts back e = by (cut_last entries front (Finished id outcome) (Started job counts) back e)
+    where
+      by : ((entries ≡ front) × (Finished id outcome ≡ Started job counts)) ⊎ ((mid : List Entry) × (entries ≡ front ++ Started job counts ∷ mid)) →
+          BeganAt IsJob AreAt (Ended r (is_done outcome) ∷ past) front job counts
+      by (inl k) = cc k.1
+      by (inr k) = began_later (Ended r (is_done outcome)) (start_at h front job counts k.0 k.1)
+  start_at (lacks_one r p h) front job counts back e = began_later (Lacks r p) (start_at h front job counts back e)
+  start_at (has_halted h) front job counts back e = began_later Halts (start_at h front job counts back e)
+
+  well_longer : {entries : List Entry} {q : Rule} (more : List Entry) → EndedWell IsJob entries q → EndedWell IsJob (entries ++ more) q
+  well_longer more h = record { id = h.id; started = longer more h.started; done = among_left more h.done }
+
+  further : {steps : List Step} {entries : List Entry} {q : Rule} (step : Step) (more : List Entry) → Among (Fresh q) steps ⊎ EndedWell IsJob entries q →
+      Among (Fresh q) (step ∷ steps) ⊎ EndedWell IsJob (entries ++ more) q
+  further step more (inl m) = inl (there m)
+  further step more (inr h) = inr (well_longer more h)
+
+  on : {steps : List Step} {entries : List Entry} {q : Rule} (step : Step) → Among (Fresh q) steps ⊎ EndedWell IsJob entries q →
+      Among (Fresh q) (step ∷ steps) ⊎ EndedWell IsJob entries q
+  on step (inl m) = inl (there m)
+  on step (inr h) = inr h
+
+  -- a settled rule was found up to date, or its own job ended well in the log
+  pub each_settled : {q : Rule} {steps : List Step} {entries : List Entry} → AreEntries IsJob AreAt steps entries → Among q (settled steps) →
+      Among (Fresh q) steps ⊎ EndedWell IsJob entries q
+  each_settled nothing m = elim m [ ]
+  each_settled (is_fresh r h) here = inl here
+  each_settled (is_fresh r h) (there m) = on (Fresh r) (each_settled h m)
+  each_settled (has_begun r j c of_rule at new h) m = further (Began r) (Started j c ∷ []) (each_settled h m)
+  each_settled (was_refused r h) m = on (Ended r false) (on (Began r) (each_settled h m))
+  each_settled {q} (has_ended {past} {entries} r id outcome s h) m = by outcome s m
+    where
+      by : (o : Outcome) → HasStarted IsJob entries r id → Among q (settled (Ended r (is_done o) ∷ past)) →
+          Among (Fresh q) (Ended r (is_done o) ∷ past) ⊎ EndedWell IsJob (entries ++ Finished id o ∷ []) q
+      by Done s here = inr (record { id = id; started = longer (Finished id Done ∷ []) s; done = among_right entries here })
+      by Done s (there n) = further (Ended r true) (Finished id Done ∷ []) (each_settled h n)
+      by (Failed status) s n = further (Ended r false) (Finished id (Failed status) ∷ []) (each_settled h n)
+      by Broken s n = further (Ended r false) (Finished id Broken ∷ []) (each_settled h n)
+      by NoMemory s n = further (Ended r false) (Finished id NoMemory ∷ []) (each_settled h n)
+  each_settled (lacks_one r p h) m = on (Lacks r p) (each_settled h m)
+  each_settled (has_halted h) m = on Halts (each_settled h m)

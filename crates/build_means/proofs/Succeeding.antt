@@ -1,0 +1,76 @@
+-- What follows from the steps of a build over a world.
+use Rattle.std.proofs.Common.{◌≡◌, List, ◌∷◌, ◌++◌, sym, subst, inl, inr, ◌⊎◌}
+use Rattle.world_api.specs.Around.{Around}
+use Rattle.world_api.specs.declared.job.Job.{Job}
+use Rattle.world_api.specs.Counts.{Counts}
+use Rattle.build_model.specs.Rules.{Rule, Among, there}
+use Rattle.build_model.specs.Headline.{BuildsByContent, IncrementalIsClean, HighEnough}
+use Rattle.build_model.specs.Laws.{IsBuild, TestsDue, HoldsForAnyDecider, EachStepIsClean, SettledBeforeStart}
+use Rattle.build_model.specs.Leaving.{StaysSound}
+use Rattle.build_model.specs.Resting.{RestsRightly}
+use Rattle.build_model.specs.Steps.{Step, Fresh, Began, IsRun}
+use Rattle.build_means.specs.Rules.{IsReading}
+use Rattle.build_means.specs.Builds.{Wanted, Kept, Runs, IsByContent, IsJobIn, graph_in, setting_in, build_in}
+use Rattle.build_means.specs.Laws.{SettledSucceed, RunsAreRight, RestsAreRight, RecordsStayTrue, LogsAreInOrder}
+use Rattle.build_means.specs.Logs.{AreUnrisen, EndedWell}
+use Rattle.build_means.specs.Records.{records_in}
+use Rattle.build_means.proofs.Testing.{tests_due}
+use Rattle.build_means.proofs.Readings.{is_graph}
+use Rattle.build_means.proofs.Logging.{among_right, start_at, each_settled}
+
+module _ (w : Wanted) (kept : Kept) (counts : Counts) (before after : Around) (reading : IsReading w.graph) (runs : Runs w kept counts before after) where
+  is_build : IsBuild (setting_in w before) (build_in w kept before after) runs.steps
+  is_build = runs.seen.build
+
+  is_tested : (r : Rule) → TestsDue (setting_in w before) (build_in w kept before after) r
+  is_tested r = tests_due w.graph before.law w.hash before.tree before.tree (build_in w kept before after) r
+
+  by_content : IsByContent w kept before after → BuildsByContent (graph_in w before) (build_in w kept before after) runs.steps
+  by_content by = record {
+    graph = is_graph w.graph reading before.law w.hash before.tree;
+    by = record { tests = λ r needed. is_tested r; distinct = by.distinct; sound = by.sound; decider = by.decider };
+    sources = is_build.sources;
+    run = is_build.run;
+  }
+
+pub succeeds : HoldsForAnyDecider → IncrementalIsClean → SettledSucceed
+succeeds any_decider incremental_is_clean w kept counts before after reading runs settled waits = record {
+  runs = runs;
+  waits = waits;
+  due = any_decider (setting_in w before) (build_in w kept before after) runs.steps (is_build w kept counts before after reading runs)
+    (λ r needed. is_tested w kept counts before after reading runs r) settled;
+  built = λ by. incremental_is_clean (graph_in w before) (build_in w kept before after) runs.steps
+    (by_content w kept counts before after reading runs by) settled;
+}
+
+pub are_right : EachStepIsClean → HighEnough → RunsAreRight
+are_right each_step high_enough w kept counts before after reading runs by =
+    let builds = by_content w kept counts before after reading runs by in
+    each_step (setting_in w before) (build_in w kept before after) runs.steps _ (is_build w kept counts before after reading runs) builds.by
+    (high_enough (graph_in w before) (build_in w kept before after) runs.steps builds.graph builds.run)
+
+pub rest_right : RestsRightly → RestsAreRight
+rest_right rests_rightly w kept counts before after runs rests =
+    rests_rightly (setting_in w before) (build_in w kept before after) runs.steps rests.found runs.seen.build.run rests.at_rest
+
+pub stay_true : StaysSound → RecordsStayTrue
+stay_true stays_sound w kept counts before after runs sound later keeps =
+    stays_sound (setting_in w before) (build_in w kept before after) runs.steps (records_in later) runs.seen.build runs.seen.untouched sound keeps
+
+pub in_order : SettledBeforeStart → LogsAreInOrder
+in_order settled_before_start w kept counts before after runs front job at back e =
+    let IsJob : Rule → Job → Type 0 = IsJobIn w kept before after in
+    let h = start_at IsJob (AreUnrisen w.keep counts) runs.log.are front job at back e in
+    let run = subst (IsRun (setting_in w before) (build_in w kept before after)) h.parts runs.seen.build.run in
+    record {
+      rule = h.rule;
+      job_of = h.of_rule;
+      needs = λ q needs. among_later h.later h.parts
+        (each_settled IsJob (AreUnrisen w.keep counts) h.before
+        (settled_before_start (setting_in w before) (build_in w kept before after) h.later h.past h.rule q run needs));
+    }
+  where
+    among_later : {q : Rule} {r : Rule} {steps past : List Step} (later : List Step) → steps ≡ later ++ Began r ∷ past →
+        Among (Fresh q) past ⊎ EndedWell (IsJobIn w kept before after) front q → Among (Fresh q) steps ⊎ EndedWell (IsJobIn w kept before after) front q
+    among_later later parts (inl m) = inl (subst (λ l. Among (Fresh _) l) (sym parts) (among_right later (there m)))
+    among_later later parts (inr h) = inr h

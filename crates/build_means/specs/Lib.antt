@@ -1,0 +1,9 @@
+pub mod Rules
+pub mod Copies
+pub mod Finds
+pub mod Due
+pub mod Graphs
+pub mod Records
+pub mod Logs
+pub mod Builds
+pub mod Laws
