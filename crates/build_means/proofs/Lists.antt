@@ -64,16 +64,19 @@ any_there f (x ∷ xs) e = any_by (either_map (any_there f xs) (or_either (f x) 
 
 -- and any passes where an item does
 pub there_any : {A : Type 0} (f : A → Bool) {x : A} {xs : List A} → Among x xs → f x ≡ true → list_any f xs ≡ true
+there_any f {xs = []} m e = elim m [ ]
 there_any f {xs = y ∷ ys} here e = or_first (f y) (list_any f ys) e
 there_any f {xs = y ∷ ys} (there m) e = or_second (f y) (list_any f ys) (there_any f m e)
 
 -- none passes where any doesn't
 pub none_passes : {A : Type 0} (f : A → Bool) {x : A} {xs : List A} → Among x xs → list_any f xs ≡ false → f x ≡ false
+none_passes f {xs = []} m e = elim m [ ]
 none_passes f {xs = y ∷ ys} here e = (or_neither (f y) (list_any f ys) e).0
 none_passes f {xs = y ∷ ys} (there m) e = none_passes f m (or_neither (f y) (list_any f ys) e).1
 
 -- each item passes where all do
 pub all_there : {A : Type 0} (f : A → Bool) {x : A} {xs : List A} → Among x xs → list_all f xs ≡ true → f x ≡ true
+all_there f {xs = []} m e = elim m [ ]
 all_there f {xs = y ∷ ys} here e = (and_both (f y) (list_all f ys) e).0
 all_there f {xs = y ∷ ys} (there m) e = all_there f m (and_both (f y) (list_all f ys) e).1
 

@@ -46,6 +46,11 @@ same_tail : {A : Type 0} {x y : A} {xs ys : List A} → x ∷ xs ≡ y ∷ ys �
 unfolding tail_of
 same_tail e = ap tail_of e
 
+cut_further : {A : Type 0} {v z x y : A} {xs front : List A} → v ≡ z → ((xs ≡ front) × (x ≡ y)) ⊎ ((mid : List A) × (xs ≡ front ++ y ∷ mid)) →
+    ((v ∷ xs ≡ z ∷ front) × (x ≡ y)) ⊎ ((mid : List A) × (v ∷ xs ≡ z ∷ (front ++ y ∷ mid)))
+cut_further {z = z} {xs = xs} e (inl h) = inl (ap (λ a. a ∷ xs) e ∙ ap (λ l. z ∷ l) h.0, h.1)
+cut_further {z = z} {xs = xs} e (inr h) = inr (h.0, ap (λ a. a ∷ xs) e ∙ ap (λ l. z ∷ l) h.1)
+
 -- a list with a last item, cut at an item: that is the last one, or stands before it
 cut_last : {A : Type 0} (xs front : List A) (x y : A) (back : List A) → xs ++ x ∷ [] ≡ front ++ y ∷ back →
     ((xs ≡ front) × (x ≡ y)) ⊎ ((mid : List A) × (xs ≡ front ++ y ∷ mid))
@@ -53,12 +58,7 @@ cut_last [] [] x y back e = inl (refl, same_head e)
 cut_last [] (z ∷ []) x y back e = nil_cons (same_tail e)
 cut_last [] (z ∷ u ∷ front) x y back e = nil_cons (same_tail e)
 cut_last (v ∷ xs) [] x y back e = inr (xs, ap (λ a. a ∷ xs) (same_head e))
-cut_last (v ∷ xs) (z ∷ front) x y back e = further (cut_last xs front x y back (same_tail e))
-  where
-    further : ((xs ≡ front) × (x ≡ y)) ⊎ ((mid : List A) × (xs ≡ front ++ y ∷ mid)) →
-        ((v ∷ xs ≡ z ∷ front) × (x ≡ y)) ⊎ ((mid : List A) × (v ∷ xs ≡ z ∷ (front ++ y ∷ mid)))
-    further (inl h) = inl (ap (λ a. a ∷ xs) (same_head e) ∙ ap (λ l. z ∷ l) h.0, h.1)
-    further (inr h) = inr (h.0, ap (λ a. a ∷ xs) (same_head e) ∙ ap (λ l. z ∷ l) h.1)
+cut_last (v ∷ xs) (z ∷ front) x y back e = cut_further (same_head e) (cut_last xs front x y back (same_tail e))
 
 job_in : Job → Entry → Job
 job_in other (Started job counts) = job
@@ -76,33 +76,47 @@ same_counts : {j k : Job} {c d : Counts} → Started j c ≡ Started k d → c �
 unfolding counts_in
 same_counts {c = c} e = ap (counts_in c) e
 
+other_entry : {A : Type 0} {id : ℕ} {outcome : Outcome} {job : Job} {counts : Counts} → Finished id outcome ≡ Started job counts → A
+other_entry e = cc e
+
 module _ (IsJob : Rule → Job → Type 0) (AreAt : Counts → Type 0) where
   longer : {entries : List Entry} {r : Rule} {id : ℕ} (more : List Entry) → HasStarted IsJob entries r id → HasStarted IsJob (entries ++ more) r id
   longer more h = record { job = h.job; counts = h.counts; of_rule = h.of_rule; started = among_left more h.started; has_id = h.has_id }
+
+  begun_before : {job : Job} {counts : Counts} {steps : List Step} (r : Rule) → HasBegun IsJob AreAt steps job counts → HasBegun IsJob AreAt (Began r ∷ steps) job counts
+  begun_before r k = record { rule = k.rule; stands = there k.stands; of_rule = k.of_rule; at = k.at }
+
+  -- another step leaves what began
+  begun_still : {job : Job} {counts : Counts} {steps : List Step} (more : List Step) → began more ≡ began steps → HasBegun IsJob AreAt steps job counts →
+      HasBegun IsJob AreAt more job counts
+  begun_still more e k = record { rule = k.rule; stands = subst (λ l. Among k.rule l) (sym e) k.stands; of_rule = k.of_rule; at = k.at }
+
+  start_step : {job j : Job} {counts c : Counts} {past : List Step} {entries : List Entry} (r : Rule) → IsJob r j → AreAt c →
+      Among (Started job counts) entries ⊎ Among (Started job counts) (Started j c ∷ []) →
+      (Among (Started job counts) entries → HasBegun IsJob AreAt past job counts) → HasBegun IsJob AreAt (Began r ∷ past) job counts
+  start_step r of_rule at (inl n) next = begun_before r (next n)
+  start_step r of_rule at (inr here) next = record { rule = r; stands = here; of_rule = of_rule; at = at }
+  start_step r of_rule at (inr (there n)) next = elim n [ ]
+
+  not_ending : {A : Type 0} {job : Job} {counts : Counts} {id : ℕ} {outcome : Outcome} → Among (Started job counts) (Finished id outcome ∷ []) → A
+  not_ending (there n) = elim n [ ]
+
+  end_step : {job : Job} {counts : Counts} {id : ℕ} {outcome : Outcome} {entries : List Entry} →
+      Among (Started job counts) entries ⊎ Among (Started job counts) (Finished id outcome ∷ []) → Among (Started job counts) entries
+  end_step (inl n) = n
+  end_step (inr n) = not_ending n
 
   -- each start is of a rule that began
   pub each_start : {job : Job} {counts : Counts} {steps : List Step} {entries : List Entry} → AreEntries IsJob AreAt steps entries →
       Among (Started job counts) entries → HasBegun IsJob AreAt steps job counts
   each_start nothing m = elim m [ ]
-  each_start (is_fresh r h) m = let k = each_start h m in record { rule = k.rule; stands = k.stands; of_rule = k.of_rule; at = k.at }
-  each_start {job} {counts} (has_begun {past} {entries} r j c of_rule at new h) m = by (among_either entries m)
-    where
-      last : Among (Started job counts) (Started j c ∷ []) → HasBegun IsJob AreAt (Began r ∷ past) job counts
-      last here = record { rule = r; stands = here; of_rule = of_rule; at = at }
-      last (there n) = elim n [ ]
-      by : Among (Started job counts) entries ⊎ Among (Started job counts) (Started j c ∷ []) → HasBegun IsJob AreAt (Began r ∷ past) job counts
-      by (inl n) = let k = each_start h n in record { rule = k.rule; stands = there k.stands; of_rule = k.of_rule; at = k.at }
-      by (inr n) = last n
-  each_start (was_refused r h) m = let k = each_start h m in record { rule = k.rule; stands = there k.stands; of_rule = k.of_rule; at = k.at }
-  each_start {job} {counts} (has_ended {past} {entries} r id outcome s h) m = by (among_either entries m)
-    where
-      last : Among (Started job counts) (Finished id outcome ∷ []) → HasBegun IsJob AreAt (Ended r (is_done outcome) ∷ past) job counts
-      last (there n) = elim n [ ]
-      by : Among (Started job counts) entries ⊎ Among (Started job counts) (Finished id outcome ∷ []) → HasBegun IsJob AreAt (Ended r (is_done outcome) ∷ past) job counts
-      by (inl n) = let k = each_start h n in record { rule = k.rule; stands = k.stands; of_rule = k.of_rule; at = k.at }
-      by (inr n) = last n
-  each_start (lacks_one r p h) m = let k = each_start h m in record { rule = k.rule; stands = k.stands; of_rule = k.of_rule; at = k.at }
-  each_start (has_halted h) m = let k = each_start h m in record { rule = k.rule; stands = k.stands; of_rule = k.of_rule; at = k.at }
+  each_start (is_fresh {past} r h) m = begun_still (Fresh r ∷ past) refl (each_start h m)
+  each_start (has_begun {past} {entries} r j c of_rule at new h) m = start_step r of_rule at (among_either entries m) (λ n. each_start h n)
+  each_start (was_refused {past} r h) m = begun_still (Ended r false ∷ Began r ∷ past) refl (begun_before r (each_start h m))
+  each_start (has_ended {past} {entries} r id outcome s h) m =
+      begun_still (Ended r (is_done outcome) ∷ past) refl (each_start h (end_step (among_either entries m)))
+  each_start (lacks_one {past} r p h) m = begun_still (Lacks r p ∷ past) refl (each_start h m)
+  each_start (has_halted {past} h) m = begun_still (Halts ∷ past) refl (each_start h m)
 
   -- and each rule that began and didn't end otherwise than well has started
   pub each_began : {q : Rule} {steps : List Step} {entries : List Entry} → AreEntries IsJob AreAt steps entries → Among q (began steps) →
@@ -125,6 +139,31 @@ module _ (IsJob : Rule → Job → Type 0) (AreAt : Counts → Type 0) where
     before = h.before; of_rule = h.of_rule; at = h.at; new_id = h.new_id;
   }
 
+  last_began : {past : List Step} {entries front : List Entry} {j job : Job} {c counts : Counts} (r : Rule) → IsJob r j → AreAt c → IsNewId entries j.id →
+      AreEntries IsJob AreAt past entries → entries ≡ front → j ≡ job → c ≡ counts → BeganAt IsJob AreAt (Began r ∷ past) front job counts
+  last_began {past} {entries} {front} {j} {job} r of_rule at new h same is so = record {
+    rule = r; later = []; past = past; parts = refl;
+    before = subst (λ l. AreEntries IsJob AreAt past l) same h;
+    of_rule = subst (λ k. IsJob r k) is of_rule;
+    at = subst (λ k. AreAt k) so at;
+    new_id = subst (λ l. IsNewId l job.id) same (subst (λ k. IsNewId entries k.id) is new);
+  }
+
+  begin_step : {past : List Step} {entries front : List Entry} {j job : Job} {c counts : Counts} (r : Rule) → IsJob r j → AreAt c → IsNewId entries j.id →
+      AreEntries IsJob AreAt past entries →
+      ((entries ≡ front) × (Started j c ≡ Started job counts)) ⊎ ((mid : List Entry) × (entries ≡ front ++ Started job counts ∷ mid)) →
+      ((mid : List Entry) → entries ≡ front ++ Started job counts ∷ mid → BeganAt IsJob AreAt past front job counts) →
+      BeganAt IsJob AreAt (Began r ∷ past) front job counts
+  begin_step r of_rule at new h (inl k) next = last_began r of_rule at new h k.0 (same_job k.1) (same_counts k.1)
+  begin_step r of_rule at new h (inr k) next = began_later (Began r) (next k.0 k.1)
+
+  before_end : {past : List Step} {entries front : List Entry} {job : Job} {counts : Counts} {id : ℕ} {outcome : Outcome} →
+      ((entries ≡ front) × (Finished id outcome ≡ Started job counts)) ⊎ ((mid : List Entry) × (entries ≡ front ++ Started job counts ∷ mid)) →
+      ((mid : List Entry) → entries ≡ front ++ Started job counts ∷ mid → BeganAt IsJob AreAt past front job counts) →
+      BeganAt IsJob AreAt past front job counts
+  before_end (inl k) next = other_entry k.1
+  before_end (inr k) next = next k.0 k.1
+
   -- where a start stands in the log, there its rule began in the steps
   pub start_at : {steps : List Step} {entries : List Entry} → AreEntries IsJob AreAt steps entries →
       (front : List Entry) (job : Job) (counts : Counts) (back : List Entry) → entries ≡ front ++ Started job counts ∷ back →
@@ -132,27 +171,12 @@ module _ (IsJob : Rule → Job → Type 0) (AreAt : Counts → Type 0) where
   start_at nothing [] job counts back e = nil_cons e
   start_at nothing (x ∷ front) job counts back e = nil_cons e
   start_at (is_fresh r h) front job counts back e = began_later (Fresh r) (start_at h front job counts back e)
-  start_at (has_begun {past} {entries} r j c of_rule at new h) front job counts back e = by (cut_last entries front (Started j c) (Started job counts) back e)
-    where
-      last : entries ≡ front → j ≡ job → c ≡ counts → BeganAt IsJob AreAt (Began r ∷ past) front job counts
-      last same is so = record {
-        rule = r; later = []; past = past; parts = refl;
-        before = subst (λ l. AreEntries IsJob AreAt past l) same h;
-        of_rule = subst (λ k. IsJob r k) is of_rule;
-        at = subst AreAt so at;
-        new_id = subst (λ l. IsNewId l job.id) same (subst (λ k. IsNewId entries k.id) is new);
-      }
-      by : ((entries ≡ front) × (Started j c ≡ Started job counts)) ⊎ ((mid : List Entry) × (entries ≡ front ++ Started job counts ∷ mid)) →
-          BeganAt IsJob AreAt (Began r ∷ past) front job counts
-      by (inl k) = last k.0 (same_job k.1) (same_counts k.1)
-      by (inr k) = began_later (Began r) (start_at h front job counts k.0 k.1)
+  start_at (has_begun {entries = entries} r j c of_rule at new h) front job counts back e =
+      begin_step r of_rule at new h (cut_last entries front (Started j c) (Started job counts) back e) (λ mid f. start_at h front job counts mid f)
   start_at (was_refused r h) front job counts back e = began_later (Ended r false) (began_later (Began r) (start_at h front job counts back e))
-  start_at (has_ended {past} {entries} r id outcome s h) front job counts back e = by (cut_last entries front (Finished id outcome) (Started job counts) back e)
-    where
-      by : ((entries ≡ front) × (Finished id outcome ≡ Started job counts)) ⊎ ((mid : List Entry) × (entries ≡ front ++ Started job counts ∷ mid)) →
-          BeganAt IsJob AreAt (Ended r (is_done outcome) ∷ past) front job counts
-      by (inl k) = cc k.1
-      by (inr k) = began_later (Ended r (is_done outcome)) (start_at h front job counts k.0 k.1)
+  start_at (has_ended {entries = entries} r id outcome s h) front job counts back e =
+      began_later (Ended r (is_done outcome))
+      (before_end (cut_last entries front (Finished id outcome) (Started job counts) back e) (λ mid f. start_at h front job counts mid f))
   start_at (lacks_one r p h) front job counts back e = began_later (Lacks r p) (start_at h front job counts back e)
   start_at (has_halted h) front job counts back e = began_later Halts (start_at h front job counts back e)
 
@@ -169,6 +193,15 @@ module _ (IsJob : Rule → Job → Type 0) (AreAt : Counts → Type 0) where
   on step (inl m) = inl (there m)
   on step (inr h) = inr h
 
+  settled_step : {q : Rule} {past : List Step} {entries : List Entry} (r : Rule) (id : ℕ) (o : Outcome) → HasStarted IsJob entries r id →
+      Among q (settled (Ended r (is_done o) ∷ past)) → (Among q (settled past) → Among (Fresh q) past ⊎ EndedWell IsJob entries q) →
+      Among (Fresh q) (Ended r (is_done o) ∷ past) ⊎ EndedWell IsJob (entries ++ Finished id o ∷ []) q
+  settled_step {entries = entries} r id Done s here next = inr (record { id = id; started = longer (Finished id Done ∷ []) s; done = among_right entries here })
+  settled_step r id Done s (there n) next = further (Ended r true) (Finished id Done ∷ []) (next n)
+  settled_step r id (Failed status) s n next = further (Ended r false) (Finished id (Failed status) ∷ []) (next n)
+  settled_step r id Broken s n next = further (Ended r false) (Finished id Broken ∷ []) (next n)
+  settled_step r id NoMemory s n next = further (Ended r false) (Finished id NoMemory ∷ []) (next n)
+
   -- a settled rule was found up to date, or its own job ended well in the log
   pub each_settled : {q : Rule} {steps : List Step} {entries : List Entry} → AreEntries IsJob AreAt steps entries → Among q (settled steps) →
       Among (Fresh q) steps ⊎ EndedWell IsJob entries q
@@ -177,14 +210,6 @@ module _ (IsJob : Rule → Job → Type 0) (AreAt : Counts → Type 0) where
   each_settled (is_fresh r h) (there m) = on (Fresh r) (each_settled h m)
   each_settled (has_begun r j c of_rule at new h) m = further (Began r) (Started j c ∷ []) (each_settled h m)
   each_settled (was_refused r h) m = on (Ended r false) (on (Began r) (each_settled h m))
-  each_settled {q} (has_ended {past} {entries} r id outcome s h) m = by outcome s m
-    where
-      by : (o : Outcome) → HasStarted IsJob entries r id → Among q (settled (Ended r (is_done o) ∷ past)) →
-          Among (Fresh q) (Ended r (is_done o) ∷ past) ⊎ EndedWell IsJob (entries ++ Finished id o ∷ []) q
-      by Done s here = inr (record { id = id; started = longer (Finished id Done ∷ []) s; done = among_right entries here })
-      by Done s (there n) = further (Ended r true) (Finished id Done ∷ []) (each_settled h n)
-      by (Failed status) s n = further (Ended r false) (Finished id (Failed status) ∷ []) (each_settled h n)
-      by Broken s n = further (Ended r false) (Finished id Broken ∷ []) (each_settled h n)
-      by NoMemory s n = further (Ended r false) (Finished id NoMemory ∷ []) (each_settled h n)
+  each_settled (has_ended r id outcome s h) m = settled_step r id outcome s m (λ n. each_settled h n)
   each_settled (lacks_one r p h) m = on (Lacks r p) (each_settled h m)
   each_settled (has_halted h) m = on Halts (each_settled h m)

@@ -25,21 +25,24 @@ use Rattle.build_means.specs.Graphs.{graph_of}
 use Rattle.build_means.specs.Laws.{or_copied}
 use Rattle.build_means.proofs.Lists.{true_false, none_some, some_same, any_there, there_any, all_there, among_map, map_among, place_of, at_place, first_place, has_among, among_has}
 
+undeclared_step : {r x : Rule} {p : Path} {rules : List Rule} (b : Bool) → has p x.targets ≡ b → Among r (x ∷ rules) → Among p r.targets →
+    cond b (Some x) (declared_rule rules p) ≡ None → (Among r rules → declared_rule rules p ≡ None → ⊥) → ⊥
+undeclared_step true h m n e next = none_some (sym e)
+undeclared_step false h here n e next = true_false (sym (among_has n) ∙ h)
+undeclared_step false h (there m) n e next = next m e
+
 none_declared : {r : Rule} {p : Path} (rules : List Rule) → Among r rules → Among p r.targets → declared_rule rules p ≡ None → ⊥
-none_declared {r} {p} (x ∷ rules) m n e = by (has p x.targets) refl m e
-  where
-    by : (b : Bool) → has p x.targets ≡ b → Among r (x ∷ rules) → cond b (Some x) (declared_rule rules p) ≡ None → ⊥
-    by true h m e = none_some (sym e)
-    by false h here e = true_false (sym (among_has n) ∙ h)
-    by false h (there m) e = none_declared rules m n e
+none_declared [] m n e = elim m [ ]
+none_declared {p = p} (x ∷ rules) m n e = undeclared_step (has p x.targets) refl m n e (λ k. none_declared rules k n)
+
+declared_step : {r x : Rule} {p : Path} {rules : List Rule} (b : Bool) → has p x.targets ≡ b → cond b (Some x) (declared_rule rules p) ≡ Some r →
+    (declared_rule rules p ≡ Some r → Among r rules × Among p r.targets) → Among r (x ∷ rules) × Among p r.targets
+declared_step {r} {x} {p} {rules} true h e next = subst (λ y. Among y (x ∷ rules) × Among p y.targets) (some_same e) (here, has_among p x.targets h)
+declared_step false h e next = let k = next e in (there k.0, k.1)
 
 some_declared : {r : Rule} {p : Path} (rules : List Rule) → declared_rule rules p ≡ Some r → Among r rules × Among p r.targets
 some_declared [] e = none_some e
-some_declared {r} {p} (x ∷ rules) e = by (has p x.targets) refl e
-  where
-    by : (b : Bool) → has p x.targets ≡ b → cond b (Some x) (declared_rule rules p) ≡ Some r → Among r (x ∷ rules) × Among p r.targets
-    by true h e = subst (λ y. Among y (x ∷ rules) × Among p y.targets) (some_same e) (here, has_among p x.targets h)
-    by false h e = let k = some_declared rules e in (there k.0, k.1)
+some_declared {p = p} (x ∷ rules) e = declared_step (has p x.targets) refl e (some_declared rules)
 
 module _ (g : RuleGraph) (reading : IsReading g) where
   node_path : (n : NodeId) → n.0 < length g.nodes → slice_get g.nodes n.0 ≡ Some (path_of g.nodes n)

@@ -13,7 +13,7 @@ use Rattle.build_model.specs.Graphs.{IsGraph, copy_rule, rule_at, setting, clean
 use Rattle.build_model.specs.Laws.{NeedsIn, TestsDue, EachStep}
 use Rattle.build_model.specs.Records.{AreSound}
 use Rattle.build_model.specs.Resting.{LeavesAtRest}
-use Rattle.build_model.specs.Steps.{Fresh, Build}
+use Rattle.build_model.specs.Steps.{Step, Fresh, Build}
 use Rattle.build_model.specs.Waiting.{WaitsRightly}
 use Rattle.build_means.specs.Rules.{IsReading, rule_in, rule_with}
 use Rattle.build_means.specs.Copies.{copied_from, is_known}
