@@ -1,5 +1,5 @@
 -- The graph that a reading stands for: which rule each path has.
-use Rattle.std.proofs.Common.{◌≡◌, ◌<◌, ℕ, zero, suc, Bool, true, false, not, cond, ◌||◌, ◌&&◌, List, [], ◌∷◌, length, map, Option, Some, None, refl, sym, subst, ap, ◌∙◌, inl, inr, ◌⊎◌, ltb→lt}
+use Rattle.std.proofs.Common.{◌≡◌, ◌<◌, ℕ, zero, suc, Bool, true, false, not, cond, ◌||◌, ◌&&◌, List, [], ◌∷◌, length, map, Option, Some, None, refl, sym, subst, ap, ◌∙◌, inl, inr, ◌⊎◌, ltb-true}
 use Rattle.std.specs.Prelude.{slice_get, nat_eq, nat_lt, is_some, ◌↔◌}
 use Rattle.std.specs.List.{list_any, list_all}
 use Rattle.std.specs.Option.{option_map, option_and_then, unwrap_or}
@@ -45,7 +45,7 @@ some_declared [] e = none_some e
 some_declared {p = p} (x ∷ rules) e = declared_step (has p x.targets) refl e (some_declared rules)
 
 module _ (g : RuleGraph) (reading : IsReading g) where
-  node_path : (n : NodeId) → n.0 < length g.nodes → slice_get g.nodes n.0 ≡ Some (path_of g.nodes n)
+  pub node_path : (n : NodeId) → n.0 < length g.nodes → slice_get g.nodes n.0 ≡ Some (path_of g.nodes n)
   node_path n below = let e = slice_get-get_or g.nodes n.0 [] below in e ∙ ap Some (sym (ap (λ o. unwrap_or o []) e))
 
   -- the number of the path of a target
@@ -53,7 +53,7 @@ module _ (g : RuleGraph) (reading : IsReading g) where
       number_of g.nodes (path_of g.nodes n) ≡ Some n.0
   target_number x i n at m =
       let below = all_there (λ t. nat_lt t.0 (length g.nodes)) m (reading.named.each_rule i x at).targets in
-      reading.apart n.0 (path_of g.nodes n) (node_path n (ltb→lt below))
+      reading.apart n.0 (path_of g.nodes n) (node_path n (ltb-true n.0 (length g.nodes) below))
 
   target_rule : (x : declared.Rule) (i : ℕ) (n : NodeId) → slice_get g.rules i ≡ Some x → Among n x.targets → rule_of g.rules n.0 ≡ Some i
   target_rule x i n at m = reading.single i n.0 x at (there_any (λ t. nat_eq t.0 n.0) m ((Decides-eqb n.0 n.0).1 refl))

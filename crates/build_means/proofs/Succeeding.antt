@@ -65,12 +65,12 @@ in_order settled_before_start w kept counts before after runs front job at back 
     record {
       rule = h.rule;
       job_of = h.of_rule;
-      needs = λ q needs. among_later h.later h.parts
+      needs = λ q needs. among_later h.later h.past h.rule h.parts
         (each_settled IsJob (AreUnrisen w.keep counts) h.before
         (settled_before_start (setting_in w before) (build_in w kept before after) h.later h.past h.rule q run needs));
     }
   where
-    among_later : {q : Rule} {r : Rule} {steps past : List Step} (later : List Step) → steps ≡ later ++ Began r ∷ past →
+    among_later : {q : Rule} {steps : List Step} (later past : List Step) (r : Rule) → steps ≡ later ++ Began r ∷ past →
         Among (Fresh q) past ⊎ EndedWell (IsJobIn w kept before after) front q → Among (Fresh q) steps ⊎ EndedWell (IsJobIn w kept before after) front q
-    among_later later parts (inl m) = inl (subst (λ l. Among (Fresh _) l) (sym parts) (among_right later (there m)))
-    among_later later parts (inr h) = inr h
+    among_later {q} later past r parts (inl m) = inl (subst (λ l. Among (Fresh q) l) (sym parts) (among_right later (there m)))
+    among_later later past r parts (inr h) = inr h
