@@ -16,8 +16,8 @@ use Rattle.build_means.specs.Rules.{IsReading, paths_of, scanned_in, is_scanned_
 use Rattle.build_means.specs.Copies.{copied_from}
 use Rattle.build_means.specs.Grown.{Begun, begun_graph, copy_in, IsCopyOf, IsGrown, or_copy_in, rule_numbered, AreRulesOf, GrownAreThese}
 use Rattle.build_means.specs.Laws.{or_copied}
-use Rattle.build_means.proofs.Lists.{true_false, none_some, some_same, and_both, any_there, map_among, at_place, first_place}
-use Rattle.build_means.proofs.Readings.{node_path, rule_with_target, rule_is}
+use Rattle.build_means.proofs.Lists.{true_false, none_some, some_same, and_both, any_there, map_among, place_of, at_place, first_place}
+use Rattle.build_means.proofs.Readings.{node_path, rule_with_target, rule_with_is, rule_is}
 
 get_front : {A : Type 0} (xs ys : List A) (i : ℕ) (x : A) → slice_get xs i ≡ Some x → slice_get (xs ++ ys) i ≡ Some x
 get_front [] ys i x e = none_some e
@@ -110,3 +110,25 @@ module _ (b : Begun) (g : RuleGraph) (read : IsReading b.graph) (reading : IsRea
       let place = first_place (λ r. is_target_of r.targets node) g.rules number of in
       rule_by path number place.0 place.1 (named node path place.0 at place.2)
       (get_either b.graph.rules grown.copies number place.0 (sym (ap (λ rules. slice_get rules number) grown.rules) ∙ place.1))
+
+  in_grown : {x : declared.Rule} → Among x b.graph.rules → Among x g.rules
+  in_grown {x} m =
+      let place = place_of m in
+      at_place g.rules place.0 (ap (λ rules. slice_get rules place.0) grown.rules ∙ get_front b.graph.rules grown.copies place.0 x place.1)
+
+  undeclared_by : (node : ℕ) (path : Path) (o : Option declared.Rule) → slice_get g.nodes node ≡ Some path → rule_of g.rules node ≡ None →
+      rule_with b.graph path ≡ o → o ≡ None
+  undeclared_by node path None at none e = refl
+  undeclared_by node path (Some x) at none e =
+      let h = rule_with_is b.graph read e in
+      let place = place_of h.0 in
+      let is = read.named.each_rule place.0 x place.1 in
+      let led = rule_with_target g reading (in_grown h.0) (subst (λ ps. Among path ps) (sym (paths_stay x.targets is.targets)) h.1) in
+      let lost : rule_with g path ≡ None =
+          ap (λ o. option_and_then (slice_get g.rules) (option_and_then (rule_of g.rules) o)) (reading.apart node path at)
+          ∙ ap (λ o. option_and_then (slice_get g.rules) o) none in
+      none_some (sym lost ∙ led)
+
+  -- in a grown graph the rule of a node is the rule of its path
+  pub are_rules : AreRulesOf b g
+  are_rules = record { rules = rules_are; undeclared = λ node path at none. undeclared_by node path (rule_with b.graph path) at none refl }

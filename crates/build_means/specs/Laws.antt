@@ -1,11 +1,15 @@
 -- What is so of every reading, and of every build.
-use Rattle.std.specs.Prelude.{◌≡◌, ◌↔◌, ◌⊎◌, true, List, ◌∷◌, ◌++◌, Option, Some, None}
+use Rattle.std.specs.Prelude.{ℕ, ◌≡◌, ◌↔◌, ◌⊎◌, true, List, ◌∷◌, ◌++◌, Option, Some, None}
 use Rattle.std.specs.Option.{option_map}
 use Rattle.world_api.specs.Act.{Law}
 use Rattle.world_api.specs.Around.{Around, Entry, Started}
 use Rattle.world_api.specs.Counts.{Counts}
+use Rattle.world_api.specs.declared.decider.Decider.{Decider}
 use Rattle.world_api.specs.declared.hash.Hash.{Hash}
 use Rattle.world_api.specs.declared.job.Job.{Job}
+use Rattle.deciders.specs.declared.recorded.Rec.{Rec}
+use Rattle.deciders.specs.Changes as kept
+use Rattle.deciders.specs.Records.{IsValid}
 use Rattle.rule_graph.specs.Graphs.{RuleGraph}
 use Rattle.build_model.specs.Rules.{Path, Tree, Rule, Among}
 use Rattle.build_model.specs.Contents.{IsKnown, in_tree}
@@ -13,11 +17,12 @@ use Rattle.build_model.specs.Graphs.{IsGraph, copy_rule, rule_at, setting, clean
 use Rattle.build_model.specs.Laws.{NeedsIn, TestsDue, EachStep}
 use Rattle.build_model.specs.Records.{AreSound}
 use Rattle.build_model.specs.Resting.{LeavesAtRest}
+use Rattle.build_model.specs.Stale.{HasChanged}
 use Rattle.build_model.specs.Steps.{Step, Fresh, Build}
 use Rattle.build_model.specs.Waiting.{WaitsRightly}
-use Rattle.build_means.specs.Rules.{IsReading, rule_in, rule_with}
+use Rattle.build_means.specs.Rules.{IsReading, rule_in, rule_with, decider_of}
 use Rattle.build_means.specs.Copies.{copied_from, is_known}
-use Rattle.build_means.specs.Records.{records_in}
+use Rattle.build_means.specs.Records.{record_in, records_in}
 use Rattle.build_means.specs.Graphs.{graph_of}
 use Rattle.build_means.specs.Logs.{EndedWell}
 use Rattle.build_means.specs.Builds.{Wanted, Kept, Runs, Rests, IsByContent, IsJobIn, KeepsRecords, AllSettled, Succeeded, graph_in, setting_in, build_in}
@@ -26,6 +31,12 @@ use Rattle.build_means.specs.Builds.{Wanted, Kept, Runs, Rests, IsByContent, IsJ
 abbrev pub TestsMeetDue : Type 0
 TestsMeetDue = (g : RuleGraph) (law : Law) (hash : Hash) (tree t : Tree) (b : Build) (r : Rule) →
     TestsDue (setting (graph_of g law hash tree) t) b r
+
+-- By each decider a record of a store has changed where it has as a record of the model. For this each digest has to be by its
+-- record's function, as it is in valid records.
+abbrev pub ChangesAreAlike : Type 0
+ChangesAreAlike = (decider : Decider) (target : Option ℕ) (old now : Rec) → IsValid old → IsValid now →
+    kept.HasChanged decider old now target ↔ HasChanged (decider_of decider) target (record_in old) (record_in now)
 
 -- A reading stands for a graph: its rules are no copies, and no two of them make one path.
 abbrev pub ReadingsAreGraphs : Type 0

@@ -4,6 +4,7 @@ pub mod Finds
 pub mod Due
 pub mod Graphs
 pub mod Records
+pub mod Grown
 pub mod Logs
 pub mod Builds
 pub mod Laws

@@ -1,5 +1,6 @@
 //! The laws: each is the contract of a function that does nothing.
-ghost use Rattle.build_means.specs.Laws.{TestsMeetDue, ReadingsAreGraphs, RulesAreThese, KnownAreThese, SettledSucceed, RunsAreRight, RestsAreRight, RecordsStayTrue, LogsAreInOrder};
+ghost use Rattle.build_means.specs.Grown.{GrownAreThese};
+ghost use Rattle.build_means.specs.Laws.{TestsMeetDue, ChangesAreAlike, ReadingsAreGraphs, RulesAreThese, KnownAreThese, SettledSucceed, RunsAreRight, RestsAreRight, RecordsStayTrue, LogsAreInOrder};
 
 use build_model::{
     any_decider, each_step, high_enough, incremental_is_clean, rests_rightly, settled_before_start,
@@ -9,6 +10,11 @@ use build_model::{
 /// The test by which a rule is found due meets its definition, for all four deciders.
 pub fn tests_meet_due()
     ensures { TestsMeetDue }
+{}
+
+/// By each decider a record of a store has changed where it has as a record of the model.
+pub fn changes_are_alike()
+    ensures { ChangesAreAlike }
 {}
 
 /// A reading stands for a graph of the model.
@@ -24,6 +30,11 @@ pub fn rules_are_these()
 /// What an include line may mean is known where it has a rule or is a file.
 pub fn known_are_these()
     ensures { KnownAreThese }
+{}
+
+/// In a graph that grew by nodes and copy rules the rule of a node is the rule of its path.
+pub fn grown_are_these()
+    ensures { GrownAreThese }
 {}
 
 /// A build at whose end every rule that makes what is requested is settled, and that waited rightly, succeeded.
