@@ -1,22 +1,19 @@
 -- What a graph of a reading says stays so as nodes and copy rules are put behind.
-use Rattle.std.proofs.Common.{◌≡◌, ◌<◌, ℕ, zero, suc, Bool, true, false, List, [], ◌∷◌, ◌++◌, length, map, Option, Some, None, refl, sym, subst, ap, ◌∙◌, inl, inr, ◌⊎◌, cond, ltb-true}
+use Rattle.std.proofs.Common.{◌≡◌, ◌<◌, ℕ, zero, suc, Bool, true, false, List, [], ◌∷◌, ◌++◌, length, Option, Some, None, refl, sym, subst, ap, ◌∙◌, inl, inr, ◌⊎◌, cond, ltb-true}
 use Rattle.std.specs.Prelude.{slice_get, nat_eq, nat_lt, filter}
-use Rattle.std.specs.List.{list_any, list_all}
 use Rattle.std.specs.Option.{option_map, option_and_then, unwrap_or}
-use Rattle.std.specs.Str.{bytes_eq}
 use Rattle.std.proofs.lemmas.Bool.Decides.{Decides-eqb}
 use Rattle.scons_base.specs.declared.ids.NodeId.{NodeId}
-use Rattle.node_tree.specs.Nodes.{number_of}
 use Rattle.rule_graph.specs.declared.rule.Rule as declared
 use Rattle.rule_graph.specs.Rules.{rule_of, is_target_of, are_below, IsRule}
 use Rattle.rule_graph.specs.Graphs.{RuleGraph, path_of}
-use Rattle.build_model.specs.Rules.{Path, Rule, Among, here, there}
+use Rattle.build_model.specs.Rules.{Path, Among, here, there}
 use Rattle.build_model.specs.Graphs.{rule_at, copy_rule}
 use Rattle.build_means.specs.Rules.{IsReading, paths_of, scanned_in, is_scanned_path, rule_in, rule_with}
 use Rattle.build_means.specs.Copies.{copied_from}
-use Rattle.build_means.specs.Grown.{Begun, begun_graph, copy_in, IsCopyOf, IsGrown, or_copy_in, rule_numbered, AreRulesOf, GrownAreThese}
+use Rattle.build_means.specs.Grown.{Begun, begun_graph, copy_in, IsCopyOf, IsGrown, or_copy_in, rule_numbered, AreRulesOf}
 use Rattle.build_means.specs.Laws.{or_copied}
-use Rattle.build_means.proofs.Lists.{true_false, none_some, some_same, and_both, any_there, map_among, place_of, at_place, first_place}
+use Rattle.build_means.proofs.Lists.{none_some, and_both, any_there, map_among, place_of, at_place, first_place}
 use Rattle.build_means.proofs.Readings.{node_path, rule_with_target, rule_with_is, rule_is}
 
 get_front : {A : Type 0} (xs ys : List A) (i : ℕ) (x : A) → slice_get xs i ≡ Some x → slice_get (xs ++ ys) i ≡ Some x

@@ -1,14 +1,13 @@
 -- What stands in the log of the steps of a build, and where.
-use Rattle.std.proofs.Common.{◌≡◌, ℕ, Bool, true, false, List, [], ◌∷◌, ◌++◌, refl, sym, subst, ap, ◌∙◌, inl, inr, ◌⊎◌}
+use Rattle.std.proofs.Common.{◌≡◌, ℕ, true, false, List, [], ◌∷◌, ◌++◌, refl, sym, subst, ap, ◌∙◌, inl, inr, ◌⊎◌}
 use Rattle.world_api.specs.Around.{Entry, Started, Finished}
 use Rattle.world_api.specs.Counts.{Counts}
 use Rattle.world_api.specs.declared.job.Job.{Job}
 use Rattle.world_api.specs.declared.job.Outcome.{Outcome}
 use Rattle.world_api.specs.declared.job.Outcome.TheVariants.{Done, Failed, Broken, NoMemory}
-use Rattle.build_model.specs.Rules.{Rule, Path, Among, here, there}
+use Rattle.build_model.specs.Rules.{Rule, Among, here, there}
 use Rattle.build_model.specs.Steps.{Step, Fresh, Began, Ended, Lacks, Halts, began, settled}
 use Rattle.build_means.specs.Logs.{is_done, IsNewId, HasStarted, AreEntries, nothing, is_fresh, has_begun, was_refused, has_ended, lacks_one, has_halted, HasBegun, BeganAt, EndedWell}
-use Rattle.build_means.proofs.Lists.{true_false}
 
 among_left : {A : Type 0} {x : A} {xs : List A} (ys : List A) → Among x xs → Among x (xs ++ ys)
 among_left ys here = here

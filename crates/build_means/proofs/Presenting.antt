@@ -1,5 +1,5 @@
 -- What is looked at of a dependency is what its rule's record has of it, and actions and digests are those of their numbers.
-use Rattle.std.proofs.Common.{◌≡◌, ℕ, List, [], ◌∷◌, map, Option, Some, None, refl, sym, ap, ◌∙◌}
+use Rattle.std.proofs.Common.{◌≡◌, List, ◌∷◌, map, Some, None, refl, sym, ap, ◌∙◌}
 use Rattle.std.specs.Option.{option_map}
 use Rattle.world_api.specs.Act.{Law, Given, act}
 use Rattle.world_api.specs.declared.hash.Hash.{Hash}
@@ -10,9 +10,9 @@ use Rattle.deciders.specs.Digests.{digest_of, bytes_of}
 use Rattle.deciders.specs.Spelling.{work_byte, hash_byte}
 use Rattle.deciders.specs.declared.recorded.Dep.{Dep}
 use Rattle.deciders.specs.declared.recorded.Rec.{Rec}
-use Rattle.build_model.specs.Rules.{Path, Bytes, Content, Tree, Stamps, Rule, Dependency}
+use Rattle.build_model.specs.Rules.{Path, Bytes, Content, Tree, Stamps, Rule}
 use Rattle.build_model.specs.Contents.{in_tree}
-use Rattle.build_model.specs.Records.{dependency_of, digest_by, stamp_kept}
+use Rattle.build_model.specs.Records.{dependency_of, digest_by}
 use Rattle.build_means.specs.Graphs.{work_at, hash_at, act_by}
 use Rattle.build_means.specs.Grown.{Begun, begun_setting}
 use Rattle.build_means.specs.Records.{dependency_in, record_in}

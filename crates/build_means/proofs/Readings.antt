@@ -1,17 +1,16 @@
 -- The graph that a reading stands for: which rule each path has.
-use Rattle.std.proofs.Common.{◌≡◌, ◌<◌, ℕ, zero, suc, Bool, true, false, not, cond, ◌||◌, ◌&&◌, List, [], ◌∷◌, length, map, Option, Some, None, refl, sym, subst, ap, ◌∙◌, inl, inr, ◌⊎◌, ltb-true}
+use Rattle.std.proofs.Common.{◌≡◌, ◌<◌, ℕ, Bool, true, false, not, cond, ◌||◌, ◌&&◌, List, [], ◌∷◌, length, Option, Some, None, refl, sym, subst, ap, ◌∙◌, ltb-true}
 use Rattle.std.specs.Prelude.{slice_get, nat_eq, nat_lt, is_some, ◌↔◌}
-use Rattle.std.specs.List.{list_any, list_all}
 use Rattle.std.specs.Option.{option_map, option_and_then, unwrap_or}
 use Rattle.std.specs.Str.{bytes_eq}
 use Rattle.std.proofs.lemmas.Bool.Decides.{Decides-eqb}
 use Rattle.std.proofs.lemmas.Option.{slice_get-get_or}
 use Rattle.std.proofs.lemmas.Slice.Eq.{bytes_eq-Decides}
 use Rattle.scons_base.specs.declared.ids.NodeId.{NodeId}
-use Rattle.node_tree.specs.Nodes.{number_of, AreApart}
+use Rattle.node_tree.specs.Nodes.{number_of}
 use Rattle.variant_dirs.specs.Variants.{source_of}
 use Rattle.rule_graph.specs.declared.rule.Rule as declared
-use Rattle.rule_graph.specs.Rules.{rule_of, is_target_of, are_below, AreSingle, IsRule}
+use Rattle.rule_graph.specs.Rules.{rule_of, is_target_of}
 use Rattle.rule_graph.specs.Graphs.{RuleGraph, path_of}
 use Rattle.world_api.specs.Act.{Law}
 use Rattle.world_api.specs.declared.hash.Hash.{Hash}
@@ -19,8 +18,8 @@ use Rattle.build_model.specs.Rules.{Path, Content, Tree, Rule, Among, here, ther
 use Rattle.build_model.specs.Reach.{has}
 use Rattle.build_model.specs.Contents.{IsKnown, has_rule, is_file}
 use Rattle.build_model.specs.Graphs.{IsGraph, copy_rule, declared_rule, copy_of_file, copy_of_source, copy_at, or_copy, rule_at, setting}
-use Rattle.build_means.specs.Rules.{IsReading, paths_of, rule_in, rules_in, rule_with, is_declared}
-use Rattle.build_means.specs.Copies.{is_copied, source_for, is_source, source_among, copied_from, is_known}
+use Rattle.build_means.specs.Rules.{IsReading, paths_of, rule_in, rules_in, rule_with}
+use Rattle.build_means.specs.Copies.{is_copied, source_for, source_among, copied_from, is_known}
 use Rattle.build_means.specs.Graphs.{graph_of}
 use Rattle.build_means.specs.Laws.{or_copied}
 use Rattle.build_means.proofs.Lists.{true_false, none_some, some_same, any_there, there_any, all_there, among_map, map_among, place_of, at_place, first_place, has_among, among_has}

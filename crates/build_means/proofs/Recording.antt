@@ -1,5 +1,5 @@
 -- Records of a store and records of the model say the same of what has changed.
-use Rattle.std.proofs.Common.{◌≡◌, ◌≢◌, ◌<◌, ℕ, Bool, true, false, List, [], ◌∷◌, length, get_or, map, Option, Some, None, refl, sym, subst, ap, ◌∙◌, inl, inr, ◌⊎◌, arith, Any, zip}
+use Rattle.std.proofs.Common.{◌≡◌, ℕ, Bool, true, false, List, [], ◌∷◌, length, map, Option, Some, None, refl, sym, subst, ap, ◌∙◌, inl, inr, ◌⊎◌, arith, Any, zip}
 use Rattle.std.specs.Prelude.{nat_eq, ◌↔◌, ◌&&◌, not, ◌==◌}
 use Rattle.std.specs.List.{list_all}
 use Rattle.std.specs.Option.{option_map, option_map_or}
@@ -19,7 +19,7 @@ use Rattle.deciders.specs.Digests.{bytes_of, hash_of, is_same}
 use Rattle.deciders.specs.Records.{is_by, IsValid, named_once, name_of}
 use Rattle.deciders.specs.Spelling.{work_byte, hash_byte}
 use Rattle.deciders.specs.Changes as kept
-use Rattle.build_model.specs.Rules.{Among, here, there, Dependency, Record}
+use Rattle.build_model.specs.Rules.{Among, here, there}
 use Rattle.build_model.specs.Stale as model
 use Rattle.build_means.specs.Rules.{decider_of}
 use Rattle.build_means.specs.Records.{dependency_in, record_in}

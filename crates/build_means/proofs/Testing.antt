@@ -1,13 +1,13 @@
 -- The test of each decider finds a rule due exactly where it is.
-use Rattle.std.proofs.Common.{◌≡◌, ◌≢◌, ℕ, Bool, true, false, not, ◌||◌, ◌&&◌, List, [], ◌∷◌, map, Option, Some, None, refl, sym, subst, ap, ◌∙◌, inl, inr, ◌⊎◌}
+use Rattle.std.proofs.Common.{◌≡◌, ◌≢◌, ℕ, Bool, true, false, not, ◌&&◌, List, [], ◌∷◌, map, Option, Some, None, refl, sym, ap, ◌∙◌, inl, inr, ◌⊎◌}
 use Rattle.std.specs.Prelude.{nat_eq}
 use Rattle.std.specs.List.{list_any}
 use Rattle.std.specs.Str.{bytes_eq}
 use Rattle.std.specs.Bool.{Decides}
 use Rattle.std.specs.Cmp.Lexicographic.{pointwise, pointwise_decides}
-use Rattle.std.proofs.lemmas.Bool.Decides.{Decides-like, Decides-eqb, Decides-not, Decides-and, Decides-or, Decides-ltb, not_from_Decides}
+use Rattle.std.proofs.lemmas.Bool.Decides.{Decides-like, Decides-eqb, Decides-not, Decides-and, Decides-or, Decides-ltb}
 use Rattle.std.proofs.lemmas.Slice.Eq.{bytes_eq-Decides}
-use Rattle.build_model.specs.Rules.{Path, Content, Tree, Stamps, Decider, content, timestamp_newer, timestamp_match, content_timestamp, Rule, Dependency, Record, Records, Among, here, there}
+use Rattle.build_model.specs.Rules.{Path, Content, Tree, Stamps, Decider, content, timestamp_newer, timestamp_match, content_timestamp, Rule, Dependency, Record, Records, Among}
 use Rattle.build_model.specs.Stale.{name_of, stamp_of, first_stamp, IsSameAction, IsAfter, HasNewer, DiffersInBoth, HasChanged, IsDue, is_always, no_file, no_record, has_changed as changed, IsKept, IsUpToDate}
 use Rattle.build_model.specs.Graphs.{setting}
 use Rattle.build_model.specs.Laws.{TestsDue}
@@ -17,7 +17,7 @@ use Rattle.world_api.specs.Act.{Law}
 use Rattle.world_api.specs.declared.hash.Hash.{Hash}
 use Rattle.build_means.specs.Graphs.{graph_of}
 use Rattle.build_means.specs.Due.{texts_eq, digest_eq, stamp_eq, dependency_eq, is_same_work, record_eq, is_same_action, is_after, has_newer, has_same_stamps, differs, any_differs, has_changed, is_due_for, is_due}
-use Rattle.build_means.proofs.Lists.{true_false, none_some, some_same, or_either, or_first, or_second, or_neither, any_there, there_any, none_passes, texts_decide, option_decides, stamps_decide}
+use Rattle.build_means.proofs.Lists.{true_false, or_either, or_neither, any_there, there_any, none_passes, texts_decide, option_decides, stamps_decide}
 
 dependency_same : (a b : Dependency) → (a.name ≡ b.name) × ((a.digest ≡ b.digest) × (a.stamp ≡ b.stamp)) → a ≡ b
 dependency_same a b h = λ i. record { name = h.0 i; digest = h.1.0 i; stamp = h.1.1 i }

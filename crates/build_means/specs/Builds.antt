@@ -1,5 +1,5 @@
 -- Builds: what is wanted, what ran, and what succeeded.
-use Rattle.std.specs.Prelude.{◌≡◌, ℕ, Bool, List, map, min, max, Option}
+use Rattle.std.specs.Prelude.{◌≡◌, ℕ, Bool, List, min, max, Option}
 use Rattle.scons_base.specs.declared.limits.TheConstants.{JOB_LIMIT}
 use Rattle.scons_base.specs.declared.ids.NodeId.{NodeId}
 use Rattle.world_api.specs.Around.{Around}

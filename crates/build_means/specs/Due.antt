@@ -4,7 +4,7 @@ use Rattle.std.specs.List.{list_any}
 use Rattle.std.specs.Option.{option_eq}
 use Rattle.std.specs.Str.{bytes_eq}
 use Rattle.std.specs.Cmp.Lexicographic.{pointwise}
-use Rattle.build_model.specs.Rules.{Path, Tree, Stamps, Decider, content, timestamp_newer, timestamp_match, content_timestamp, Rule, Dependency, Record, Records, Content}
+use Rattle.build_model.specs.Rules.{Tree, Stamps, Decider, content, timestamp_newer, timestamp_match, content_timestamp, Rule, Dependency, Record, Records, Content}
 use Rattle.build_model.specs.Stale.{name_of, stamp_of, first_stamp}
 
 abbrev pub texts_eq : List (List ℕ) → List (List ℕ) → Bool

@@ -1,5 +1,5 @@
 -- What a build is about, of a graph as it was read: a graph of the model.
-use Rattle.std.specs.Prelude.{ℕ, suc, zero, ◌+◌, List, Option}
+use Rattle.std.specs.Prelude.{ℕ, suc, zero, ◌+◌, List}
 use Rattle.scons_base.specs.declared.limits.TheConstants.{NODE_LIMIT}
 use Rattle.world_api.specs.Act.{Law, act}
 use Rattle.world_api.specs.declared.hash.Hash.{Hash}

@@ -1,5 +1,5 @@
 -- The graph of a reading as a build goes on: nodes and copy rules are put behind those that are there.
-use Rattle.std.specs.Prelude.{◌≡◌, ℕ, true, List, [], ◌∷◌, ◌++◌, Option, Some, None, slice_get}
+use Rattle.std.specs.Prelude.{◌≡◌, ℕ, true, List, ◌++◌, Option, Some, None, slice_get}
 use Rattle.std.specs.Option.{option_map}
 use Rattle.world_api.specs.Act.{Law}
 use Rattle.world_api.specs.declared.hash.Hash.{Hash}

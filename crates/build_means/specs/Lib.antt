@@ -5,6 +5,7 @@ pub mod Due
 pub mod Graphs
 pub mod Records
 pub mod Grown
+pub mod Present
 pub mod Logs
 pub mod Builds
 pub mod Laws

@@ -1,5 +1,5 @@
 -- The record of a rule over files as they are at some moment.
-use Rattle.std.specs.Prelude.{◌≡◌, List, [], ◌∷◌, ◌++◌, map, Option}
+use Rattle.std.specs.Prelude.{◌≡◌, List, [], ◌∷◌, ◌++◌, map}
 use Rattle.std.specs.Option.{option_map}
 use Rattle.deciders.specs.Digests.{digest_of}
 use Rattle.deciders.specs.declared.recorded.Dep.{Dep}
