@@ -4,5 +4,7 @@ pub mod Recording
 pub mod Presenting
 pub mod Readings
 pub mod Growing
+pub mod Courses
 pub mod Logging
+pub mod Failing
 pub mod Succeeding

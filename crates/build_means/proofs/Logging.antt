@@ -1,13 +1,13 @@
 -- What stands in the log of the steps of a build, and where.
-use Rattle.std.proofs.Common.{◌≡◌, ℕ, true, false, List, [], ◌∷◌, ◌++◌, refl, sym, subst, ap, ◌∙◌, inl, inr, ◌⊎◌}
+use Rattle.std.proofs.Common.{◌≡◌, ℕ, true, false, List, [], ◌∷◌, ◌++◌, refl, sym, subst, ap, ◌∙◌, inl, inr, ◌⊎◌, append-nil, append_assoc}
 use Rattle.world_api.specs.Around.{Entry, Started, Finished}
 use Rattle.world_api.specs.Counts.{Counts}
 use Rattle.world_api.specs.declared.job.Job.{Job}
 use Rattle.world_api.specs.declared.job.Outcome.{Outcome}
 use Rattle.world_api.specs.declared.job.Outcome.TheVariants.{Done, Failed, Broken, NoMemory}
-use Rattle.build_model.specs.Rules.{Rule, Among, here, there}
+use Rattle.build_model.specs.Rules.{Rule, Path, Among, here, there}
 use Rattle.build_model.specs.Steps.{Step, Fresh, Began, Ended, Lacks, Halts, began, settled}
-use Rattle.build_means.specs.Logs.{is_done, IsNewId, HasStarted, AreEntries, nothing, is_fresh, has_begun, was_refused, has_ended, lacks_one, has_halted, HasBegun, BeganAt, EndedWell}
+use Rattle.build_means.specs.Logs.{is_done, IsNewId, HasStarted, AreEntries, IsLogged, nothing, is_fresh, has_begun, was_refused, has_ended, lacks_one, has_halted, HasBegun, BeganAt, EndedWell}
 
 among_left : {A : Type 0} {x : A} {xs : List A} (ys : List A) → Among x xs → Among x (xs ++ ys)
 among_left ys here = here
@@ -112,7 +112,7 @@ module _ (IsJob : Rule → Job → Type 0) (AreAt : Counts → Type 0) where
   each_start (is_fresh {past} r h) m = begun_still (Fresh r ∷ past) refl (each_start h m)
   each_start (has_begun {past} {entries} r j c of_rule at new h) m = start_step r of_rule at (among_either entries m) (λ n. each_start h n)
   each_start (was_refused {past} r h) m = begun_still (Ended r false ∷ Began r ∷ past) refl (begun_before r (each_start h m))
-  each_start (has_ended {past} {entries} r id outcome s h) m =
+  each_start (has_ended {past} {entries} r id outcome ran s h) m =
       begun_still (Ended r (is_done outcome) ∷ past) refl (each_start h (end_step (among_either entries m)))
   each_start (lacks_one {past} r p h) m = begun_still (Lacks r p ∷ past) refl (each_start h m)
   each_start (has_halted {past} h) m = begun_still (Halts ∷ past) refl (each_start h m)
@@ -127,7 +127,7 @@ module _ (IsJob : Rule → Job → Type 0) (AreAt : Counts → Type 0) where
   each_began (has_begun r j c of_rule at new h) (there m) well = let k = each_began h m (λ n. well (there n)) in (k.0, longer (Started j c ∷ []) k.1)
   each_began (was_refused r h) here well = absurd (well here)
   each_began (was_refused r h) (there m) well = each_began h m (λ n. well (there (there n)))
-  each_began (has_ended r id outcome s h) m well = let k = each_began h m (λ n. well (there n)) in (k.0, longer (Finished id outcome ∷ []) k.1)
+  each_began (has_ended r id outcome ran s h) m well = let k = each_began h m (λ n. well (there n)) in (k.0, longer (Finished id outcome ∷ []) k.1)
   each_began (lacks_one r p h) m well = each_began h m (λ n. well (there n))
   each_began (has_halted h) m well = each_began h m (λ n. well (there n))
 
@@ -173,7 +173,7 @@ module _ (IsJob : Rule → Job → Type 0) (AreAt : Counts → Type 0) where
   start_at (has_begun {entries = entries} r j c of_rule at new h) front job counts back e =
       begin_step r of_rule at new h (cut_last entries front (Started j c) (Started job counts) back e) (λ mid f. start_at h front job counts mid f)
   start_at (was_refused r h) front job counts back e = began_later (Ended r false) (began_later (Began r) (start_at h front job counts back e))
-  start_at (has_ended {entries = entries} r id outcome s h) front job counts back e =
+  start_at (has_ended {entries = entries} r id outcome ran s h) front job counts back e =
       began_later (Ended r (is_done outcome))
       (before_end (cut_last entries front (Finished id outcome) (Started job counts) back e) (λ mid f. start_at h front job counts mid f))
   start_at (lacks_one r p h) front job counts back e = began_later (Lacks r p) (start_at h front job counts back e)
@@ -209,6 +209,56 @@ module _ (IsJob : Rule → Job → Type 0) (AreAt : Counts → Type 0) where
   each_settled (is_fresh r h) (there m) = on (Fresh r) (each_settled h m)
   each_settled (has_begun r j c of_rule at new h) m = further (Began r) (Started j c ∷ []) (each_settled h m)
   each_settled (was_refused r h) m = on (Ended r false) (on (Began r) (each_settled h m))
-  each_settled (has_ended r id outcome s h) m = settled_step r id outcome s m (λ n. each_settled h n)
+  each_settled (has_ended r id outcome ran s h) m = settled_step r id outcome s m (λ n. each_settled h n)
   each_settled (lacks_one r p h) m = on (Lacks r p) (each_settled h m)
   each_settled (has_halted h) m = on Halts (each_settled h m)
+
+  -- how a log grows with the steps
+  pub logged_nothing : (log : List Entry) → IsLogged IsJob AreAt [] log log
+  logged_nothing log = record { entries = []; grown = sym (append-nil log); are = nothing }
+
+  pub logged_fresh : {past : List Step} {old log : List Entry} (r : Rule) → IsLogged IsJob AreAt past old log → IsLogged IsJob AreAt (Fresh r ∷ past) old log
+  logged_fresh r h = record { entries = h.entries; grown = h.grown; are = is_fresh r h.are }
+
+  pub logged_lacking : {past : List Step} {old log : List Entry} (r : Rule) (p : Path) → IsLogged IsJob AreAt past old log → IsLogged IsJob AreAt (Lacks r p ∷ past) old log
+  logged_lacking r p h = record { entries = h.entries; grown = h.grown; are = lacks_one r p h.are }
+
+  pub logged_halt : {past : List Step} {old log : List Entry} → IsLogged IsJob AreAt past old log → IsLogged IsJob AreAt (Halts ∷ past) old log
+  logged_halt h = record { entries = h.entries; grown = h.grown; are = has_halted h.are }
+
+  pub logged_refusal : {past : List Step} {old log : List Entry} (r : Rule) → IsLogged IsJob AreAt past old log → IsLogged IsJob AreAt (Ended r false ∷ Began r ∷ past) old log
+  logged_refusal r h = record { entries = h.entries; grown = h.grown; are = was_refused r h.are }
+
+  pub logged_start : {past : List Step} {old log new : List Entry} (r : Rule) (job : Job) (counts : Counts) (h : IsLogged IsJob AreAt past old log) → IsJob r job → AreAt counts →
+      IsNewId h.entries job.id → new ≡ log ++ Started job counts ∷ [] → IsLogged IsJob AreAt (Began r ∷ past) old new
+  logged_start {old = old} r job counts h of_rule at own e = record {
+    entries = h.entries ++ Started job counts ∷ [];
+    grown = e ∙ ap (λ l. l ++ Started job counts ∷ []) h.grown ∙ append_assoc old h.entries (Started job counts ∷ []);
+    are = has_begun r job counts of_rule at own h.are;
+  }
+
+  pub logged_end : {past : List Step} {old log new : List Entry} (r : Rule) (id : ℕ) (outcome : Outcome) (h : IsLogged IsJob AreAt past old log) → Among r (began past) →
+      HasStarted IsJob h.entries r id → new ≡ log ++ Finished id outcome ∷ [] → IsLogged IsJob AreAt (Ended r (is_done outcome) ∷ past) old new
+  logged_end {old = old} r id outcome h ran started e = record {
+    entries = h.entries ++ Finished id outcome ∷ [];
+    grown = e ∙ ap (λ l. l ++ Finished id outcome ∷ []) h.grown ∙ append_assoc old h.entries (Finished id outcome ∷ []);
+    are = has_ended r id outcome ran started h.are;
+  }
+
+-- what is known of each job of a rule that began may be said otherwise
+module _ (IsJob IsJobToo : Rule → Job → Type 0) (AreAt AreAtToo : Counts → Type 0) (at_too : (counts : Counts) → AreAt counts → AreAtToo counts) where
+  entries_say : {steps : List Step} {entries : List Entry} → AreEntries IsJob AreAt steps entries →
+      ((r : Rule) (job : Job) → Among r (began steps) → IsJob r job → IsJobToo r job) → AreEntries IsJobToo AreAtToo steps entries
+  entries_say nothing too = nothing
+  entries_say (is_fresh r h) too = is_fresh r (entries_say h too)
+  entries_say (has_begun r job counts of_rule at own h) too =
+      has_begun r job counts (too r job here of_rule) (at_too counts at) own (entries_say h (λ q j m. too q j (there m)))
+  entries_say (was_refused r h) too = was_refused r (entries_say h (λ q j m. too q j (there m)))
+  entries_say (has_ended r id outcome ran s h) too =
+      has_ended r id outcome ran (record { job = s.job; counts = s.counts; of_rule = too r s.job ran s.of_rule; started = s.started; has_id = s.has_id }) (entries_say h too)
+  entries_say (lacks_one r p h) too = lacks_one r p (entries_say h too)
+  entries_say (has_halted h) too = has_halted (entries_say h too)
+
+  pub logged_too : {steps : List Step} {old new : List Entry} → IsLogged IsJob AreAt steps old new →
+      ((r : Rule) (job : Job) → Among r (began steps) → IsJob r job → IsJobToo r job) → IsLogged IsJobToo AreAtToo steps old new
+  logged_too h too = record { entries = h.entries; grown = h.grown; are = entries_say h.are too }

@@ -1,22 +1,24 @@
 -- What follows from the steps of a build over a world.
-use Rattle.std.proofs.Common.{◌≡◌, List, ◌∷◌, ◌++◌, sym, subst, inl, inr, ◌⊎◌}
-use Rattle.world_api.specs.Around.{Around}
+use Rattle.std.proofs.Common.{◌≡◌, ℕ, List, ◌∷◌, ◌++◌, sym, subst, inl, inr, ◌⊎◌}
+use Rattle.world_api.specs.Around.{Around, Started}
 use Rattle.world_api.specs.declared.job.Job.{Job}
 use Rattle.world_api.specs.Counts.{Counts}
+use Rattle.world_api.specs.Reads.{stamp_of}
 use Rattle.build_model.specs.Rules.{Rule, Among, there}
-use Rattle.build_model.specs.Headline.{BuildsByContent, IncrementalIsClean, HighEnough}
-use Rattle.build_model.specs.Laws.{IsBuild, TestsDue, HoldsForAnyDecider, EachStepIsClean, SettledBeforeStart}
+use Rattle.build_model.specs.Headline.{BuildsByContent, GraphsAreLawful, IncrementalIsClean, HighEnough}
+use Rattle.build_model.specs.Laws.{IsBuild, TestsDue, HoldsForAnyDecider, EachStepIsClean, SettledBeforeStart, CoursesAreBuilds}
 use Rattle.build_model.specs.Leaving.{StaysSound}
 use Rattle.build_model.specs.Resting.{RestsRightly}
-use Rattle.build_model.specs.Steps.{Step, Fresh, Began, IsRun}
+use Rattle.build_model.specs.Steps.{Step, Fresh, Began, began, IsRun}
 use Rattle.build_means.specs.Rules.{IsReading}
 use Rattle.build_means.specs.Builds.{Wanted, Kept, Runs, IsByContent, IsJobIn, graph_in, setting_in, build_in}
-use Rattle.build_means.specs.Laws.{SettledSucceed, RunsAreRight, RestsAreRight, RecordsStayTrue, LogsAreInOrder}
-use Rattle.build_means.specs.Logs.{AreUnrisen, EndedWell}
+use Rattle.build_means.specs.Laws.{SettledSucceed, RunsAreRight, RestsAreRight, RecordsStayTrue, LogsAreInOrder, SucceededHaveJobs, CoursesAreSeen}
+use Rattle.build_means.specs.Logs.{AreUnrisen, HasStarted, EndedWell}
 use Rattle.build_means.specs.Records.{records_in}
 use Rattle.build_means.proofs.Testing.{tests_due}
 use Rattle.build_means.proofs.Readings.{is_graph}
-use Rattle.build_means.proofs.Logging.{among_right, start_at, each_settled}
+use Rattle.build_means.proofs.Failing.{settled_not_failed}
+use Rattle.build_means.proofs.Logging.{among_right, each_start, each_began, start_at, each_settled}
 
 module _ (w : Wanted) (kept : Kept) (counts : Counts) (before after : Around) (reading : IsReading w.graph) (runs : Runs w kept counts before after) where
   is_build : IsBuild (setting_in w before) (build_in w kept before after) runs.steps
@@ -74,3 +76,22 @@ in_order settled_before_start w kept counts before after runs front job at back 
         Among (Fresh q) past ⊎ EndedWell (IsJobIn w kept before after) front q → Among (Fresh q) steps ⊎ EndedWell (IsJobIn w kept before after) front q
     among_later {q} later past r parts (inl m) = inl (subst (λ l. Among (Fresh q) l) (sym parts) (among_right later (there m)))
     among_later later past r parts (inr h) = inr h
+
+pub have_jobs : SucceededHaveJobs
+have_jobs w kept counts before after well =
+    record { each = each; all = all }
+  where
+    each : (job : Job) (at : Counts) → Among (Started job at) well.runs.log.entries → (r : Rule) × Among r (began well.runs.steps) × IsJobIn w kept before after r job
+    each job at m =
+        let h = each_start (IsJobIn w kept before after) (AreUnrisen w.keep counts) well.runs.log.are m in
+        (h.rule, h.stands, h.of_rule)
+    all : (r : Rule) → Among r (began well.runs.steps) → (id : ℕ) × HasStarted (IsJobIn w kept before after) well.runs.log.entries r id
+    all r m =
+        let is_settled = well.due.needed r (well.due.starts.only r m).0 in
+        each_began (IsJobIn w kept before after) (AreUnrisen w.keep counts) well.runs.log.are m
+        (settled_not_failed (setting_in w before) (build_in w kept before after) well.runs.steps well.runs.seen.build.run is_settled)
+
+pub are_seen : GraphsAreLawful → CoursesAreBuilds → CoursesAreSeen
+are_seen lawful courses_are_builds w kept before after jobs steps reading course =
+    courses_are_builds (setting_in w before) (build_in w kept before after) jobs after.tree (stamp_of after) steps
+    (lawful (graph_in w before) before.tree (is_graph w.graph reading before.law w.hash before.tree)) course

@@ -2,18 +2,18 @@
 use Rattle.std.specs.Prelude.{◌≡◌, ℕ, Bool, List, min, max, Option}
 use Rattle.scons_base.specs.declared.limits.TheConstants.{JOB_LIMIT}
 use Rattle.scons_base.specs.declared.ids.NodeId.{NodeId}
-use Rattle.world_api.specs.Around.{Around}
+use Rattle.world_api.specs.Around.{Around, Entry, Started}
 use Rattle.world_api.specs.Counts.{Counts}
 use Rattle.world_api.specs.Reads.{stamp_of}
 use Rattle.world_api.specs.declared.hash.Hash.{Hash}
 use Rattle.world_api.specs.declared.job.Job.{Job}
 use Rattle.deciders.specs.declared.recorded.Rec.{Rec}
 use Rattle.rule_graph.specs.Graphs.{RuleGraph}
-use Rattle.build_model.specs.Rules.{Path, content, Rule, Setting}
+use Rattle.build_model.specs.Rules.{Path, content, Rule, Setting, Among}
 use Rattle.build_model.specs.Records.{AreDistinct, AreSound}
 use Rattle.build_model.specs.Needs.{Found}
 use Rattle.build_model.specs.Resting.{IsAtRest}
-use Rattle.build_model.specs.Steps.{Step, Build, present_dependencies, Succeeds}
+use Rattle.build_model.specs.Steps.{Step, Build, began, present_dependencies, Succeeds}
 use Rattle.build_model.specs.Graphs.{Graph, setting}
 use Rattle.build_model.specs.Laws.{AnyDecider, IsSeenSo}
 use Rattle.build_model.specs.OneJob.{TakesFirst}
@@ -23,7 +23,7 @@ use Rattle.build_model.specs.Leaving.{IsRecordAfter}
 use Rattle.build_means.specs.Rules.{paths_of}
 use Rattle.build_means.specs.Graphs.{graph_of}
 use Rattle.build_means.specs.Records.{records_in}
-use Rattle.build_means.specs.Logs.{IsJobOf, AreUnrisen, IsLogged}
+use Rattle.build_means.specs.Logs.{IsJobOf, AreUnrisen, HasStarted, IsLogged}
 
 -- What a build is asked for.
 pub record Wanted : Type 0 where
@@ -106,3 +106,8 @@ pub record Succeeded (w : Wanted) (kept : Kept) (counts : Counts) (before after 
   pub waits : WaitsRightly (setting_in w before) (build_in w kept before after) runs.steps
   pub due : AnyDecider (setting_in w before) (build_in w kept before after) runs.steps
   pub built : IsByContent w kept before after → IsBuilt (graph_in w before) (build_in w kept before after) runs.steps
+
+-- The jobs that a build started are those of the rules that began: each job is of such a rule, and each such rule has one.
+pub record AreJobsOf (w : Wanted) (kept : Kept) (before after : Around) (steps : List Step) (entries : List Entry) : Type 0 where
+  pub each : (job : Job) (counts : Counts) → Among (Started job counts) entries → (r : Rule) × Among r (began steps) × IsJobIn w kept before after r job
+  pub all : (r : Rule) → Among r (began steps) → (id : ℕ) × HasStarted (IsJobIn w kept before after) entries r id

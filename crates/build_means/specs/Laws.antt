@@ -4,6 +4,7 @@ use Rattle.std.specs.Option.{option_map}
 use Rattle.world_api.specs.Act.{Law}
 use Rattle.world_api.specs.Around.{Around, Entry, Started}
 use Rattle.world_api.specs.Counts.{Counts}
+use Rattle.world_api.specs.Reads.{stamp_of}
 use Rattle.world_api.specs.declared.decider.Decider.{Decider}
 use Rattle.world_api.specs.declared.hash.Hash.{Hash}
 use Rattle.world_api.specs.declared.job.Job.{Job}
@@ -14,7 +15,8 @@ use Rattle.rule_graph.specs.Graphs.{RuleGraph}
 use Rattle.build_model.specs.Rules.{Path, Tree, Rule, Among}
 use Rattle.build_model.specs.Contents.{IsKnown, in_tree}
 use Rattle.build_model.specs.Graphs.{IsGraph, copy_rule, rule_at, setting, clean_build}
-use Rattle.build_model.specs.Laws.{NeedsIn, TestsDue, EachStep}
+use Rattle.build_model.specs.Laws.{NeedsIn, TestsDue, EachStep, IsSeenSo}
+use Rattle.build_model.specs.Moments.{Job as Given, IsCourse}
 use Rattle.build_model.specs.Records.{AreSound}
 use Rattle.build_model.specs.Resting.{LeavesAtRest}
 use Rattle.build_model.specs.Stale.{HasChanged}
@@ -25,7 +27,7 @@ use Rattle.build_means.specs.Copies.{copied_from, is_known}
 use Rattle.build_means.specs.Records.{record_in, records_in}
 use Rattle.build_means.specs.Graphs.{graph_of}
 use Rattle.build_means.specs.Logs.{EndedWell}
-use Rattle.build_means.specs.Builds.{Wanted, Kept, Runs, Rests, IsByContent, IsJobIn, KeepsRecords, AllSettled, Succeeded, graph_in, setting_in, build_in}
+use Rattle.build_means.specs.Builds.{Wanted, Kept, Runs, Rests, IsByContent, IsJobIn, AreJobsOf, KeepsRecords, AllSettled, Succeeded, graph_in, setting_in, build_in}
 
 -- The test by which a rule is found due meets its definition, for all four deciders.
 abbrev pub TestsMeetDue : Type 0
@@ -55,6 +57,12 @@ RulesAreThese = (g : RuleGraph) (law : Law) (hash : Hash) (tree : Tree) → IsRe
 abbrev pub KnownAreThese : Type 0
 KnownAreThese = (g : RuleGraph) (law : Law) (hash : Hash) (tree : Tree) → IsReading g → (p : Path) →
     (is_known g tree p ≡ true) ↔ IsKnown (setting (graph_of g law hash tree) tree) tree p
+
+-- What was seen at each moment is what stands at the end: a course from where a build began to where it ended is what `Runs` asks.
+abbrev pub CoursesAreSeen : Type 0
+CoursesAreSeen = (w : Wanted) (kept : Kept) (before after : Around) (jobs : List Given) (steps : List Step) → IsReading w.graph →
+    IsCourse (setting_in w before) (build_in w kept before after) jobs after.tree (stamp_of after) steps →
+    IsSeenSo (setting_in w before) (build_in w kept before after) after.tree (stamp_of after) steps
 
 -- A build at whose end every rule that makes what is requested is settled, and that waited rightly, succeeded.
 abbrev pub SettledSucceed : Type 0
@@ -92,3 +100,8 @@ abbrev pub LogsAreInOrder : Type 0
 LogsAreInOrder = (w : Wanted) (kept : Kept) (counts : Counts) (before after : Around) → (runs : Runs w kept counts before after) →
     (front : List Entry) (job : Job) (at : Counts) (back : List Entry) → runs.log.entries ≡ front ++ Started job at ∷ back →
     IsInOrder w kept before after runs.steps front job
+
+-- A build that ended well started one job for each rule that began, and no other.
+abbrev pub SucceededHaveJobs : Type 0
+SucceededHaveJobs = (w : Wanted) (kept : Kept) (counts : Counts) (before after : Around) → (well : Succeeded w kept counts before after) →
+    AreJobsOf w kept before after well.runs.steps well.runs.log.entries

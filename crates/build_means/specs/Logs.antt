@@ -51,7 +51,7 @@ pub record HasStarted (IsJob : Rule → Job → Type 0) (entries : List Entry) (
   pub has_id : job.id ≡ id
 
 -- What stands in the log of the steps of a build, the latest step first and the latest entry last: a start, by a job of the
--- rule with an id of its own, with the counts at that moment; and an ending, by the id of that job. Whatever else a step is has
+-- rule with an id of its own, with the counts at that moment; and an ending of a rule that began, by the id of its job. Whatever else a step is has
 -- no entry, and neither has a rule that couldn't be started.
 pub data AreEntries (IsJob : Rule → Job → Type 0) (AreAt : Counts → Type 0) : List Step → List Entry → Type 0 where
   nothing : AreEntries IsJob AreAt [] []
@@ -62,8 +62,8 @@ pub data AreEntries (IsJob : Rule → Job → Type 0) (AreAt : Counts → Type 0
       AreEntries IsJob AreAt past entries → AreEntries IsJob AreAt (Began r ∷ past) (entries ++ Started job counts ∷ [])
   was_refused : {past : List Step} {entries : List Entry} (r : Rule) →
       AreEntries IsJob AreAt past entries → AreEntries IsJob AreAt (Ended r false ∷ Began r ∷ past) entries
-  has_ended : {past : List Step} {entries : List Entry} (r : Rule) (id : ℕ) (outcome : Outcome) → HasStarted IsJob entries r id →
-      AreEntries IsJob AreAt past entries →
+  has_ended : {past : List Step} {entries : List Entry} (r : Rule) (id : ℕ) (outcome : Outcome) → Among r (began past) →
+      HasStarted IsJob entries r id → AreEntries IsJob AreAt past entries →
       AreEntries IsJob AreAt (Ended r (is_done outcome) ∷ past) (entries ++ Finished id outcome ∷ [])
   lacks_one : {past : List Step} {entries : List Entry} (r : Rule) (p : Path) →
       AreEntries IsJob AreAt past entries → AreEntries IsJob AreAt (Lacks r p ∷ past) entries

@@ -1,10 +1,10 @@
 //! The laws: each is the contract of a function that does nothing.
 ghost use Rattle.build_means.specs.Grown.{GrownAreThese};
-ghost use Rattle.build_means.specs.Laws.{TestsMeetDue, ChangesAreAlike, ReadingsAreGraphs, RulesAreThese, KnownAreThese, SettledSucceed, RunsAreRight, RestsAreRight, RecordsStayTrue, LogsAreInOrder};
+ghost use Rattle.build_means.specs.Laws.{TestsMeetDue, ChangesAreAlike, ReadingsAreGraphs, RulesAreThese, KnownAreThese, SettledSucceed, RunsAreRight, RestsAreRight, RecordsStayTrue, LogsAreInOrder, SucceededHaveJobs, CoursesAreSeen};
 
 use build_model::{
-    any_decider, each_step, high_enough, incremental_is_clean, rests_rightly, settled_before_start,
-    stays_sound,
+    any_decider, courses_are_builds, each_step, graphs_are_lawful, high_enough,
+    incremental_is_clean, rests_rightly, settled_before_start, stays_sound,
 };
 
 /// The test by which a rule is found due meets its definition, for all four deciders.
@@ -36,6 +36,14 @@ pub fn known_are_these()
 pub fn grown_are_these()
     ensures { GrownAreThese }
 {}
+
+/// A course from where a build began to where it ended is seen so at the end.
+pub fn courses_are_seen()
+    ensures { CoursesAreSeen }
+{
+    graphs_are_lawful();
+    courses_are_builds();
+}
 
 /// A build at whose end every rule that makes what is requested is settled, and that waited rightly, succeeded.
 pub fn settled_succeed()
@@ -73,3 +81,8 @@ pub fn logs_are_in_order()
 {
     settled_before_start();
 }
+
+/// A build that ended well started one job for each rule that began, and no other.
+pub fn succeeded_have_jobs()
+    ensures { SucceededHaveJobs }
+{}
