@@ -2,7 +2,7 @@
 use Rattle.std.proofs.Common.{List, Some, None}
 use Rattle.build_model.specs.Rules.{Bytes, Content, Tree, Stamps, Rule, Path, Setting, Among}
 use Rattle.build_model.specs.Records.{IsMet}
-use Rattle.build_model.specs.Steps.{Step, Build, IsWanted, IsPrepared, IsDecided, IsFresh, IsStart, IsLacking}
+use Rattle.build_model.specs.Steps.{Step, Build, IsWanted, IsDecided, IsFresh, IsStart, IsLacking}
 use Rattle.build_model.specs.Moments.{Job, so_far, IsCourse, begins, changes, finds, starts, makes, fails, lacks, halts}
 
 met_more : {met more : List Bytes} → ((bytes : Bytes) → Among bytes met → Among bytes more) → (x : Content) → IsMet met x → IsMet more x
@@ -17,7 +17,9 @@ module _ (s : Setting) (b : Build) (met : List Bytes) (after : Tree) (stamps_aft
   decided_so : {t : Tree} {stamps : Stamps} {past : List Step} {r : Rule} → IsDecided s (so_far b t stamps) past r →
       IsDecided s (so_far (record b { met = met; after = after; stamps_after = stamps_after }) t stamps) past r
   decided_so {t} {stamps} h = record {
-    goes_on = h.goes_on; not_began = h.not_began; not_done = h.not_done;
+    goes_on = h.goes_on;
+    not_began = h.not_began;
+    not_done = h.not_done;
     prepared = record { wanted = wanted_so {t = t} {stamps = stamps} h.prepared.wanted; whole = h.prepared.whole; dependencies = h.prepared.dependencies; required = h.prepared.required };
   }
 
@@ -32,8 +34,13 @@ module _ (s : Setting) (b : Build) (met : List Bytes) (after : Tree) (stamps_aft
   lacking_so : {t : Tree} {stamps : Stamps} {past : List Step} {r : Rule} {p : Path} → IsLacking s (so_far b t stamps) past r p →
       IsLacking s (so_far (record b { met = met; after = after; stamps_after = stamps_after }) t stamps) past r p
   lacking_so {t} {stamps} h = record {
-    goes_on = h.goes_on; not_began = h.not_began; not_done = h.not_done;
-    wanted = wanted_so {t = t} {stamps = stamps} h.wanted; whole = h.whole; first_missing = h.first_missing; required = h.required;
+    goes_on = h.goes_on;
+    not_began = h.not_began;
+    not_done = h.not_done;
+    wanted = wanted_so {t = t} {stamps = stamps} h.wanted;
+    whole = h.whole;
+    first_missing = h.first_missing;
+    required = h.required;
   }
 
   pub course_so : {jobs : List Job} {t : Tree} {stamps : Stamps} {past : List Step} → IsCourse s b jobs t stamps past →

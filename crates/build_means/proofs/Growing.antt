@@ -57,8 +57,13 @@ module _ (b : Begun) (g : RuleGraph) (read : IsReading b.graph) (reading : IsRea
       let ignored = paths_stay r.ignored is.ignored in
       let required = paths_stay r.required is.required in
       λ i. record (rule_in g r) {
-        targets = targets i; sources = sources i; scanned = scanned i; depends = depends i;
-        libraries = libs i; ignored = ignored i; required = required i;
+        targets = targets i;
+        sources = sources i;
+        scanned = scanned i;
+        depends = depends i;
+        libraries = libs i;
+        ignored = ignored i;
+        required = required i;
       }
 
   -- the target of a rule is a path of its node
@@ -80,7 +85,7 @@ module _ (b : Begun) (g : RuleGraph) (read : IsReading b.graph) (reading : IsRea
       let target = subst (λ ps. Among path ps) (paths_stay x.targets is.targets) among in
       rule_is b.graph read b.law b.hash b.tree path
       ∙ ap (λ o. or_copied (option_map (rule_in b.graph) o) (option_map (copy_rule path) (copied_from b.graph b.tree path)))
-        (rule_with_target b.graph read (at_place b.graph.rules number at) target)
+      (rule_with_target b.graph read (at_place b.graph.rules number at) target)
       ∙ ap Some (sym (rule_stays x is))
       ∙ sym (ap (λ o. or_copy_in g o (slice_get g.rules number)) at)
 
@@ -122,8 +127,8 @@ module _ (b : Begun) (g : RuleGraph) (read : IsReading b.graph) (reading : IsRea
       let is = read.named.each_rule place.0 x place.1 in
       let led = rule_with_target g reading (in_grown h.0) (subst (λ ps. Among path ps) (sym (paths_stay x.targets is.targets)) h.1) in
       let lost : rule_with g path ≡ None =
-          ap (λ o. option_and_then (slice_get g.rules) (option_and_then (rule_of g.rules) o)) (reading.apart node path at)
-          ∙ ap (λ o. option_and_then (slice_get g.rules) o) none in
+      ap (λ o. option_and_then (slice_get g.rules) (option_and_then (rule_of g.rules) o)) (reading.apart node path at)
+      ∙ ap (λ o. option_and_then (slice_get g.rules) o) none in
       none_some (sym lost ∙ led)
 
   -- in a grown graph the rule of a node is the rule of its path

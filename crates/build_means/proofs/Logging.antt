@@ -134,14 +134,23 @@ module _ (IsJob : Rule → Job → Type 0) (AreAt : Counts → Type 0) where
   began_later : {steps : List Step} {front : List Entry} {job : Job} {counts : Counts} (step : Step) →
       BeganAt IsJob AreAt steps front job counts → BeganAt IsJob AreAt (step ∷ steps) front job counts
   began_later step h = record {
-    rule = h.rule; later = step ∷ h.later; past = h.past; parts = ap (λ l. step ∷ l) h.parts;
-    before = h.before; of_rule = h.of_rule; at = h.at; new_id = h.new_id;
+    rule = h.rule;
+    later = step ∷ h.later;
+    past = h.past;
+    parts = ap (λ l. step ∷ l) h.parts;
+    before = h.before;
+    of_rule = h.of_rule;
+    at = h.at;
+    new_id = h.new_id;
   }
 
   last_began : {past : List Step} {entries front : List Entry} {j job : Job} {c counts : Counts} (r : Rule) → IsJob r j → AreAt c → IsNewId entries j.id →
       AreEntries IsJob AreAt past entries → entries ≡ front → j ≡ job → c ≡ counts → BeganAt IsJob AreAt (Began r ∷ past) front job counts
   last_began {past} {entries} {front} {j} {job} r of_rule at new h same is so = record {
-    rule = r; later = []; past = past; parts = refl;
+    rule = r;
+    later = [];
+    past = past;
+    parts = refl;
     before = subst (λ l. AreEntries IsJob AreAt past l) same h;
     of_rule = subst (λ k. IsJob r k) is of_rule;
     at = subst (λ k. AreAt k) so at;

@@ -82,7 +82,7 @@ module _ (g : RuleGraph) (reading : IsReading g) where
           let path = first_place (bytes_eq p) g.nodes n number in
           let is = (Decides-eqb target.0.0 n).0 target.2 in
           let named : path_of g.nodes target.0 ≡ p =
-              ap (λ k. unwrap_or (slice_get g.nodes k) []) is ∙ ap (λ o. unwrap_or o []) path.1 ∙ sym ((bytes_eq-Decides p path.0).0 path.2) in
+          ap (λ k. unwrap_or (slice_get g.nodes k) []) is ∙ ap (λ o. unwrap_or o []) path.1 ∙ sym ((bytes_eq-Decides p path.0).0 path.2) in
           (at_place g.rules i e, subst (λ q. Among q (paths_of g x.targets)) named (map_among (path_of g.nodes) target.1))
 
   -- and what it leads to is a rule with that target
@@ -108,6 +108,7 @@ module _ (g : RuleGraph) (reading : IsReading g) where
       where
         no_copies : (r : Rule) → Among r (rules_in g) → r.copies ≡ false
         no_copies r m = let x = among_map (rule_in g) g.rules m in ap (λ y. y.copies) x.2
+
         one_rule : (r : Rule) (p : Path) → Among r (rules_in g) → Among p r.targets → declared_rule (rules_in g) p ≡ Some r
         one_rule r p m n =
             let x = among_map (rule_in g) g.rules m in

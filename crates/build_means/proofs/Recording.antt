@@ -123,7 +123,7 @@ record_same a b f g e =
     let works = work_same a.work b.work (ap (λ r. r.work) e) in
     let hashes = hash_same a.hash b.hash (ap (λ r. r.hash) e) in
     let deps = deps_same a.hash a.deps b.deps (digests_valid a f) (subst (λ h. list_all (is_by h) b.deps ≡ true) (sym hashes) (digests_valid b g))
-        (ap (λ r. r.dependencies) e) in
+    (ap (λ r. r.dependencies) e) in
     λ i. record { work = works i; hash = hashes i; targets = ap (λ r. r.targets) e i; signed = ap (λ r. r.signed) e i; deps = deps i }
 
 names_in : (deps : List Dep) → map model.name_of (map dependency_in deps) ≡ map name_of deps
@@ -136,13 +136,19 @@ stamps_in (d ∷ deps) = ap (λ l. d.stamp ∷ l) (stamps_in deps)
 
 to_action : (old now : Rec) → kept.IsSameAction old now → model.IsSameAction (record_in old) (record_in now)
 to_action old now h = record {
-  work = ap work_byte h.work; hash = ap hash_byte h.hash; signed = h.signed; targets = h.targets;
+  work = ap work_byte h.work;
+  hash = ap hash_byte h.hash;
+  signed = h.signed;
+  targets = h.targets;
   names = names_in now.deps ∙ h.names ∙ sym (names_in old.deps);
 }
 
 from_action : (old now : Rec) → model.IsSameAction (record_in old) (record_in now) → kept.IsSameAction old now
 from_action old now h = record {
-  work = work_same now.work old.work h.work; hash = hash_same now.hash old.hash h.hash; targets = h.targets; signed = h.signed;
+  work = work_same now.work old.work h.work;
+  hash = hash_same now.hash old.hash h.hash;
+  targets = h.targets;
+  signed = h.signed;
   names = sym (names_in now.deps) ∙ h.names ∙ names_in old.deps;
 }
 
@@ -166,9 +172,13 @@ to_newer target now h =
 from_newer : (target : Option ℕ) (now : Rec) → model.HasNewer target (record_in now) → Any (λ dep. kept.IsAfter target dep.stamp) now.deps
 from_newer target now h =
     let dep = among_map dependency_in now.deps h.stands in
-    let place = place_of dep.1 in
-    (place.0, dep.0, slice_get_within now.deps place.0 dep.0 place.1, get_or_from_slice_get now.deps place.0 dep.0 dep.0 place.1,
-    from_after target dep.0.stamp (subst (λ d. model.IsAfter d.stamp target) dep.2 h.is_after))
+    let place = place_of dep.1 in (
+      place.0,
+      dep.0,
+      slice_get_within now.deps place.0 dep.0 place.1,
+      get_or_from_slice_get now.deps place.0 dep.0 dep.0 place.1,
+      from_after target dep.0.stamp (subst (λ d. model.IsAfter d.stamp target) dep.2 h.is_after),
+    )
 
 -- where both digests are by one function, they differ where their bytes do
 module _ (hash : Hash) where

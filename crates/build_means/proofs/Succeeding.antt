@@ -40,9 +40,9 @@ succeeds any_decider incremental_is_clean w kept counts before after reading run
   runs = runs;
   waits = waits;
   due = any_decider (setting_in w before) (build_in w kept before after) runs.steps (is_build w kept counts before after reading runs)
-    (λ r needed. is_tested w kept counts before after reading runs r) settled;
+      (λ r needed. is_tested w kept counts before after reading runs r) settled;
   built = λ by. incremental_is_clean (graph_in w before) (build_in w kept before after) runs.steps
-    (by_content w kept counts before after reading runs by) settled;
+      (by_content w kept counts before after reading runs by) settled;
 }
 
 pub are_right : EachStepIsClean → HighEnough → RunsAreRight
@@ -68,8 +68,8 @@ in_order settled_before_start w kept counts before after runs front job at back 
       rule = h.rule;
       job_of = h.of_rule;
       needs = λ q needs. among_later h.later h.past h.rule h.parts
-        (each_settled IsJob (AreUnrisen w.keep counts) h.before
-        (settled_before_start (setting_in w before) (build_in w kept before after) h.later h.past h.rule q run needs));
+          (each_settled IsJob (AreUnrisen w.keep counts) h.before
+          (settled_before_start (setting_in w before) (build_in w kept before after) h.later h.past h.rule q run needs));
     }
   where
     among_later : {q : Rule} {steps : List Step} (later past : List Step) (r : Rule) → steps ≡ later ++ Began r ∷ past →
@@ -85,6 +85,7 @@ have_jobs w kept counts before after well =
     each job at m =
         let h = each_start (IsJobIn w kept before after) (AreUnrisen w.keep counts) well.runs.log.are m in
         (h.rule, h.stands, h.of_rule)
+
     all : (r : Rule) → Among r (began well.runs.steps) → (id : ℕ) × HasStarted (IsJobIn w kept before after) well.runs.log.entries r id
     all r m =
         let is_settled = well.due.needed r (well.due.starts.only r m).0 in

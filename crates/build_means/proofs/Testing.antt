@@ -79,6 +79,7 @@ newer_decides target now = (to, from)
     to e =
         let h = any_there (λ d. is_after d.stamp target) now.dependencies e in
         record { dependency = h.0; stands = h.1; is_after = (after_decides h.0.stamp target).0 h.2 }
+
     from : HasNewer target now → has_newer target now ≡ true
     from h = there_any (λ d. is_after d.stamp target) h.stands ((after_decides h.dependency.stamp target).1 h.is_after)
 
