@@ -8,11 +8,13 @@ use Rattle.build_model.specs.Rules.{Rule, Among, there}
 use Rattle.build_model.specs.Headline.{BuildsByContent, GraphsAreLawful, IncrementalIsClean, HighEnough}
 use Rattle.build_model.specs.Laws.{IsBuild, TestsDue, HoldsForAnyDecider, EachStepIsClean, SettledBeforeStart, CoursesAreBuilds}
 use Rattle.build_model.specs.Leaving.{StaysSound}
-use Rattle.build_model.specs.Resting.{RestsRightly}
+use Rattle.build_model.specs.Needs.{is_requested}
+use Rattle.build_model.specs.Resting.{RestsRightly, KeepsGoing}
+use Rattle.build_model.specs.Waiting.{BusyAtEachEnding}
 use Rattle.build_model.specs.Steps.{Step, Fresh, Began, began, IsRun}
 use Rattle.build_means.specs.Rules.{IsReading}
 use Rattle.build_means.specs.Builds.{Wanted, Kept, Runs, IsByContent, IsJobIn, graph_in, setting_in, build_in}
-use Rattle.build_means.specs.Laws.{SettledSucceed, RunsAreRight, RestsAreRight, RecordsStayTrue, LogsAreInOrder, SucceededHaveJobs, CoursesAreSeen}
+use Rattle.build_means.specs.Laws.{SettledSucceed, RunsAreRight, RestsAreRight, RecordsStayTrue, LogsAreInOrder, SucceededHaveJobs, CoursesAreSeen, GoingOnIsRight, EndingsAreBusy}
 use Rattle.build_means.specs.Logs.{AreUnrisen, HasStarted, EndedWell}
 use Rattle.build_means.specs.Records.{records_in}
 use Rattle.build_means.proofs.Testing.{tests_due}
@@ -96,3 +98,16 @@ pub are_seen : GraphsAreLawful → CoursesAreBuilds → CoursesAreSeen
 are_seen lawful courses_are_builds w kept before after jobs steps reading course =
     courses_are_builds (setting_in w before) (build_in w kept before after) jobs after.tree (stamp_of after) steps
     (lawful (graph_in w before) before.tree (is_graph w.graph reading before.law w.hash before.tree)) course
+
+pub go_on : KeepsGoing → HighEnough → GoingOnIsRight
+go_on keeps_going high_enough w kept counts before after reading runs by rests taken out =
+    let builds = by_content w kept counts before after reading runs by in
+    keeps_going (setting_in w before) (build_in w kept before after) runs.steps rests.found taken _ (is_build w kept counts before after reading runs) builds.by
+    (high_enough (graph_in w before) (build_in w kept before after) runs.steps builds.graph builds.run) rests.at_rest out
+
+pub are_busy : BusyAtEachEnding → HighEnough → EndingsAreBusy
+are_busy busy high_enough w kept counts before after reading well by later past r ended_well e =
+    let builds = by_content w kept counts before after reading well.runs by in
+    busy (setting_in w before) (build_in w kept before after) well.runs.steps _ (is_build w kept counts before after reading well.runs) builds.by
+    (high_enough (graph_in w before) (build_in w kept before after) well.runs.steps builds.graph builds.run)
+    (λ p x m is. well.due.needed x (is_requested p m is)) well.waits later past r ended_well e

@@ -1,5 +1,5 @@
 -- What is so of every reading, and of every build.
-use Rattle.std.specs.Prelude.{ℕ, ◌≡◌, ◌↔◌, ◌⊎◌, true, List, ◌∷◌, ◌++◌, Option, Some, None}
+use Rattle.std.specs.Prelude.{ℕ, ◌≡◌, ◌↔◌, ◌⊎◌, Bool, true, List, ◌∷◌, ◌++◌, Option, Some, None}
 use Rattle.std.specs.Option.{option_map}
 use Rattle.world_api.specs.Act.{Law}
 use Rattle.world_api.specs.Around.{Around, Entry, Started}
@@ -16,12 +16,13 @@ use Rattle.build_model.specs.Rules.{Path, Tree, Rule, Among}
 use Rattle.build_model.specs.Contents.{IsKnown, in_tree}
 use Rattle.build_model.specs.Graphs.{IsGraph, copy_rule, rule_at, setting, clean_build}
 use Rattle.build_model.specs.Laws.{NeedsIn, TestsDue, EachStep, IsSeenSo}
+use Rattle.build_model.specs.Needs.{Found}
 use Rattle.build_model.specs.Moments.{Job as Given, IsCourse}
 use Rattle.build_model.specs.Records.{AreSound}
-use Rattle.build_model.specs.Resting.{LeavesAtRest}
+use Rattle.build_model.specs.Resting.{LeavesAtRest, IsTakenOut, GoesOn}
 use Rattle.build_model.specs.Stale.{HasChanged}
-use Rattle.build_model.specs.Steps.{Step, Fresh, Build}
-use Rattle.build_model.specs.Waiting.{WaitsRightly}
+use Rattle.build_model.specs.Steps.{Step, Fresh, Ended, Build}
+use Rattle.build_model.specs.Waiting.{WaitsRightly, IsBusy}
 use Rattle.build_means.specs.Rules.{IsReading, rule_in, rule_with, decider_of}
 use Rattle.build_means.specs.Copies.{copied_from, is_known}
 use Rattle.build_means.specs.Records.{record_in, records_in}
@@ -105,3 +106,19 @@ LogsAreInOrder = (w : Wanted) (kept : Kept) (counts : Counts) (before after : Ar
 abbrev pub SucceededHaveJobs : Type 0
 SucceededHaveJobs = (w : Wanted) (kept : Kept) (counts : Counts) (before after : Around) → (well : Succeeded w kept counts before after) →
     AreJobsOf w kept before after well.runs.steps well.runs.log.entries
+
+-- A build that went on after faults and came to rest, by the clean contents with the targets of hindered rules taken out: each
+-- rule that is needed so and stale was started, or is faulty, skipped or held.
+abbrev pub GoingOnIsRight : Type 0
+GoingOnIsRight = (w : Wanted) (kept : Kept) (counts : Counts) (before after : Around) → IsReading w.graph →
+    (runs : Runs w kept counts before after) → IsByContent w kept before after → (rests : Rests w kept before after runs.steps) →
+    (taken : Found) → IsTakenOut (setting_in w before) (clean_build (graph_in w before) before.tree) runs.steps rests.found taken →
+    GoesOn (setting_in w before) (build_in w kept before after) (clean_build (graph_in w before) before.tree) runs.steps rests.found taken
+
+-- Before each ending of a build that ended well as many actions ran as may, or whatever is stale and could be started waited
+-- for a stale rule that hadn't ended.
+abbrev pub EndingsAreBusy : Type 0
+EndingsAreBusy = (w : Wanted) (kept : Kept) (counts : Counts) (before after : Around) → IsReading w.graph →
+    (well : Succeeded w kept counts before after) → IsByContent w kept before after →
+    (later past : List Step) (r : Rule) (ended_well : Bool) → well.runs.steps ≡ later ++ Ended r ended_well ∷ past →
+    IsBusy (setting_in w before) (build_in w kept before after) (clean_build (graph_in w before) before.tree) past

@@ -1,10 +1,11 @@
 //! The laws: each is the contract of a function that does nothing.
 ghost use Rattle.build_means.specs.Grown.{GrownAreThese};
-ghost use Rattle.build_means.specs.Laws.{TestsMeetDue, ChangesAreAlike, ReadingsAreGraphs, RulesAreThese, KnownAreThese, SettledSucceed, RunsAreRight, RestsAreRight, RecordsStayTrue, LogsAreInOrder, SucceededHaveJobs, CoursesAreSeen};
+ghost use Rattle.build_means.specs.Laws.{TestsMeetDue, ChangesAreAlike, ReadingsAreGraphs, RulesAreThese, KnownAreThese, SettledSucceed, RunsAreRight, RestsAreRight, RecordsStayTrue, LogsAreInOrder, SucceededHaveJobs, CoursesAreSeen, GoingOnIsRight, EndingsAreBusy};
 
 use build_model::{
-    any_decider, courses_are_builds, each_step, graphs_are_lawful, high_enough,
-    incremental_is_clean, rests_rightly, settled_before_start, stays_sound,
+    any_decider, busy_at_each_ending, courses_are_builds, each_step, graphs_are_lawful,
+    high_enough, incremental_is_clean, keeps_going, rests_rightly, settled_before_start,
+    stays_sound,
 };
 
 /// The test by which a rule is found due meets its definition, for all four deciders.
@@ -86,3 +87,19 @@ pub fn logs_are_in_order()
 pub fn succeeded_have_jobs()
     ensures { SucceededHaveJobs }
 {}
+
+/// A build that went on after faults and came to rest started what it could.
+pub fn going_on_is_right()
+    ensures { GoingOnIsRight }
+{
+    keeps_going();
+    high_enough();
+}
+
+/// Before each ending of a build that ended well as many actions ran as may, or nothing more could be started.
+pub fn endings_are_busy()
+    ensures { EndingsAreBusy }
+{
+    busy_at_each_ending();
+    high_enough();
+}

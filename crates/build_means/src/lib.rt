@@ -5,7 +5,7 @@
 mod laws;
 
 pub use laws::{
-    changes_are_alike, courses_are_seen, grown_are_these, known_are_these, logs_are_in_order,
-    readings_are_graphs, records_stay_true, rests_are_right, rules_are_these, runs_are_right,
-    settled_succeed, succeeded_have_jobs, tests_meet_due,
+    changes_are_alike, courses_are_seen, endings_are_busy, going_on_is_right, grown_are_these,
+    known_are_these, logs_are_in_order, readings_are_graphs, records_stay_true, rests_are_right,
+    rules_are_these, runs_are_right, settled_succeed, succeeded_have_jobs, tests_meet_due,
 };
