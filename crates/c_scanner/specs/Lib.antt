@@ -1,4 +1,3 @@
 pub mod Lines
 pub mod Includes
 pub mod Patterns
-pub mod Suffixes
