@@ -112,7 +112,7 @@ SucceededHaveJobs = (w : Wanted) (kept : Kept) (counts : Counts) (before after :
 abbrev pub GoingOnIsRight : Type 0
 GoingOnIsRight = (w : Wanted) (kept : Kept) (counts : Counts) (before after : Around) → IsReading w.graph →
     (runs : Runs w kept counts before after) → IsByContent w kept before after → (rests : Rests w kept before after runs.steps) →
-    (taken : Found) → IsTakenOut (setting_in w before) (clean_build (graph_in w before) before.tree) runs.steps rests.found taken →
+    (taken : Found) → IsTakenOut (setting_in w before) (build_in w kept before after) (clean_build (graph_in w before) before.tree) runs.steps rests.found taken →
     GoesOn (setting_in w before) (build_in w kept before after) (clean_build (graph_in w before) before.tree) runs.steps rests.found taken
 
 -- Before each ending of a build that ended well as many actions ran as may, or whatever is stale and could be started waited
