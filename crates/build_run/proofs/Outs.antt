@@ -18,7 +18,7 @@ use Rattle.task_plan.specs.declared.want.PlanEvent.TheVariants.{DoneOk}
 use Rattle.build_run.specs.Holds.{holds_in}
 use Rattle.build_run.specs.Outs.{IsTicketFor, IsOutFor, IsBeside, AreOut, HasOwnRoom, IsStored}
 use Rattle.build_run.specs.Withdrawals.{HasNone, AreWithdrawn}
-use Rattle.build_run.specs.declared.tickets.Busy.{Busy}
+use Rattle.build_run.specs.Holds.{Busy}
 use Rattle.build_run.specs.declared.tickets.Hold.{Hold}
 use Rattle.build_run.proofs.Holding.{at_front, further, in_front, in_pushed}
 

@@ -13,7 +13,7 @@ use Rattle.sign_store.specs.declared.ticket.Ticket.{Ticket}
 use Rattle.task_plan.specs.declared.want.PlanEvent.{PlanEvent}
 use Rattle.task_plan.specs.declared.want.PlanEvent.TheVariants.{DoneOk}
 use Rattle.build_run.specs.Withdrawals.{HasNone}
-use Rattle.build_run.specs.declared.tickets.Busy.{Busy}
+use Rattle.build_run.specs.Holds.{Busy}
 
 -- the store's ticket is out for a record of these targets
 pub record IsTicketFor (store : Store) (ticket : Ticket) (targets : List (List ℕ)) : Type 0 where

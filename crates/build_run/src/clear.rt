@@ -29,6 +29,7 @@ pub(crate) fn clear<W: World>(
     job: &Job,
     ticket: &Ticket,
     tickets: &Tickets,
+    held: &mut Tickets,
 ) -> Result<(), ListEnd>
     requires unclosed { W.meaning.closed world.old ≡ [] }
     requires joined { IsJoined W.meaning world.old (holds_in tickets.now) }
@@ -46,11 +47,12 @@ pub(crate) fn clear<W: World>(
 {
     let targets = job.targets.as_slice();
     make_dirs(account.alloc, world, dirs, targets)?;
-    withdraw(account, store, world, job, ticket, tickets)?;
+    withdraw(account, store, world, job, ticket, tickets, held)?;
     remove_all(world, targets)
 }
 
-/// Withdraws the records of a job's targets, of which this is the ticket. A store that refuses is noted.
+/// Withdraws the records of a job's targets, of which this is the ticket, and puts those that are held with it. Where there
+/// is none to withdraw they stay held. A store that refuses is noted.
 fn withdraw<W: World>(
     account: &mut Account,
     store: &mut Store,
@@ -58,6 +60,7 @@ fn withdraw<W: World>(
     job: &Job,
     ticket: &Ticket,
     tickets: &Tickets,
+    held: &mut Tickets,
 ) -> Result<(), ListEnd>
     requires unshut { account.old.is_store_shut ≡ false }
     requires stored { IsStored W.meaning world.old store.old tickets.now account.old.is_store_shut }
@@ -69,7 +72,12 @@ fn withdraw<W: World>(
     ensures withdrawn { OnOk result (AreWithdrawn W.meaning world.new store.new job.now.targets) }
     ensures ticket { OnOk result (IsTicketFor store.new ticket.now job.now.targets) }
 {
-    match store.withdraw(world, ticket) {
+    if !store.has_record(ticket) {
+        return Ok(());
+    }
+    let done = store.withdraw(world, held.as_slice(), ticket);
+    held.clear();
+    match done {
         Ok(()) => Ok(()),
         Err(_) => {
             account.is_store_shut = true;

@@ -27,6 +27,7 @@ pub(crate) fn decide<W: World, O: Sink, E: Sink>(
     plan: &Plan,
     inputs: &mut Inputs,
     tickets: &mut Tickets,
+    held: &mut Tickets,
     dirs: &mut IndexSet<PathText>,
     account: &mut Account,
     store: &mut Store,
@@ -53,7 +54,7 @@ pub(crate) fn decide<W: World, O: Sink, E: Sink>(
     match inputs.present(world, graph, rule, deps)? {
         Present::Record(now) => {
             make(
-                graph, tickets, dirs, account, store, world, out, options, rule, now,
+                graph, tickets, held, dirs, account, store, world, out, options, rule, now,
             )
         }
         Present::Lacks(node) => {
@@ -67,6 +68,7 @@ pub(crate) fn decide<W: World, O: Sink, E: Sink>(
 fn make<W: World, O: Sink>(
     graph: &Graph,
     tickets: &mut Tickets,
+    held: &mut Tickets,
     dirs: &mut IndexSet<PathText>,
     account: &mut Account,
     store: &mut Store,
@@ -90,7 +92,7 @@ fn make<W: World, O: Sink>(
         return Ok(PlanEvent::Fresh(rule));
     }
     start(
-        graph, tickets, dirs, account, store, world, out, options, rule, now,
+        graph, tickets, held, dirs, account, store, world, out, options, rule, now,
     )?;
     account.note_start(rule);
     Ok(PlanEvent::Started(rule))

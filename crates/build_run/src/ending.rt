@@ -16,15 +16,17 @@ use crate::tickets::{Busy, Tickets};
 use build_files::{ListEnd, first_target};
 use rule_graph::{BuildFault, Graph};
 use scons_base::RuleId;
-use sign_store::Store;
+use sign_store::{Store, Ticketed};
 use task_plan::PlanEvent;
 use world_api::{Ended, Outcome, Sink, World};
 
-/// Waits for an action to end. A rule whose action ended well gets its record. An ending that is no running rule's, of
+/// Waits for an action to end. The record of a rule whose action ended well is held, and put with others once there are as
+/// many as jobs may run, or before the next wait with fewer jobs than may run. An ending that is no running rule's, of
 /// which nothing can be told, is answered as want of memory is.
 pub(crate) fn take_ending<W: World, E: Sink>(
     graph: &Graph,
     tickets: &mut Tickets,
+    held: &mut Tickets,
     account: &mut Account,
     store: &mut Store,
     world: &mut W,
@@ -45,6 +47,9 @@ pub(crate) fn take_ending<W: World, E: Sink>(
     ensures puts { PutsDone tickets.old store.old store.new account.new.is_store_shut result }
     ensures kept { KeepsUnlessDone store.old store.new result }
 {
+    if tickets.len() < options.most_jobs() {
+        put_held(held, account, store, world, err);
+    }
     let ended = wait(world, tickets);
     let Some(busy) = tickets.take(ended.id) else {
         account.want_memory();
@@ -59,6 +64,7 @@ pub(crate) fn take_ending<W: World, E: Sink>(
         options,
         busy,
         tickets,
+        held,
         ended.outcome,
     )
 }
@@ -77,7 +83,7 @@ fn wait<W: World>(world: &mut W, tickets: &Tickets) -> Ended
     world.wait()
 }
 
-/// Puts the record of a rule whose action ended well, and reports one whose action didn't.
+/// Holds the record of a rule whose action ended well, and reports one whose action didn't.
 fn settle<W: World, E: Sink>(
     graph: &Graph,
     account: &mut Account,
@@ -87,6 +93,7 @@ fn settle<W: World, E: Sink>(
     options: &Options,
     busy: Busy,
     tickets: &Tickets,
+    held: &mut Tickets,
     outcome: Outcome,
 ) -> PlanEvent
     requires { IsStored W.meaning world.old store.old (busy ∷ tickets.now) account.old.is_store_shut }
@@ -102,7 +109,7 @@ fn settle<W: World, E: Sink>(
     let rule = busy.hold.rule;
     match outcome {
         Outcome::Done => {
-            put(account, store, world, err, busy, tickets);
+            hold(account, store, world, err, options, busy, tickets, held);
             PlanEvent::DoneOk(rule)
         }
         outcome => {
@@ -113,26 +120,44 @@ fn settle<W: World, E: Sink>(
     }
 }
 
-/// Puts a record, unless the store has refused before.
-fn put<W: World, E: Sink>(
+/// Holds a record, unless the store has refused before. Once as many are held as jobs may run they are put.
+fn hold<W: World, E: Sink>(
     account: &mut Account,
     store: &mut Store,
     world: &mut W,
     err: &mut E,
+    options: &Options,
     busy: Busy,
     tickets: &Tickets,
+    held: &mut Tickets,
 )
-    requires { IsStored W.meaning world.old store.old (busy ∷ tickets.now) account.old.is_store_shut }
-    ensures goes { Goes W.meaning world.old world.new }
-    ensures keeps { EndKeeps W.meaning E.meaning world.old err.old world.new err.new (ledger_of account.old) (ledger_of account.new) }
-    ensures around { W.meaning.tells world.new → W.meaning.around world.new ≡ W.meaning.around world.old }
-    ensures stored { IsStored W.meaning world.new store.new tickets.now account.new.is_store_shut }
-    ensures puts { PutsUnlessShut store.old store.new busy.ticket account.new.is_store_shut }
 {
     if account.is_store_shut {
         return;
     }
-    match store.put(world, busy.ticket) {
+    let Ticketed { hold, ticket } = busy;
+    held.add(hold, ticket);
+    if held.len() >= options.most_jobs() {
+        put_held(held, account, store, world, err);
+    }
+}
+
+/// Puts the records that are held, unless the store has refused before.
+pub(crate) fn put_held<W: World, E: Sink>(
+    held: &mut Tickets,
+    account: &mut Account,
+    store: &mut Store,
+    world: &mut W,
+    err: &mut E,
+)
+{
+    if account.is_store_shut {
+        held.clear();
+        return;
+    }
+    let done = store.put(world, held.as_slice());
+    held.clear();
+    match done {
         Ok(()) => {}
         Err(_) => {
             account.is_store_shut = true;

@@ -23,6 +23,7 @@ use world_api::{AskRefusal, Job, Sink, World, print};
 pub(crate) fn launch<W: World, O: Sink>(
     graph: &Graph,
     tickets: &Tickets,
+    held: &mut Tickets,
     dirs: &mut IndexSet<PathText>,
     account: &mut Account,
     store: &mut Store,
@@ -47,7 +48,7 @@ pub(crate) fn launch<W: World, O: Sink>(
     ensures ticket { OnOk result (IsTicketFor store.new ticket.now job.targets) }
     ensures none { OnOk result (HasNone (map_of store.new) job.targets) }
 {
-    clear(dirs, account, store, world, &job, ticket, tickets)?;
+    clear(dirs, account, store, world, &job, ticket, tickets, held)?;
     show(account, out, text)?;
     begin(graph, world, job, tickets, store)
 }

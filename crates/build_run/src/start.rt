@@ -24,10 +24,12 @@ use world_api::{Job, Sink, World, copy_lines};
 /// Starts the action of a rule with this record. All memory is taken before anything of the rule is touched.
 ///
 /// A plan gives each rule once, and after those that make what it reads. So no job comes up that gets in the way of one
-/// that runs; such a one would be answered as want of memory is. After a fault of the store nothing starts.
+/// that runs, or makes what one has made whose record is held; such a one would be answered as want of memory is. After a
+/// fault of the store nothing starts.
 pub(crate) fn start<W: World, O: Sink>(
     graph: &Graph,
     tickets: &mut Tickets,
+    held: &mut Tickets,
     dirs: &mut IndexSet<PathText>,
     account: &mut Account,
     store: &mut Store,
@@ -53,13 +55,14 @@ pub(crate) fn start<W: World, O: Sink>(
     let text = shown_text(account.alloc, graph, options, rule)?;
     let job = job_of(account.alloc, graph, rule, &now)?;
     let hold = Hold::of(&job)?;
-    if !tickets.are_apart(&job) {
+    if !tickets.are_apart(&job) || !held.make_none_of(&job) {
         return Err(ListEnd::Memory);
     }
     let ticket = prepare(account.alloc, store, now)?;
     match launch(
         graph,
         tickets,
+        held,
         dirs,
         account,
         store,

@@ -11,10 +11,9 @@ ghost use Rattle.task_plan.specs.Plans.{IsIdle};
 use crate::account::Account;
 use crate::building::{Options, Run};
 use crate::decide::decide;
-use crate::ending::take_ending;
+use crate::ending::{put_held, take_ending};
 use build_files::{Inputs, ListEnd};
 use rule_graph::Graph;
-use scons_base::limits::JOB_LIMIT;
 use scons_base::{NodeId, RuleId};
 use sign_store::Store;
 use task_plan::{PlanEvent, Want};
@@ -41,6 +40,7 @@ pub(crate) fn go_on<W: World, O: Sink, E: Sink>(
 {
     take_turns(graph, run, account, store, world, out, err, options);
     wait_for_all(graph, run, account, store, world, err, options);
+    put_held(&mut run.held, account, store, world, err);
 }
 
 /// Does what the plan wants until it rests and nothing runs. Beyond 2^64 - 1 turns, which would take centuries, it says want of memory.
@@ -97,7 +97,7 @@ fn wait_for_all<W: World, E: Sink>(
         if run.tickets.len() == 0 {
             break;
         }
-        let event = take_ending(graph, &mut run.tickets, account, store, world, err, options);
+        let event = take_ending(graph, &mut run.tickets, &mut run.held, account, store, world, err, options);
         tell(graph, run, account, err, Ok(event));
         halt(graph, run, account);
     }
@@ -134,6 +134,7 @@ fn take_turn<W: World, O: Sink, E: Sink>(
             &run.plan,
             &mut run.inputs,
             &mut run.tickets,
+            &mut run.held,
             &mut run.dirs,
             account,
             store,
@@ -143,7 +144,7 @@ fn take_turn<W: World, O: Sink, E: Sink>(
             options,
             rule,
         ),
-        Want::Wait => Ok(take_ending(graph, &mut run.tickets, account, store, world, err, options)),
+        Want::Wait => Ok(take_ending(graph, &mut run.tickets, &mut run.held, account, store, world, err, options)),
         Want::Rest => Ok(PlanEvent::Halt),
     }
 }
@@ -171,7 +172,7 @@ fn want(run: &Run, options: &Options) -> Want
     ensures rests { result ≡ Want.Rest → IsIdle run.now.plan × (length run.now.tickets ≡ 0) }
 {
     let running = run.tickets.len();
-    if running >= most_jobs(options) {
+    if running >= options.most_jobs() {
         return Want::Wait;
     }
     match run.plan.next() {
@@ -179,13 +180,6 @@ fn want(run: &Run, options: &Options) -> Want
         Want::Wait | Want::Rest => Want::Wait,
         wanted => wanted,
     }
-}
-
-/// How many jobs may run at a time: none asked for counts as one.
-fn most_jobs(options: &Options) -> usize
-    ensures { result ≡ max (min options.now.jobs 64) 1 }
-{
-    options.jobs.min(JOB_LIMIT).max(1) as usize
 }
 
 /// Nothing new is wanted of a plan once an end has come.

@@ -4,7 +4,7 @@ use Rattle.build_run.specs.Holds.{holds_in}
 use Rattle.build_run.specs.Goings.{IsJoined}
 use Rattle.build_run.specs.Ledgers.{ledger_of}
 use Rattle.build_run.specs.Outs.{IsOutFor, IsStored}
-use Rattle.build_run.specs.declared.tickets.Busy.{Busy}
+use Rattle.build_run.specs.Holds.{Busy}
 use Rattle.build_run.specs.declared.tickets.Hold.{Hold}
 use Rattle.build_run.proofs.Causing.{exit_same, exit_inside, inside, shut_fault}
 use Rattle.build_run.proofs.Outs.{own_room, stored_prepared, stored_beside, stored_added}
