@@ -5,8 +5,8 @@ use Rattle.deciders.specs.declared.recorded.Rec.{Rec}
 use Rattle.sign_store.specs.declared.store.Store.{Store}
 use Rattle.sign_store.specs.declared.ticket.Ticket.{Ticket}
 use Rattle.sign_store.specs.declared.ticket.Ticketed.{Ticketed}
-use Rattle.sign_store.specs.Ends.{IsEither, StandsFor}
-use Rattle.sign_store.specs.Staging.{IsEntry, IsStaging, Spans}
+use Rattle.sign_store.specs.Ends.{IsEither}
+use Rattle.sign_store.specs.Staging.{AreStagedIn, IsEntry, Spans}
 use Rattle.world_api.specs.Banks.{Banks}
 use Rattle.sign_store.specs.Stores.{AreApart, HasRoom, IsKept, IsOut, TakesRoom, map_of, withdrawal_len}
 use Rattle.sign_store.specs.Tables.{Map, with_each}
@@ -133,27 +133,23 @@ abbrev pub AddTakesRoom : {T E : Type 0} → Store → Store → ℕ → ℕ →
 AddTakesRoom old new room len result = HasRoom old room len → OnOk result (TakesRoom room len old new)
 
 -- entries are staged from this place up to the store's end
-abbrev pub IsStagingIn : {W : Type 0} → Meaning W → W → Store → ℕ → Map → Map → Type 0
-IsStagingIn m world store start from map = IsStaging m world store.bank start store.end from map
+abbrev pub AreStagedFrom : {W : Type 0} → Meaning W → W → Store → ℕ → Map → Map → Type 0
+AreStagedFrom m world store start from map = AreStagedIn m world store.bank start store.end from map
 
 -- the banks have the gate at which the entries ended, and all bytes up to the store's end
 abbrev pub SpansIn : Banks → Store → ℕ → Type 0
 SpansIn banks store start = Spans start store.end (banks store.bank)
 
--- an entry is staged in its room, so that the banks stand for the same map
-abbrev pub AddsThroughout : {W : Type 0} → Meaning W → W → W → Store → ℕ → Type 0
-AddsThroughout m old new store start = (from map : Map) → IsStagingIn m old store start from map
-    → Throughout m old new (StandsFor (m.around old) from)
-
+-- an entry is staged in its room
 abbrev pub Adds : {W T E : Type 0} → Meaning W → W → W → Store → Store → ℕ → ℕ → List ℕ → Result T E → Type 0
 Adds m old new store after start room entry result = (from mid map : Map) → HasRoom store room (length entry)
-    → IsEntry mid map entry → IsStagingIn m old store start from mid → OnOk result (IsStagingIn m new after start from map)
+    → IsEntry mid map entry → AreStagedFrom m old store start from mid → OnOk result (AreStagedFrom m new after start from map)
 
 -- the puts of held tickets are staged, in their order
 abbrev pub AddsPuts : {W T U E : Type 0} → Meaning W → W → W → Store → Store → ℕ → List (Ticketed T) → Result U E → Type 0
 AddsPuts m old new store after start held result = (from mid : Map) → AreHeld store held
-    → IsStagingIn m old store start from mid
-    → OnOk result (IsStagingIn m new after start from (put_over store.map.records.items held mid))
+    → AreStagedFrom m old store start from mid
+    → OnOk result (AreStagedFrom m new after start from (put_over store.map.records.items held mid))
 
 -- rooms that are none of theirs are as they were
 pub record KeepsRoomsBeside {T : Type 0} (held : List (Ticketed T)) (old new : Store) : Type 0 where

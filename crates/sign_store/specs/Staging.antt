@@ -26,19 +26,24 @@ pub record AreStaged (end place : ℕ) (from map : Map) (bank : List ℕ) : Type
   pub upto : place ≡ end + length entries
   pub leads : Leads Two entries from map
 
--- so it is, and whatever a stop leaves now stands for the first map
+-- so it is of a bank as it reads now
+abbrev pub AreStagedIn : {W : Type 0} → Meaning W → W → Bank → ℕ → ℕ → Map → Map → Type 0
+AreStagedIn m world bank end place from map = m.tells world → AreStaged end place from map (m.seen world bank)
+
+-- and whatever a stop leaves now stands for the first map
 pub record IsStaging {W : Type 0} (m : Meaning W) (world : W) (bank : Bank) (end place : ℕ) (from map : Map) : Type 0 where
   pub keeps : KeepsAt m world bank end from
-  pub staged : m.tells world → AreStaged end place from map (m.seen world bank)
+  pub staged : AreStagedIn m world bank end place from map
 
--- an entry is written there: the banks stand for the same map
-abbrev pub StagesThroughout : {W : Type 0} → Meaning W → W → W → Bank → ℕ → ℕ → Type 0
-StagesThroughout m old new bank end place = (from map : Map) → IsStaging m old bank end place from map
-    → Throughout m old new (StandsFor (m.around old) from)
+-- nothing was written but behind the gate at which the entries of a bank end: what the banks stand for stays
+pub record StaysBehind {W : Type 0} (m : Meaning W) (old new : W) (bank : Bank) (end : ℕ) : Type 0 where
+  pub moments : (map : Map) → KeepsAt m old bank end map → Throughout m old new (StandsFor (m.around old) map)
+  pub keeps : (map : Map) → KeepsAt m old bank end map → KeepsAt m new bank end map
 
+-- an entry is written at the place up to which others were
 abbrev pub Stages : {W T E : Type 0} → Meaning W → W → W → Bank → ℕ → ℕ → List ℕ → Result T E → Type 0
 Stages m old new bank end place entry result = (from mid map : Map) → IsEntry mid map entry
-    → IsStaging m old bank end place from mid → OnOk result (IsStaging m new bank end (place + length entry) from map)
+    → AreStagedIn m old bank end place from mid → OnOk result (AreStagedIn m new bank end (place + length entry) from map)
 
 -- the gate in front of them is opened: the banks stand for the map before all of them or behind all of them
 abbrev pub PublishesThroughout : {W : Type 0} → Meaning W → W → W → Bank → ℕ → ℕ → Type 0

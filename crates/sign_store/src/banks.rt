@@ -8,7 +8,7 @@ ghost use Rattle.sign_store.specs.Ends.{IsTornThroughout, ReachesPlace, WritesAt
 ghost use Rattle.sign_store.specs.Forms.{IsShut};
 ghost use Rattle.sign_store.specs.Heads.{head_of};
 ghost use Rattle.sign_store.specs.Readings.{IsRefusal, IsOutside};
-ghost use Rattle.sign_store.specs.Staging.{Publishes, PublishesThroughout, Spans, Stages, StagesThroughout};
+ghost use Rattle.sign_store.specs.Staging.{Publishes, PublishesThroughout, Spans, Stages, StaysBehind};
 ghost use Rattle.sign_store.specs.Reached.{HasFaultCause, KeepsSettled, ReadsBanks, SeesTheSame, Writes};
 
 use crate::head::{HEAD_LEN, Head, head_of};
@@ -126,7 +126,7 @@ pub(crate) fn stage<W: Disk>(
     requires some { 0 < length entry.now }
     requires within { W.meaning.tells world.old → Spans end place (W.meaning.seen world.old bank) }
     requires small { place + length entry.now ≤ 2 ^ 41 }
-    ensures moments { StagesThroughout W.meaning world.old world.new bank end place }
+    ensures stays { StaysBehind W.meaning world.old world.new bank end }
     ensures staged { Stages W.meaning world.old world.new bank end place entry.now result }
     ensures within { W.meaning.tells world.new → OnOk result (Spans end (place + length entry.now) (W.meaning.seen world.new bank)) }
     ensures around { W.meaning.tells world.new → W.meaning.around world.new ≡ W.meaning.around world.old }

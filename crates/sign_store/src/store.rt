@@ -12,6 +12,7 @@ ghost use Rattle.sign_store.specs.Ends.{AreSettled, KeepsAt, ReadsAsBefore};
 ghost use Rattle.sign_store.specs.Entries.{entries_len};
 ghost use Rattle.sign_store.specs.Reached.{HasFaultCause, KeepsSettled, LeavesBanks, ReadsBanks, Writes};
 ghost use Rattle.sign_store.specs.Readings.{AreReadable, IsRefusal};
+ghost use Rattle.sign_store.specs.Staging.{StaysBehind};
 ghost use Rattle.sign_store.specs.Tables.{has_any};
 
 use crate::banks::{publish, stage};
@@ -48,7 +49,7 @@ pub struct Store {
 }
 
 impl Store {
-    ghost use Rattle.sign_store.specs.Putting.{AddTakesRoom, Adds, AddsPuts, AddsThroughout, AreHeld, AreOutWith, FreesRooms, KeepsRoomsBeside, PutsKeep, PutsKeepApart, PutsRecords, PutsThroughout};
+    ghost use Rattle.sign_store.specs.Putting.{AddTakesRoom, Adds, AddsPuts, AreHeld, AreOutWith, FreesRooms, KeepsRoomsBeside, PutsKeep, PutsKeepApart, PutsRecords, PutsThroughout};
     ghost use Rattle.sign_store.specs.Putting.{SpansIn, StaysOut, TakesRoomsBeside, WithdrawKeeps, WithdrawKeepsOthers, WithdrawTakesRoom, WithdrawsRecord, WithdrawsThroughout, map_with, map_without};
     ghost use Rattle.sign_store.specs.Stores.{Begins, Fits, IsPrepareRefusal, IsStoredIn, IsTicket, IsOut, IsKept, IsFresh, is_live, map_of, map_of_view, HasMapOf, ShowsMapOf, HasRoom, TakesRoom, KeepsRooms, FreesRoom, GetsRoom, IsUntouched, due_for, KeepsBanks, KeepsTickets, KeepsOut, KeepsOthers};
 
@@ -336,12 +337,12 @@ impl Store {
         ensures live { is_live self.new ≡ is_live self.old }
         ensures banks { KeepsBanks self.old self.new }
     {
-        let [first, rest @ ..] = held else {
-            return;
-        };
-        self.free(first.ticket.room);
-        self.map.set(first.ticket.number);
-        self.set_each(rest)
+        let mut left = held;
+        while let [first, rest @ ..] = left {
+            self.free(first.ticket.room);
+            self.map.set(first.ticket.number);
+            left = rest;
+        }
     }
 
     /// Writes the puts of these tickets, and lets them count.
@@ -420,7 +421,7 @@ impl Store {
         ensures behind { start ≤ self.new.end }
         ensures live { is_live self.new ≡ is_live self.old }
         ensures within { W.meaning.tells world.new → OnOk result (SpansIn (W.meaning.seen world.new) self.new start) }
-        ensures moments { AddsThroughout W.meaning world.old world.new self.old start }
+        ensures stays { StaysBehind W.meaning world.old world.new self.old.bank start }
         ensures staged { AddsPuts W.meaning world.old world.new self.old self.new start held.now result }
         ensures rooms { KeepsRoomsBeside held.now self.old self.new }
         ensures around { W.meaning.tells world.new → W.meaning.around world.new ≡ W.meaning.around world.old }
@@ -429,11 +430,12 @@ impl Store {
         ensures kept { OnOk result (W.meaning.counts world.new ≡ W.meaning.counts world.old) }
         ensures rose { OnErr result (DiskFails (W.meaning.counts world.old) (W.meaning.counts world.new)) }
     {
-        let [first, rest @ ..] = held else {
-            return Ok(());
-        };
-        self.add(world, start, first.ticket.room, first.ticket.put.as_slice())?;
-        self.add_puts(world, start, rest)
+        let mut left = held;
+        while let [first, rest @ ..] = left {
+            self.add(world, start, first.ticket.room, first.ticket.put.as_slice())?;
+            left = rest;
+        }
+        Ok(())
     }
 
     /// Writes an entry of a ticket, in the room that is kept for it, likewise. One without room is no ticket's of this
@@ -453,7 +455,7 @@ impl Store {
         ensures behind { start ≤ self.new.end }
         ensures live { is_live self.new ≡ is_live self.old }
         ensures within { W.meaning.tells world.new → OnOk result (SpansIn (W.meaning.seen world.new) self.new start) }
-        ensures moments { AddsThroughout W.meaning world.old world.new self.old start }
+        ensures stays { StaysBehind W.meaning world.old world.new self.old.bank start }
         ensures staged { Adds W.meaning world.old world.new self.old self.new start room entry.now result }
         ensures rooms { AddTakesRoom self.old self.new room (length entry.now) result }
         ensures others { KeepsRooms room self.old self.new }

@@ -1,0 +1,1 @@
+use Rattle.sign_store.proofs.banks.stage.Goals as goal
