@@ -146,6 +146,7 @@ fn begin<W: World>(
     ensures stays { Stays W.meaning world.old world.new }
     ensures cause { HasLookCause (W.meaning.counts world.old) (W.meaning.counts world.new) result }
     ensures none { IfOk result (λ run. run.tickets ≡ []) }
+    ensures held { IfOk result (λ run. run.held ≡ []) }
 {
     let mut inputs = Inputs::new(alloc, hash);
     inputs.add_copies(world, graph, requested)?;

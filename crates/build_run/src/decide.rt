@@ -1,11 +1,11 @@
 //! Whether a rule is stale.
-ghost use Rattle.std.specs.Prelude.{◌≡◌, ◌≤◌, ◌<◌, [], length, IfOk};
+ghost use Rattle.std.specs.Prelude.{◌≡◌, ◌≤◌, ◌<◌, ◌++◌, [], length, IfOk};
 ghost use Rattle.build_files.specs.Causes.{IsQuiet};
 ghost use Rattle.build_run.specs.Causes.{IsInner};
 ghost use Rattle.build_run.specs.Goings.{Passes, IsJoined};
 ghost use Rattle.build_run.specs.Holds.{holds_in};
 ghost use Rattle.build_run.specs.Ledgers.{ledger_of, with_done, AllEnds, StartEnds, ErrKeeps};
-ghost use Rattle.build_run.specs.Outs.{IsStored};
+ghost use Rattle.build_run.specs.Outs.{IsStored, KeepsHeld};
 
 use crate::account::Account;
 use crate::building::Options;
@@ -40,12 +40,14 @@ pub(crate) fn decide<W: World, O: Sink, E: Sink>(
     requires unclosed { W.meaning.closed world.old ≡ [] }
     requires room { length tickets.old < 64 }
     requires joined { IsJoined W.meaning world.old (holds_in tickets.old) }
-    requires stored { IsStored W.meaning world.old store.old tickets.old account.old.is_store_shut }
+    requires stored { IsStored W.meaning world.old store.old (held.old ++ tickets.old) account.old.is_store_shut }
     ensures passes { Passes W.meaning world.old world.new }
     ensures ends { AllEnds W.meaning O.meaning E.meaning world.old out.old err.old world.new out.new err.new account.old account.new result }
     ensures room { length tickets.new ≤ 64 }
     ensures joined { IsJoined W.meaning world.new (holds_in tickets.new) }
-    ensures stored { IsStored W.meaning world.new store.new tickets.new account.new.is_store_shut }
+    ensures stored { IsStored W.meaning world.new store.new (held.new ++ tickets.new) account.new.is_store_shut }
+    ensures few { length held.new ≤ length held.old }
+    ensures kept { KeepsHeld store.old held.old store.new held.new account.new.is_store_shut }
 {
     let deps = plan.deps(rule);
     if deps.len() > DEP_LIMIT as usize {
@@ -81,12 +83,14 @@ fn make<W: World, O: Sink>(
     requires unclosed { W.meaning.closed world.old ≡ [] }
     requires room { length tickets.old < 64 }
     requires joined { IsJoined W.meaning world.old (holds_in tickets.old) }
-    requires stored { IsStored W.meaning world.old store.old tickets.old account.old.is_store_shut }
+    requires stored { IsStored W.meaning world.old store.old (held.old ++ tickets.old) account.old.is_store_shut }
     ensures passes { Passes W.meaning world.old world.new }
     ensures ends { StartEnds W.meaning O.meaning world.old out.old world.new out.new account.old account.new result }
     ensures room { length tickets.new ≤ 64 }
     ensures joined { IsJoined W.meaning world.new (holds_in tickets.new) }
-    ensures stored { IsStored W.meaning world.new store.new tickets.new account.new.is_store_shut }
+    ensures stored { IsStored W.meaning world.new store.new (held.new ++ tickets.new) account.new.is_store_shut }
+    ensures few { length held.new ≤ length held.old }
+    ensures kept { KeepsHeld store.old held.old store.new held.new account.new.is_store_shut }
 {
     if !is_stale(world, graph, store, rule, &now)? {
         return Ok(PlanEvent::Fresh(rule));

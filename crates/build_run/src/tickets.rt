@@ -139,7 +139,7 @@ impl Tickets {
         ensures left { holds_in self.new ≡ without id (holds_in self.old) }
         ensures rule { IfSome result (λ busy. busy.hold.rule.0 ≡ id) }
         ensures among { IfSome result (λ busy. Contains self.old busy) }
-        ensures outs { (store : Store) → AreOut store self.old → IfSome result (λ busy. AreOut store (busy ∷ self.new)) }
+        ensures outs { (store : Store) (held : List Busy) → AreOut store (held ++ self.old) → IfSome result (λ busy. AreOut store (held ++ busy ∷ self.new)) }
         ensures none { IfNone result (self.new ≡ self.old) }
     {
         let place = place_of(self.busy.as_slice(), id)?;

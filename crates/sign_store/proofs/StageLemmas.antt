@@ -1,6 +1,8 @@
 -- Entries that are written behind a closed gate, and the gate that is opened in front of them.
-use Rattle.std.proofs.Common.{◌≡◌, ℕ, zero, suc, ◌<◌, ◌≤◌, ◌+◌, ◌-◌, List, [], ◌∷◌, ◌++◌, length, take, drop, refl, sym, ap, subst, ◌∙◌, append_assoc, inl, arith}
-use Rattle.std.specs.Prelude.{◌≢◌, slice_index, Result, Ok, Err, OnOk}
+use Rattle.std.proofs.Common.{◌≡◌, ℕ, zero, suc, ◌<◌, ◌≤◌, ◌+◌, ◌-◌, Bool, List, [], ◌∷◌, ◌++◌, length, take, drop, refl, sym, ap, subst, ◌∙◌, append_assoc, inl, inr, arith}
+use Rattle.std.specs.Prelude.{◌≢◌, ◌⊎◌, ◌==◌, min, slice_index, if◌then◌else◌, Result, Ok, Err, OnOk}
+use Rattle.std.proofs.lemmas.Bool.{cases_lt}
+use Rattle.std.proofs.lemmas.Bool.Decides.{eqb_tells}
 use Rattle.std.proofs.lemmas.List.{take_at, drop-take, drop-append-le, length-append, length-take, length-drop, nil_from_length}
 use Rattle.world_api.specs.declared.disk.Bank.{Bank}
 use Rattle.world_api.specs.Around.{Around}
@@ -12,7 +14,7 @@ use Rattle.deciders.specs.declared.version.Version.TheVariants.{Two}
 use Rattle.sign_store.specs.Images.{after_entries}
 use Rattle.sign_store.specs.Ends.{StandsAt, StandsFor, KeepsAt, IsEither, IsTornFrom, with_bank}
 use Rattle.sign_store.specs.Forms.{Leads}
-use Rattle.sign_store.specs.Staging.{AreStaged, IsEntry, IsStaging, Spans, StaysBehind}
+use Rattle.sign_store.specs.Staging.{AreStaged, AreStagedIn, IsEntry, IsStaging, Publishes, PublishesThroughout, Spans, StaysBehind}
 use Rattle.sign_store.specs.Tables.{Map}
 use Rattle.sign_store.proofs.EndLemmas.{torn_gate, gate_opened}
 use Rattle.sign_store.proofs.WriteLemmas.{behind_keeps, behind_moments, either_first, held_behind, held_gate, image_with}
@@ -36,7 +38,7 @@ staged_nowhere end from map bank staged =
 
 take_first : (n : ℕ) (x : ℕ) (xs : List ℕ) → 0 < n → take n (x ∷ xs) ≡ x ∷ take (n - 1) xs
 take_first zero x xs some = absurd (omega (arith, some))
-take_first (suc n) x xs some = refl
+take_first (suc n) x xs some = let same : n ≡ suc n - 1 = omega arith in ap (λ k. x ∷ take k xs) same
 
 -- what is written at their end leaves them
 pub front_stays : (end place : ℕ) (from map : Map) (was now bytes : List ℕ) → (staged : AreStaged end place from map was) → end < place → place ≤ length was → Holds was place bytes now
@@ -99,6 +101,73 @@ spans_on end place to was now bytes spans inside far holds =
     let a = lens.0 in
     let b = lens.1 in
     record { gate = let g = spans.gate in omega (arith, g, a); inside = b }
+
+-- ---- an entry at the place up to which others were written: the gate of the first stands already
+
+stage_at : (end place skip : ℕ) → end ≤ place → skip ≡ (if place == end then 1 else 0) → ((place ≡ end) × (skip ≡ 1)) ⊎ ((end < place) × (skip ≡ 0))
+stage_at end place skip le is = elim (eqb_tells place end) [
+  | inl eq ↦ inl (eq.1, is ∙ ap (λ (b : Bool). if b then 1 else 0) eq.0)
+  | inr ne ↦ inr (further (ne.1), is ∙ ap (λ (b : Bool). if b then 1 else 0) ne.0)
+]
+  where
+    further : place ≢ end → end < place
+    further differs = elim (cases_lt end place) [ inl lt ↦ lt | inr far ↦ absurd (differs (omega (arith, le, far))) ]
+
+pub stage_behind : (end place skip : ℕ) → end ≤ place → skip ≡ (if place == end then 1 else 0) → end < place + skip
+stage_behind end place skip le is = elim (stage_at end place skip le is) [
+  | inl first ↦ (let a = first.0 in let b = first.1 in omega (arith, a, b))
+  | inr next ↦ (let a = next.0 in omega (arith, a))
+]
+
+pub stage_inside : (end place skip : ℕ) (bank : List ℕ) → end ≤ place → skip ≡ (if place == end then 1 else 0) → Spans end place bank → place + skip ≤ length bank
+stage_inside end place skip bank le is spans =
+    let gate = spans.gate in
+    let inside = spans.inside in
+    elim (stage_at end place skip le is) [
+      | inl first ↦ (let a = first.0 in let b = first.1 in omega (arith, a, b, gate))
+      | inr next ↦ (let b = next.1 in omega (arith, b, inside))
+    ]
+
+module _ (end place skip : ℕ) (was now entry bytes : List ℕ) (le : end ≤ place) (is : skip ≡ (if place == end then 1 else 0)) (part : bytes ≡ drop (min skip (length entry)) entry)
+    (spans : Spans end place was) (holds : Holds was (place + skip) bytes now) where
+  pub stage_spans : Spans end (place + length entry) now
+  stage_spans =
+      let lens = held_len (place + skip) was now bytes (stage_inside end place skip was le is spans) holds in
+      let a = lens.0 in
+      let b = lens.1 in
+      let gate = spans.gate in
+      let len : length bytes + min skip (length entry) ≡ length entry = omega (arith, ap length part, length-drop (min skip (length entry)) entry) in
+      record { gate = omega (arith, gate, a); inside = omega (arith, b, len) }
+
+  pub stage_staged : (from mid map : Map) → IsEntry mid map entry → AreStaged end place from mid was → AreStaged end (place + length entry) from map now
+  stage_staged from mid map entry_is staged = elim (stage_at end place skip le is) [
+    | inl first ↦
+        let at = first.0 in
+        let one = first.1 in
+        let cut : min skip (length entry) ≡ 1 = omega (arith, one, ap length entry_is.gate) in
+        let whole : drop (min skip (length entry)) entry ≡ drop 1 entry = ap (λ n. drop n entry) cut in
+        let to : place + skip ≡ end + 1 = omega (arith, at, one) in
+        let written : Holds was (end + 1) (drop 1 entry) now =
+        subst (λ n. Holds was n (drop 1 entry) now) to (subst (λ (b : List ℕ). Holds was (place + skip) b now) (part ∙ whole) holds) in
+        subst (λ n. AreStaged end (n + length entry) from map now) (sym at)
+        (staged_first end from mid map was now entry (subst (λ n. AreStaged end n from mid was) at staged) entry_is spans.gate written)
+    | inr next ↦
+        let none = next.1 in
+        let cut : min skip (length entry) ≡ 0 = omega (arith, none) in
+        let whole : drop (min skip (length entry)) entry ≡ entry = ap (λ n. drop n entry) cut in
+        let to : place + skip ≡ place = omega (arith, none) in
+        let written : Holds was place entry now = subst (λ n. Holds was n entry now) to (subst (λ (b : List ℕ). Holds was (place + skip) b now) (part ∙ whole) holds) in
+        staged_next end place from mid map was now entry staged entry_is next.0 spans.inside written
+  ]
+
+-- what an Ok gives of what is told
+pub told_ok : {T E G H K : Type 0} (r : Result T E) → (G → OnOk r H) → (G → H → K) → OnOk r (G → K)
+told_ok (Ok x) written so = λ told. so told (written told)
+told_ok (Err e) written so = tt
+
+pub ok_told : {T E G H K : Type 0} (r : Result T E) → (G → OnOk r H) → (G → H → K) → G → OnOk r K
+ok_told (Ok x) written so told = so told (written told)
+ok_told (Err e) written so told = tt
 
 -- ---- the moments
 
@@ -190,3 +259,21 @@ group_moments m old mid new bank end from map around keeps first second =
     chains m old mid new (IsEither (m.around old) from map) (either_first m old mid (m.around old) from map (first.moments from keeps))
     (weakens m mid new (IsEither (m.around mid) from map) (IsEither (m.around old) from map) second
     (λ told a banks at. record { same = at.same ∙ around (second.told told); map = at.map }))
+
+-- the same where the bank is told by an equation
+pub group_written : {W : Type 0} (m : Meaning W) (old mid new : W) (bank as_bank : Bank) (end place : ℕ) (from map : Map) → as_bank ≡ bank → (m.tells mid → m.around mid ≡ m.around old) → KeepsAt m old bank end from → StaysBehind m old mid bank end
+    → AreStagedIn m mid as_bank end place from map → PublishesThroughout m mid new as_bank end place → Throughout m old new (IsEither (m.around old) from map)
+group_written m old mid new bank as_bank end place from map same around keeps first staged publishes =
+    group_moments m old mid new bank end from map around keeps first
+    (publishes from map (record { keeps = subst (λ (b : Bank). KeepsAt m mid b end from) (sym same) (first.keeps from keeps); staged = staged }))
+
+pub group_kept : {W T E : Type 0} (m : Meaning W) (old mid new : W) (bank as_bank : Bank) (end place : ℕ) (from map : Map) (result : Result T E) → as_bank ≡ bank → KeepsAt m old bank end from → StaysBehind m old mid bank end
+    → AreStagedIn m mid as_bank end place from map → Publishes m mid new as_bank end place result → OnOk result (KeepsAt m new as_bank place map)
+group_kept m old mid new bank as_bank end place from map result same keeps first staged publishes =
+    publishes from map (record { keeps = subst (λ (b : Bank). KeepsAt m mid b end from) (sym same) (first.keeps from keeps); staged = staged })
+
+pub behind_as : {W : Type 0} (m : Meaning W) (old new : W) (bank as_bank : Bank) (end : ℕ) → as_bank ≡ bank → StaysBehind m old new as_bank end → StaysBehind m old new bank end
+behind_as m old new bank as_bank end same stays = subst (λ (b : Bank). StaysBehind m old new b end) same stays
+
+pub staged_at : (start end : ℕ) (map : Map) (bank : List ℕ) → start ≡ end → AreStaged start end map map bank
+staged_at start end map bank same = subst (λ n. AreStaged start n map map bank) same (staged_none start map bank)

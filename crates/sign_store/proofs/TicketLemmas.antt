@@ -80,7 +80,7 @@ owed_less false b put withdrawal so = let le = at_least b put withdrawal in omeg
 
 -- ---- which targets have a record, after one of the paths was given another, or none
 
-any_less : (map : Map) (paths targets : List (List ℕ)) → has_any (with_each paths None map) targets ≡ true → has_any map targets ≡ true
+pub any_less : (map : Map) (paths targets : List (List ℕ)) → has_any (with_each paths None map) targets ≡ true → has_any map targets ≡ true
 any_less map paths [] e = absurd cc
 any_less map paths (path ∷ targets) e = by (is_among paths path) (is_some (map path)) refl refl e (any_less map paths targets)
   where
@@ -147,10 +147,10 @@ less_withdrawn old new paths targets is some = any_less old paths targets (subst
 pub less_apart : (old new : Map) (rec : Option Rec) (paths targets : List (List ℕ)) → new ≡ with_each paths rec old → AreApart paths targets → has_any new targets ≡ true → has_any old targets ≡ true
 less_apart old new rec paths targets is apart some = sym (any_apart old rec paths targets apart) ∙ subst (λ (map : Map). has_any map targets ≡ true) is some
 
--- a ticket whose targets were withdrawn
+-- a ticket whose targets were withdrawn, of this map
 pub out_withdrawn : (old new : Store) (rec : Rec) (ticket : Ticket) → IsOut old rec ticket → IsTicket new rec ticket → has_any (map_of old) rec.targets ≡ true → length new.rooms.items ≡ length old.rooms.items
-    → slice_index new.rooms.items ticket.room + length ticket.withdrawal.items ≡ slice_index old.rooms.items ticket.room → map_of new ≡ with_each rec.targets None (map_of old) → IsOut new rec ticket
-out_withdrawn old new rec ticket out own some rooms here map = record {
+    → slice_index new.rooms.items ticket.room + length ticket.withdrawal.items ≡ slice_index old.rooms.items ticket.room → (map : Map) → map_of new ≡ with_each rec.targets None map → IsOut new rec ticket
+out_withdrawn old new rec ticket out own some rooms here before map = record {
   own = own;
   spells = out.spells;
   fits = out.fits;
@@ -158,7 +158,7 @@ out_withdrawn old new rec ticket out own some rooms here map = record {
     inside = let inside = out.room.inside in omega (arith, inside, rooms);
     enough =
         let enough = out.room.enough in
-        let none : has_any (map_of new) rec.targets ≡ false = subst (λ (m : Map). has_any m rec.targets ≡ false) (sym map) (none_withdrawn (map_of old) rec.targets) in
+        let none : has_any (map_of new) rec.targets ≡ false = subst (λ (m : Map). has_any m rec.targets ≡ false) (sym map) (none_withdrawn before rec.targets) in
         omega (arith, enough, here, both_owed (has_any (map_of old) rec.targets) (length ticket.put.items) (length ticket.withdrawal.items) some, put_owed (has_any (map_of new) rec.targets) (length ticket.put.items) (length ticket.withdrawal.items) none);
   };
 }

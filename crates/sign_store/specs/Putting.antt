@@ -8,7 +8,7 @@ use Rattle.sign_store.specs.declared.ticket.Ticketed.{Ticketed}
 use Rattle.sign_store.specs.Ends.{IsEither}
 use Rattle.sign_store.specs.Staging.{AreStagedIn, IsEntry, Spans}
 use Rattle.world_api.specs.Banks.{Banks}
-use Rattle.sign_store.specs.Stores.{AreApart, HasRoom, IsKept, IsOut, TakesRoom, map_of, withdrawal_len}
+use Rattle.sign_store.specs.Stores.{AreApart, HasRoom, IsKept, IsOut, IsTicket, TakesRoom, map_of, withdrawal_len}
 use Rattle.sign_store.specs.Tables.{Map, with_each}
 
 -- a ticket's record, if there is one of its number
@@ -33,6 +33,16 @@ pub record IsOutAny (store : Store) (ticket : Ticket) : Type 0 where
   pub rec : Rec
   pub out : IsOut store rec ticket
 
+-- a ticket is the store's, for some record
+pub record IsTicketAny (store : Store) (ticket : Ticket) : Type 0 where
+  pub rec : Rec
+  pub is : IsTicket store rec ticket
+
+-- each of these is
+abbrev pub AreTickets : {T : Type 0} → Store → List (Ticketed T) → Type 0
+AreTickets store [] = Unit {0}
+AreTickets store (held ∷ more) = IsTicketAny store held.ticket × AreTickets store more
+
 -- these tickets have other rooms than this one
 abbrev pub HasRoomBeside : {T : Type 0} → Ticket → List (Ticketed T) → Type 0
 HasRoomBeside {T} ticket held = (other : Ticketed T) → Contains held other → other.ticket.room ≢ ticket.room
@@ -54,7 +64,7 @@ IsEitherThroughout m old new store after = Throughout m old new (IsEither (m.aro
 
 -- the records of held tickets are put: their targets have them now, and all other paths what they had
 abbrev pub PutsRecords : {T U E : Type 0} → Store → Store → List (Ticketed T) → Result U E → Type 0
-PutsRecords old new held result = AreHeld old held → OnOk result (map_of new ≡ map_with old held)
+PutsRecords old new held result = AreTickets old held → OnOk result (map_of new ≡ map_with old held)
 
 -- the banks stand for the map before all of them or behind all of them
 abbrev pub PutsThroughout : {W T : Type 0} → Meaning W → W → W → Store → List (Ticketed T) → Type 0

@@ -1,5 +1,5 @@
 //! Reading and writing the banks of a disk.
-ghost use Rattle.std.specs.Prelude.{◌≡◌, ◌≢◌, ◌≤◌, ◌<◌, ◌+◌, ◌^◌, ℕ, length, drop, take, vec_len, IfOk, IfErr, OnOk, OnErr};
+ghost use Rattle.std.specs.Prelude.{◌≡◌, ◌≢◌, ◌≤◌, ◌<◌, ◌+◌, ◌^◌, ◌==◌, if◌then◌else◌, ℕ, length, drop, take, vec_len, IfOk, IfErr, OnOk, OnErr};
 ghost use Rattle.world_api.specs.Causes.{DiskFails};
 ghost use Rattle.world_api.specs.Meaning.{Told, IsSettled};
 ghost use Rattle.world_api.specs.declared.disk.Bank.TheVariants as side;
@@ -123,9 +123,8 @@ pub(crate) fn stage<W: Disk>(
     entry: &[u8],
 ) -> Result<(), Fault>
     requires behind { end ≤ place }
-    requires some { 0 < length entry.now }
     requires within { W.meaning.tells world.old → Spans end place (W.meaning.seen world.old bank) }
-    requires small { place + length entry.now ≤ 2 ^ 41 }
+    requires small { place + length entry.now + 1 ≤ 2 ^ 41 }
     ensures stays { StaysBehind W.meaning world.old world.new bank end }
     ensures staged { Stages W.meaning world.old world.new bank end place entry.now result }
     ensures within { W.meaning.tells world.new → OnOk result (Spans end (place + length entry.now) (W.meaning.seen world.new bank)) }
@@ -135,11 +134,16 @@ pub(crate) fn stage<W: Disk>(
     ensures kept { OnOk result (W.meaning.counts world.new ≡ W.meaning.counts world.old) }
     ensures rose { OnErr result (DiskFails (W.meaning.counts world.old) (W.meaning.counts world.new)) }
 {
-    if place == end {
-        world.write_at(bank, end + 1, &entry[1..])
-    } else {
-        world.write_at(bank, place, entry)
-    }
+    let skip = gate_len(end, place);
+    let behind = &entry[skip.min(entry.len())..];
+    world.write_at(bank, place + skip as u64, behind)
+}
+
+/// How much of an entry stands at its place already: the gate of the first.
+fn gate_len(end: u64, place: u64) -> usize
+    ensures { result ≡ (if place == end then 1 else 0) }
+{
+    if place == end { 1 } else { 0 }
 }
 
 /// Closes the gate behind the entries that were written up to `place`, syncs them, and then opens the gate at `end`, in

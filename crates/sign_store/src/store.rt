@@ -49,7 +49,7 @@ pub struct Store {
 }
 
 impl Store {
-    ghost use Rattle.sign_store.specs.Putting.{AddTakesRoom, Adds, AddsPuts, AreHeld, AreOutWith, FreesRooms, KeepsRoomsBeside, PutsKeep, PutsKeepApart, PutsRecords, PutsThroughout};
+    ghost use Rattle.sign_store.specs.Putting.{AddTakesRoom, Adds, AddsPuts, AreHeld, AreOutWith, AreTickets, FreesRooms, KeepsRoomsBeside, PutsKeep, PutsKeepApart, PutsRecords, PutsThroughout};
     ghost use Rattle.sign_store.specs.Putting.{SpansIn, StaysOut, TakesRoomsBeside, WithdrawKeeps, WithdrawKeepsOthers, WithdrawTakesRoom, WithdrawsRecord, WithdrawsThroughout, map_with, map_without};
     ghost use Rattle.sign_store.specs.Stores.{Begins, Fits, IsPrepareRefusal, IsStoredIn, IsTicket, IsOut, IsKept, IsFresh, is_live, map_of, map_of_view, HasMapOf, ShowsMapOf, HasRoom, TakesRoom, KeepsRooms, FreesRoom, GetsRoom, IsUntouched, due_for, KeepsBanks, KeepsTickets, KeepsOut, KeepsOthers};
 
@@ -330,7 +330,7 @@ impl Store {
 
     /// The records of these tickets were put.
     fn set_each<T>(&mut self, held: &[Ticketed<T>])
-        ensures map { AreHeld self.old held.now → map_of self.new ≡ map_with self.old held.now }
+        ensures map { AreTickets self.old held.now → map_of self.new ≡ map_with self.old held.now }
         ensures freed { FreesRooms held.now self.old self.new }
         ensures records { self.new.map.records.items ≡ self.old.map.records.items }
         ensures tickets { KeepsTickets self.old self.new }
