@@ -338,9 +338,9 @@ impl Store {
         ensures banks { KeepsBanks self.old self.new }
     {
         let mut left = held;
-        while let [first, rest @ ..] = left {
-            self.free(first.ticket.room);
-            self.map.set(first.ticket.number);
+        while let [one, rest @ ..] = left {
+            self.free(one.ticket.room);
+            self.map.set(one.ticket.number);
             left = rest;
         }
     }
@@ -466,7 +466,7 @@ impl Store {
         ensures rose { OnErr result (DiskFails (W.meaning.counts world.old) (W.meaning.counts world.new)) }
     {
         let len = entry.len() as u64;
-        if len == 0 || !self.has_room(room, len) {
+        if !self.has_room(room, len) {
             return Ok(());
         }
         stage(world, self.bank, start, self.end, entry)?;

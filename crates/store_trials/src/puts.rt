@@ -41,7 +41,8 @@ pub(crate) fn is_put(store: &mut Store, banks: &mut Banks, rec: Rec) -> bool {
 /// Withdraws what a ticket's targets have, and puts its record.
 fn is_put_alone(store: &mut Store, banks: &mut Banks, ticket: Ticket) -> bool {
     let none: &[Ticketed<()>] = &[];
-    store.withdraw(banks, none, &ticket).is_ok()
+    store.is_live()
+        && store.withdraw(banks, none, &ticket).is_ok()
         && store.is_live()
         && store.put(banks, &[Ticketed { hold: (), ticket }]).is_ok()
 }
