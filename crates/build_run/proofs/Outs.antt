@@ -416,7 +416,7 @@ withdrawn_before m world store rec targets same none kept =
 pub out_with : (store : Store) (held busies : List Busy) (ticket : Ticket) (targets : List (List ℕ)) → (t : IsTicketFor store ticket targets) → AreOut store (held ++ busies) → HasOwnRoom ticket (held ++ busies)
     → ((busy : Busy) → Contains held busy → ShareNone targets busy.hold.targets) → AreOutWith store held t.rec ticket
 out_with store held busies ticket targets t outs own apart = record {
-  held = held_outs store held (outs_front store held busies outs);
+  are = held_outs store held (outs_front store held busies outs);
   out = t.out;
   apart = apart_outs store held t.rec ticket targets (outs_front store held busies outs) (λ busy h. own busy (Contains-append_left held busies busy h)) apart t.same;
 }
@@ -484,7 +484,7 @@ both_same held as_held busies as_busies first second = ap (λ (all : List Busy).
 -- a ticket where none is held
 pub out_alone : (store : Store) (rec : Rec) (ticket : Ticket) → IsOut store rec ticket → AreOutWith {T = Hold} store [] rec ticket
 out_alone store rec ticket out = record {
-  held = tt;
+  are = tt;
   out = out;
   apart = record { rooms = λ other h. absurd (omega (arith, h.1)); targets = λ other put h. absurd (omega (arith, h.1)) };
 }

@@ -182,8 +182,7 @@ fn settle<W: World, E: Sink>(
     }
 }
 
-/// Holds a record behind those that are held, unless the store has refused before. Once there are as many as jobs may run
-/// they are put.
+/// Holds a record behind those that are held. Once there are as many as jobs may run they are put.
 fn hold<W: World, E: Sink>(
     account: &mut Account,
     store: &mut Store,
@@ -204,9 +203,6 @@ fn hold<W: World, E: Sink>(
     ensures puts { PutsUnlessShut store.old held.old store.new held.new busy.ticket account.new.is_store_shut }
     ensures shut { account.new.is_store_shut ≡ false → account.old.is_store_shut ≡ false }
 {
-    if account.is_store_shut {
-        return;
-    }
     let Ticketed { hold, ticket } = busy;
     held.add(hold, ticket);
     if held.len() < options.most_jobs() {

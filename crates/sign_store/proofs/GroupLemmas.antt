@@ -1,5 +1,5 @@
 -- Groups of tickets: what their entries say, and what is left of the others.
-use Rattle.std.proofs.Common.{◌≡◌, ◌≢◌, ◌<◌, ◌≤◌, ◌+◌, ℕ, zero, suc, Bool, true, false, List, [], ◌∷◌, ◌++◌, length, Contains, Option, Some, None, refl, sym, ap, subst, ◌∙◌, inl, inr, arith}
+use Rattle.std.proofs.Common.{◌≡◌, ◌≢◌, ◌<◌, ◌≤◌, ◌+◌, ◌-◌, get_or, take, drop, ℕ, zero, suc, Bool, true, false, List, [], ◌∷◌, ◌++◌, length, Contains, Option, Some, None, refl, sym, ap, subst, ◌∙◌, inl, inr, arith}
 use Rattle.std.specs.Prelude.{◌⊎◌, slice_index, slice_get, Result, Ok, Err, OnOk, OnErr}
 use Rattle.world_api.specs.Meaning.{Meaning}
 use Rattle.deciders.specs.declared.recorded.Rec.{Rec}
@@ -19,7 +19,7 @@ use Rattle.sign_store.specs.Tables.{Map, has_any, with_each}
 use Rattle.deciders.proofs.Sizes.{targets_within}
 use Rattle.sign_store.proofs.FormLemmas.{leads_entry, leads_put}
 use Rattle.std.proofs.lemmas.Bool.Decides.{eqb_tells}
-use Rattle.std.proofs.lemmas.List.{nil_from_length}
+use Rattle.std.proofs.lemmas.List.{nil_from_length, take_rest}
 use Rattle.sign_store.specs.Maps.{Puts}
 use Rattle.sign_store.proofs.StageLemmas.{staged_none}
 use Rattle.sign_store.proofs.TableLemmas.{none_among}
@@ -56,6 +56,12 @@ either_in xs x y (suc k, lt, is) = inr (k, omega (arith, lt), is)
 
 pub none_in : {X P : Type 0} (x : X) → Contains [] x → P
 none_in {X} {P} x h = absurd (omega (arith, h.1))
+
+-- the first of some, and the rest of them
+pub left_parts : {X : Type 0} (left : List X) (one : X) → 1 ≤ length left → one ≡ get_or left 0 one → left ≡ one ∷ take (length left - 1) (drop 1 left)
+left_parts [] one some is = absurd (omega (arith, some))
+left_parts (x ∷ xs) one some is =
+    ap (λ rest. x ∷ rest) (sym (take_rest (x ∷ xs) 1)) ∙ ap (λ y. y ∷ take (length (x ∷ xs) - 1) (drop 1 (x ∷ xs))) (sym is)
 
 -- ---- tickets of a map that is the same
 
@@ -344,4 +350,4 @@ pub set_with : {T : Type 0} (old mid set : Store) (unset : RecordMap) (held : Li
 set_with old mid set unset held rec ticket same sets keeps unsets with =
     let is = keeps.each rec ticket (ticket_same old mid rec ticket same with.out.own) in
     unsets rec is.held
-    ∙ ap (λ (m : Map). with_each rec.targets None m) (sets (tickets_same old mid held same (tickets_held old held with.held)) ∙ with_same old mid held same)
+    ∙ ap (λ (m : Map). with_each rec.targets None m) (sets (tickets_same old mid held same (tickets_held old held with.are)) ∙ with_same old mid held same)

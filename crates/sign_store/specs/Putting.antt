@@ -89,7 +89,7 @@ pub record FreesRooms {T : Type 0} (held : List (Ticketed T)) (old new : Store) 
 
 -- held tickets, and one that is out beside them
 pub record AreOutWith {T : Type 0} (store : Store) (held : List (Ticketed T)) (rec : Rec) (ticket : Ticket) : Type 0 where
-  pub held : AreHeld store held
+  pub are : AreHeld store held
   pub out : IsOut store rec ticket
   pub apart : IsApartFrom store rec ticket held
 

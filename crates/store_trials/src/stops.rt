@@ -82,7 +82,8 @@ fn is_row_put(
         None => is_put(store, banks, record_of(alloc, told, row)),
         Some((first, others)) => {
             let held = held_of(alloc, told, store, others);
-            is_group_put(store, banks, held.as_slice(), record_of(alloc, told, first))
+            let rec = record_of(alloc, told, first);
+            is_group_put(store, banks, held.as_slice(), rec)
         }
     }
 }
@@ -91,7 +92,8 @@ fn is_row_put(
 fn held_of(alloc: Global, told: &mut Told, store: &mut Store, records: &str) -> Vec<Ticketed<()>> {
     let mut held = Vec::new(alloc);
     for text in records.split(WITH) {
-        hold(told, store, &mut held, record_of(alloc, told, text));
+        let rec = record_of(alloc, told, text);
+        hold(told, store, &mut held, rec);
     }
     held
 }

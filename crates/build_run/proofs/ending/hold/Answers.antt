@@ -1,22 +1,10 @@
-use Rattle.std.proofs.Common.{◌≡◌, ◌<◌, ◌≤◌, ◌+◌, ◌∙◌, ◌++◌, ◌∷◌, [], List, Some, length, append_assoc, refl, sym, ap, subst, arith}
-use Rattle.std.proofs.lemmas.Bool.{false≢true}
-use Rattle.std.proofs.lemmas.List.{length-append}
+use Rattle.std.proofs.Common.{◌∙◌, ◌++◌, ◌∷◌, [], List, length, append_assoc, sym, ap, subst, arith}
 use Rattle.sign_store.specs.Putting.{map_with}
-use Rattle.sign_store.specs.Tables.{with_each}
 use Rattle.build_run.specs.Holds.{Busy}
 use Rattle.build_run.specs.Outs.{IsStored}
 use Rattle.build_run.proofs.Goings.{goes_here}
-use Rattle.build_run.proofs.Outs.{held_more, stored_alike, stored_shut}
+use Rattle.build_run.proofs.Outs.{held_more}
 use Rattle.build_run.proofs.ending.hold.Goals as goal
-
-pub returns-then-account-clause-goes : goal.returns-then-account-clause-goes
-returns-then-account-clause-goes g c = goes_here g.W.Disk.meaning c.args.world.now
-
-pub returns-then-account-clause-stored : goal.returns-then-account-clause-stored
-returns-then-account-clause-stored g c = stored_shut g.W.Disk.meaning _ _ _ _ c.if-account.true
-
-pub returns-then-account-clause-puts : goal.returns-then-account-clause-puts
-returns-then-account-clause-puts g c = λ unshut. absurd (false≢true (sym unshut ∙ c.if-account.true))
 
 pub returns-then-len-clause-goes : goal.returns-then-len-clause-goes
 returns-then-len-clause-goes g c = goes_here g.W.Disk.meaning c.args.world.now

@@ -20,7 +20,7 @@ returns-clause-stays g c =
 
 pub returns-clause-staged : goal.returns-clause-staged
 returns-clause-staged g c = λ from mid map is staged.
-    let cut : c.min.result ≡ min c.gate_len-skip.result (length c.args.entry.now) = omega (arith, c.min.ensures, c.len.ensures) in
+    let cut : c.min.result ≡ min c.gate_len-skip.result (length c.args.entry.now) = omega (arith, c.min.ensures) in
     told_ok c.write_at.result c.write_at.ensures.written (λ told holds.
     let before = c.write_at.ensures.told.told told in
     stage_staged c.args.end c.args.place c.gate_len-skip.result _ _ c.args.entry.now _ c.requires.behind c.gate_len-skip.ensures (take_rest c.args.entry.now c.min.result ∙ ap (λ n. drop n c.args.entry.now) cut) (c.requires.within before) holds
@@ -28,6 +28,6 @@ returns-clause-staged g c = λ from mid map is staged.
 
 pub returns-clause-within : goal.returns-clause-within
 returns-clause-within g c =
-    let cut : c.min.result ≡ min c.gate_len-skip.result (length c.args.entry.now) = omega (arith, c.min.ensures, c.len.ensures) in
+    let cut : c.min.result ≡ min c.gate_len-skip.result (length c.args.entry.now) = omega (arith, c.min.ensures) in
     ok_told c.write_at.result c.write_at.ensures.written (λ told holds.
     stage_spans c.args.end c.args.place c.gate_len-skip.result _ _ c.args.entry.now _ c.requires.behind c.gate_len-skip.ensures (take_rest c.args.entry.now c.min.result ∙ ap (λ n. drop n c.args.entry.now) cut) (c.requires.within (c.write_at.ensures.told.told told)) holds)

@@ -7,8 +7,8 @@ use Rattle.sign_store.specs.Tables.{Map}
 use Rattle.sign_store.proofs.GroupLemmas.{AddedSoFar, AreAmong}
 use Rattle.sign_store.proofs.store.Store.add_puts.Given as goal
 
-abbrev pub invariant-loop-first : goal.invariant-loop-first
-invariant-loop-first g l =
+abbrev pub invariant-loop-left : goal.invariant-loop-left
+invariant-loop-left g l =
     let m = g.W.Disk.meaning in
     record {
       map : l.self.map ≡ l.fn.self.map;
@@ -25,5 +25,5 @@ invariant-loop-first g l =
       among : AreAmong l.left l.held;
     }
 
-abbrev pub decreases-loop-first : goal.decreases-loop-first
-decreases-loop-first g l = length l.left
+abbrev pub decreases-loop-left : goal.decreases-loop-left
+decreases-loop-left g l = length l.left

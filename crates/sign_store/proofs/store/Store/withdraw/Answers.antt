@@ -11,22 +11,22 @@ use Rattle.sign_store.proofs.store.Store.withdraw.Goals as goal
 
 pub returns-then-not-has_record-clause-map : goal.returns-then-not-has_record-clause-map
 returns-then-not-has_record-clause-map g c = λ rec with.
-    then_ok c.put.result (c.put.ensures.map (tickets_held c.args.self.now c.args.held.now with.held))
+    then_ok c.put.result (c.put.ensures.map (tickets_held c.args.self.now c.args.held.now with.are))
     (λ map. map ∙ without_none c.args.self.now rec c.args.ticket.now c.args.held.now with.apart (sym (c.has_record.ensures rec with.out.own) ∙ c.if-not-has_record.true))
 
 pub returns-then-not-has_record-clause-moments : goal.returns-then-not-has_record-clause-moments
 returns-then-not-has_record-clause-moments g c = λ rec with keeps.
     let none = without_none c.args.self.now rec c.args.ticket.now c.args.held.now with.apart (sym (c.has_record.ensures rec with.out.own) ∙ c.if-not-has_record.true) in
-    subst (λ (after : Map). Throughout g.W.Disk.meaning c.args.world.now c.put.new.world (IsEither (g.W.Disk.meaning.around c.args.world.now) (map_in c.args.self.now.map) after)) none (c.put.ensures.moments with.held keeps)
+    subst (λ (after : Map). Throughout g.W.Disk.meaning c.args.world.now c.put.new.world (IsEither (g.W.Disk.meaning.around c.args.world.now) (map_in c.args.self.now.map) after)) none (c.put.ensures.moments with.are keeps)
 
 pub returns-then-not-has_record-clause-keeps : goal.returns-then-not-has_record-clause-keeps
-returns-then-not-has_record-clause-keeps g c = λ rec with keeps. c.put.ensures.keeps with.held keeps
+returns-then-not-has_record-clause-keeps g c = λ rec with keeps. c.put.ensures.keeps with.are keeps
 
 pub returns-then-not-has_record-clause-out : goal.returns-then-not-has_record-clause-out
-returns-then-not-has_record-clause-out g c = λ rec with. c.put.ensures.outs rec c.args.ticket.now with.held with.apart with.out
+returns-then-not-has_record-clause-out g c = λ rec with. c.put.ensures.outs rec c.args.ticket.now with.are with.apart with.out
 
 pub returns-then-not-has_record-clause-outs : goal.returns-then-not-has_record-clause-outs
-returns-then-not-has_record-clause-outs g c = λ rec other_rec other with differs apart out. c.put.ensures.outs other_rec other with.held apart out
+returns-then-not-has_record-clause-outs g c = λ rec other_rec other with differs apart out. c.put.ensures.outs other_rec other with.are apart out
 
 pub returns-then-not-has_record-clause-rooms : goal.returns-then-not-has_record-clause-rooms
 returns-then-not-has_record-clause-rooms g c = λ rec with.

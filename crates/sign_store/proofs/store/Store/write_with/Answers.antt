@@ -5,7 +5,10 @@ use Rattle.sign_store.specs.Maps.{map_in}
 use Rattle.sign_store.specs.Putting.{map_with, map_without}
 use Rattle.sign_store.specs.Staging.{IsEntry}
 use Rattle.sign_store.specs.Stores.{HasRoom, TakesRoom}
-use Rattle.sign_store.proofs.DiskLemmas.{held_ok}
+use Rattle.world_api.specs.Meaning.{IsSettled}
+use Rattle.sign_store.specs.Reached.{Writes}
+use Rattle.sign_store.proofs.DiskLemmas.{both_ok, held_ok, writes_joined}
+use Rattle.sign_store.proofs.FillLemmas.{settled_on}
 use Rattle.sign_store.proofs.WriteLemmas.{either_first}
 use Rattle.sign_store.proofs.GroupLemmas.{room_apart, takes_beside, withdraw_entry}
 use Rattle.sign_store.proofs.StageLemmas.{behind_as, behind_then, group_kept, group_written, staged_at}
@@ -36,7 +39,7 @@ returns-clause-moments g c = λ rec with keeps.
     let at = subst (λ n. KeepsAt m c.args.world.now c.args.self.now.bank n map) (sym c.requires.behind) keeps in
     let stays = behind_then m c.args.world.now c.add_puts.new.world c.add.new.world c.args.self.now.bank c.args.start c.add_puts.ensures.around c.add_puts.ensures.stays
     (behind_as m c.add_puts.new.world c.add.new.world c.args.self.now.bank c.add_puts.new.self.bank c.args.start c.add_puts.ensures.bank c.add.ensures.stays) in
-    let staged = c.in_ok-add_puts.ensures.staged map map with.held (λ told. staged_at c.args.start c.args.self.now.end map _ c.requires.behind) in
+    let staged = c.in_ok-add_puts.ensures.staged map map with.are (λ told. staged_at c.args.start c.args.self.now.end map _ c.requires.behind) in
     let room = room_apart c.args.self.now c.add_puts.new.self c.args.ticket.now c.args.held.now (length c.args.ticket.now.withdrawal.items) with.apart.rooms c.add_puts.ensures.rooms
     (withdrawal_has_room c.args.self.now rec c.args.ticket.now with.out (c.requires.some rec with.out.own)) in
     let whole = map_with c.args.self.now c.args.held.now in
@@ -53,7 +56,7 @@ returns-clause-keeps g c = λ rec with keeps.
     let at = subst (λ n. KeepsAt m c.args.world.now c.args.self.now.bank n map) (sym c.requires.behind) keeps in
     let stays = behind_then m c.args.world.now c.add_puts.new.world c.add.new.world c.args.self.now.bank c.args.start c.add_puts.ensures.around c.add_puts.ensures.stays
     (behind_as m c.add_puts.new.world c.add.new.world c.args.self.now.bank c.add_puts.new.self.bank c.args.start c.add_puts.ensures.bank c.add.ensures.stays) in
-    let staged = c.in_ok-add_puts.ensures.staged map map with.held (λ told. staged_at c.args.start c.args.self.now.end map _ c.requires.behind) in
+    let staged = c.in_ok-add_puts.ensures.staged map map with.are (λ told. staged_at c.args.start c.args.self.now.end map _ c.requires.behind) in
     let room = room_apart c.args.self.now c.add_puts.new.self c.args.ticket.now c.args.held.now (length c.args.ticket.now.withdrawal.items) with.apart.rooms c.add_puts.ensures.rooms
     (withdrawal_has_room c.args.self.now rec c.args.ticket.now with.out (c.requires.some rec with.out.own)) in
     let whole = map_with c.args.self.now c.args.held.now in
@@ -71,3 +74,26 @@ returns-clause-rooms g c = λ rec with.
     held_ok c.publish.result
     (takes_beside c.args.held.now c.args.ticket.now (length c.args.ticket.now.withdrawal.items) c.args.self.now c.add_puts.new.self c.add.new.self with.apart.rooms c.add_puts.ensures.rooms
     (subst (λ (x : List ℕ). TakesRoom c.args.ticket.now.room (length x) c.add_puts.new.self c.add.new.self) bytes takes))
+
+pub returns-in_err-add-clause-writes : goal.returns-in_err-add-clause-writes
+returns-in_err-add-clause-writes g c =
+    writes_joined g.W.Disk.meaning c.args.self.now.bank c.args.world.now c.add_puts.new.world c.add.new.world c.add_puts.ensures.writes
+    (subst (λ (b : Bank). Writes g.W.Disk.meaning b c.add_puts.new.world c.add.new.world) c.add_puts.ensures.bank c.add.ensures.writes)
+
+pub returns-clause-writes : goal.returns-clause-writes
+returns-clause-writes g c =
+    let m = g.W.Disk.meaning in
+    let bank = c.args.self.now.bank in
+    writes_joined m bank c.args.world.now c.add.new.world c.publish.new.world
+    (writes_joined m bank c.args.world.now c.add_puts.new.world c.add.new.world c.add_puts.ensures.writes
+    (subst (λ (b : Bank). Writes m b c.add_puts.new.world c.add.new.world) c.add_puts.ensures.bank c.add.ensures.writes))
+    (subst (λ (b : Bank). Writes m b c.add.new.world c.publish.new.world) (c.add.ensures.bank ∙ c.add_puts.ensures.bank) c.publish.ensures.writes)
+
+pub returns-clause-settled : goal.returns-clause-settled
+returns-clause-settled g c =
+    let m = g.W.Disk.meaning in
+    both_ok c.publish.result c.publish.ensures.settled c.publish.ensures.settled (λ settled _. record {
+      on = λ told rest.
+          settled_on m c.args.world.now c.publish.new.world c.args.self.now.bank rest
+          (subst (λ (b : Bank). IsSettled m c.publish.new.world b) (c.add.ensures.bank ∙ c.add_puts.ensures.bank) (settled told)) ((returns-clause-writes g c).other told);
+    })
