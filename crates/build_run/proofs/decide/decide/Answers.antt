@@ -33,3 +33,15 @@ returns-in_ok-report_missing-in-Lacks-clause-stored g c =
     let looks = c.present.ensures.looks in
     stored_alike g.W.Disk.meaning _ c.args.store.now _ _ _ _ refl c.report_missing.ensures.shut
     (stored_over g.W.Disk.meaning _ _ c.args.store.now (c.args.held.now ++ c.args.tickets.now) c.args.account.now.is_store_shut looks.told.told looks.banks c.requires.stored)
+
+pub returns-then-deps-clause-kept : goal.returns-then-deps-clause-kept
+returns-then-deps-clause-kept g c = λ unshut busy path h made. refl
+
+pub returns-in_err-now-clause-kept : goal.returns-in_err-now-clause-kept
+returns-in_err-now-clause-kept g c = λ unshut busy path h made. refl
+
+pub returns-in_err-report_missing-in-Lacks-clause-kept : goal.returns-in_err-report_missing-in-Lacks-clause-kept
+returns-in_err-report_missing-in-Lacks-clause-kept g c = λ unshut busy path h made. refl
+
+pub returns-in_ok-report_missing-in-Lacks-clause-kept : goal.returns-in_ok-report_missing-in-Lacks-clause-kept
+returns-in_ok-report_missing-in-Lacks-clause-kept g c = λ unshut busy path h made. refl

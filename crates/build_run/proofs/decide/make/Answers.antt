@@ -29,3 +29,9 @@ returns-clause-stored g c = stored_alike g.W.Disk.meaning c.start.new.world c.st
 
 pub returns-clause-kept : goal.returns-clause-kept
 returns-clause-kept g c = λ unshut. c.start.ensures.kept (sym c.note_start.ensures.shut ∙ unshut)
+
+pub returns-in_err-is_stale-clause-kept : goal.returns-in_err-is_stale-clause-kept
+returns-in_err-is_stale-clause-kept g c = λ unshut busy path h made. refl
+
+pub returns-then-not-branch-clause-kept : goal.returns-then-not-branch-clause-kept
+returns-then-not-branch-clause-kept g c = λ unshut busy path h made. refl

@@ -1,6 +1,6 @@
 use Rattle.std.proofs.Common.{◌≡◌, ◌∙◌, ◌∷◌, ℕ, List, Contains, length, refl, sym, subst, arith}
 use Rattle.world_api.specs.declared.disk.Bank.{Bank}
-use Rattle.sign_store.specs.Putting.{AreStagedFrom}
+use Rattle.sign_store.specs.Putting.{AreStagedFrom, put_over}
 use Rattle.sign_store.specs.Reached.{Writes}
 use Rattle.sign_store.specs.Staging.{IsEntry}
 use Rattle.sign_store.specs.Stores.{HasRoom}
@@ -50,7 +50,7 @@ loop-left-preserved g c =
           (behind_as m c.loop-left.world c.add.new.world c.args.self.now.bank c.loop-left.self.bank c.args.start before.bank c.add.ensures.stays);
       staged = λ from mid are staged.
           added_next m c.loop-left.world c.add.new.world c.loop-left.self c.add.new.self c.args.start from _ one _ entry c.add.ensures.map c.add.ensures.others
-          (subst (λ all. AddedSoFar m c.loop-left.world c.loop-left.self c.args.start from _ all) parts (before.staged from mid are staged));
+          (subst (λ all. AddedSoFar m c.loop-left.world c.loop-left.self c.args.start from (put_over c.args.self.now.map.records.items c.args.held.now mid) all) parts (before.staged from mid are staged));
       rooms = rooms_on c.args.held.now one c.args.self.now c.loop-left.self c.add.new.self here before.rooms c.add.ensures.others;
       among = λ x h. before.among x (subst (λ all. Contains all x) (sym parts) (later_in _ one x h));
     }

@@ -1,6 +1,7 @@
 use Rattle.std.proofs.Common.{◌≡◌, ◌∙◌, ◌∷◌, Contains, refl, sym, ap, subst}
 use Rattle.sign_store.specs.declared.map.RecordMap.{RecordMap}
 use Rattle.sign_store.specs.Maps.{HasRecord}
+use Rattle.sign_store.specs.Putting.{map_with}
 use Rattle.sign_store.proofs.GroupLemmas.{FreedSoFar, SetSoFar, first_in, freed_first, freed_next, later_in, left_parts, set_first, set_next}
 use Rattle.sign_store.proofs.store.Store.set_each.Goals as goal
 
@@ -24,7 +25,7 @@ loop-left-preserved g c =
     record {
       map = λ are.
           set_next c.loop-left.self.map c.free.new.self.map c.set.new.self one _ _ c.free.ensures.map c.set.ensures.map c.set.ensures.records c.set.ensures.keeps
-          (subst (λ all. SetSoFar c.loop-left.self.map all _) parts (before.map are));
+          (subst (λ all. SetSoFar c.loop-left.self.map all (map_with c.args.self.now c.args.held.now)) parts (before.map are));
       freed = freed_next c.args.held.now one _ c.args.self.now.rooms.items c.loop-left.self.rooms.items c.free.new.self.rooms.items here c.free.ensures.rooms.rooms c.free.ensures.rooms.others c.free.ensures.none
           (subst (λ all. FreedSoFar c.args.held.now all c.args.self.now.rooms.items c.loop-left.self.rooms.items) parts before.freed);
       records = c.set.ensures.records ∙ ap (λ (map : RecordMap). map.records.items) c.free.ensures.map ∙ before.records;
