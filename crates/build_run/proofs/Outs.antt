@@ -242,8 +242,8 @@ apart_outs store held rec ticket targets outs own apart same = record {
   rooms = own;
   targets = λ other put h is path here there.
       let t = (out_in store held other outs h).ticket in
-      let as : put ≡ t.rec = some_same put t.rec (sym is ∙ t.out.own.held.record_at) in
-      let made : Contains other.hold.targets path = subst (λ (paths : List (List ℕ)). Contains paths path) (ap (λ (r : Rec). r.targets) as ∙ t.same) (among_in put.targets path here) in
+      let whose : put ≡ t.rec = some_same put t.rec (sym is ∙ t.out.own.held.record_at) in
+      let made : Contains other.hold.targets path = subst (λ (paths : List (List ℕ)). Contains paths path) (ap (λ (r : Rec). r.targets) whose ∙ t.same) (among_in put.targets path here) in
       apart other h path (subst (λ (paths : List (List ℕ)). Contains paths path) same (among_in rec.targets path there)) made;
 }
 
