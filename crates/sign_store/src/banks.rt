@@ -149,12 +149,7 @@ fn gate_len(end: u64, place: u64) -> usize
 /// Closes the gate behind the entries that were written up to `place`, syncs them, and then opens the gate at `end`, in
 /// front of the first: from there on all of them count.
 #[tactic(auto, using(crate::proofs::DiskLemmas::calls))]
-pub(crate) fn publish<W: Disk>(
-    world: &mut W,
-    bank: Bank,
-    end: u64,
-    place: u64,
-) -> Result<(), Fault>
+pub(crate) fn publish<W: Disk>(world: &mut W, bank: Bank, end: u64, place: u64) -> Result<(), Fault>
     requires behind { end ≤ place }
     requires within { W.meaning.tells world.old → Spans end place (W.meaning.seen world.old bank) }
     requires small { place + 1 ≤ 2 ^ 41 }

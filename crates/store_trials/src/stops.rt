@@ -109,12 +109,7 @@ fn hold(told: &mut Told, store: &mut Store, held: &mut Vec<Ticketed<()>>, rec: R
 }
 
 /// Withdraws what a record's targets have, in one group with the puts of held ones: whether no bank refused.
-fn is_group_put(
-    store: &mut Store,
-    banks: &mut Banks,
-    held: &[Ticketed<()>],
-    rec: Rec,
-) -> bool {
+fn is_group_put(store: &mut Store, banks: &mut Banks, held: &[Ticketed<()>], rec: Rec) -> bool {
     if !store.is_live() {
         return false;
     }
