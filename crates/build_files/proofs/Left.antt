@@ -16,7 +16,7 @@ use Rattle.world_api.specs.Looks.{Looks}
 use Rattle.world_api.specs.Meaning.{Meaning}
 use Rattle.deciders.specs.declared.recorded.Rec.{Rec}
 use Rattle.build_files.specs.declared.end.ListEnd.{ListEnd}
-use Rattle.build_files.specs.Leftovers.{AtRest, has_copies, stands, is_made, is_copied, source_among, copied_from, IsOfCopy, IsLeftover, AreLeftovers}
+use Rattle.build_files.specs.Leftovers.{AtRest, has_copies, stands, is_made, is_declared, is_copied, source_among, copied_from, IsOfCopy, IsLeftover, AreLeftovers}
 
 pub none_runs : (running : List Running) (path : List ℕ) → running ≡ [] → IsRunningTarget running path → ⊥
 none_runs [] path rest is = omega (arith, is.1.1)
@@ -25,14 +25,14 @@ none_runs (first ∷ running) path rest is = absurd (cc rest)
 stands_on : (a b : Around) (path : List ℕ) → a.running ≡ [] → Asks a b → stands b path ≡ stands a path
 stands_on a b path rest asks = ap (λ (content : Content). is_some content) (asks.files path (none_runs a.running path rest))
 
-source_on : (g : RuleGraph) (a b : Around) (source : Option (List ℕ)) → a.running ≡ [] → Asks a b → source_among g b source ≡ source_among g a source
-source_on g a b (Some source) rest asks =
-    ap (λ (is : Bool). if is_made g source || (not (is_copied g source) && is) then Some source else None) (stands_on a b source rest asks)
-source_on g a b None rest asks = refl
+source_on : (g : RuleGraph) (count : ℕ) (a b : Around) (source : Option (List ℕ)) → a.running ≡ [] → Asks a b → source_among g count b source ≡ source_among g count a source
+source_on g count a b (Some source) rest asks =
+    ap (λ (is : Bool). if is_declared g count source || (not (is_copied g source) && is) then Some source else None) (stands_on a b source rest asks)
+source_on g count a b None rest asks = refl
 
-copied_on : (g : RuleGraph) (a b : Around) (path : List ℕ) → a.running ≡ [] → Asks a b → copied_from g b path ≡ copied_from g a path
-copied_on g a b path rest asks =
-    ap (λ (source : Option (List ℕ)). if is_copied g path then source else None) (source_on g a b (source_of g.variants g.top path) rest asks)
+copied_on : (g : RuleGraph) (count : ℕ) (a b : Around) (path : List ℕ) → a.running ≡ [] → Asks a b → copied_from g count b path ≡ copied_from g count a path
+copied_on g count a b path rest asks =
+    ap (λ (source : Option (List ℕ)). if is_copied g path then source else None) (source_on g count a b (source_of g.variants g.top path) rest asks)
 
 pub left_on : (g : RuleGraph) (a b : Around) (rec : Rec) → a.running ≡ [] → Asks a b → IsLeftover g a rec → IsLeftover g b rec
 left_on g a b rec rest asks left = record {
@@ -40,7 +40,7 @@ left_on g a b rec rest asks left = record {
   targets = left.targets;
   copy = left.copy;
   unmade = left.unmade;
-  uncopied = copied_on g a b left.path rest asks ∙ left.uncopied;
+  uncopied = copied_on g (length g.rules) a b left.path rest asks ∙ left.uncopied;
   stands = stands_on a b left.path rest asks ∙ left.stands;
 }
 
@@ -50,7 +50,7 @@ left_before g a b rec rest asks left = record {
   targets = left.targets;
   copy = left.copy;
   unmade = left.unmade;
-  uncopied = sym (copied_on g a b left.path rest asks) ∙ left.uncopied;
+  uncopied = sym (copied_on g (length g.rules) a b left.path rest asks) ∙ left.uncopied;
   stands = sym (stands_on a b left.path rest asks) ∙ left.stands;
 }
 
@@ -68,14 +68,14 @@ none_of (Some path) bare = absurd (cc bare)
 
 -- what the last look finds
 pub left_is : {W : Type 0} (m : Meaning W) (g : RuleGraph) (rec : Rec) (path : List ℕ) (old new : W) (r : Result Bool ListEnd) → rec.targets ≡ path ∷ [] → IsOfCopy g rec path → is_made g path ≡ false
-    → Looks m old new → (m.tells old → copied_from g (m.around old) path ≡ None) → (m.tells new → IfOk r (λ is. is ≡ stands (m.around new) path))
+    → Looks m old new → (m.tells old → copied_from g (length g.rules) (m.around old) path ≡ None) → (m.tells new → IfOk r (λ is. is ≡ stands (m.around new) path))
     → AtRest m new → IfOk r (λ is. is ≡ true → IsLeftover g (m.around new) rec)
 left_is m g rec path old new (Ok is) targets copy unmade looks from found at = λ same. record {
   path = path;
   targets = targets;
   copy = copy;
   unmade = unmade;
-  uncopied = copied_on g (m.around old) (m.around new) path (rest_before m old new looks at).1 (looks.around at.0) ∙ from (looks.told.told at.0);
+  uncopied = copied_on g (length g.rules) (m.around old) (m.around new) path (rest_before m old new looks at).1 (looks.around at.0) ∙ from (looks.told.told at.0);
   stands = sym (found at.0) ∙ same;
 }
 left_is m g rec path old new (Err end) targets copy unmade looks from found at = tt

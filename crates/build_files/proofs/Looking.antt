@@ -3,7 +3,7 @@ use Rattle.std.proofs.Common.{◌≡◌, ◌<◌, ℕ, List, [], ◌∷◌, ◌+
 use Rattle.std.specs.Prelude.{Result, MatchOption}
 use Rattle.node_tree.specs.Nodes.{number_of, Interns}
 use Rattle.world_api.specs.Counts.{Counts}
-use Rattle.world_api.proofs.Looking.{looks_same, looks_joined, alone_same, alone_failed}
+use Rattle.world_api.proofs.Looking.{looks_same, looks_joined, since_call, alone_same, alone_failed}
 use Rattle.build_files.specs.declared.end.ListEnd.{ListEnd}
 use Rattle.build_files.specs.Causes.{HasEndCause, HasLookCause, IsInside, IsQuiet}
 
@@ -27,4 +27,4 @@ interned_below old path id new n interns below = by (number_of old path) interns
     by None h = let len = ap (λ (x : List (List ℕ)). length x) h.1 in omega (arith, len, length-append old (path ∷ []))
     by (Some number) h = let len = ap (λ (x : List (List ℕ)). length x) h.1 in omega (arith, len)
 
-pub ruleset looking = (looks_same, looks_joined, alone_same, alone_failed, inside)
+pub ruleset looking = (looks_same, looks_joined, since_call, alone_same, alone_failed, inside)

@@ -1,7 +1,7 @@
 -- Which copies are left over: nothing makes them any more, and they aren't sources themselves. What is copied into variant
 -- directories is told by the chapter on variant directories of the SCons User Guide; that a copy goes with its source is
 -- this project's own.
-use Rattle.std.specs.Prelude.{◌≡◌, Bool, true, false, not, ℕ, List, [], ◌∷◌, ◌&&◌, ◌||◌, Option, Some, None, Contains, is_some, if◌then◌else◌}
+use Rattle.std.specs.Prelude.{◌≡◌, Bool, true, false, not, ℕ, List, [], ◌∷◌, ◌&&◌, ◌||◌, Option, Some, None, Contains, is_some, length, nat_lt, if◌then◌else◌}
 use Rattle.node_tree.specs.Nodes.{number_of}
 use Rattle.variant_dirs.specs.Variants.{variant_of, source_of}
 use Rattle.variant_dirs.specs.declared.variants.Variant.{Variant}
@@ -38,18 +38,30 @@ AtRest m world = m.tells world × ((m.around world).running ≡ [])
 abbrev pub stands : Around → List ℕ → Bool
 stands around path = is_some (around.tree path)
 
--- whether it is copied: a rule makes it, or it is a file outside of such directories
-abbrev pub is_source : RuleGraph → Around → List ℕ → Bool
-is_source g around source = is_made g source || (not (is_copied g source) && stands around source)
+abbrev is_before : ℕ → Option ℕ → Bool
+is_before count (Some rule) = nat_lt rule count
+is_before count None = false
 
-abbrev pub source_among : RuleGraph → Around → Option (List ℕ) → Option (List ℕ)
-source_among g around (Some source) = if is_source g around source then Some source else None
-source_among g around None = None
+abbrev declared_for : ℕ → List Rule → Option ℕ → Bool
+declared_for count rules (Some node) = is_before count (rule_of rules node)
+declared_for count rules None = false
 
--- the path that a path is copied from where no rule makes it
-abbrev pub copied_from : RuleGraph → Around → List ℕ → Option (List ℕ)
-copied_from g around path =
-    if is_copied g path then source_among g around (source_of g.variants g.top path) else None
+-- whether one of the first so many rules makes the path: one that was declared, and no copy rule that was added since
+abbrev pub is_declared : RuleGraph → ℕ → List ℕ → Bool
+is_declared g count path = declared_for count g.rules (number_of g.nodes path)
+
+-- whether it is copied: a declared rule makes it, or it is a file outside of such directories. A copy is never copied further.
+abbrev pub is_source : RuleGraph → ℕ → Around → List ℕ → Bool
+is_source g count around source = is_declared g count source || (not (is_copied g source) && stands around source)
+
+abbrev pub source_among : RuleGraph → ℕ → Around → Option (List ℕ) → Option (List ℕ)
+source_among g count around (Some source) = if is_source g count around source then Some source else None
+source_among g count around None = None
+
+-- the path that a path is copied from where no rule makes it, and so many rules were declared
+abbrev pub copied_from : RuleGraph → ℕ → Around → List ℕ → Option (List ℕ)
+copied_from g count around path =
+    if is_copied g path then source_among g count around (source_of g.variants g.top path) else None
 
 -- the record of the path says that it was copied from its source
 pub record IsOfCopy (g : RuleGraph) (rec : Rec) (path : List ℕ) : Type 0 where
@@ -65,7 +77,7 @@ pub record IsLeftover (g : RuleGraph) (around : Around) (rec : Rec) : Type 0 whe
   pub targets : rec.targets ≡ path ∷ []
   pub copy : IsOfCopy g rec path
   pub unmade : is_made g path ≡ false
-  pub uncopied : copied_from g around path ≡ None
+  pub uncopied : copied_from g (length g.rules) around path ≡ None
   pub stands : stands around path ≡ true
 
 -- these are, of some records, those of leftover copies, and no others

@@ -175,7 +175,7 @@ impl Inputs {
         if !self.settle(node)? {
             return Ok(());
         }
-        match copied_from(world, graph, path_of(graph, node)?)? {
+        match copied_from(world, graph, self.declared, path_of(graph, node)?)? {
             Some(source) => add_copy_rule(self.alloc, graph, node, &source),
             None => Ok(()),
         }

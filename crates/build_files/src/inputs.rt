@@ -15,7 +15,7 @@ use rule_graph::Graph;
 use scons_base::limits::FILE_LIMIT;
 use scons_base::{Listing, Memory, NodeId, PathText};
 use std::alloc::Global;
-use world_api::{Content, Kind, World};
+use world_api::{Content, Hash, Kind, World};
 
 /// What was found of the files of a build. A file that no rule makes stays as it is while the build runs, and one that a
 /// rule makes is asked for only once its rule is settled.
@@ -30,22 +30,29 @@ pub struct Inputs {
     pub(crate) found: Found,
     /// The rules whose files were looked at for copy rules, by their numbers.
     pub(crate) looked_at: Vec<bool>,
+    /// How many rules were declared. Those behind them copy files into variant directories.
+    pub(crate) declared: u32,
+    /// What digests are made by.
+    pub(crate) hash: Hash,
     pub(crate) alloc: Global,
 }
 
 impl Inputs {
-    pub fn new(alloc: Global) -> Inputs {
-        Inputs::past(alloc, IndexSet::new(alloc))
+    /// The files of a build over a graph in which all rules are declared ones.
+    pub fn new(alloc: Global, hash: Hash, graph: &Graph) -> Inputs {
+        Inputs::past(alloc, hash, graph, IndexSet::new(alloc))
     }
 
     /// The files of a build that looks past these.
-    pub fn past(alloc: Global, gone: IndexSet<PathText>) -> Inputs {
+    pub fn past(alloc: Global, hash: Hash, graph: &Graph, gone: IndexSet<PathText>) -> Inputs {
         Inputs {
             seen: Vec::new(alloc),
             unknown: IndexSet::new(alloc),
             gone,
             found: Found::new(alloc),
             looked_at: Vec::new(alloc),
+            declared: graph.rules(),
+            hash,
             alloc,
         }
     }
@@ -181,11 +188,11 @@ impl Inputs {
         is_scanned: bool,
         content: Content,
     ) -> Result<Option<Digest>, Memory> {
-        let alloc = self.alloc;
+        let (alloc, hash) = (self.alloc, self.hash);
         let seen = self.seen(node)?;
         match content {
             Some(bytes) => {
-                let digest = digest_of(bytes.as_slice());
+                let digest = digest_of(hash, bytes.as_slice());
                 seen.digest = Some(Some(digest));
                 if is_scanned || is_header(path.suffix()) {
                     seen.includes = Some(includes(alloc, bytes.as_slice())?);

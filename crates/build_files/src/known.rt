@@ -1,7 +1,7 @@
 //! Which paths are known: those that a rule makes, and those at which a file stands.
 ghost use Rattle.std.specs.Prelude.{◌≡◌, IfOk};
 ghost use Rattle.build_files.specs.Causes.{HasLookCause, IsQuiet};
-ghost use Rattle.build_files.specs.Leftovers.{is_made, is_copied, copied_from};
+ghost use Rattle.build_files.specs.Leftovers.{is_made, is_declared, is_copied, copied_from};
 ghost use Rattle.world_api.specs.Looks.{Looks};
 
 use crate::end::ListEnd;
@@ -51,7 +51,7 @@ impl Inputs {
         if self.is_file(world, path, node)? {
             return Ok(true);
         }
-        has_copy_rule(world, graph, path)
+        self.has_copy_rule(world, graph, path)
     }
 
     /// The node of a path that no rule names, where the path is known.
@@ -71,11 +71,25 @@ impl Inputs {
         if self.stands(world, path)? {
             return self.note(graph, path, true);
         }
-        if has_copy_rule(world, graph, path)? {
+        if self.has_copy_rule(world, graph, path)? {
             return self.note(graph, path, false);
         }
         let _ = self.unknown.insert(path.copy()?)?;
         Ok(None)
+    }
+
+    /// Whether a path without a declared rule has a copy rule.
+    #[tactic(auto, using(crate::proofs::Looking::looking))]
+    fn has_copy_rule<W: World>(
+        &self,
+        world: &mut W,
+        graph: &Graph,
+        path: &PathText,
+    ) -> Result<bool, ListEnd>
+        ensures looks { Looks W.meaning world.old world.new }
+        ensures cause { HasLookCause (W.meaning.counts world.old) (W.meaning.counts world.new) result }
+    {
+        Ok(copied_from(world, graph, self.declared, path)?.is_some())
     }
 
     /// Gives a path a node, and notes whether a file stands there.
@@ -94,7 +108,7 @@ impl Inputs {
     }
 }
 
-/// Whether a path without a declared rule has a copy rule.
+/// Whether a path without a declared rule has a copy rule, over a graph in which all rules are declared ones.
 #[tactic(auto, using(crate::proofs::Looking::looking))]
 pub fn has_copy_rule<W: World>(
     world: &mut W,
@@ -104,20 +118,22 @@ pub fn has_copy_rule<W: World>(
     ensures looks { Looks W.meaning world.old world.new }
     ensures cause { HasLookCause (W.meaning.counts world.old) (W.meaning.counts world.new) result }
 {
-    Ok(copied_from(world, graph, path)?.is_some())
+    Ok(copied_from(world, graph, graph.rules(), path)?.is_some())
 }
 
 /// The path that a path without a declared rule is copied from: it lies in a variant directory with copies, and its source
-/// has a rule, or is a file outside such directories.
+/// has one of the rules that were declared, which are the first so many, or is a file outside such directories. A copy is
+/// never copied further.
 #[tactic(auto, using(crate::proofs::Looking::looking))]
 pub(crate) fn copied_from<W: World>(
     world: &mut W,
     graph: &Graph,
+    declared: u32,
     path: &PathText,
 ) -> Result<Option<PathText>, ListEnd>
     ensures looks { Looks W.meaning world.old world.new }
     ensures cause { HasLookCause (W.meaning.counts world.old) (W.meaning.counts world.new) result }
-    ensures from { W.meaning.tells world.new → IfOk result (λ source. source ≡ copied_from graph.now (W.meaning.around world.new) path.now) }
+    ensures from { W.meaning.tells world.new → IfOk result (λ source. source ≡ copied_from graph.now declared (W.meaning.around world.new) path.now) }
 {
     if !is_copied(graph, path) {
         return Ok(None);
@@ -125,7 +141,7 @@ pub(crate) fn copied_from<W: World>(
     let Some(source) = graph.variants().source_of(graph.top(), path)? else {
         return Ok(None);
     };
-    if is_made(graph, &source) {
+    if is_declared(graph, declared, &source) {
         return Ok(Some(source));
     }
     if is_copied(graph, &source) {
@@ -154,6 +170,19 @@ pub(crate) fn is_made(graph: &Graph, path: &PathText) -> bool
 {
     match graph.find(path) {
         Some(node) => graph.rule_of(node).is_some(),
+        None => false,
+    }
+}
+
+/// Whether one of the first so many rules makes a path.
+fn is_declared(graph: &Graph, declared: u32, path: &PathText) -> bool
+    ensures { result ≡ is_declared graph.now declared path.now }
+{
+    match graph.find(path) {
+        Some(node) => match graph.rule_of(node) {
+            Some(rule) => rule.0 < declared,
+            None => false,
+        },
         None => false,
     }
 }

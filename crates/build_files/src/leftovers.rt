@@ -72,7 +72,7 @@ pub fn is_leftover<W: World>(world: &mut W, graph: &Graph, rec: &Rec) -> Result<
     if is_made(graph, path) || !was_copied(graph, path, rec)? {
         return Ok(false);
     }
-    if copied_from(world, graph, path)?.is_some() {
+    if copied_from(world, graph, graph.rules(), path)?.is_some() {
         return Ok(false);
     }
     is_file_at(world, path)

@@ -86,7 +86,7 @@ impl Inputs {
         let named = rule_at(graph, rule)?;
         let targets = paths_of(self.alloc, graph, named.targets.as_slice())?;
         let signed = named.signed.copy()?;
-        let rec = rec_of(named.work, targets, signed, Listing::new(deps))?;
+        let rec = rec_of(named.work, self.hash, targets, signed, Listing::new(deps))?;
         Ok(Present::Record(rec))
     }
 

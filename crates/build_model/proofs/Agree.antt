@@ -1,7 +1,7 @@
 -- What agrees on the dependencies of a rule gives the same dependencies, contents and record.
 use Rattle.std.proofs.Common.{◌≡◌, ℕ, zero, suc, List, [], ◌∷◌, ◌++◌, Some, map, refl, sym, ap, ◌∙◌}
 use Rattle.build_model.specs.Rules.{Path, Tree, Stamps, Rule, Setting, Among, here, there}
-use Rattle.build_model.specs.Reach.{unseen, breadth_first, declared, left_out, first_scanned, scan_list, reach}
+use Rattle.build_model.specs.Reach.{unseen, breadth_first, declared, left_out, first_scanned, scan_list, reach, ReachesSame}
 use Rattle.build_model.specs.Contents.{View, in_tree, found_in, includes_of, scanned_files, dependencies, contents_in, with_known, act_on, made}
 use Rattle.build_model.specs.Records.{record_of, dependency_of, known_digest, stamp_kept}
 use Rattle.build_model.specs.Steps.{contents_of}
@@ -25,15 +25,22 @@ pub contents_in_tree : (t : Tree) (ps : List Path) → contents_in (in_tree t) p
 contents_in_tree t [] = refl
 contents_in_tree t (p ∷ ps) = ap (with_known p (Some (t p))) (contents_in_tree t ps)
 
--- what agrees on the dependencies of a rule gives the same files that are scanned, and the same dependencies
+-- what agrees on the files that are scanned for a rule gives the same ones, and the same dependencies
+pub scanned_decide : (limit : ℕ) (f g : Path → List Path) (r : Rule) → ((p : Path) → Among p (scan_list limit f r) → f p ≡ g p) →
+    ReachesSame limit f g r
+scanned_decide limit f g r h =
+    let same : scan_list limit g r ≡ scan_list limit f r =
+    breadth_first_agrees f g limit (first_scanned r ++ left_out r) (first_scanned r) h in
+    record { scanned = same; dependencies = ap (λ l. declared r ++ unseen (declared r ++ left_out r) l) same }
+
+-- so does what agrees on the dependencies, the files that are scanned among them
 pub same_scan : (limit : ℕ) (f g : Path → List Path) (r : Rule) → ((p : Path) → Among p (reach limit f r) → f p ≡ g p) →
     scan_list limit g r ≡ scan_list limit f r
-same_scan limit f g r h =
-    breadth_first_agrees f g limit (first_scanned r ++ left_out r) (first_scanned r) (λ p m. h p (listed_in_reach f r limit m))
+same_scan limit f g r h = (scanned_decide limit f g r (λ p m. h p (listed_in_reach f r limit m))).scanned
 
 pub same_reach : (limit : ℕ) (f g : Path → List Path) (r : Rule) → ((p : Path) → Among p (reach limit f r) → f p ≡ g p) →
     reach limit g r ≡ reach limit f r
-same_reach limit f g r h = ap (λ l. declared r ++ unseen (declared r ++ left_out r) l) (same_scan limit f g r h)
+same_reach limit f g r h = (scanned_decide limit f g r (λ p m. h p (listed_in_reach f r limit m))).dependencies
 
 module _ (s : Setting) (r : Rule) (v w : View) (h : (p : Path) → Among p (dependencies s v r) → v p ≡ w p) where
   same_found_in : (p : Path) → Among p (dependencies s v r) → found_in s v r p ≡ found_in s w r p
@@ -51,7 +58,7 @@ module _ (s : Setting) (r : Rule) (v w : View) (h : (p : Path) → Among p (depe
 
   pub same_record : (stamps : Stamps) → record_of s r w stamps ≡ record_of s r v stamps
   same_record stamps =
-      ap (λ l. record { work = r.work; signed = r.signed; targets = r.targets; dependencies = l })
+      ap (λ l. record { work = r.work; hash = s.hash; signed = r.signed; targets = r.targets; dependencies = l })
       (ap (map (dependency_of s r w stamps)) same_dependencies
       ∙ same_map (dependency_of s r w stamps) (dependency_of s r v stamps) (dependencies s v r)
       (λ p m. ap (λ x. record { name = p; digest = known_digest s x; stamp = stamp_kept r.decider (stamps p) }) (sym (h p m))))

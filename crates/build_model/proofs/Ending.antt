@@ -31,7 +31,7 @@ lacked : {r : Rule} {p : Path} {past : List Step} → Among (Lacks r p) past →
 lacked here = refl
 lacked (there {y = y} {xs = past} m) = over_later false y past (lacked m)
 
-faulty_over : {r : Rule} {past : List Step} → IsFaulty past r → is_over false past ≡ true
+pub faulty_over : {r : Rule} {past : List Step} → IsFaulty past r → is_over false past ≡ true
 faulty_over (has_failed m) = failed m
 faulty_over (lacks_one p m) = lacked m
 

@@ -1,181 +1,34 @@
--- The two builds meet what the headline asks.
-use Rattle.std.proofs.Common.{◌≡◌, ◌<◌, ℕ, Bool, true, false, if◌then◌else◌, List, [], ◌∷◌, Option, Some, None, bytes_eq, refl, sym, subst, ap, ◌∙◌, inl, inr, ◌⊎◌, arith}
+-- The builds meet what the laws ask.
+use Rattle.std.proofs.Common.{◌≡◌, Bool, true, false, if◌then◌else◌, [], ◌∷◌, Some, None, bytes_eq, refl, sym, subst, ap, ◌∙◌, inl, inr, ◌⊎◌, arith}
 use Rattle.std.proofs.lemmas.Slice.Eq.{bytes_eq-Decides}
-use Rattle.build_model.specs.Rules.{Path, Bytes, Content, Tree, content, Rule, Record, Records, Setting, Among, here, there}
-use Rattle.build_model.specs.Reach.{has, left_out, scans_source, scans_found, is_scanned}
-use Rattle.build_model.specs.Needs.{Found, Needed, is_requested, is_needed, as_dependency}
+use Rattle.build_model.specs.Rules.{Path, Bytes, Content, content, Rule, Record, Among, here, there}
+use Rattle.build_model.specs.Needs.{is_requested}
 use Rattle.build_model.specs.Contents.{in_tree, found_in}
 use Rattle.build_model.specs.Records.{IsMet, IsMadeBy}
-use Rattle.build_model.specs.Stale.{IsDue, IsUpToDate, IsKept}
-use Rattle.build_model.specs.Steps.{Build, IsReady, is_source, is_made, IsFound, IsPrepared, IsRun, present_record}
-use Rattle.build_model.specs.Graphs.{IsGraph, declared_rule, or_copy, setting, rule_at}
+use Rattle.build_model.specs.Stale.{IsStale, IsUpToDate, IsKept}
+use Rattle.build_model.specs.Steps.{IsRun, present_record}
+use Rattle.build_model.specs.Graphs.{setting, rule_at}
 use Rattle.build_model.specs.Laws.{TestsDue}
-use Rattle.build_model.specs.Headline.{BuildsByContent, clean_record}
-use Rattle.build_model.specs.Examples.{notes, header, source, object, header_rule, object_rule, graph, sources_alone, all_made, first_build, first_steps, second_build, second_steps, records_kept, AreMet}
-use Rattle.build_model.proofs.Lists.{none_some, some_same, true_false, not_has}
-use Rattle.build_model.proofs.Ready.{needed_place}
+use Rattle.build_model.specs.Headline.{BuildsByContent, clean_record, IsAgain}
+use Rattle.build_model.specs.Histories.{no_records}
+use Rattle.build_model.specs.Examples.{notes, header, source, object, header_rule, object_rule, graph, sources_alone, all_made, first_build, second_build, second_steps, records_kept, always_rule, always_graph, always_build, always_again, AreMet}
+use Rattle.build_model.proofs.Lists.{none_some, some_same, true_false}
 use Rattle.build_model.proofs.Made.{fresh_not_stale, due_stale}
-use Rattle.build_model.proofs.Placed.{declared_there}
-
--- what holds of both rules
-two : (P : Rule → Type 0) → P header_rule → P object_rule → (r : Rule) → Among r graph.rules → P r
-two P h o r here = h
-two P h o r (there here) = o
-two P h o r (there (there m)) = elim m [ ]
-
-one : {A : Type 0} (P : A → Type 0) {x y : A} → P x → Among y (x ∷ []) → P y
-one P p here = p
-one P p (there m) = elim m [ ]
-
-or_none : (t : Tree) (p : Path) {r : Rule} (o : Option Rule) → or_copy graph t p o ≡ Some r → o ≡ Some r
-or_none t p None e = none_some e
-or_none t p (Some x) e = e
-
-needed_among : (t : Tree) {found : Found} {requested : List Path} {r : Rule} → Needed (rule_at graph t) found requested r → Among r graph.rules
-needed_among t needed =
-    let place = needed_place needed in (declared_there {p = place.0} graph.rules (or_none t place.0 (declared_rule graph.rules place.0) place.1)).0
-
-is_graph : IsGraph graph
-is_graph = record {
-  no_copies = two (λ r. r.copies ≡ false) refl refl;
-  one_rule = λ r p m n. two (λ x. Among p x.targets → declared_rule graph.rules p ≡ Some x)
-      (one (λ q. declared_rule graph.rules q ≡ Some header_rule) refl) (one (λ q. declared_rule graph.rules q ≡ Some object_rule) refl) r m n;
-}
-
--- the build changed what is neither the header nor the object in nothing
-same_elsewhere : (p : Path) (h o : Bool) → bytes_eq p header ≡ h → bytes_eq p object ≡ o → rule_at graph sources_alone p ≡ None →
-    sources_alone p ≡ (if h then Some (1 ∷ []) else (if o then Some (2 ∷ 1 ∷ []) else sources_alone p))
-same_elsewhere p true o h_is o_is none =
-    none_some (sym none ∙ ap (λ q. rule_at graph sources_alone q) ((bytes_eq-Decides p header).0 h_is))
-same_elsewhere p false true h_is o_is none =
-    none_some (sym none ∙ ap (λ q. rule_at graph sources_alone q) ((bytes_eq-Decides p object).0 o_is))
-same_elsewhere p false false h_is o_is none = refl
-
-not_header : Among object_rule (header_rule ∷ []) → ⊥
-not_header m = true_false (sym (one (λ r. has header r.targets ≡ true) refl m))
-
--- what the source includes
-found : Found
-found r p = if bytes_eq p source then header ∷ [] else []
-
--- what holds whichever tree a build begins with
-module _ (t : Tree) (m : Records) where
-  abbrev set : Setting
-  set = setting graph t
-
-  abbrev from : Build
-  from = record first_build { before = t; records = m }
-
-  found_cases : {rules : List Rule} (r : Rule) (p : Path) (c : Bool) → bytes_eq p source ≡ c →
-      ((if c then header ∷ [] else []) ≡ []) ⊎
-      (IsReady set all_made rules p × ((if c then header ∷ [] else []) ≡ found_in set (in_tree all_made) r p))
-  found_cases r p false e = inl refl
-  found_cases {rules} r p true e =
-      inr (subst (λ q. IsReady set all_made rules q × ((header ∷ []) ≡ found_in set (in_tree all_made) r q))
-      (sym ((bytes_eq-Decides p source).0 e)) (is_source (2 ∷ []) refl refl, refl))
-
-  is_found_so : (rules : List Rule) → IsFound set all_made rules found
-  unfolding found
-  is_found_so rules r p = found_cases r p (bytes_eq p source) refl
-
-  object_needed : Needed (rule_at graph t) found (object ∷ []) object_rule
-  object_needed = is_requested object here refl
-
-  header_needed : Needed (rule_at graph t) found (object ∷ []) header_rule
-  unfolding found
-  header_needed =
-      is_needed object_rule object_needed
-      (as_dependency header (is_scanned (scans_found source (scans_source here) here (not_has {p = header} {ps = left_out object_rule} refl))) refl)
-
-  header_prepared : IsPrepared set from [] header_rule
-  header_prepared = record {
-    wanted = record { found = found; is_found = is_found_so []; is_needed = header_needed };
-    whole = omega arith;
-    dependencies = λ p n. one (λ q. IsReady set all_made [] q) (is_source (1 ∷ []) refl refl) n;
-    required = λ p q n e. elim n [ ];
-  }
-
-  object_ready : (p : Path) → Among p (source ∷ header ∷ []) → IsReady set all_made (header_rule ∷ []) p
-  object_ready p here = is_source (2 ∷ []) refl refl
-  object_ready p (there here) = is_made header_rule refl here
-  object_ready p (there (there n)) = elim n [ ]
-
-  object_prepared : IsPrepared set from (header_rule ∷ []) object_rule
-  object_prepared = record {
-    wanted = record { found = found; is_found = is_found_so (header_rule ∷ []); is_needed = object_needed };
-    whole = omega arith;
-    dependencies = object_ready;
-    required = λ p q n e. elim n [ ];
-  }
-
-  requested_rule : (r : Rule) (p : Path) → Among p (object ∷ []) → rule_at graph t p ≡ Some r → object_rule ≡ r
-  requested_rule r p n = one (λ q. rule_at graph t q ≡ Some r → object_rule ≡ r) some_same n
-
-object_met : (p : Path) → Among p (source ∷ header ∷ []) → IsMet first_build.met (all_made p)
-object_met p here = there here
-object_met p (there here) = here
-object_met p (there (there n)) = elim n [ ]
-
-notes_met : (p : Path) → Among p (notes ∷ []) → IsMet first_build.met (all_made p)
-notes_met p n = one (λ q. IsMet first_build.met (all_made q)) here n
-
-below_one : {n : ℕ} → n ≡ 0 → n < 1
-below_one e = omega arith
-
-first_run : IsRun (setting graph sources_alone) first_build first_steps
-first_run = (
-  (record { began = here; not_done = not_header }, λ p n. one (λ q. all_made q ≡ Some (2 ∷ 1 ∷ [])) refl n),
-  (
-    (
-      record { goes_on = refl; not_began = not_header; not_done = not_header; prepared = object_prepared sources_alone (λ p. None) },
-      record { due = refl; each_met = object_met; room = below_one refl },
-    ),
-    (
-      (record { began = here; not_done = λ n. elim n [ ] }, λ p n. one (λ q. all_made q ≡ Some (1 ∷ [])) refl n),
-      (
-        (
-          record { goes_on = refl; not_began = λ n. elim n [ ]; not_done = λ n. elim n [ ]; prepared = header_prepared sources_alone (λ p. None) },
-          record { due = refl; each_met = notes_met; room = below_one refl },
-        ),
-        tt,
-      ),
-    ),
-  ),
-)
-
-missing_tested : (r : Rule) (p : Path) → Among p r.targets → sources_alone p ≡ None →
-    graph.is_due r sources_alone (λ q. None) (λ q. None) (present_record (setting graph sources_alone) first_build r) ≡ true →
-    TestsDue (setting graph sources_alone) first_build r
-missing_tested r p n none is = record {
-  due = λ e. IsDue.no_file p n none;
-  spared = λ e d. true_false (sym is ∙ e);
-  kept = λ c e. true_false (sym is ∙ e);
-}
-
-first_builds : BuildsByContent graph first_build first_steps
-first_builds = record {
-  graph = is_graph;
-  by = record {
-    tests = λ r n. two (TestsDue (setting graph sources_alone) first_build) (missing_tested header_rule header here refl refl)
-        (missing_tested object_rule object here refl refl) r (needed_among sources_alone n);
-    distinct = λ a b n k e. e;
-    sound = record { at_targets = λ p r e. none_some e; true_of_files = λ p r bytes e file. none_some e };
-    decider = λ r n. two (λ x. x.decider ≡ content) refl refl r (needed_among sources_alone n);
-  };
-  sources = λ p none. same_elsewhere p (bytes_eq p header) (bytes_eq p object) refl refl none;
-  run = first_run;
-}
+use Rattle.build_model.proofs.Samples.{two, one, needed_declared, needed_among, is_graph, not_header, header_decided, both_settled, object_prepared, object_met, notes_met, plain_set, both_tested, first_builds, wide_builds, failing_builds}
+use Rattle.build_model.proofs.SampleOrders.{ended_in_order, stopped_in_order, object_needs_header, header_idle, object_idle, failing_rests}
+use Rattle.build_model.proofs.SampleLoops.{loop_set, loop_builds, one_needs_other, other_needs_one, loop_rests}
+use Rattle.build_model.proofs.SampleCourses.{first_untouched, first_left, first_history, first_course}
 
 second_run : IsRun (setting graph all_made) second_build second_steps
 second_run = (
   (
-    record { goes_on = refl; not_began = λ n. elim n [ ]; not_done = not_header; prepared = object_prepared all_made records_kept },
+    record { goes_on = refl; not_began = λ n. elim n [ ]; not_done = not_header; prepared = object_prepared all_made records_kept 1 all_made refl refl (omega arith) refl },
     record { not_due = refl; each_met = object_met; same = λ p n. refl },
   ),
   (
     (
-      record { goes_on = refl; not_began = λ n. elim n [ ]; not_done = λ n. elim n [ ]; prepared = header_prepared all_made records_kept },
-      record { not_due = refl; each_met = notes_met; same = λ p n. refl },
+      header_decided all_made records_kept 1 false all_made refl refl,
+      record { not_due = refl; each_met = notes_met all_made refl; same = λ p n. refl },
     ),
     tt,
   ),
@@ -268,14 +121,48 @@ second_builds = record {
   run = second_run;
 }
 
+first_again : IsAgain graph first_build second_build
+first_again = record {
+  tree = refl;
+  requested = refl;
+  records = λ r needed p n. two (λ x. (q : Path) → Among q x.targets → records_kept q ≡ Some (clean_record graph first_build x))
+      (λ q k. one (λ y. records_kept y ≡ Some (clean_record graph first_build header_rule)) refl k)
+      (λ q k. one (λ y. records_kept y ≡ Some (clean_record graph first_build object_rule)) refl k) r (needed_among sources_alone needed) p n;
+}
+
+-- the rule that is always carried out
+always_is_again : IsAgain always_graph always_build always_again
+always_is_again = record {
+  tree = refl;
+  requested = refl;
+  records = λ r needed p n. one (λ x. Some (clean_record always_graph always_build always_rule) ≡ Some (clean_record always_graph always_build x))
+      refl (needed_declared always_graph (λ q. refl) sources_alone needed);
+}
+
+always_same : (p : Path) (h : Bool) → bytes_eq p header ≡ h → rule_at always_graph sources_alone p ≡ None →
+    sources_alone p ≡ (if h then Some (1 ∷ []) else sources_alone p)
+always_same p true e none = none_some (sym none ∙ ap (λ q. rule_at always_graph sources_alone q) ((bytes_eq-Decides p header).0 e))
+always_same p false e none = refl
+
 pub are_met : AreMet
 are_met = record {
-  first = record {
-    builds = first_builds;
-    succeeds = λ p r n e. subst (λ x. Among x (object_rule ∷ header_rule ∷ [])) (requested_rule sources_alone (λ q. None) r p n e) here;
-  };
-  second = record {
-    builds = second_builds;
-    succeeds = λ p r n e. subst (λ x. Among x (object_rule ∷ header_rule ∷ [])) (requested_rule all_made records_kept r p n e) here;
-  };
+  first = record { builds = first_builds; succeeds = both_settled sources_alone no_records 1 false all_made refl refl };
+  second = record { builds = second_builds; succeeds = both_settled all_made records_kept 1 false all_made refl refl };
+  again = first_again;
+  always = always_is_again;
+  always_sources = λ p none. always_same p (bytes_eq p header) refl none;
+  always_stale = (is_requested header here refl, IsStale.is_always refl);
+  course = first_course;
+  untouched = first_untouched;
+  records = first_left;
+  history = first_history;
+  needs = object_needs_header (found_in plain_set (in_tree all_made)) here;
+  tests = λ r n. both_tested 1 false all_made refl refl r (needed_among sources_alone n);
+  ended = ended_in_order;
+  stopped = stopped_in_order;
+  wide = record { builds = wide_builds; succeeds = both_settled sources_alone no_records 2 false all_made refl refl };
+  wide_waits = (inr object_idle, (inr header_idle, tt));
+  failing = (failing_builds, failing_rests);
+  loop = (loop_builds, loop_rests);
+  cycle = (one_needs_other (found_in loop_set (in_tree sources_alone)), other_needs_one (found_in loop_set (in_tree sources_alone)));
 }

@@ -1,20 +1,23 @@
 -- A build of a graph that ended well equals a clean build, and the next one starts little.
-use Rattle.std.proofs.Common.{◌≡◌, ◌<◌, ◌≤◌, ◌+◌, ◌*◌, ℕ, zero, suc, true, List, length, Option, Some, None, refl, sym, subst, ap, ◌∙◌, inl, inr, ◌⊎◌, arith}
+use Rattle.std.proofs.Common.{◌≡◌, ◌<◌, ◌≤◌, ◌+◌, ◌*◌, ℕ, zero, suc, true, false, List, length, Option, Some, None, refl, sym, subst, ap, ◌∙◌, inl, inr, ◌⊎◌, arith}
 use Rattle.build_model.specs.Rules.{Path, Content, Tree, Stamps, content, Rule, Record, Setting, Among}
-use Rattle.build_model.specs.Contents.{View, dependencies, source_content, by_rule, made, clean, IsKnown, has_rule, is_file, height}
+use Rattle.build_model.specs.Needs.{IsBuildOrder}
+use Rattle.build_model.specs.Contents.{View, found_in, dependencies, source_content, by_rule, made, clean, IsKnown, has_rule, is_file, height}
 use Rattle.build_model.specs.Records.{record_of, dependency_of, known_digest, stamp_kept}
 use Rattle.build_model.specs.Stale.{IsStale, IsUpToDate}
 use Rattle.build_model.specs.Steps.{Step, Fresh, Build, settled, began, IsRun, Succeeds, present_record}
 use Rattle.build_model.specs.Graphs.{Graph, setting, rule_at, clean_build, or_copy, copy_at, copy_of_source, copy_of_file, declared_rule}
 use Rattle.build_model.specs.Laws.{NeededIn, EachStep}
-use Rattle.build_model.specs.Headline.{no_stamps, clean_record, IsNeeded, IsStaleBefore, BuildsByContent, IsBuilt, IsAgain}
+use Rattle.build_model.specs.Headline.{no_stamps, clean_record, IsNeeded, IsStaleBefore, BuildsByContent, IsBuilt, BeginsStaleFront, IsAgain}
+use Rattle.build_model.specs.OneJob.{TakesInOrder, SeesMissing, IsPast}
 use Rattle.build_model.proofs.Lists.{none_some, some_same, same_map}
 use Rattle.build_model.proofs.Heights.{higher_le}
-use Rattle.build_model.proofs.Ready.{Agrees}
-use Rattle.build_model.proofs.Runs.{fresh_of, fresh_or_began, began_once, needs_before, needed_settled, no_cycle}
-use Rattle.build_model.proofs.Clean.{each_step_is_clean, settled_agrees}
+use Rattle.build_model.proofs.Ready.{Agrees, wanted_needed}
+use Rattle.build_model.proofs.Runs.{settled_prepared, fresh_of, fresh_or_began, began_once, needs_before, needed_settled, no_cycle}
+use Rattle.build_model.proofs.Clean.{each_step_is_clean, settled_agrees, missing_stuck}
 use Rattle.build_model.proofs.Placed.{lawful, high_enough}
 use Rattle.build_model.proofs.OneJob.{follows_order}
+use Rattle.build_model.proofs.Stopped.{front_begins}
 
 unstamped_dependency : (s : Setting) (r : Rule) (view : View) (stamps : Stamps) (p : Path) → r.decider ≡ content →
     dependency_of s r view stamps p ≡ dependency_of s r view no_stamps p
@@ -26,7 +29,7 @@ unstamped_dependency s r view stamps p by =
 unstamped : (s : Setting) (r : Rule) (view : View) (stamps : Stamps) → r.decider ≡ content →
     record_of s r view stamps ≡ record_of s r view no_stamps
 unstamped s r view stamps by =
-    ap (λ l. record { work = r.work; signed = r.signed; targets = r.targets; dependencies = l })
+    ap (λ l. record { work = r.work; hash = s.hash; signed = r.signed; targets = r.targets; dependencies = l })
     (same_map (dependency_of s r view stamps) (dependency_of s r view no_stamps) (dependencies s view r)
     (λ p m. unstamped_dependency s r view stamps p by))
 
@@ -45,7 +48,7 @@ module _ (g : Graph) (b : Build) (steps : List Step) (builds : BuildsByContent g
       each_step_is_clean Set b steps top
       (record { lawful = lawful g b.before builds.graph; sources = builds.sources; run = builds.run }) builds.by low
 
-  agrees : Agrees Set b (settled steps) (clean_build g b.before)
+  pub agrees : Agrees Set b (settled steps) (clean_build g b.before)
   agrees = settled_agrees Set b (lawful g b.before builds.graph) builds.sources top builds.by steps builds.run low
 
   same_stale : {r : Rule} → IsNeeded g b r → record_of Set r (clean_build g b.before) b.stamps_after ≡ clean_record g b r
@@ -63,6 +66,27 @@ module _ (g : Graph) (b : Build) (steps : List Step) (builds : BuildsByContent g
   began_if_stale needed is_stale (inr m) = m
   began_if_stale {r} needed is_stale (inl m) =
       absurd (each.fresh r m (subst (λ now. IsStale b.before b.records r now) (sym (same_stale needed)) is_stale))
+
+  pub sees_missing : SeesMissing Set b (clean_build g b.before)
+  sees_missing p bytes missing e =
+      none_some (sym (missing_stuck Set b (lawful g b.before builds.graph) builds.sources top builds.by missing) ∙ e)
+
+  stale_past : {x : Rule} → IsPast Set b steps x → IsStaleBefore g b x → Among x (began steps)
+  stale_past h is_stale =
+      began_if_stale (wanted_needed Set b (settled_prepared Set b steps builds.run h.is_settled).wanted agrees) is_stale
+      (fresh_or_began Set b steps builds.run h.is_settled)
+
+  pub stale_front_begins : (order : List Rule) → b.jobs ≡ 1 → b.keeps_going ≡ false → TakesInOrder Set b steps →
+      IsBuildOrder (rule_at g b.before) g.limit (found_in Set (clean_build g b.before)) b.requested order → BeginsStaleFront g b order steps
+  stale_front_begins order one stops takes is_order =
+      let front = front_begins Set b (clean_build g b.before) steps order builds.run one stops takes agrees sees_missing is_order in
+      record {
+        only = only_stale;
+        follows = front.follows;
+        before_begun = λ r x m k. stale_past (front.before_begun r x m k);
+        before_fault = λ r x f k. stale_past (front.before_fault r x f k);
+        last = front.last;
+      }
 
   known_source : (p : Path) (c : Content) → rule_at g b.before p ≡ None → b.before p ≡ c → IsKnown Set b.before p →
       clean_build g b.before p ≡ Some (b.after p)
@@ -138,6 +162,7 @@ module _ (g : Graph) (t u : Tree) (sources : (p : Path) → rule_at g t p ≡ No
         includes = g.includes;
         act = g.act;
         digest = g.digest;
+        hash = g.hash;
         is_due = g.is_due;
         limit = g.limit;
       }) same_rule_at

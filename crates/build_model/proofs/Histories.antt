@@ -1,7 +1,7 @@
 -- Records tell the truth after any history.
-use Rattle.std.proofs.Common.{◌≡◌, List, Option, Some, None, refl, sym, subst, ap, ◌∙◌, inl, inr, ◌⊎◌}
+use Rattle.std.proofs.Common.{◌≡◌, ℕ, List, Option, Some, None, refl, sym, subst, ap, ◌∙◌, inl, inr, ◌⊎◌}
 use Rattle.build_model.specs.Rules.{Path, Bytes, Digest, Content, Tree, Record, Records, Setting, Among}
-use Rattle.build_model.specs.Records.{digest_of, IsMet, digested, IsMadeBy, AreSound}
+use Rattle.build_model.specs.Records.{digest_by, IsMet, digested, IsMadeBy, AreSound}
 use Rattle.build_model.specs.Steps.{Step, Build, IsRun, Succeeds}
 use Rattle.build_model.specs.Graphs.{Graph, IsGraph, setting, rule_at}
 use Rattle.build_model.specs.Headline.{IsBuilt}
@@ -16,23 +16,23 @@ met_more h (Some bytes) m = h bytes m
 
 -- what tells the truth goes by what actions make and by digests alone
 module _ (s u : Setting) (act : u.act ≡ s.act) (digest : u.digest ≡ s.digest) where
-  same_digest : (c : Content) → digest_of u c ≡ digest_of s c
-  same_digest None = refl
-  same_digest (Some bytes) = ap (λ f. Some (f bytes)) digest
+  same_digest : (hash : ℕ) (c : Content) → digest_by u hash c ≡ digest_by s hash c
+  same_digest hash None = refl
+  same_digest hash (Some bytes) = ap (λ f. Some (f hash bytes)) digest
 
   with_digest : Path → Option Digest → Path × Option Digest
   with_digest p d = (p, d)
 
-  same_digested : (x : Path × Content) → digested u x ≡ digested s x
+  same_digested : (hash : ℕ) (x : Path × Content) → digested u hash x ≡ digested s hash x
   unfolding with_digest
-  same_digested x = ap (with_digest x.0) (same_digest x.1)
+  same_digested hash x = ap (with_digest x.0) (same_digest hash x.1)
 
   made_too : {met more : List Bytes} {r : Record} {p : Path} {bytes : Bytes} → ((c : Bytes) → Among c met → Among c more) →
       IsMadeBy s met r p bytes → IsMadeBy u more r p bytes
   made_too {r = r} {p = p} h by = record {
     given = by.given;
     each_met = λ x m. met_more h x.1 (by.each_met x m);
-    digests = same_map (digested u) (digested s) by.given (λ x m. same_digested x) ∙ by.digests;
+    digests = same_map (digested u r.hash) (digested s r.hash) by.given (λ x m. same_digested r.hash x) ∙ by.digests;
     made = ap (λ f. f r.work r.signed r.targets by.given p) act ∙ by.made;
   }
 
@@ -63,7 +63,7 @@ blank_sound : (s : Setting) (met : List Bytes) (t : Tree) → AreSound s met t n
 blank_sound s met t = record { at_targets = λ p r e. none_some e; true_of_files = λ p r bytes e file. none_some e }
 
 -- a build may trust what a history left
-begins_sound : (act : Act) (digest : Bytes → Digest) (t : Tree) (m : Records) (met : List Bytes) (g : Graph) (b : Build) →
+begins_sound : (act : Act) (digest : ℕ → Bytes → Digest) (t : Tree) (m : Records) (met : List Bytes) (g : Graph) (b : Build) →
     BeginsWith act digest t m met g b →
     ((s : Setting) → s.act ≡ act → s.digest ≡ digest → AreSound s met t m) → AreSound (setting g b.before) b.met b.before b.records
 begins_sound act digest t m met g b next sound =
@@ -71,7 +71,7 @@ begins_sound act digest t m met g b next sound =
     (subst (λ x. AreSound (setting g b.before) b.met t x) (sym next.records)
     (sound_too (setting g b.before) (setting g b.before) refl refl next.met_more (sound (setting g b.before) next.act_is next.digest_is)))
 
-pub history_sound : {act : Act} {digest : Bytes → Digest} {t : Tree} {m : Records} {met : List Bytes} → IsHistory act digest t m met →
+pub history_sound : {act : Act} {digest : ℕ → Bytes → Digest} {t : Tree} {m : Records} {met : List Bytes} → IsHistory act digest t m met →
     (s : Setting) → s.act ≡ act → s.digest ≡ digest → AreSound s met t m
 history_sound (begins t met) s a d = blank_sound s met t
 history_sound (edited {t = t} {m = m} {met = met} u edit h) s a d = edit_sound s met t u m edit (history_sound h s a d)
@@ -80,7 +80,7 @@ history_sound {act} {digest} (built {t = t} {m = m} {met = met} g b steps later 
     (stays_sound (setting g b.before) b steps later build untouched
     (begins_sound act digest t m met g b next (history_sound h)) each)
 
-pub histories_end_clean : (act : Act) (digest : Bytes → Digest) (t : Tree) (m : Records) (met : List Bytes) → IsHistory act digest t m met →
+pub histories_end_clean : (act : Act) (digest : ℕ → Bytes → Digest) (t : Tree) (m : Records) (met : List Bytes) → IsHistory act digest t m met →
     (g : Graph) (b : Build) (steps : List Step) → BeginsWith act digest t m met g b → IsGraph g → GoesByContent g b →
     ((p : Path) → rule_at g b.before p ≡ None → b.before p ≡ b.after p) → IsRun (setting g b.before) b steps →
     Succeeds (setting g b.before) b steps → IsBuilt g b steps

@@ -22,9 +22,9 @@ contents_met met t (p ∷ ps) h x here = h p here
 contents_met met t (p ∷ ps) h x (there m) = contents_met met t ps (λ q n. h q (there n)) x m
 
 same_digests : (s : Setting) (r : Rule) (t : Tree) (stamps : Stamps) (ps : List Path) →
-    map (digested s) (contents_of t ps) ≡ map named_digest (map (dependency_of s r (in_tree t) stamps) ps)
+    map (digested s s.hash) (contents_of t ps) ≡ map named_digest (map (dependency_of s r (in_tree t) stamps) ps)
 same_digests s r t stamps [] = refl
-same_digests s r t stamps (p ∷ ps) = ap (λ l. digested s (with_content t p) ∷ l) (same_digests s r t stamps ps)
+same_digests s r t stamps (p ∷ ps) = ap (λ l. digested s s.hash (with_content t p) ∷ l) (same_digests s r t stamps ps)
 
 module _ (s : Setting) (b : Build) where
   begun_met : {r : Rule} (past : List Step) → IsRun s b past → Among r (began past) → (p : Path) → Among p (present_dependencies s b r) →

@@ -1,22 +1,29 @@
-mod Lists
-mod Whole
-mod Agree
-mod Heights
-mod Ready
-mod Runs
-mod Made
-mod Clean
-mod Starting
-mod Placed
-mod Headline
-mod Staying
-mod Resting
+pub mod Lists
+pub mod Whole
+pub mod Agree
+pub mod Heights
+pub mod Ready
+pub mod Runs
+pub mod Made
+pub mod Clean
+pub mod Starting
+pub mod Placed
+pub mod Headline
+pub mod Staying
+pub mod Resting
+mod Samples
+mod SampleOrders
+mod SampleLoops
+mod SampleCourses
 mod Examples
-mod GoingOn
-mod Ordering
-mod OneJob
-mod TakenOut
-mod Waiting
-mod Leaving
-mod Histories
-mod Ending
+pub mod GoingOn
+pub mod Ordering
+pub mod Alike
+pub mod OneJob
+pub mod Stopped
+pub mod TakenOut
+pub mod Waiting
+pub mod Leaving
+pub mod Histories
+pub mod Ending
+pub mod Scanning

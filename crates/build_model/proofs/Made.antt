@@ -18,7 +18,7 @@ module _ (s : Setting) where
   one_given : (met : List Bytes) (t : Tree) (r : Rule) (stamps : Stamps) → AreDistinct s met →
       (given : List (Path × Content)) (ps : List Path) → ((x : Path × Content) → Among x given → IsMet met x.1) →
       ((p : Path) → Among p ps → IsMet met (t p)) →
-      map (digested s) given ≡ map named_digest (map (dependency_of s r (in_tree t) stamps) ps) → given ≡ contents_of t ps
+      map (digested s s.hash) given ≡ map named_digest (map (dependency_of s r (in_tree t) stamps) ps) → given ≡ contents_of t ps
   one_given met t r stamps distinct [] [] x y e = refl
   one_given met t r stamps distinct [] (p ∷ ps) x y e = nil_cons e
   one_given met t r stamps distinct (a ∷ given) [] x y e = nil_cons (sym e)

@@ -40,6 +40,10 @@ pub settled_after : (later past : List Step) → Within (settled past) (settled 
 settled_after [] past r m = m
 settled_after (step ∷ later) past r m = settled_later step (later ++ past) r (settled_after later past r m)
 
+pub began_after : (later past : List Step) → Within (began past) (began (later ++ past))
+began_after [] past r m = m
+began_after (step ∷ later) past r m = began_later step (later ++ past) r (began_after later past r m)
+
 module _ (s : Setting) (b : Build) where
   pub run_before : (later past : List Step) → IsRun s b (later ++ past) → IsRun s b past
   run_before [] past run = run

@@ -1,12 +1,12 @@
 -- What is settled doesn't change any more: so the steps of a build are legal by every later tree.
-use Rattle.std.proofs.Common.{◌≡◌, ◌<◌, Bool, true, false, List, [], ◌∷◌, length, Some, None, refl, sym, subst, ap, ◌∙◌, inl, inr, ◌⊎◌}
+use Rattle.std.proofs.Common.{◌≡◌, ◌<◌, Bool, true, false, List, [], ◌∷◌, length, map, Some, None, refl, sym, subst, ap, ◌∙◌, inl, inr, ◌⊎◌}
 use Rattle.build_model.specs.Rules.{Path, Content, Tree, Stamps, Rule, Setting, Among, here, there}
 use Rattle.build_model.specs.Needs.{Found}
 use Rattle.build_model.specs.Contents.{in_tree, found_in, includes_of, dependencies, IsLawful, scanned_files}
 use Rattle.build_model.specs.Records.{record_of, dependency_of, known_digest, stamp_kept, IsMet}
 use Rattle.build_model.specs.Steps.{Step, Fresh, Began, Ended, Lacks, Halts, Build, settled, began, IsReady, is_source, is_made, IsMissing, contents_of, with_content, IsWanted, IsPrepared, IsDecided, IsFresh, IsStart, IsMade, IsFirstMissing, IsLacking, IsRun}
-use Rattle.build_model.specs.Moments.{Job, so_far, MayWrite, Changes, HasMade, IsCourse, begins, changes, finds, starts, makes, fails, lacks, halts}
-use Rattle.build_model.specs.Laws.{IsBuild, IsSeenSo}
+use Rattle.build_model.specs.Moments.{Job, job_rule, so_far, MayWrite, Changes, HasMade, IsCourse, begins, changes, finds, starts, makes, fails, lacks, halts}
+use Rattle.build_model.specs.Laws.{IsBuild, IsSeenSo, AreGivenSo}
 use Rattle.build_model.proofs.Lists.{none_some, some_same, same_map, among_same, among_either}
 use Rattle.build_model.proofs.Agree.{same_dependencies, same_record, same_scanned}
 use Rattle.build_model.proofs.Ready.{Within, needed_place}
@@ -68,7 +68,7 @@ module _ (s : Setting) (b : Build) (lawful : IsLawful s) (t u : Tree) (stamps la
 
       stamped : record_of s r (in_tree t) later ≡ record_of s r (in_tree t) stamps
       stamped =
-          ap (λ l. record { work = r.work; signed = r.signed; targets = r.targets; dependencies = l })
+          ap (λ l. record { work = r.work; hash = s.hash; signed = r.signed; targets = r.targets; dependencies = l })
           (same_map (dependency_of s r (in_tree t) later) (dependency_of s r (in_tree t) stamps) (dependencies s (in_tree t) r)
           (λ p m. ap (λ x. record { name = p; digest = known_digest s (Some (t p)); stamp = stamp_kept r.decider x }) (sym (same p m).1)))
 
@@ -281,14 +281,17 @@ module _ (s : Setting) (b : Build) (lawful : IsLawful s) where
   course_is_build course =
       let h = course_holds course in record { lawful = lawful; sources = h.sources; run = h.run }
 
-  abbrev Untouched : Tree → List Step → Path → Type 0
-  Untouched t past p = ((r : Rule) → Among r (began past) → Among p r.targets → ⊥) → b.before p ≡ t p
+  abbrev Untouched : Tree → Stamps → List Step → Path → Type 0
+  Untouched t stamps past p = ((r : Rule) → Among r (began past) → Among p r.targets → ⊥) → Same b.before t b.stamps_before stamps p
 
-  untouched : {jobs : List Job} {t : Tree} {stamps : Stamps} {past : List Step} → IsCourse s b jobs t stamps past → (p : Path) → Untouched t past p
-  untouched begins p out = refl
+  untouched : {jobs : List Job} {t : Tree} {stamps : Stamps} {past : List Step} → IsCourse s b jobs t stamps past → (p : Path) →
+      Untouched t stamps past p
+  untouched begins p out = (refl, refl)
   untouched (changes u later c course) p out =
       let h = course_holds course in
-      untouched course p out ∙ c.contents p (λ w. out w.job.rule (h.started w.job w.started) w.target)
+      let unwritten : MayWrite _ _ p → ⊥ = λ w. out w.job.rule (h.started w.job w.started) w.target in
+      let before = untouched course p out in
+      (before.0 ∙ c.contents p unwritten, before.1 ∙ c.times p unwritten)
   untouched (finds r decided fresh course) p out = untouched course p out
   untouched (starts r decided start course) p out = untouched course p (λ x m n. out x (there m) n)
   untouched (makes j m running made_there course) p out = untouched course p out
@@ -298,4 +301,36 @@ module _ (s : Setting) (b : Build) (lawful : IsLawful s) where
 
   pub course_is_seen_so : {jobs : List Job} {t : Tree} {stamps : Stamps} {past : List Step} → IsCourse s b jobs t stamps past →
       IsSeenSo s b t stamps past
-  course_is_seen_so course = record { build = course_is_build course; untouched = λ p out. untouched course p out }
+  course_is_seen_so course = record {
+    build = course_is_build course;
+    untouched = λ p out. (untouched course p out).0;
+    unstamped = λ p out. (untouched course p out).1;
+  }
+
+  jobs_began : {jobs : List Job} {t : Tree} {stamps : Stamps} {past : List Step} → IsCourse s b jobs t stamps past →
+      map job_rule jobs ≡ began past
+  jobs_began begins = refl
+  jobs_began (changes u later c course) = jobs_began course
+  jobs_began (finds r decided fresh course) = jobs_began course
+  jobs_began (starts r decided start course) = ap (λ l. r ∷ l) (jobs_began course)
+  jobs_began (makes j m running made_there course) = jobs_began course
+  jobs_began (fails r running course) = jobs_began course
+  jobs_began (lacks r q lacking course) = jobs_began course
+  jobs_began (halts course) = jobs_began course
+
+  -- what waits for nothing isn't written
+  ready_unwritten : {jobs : List Job} {t : Tree} {stamps : Stamps} {past : List Step} {p : Path} → Holds s b jobs t stamps past →
+      IsReady s t (settled past) p → MayWrite jobs past p → ⊥
+  ready_unwritten h (is_source bytes none file) = no_write_source h none
+  ready_unwritten h (is_made r e m) = no_write_settled h e m
+
+  pub given_so : {jobs : List Job} {t : Tree} {stamps : Stamps} {past : List Step} → IsCourse s b jobs t stamps past →
+      AreGivenSo s jobs t past
+  given_so {t = t} {stamps = stamps} {past = past} course =
+      let h = course_holds course in
+      record {
+        jobs_began = jobs_began course;
+        given = h.given;
+        unwritten = λ j m p n. ready_unwritten h
+            ((begun_prepared s (so_far b t stamps) past h.run (h.started j m)).dependencies p n);
+      }

@@ -1,23 +1,20 @@
 -- Where nothing can be decided, what isn't settled leads to an action that runs.
-use Rattle.std.proofs.Common.{◌≡◌, ◌<◌, ℕ, Bool, true, false, List, [], ◌∷◌, ◌++◌, Some, sym, subst, ap, ◌∙◌, inl, inr, ◌⊎◌, append_assoc}
+use Rattle.std.proofs.Common.{◌≡◌, ◌<◌, ℕ, Bool, true, false, List, [], ◌∷◌, ◌++◌, Some, None, sym, subst, ap, ◌∙◌, inl, inr, ◌⊎◌, append_assoc}
 use Rattle.build_model.specs.Rules.{Path, Rule, Setting, Among, here, there}
+use Rattle.build_model.specs.Reach.{Reaches}
 use Rattle.build_model.specs.Needs.{Found, Needs, as_dependency, NeedsThrough, directly, through, Needed, is_needed}
 use Rattle.build_model.specs.Contents.{View, in_tree, found_in, includes_of, clean, height}
-use Rattle.build_model.specs.Steps.{Step, Fresh, Began, Ended, Lacks, Halts, Build, settled, began, running, IsReady, is_made, IsPrepared, IsRunning, IsRun, Succeeds}
+use Rattle.build_model.specs.Steps.{Step, Fresh, Began, Ended, Lacks, Halts, Build, settled, began, running, IsReady, is_source, is_made, IsMissing, IsPrepared, IsRunning, IsRun, Succeeds}
 use Rattle.build_model.specs.Laws.{NeedsIn, IsBuild, IsByContent, EachStep}
 use Rattle.build_model.specs.Resting.{IsFaulty, has_failed, lacks_one}
 use Rattle.build_model.specs.OneJob.{IsPassed, is_settled, is_running, is_faulty, waits}
-use Rattle.build_model.specs.Waiting.{IsIdle, WaitsRightly, IsStaleIn, IsPending, NeedsPending, IsAwaited, IsTakenOutThen, IsBusy, all_run, all_wait}
-use Rattle.build_model.proofs.Lists.{among_right, among_same}
-use Rattle.build_model.proofs.Ready.{Within, needs_more, needed_more, Agrees, agrees_less, tree_agrees, needs_among}
-use Rattle.build_model.proofs.Runs.{settled_after, began_later, run_before, begun_prepared, needed_settled, fresh_or_began}
+use Rattle.build_model.specs.Waiting.{IsIdle, WaitsRightly, IsStaleIn, IsPending, NeedsPending, IsAwaited, IsTakenOutThen, AllWait, IsBusy, all_run, all_wait}
+use Rattle.build_model.proofs.Lists.{none_some, some_same, among_right, among_same}
+use Rattle.build_model.proofs.Ready.{needs_more, needed_more, Agrees, agrees_less, tree_agrees, needs_among}
+use Rattle.build_model.proofs.Runs.{settled_done, settled_after, began_after, run_before, begun_prepared, needed_settled, through_settled, fresh_or_began}
 use Rattle.build_model.proofs.Clean.{each_step_is_clean, settled_agrees, missing_stuck}
 use Rattle.build_model.proofs.Resting.{faulty_unsettled}
-use Rattle.build_model.proofs.TakenOut.{needed_too}
-
-pub began_after : (later past : List Step) → Within (began past) (began (later ++ past))
-began_after [] past r m = m
-began_after (step ∷ later) past r m = began_later step (later ++ past) r (began_after later past r m)
+use Rattle.build_model.proofs.TakenOut.{needed_too, found_taken_out}
 
 module _ (s : Setting) (b : Build) (top : ℕ) (later past : List Step) (build : IsBuild s b (later ++ past)) (by : IsByContent s b top)
     (low : height (settled (later ++ past)) < top) (succeeds : Succeeds s b (later ++ past)) (idle : IsIdle s b past) where
@@ -108,12 +105,33 @@ module _ (s : Setting) (b : Build) (top : ℕ) (later past : List Step) (build :
       let right = each.began r (began_after later past r h.began) in
       record { needed = right.0; stale = right.1; not_ended = h.not_done }
 
-  hinders_cases : {p : Path} {x : Rule} → s.rule_of p ≡ Some x → (IsReady s b.after (settled past) p → ⊥) →
-      (IsAwaited s b view past p → ⊥) → Leads x → ⊥
-  hinders_cases {x = x} e unready out (has_settled m) = unready (is_made x e m)
-  hinders_cases {x = x} e unready out (runs h) = out (record { rule = x; is_rule = e; why = inl (pending h) })
-  hinders_cases {x = x} e unready out (behind q t h) =
-      out (record { rule = x; is_rule = e; why = inr (record { other = q; needs = through_clean t; pending = pending h }) })
+  leads_out : {p : Path} {x : Rule} → s.rule_of p ≡ Some x → (IsReady s b.after (settled past) p → ⊥) → Leads x → IsAwaited s b view past p
+  leads_out {x = x} e unready (has_settled m) = absurd (unready (is_made x e m))
+  leads_out {x = x} e unready (runs h) = record { rule = x; is_rule = e; why = inl (pending h) }
+  leads_out {x = x} e unready (behind q t h) =
+      record { rule = x; is_rule = e; why = inr (record { other = q; needs = through_clean t; pending = pending h }) }
+
+  hindered : (r : Rule) (p : Path) (x : Rule) → IsNeeded r → Reaches (found r) r p → s.rule_of p ≡ Some x →
+      (IsReady s b.after (settled past) p → ⊥) → IsAwaited s b view past p
+  hindered r p x needed reached e unready = leads_out e unready (leads_now (is_needed r needed (as_dependency p reached e)))
+
+  stuck : (p : Path) → IsMissing s b.after p → view p ≡ None
+  stuck p m = missing_stuck s b build.lawful build.sources top by m
+
+  -- what is settled is no longer awaited
+  settled_in : {x : Rule} → Among x (settled past) → IsPending s b view past x ⊎ NeedsPending s b view past x → ⊥
+  settled_in m (inl h) = h.not_ended (settled_done past m)
+  settled_in m (inr h) =
+      h.pending.not_ended (settled_done past (through_settled s b view past (run_before s b later past build.run) agrees_now h.needs m))
+
+  ready_in : (p : Path) → IsReady s b.after (settled past) p → IsAwaited s b view past p → ⊥
+  ready_in p (is_source bytes none file) o = none_some (sym none ∙ o.is_rule)
+  ready_in p (is_made r e m) o = settled_in (subst (λ x. Among x (settled past)) (some_same (sym e ∙ o.is_rule)) m) o.why
+
+  found_out : IsTakenOutThen s b view past found
+  found_out r p needed reached =
+      found_taken_out s b view (settled past) agrees_now stuck found idle.found_whole (IsAwaited s b view past) hindered
+      ready_in (λ q none o. none_some (sym none ∙ o.is_rule)) r p needed reached
 
   stale_waits : {r : Rule} → IsStaleIn s b view r → (Among r (began past) → ⊥) → Leads r → NeedsPending s b view past r
   stale_waits {r} is_stale not_began (has_settled m) = cases (fresh_or_began s b past (run_before s b later past build.run) m)
@@ -124,13 +142,13 @@ module _ (s : Setting) (b : Build) (top : ℕ) (later past : List Step) (build :
   stale_waits is_stale not_began (runs h) = absurd (not_began h.began)
   stale_waits is_stale not_began (behind q t h) = record { other = q; needs = through_clean t; pending = pending h }
 
-  pub all_waiting : (taken : Found) → IsTakenOutThen s b view past taken → (r : Rule) → Needed s.rule_of taken b.requested r →
-      IsStaleIn s b view r → (Among r (began past) → ⊥) → NeedsPending s b view past r
+  all_waiting : (taken : Found) → IsTakenOutThen s b view past taken → AllWait s b view past taken
   all_waiting taken out r needed is_stale not_began =
-      stale_waits is_stale not_began (leads_now (needed_too s b view (settled past) agrees_now
-      (λ p m. missing_stuck s b build.lawful build.sources top by m) found taken idle.found_whole (IsAwaited s b view past) out
-      (λ x p y x_needed reached e unready not_out. hinders_cases e unready not_out (leads_now (is_needed x x_needed (as_dependency p reached e))))
-      needed))
+      stale_waits is_stale not_began (leads_now (needed_too s b view (settled past) agrees_now stuck found idle.found_whole
+      (IsAwaited s b view past) hindered taken out needed))
+
+  pub busy_idle : IsBusy s b view past
+  busy_idle = all_wait found found_out all_waiting
 
 module _ (s : Setting) (b : Build) where
   waits_before_step : (step : Step) (past : List Step) → WaitsRightly s b (step ∷ past) → WaitsRightly s b past
@@ -148,7 +166,7 @@ module _ (s : Setting) (b : Build) where
       height (settled (later ++ past)) < top → Succeeds s b (later ++ past) → (running past ≡ b.jobs) ⊎ IsIdle s b past →
       IsBusy s b (clean s b.before top) past
   busy_cases top later past build by low succeeds (inl e) = all_run e
-  busy_cases top later past build by low succeeds (inr idle) = all_wait (all_waiting s b top later past build by low succeeds idle)
+  busy_cases top later past build by low succeeds (inr idle) = busy_idle s b top later past build by low succeeds idle
 
   pub busy : (steps : List Step) (top : ℕ) → IsBuild s b steps → IsByContent s b top → height (settled steps) < top → Succeeds s b steps →
       WaitsRightly s b steps → (later past : List Step) (r : Rule) (well : Bool) → steps ≡ later ++ Ended r well ∷ past →

@@ -11,7 +11,8 @@ pub record Graph : Type 0 where
   -- the rest is as in a setting
   pub includes : Rule → Path → Bytes → List Path
   pub act : ℕ → List Bytes → List Path → List (Path × Content) → Path → Content
-  pub digest : Bytes → List ℕ
+  pub digest : ℕ → Bytes → List ℕ
+  pub hash : ℕ
   pub is_due : Rule → Tree → Stamps → Records → Record → Bool
   pub limit : ℕ
 
@@ -25,7 +26,7 @@ abbrev pub copy_rule : Path → Path → Rule
 copy_rule p q = record {
   copies = true;
   keeps_sources = true;
-  work = 0;
+  work = 1;
   signed = [];
   targets = p ∷ [];
   sources = q ∷ [];
@@ -68,6 +69,7 @@ setting g t = record {
   includes = g.includes;
   act = g.act;
   digest = g.digest;
+  hash = g.hash;
   is_due = g.is_due;
   limit = g.limit;
 }

@@ -1,14 +1,15 @@
 -- An incremental build equals a clean build: what one that ended well leaves and did, by content, for a graph with copies.
-use Rattle.std.specs.Prelude.{◌≡◌, ◌⊎◌, ◌+◌, ◌*◌, ◌<◌, ◌++◌, true, List, ◌∷◌, length, Some, None}
+use Rattle.std.specs.Prelude.{◌≡◌, ◌⊎◌, ◌+◌, ◌*◌, ◌<◌, ◌++◌, true, false, List, ◌∷◌, length, Some, None}
 use Rattle.build_model.specs.Rules.{Path, Tree, Stamps, Rule, Record, Among}
 use Rattle.build_model.specs.Needs.{IsCycle, IsBuildOrder}
 use Rattle.build_model.specs.Contents.{IsKnown, found_in, IsLawful, height}
 use Rattle.build_model.specs.Records.{record_of}
 use Rattle.build_model.specs.Stale.{IsStale}
-use Rattle.build_model.specs.Steps.{Step, Began, Build, settled, present_record, IsRun, Succeeds}
+use Rattle.build_model.specs.Steps.{Step, Began, Ended, Build, settled, began, present_record, IsRun, Succeeds}
 use Rattle.build_model.specs.Graphs.{Graph, IsGraph, setting, rule_at, clean_build}
 use Rattle.build_model.specs.Laws.{NeededIn, NeedsIn, IsByContent, StartsExactly}
-use Rattle.build_model.specs.OneJob.{TakesFirst, FollowsOrder}
+use Rattle.build_model.specs.Resting.{IsFaulty}
+use Rattle.build_model.specs.OneJob.{TakesFirst, StandsBefore, FollowsOrder, TakesInOrder}
 
 abbrev pub no_stamps : Stamps
 no_stamps p = None
@@ -55,6 +56,22 @@ pub record IsBuilt (g : Graph) (b : Build) (steps : List Step) : Type 0 where
 abbrev pub IncrementalIsClean : Type 0
 IncrementalIsClean = (g : Graph) (b : Build) (steps : List Step) → BuildsByContent g b steps → Succeeds (setting g b.before) b steps →
     IsBuilt g b steps
+
+-- What a build at one job that doesn't go on after faults began, at any status: a front of the stale rules in the build order,
+-- and all of them that stand before a rule at fault.
+pub record BeginsStaleFront (g : Graph) (b : Build) (order : List Rule) (steps : List Step) : Type 0 where
+  pub only : (r : Rule) → Among r (began steps) → IsNeeded g b r × IsStaleBefore g b r
+  pub follows : FollowsOrder order steps
+  pub before_begun : (r x : Rule) → Among r (began steps) → StandsBefore order x r → IsStaleBefore g b x → Among x (began steps)
+  pub before_fault : (r x : Rule) → IsFaulty steps r → StandsBefore order x r → IsStaleBefore g b x → Among x (began steps)
+  -- a rule at fault that was started is the last that was
+  pub last : (r : Rule) → Among (Ended r false) steps → (earlier : List Rule) × (began steps ≡ r ∷ earlier)
+
+abbrev pub StaleFrontBegins : Type 0
+StaleFrontBegins = (g : Graph) (b : Build) (steps : List Step) (order : List Rule) → BuildsByContent g b steps → b.jobs ≡ 1 →
+    b.keeps_going ≡ false → TakesInOrder (setting g b.before) b steps →
+    IsBuildOrder (rule_at g b.before) g.limit (found_in (setting g b.before) (clean_build g b.before)) b.requested order →
+    BeginsStaleFront g b order steps
 
 -- the same build after another one, with no edit between: it begins with the tree and the records that that one left
 pub record IsAgain (g : Graph) (b c : Build) : Type 0 where

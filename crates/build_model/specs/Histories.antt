@@ -21,7 +21,7 @@ abbrev pub IsEdit : Tree → Records → Tree → Type 0
 IsEdit t m u = (p : Path) → (t p ≡ u p) ⊎ ((u p ≡ None) ⊎ (m p ≡ None))
 
 -- a build begins with this tree and these records, and meets more contents
-pub record BeginsWith (act : Act) (digest : Bytes → Digest) (t : Tree) (m : Records) (met : List Bytes) (g : Graph) (b : Build) : Type 0 where
+pub record BeginsWith (act : Act) (digest : ℕ → Bytes → Digest) (t : Tree) (m : Records) (met : List Bytes) (g : Graph) (b : Build) : Type 0 where
   pub act_is : g.act ≡ act
   pub digest_is : g.digest ≡ digest
   pub tree : b.before ≡ t
@@ -30,7 +30,7 @@ pub record BeginsWith (act : Act) (digest : Bytes → Digest) (t : Tree) (m : Re
 
 -- A history ends with this tree, these records and these contents met. It begins without records; then come edits, and
 -- builds of any graph by any deciders, as far as they came: each is the list of the steps that it took.
-pub data IsHistory (act : Act) (digest : Bytes → Digest) : Tree → Records → List Bytes → Type 0 where
+pub data IsHistory (act : Act) (digest : ℕ → Bytes → Digest) : Tree → Records → List Bytes → Type 0 where
   begins : (t : Tree) (met : List Bytes) → IsHistory act digest t no_records met
   edited : {t : Tree} {m : Records} {met : List Bytes} (u : Tree) → IsEdit t m u → IsHistory act digest t m met → IsHistory act digest u m met
   built : {t : Tree} {m : Records} {met : List Bytes} (g : Graph) (b : Build) (steps : List Step) (later : Records) →
@@ -46,7 +46,7 @@ pub record GoesByContent (g : Graph) (b : Build) : Type 0 where
 
 -- After any history a build by content that ends well equals a clean build.
 abbrev pub HistoriesEndClean : Type 0
-HistoriesEndClean = (act : Act) (digest : Bytes → Digest) (t : Tree) (m : Records) (met : List Bytes) → IsHistory act digest t m met →
+HistoriesEndClean = (act : Act) (digest : ℕ → Bytes → Digest) (t : Tree) (m : Records) (met : List Bytes) → IsHistory act digest t m met →
     (g : Graph) (b : Build) (steps : List Step) → BeginsWith act digest t m met g b → IsGraph g → GoesByContent g b →
     ((p : Path) → rule_at g b.before p ≡ None → b.before p ≡ b.after p) → IsRun (setting g b.before) b steps →
     Succeeds (setting g b.before) b steps → IsBuilt g b steps

@@ -1,12 +1,12 @@
 -- What follows from the steps of a build alone.
-use Rattle.std.specs.Prelude.{◌≡◌, ℕ, ◌<◌, ◌≤◌, ◌++◌, true, false, List, ◌∷◌, Some, None}
+use Rattle.std.specs.Prelude.{◌≡◌, ℕ, ◌<◌, ◌≤◌, ◌++◌, true, false, List, ◌∷◌, map, Some, None}
 use Rattle.build_model.specs.Rules.{Path, Content, Tree, Stamps, content, Rule, Setting, Among, Unique}
 use Rattle.build_model.specs.Needs.{Needs, Needed, IsCycle}
 use Rattle.build_model.specs.Contents.{View, in_tree, found_in, dependencies, clean, IsLawful, height}
 use Rattle.build_model.specs.Records.{record_of, AreDistinct, AreSound}
 use Rattle.build_model.specs.Stale.{IsDue, IsStale, IsUpToDate}
-use Rattle.build_model.specs.Steps.{Step, Fresh, Began, Lacks, Build, settled, began, running, present_dependencies, present_record, IsRun, Succeeds}
-use Rattle.build_model.specs.Moments.{Job, so_far, IsCourse}
+use Rattle.build_model.specs.Steps.{Step, Fresh, Began, Lacks, Build, settled, began, running, contents_of, present_dependencies, present_record, IsRun, Succeeds}
+use Rattle.build_model.specs.Moments.{Job, job_rule, so_far, MayWrite, IsCourse}
 
 -- a build of which no more is known than its steps: whatever its deciders, records and digests are
 pub record IsBuild (s : Setting) (b : Build) (steps : List Step) : Type 0 where
@@ -104,13 +104,27 @@ NoneOverCycle = (s : Setting) (b : Build) (steps : List Step) (r : Rule) (rs : L
 abbrev pub AtMostJobs : Type 0
 AtMostJobs = (s : Setting) (b : Build) (later past : List Step) → IsRun s b (later ++ past) → running past ≤ b.jobs
 
--- the steps are those of a build that ends with this tree, and only targets of rules that were started are changed
+-- The steps are those of a build that ends with this tree, and only targets of rules that were started are changed, in
+-- content or in stamp.
 pub record IsSeenSo (s : Setting) (b : Build) (t : Tree) (stamps : Stamps) (past : List Step) : Type 0 where
   pub build : IsBuild s (so_far b t stamps) past
   pub untouched : (p : Path) → ((r : Rule) → Among r (began past) → Among p r.targets → ⊥) → b.before p ≡ t p
+  pub unstamped : (p : Path) → ((r : Rule) → Among r (began past) → Among p r.targets → ⊥) → b.stamps_before p ≡ stamps p
 
 -- What was seen at each moment is what stands there at the end: the steps of a course are those of a build, also if it
 -- ended at this moment.
 abbrev pub CoursesAreBuilds : Type 0
 CoursesAreBuilds = (s : Setting) (b : Build) (jobs : List Job) (t : Tree) (stamps : Stamps) (past : List Step) → IsLawful s →
     IsCourse s b jobs t stamps past → IsSeenSo s b t stamps past
+
+-- The jobs are those of the rules that began, in that order. What each was given stands there still: its rule has the same
+-- dependencies, with the same contents, and no action that runs may write one of them.
+pub record AreGivenSo (s : Setting) (jobs : List Job) (t : Tree) (past : List Step) : Type 0 where
+  pub jobs_began : map job_rule jobs ≡ began past
+  pub given : (j : Job) → Among j jobs → j.given ≡ contents_of t (dependencies s (in_tree t) j.rule)
+  pub unwritten : (j : Job) → Among j jobs → (p : Path) → Among p (dependencies s (in_tree t) j.rule) → MayWrite jobs past p → ⊥
+
+-- What a job was given is what stands in the tree at every later moment, whatever became of the job.
+abbrev pub GivenStays : Type 0
+GivenStays = (s : Setting) (b : Build) (jobs : List Job) (t : Tree) (stamps : Stamps) (past : List Step) → IsLawful s →
+    IsCourse s b jobs t stamps past → AreGivenSo s jobs t past

@@ -9,6 +9,9 @@ pub record Job : Type 0 where
   pub rule : Rule
   pub given : List (Path × Content)
 
+abbrev pub job_rule : Job → Rule
+job_rule j = j.rule
+
 -- the build, if it ended with this tree
 abbrev pub so_far : Build → Tree → Stamps → Build
 so_far b t stamps = record b { after = t; stamps_after = stamps }

@@ -1,7 +1,7 @@
 -- The dependencies of a rule: its sources, what the script says it depends on, its libraries, and then the files that
 -- are found from scanned sources on, breadth first. What a file includes is a parameter: so one definition serves what was found so far, what
 -- stands in the tree, and what a clean build would find.
-use Rattle.std.specs.Prelude.{ℕ, zero, suc, Bool, true, false, List, [], ◌∷◌, ◌++◌, if◌then◌else◌}
+use Rattle.std.specs.Prelude.{◌≡◌, ℕ, zero, suc, Bool, true, false, List, [], ◌∷◌, ◌++◌, if◌then◌else◌}
 use Rattle.std.specs.Str.{bytes_eq}
 use Rattle.build_model.specs.Rules.{Path, Rule, Among}
 
@@ -61,3 +61,13 @@ pub data IsScanned (includes : Path → List Path) (r : Rule) : Path → Type 0 
 pub data Reaches (includes : Path → List Path) (r : Rule) (p : Path) : Type 0 where
   is_declared : Among p (declared r) → Reaches includes r p
   is_scanned : IsScanned includes r p → Reaches includes r p
+
+-- the same files are scanned for a rule, and so it has the same dependencies
+pub record ReachesSame (limit : ℕ) (includes others : Path → List Path) (r : Rule) : Type 0 where
+  pub scanned : scan_list limit others r ≡ scan_list limit includes r
+  pub dependencies : reach limit others r ≡ reach limit includes r
+
+-- What a rule reaches is decided by what its scanned files include: what else a file includes doesn't matter.
+abbrev pub ScannedDecide : Type 0
+ScannedDecide = (limit : ℕ) (includes others : Path → List Path) (r : Rule) →
+    ((p : Path) → Among p (scan_list limit includes r) → includes p ≡ others p) → ReachesSame limit includes others r

@@ -1,8 +1,9 @@
 -- A build that goes on after faults, where nothing is left to do: why each rule that isn't settled then isn't.
-use Rattle.std.specs.Prelude.{◌≡◌, ◌⊎◌, ℕ, ◌<◌, ◌++◌, false, List, [], ◌∷◌, Some}
-use Rattle.build_model.specs.Rules.{Path, Rule, Setting, Among}
+use Rattle.std.specs.Prelude.{◌≡◌, ◌⊎◌, ℕ, ◌<◌, ◌++◌, Bool, true, false, List, [], ◌∷◌, Option, Some, None, if◌then◌else◌}
+use Rattle.build_model.specs.Rules.{Path, Content, Rule, Setting, Among}
+use Rattle.build_model.specs.Reach.{has, Reaches}
 use Rattle.build_model.specs.Needs.{Found, Needs, NeedsThrough, Needed}
-use Rattle.build_model.specs.Contents.{View, in_tree, found_in, clean, height}
+use Rattle.build_model.specs.Contents.{View, in_tree, found_in, clean, IsLawful, height}
 use Rattle.build_model.specs.Records.{record_of}
 use Rattle.build_model.specs.Stale.{IsDue, IsStale}
 use Rattle.build_model.specs.Steps.{Step, Began, Ended, Lacks, Halts, Build, settled, began, IsReady, IsRun, present_record}
@@ -24,6 +25,25 @@ abbrev pub IsFoundWhole : Setting → Build → List Step → Found → Type 0
 IsFoundWhole s b steps found = (r : Rule) (p : Path) →
     (IsReady s b.after (settled steps) p × (found r p ≡ found_in s (in_tree b.after) r p))
     ⊎ ((IsReady s b.after (settled steps) p → ⊥) × (found r p ≡ []))
+
+-- whether one of these rules makes the path
+abbrev pub is_target : List Rule → Path → Bool
+is_target [] p = false
+is_target (r ∷ rules) p = if has p r.targets then true else is_target rules p
+
+-- whether a path waits for nothing, where these rules are settled: it is a file that no rule makes, or a target of them
+abbrev pub is_ready : Option Rule → Content → List Rule → Path → Bool
+is_ready None None rules p = false
+is_ready None (Some bytes) rules p = true
+is_ready (Some r) x rules p = is_target rules p
+
+-- what is found when all is scanned that can be
+abbrev pub whole_found : Setting → Build → List Step → Found
+whole_found s b steps r p = if is_ready (s.rule_of p) (b.after p) (settled steps) p then found_in s (in_tree b.after) r p else []
+
+-- After any steps all that can be scanned may be.
+abbrev pub AllIsFound : Type 0
+AllIsFound = (s : Setting) (b : Build) (steps : List Step) → IsLawful s → IsRun s b steps → IsFoundWhole s b steps (whole_found s b steps)
 
 -- a rule where nothing is left to do: it is settled or faulty, or needs one that isn't settled
 pub data IsLeft (s : Setting) (steps : List Step) (found : Found) (r : Rule) : Type 0 where
@@ -82,9 +102,10 @@ pub record IsOut (s : Setting) (steps : List Step) (found : Found) (p : Path) : 
   pub is_rule : s.rule_of p ≡ Some rule
   pub why : IsHindered s steps found rule
 
--- What files include where the contents are these, with the targets of hindered rules taken out: they aren't scanned.
-abbrev pub IsTakenOut : Setting → View → List Step → Found → Found → Type 0
-IsTakenOut s view steps found taken = (r : Rule) (p : Path) →
+-- What files include where the contents are these, with the targets of hindered rules taken out: they aren't scanned. It is
+-- said of what the needed rules reach so.
+abbrev pub IsTakenOut : Setting → Build → View → List Step → Found → Found → Type 0
+IsTakenOut s b view steps found taken = (r : Rule) (p : Path) → Needed s.rule_of taken b.requested r → Reaches (taken r) r p →
     (IsOut s steps found p × (taken r p ≡ [])) ⊎ ((IsOut s steps found p → ⊥) × (taken r p ≡ found_in s view r p))
 
 -- A build that went on after faults and came to rest, by the clean contents with the targets of hindered rules taken out.
@@ -100,5 +121,10 @@ pub record GoesOn (s : Setting) (b : Build) (view : View) (steps : List Step) (f
 
 abbrev pub KeepsGoing : Type 0
 KeepsGoing = (s : Setting) (b : Build) (steps : List Step) (found taken : Found) (top : ℕ) → IsBuild s b steps → IsByContent s b top →
-    height (settled steps) < top → IsAtRest s b steps found → IsTakenOut s (clean s b.before top) steps found taken →
+    height (settled steps) < top → IsAtRest s b steps found → IsTakenOut s b (clean s b.before top) steps found taken →
     GoesOn s b (clean s b.before top) steps found taken
+
+-- There is one: what was found at rest.
+abbrev pub FoundIsTakenOut : Type 0
+FoundIsTakenOut = (s : Setting) (b : Build) (steps : List Step) (found : Found) (top : ℕ) → IsBuild s b steps → IsByContent s b top →
+    height (settled steps) < top → IsAtRest s b steps found → IsTakenOut s b (clean s b.before top) steps found found

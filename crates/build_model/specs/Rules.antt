@@ -33,6 +33,7 @@ pub record Rule : Type 0 where
   pub copies : Bool
   -- its action is to copy or to write: its sources stay dependencies, whatever is ignored
   pub keeps_sources : Bool
+  -- what its action is, by the number that records give it: 0 for the shell, 1 for a copy, 2 for a text that is written
   pub work : ℕ
   pub signed : List Bytes
   pub targets : List Path
@@ -55,6 +56,8 @@ pub record Dependency : Type 0 where
 -- what is kept of a rule that was carried out
 pub record Record : Type 0 where
   pub work : ℕ
+  -- by which function its digests were made
+  pub hash : ℕ
   pub signed : List Bytes
   pub targets : List Path
   pub dependencies : List Dependency
@@ -71,7 +74,10 @@ pub record Setting : Type 0 where
   pub includes : Rule → Path → Bytes → List Path
   -- what an action makes at a path of contents that it is given: its work, signed lines and targets alone count
   pub act : ℕ → List Bytes → List Path → List (Path × Content) → Path → Content
-  pub digest : Bytes → Digest
+  -- the digest of a content, by each function
+  pub digest : ℕ → Bytes → Digest
+  -- the function by which this build makes digests
+  pub hash : ℕ
   -- the test by which a rule is found due: by the tree, stamps and records before the build, and its record of now
   pub is_due : Rule → Tree → Stamps → Records → Record → Bool
   -- more than the files that are scanned for a rule

@@ -8,9 +8,10 @@ name_of d = d.name
 abbrev pub stamp_of : Dependency → Option ℕ
 stamp_of d = d.stamp
 
--- the same action, on dependencies of the same names in the same order
+-- the same action and the same function of digests, on dependencies of the same names in the same order
 pub record IsSameAction (old now : Record) : Type 0 where
   pub work : now.work ≡ old.work
+  pub hash : now.hash ≡ old.hash
   pub signed : now.signed ≡ old.signed
   pub targets : now.targets ≡ old.targets
   pub names : map name_of now.dependencies ≡ map name_of old.dependencies

@@ -1,6 +1,7 @@
 -- A build waits for an ending only where as many actions run as may, or nothing can be decided.
 use Rattle.std.specs.Prelude.{◌≡◌, ◌⊎◌, ℕ, ◌<◌, ◌++◌, Bool, List, [], ◌∷◌, Some, ⊤}
 use Rattle.build_model.specs.Rules.{Path, Rule, Setting, Among}
+use Rattle.build_model.specs.Reach.{Reaches}
 use Rattle.build_model.specs.Needs.{Found, NeedsThrough, Needed}
 use Rattle.build_model.specs.Contents.{View, found_in, clean, height}
 use Rattle.build_model.specs.Records.{record_of}
@@ -47,17 +48,21 @@ pub record IsAwaited (s : Setting) (b : Build) (view : View) (past : List Step) 
   pub is_rule : s.rule_of p ≡ Some rule
   pub why : IsPending s b view past rule ⊎ NeedsPending s b view past rule
 
--- what files include, with these targets taken out
+-- What files include, with these targets taken out. It is said of what the needed rules reach so.
 abbrev pub IsTakenOutThen : Setting → Build → View → List Step → Found → Type 0
-IsTakenOutThen s b view past taken = (r : Rule) (p : Path) →
+IsTakenOutThen s b view past taken = (r : Rule) (p : Path) → Needed s.rule_of taken b.requested r → Reaches (taken r) r p →
     (IsAwaited s b view past p × (taken r p ≡ [])) ⊎ ((IsAwaited s b view past p → ⊥) × (taken r p ≡ found_in s view r p))
 
--- As many actions run as may, or each rule that is needed with these targets taken out, is stale and wasn't started needs
--- a stale rule that hasn't ended.
+-- each rule that is needed so, is stale and wasn't started needs a stale rule that hasn't ended
+abbrev pub AllWait : Setting → Build → View → List Step → Found → Type 0
+AllWait s b view past taken = (r : Rule) → Needed s.rule_of taken b.requested r → IsStaleIn s b view r → (Among r (began past) → ⊥) →
+    NeedsPending s b view past r
+
+-- As many actions run as may, or with these targets taken out, which can be done, all that wasn't started waits.
 pub data IsBusy (s : Setting) (b : Build) (view : View) (past : List Step) : Type 0 where
   all_run : running past ≡ b.jobs → IsBusy s b view past
-  all_wait : ((taken : Found) → IsTakenOutThen s b view past taken → (r : Rule) → Needed s.rule_of taken b.requested r →
-      IsStaleIn s b view r → (Among r (began past) → ⊥) → NeedsPending s b view past r) → IsBusy s b view past
+  all_wait : (found : Found) → IsTakenOutThen s b view past found →
+      ((taken : Found) → IsTakenOutThen s b view past taken → AllWait s b view past taken) → IsBusy s b view past
 
 abbrev pub BusyAtEachEnding : Type 0
 BusyAtEachEnding = (s : Setting) (b : Build) (steps : List Step) (top : ℕ) → IsBuild s b steps → IsByContent s b top →

@@ -1,8 +1,9 @@
 //! The laws: each is the contract of a function that does nothing.
-ghost use Rattle.build_model.specs.Laws.{EachStepIsClean, HoldsForAnyDecider, EachOnlyOnce, SettledBeforeStart, NoneOverCycle, AtMostJobs, CoursesAreBuilds};
-ghost use Rattle.build_model.specs.Headline.{GraphsAreLawful, HighEnough, IncrementalIsClean, AgainLittle};
-ghost use Rattle.build_model.specs.Resting.{NothingAfterFault, RestsRightly, KeepsGoing};
-ghost use Rattle.build_model.specs.OneJob.{AtOneJob};
+ghost use Rattle.build_model.specs.Laws.{EachStepIsClean, HoldsForAnyDecider, EachOnlyOnce, SettledBeforeStart, NoneOverCycle, AtMostJobs, CoursesAreBuilds, GivenStays};
+ghost use Rattle.build_model.specs.Reach.{ScannedDecide};
+ghost use Rattle.build_model.specs.Headline.{GraphsAreLawful, HighEnough, IncrementalIsClean, StaleFrontBegins, AgainLittle};
+ghost use Rattle.build_model.specs.Resting.{NothingAfterFault, AllIsFound, RestsRightly, KeepsGoing, FoundIsTakenOut};
+ghost use Rattle.build_model.specs.OneJob.{AtOneJob, FrontBegins};
 ghost use Rattle.build_model.specs.Waiting.{BusyAtEachEnding};
 ghost use Rattle.build_model.specs.Leaving.{StaysSound, IsAgainAfter};
 ghost use Rattle.build_model.specs.Histories.{HistoriesEndClean};
@@ -44,6 +45,12 @@ pub fn at_one_job()
     ensures { AtOneJob }
 {}
 
+/// At one job and without going on after faults, at any status: what began is a front of what is due in the build order, all of
+/// it that stands before a rule at fault.
+pub fn front_begins()
+    ensures { FrontBegins }
+{}
+
 /// Before each ending of a build that ended well as many actions run as may, or whatever is stale and could be started waits
 /// for a stale rule that hasn't ended.
 pub fn busy_at_each_ending()
@@ -53,6 +60,16 @@ pub fn busy_at_each_ending()
 /// What was seen at each moment is what stands at the end.
 pub fn courses_are_builds()
     ensures { CoursesAreBuilds }
+{}
+
+/// What the action of a job was given stands there at every later moment, whatever became of the job.
+pub fn given_stays()
+    ensures { GivenStays }
+{}
+
+/// What agrees on the scanned files of a rule gives it the same dependencies.
+pub fn scanned_decide()
+    ensures { ScannedDecide }
 {}
 
 /// Each rule of a graph has its place, a copy rule too.
@@ -68,6 +85,12 @@ pub fn high_enough()
 /// A build that ended well leaves what a build from sources alone makes, and started exactly what was stale, each once.
 pub fn incremental_is_clean()
     ensures { IncrementalIsClean }
+{}
+
+/// A build by content at one job that doesn't go on after faults began, at any status, a front of the stale rules in the build
+/// order, and all of them that stand before a rule at fault.
+pub fn stale_front_begins()
+    ensures { StaleFrontBegins }
 {}
 
 /// The same build again starts only what is always carried out, and what doesn't make all its targets.
@@ -95,6 +118,11 @@ pub fn nothing_after_fault()
     ensures { NothingAfterFault }
 {}
 
+/// After any steps there is what is found when all is scanned that can be.
+pub fn all_is_found()
+    ensures { AllIsFound }
+{}
+
 /// Where nothing is left to do, each needed rule is settled, faulty, skipped or held.
 pub fn rests_rightly()
     ensures { RestsRightly }
@@ -106,7 +134,13 @@ pub fn keeps_going()
     ensures { KeepsGoing }
 {}
 
-/// What the headline asks is met: by a build of a source with a generated header from nothing, and by the next one.
+/// What was found at rest are the clean contents with the targets of hindered rules taken out.
+pub fn found_is_taken_out()
+    ensures { FoundIsTakenOut }
+{}
+
+/// What the laws ask is met: by builds of a source with a generated header, once and again, at one job and at two, to their end
+/// and up to a fault; over a cycle; and by a rule that is always carried out.
 pub fn premises_are_met()
     ensures { AreMet }
 {}

@@ -21,7 +21,7 @@ use scons_report::cycle_fault;
 use sign_store::Store;
 use std::alloc::Global;
 use task_plan::Plan;
-use world_api::{Sink, World};
+use world_api::{Hash, Sink, World};
 
 /// How a build is to be done.
 #[derive(Clone, Copy, Debug, PartialEq, Eq)]
@@ -30,6 +30,8 @@ pub struct Options {
     pub jobs: u32,
     /// Whether rules go on that don't need one that is at fault.
     pub keep: bool,
+    /// What digests of contents are made by.
+    pub hash: Hash,
     /// Whether no lines are written.
     pub silent: bool,
 }
@@ -101,7 +103,7 @@ fn make<W: World, O: Sink, E: Sink>(
     ensures causes { BuildCauses W.meaning O.meaning E.meaning world.old out.old err.old world.new out.new err.new result.faults result.memory }
 {
     let mut account = Account::new(alloc);
-    match begin(alloc, graph, requested, world) {
+    match begin(alloc, options.hash, graph, requested, world) {
         Ok(mut run) => {
             go_on(
                 graph,
@@ -124,6 +126,7 @@ fn make<W: World, O: Sink, E: Sink>(
 
 fn begin<W: World>(
     alloc: Global,
+    hash: Hash,
     graph: &mut Graph,
     requested: &[NodeId],
     world: &mut W,
@@ -132,7 +135,7 @@ fn begin<W: World>(
     ensures cause { HasLookCause (W.meaning.counts world.old) (W.meaning.counts world.new) result }
     ensures none { IfOk result (λ run. run.tickets ≡ []) }
 {
-    let mut inputs = Inputs::new(alloc);
+    let mut inputs = Inputs::new(alloc, hash, graph);
     inputs.add_copies(world, graph, requested)?;
     let plan = Plan::new(alloc, graph, requested)?;
     Ok(Run {

@@ -1,14 +1,16 @@
-//! Signature files that are cut, or have another mark.
+//! Signature files that are cut, or have other bytes.
 use crate::idle::IdleWorld;
-use crate::steps::{Step, words_of};
+use crate::steps::{Step, word_of, words_of};
 use scons_base::Text;
 use trial_text::Told;
 use world_api::Bank;
 
-/// Goes on with the files as they are, and with a first signature bank that is cut or has another mark.
+/// Goes on with the files as they are, and with a first signature bank that is cut or has another mark, or a bank with
+/// these bytes.
 pub(crate) fn spoil(told: &mut Told, world: &mut IdleWorld, step: Step) {
     let spoiled = match step.word {
         "cut" => cut(world, told.number(step.rest) as usize),
+        "bank" => with_bank(world, step.rest),
         _ => marked(world, step.rest.as_bytes()),
     };
     match spoiled {
@@ -30,6 +32,25 @@ fn marked(world: &IdleWorld, mark: &[u8]) -> Option<IdleWorld> {
     *bank.get_mut(8)? = mark;
     let b = world.inner.bank(Bank::B);
     world.anew(bank.as_slice(), b, Vec::new(world.alloc))
+}
+
+/// A world with the same, but for one bank: `BANK BYTES`.
+fn with_bank(world: &IdleWorld, rest: &str) -> Option<IdleWorld> {
+    let (name, digits) = word_of(rest);
+    let bytes = hex::decode(world.alloc, digits).ok()?;
+    let (a, b) = (world.inner.bank(Bank::A), world.inner.bank(Bank::B));
+    match bank_of(name)? {
+        Bank::A => world.anew(bytes.as_slice(), b, Vec::new(world.alloc)),
+        Bank::B => world.anew(a, bytes.as_slice(), Vec::new(world.alloc)),
+    }
+}
+
+pub(crate) fn bank_of(name: &str) -> Option<Bank> {
+    match name {
+        "A" => Some(Bank::A),
+        "B" => Some(Bank::B),
+        _ => None,
+    }
 }
 
 /// Builds with these words and with the first signature bank cut to each length.

@@ -3,7 +3,7 @@ use crate::acts::world_of;
 use crate::failures::put_failures;
 use crate::idle::IdleWorld;
 use crate::runs::put_run;
-use crate::spoiled::{put_cuts, spoil};
+use crate::spoiled::{bank_of, put_cuts, spoil};
 use crate::steps::{STEP, Step, word_of, words_of};
 use crate::stops::put_stops;
 use scons_base::{Blob, PathText};
@@ -37,9 +37,10 @@ fn put_step(told: &mut Told, world: &mut IdleWorld, step: Step) {
         "file" => put_file(told, world, step),
         "large" => put_large(told, world, step.rest),
         "gone" => world.remove(told, step.rest),
-        "cut" | "mark" => spoil(told, world, step),
+        "cut" | "mark" | "bank" => spoil(told, world, step),
         "show" => show(told, world, step.rest),
         "banks" => put_banks(told, world),
+        "bytes" => put_bytes(told, world, step.rest),
         _ => put_runs(told, world, step),
     }
 }
@@ -140,6 +141,18 @@ fn put_bank(told: &mut Told, name: &str, bytes: &[u8]) {
     if let Some(generation) = bytes.get(16) {
         told.put(", generation ");
         told.show(*generation);
+    }
+    told.put("\n");
+}
+
+/// The bytes of a signature bank, hexadecimal.
+fn put_bytes(told: &mut Told, world: &IdleWorld, name: &str) {
+    let Some(bank) = bank_of(name) else {
+        return told.refuse();
+    };
+    told.put_all(&["bank ", name, ": "]);
+    for byte in world.inner.bank(bank) {
+        told.show(format_args!("{byte:02x}"));
     }
     told.put("\n");
 }

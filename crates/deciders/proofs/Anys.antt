@@ -1,5 +1,5 @@
 -- What holds of some item of a list, by its first item.
-use Rattle.std.proofs.Common.{◌≡◌, ℕ, zero, suc, ◌<◌, List, [], ◌∷◌, length, true, false, refl, ap, subst, sym, ◌∙◌, inl, inr, arith}
+use Rattle.std.proofs.Common.{◌≡◌, zero, suc, List, [], ◌∷◌, false, refl, ap, subst, sym, ◌∙◌, inl, inr, arith}
 use Rattle.std.specs.Prelude.{Any, ◌⊎◌, ◌↔◌, IsTrue}
 use Rattle.std.specs.List.{zip}
 use Rattle.deciders.specs.declared.recorded.Dep.{Dep}

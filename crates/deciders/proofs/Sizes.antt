@@ -1,12 +1,12 @@
 -- A record whose spelling is short has few parts, and short ones.
-use Rattle.std.proofs.Common.{◌≡◌, ℕ, ◌+◌, ◌^◌, ◌<◌, ◌≤◌, List, [], ◌∷◌, ◌++◌, length, All, refl, arith, length-append}
+use Rattle.std.proofs.Common.{ℕ, ◌+◌, ◌^◌, ◌<◌, ◌≤◌, List, [], ◌∷◌, ◌++◌, length, All, arith, length-append}
 use Rattle.std.specs.List.{flat_map, AllByRecursion}
 use Rattle.std.specs.Int.{w32, to_be_bytes}
 use Rattle.std.proofs.lemmas.List.Elements.{All-from_recursion}
 use Rattle.std.proofs.lemmas.List.Concat.{flat_map-cons}
-use Rattle.deciders.specs.declared.recorded.Dep.{Dep}
 use Rattle.deciders.specs.declared.recorded.Rec.{Rec}
-use Rattle.deciders.specs.Spelling.{sized, listed, digest_spelling, stamp_spelling, dep_spelling, spelling, work_byte}
+use Rattle.deciders.specs.declared.version.Version.{Version}
+use Rattle.deciders.specs.Spelling.{sized, listed, digest_spelling, stamp_spelling, dep_spelling, hash_spelling, lists_spelling, spelling}
 
 -- each item has more bytes than its size says
 pub record IsMore {A : Type 0} (spelled : A → List ℕ) (size : A → ℕ) : Type 0 where
@@ -36,7 +36,7 @@ pub record FitParts (rec : Rec) : Type 0 where
   pub deps : length rec.deps < 2 ^ 32
   pub dep : All (λ dep. length dep.name < 2 ^ 32) rec.deps
 
-lists : (rec : Rec) → length (spelling rec) < 2 ^ 32 → (length (flat_map sized rec.targets) < 2 ^ 32) × (length (flat_map sized rec.signed) < 2 ^ 32) × (length (flat_map dep_spelling rec.deps) < 2 ^ 32)
+lists : (rec : Rec) → length (lists_spelling rec) < 2 ^ 32 → (length (flat_map sized rec.targets) < 2 ^ 32) × (length (flat_map sized rec.signed) < 2 ^ 32) × (length (flat_map dep_spelling rec.deps) < 2 ^ 32)
 lists rec below =
     let a = length-append (to_be_bytes w32 (length rec.targets)) (flat_map sized rec.targets) in
     let b = length-append (to_be_bytes w32 (length rec.signed)) (flat_map sized rec.signed) in
@@ -45,7 +45,7 @@ lists rec below =
     let e = length-append (listed sized rec.targets ++ listed sized rec.signed) (listed dep_spelling rec.deps) in
     (omega (arith, below, a, b, c, d, e), omega (arith, below, a, b, c, d, e), omega (arith, below, a, b, c, d, e))
 
-pub fit_parts : (rec : Rec) → length (spelling rec) < 2 ^ 32 → FitParts rec
+pub fit_parts : (rec : Rec) → length (lists_spelling rec) < 2 ^ 32 → FitParts rec
 fit_parts rec below =
     let each = lists rec below in record {
       targets = omega (arith, few sized (λ text. length text) sized_is_more rec.targets, each.0);
@@ -63,6 +63,10 @@ fit_paths paths below =
     (omega (arith, few sized (λ text. length text) sized_is_more paths, each), All-from_recursion (λ path. length path < 2 ^ 32) paths (short sized (λ text. length text) sized_is_more paths (2 ^ 32) each))
 
 -- the targets are a part of a record's spelling
-pub targets_within : (rec : Rec) → length (listed sized rec.targets) + 1 ≤ length (spelling rec)
-targets_within rec =
-    omega (arith, length-append (listed sized rec.targets) (listed sized rec.signed), length-append (listed sized rec.targets ++ listed sized rec.signed) (listed dep_spelling rec.deps))
+pub targets_within : (version : Version) (rec : Rec) → length (listed sized rec.targets) + 1 ≤ length (spelling version rec)
+targets_within version rec =
+    omega (arith, length-append (hash_spelling version rec.hash) (lists_spelling rec), length-append (listed sized rec.targets) (listed sized rec.signed), length-append (listed sized rec.targets ++ listed sized rec.signed) (listed dep_spelling rec.deps))
+
+-- the lists are a part of it too
+pub lists_within : (version : Version) (rec : Rec) → length (lists_spelling rec) + 1 ≤ length (spelling version rec)
+lists_within version rec = omega (arith, length-append (hash_spelling version rec.hash) (lists_spelling rec))

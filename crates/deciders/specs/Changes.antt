@@ -1,5 +1,5 @@
 -- When the record of now says that a rule has changed.
-use Rattle.std.specs.Prelude.{◌≡◌, ◌≢◌, ◌⊎◌, ℕ, ◌<◌, List, map, Any, Option, Some, None}
+use Rattle.std.specs.Prelude.{◌≡◌, ◌≢◌, ◌⊎◌, ℕ, ◌<◌, map, Any, Option, Some, None}
 use Rattle.std.specs.List.{zip}
 use Rattle.world_api.specs.declared.decider.Decider.{Decider}
 use Rattle.world_api.specs.declared.decider.Decider.TheVariants.{Content, Newer, Match, ContentMatch}
@@ -7,9 +7,10 @@ use Rattle.deciders.specs.declared.recorded.Dep.{Dep}
 use Rattle.deciders.specs.declared.recorded.Rec.{Rec}
 use Rattle.deciders.specs.Records.{name_of}
 
--- the same action, over dependencies of the same names in the same order
+-- the same action and the same function of digests, over dependencies of the same names in the same order
 pub record IsSameAction (old now : Rec) : Type 0 where
   pub work : now.work ≡ old.work
+  pub hash : now.hash ≡ old.hash
   pub targets : now.targets ≡ old.targets
   pub signed : now.signed ≡ old.signed
   pub names : map name_of now.deps ≡ map name_of old.deps

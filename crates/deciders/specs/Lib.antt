@@ -1,3 +1,4 @@
+pub mod Digests
 pub mod Records
 pub mod Spelling
 pub mod Reading

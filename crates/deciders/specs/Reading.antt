@@ -5,11 +5,16 @@ use Rattle.std.specs.Str.{is_utf8}
 use Rattle.scons_base.specs.PathFaults.{is_path}
 use Rattle.world_api.specs.declared.job.Work.{Work}
 use Rattle.world_api.specs.declared.job.Work.TheVariants.{Shell, Copy, Write}
+use Rattle.world_api.specs.declared.hash.Hash.{Hash}
+use Rattle.world_api.specs.declared.hash.Hash.TheVariants.{Md5, Sha1, Sha256}
 use Rattle.deciders.specs.declared.content.Digest.{Digest}
 use Rattle.deciders.specs.declared.recorded.Dep.{Dep}
 use Rattle.deciders.specs.declared.recorded.Rec.{Rec}
 use Rattle.deciders.specs.declared.unread.Unread.{Unread}
 use Rattle.deciders.specs.declared.unread.Unread.TheVariants as unread
+use Rattle.deciders.specs.declared.version.Version.{Version}
+use Rattle.deciders.specs.declared.version.Version.TheVariants.{One, Two}
+use Rattle.deciders.specs.Digests.{as_digest, digest_len}
 use Rattle.deciders.specs.Records.{is_valid}
 
 infixl 10 ◌>>=◌
@@ -62,16 +67,30 @@ work_at (suc zero ∷ rest) = Some (Copy, rest)
 work_at (suc (suc zero) ∷ rest) = Some (Write, rest)
 work_at (suc (suc (suc byte)) ∷ rest) = None
 
-abbrev pub digest_bytes : List ℕ → Option (Digest × List ℕ)
-digest_bytes bytes = if nat_lt (length bytes) 16 then None else Some (record { 0 = take 16 bytes }, drop 16 bytes)
+unfoldable pub hash_byte_at : List ℕ → Option (Hash × List ℕ)
+hash_byte_at [] = None
+hash_byte_at (zero ∷ rest) = Some (Md5, rest)
+hash_byte_at (suc zero ∷ rest) = Some (Sha1, rest)
+hash_byte_at (suc (suc zero) ∷ rest) = Some (Sha256, rest)
+hash_byte_at (suc (suc (suc byte)) ∷ rest) = None
 
-unfoldable pub digest_at : List ℕ → Option (Option Digest × List ℕ)
-digest_at [] = None
-digest_at (zero ∷ rest) = Some (None, rest)
-digest_at (suc zero ∷ rest) = do
-  digest ← digest_bytes rest
+-- version 1 has no byte for it
+abbrev pub hash_at : Version → List ℕ → Option (Hash × List ℕ)
+hash_at One bytes = Some (Md5, bytes)
+hash_at Two bytes = hash_byte_at bytes
+
+abbrev pub digest_bytes : Hash → List ℕ → Option (Digest × List ℕ)
+digest_bytes hash bytes =
+    if nat_lt (length bytes) (digest_len hash) then None
+    else Some (as_digest hash (take (digest_len hash) bytes), drop (digest_len hash) bytes)
+
+unfoldable pub digest_at : Hash → List ℕ → Option (Option Digest × List ℕ)
+digest_at hash [] = None
+digest_at hash (zero ∷ rest) = Some (None, rest)
+digest_at hash (suc zero ∷ rest) = do
+  digest ← digest_bytes hash rest
   Some (Some digest.0, digest.1)
-digest_at (suc (suc byte) ∷ rest) = None
+digest_at hash (suc (suc byte) ∷ rest) = None
 
 unfoldable pub stamp_at : List ℕ → Option (Option ℕ × List ℕ)
 stamp_at [] = None
@@ -81,10 +100,10 @@ stamp_at (suc zero ∷ rest) = do
   Some (Some stamp.0, stamp.1)
 stamp_at (suc (suc byte) ∷ rest) = None
 
-unfoldable pub dep_at : List ℕ → Option (Dep × List ℕ)
-dep_at bytes = do
+unfoldable pub dep_at : Hash → List ℕ → Option (Dep × List ℕ)
+dep_at hash bytes = do
   name ← path_at bytes
-  digest ← digest_at name.1
+  digest ← digest_at hash name.1
   stamp ← stamp_at digest.1
   Some (record { name = name.0; digest = digest.0; stamp = stamp.0 }, stamp.1)
 
@@ -102,18 +121,19 @@ counted item bytes = do
   many item n.0 n.1
 
 -- a record, whatever it names
-unfoldable pub parts_of : List ℕ → Option (Rec × List ℕ)
-parts_of bytes = do
+unfoldable pub parts_of : Version → List ℕ → Option (Rec × List ℕ)
+parts_of version bytes = do
   work ← work_at bytes
-  targets ← counted path_at work.1
+  hash ← hash_at version work.1
+  targets ← counted path_at hash.1
   signed ← counted text_at targets.1
-  deps ← counted dep_at signed.1
-  Some (record { work = work.0; targets = targets.0; signed = signed.0; deps = deps.0 }, deps.1)
+  deps ← counted (dep_at hash.0) signed.1
+  Some (record { work = work.0; hash = hash.0; targets = targets.0; signed = signed.0; deps = deps.0 }, deps.1)
 
 -- a valid record that is all of the bytes
-unfoldable pub record_in : List ℕ → Option Rec
-record_in bytes = do
-  found ← parts_of bytes
+unfoldable pub record_in : Version → List ℕ → Option Rec
+record_in version bytes = do
+  found ← parts_of version bytes
   if length found.1 == 0 && is_valid found.0 then Some found.0 else None
 
 -- at least one path, in all of the bytes

@@ -13,6 +13,7 @@ pub fn same(a: &Rec, b: &Rec) -> bool
     ensures { IsTrue result ↔ (a.now ≡ b.now) }
 {
     a.work == b.work
+        && a.hash == b.hash
         && same_paths(a.targets.as_slice(), b.targets.as_slice())
         && same_texts(a.signed.as_slice(), b.signed.as_slice())
         && same_deps(a.deps.as_slice(), b.deps.as_slice())
@@ -36,6 +37,7 @@ fn same_action(old: &Rec, now: &Rec) -> bool
     ensures { IsTrue result ↔ IsSameAction old.now now.now }
 {
     now.work == old.work
+        && now.hash == old.hash
         && same_paths(now.targets.as_slice(), old.targets.as_slice())
         && same_texts(now.signed.as_slice(), old.signed.as_slice())
         && same_names(now.deps.as_slice(), old.deps.as_slice())

@@ -5,12 +5,14 @@ ghost use Rattle.deciders.specs.Records.{is_valid};
 ghost use Rattle.deciders.specs.Spelling.{Spells};
 ghost use Rattle.deciders.specs.Reading.{Gives, many, counted, text_at, path_at, dep_at, parts_of, record_in, paths_in};
 
-use crate::fields::{dep_at, path_at, text_at, u32_at, work_at};
-use crate::names::{are_once, deps_are_once};
+use crate::fields::{dep_at, hash_at, path_at, text_at, u32_at, work_at};
+use crate::names::{are_by, are_once, deps_are_once};
 use crate::recorded::{Dep, Rec};
 use crate::unread::Unread;
+use crate::version::Version;
 use scons_base::{Listing, Memory, PathText, Paths, Text, Texts};
 use std::alloc::Global;
+use world_api::Hash;
 
 fn paths_of(alloc: Global, count: u32, bytes: &[u8]) -> Result<(Vec<PathText>, &[u8]), Unread>
     ensures { Gives (λ x. (x.0.items, x.1.now)) result (many path_at count bytes.now) }
@@ -38,13 +40,13 @@ fn texts_of(alloc: Global, count: u32, bytes: &[u8]) -> Result<(Vec<Text>, &[u8]
     Ok((texts, rest))
 }
 
-fn deps_of(alloc: Global, count: u32, bytes: &[u8]) -> Result<(Vec<Dep>, &[u8]), Unread>
-    ensures { Gives (λ x. (x.0.items, x.1.now)) result (many dep_at count bytes.now) }
+fn deps_of(alloc: Global, hash: Hash, count: u32, bytes: &[u8]) -> Result<(Vec<Dep>, &[u8]), Unread>
+    ensures { Gives (λ x. (x.0.items, x.1.now)) result (many (dep_at hash) count bytes.now) }
 {
     let mut deps = Vec::new(alloc);
     let mut rest = bytes;
     for _ in 0..count {
-        let (dep, behind) = dep_at(alloc, rest)?;
+        let (dep, behind) = dep_at(alloc, hash, rest)?;
         deps.push(dep)?;
         rest = behind;
     }
@@ -70,25 +72,27 @@ fn counted_texts(alloc: Global, bytes: &[u8]) -> Result<(Texts, &[u8]), Unread>
 }
 
 #[tactic(auto, unfolding(crate::specs::Reading::counted))]
-fn counted_deps(alloc: Global, bytes: &[u8]) -> Result<(Listing<Dep>, &[u8]), Unread>
-    ensures { Gives (λ x. (x.0, x.1.now)) result (counted dep_at bytes.now) }
+fn counted_deps(alloc: Global, hash: Hash, bytes: &[u8]) -> Result<(Listing<Dep>, &[u8]), Unread>
+    ensures { Gives (λ x. (x.0, x.1.now)) result (counted (dep_at hash) bytes.now) }
 {
     let (count, rest) = u32_at(bytes)?;
-    let (deps, rest) = deps_of(alloc, count, rest)?;
+    let (deps, rest) = deps_of(alloc, hash, count, rest)?;
     Ok((Listing::new(deps), rest))
 }
 
 /// A record, whatever it names, and what follows it.
 #[tactic(auto, unfolding(crate::specs::Reading::parts_of))]
-fn parts_of(alloc: Global, bytes: &[u8]) -> Result<(Rec, &[u8]), Unread>
-    ensures { Gives (λ x. (x.0, x.1.now)) result (parts_of bytes.now) }
+fn parts_of(alloc: Global, version: Version, bytes: &[u8]) -> Result<(Rec, &[u8]), Unread>
+    ensures { Gives (λ x. (x.0, x.1.now)) result (parts_of version bytes.now) }
 {
     let (work, rest) = work_at(bytes)?;
+    let (hash, rest) = hash_at(version, rest)?;
     let (targets, rest) = counted_paths(alloc, rest)?;
     let (signed, rest) = counted_texts(alloc, rest)?;
-    let (deps, rest) = counted_deps(alloc, rest)?;
+    let (deps, rest) = counted_deps(alloc, hash, rest)?;
     let rec = Rec {
         work,
+        hash,
         targets,
         signed,
         deps,
@@ -96,34 +100,34 @@ fn parts_of(alloc: Global, bytes: &[u8]) -> Result<(Rec, &[u8]), Unread>
     Ok((rec, rest))
 }
 
-/// Whether it has a target, and names no target and no dependency twice.
+/// Whether it has a target, names no target and no dependency twice, and all its digests are by its function.
 pub fn is_valid(alloc: Global, rec: &Rec) -> Result<bool, Memory>
     ensures { IfOk result (λ valid. valid ≡ is_valid rec.now) }
 {
     if rec.targets.as_slice().is_empty() || !are_once(alloc, rec.targets.as_slice())? {
         return Ok(false);
     }
-    deps_are_once(alloc, rec.deps.as_slice())
+    Ok(deps_are_once(alloc, rec.deps.as_slice())? && are_by(rec.hash, rec.deps.as_slice()))
 }
 
 #[tactic(auto, unfolding(crate::specs::Reading::record_in))]
-fn record_in(alloc: Global, bytes: &[u8]) -> Result<Rec, Unread>
-    ensures { Gives (λ rec. rec) result (record_in bytes.now) }
+fn record_in(alloc: Global, version: Version, bytes: &[u8]) -> Result<Rec, Unread>
+    ensures { Gives (λ rec. rec) result (record_in version bytes.now) }
 {
-    let (rec, rest) = parts_of(alloc, bytes)?;
+    let (rec, rest) = parts_of(alloc, version, bytes)?;
     if !rest.is_empty() || !is_valid(alloc, &rec)? {
         return Err(Unread::Malformed);
     }
     Ok(rec)
 }
 
-/// The record that the bytes spell, if they spell one.
-pub fn decode(alloc: Global, bytes: &[u8]) -> Result<Option<Rec>, Memory>
-    ensures exact { IfOk result (λ found. found ≡ record_in bytes.now) }
-    ensures found { IfOk result (λ found. IfSome found (λ rec. Spells bytes.now rec)) }
-    ensures only { (rec : Rec) → Spells bytes.now rec → IfOk result (λ found. found ≡ Some rec) }
+/// The record that the bytes spell in a version, if they spell one.
+pub fn decode(alloc: Global, version: Version, bytes: &[u8]) -> Result<Option<Rec>, Memory>
+    ensures exact { IfOk result (λ found. found ≡ record_in version bytes.now) }
+    ensures found { IfOk result (λ found. IfSome found (λ rec. Spells version bytes.now rec)) }
+    ensures only { (rec : Rec) → Spells version bytes.now rec → IfOk result (λ found. found ≡ Some rec) }
 {
-    match record_in(alloc, bytes) {
+    match record_in(alloc, version, bytes) {
         Ok(rec) => Ok(Some(rec)),
         Err(Unread::Malformed) => Ok(None),
         Err(Unread::Memory) => Err(Memory),

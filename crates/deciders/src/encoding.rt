@@ -2,14 +2,15 @@
 ghost use Rattle.std.specs.Prelude.{◌≡◌, ◌<◌, ◌≤◌, ◌^◌, ◌++◌, All, length, IfOk, IfSome, OnOk};
 ghost use Rattle.std.specs.Int.{w32, to_be_bytes};
 ghost use Rattle.deciders.specs.Records.{IsValid};
-ghost use Rattle.deciders.specs.Spelling.{work_byte, sized, listed, digest_spelling, stamp_spelling, dep_spelling, spelling};
-ghost use Rattle.deciders.specs.Spelling.{IsText, IsPathText, IsDep, IsListOf, IsSpellable, Spells};
+ghost use Rattle.deciders.specs.Spelling.{work_byte, hash_byte, hash_spelling, sized, listed, digest_spelling, stamp_spelling, dep_spelling, lists_spelling, spelling};
+ghost use Rattle.deciders.specs.Spelling.{HasHash, IsText, IsPathText, IsDigest, IsDep, IsListOf, IsSpellable, Spells};
 
 use crate::content::Digest;
 use crate::recorded::{Dep, Rec};
+use crate::version::Version;
 use scons_base::{Memory, PathText, Text};
 use std::alloc::Global;
-use world_api::Work;
+use world_api::{Hash, Work};
 
 fn work_byte(work: Work) -> u8
     ensures { result ≡ work_byte work }
@@ -18,6 +19,16 @@ fn work_byte(work: Work) -> u8
         Work::Shell => 0,
         Work::Copy => 1,
         Work::Write => 2,
+    }
+}
+
+fn hash_byte(hash: Hash) -> u8
+    ensures { result ≡ hash_byte hash }
+{
+    match hash {
+        Hash::Md5 => 0,
+        Hash::Sha1 => 1,
+        Hash::Sha256 => 2,
     }
 }
 
@@ -86,14 +97,13 @@ fn push_texts(out: &mut Vec<u8>, texts: &[Text]) -> Result<(), Memory>
 
 fn push_digest(out: &mut Vec<u8>, digest: Option<Digest>) -> Result<(), Memory>
     ensures spelt { OnOk result (out.new.items ≡ out.old.items ++ digest_spelling digest) }
-    ensures is { IfSome digest (λ digest. length digest.0 ≡ 16) }
+    ensures is { IfSome digest IsDigest }
 {
     match digest {
         None => out.push(0)?,
         Some(digest) => {
-            let bytes = digest.0;
             out.push(1)?;
-            out.extend_from_slice(&bytes)?;
+            out.extend_from_slice(digest.as_bytes())?;
         }
     }
     Ok(())
@@ -136,25 +146,45 @@ fn push_deps(out: &mut Vec<u8>, deps: &[Dep]) -> Result<(), Memory>
     Ok(())
 }
 
-/// Adds the one spelling of a record. Each of its parts has one.
-pub fn push_record(out: &mut Vec<u8>, rec: &Rec) -> Result<(), Memory>
-    requires { length (spelling rec.now) < 2 ^ 32 }
-    ensures spelt { OnOk result (out.new.items ≡ out.old.items ++ spelling rec.now) }
+/// Adds the one spelling of a record in a version. Each of its parts has one.
+pub fn push_record(out: &mut Vec<u8>, version: Version, rec: &Rec) -> Result<(), Memory>
+    requires { length (spelling version rec.now) < 2 ^ 32 }
+    ensures spelt { OnOk result (out.new.items ≡ out.old.items ++ spelling version rec.now) }
     ensures parts { OnOk result (IsSpellable rec.now) }
 {
     out.push(work_byte(rec.work))?;
+    push_hash(out, version, rec.hash)?;
+    push_lists(out, rec)
+}
+
+fn push_hash(out: &mut Vec<u8>, version: Version, hash: Hash) -> Result<(), Memory>
+    ensures { OnOk result (out.new.items ≡ out.old.items ++ hash_spelling version hash) }
+{
+    match version {
+        Version::One => {}
+        Version::Two => out.push(hash_byte(hash))?,
+    }
+    Ok(())
+}
+
+fn push_lists(out: &mut Vec<u8>, rec: &Rec) -> Result<(), Memory>
+    requires { length (lists_spelling rec.now) < 2 ^ 32 }
+    ensures spelt { OnOk result (out.new.items ≡ out.old.items ++ lists_spelling rec.now) }
+    ensures parts { OnOk result (IsSpellable rec.now) }
+{
     push_paths(out, rec.targets.as_slice())?;
     push_texts(out, rec.signed.as_slice())?;
     push_deps(out, rec.deps.as_slice())
 }
 
-/// The one spelling of a record.
-pub fn encode(alloc: Global, rec: &Rec) -> Result<Vec<u8>, Memory>
+/// The one spelling of a record in a version that has its digests.
+pub fn encode(alloc: Global, version: Version, rec: &Rec) -> Result<Vec<u8>, Memory>
     requires valid { IsValid rec.now }
-    requires fits { length (spelling rec.now) ≤ 4294967294 }
-    ensures { IfOk result (λ bytes. Spells bytes.items rec.now) }
+    requires hash { HasHash version rec.now.hash }
+    requires fits { length (spelling version rec.now) ≤ 4294967294 }
+    ensures { IfOk result (λ bytes. Spells version bytes.items rec.now) }
 {
     let mut out = Vec::new(alloc);
-    push_record(&mut out, rec)?;
+    push_record(&mut out, version, rec)?;
     Ok(out)
 }

@@ -2,14 +2,15 @@
 ghost use Rattle.std.specs.Prelude.{◌≡◌, true, false, MatchOption};
 ghost use Rattle.std.specs.Str.{is_utf8};
 ghost use Rattle.std.specs.Int.{w32, w64};
-ghost use Rattle.deciders.specs.Reading.{Gives, number_at, bytes_at, text_of, path_of, digest_bytes, text_at, path_at, work_at, digest_at, stamp_at, dep_at};
+ghost use Rattle.deciders.specs.Reading.{Gives, number_at, bytes_at, text_of, path_of, digest_bytes, text_at, path_at, work_at, hash_byte_at, hash_at, digest_at, stamp_at, dep_at};
 
-use crate::content::Digest;
+use crate::content::{Digest, as_digest, digest_len};
 use crate::recorded::Dep;
 use crate::unread::Unread;
+use crate::version::Version;
 use scons_base::{PathFault, PathText, Text};
 use std::alloc::Global;
-use world_api::Work;
+use world_api::{Hash, Work};
 
 pub(crate) fn u32_at(bytes: &[u8]) -> Result<(u32, &[u8]), Unread>
     ensures { Gives (λ x. (x.0, x.1.now)) result (number_at w32 bytes.now) }
@@ -97,30 +98,51 @@ pub(crate) fn work_at(bytes: &[u8]) -> Result<(Work, &[u8]), Unread>
     }
 }
 
+/// What the digests of a record are made by. Version 1 doesn't say it.
+pub(crate) fn hash_at(version: Version, bytes: &[u8]) -> Result<(Hash, &[u8]), Unread>
+    ensures { Gives (λ x. (x.0, x.1.now)) result (hash_at version bytes.now) }
+{
+    match version {
+        Version::One => Ok((Hash::Md5, bytes)),
+        Version::Two => hash_byte_at(bytes),
+    }
+}
+
+#[tactic(auto, unfolding(crate::specs::Reading::hash_byte_at))]
+fn hash_byte_at(bytes: &[u8]) -> Result<(Hash, &[u8]), Unread>
+    ensures { Gives (λ x. (x.0, x.1.now)) result (hash_byte_at bytes.now) }
+{
+    match bytes {
+        [0, rest @ ..] => Ok((Hash::Md5, rest)),
+        [1, rest @ ..] => Ok((Hash::Sha1, rest)),
+        [2, rest @ ..] => Ok((Hash::Sha256, rest)),
+        _ => Err(Unread::Malformed),
+    }
+}
+
 #[tactic(auto, unfolding(crate::specs::Reading::digest_at))]
-fn digest_at(bytes: &[u8]) -> Result<(Option<Digest>, &[u8]), Unread>
-    ensures { Gives (λ x. (x.0, x.1.now)) result (digest_at bytes.now) }
+fn digest_at(hash: Hash, bytes: &[u8]) -> Result<(Option<Digest>, &[u8]), Unread>
+    ensures { Gives (λ x. (x.0, x.1.now)) result (digest_at hash bytes.now) }
 {
     match bytes {
         [0, rest @ ..] => Ok((None, rest)),
         [1, rest @ ..] => {
-            let (digest, rest) = digest_bytes(rest)?;
+            let (digest, rest) = digest_bytes(hash, rest)?;
             Ok((Some(digest), rest))
         }
         _ => Err(Unread::Malformed),
     }
 }
 
-fn digest_bytes(bytes: &[u8]) -> Result<(Digest, &[u8]), Unread>
-    ensures { Gives (λ x. (x.0, x.1.now)) result (digest_bytes bytes.now) }
+fn digest_bytes(hash: Hash, bytes: &[u8]) -> Result<(Digest, &[u8]), Unread>
+    ensures { Gives (λ x. (x.0, x.1.now)) result (digest_bytes hash bytes.now) }
 {
-    if bytes.len() < 16 {
+    let len = digest_len(hash);
+    if bytes.len() < len {
         return Err(Unread::Malformed);
     }
-    let (front, rest) = bytes.split_at(16);
-    let mut digest = [0; 16];
-    digest.copy_from_slice(front);
-    Ok((Digest(digest), rest))
+    let (front, rest) = bytes.split_at(len);
+    Ok((as_digest(hash, front), rest))
 }
 
 #[tactic(auto, unfolding(crate::specs::Reading::stamp_at))]
@@ -138,11 +160,11 @@ fn stamp_at(bytes: &[u8]) -> Result<(Option<u64>, &[u8]), Unread>
 }
 
 #[tactic(auto, unfolding(crate::specs::Reading::dep_at))]
-pub(crate) fn dep_at(alloc: Global, bytes: &[u8]) -> Result<(Dep, &[u8]), Unread>
-    ensures { Gives (λ x. (x.0, x.1.now)) result (dep_at bytes.now) }
+pub(crate) fn dep_at(alloc: Global, hash: Hash, bytes: &[u8]) -> Result<(Dep, &[u8]), Unread>
+    ensures { Gives (λ x. (x.0, x.1.now)) result (dep_at hash bytes.now) }
 {
     let (name, rest) = path_at(alloc, bytes)?;
-    let (digest, rest) = digest_at(rest)?;
+    let (digest, rest) = digest_at(hash, rest)?;
     let (stamp, rest) = stamp_at(rest)?;
     let dep = Dep {
         name,

@@ -1,22 +1,38 @@
 //! How long a spelling is.
 ghost use Rattle.std.specs.Prelude.{◌≡◌, ◌≤◌, ◌+◌, ◌-◌, ◌^◌, min, length};
-ghost use Rattle.deciders.specs.Spelling.{sized, listed, digest_spelling, stamp_spelling, dep_spelling, spelling};
+ghost use Rattle.deciders.specs.Spelling.{sized, listed, digest_spelling, stamp_spelling, dep_spelling, lists_spelling, hash_spelling, spelling};
 
 use crate::content::Digest;
 use crate::recorded::{Dep, Rec};
+use crate::version::Version;
 use scons_base::{PathText, Text};
+use world_api::Hash;
 
 /// The length of a record's spelling, or the greatest number of 64 bits where it is more.
-pub fn spelled_len(rec: &Rec) -> u64
-    ensures { result ≡ min (length (spelling rec.now)) (2 ^ 64 - 1) }
+pub fn spelled_len(version: Version, rec: &Rec) -> u64
+    ensures { result ≡ min (length (spelling version rec.now)) (2 ^ 64 - 1) }
+{
+    lists_len(rec).saturating_add(front_len(version, rec.hash))
+}
+
+/// What stands in front of the lists: the byte of the work, and that of the digests' function where there is one.
+fn front_len(version: Version, _hash: Hash) -> u64
+    ensures value { result ≡ length (hash_spelling version _hash) + 1 }
+    ensures small { result ≤ 2 }
+{
+    match version {
+        Version::One => 1,
+        Version::Two => 2,
+    }
+}
+
+fn lists_len(rec: &Rec) -> u64
+    ensures { result ≡ min (length (lists_spelling rec.now)) (2 ^ 64 - 1) }
 {
     let targets = paths_len(rec.targets.as_slice());
     let signed = texts_len(rec.signed.as_slice());
     let deps = deps_len(rec.deps.as_slice());
-    targets
-        .saturating_add(signed)
-        .saturating_add(deps)
-        .saturating_add(1)
+    targets.saturating_add(signed).saturating_add(deps)
 }
 
 /// The same of a list of paths.
@@ -65,14 +81,11 @@ fn dep_rest_len(dep: &Dep) -> u64
 
 fn digest_len(digest: Option<Digest>) -> u64
     ensures value { result ≡ length (digest_spelling digest) }
-    ensures small { result ≤ 17 }
+    ensures small { result ≤ 33 }
 {
     match digest {
         None => 1,
-        Some(digest) => {
-            let bytes = digest.0;
-            bytes.len() as u64 + 1
-        }
+        Some(digest) => digest.as_bytes().len() as u64 + 1,
     }
 }
 

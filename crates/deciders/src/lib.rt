@@ -1,7 +1,7 @@
 //! What is recorded of a rule, the one spelling of each record, and when a rule has changed.
 //!
-//! A record holds the rule's action and, for each dependency in order, its name with the digest and the time of change
-//! of what it held. Contracts see a `Rec` as these lists.
+//! A record holds the rule's action, the function of its digests and, for each dependency in order, its name with the
+//! digest and the time of change of what it held. Contracts see a `Rec` as these lists.
 #![tactic(auto)]
 
 mod changes;
@@ -13,6 +13,7 @@ mod lengths;
 mod names;
 mod recorded;
 mod unread;
+mod version;
 
 pub use changes::{changed, same};
 pub use content::{Digest, digest_of};
@@ -20,3 +21,4 @@ pub use decoding::{decode, decode_paths, is_valid};
 pub use encoding::{encode, push_paths, push_record};
 pub use lengths::{paths_len, spelled_len};
 pub use recorded::{Dep, Rec, rec_of};
+pub use version::Version;

@@ -1,31 +1,33 @@
-//! Whether paths are named once.
+//! Whether paths are named once, and whether digests are by one function.
 ghost use Rattle.std.specs.Prelude.{◌≡◌, ◌++◌, ◌∷◌, [], List, ℕ, not, map, IfOk, if◌then◌else◌};
-ghost use Rattle.std.specs.List.{list_any};
+ghost use Rattle.std.specs.List.{list_any, list_all};
 ghost use Rattle.std.specs.Str.{bytes_eq};
-ghost use Rattle.deciders.specs.Records.{named_once, name_of};
+ghost use Rattle.deciders.specs.Records.{is_by, named_once, name_of};
 
+use crate::content::is_same;
 use crate::recorded::Dep;
 use indexmap::IndexSet;
 use scons_base::{Memory, PathText};
 use std::alloc::Global;
 use std::marker::Model;
+use world_api::Hash;
 
-/// The names that were met, in order.
+/// The names that were met, in order, as they stand elsewhere.
 #[derive(Drop)]
-struct Names {
-    paths: IndexSet<PathText>,
+struct Names<'a> {
+    paths: IndexSet<&'a str>,
 }
 
-impl Model for Names {
-    ghost use Rattle.std.specs.Prelude.{List, ℕ};
+impl<'a> Model for Names<'a> {
+    ghost use Rattle.std.specs.Prelude.{List, ℕ, map};
 
     ghost Value = { List (List ℕ) };
 
-    ghost view = { λ n. n.paths.keys };
+    ghost view = { λ n. map (λ path. path.now) n.paths.keys };
 }
 
-impl Names {
-    fn new(alloc: Global) -> Names
+impl<'a> Names<'a> {
+    fn new(alloc: Global) -> Names<'a>
         ensures { result ≡ [] }
     {
         Names {
@@ -34,11 +36,11 @@ impl Names {
     }
 
     /// Adds a name, and says whether it wasn't there.
-    fn add(&mut self, path: &PathText) -> Result<bool, Memory>
+    fn add(&mut self, path: &'a PathText) -> Result<bool, Memory>
         ensures new { IfOk result (λ new. new ≡ not (list_any (bytes_eq path.now) self.old)) }
         ensures names { IfOk result (λ new. self.new ≡ (if new then self.old ++ path.now ∷ [] else self.old)) }
     {
-        let (_, new) = self.paths.insert_full(path.copy()?)?;
+        let (_, new) = self.paths.insert_full(path.as_str())?;
         Ok(new)
     }
 }
@@ -67,4 +69,20 @@ pub(crate) fn deps_are_once(alloc: Global, deps: &[Dep]) -> Result<bool, Memory>
         }
     }
     Ok(true)
+}
+
+/// Whether all digests are by this function.
+pub(crate) fn are_by(hash: Hash, deps: &[Dep]) -> bool
+    ensures { result ≡ list_all (is_by hash) deps.now }
+{
+    deps.iter().all(|dep| is_by(hash, dep))
+}
+
+fn is_by(hash: Hash, dep: &Dep) -> bool
+    ensures { result ≡ is_by hash dep.now }
+{
+    match &dep.digest {
+        Some(digest) => is_same(digest.hash(), hash),
+        None => true,
+    }
 }

@@ -3,7 +3,7 @@ ghost use Rattle.std.specs.Prelude.{◌≡◌, ◌++◌, Ok, IfOk, OnOk};
 
 use crate::content::Digest;
 use scons_base::{Listing, Memory, PathText, Paths, Texts};
-use world_api::Work;
+use world_api::{Hash, Work};
 
 /// A dependency as it was recorded: its name, the digest of what it held, none where no file stood there, and its time
 /// of change where the rule goes by times.
@@ -18,17 +18,26 @@ pub struct Dep {
 #[derive(Debug, Drop)]
 pub struct Rec {
     pub work: Work,
+    /// What its digests are made by.
+    pub hash: Hash,
     pub targets: Paths,
     pub signed: Texts,
     pub deps: Listing<Dep>,
 }
 
 /// The record of an action and its dependencies.
-pub fn rec_of(work: Work, targets: Paths, signed: Texts, deps: Listing<Dep>) -> Result<Rec, Memory>
-    ensures { result ≡ Ok (record { work = work; targets = targets; signed = signed; deps = deps }) }
+pub fn rec_of(
+    work: Work,
+    hash: Hash,
+    targets: Paths,
+    signed: Texts,
+    deps: Listing<Dep>,
+) -> Result<Rec, Memory>
+    ensures { result ≡ Ok (record { work = work; hash = hash; targets = targets; signed = signed; deps = deps }) }
 {
     Ok(Rec {
         work,
+        hash,
         targets,
         signed,
         deps,
@@ -57,6 +66,7 @@ impl Rec {
         push_copies(&mut deps, self.deps.as_slice())?;
         Ok(Rec {
             work: self.work,
+            hash: self.hash,
             targets: Paths::new(targets),
             signed,
             deps: Listing::new(deps),

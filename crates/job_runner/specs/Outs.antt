@@ -50,6 +50,10 @@ pub record PicksOut (place : ℕ) (ending : Ending) (old new : Lists) (out out' 
   pub own : slice_get out place ≡ Some (number, arc_value ending.slip)
   pub rest : out' ≡ remove out place
 
+-- a place and an ending, picked so
+abbrev pub PicksFrom : Lists → Lists → List (ℕ × Slip) → List (ℕ × Slip) → ℕ × Ending → Type 0
+PicksFrom old new out out' picked = PicksOut picked.0 picked.1 old new out out'
+
 -- what is found is an ending that a run has given, whose slip was out at this place and is out no more; or a slip to run, which is its
 -- turn's, and all are out as they were
 abbrev pub IsFound : (Slip → Option Answer) → (Ending → Bool) → Found → List (ℕ × Slip) → List (ℕ × Slip) → Type 0

@@ -167,7 +167,7 @@ impl<R: Runner, G> Desk<R, G> {
     ghost use Rattle.std.specs.Arc.{arc_value};
     ghost use Rattle.job_runner.specs.Answers.{Gives};
     ghost use Rattle.job_runner.specs.Lists.{HandsIn, Takes, Puts};
-    ghost use Rattle.job_runner.specs.Outs.{HandsOut, IsFirstOut, IsFirstNotOut, PicksOut, out_of};
+    ghost use Rattle.job_runner.specs.Outs.{HandsOut, IsFirstOut, IsFirstNotOut, PicksFrom, out_of};
 
     fn new(alloc: Global) -> Desk<R, G> {
         Desk {
@@ -253,7 +253,7 @@ impl<R: Runner, G> Desk<R, G> {
     /// Takes the oldest ending that waits, and its slip off the list of what is out, where it stands there.
     pub fn pick_end(&mut self, out: &mut OutList) -> Option<(usize, Ending)>
         ensures none { IfNone result (IsFirstNotOut (lists_of self.old.board).ended (out_of out.old)) }
-        ensures some { IfSome result (λ picked. PicksOut picked.0 picked.1 (lists_of self.old.board) (lists_of self.new.board) (out_of out.old) (out_of out.new)) }
+        ensures some { IfSome result (PicksFrom (lists_of self.old.board) (lists_of self.new.board) (out_of out.old) (out_of out.new)) }
         ensures board { IfNone result (lists_of self.new.board ≡ lists_of self.old.board) }
         ensures out { IfNone result (out_of out.new ≡ out_of out.old) }
         ensures own { IfSome result (λ picked. Gives R.answer R.gave picked.1) }

@@ -43,10 +43,11 @@ same_record : (old now : PlainRecord) → IsSameAction (as_record old) (as_recor
     stamps_in now.dependencies.items ≡ stamps_in old.dependencies.items → as_record old ≡ as_record now
 same_record old now action digests stamps =
     let work = action.work in
+    let hash = action.hash in
     let signed = action.signed in
     let targets = action.targets in
     let all = same_dependencies (as_record now).dependencies (as_record old).dependencies action.names digests stamps in
-    sym (λ i. record { work = work i; signed = signed i; targets = targets i; dependencies = all i })
+    sym (λ i. record { work = work i; hash = hash i; signed = signed i; targets = targets i; dependencies = all i })
 
 has_same_digests : (old now : PlainRecord) → as_record old ≡ as_record now →
     digests_of now.dependencies.items ≡ digests_of old.dependencies.items

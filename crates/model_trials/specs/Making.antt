@@ -35,7 +35,8 @@ setting_of g = record {
   rule_of = declared_rule (map as_rule g.rules.items);
   includes = λ r. listed g.lines.items;
   act = λ work signed targets given p. Some (written given p);
-  digest = λ bytes. bytes;
+  digest = λ hash bytes. bytes;
+  hash = 0;
   is_due = λ r t stamps m now. false;
   limit = g.limit;
 }

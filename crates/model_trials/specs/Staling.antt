@@ -17,6 +17,7 @@ as_dependency d = record { name = d.name; digest = d.digest; stamp = d.stamp }
 abbrev pub as_record : PlainRecord → Record
 as_record r = record {
   work = r.work;
+  hash = r.hash;
   signed = r.signed.items;
   targets = r.targets.items;
   dependencies = map as_dependency r.dependencies.items;

@@ -20,6 +20,8 @@ pub struct PlainDependency {
 #[derive(Drop)]
 pub struct PlainRecord {
     pub work: usize,
+    /// By which function its digests were made.
+    pub hash: usize,
     pub signed: Vec<Text>,
     pub targets: Vec<Spot>,
     pub dependencies: Vec<PlainDependency>,
@@ -96,6 +98,7 @@ fn is_same_action(old: &PlainRecord, now: &PlainRecord) -> bool
     ensures { IsTrue result ↔ IsSameAction (as_record old.now) (as_record now.now) }
 {
     now.work == old.work
+        && now.hash == old.hash
         && same_texts(now.signed.as_slice(), old.signed.as_slice())
         && same_paths(now.targets.as_slice(), old.targets.as_slice())
         && same_names(now.dependencies.as_slice(), old.dependencies.as_slice())

@@ -9,7 +9,8 @@ use Rattle.std.proofs.lemmas.List.Sums.{position_or_len_is, prefix_len-le-length
 use Rattle.std.proofs.lemmas.Map.Keys.{apart_from_distinct}
 use Rattle.std.proofs.lemmas.Slice.Eq.{bytes_eq-Decides}
 use Rattle.indexmap.specs.IndexSet.{insert_key}
-use Rattle.node_tree.specs.Nodes.{number_of, Interns}
+use Rattle.std.proofs.lemmas.Option.{slice_get_within, slice_get-get_or}
+use Rattle.node_tree.specs.Nodes.{number_of, AreApart, Interns}
 
 ltb-suc : (a b : ℕ) → nat_lt (1 + a) (suc b) ≡ nat_lt a b
 ltb-suc a b = grind (arith, nat_tests)
@@ -54,3 +55,9 @@ own_number paths i path distinct within at =
     (λ k l. differ path (get_or paths k path) (rw (sym at) at (apart_from_distinct bytes_eq paths k i path distinct l within)))
     (λ l. (bytes_eq-Decides path (get_or paths i path)).1 at) in
     rw (first, lt-ltb i (length paths) within) refl
+
+pub own_place : (paths : List (List ℕ)) → IsDistinct bytes_eq paths → AreApart paths
+own_place paths distinct number path at =
+    let within = slice_get_within paths number path at in
+    let same : Some path ≡ Some (get_or paths number path) = sym at ∙ slice_get-get_or paths number path within in
+    own_number paths number path distinct within cc

@@ -1,5 +1,5 @@
 -- Nodes: the list of the paths that have a number, in the order of their numbers.
-use Rattle.std.specs.Prelude.{◌≡◌, ℕ, List, [], ◌∷◌, ◌++◌, Option, position, length, MatchOption}
+use Rattle.std.specs.Prelude.{◌≡◌, ℕ, List, [], ◌∷◌, ◌++◌, Option, Some, position, length, slice_get, MatchOption}
 use Rattle.std.specs.Str.{bytes_eq}
 
 -- the number of a path, if it has one
@@ -10,3 +10,7 @@ number_of paths path = position (bytes_eq path) paths
 abbrev pub Interns : List (List ℕ) → List ℕ → ℕ → List (List ℕ) → Type 0
 Interns old path id new =
     MatchOption (number_of old path) ((id ≡ length old) × (new ≡ old ++ path ∷ [])) (λ number. (id ≡ number) × (new ≡ old))
+
+-- no path has two numbers
+abbrev pub AreApart : List (List ℕ) → Type 0
+AreApart paths = (number : ℕ) (path : List ℕ) → slice_get paths number ≡ Some path → number_of paths path ≡ Some number

@@ -1,7 +1,7 @@
 //! A number for each path.
 ghost use Rattle.std.specs.Prelude.{◌≡◌, ◌≢◌, ◌==◌, ◌<◌, ◌≤◌, ◌+◌, [], List, ℕ, Some, None, IfOk, IfErr, OnErr, OnOk, length, slice_get};
 ghost use Rattle.std.specs.Option.{option_map};
-ghost use Rattle.node_tree.specs.Nodes.{number_of, Interns};
+ghost use Rattle.node_tree.specs.Nodes.{number_of, AreApart, Interns};
 
 use indexmap::IndexSet;
 use scons_base::limits::NODE_LIMIT;
@@ -96,6 +96,13 @@ impl Nodes {
         ensures back { number_of self.now result.now ≡ Some id.0 }
     {
         &self.paths.as_slice()[id.0 as usize]
+    }
+
+    /// What holds of all nodes.
+    pub fn laws(&self)
+        ensures { AreApart self.now }
+    {
+        let _paths = self.paths.as_slice();
     }
 
     /// How many paths have a number.

@@ -1,8 +1,9 @@
 //! A row of words: whether a rule has changed, is due and is stale by each decider, as the slow functions say.
 //!
 //! `due FILES RECORDED STAMP OLD NOW`: which targets are files, which have the old record, when the files were changed, and the
-//! records; with `always` for `due` the rule is always carried out. A record is `SIGNED:TARGETS:DEPENDENCIES`, a dependency
-//! `NAME.DIGEST.STAMP,`, and `-` is none. By content no stamps are kept.
+//! records; with `always` for `due` the rule is always carried out. A record is `SIGNED:TARGETS:DEPENDENCIES`, with `:1` or
+//! `:2` behind it where its digests are by another function, a dependency `NAME.DIGEST.STAMP,`, and `-` is none. By content
+//! no stamps are kept.
 use crate::plain::empty_rule;
 use model_trials::changes::{PlainDependency, PlainRecord, has_changed};
 use model_trials::reach::{PlainDecider, PlainRule};
@@ -159,9 +160,11 @@ fn kept_at(
 
 fn record(alloc: Global, told: &mut Told, text: &str, has_stamps: bool) -> PlainRecord {
     let (signed, parts) = cut(told, text, ':');
-    let (targets, dependencies) = cut(told, parts, ':');
+    let (targets, parts) = cut(told, parts, ':');
+    let (dependencies, hash) = parts.split_once(':').unwrap_or((parts, "0"));
     PlainRecord {
         work: 0,
+        hash: told.number(hash) as usize,
         signed: signed_of(alloc, told, signed),
         targets: spots_of(alloc, told, targets),
         dependencies: dependencies_of(alloc, told, dependencies, has_stamps),

@@ -14,6 +14,7 @@ mod shell;
 mod sink;
 mod syncing;
 mod world;
+mod writing;
 
 pub use lock::LockWish;
 pub use shell::{LockHolder, Shell};

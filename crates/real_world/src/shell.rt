@@ -2,14 +2,13 @@
 ghost use Rattle.std.specs.Prelude.{None, true};
 
 use crate::errors::{TRIES, is_full, pause};
-use crate::opening::open_with;
 use crate::syncing::{broken, sync_targets};
+use crate::writing::write;
 use job_runner::{Ending, Runner, Slip};
-use scons_base::{PathText, Text};
+use scons_base::PathText;
 use std::alloc::{AllocError, Global};
-use std::fs::{File, OpenOptions};
+use std::fs::File;
 use std::io;
-use std::io::Write;
 use std::process::{Child, Command, ExitStatus, Processes};
 use std::rt::Files;
 use std::sync::atomic::{AtomicUsize, Ordering};
@@ -74,7 +73,7 @@ impl<R: Files<File = File> + AllocGlobal + Processes + Clock + Eprint + Drop> Ru
         let outcome = match job.work {
             Work::Shell => self.run_lines(job.lines.as_slice()),
             Work::Copy => self.copy(job.deps.as_slice(), job.targets.as_slice()),
-            Work::Write => write(&self.rt, job.signed.as_slice(), job.targets.as_slice()),
+            Work::Write => write(&self.rt, job),
         };
         let outcome = match outcome {
             Outcome::Done => sync_targets(&self.rt, job.targets.as_slice()),
@@ -167,25 +166,4 @@ fn command_of(alloc: Global, program: &str, words: &[&str]) -> Result<Command, A
         command.arg(*word)?;
     }
     Ok(command)
-}
-
-fn write<R: Files<File = File> + Clock + Eprint>(
-    rt: &R,
-    signed: &[Text],
-    targets: &[PathText],
-) -> Outcome {
-    match (signed.first(), targets.first()) {
-        (Some(text), Some(target)) => match write_text(rt, target.as_str(), text.as_str()) {
-            Ok(()) => Outcome::Done,
-            Err(error) => broken(rt, target.as_str(), error),
-        },
-        _ => Outcome::Broken,
-    }
-}
-
-fn write_text<R: Files<File = File> + Clock>(rt: &R, path: &str, text: &str) -> io::Result<()> {
-    let mut how = OpenOptions::new();
-    how.write(true).create(true).truncate(true);
-    let mut file = open_with(rt, &how, path)?;
-    file.write_all(text.as_bytes())
 }

@@ -74,6 +74,10 @@ pub record IsRule (nodes : ℕ) (rule : Rule) : Type 0 where
   pub required : are_below nodes rule.required ≡ true
   pub ignored : are_below nodes rule.ignored ≡ true
 
+-- no node is a target of two rules
+abbrev pub AreSingle : List Rule → Type 0
+AreSingle rules = (i n : ℕ) (r : Rule) → slice_get rules i ≡ Some r → is_target_of r.targets n ≡ true → rule_of rules n ≡ Some i
+
 -- a table of rules by nodes: what it has for a node
 abbrev pub rule_at : List (Option RuleId) → ℕ → Option ℕ
 rule_at table n = option_map (λ id. id.0) (option_and_then (λ r. r) (slice_get table n))
@@ -81,5 +85,5 @@ rule_at table n = option_map (λ id. id.0) (option_and_then (λ r. r) (slice_get
 -- the table has each node's rule, and no node is a target of two rules
 pub record IsTable (table : List (Option RuleId)) (rules : List Rule) : Type 0 where
   pub agrees : (n : ℕ) → rule_at table n ≡ rule_of rules n
-  pub single : (i n : ℕ) (r : Rule) → slice_get rules i ≡ Some r → is_target_of r.targets n ≡ true → rule_of rules n ≡ Some i
+  pub single : AreSingle rules
   pub limit : length rules ≤ RULE_LIMIT

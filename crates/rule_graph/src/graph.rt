@@ -2,11 +2,11 @@
 ghost use Rattle.std.specs.Prelude.{◌≡◌, ◌≢◌, ◌==◌, ◌<◌, ◌≤◌, ◌+◌, ◌++◌, ◌∷◌, [], ℕ, Some, None, length, slice_get, IfOk, IfErr, OnOk, OnErr, IfSome, option_copied, true};
 ghost use Rattle.std.specs.Option.{option_map};
 ghost use Rattle.scons_base.specs.declared.limits.TheConstants.{NODE_LIMIT};
-ghost use Rattle.node_tree.specs.Nodes.{number_of, Interns};
+ghost use Rattle.node_tree.specs.Nodes.{number_of, AreApart, Interns};
 ghost use Rattle.variant_dirs.specs.Variants.{add_fault, added};
-ghost use Rattle.rule_graph.specs.Rules.{rule_of, are_below, IsRule};
+ghost use Rattle.rule_graph.specs.Rules.{rule_of, are_below, AreSingle, IsRule};
 ghost use Rattle.rule_graph.specs.Aliases.{members_of, with_members};
-ghost use Rattle.rule_graph.specs.Graphs.{empty_graph, rule_fault, AddsRule};
+ghost use Rattle.rule_graph.specs.Graphs.{empty_graph, rule_fault, AddsRule, IsGraph};
 
 use crate::aliases::Aliases;
 use crate::fault::RuleFault;
@@ -101,6 +101,16 @@ impl Graph {
         ensures back { number_of self.now.nodes result.now ≡ Some id.0 }
     {
         self.nodes.path(id)
+    }
+
+    /// What holds of all nodes and rules.
+    pub fn laws(&self)
+        ensures apart { AreApart self.now.nodes }
+        ensures single { AreSingle self.now.rules }
+        ensures named { IsGraph (length self.now.nodes) self.now.rules self.now.aliases }
+    {
+        self.nodes.laws();
+        self.rules.laws();
     }
 
     /// How many paths have a number.

@@ -1,7 +1,7 @@
 //! The rules in their order, and for each node its rule.
 ghost use Rattle.std.specs.Prelude.{◌≡◌, ◌<◌, ◌≤◌, ◌++◌, ◌∷◌, [], ℕ, Some, None, length, slice_get, IfOk, OnOk, OnErr, IfSome, if◌then◌else◌, true, is_some, nat_lt};
 ghost use Rattle.std.specs.Option.{option_map};
-ghost use Rattle.rule_graph.specs.Rules.{rule_of, rule_at, equal_rule, is_same, taken, is_target_of, are_below};
+ghost use Rattle.rule_graph.specs.Rules.{rule_of, rule_at, equal_rule, is_same, taken, is_target_of, are_below, AreSingle};
 ghost use Rattle.rule_graph.specs.declared.rule.Rule.{Rule};
 
 use crate::rule::Rule;
@@ -44,6 +44,13 @@ impl RuleTable {
         ensures limit { length self.now ≤ RULE_LIMIT }
     {
         self.rules.len() as u32
+    }
+
+    /// What holds of all rules.
+    pub(crate) fn laws(&self)
+        ensures { AreSingle self.now }
+    {
+        let _rules = self.rules.as_slice();
     }
 
     pub(crate) fn has_room(&self) -> bool

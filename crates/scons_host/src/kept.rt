@@ -1,5 +1,5 @@
 //! What the host keeps of its refusals.
-ghost use Rattle.std.specs.Prelude.{◌≡◌, ◌≤◌, IfSome};
+ghost use Rattle.std.specs.Prelude.{◌≡◌, ◌≤◌, IfNone, IfSome};
 ghost use Rattle.scons_base.specs.Rising.{Rose};
 ghost use Rattle.scons_host.specs.Causes.{IsEndOf, KeepsEnd};
 
@@ -29,6 +29,7 @@ impl Kept {
         stop: Stop,
     ) -> HostRefusal
         ensures end { result ≡ HostRefusal.Host → KeepsEnd stop self.new.end }
+        ensures memory { result ≡ HostRefusal.Memory → stop ≡ Stop.Memory }
         ensures later { self.old.refusals ≤ self.new.refusals }
         ensures counted { result ≡ HostRefusal.Host → Rose self.old.refusals self.new.refusals }
     {
@@ -49,7 +50,8 @@ fn end_of(
     line: u32,
     stop: Stop,
 ) -> Option<HostEnd>
-    ensures { IfSome result (IsEndOf stop) }
+    ensures end { IfSome result (IsEndOf stop) }
+    ensures memory { IfNone result (stop ≡ Stop.Memory) }
 {
     match stop {
         Stop::Memory => None,

@@ -13,7 +13,7 @@ use scons_base::{Listing, Memory, NodeId, PathText, Paths, RuleId};
 use sign_store::View;
 use std::alloc::Global;
 use task_plan::{Plan, PlanEvent, Want};
-use world_api::World;
+use world_api::{Hash, World};
 
 /// The rules that were listed so far.
 #[derive(Drop)]
@@ -31,13 +31,14 @@ pub fn dry_list<W: World>(
     graph: &mut Graph,
     requested: &[NodeId],
     view: &View,
+    hash: Hash,
     world: &mut W,
 ) -> Result<Listing<RuleId>, ListEnd>
     ensures looks { Looks W.meaning world.old world.new }
     ensures cause { HasListCause (W.meaning.counts world.old) (W.meaning.counts world.new) result }
 {
     let gone = paths_gone(alloc, graph, view, world)?;
-    let mut inputs = Inputs::past(alloc, gone);
+    let mut inputs = Inputs::past(alloc, hash, graph, gone);
     inputs.add_copies(world, graph, requested)?;
     let plan = Plan::new(alloc, graph, requested)?;
     let (plan, rules) = go_over(alloc, graph, inputs, plan, view, world)?;

@@ -45,6 +45,7 @@ pub(crate) fn build_requests<W: World, O: Sink, E: Sink>(
     let options = Options {
         jobs: words.jobs,
         keep: words.keep,
+        hash: words.hash,
         silent: words.silent,
     };
     let end = build(

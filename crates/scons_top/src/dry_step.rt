@@ -20,7 +20,7 @@ use scons_report::{ListEnd, building_text, dry_list, fault_text, rule_text};
 use scons_words::Words;
 use sign_store::{Store, StoreRefusal, View};
 use std::alloc::Global;
-use world_api::{Fault, Sink, World, print};
+use world_api::{Fault, Hash, Sink, World, print};
 
 /// Reads the store, and lists what would be started.
 pub(crate) fn list_requests<W: World, O: Sink, E: Sink>(
@@ -40,7 +40,7 @@ pub(crate) fn list_requests<W: World, O: Sink, E: Sink>(
     let nodes = nodes_of(alloc, requests)?;
     let view = view_of(alloc, world)?;
     say(out, words, building_text(alloc))?;
-    match list_of(alloc, graph, nodes.as_slice(), &view, world) {
+    match list_of(alloc, graph, nodes.as_slice(), &view, words.hash, world) {
         Ok(rules) => tell_rules(alloc, graph, words, requests, rules.as_slice(), out),
         Err(ListEnd::Memory) => Err(Stop::Memory),
         Err(ListEnd::Fault(fault)) => end_with(alloc, words, fault, out, err),
@@ -63,12 +63,13 @@ fn list_of<W: World>(
     graph: &mut Graph,
     nodes: &[NodeId],
     view: &View,
+    hash: Hash,
     world: &mut W,
 ) -> Result<Listing<RuleId>, ListEnd>
     ensures watches { Watches W.meaning world.old world.new }
     ensures cause { HasListCause (W.meaning.counts world.old) (W.meaning.counts world.new) result }
 {
-    dry_list(alloc, graph, nodes, view, world)
+    dry_list(alloc, graph, nodes, view, hash, world)
 }
 
 /// Writes the lines of these rules, and those of the end.

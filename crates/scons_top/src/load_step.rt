@@ -13,7 +13,7 @@ use scons_base::{Blob, Listing, Memory, PathText, Paths, Texts};
 use scons_report::load_text;
 use scons_words::Words;
 use std::alloc::Global;
-use world_api::Sink;
+use world_api::{Hash, Sink};
 use world_mem::{ActTable, MemSink, MemWorld};
 
 /// Builds twice, and says how many rules were started.
@@ -86,6 +86,7 @@ fn build_words(alloc: Global, jobs: u32) -> Result<Words, Memory> {
         requested: Texts::new(Vec::new(alloc)),
         jobs,
         keep: false,
+        hash: Hash::Md5,
         dry: false,
         clean: false,
         quiet: true,

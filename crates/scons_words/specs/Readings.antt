@@ -1,9 +1,12 @@
 -- What the words of a command line say: they are read from left to right, and the first that is refused ends the reading.
 use Rattle.std.specs.Prelude.{◌≡◌, ℕ, ◌+◌, ◌-◌, Bool, true, false, ◌&&◌, ◌||◌, ◌==◌, List, [], ◌∷◌, ◌++◌, Option, Some, None, Result, Ok, Err, is_some, length, drop, codes, nat_lt, if◌then◌else◌}
+use Rattle.std.specs.Str.{bytes_eq}
 use Rattle.std.specs.List.{before_first, after_first, position_or_len, starts_with}
 use Rattle.scons_base.specs.PathFaults.{fault_in}
 use Rattle.scons_base.specs.declared.fault.PathFault.{PathFault}
 use Rattle.scons_base.specs.declared.limits.TheConstants.{JOB_LIMIT}
+use Rattle.world_api.specs.declared.hash.Hash.{Hash}
+use Rattle.world_api.specs.declared.hash.Hash.TheVariants.{Md5, Sha1, Sha256}
 use Rattle.scons_words.specs.declared.fault.UsageKind.{UsageKind}
 use Rattle.scons_words.specs.declared.fault.UsageKind.TheVariants as kind
 use Rattle.scons_words.specs.declared.fault.WordsFault.{WordsFault}
@@ -27,6 +30,7 @@ start_reading = record {
   flags = no_flags;
   jobs = 1;
   load = None;
+  hash = Md5;
   options = true;
   waiting = None;
   other = None;
@@ -49,11 +53,23 @@ abbrev load_by : Reading → Option ℕ → Outcome
 load_by r (Some n) = Ok (record r { load = Some n })
 load_by r None = Err kind.BadNumber
 
+-- the function of this name
+abbrev pub hash_in : List ℕ → Option Hash
+hash_in text =
+    if bytes_eq text (codes "md5") then Some Md5
+    else (if bytes_eq text (codes "sha1") then Some Sha1
+    else (if bytes_eq text (codes "sha256") then Some Sha256 else None))
+
+abbrev hash_by : Reading → Option Hash → Outcome
+hash_by r (Some hash) = Ok (record r { hash = hash })
+hash_by r None = Err kind.BadValue
+
 -- an option with its value: each script is added, of all others the last counts
 abbrev pub with_value : Reading → Valued → List ℕ → Outcome
 with_value r valued.Script text = script_by r text (fault_in text)
 with_value r valued.Jobs text = jobs_by r (number_up_to JOB_LIMIT text)
 with_value r valued.Load text = load_by r (number_up_to LOAD_LIMIT text)
+with_value r valued.HashFormat text = hash_by r (hash_in text)
 
 -- an option whose value is the rest of its word, or the next word where there is no rest
 abbrev pub valued_by : Reading → Valued → List ℕ → Outcome
@@ -222,6 +238,7 @@ words_of r = record {
   silent = r.flags.silent;
   help = r.flags.help;
   load = r.load;
+  hash = r.hash;
 }
 
 abbrev unmixed : Option ℕ → Reading → Result Words WordsFault

@@ -45,4 +45,5 @@ long_switch name =
     else (if bytes_eq name (codes "help") then Some (switch.Flag flag.Help)
     else (if is_among (codes "file" ∷ codes "makefile" ∷ codes "sconstruct" ∷ []) name then Some (switch.Valued valued.Script)
     else (if bytes_eq name (codes "jobs") then Some (switch.Valued valued.Jobs)
-    else (if bytes_eq name (codes "load") then Some (switch.Valued valued.Load) else None)))))))
+    else (if bytes_eq name (codes "load") then Some (switch.Valued valued.Load)
+    else (if bytes_eq name (codes "hash-format") then Some (switch.Valued valued.HashFormat) else None))))))))

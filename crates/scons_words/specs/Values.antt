@@ -1,5 +1,6 @@
--- A number of a command line, or why the word is none.
+-- A number or a hash format of a command line, or why the word is none.
 use Rattle.std.specs.Prelude.{ℕ, List, Option, Some, None, Result, Ok, Err}
+use Rattle.world_api.specs.declared.hash.Hash.{Hash}
 use Rattle.scons_words.specs.declared.fault.Refusal.{Refusal}
 use Rattle.scons_words.specs.declared.fault.Refusal.TheVariants as refusal
 use Rattle.scons_words.specs.declared.fault.UsageKind.TheVariants as kind
@@ -11,3 +12,7 @@ found None = Err (refusal.Kind kind.BadNumber)
 
 abbrev pub number_named : ℕ → List ℕ → Result ℕ Refusal
 number_named limit text = found (number_up_to limit text)
+
+abbrev pub hash_found : Option Hash → Result Hash Refusal
+hash_found (Some hash) = Ok hash
+hash_found None = Err (refusal.Kind kind.BadValue)

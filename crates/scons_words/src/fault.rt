@@ -11,6 +11,8 @@ pub enum UsageKind {
     NeedsValue,
     /// Jobs other than 1 to 64, or a load other than 1 to 20,000.
     BadNumber,
+    /// A hash format that there isn't.
+    BadValue,
     /// A target, or a script, that is no path in normal form.
     BadTarget,
     /// A word that begins with `=`.
@@ -25,6 +27,7 @@ impl UsageKind {
             UsageKind::Unknown => "Unknown",
             UsageKind::NeedsValue => "NeedsValue",
             UsageKind::BadNumber => "BadNumber",
+            UsageKind::BadValue => "BadValue",
             UsageKind::BadTarget => "BadTarget",
             UsageKind::BadArgument => "BadArgument",
             UsageKind::Mixed => "Mixed",

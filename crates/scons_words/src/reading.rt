@@ -1,9 +1,9 @@
 //! Reading words from left to right.
 ghost use Rattle.std.specs.Prelude.{◌≡◌, ◌≢◌, ◌<◌, length, true, false, Ok, Err, Some, None, IfOk, IfErr, OnOk, MatchOption, IfNone, IfSome, IsTrue, is_some};
 ghost use Rattle.scons_base.specs.PathFaults.{fault_in};
-ghost use Rattle.scons_words.specs.Values.{number_named};
+ghost use Rattle.scons_words.specs.Values.{hash_found, number_named};
 ghost use Rattle.scons_words.specs.Switches.{long_switch};
-ghost use Rattle.scons_words.specs.Readings.{start_reading, mixed, fault_at, with_value, valued_by, first_switch, behind_dash, LeadsWith, has_equals, IsParted, name_of, plain_long, valued_long, behind_dashes, undashed, after_dashes, after_dash, option_word, argument_by, requested_by, operand, word_read, is_number_switch, is_long_number, stands_with_load, step, words_of, ended, read};
+ghost use Rattle.scons_words.specs.Readings.{start_reading, mixed, fault_at, with_value, valued_by, first_switch, behind_dash, LeadsWith, has_equals, IsParted, name_of, plain_long, valued_long, behind_dashes, undashed, after_dashes, after_dash, option_word, argument_by, requested_by, operand, word_read, hash_in, is_number_switch, is_long_number, stands_with_load, step, words_of, ended, read};
 ghost use Rattle.scons_words.specs.declared.fault.UsageKind.{UsageKind};
 ghost use Rattle.scons_words.specs.declared.reading.Reading.{Reading};
 
@@ -16,6 +16,7 @@ use crate::words::Words;
 use scons_base::limits::JOB_LIMIT;
 use scons_base::{PathFault, PathText, Paths, Text, Texts};
 use std::alloc::Global;
+use world_api::Hash;
 
 /// How many rules a load may have.
 const LOAD_LIMIT: u32 = 20_000;
@@ -29,6 +30,7 @@ pub(crate) struct Reading {
     flags: Flags,
     jobs: u32,
     load: Option<u32>,
+    hash: Hash,
     /// Whether a word may still be an option.
     options: bool,
     /// The option whose value the next word is.
@@ -73,6 +75,7 @@ impl Reading {
             flags: Flags::none(),
             jobs: 1,
             load: None,
+            hash: Hash::Md5,
             options: true,
             waiting: None,
             other: None,
@@ -248,6 +251,7 @@ impl Reading {
             Valued::Script => self.scripts.push(path_named(alloc, value)?)?,
             Valued::Jobs => self.jobs = number_named(value, JOB_LIMIT)?,
             Valued::Load => self.load = Some(number_named(value, LOAD_LIMIT)?),
+            Valued::HashFormat => self.hash = hash_named(value)?,
         }
         Ok(())
     }
@@ -309,6 +313,7 @@ impl Reading {
             flags,
             jobs,
             load,
+            hash,
             options: _,
             waiting: _,
             other: _,
@@ -325,6 +330,7 @@ impl Reading {
             silent: flags.silent,
             help: flags.help,
             load,
+            hash,
         }
     }
 }
@@ -397,6 +403,20 @@ fn path_named(alloc: Global, text: &str) -> Result<PathText, Refusal>
         Ok(path) => Ok(path),
         Err(PathFault::Memory) => Err(Refusal::Memory),
         Err(_) => Err(Refusal::Kind(UsageKind::BadTarget)),
+    }
+}
+
+fn hash_named(text: &str) -> Result<Hash, Refusal>
+    ensures { result ≡ hash_found (hash_in text.now) }
+{
+    if text == "md5" {
+        Ok(Hash::Md5)
+    } else if text == "sha1" {
+        Ok(Hash::Sha1)
+    } else if text == "sha256" {
+        Ok(Hash::Sha256)
+    } else {
+        Err(Refusal::Kind(UsageKind::BadValue))
     }
 }
 

@@ -19,6 +19,7 @@ pub(crate) enum Valued {
     Script,
     Jobs,
     Load,
+    HashFormat,
 }
 
 #[derive(Clone, Copy)]
@@ -72,6 +73,8 @@ pub(crate) fn long_switch(name: &str) -> Option<Switch>
         Some(Switch::Valued(Valued::Jobs))
     } else if name == "load" {
         Some(Switch::Valued(Valued::Load))
+    } else if name == "hash-format" {
+        Some(Switch::Valued(Valued::HashFormat))
     } else {
         None
     }

@@ -1,5 +1,6 @@
 //! What a command line says.
 use scons_base::{Listing, Paths, Text, Texts};
+use world_api::Hash;
 
 #[derive(Drop)]
 pub struct Words {
@@ -22,4 +23,6 @@ pub struct Words {
     pub help: bool,
     /// How many rules a load of its own builds.
     pub load: Option<u32>,
+    /// What digests of contents are made by.
+    pub hash: Hash,
 }

@@ -1,20 +1,22 @@
 -- The bytes of a bank at the end of its entries: what a torn write leaves there, and what an opened gate adds.
-use Rattle.std.proofs.Common.{◌≡◌, ℕ, zero, suc, ◌^◌, ◌<◌, ◌≤◌, ◌+◌, ◌-◌, Bool, true, false, cond, eqb, ltb, leb, List, [], ◌∷◌, ◌++◌, length, take, drop, get_or, Option, Some, None, refl, sym, ap, subst, ◌∙◌, append_assoc, inl, inr, arith}
-use Rattle.std.specs.Prelude.{◌≢◌, ◌⊎◌, ◌||◌, ◌==◌, not, slice_index, nat_le, nat_lt}
+use Rattle.std.proofs.Common.{◌≡◌, ℕ, ◌^◌, ◌<◌, ◌≤◌, ◌+◌, ◌-◌, Bool, true, false, cond, ltb, leb, List, [], ◌∷◌, ◌++◌, length, take, drop, get_or, Option, Some, None, refl, sym, ap, subst, ◌∙◌, append_assoc, inl, inr, arith}
+use Rattle.std.specs.Prelude.{◌≢◌, ◌⊎◌, ◌||◌, ◌==◌, not, slice_index, nat_lt}
 use Rattle.std.specs.Int.{w32, w64, from_be_bytes, to_be_bytes}
 use Rattle.std.proofs.lemmas.Bool.{le-ltb, le-leb, lt-leb}
 use Rattle.std.proofs.lemmas.Bool.Decides.{eqb_tells}
-use Rattle.std.proofs.lemmas.List.{take_at, drop_at, take-append-drop, take-take, drop-take, drop-drop, drop_more, drop-append-le, length-append, length-take, length-drop, get_or-take, get_or-drop}
+use Rattle.std.proofs.lemmas.List.{take_at, drop_at, take-append-drop, take-take, drop-take, drop_more, drop-append-le, length-append, length-take, get_or-take, get_or-drop}
 use Rattle.world_api.specs.declared.disk.Bank.{Bank}
 use Rattle.world_api.specs.declared.disk.Bank.TheVariants.{A, B}
 use Rattle.world_api.specs.Banks.{Banks, Torn}
 use Rattle.deciders.proofs.Takings.{wide32}
+use Rattle.deciders.specs.declared.version.Version.{Version}
+use Rattle.sign_store.specs.declared.head.Edition.{Edition}
 use Rattle.sign_store.specs.declared.entries.Change.{Change}
 use Rattle.sign_store.specs.declared.head.Head.{Head}
 use Rattle.sign_store.specs.declared.head.Choice.TheVariants as choice
-use Rattle.sign_store.specs.Heads.{gate_of, mark_of, generation_of, head_of, chosen}
+use Rattle.sign_store.specs.Heads.{gate_of, mark_of, generation_of, head_of, chosen, edition_of}
 use Rattle.sign_store.specs.Entries.{entry_of}
-use Rattle.sign_store.specs.Images.{length_in, payload_in, change_in, entry_in, applied, after_entries, entries_map, body_of, image_of}
+use Rattle.sign_store.specs.Images.{length_in, payload_in, change_in, entry_in, applied, after_entries, entries_map, body_of}
 use Rattle.sign_store.specs.Ends.{EndsAt, StandsAt, image_in, with_bank}
 use Rattle.sign_store.specs.Tables.{Map}
 use Rattle.sign_store.proofs.ImageLemmas.{one_entry, no_entry}
@@ -33,9 +35,9 @@ payload_read payload behind fits =
     let room : leb (length payload) (length (1 ∷ (to_be_bytes w32 (length payload) ++ (payload ++ behind))) - 5) ≡ true = le-leb _ _ (omega (arith, whole, len, parts)) in
     ap (λ (x : List ℕ). payload_in (1 ∷ x)) spelt ∙ rw (long, number, room, rest, take_at payload behind (length payload) refl) refl
 
-pub entry_again : (change : Change) (payload behind : List ℕ) → length payload < 2 ^ 32 → change_in payload ≡ Some change
-    → entry_in (1 ∷ (entry_of payload ++ behind)) ≡ Some (change, length payload + 5)
-entry_again change payload behind fits says = rw (payload_read payload behind fits, says) refl
+pub entry_again : (version : Version) (change : Change) (payload behind : List ℕ) → length payload < 2 ^ 32 → change_in version payload ≡ Some change
+    → entry_in version (1 ∷ (entry_of payload ++ behind)) ≡ Some (change, length payload + 5)
+entry_again version change payload behind fits says = rw (payload_read payload behind fits, says) refl
 
 -- ---- the entries end at a gate that isn't open
 
@@ -46,8 +48,8 @@ guarded false c x shut = rw shut refl
 not_open : (bytes : List ℕ) → slice_index bytes 0 ≢ 1 → (slice_index bytes 0 == 1) ≡ false
 not_open bytes closed = elim (eqb_tells (slice_index bytes 0) 1) [ inl eq ↦ absurd (closed eq.1) | inr ne ↦ ne.0 ]
 
-pub shut_reads_none : (bytes : List ℕ) → slice_index bytes 0 ≢ 1 → entry_in bytes ≡ None
-shut_reads_none bytes closed =
+pub shut_reads_none : (version : Version) (bytes : List ℕ) → slice_index bytes 0 ≢ 1 → entry_in version bytes ≡ None
+shut_reads_none version bytes closed =
     let none : payload_in bytes ≡ None = guarded (nat_lt (length bytes) 5) (slice_index bytes 0 == 1) _ (not_open bytes closed) in
     rw none refl
 
@@ -61,24 +63,24 @@ pub body_cut : (place : ℕ) (bank : List ℕ) → 17 ≤ place → place ≤ le
 body_cut place bank head inside =
     ap body_of (sym (take-append-drop place bank)) ∙ drop-append-le 17 (take place bank) (drop place bank) (omega (arith, length-take place bank))
 
-pub ends_map : (place : ℕ) (map : Map) (bank : List ℕ) → EndsAt place map bank → entries_map (body_of bank) ≡ map
-ends_map place map bank ends =
-    ap entries_map (body_cut place bank ends.behind_head (omega (arith, ends.inside))) ∙ ends.entries (drop place bank)
-    ∙ no_entry (length (drop place bank)) map (drop place bank) (shut_reads_none (drop place bank) (λ e. ends.closed (sym (gate_at place bank) ∙ e)))
+pub ends_map : (version : Version) (place : ℕ) (map : Map) (bank : List ℕ) → EndsAt version place map bank → entries_map version (body_of bank) ≡ map
+ends_map version place map bank ends =
+    ap (entries_map version) (body_cut place bank ends.behind_head (omega (arith, ends.inside))) ∙ ends.entries (drop place bank)
+    ∙ no_entry version (length (drop place bank)) map (drop place bank) (shut_reads_none version (drop place bank) (λ e. ends.closed (sym (gate_at place bank) ∙ e)))
 
-pub still : (place : ℕ) (map : Map) (was now : List ℕ) → EndsAt place map was → take place now ≡ take place was → place < length now → slice_index now place ≢ 1 → EndsAt place map now
-still place map was now ends same inside closed = record {
+pub still : (version : Version) (place : ℕ) (map : Map) (was now : List ℕ) → EndsAt version place map was → take place now ≡ take place was → place < length now → slice_index now place ≢ 1 → EndsAt version place map now
+still version place map was now ends same inside closed = record {
   behind_head = ends.behind_head;
   inside = inside;
   closed = closed;
-  entries = λ behind. subst (λ (front : List ℕ). entries_map (body_of front ++ behind) ≡ after_entries (length behind) map behind) (sym same) (ends.entries behind);
+  entries = λ behind. subst (λ (front : List ℕ). entries_map version (body_of front ++ behind) ≡ after_entries version (length behind) map behind) (sym same) (ends.entries behind);
 }
 
 -- an entry behind a gate that was opened
-pub opened : (place : ℕ) (map : Map) (was now rest : List ℕ) (change : Change) (payload : List ℕ) → EndsAt place map was → take place now ≡ take place was → place < length now
-    → slice_index now place ≡ 1 → drop (place + 1) now ≡ (entry_of payload ++ 0 ∷ []) ++ rest → length payload < 2 ^ 32 → change_in payload ≡ Some change
-    → EndsAt (place + length (entry_of payload ++ 0 ∷ [])) (applied change map) now
-opened place map was now rest change payload ends same inside gate behind fits says =
+pub opened : (version : Version) (place : ℕ) (map : Map) (was now rest : List ℕ) (change : Change) (payload : List ℕ) → EndsAt version place map was → take place now ≡ take place was → place < length now
+    → slice_index now place ≡ 1 → drop (place + 1) now ≡ (entry_of payload ++ 0 ∷ []) ++ rest → length payload < 2 ^ 32 → change_in version payload ≡ Some change
+    → EndsAt version (place + length (entry_of payload ++ 0 ∷ [])) (applied change map) now
+opened version place map was now rest change payload ends same inside gate behind fits says =
     let front = take place now in
     let entry = 1 ∷ entry_of payload in
     let size : length (entry_of payload) ≡ length payload + 4 = omega (arith, length-append (to_be_bytes w32 (length payload)) payload, wide32.len (length payload)) in
@@ -100,10 +102,10 @@ opened place map was now rest change payload ends same inside gate behind fits s
       entries = λ after.
           let body : body_of (take next now) ++ after ≡ body_of front ++ (entry ++ after) =
           ap (λ (x : List ℕ). body_of x ++ after) cut ∙ ap (λ (x : List ℕ). x ++ after) (drop-append-le 17 front entry (omega (arith, front-len, ends.behind_head))) ∙ append_assoc (body_of front) entry after in
-          let step = one_entry (length (entry ++ after)) map (entry ++ after) (change, length payload + 5) refl (entry_again change payload after fits says) in
+          let step = one_entry version (length (entry ++ after)) map (entry ++ after) (change, length payload + 5) refl (entry_again version change payload after fits says) in
           let gone : drop (length payload + 5) (entry ++ after) ≡ after = drop_at entry after (length payload + 5) (omega (arith, size)) in
-          ap entries_map body ∙ subst (λ (x : List ℕ). entries_map (body_of x ++ (entry ++ after)) ≡ after_entries (length (entry ++ after)) map (entry ++ after)) (sym same) (ends.entries (entry ++ after))
-          ∙ step ∙ ap (λ (x : List ℕ). after_entries (length x) (applied change map) x) gone;
+          ap (entries_map version) body ∙ subst (λ (x : List ℕ). entries_map version (body_of x ++ (entry ++ after)) ≡ after_entries version (length (entry ++ after)) map (entry ++ after)) (sym same) (ends.entries (entry ++ after))
+          ∙ step ∙ ap (λ (x : List ℕ). after_entries version (length x) (applied change map) x) gone;
     }
 
 -- ---- heads, and the bank that counts
@@ -122,55 +124,55 @@ head_same place was now head in_was in_now same =
     let generation : generation_of now ≡ generation_of was = ap (from_be_bytes w64) (part_same 9 8 place was now (omega (arith, head)) same) in
     rw (long, was-long, gate, mark, generation) refl
 
-pub stands_for : (bank : Bank) (place : ℕ) (map : Map) (banks : Banks) (generation : ℕ) → chosen (head_of (banks A)) (head_of (banks B)) ≡ choice.Live bank generation → EndsAt place map (banks bank) → image_in banks ≡ map
-stands_for A place map banks generation counts ends = rw counts (ends_map place map (banks A) ends)
-stands_for B place map banks generation counts ends = rw counts (ends_map place map (banks B) ends)
+pub stands_for : (bank : Bank) (place : ℕ) (map : Map) (banks : Banks) (edition : Edition) → chosen (head_of (banks A)) (head_of (banks B)) ≡ choice.Live bank edition → EndsAt edition.version place map (banks bank) → image_in banks ≡ map
+stands_for A place map banks edition counts ends = rw counts (ends_map edition.version place map (banks A) ends)
+stands_for B place map banks edition counts ends = rw counts (ends_map edition.version place map (banks B) ends)
 
-pub ends_with : (bank : Bank) (place : ℕ) (map : Map) (was : List ℕ) (banks : Banks) → StandsAt bank place map (with_bank bank was banks) → EndsAt place map was
-ends_with A place map was banks stands = stands.ends
-ends_with B place map was banks stands = stands.ends
+pub ends_with : (version : Version) (bank : Bank) (place : ℕ) (map : Map) (was : List ℕ) (banks : Banks) → StandsAt version bank place map (with_bank bank was banks) → EndsAt version place map was
+ends_with version A place map was banks stands = stands.ends
+ends_with version B place map was banks stands = stands.ends
 
 -- the bank still counts, with other entries
-pub stays : (bank : Bank) (place next : ℕ) (map after : Map) (was : List ℕ) (banks : Banks) → StandsAt bank place map (with_bank bank was banks) → take place (banks bank) ≡ take place was → place < length (banks bank)
-    → EndsAt next after (banks bank) → StandsAt bank next after banks
-stays A place next map after was banks stands same inside ends =
+pub stays : (version : Version) (bank : Bank) (place next : ℕ) (map after : Map) (was : List ℕ) (banks : Banks) → StandsAt version bank place map (with_bank bank was banks) → take place (banks bank) ≡ take place was → place < length (banks bank)
+    → EndsAt version next after (banks bank) → StandsAt version bank next after banks
+stays version A place next map after was banks stands same inside ends =
     let head = head_same place was (banks A) stands.ends.behind_head stands.ends.inside inside same in
     let counts = ap (λ (h : Head). chosen h (head_of (banks B))) head ∙ stands.counts in
-    record { generation = stands.generation; counts = counts; ends = ends; image = stands_for A next after banks stands.generation counts ends }
-stays B place next map after was banks stands same inside ends =
+    record { generation = stands.generation; counts = counts; ends = ends; image = stands_for A next after banks (edition_of version stands.generation) counts ends }
+stays version B place next map after was banks stands same inside ends =
     let head = head_same place was (banks B) stands.ends.behind_head stands.ends.inside inside same in
     let counts = ap (λ (h : Head). chosen (head_of (banks A)) h) head ∙ stands.counts in
-    record { generation = stands.generation; counts = counts; ends = ends; image = stands_for B next after banks stands.generation counts ends }
+    record { generation = stands.generation; counts = counts; ends = ends; image = stands_for B next after banks (edition_of version stands.generation) counts ends }
 
 -- ---- torn writes
 
 -- behind the gate: the map stays
-pub torn_behind : (bank : Bank) (place len : ℕ) (map : Map) (was : List ℕ) (banks : Banks) → StandsAt bank place map (with_bank bank was banks) → Torn (place + 1) len was (banks bank) → StandsAt bank place map banks
-torn_behind bank place len map was banks stands torn =
-    let ends = ends_with bank place map was banks stands in
+pub torn_behind : (version : Version) (bank : Bank) (place len : ℕ) (map : Map) (was : List ℕ) (banks : Banks) → StandsAt version bank place map (with_bank bank was banks) → Torn (place + 1) len was (banks bank) → StandsAt version bank place map banks
+torn_behind version bank place len map was banks stands torn =
+    let ends = ends_with version bank place map was banks stands in
     let now = banks bank in
     let same : take place now ≡ take place was = sym (take-take place (place + 1) now (omega arith)) ∙ ap (take place) torn.before ∙ take-take place (place + 1) was (omega arith) in
     let inside : place < length now = omega (arith, ends.inside, torn.no_shorter) in
     let gate : slice_index now place ≡ slice_index was place = sym (get_or-take (place + 1) now place 0 (omega arith)) ∙ ap (λ (x : List ℕ). get_or x place 0) torn.before ∙ get_or-take (place + 1) was place 0 (omega arith) in
-    stays bank place place map map was banks stands same inside (still place map was now ends same inside (λ e. ends.closed (sym gate ∙ e)))
+    stays version bank place place map map was banks stands same inside (still version place map was now ends same inside (λ e. ends.closed (sym gate ∙ e)))
 
 -- the gate was opened
-pub gate_opened : (bank : Bank) (place : ℕ) (map : Map) (was rest : List ℕ) (banks : Banks) (change : Change) (payload : List ℕ) → StandsAt bank place map (with_bank bank was banks)
-    → drop (place + 1) was ≡ (entry_of payload ++ 0 ∷ []) ++ rest → length payload < 2 ^ 32 → change_in payload ≡ Some change
+pub gate_opened : (version : Version) (bank : Bank) (place : ℕ) (map : Map) (was rest : List ℕ) (banks : Banks) (change : Change) (payload : List ℕ) → StandsAt version bank place map (with_bank bank was banks)
+    → drop (place + 1) was ≡ (entry_of payload ++ 0 ∷ []) ++ rest → length payload < 2 ^ 32 → change_in version payload ≡ Some change
     → take place (banks bank) ≡ take place was → drop (place + 1) (banks bank) ≡ drop (place + 1) was → place < length (banks bank) → slice_index (banks bank) place ≡ 1
-    → StandsAt bank (place + length (entry_of payload ++ 0 ∷ [])) (applied change map) banks
-gate_opened bank place map was rest banks change payload stands behind fits says same after inside gate =
-    stays bank place _ map (applied change map) was banks stands same inside
-    (opened place map was (banks bank) rest change payload (ends_with bank place map was banks stands) same inside gate (after ∙ behind) fits says)
+    → StandsAt version bank (place + length (entry_of payload ++ 0 ∷ [])) (applied change map) banks
+gate_opened version bank place map was rest banks change payload stands behind fits says same after inside gate =
+    stays version bank place _ map (applied change map) was banks stands same inside
+    (opened version place map was (banks bank) rest change payload (ends_with version bank place map was banks stands) same inside gate (after ∙ behind) fits says)
 
 -- the gate itself: the map stays, or has the change
-pub torn_gate : (bank : Bank) (place : ℕ) (map : Map) (was rest : List ℕ) (banks : Banks) (change : Change) (payload : List ℕ) → StandsAt bank place map (with_bank bank was banks)
-    → drop (place + 1) was ≡ (entry_of payload ++ 0 ∷ []) ++ rest → length payload < 2 ^ 32 → change_in payload ≡ Some change → Torn place 1 was (banks bank)
+pub torn_gate : (version : Version) (bank : Bank) (place : ℕ) (map : Map) (was rest : List ℕ) (banks : Banks) (change : Change) (payload : List ℕ) → StandsAt version bank place map (with_bank bank was banks)
+    → drop (place + 1) was ≡ (entry_of payload ++ 0 ∷ []) ++ rest → length payload < 2 ^ 32 → change_in version payload ≡ Some change → Torn place 1 was (banks bank)
     → (image_in banks ≡ map) ⊎ (image_in banks ≡ applied change map)
-torn_gate bank place map was rest banks change payload stands behind fits says torn =
-    let ends = ends_with bank place map was banks stands in
+torn_gate version bank place map was rest banks change payload stands behind fits says torn =
+    let ends = ends_with version bank place map was banks stands in
     let inside : place < length (banks bank) = omega (arith, ends.inside, torn.no_shorter) in
     elim (eqb_tells (slice_index (banks bank) place) 1) [
-      | inl open_now ↦ inr ((gate_opened bank place map was rest banks change payload stands behind fits says torn.before torn.after inside open_now.1).image)
-      | inr shut_now ↦ inl ((stays bank place place map map was banks stands torn.before inside (still place map was (banks bank) ends torn.before inside shut_now.1)).image)
+      | inl open_now ↦ inr ((gate_opened version bank place map was rest banks change payload stands behind fits says torn.before torn.after inside open_now.1).image)
+      | inr shut_now ↦ inl ((stays version bank place place map map was banks stands torn.before inside (still version place map was (banks bank) ends torn.before inside shut_now.1)).image)
     ]

@@ -1,24 +1,25 @@
 -- A bank is filled while another one counts: at every moment of it the banks stand for the same map.
-use Rattle.std.proofs.Common.{◌≡◌, ℕ, ◌<◌, ◌≤◌, ◌+◌, Bool, true, false, eqb, leb, List, [], ◌∷◌, ◌++◌, length, take, drop, get_or, max, refl, sym, ap, subst, ◌∙◌, append_assoc, inl, inr, arith}
-use Rattle.std.specs.Prelude.{◌≢◌, ◌⊎◌, ◌==◌, slice_index}
+use Rattle.std.proofs.Common.{◌≡◌, ℕ, ◌<◌, ◌≤◌, Bool, true, false, leb, List, [], ◌∷◌, ◌++◌, length, take, drop, get_or, refl, sym, ap, subst, ◌∙◌, append_assoc, inl, inr, arith}
+use Rattle.std.specs.Prelude.{◌≢◌, ◌==◌, slice_index}
 use Rattle.std.proofs.lemmas.Bool.{le-leb, lt-leb, leb-true, leb-false}
 use Rattle.std.proofs.lemmas.Bool.Decides.{eqb_tells}
-use Rattle.std.proofs.lemmas.List.{take_at, drop_at, drop_more, take-take, take-append-drop, drop-append-le, length-append, length-take, length-drop, get_or-take, get_or-drop, nil_from_length}
+use Rattle.std.proofs.lemmas.List.{take_at, drop_at, drop_more, length-append, get_or-take}
 use Rattle.world_api.specs.declared.disk.Bank.{Bank}
 use Rattle.world_api.specs.declared.disk.Bank.TheVariants.{A, B}
 use Rattle.world_api.specs.Around.{Around}
-use Rattle.world_api.specs.Banks.{Banks, Holds, Torn}
-use Rattle.world_api.specs.Meaning.{Meaning, IsImage, IsSettled, BankKept, Throughout}
+use Rattle.world_api.specs.Banks.{Banks, Torn}
+use Rattle.world_api.specs.Meaning.{Meaning, IsSettled, BankKept, Throughout}
 use Rattle.world_api.proofs.Moments.{weakens}
-use Rattle.sign_store.specs.declared.head.Head.TheVariants.{Short, Closed, Foreign, Live}
+use Rattle.deciders.specs.declared.version.Version.TheVariants.{Two}
+use Rattle.sign_store.specs.declared.head.Head.TheVariants.{Closed}
 use Rattle.sign_store.specs.declared.head.Choice.TheVariants as choice
-use Rattle.sign_store.specs.Heads.{head_of, gate_of}
-use Rattle.sign_store.specs.Images.{entries_map, body_of, after_entries}
-use Rattle.sign_store.specs.Ends.{EndsAt, StandsAt, KeepsAt, StandsFor, IsTornFrom, AreSettled, image_in, with_bank}
-use Rattle.sign_store.specs.Forms.{IsBlank, IsSpare, IsShut, IsForm, Leads}
+use Rattle.sign_store.specs.Heads.{head_of, gate_of, edition_of}
+use Rattle.sign_store.specs.Images.{entries_map, body_of}
+use Rattle.sign_store.specs.Ends.{EndsAt, StandsAt, StandsFor, IsTornFrom, AreSettled, image_in, with_bank}
+use Rattle.sign_store.specs.Forms.{IsBlank, IsSpare, IsShut, IsForm}
 use Rattle.sign_store.specs.Readings.{choice_of}
-use Rattle.sign_store.specs.Tables.{Map, nothing}
-use Rattle.sign_store.proofs.EndLemmas.{stands_for, ends_map, gate_at}
+use Rattle.sign_store.specs.Tables.{Map}
+use Rattle.sign_store.proofs.EndLemmas.{stands_for, gate_at}
 
 -- ---- settled banks
 
@@ -110,7 +111,7 @@ torn_behind_shut to map generation len s now spare shut torn =
 
 -- ---- a form behind an open gate
 
-filled : (generation : ℕ) (map : Map) (form rest : List ℕ) → IsForm generation map form → EndsAt (length form) map (1 ∷ (form ++ rest))
+filled : (generation : ℕ) (map : Map) (form rest : List ℕ) → IsForm generation map form → EndsAt Two (length form) map (1 ∷ (form ++ rest))
 filled generation map form rest is =
     let whole : 1 ∷ (form ++ rest) ≡ (1 ∷ is.front) ++ (0 ∷ rest) = ap (λ (x : List ℕ). 1 ∷ (x ++ rest)) is.is ∙ ap (λ (x : List ℕ). 1 ∷ x) (append_assoc is.front (0 ∷ []) rest) in
     let len : length (1 ∷ is.front) ≡ length form = omega (arith, ap length is.is, length-append is.front (0 ∷ [])) in
@@ -121,21 +122,21 @@ filled generation map form rest is =
       behind_head = omega (arith, len, is.long);
       inside = omega (arith, ap length whole, length-append (1 ∷ is.front) (0 ∷ rest), len);
       closed = λ e. let bad : 0 ≡ 1 = sym gate ∙ e in absurd (omega (arith, bad));
-      entries = λ behind. ap (λ (x : List ℕ). entries_map (body_of x ++ behind)) cut ∙ is.leads.on behind;
+      entries = λ behind. ap (λ (x : List ℕ). entries_map Two (body_of x ++ behind)) cut ∙ is.leads.on behind;
     }
 
 pub filled_counts : (to : Bank) (map : Map) (generation : ℕ) (form rest : List ℕ) (s banks : Banks) → IsSpare to map generation s → IsForm generation map form
-    → ((other : Bank) → other ≢ to → banks other ≡ s other) → banks to ≡ 1 ∷ (form ++ rest) → choice_of banks ≡ choice.Live to generation
+    → ((other : Bank) → other ≢ to → banks other ≡ s other) → banks to ≡ 1 ∷ (form ++ rest) → choice_of banks ≡ choice.Live to (edition_of Two generation)
 filled_counts to map generation form rest s banks spare form_is others here =
     let whole : banks to ≡ 1 ∷ (form_is.front ++ (0 ∷ rest)) = here ∙ ap (λ (x : List ℕ). 1 ∷ (x ++ rest)) form_is.is ∙ ap (λ (x : List ℕ). 1 ∷ x) (append_assoc form_is.front (0 ∷ []) rest) in
     choice_at to s banks others ∙ spare.newer (banks to) (ap head_of whole ∙ form_is.head rest)
 
 pub filled_stands : (to : Bank) (map : Map) (generation : ℕ) (form rest : List ℕ) (s banks : Banks) → IsSpare to map generation s → IsForm generation map form
-    → ((other : Bank) → other ≢ to → banks other ≡ s other) → banks to ≡ 1 ∷ (form ++ rest) → StandsAt to (length form) map banks
+    → ((other : Bank) → other ≢ to → banks other ≡ s other) → banks to ≡ 1 ∷ (form ++ rest) → StandsAt Two to (length form) map banks
 filled_stands to map generation form rest s banks spare form_is others here =
     let counts = filled_counts to map generation form rest s banks spare form_is others here in
-    let ends : EndsAt (length form) map (banks to) = subst (λ (x : List ℕ). EndsAt (length form) map x) (sym here) (filled generation map form rest form_is) in
-    record { generation = generation; counts = counts; ends = ends; image = stands_for to (length form) map banks generation counts ends }
+    let ends : EndsAt Two (length form) map (banks to) = subst (λ (x : List ℕ). EndsAt Two (length form) map x) (sym here) (filled generation map form rest form_is) in
+    record { generation = generation; counts = counts; ends = ends; image = stands_for to (length form) map banks (edition_of Two generation) counts ends }
 
 -- while the gate is opened before a form
 pub torn_open : (to : Bank) (map : Map) (generation : ℕ) (form rest : List ℕ) (s : Banks) (now : List ℕ) → IsSpare to map generation s → IsForm generation map form → drop 1 (s to) ≡ form ++ rest → 0 < length (s to)

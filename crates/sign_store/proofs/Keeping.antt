@@ -1,5 +1,5 @@
 -- What a store keeps over calls that write no bank, for the crates above.
-use Rattle.std.proofs.Common.{◌≡◌, ℕ, List, sym, subst}
+use Rattle.std.proofs.Common.{◌≡◌, ℕ, sym, subst}
 use Rattle.world_api.specs.declared.disk.Bank.{Bank}
 use Rattle.world_api.specs.Meaning.{Meaning, IsImage, BanksKept}
 use Rattle.sign_store.specs.declared.store.Store.{Store}

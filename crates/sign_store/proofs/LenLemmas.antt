@@ -1,12 +1,12 @@
 -- How long the parts of a compact form are.
-use Rattle.std.proofs.Common.{◌≡◌, ◌∙◌, ◌+◌, ◌≤◌, ◌<◌, ℕ, zero, suc, Bool, true, false, List, [], ◌∷◌, ◌++◌, length, take, min, ◌-◌, ◌^◌, refl, sym, ap, arith, length-append}
-use Rattle.std.specs.Prelude.{filter, not}
+use Rattle.std.proofs.Common.{◌≡◌, ◌∙◌, ◌+◌, ◌<◌, ℕ, List, [], ◌∷◌, length, min, ◌-◌, ◌^◌, refl, ap, arith, length-append}
 use Rattle.std.specs.Int.{w32, to_be_bytes}
 use Rattle.std.specs.List.{flat_map}
 use Rattle.deciders.specs.declared.recorded.Rec.{Rec}
-use Rattle.deciders.specs.Spelling.{sized, listed, spelling}
+use Rattle.deciders.specs.declared.version.Version.TheVariants.{Two}
+use Rattle.deciders.specs.Spelling.{sized, spelling}
 use Rattle.sign_store.specs.declared.map.RecordMap.{RecordMap}
-use Rattle.sign_store.specs.Compacts.{entries_at, entries_up_to, withdrawal, withdrawal_of}
+use Rattle.sign_store.specs.Compacts.{entries_at, entries_up_to, withdrawal_of}
 use Rattle.sign_store.specs.Entries.{entry_of, put_payload, withdraw_payload}
 use Rattle.sign_store.proofs.CompactLemmas.{next_up_to}
 
@@ -14,7 +14,7 @@ use Rattle.sign_store.proofs.CompactLemmas.{next_up_to}
 entry_len : (payload : List ℕ) → length (1 ∷ entry_of payload) ≡ 5 + length payload
 entry_len payload = omega (arith, length-append (to_be_bytes w32 (length payload)) payload)
 
-pub put_len : (rec : Rec) → length (1 ∷ entry_of (put_payload rec)) ≡ 6 + length (spelling rec)
+pub put_len : (rec : Rec) → length (1 ∷ entry_of (put_payload rec)) ≡ 6 + length (spelling Two rec)
 put_len rec = omega (arith, entry_len (put_payload rec))
 
 pub sized_len : (path : List ℕ) → length (sized path) ≡ 4 + length path

@@ -1,7 +1,8 @@
 -- The steps of opening a store, put together.
-use Rattle.std.proofs.Common.{◌≡◌, ℕ, ◌<◌, ◌≤◌, ◌+◌, ◌^◌, Bool, true, false, leb, List, [], ◌∷◌, ◌++◌, length, take, drop, max, refl, sym, ap, subst, ◌∙◌, append_assoc, inl, inr, arith}
-use Rattle.std.specs.Prelude.{◌≢◌, slice_index, Result, Ok, Err, IfOk, IfErr}
-use Rattle.std.proofs.lemmas.Bool.{leb-false}
+use Rattle.std.proofs.Common.{◌≡◌, ℕ, ◌<◌, ◌≤◌, ◌+◌, ◌-◌, ◌^◌, Bool, true, false, cond, eqb, leb, List, [], ◌∷◌, ◌++◌, length, take, drop, refl, sym, ap, subst, ◌∙◌, append_assoc, inl, inr, arith}
+use Rattle.std.specs.Prelude.{◌≢◌, ◌&&◌, nat_lt, codes, slice_index, Result, Ok, Err, IfOk, IfErr}
+use Rattle.std.specs.Str.{bytes_eq}
+use Rattle.std.proofs.lemmas.Bool.{leb-false, ltb-true}
 use Rattle.std.proofs.lemmas.List.{take_at, drop_at, drop-drop, length-append, length-take, length-drop}
 use Rattle.world_api.specs.declared.disk.Bank.{Bank}
 use Rattle.world_api.specs.declared.disk.Bank.TheVariants.{A, B}
@@ -10,6 +11,9 @@ use Rattle.world_api.specs.Banks.{Banks, Holds, Torn}
 use Rattle.world_api.specs.Meaning.{Meaning, IsImage, IsSettled, BankKept, BanksKept, Throughout, AtEither}
 use Rattle.world_api.proofs.Looking.{bank_joined}
 use Rattle.world_api.proofs.Moments.{IsNow, begins, chains, weakens, disk_call}
+use Rattle.deciders.specs.declared.version.Version.{Version}
+use Rattle.deciders.specs.declared.version.Version.TheVariants.{One, Two}
+use Rattle.sign_store.specs.declared.head.Edition.{Edition}
 use Rattle.sign_store.specs.declared.entries.EndGate.{EndGate}
 use Rattle.sign_store.specs.declared.entries.EndGate.TheVariants as gate
 use Rattle.sign_store.specs.declared.head.Choice.TheVariants as choice
@@ -18,23 +22,24 @@ use Rattle.sign_store.specs.declared.map.RecordMap.{RecordMap}
 use Rattle.sign_store.specs.declared.refusals.StoreRefusal.{StoreRefusal}
 use Rattle.sign_store.specs.declared.refusals.StoreRefusal.TheVariants as refusal
 use Rattle.sign_store.specs.declared.head.Choice.{Choice}
-use Rattle.sign_store.specs.declared.head.Head.TheVariants.{Short, Live}
+use Rattle.sign_store.specs.declared.head.Head.{Head}
+use Rattle.sign_store.specs.declared.head.Head.TheVariants.{Short, Closed, Foreign, Live}
 use Rattle.sign_store.specs.Compacts.{compact_bytes}
 use Rattle.sign_store.specs.Gates.{IsGate}
-use Rattle.sign_store.specs.Heads.{head_of, other_bank}
+use Rattle.sign_store.specs.Heads.{head_of, live_head, mark_of, generation_of, gate_of, edition_of, other_bank}
 use Rattle.sign_store.specs.Images.{entries_map, body_of, map_chosen}
-use Rattle.sign_store.specs.Ends.{StandsAt, StandsFor, IsLeftOr, KeepsAt, AreSettled, image_in, with_bank}
+use Rattle.sign_store.specs.Ends.{StandsAt, StandsFor, IsLeftOr, KeepsAt, AreSettled, image_in}
 use Rattle.sign_store.specs.Forms.{IsSpare}
 use Rattle.sign_store.specs.Maps.{map_in}
 use Rattle.sign_store.specs.Changing.{ReopensThroughout, Starts, StartsThroughout}
 use Rattle.sign_store.specs.Reached.{ReadsBanks, Writes, Endures, KeepsSettled, RestsUnlessFault, LeavesBanks}
 use Rattle.sign_store.specs.Readings.{AreSmall, AreReadable, IsRefusal, IsOutside, choice_of}
 use Rattle.sign_store.proofs.ReadLemmas.{outside_refuses}
-use Rattle.sign_store.specs.Beginnings.{IsAtRest, CanFill, IsFilled, IsMendable, IsOpened, IsAsBefore, IsCounted, IsWrittenTo, GoesOver, Exchanges, IsDue, IsReopened, IsBegunOver, begun_by}
+use Rattle.sign_store.specs.Beginnings.{IsAtRest, CanFill, IsFilled, IsMendable, IsOpened, IsCurrent, IsAsBefore, IsCounted, IsWrittenTo, GoesOver, Exchanges, IsDue, IsReopened, IsBegunOver, begun_by}
 use Rattle.sign_store.specs.Tables.{Map, nothing}
 use Rattle.sign_store.proofs.EndLemmas.{gate_at}
 use Rattle.sign_store.proofs.FillLemmas.{choice_at}
-use Rattle.sign_store.proofs.BeginLemmas.{torn_end, live_stays, closed_stands, bank_with, spare_first, spare_beside_a, spare_beside_b, first_live, second_live}
+use Rattle.sign_store.proofs.BeginLemmas.{torn_end, live_stays, closed_stands, spare_first, spare_beside_a, spare_beside_b, first_live, second_live}
 use Rattle.sign_store.proofs.StepLemmas.{endures_then, rest_read, rest_written}
 
 pub same_banks : (a b : Banks) → ((bank : Bank) → b bank ≡ a bank) → b ≡ a
@@ -100,50 +105,53 @@ endures_as m a b stood map other back same endures = record {
 pub opened_as : {W : Type 0} (m : Meaning W) (stood : Around) (map other : Map) (world : W) (opened : Opened) → (m.tells world → map ≡ other) → IsOpened m stood map world opened → IsOpened m stood other world opened
 opened_as m stood map other world opened same is = record {
   rest = is.rest;
-  stands = λ told. subst (λ (x : Map). StandsAt opened.bank opened.end x (m.seen world)) (same told) (is.stands told);
+  stands = λ told. subst (λ (x : Map). StandsAt opened.edition.version opened.bank opened.end x (m.seen world)) (same told) (is.stands told);
   counts = is.counts;
   held = λ told. is.held told ∙ same told;
   ordered = is.ordered;
 }
 
+pub current_as : {W : Type 0} (m : Meaning W) (stood : Around) (map other : Map) (world : W) (opened : Opened) → (m.tells world → map ≡ other) → IsCurrent m stood map world opened → IsCurrent m stood other world opened
+current_as m stood map other world opened same is = record { opens = opened_as m stood map other world opened same is.opens; second = is.second }
+
 -- ---- what was read of a bank that counts
 
-live_long : (bytes : List ℕ) (g : ℕ) → head_of bytes ≡ Live g → 17 < length bytes
+live_long : (bytes : List ℕ) (g : Edition) → head_of bytes ≡ Live g → 17 < length bytes
 live_long bytes g e = by (leb (length bytes) 17) refl
   where
     by : (b : Bool) → leb (length bytes) 17 ≡ b → 17 < length bytes
     by true le = let short : Short ≡ Live g = sym (rw le refl) ∙ e in absurd cc
     by false le = leb-false (length bytes) 17 le
 
-pub counted_long : (bank : Bank) (banks : Banks) (g : ℕ) → choice_of banks ≡ choice.Live bank g → 17 < length (banks bank)
+pub counted_long : (bank : Bank) (banks : Banks) (g : Edition) → choice_of banks ≡ choice.Live bank g → 17 < length (banks bank)
 counted_long A banks g counts = live_long (banks A) g (first_live (head_of (banks A)) (head_of (banks B)) g counts)
 counted_long B banks g counts = live_long (banks B) g (second_live (head_of (banks A)) (head_of (banks B)) g counts)
 
-counted_is : (bank : Bank) (banks : Banks) (g : ℕ) → choice_of banks ≡ choice.Live bank g → image_in banks ≡ entries_map (body_of (banks bank))
+counted_is : (bank : Bank) (banks : Banks) (g : Edition) → choice_of banks ≡ choice.Live bank g → image_in banks ≡ entries_map g.version (body_of (banks bank))
 counted_is A banks g counts = ap (λ (c : Choice). map_chosen c (banks A) (banks B)) counts
 counted_is B banks g counts = ap (λ (c : Choice). map_chosen c (banks A) (banks B)) counts
 
 -- the bank was read: its end can be mended
-pub can_mend : {W : Type 0} (m : Meaning W) (a b : W) (bank : Bank) (end : EndGate) (place : ℕ) (stood : Around) (map read : Map) (generation : ℕ) → ReadsBanks m a b → IsCounted m a bank stood map generation
-    → (m.tells b → read ≡ entries_map (body_of (m.seen b bank))) → (m.tells b → 17 < length (m.seen b bank) → IsWrittenTo place read (m.seen b bank)) → (m.tells b → 17 < length (m.seen b bank) → IsGate end place (m.seen b bank))
-    → IsMendable m b bank end place stood map generation
-can_mend m a b bank end place stood map read generation reads is read_is written gate_is = record {
+pub can_mend : {W : Type 0} (m : Meaning W) (a b : W) (bank : Bank) (end : EndGate) (place : ℕ) (stood : Around) (map read : Map) (edition : Edition) → ReadsBanks m a b → IsCounted m a bank stood map edition
+    → (m.tells b → read ≡ entries_map edition.version (body_of (m.seen b bank))) → (m.tells b → 17 < length (m.seen b bank) → IsWrittenTo edition.version place read (m.seen b bank)) → (m.tells b → 17 < length (m.seen b bank) → IsGate end place (m.seen b bank))
+    → IsMendable m b bank end place stood map edition
+can_mend m a b bank end place stood map read edition reads is read_is written gate_is = record {
   rest = rest_read m a b stood reads is.rest;
   counts = counts;
-  written = λ told. subst (λ (x : Map). IsWrittenTo place x (m.seen b bank)) (same told) (written told (counted_long bank (m.seen b) generation (counts told)));
-  gate_is = λ told. gate_is told (counted_long bank (m.seen b) generation (counts told));
+  written = λ told. subst (λ (x : Map). IsWrittenTo edition.version place x (m.seen b bank)) (same told) (written told (counted_long bank (m.seen b) edition (counts told)));
+  gate_is = λ told. gate_is told (counted_long bank (m.seen b) edition (counts told));
 }
   where
-    counts : m.tells b → choice_of (m.seen b) ≡ choice.Live bank generation
+    counts : m.tells b → choice_of (m.seen b) ≡ choice.Live bank edition
     counts told = ap choice_of (seen_read m a b reads told) ∙ is.counts (reads.told.told told)
 
     same : m.tells b → read ≡ map
-    same told = read_is told ∙ sym (counted_is bank (m.seen b) generation (counts told)) ∙ ap image_in (seen_read m a b reads told) ∙ is.image (reads.told.told told)
+    same told = read_is told ∙ sym (counted_is bank (m.seen b) edition (counts told)) ∙ ap image_in (seen_read m a b reads told) ∙ is.image (reads.told.told told)
 
-pub read_same : {W : Type 0} (m : Meaning W) (a b : W) (bank : Bank) (map read : Map) (stood : Around) (generation : ℕ) → ReadsBanks m a b → IsCounted m a bank stood map generation → (m.tells b → read ≡ entries_map (body_of (m.seen b bank))) → m.tells b → read ≡ map
-read_same m a b bank map read stood generation reads is read_is told =
-    let counts : choice_of (m.seen b) ≡ choice.Live bank generation = ap choice_of (seen_read m a b reads told) ∙ is.counts (reads.told.told told) in
-    read_is told ∙ sym (counted_is bank (m.seen b) generation counts) ∙ ap image_in (seen_read m a b reads told) ∙ is.image (reads.told.told told)
+pub read_same : {W : Type 0} (m : Meaning W) (a b : W) (bank : Bank) (map read : Map) (stood : Around) (edition : Edition) → ReadsBanks m a b → IsCounted m a bank stood map edition → (m.tells b → read ≡ entries_map edition.version (body_of (m.seen b bank))) → m.tells b → read ≡ map
+read_same m a b bank map read stood edition reads is read_is told =
+    let counts : choice_of (m.seen b) ≡ choice.Live bank edition = ap choice_of (seen_read m a b reads told) ∙ is.counts (reads.told.told told) in
+    read_is told ∙ sym (counted_is bank (m.seen b) edition counts) ∙ ap image_in (seen_read m a b reads told) ∙ is.image (reads.told.told told)
 
 -- ---- where no bank counts
 
@@ -153,9 +161,9 @@ can_start m a stood rest none = record { rest = rest; spare = λ told. spare_fir
 pub none_is : (banks : Banks) (map : Map) → choice_of banks ≡ choice.None → image_in banks ≡ map → nothing ≡ map
 none_is banks map none is = sym (spare_first banks none).now ∙ is
 
-pub if_opened_as : {W : Type 0} (m : Meaning W) (stood : Around) (map other : Map) (world : W) (r : Result Opened StoreRefusal) → (m.tells world → map ≡ other) → IfOk r (IsOpened m stood map world) → IfOk r (IsOpened m stood other world)
-if_opened_as m stood map other world (Err e) same is = tt
-if_opened_as m stood map other world (Ok opened) same is = opened_as m stood map other world opened same is
+pub if_current_as : {W : Type 0} (m : Meaning W) (stood : Around) (map other : Map) (world : W) (r : Result Opened StoreRefusal) → (m.tells world → map ≡ other) → IfOk r (IsCurrent m stood map world) → IfOk r (IsCurrent m stood other world)
+if_current_as m stood map other world (Err e) same is = tt
+if_current_as m stood map other world (Ok opened) same is = current_as m stood map other world opened same is
 
 -- the banks were read, and one was made live: they stand for the same map
 pub none_endures : {W : Type 0} (m : Meaning W) (b c d : W) (stood : Around) (map : Map) → ReadsBanks m b c → IsAtRest m b stood → (m.tells b → image_in (m.seen b) ≡ map) → (m.tells c → choice_of (m.seen c) ≡ choice.None)
@@ -166,26 +174,26 @@ none_endures m b c d stood map looks rest is none back starts =
     (starts stood (can_start m c stood (rest_read m b c stood looks rest) none)))
 
 pub none_opened : {W : Type 0} (m : Meaning W) (b c d : W) (stood : Around) (map : Map) (r : Result Opened StoreRefusal) → ReadsBanks m b c → IsAtRest m b stood → (m.tells b → image_in (m.seen b) ≡ map)
-    → (m.tells c → choice_of (m.seen c) ≡ choice.None) → (m.tells d → m.tells c) → Starts m c d r → IfOk r (IsOpened m stood map d)
+    → (m.tells c → choice_of (m.seen c) ≡ choice.None) → (m.tells d → m.tells c) → Starts m c d r → IfOk r (IsCurrent m stood map d)
 none_opened m b c d stood map r looks rest is none back starts =
-    if_opened_as m stood nothing map d r
+    if_current_as m stood nothing map d r
     (λ late. let told = back late in none_is (m.seen c) map (none told) (ap image_in (seen_read m b c looks told) ∙ is (looks.told.told told)))
     (starts stood (can_start m c stood (rest_read m b c stood looks rest) none))
 
 -- the bank that counts was found
-pub counted_after : {W : Type 0} (m : Meaning W) (a b : W) (bank : Bank) (stood : Around) (map : Map) (generation : ℕ) → ReadsBanks m a b → IsAtRest m a stood → (m.tells a → image_in (m.seen a) ≡ map)
-    → (m.tells b → choice_of (m.seen b) ≡ choice.Live bank generation) → IsCounted m b bank stood map generation
-counted_after m a b bank stood map generation reads rest is counts = record {
+pub counted_after : {W : Type 0} (m : Meaning W) (a b : W) (bank : Bank) (stood : Around) (map : Map) (edition : Edition) → ReadsBanks m a b → IsAtRest m a stood → (m.tells a → image_in (m.seen a) ≡ map)
+    → (m.tells b → choice_of (m.seen b) ≡ choice.Live bank edition) → IsCounted m b bank stood map edition
+counted_after m a b bank stood map edition reads rest is counts = record {
   rest = rest_read m a b stood reads rest;
   counts = counts;
   image = λ told. ap image_in (seen_read m a b reads told) ∙ is (reads.told.told told);
 }
 
 -- the banks were read, and the one that counts reopened: they stand for the same map
-pub live_endures : {W : Type 0} (m : Meaning W) (b c d : W) (bank : Bank) (generation : ℕ) (stood : Around) (map : Map) → ReadsBanks m b c → IsAtRest m b stood → (m.tells b → image_in (m.seen b) ≡ map)
-    → (m.tells c → choice_of (m.seen c) ≡ choice.Live bank generation) → ReopensThroughout m c d bank generation → Endures m b d stood map
-live_endures m b c d bank generation stood map looks rest is live reopens =
-    endures_then m b c d stood map (looks.moments stood map) (reopens stood map (counted_after m b c bank stood map generation looks rest is live))
+pub live_endures : {W : Type 0} (m : Meaning W) (b c d : W) (bank : Bank) (edition : Edition) (stood : Around) (map : Map) → ReadsBanks m b c → IsAtRest m b stood → (m.tells b → image_in (m.seen b) ≡ map)
+    → (m.tells c → choice_of (m.seen c) ≡ choice.Live bank edition) → ReopensThroughout m c d bank edition → Endures m b d stood map
+live_endures m b c d bank edition stood map looks rest is live reopens =
+    endures_then m b c d stood map (looks.moments stood map) (reopens stood map (counted_after m b c bank stood map edition looks rest is live))
 
 -- ---- what a refusal leaves
 
@@ -259,75 +267,117 @@ held_zero place was now within holds =
       torn = record { before = front; after = behind; no_shorter = omega (arith, total, length-drop (place + 1) was, within); no_longer = omega (arith, total, length-drop (place + 1) was, within) };
     }
 
-pub mended : {W : Type 0} (m : Meaning W) (a b : W) (bank : Bank) (end : EndGate) (place : ℕ) (stood : Around) (map : Map) (generation : ℕ) → end ≢ gate.Closed → Writes m bank a b → (m.tells b → IsSettled m b bank)
-    → (m.tells b → Holds (m.seen a bank) place (0 ∷ []) (m.seen b bank)) → IsMendable m a bank end place stood map generation → IsFilled m b bank place stood map generation
-mended m a b bank end place stood map generation not writes settled holds can = record {
+pub mended : {W : Type 0} (m : Meaning W) (a b : W) (bank : Bank) (end : EndGate) (place : ℕ) (stood : Around) (map : Map) (edition : Edition) → end ≢ gate.Closed → Writes m bank a b → (m.tells b → IsSettled m b bank)
+    → (m.tells b → Holds (m.seen a bank) place (0 ∷ []) (m.seen b bank)) → IsMendable m a bank end place stood map edition → IsFilled m b bank place stood map edition
+mended m a b bank end place stood map edition not writes settled holds can = record {
   rest = rest_written m a b bank stood writes settled can.rest;
-  stands = λ told. closed_stands bank place generation map (m.seen b) (counts told) (ended told) (held told).inside (λ e. let bad : 0 ≡ 1 = sym (held told).gate_is ∙ e in absurd (omega (arith, bad)));
+  stands = λ told. closed_stands bank place edition map (m.seen b) (counts told) (ended told) (held told).inside (λ e. let bad : 0 ≡ 1 = sym (held told).gate_is ∙ e in absurd (omega (arith, bad)));
   counts = counts;
 }
   where
     held : m.tells b → IsHeld place (m.seen a bank) (m.seen b bank)
     held told = held_zero place (m.seen a bank) (m.seen b bank) (can.written (writes.told.told told)).inside (holds told)
 
-    ended : m.tells b → IsWrittenTo place map (m.seen b bank)
-    ended told = torn_end end place map (m.seen a bank) (m.seen b bank) (can.written (writes.told.told told)) (can.gate_is (writes.told.told told)) not (held told).torn
+    ended : m.tells b → IsWrittenTo edition.version place map (m.seen b bank)
+    ended told = torn_end edition.version end place map (m.seen a bank) (m.seen b bank) (can.written (writes.told.told told)) (can.gate_is (writes.told.told told)) not (held told).torn
 
-    counts : m.tells b → choice_of (m.seen b) ≡ choice.Live bank generation
+    counts : m.tells b → choice_of (m.seen b) ≡ choice.Live bank edition
     counts told =
         let before = writes.told.told told in
         choice_at bank (m.seen a) (m.seen b) (λ other differs. (writes.other told other differs).same)
-        ∙ live_stays bank generation place (m.seen a) (m.seen b bank) (can.counts before) (can.written before).behind_head (can.written before).long (ended told).long (held told).front
+        ∙ live_stays bank edition place (m.seen a) (m.seen b bank) (can.counts before) (can.written before).behind_head (can.written before).long (ended told).long (held told).front
 
-closed_at : {W : Type 0} (m : Meaning W) (a : W) (bank : Bank) (place : ℕ) (stood : Around) (map : Map) (generation : ℕ) → IsMendable m a bank gate.Closed place stood map generation → IsFilled m a bank place stood map generation
-closed_at m a bank place stood map generation can = record {
+closed_at : {W : Type 0} (m : Meaning W) (a : W) (bank : Bank) (place : ℕ) (stood : Around) (map : Map) (edition : Edition) → IsMendable m a bank gate.Closed place stood map edition → IsFilled m a bank place stood map edition
+closed_at m a bank place stood map edition can = record {
   rest = can.rest;
-  stands = λ told. closed_stands bank place generation map (m.seen a) (can.counts told) (can.written told) (can.gate_is told).0 (can.gate_is told).1;
+  stands = λ told. closed_stands bank place edition map (m.seen a) (can.counts told) (can.written told) (can.gate_is told).0 (can.gate_is told).1;
   counts = can.counts;
 }
 
 -- a gate that is closed already
-pub closed_mended : {W : Type 0} (m : Meaning W) (a : W) (bank : Bank) (end : EndGate) (place : ℕ) (stood : Around) (map : Map) (generation : ℕ) → end ≡ gate.Closed → IsMendable m a bank end place stood map generation → IsFilled m a bank place stood map generation
-closed_mended m a bank end place stood map generation is can =
-    closed_at m a bank place stood map generation (subst (λ (e : EndGate). IsMendable m a bank e place stood map generation) is can)
+pub closed_mended : {W : Type 0} (m : Meaning W) (a : W) (bank : Bank) (end : EndGate) (place : ℕ) (stood : Around) (map : Map) (edition : Edition) → end ≡ gate.Closed → IsMendable m a bank end place stood map edition → IsFilled m a bank place stood map edition
+closed_mended m a bank end place stood map edition is can =
+    closed_at m a bank place stood map edition (subst (λ (e : EndGate). IsMendable m a bank e place stood map edition) is can)
 
 -- ---- going over to the other bank
 
-spare_beside : (bank : Bank) (banks : Banks) (map : Map) (g : ℕ) → choice_of banks ≡ choice.Live bank g → image_in banks ≡ map → IsSpare (other_bank bank) map (g + 1) banks
+spare_beside : (bank : Bank) (banks : Banks) (map : Map) (g : Edition) → choice_of banks ≡ choice.Live bank g → image_in banks ≡ map → IsSpare (other_bank bank) map (g.generation + 1) banks
 spare_beside A banks map g counts is = spare_beside_a banks map g counts is
 spare_beside B banks map g counts is = spare_beside_b banks map g counts is
 
-pub can_go_over : {W : Type 0} (m : Meaning W) (a : W) (stood : Around) (map : Map) (opened : Opened) → IsOpened m stood map a opened → CanFill m a (other_bank opened.bank) stood (map_in opened.map) (opened.generation + 1)
+pub can_go_over : {W : Type 0} (m : Meaning W) (a : W) (stood : Around) (map : Map) (opened : Opened) → IsOpened m stood map a opened → CanFill m a (other_bank opened.bank) stood (map_in opened.map) (opened.edition.generation + 1)
 can_go_over m a stood map opened is = record {
   rest = is.rest;
-  spare = λ told. spare_beside opened.bank (m.seen a) (map_in opened.map) opened.generation (is.counts told) ((is.stands told).image ∙ sym (is.held told));
+  spare = λ told. spare_beside opened.bank (m.seen a) (map_in opened.map) opened.edition (is.counts told) ((is.stands told).image ∙ sym (is.held told));
 }
 
 -- ---- the store
 
-pub opened_keeps : {W : Type 0} (m : Meaning W) (stood : Around) (map : Map) (world : W) (opened : Opened) → IsOpened m stood map world opened → KeepsAt m world opened.bank opened.end (map_in opened.map)
-opened_keeps m stood map world opened is = record {
+pub current_keeps : {W : Type 0} (m : Meaning W) (stood : Around) (map : Map) (world : W) (opened : Opened) → IsCurrent m stood map world opened → KeepsAt m world opened.bank opened.end (map_in opened.map)
+current_keeps m stood map world opened is = record {
   each = λ told banks image.
-      subst (λ (s : Banks). StandsAt opened.bank opened.end (map_in opened.map) s) (sym (same_banks (m.seen world) banks (λ bank. is.rest.settled told bank (banks bank) (image bank))))
-      (subst (λ (x : Map). StandsAt opened.bank opened.end x (m.seen world)) (sym (is.held told)) (is.stands told));
+      subst (λ (s : Banks). StandsAt Two opened.bank opened.end (map_in opened.map) s) (sym (same_banks (m.seen world) banks (λ bank. is.opens.rest.settled told bank (banks bank) (image bank))))
+      (subst (λ (x : Map). StandsAt Two opened.bank opened.end x (m.seen world)) (sym (is.opens.held told))
+      (subst (λ (v : Version). StandsAt v opened.bank opened.end map (m.seen world)) (is.second told) (is.opens.stands told)));
+}
+
+-- ---- a bank of version 1 is exchanged
+
+live_is : (a b : Edition) → ◌≡◌ {A = Head} (Live a) (Live b) → a ≡ b
+live_is a b e = cc
+
+two_is_not : ◌≡◌ {A = Version} Two One → ⊥
+two_is_not e = absurd cc
+
+-- a generation follows on its own
+live_next : (mark : List ℕ) (generation : ℕ) (edition : Edition) → live_head mark generation ≡ Live edition → edition.version ≡ One → edition.generation < 2 ^ 64 - 1
+live_next mark generation edition e = by (bytes_eq mark (codes "SCONSIG2")) (bytes_eq mark (codes "SCONSIG1")) (nat_lt generation (2 ^ 64 - 1)) refl e
+  where
+    by : (two one next : Bool) → nat_lt generation (2 ^ 64 - 1) ≡ next → cond two (Live (edition_of Two generation)) (cond (one && next) (Live (edition_of One generation)) Foreign) ≡ Live edition → edition.version ≡ One → edition.generation < 2 ^ 64 - 1
+    by true one next lt e = let same : edition_of Two generation ≡ edition = live_is (edition_of Two generation) edition e in λ is. absurd (two_is_not (ap (λ (x : Edition). x.version) same ∙ is))
+    by false true true lt e = let same : edition_of One generation ≡ edition = live_is (edition_of One generation) edition e in λ is. subst (λ (x : Edition). x.generation < 2 ^ 64 - 1) same (ltb-true generation (2 ^ 64 - 1) lt)
+    by false true false lt e = absurd cc
+    by false false next lt e = absurd cc
+
+head_next : (bytes : List ℕ) (edition : Edition) → head_of bytes ≡ Live edition → edition.version ≡ One → edition.generation < 2 ^ 64 - 1
+head_next bytes edition e = by (leb (length bytes) 17) (eqb (gate_of bytes) 1) e
+  where
+    by : (short gate : Bool) → cond short Short (cond gate (live_head (mark_of bytes) (generation_of bytes)) Closed) ≡ Live edition → edition.version ≡ One → edition.generation < 2 ^ 64 - 1
+    by true gate e = absurd cc
+    by false true e = live_next (mark_of bytes) (generation_of bytes) edition e
+    by false false e = absurd cc
+
+counted_next : (bank : Bank) (banks : Banks) (g : Edition) → choice_of banks ≡ choice.Live bank g → g.version ≡ One → g.generation < 2 ^ 64 - 1
+counted_next A banks g counts = head_next (banks A) g (first_live (head_of (banks A)) (head_of (banks B)) g counts)
+counted_next B banks g counts = head_next (banks B) g (second_live (head_of (banks A)) (head_of (banks B)) g counts)
+
+is_second : (version : Version) → (version ≡ One → ⊥) → version ≡ Two
+is_second One not = absurd (not refl)
+is_second Two not = refl
+
+-- a bank that isn't exchanged is of version 2
+pub stays_current : {W : Type 0} (m : Meaning W) (world : W) (stood : Around) (map : Map) (opened : Opened) → (opened.edition.version ≡ One → opened.edition.generation < 2 ^ 64 - 1 → ⊥) → IsOpened m stood map world opened → IsCurrent m stood map world opened
+stays_current m world stood map opened not is = record {
+  opens = is;
+  second = λ told. is_second opened.edition.version (λ one. not one (counted_next opened.bank (m.seen world) opened.edition (is.counts told) one));
 }
 
 -- ---- which bank is live
 
-pub reopened : (bank : Bank) (generation place : ℕ) (held : RecordMap) (was now : List ℕ) (r : Result Opened StoreRefusal) → now ≡ was → IsWrittenTo place (map_in held) now
-    → IfOk r (GoesOver (record { map = held; bank = bank; generation = generation; end = place })) → IfOk r (λ after. IsReopened bank generation was after.map after.bank after.end)
-reopened bank generation place held was now (Err e) same written goes = tt
-reopened bank generation place held was now (Ok after) same written goes = record {
+pub reopened : (bank : Bank) (edition : Edition) (place : ℕ) (held : RecordMap) (was now : List ℕ) (r : Result Opened StoreRefusal) → now ≡ was → IsWrittenTo edition.version place (map_in held) now
+    → IfOk r (GoesOver (record { map = held; bank = bank; edition = edition; end = place })) → IfOk r (λ after. IsReopened bank edition was after.map after.bank after.end)
+reopened bank edition place held was now (Err e) same written goes = tt
+reopened bank edition place held was now (Ok after) same written goes = record {
   place = place;
-  written = subst (λ (h : RecordMap). IsWrittenTo place (map_in h) was) (sym goes.map) (subst (λ (x : List ℕ). IsWrittenTo place (map_in held) x) same written);
-  exchanges = subst (λ (h : RecordMap). Exchanges bank generation place h after.bank after.end) (sym goes.map) goes.exchanges;
+  written = subst (λ (h : RecordMap). IsWrittenTo edition.version place (map_in h) was) (sym goes.map) (subst (λ (x : List ℕ). IsWrittenTo edition.version place (map_in held) x) same written);
+  exchanges = subst (λ (h : RecordMap). Exchanges bank edition place h after.bank after.end) (sym goes.map) goes.exchanges;
 }
 
 pub begun_first : (banks : Banks) (r : Result Opened StoreRefusal) → choice_of banks ≡ choice.None → IfOk r (λ opened. (opened.bank ≡ A) × (opened.end ≡ 17)) → IfOk r (λ after. IsBegunOver banks after.map after.bank after.end)
 begun_first banks (Err e) none is = tt
 begun_first banks (Ok after) none is = subst (λ (c : Choice). begun_by c banks after.map after.bank after.end) (sym none) is
 
-pub begun_live : (banks : Banks) (bank : Bank) (g : ℕ) (r : Result Opened StoreRefusal) → choice_of banks ≡ choice.Live bank g → IfOk r (λ after. IsReopened bank g (banks bank) after.map after.bank after.end)
+pub begun_live : (banks : Banks) (bank : Bank) (g : Edition) (r : Result Opened StoreRefusal) → choice_of banks ≡ choice.Live bank g → IfOk r (λ after. IsReopened bank g (banks bank) after.map after.bank after.end)
     → IfOk r (λ after. IsBegunOver banks after.map after.bank after.end)
 begun_live banks bank g (Err e) counts is = tt
 begun_live banks bank g (Ok after) counts is = subst (λ (c : Choice). begun_by c banks after.map after.bank after.end) (sym counts) is
@@ -338,7 +388,7 @@ pub readable_none : {T : Type 0} (banks : Banks) (r : Result T StoreRefusal) →
 readable_none banks (Err e) small none = tt
 readable_none banks (Ok x) small none = record { small = small; known = λ bank e. let bad : choice.None ≡ choice.Foreign bank = sym none ∙ e in absurd cc }
 
-pub readable_live : {T : Type 0} (banks : Banks) (r : Result T StoreRefusal) (bank : Bank) (g : ℕ) → AreSmall banks → choice_of banks ≡ choice.Live bank g → IfOk r (λ _. AreReadable banks)
+pub readable_live : {T : Type 0} (banks : Banks) (r : Result T StoreRefusal) (bank : Bank) (g : Edition) → AreSmall banks → choice_of banks ≡ choice.Live bank g → IfOk r (λ _. AreReadable banks)
 readable_live banks (Err e) bank g small live = tt
 readable_live banks (Ok x) bank g small live = record { small = small; known = λ other e. let bad : choice.Live bank g ≡ choice.Foreign other = sym live ∙ e in absurd cc }
 
@@ -349,7 +399,7 @@ refused_outside banks (Err e) out = outside_refuses banks e out
 pub are_small : (banks : Banks) (a b : ℕ) → a ≡ length (banks A) → b ≡ length (banks B) → (a ≤ 2 ^ 40) × (b ≤ 2 ^ 40) → AreSmall banks
 are_small banks a b at bt small = record { a = subst (λ (n : ℕ). n ≤ 2 ^ 40) at small.0; b = subst (λ (n : ℕ). n ≤ 2 ^ 40) bt small.1 }
 
-pub gone_over : (opened : Opened) (form : List ℕ) (r : Result Opened StoreRefusal) → IsDue opened.generation opened.end opened.map → form ≡ compact_bytes (opened.generation + 1) opened.map
+pub gone_over : (opened : Opened) (form : List ℕ) (r : Result Opened StoreRefusal) → IsDue opened.edition opened.end opened.map → form ≡ compact_bytes (opened.edition.generation + 1) opened.map
     → IfOk r (λ after. (after.map ≡ opened.map) × (after.bank ≡ other_bank opened.bank) × (after.end ≡ length form)) → IfOk r (GoesOver opened)
 gone_over opened form (Err e) due is over = tt
 gone_over opened form (Ok after) due is over = record { map = over.0; exchanges = inl (due, over.1, over.2 ∙ ap length is) }

@@ -1,19 +1,24 @@
 -- Records in the order of their puts: the order stays, and what each of them adds to the map.
-use Rattle.std.proofs.Common.{◌≡◌, ℕ, zero, suc, ◌<◌, ◌≤◌, ◌+◌, Bool, true, false, cond, eqb, ltb, List, [], ◌∷◌, ◌++◌, length, vec_len, Option, None, Some, refl, sym, ap, subst, ◌∙◌, append_assoc, inl, inr, arith}
-use Rattle.std.specs.Prelude.{◌≢◌, ◌⊎◌, ◌&&◌, ◌||◌, ◌==◌, not, slice_get, filter, nat_lt}
-use Rattle.std.specs.Option.{option_and_then, option_map_or, option_map}
-use Rattle.std.specs.List.{list_any, flat_map, AllByRecursion}
+use Rattle.std.proofs.Common.{◌≡◌, ℕ, zero, suc, ◌<◌, ◌≤◌, ◌+◌, Bool, true, false, cond, ltb, List, [], ◌∷◌, ◌++◌, length, Option, None, Some, refl, sym, ap, subst, ◌∙◌, inl, inr, arith}
+use Rattle.std.specs.Prelude.{◌≢◌, ◌&&◌, ◌||◌, ◌==◌, not, slice_get, filter}
+use Rattle.std.specs.Option.{option_and_then, option_map_or}
+use Rattle.std.specs.List.{list_any}
 use Rattle.std.specs.Str.{bytes_eq}
 use Rattle.std.proofs.lemmas.Bool.{le-ltb, lt-ltb, ltb-true, ltb-false, eqb-true}
 use Rattle.std.proofs.lemmas.Bool.Decides.{eqb_tells}
 use Rattle.std.proofs.lemmas.List.{length-append}
 use Rattle.std.proofs.lemmas.Slice.Eq.{bytes_eq-Decides}
 use Rattle.deciders.specs.declared.recorded.Rec.{Rec}
+use Rattle.deciders.specs.declared.version.Version.{Version}
+use Rattle.deciders.specs.declared.version.Version.TheVariants.{One, Two}
+use Rattle.deciders.specs.Spelling.{Spells, spelling}
+use Rattle.sign_store.specs.declared.entries.Change.TheVariants.{Put, Withdraw}
 use Rattle.sign_store.specs.declared.map.RecordMap.{RecordMap}
-use Rattle.sign_store.specs.Orders.{IsWhole, AreOrdered, IsOrdered, SetsNumbers, is_held, map_up_to}
+use Rattle.sign_store.specs.Orders.{IsWhole, IsWholeChange, AreOrdered, IsOrdered, SetsNumbers, is_held, map_up_to}
+use Rattle.sign_store.specs.Images.{put_in}
 use Rattle.sign_store.specs.Maps.{map_in}
-use Rattle.sign_store.specs.Tables.{Map, number_in, is_among, with_each}
-use Rattle.sign_store.proofs.TableLemmas.{same_map, slice_get-last, stands_on}
+use Rattle.sign_store.specs.Tables.{number_in, is_among, with_each}
+use Rattle.sign_store.proofs.TableLemmas.{same_map, slice_get-last}
 
 some_same : {A : Type 0} (a b : A) → Some a ≡ Some b → a ≡ b
 some_same a b e = cc
@@ -221,3 +226,20 @@ among_filter p (first ∷ paths) path = by (p first) (bytes_eq first path) refl 
     by true false keeps same later = rw same later
     by false true keeps same later = let gone : p path ≡ false = sym (ap p ((bytes_eq-Decides first path).0 same)) ∙ keeps in later ∙ rw gone (and_false (is_among paths path))
     by false false keeps same later = later
+
+-- ---- what is read of an entry can be put again
+
+-- a record of version 1 takes a byte more in version 2
+again_two : (version : Version) (bytes : List ℕ) (rec : Rec) → Spells version bytes rec → length (spelling Two rec) ≤ 4294967294 → IsWhole rec
+again_two version bytes rec spells fits = record { spells = record { valid = spells.valid; parts = spells.parts; hash = tt; spelt = refl }; fits = fits }
+
+pub whole_put : (version : Version) (bytes : List ℕ) (rec : Rec) → Spells version bytes rec → length bytes ≤ 4294967294 → IsWholeChange (put_in version (length bytes) rec)
+whole_put Two bytes rec spells fits = again_two Two bytes rec spells (subst (λ (x : List ℕ). length x ≤ 4294967294) spells.spelt fits)
+whole_put One bytes rec spells fits = by (ltb (length bytes) 4294967294) refl
+  where
+    by : (b : Bool) → ltb (length bytes) 4294967294 ≡ b → IsWholeChange (cond b (Put rec) (Withdraw rec.targets))
+    by false e = tt
+    by true e =
+        let lt = ltb-true (length bytes) 4294967294 e in
+        let len : length (spelling One rec) ≡ length bytes = ap length (sym spells.spelt) in
+        again_two One bytes rec spells (omega (arith, lt, len))

@@ -1,30 +1,30 @@
 -- The steps of beginning a store, one after another.
-use Rattle.std.proofs.Common.{◌≡◌, ℕ, ◌<◌, ◌≤◌, ◌+◌, Bool, true, false, leb, List, [], ◌∷◌, ◌++◌, length, take, drop, refl, sym, ap, subst, ◌∙◌, append_assoc, inl, inr, arith}
-use Rattle.std.specs.Prelude.{◌≢◌, ◌⊎◌, ◌==◌, slice_index, codes, if◌then◌else◌}
+use Rattle.std.proofs.Common.{◌≡◌, ℕ, ◌<◌, ◌+◌, Bool, true, false, leb, List, [], ◌∷◌, ◌++◌, length, take, drop, refl, sym, ap, subst, ◌∙◌, append_assoc, arith}
+use Rattle.std.specs.Prelude.{◌≢◌, ◌&&◌, ◌-◌, ◌^◌, nat_lt, slice_index, codes, if◌then◌else◌}
 use Rattle.std.specs.Str.{bytes_eq}
 use Rattle.std.proofs.lemmas.Bool.{leb-false, lt-leb}
 use Rattle.std.proofs.lemmas.List.{length-append, length-take}
-use Rattle.std.proofs.lemmas.Bool.Decides.{eqb_tells}
 use Rattle.world_api.specs.declared.disk.Bank.{Bank}
 use Rattle.world_api.specs.declared.disk.Bank.TheVariants.{A, B}
 use Rattle.world_api.specs.Around.{Around}
-use Rattle.world_api.specs.Banks.{Banks, Holds, Torn}
-use Rattle.world_api.specs.Meaning.{Meaning, IsImage, IsSettled, BankKept, BanksKept, Throughout, AtEither}
-use Rattle.world_api.proofs.Moments.{begins, chains, weakens}
+use Rattle.world_api.specs.Banks.{Banks, Holds}
+use Rattle.world_api.specs.Meaning.{Meaning, IsImage, IsSettled, Throughout}
+use Rattle.world_api.proofs.Moments.{chains}
+use Rattle.deciders.specs.declared.version.Version.TheVariants.{One, Two}
+use Rattle.sign_store.specs.declared.head.Edition.{Edition}
 use Rattle.sign_store.specs.declared.entries.EndGate.{EndGate}
 use Rattle.sign_store.specs.declared.entries.EndGate.TheVariants as gate
 use Rattle.sign_store.specs.declared.head.Head.TheVariants.{Short, Closed, Foreign, Live}
-use Rattle.sign_store.specs.declared.head.Choice.TheVariants as choice
-use Rattle.sign_store.specs.Heads.{head_of, gate_of, mark_of, generation_of}
-use Rattle.sign_store.specs.Ends.{StandsAt, StandsFor, IsTornFrom, IsLeftOr, KeepsAt, AreSettled, image_in, with_bank}
-use Rattle.sign_store.specs.Forms.{IsSpare, IsShut, IsForm}
+use Rattle.sign_store.specs.Heads.{head_of, mark_of, generation_of, edition_of, live_head}
+use Rattle.sign_store.specs.Ends.{StandsFor, IsTornFrom, image_in, with_bank}
+use Rattle.sign_store.specs.Forms.{IsShut, IsForm}
 use Rattle.sign_store.specs.Reached.{ReadsBanks, Writes, Endures}
 use Rattle.sign_store.specs.Readings.{choice_of}
-use Rattle.sign_store.specs.Beginnings.{IsAtRest, CanFill, IsFilled, IsMendable, IsAsBefore, IsWrittenTo}
+use Rattle.sign_store.specs.Beginnings.{IsAtRest, CanFill, IsFilled, IsMendable}
 use Rattle.sign_store.specs.Tables.{Map}
 use Rattle.sign_store.proofs.WriteLemmas.{held_behind}
 use Rattle.sign_store.proofs.FillLemmas.{harmless, settled_on, torn_close, torn_behind_shut, torn_open, filled_stands, filled_counts, spare_on}
-use Rattle.sign_store.proofs.BeginLemmas.{torn_mend, torn_end, live_stays, closed_stands, bank_with}
+use Rattle.sign_store.proofs.BeginLemmas.{torn_mend}
 
 -- ---- moments
 
@@ -107,7 +107,7 @@ open_moments m a b to stood map generation form rest is there behind run can = h
     (λ told now torn. torn_open to map generation form (rest told) (m.seen a) now (can.spare told) is (behind told) (there told) torn) run
 
 pub fill_done : {W : Type 0} (m : Meaning W) (a b : W) (to : Bank) (stood : Around) (map : Map) (generation : ℕ) (form : List ℕ) (rest : m.tells a → List ℕ) → IsForm generation map form → ((told : m.tells a) → drop 1 (m.seen a to) ≡ form ++ rest told)
-    → Writes m to a b → (m.tells b → IsSettled m b to) → (m.tells b → Holds (m.seen a to) 0 (1 ∷ []) (m.seen b to)) → CanFill m a to stood map generation → IsFilled m b to (length form) stood map generation
+    → Writes m to a b → (m.tells b → IsSettled m b to) → (m.tells b → Holds (m.seen a to) 0 (1 ∷ []) (m.seen b to)) → CanFill m a to stood map generation → IsFilled m b to (length form) stood map (edition_of Two generation)
 fill_done m a b to stood map generation form rest is behind writes settled holds can = record {
   rest = rest_written m a b to stood writes settled can.rest;
   stands = λ told.
@@ -136,22 +136,25 @@ closed_shut bank e = record {
   closed = λ gate. not_open gate (closed_long bank e);
 }
   where
-    not_open : slice_index bank 0 ≡ 1 → 17 < length bank → ⊥
-    not_open gate long = by (bytes_eq (mark_of bank) (codes "SCONSIG1")) refl
+    opens : (mark : List ℕ) (generation : ℕ) → live_head mark generation ≡ Closed → ⊥
+    opens mark generation e = by (bytes_eq mark (codes "SCONSIG2")) (bytes_eq mark (codes "SCONSIG1") && nat_lt generation (2 ^ 64 - 1)) e
       where
-        head_at : (b : Bool) → bytes_eq (mark_of bank) (codes "SCONSIG1") ≡ b → head_of bank ≡ (if b then Live (generation_of bank) else Foreign)
-        head_at b is = rw (lt-leb (length bank) 17 long, gate, is) refl
+        by : (two one : Bool) → (if two then Live (edition_of Two generation) else (if one then Live (edition_of One generation) else Foreign)) ≡ Closed → ⊥
+        by true one e = absurd cc
+        by false true e = absurd cc
+        by false false e = absurd cc
 
-        by : (b : Bool) → bytes_eq (mark_of bank) (codes "SCONSIG1") ≡ b → ⊥
-        by true is = let bad : Live (generation_of bank) ≡ Closed = sym (head_at true is) ∙ e in absurd cc
-        by false is = let bad : Foreign ≡ Closed = sym (head_at false is) ∙ e in absurd cc
+    not_open : slice_index bank 0 ≡ 1 → 17 < length bank → ⊥
+    not_open gate long =
+        let at : head_of bank ≡ live_head (mark_of bank) (generation_of bank) = rw (lt-leb (length bank) 17 long, gate) refl in
+        opens (mark_of bank) (generation_of bank) (sym at ∙ e)
 
 pub zero_shut : (was now : List ℕ) → Holds was 0 (0 ∷ []) now → IsShut now
 zero_shut was now holds = subst IsShut (sym holds) (record { there = omega arith; closed = λ e. absurd cc })
 
 -- ---- mending
 
-pub mend_moments : {W : Type 0} (m : Meaning W) (a b : W) (bank : Bank) (end : EndGate) (place : ℕ) (stood : Around) (map : Map) (generation : ℕ) → end ≢ gate.Closed → Throughout m a b (IsTornFrom m a bank place 1)
-    → IsMendable m a bank end place stood map generation → Throughout m a b (StandsFor stood map)
-mend_moments m a b bank end place stood map generation not run can = harmless m a b bank place 1 stood map can.rest.around can.rest.settled
-    (λ told now torn. torn_mend bank end place generation map (m.seen a) now (can.counts told) (can.written told) (can.gate_is told) not torn) run
+pub mend_moments : {W : Type 0} (m : Meaning W) (a b : W) (bank : Bank) (end : EndGate) (place : ℕ) (stood : Around) (map : Map) (edition : Edition) → end ≢ gate.Closed → Throughout m a b (IsTornFrom m a bank place 1)
+    → IsMendable m a bank end place stood map edition → Throughout m a b (StandsFor stood map)
+mend_moments m a b bank end place stood map edition not run can = harmless m a b bank place 1 stood map can.rest.around can.rest.settled
+    (λ told now torn. torn_mend bank end place edition map (m.seen a) now (can.counts told) (can.written told) (can.gate_is told) not torn) run

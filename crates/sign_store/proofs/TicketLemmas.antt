@@ -1,13 +1,13 @@
 -- The entries of a ticket that is out: they say its record, and have their room.
-use Rattle.std.proofs.Common.{◌≡◌, ℕ, ◌^◌, ◌<◌, ◌≤◌, ◌+◌, Bool, true, false, cond, List, [], ◌∷◌, ◌++◌, length, get_or, Option, Some, None, refl, sym, ap, subst, ◌∙◌, append_assoc, inl, inr, arith}
+use Rattle.std.proofs.Common.{◌≡◌, ℕ, ◌<◌, ◌≤◌, ◌+◌, Bool, true, false, cond, List, [], ◌∷◌, ◌++◌, length, get_or, Option, Some, None, refl, sym, ap, subst, ◌∙◌, append_assoc, arith}
 use Rattle.std.specs.Prelude.{◌≢◌, ◌||◌, ◌&&◌, ◌==◌, not, slice_index, Result, Ok, Err, OnErr}
 use Rattle.std.specs.Option.{option_map, is_some}
-use Rattle.std.specs.List.{list_any}
 use Rattle.std.specs.Str.{bytes_eq}
 use Rattle.std.proofs.lemmas.Slice.Eq.{bytes_eq-Decides}
 use Rattle.std.specs.Int.{w32, to_be_bytes}
 use Rattle.std.proofs.lemmas.List.{append-nil, length-append, get_or-take, take_at}
 use Rattle.deciders.specs.declared.recorded.Rec.{Rec}
+use Rattle.deciders.specs.declared.version.Version.TheVariants.{Two}
 use Rattle.deciders.specs.Spelling.{sized, listed, spelling, IsPathText, Spells}
 use Rattle.deciders.specs.Reading.{path_at, counted, paths_in}
 use Rattle.deciders.proofs.Takings.{path_reader, wide32}
@@ -19,16 +19,26 @@ use Rattle.sign_store.specs.declared.store.Store.{Store}
 use Rattle.sign_store.specs.declared.ticket.Ticket.{Ticket}
 use Rattle.sign_store.specs.Entries.{entry_of, put_payload, withdraw_payload, entries_len}
 use Rattle.sign_store.specs.Ends.{IsEntry}
-use Rattle.sign_store.specs.Stores.{IsTicket, IsOut, IsUntouched, HasRoom, TakesRoom, AreApart, map_of, owed}
+use Rattle.sign_store.specs.Images.{put_in}
+use Rattle.sign_store.specs.Stores.{IsTicket, IsOut, IsUntouched, HasRoom, TakesRoom, AreApart, map_of}
 use Rattle.sign_store.specs.Tables.{Map, has_any, with_each, is_among}
 
 -- ---- what the entries say
 
-pub put_says : (rec : Rec) (bytes : List ℕ) → Spells (spelling rec) rec → length (spelling rec) ≤ 4294967294 → bytes ≡ entry_of (put_payload rec) ++ 0 ∷ [] → IsEntry (Put rec) bytes
+-- a length, the mark of a put and a spelling, one behind the other
+pub put_spelt : (old with_len pushed : List ℕ) (rec : Rec) (len : ℕ) → with_len ≡ old ++ to_be_bytes w32 len → pushed ≡ with_len ++ 1 ∷ [] → len ≡ length (put_payload rec)
+    → pushed ++ spelling Two rec ≡ old ++ entry_of (put_payload rec)
+put_spelt old with_len pushed rec len lengthened marked is =
+    ap (λ (x : List ℕ). x ++ spelling Two rec) (marked ∙ ap (λ (x : List ℕ). x ++ 1 ∷ []) lengthened)
+    ∙ append_assoc (old ++ to_be_bytes w32 len) (1 ∷ []) (spelling Two rec)
+    ∙ append_assoc old (to_be_bytes w32 len) (1 ∷ spelling Two rec)
+    ∙ ap (λ (n : ℕ). old ++ (to_be_bytes w32 n ++ put_payload rec)) is
+
+pub put_says : (rec : Rec) (bytes : List ℕ) → Spells Two (spelling Two rec) rec → length (spelling Two rec) ≤ 4294967294 → bytes ≡ entry_of (put_payload rec) ++ 0 ∷ [] → IsEntry (Put rec) bytes
 put_says rec bytes spells fits is = record {
   payload = put_payload rec;
   fits = omega (arith, fits);
-  says = ap (option_map Put) (record_again (spelling rec) rec spells);
+  says = ap (option_map (put_in Two (length (spelling Two rec)))) (record_again Two (spelling Two rec) rec spells);
   spelt = is;
 }
 
@@ -40,7 +50,7 @@ pub paths_again : (paths : List (List ℕ)) → counted path_at (listed sized pa
 unfolding paths_in
 paths_again paths counts some = rw (counts, some) refl
 
-pub withdrawal_says : (rec : Rec) (bytes : List ℕ) → Spells (spelling rec) rec → length (spelling rec) ≤ 4294967294 → bytes ≡ entry_of (withdraw_payload rec.targets) ++ 0 ∷ []
+pub withdrawal_says : (rec : Rec) (bytes : List ℕ) → Spells Two (spelling Two rec) rec → length (spelling Two rec) ≤ 4294967294 → bytes ≡ entry_of (withdraw_payload rec.targets) ++ 0 ∷ []
     → IsEntry (Withdraw rec.targets) bytes
 withdrawal_says rec bytes spells fits is =
     let again = (list_reader path_at sized IsPathText path_reader).again rec.targets [] spells.parts.targets in
@@ -48,7 +58,7 @@ withdrawal_says rec bytes spells fits is =
     let some : not (length rec.targets == 0) ≡ true = left_true _ _ spells.valid in
     record {
       payload = withdraw_payload rec.targets;
-      fits = omega (arith, fits, targets_within rec);
+      fits = omega (arith, fits, targets_within Two rec);
       says = ap (option_map Withdraw) (paths_again rec.targets counts some);
       spelt = is;
     }
@@ -191,7 +201,7 @@ out_beside old new rec ticket out own map rooms here = record {
 }
 
 -- what the entries of a new ticket take
-pub owed_is : (map : Map) (rec : Rec) (put withdrawal : List ℕ) (payload : ℕ) → payload ≡ length (spelling rec) + 1 → put ≡ entry_of (put_payload rec) ++ 0 ∷ [] → withdrawal ≡ entry_of (withdraw_payload rec.targets) ++ 0 ∷ []
+pub owed_is : (map : Map) (rec : Rec) (put withdrawal : List ℕ) (payload : ℕ) → payload ≡ length (spelling Two rec) + 1 → put ≡ entry_of (put_payload rec) ++ 0 ∷ [] → withdrawal ≡ entry_of (withdraw_payload rec.targets) ++ 0 ∷ []
     → length put + cond (has_any map rec.targets) (length withdrawal) 0 ≡ entries_len map rec payload
 owed_is map rec put withdrawal payload payload-is put-is withdrawal-is = by (has_any map rec.targets)
   where

@@ -1,17 +1,17 @@
 -- What holds at every moment of a synced write, and of an entry that is added by two of them.
-use Rattle.std.proofs.Common.{◌≡◌, ℕ, ◌^◌, ◌<◌, ◌≤◌, ◌+◌, List, [], ◌∷◌, ◌++◌, length, take, drop, max, Some, refl, sym, ap, subst, ◌∙◌, append_assoc, inl, inr, arith}
-use Rattle.std.specs.Prelude.{◌≢◌, ◌⊎◌, slice_index}
-use Rattle.std.proofs.lemmas.List.{take_at, drop_at, drop-drop, length-append, length-take, get_or-drop}
+use Rattle.std.proofs.Common.{◌≡◌, ℕ, ◌<◌, ◌≤◌, ◌+◌, List, [], ◌∷◌, ◌++◌, length, take, drop, refl, sym, ap, subst, ◌∙◌, append_assoc, inl, arith}
+use Rattle.std.specs.Prelude.{◌≢◌, slice_index}
+use Rattle.std.proofs.lemmas.List.{take_at, drop_at, drop-drop, length-append, length-take}
 use Rattle.world_api.specs.declared.disk.Bank.{Bank}
 use Rattle.world_api.specs.declared.disk.Bank.TheVariants.{A, B}
 use Rattle.world_api.specs.Around.{Around}
 use Rattle.world_api.specs.Banks.{Banks, Holds, Torn, Follows}
 use Rattle.world_api.specs.Meaning.{Meaning, IsImage, IsSettled, BankKept, BanksKept, Throughout, AtEither}
-use Rattle.world_api.proofs.Moments.{disk_call, joins, chains, weakens}
+use Rattle.world_api.proofs.Moments.{disk_call, chains, weakens}
+use Rattle.deciders.specs.declared.version.Version.TheVariants.{Two}
 use Rattle.sign_store.specs.declared.entries.Change.{Change}
-use Rattle.sign_store.specs.Entries.{entry_of}
-use Rattle.sign_store.specs.Images.{change_in, applied}
-use Rattle.sign_store.specs.Ends.{StandsAt, KeepsAt, IsEntry, IsEither, IsTornFrom, with_bank, image_in}
+use Rattle.sign_store.specs.Images.{applied}
+use Rattle.sign_store.specs.Ends.{StandsAt, KeepsAt, IsEntry, IsEither, IsTornFrom, with_bank}
 use Rattle.sign_store.specs.Tables.{Map}
 use Rattle.sign_store.proofs.EndLemmas.{torn_behind, torn_gate, gate_opened, gate_at}
 
@@ -66,9 +66,9 @@ image_with m old B was banks others stood B = stood
 
 -- what stands behind a gate that isn't open
 pub behind_stands : {W : Type 0} (m : Meaning W) (old : W) (bank : Bank) (place len : ℕ) (map : Map) (around : Around) (banks : Banks) → m.tells old → KeepsAt m old bank place map → IsTornFrom m old bank (place + 1) len around banks
-    → StandsAt bank place map banks
+    → StandsAt Two bank place map banks
 behind_stands m old bank place len map around banks told keeps torn =
-    torn_behind bank place len map torn.was banks (keeps.each told (with_bank bank torn.was banks) (image_with m old bank torn.was banks torn.others torn.stood)) torn.torn
+    torn_behind Two bank place len map torn.was banks (keeps.each told (with_bank bank torn.was banks) (image_with m old bank torn.was banks torn.others torn.stood)) torn.torn
 
 pub behind_moments : {W : Type 0} (m : Meaning W) (old mid : W) (bank : Bank) (place len : ℕ) (map after : Map) → KeepsAt m old bank place map → Throughout m old mid (IsTornFrom m old bank (place + 1) len)
     → Throughout m old mid (IsEither (m.around old) map after)
@@ -125,7 +125,7 @@ gate_moments m old mid new bank place change bytes map entry keeps first settled
     let behind = ap (drop (place + 1)) is ∙ held_behind place (m.seen old bank) (m.seen mid bank) bytes (inside told_mid) (holds told_mid) ∙ ap (λ (x : List ℕ). x ++ drop (place + 1 + length bytes) (m.seen old bank)) entry.spelt in
     record {
       same = torn.same ∙ around told_mid;
-      map = torn_gate bank place map torn.was (drop (place + 1 + length bytes) (m.seen old bank)) banks change entry.payload stands behind entry.fits entry.says torn.torn;
+      map = torn_gate Two bank place map torn.was (drop (place + 1 + length bytes) (m.seen old bank)) banks change entry.payload stands behind entry.fits entry.says torn.torn;
     }))
 
 -- what stands after the whole
@@ -142,7 +142,7 @@ entry_keeps m old mid new bank place change bytes map entry keeps first back ins
       let stands = (behind_keeps m old mid bank place (length bytes) map keeps first).each told_mid (with_bank bank was banks) (image_with m mid bank was banks (λ other not. (others told other not).no_more (banks other) (image other)) (reads told_mid bank)) in
       let behind = held_behind place (m.seen old bank) was bytes (let i = inside_old told_mid in omega (arith, i)) (holds told_mid) ∙ ap (λ (x : List ℕ). x ++ drop (place + 1 + length bytes) (m.seen old bank)) entry.spelt in
       let open_gate = held_gate place was (m.seen new bank) (held_inside place (m.seen old bank) was bytes (inside_old told_mid) (holds told_mid)) (gate told) in
-      let now = gate_opened bank place map was (drop (place + 1 + length bytes) (m.seen old bank)) banks change entry.payload stands behind entry.fits entry.says
+      let now = gate_opened Two bank place map was (drop (place + 1 + length bytes) (m.seen old bank)) banks change entry.payload stands behind entry.fits entry.says
       (ap (take place) is ∙ open_gate.front) (ap (drop (place + 1)) is ∙ open_gate.behind) (subst (λ (x : List ℕ). place < length x) (sym is) open_gate.inside) (ap (λ (x : List ℕ). slice_index x place) is ∙ open_gate.gate) in
-      subst (λ (n : ℕ). StandsAt bank (place + n) (applied change map) banks) (sym (ap length entry.spelt)) now;
+      subst (λ (n : ℕ). StandsAt Two bank (place + n) (applied change map) banks) (sym (ap length entry.spelt)) now;
 }

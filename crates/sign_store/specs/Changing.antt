@@ -1,17 +1,19 @@
 -- What a change of the banks leaves, at every moment of it and behind it.
-use Rattle.std.specs.Prelude.{◌≡◌, ◌<◌, ◌+◌, ℕ, List, length, None, Some, Result, IfOk, OnOk}
+use Rattle.std.specs.Prelude.{◌≡◌, ◌+◌, ℕ, List, length, Result, IfOk, OnOk}
 use Rattle.world_api.specs.declared.disk.Bank.{Bank}
 use Rattle.world_api.specs.declared.disk.Bank.TheVariants.{A}
 use Rattle.world_api.specs.Around.{Around}
 use Rattle.world_api.specs.Meaning.{Meaning, Throughout}
-use Rattle.deciders.specs.declared.recorded.Rec.{Rec}
 use Rattle.sign_store.specs.declared.entries.Change.{Change}
 use Rattle.sign_store.specs.declared.entries.EndGate.{EndGate}
+use Rattle.deciders.specs.declared.version.Version.TheVariants.{Two}
+use Rattle.sign_store.specs.declared.head.Edition.{Edition}
 use Rattle.sign_store.specs.declared.opening.Opened.{Opened}
 use Rattle.sign_store.specs.declared.head.Choice.TheVariants as choice
-use Rattle.sign_store.specs.Beginnings.{CanFill, IsCounted, IsFilled, IsMendable, IsOpened, IsReopened}
+use Rattle.sign_store.specs.Beginnings.{CanFill, IsCounted, IsCurrent, IsFilled, IsMendable, IsOpened, IsReopened}
 use Rattle.sign_store.specs.Ends.{IsEither, IsEntry, IsLeftOr, KeepsAt, image_in}
 use Rattle.sign_store.specs.Forms.{IsForm}
+use Rattle.sign_store.specs.Heads.{edition_of}
 use Rattle.sign_store.specs.Images.{applied}
 use Rattle.sign_store.specs.Maps.{map_in}
 use Rattle.sign_store.specs.Reached.{Endures}
@@ -44,16 +46,16 @@ FillsThroughout m old new bank form = (stood : Around) (map : Map) (generation :
 abbrev pub Fills : {W T E : Type 0} → Meaning W → W → W → Bank → List ℕ → Result T E → Type 0
 Fills m old new bank form result = (stood : Around) (map : Map) (generation : ℕ)
     → CanFill m old bank stood map generation → IsForm generation map form
-    → OnOk result (IsFilled m new bank (length form) stood map generation)
+    → OnOk result (IsFilled m new bank (length form) stood map (edition_of Two generation))
 
 -- the last gate of a bank that counts is closed: the banks stand for the same map
 abbrev pub MendsThroughout : {W : Type 0} → Meaning W → W → W → Bank → EndGate → ℕ → Type 0
-MendsThroughout m old new bank gate end = (stood : Around) (map : Map) (generation : ℕ)
-    → IsMendable m old bank gate end stood map generation → Endures m old new stood map
+MendsThroughout m old new bank gate end = (stood : Around) (map : Map) (edition : Edition)
+    → IsMendable m old bank gate end stood map edition → Endures m old new stood map
 
 abbrev pub Mends : {W T E : Type 0} → Meaning W → W → W → Bank → EndGate → ℕ → Result T E → Type 0
-Mends m old new bank gate end result = (stood : Around) (map : Map) (generation : ℕ)
-    → IsMendable m old bank gate end stood map generation → OnOk result (IsFilled m new bank end stood map generation)
+Mends m old new bank gate end result = (stood : Around) (map : Map) (edition : Edition)
+    → IsMendable m old bank gate end stood map edition → OnOk result (IsFilled m new bank end stood map edition)
 
 -- where no bank counts, one is made live that has no entry: the banks stand for nothing, before it and behind it
 abbrev pub StartsThroughout : {W : Type 0} → Meaning W → W → W → Type 0
@@ -61,21 +63,21 @@ StartsThroughout m old new = (stood : Around) → CanFill m old A stood nothing 
 
 abbrev pub Starts : {W E : Type 0} → Meaning W → W → W → Result Opened E → Type 0
 Starts m old new result = (stood : Around) → CanFill m old A stood nothing 1
-    → IfOk result (IsOpened m stood nothing new)
+    → IfOk result (IsCurrent m stood nothing new)
 
 -- a bank that counts is read and mended, and exchanged where that is due: the banks stand for the same map
-abbrev pub ReopensThroughout : {W : Type 0} → Meaning W → W → W → Bank → ℕ → Type 0
-ReopensThroughout m old new bank generation = (stood : Around) (map : Map)
-    → IsCounted m old bank stood map generation → Endures m old new stood map
+abbrev pub ReopensThroughout : {W : Type 0} → Meaning W → W → W → Bank → Edition → Type 0
+ReopensThroughout m old new bank edition = (stood : Around) (map : Map)
+    → IsCounted m old bank stood map edition → Endures m old new stood map
 
-abbrev pub Reopens : {W E : Type 0} → Meaning W → W → W → Bank → ℕ → Result Opened E → Type 0
-Reopens m old new bank generation result = (stood : Around) (map : Map)
-    → IsCounted m old bank stood map generation → IfOk result (IsOpened m stood map new)
+abbrev pub Reopens : {W E : Type 0} → Meaning W → W → W → Bank → Edition → Result Opened E → Type 0
+Reopens m old new bank edition result = (stood : Around) (map : Map)
+    → IsCounted m old bank stood map edition → IfOk result (IsCurrent m stood map new)
 
 -- by what was read of it the bank that is live then, and where its entries end
-abbrev pub ReopensAs : {W E : Type 0} → Meaning W → W → Bank → ℕ → Result Opened E → Type 0
-ReopensAs m old bank generation result = choice_of (m.seen old) ≡ choice.Live bank generation
-    → IfOk result (λ after. IsReopened bank generation (m.seen old bank) after.map after.bank after.end)
+abbrev pub ReopensAs : {W E : Type 0} → Meaning W → W → Bank → Edition → Result Opened E → Type 0
+ReopensAs m old bank edition result = choice_of (m.seen old) ≡ choice.Live bank edition
+    → IfOk result (λ after. IsReopened bank edition (m.seen old bank) after.map after.bank after.end)
 
 -- another bank may be filled with the compact form: the banks stand for the same map
 abbrev pub CompactsThroughout : {W : Type 0} → Meaning W → W → W → Opened → Type 0
@@ -84,16 +86,16 @@ CompactsThroughout m old new opened = (stood : Around) (map : Map)
 
 abbrev pub Compacts : {W E : Type 0} → Meaning W → W → W → Opened → Result Opened E → Type 0
 Compacts m old new opened result = (stood : Around) (map : Map)
-    → IsOpened m stood map old opened → IfOk result (IsOpened m stood map new)
+    → IsOpened m stood map old opened → IfOk result (IsCurrent m stood map new)
 
 -- it is filled with this form, in the next generation
 abbrev pub GoesOverThroughout : {W : Type 0} → Meaning W → W → W → Opened → List ℕ → Type 0
 GoesOverThroughout m old new opened form = (stood : Around) (map : Map) → IsOpened m stood map old opened
-    → IsForm (opened.generation + 1) (map_in opened.map) form → Endures m old new stood map
+    → IsForm (opened.edition.generation + 1) (map_in opened.map) form → Endures m old new stood map
 
 abbrev pub GoesOverTo : {W E : Type 0} → Meaning W → W → W → Opened → List ℕ → Result Opened E → Type 0
 GoesOverTo m old new opened form result = (stood : Around) (map : Map) → IsOpened m stood map old opened
-    → IsForm (opened.generation + 1) (map_in opened.map) form → IfOk result (IsOpened m stood map new)
+    → IsForm (opened.edition.generation + 1) (map_in opened.map) form → IfOk result (IsCurrent m stood map new)
 
 -- a store is begun: the banks are as a stop could have left them before, or stand for the map that they stood for
 abbrev pub BeginsThroughout : {W : Type 0} → Meaning W → W → W → Type 0

@@ -1,6 +1,6 @@
 -- The compact form of a bank: one put for each record that a path still has, in the order of the puts. Directly behind
 -- each put stands the withdrawal of those of its targets that have another record or none, where there are such.
-use Rattle.std.specs.Prelude.{◌≡◌, ◌≢◌, ◌≤◌, ◌<◌, ◌^◌, ◌+◌, ◌*◌, ◌-◌, ℕ, zero, suc, List, [], ◌∷◌, ◌++◌, filter, length, not, slice_get, Result, OnOk, if◌then◌else◌}
+use Rattle.std.specs.Prelude.{◌≡◌, ◌≢◌, ◌≤◌, ◌<◌, ◌+◌, ◌*◌, ℕ, zero, suc, List, [], ◌∷◌, ◌++◌, filter, length, not, slice_get, Result, OnOk, if◌then◌else◌}
 use Rattle.std.specs.List.{list_any}
 use Rattle.std.specs.Option.{option_map_or}
 use Rattle.deciders.specs.declared.recorded.Rec.{Rec}

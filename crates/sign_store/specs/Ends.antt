@@ -5,21 +5,23 @@ use Rattle.world_api.specs.declared.disk.Bank.TheVariants.{A, B}
 use Rattle.world_api.specs.Around.{Around}
 use Rattle.world_api.specs.Banks.{Banks, Holds, Torn}
 use Rattle.world_api.specs.Meaning.{Meaning, IsImage, IsSettled, Throughout}
+use Rattle.deciders.specs.declared.version.Version.{Version}
+use Rattle.deciders.specs.declared.version.Version.TheVariants.{Two}
 use Rattle.sign_store.specs.declared.entries.Change.{Change}
 use Rattle.sign_store.specs.declared.head.Choice.TheVariants as choice
-use Rattle.sign_store.specs.Heads.{head_of, chosen}
+use Rattle.sign_store.specs.Heads.{head_of, chosen, edition_of}
 use Rattle.sign_store.specs.Entries.{entry_of}
 use Rattle.sign_store.specs.Images.{change_in, after_entries, entries_map, body_of, image_of}
 use Rattle.sign_store.specs.Tables.{Map}
 
--- up to this place a bank has a head and whole entries, which stand for this map whatever is behind them; the gate
--- there isn't open
-pub record EndsAt (place : ℕ) (map : Map) (bank : List ℕ) : Type 0 where
+-- up to this place a bank of this version has a head and whole entries, which stand for this map whatever is behind
+-- them; the gate there isn't open
+pub record EndsAt (version : Version) (place : ℕ) (map : Map) (bank : List ℕ) : Type 0 where
   pub behind_head : 17 ≤ place
   pub inside : place < length bank
   pub closed : slice_index bank place ≢ 1
   pub entries : (behind : List ℕ)
-      → entries_map (body_of (take place bank) ++ behind) ≡ after_entries (length behind) map behind
+      → entries_map version (body_of (take place bank) ++ behind) ≡ after_entries version (length behind) map behind
 
 -- a bank has a byte at this place then
 abbrev pub ReachesPlace : {W T E : Type 0} → Meaning W → Bank → ℕ → W → Result T E → Type 0
@@ -32,22 +34,22 @@ image_in banks = image_of (banks A) (banks B)
 abbrev pub ReadsAsBefore : {W : Type 0} → Meaning W → W → W → Type 0
 ReadsAsBefore m old new = image_in (m.seen new) ≡ image_in (m.seen old)
 
--- this bank counts, its entries end at this place, and the banks stand for this map
-pub record StandsAt (bank : Bank) (place : ℕ) (map : Map) (banks : Banks) : Type 0 where
+-- this bank counts and is of this version, its entries end at this place, and the banks stand for this map
+pub record StandsAt (version : Version) (bank : Bank) (place : ℕ) (map : Map) (banks : Banks) : Type 0 where
   pub generation : ℕ
-  pub counts : chosen (head_of (banks A)) (head_of (banks B)) ≡ choice.Live bank generation
-  pub ends : EndsAt place map (banks bank)
+  pub counts : chosen (head_of (banks A)) (head_of (banks B)) ≡ choice.Live bank (edition_of version generation)
+  pub ends : EndsAt version place map (banks bank)
   pub image : image_in banks ≡ map
 
--- whatever a stop leaves now stands for this map, in entries of this bank that end at this place
+-- whatever a stop leaves now stands for this map, in entries of this bank, of version 2, that end at this place
 pub record KeepsAt {W : Type 0} (m : Meaning W) (world : W) (bank : Bank) (place : ℕ) (map : Map) : Type 0 where
-  pub each : m.tells world → (banks : Banks) → IsImage m world banks → StandsAt bank place map banks
+  pub each : m.tells world → (banks : Banks) → IsImage m world banks → StandsAt Two bank place map banks
 
 -- what stands behind the gate of an entry that makes this change: its length, its payload and the next gate, closed
 pub record IsEntry (change : Change) (bytes : List ℕ) : Type 0 where
   pub payload : List ℕ
   pub fits : length payload < 2 ^ 32
-  pub says : change_in payload ≡ Some change
+  pub says : change_in Two payload ≡ Some change
   pub spelt : bytes ≡ entry_of payload ++ 0 ∷ []
 
 -- the banks stand for the one map or for the other, and all around is as it was

@@ -1,13 +1,14 @@
 -- The entries of a bank.
-use Rattle.std.specs.Prelude.{ℕ, ◌+◌, List, ◌∷◌, ◌++◌, length, Some, if◌then◌else◌}
+use Rattle.std.specs.Prelude.{ℕ, ◌+◌, List, ◌∷◌, ◌++◌, length, if◌then◌else◌}
 use Rattle.std.specs.Int.{w32, to_be_bytes}
 use Rattle.deciders.specs.declared.recorded.Rec.{Rec}
+use Rattle.deciders.specs.declared.version.Version.TheVariants.{Two}
 use Rattle.deciders.specs.Spelling.{sized, listed, spelling}
 use Rattle.sign_store.specs.Tables.{Map, has_any}
 
 -- gives each target of the record this record
 abbrev pub put_payload : Rec → List ℕ
-put_payload rec = 1 ∷ spelling rec
+put_payload rec = 1 ∷ spelling Two rec
 
 -- takes away the records of these paths
 abbrev pub withdraw_payload : List (List ℕ) → List ℕ

@@ -1,8 +1,9 @@
 -- Records in the order of their puts, each with its spelling, and what so many of them stand for.
-use Rattle.std.specs.Prelude.{◌≡◌, ◌≤◌, ◌<◌, ℕ, Bool, true, false, List, length, Option, None, Some, slice_get, nat_lt, ◌==◌, if◌then◌else◌}
+use Rattle.std.specs.Prelude.{◌≡◌, ◌≤◌, ℕ, Bool, true, false, List, length, Option, None, Some, slice_get, nat_lt, ◌==◌, if◌then◌else◌}
 use Rattle.std.specs.Option.{option_and_then, option_map_or}
 use Rattle.deciders.specs.declared.recorded.Rec.{Rec}
-use Rattle.deciders.specs.Spelling.{Spells, IsPathText, IsListOf, spelling}
+use Rattle.deciders.specs.declared.version.Version.TheVariants.{Two}
+use Rattle.deciders.specs.Spelling.{Spells, spelling}
 use Rattle.sign_store.specs.declared.entries.Change.{Change}
 use Rattle.sign_store.specs.declared.entries.Change.TheVariants.{Put, Withdraw}
 use Rattle.sign_store.specs.declared.map.RecordMap.{RecordMap}
@@ -10,8 +11,8 @@ use Rattle.sign_store.specs.Tables.{Map, number_in, is_among}
 
 -- a record that an entry can put
 pub record IsWhole (rec : Rec) : Type 0 where
-  pub spells : Spells (spelling rec) rec
-  pub fits : length (spelling rec) ≤ 4294967294
+  pub spells : Spells Two (spelling Two rec) rec
+  pub fits : length (spelling Two rec) ≤ 4294967294
 
 -- the change of an entry
 abbrev pub IsWholeChange : Change → Type 0

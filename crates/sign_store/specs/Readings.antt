@@ -3,6 +3,7 @@ use Rattle.std.specs.Prelude.{◌≡◌, ◌≢◌, ◌≤◌, ◌<◌, ◌^◌,
 use Rattle.world_api.specs.declared.disk.Bank.{Bank}
 use Rattle.world_api.specs.declared.disk.Bank.TheVariants.{A, B}
 use Rattle.world_api.specs.Banks.{Banks}
+use Rattle.deciders.specs.declared.version.Version.{Version}
 use Rattle.sign_store.specs.declared.head.Choice.{Choice}
 use Rattle.sign_store.specs.declared.head.Choice.TheVariants as choice
 use Rattle.sign_store.specs.declared.refusals.StoreRefusal.{StoreRefusal}
@@ -47,8 +48,8 @@ IsOutside refusal.Memory = Unit {0}
 
 -- so many bytes of what stands behind a head are whole entries, which lead from the one map to the other whatever is
 -- behind them; what is behind them is no entry
-pub record IsReadTo (len : ℕ) (from map : Map) (body : List ℕ) : Type 0 where
+pub record IsReadTo (version : Version) (len : ℕ) (from map : Map) (body : List ℕ) : Type 0 where
   pub reads : (behind : List ℕ)
-      → after_entries (length (take len body ++ behind)) from (take len body ++ behind)
-      ≡ after_entries (length behind) map behind
-  pub ends : entry_in (drop len body) ≡ None
+      → after_entries version (length (take len body ++ behind)) from (take len body ++ behind)
+      ≡ after_entries version (length behind) map behind
+  pub ends : entry_in version (drop len body) ≡ None

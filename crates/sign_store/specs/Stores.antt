@@ -3,6 +3,7 @@ use Rattle.std.specs.Prelude.{◌≡◌, ◌≢◌, ◌≤◌, ◌<◌, ◌+◌,
 use Rattle.world_api.specs.Banks.{Banks}
 use Rattle.world_api.specs.Meaning.{Meaning}
 use Rattle.deciders.specs.declared.recorded.Rec.{Rec}
+use Rattle.deciders.specs.declared.version.Version.TheVariants.{Two}
 use Rattle.deciders.specs.Spelling.{Spells, spelling}
 use Rattle.sign_store.specs.declared.store.Store.{Store}
 use Rattle.sign_store.specs.declared.ticket.Ticket.{Ticket}
@@ -103,8 +104,8 @@ owed store rec ticket = length ticket.put.items + withdrawal_len store rec ticke
 -- the store's ticket is out: its record has its spelling, and its entries have their room
 pub record IsOut (store : Store) (rec : Rec) (ticket : Ticket) : Type 0 where
   pub own : IsTicket store rec ticket
-  pub spells : Spells (spelling rec) rec
-  pub fits : length (spelling rec) ≤ 4294967294
+  pub spells : Spells Two (spelling Two rec) rec
+  pub fits : length (spelling Two rec) ≤ 4294967294
   pub room : HasRoom store ticket.room (owed store rec ticket)
 
 -- what the entries of a record will take

@@ -13,6 +13,7 @@ use crate::entries::{EndGate, apply_all, claimed_len, gate_at};
 use crate::head::HEAD_LEN;
 use crate::map::RecordMap;
 use crate::refusals::StoreRefusal;
+use deciders::Version;
 use std::alloc::Global;
 use world_api::{Bank, Disk};
 
@@ -30,12 +31,13 @@ pub(crate) struct End {
     pub gate: EndGate,
 }
 
-/// Applies the entries of a bank of this size, one after the other, up to where they end. What a block cuts is read
+/// Applies the entries of a bank of this version and size, one after the other, up to where they end. What a block cuts is read
 /// again with the next one.
 pub(crate) fn load_bank<W: Disk>(
     alloc: Global,
     world: &mut W,
     bank: Bank,
+    version: Version,
     size: u64,
     map: &mut RecordMap,
 ) -> Result<End, StoreRefusal>
@@ -43,7 +45,7 @@ pub(crate) fn load_bank<W: Disk>(
     requires long { 17 < size }
     ensures place { IfOk result (λ end. (17 ≤ end.place) × (end.place ≤ size)) }
     ensures inside { IfOk result (λ end. end.gate ≢ EndGate.Missing → end.place < size) }
-    ensures read { W.meaning.tells world.new → IfOk result (EndsThere (map_in map.old) (map_in map.new) (W.meaning.seen world.new bank)) }
+    ensures read { W.meaning.tells world.new → IfOk result (EndsThere version (map_in map.old) (map_in map.new) (W.meaning.seen world.new bank)) }
     ensures ordered { IsOrdered map.old → OnOk result (IsOrdered map.new) }
     ensures refused { IfErr result IsOutside }
     ensures cause { HasFaultCause W.meaning world.old world.new result }
@@ -55,10 +57,10 @@ pub(crate) fn load_bank<W: Disk>(
     loop {
         let part = read_part(alloc, world, bank, place, want.min(size - place))?;
         let bytes = part.as_slice();
-        let len = apply_all(map, alloc, bytes)?;
+        let len = apply_all(map, alloc, version, bytes)?;
         let rest = &bytes[len..];
         place += len as u64;
-        match needed(rest, size - place) {
+        match needed(version, rest, size - place) {
             Some(more) => want = want.max(more),
             None => {
                 let gate = gate_at(rest, 0);
@@ -70,10 +72,10 @@ pub(crate) fn load_bank<W: Disk>(
 
 /// How many bytes have to be known, to tell whether an entry stands at a place with these bytes and so many to the
 /// bank's end; none where it's clear that no entry does. All that is whole in the bytes was read before.
-fn needed(front: &[u8], left: u64) -> Option<u64>
+fn needed(version: Version, front: &[u8], left: u64) -> Option<u64>
     requires within { length front.now ≤ left }
-    requires none { entry_in front.now ≡ None }
-    ensures ends { result ≡ None → ShowsEnd left front.now }
+    requires none { entry_in version front.now ≡ None }
+    ensures ends { result ≡ None → ShowsEnd version left front.now }
     ensures more { IfSome result (λ more. (length front.now < left) × (length front.now < more) × (more ≤ max left 6)) }
 {
     let len = front.len() as u64;

@@ -1,5 +1,5 @@
 //! The compact form of a bank: one put for each record that a path still has.
-ghost use Rattle.std.specs.Prelude.{◌≡◌, ◌≢◌, ◌≤◌, ◌<◌, ◌+◌, ◌-◌, ◌*◌, ◌^◌, ◌↔◌, ◌++◌, ◌∷◌, Some, length, slice_get, vec_len, IsTrue, IfOk, OnOk};
+ghost use Rattle.std.specs.Prelude.{◌≡◌, ◌≢◌, ◌≤◌, ◌<◌, ◌+◌, ◌-◌, ◌*◌, ◌^◌, ◌↔◌, ◌⊎◌, ◌++◌, ◌∷◌, Some, length, slice_get, vec_len, IsTrue, IfOk, OnOk};
 ghost use Rattle.sign_store.specs.Entries.{entry_of, put_payload};
 ghost use Rattle.sign_store.specs.Compacts.{AddsWithdrawal, IsWorth, all_entries, compact_bytes, entries_at, lost_among, put_entries};
 ghost use Rattle.sign_store.specs.Forms.{IsForm};
@@ -7,10 +7,10 @@ ghost use Rattle.sign_store.specs.Heads.{head_bytes};
 ghost use Rattle.sign_store.specs.Orders.{IsOrdered, IsWhole};
 ghost use Rattle.sign_store.specs.Tables.{nothing};
 
-use crate::head::MARK;
+use crate::head::{Edition, MARK};
 use crate::map::RecordMap;
 use crate::ticket::{push_put, push_withdraw};
-use deciders::{Rec, paths_len, spelled_len};
+use deciders::{Rec, Version, paths_len, spelled_len};
 use scons_base::limits::PAYLOAD_LIMIT;
 use scons_base::{Memory, PathText};
 use std::alloc::Global;
@@ -21,18 +21,25 @@ pub(crate) const FIRST_GENERATION: u64 = 1;
 /// A live bank grows by this much before it is compacted, beside twice what its compact form has.
 const GROWTH: u64 = 65_536;
 
-/// Whether a live bank of this length is worth the change to a compact form of that length.
-pub(crate) fn is_worth(live: u64, compact: u64) -> bool
+/// Whether a live bank of this length is to be exchanged for a compact one of that length: it is of version 1, or worth
+/// it.
+pub(crate) fn is_due(version: Version, live: u64, compact: u64) -> bool
+    ensures { IsTrue result ↔ ((version ≡ Version.One) ⊎ IsWorth live compact) }
+{
+    version == Version::One || is_worth(live, compact)
+}
+
+fn is_worth(live: u64, compact: u64) -> bool
     ensures { IsTrue result ↔ IsWorth live compact }
 {
     live > GROWTH && (live - GROWTH - 1) / 2 >= compact
 }
 
-/// Whether a live bank of this generation and length can be worth it at all: a generation follows on its own.
-pub(crate) fn can_be_worth(generation: u64, live: u64) -> bool
-    ensures { IsTrue result ↔ ((generation < 2 ^ 64 - 1) × (65536 < live)) }
+/// Whether that can be at all: a generation follows on its own, and a bank of version 2 is long.
+pub(crate) fn can_be_due(edition: Edition, live: u64) -> bool
+    ensures { IsTrue result ↔ ((edition.generation < 2 ^ 64 - 1) × ((edition.version ≡ Version.One) ⊎ (65536 < live))) }
 {
-    generation < u64::MAX && live > GROWTH
+    edition.generation < u64::MAX && (edition.version == Version::One || live > GROWTH)
 }
 
 /// The compact form of the empty map, in the first generation.
@@ -119,7 +126,7 @@ fn push_record_entries(
 fn push_put_entry(form: &mut Vec<u8>, rec: &Rec) -> Result<(), Memory>
     ensures { IsWhole rec.now → OnOk result (form.new.items ≡ form.old.items ++ 1 ∷ entry_of (put_payload rec.now)) }
 {
-    if spelled_len(rec) >= PAYLOAD_LIMIT {
+    if spelled_len(Version::Two, rec) >= PAYLOAD_LIMIT {
         return Ok(());
     }
     form.push(1)?;

@@ -5,7 +5,7 @@ ghost use Rattle.std.specs.List.{flat_map};
 ghost use Rattle.sign_store.specs.Compacts.{all_entries, compact_bytes, entries_at, lost_among, withdrawal_of};
 
 use crate::map::RecordMap;
-use deciders::spelled_len;
+use deciders::{Version, spelled_len};
 use scons_base::PathText;
 
 /// What an entry has beside its record or its paths: the gate, four bytes of length, and which change it is.
@@ -39,7 +39,7 @@ fn entries_len(map: &RecordMap, number: usize) -> u64
     if !map.holds_any(rec.targets.as_slice(), number) {
         return 0;
     }
-    let put = spelled_len(rec).saturating_add(ENTRY_FRAME);
+    let put = spelled_len(Version::Two, rec).saturating_add(ENTRY_FRAME);
     put.saturating_add(withdrawal_len(map, number, rec.targets.as_slice()))
 }
 

@@ -6,12 +6,16 @@ ghost use Rattle.sign_store.specs.Maps.{map_in};
 ghost use Rattle.sign_store.specs.Orders.{IsOrdered, IsWholeChange};
 ghost use Rattle.sign_store.specs.Gates.{IsGate};
 ghost use Rattle.sign_store.specs.Readings.{IsReadTo};
-ghost use Rattle.sign_store.specs.Images.{length_in, payload_in, change_in, entry_in, applied, after_entries, entries_map};
+ghost use Rattle.sign_store.specs.Images.{length_in, payload_in, put_in, change_in, entry_in, applied, after_entries, entries_map};
 
 use crate::map::RecordMap;
-use deciders::{Rec, decode, decode_paths};
+use deciders::{Rec, Version, decode, decode_paths};
+use scons_base::limits::PAYLOAD_LIMIT;
 use scons_base::{Memory, Paths};
 use std::alloc::Global;
+
+/// The length of a record in the longest put.
+const LONGEST_RECORD: usize = PAYLOAD_LIMIT as usize - 1;
 
 /// What an entry does.
 #[derive(Drop)]
@@ -32,12 +36,13 @@ pub(crate) enum EndGate {
     Missing,
 }
 
-/// What the entries in a body stand for, up to where they end. `body` is what stands behind the head of a bank.
-pub(crate) fn load(alloc: Global, body: &[u8]) -> Result<RecordMap, Memory>
-    ensures map { IfOk result (λ map. map_in map ≡ entries_map body.now) }
+/// What the entries in a body stand for, up to where they end. `body` is what stands behind the head of a bank of this
+/// version.
+pub(crate) fn load(alloc: Global, version: Version, body: &[u8]) -> Result<RecordMap, Memory>
+    ensures map { IfOk result (λ map. map_in map ≡ entries_map version body.now) }
 {
     let mut map = RecordMap::new(alloc);
-    apply_all(&mut map, alloc, body)?;
+    apply_all(&mut map, alloc, version, body)?;
     Ok(map)
 }
 
@@ -57,14 +62,19 @@ pub(crate) fn gate_at(body: &[u8], place: usize) -> EndGate
 }
 
 /// Applies one entry after the other, and says how many bytes they take.
-pub(crate) fn apply_all(map: &mut RecordMap, alloc: Global, body: &[u8]) -> Result<usize, Memory>
-    ensures map { OnOk result (map_in map.new ≡ after_entries (length body.now) (map_in map.old) body.now) }
-    ensures reads { IfOk result (λ len. IsReadTo len (map_in map.old) (map_in map.new) body.now) }
+pub(crate) fn apply_all(
+    map: &mut RecordMap,
+    alloc: Global,
+    version: Version,
+    body: &[u8],
+) -> Result<usize, Memory>
+    ensures map { OnOk result (map_in map.new ≡ after_entries version (length body.now) (map_in map.old) body.now) }
+    ensures reads { IfOk result (λ len. IsReadTo version len (map_in map.old) (map_in map.new) body.now) }
     ensures ordered { IsOrdered map.old → OnOk result (IsOrdered map.new) }
     ensures len { IfOk result (λ len. len ≤ length body.now) }
 {
     let mut len = 0;
-    while let Some((change, size)) = first_entry(alloc, &body[len..])? {
+    while let Some((change, size)) = first_entry(alloc, version, &body[len..])? {
         apply(map, change)?;
         len += size;
     }
@@ -85,8 +95,12 @@ fn apply(map: &mut RecordMap, change: Change) -> Result<(), Memory>
 }
 
 /// The entry in front and its size, if one stands there whole.
-fn first_entry(alloc: Global, bytes: &[u8]) -> Result<Option<(Change, usize)>, Memory>
-    ensures entry { IfOk result (λ found. found ≡ entry_in bytes.now) }
+fn first_entry(
+    alloc: Global,
+    version: Version,
+    bytes: &[u8],
+) -> Result<Option<(Change, usize)>, Memory>
+    ensures entry { IfOk result (λ found. found ≡ entry_in version bytes.now) }
     ensures within { IfOk result (λ found. IfSome found (λ entry. (0 < entry.1) × (entry.1 ≤ length bytes.now))) }
     ensures whole { IfOk result (λ found. IfSome found (λ entry. IsWholeChange entry.0)) }
 {
@@ -94,7 +108,7 @@ fn first_entry(alloc: Global, bytes: &[u8]) -> Result<Option<(Change, usize)>, M
         return Ok(None);
     };
     let size = payload.len() + 5;
-    match change_of(alloc, payload)? {
+    match change_of(alloc, version, payload)? {
         Some(change) => Ok(Some((change, size))),
         None => Ok(None),
     }
@@ -126,25 +140,43 @@ pub(crate) fn claimed_len(bytes: &[u8]) -> usize
     u32::from_be_bytes([bytes[1], bytes[2], bytes[3], bytes[4]]) as usize
 }
 
-fn change_of(alloc: Global, payload: &[u8]) -> Result<Option<Change>, Memory>
+fn change_of(alloc: Global, version: Version, payload: &[u8]) -> Result<Option<Change>, Memory>
     requires { length payload.now ≤ 4294967295 }
-    ensures change { IfOk result (λ found. found ≡ change_in payload.now) }
+    ensures change { IfOk result (λ found. found ≡ change_in version payload.now) }
     ensures whole { IfOk result (λ found. IfSome found IsWholeChange) }
 {
     match payload {
-        [1, rest @ ..] => put_of(alloc, rest),
+        [1, rest @ ..] => put_of(alloc, version, rest),
         [2, rest @ ..] => Ok(decode_paths(alloc, rest)?.map(Change::Withdraw)),
         _ => Ok(None),
     }
 }
 
-fn put_of(alloc: Global, bytes: &[u8]) -> Result<Option<Change>, Memory>
+fn put_of(alloc: Global, version: Version, bytes: &[u8]) -> Result<Option<Change>, Memory>
     requires { length bytes.now ≤ 4294967294 }
-    ensures change { IfOk result (λ found. found ≡ option_map Change.Put (record_in bytes.now)) }
+    ensures change { IfOk result (λ found. found ≡ option_map (put_in version (length bytes.now)) (record_in version bytes.now)) }
     ensures whole { IfOk result (λ found. IfSome found IsWholeChange) }
 {
-    match decode(alloc, bytes)? {
-        Some(rec) => Ok(Some(Change::Put(rec))),
+    match decode(alloc, version, bytes)? {
+        Some(rec) => Ok(Some(put_in(version, bytes.len(), rec))),
         None => Ok(None),
+    }
+}
+
+/// The put of a record that so many bytes spell. The longest of version 1 has no spelling in version 2: its targets have
+/// no record.
+fn put_in(version: Version, len: usize, rec: Rec) -> Change
+    ensures { result ≡ put_in version len rec }
+{
+    match version {
+        Version::One => {
+            if len < LONGEST_RECORD {
+                Change::Put(rec)
+            } else {
+                let Rec { targets, .. } = rec;
+                Change::Withdraw(targets)
+            }
+        }
+        Version::Two => Change::Put(rec),
     }
 }

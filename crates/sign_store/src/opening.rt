@@ -16,12 +16,14 @@ ghost use Rattle.sign_store.specs.Readings.{AreReadable, IsOutside, IsRefusal, c
 
 use crate::banks::{Sizes, fill, read_head, sizes_of, write_synced};
 use crate::blocks::load_bank;
-use crate::compact::{FIRST_GENERATION, can_be_worth, compact_form, empty_form, is_worth};
+use crate::compact::{FIRST_GENERATION, can_be_due, compact_form, empty_form, is_due};
 use crate::compact_len::compact_len;
 use crate::entries::EndGate;
-use crate::head::{Choice, HEAD_LEN, chosen, other};
+use crate::head::{Choice, Edition, HEAD_LEN, chosen, other};
 use crate::map::RecordMap;
 use crate::refusals::StoreRefusal;
+use deciders::Version;
+use scons_base::limits::BANK_LIMIT;
 use std::alloc::Global;
 use world_api::{Bank, Disk, Fault};
 
@@ -30,7 +32,7 @@ use world_api::{Bank, Disk, Fault};
 pub(crate) struct Opened {
     pub map: RecordMap,
     pub bank: Bank,
-    pub generation: u64,
+    pub edition: Edition,
     /// The place of the last gate.
     pub end: u64,
 }
@@ -67,15 +69,16 @@ fn read_bank<W: Disk>(
     alloc: Global,
     world: &mut W,
     bank: Bank,
+    version: Version,
     size: u64,
 ) -> Result<Read, StoreRefusal>
     requires { W.meaning.tells world.old → size ≡ length (W.meaning.seen world.old bank) }
     ensures end { IfOk result (λ read. read.end ≤ size) }
     ensures inside { IfOk result (λ read. read.gate ≢ EndGate.Missing → read.end < size) }
     ensures size { W.meaning.tells world.new → size ≡ length (W.meaning.seen world.new bank) }
-    ensures map { W.meaning.tells world.new → IfOk result (HasEntriesOf (W.meaning.seen world.new bank)) }
+    ensures map { W.meaning.tells world.new → IfOk result (HasEntriesOf version (W.meaning.seen world.new bank)) }
     ensures ordered { IfOk result (λ read. IsOrdered read.map) }
-    ensures written { W.meaning.tells world.new → 17 < size → IfOk result (ReadsToEnd (W.meaning.seen world.new bank)) }
+    ensures written { W.meaning.tells world.new → 17 < size → IfOk result (ReadsToEnd version (W.meaning.seen world.new bank)) }
     ensures gate { W.meaning.tells world.new → 17 < size → IfOk result (HasGateOf (W.meaning.seen world.new bank)) }
     ensures refused { IfErr result IsOutside }
     ensures cause { HasFaultCause W.meaning world.old world.new result }
@@ -90,7 +93,7 @@ fn read_bank<W: Disk>(
             end: size,
         });
     }
-    let end = load_bank(alloc, world, bank, size, &mut map)?;
+    let end = load_bank(alloc, world, bank, version, size, &mut map)?;
     Ok(Read {
         map,
         gate: end.gate,
@@ -112,8 +115,12 @@ pub(crate) fn read_map<W: Disk>(alloc: Global, world: &mut W) -> Result<RecordMa
     match choice {
         Choice::None => Ok(RecordMap::new(alloc)),
         Choice::Foreign(bank) => Err(StoreRefusal::Foreign(bank)),
-        Choice::Live(Bank::A, _) => Ok(read_bank(alloc, world, Bank::A, sizes.a)?.map),
-        Choice::Live(Bank::B, _) => Ok(read_bank(alloc, world, Bank::B, sizes.b)?.map),
+        Choice::Live(Bank::A, edition) => {
+            Ok(read_bank(alloc, world, Bank::A, edition.version, sizes.a)?.map)
+        }
+        Choice::Live(Bank::B, edition) => {
+            Ok(read_bank(alloc, world, Bank::B, edition.version, sizes.b)?.map)
+        }
     }
 }
 
@@ -152,9 +159,7 @@ pub(crate) fn open<W: Disk>(alloc: Global, world: &mut W) -> Result<Opened, Stor
     match choice {
         Choice::None => start(alloc, world),
         Choice::Foreign(bank) => Err(StoreRefusal::Foreign(bank)),
-        Choice::Live(bank, generation) => {
-            reopen(alloc, world, bank, size_of(sizes, bank), generation)
-        }
+        Choice::Live(bank, edition) => reopen(alloc, world, bank, size_of(sizes, bank), edition),
     }
 }
 
@@ -186,24 +191,27 @@ fn start<W: Disk>(alloc: Global, world: &mut W) -> Result<Opened, StoreRefusal>
     Ok(Opened {
         map: RecordMap::new(alloc),
         bank: Bank::A,
-        generation: FIRST_GENERATION,
+        edition: Edition {
+            version: Version::Two,
+            generation: FIRST_GENERATION,
+        },
         end: form.len() as u64,
     })
 }
 
-/// Reads a live bank, mends its end, and goes over to the other bank where that is worth it.
+/// Reads a live bank, mends its end, and goes over to the other bank where the bank is of version 1 or that is worth it.
 fn reopen<W: Disk>(
     alloc: Global,
     world: &mut W,
     bank: Bank,
     size: u64,
-    generation: u64,
+    edition: Edition,
 ) -> Result<Opened, StoreRefusal>
     requires size { W.meaning.tells world.old → size ≡ length (W.meaning.seen world.old bank) }
     requires small { size ≤ 2 ^ 40 }
-    ensures moments { ReopensThroughout W.meaning world.old world.new bank generation }
-    ensures opened { Reopens W.meaning world.old world.new bank generation result }
-    ensures over { W.meaning.tells world.new → ReopensAs W.meaning world.old bank generation result }
+    ensures moments { ReopensThroughout W.meaning world.old world.new bank edition }
+    ensures opened { Reopens W.meaning world.old world.new bank edition result }
+    ensures over { W.meaning.tells world.new → ReopensAs W.meaning world.old bank edition result }
     ensures refused { IfErr result IsOutside }
     ensures rests { IfErr result (RestsUnlessFault W.meaning world.old world.new) }
     ensures end { IfOk result (λ opened. opened.end ≤ 2 ^ 40) }
@@ -212,12 +220,12 @@ fn reopen<W: Disk>(
     ensures around { W.meaning.tells world.new → W.meaning.around world.new ≡ W.meaning.around world.old }
     ensures told { Told W.meaning world.old world.new }
 {
-    let read = read_bank(alloc, world, bank, size)?;
+    let read = read_bank(alloc, world, bank, edition.version, size)?;
     mend(world, bank, read.gate, read.end)?;
     let opened = Opened {
         map: read.map,
         bank,
-        generation,
+        edition,
         end: read.end,
     };
     compact(alloc, world, opened)
@@ -243,7 +251,7 @@ fn mend<W: Disk>(world: &mut W, bank: Bank, gate: EndGate, end: u64) -> Result<(
     }
 }
 
-/// Goes over to the other bank with the compact form of the map, where that is worth it.
+/// Goes over to the other bank with the compact form of the map, where the bank is of version 1 or that is worth it.
 fn compact<W: Disk>(alloc: Global, world: &mut W, opened: Opened) -> Result<Opened, StoreRefusal>
     requires end { opened.end ≤ 2 ^ 40 }
     requires ordered { IsOrdered opened.map }
@@ -260,19 +268,24 @@ fn compact<W: Disk>(alloc: Global, world: &mut W, opened: Opened) -> Result<Open
     ensures told { Told W.meaning world.old world.new }
 {
     let live = opened.end + 1;
-    if !can_be_worth(opened.generation, live) {
+    if !can_be_due(opened.edition, live) {
         return Ok(opened);
     }
-    if !is_worth(live, compact_len(&opened.map)) {
+    let compact = compact_len(&opened.map);
+    if !is_due(opened.edition.version, live, compact) {
         return Ok(opened);
     }
-    let form = compact_form(alloc, &opened.map, opened.generation + 1)?;
+    // Records of version 1 are shorter, so that their form can pass what a bank may have.
+    if compact > BANK_LIMIT {
+        return Err(StoreRefusal::Memory);
+    }
+    let form = compact_form(alloc, &opened.map, opened.edition.generation + 1)?;
     go_over(world, opened, form.as_slice())
 }
 
 /// Fills the other bank with this form of the map, in the next generation.
 fn go_over<W: Disk>(world: &mut W, opened: Opened, form: &[u8]) -> Result<Opened, StoreRefusal>
-    requires next { opened.generation < 2 ^ 64 - 1 }
+    requires next { opened.edition.generation < 2 ^ 64 - 1 }
     requires small { length form.now ≤ 2 ^ 40 }
     ensures moments { GoesOverThroughout W.meaning world.old world.new opened form.now }
     ensures opened { GoesOverTo W.meaning world.old world.new opened form.now result }
@@ -290,7 +303,10 @@ fn go_over<W: Disk>(world: &mut W, opened: Opened, form: &[u8]) -> Result<Opened
     Ok(Opened {
         map: opened.map,
         bank,
-        generation: opened.generation + 1,
+        edition: Edition {
+            version: Version::Two,
+            generation: opened.edition.generation + 1,
+        },
         end: form.len() as u64,
     })
 }

@@ -5,6 +5,7 @@ ghost use Rattle.world_api.specs.Causes.{DiskFails};
 ghost use Rattle.world_api.specs.Meaning.{Told, Throughout};
 ghost use Rattle.deciders.specs.declared.recorded.Rec.{Rec};
 ghost use Rattle.deciders.specs.Records.{IsValid};
+ghost use Rattle.deciders.specs.declared.version.Version.TheVariants as version;
 ghost use Rattle.deciders.specs.Spelling.{spelling};
 ghost use Rattle.sign_store.specs.Changing.{BeginsThroughout};
 ghost use Rattle.sign_store.specs.Ends.{AreSettled, ReadsAsBefore};
@@ -18,7 +19,7 @@ use crate::opening::{Opened, open, read_map};
 use crate::refusals::{PrepareRefusal, StoreRefusal};
 use crate::ticket::{Ticket, put_entry, withdraw_entry};
 use crate::view::View;
-use deciders::{Rec, paths_len, spelled_len};
+use deciders::{Rec, Version, paths_len, spelled_len};
 use scons_base::limits::{BANK_LIMIT, PAYLOAD_LIMIT};
 use scons_base::{Memory, PathText};
 use std::alloc::Global;
@@ -97,7 +98,7 @@ impl Store {
         let Opened {
             map,
             bank,
-            generation: _,
+            edition: _,
             end,
         } = opened;
         Store {
@@ -141,7 +142,7 @@ impl Store {
         ensures live { is_live self.new ≡ is_live self.old }
         ensures banks { KeepsBanks self.old self.new }
     {
-        let payload = spelled_len(&rec).saturating_add(1);
+        let payload = spelled_len(Version::Two, &rec).saturating_add(1);
         if payload > PAYLOAD_LIMIT {
             return Err(PrepareRefusal::Full(payload));
         }
@@ -164,7 +165,7 @@ impl Store {
 
     /// What the entries of a ticket take: its put, and its withdrawal where a target has a record.
     fn entries_len(&self, rec: &Rec, payload: u64) -> u64
-        requires exact { payload ≡ length (spelling rec.now) + 1 }
+        requires exact { payload ≡ length (spelling version.Two rec.now) + 1 }
         requires fits { payload < 2 ^ 32 }
         ensures { result ≡ entries_len (map_of self.now) rec.now payload }
     {

@@ -1,9 +1,10 @@
 //! The entries of a record, made beforehand.
 ghost use Rattle.std.specs.Prelude.{◌≡◌, ◌≤◌, ◌<◌, ◌^◌, ◌+◌, ◌++◌, ◌∷◌, [], length, IfOk, OnOk};
+ghost use Rattle.deciders.specs.declared.version.Version.TheVariants as version;
 ghost use Rattle.deciders.specs.Spelling.{sized, listed, spelling, IsSpellable};
 ghost use Rattle.sign_store.specs.Entries.{entry_of, put_payload, withdraw_payload};
 
-use deciders::{Rec, paths_len, push_paths, push_record, spelled_len};
+use deciders::{Rec, Version, paths_len, push_paths, push_record, spelled_len};
 use scons_base::{Memory, PathText};
 use std::alloc::Global;
 
@@ -22,7 +23,7 @@ pub struct Ticket {
 
 /// The entry that puts a record, without its gate and with the next one. Each part of the record has a spelling.
 pub(crate) fn put_entry(alloc: Global, rec: &Rec) -> Result<Vec<u8>, Memory>
-    requires { length (spelling rec.now) ≤ 4294967294 }
+    requires { length (spelling version.Two rec.now) ≤ 4294967294 }
     ensures entry { IfOk result (λ entry. entry.items ≡ entry_of (put_payload rec.now) ++ 0 ∷ []) }
     ensures parts { OnOk result (IsSpellable rec.now) }
 {
@@ -45,14 +46,14 @@ pub(crate) fn withdraw_entry(alloc: Global, paths: &[PathText]) -> Result<Vec<u8
 
 /// Adds what stands between the gates of a put: its length and its payload.
 pub(crate) fn push_put(out: &mut Vec<u8>, rec: &Rec) -> Result<(), Memory>
-    requires { length (spelling rec.now) ≤ 4294967294 }
+    requires { length (spelling version.Two rec.now) ≤ 4294967294 }
     ensures spelt { OnOk result (out.new.items ≡ out.old.items ++ entry_of (put_payload rec.now)) }
     ensures parts { OnOk result (IsSpellable rec.now) }
 {
-    let len = spelled_len(rec) as u32 + 1;
+    let len = spelled_len(Version::Two, rec) as u32 + 1;
     out.extend_from_slice(&len.to_be_bytes())?;
     out.push(1)?;
-    push_record(out, rec)
+    push_record(out, Version::Two, rec)
 }
 
 /// The same of a withdrawal.

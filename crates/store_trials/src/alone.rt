@@ -3,19 +3,22 @@ use crate::fields::{long_number, pair};
 use crate::record::{decider_of, record_of};
 use crate::shown::{put_found, put_hex};
 use c_scanner::{Include, includes};
-use deciders::{changed, decode, encode, push_record, spelled_len};
+use deciders::{Version, changed, decode, encode, push_record, spelled_len};
 use scons_base::Memory;
 use scons_base::limits::PAYLOAD_LIMIT;
 use std::alloc::{AllocError, Global};
 use trial_text::Told;
+use world_api::Hash;
 
 /// Tells what a row gives. `false` where its verb needs banks.
 pub(crate) fn put_alone(alloc: Global, told: &mut Told, verb: &str, rest: &str) -> bool {
     match verb {
         "" | "#" => {}
         "includes" => put_includes(alloc, told, rest),
-        "encode" => put_encoded(alloc, told, rest),
-        "decode" => put_decoded(alloc, told, rest),
+        "encode" => put_encoded(alloc, told, Version::Two, rest),
+        "decode" => put_decoded(alloc, told, Version::Two, rest),
+        "encode1" => put_encoded(alloc, told, Version::One, rest),
+        "decode1" => put_decoded(alloc, told, Version::One, rest),
         "changed" => put_changed(alloc, told, rest),
         _ => return false,
     }
@@ -56,17 +59,20 @@ fn put_include(told: &mut Told, include: &Include) {
 }
 
 /// The spelling of a record, where it has one that is read as a record again.
-fn put_encoded(alloc: Global, told: &mut Told, text: &str) {
+fn put_encoded(alloc: Global, told: &mut Told, version: Version, text: &str) {
     let rec = record_of(alloc, told, text);
-    if spelled_len(&rec) >= PAYLOAD_LIMIT {
+    if spelled_len(version, &rec) >= PAYLOAD_LIMIT {
         return told.put("none\n");
     }
     let mut bytes = Vec::new(alloc);
-    if push_record(&mut bytes, &rec).is_err() {
+    if push_record(&mut bytes, version, &rec).is_err() {
         return told.refuse();
     }
-    match decode(alloc, bytes.as_slice()) {
-        Ok(Some(read)) => put_spelling(told, encode(alloc, &read)),
+    match decode(alloc, version, bytes.as_slice()) {
+        Ok(Some(read)) if version == Version::Two || read.hash == Hash::Md5 => {
+            put_spelling(told, encode(alloc, version, &read));
+        }
+        Ok(Some(_)) => told.refuse(),
         Ok(None) => told.put("none\n"),
         Err(_) => told.refuse(),
     }
@@ -83,15 +89,15 @@ fn put_spelling(told: &mut Told, bytes: Result<Vec<u8>, Memory>) {
 }
 
 /// The record that bytes spell.
-fn put_decoded(alloc: Global, told: &mut Told, text: &str) {
+fn put_decoded(alloc: Global, told: &mut Told, version: Version, text: &str) {
     match hex::decode(alloc, text) {
-        Ok(bytes) => put_decoded_of(alloc, told, bytes.as_slice()),
+        Ok(bytes) => put_decoded_of(alloc, told, version, bytes.as_slice()),
         Err(_) => told.refuse(),
     }
 }
 
-fn put_decoded_of(alloc: Global, told: &mut Told, bytes: &[u8]) {
-    match decode(alloc, bytes) {
+fn put_decoded_of(alloc: Global, told: &mut Told, version: Version, bytes: &[u8]) {
+    match decode(alloc, version, bytes) {
         Ok(found) => put_found(told, found.as_ref()),
         Err(_) => told.refuse(),
     }

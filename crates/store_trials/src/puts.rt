@@ -8,7 +8,7 @@ use scons_base::{Listing, PathText, Paths, Texts};
 use sign_store::{Store, View};
 use std::alloc::Global;
 use trial_text::Told;
-use world_api::Work;
+use world_api::{Hash, Work};
 
 /// Puts a record so many times, withdrawn before each.
 pub(crate) fn put_again(
@@ -71,6 +71,7 @@ fn targets(alloc: Global, told: &mut Told, count: u32) -> Vec<PathText> {
 fn record_for(alloc: Global, targets: Paths) -> Rec {
     Rec {
         work: Work::Shell,
+        hash: Hash::Md5,
         targets,
         signed: Texts::new(Vec::new(alloc)),
         deps: Listing::empty(alloc),

@@ -1,21 +1,24 @@
 //! Records as rows write them.
 use crate::fields::{keep_path, long_number};
-use deciders::{Dep, Digest, Rec, digest_of};
+use deciders::{Dep, Rec, digest_of};
 use scons_base::{Listing, PathText, Paths, Text, Texts};
 use std::alloc::Global;
 use trial_text::Told;
-use world_api::{Decider, Work};
+use world_api::{Decider, Hash, Work};
 
 /// The record that a text writes. Where a part of it can't be read the line is refused, and the record lacks it.
 pub(crate) fn record_of(alloc: Global, told: &mut Told, text: &str) -> Rec {
     let (head, rest) = text.split_once(';').unwrap_or((text, ""));
     let (signed, deps) = rest.split_once(';').unwrap_or((rest, ""));
     let (work, targets) = head.split_once(' ').unwrap_or((head, ""));
+    let (work, hash) = work.split_once(':').unwrap_or((work, "md5"));
+    let hash = hash_of(told, hash);
     Rec {
         work: work_of(told, work),
+        hash,
         targets: Paths::new(targets_of(alloc, told, targets)),
         signed: Texts::new(lines_of(alloc, told, signed.trim())),
-        deps: Listing::new(deps_of(alloc, told, deps)),
+        deps: Listing::new(deps_of(alloc, told, hash, deps)),
     }
 }
 
@@ -27,6 +30,18 @@ fn work_of(told: &mut Told, word: &str) -> Work {
         _ => {
             told.refuse();
             Work::Shell
+        }
+    }
+}
+
+fn hash_of(told: &mut Told, word: &str) -> Hash {
+    match word {
+        "md5" => Hash::Md5,
+        "sha1" => Hash::Sha1,
+        "sha256" => Hash::Sha256,
+        _ => {
+            told.refuse();
+            Hash::Md5
         }
     }
 }
@@ -64,21 +79,21 @@ fn keep_line(alloc: Global, told: &mut Told, lines: &mut Vec<Text>, line: &str) 
     }
 }
 
-fn deps_of(alloc: Global, told: &mut Told, text: &str) -> Vec<Dep> {
+fn deps_of(alloc: Global, told: &mut Told, hash: Hash, text: &str) -> Vec<Dep> {
     let mut deps = Vec::new(alloc);
     for word in text.split_whitespace() {
-        keep_dep(alloc, told, &mut deps, word);
+        keep_dep(alloc, told, hash, &mut deps, word);
     }
     deps
 }
 
-fn keep_dep(alloc: Global, told: &mut Told, deps: &mut Vec<Dep>, word: &str) {
+fn keep_dep(alloc: Global, told: &mut Told, hash: Hash, deps: &mut Vec<Dep>, word: &str) {
     let (file, stamp) = match word.split_once('@') {
         Some((file, stamp)) => (file, Some(long_number(told, stamp))),
         None => (word, None),
     };
     let (name, digest) = match file.split_once('=') {
-        Some((name, content)) => (name, Some(digest_of(content.as_bytes()))),
+        Some((name, content)) => (name, Some(digest_of(hash, content.as_bytes()))),
         None => (file, None),
     };
     match PathText::read(alloc, name) {

@@ -3,7 +3,7 @@ use deciders::{Dep, Rec};
 use scons_base::{PathText, Text};
 use sign_store::StoreRefusal;
 use trial_text::Told;
-use world_api::{Bank, Work};
+use world_api::{Bank, Hash, Work};
 
 /// A number, and what it counts.
 pub(crate) fn put_count(told: &mut Told, count: usize, what: &str) {
@@ -49,6 +49,11 @@ pub(crate) fn put_record(told: &mut Told, rec: &Rec) {
         Work::Copy => "Copy",
         Work::Write => "Write",
     });
+    told.put(match rec.hash {
+        Hash::Md5 => "",
+        Hash::Sha1 => ":sha1",
+        Hash::Sha256 => ":sha256",
+    });
     put_targets(told, rec.targets.as_slice());
     told.put(";");
     put_signed(told, rec.signed.as_slice());
@@ -78,7 +83,7 @@ fn put_deps(told: &mut Told, deps: &[Dep]) {
 fn put_dep(told: &mut Told, dep: &Dep) {
     told.put_all(&[" ", dep.name.as_str(), " "]);
     match &dep.digest {
-        Some(digest) => put_hex(told, digest.0.as_slice()),
+        Some(digest) => put_hex(told, digest.as_bytes()),
         None => told.put("absent"),
     }
     if let Some(stamp) = dep.stamp {

@@ -9,7 +9,7 @@ use scons_base::{Listing, Memory};
 use std::alloc::Global;
 use std::sync::Arc;
 use world_api::{Content, Job, Outcome};
-use world_mem::{made_by, outcome_of};
+use world_mem::ending_by;
 
 /// Runs a job by the table of actions that its slip has, over what the slip says that the job is given.
 #[derive(Drop)]
@@ -75,6 +75,6 @@ fn answer_by(
 ) -> Result<(Outcome, Listing<Content>), Memory>
     ensures { IfOk result (λ end. record { outcome = end.0; made = Some end.1 } ≡ answer_by table.now job.now given.now) }
 {
-    let made = made_by(alloc, table, job, given)?;
-    Ok((outcome_of(table, job, given), made.contents()?))
+    let (outcome, made) = ending_by(alloc, table, job, given)?;
+    Ok((outcome, made.contents()?))
 }

@@ -1,5 +1,5 @@
 -- Looks put together: one after another, and what one call makes of them.
-use Rattle.std.proofs.Common.{◌≡◌, ◌∙◌, subst, sym, refl, arith}
+use Rattle.std.proofs.Common.{◌≡◌, ◌∙◌, inl, inr, subst, sym, refl, arith}
 use Rattle.std.specs.Prelude.{◌≢◌, Result, Ok, Err, OnOk, OnErr}
 use Rattle.world_api.specs.declared.disk.Bank.{Bank}
 use Rattle.world_api.specs.declared.refusal.AskRefusal.{AskRefusal}
@@ -12,8 +12,8 @@ use Rattle.world_api.specs.Calls.{Asks}
 use Rattle.world_api.specs.Causes.{TreeFails}
 use Rattle.scons_base.specs.Rising.{Rose}
 use Rattle.world_api.specs.Counts.{Counts}
-use Rattle.world_api.specs.Meaning.{Meaning, Told, Recalls, BankKept, BanksKept}
-use Rattle.world_api.specs.Looks.{IsTreeAlone, Looks, LooksAtFiles}
+use Rattle.world_api.specs.Meaning.{Meaning, Told, Recalls, BankKept, BanksKept, Throughout, Meanwhile}
+use Rattle.world_api.specs.Looks.{IsSince, IsTreeAlone, Looks, LooksAtFiles}
 use Rattle.world_api.proofs.Moments.{tells_on, recalls_on}
 
 pub asks_same : (a : Around) → Asks a a
@@ -70,12 +70,37 @@ module _ {W : Type 0} (m : Meaning W) where
     no_more = λ bytes image. p.no_more bytes (q.no_more bytes image);
   }
 
+  pub since_same : (w : W) → IsSince m w w
+  unfolding IsSince
+  since_same w = λ time around banks left. inl left
+
+  -- the second look began as the first one left it
+  pub since_joined : (a b c : W) → Asks (m.around a) (m.around b) → BanksKept m a b → IsSince m a b → IsSince m b c → IsSince m a c
+  unfolding IsSince
+  since_joined a b c asks kept p q = λ time around banks left. elim (q time around banks left) [
+    | inl was ↦ p time around banks was
+    | inr at ↦ inr (asks_joined (m.around a) (m.around b) around asks at.0, λ bank. (kept bank).no_more (banks bank) (at.1 bank))
+  ]
+
+  -- one call
+  pub since_call : (a b : W) → Throughout m a b (Meanwhile m a b) → (m.tells b → Asks (m.around a) (m.around b))
+      → (m.tells b → BanksKept m a b) → m.tells b → IsSince m a b
+  unfolding IsSince
+  since_call a b run asks kept t = λ time around banks left. elim (run.before t time around banks left) [
+    | inl was ↦ inl was
+    | inr at ↦ elim at [
+      | inl asked ↦ inr asked
+      | inr here ↦ inr (subst (λ x. Asks (m.around a) x) (sym here.0) (asks t), λ bank. (kept t bank).no_more (banks bank) (here.1 bank))
+    ]
+  ]
+
   pub looks_same : (w : W) → Looks m w w
   looks_same w = record {
     told = told_same w;
     recalls = recalls_same w;
     around = λ t. asks_same (m.around w);
     banks = λ t bank. bank_same bank w;
+    before = λ t. since_same w;
   }
 
   pub looks_joined : (a b c : W) → Looks m a b → Looks m b c → Looks m a c
@@ -84,6 +109,7 @@ module _ {W : Type 0} (m : Meaning W) where
     recalls = recalls_on m a b c q.told p.recalls q.recalls;
     around = λ t. asks_joined (m.around a) (m.around b) (m.around c) (p.around (q.told.told t)) (q.around t);
     banks = λ t bank. bank_joined bank a b c (p.banks (q.told.told t) bank) (q.banks t bank);
+    before = λ t. since_joined a b c (p.around (q.told.told t)) (p.banks (q.told.told t)) (p.before (q.told.told t)) (q.before t);
   }
 
   pub files_same : (w : W) → LooksAtFiles m w w
@@ -101,9 +127,13 @@ tree_rose a b (Err e) fails = fails.rose
 
 -- one call that looked at a file
 module _ {W : Type 0} (m : Meaning W) (a b : W) (told : Told m a b) (recalls : Recalls m a b)
-    (around : m.tells b → Asks (m.around a) (m.around b)) (banks : m.tells b → BanksKept m a b) where
+    (around : m.tells b → Asks (m.around a) (m.around b)) (banks : m.tells b → BanksKept m a b)
+    (time : Throughout m a b (Meanwhile m a b)) where
   looked : IsTreeAlone (m.counts a) (m.counts b) → LooksAtFiles m a b
-  looked counts = record { looks = record { told = told; recalls = recalls; around = around; banks = banks }; counts = counts }
+  looked counts = record {
+    looks = record { told = told; recalls = recalls; around = around; banks = banks; before = since_call m a b time around banks };
+    counts = counts;
+  }
 
   pub asked : {X : Type 0} (r : Result X AskRefusal) → (r ≢ Err ask.Fault → m.counts b ≡ m.counts a)
       → (r ≡ Err ask.Fault → TreeFails (m.counts a) (m.counts b)) → LooksAtFiles m a b

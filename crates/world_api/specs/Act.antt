@@ -1,6 +1,7 @@
 -- What an action makes. It is a function of what the action is and of what it is given: equal actions over equal
 -- contents make equal files.
-use Rattle.std.specs.Prelude.{ℕ, List, [], ◌∷◌, Option, Some, None}
+use Rattle.std.specs.Prelude.{ℕ, List, [], ◌∷◌, Option, Some, None, map}
+use Rattle.world_api.specs.Writing.{written}
 use Rattle.world_api.specs.declared.job.Work.{Work}
 use Rattle.world_api.specs.declared.job.Work.TheVariants.{Shell, Copy, Write}
 
@@ -20,12 +21,8 @@ abbrev first_content : Given → Content
 first_content [] = None
 first_content (dependency ∷ rest) = dependency.1
 
-abbrev first_text : List (List ℕ) → Content
-first_text [] = None
-first_text (text ∷ rest) = Some text
-
--- The shell's part is the world's own law; a copy makes its first dependency, a write its first signed text.
+-- The shell's part is the world's own law; a copy makes its first dependency, a write what its signed texts say.
 abbrev pub act : Law → Work → List (List ℕ) → List (List ℕ) → Given → List ℕ → Content
 act law Shell signed targets given target = law signed targets given target
 act law Copy signed targets given target = first_content given
-act law Write signed targets given target = first_text signed
+act law Write signed targets given target = written signed (map (λ dependency. dependency.1) given)

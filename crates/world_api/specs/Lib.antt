@@ -1,6 +1,8 @@
 pub mod Counts
 pub mod Causes
 pub mod Printed
+pub mod Replacing
+pub mod Writing
 pub mod Act
 pub mod Around
 pub mod Calls

@@ -4,7 +4,8 @@ ghost use Rattle.std.specs.Prelude.{◌≡◌, List, IfOk};
 use scons_base::{Listing, Memory, Paths, Text, Texts};
 use std::alloc::Global;
 
-/// What an action is: a command for the shell, a copy of its first dependency, or its first signed text written out.
+/// What an action is: a command for the shell, a copy of its first dependency, or its one signed text written out, or
+/// its first dependencies joined, with keys replaced by values, as its signed texts say.
 #[derive(Clone, Copy, Debug, PartialEq, Eq)]
 pub enum Work {
     Shell,

@@ -4,14 +4,14 @@ use Rattle.std.specs.List.{flat_map}
 use Rattle.std.proofs.lemmas.List.Elements.{Contains-append_left, Contains-append_right, Contains-append_cases}
 use Rattle.mem_banks.specs.Past.{one_of}
 use Rattle.std.proofs.lemmas.List.{map-append}
-use Rattle.world_api.specs.Act.{Content, Given, act}
+use Rattle.world_api.specs.Act.{Content, Given}
 use Rattle.world_api.specs.Around.{IsRunningTarget}
 use Rattle.world_api.specs.declared.disk.Bank.{Bank}
 use Rattle.world_api.specs.declared.disk.Bank.TheVariants.{A, B}
 use Rattle.world_mem.specs.Kept.{running_of}
 use Rattle.world_mem.specs.Left.{names, Cover}
 use Rattle.world_mem.specs.Planned.{makes}
-use Rattle.world_mem.specs.Table.{law_of}
+use Rattle.world_mem.specs.Table.{content_made}
 use Rattle.world_mem.specs.declared.running.RunningJob.{RunningJob}
 use Rattle.act_table.specs.declared.table.ActRow.{ActRow}
 use Rattle.world_mem.proofs.Membership.{names_of_pairs, contains_map}
@@ -36,7 +36,7 @@ names_flat (run ∷ rest) =
 made_at : (rows : List ActRow) (run : RunningJob) → run.made ≡ makes rows run.job run.given → names run.made ≡ run.job.targets
 made_at rows run planned =
     ap names planned
-    ∙ names_of_pairs (λ target. act (law_of rows) run.job.work run.job.signed run.job.targets run.given target) run.job.targets
+    ∙ names_of_pairs (λ target. content_made rows run.job.work run.job.signed run.job.targets run.given target) run.job.targets
 
 pub covers : (rows : List ActRow) (running : List RunningJob) (given : Given)
     → ((run : RunningJob) → Contains running run → run.made ≡ makes rows run.job run.given)

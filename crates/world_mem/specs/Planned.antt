@@ -3,11 +3,11 @@ use Rattle.std.specs.Prelude.{◌≡◌, ℕ, List, ◌++◌, codes, Option, Som
 use Rattle.world_api.specs.Act.{Content, Given, Law, act}
 use Rattle.world_api.specs.declared.job.Job.{Job}
 use Rattle.world_api.specs.declared.job.Outcome.{Outcome}
-use Rattle.world_api.specs.declared.job.Work.TheVariants.{Copy, Write}
+use Rattle.world_api.specs.declared.job.Work.TheVariants.{Copy}
 use Rattle.world_api.specs.declared.job.Outcome.TheVariants.{Done, Failed, Broken, NoMemory}
 use Rattle.world_mem.specs.Default.{line}
 use Rattle.act_table.specs.Listed.{listed}
-use Rattle.world_mem.specs.Table.{law_of, outcome_of, shell_content}
+use Rattle.world_mem.specs.Table.{content_made, outcome_of, shell_content}
 use Rattle.world_mem.specs.declared.plan.Recipe.{Recipe}
 use Rattle.world_mem.specs.declared.plan.Recipe.TheVariants.{Same, Listed, Lines}
 use Rattle.act_table.specs.declared.table.ActRow.{ActRow}
@@ -21,7 +21,7 @@ gives (Lines front back) target = Some (front.items ++ line (codes "-> " ++ targ
 -- each target with what the action makes there
 abbrev pub makes : List ActRow → Job → Given → Given
 makes rows job given =
-    map (λ target. (target, act (law_of rows) job.work job.signed job.targets given target)) job.targets
+    map (λ target. (target, content_made rows job.work job.signed job.targets given target)) job.targets
 
 abbrev pub ends : List ActRow → Job → Given → Outcome
 ends rows job given = outcome_of rows job.work job.signed given
@@ -32,11 +32,6 @@ IsPlain Done = Unit {0}
 IsPlain (Failed code) = Unit {0}
 IsPlain Broken = ⊥
 IsPlain NoMemory = ⊥
-
--- a content is what a job makes that writes the first of these texts
-abbrev pub IsFirstText : List (List ℕ) → Content → Type 0
-IsFirstText texts content = (law : Law) (targets : List (List ℕ)) (given : Given) (target : List ℕ)
-    → content ≡ act law Write texts targets given target
 
 -- a content is what a job makes that copies the first of what it is given
 abbrev pub IsFirstContent : Given → Content → Type 0
@@ -50,4 +45,4 @@ IsShellRecipe row signed given recipe = (target : List ℕ) → gives recipe tar
 -- a recipe makes what the action of a job makes
 abbrev pub IsRecipeOf : List ActRow → Job → Given → Recipe → Type 0
 IsRecipeOf rows job given recipe = (target : List ℕ)
-    → gives recipe target ≡ act (law_of rows) job.work job.signed job.targets given target
+    → gives recipe target ≡ content_made rows job.work job.signed job.targets given target

@@ -28,7 +28,7 @@ mod world;
 
 pub use act_table::{ActRow, ActTable, Contents, Made};
 pub use calls::Call;
-pub use plan::{made_by, outcome_of};
+pub use plan::ending_by;
 pub use refusal::{EditRefusal, NewRefusal};
 pub use sink::MemSink;
 pub use state::Entering;

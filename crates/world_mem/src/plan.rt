@@ -5,14 +5,16 @@ ghost use Rattle.world_api.specs.Act.{Law, act};
 ghost use Rattle.world_api.specs.declared.job.Work.TheVariants.{Copy};
 ghost use Rattle.world_api.specs.Around.{given_of};
 ghost use Rattle.world_mem.specs.InSlots.{slot_at, content_of};
-ghost use Rattle.world_mem.specs.Table.{shell_content, outcome_by};
-ghost use Rattle.world_mem.specs.Planned.{makes, ends, gives, IsFirstContent, IsFirstText, IsRecipeOf, IsShellRecipe};
+ghost use Rattle.world_mem.specs.Table.{content_by, outcome_by, shell_content, shell_outcome, written_content, written_outcome};
+ghost use Rattle.world_mem.specs.Planned.{makes, ends, gives, IsFirstContent, IsRecipeOf, IsShellRecipe};
 
 use crate::slots::Slots;
 use crate::text::{dependency_lines, framed, signed_lines};
 use act_table::{ActRow, ActTable, Contents, Made, copy_content};
-use scons_base::{Blob, Memory, PathText, Paths, Texts};
+use scons_base::limits::FILE_LIMIT;
+use scons_base::{Memory, PathText, Paths, Texts};
 use std::alloc::Global;
+use text_files::{TextRefusal, write_bytes};
 use world_api::{Content, Job, Outcome, Work};
 
 /// What is the same for each target of a job: one content; contents by name; or the lines round a target's own.
@@ -32,33 +34,48 @@ fn first_content(given: &Contents) -> Result<Content, Memory>
     }
 }
 
-fn first_text(alloc: Global, texts: &Texts) -> Result<Content, Memory>
-    ensures { IfOk result (IsFirstText texts.now) }
+/// How a write ends, and what it makes: nothing where that would be too long.
+fn written(alloc: Global, texts: &Texts, given: &Contents) -> Result<(Outcome, Content), Memory>
+    ensures outcome { IfOk result (λ end. end.0 ≡ written_outcome texts.now given.now) }
+    ensures content { IfOk result (λ end. end.1 ≡ written_content texts.now given.now) }
 {
-    match texts.as_slice().first() {
-        Some(text) => Ok(Some(Blob::of(alloc, text.as_str().as_bytes())?)),
-        None => Ok(None),
+    let contents = given.contents()?;
+    match write_bytes(alloc, texts.as_slice(), contents.as_slice(), FILE_LIMIT) {
+        Ok(content) => Ok((Outcome::Done, content)),
+        Err(TextRefusal::TooLarge(_)) => Ok((Outcome::Failed(1), None)),
+        Err(TextRefusal::Memory) => Err(Memory),
     }
 }
 
-/// What the shell makes by a row, or by the text of its own.
+/// How the shell ends by a row, and what it makes; or by the text of its own.
 fn shell_recipe<'a>(
     alloc: Global,
     row: Option<&'a ActRow>,
     signed: &Texts,
     given: &Contents,
-) -> Result<Recipe<'a>, Memory>
-    ensures { IfOk result (IsShellRecipe (option_copied row.entry) signed.now given.now) }
+) -> Result<(Outcome, Recipe<'a>), Memory>
+    ensures outcome { IfOk result (λ end. end.0 ≡ shell_outcome (option_copied row.entry)) }
+    ensures recipe { IfOk result (λ end. IsShellRecipe (option_copied row.entry) signed.now given.now end.1) }
 {
     match row {
-        Some(row) => match &row.made {
-            Made::Files(contents) => Ok(Recipe::Listed(contents)),
-            Made::Fail(_) => Ok(Recipe::Same(None)),
-        },
-        None => Ok(Recipe::Lines(
-            signed_lines(alloc, signed)?,
-            dependency_lines(alloc, given)?,
-        )),
+        Some(row) => Ok(row_recipe(&row.made)),
+        None => {
+            let (front, back) = (
+                signed_lines(alloc, signed)?,
+                dependency_lines(alloc, given)?,
+            );
+            Ok((Outcome::Done, Recipe::Lines(front, back)))
+        }
+    }
+}
+
+fn row_recipe(made: &Made) -> (Outcome, Recipe<'_>)
+    ensures outcome { result.0 ≡ outcome_by made.now }
+    ensures recipe { (target : List ℕ) → gives result.1 target ≡ content_by made.now target }
+{
+    match made {
+        Made::Files(contents) => (Outcome::Done, Recipe::Listed(contents)),
+        Made::Fail(code) => (Outcome::Failed(*code), Recipe::Same(None)),
     }
 }
 
@@ -67,16 +84,20 @@ fn recipe_of<'a>(
     table: &'a ActTable,
     job: &Job,
     given: &Contents,
-) -> Result<Recipe<'a>, Memory>
-    ensures { IfOk result (IsRecipeOf table.now job.now given.now) }
+) -> Result<(Outcome, Recipe<'a>), Memory>
+    ensures outcome { IfOk result (λ end. end.0 ≡ ends table.now job.now given.now) }
+    ensures recipe { IfOk result (λ end. IsRecipeOf table.now job.now given.now end.1) }
 {
     match job.work {
         Work::Shell => {
             let row = table.row_for(&job.signed, given);
             shell_recipe(alloc, row, &job.signed, given)
         }
-        Work::Copy => Ok(Recipe::Same(first_content(given)?)),
-        Work::Write => Ok(Recipe::Same(first_text(alloc, &job.signed)?)),
+        Work::Copy => Ok((Outcome::Done, Recipe::Same(first_content(given)?))),
+        Work::Write => {
+            let (outcome, content) = written(alloc, &job.signed, given)?;
+            Ok((outcome, Recipe::Same(content)))
+        }
     }
 }
 
@@ -116,37 +137,17 @@ fn contents_by(alloc: Global, recipe: &Recipe<'_>, targets: &Paths) -> Result<Co
     Ok(made)
 }
 
-/// Each target of a job with what the job makes there.
-pub fn made_by(
+/// How a job ends, and each target of it with what the job makes there.
+pub fn ending_by(
     alloc: Global,
     table: &ActTable,
     job: &Job,
     given: &Contents,
-) -> Result<Contents, Memory>
-    ensures { IfOk result (λ made. made ≡ makes table.now job.now given.now) }
+) -> Result<(Outcome, Contents), Memory>
+    ensures outcome { IfOk result (λ end. end.0 ≡ ends table.now job.now given.now) }
+    ensures made { IfOk result (λ end. end.1 ≡ makes table.now job.now given.now) }
 {
-    let recipe = recipe_of(alloc, table, job, given)?;
-    contents_by(alloc, &recipe, &job.targets)
-}
-
-/// How a job ends.
-pub fn outcome_of(table: &ActTable, job: &Job, given: &Contents) -> Outcome
-    ensures { result ≡ ends table.now job.now given.now }
-{
-    match job.work {
-        Work::Shell => match table.row_for(&job.signed, given) {
-            Some(row) => outcome_by(&row.made),
-            None => Outcome::Done,
-        },
-        Work::Copy | Work::Write => Outcome::Done,
-    }
-}
-
-fn outcome_by(made: &Made) -> Outcome
-    ensures { result ≡ outcome_by made.now }
-{
-    match made {
-        Made::Files(_) => Outcome::Done,
-        Made::Fail(code) => Outcome::Failed(*code),
-    }
+    let (outcome, recipe) = recipe_of(alloc, table, job, given)?;
+    let made = contents_by(alloc, &recipe, &job.targets)?;
+    Ok((outcome, made))
 }

@@ -5,7 +5,7 @@ ghost use Rattle.world_mem.specs.declared.running.RunningJob.{RunningJob};
 
 use crate::event::{Event, Faults};
 use crate::past::Change;
-use crate::plan::{given_of, made_by, outcome_of};
+use crate::plan::{ending_by, given_of};
 use crate::room::{add, make_places, widen_all};
 use crate::running::RunningJob;
 use crate::state::{Entering, State};
@@ -97,9 +97,8 @@ impl State {
         ensures outcome { IfOk result (λ run. run.outcome ≡ ends self.now.table job run.given) }
     {
         let given = given_of(alloc, &self.slots, &job.deps)?;
-        let made = made_by(alloc, &self.table, &job, &given)?;
+        let (outcome, made) = ending_by(alloc, &self.table, &job, &given)?;
         let kept = made.copy()?;
-        let outcome = outcome_of(&self.table, &job, &given);
         let gained = made.files();
         Ok(RunningJob {
             job,

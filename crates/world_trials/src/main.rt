@@ -4,7 +4,7 @@
 //! `new` makes a world without files, in which the calls fail that follow it, each as `CALL:NUMBER`. `write`, `sync`, `size`
 //! and `read` are the calls of a disk, `bank` and `synced` show a bank. `top`, `kind`, `content`, `list`, `stamp`,
 //! `make_dir`, `remove`, `start` and `wait` are those of a world; one job runs at a time, of one target, one dependency and
-//! one signed line, and a file at its target is taken away by hand before it starts. `edit`, `remove_file`, `files`,
+//! one signed line, or a write of more of both, and a file at its target is taken away by hand before it starts. `edit`, `remove_file`, `files`,
 //! `jobs`, `fuse` and `stop` are no calls of a world. Bytes are hexadecimal behind `x`, else they are the text itself.
 //!
 //! `stops` makes the calls since `new` once more, on a world of its own for each number of them, and shows what is left of

@@ -110,7 +110,7 @@ fn put_digest(told: &mut Told, found: Option<&Rec>) {
                 digest: Some(digest),
                 ..
             },
-        ) => put_hex(told, digest.0.as_slice()),
+        ) => put_hex(told, digest.as_bytes()),
         _ => told.refuse(),
     }
 }

@@ -1,4 +1,3 @@
-use Rattle.std.proofs.Common.{◌≡◌, ◌++◌, ◌∷◌, []}
 use Rattle.std.proofs.lemmas.Result.{err_from_is_err_and}
 use Rattle.deciders.specs.Reading.{many, text_at}
 use Rattle.deciders.proofs.Loop.{goes_on, ends, is_done}

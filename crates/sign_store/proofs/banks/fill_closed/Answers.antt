@@ -1,4 +1,4 @@
-use Rattle.std.proofs.Common.{◌≡◌, ◌+◌, ◌++◌, List, ℕ, length, drop}
+use Rattle.std.proofs.Common.{◌+◌, length, drop}
 use Rattle.sign_store.proofs.DiskLemmas.{both_ok}
 use Rattle.sign_store.proofs.StepLemmas.{endures_run, endures_then, behind_shut_moments, fill_written, form_behind, form_there, open_moments, fill_done}
 use Rattle.sign_store.proofs.banks.fill_closed.Goals as goal

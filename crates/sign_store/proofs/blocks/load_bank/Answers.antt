@@ -37,12 +37,12 @@ returns-in-None-clause-read g c = λ told.
     let read : length part ≡ c.min.result = c.as_slice-bytes.ensures.len ∙ c.in_ok-part.ensures.len in
     let inside : place + c.min.result ≤ c.args.size = omega (arith, c.min.ensures, c.loop-part.invariant.fits) in
     let total : length now ≡ place + len + left = omega (arith, ap length same, size, fits, read, inside) in
-    let shows : ShowsEnd left (drop len part) = subst (λ (x : List ℕ). ShowsEnd left x) (take_rest part len) (c.needed.ensures.ends c.in-None.is) in
+    let shows : ShowsEnd c.args.version left (drop len part) = subst (λ (x : List ℕ). ShowsEnd c.args.version left x) (take_rest part len) (c.needed.ensures.ends c.in-None.is) in
     record {
-      leads = part_leads was now part place c.min.result len (map_in c.args.map.now) (map_in c.loop-part.map) (map_in c.apply_all.new.map) same c.loop-part.invariant.head (omega (arith, inside, size)) is fits
+      leads = part_leads c.args.version was now part place c.min.result len (map_in c.args.map.now) (map_in c.loop-part.map) (map_in c.apply_all.new.map) same c.loop-part.invariant.head (omega (arith, inside, size)) is fits
           c.in_ok-len.ensures.reads (c.loop-part.invariant.leads before);
-      none = part_ends now part place c.min.result len left is fits total shows;
-      gate_is = part_gate c.gate_at-gate.result now part place c.min.result len left is fits total shows
+      none = part_ends c.args.version now part place c.min.result len left is fits total shows;
+      gate_is = part_gate c.args.version c.gate_at-gate.result now part place c.min.result len left is fits total shows
           (subst (λ (x : List ℕ). IsGate c.gate_at-gate.result 0 x) (take_rest part len) c.gate_at-gate.ensures.gate);
     }
 
@@ -70,7 +70,7 @@ loop-part-preserved g c =
           let same : now ≡ was = (c.read_part.ensures.looks.banks told c.args.bank).same in
           let is : part ≡ take c.min.result (drop place now) = c.as_slice-bytes.ensures.value ∙ c.in_ok-part.ensures.part told in
           let size : c.args.size ≡ length was = c.loop-part.invariant.size before in
-          part_leads was now part place c.min.result len (map_in c.args.map.now) (map_in c.loop-part.map) (map_in c.apply_all.new.map) same c.loop-part.invariant.head (omega (arith, inside, size)) is fits
+          part_leads c.args.version was now part place c.min.result len (map_in c.args.map.now) (map_in c.loop-part.map) (map_in c.apply_all.new.map) same c.loop-part.invariant.head (omega (arith, inside, size)) is fits
           c.in_ok-len.ensures.reads (c.loop-part.invariant.leads before);
       ordered = λ first. c.in_ok-len.ensures.ordered (c.loop-part.invariant.ordered first);
     }

@@ -15,7 +15,7 @@ invariant-loop-part g l = record {
   looks : ReadsBanks g.W.Disk.meaning l.fn.world l.world;
   kept : g.W.Disk.meaning.counts l.world ≡ g.W.Disk.meaning.counts l.fn.world;
   size : g.W.Disk.meaning.tells l.world → l.size ≡ length (g.W.Disk.meaning.seen l.world l.bank);
-  leads : g.W.Disk.meaning.tells l.world → LeadsTo l.place (map_in l.fn.map) (map_in l.map) (g.W.Disk.meaning.seen l.world l.bank);
+  leads : g.W.Disk.meaning.tells l.world → LeadsTo l.version l.place (map_in l.fn.map) (map_in l.map) (g.W.Disk.meaning.seen l.world l.bank);
   ordered : IsOrdered l.fn.map → IsOrdered l.map;
 }
 

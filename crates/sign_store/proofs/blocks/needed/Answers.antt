@@ -6,6 +6,6 @@ use Rattle.sign_store.proofs.blocks.needed.Goals.{then-whole-len-via-then-whole-
 pub returns-then-whole-len-clause-ends : goal.returns-then-whole-len-clause-ends
 returns-then-whole-len-clause-ends c = λ none.
     elim c.then-whole-len.branch [
-      | then-whole-len-via-then-whole-len w ↦ shown_read c.args.left c.args.front.now (omega arith) (omega arith) c.requires.none
-      | then-whole-len-via-else-whole-len+then-whole-left w ↦ shown_cut c.args.left c.args.front.now (omega arith) (omega arith)
+      | then-whole-len-via-then-whole-len w ↦ shown_read c.args.version c.args.left c.args.front.now (omega arith) (omega arith) c.requires.none
+      | then-whole-len-via-else-whole-len+then-whole-left w ↦ shown_cut c.args.version c.args.left c.args.front.now (omega arith) (omega arith)
     ]

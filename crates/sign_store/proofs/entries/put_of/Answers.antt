@@ -1,8 +1,9 @@
-use Rattle.std.proofs.Common.{List, ℕ, length, ap, subst, arith}
-use Rattle.deciders.specs.Spelling.{Spells}
+use Rattle.std.proofs.Common.{sym, subst}
+use Rattle.sign_store.specs.Orders.{IsWholeChange}
+use Rattle.sign_store.proofs.OrderLemmas.{whole_put}
 use Rattle.sign_store.proofs.entries.put_of.Goals as goal
 
 pub returns-in-Some-clause-whole : goal.returns-in-Some-clause-whole
 returns-in-Some-clause-whole c =
     let spells = rw c.in-Some.is at c.in_ok-rec.ensures.found in
-    record { spells = subst (λ (x : List ℕ). Spells x c.in-Some.rec) spells.spelt spells; fits = omega (arith, ap length spells.spelt, c.requires) }
+    subst IsWholeChange (sym c.put_in.ensures) (whole_put c.args.version c.args.bytes.now c.in-Some.rec spells c.requires)

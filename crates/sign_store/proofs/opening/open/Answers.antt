@@ -1,7 +1,6 @@
-use Rattle.std.proofs.Common.{◌≡◌, ap, sym, subst, ◌∙◌}
+use Rattle.std.proofs.Common.{ap, sym, subst, ◌∙◌}
 use Rattle.std.specs.Prelude.{IfOk}
 use Rattle.world_api.specs.Banks.{Banks}
-use Rattle.sign_store.specs.declared.head.Choice.TheVariants as choice
 use Rattle.sign_store.specs.declared.refusals.StoreRefusal.TheVariants as refusal
 use Rattle.sign_store.specs.Beginnings.{IsBegunOver}
 use Rattle.sign_store.specs.Ends.{image_in}
@@ -114,14 +113,14 @@ returns-in-Live-clause-moments g c =
     let map = image_in (m.seen c.args.world.now) in
     let is = image_kept m c.args.world.now c.settle.new.world c.settle.ensures.banks in
     left_then m c.args.world.now c.settle.new.world c.reopen.new.world map (g.met.W.Disk.only_now c.settle.new.world) c.settle.ensures.moments c.in_ok-settle.ensures.rest is
-    (live_endures m c.settle.new.world c.look.new.world c.reopen.new.world c.in-Live.bank c.in-Live.generation (m.around c.args.world.now) map c.look.ensures.looks c.in_ok-settle.ensures.rest is (λ told. sym (c.in_ok-sizes.ensures.choice told) ∙ c.in-Live.is) c.reopen.ensures.moments)
+    (live_endures m c.settle.new.world c.look.new.world c.reopen.new.world c.in-Live.bank c.in-Live.edition (m.around c.args.world.now) map c.look.ensures.looks c.in_ok-settle.ensures.rest is (λ told. sym (c.in_ok-sizes.ensures.choice told) ∙ c.in-Live.is) c.reopen.ensures.moments)
 
 pub returns-in-Live-clause-opened : goal.returns-in-Live-clause-opened
 returns-in-Live-clause-opened g c =
     let m = g.W.Disk.meaning in
     let map = image_in (m.seen c.args.world.now) in
     c.reopen.ensures.opened (m.around c.args.world.now) map
-    (counted_after m c.settle.new.world c.look.new.world c.in-Live.bank (m.around c.args.world.now) map c.in-Live.generation c.look.ensures.looks c.in_ok-settle.ensures.rest (image_kept m c.args.world.now c.settle.new.world c.settle.ensures.banks) (λ told. sym (c.in_ok-sizes.ensures.choice told) ∙ c.in-Live.is))
+    (counted_after m c.settle.new.world c.look.new.world c.in-Live.bank (m.around c.args.world.now) map c.in-Live.edition c.look.ensures.looks c.in_ok-settle.ensures.rest (image_kept m c.args.world.now c.settle.new.world c.settle.ensures.banks) (λ told. sym (c.in_ok-sizes.ensures.choice told) ∙ c.in-Live.is))
 
 pub returns-in-Live-clause-reads : goal.returns-in-Live-clause-reads
 returns-in-Live-clause-reads g c =
@@ -129,7 +128,7 @@ returns-in-Live-clause-reads g c =
     let map = image_in (m.seen c.args.world.now) in
     let is = image_kept m c.args.world.now c.settle.new.world c.settle.ensures.banks in
     still_reads m c.settle.new.world c.reopen.new.world (m.around c.args.world.now) map (g.met.W.Disk.only_now c.settle.new.world) c.in_ok-settle.ensures.rest is
-    (live_endures m c.settle.new.world c.look.new.world c.reopen.new.world c.in-Live.bank c.in-Live.generation (m.around c.args.world.now) map c.look.ensures.looks c.in_ok-settle.ensures.rest is (λ told. sym (c.in_ok-sizes.ensures.choice told) ∙ c.in-Live.is) c.reopen.ensures.moments)
+    (live_endures m c.settle.new.world c.look.new.world c.reopen.new.world c.in-Live.bank c.in-Live.edition (m.around c.args.world.now) map c.look.ensures.looks c.in_ok-settle.ensures.rest is (λ told. sym (c.in_ok-sizes.ensures.choice told) ∙ c.in-Live.is) c.reopen.ensures.moments)
     (g.met.W.Disk.reads_as c.reopen.new.world)
 
 pub returns-in-Live-clause-left : goal.returns-in-Live-clause-left
@@ -144,7 +143,7 @@ returns-in-Live-clause-begun g c = λ late.
     let looks = c.look.ensures.looks in
     let counts = sym (c.in_ok-sizes.ensures.choice told) ∙ c.in-Live.is in
     subst (λ (s : Banks). IfOk c.reopen.result (λ after. IsBegunOver s after.map after.bank after.end)) (seen_read m c.settle.new.world c.look.new.world looks told ∙ seen_kept m c.args.world.now c.settle.new.world c.settle.ensures.banks (looks.told.told told))
-    (begun_live (m.seen c.look.new.world) c.in-Live.bank c.in-Live.generation c.reopen.result counts (c.reopen.ensures.over late counts))
+    (begun_live (m.seen c.look.new.world) c.in-Live.bank c.in-Live.edition c.reopen.result counts (c.reopen.ensures.over late counts))
 
 pub returns-in-Live-clause-readable : goal.returns-in-Live-clause-readable
 returns-in-Live-clause-readable g c = λ late.
@@ -152,7 +151,7 @@ returns-in-Live-clause-readable g c = λ late.
     let told = c.reopen.ensures.told.told late in
     let looks = c.look.ensures.looks in
     subst (λ (s : Banks). IfOk c.reopen.result (λ _. AreReadable s)) (seen_read m c.settle.new.world c.look.new.world looks told ∙ seen_kept m c.args.world.now c.settle.new.world c.settle.ensures.banks (looks.told.told told))
-    (readable_live (m.seen c.look.new.world) c.reopen.result c.in-Live.bank c.in-Live.generation (are_small (m.seen c.look.new.world) c.in_ok-sizes.sizes.a c.in_ok-sizes.sizes.b (c.in_ok-sizes.ensures.a told) (c.in_ok-sizes.ensures.b told) c.in_ok-sizes.ensures.small)
+    (readable_live (m.seen c.look.new.world) c.reopen.result c.in-Live.bank c.in-Live.edition (are_small (m.seen c.look.new.world) c.in_ok-sizes.sizes.a c.in_ok-sizes.sizes.b (c.in_ok-sizes.ensures.a told) (c.in_ok-sizes.ensures.b told) c.in_ok-sizes.ensures.small)
     (sym (c.in_ok-sizes.ensures.choice told) ∙ c.in-Live.is))
 
 pub returns-in-Live-clause-refused : goal.returns-in-Live-clause-refused

@@ -8,14 +8,13 @@ use Rattle.world_mem.specs.Planned.{ends, makes, IsPlain}
 use Rattle.world_api.specs.Around as api
 use Rattle.std.proofs.lemmas.List.{get_or-map, length-map, map-append}
 use Rattle.std.proofs.lemmas.List.Elements.{Contains-append_left, Contains-append_cases}
-use Rattle.world_api.specs.Act.{act}
-use Rattle.world_mem.specs.Table.{law_of}
+use Rattle.world_mem.specs.Table.{content_made}
 use Rattle.world_mem.specs.declared.running.RunningJob.{RunningJob}
 use Rattle.world_mem.specs.declared.slots.Slot.TheVariants.{Running}
 use Rattle.world_mem.proofs.Apart.{apart-remove}
 use Rattle.world_mem.proofs.Marks.{made_of, found_before}
 use Rattle.world_mem.proofs.Backs.{pushed, newest, same_around, target_back, target_stamp_back, job_back, last_back, met_back, none_back}
-use Rattle.world_mem.proofs.Plain.{done_or_not, ends_plain, never_memory}
+use Rattle.world_mem.proofs.Plain.{done_or_not, ends_plain, made_done, never_memory, uncut}
 use Rattle.world_mem.specs.Undone.{without_last}
 use Rattle.world_mem.specs.AsCourse.{course_of}
 use Rattle.world_mem.specs.declared.past.Change.{Change}
@@ -35,7 +34,7 @@ conclude-requires-clause-names c =
     let run = c.remove-job.result in
     let lt : c.args.place < length old = rw length-map at c.requires.place in
     let here : Contains old run = (c.args.place, lt, sym c.remove-job.ensures.value) in
-    let f : List ℕ → Option (List ℕ) = λ target. act (law_of c.args.self.now.table) run.job.work run.job.signed run.job.targets run.given target in
+    let f : List ℕ → Option (List ℕ) = λ target. content_made c.args.self.now.table run.job.work run.job.signed run.job.targets run.given target in
     ap (map (λ (entry : List ℕ × Option (List ℕ)). entry.0)) (c.args.self.now.planned run here) ∙ names_of_pairs f run.job.targets
 
 pub conclude-requires-clause-same : goal.conclude-requires-clause-same
@@ -112,7 +111,7 @@ returns-clause-ended c =
     let run = c.remove-job.result in
     let lt : c.args.place < length old = rw length-map at c.requires.place in
     let here : Contains old run = (c.args.place, lt, sym c.remove-job.ensures.value) in
-    let f : List ℕ → Option (List ℕ) = λ target. act (law_of c.args.self.now.table) run.job.work run.job.signed run.job.targets run.given target in
+    let f : List ℕ → Option (List ℕ) = λ target. content_made c.args.self.now.table run.job.work run.job.signed run.job.targets run.given target in
     let more = c.conclude.ensures.more in
     let table = c.args.self.now.table in
     let off_others : (path : List ℕ) → (Contains run.job.targets path → ⊥) → slot_at c.conclude.new.slots path ≡ slot_at c.args.self.now.slots path = λ path off. c.conclude.ensures.others path off in
@@ -128,7 +127,8 @@ returns-clause-ended c =
       files = λ path off. ap content_of (off_others path (λ own. off (running_of run, contains_map running_of old run here, own)));
       stamps = λ path off. ap stamp_at (off_others path (λ own. off (running_of run, contains_map running_of old run here, own)));
       dirs = λ dir. inl refl;
-      made = λ _ done path own. tree_made done path own;
+      made = λ _ done path own. tree_made done path own ∙ made_done table run.job.work run.job.signed run.job.targets run.given path
+          (sym (c.args.self.now.ending run here) ∙ uncut c.args.cut run.outcome c.requires.cut (sym c.unwrap_or-outcome.ensures ∙ done));
       log = ap (map entry_of) c.add.ensures.items ∙ map-append entry_of c.args.self.now.log.items _;
       met = λ bytes h. subst (λ (met : List (List ℕ)). Contains met bytes) (sym more.1) (Contains-append_left (met_of c.args.self.now.met.items) more.0 bytes h);
       met_only = λ bytes h. elim (done_or_not c.unwrap_or-outcome.result) [

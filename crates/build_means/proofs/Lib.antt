@@ -1,0 +1,10 @@
+pub mod Lists
+pub mod Testing
+pub mod Recording
+pub mod Presenting
+pub mod Readings
+pub mod Growing
+pub mod Courses
+pub mod Logging
+pub mod Failing
+pub mod Succeeding

@@ -1,0 +1,11 @@
+pub mod Rules
+pub mod Copies
+pub mod Finds
+pub mod Due
+pub mod Graphs
+pub mod Records
+pub mod Grown
+pub mod Present
+pub mod Logs
+pub mod Builds
+pub mod Laws

@@ -1,0 +1,2 @@
+pub mod ReplaceLemmas
+pub mod PairLemmas
