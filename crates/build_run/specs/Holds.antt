@@ -2,8 +2,12 @@
 use Rattle.std.specs.Prelude.{◌≢◌, ◌==◌, ℕ, List, [], ◌∷◌, map, Contains, if◌then◌else◌}
 use Rattle.world_api.specs.declared.job.Job.{Job}
 use Rattle.world_api.specs.Around.{Running}
-use Rattle.build_run.specs.declared.tickets.Busy.{Busy}
+use Rattle.sign_store.specs.declared.ticket.Ticketed.{Ticketed}
 use Rattle.build_run.specs.declared.tickets.Hold.{Hold}
+
+-- a rule, with the ticket for its record
+abbrev pub Busy : Type 0
+Busy = Ticketed Hold
 
 abbrev pub hold_for : Job → Hold
 hold_for job = record { rule = record { 0 = job.id }; targets = job.targets; deps = job.deps }

@@ -1,5 +1,5 @@
 //! A build from its first look to its answer.
-ghost use Rattle.std.specs.Prelude.{◌≡◌, [], true, IfOk};
+ghost use Rattle.std.specs.Prelude.{◌≡◌, [], true, max, min, IfOk};
 ghost use Rattle.world_api.specs.Causes.{Later};
 ghost use Rattle.world_api.specs.Meaning.{Told};
 ghost use Rattle.sign_store.specs.Stores.{IsKept, is_live};
@@ -16,6 +16,7 @@ use crate::turns::go_on;
 use build_files::{Inputs, ListEnd, first_target};
 use indexmap::IndexSet;
 use rule_graph::{BuildFault, Graph};
+use scons_base::limits::JOB_LIMIT;
 use scons_base::{Listing, Memory, NodeId, PathText, RuleId};
 use scons_report::cycle_fault;
 use sign_store::Store;
@@ -36,12 +37,23 @@ pub struct Options {
     pub silent: bool,
 }
 
+impl Options {
+    /// How many jobs may run at a time: none asked for counts as one. As many records are held at most.
+    pub(crate) fn most_jobs(&self) -> usize
+        ensures { result ≡ max (min self.now.jobs 64) 1 }
+    {
+        self.jobs.min(JOB_LIMIT).max(1) as usize
+    }
+}
+
 /// What a build knows besides what it reports.
 #[derive(Drop)]
 pub(crate) struct Run {
     pub(crate) plan: Plan,
     pub(crate) inputs: Inputs,
     pub(crate) tickets: Tickets,
+    /// The rules whose actions ended well and whose records aren't put yet, in the order of their endings.
+    pub(crate) held: Tickets,
     /// Directories that were made or stand.
     pub(crate) dirs: IndexSet<PathText>,
 }
@@ -134,6 +146,7 @@ fn begin<W: World>(
     ensures stays { Stays W.meaning world.old world.new }
     ensures cause { HasLookCause (W.meaning.counts world.old) (W.meaning.counts world.new) result }
     ensures none { IfOk result (λ run. run.tickets ≡ []) }
+    ensures held { IfOk result (λ run. run.held ≡ []) }
 {
     let mut inputs = Inputs::new(alloc, hash, graph);
     inputs.add_copies(world, graph, requested)?;
@@ -142,6 +155,7 @@ fn begin<W: World>(
         plan,
         inputs,
         tickets: Tickets::new(alloc)?,
+        held: Tickets::new(alloc)?,
         dirs: IndexSet::new(alloc),
     })
 }

@@ -1,10 +1,10 @@
 //! Clearing the way of an action: the directories of its targets stand, their records are withdrawn, and they are removed.
-ghost use Rattle.std.specs.Prelude.{◌≡◌, [], None, false, Contains, OnOk};
+ghost use Rattle.std.specs.Prelude.{◌≡◌, ◌++◌, [], None, false, Contains, OnOk};
 ghost use Rattle.build_run.specs.Goings.{Goes, Stays, IsJoined, Leaves, AreGone, AreUnused};
 ghost use Rattle.build_files.specs.Causes.{HasLookCause};
 ghost use Rattle.build_run.specs.Ledgers.{ledger_of, with_done, WorldKeeps};
-ghost use Rattle.build_run.specs.Holds.{holds_in, KeepsApart};
-ghost use Rattle.build_run.specs.Outs.{IsStored, IsTicketFor, HasOwnRoom};
+ghost use Rattle.build_run.specs.Holds.{Busy, holds_in, KeepsApart};
+ghost use Rattle.build_run.specs.Outs.{IsStored, IsTicketFor, HasOwnRoom, KeepsRecordsBut, KeepsSome, ShareNone};
 ghost use Rattle.build_run.specs.declared.tickets.Hold.{Hold};
 ghost use Rattle.build_run.specs.Takes.{Takes};
 ghost use Rattle.build_run.specs.Withdrawals.{AreWithdrawn};
@@ -29,28 +29,33 @@ pub(crate) fn clear<W: World>(
     job: &Job,
     ticket: &Ticket,
     tickets: &Tickets,
+    held: &mut Tickets,
 ) -> Result<(), ListEnd>
     requires unclosed { W.meaning.closed world.old ≡ [] }
     requires joined { IsJoined W.meaning world.old (holds_in tickets.now) }
     requires unshut { account.old.is_store_shut ≡ false }
-    requires stored { IsStored W.meaning world.old store.old tickets.now account.old.is_store_shut }
+    requires stored { IsStored W.meaning world.old store.old (held.old ++ tickets.now) account.old.is_store_shut }
     requires apart { (hold : Hold) → Contains (holds_in tickets.now) hold → KeepsApart job.now hold }
     requires ticket { IsTicketFor store.old ticket.now job.now.targets }
-    requires room { HasOwnRoom ticket.now tickets.now }
+    requires room { HasOwnRoom ticket.now (held.old ++ tickets.now) }
+    requires beside { (busy : Busy) → Contains held.old busy → ShareNone job.now.targets busy.hold.targets }
     ensures goes { Goes W.meaning world.old world.new }
     ensures keeps { WorldKeeps W.meaning world.old world.new (ledger_of account.old) (with_done (ledger_of account.new) result) }
-    ensures stored { IsStored W.meaning world.new store.new tickets.now account.new.is_store_shut }
+    ensures stored { IsStored W.meaning world.new store.new (held.new ++ tickets.now) account.new.is_store_shut }
+    ensures held { KeepsSome held.old held.new }
+    ensures kept { KeepsRecordsBut job.now.targets store.old held.old store.new held.new account.new.is_store_shut }
     ensures gone { AreGone W.meaning world.new job.now.targets result }
     ensures withdrawn { OnOk result (AreWithdrawn W.meaning world.new store.new job.now.targets) }
     ensures ticket { OnOk result (IsTicketFor store.new ticket.now job.now.targets) }
 {
     let targets = job.targets.as_slice();
     make_dirs(account.alloc, world, dirs, targets)?;
-    withdraw(account, store, world, job, ticket, tickets)?;
+    withdraw(account, store, world, job, ticket, tickets, held)?;
     remove_all(world, targets)
 }
 
-/// Withdraws the records of a job's targets, of which this is the ticket. A store that refuses is noted.
+/// Withdraws the records of a job's targets, of which this is the ticket, and puts those that are held with it. Where there
+/// is none to withdraw they stay held. A store that refuses is noted.
 fn withdraw<W: World>(
     account: &mut Account,
     store: &mut Store,
@@ -58,19 +63,29 @@ fn withdraw<W: World>(
     job: &Job,
     ticket: &Ticket,
     tickets: &Tickets,
+    held: &mut Tickets,
 ) -> Result<(), ListEnd>
     requires unshut { account.old.is_store_shut ≡ false }
-    requires stored { IsStored W.meaning world.old store.old tickets.now account.old.is_store_shut }
+    requires stored { IsStored W.meaning world.old store.old (held.old ++ tickets.now) account.old.is_store_shut }
     requires ticket { IsTicketFor store.old ticket.now job.now.targets }
-    requires room { HasOwnRoom ticket.now tickets.now }
+    requires room { HasOwnRoom ticket.now (held.old ++ tickets.now) }
+    requires beside { (busy : Busy) → Contains held.old busy → ShareNone job.now.targets busy.hold.targets }
     ensures goes { Goes W.meaning world.old world.new }
     ensures keeps { WorldKeeps W.meaning world.old world.new (ledger_of account.old) (with_done (ledger_of account.new) result) }
-    ensures stored { IsStored W.meaning world.new store.new tickets.now account.new.is_store_shut }
+    ensures stored { IsStored W.meaning world.new store.new (held.new ++ tickets.now) account.new.is_store_shut }
+    ensures held { KeepsSome held.old held.new }
+    ensures kept { KeepsRecordsBut job.now.targets store.old held.old store.new held.new account.new.is_store_shut }
     ensures withdrawn { OnOk result (AreWithdrawn W.meaning world.new store.new job.now.targets) }
     ensures ticket { OnOk result (IsTicketFor store.new ticket.now job.now.targets) }
 {
-    match store.withdraw(world, ticket) {
-        Ok(()) => Ok(()),
+    if !store.has_record(ticket) {
+        return Ok(());
+    }
+    match store.withdraw(world, held.as_slice(), ticket) {
+        Ok(()) => {
+            held.clear();
+            Ok(())
+        }
         Err(_) => {
             account.is_store_shut = true;
             Err(ListEnd::Fault(BuildFault::StoreFault))

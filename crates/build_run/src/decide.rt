@@ -1,11 +1,11 @@
 //! Whether a rule is stale.
-ghost use Rattle.std.specs.Prelude.{◌≡◌, ◌≤◌, ◌<◌, [], length, IfOk};
+ghost use Rattle.std.specs.Prelude.{◌≡◌, ◌≤◌, ◌<◌, ◌++◌, [], length, IfOk};
 ghost use Rattle.build_files.specs.Causes.{IsQuiet};
 ghost use Rattle.build_run.specs.Causes.{IsInner};
 ghost use Rattle.build_run.specs.Goings.{Passes, IsJoined};
 ghost use Rattle.build_run.specs.Holds.{holds_in};
 ghost use Rattle.build_run.specs.Ledgers.{ledger_of, with_done, AllEnds, StartEnds, ErrKeeps};
-ghost use Rattle.build_run.specs.Outs.{IsStored};
+ghost use Rattle.build_run.specs.Outs.{IsStored, KeepsHeld};
 
 use crate::account::Account;
 use crate::building::Options;
@@ -27,6 +27,7 @@ pub(crate) fn decide<W: World, O: Sink, E: Sink>(
     plan: &Plan,
     inputs: &mut Inputs,
     tickets: &mut Tickets,
+    held: &mut Tickets,
     dirs: &mut IndexSet<PathText>,
     account: &mut Account,
     store: &mut Store,
@@ -39,12 +40,14 @@ pub(crate) fn decide<W: World, O: Sink, E: Sink>(
     requires unclosed { W.meaning.closed world.old ≡ [] }
     requires room { length tickets.old < 64 }
     requires joined { IsJoined W.meaning world.old (holds_in tickets.old) }
-    requires stored { IsStored W.meaning world.old store.old tickets.old account.old.is_store_shut }
+    requires stored { IsStored W.meaning world.old store.old (held.old ++ tickets.old) account.old.is_store_shut }
     ensures passes { Passes W.meaning world.old world.new }
     ensures ends { AllEnds W.meaning O.meaning E.meaning world.old out.old err.old world.new out.new err.new account.old account.new result }
     ensures room { length tickets.new ≤ 64 }
     ensures joined { IsJoined W.meaning world.new (holds_in tickets.new) }
-    ensures stored { IsStored W.meaning world.new store.new tickets.new account.new.is_store_shut }
+    ensures stored { IsStored W.meaning world.new store.new (held.new ++ tickets.new) account.new.is_store_shut }
+    ensures few { length held.new ≤ length held.old }
+    ensures kept { KeepsHeld store.old held.old store.new held.new account.new.is_store_shut }
 {
     let deps = plan.deps(rule);
     if deps.len() > DEP_LIMIT as usize {
@@ -53,7 +56,7 @@ pub(crate) fn decide<W: World, O: Sink, E: Sink>(
     match inputs.present(world, graph, rule, deps)? {
         Present::Record(now) => {
             make(
-                graph, tickets, dirs, account, store, world, out, options, rule, now,
+                graph, tickets, held, dirs, account, store, world, out, options, rule, now,
             )
         }
         Present::Lacks(node) => {
@@ -67,6 +70,7 @@ pub(crate) fn decide<W: World, O: Sink, E: Sink>(
 fn make<W: World, O: Sink>(
     graph: &Graph,
     tickets: &mut Tickets,
+    held: &mut Tickets,
     dirs: &mut IndexSet<PathText>,
     account: &mut Account,
     store: &mut Store,
@@ -79,18 +83,20 @@ fn make<W: World, O: Sink>(
     requires unclosed { W.meaning.closed world.old ≡ [] }
     requires room { length tickets.old < 64 }
     requires joined { IsJoined W.meaning world.old (holds_in tickets.old) }
-    requires stored { IsStored W.meaning world.old store.old tickets.old account.old.is_store_shut }
+    requires stored { IsStored W.meaning world.old store.old (held.old ++ tickets.old) account.old.is_store_shut }
     ensures passes { Passes W.meaning world.old world.new }
     ensures ends { StartEnds W.meaning O.meaning world.old out.old world.new out.new account.old account.new result }
     ensures room { length tickets.new ≤ 64 }
     ensures joined { IsJoined W.meaning world.new (holds_in tickets.new) }
-    ensures stored { IsStored W.meaning world.new store.new tickets.new account.new.is_store_shut }
+    ensures stored { IsStored W.meaning world.new store.new (held.new ++ tickets.new) account.new.is_store_shut }
+    ensures few { length held.new ≤ length held.old }
+    ensures kept { KeepsHeld store.old held.old store.new held.new account.new.is_store_shut }
 {
     if !is_stale(world, graph, store, rule, &now)? {
         return Ok(PlanEvent::Fresh(rule));
     }
     start(
-        graph, tickets, dirs, account, store, world, out, options, rule, now,
+        graph, tickets, held, dirs, account, store, world, out, options, rule, now,
     )?;
     account.note_start(rule);
     Ok(PlanEvent::Started(rule))

@@ -2,8 +2,8 @@
 ghost use Rattle.std.specs.Prelude.{◌≡◌, ◌++◌, ◌∷◌, [], false, Contains, OnOk, OnErr};
 ghost use Rattle.build_run.specs.Goings.{Passes, IsJoined, AreAbsent};
 ghost use Rattle.build_run.specs.Ledgers.{ledger_of, with_done, StartEnds, OutKeeps, WorldEnds, IsUnstarted};
-ghost use Rattle.build_run.specs.Holds.{hold_for, holds_in, KeepsApart};
-ghost use Rattle.build_run.specs.Outs.{IsStored, IsTicketFor, HasOwnRoom};
+ghost use Rattle.build_run.specs.Holds.{Busy, hold_for, holds_in, KeepsApart};
+ghost use Rattle.build_run.specs.Outs.{IsStored, IsTicketFor, HasOwnRoom, KeepsRecordsBut, KeepsSome, ShareNone};
 ghost use Rattle.build_run.specs.declared.tickets.Hold.{Hold};
 ghost use Rattle.build_run.specs.Withdrawals.{AreWithdrawn, HasNone};
 ghost use Rattle.sign_store.specs.Stores.{map_of};
@@ -23,6 +23,7 @@ use world_api::{AskRefusal, Job, Sink, World, print};
 pub(crate) fn launch<W: World, O: Sink>(
     graph: &Graph,
     tickets: &Tickets,
+    held: &mut Tickets,
     dirs: &mut IndexSet<PathText>,
     account: &mut Account,
     store: &mut Store,
@@ -35,21 +36,24 @@ pub(crate) fn launch<W: World, O: Sink>(
     requires unclosed { W.meaning.closed world.old ≡ [] }
     requires joined { IsJoined W.meaning world.old (holds_in tickets.now) }
     requires unshut { account.old.is_store_shut ≡ false }
-    requires stored { IsStored W.meaning world.old store.old tickets.now account.old.is_store_shut }
+    requires stored { IsStored W.meaning world.old store.old (held.old ++ tickets.now) account.old.is_store_shut }
     requires apart { (hold : Hold) → Contains (holds_in tickets.now) hold → KeepsApart job hold }
     requires ticket { IsTicketFor store.old ticket.now job.targets }
-    requires room { HasOwnRoom ticket.now tickets.now }
+    requires room { HasOwnRoom ticket.now (held.old ++ tickets.now) }
+    requires beside { (busy : Busy) → Contains held.old busy → ShareNone job.targets busy.hold.targets }
     ensures passes { Passes W.meaning world.old world.new }
     ensures ends { StartEnds W.meaning O.meaning world.old out.old world.new out.new account.old account.new result }
     ensures started { OnOk result (IsJoined W.meaning world.new (holds_in tickets.now ++ hold_for job ∷ [])) }
     ensures refused { OnErr result (IsJoined W.meaning world.new (holds_in tickets.now)) }
-    ensures stored { IsStored W.meaning world.new store.new tickets.now account.new.is_store_shut }
+    ensures stored { IsStored W.meaning world.new store.new (held.new ++ tickets.now) account.new.is_store_shut }
+    ensures held { KeepsSome held.old held.new }
+    ensures kept { KeepsRecordsBut job.targets store.old held.old store.new held.new account.new.is_store_shut }
     ensures ticket { OnOk result (IsTicketFor store.new ticket.now job.targets) }
     ensures none { OnOk result (HasNone (map_of store.new) job.targets) }
 {
-    clear(dirs, account, store, world, &job, ticket, tickets)?;
+    clear(dirs, account, store, world, &job, ticket, tickets, held)?;
     show(account, out, text)?;
-    begin(graph, world, job, tickets, store)
+    begin(graph, world, job, tickets, held, store)
 }
 
 /// Prints the text of a rule. A sink that refuses is noted.
@@ -66,12 +70,14 @@ fn show<O: Sink>(account: &mut Account, out: &mut O, text: &str) -> Result<(), L
     }
 }
 
-/// Starts a job, of whose targets nothing is recorded any more, neither in the store nor in what a stop may leave.
+/// Starts a job, of whose targets nothing is recorded any more, neither in the store nor in what a stop may leave, and
+/// nothing is held.
 fn begin<W: World>(
     graph: &Graph,
     world: &mut W,
     job: Job,
     tickets: &Tickets,
+    held: &Tickets,
     store: &Store,
 ) -> Result<(), ListEnd>
     requires unclosed { W.meaning.closed world.old ≡ [] }
@@ -79,6 +85,7 @@ fn begin<W: World>(
     requires apart { (hold : Hold) → Contains (holds_in tickets.now) hold → KeepsApart job hold }
     requires clear { AreAbsent W.meaning world.old job.targets }
     requires withdrawn { AreWithdrawn W.meaning world.old store.now job.targets }
+    requires unheld { (busy : Busy) → Contains held.now busy → ShareNone job.targets busy.hold.targets }
     ensures passes { Passes W.meaning world.old world.new }
     ensures banks { W.meaning.tells world.new → BanksKept W.meaning world.old world.new }
     ensures ends { WorldEnds W.meaning world.old world.new result }

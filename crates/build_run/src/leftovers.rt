@@ -9,6 +9,7 @@ ghost use Rattle.sign_store.specs.Stores.{IsKept, is_live, map_of};
 
 use crate::clear::remove_all;
 use crate::start::prepare;
+use crate::tickets::Busy;
 use build_files::{ListEnd, leftover_copies};
 use deciders::Rec;
 use rule_graph::{BuildFault, Graph};
@@ -103,7 +104,8 @@ fn withdraw<W: World>(
     ensures withdrawn { OnOk result (AreWithdrawn W.meaning world.new store.new targets.now) }
     ensures around { W.meaning.tells world.new → W.meaning.around world.new ≡ W.meaning.around world.old }
 {
-    match store.withdraw(world, ticket) {
+    let none: &[Busy] = &[];
+    match store.withdraw(world, none, ticket) {
         Ok(()) => Ok(()),
         Err(_) => Err(ListEnd::Fault(BuildFault::StoreFault)),
     }

@@ -1,10 +1,10 @@
 //! How the action of a stale rule starts.
-ghost use Rattle.std.specs.Prelude.{◌≡◌, ◌<◌, ◌≤◌, [], length, true, IfOk};
+ghost use Rattle.std.specs.Prelude.{◌≡◌, ◌<◌, ◌≤◌, ◌++◌, [], length, true, IfOk};
 ghost use Rattle.build_run.specs.Goings.{Passes, IsJoined};
 ghost use Rattle.build_run.specs.Holds.{holds_in};
 ghost use Rattle.build_files.specs.Causes.{IsQuiet};
 ghost use Rattle.build_run.specs.Ledgers.{StartEnds};
-ghost use Rattle.build_run.specs.Outs.{IsStored};
+ghost use Rattle.build_run.specs.Outs.{IsStored, KeepsHeld};
 ghost use Rattle.sign_store.specs.Stores.{IsOut, IsFresh, KeepsBanks, KeepsOthers, KeepsOut, is_live, map_of};
 
 use crate::account::Account;
@@ -24,10 +24,12 @@ use world_api::{Job, Sink, World, copy_lines};
 /// Starts the action of a rule with this record. All memory is taken before anything of the rule is touched.
 ///
 /// A plan gives each rule once, and after those that make what it reads. So no job comes up that gets in the way of one
-/// that runs; such a one would be answered as want of memory is. After a fault of the store nothing starts.
+/// that runs, or makes what one has made whose record is held; such a one would be answered as want of memory is. After a
+/// fault of the store nothing starts.
 pub(crate) fn start<W: World, O: Sink>(
     graph: &Graph,
     tickets: &mut Tickets,
+    held: &mut Tickets,
     dirs: &mut IndexSet<PathText>,
     account: &mut Account,
     store: &mut Store,
@@ -40,12 +42,14 @@ pub(crate) fn start<W: World, O: Sink>(
     requires unclosed { W.meaning.closed world.old ≡ [] }
     requires room { length tickets.old < 64 }
     requires joined { IsJoined W.meaning world.old (holds_in tickets.old) }
-    requires stored { IsStored W.meaning world.old store.old tickets.old account.old.is_store_shut }
+    requires stored { IsStored W.meaning world.old store.old (held.old ++ tickets.old) account.old.is_store_shut }
     ensures passes { Passes W.meaning world.old world.new }
     ensures ends { StartEnds W.meaning O.meaning world.old out.old world.new out.new account.old account.new result }
     ensures room { length tickets.new ≤ 64 }
     ensures joined { IsJoined W.meaning world.new (holds_in tickets.new) }
-    ensures stored { IsStored W.meaning world.new store.new tickets.new account.new.is_store_shut }
+    ensures stored { IsStored W.meaning world.new store.new (held.new ++ tickets.new) account.new.is_store_shut }
+    ensures few { length held.new ≤ length held.old }
+    ensures kept { KeepsHeld store.old held.old store.new held.new account.new.is_store_shut }
 {
     if account.is_store_shut {
         return Err(ListEnd::Fault(BuildFault::StoreFault));
@@ -56,10 +60,14 @@ pub(crate) fn start<W: World, O: Sink>(
     if !tickets.are_apart(&job) {
         return Err(ListEnd::Memory);
     }
+    if !held.make_none_of(&job) {
+        return Err(ListEnd::Memory);
+    }
     let ticket = prepare(account.alloc, store, now)?;
     match launch(
         graph,
         tickets,
+        held,
         dirs,
         account,
         store,

@@ -1,13 +1,13 @@
-//! The rules whose actions run, each with the ticket for its record.
+//! The rules whose actions run, or have ended well and have no record yet, each with the ticket for it.
 ghost use Rattle.std.specs.Prelude.{◌≡◌, ◌==◌, position, ◌++◌, ◌∷◌, ◌<◌, [], List, ℕ, true, false, length, Contains, IfOk, IfSome, IfNone};
 ghost use Rattle.sign_store.specs.declared.store.Store.{Store};
 ghost use Rattle.build_run.specs.declared.tickets.Hold.{Hold};
-ghost use Rattle.build_run.specs.Holds.{hold_for, holds_in, without, KeepsApart};
-ghost use Rattle.build_run.specs.Outs.{AreOut};
+ghost use Rattle.build_run.specs.Holds.{Busy, hold_for, holds_in, without, KeepsApart};
+ghost use Rattle.build_run.specs.Outs.{AreOut, ShareNone};
 
 use scons_base::limits::JOB_LIMIT;
 use scons_base::{Memory, PathText, Paths, RuleId};
-use sign_store::Ticket;
+use sign_store::{Ticket, Ticketed};
 use std::alloc::Global;
 use std::marker::Model;
 use world_api::Job;
@@ -54,14 +54,11 @@ fn shares(paths: &[PathText], others: &Paths) -> bool
     paths.iter().any(|path| others.contains(path))
 }
 
-/// A running rule, with the ticket for its record.
-#[derive(Drop)]
-pub(crate) struct Busy {
-    pub(crate) hold: Hold,
-    pub(crate) ticket: Ticket,
-}
+/// A rule, with the ticket for its record.
+pub(crate) type Busy = Ticketed<Hold>;
 
-/// The running rules, at most as many as there may be jobs.
+/// Rules with the tickets for their records, at most as many as there may be jobs: those that run, or those whose actions
+/// ended well and whose records are held for the next group.
 #[derive(Drop)]
 pub(crate) struct Tickets {
     busy: Vec<Busy>,
@@ -69,7 +66,7 @@ pub(crate) struct Tickets {
 
 impl Model for Tickets {
     ghost use Rattle.std.specs.Prelude.{List, ◌≤◌, vec_capacity};
-    ghost use Rattle.build_run.specs.declared.tickets.Busy.{Busy};
+    ghost use Rattle.build_run.specs.Holds.{Busy};
 
     ghost Value = { List Busy };
 
@@ -97,7 +94,32 @@ impl Tickets {
         requires { length self.old < 64 }
         ensures { self.new ≡ self.old ++ record { hold = hold; ticket = ticket } ∷ [] }
     {
-        let _ = self.busy.push(Busy { hold, ticket });
+        let _ = self.busy.push(Ticketed { hold, ticket });
+    }
+
+    pub(crate) fn as_slice(&self) -> &[Busy]
+        ensures { result.now ≡ self.now }
+    {
+        self.busy.as_slice()
+    }
+
+    /// Leaves none. Their memory stays for others.
+    pub(crate) fn clear(&mut self)
+        ensures { self.new ≡ [] }
+    {
+        self.busy.clear();
+    }
+
+    /// Whether a job makes nothing that one of these rules makes.
+    pub(crate) fn make_none_of(&self, job: &Job) -> bool
+        ensures { result ≡ true → (busy : Busy) → Contains self.now busy → ShareNone job.now.targets busy.hold.targets }
+    {
+        for busy in &self.busy {
+            if shares(job.targets.as_slice(), &busy.hold.targets) {
+                return false;
+            }
+        }
+        true
     }
 
     /// Whether a job keeps apart from each that runs.
@@ -117,7 +139,7 @@ impl Tickets {
         ensures left { holds_in self.new ≡ without id (holds_in self.old) }
         ensures rule { IfSome result (λ busy. busy.hold.rule.0 ≡ id) }
         ensures among { IfSome result (λ busy. Contains self.old busy) }
-        ensures outs { (store : Store) → AreOut store self.old → IfSome result (λ busy. AreOut store (busy ∷ self.new)) }
+        ensures outs { (store : Store) (held : List Busy) → AreOut store (held ++ self.old) → IfSome result (λ busy. AreOut store (held ++ busy ∷ self.new)) }
         ensures none { IfNone result (self.new ≡ self.old) }
     {
         let place = place_of(self.busy.as_slice(), id)?;

@@ -74,3 +74,8 @@ both_ok (Err e) h s k = tt
 pub then_ok : {T E P Q : Type 0} (r : Result T E) → OnOk r P → (P → Q) → OnOk r Q
 then_ok (Ok x) p so = so p
 then_ok (Err e) p so = tt
+
+-- what holds whatever a call gives
+pub held_ok : {T E P : Type 0} (r : Result T E) → P → OnOk r P
+held_ok (Ok x) p = p
+held_ok (Err e) p = tt

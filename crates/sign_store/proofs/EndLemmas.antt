@@ -16,10 +16,11 @@ use Rattle.sign_store.specs.declared.head.Head.{Head}
 use Rattle.sign_store.specs.declared.head.Choice.TheVariants as choice
 use Rattle.sign_store.specs.Heads.{gate_of, mark_of, generation_of, head_of, chosen, edition_of}
 use Rattle.sign_store.specs.Entries.{entry_of}
-use Rattle.sign_store.specs.Images.{length_in, payload_in, change_in, entry_in, applied, after_entries, entries_map, body_of}
+use Rattle.sign_store.specs.Images.{length_in, payload_in, change_in, entry_in, after_entries, entries_map, body_of}
 use Rattle.sign_store.specs.Ends.{EndsAt, StandsAt, image_in, with_bank}
+use Rattle.sign_store.specs.Forms.{Leads}
 use Rattle.sign_store.specs.Tables.{Map}
-use Rattle.sign_store.proofs.ImageLemmas.{one_entry, no_entry}
+use Rattle.sign_store.proofs.ImageLemmas.{no_entry}
 
 -- ---- an entry that was spelt is read
 
@@ -76,36 +77,28 @@ still version place map was now ends same inside closed = record {
   entries = λ behind. subst (λ (front : List ℕ). entries_map version (body_of front ++ behind) ≡ after_entries version (length behind) map behind) (sym same) (ends.entries behind);
 }
 
--- an entry behind a gate that was opened
-pub opened : (version : Version) (place : ℕ) (map : Map) (was now rest : List ℕ) (change : Change) (payload : List ℕ) → EndsAt version place map was → take place now ≡ take place was → place < length now
-    → slice_index now place ≡ 1 → drop (place + 1) now ≡ (entry_of payload ++ 0 ∷ []) ++ rest → length payload < 2 ^ 32 → change_in version payload ≡ Some change
-    → EndsAt version (place + length (entry_of payload ++ 0 ∷ [])) (applied change map) now
-opened version place map was now rest change payload ends same inside gate behind fits says =
+-- entries behind a gate that was opened
+pub opened : (version : Version) (place : ℕ) (map after : Map) (was now entries rest : List ℕ) → EndsAt version place map was → take place now ≡ take place was → place < length now
+    → drop place now ≡ entries ++ 0 ∷ rest → Leads version entries map after → EndsAt version (place + length entries) after now
+opened version place map after was now entries rest ends same inside behind leads =
     let front = take place now in
-    let entry = 1 ∷ entry_of payload in
-    let size : length (entry_of payload) ≡ length payload + 4 = omega (arith, length-append (to_be_bytes w32 (length payload)) payload, wide32.len (length payload)) in
     let front-len : length front ≡ place = omega (arith, length-take place now) in
-    let next : ℕ = place + length (entry_of payload ++ 0 ∷ []) in
-    let next-is : next ≡ place + (length payload + 5) = omega (arith, length-append (entry_of payload) (0 ∷ []), size) in
-    let there : drop place now ≡ 1 ∷ drop (place + 1) now = drop_more now place 0 inside ∙ ap (λ (g : ℕ). g ∷ drop (place + 1) now) gate in
-    let whole : now ≡ (front ++ entry) ++ (0 ∷ rest) =
-    sym (take-append-drop place now) ∙ ap (λ (x : List ℕ). front ++ x) (there ∙ ap (λ (x : List ℕ). 1 ∷ x) (behind ∙ append_assoc (entry_of payload) (0 ∷ []) rest)) ∙ sym (append_assoc front entry (0 ∷ rest)) in
-    let len : length (front ++ entry) ≡ next = omega (arith, length-append front entry, front-len, size, next-is) in
-    let total = length-append (front ++ entry) (0 ∷ rest) in
-    let cut : take next now ≡ front ++ entry = ap (take next) whole ∙ take_at (front ++ entry) (0 ∷ rest) next len in
-    let left : drop next now ≡ 0 ∷ rest = ap (drop next) whole ∙ drop_at (front ++ entry) (0 ∷ rest) next len in
+    let next : ℕ = place + length entries in
+    let whole : now ≡ (front ++ entries) ++ (0 ∷ rest) = sym (take-append-drop place now) ∙ ap (λ (x : List ℕ). front ++ x) behind ∙ sym (append_assoc front entries (0 ∷ rest)) in
+    let len : length (front ++ entries) ≡ next = omega (arith, length-append front entries, front-len) in
+    let total = length-append (front ++ entries) (0 ∷ rest) in
+    let cut : take next now ≡ front ++ entries = ap (take next) whole ∙ take_at (front ++ entries) (0 ∷ rest) next len in
+    let left : drop next now ≡ 0 ∷ rest = ap (drop next) whole ∙ drop_at (front ++ entries) (0 ∷ rest) next len in
     let end_gate : slice_index now next ≡ 0 = sym (gate_at next now) ∙ ap (λ (x : List ℕ). slice_index x 0) left in
     record {
-      behind_head = omega (arith, ends.behind_head, next-is);
+      behind_head = omega (arith, ends.behind_head);
       inside = omega (arith, ap length whole, total, len);
       closed = λ e. let bad : 0 ≡ 1 = sym end_gate ∙ e in absurd (omega (arith, bad));
-      entries = λ after.
-          let body : body_of (take next now) ++ after ≡ body_of front ++ (entry ++ after) =
-          ap (λ (x : List ℕ). body_of x ++ after) cut ∙ ap (λ (x : List ℕ). x ++ after) (drop-append-le 17 front entry (omega (arith, front-len, ends.behind_head))) ∙ append_assoc (body_of front) entry after in
-          let step = one_entry version (length (entry ++ after)) map (entry ++ after) (change, length payload + 5) refl (entry_again version change payload after fits says) in
-          let gone : drop (length payload + 5) (entry ++ after) ≡ after = drop_at entry after (length payload + 5) (omega (arith, size)) in
-          ap (entries_map version) body ∙ subst (λ (x : List ℕ). entries_map version (body_of x ++ (entry ++ after)) ≡ after_entries version (length (entry ++ after)) map (entry ++ after)) (sym same) (ends.entries (entry ++ after))
-          ∙ step ∙ ap (λ (x : List ℕ). after_entries version (length x) (applied change map) x) gone;
+      entries = λ more.
+          let body : body_of (take next now) ++ more ≡ body_of front ++ (entries ++ more) =
+          ap (λ (x : List ℕ). body_of x ++ more) cut ∙ ap (λ (x : List ℕ). x ++ more) (drop-append-le 17 front entries (omega (arith, front-len, ends.behind_head))) ∙ append_assoc (body_of front) entries more in
+          ap (entries_map version) body ∙ subst (λ (x : List ℕ). entries_map version (body_of x ++ (entries ++ more)) ≡ after_entries version (length (entries ++ more)) map (entries ++ more)) (sym same) (ends.entries (entries ++ more))
+          ∙ leads.on more;
     }
 
 -- ---- heads, and the bank that counts
@@ -147,32 +140,35 @@ stays version B place next map after was banks stands same inside ends =
 -- ---- torn writes
 
 -- behind the gate: the map stays
-pub torn_behind : (version : Version) (bank : Bank) (place len : ℕ) (map : Map) (was : List ℕ) (banks : Banks) → StandsAt version bank place map (with_bank bank was banks) → Torn (place + 1) len was (banks bank) → StandsAt version bank place map banks
-torn_behind version bank place len map was banks stands torn =
+pub torn_behind : (version : Version) (bank : Bank) (place from len : ℕ) (map : Map) (was : List ℕ) (banks : Banks) → place < from → StandsAt version bank place map (with_bank bank was banks) → Torn from len was (banks bank) → StandsAt version bank place map banks
+torn_behind version bank place from len map was banks behind stands torn =
     let ends = ends_with version bank place map was banks stands in
     let now = banks bank in
-    let same : take place now ≡ take place was = sym (take-take place (place + 1) now (omega arith)) ∙ ap (take place) torn.before ∙ take-take place (place + 1) was (omega arith) in
+    let same : take place now ≡ take place was = sym (take-take place from now (omega (arith, behind))) ∙ ap (take place) torn.before ∙ take-take place from was (omega (arith, behind)) in
     let inside : place < length now = omega (arith, ends.inside, torn.no_shorter) in
-    let gate : slice_index now place ≡ slice_index was place = sym (get_or-take (place + 1) now place 0 (omega arith)) ∙ ap (λ (x : List ℕ). get_or x place 0) torn.before ∙ get_or-take (place + 1) was place 0 (omega arith) in
+    let gate : slice_index now place ≡ slice_index was place = sym (get_or-take from now place 0 behind) ∙ ap (λ (x : List ℕ). get_or x place 0) torn.before ∙ get_or-take from was place 0 behind in
     stays version bank place place map map was banks stands same inside (still version place map was now ends same inside (λ e. ends.closed (sym gate ∙ e)))
 
 -- the gate was opened
-pub gate_opened : (version : Version) (bank : Bank) (place : ℕ) (map : Map) (was rest : List ℕ) (banks : Banks) (change : Change) (payload : List ℕ) → StandsAt version bank place map (with_bank bank was banks)
-    → drop (place + 1) was ≡ (entry_of payload ++ 0 ∷ []) ++ rest → length payload < 2 ^ 32 → change_in version payload ≡ Some change
+pub gate_opened : (version : Version) (bank : Bank) (place : ℕ) (map after : Map) (was entries rest : List ℕ) (banks : Banks) → StandsAt version bank place map (with_bank bank was banks)
+    → 1 ∷ drop (place + 1) was ≡ entries ++ 0 ∷ rest → Leads version entries map after
     → take place (banks bank) ≡ take place was → drop (place + 1) (banks bank) ≡ drop (place + 1) was → place < length (banks bank) → slice_index (banks bank) place ≡ 1
-    → StandsAt version bank (place + length (entry_of payload ++ 0 ∷ [])) (applied change map) banks
-gate_opened version bank place map was rest banks change payload stands behind fits says same after inside gate =
-    stays version bank place _ map (applied change map) was banks stands same inside
-    (opened version place map was (banks bank) rest change payload (ends_with version bank place map was banks stands) same inside gate (after ∙ behind) fits says)
+    → StandsAt version bank (place + length entries) after banks
+gate_opened version bank place map after was entries rest banks stands behind leads same kept inside gate =
+    let now = banks bank in
+    let there : drop place now ≡ entries ++ 0 ∷ rest =
+    drop_more now place 0 inside ∙ ap (λ (g : ℕ). g ∷ drop (place + 1) now) gate ∙ ap (λ (x : List ℕ). 1 ∷ x) kept ∙ behind in
+    stays version bank place _ map after was banks stands same inside
+    (opened version place map after was now entries rest (ends_with version bank place map was banks stands) same inside there leads)
 
--- the gate itself: the map stays, or has the change
-pub torn_gate : (version : Version) (bank : Bank) (place : ℕ) (map : Map) (was rest : List ℕ) (banks : Banks) (change : Change) (payload : List ℕ) → StandsAt version bank place map (with_bank bank was banks)
-    → drop (place + 1) was ≡ (entry_of payload ++ 0 ∷ []) ++ rest → length payload < 2 ^ 32 → change_in version payload ≡ Some change → Torn place 1 was (banks bank)
-    → (image_in banks ≡ map) ⊎ (image_in banks ≡ applied change map)
-torn_gate version bank place map was rest banks change payload stands behind fits says torn =
+-- the gate itself: the map stays, or is the one behind the entries
+pub torn_gate : (version : Version) (bank : Bank) (place : ℕ) (map after : Map) (was entries rest : List ℕ) (banks : Banks) → StandsAt version bank place map (with_bank bank was banks)
+    → 1 ∷ drop (place + 1) was ≡ entries ++ 0 ∷ rest → Leads version entries map after → Torn place 1 was (banks bank)
+    → (image_in banks ≡ map) ⊎ (image_in banks ≡ after)
+torn_gate version bank place map after was entries rest banks stands behind leads torn =
     let ends = ends_with version bank place map was banks stands in
     let inside : place < length (banks bank) = omega (arith, ends.inside, torn.no_shorter) in
     elim (eqb_tells (slice_index (banks bank) place) 1) [
-      | inl open_now ↦ inr ((gate_opened version bank place map was rest banks change payload stands behind fits says torn.before torn.after inside open_now.1).image)
+      | inl open_now ↦ inr ((gate_opened version bank place map after was entries rest banks stands behind leads torn.before torn.after inside open_now.1).image)
       | inr shut_now ↦ inl ((stays version bank place place map map was banks stands torn.before inside (still version place map was (banks bank) ends torn.before inside shut_now.1)).image)
     ]

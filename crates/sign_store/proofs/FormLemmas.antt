@@ -39,7 +39,7 @@ leads_then version a b from mid map first second = record {
   on = λ behind. ap (λ (x : List ℕ). after_entries version (length x) from x) (append_assoc a b behind) ∙ first.on (b ++ behind) ∙ second.on behind;
 }
 
-leads_entry : (change : Change) (payload : List ℕ) (map : Map) → length payload < 2 ^ 32 → change_in Two payload ≡ Some change → Leads Two (1 ∷ entry_of payload) map (applied change map)
+pub leads_entry : (change : Change) (payload : List ℕ) (map : Map) → length payload < 2 ^ 32 → change_in Two payload ≡ Some change → Leads Two (1 ∷ entry_of payload) map (applied change map)
 leads_entry change payload map fits says = record {
   on = λ behind.
       let entry = 1 ∷ entry_of payload in

@@ -10,6 +10,8 @@ pub mod FillLemmas
 pub mod OrderLemmas
 pub mod NumberLemmas
 pub mod FormLemmas
+pub mod StageLemmas
+pub mod GroupLemmas
 pub mod CompactLemmas
 pub mod LenLemmas
 pub mod CopyLemmas

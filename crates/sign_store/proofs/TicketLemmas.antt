@@ -12,15 +12,13 @@ use Rattle.deciders.specs.Spelling.{sized, listed, spelling, IsPathText, Spells}
 use Rattle.deciders.specs.Reading.{path_at, counted, paths_in}
 use Rattle.deciders.proofs.Takings.{path_reader, wide32}
 use Rattle.deciders.proofs.Parts.{list_reader}
-use Rattle.deciders.proofs.RecordLaws.{record_again}
 use Rattle.deciders.proofs.Sizes.{targets_within}
-use Rattle.sign_store.specs.declared.entries.Change.TheVariants.{Put, Withdraw}
+use Rattle.sign_store.specs.declared.entries.Change.TheVariants.{Withdraw}
 use Rattle.sign_store.specs.declared.store.Store.{Store}
 use Rattle.sign_store.specs.declared.ticket.Ticket.{Ticket}
 use Rattle.sign_store.specs.Entries.{entry_of, put_payload, withdraw_payload, entries_len}
-use Rattle.sign_store.specs.Ends.{IsEntry}
-use Rattle.sign_store.specs.Images.{put_in}
-use Rattle.sign_store.specs.Stores.{IsTicket, IsOut, IsUntouched, HasRoom, TakesRoom, AreApart, map_of}
+use Rattle.sign_store.specs.Images.{change_in}
+use Rattle.sign_store.specs.Stores.{IsTicket, IsOut, IsUntouched, HasRoom, AreApart, map_of}
 use Rattle.sign_store.specs.Tables.{Map, has_any, with_each, is_among}
 
 -- ---- what the entries say
@@ -34,14 +32,6 @@ put_spelt old with_len pushed rec len lengthened marked is =
     ∙ append_assoc old (to_be_bytes w32 len) (1 ∷ spelling Two rec)
     ∙ ap (λ (n : ℕ). old ++ (to_be_bytes w32 n ++ put_payload rec)) is
 
-pub put_says : (rec : Rec) (bytes : List ℕ) → Spells Two (spelling Two rec) rec → length (spelling Two rec) ≤ 4294967294 → bytes ≡ entry_of (put_payload rec) ++ 0 ∷ [] → IsEntry (Put rec) bytes
-put_says rec bytes spells fits is = record {
-  payload = put_payload rec;
-  fits = omega (arith, fits);
-  says = ap (option_map (put_in Two (length (spelling Two rec)))) (record_again Two (spelling Two rec) rec spells);
-  spelt = is;
-}
-
 left_true : (a b : Bool) → (a && b) ≡ true → a ≡ true
 left_true true b e = refl
 left_true false b e = absurd cc
@@ -50,18 +40,12 @@ pub paths_again : (paths : List (List ℕ)) → counted path_at (listed sized pa
 unfolding paths_in
 paths_again paths counts some = rw (counts, some) refl
 
-pub withdrawal_says : (rec : Rec) (bytes : List ℕ) → Spells Two (spelling Two rec) rec → length (spelling Two rec) ≤ 4294967294 → bytes ≡ entry_of (withdraw_payload rec.targets) ++ 0 ∷ []
-    → IsEntry (Withdraw rec.targets) bytes
-withdrawal_says rec bytes spells fits is =
+pub withdrawal_says : (rec : Rec) → Spells Two (spelling Two rec) rec → change_in Two (withdraw_payload rec.targets) ≡ Some (Withdraw rec.targets)
+withdrawal_says rec spells =
     let again = (list_reader path_at sized IsPathText path_reader).again rec.targets [] spells.parts.targets in
     let counts : counted path_at (listed sized rec.targets) ≡ Some (rec.targets, []) = ap (counted path_at) (sym (append-nil (listed sized rec.targets))) ∙ again in
     let some : not (length rec.targets == 0) ≡ true = left_true _ _ spells.valid in
-    record {
-      payload = withdraw_payload rec.targets;
-      fits = omega (arith, fits, targets_within Two rec);
-      says = ap (option_map Withdraw) (paths_again rec.targets counts some);
-      spelt = is;
-    }
+    ap (option_map Withdraw) (paths_again rec.targets counts some)
 
 -- ---- their room
 
@@ -96,7 +80,7 @@ owed_less false b put withdrawal so = let le = at_least b put withdrawal in omeg
 
 -- ---- which targets have a record, after one of the paths was given another, or none
 
-any_less : (map : Map) (paths targets : List (List ℕ)) → has_any (with_each paths None map) targets ≡ true → has_any map targets ≡ true
+pub any_less : (map : Map) (paths targets : List (List ℕ)) → has_any (with_each paths None map) targets ≡ true → has_any map targets ≡ true
 any_less map paths [] e = absurd cc
 any_less map paths (path ∷ targets) e = by (is_among paths path) (is_some (map path)) refl refl e (any_less map paths targets)
   where
@@ -163,10 +147,10 @@ less_withdrawn old new paths targets is some = any_less old paths targets (subst
 pub less_apart : (old new : Map) (rec : Option Rec) (paths targets : List (List ℕ)) → new ≡ with_each paths rec old → AreApart paths targets → has_any new targets ≡ true → has_any old targets ≡ true
 less_apart old new rec paths targets is apart some = sym (any_apart old rec paths targets apart) ∙ subst (λ (map : Map). has_any map targets ≡ true) is some
 
--- a ticket whose targets were withdrawn
+-- a ticket whose targets were withdrawn, of this map
 pub out_withdrawn : (old new : Store) (rec : Rec) (ticket : Ticket) → IsOut old rec ticket → IsTicket new rec ticket → has_any (map_of old) rec.targets ≡ true → length new.rooms.items ≡ length old.rooms.items
-    → slice_index new.rooms.items ticket.room + length ticket.withdrawal.items ≡ slice_index old.rooms.items ticket.room → map_of new ≡ with_each rec.targets None (map_of old) → IsOut new rec ticket
-out_withdrawn old new rec ticket out own some rooms here map = record {
+    → slice_index new.rooms.items ticket.room + length ticket.withdrawal.items ≡ slice_index old.rooms.items ticket.room → (map : Map) → map_of new ≡ with_each rec.targets None map → IsOut new rec ticket
+out_withdrawn old new rec ticket out own some rooms here before map = record {
   own = own;
   spells = out.spells;
   fits = out.fits;
@@ -174,7 +158,7 @@ out_withdrawn old new rec ticket out own some rooms here map = record {
     inside = let inside = out.room.inside in omega (arith, inside, rooms);
     enough =
         let enough = out.room.enough in
-        let none : has_any (map_of new) rec.targets ≡ false = subst (λ (m : Map). has_any m rec.targets ≡ false) (sym map) (none_withdrawn (map_of old) rec.targets) in
+        let none : has_any (map_of new) rec.targets ≡ false = subst (λ (m : Map). has_any m rec.targets ≡ false) (sym map) (none_withdrawn before rec.targets) in
         omega (arith, enough, here, both_owed (has_any (map_of old) rec.targets) (length ticket.put.items) (length ticket.withdrawal.items) some, put_owed (has_any (map_of new) rec.targets) (length ticket.put.items) (length ticket.withdrawal.items) none);
   };
 }
@@ -201,15 +185,15 @@ out_beside old new rec ticket out own map rooms here = record {
 }
 
 -- what the entries of a new ticket take
-pub owed_is : (map : Map) (rec : Rec) (put withdrawal : List ℕ) (payload : ℕ) → payload ≡ length (spelling Two rec) + 1 → put ≡ entry_of (put_payload rec) ++ 0 ∷ [] → withdrawal ≡ entry_of (withdraw_payload rec.targets) ++ 0 ∷ []
+pub owed_is : (map : Map) (rec : Rec) (put withdrawal : List ℕ) (payload : ℕ) → payload ≡ length (spelling Two rec) + 1 → put ≡ 1 ∷ entry_of (put_payload rec) → withdrawal ≡ 1 ∷ entry_of (withdraw_payload rec.targets)
     → length put + cond (has_any map rec.targets) (length withdrawal) 0 ≡ entries_len map rec payload
 owed_is map rec put withdrawal payload payload-is put-is withdrawal-is = by (has_any map rec.targets)
   where
     put-len : length put ≡ 5 + payload
-    put-len = omega (arith, ap length put-is, length-append (entry_of (put_payload rec)) (0 ∷ []), length-append (to_be_bytes w32 (length (put_payload rec))) (put_payload rec), wide32.len (length (put_payload rec)), payload-is)
+    put-len = omega (arith, ap length put-is, length-append (to_be_bytes w32 (length (put_payload rec))) (put_payload rec), wide32.len (length (put_payload rec)), payload-is)
 
     withdrawal-len : length withdrawal ≡ 6 + length (listed sized rec.targets)
-    withdrawal-len = omega (arith, ap length withdrawal-is, length-append (entry_of (withdraw_payload rec.targets)) (0 ∷ []), length-append (to_be_bytes w32 (length (withdraw_payload rec.targets))) (withdraw_payload rec.targets), wide32.len (length (withdraw_payload rec.targets)))
+    withdrawal-len = omega (arith, ap length withdrawal-is, length-append (to_be_bytes w32 (length (withdraw_payload rec.targets))) (withdraw_payload rec.targets), wide32.len (length (withdraw_payload rec.targets)))
 
     by : (b : Bool) → length put + cond b (length withdrawal) 0 ≡ cond b (length (listed sized rec.targets) + (5 + payload + 6)) (5 + payload)
     by true = omega (arith, put-len, withdrawal-len)
@@ -225,9 +209,6 @@ kept_room old new len room is inside =
 pub untouched : {T E : Type 0} (r : Result T E) (old new : Store) → map_of new ≡ map_of old → new.bank ≡ old.bank → new.end ≡ old.end → new.rooms.items ≡ old.rooms.items → OnErr r (IsUntouched old new)
 untouched (Ok x) old new map bank end rooms = tt
 untouched (Err e) old new map bank end rooms = record { map = map; banks = record { bank = bank; end = end }; rooms = rooms }
-
-pub nothing_taken : (store : Store) (room len : ℕ) → len ≡ 0 → TakesRoom room len store store
-nothing_taken store room len none = record { rooms = refl; here = omega (arith, none); others = λ other differs. refl }
 
 pub no_withdrawal : (b : Bool) (len : ℕ) → b ≡ false → cond b len 0 ≡ 0
 no_withdrawal true len e = absurd cc

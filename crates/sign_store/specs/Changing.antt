@@ -4,30 +4,19 @@ use Rattle.world_api.specs.declared.disk.Bank.{Bank}
 use Rattle.world_api.specs.declared.disk.Bank.TheVariants.{A}
 use Rattle.world_api.specs.Around.{Around}
 use Rattle.world_api.specs.Meaning.{Meaning, Throughout}
-use Rattle.sign_store.specs.declared.entries.Change.{Change}
 use Rattle.sign_store.specs.declared.entries.EndGate.{EndGate}
 use Rattle.deciders.specs.declared.version.Version.TheVariants.{Two}
 use Rattle.sign_store.specs.declared.head.Edition.{Edition}
 use Rattle.sign_store.specs.declared.opening.Opened.{Opened}
 use Rattle.sign_store.specs.declared.head.Choice.TheVariants as choice
 use Rattle.sign_store.specs.Beginnings.{CanFill, IsCounted, IsCurrent, IsFilled, IsMendable, IsOpened, IsReopened}
-use Rattle.sign_store.specs.Ends.{IsEither, IsEntry, IsLeftOr, KeepsAt, image_in}
+use Rattle.sign_store.specs.Ends.{IsLeftOr, image_in}
 use Rattle.sign_store.specs.Forms.{IsForm}
 use Rattle.sign_store.specs.Heads.{edition_of}
-use Rattle.sign_store.specs.Images.{applied}
 use Rattle.sign_store.specs.Maps.{map_in}
 use Rattle.sign_store.specs.Reached.{Endures}
 use Rattle.sign_store.specs.Readings.{choice_of}
 use Rattle.sign_store.specs.Tables.{Map, nothing}
-
--- an entry is added where the entries of a bank end: the banks stand for the map before it or behind it
-abbrev pub AppendsThroughout : {W : Type 0} → Meaning W → W → W → Bank → ℕ → List ℕ → Type 0
-AppendsThroughout m old new bank end entry = (change : Change) (map : Map) → IsEntry change entry
-    → KeepsAt m old bank end map → Throughout m old new (IsEither (m.around old) map (applied change map))
-
-abbrev pub AppendKeeps : {W T E : Type 0} → Meaning W → W → W → Bank → ℕ → List ℕ → Result T E → Type 0
-AppendKeeps m old new bank end entry result = (change : Change) (map : Map) → IsEntry change entry
-    → KeepsAt m old bank end map → OnOk result (KeepsAt m new bank (end + length entry) (applied change map))
 
 -- a bank is closed while another one counts, so that it can be filled
 abbrev pub ClosesThroughout : {W : Type 0} → Meaning W → W → W → Bank → Type 0

@@ -7,11 +7,9 @@ use Rattle.world_api.specs.Banks.{Banks, Holds, Torn}
 use Rattle.world_api.specs.Meaning.{Meaning, IsImage, IsSettled, Throughout}
 use Rattle.deciders.specs.declared.version.Version.{Version}
 use Rattle.deciders.specs.declared.version.Version.TheVariants.{Two}
-use Rattle.sign_store.specs.declared.entries.Change.{Change}
 use Rattle.sign_store.specs.declared.head.Choice.TheVariants as choice
 use Rattle.sign_store.specs.Heads.{head_of, chosen, edition_of}
-use Rattle.sign_store.specs.Entries.{entry_of}
-use Rattle.sign_store.specs.Images.{change_in, after_entries, entries_map, body_of, image_of}
+use Rattle.sign_store.specs.Images.{after_entries, entries_map, body_of, image_of}
 use Rattle.sign_store.specs.Tables.{Map}
 
 -- up to this place a bank of this version has a head and whole entries, which stand for this map whatever is behind
@@ -44,13 +42,6 @@ pub record StandsAt (version : Version) (bank : Bank) (place : ℕ) (map : Map) 
 -- whatever a stop leaves now stands for this map, in entries of this bank, of version 2, that end at this place
 pub record KeepsAt {W : Type 0} (m : Meaning W) (world : W) (bank : Bank) (place : ℕ) (map : Map) : Type 0 where
   pub each : m.tells world → (banks : Banks) → IsImage m world banks → StandsAt Two bank place map banks
-
--- what stands behind the gate of an entry that makes this change: its length, its payload and the next gate, closed
-pub record IsEntry (change : Change) (bytes : List ℕ) : Type 0 where
-  pub payload : List ℕ
-  pub fits : length payload < 2 ^ 32
-  pub says : change_in Two payload ≡ Some change
-  pub spelt : bytes ≡ entry_of payload ++ 0 ∷ []
 
 -- the banks stand for the one map or for the other, and all around is as it was
 pub record IsEither (stood : Around) (before after : Map) (around : Around) (banks : Banks) : Type 0 where

@@ -9,6 +9,7 @@ pub mod Readings
 pub mod Ends
 pub mod Reached
 pub mod Forms
+pub mod Staging
 pub mod Blocks
 pub mod Compacts
 pub mod Copies

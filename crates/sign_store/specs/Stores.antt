@@ -50,8 +50,8 @@ Begins banks store = IsBegunOver banks store.map store.bank store.end
 -- the store's ticket for this record
 pub record IsTicket (store : Store) (rec : Rec) (ticket : Ticket) : Type 0 where
   pub held : HasRecord store.map rec ticket.number
-  pub put : ticket.put.items ≡ entry_of (put_payload rec) ++ 0 ∷ []
-  pub withdrawal : ticket.withdrawal.items ≡ entry_of (withdraw_payload rec.targets) ++ 0 ∷ []
+  pub put : ticket.put.items ≡ 1 ∷ entry_of (put_payload rec)
+  pub withdrawal : ticket.withdrawal.items ≡ 1 ∷ entry_of (withdraw_payload rec.targets)
 
 -- a ticket of the one is a ticket of the other
 pub record KeepsTickets (old new : Store) : Type 0 where
@@ -142,11 +142,6 @@ pub record KeepsOthers (but : Ticket) (old new : Store) : Type 0 where
 -- no path is among both
 abbrev pub AreApart : List (List ℕ) → List (List ℕ) → Type 0
 AreApart paths others = (path : List ℕ) → is_among paths path ≡ true → is_among others path ≢ true
-
--- the same of tickets that share no target with it
-pub record KeepsApart (but : Ticket) (targets : List (List ℕ)) (old new : Store) : Type 0 where
-  pub each : (rec : Rec) (ticket : Ticket) → ticket.room ≢ but.room → AreApart targets rec.targets
-      → IsOut old rec ticket → IsOut new rec ticket
 
 -- a ticket has a room of its own
 pub record IsFresh (old : Store) (ticket : Ticket) : Type 0 where

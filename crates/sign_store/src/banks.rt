@@ -1,13 +1,14 @@
 //! Reading and writing the banks of a disk.
-ghost use Rattle.std.specs.Prelude.{◌≡◌, ◌≢◌, ◌≤◌, ◌<◌, ◌+◌, ◌^◌, ℕ, length, drop, take, vec_len, IfOk, IfErr, OnOk, OnErr};
+ghost use Rattle.std.specs.Prelude.{◌≡◌, ◌≢◌, ◌≤◌, ◌<◌, ◌+◌, ◌^◌, ◌==◌, if◌then◌else◌, ℕ, length, drop, take, vec_len, IfOk, IfErr, OnOk, OnErr};
 ghost use Rattle.world_api.specs.Causes.{DiskFails};
 ghost use Rattle.world_api.specs.Meaning.{Told, IsSettled};
 ghost use Rattle.world_api.specs.declared.disk.Bank.TheVariants as side;
-ghost use Rattle.sign_store.specs.Changing.{AppendKeeps, AppendsThroughout, CloseKeeps, ClosesThroughout, Fills, FillsThroughout};
+ghost use Rattle.sign_store.specs.Changing.{CloseKeeps, ClosesThroughout, Fills, FillsThroughout};
 ghost use Rattle.sign_store.specs.Ends.{IsTornThroughout, ReachesPlace, WritesAt};
 ghost use Rattle.sign_store.specs.Forms.{IsShut};
 ghost use Rattle.sign_store.specs.Heads.{head_of};
 ghost use Rattle.sign_store.specs.Readings.{IsRefusal, IsOutside};
+ghost use Rattle.sign_store.specs.Staging.{Publishes, PublishesThroughout, Spans, Stages, StaysBehind};
 ghost use Rattle.sign_store.specs.Reached.{HasFaultCause, KeepsSettled, ReadsBanks, SeesTheSame, Writes};
 
 use crate::head::{HEAD_LEN, Head, head_of};
@@ -111,28 +112,61 @@ pub(crate) fn write_synced<W: Disk>(
     world.sync(bank)
 }
 
-/// Adds an entry at the closed gate where the entries end: what stands behind its gate first, and then the gate is
-/// opened.
+/// Writes an entry behind the closed gate at `end`, at the place up to which others were written there. The first one has
+/// that gate for its own, which stays closed. Nothing is synced.
 #[tactic(auto, using(crate::proofs::DiskLemmas::calls))]
-pub(crate) fn append<W: Disk>(
+pub(crate) fn stage<W: Disk>(
     world: &mut W,
     bank: Bank,
     end: u64,
+    place: u64,
     entry: &[u8],
 ) -> Result<(), Fault>
-    requires within { W.meaning.tells world.old → end < length (W.meaning.seen world.old bank) }
-    requires small { end + 1 + length entry.now ≤ 2 ^ 41 }
-    ensures end { ReachesPlace W.meaning bank (end + length entry.now) world.new result }
-    ensures moments { AppendsThroughout W.meaning world.old world.new bank end entry.now }
-    ensures keeps { AppendKeeps W.meaning world.old world.new bank end entry.now result }
-    ensures settled { OnOk result (KeepsSettled W.meaning world.old world.new) }
+    requires behind { end ≤ place }
+    requires within { W.meaning.tells world.old → Spans end place (W.meaning.seen world.old bank) }
+    requires small { place + length entry.now + 1 ≤ 2 ^ 41 }
+    ensures stays { StaysBehind W.meaning world.old world.new bank end }
+    ensures staged { Stages W.meaning world.old world.new bank end place entry.now result }
+    ensures within { W.meaning.tells world.new → OnOk result (Spans end (place + length entry.now) (W.meaning.seen world.new bank)) }
     ensures around { W.meaning.tells world.new → W.meaning.around world.new ≡ W.meaning.around world.old }
     ensures writes { Writes W.meaning bank world.old world.new }
     ensures told { Told W.meaning world.old world.new }
     ensures kept { OnOk result (W.meaning.counts world.new ≡ W.meaning.counts world.old) }
     ensures rose { OnErr result (DiskFails (W.meaning.counts world.old) (W.meaning.counts world.new)) }
 {
-    write_synced(world, bank, end + 1, entry)?;
+    let skip = gate_len(end, place);
+    let behind = &entry[skip.min(entry.len())..];
+    world.write_at(bank, place + skip as u64, behind)
+}
+
+/// How much of an entry stands at its place already: the gate of the first.
+fn gate_len(end: u64, place: u64) -> usize
+    ensures { result ≡ (if place == end then 1 else 0) }
+{
+    if place == end { 1 } else { 0 }
+}
+
+/// Closes the gate behind the entries that were written up to `place`, syncs them, and then opens the gate at `end`, in
+/// front of the first: from there on all of them count.
+#[tactic(auto, using(crate::proofs::DiskLemmas::calls))]
+pub(crate) fn publish<W: Disk>(world: &mut W, bank: Bank, end: u64, place: u64) -> Result<(), Fault>
+    requires behind { end ≤ place }
+    requires within { W.meaning.tells world.old → Spans end place (W.meaning.seen world.old bank) }
+    requires small { place + 1 ≤ 2 ^ 41 }
+    ensures end { ReachesPlace W.meaning bank place world.new result }
+    ensures moments { PublishesThroughout W.meaning world.old world.new bank end place }
+    ensures keeps { Publishes W.meaning world.old world.new bank end place result }
+    ensures settled { W.meaning.tells world.new → OnOk result (IsSettled W.meaning world.new bank) }
+    ensures around { W.meaning.tells world.new → W.meaning.around world.new ≡ W.meaning.around world.old }
+    ensures writes { Writes W.meaning bank world.old world.new }
+    ensures told { Told W.meaning world.old world.new }
+    ensures kept { OnOk result (W.meaning.counts world.new ≡ W.meaning.counts world.old) }
+    ensures rose { OnErr result (DiskFails (W.meaning.counts world.old) (W.meaning.counts world.new)) }
+{
+    if place == end {
+        return world.sync(bank);
+    }
+    write_synced(world, bank, place, &[0])?;
     write_synced(world, bank, end, &[1])
 }
 

@@ -7,7 +7,8 @@
 //! begun over it moves its map into the other bank.
 //!
 //! To callers a `Store` is a map from paths to records. A rule's record is withdrawn before the rule starts and put
-//! once it is done: both by a `Ticket`, which takes the memory of both beforehand.
+//! once it is done: both by a `Ticket`, which takes the memory of both beforehand. Puts are made in groups, with a
+//! withdrawal at most: all their entries are written behind one closed gate, and count once it is opened.
 #![tactic(auto)]
 
 mod banks;
@@ -28,5 +29,5 @@ mod view;
 pub use image::recorded;
 pub use refusals::{PrepareRefusal, StoreRefusal};
 pub use store::Store;
-pub use ticket::Ticket;
+pub use ticket::{Ticket, Ticketed};
 pub use view::View;

@@ -8,16 +8,18 @@ ghost use Rattle.deciders.specs.Records.{IsValid};
 ghost use Rattle.deciders.specs.declared.version.Version.TheVariants as version;
 ghost use Rattle.deciders.specs.Spelling.{spelling};
 ghost use Rattle.sign_store.specs.Changing.{BeginsThroughout};
-ghost use Rattle.sign_store.specs.Ends.{AreSettled, ReadsAsBefore};
+ghost use Rattle.sign_store.specs.Ends.{AreSettled, KeepsAt, ReadsAsBefore};
 ghost use Rattle.sign_store.specs.Entries.{entries_len};
 ghost use Rattle.sign_store.specs.Reached.{HasFaultCause, KeepsSettled, LeavesBanks, ReadsBanks, Writes};
 ghost use Rattle.sign_store.specs.Readings.{AreReadable, IsRefusal};
+ghost use Rattle.sign_store.specs.Staging.{StaysBehind};
+ghost use Rattle.sign_store.specs.Tables.{has_any};
 
-use crate::banks::append;
+use crate::banks::{publish, stage};
 use crate::map::RecordMap;
 use crate::opening::{Opened, open, read_map};
 use crate::refusals::{PrepareRefusal, StoreRefusal};
-use crate::ticket::{Ticket, put_entry, withdraw_entry};
+use crate::ticket::{Ticket, Ticketed, put_entry, withdraw_entry};
 use crate::view::View;
 use deciders::{Rec, Version, paths_len, spelled_len};
 use scons_base::limits::{BANK_LIMIT, PAYLOAD_LIMIT};
@@ -47,9 +49,9 @@ pub struct Store {
 }
 
 impl Store {
-    ghost use Rattle.sign_store.specs.Putting.{AddKeeps, AddTakesRoom, AddsThroughout, PutKeepsApart, PutsRecord, PutsThroughout, StaysKept};
-    ghost use Rattle.sign_store.specs.Putting.{WithdrawKeepsOthers, WithdrawTakesRoom, WithdrawsRecord, WithdrawsThroughout};
-    ghost use Rattle.sign_store.specs.Stores.{Begins, Fits, IsPrepareRefusal, IsStoredIn, IsTicket, IsOut, IsKept, IsFresh, is_live, map_of, map_of_view, HasMapOf, ShowsMapOf, HasRoom, TakesRoom, KeepsRooms, FreesRoom, GetsRoom, IsUntouched, due_for, KeepsBanks, KeepsTickets, KeepsOut, KeepsOthers, KeepsApart};
+    ghost use Rattle.sign_store.specs.Putting.{AddTakesRoom, Adds, AddsPuts, AreHeld, AreOutWith, AreTickets, FreesRooms, KeepsRoomsBeside, PutsKeep, PutsKeepApart, PutsRecords, PutsThroughout};
+    ghost use Rattle.sign_store.specs.Putting.{SpansIn, StaysOut, TakesRoomsBeside, WithdrawKeeps, WithdrawKeepsOthers, WithdrawTakesRoom, WithdrawsRecord, WithdrawsThroughout, map_with, map_without};
+    ghost use Rattle.sign_store.specs.Stores.{Begins, Fits, IsPrepareRefusal, IsStoredIn, IsTicket, IsOut, IsKept, IsFresh, is_live, map_of, map_of_view, HasMapOf, ShowsMapOf, HasRoom, TakesRoom, KeepsRooms, FreesRoom, GetsRoom, IsUntouched, due_for, KeepsBanks, KeepsTickets, KeepsOut, KeepsOthers};
 
     /// What the banks stand for. Nothing is written.
     #[tactic(auto, using(crate::proofs::DiskLemmas::calls))]
@@ -194,48 +196,26 @@ impl Store {
         Ok(room)
     }
 
-    /// Takes the records of a ticket's targets away. Where none of them has one the disk isn't called.
-    #[tactic(auto, using(crate::proofs::DiskLemmas::calls))]
-    pub fn withdraw<W: Disk>(&mut self, world: &mut W, ticket: &Ticket) -> Result<(), Fault>
-        requires live { is_live self.old ≡ true }
-        requires stands { W.meaning.tells world.old → IsStoredIn (W.meaning.seen world.old) self.old }
-        ensures map { WithdrawsRecord self.old self.new ticket.now result }
-        ensures same { OnErr result (IsUntouched self.old self.new) }
-        ensures moments { WithdrawsThroughout W.meaning world.old world.new self.old ticket.now }
-        ensures keeps { StaysKept W.meaning world.old world.new self.old self.new ticket.now result }
-        ensures out { (rec : Rec) → IsOut self.old rec ticket.now → OnOk result (IsOut self.new rec ticket.now) }
-        ensures outs { WithdrawKeepsOthers self.old self.new ticket.now result }
-        ensures rooms { WithdrawTakesRoom self.old self.new ticket.now result }
-        ensures tickets { KeepsTickets self.old self.new }
-        ensures stands { W.meaning.tells world.new → OnOk result (IsStoredIn (W.meaning.seen world.new) self.new) }
-        ensures settled { OnOk result (KeepsSettled W.meaning world.old world.new) }
-        ensures live { OnOk result (is_live self.new ≡ is_live self.old) }
-        ensures dead { OnErr result (is_live self.new ≡ false) }
-        ensures around { W.meaning.tells world.new → W.meaning.around world.new ≡ W.meaning.around world.old }
-        ensures writes { Writes W.meaning self.old.bank world.old world.new }
-        ensures told { Told W.meaning world.old world.new }
-        ensures kept { OnOk result (W.meaning.counts world.new ≡ W.meaning.counts world.old) }
-        ensures rose { OnErr result (DiskFails (W.meaning.counts world.old) (W.meaning.counts world.new)) }
+    /// Whether a target of a ticket's record has a record.
+    pub fn has_record(&self, ticket: &Ticket) -> bool
+        ensures { (rec : Rec) → IsTicket self.now rec ticket.now → result ≡ has_any (map_of self.now) rec.targets }
     {
-        if !self.map.has_any(ticket.number) {
-            return Ok(());
-        }
-        self.append(world, ticket.room, ticket.withdrawal.as_slice())?;
-        self.map.unset(ticket.number);
-        Ok(())
+        self.map.has_any(ticket.number)
     }
 
-    /// Gives each target of a ticket its record.
+    /// Gives each target of held tickets its record, in the order of the tickets: all of it counts at once, or nothing. Two
+    /// syncs do for all. A ticket whose record was put has no room any more, and is left out.
     #[tactic(auto, using(crate::proofs::DiskLemmas::calls))]
-    pub fn put<W: Disk>(&mut self, world: &mut W, ticket: Ticket) -> Result<(), Fault>
+    pub fn put<T, W: Disk>(&mut self, world: &mut W, held: &[Ticketed<T>]) -> Result<(), Fault>
         requires live { is_live self.old ≡ true }
         requires stands { W.meaning.tells world.old → IsStoredIn (W.meaning.seen world.old) self.old }
-        ensures map { PutsRecord self.old self.new ticket result }
-        ensures same { OnErr result (IsUntouched self.old self.new) }
-        ensures freed { OnOk result (FreesRoom ticket.room self.old self.new) }
-        ensures moments { PutsThroughout W.meaning world.old world.new self.old ticket }
-        ensures keeps { StaysKept W.meaning world.old world.new self.old self.new ticket result }
-        ensures outs { PutKeepsApart self.old self.new ticket result }
+        ensures map { PutsRecords self.old self.new held.now result }
+        ensures same { OnErr result (map_of self.new ≡ map_of self.old) }
+        ensures banks { OnErr result (KeepsBanks self.old self.new) }
+        ensures freed { OnOk result (FreesRooms held.now self.old self.new) }
+        ensures moments { PutsThroughout W.meaning world.old world.new self.old held.now }
+        ensures keeps { PutsKeep W.meaning world.old world.new self.old self.new held.now result }
+        ensures outs { PutsKeepApart self.old self.new held.now result }
         ensures tickets { KeepsTickets self.old self.new }
         ensures stands { W.meaning.tells world.new → OnOk result (IsStoredIn (W.meaning.seen world.new) self.new) }
         ensures settled { OnOk result (KeepsSettled W.meaning world.old world.new) }
@@ -247,10 +227,67 @@ impl Store {
         ensures kept { OnOk result (W.meaning.counts world.new ≡ W.meaning.counts world.old) }
         ensures rose { OnErr result (DiskFails (W.meaning.counts world.old) (W.meaning.counts world.new)) }
     {
-        self.append(world, ticket.room, ticket.put.as_slice())?;
-        self.free(ticket.room);
-        self.map.set(ticket.number);
-        Ok(())
+        if held.is_empty() {
+            return Ok(());
+        }
+        let start = self.end;
+        match self.write_puts(world, start, held) {
+            Ok(()) => {
+                self.set_each(held);
+                Ok(())
+            }
+            Err(fault) => {
+                self.die(start);
+                Err(fault)
+            }
+        }
+    }
+
+    /// Takes the records of a ticket's targets away, and puts those of held tickets before it, as one group. Where no
+    /// target has a record they are put alone.
+    #[tactic(auto, using(crate::proofs::DiskLemmas::calls))]
+    pub fn withdraw<T, W: Disk>(
+        &mut self,
+        world: &mut W,
+        held: &[Ticketed<T>],
+        ticket: &Ticket,
+    ) -> Result<(), Fault>
+        requires live { is_live self.old ≡ true }
+        requires stands { W.meaning.tells world.old → IsStoredIn (W.meaning.seen world.old) self.old }
+        ensures map { WithdrawsRecord self.old self.new held.now ticket.now result }
+        ensures same { OnErr result (map_of self.new ≡ map_of self.old) }
+        ensures banks { OnErr result (KeepsBanks self.old self.new) }
+        ensures moments { WithdrawsThroughout W.meaning world.old world.new self.old held.now ticket.now }
+        ensures keeps { WithdrawKeeps W.meaning world.old world.new self.old self.new held.now ticket.now result }
+        ensures out { StaysOut self.old self.new held.now ticket.now result }
+        ensures outs { WithdrawKeepsOthers self.old self.new held.now ticket.now result }
+        ensures rooms { WithdrawTakesRoom self.old self.new held.now ticket.now result }
+        ensures tickets { KeepsTickets self.old self.new }
+        ensures stands { W.meaning.tells world.new → OnOk result (IsStoredIn (W.meaning.seen world.new) self.new) }
+        ensures settled { OnOk result (KeepsSettled W.meaning world.old world.new) }
+        ensures live { OnOk result (is_live self.new ≡ is_live self.old) }
+        ensures dead { OnErr result (is_live self.new ≡ false) }
+        ensures around { W.meaning.tells world.new → W.meaning.around world.new ≡ W.meaning.around world.old }
+        ensures writes { Writes W.meaning self.old.bank world.old world.new }
+        ensures told { Told W.meaning world.old world.new }
+        ensures kept { OnOk result (W.meaning.counts world.new ≡ W.meaning.counts world.old) }
+        ensures rose { OnErr result (DiskFails (W.meaning.counts world.old) (W.meaning.counts world.new)) }
+    {
+        if !self.has_record(ticket) {
+            return self.put(world, held);
+        }
+        let start = self.end;
+        match self.write_with(world, start, held, ticket) {
+            Ok(()) => {
+                self.set_each(held);
+                self.map.unset(ticket.number);
+                Ok(())
+            }
+            Err(fault) => {
+                self.die(start);
+                Err(fault)
+            }
+        }
     }
 
     /// Gives up a ticket: its record isn't put.
@@ -279,22 +316,149 @@ impl Store {
         }
     }
 
-    /// Adds an entry of a ticket, in the room that is kept for it. One without room is no ticket's of this store, and
-    /// is left out.
+    /// The disk has refused: the entries end where they did.
+    fn die(&mut self, start: u64)
+        requires { start ≤ self.old.end }
+        ensures map { self.new.map ≡ self.old.map }
+        ensures bank { self.new.bank ≡ self.old.bank }
+        ensures end { self.new.end ≡ start }
+        ensures dead { is_live self.new ≡ false }
+    {
+        self.live = false;
+        self.end = start;
+    }
+
+    /// The records of these tickets were put.
+    fn set_each<T>(&mut self, held: &[Ticketed<T>])
+        ensures map { AreTickets self.old held.now → map_of self.new ≡ map_with self.old held.now }
+        ensures freed { FreesRooms held.now self.old self.new }
+        ensures records { self.new.map.records.items ≡ self.old.map.records.items }
+        ensures tickets { KeepsTickets self.old self.new }
+        ensures live { is_live self.new ≡ is_live self.old }
+        ensures banks { KeepsBanks self.old self.new }
+    {
+        let mut left = held;
+        while let [one, rest @ ..] = left {
+            self.free(one.ticket.room);
+            self.map.set(one.ticket.number);
+            left = rest;
+        }
+    }
+
+    /// Writes the puts of these tickets, and lets them count.
     #[tactic(auto, using(crate::proofs::DiskLemmas::calls))]
-    fn append<W: Disk>(&mut self, world: &mut W, room: usize, entry: &[u8]) -> Result<(), Fault>
-        requires live { is_live self.old ≡ true }
+    fn write_puts<T, W: Disk>(
+        &mut self,
+        world: &mut W,
+        start: u64,
+        held: &[Ticketed<T>],
+    ) -> Result<(), Fault>
+        requires behind { start ≡ self.old.end }
         requires stands { W.meaning.tells world.old → IsStoredIn (W.meaning.seen world.old) self.old }
         ensures map { self.new.map ≡ self.old.map }
-        ensures moments { AddsThroughout W.meaning world.old world.new self.old room entry.now }
-        ensures keeps { AddKeeps W.meaning world.old world.new self.old self.new room entry.now result }
-        ensures rooms { AddTakesRoom self.old self.new room (length entry.now) result }
-        ensures others { KeepsRooms room self.old self.new }
-        ensures same { OnErr result (IsUntouched self.old self.new) }
+        ensures bank { self.new.bank ≡ self.old.bank }
+        ensures behind { start ≤ self.new.end }
+        ensures live { is_live self.new ≡ is_live self.old }
+        ensures moments { PutsThroughout W.meaning world.old world.new self.old held.now }
+        ensures keeps { AreHeld self.old held.now → IsKept W.meaning world.old self.old → OnOk result (KeepsAt W.meaning world.new self.new.bank self.new.end (map_with self.old held.now)) }
+        ensures rooms { KeepsRoomsBeside held.now self.old self.new }
         ensures stands { W.meaning.tells world.new → OnOk result (IsStoredIn (W.meaning.seen world.new) self.new) }
         ensures settled { OnOk result (KeepsSettled W.meaning world.old world.new) }
-        ensures live { OnOk result (is_live self.new ≡ is_live self.old) }
-        ensures dead { OnErr result (is_live self.new ≡ false) }
+        ensures around { W.meaning.tells world.new → W.meaning.around world.new ≡ W.meaning.around world.old }
+        ensures writes { Writes W.meaning self.old.bank world.old world.new }
+        ensures told { Told W.meaning world.old world.new }
+        ensures kept { OnOk result (W.meaning.counts world.new ≡ W.meaning.counts world.old) }
+        ensures rose { OnErr result (DiskFails (W.meaning.counts world.old) (W.meaning.counts world.new)) }
+    {
+        self.add_puts(world, start, held)?;
+        publish(world, self.bank, start, self.end)
+    }
+
+    /// Writes the puts of these tickets and the withdrawal of that one behind them, and lets them count.
+    #[tactic(auto, using(crate::proofs::DiskLemmas::calls))]
+    fn write_with<T, W: Disk>(
+        &mut self,
+        world: &mut W,
+        start: u64,
+        held: &[Ticketed<T>],
+        ticket: &Ticket,
+    ) -> Result<(), Fault>
+        requires behind { start ≡ self.old.end }
+        requires stands { W.meaning.tells world.old → IsStoredIn (W.meaning.seen world.old) self.old }
+        requires some { (rec : Rec) → IsTicket self.old rec ticket.now → has_any (map_of self.old) rec.targets ≡ true }
+        ensures map { self.new.map ≡ self.old.map }
+        ensures bank { self.new.bank ≡ self.old.bank }
+        ensures behind { start ≤ self.new.end }
+        ensures live { is_live self.new ≡ is_live self.old }
+        ensures moments { WithdrawsThroughout W.meaning world.old world.new self.old held.now ticket.now }
+        ensures keeps { (rec : Rec) → AreOutWith self.old held.now rec ticket.now → IsKept W.meaning world.old self.old → OnOk result (KeepsAt W.meaning world.new self.new.bank self.new.end (map_without self.old held.now rec)) }
+        ensures rooms { (rec : Rec) → AreOutWith self.old held.now rec ticket.now → OnOk result (TakesRoomsBeside held.now ticket.now.room (length ticket.now.withdrawal.items) self.old self.new) }
+        ensures stands { W.meaning.tells world.new → OnOk result (IsStoredIn (W.meaning.seen world.new) self.new) }
+        ensures settled { OnOk result (KeepsSettled W.meaning world.old world.new) }
+        ensures around { W.meaning.tells world.new → W.meaning.around world.new ≡ W.meaning.around world.old }
+        ensures writes { Writes W.meaning self.old.bank world.old world.new }
+        ensures told { Told W.meaning world.old world.new }
+        ensures kept { OnOk result (W.meaning.counts world.new ≡ W.meaning.counts world.old) }
+        ensures rose { OnErr result (DiskFails (W.meaning.counts world.old) (W.meaning.counts world.new)) }
+    {
+        self.add_puts(world, start, held)?;
+        self.add(world, start, ticket.room, ticket.withdrawal.as_slice())?;
+        publish(world, self.bank, start, self.end)
+    }
+
+    /// Writes the puts of these tickets behind what was written since the entries ended at `start`. They don't count yet.
+    #[tactic(auto, using(crate::proofs::DiskLemmas::calls))]
+    fn add_puts<T, W: Disk>(
+        &mut self,
+        world: &mut W,
+        start: u64,
+        held: &[Ticketed<T>],
+    ) -> Result<(), Fault>
+        requires behind { start ≤ self.old.end }
+        requires within { W.meaning.tells world.old → SpansIn (W.meaning.seen world.old) self.old start }
+        ensures map { self.new.map ≡ self.old.map }
+        ensures bank { self.new.bank ≡ self.old.bank }
+        ensures behind { start ≤ self.new.end }
+        ensures live { is_live self.new ≡ is_live self.old }
+        ensures within { W.meaning.tells world.new → OnOk result (SpansIn (W.meaning.seen world.new) self.new start) }
+        ensures stays { StaysBehind W.meaning world.old world.new self.old.bank start }
+        ensures staged { AddsPuts W.meaning world.old world.new self.old self.new start held.now result }
+        ensures rooms { KeepsRoomsBeside held.now self.old self.new }
+        ensures around { W.meaning.tells world.new → W.meaning.around world.new ≡ W.meaning.around world.old }
+        ensures writes { Writes W.meaning self.old.bank world.old world.new }
+        ensures told { Told W.meaning world.old world.new }
+        ensures kept { OnOk result (W.meaning.counts world.new ≡ W.meaning.counts world.old) }
+        ensures rose { OnErr result (DiskFails (W.meaning.counts world.old) (W.meaning.counts world.new)) }
+    {
+        let mut left = held;
+        while let [first, rest @ ..] = left {
+            self.add(world, start, first.ticket.room, first.ticket.put.as_slice())?;
+            left = rest;
+        }
+        Ok(())
+    }
+
+    /// Writes an entry of a ticket, in the room that is kept for it, likewise. One without room is no ticket's of this
+    /// store, and is left out.
+    #[tactic(auto, using(crate::proofs::DiskLemmas::calls))]
+    fn add<W: Disk>(
+        &mut self,
+        world: &mut W,
+        start: u64,
+        room: usize,
+        entry: &[u8],
+    ) -> Result<(), Fault>
+        requires behind { start ≤ self.old.end }
+        requires within { W.meaning.tells world.old → SpansIn (W.meaning.seen world.old) self.old start }
+        ensures map { self.new.map ≡ self.old.map }
+        ensures bank { self.new.bank ≡ self.old.bank }
+        ensures behind { start ≤ self.new.end }
+        ensures live { is_live self.new ≡ is_live self.old }
+        ensures within { W.meaning.tells world.new → OnOk result (SpansIn (W.meaning.seen world.new) self.new start) }
+        ensures stays { StaysBehind W.meaning world.old world.new self.old.bank start }
+        ensures staged { Adds W.meaning world.old world.new self.old self.new start room entry.now result }
+        ensures rooms { AddTakesRoom self.old self.new room (length entry.now) result }
+        ensures others { KeepsRooms room self.old self.new }
         ensures around { W.meaning.tells world.new → W.meaning.around world.new ≡ W.meaning.around world.old }
         ensures writes { Writes W.meaning self.old.bank world.old world.new }
         ensures told { Told W.meaning world.old world.new }
@@ -305,16 +469,9 @@ impl Store {
         if !self.has_room(room, len) {
             return Ok(());
         }
-        match append(world, self.bank, self.end, entry) {
-            Ok(()) => {
-                self.use_room(room, len);
-                Ok(())
-            }
-            Err(fault) => {
-                self.live = false;
-                Err(fault)
-            }
-        }
+        stage(world, self.bank, start, self.end, entry)?;
+        self.use_room(room, len);
+        Ok(())
     }
 
     /// Whether so many bytes are kept in a room.

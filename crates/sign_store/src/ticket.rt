@@ -15,32 +15,39 @@ pub struct Ticket {
     pub(crate) number: usize,
     /// The number of the room that is kept for its entries.
     pub(crate) room: usize,
-    /// What stands behind the gate of its put: length, payload and the next gate, closed.
+    /// The entry of its put: the gate, open, the length and the payload.
     pub(crate) put: Vec<u8>,
     /// The same of its withdrawal.
     pub(crate) withdrawal: Vec<u8>,
 }
 
-/// The entry that puts a record, without its gate and with the next one. Each part of the record has a spelling.
+/// A ticket, with what its holder keeps by it.
+#[derive(Drop)]
+pub struct Ticketed<T> {
+    pub hold: T,
+    pub ticket: Ticket,
+}
+
+/// The entry that puts a record, with its gate. Each part of the record has a spelling.
 pub(crate) fn put_entry(alloc: Global, rec: &Rec) -> Result<Vec<u8>, Memory>
     requires { length (spelling version.Two rec.now) ≤ 4294967294 }
-    ensures entry { IfOk result (λ entry. entry.items ≡ entry_of (put_payload rec.now) ++ 0 ∷ []) }
+    ensures entry { IfOk result (λ entry. entry.items ≡ 1 ∷ entry_of (put_payload rec.now)) }
     ensures parts { OnOk result (IsSpellable rec.now) }
 {
     let mut entry = Vec::new(alloc);
+    entry.push(1)?;
     push_put(&mut entry, rec)?;
-    entry.push(0)?;
     Ok(entry)
 }
 
 /// The entry that withdraws the records of some paths, likewise.
 pub(crate) fn withdraw_entry(alloc: Global, paths: &[PathText]) -> Result<Vec<u8>, Memory>
     requires { length (listed sized paths.now) ≤ 4294967294 }
-    ensures { IfOk result (λ entry. entry.items ≡ entry_of (withdraw_payload paths.now) ++ 0 ∷ []) }
+    ensures { IfOk result (λ entry. entry.items ≡ 1 ∷ entry_of (withdraw_payload paths.now)) }
 {
     let mut entry = Vec::new(alloc);
+    entry.push(1)?;
     push_withdraw(&mut entry, paths)?;
-    entry.push(0)?;
     Ok(entry)
 }
 

@@ -5,7 +5,7 @@
 //! put bytes into a bank, `size` lets one claim a size, `banks` and `sizes` show both, `show` one of them; `open` begins as
 //! `begin` does and shows sizes alone; `again` puts a record many times, `many` one record of many targets; `cuts`, `flips`
 //! and `mutate` spoil the banks in many ways, of which `mutations` says what each is read as; `stops` begins a store, puts a
-//! record, and stops after each call of the disk. A record is written `WORK TARGETS; SIGNED; DEPS`, the work with `:sha1` or
+//! record, or several in a group, and stops after each call of the disk. A record is written `WORK TARGETS; SIGNED; DEPS`, the work with `:sha1` or
 //! `:sha256` behind it where its digests are such: targets and dependencies stand between spaces, signed lines between `|`,
 //! a dependency as `NAME=CONTENT` or, where no file stands there, as `NAME`, with `@STAMP` behind it where it has a stamp.
 //! Bytes are hexadecimal.

@@ -5,7 +5,7 @@ use crate::record::record_of;
 use crate::shown::{put_count, put_refusal};
 use deciders::Rec;
 use scons_base::{Listing, PathText, Paths, Texts};
-use sign_store::{Store, View};
+use sign_store::{Store, Ticket, Ticketed, View};
 use std::alloc::Global;
 use trial_text::Told;
 use world_api::{Hash, Work};
@@ -33,9 +33,18 @@ pub(crate) fn is_put(store: &mut Store, banks: &mut Banks, rec: Rec) -> bool {
         return false;
     }
     match store.prepare(rec) {
-        Ok(ticket) => { store.withdraw(banks, &ticket).is_ok() && store.put(banks, ticket).is_ok() }
+        Ok(ticket) => is_put_alone(store, banks, ticket),
         Err(_) => false,
     }
+}
+
+/// Withdraws what a ticket's targets have, and puts its record.
+fn is_put_alone(store: &mut Store, banks: &mut Banks, ticket: Ticket) -> bool {
+    let none: &[Ticketed<()>] = &[];
+    store.is_live()
+        && store.withdraw(banks, none, &ticket).is_ok()
+        && store.is_live()
+        && store.put(banks, &[Ticketed { hold: (), ticket }]).is_ok()
 }
 
 /// Puts a record with the targets `t0`, `t1` and so on, so many of them: how many have it, and are read with it.
@@ -84,7 +93,7 @@ fn is_put_once(store: &mut Store, banks: &mut Banks, rec: Rec) -> bool {
         return false;
     }
     match store.prepare(rec) {
-        Ok(ticket) => store.put(banks, ticket).is_ok(),
+        Ok(ticket) => store.put(banks, &[Ticketed { hold: (), ticket }]).is_ok(),
         Err(_) => false,
     }
 }

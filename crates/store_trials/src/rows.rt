@@ -7,7 +7,7 @@ use crate::puts::{put_again, put_many};
 use crate::record::record_of;
 use crate::shown::{put_found, put_refusal, put_size};
 use scons_base::PathText;
-use sign_store::{PrepareRefusal, Store, Ticket};
+use sign_store::{PrepareRefusal, Store, Ticket, Ticketed};
 use std::alloc::Global;
 use trial_text::Told;
 
@@ -104,7 +104,8 @@ impl Rows {
         let (Some(store), Some(ticket)) = (&mut self.store, &self.ticket) else {
             return told.refuse();
         };
-        if store.is_live() && store.withdraw(&mut self.banks, ticket).is_ok() {
+        let none: &[Ticketed<()>] = &[];
+        if store.is_live() && store.withdraw(&mut self.banks, none, ticket).is_ok() {
             put_banks(told, &self.banks);
         } else {
             told.put("fault\n");
@@ -115,7 +116,8 @@ impl Rows {
         let (Some(store), Some(ticket)) = (&mut self.store, self.ticket.take()) else {
             return told.refuse();
         };
-        if store.is_live() && store.put(&mut self.banks, ticket).is_ok() {
+        let held = [Ticketed { hold: (), ticket }];
+        if store.is_live() && store.put(&mut self.banks, &held).is_ok() {
             put_banks(told, &self.banks);
         } else {
             told.put("fault\n");

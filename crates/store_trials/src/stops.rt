@@ -1,5 +1,6 @@
-//! A record that is put over given banks, and stopped at each of its calls of the disk.
+//! Records that are put over given banks, and stopped at each of the calls of the disk.
 use crate::disk::{Banks, copy_of};
+use crate::fields::keep_path;
 use crate::puts::is_put;
 use crate::record::record_of;
 use crate::runs::put_runs;
@@ -7,7 +8,7 @@ use crate::shown::{put_found, put_refusal};
 use crate::tally::is_begun_as;
 use deciders::Rec;
 use scons_base::PathText;
-use sign_store::Store;
+use sign_store::{Store, Ticketed, View};
 use std::alloc::Global;
 use trial_text::Told;
 use world_api::Bank;
@@ -15,8 +16,12 @@ use world_api::Bank;
 /// More calls than there are.
 const MANY_CALLS: u64 = 100;
 
+/// What stands between the records of a group.
+const WITH: &str = " & ";
+
 /// A store is begun, and a record withdrawn and put: for each number of calls, up to those that suffice, what is read of
-/// the record's first target behind a stop there. Numbers in a row with one answer share a line.
+/// the record's target behind a stop there. Where others stand behind the record, it is withdrawn in one group with their
+/// puts, and for each target `1` says that it has a record. Numbers in a row with one answer share a line.
 pub(crate) fn put_stops(alloc: Global, told: &mut Told, banks: &Banks, row: &str) {
     let mut answers = Told::new(alloc);
     for calls in 0..MANY_CALLS {
@@ -30,27 +35,86 @@ pub(crate) fn put_stops(alloc: Global, told: &mut Told, banks: &Banks, row: &str
 
 /// Tells in one line what is read behind a stop after so many calls, and answers whether those were all.
 fn put_stop(alloc: Global, told: &mut Told, banks: &Banks, row: &str, calls: u64) -> bool {
-    let rec = record_of(alloc, told, row);
+    let targets = targets_in(alloc, told, row);
     let mut before = banks.copy(alloc, told);
     put_until(alloc, told, &mut before, row, calls.saturating_sub(1));
     let mut after = banks.copy(alloc, told);
     let is_done = put_until(alloc, told, &mut after, row, calls);
-    put_answers(alloc, told, &before, &after, rec.targets.as_slice());
+    put_answers(alloc, told, &before, &after, targets.as_slice());
     is_done
 }
 
-/// Puts a record over the banks, of which so many calls are answered: whether those were all.
+/// The targets of a row's records.
+fn targets_in(alloc: Global, told: &mut Told, row: &str) -> Vec<PathText> {
+    let mut targets = Vec::new(alloc);
+    for text in row.split(WITH) {
+        let rec = record_of(alloc, told, text);
+        for target in rec.targets.as_slice() {
+            keep_path(alloc, told, &mut targets, target.as_str());
+        }
+    }
+    targets
+}
+
+/// Puts a row's records over the banks, of which so many calls are answered: whether those were all.
 fn put_until(alloc: Global, told: &mut Told, banks: &mut Banks, row: &str, calls: u64) -> bool {
-    let rec = record_of(alloc, told, row);
     banks.stop_after(calls);
-    let is_done = is_put_anew(alloc, banks, rec);
+    let is_done = is_put_anew(alloc, told, banks, row);
     banks.go_on();
     is_done
 }
 
-fn is_put_anew(alloc: Global, banks: &mut Banks, rec: Rec) -> bool {
+fn is_put_anew(alloc: Global, told: &mut Told, banks: &mut Banks, row: &str) -> bool {
     match Store::begin(alloc, banks) {
-        Ok(mut store) => is_put(&mut store, banks, rec),
+        Ok(mut store) => is_row_put(alloc, told, &mut store, banks, row),
+        Err(_) => false,
+    }
+}
+
+fn is_row_put(
+    alloc: Global,
+    told: &mut Told,
+    store: &mut Store,
+    banks: &mut Banks,
+    row: &str,
+) -> bool {
+    match row.split_once(WITH) {
+        None => is_put(store, banks, record_of(alloc, told, row)),
+        Some((first, others)) => {
+            let held = held_of(alloc, told, store, others);
+            let rec = record_of(alloc, told, first);
+            is_group_put(store, banks, held.as_slice(), rec)
+        }
+    }
+}
+
+/// The tickets for records.
+fn held_of(alloc: Global, told: &mut Told, store: &mut Store, records: &str) -> Vec<Ticketed<()>> {
+    let mut held = Vec::new(alloc);
+    for text in records.split(WITH) {
+        let rec = record_of(alloc, told, text);
+        hold(told, store, &mut held, rec);
+    }
+    held
+}
+
+fn hold(told: &mut Told, store: &mut Store, held: &mut Vec<Ticketed<()>>, rec: Rec) {
+    if !store.is_live() {
+        return told.refuse();
+    }
+    match store.prepare(rec) {
+        Ok(ticket) => told.keep(held, Ticketed { hold: (), ticket }),
+        Err(_) => told.refuse(),
+    }
+}
+
+/// Withdraws what a record's targets have, in one group with the puts of held ones: whether no bank refused.
+fn is_group_put(store: &mut Store, banks: &mut Banks, held: &[Ticketed<()>], rec: Rec) -> bool {
+    if !store.is_live() {
+        return false;
+    }
+    match store.prepare(rec) {
+        Ok(ticket) => store.is_live() && store.withdraw(banks, held, &ticket).is_ok(),
         Err(_) => false,
     }
 }
@@ -144,19 +208,30 @@ fn has_line(lines: &str, wanted: &str) -> bool {
     false
 }
 
-/// What is read of the first target. A store over the banks has to have the same, and is read as such again.
+/// What is read of the target, or which of them have a record. A store over the banks has to have the same, and is read as
+/// such again.
 fn put_read(alloc: Global, told: &mut Told, banks: &mut Banks, targets: &[PathText]) {
     let Some(path) = targets.first() else {
         return told.refuse();
     };
     match Store::read(alloc, banks) {
         Ok(view) => {
-            if is_begun_as(alloc, banks, &view, targets) {
-                put_found(told, view.get(path));
-            } else {
+            if !is_begun_as(alloc, banks, &view, targets) {
                 told.put("begun as another map\n");
+            } else if targets.len() > 1 {
+                put_which(told, &view, targets);
+            } else {
+                put_found(told, view.get(path));
             }
         }
         Err(refusal) => put_refusal(told, refusal),
     }
+}
+
+/// Which of some paths have a record.
+fn put_which(told: &mut Told, view: &View, paths: &[PathText]) {
+    for path in paths {
+        told.put(if view.get(path).is_some() { "1" } else { "0" });
+    }
+    told.put("\n");
 }

@@ -1,4 +1,4 @@
-use Rattle.std.proofs.Common.{ℕ, List, Contains, subst}
+use Rattle.std.proofs.Common.{ℕ, List, ◌++◌, Contains, inl, refl, subst}
 use Rattle.build_run.specs.Holds.{holds_in}
 use Rattle.build_run.specs.Ledgers.{ledger_of}
 use Rattle.build_run.proofs.Goings.{goes_on, joined_on, are_unused}
@@ -9,7 +9,7 @@ use Rattle.build_run.proofs.clear.clear.Goals as goal
 pub withdraw-requires-clause-stored : goal.withdraw-requires-clause-stored
 withdraw-requires-clause-stored g c =
     let stays = c.make_dirs.ensures.stays in
-    stored_over g.W.Disk.meaning _ _ c.args.store.now c.args.tickets.now c.args.account.now.is_store_shut stays.goes.passes.told.told stays.banks c.requires.stored
+    stored_over g.W.Disk.meaning _ _ c.args.store.now (c.args.held.now ++ c.args.tickets.now) c.args.account.now.is_store_shut stays.goes.passes.told.told stays.banks c.requires.stored
 
 pub remove_all-requires : goal.remove_all-requires
 remove_all-requires g c = λ t path h.
@@ -27,7 +27,7 @@ returns-in_err-make_dirs-clause-keeps g c = λ start out err a.
 pub returns-in_err-make_dirs-clause-stored : goal.returns-in_err-make_dirs-clause-stored
 returns-in_err-make_dirs-clause-stored g c =
     let stays = c.make_dirs.ensures.stays in
-    stored_over g.W.Disk.meaning _ _ c.args.store.now c.args.tickets.now c.args.account.now.is_store_shut stays.goes.passes.told.told stays.banks c.requires.stored
+    stored_over g.W.Disk.meaning _ _ c.args.store.now (c.args.held.now ++ c.args.tickets.now) c.args.account.now.is_store_shut stays.goes.passes.told.told stays.banks c.requires.stored
 
 pub returns-clause-keeps : goal.returns-clause-keeps
 returns-clause-keeps g c = λ start out err a.
@@ -37,7 +37,7 @@ returns-clause-keeps g c = λ start out err a.
 pub returns-clause-stored : goal.returns-clause-stored
 returns-clause-stored g c =
     let stays = c.remove_all.ensures.stays in
-    stored_over g.W.Disk.meaning _ _ c.withdraw.new.store c.args.tickets.now c.withdraw.new.account.is_store_shut stays.goes.passes.told.told stays.banks c.withdraw.ensures.stored
+    stored_over g.W.Disk.meaning _ _ c.withdraw.new.store (c.withdraw.new.held ++ c.args.tickets.now) c.withdraw.new.account.is_store_shut stays.goes.passes.told.told stays.banks c.withdraw.ensures.stored
 
 pub returns-clause-withdrawn : goal.returns-clause-withdrawn
 returns-clause-withdrawn g c =
@@ -46,3 +46,9 @@ returns-clause-withdrawn g c =
 
 pub returns-clause-ticket : goal.returns-clause-ticket
 returns-clause-ticket g c = held_ok c.remove_all.result c.in_ok-withdraw.ensures.ticket
+
+pub returns-in_err-make_dirs-clause-held : goal.returns-in_err-make_dirs-clause-held
+returns-in_err-make_dirs-clause-held g c = inl refl
+
+pub returns-in_err-make_dirs-clause-kept : goal.returns-in_err-make_dirs-clause-kept
+returns-in_err-make_dirs-clause-kept g c = λ unshut path not. refl

@@ -1,4 +1,4 @@
-use Rattle.std.proofs.Common.{refl}
+use Rattle.std.proofs.Common.{◌++◌, ◌∙◌, refl, sym}
 use Rattle.build_run.specs.Ledgers.{ledger_of}
 use Rattle.build_run.proofs.Causing.{exit_same, inside, look_end}
 use Rattle.build_run.proofs.Outs.{stored_alike, stored_over}
@@ -15,21 +15,33 @@ returns-then-deps-clause-ends g c = λ start a. inside start (ledger_of c.args.a
 pub returns-in_err-now-clause-stored : goal.returns-in_err-now-clause-stored
 returns-in_err-now-clause-stored g c =
     let looks = c.present.ensures.looks in
-    stored_over g.W.Disk.meaning _ _ c.args.store.now c.args.tickets.now c.args.account.now.is_store_shut looks.told.told looks.banks c.requires.stored
+    stored_over g.W.Disk.meaning _ _ c.args.store.now (c.args.held.now ++ c.args.tickets.now) c.args.account.now.is_store_shut looks.told.told looks.banks c.requires.stored
 
 pub make-requires-clause-stored : goal.make-requires-clause-stored
 make-requires-clause-stored g c =
     let looks = c.present.ensures.looks in
-    stored_over g.W.Disk.meaning _ _ c.args.store.now c.args.tickets.now c.args.account.now.is_store_shut looks.told.told looks.banks c.requires.stored
+    stored_over g.W.Disk.meaning _ _ c.args.store.now (c.args.held.now ++ c.args.tickets.now) c.args.account.now.is_store_shut looks.told.told looks.banks c.requires.stored
 
 pub returns-in_err-report_missing-in-Lacks-clause-stored : goal.returns-in_err-report_missing-in-Lacks-clause-stored
 returns-in_err-report_missing-in-Lacks-clause-stored g c =
     let looks = c.present.ensures.looks in
     stored_alike g.W.Disk.meaning _ c.args.store.now _ _ _ _ refl c.report_missing.ensures.shut
-    (stored_over g.W.Disk.meaning _ _ c.args.store.now c.args.tickets.now c.args.account.now.is_store_shut looks.told.told looks.banks c.requires.stored)
+    (stored_over g.W.Disk.meaning _ _ c.args.store.now (c.args.held.now ++ c.args.tickets.now) c.args.account.now.is_store_shut looks.told.told looks.banks c.requires.stored)
 
 pub returns-in_ok-report_missing-in-Lacks-clause-stored : goal.returns-in_ok-report_missing-in-Lacks-clause-stored
 returns-in_ok-report_missing-in-Lacks-clause-stored g c =
     let looks = c.present.ensures.looks in
     stored_alike g.W.Disk.meaning _ c.args.store.now _ _ _ _ refl c.report_missing.ensures.shut
-    (stored_over g.W.Disk.meaning _ _ c.args.store.now c.args.tickets.now c.args.account.now.is_store_shut looks.told.told looks.banks c.requires.stored)
+    (stored_over g.W.Disk.meaning _ _ c.args.store.now (c.args.held.now ++ c.args.tickets.now) c.args.account.now.is_store_shut looks.told.told looks.banks c.requires.stored)
+
+pub returns-then-deps-clause-kept : goal.returns-then-deps-clause-kept
+returns-then-deps-clause-kept g c = λ unshut busy path h made. refl
+
+pub returns-in_err-now-clause-kept : goal.returns-in_err-now-clause-kept
+returns-in_err-now-clause-kept g c = λ unshut busy path h made. refl
+
+pub returns-in_err-report_missing-in-Lacks-clause-kept : goal.returns-in_err-report_missing-in-Lacks-clause-kept
+returns-in_err-report_missing-in-Lacks-clause-kept g c = λ unshut busy path h made. refl
+
+pub returns-in_ok-report_missing-in-Lacks-clause-kept : goal.returns-in_ok-report_missing-in-Lacks-clause-kept
+returns-in_ok-report_missing-in-Lacks-clause-kept g c = λ unshut busy path h made. refl

@@ -1,94 +1,43 @@
-use Rattle.std.proofs.Common.{◌≡◌, ◌∙◌, ◌++◌, ◌∷◌, [], ap, length, refl, sym, arith}
+use Rattle.std.proofs.Common.{◌≡◌, ◌≢◌, ◌≤◌, ◌<◌, ◌∙◌, ◌++◌, ◌∷◌, [], List, Some, ap, length, refl, sym, subst, arith}
 use Rattle.world_api.specs.Around.{Around, Finished}
-use Rattle.world_api.specs.declared.job.Outcome.TheVariants.{Done}
-use Rattle.world_api.specs.declared.job.Outcome.{Outcome}
-use Rattle.scons_base.specs.declared.ids.RuleId.{RuleId}
+use Rattle.sign_store.specs.Tables.{Map, with_each}
 use Rattle.build_run.specs.Holds.{holds_in}
-use Rattle.build_run.specs.Ledgers.{Ledger, ledger_of}
-use Rattle.build_run.proofs.Holding.{no_more}
-use Rattle.build_run.proofs.Causing.{settled}
-use Rattle.build_run.proofs.Outs.{held_count, last_of, rule_of, stored_alike, stored_over, stored_taken}
+use Rattle.build_run.proofs.Goings.{joined_on, passes_on}
 use Rattle.build_run.proofs.ending.take_ending.Goals as goal
 
-pub settle-requires : goal.settle-requires
-settle-requires g c =
-    let m = g.W.Disk.meaning in
-    let shut = c.args.account.now.is_store_shut in
-    stored_taken m c.wait-ended.new.world c.args.store.now c.args.tickets.now c.take.new.self c.in-Some.busy shut (c.in-Some.ensures.outs c.args.store.now)
-    (stored_over m _ _ c.args.store.now c.args.tickets.now shut c.wait-ended.ensures.passes.told.told c.wait-ended.ensures.banks c.requires.stored)
+pub take_ended-requires-clause-joined : goal.take_ended-requires-clause-joined
+take_ended-requires-clause-joined g c = joined_on g.W.Disk.meaning c.args.world.now c.put_if_few.new.world (holds_in c.args.tickets.now) c.put_if_few.ensures.goes c.requires.joined
 
-pub returns-in_default-clause-no_more : goal.returns-in_default-clause-no_more
-returns-in_default-clause-no_more g c =
-    omega (arith, ap length c.take.ensures.left, no_more c.wait-ended.result.id (holds_in c.args.tickets.now), held_count c.args.tickets.now, held_count c.take.new.self)
+pub take_ended-requires-clause-few : goal.take_ended-requires-clause-few
+take_ended-requires-clause-few g c = omega (arith, c.put_if_few.ensures.few, c.requires.few)
 
-pub returns-in_default-clause-fewer : goal.returns-in_default-clause-fewer
-returns-in_default-clause-fewer g c = λ told.
-    let fewer = c.wait-ended.ensures.fewer told in
-    omega (arith, fewer, ap length c.take.ensures.left, held_count c.take.new.self)
-
-pub returns-in_default-clause-stored : goal.returns-in_default-clause-stored
-returns-in_default-clause-stored g c =
-    let m = g.W.Disk.meaning in
-    let shut = c.args.account.now.is_store_shut in
-    stored_alike m c.wait-ended.new.world c.args.store.now _ _ _ _ c.in_default.ensures.none (ap (λ (l : Ledger). l.shut) c.want_memory.ensures)
-    (stored_over m _ _ c.args.store.now c.args.tickets.now shut c.wait-ended.ensures.passes.told.told c.wait-ended.ensures.banks c.requires.stored)
-
-pub returns-in_default-clause-done : goal.returns-in_default-clause-done
-returns-in_default-clause-done g c = λ told id log.
-    let fewer = c.wait-ended.ensures.fewer told in
-    absurd (omega (arith, fewer, ap length c.take.ensures.left, held_count c.take.new.self, ap length c.in_default.ensures.none))
-
-pub returns-in_default-clause-only : goal.returns-in_default-clause-only
-returns-in_default-clause-only g c = λ told rule e. absurd cc
-
-pub returns-in_default-clause-puts : goal.returns-in_default-clause-puts
-returns-in_default-clause-puts g c = λ rule e. absurd cc
-
-pub returns-in_default-clause-kept : goal.returns-in_default-clause-kept
-returns-in_default-clause-kept g c = λ other. refl
-
-pub returns-clause-no_more : goal.returns-clause-no_more
-returns-clause-no_more g c =
-    omega (arith, ap length c.take.ensures.left, no_more c.wait-ended.result.id (holds_in c.args.tickets.now), held_count c.args.tickets.now, held_count c.take.new.self)
-
-pub returns-clause-fewer : goal.returns-clause-fewer
-returns-clause-fewer g c = λ told.
-    let fewer = c.wait-ended.ensures.fewer (c.settle.ensures.goes.passes.told.told told) in
-    omega (arith, fewer, ap length c.take.ensures.left, held_count c.take.new.self)
+pub returns-clause-passes : goal.returns-clause-passes
+returns-clause-passes g c = passes_on g.W.Disk.meaning _ _ _ c.put_if_few.ensures.goes.passes c.take_ended.ensures.passes
 
 pub returns-clause-keeps : goal.returns-clause-keeps
-returns-clause-keeps g c = λ start out a.
-    c.settle.ensures.settles start out (λ target. settled start (ledger_of c.args.account.now) _ _ out _ target c.wait-ended.result.outcome c.wait-ended.ensures.cause a)
+returns-clause-keeps g c = λ start out a. c.take_ended.ensures.keeps start out (c.put_if_few.ensures.keeps start out a)
 
 pub returns-clause-done : goal.returns-clause-done
 returns-clause-done g c = λ told id log.
-    let m = g.W.Disk.meaning in
-    let ended = c.wait-ended.result in
-    let before = (m.around c.args.world.now).log in
-    let told_then = c.settle.ensures.goes.passes.told.told told in
-    let same : before ++ Finished ended.id ended.outcome ∷ [] ≡ before ++ Finished id Done ∷ [] =
-    sym (c.wait-ended.ensures.log told_then) ∙ (ap (λ (around : Around). around.log) (sym (c.settle.ensures.around told)) ∙ log) in
-    let last : Finished ended.id ended.outcome ≡ Finished id Done = last_of before _ _ same in
-    let done : ended.outcome ≡ Done = cc in
-    let own : ended.id ≡ id = cc in
-    c.settle.ensures.done done ∙ rule_of c.in-Some.busy.hold.rule id (c.in-Some.ensures.rule ∙ own)
-
-pub returns-clause-puts : goal.returns-clause-puts
-returns-clause-puts g c = λ rule e.
-    let put = c.settle.ensures.puts rule e in
-    record { busy = c.in-Some.busy; among = c.in-Some.ensures.among; own = put.0; puts = put.1 }
+    let before = c.take_ended.ensures.passes.told.told told in
+    c.take_ended.ensures.done told id (log ∙ ap (λ (around : Around). around.log ++ Finished id _ ∷ []) (sym (c.put_if_few.ensures.around before)))
 
 pub returns-clause-only : goal.returns-clause-only
 returns-clause-only g c = λ told rule e.
-    let m = g.W.Disk.meaning in
-    let ended = c.wait-ended.result in
-    let before = (m.around c.args.world.now).log in
-    let told_then = c.settle.ensures.goes.passes.told.told told in
-    let own : ended.id ≡ rule.0 = sym c.in-Some.ensures.rule ∙ ap (λ (r : RuleId). r.0) (c.settle.ensures.puts rule e).0 in
-    ap (λ (around : Around). around.log) (c.settle.ensures.around told)
-    ∙ (c.wait-ended.ensures.log told_then
-    ∙ (ap (λ id. before ++ Finished id ended.outcome ∷ []) own
-    ∙ ap (λ (outcome : Outcome). before ++ Finished rule.0 outcome ∷ []) (c.settle.ensures.only rule e)))
+    let before = c.take_ended.ensures.passes.told.told told in
+    c.take_ended.ensures.only told rule e ∙ ap (λ (around : Around). around.log ++ Finished rule.0 _ ∷ []) (c.put_if_few.ensures.around before)
+
+pub returns-clause-puts : goal.returns-clause-puts
+returns-clause-puts g c = λ rule e.
+    let put = c.take_ended.ensures.puts rule e in
+    record {
+      busy = put.busy;
+      among = put.among;
+      own = put.own;
+      puts = λ unshut rec is.
+          put.puts unshut rec (c.put_if_few.ensures.tickets.each rec put.busy.ticket is)
+          ∙ ap (λ (m : Map). with_each rec.targets (Some rec) m) (c.put_if_few.ensures.kept (c.take_ended.ensures.shut unshut));
+    }
 
 pub returns-clause-kept : goal.returns-clause-kept
-returns-clause-kept g c = λ other. c.settle.ensures.kept (λ done. other c.in-Some.busy.hold.rule (c.settle.ensures.done done))
+returns-clause-kept g c = λ other unshut. c.take_ended.ensures.kept other unshut ∙ c.put_if_few.ensures.kept (c.take_ended.ensures.shut unshut)

@@ -1,4 +1,4 @@
-use Rattle.std.proofs.Common.{◌≤◌, length}
+use Rattle.std.proofs.Common.{◌≤◌, ◌<◌, ◌++◌, length, max, min}
 use Rattle.build_run.specs.Goings.{Passes, IsJoined}
 use Rattle.build_run.specs.Holds.{holds_in}
 use Rattle.build_run.specs.Ledgers.{AllKeeps}
@@ -13,5 +13,6 @@ invariant-loop-turn g l =
       keeps : AllKeeps m g.O.Sink.meaning g.E.Sink.meaning l.fn.world l.fn.out l.fn.err l.world l.out l.err l.fn.account l.account;
       limit : length l.run.tickets ≤ 64;
       joined : IsJoined m l.world (holds_in l.run.tickets);
-      stored : IsStored m l.world l.store l.run.tickets l.account.is_store_shut;
+      stored : IsStored m l.world l.store (l.run.held ++ l.run.tickets) l.account.is_store_shut;
+      few : length l.run.held < max (min l.options.jobs 64) 1;
     }

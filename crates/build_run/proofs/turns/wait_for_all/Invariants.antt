@@ -1,4 +1,4 @@
-use Rattle.std.proofs.Common.{◌≤◌, ◌+◌, length}
+use Rattle.std.proofs.Common.{◌≤◌, ◌<◌, ◌+◌, ◌++◌, length, max, min}
 use Rattle.build_run.specs.Goings.{Passes, IsJoined}
 use Rattle.build_run.specs.Holds.{holds_in}
 use Rattle.build_run.specs.Ledgers.{ledger_of, EndKeeps}
@@ -13,5 +13,6 @@ invariant-loop-turn g l =
       keeps : EndKeeps m g.E.Sink.meaning l.fn.world l.fn.err l.world l.err (ledger_of l.fn.account) (ledger_of l.account);
       left : m.tells l.world → length l.run.tickets + l._turn ≤ l.running;
       joined : IsJoined m l.world (holds_in l.run.tickets);
-      stored : IsStored m l.world l.store l.run.tickets l.account.is_store_shut;
+      stored : IsStored m l.world l.store (l.run.held ++ l.run.tickets) l.account.is_store_shut;
+      few : length l.run.held < max (min l.options.jobs 64) 1;
     }

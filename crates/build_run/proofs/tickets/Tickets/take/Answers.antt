@@ -1,11 +1,11 @@
-use Rattle.std.proofs.Common.{◌≡◌, ◌∙◌, ap, List, ◌∷◌, Contains, sym, subst, position}
+use Rattle.std.proofs.Common.{◌≡◌, ◌∙◌, ap, List, ◌∷◌, ◌++◌, Contains, sym, subst, position}
 use Rattle.std.specs.List.{remove}
 use Rattle.std.proofs.lemmas.List.Elements.{Contains-get_or}
 use Rattle.build_run.specs.Holds.{holds_in, without}
 use Rattle.build_run.specs.Outs.{AreOut}
-use Rattle.build_run.specs.declared.tickets.Busy.{Busy}
+use Rattle.build_run.specs.Holds.{Busy}
 use Rattle.build_run.proofs.Holding.{has_id, within, taken_at, none_there, found_id}
-use Rattle.build_run.proofs.Outs.{outs_taken}
+use Rattle.build_run.proofs.Outs.{outs_taken_behind}
 use Rattle.build_run.proofs.tickets.Tickets.take.Goals as goal
 
 pub returns-in_err-place-clause-left : goal.returns-in_err-place-clause-left
@@ -24,9 +24,9 @@ returns-clause-among c =
     subst (λ bs. Contains bs c.remove.result) c.self.view_is (subst (Contains c.self.inside.busy.items) (sym c.remove.ensures.value) (Contains-get_or c.self.inside.busy.items c.in_ok-place.place c.remove.result lt))
 
 pub returns-clause-outs : goal.returns-clause-outs
-returns-clause-outs c = λ store outs.
+returns-clause-outs c = λ store held outs.
     let busies = c.self.inside.busy.items in
     let lt = within c.args.id busies c.in_ok-place.place (ap (λ bs. position (has_id c.args.id) bs) (sym c.as_slice.ensures.value) ∙ (sym c.place_of.ensures ∙ c.in_ok-place.was)) in
-    let taken = outs_taken store busies c.in_ok-place.place c.remove.result lt (subst (AreOut store) (sym c.self.view_is) outs) in
-    subst (λ (left : List Busy). AreOut store (c.remove.result ∷ left)) (sym c.remove.ensures.items)
-    (subst (λ (busy : Busy). AreOut store (busy ∷ remove busies c.in_ok-place.place)) (sym c.remove.ensures.value) taken)
+    let taken = outs_taken_behind store held busies c.in_ok-place.place c.remove.result lt (subst (λ (all : List Busy). AreOut store (held ++ all)) (sym c.self.view_is) outs) in
+    subst (λ (left : List Busy). AreOut store (held ++ c.remove.result ∷ left)) (sym c.remove.ensures.items)
+    (subst (λ (busy : Busy). AreOut store (held ++ busy ∷ remove busies c.in_ok-place.place)) (sym c.remove.ensures.value) taken)

@@ -1,0 +1,7 @@
+use Rattle.std.proofs.Common.{ℕ, ◌<◌, get_or}
+use Rattle.build_run.specs.Holds.{Busy}
+use Rattle.build_run.specs.Outs.{ShareNone}
+use Rattle.build_run.proofs.tickets.Tickets.make_none_of.Given as goal
+
+abbrev pub invariant-loop-busy : goal.invariant-loop-busy
+invariant-loop-busy l = (k : ℕ) (d : Busy) → k < l.busy-index → ShareNone l.job.targets (get_or l.busy-items k d).hold.targets
