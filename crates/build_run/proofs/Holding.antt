@@ -6,8 +6,7 @@ use Rattle.std.proofs.lemmas.List.{get_or_default}
 use Rattle.std.proofs.lemmas.List.Quantifiers.{position-Some}
 use Rattle.std.proofs.lemmas.Bool.Decides.{nat_tests}
 use Rattle.std.proofs.lemmas.List.Elements.{Contains-push_cases, Contains-append_right}
-use Rattle.build_run.specs.Holds.{without, AreApart}
-use Rattle.build_run.specs.Holds.{Busy}
+use Rattle.build_run.specs.Holds.{AreApart, Busy, without}
 use Rattle.build_run.specs.declared.tickets.Hold.{Hold}
 
 pub at_front : {X : Type 0} (xs : List X) (x : X) → Contains (x ∷ xs) x

@@ -18,10 +18,9 @@ use Rattle.sign_store.specs.declared.ticket.Ticket.{Ticket}
 use Rattle.sign_store.proofs.GroupLemmas.{tickets_held}
 use Rattle.sign_store.proofs.Keeping.{kept_as, keeps_on}
 use Rattle.task_plan.specs.declared.want.PlanEvent.TheVariants.{DoneOk}
-use Rattle.build_run.specs.Holds.{holds_in}
+use Rattle.build_run.specs.Holds.{Busy, holds_in}
 use Rattle.build_run.specs.Outs.{IsTicketFor, IsOutFor, IsBeside, AreOut, HasOwnRoom, IsStored, KeepsHeld, KeepsRecordsBut, KeepsSome, ShareNone}
 use Rattle.build_run.specs.Withdrawals.{HasNone, AreWithdrawn}
-use Rattle.build_run.specs.Holds.{Busy}
 use Rattle.build_run.specs.declared.tickets.Hold.{Hold}
 use Rattle.build_run.proofs.Holding.{at_front, further, in_front, in_pushed}
 

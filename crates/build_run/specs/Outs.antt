@@ -1,4 +1,4 @@
--- The tickets of the running rules, and the store that they are of.
+-- The tickets of the rules that run or whose records are held, and the store that they are of.
 use Rattle.std.specs.Prelude.{◌≡◌, ◌≢◌, ◌⊎◌, ℕ, Bool, false, true, List, [], ◌∷◌, ◌++◌, Contains, Some}
 use Rattle.world_api.specs.Around.{Finished}
 use Rattle.world_api.specs.Meaning.{Meaning}
@@ -35,7 +35,7 @@ pub record IsBeside (one other : Busy) : Type 0 where
 abbrev pub HasOwnRoom : Ticket → List Busy → Type 0
 HasOwnRoom ticket busies = (busy : Busy) → Contains busies busy → busy.ticket.room ≢ ticket.room
 
--- the ticket of a running rule is out for what the rule makes, of which nothing is recorded
+-- the ticket of a rule is out for what the rule makes, of which nothing is recorded
 pub record IsOutFor (store : Store) (busy : Busy) : Type 0 where
   pub ticket : IsTicketFor store busy.ticket busy.hold.targets
   pub none : HasNone (map_of store) busy.hold.targets

@@ -71,6 +71,7 @@ fn put_if_few<W: World, E: Sink>(
     ensures stored { IsStored W.meaning world.new store.new (held.new ++ tickets.now) account.new.is_store_shut }
     ensures few { length held.new ≤ length held.old }
     ensures kept { KeepsRecords store.old held.old store.new held.new account.new.is_store_shut }
+    ensures waits { length tickets.now < max (min options.now.jobs 64) 1 → held.new ≡ [] }
     ensures tickets { KeepsTickets store.old store.new }
     ensures shut { account.new.is_store_shut ≡ false → account.old.is_store_shut ≡ false }
 {
@@ -96,6 +97,7 @@ fn take_ended<W: World, E: Sink>(
     requires joined { IsJoined W.meaning world.old (holds_in tickets.old) }
     requires stored { IsStored W.meaning world.old store.old (held.old ++ tickets.old) account.old.is_store_shut }
     requires few { length held.old < max (min options.now.jobs 64) 1 }
+    requires waits { length tickets.old < max (min options.now.jobs 64) 1 → held.old ≡ [] }
     ensures passes { Passes W.meaning world.old world.new }
     ensures keeps { EndKeeps W.meaning E.meaning world.old err.old world.new err.new (ledger_of account.old) (ledger_of account.new) }
     ensures joined { IsJoined W.meaning world.new (holds_in tickets.new) }
@@ -109,7 +111,7 @@ fn take_ended<W: World, E: Sink>(
     ensures kept { KeepsUnlessDone store.old held.old store.new held.new account.new.is_store_shut result }
     ensures shut { account.new.is_store_shut ≡ false → account.old.is_store_shut ≡ false }
 {
-    let ended = wait(world, tickets);
+    let ended = wait(world, tickets, held, options);
     let Some(busy) = tickets.take(ended.id) else {
         account.want_memory();
         return PlanEvent::Halt;
@@ -128,10 +130,11 @@ fn take_ended<W: World, E: Sink>(
     )
 }
 
-/// Waits until a job ends.
-fn wait<W: World>(world: &mut W, tickets: &Tickets) -> Ended
+/// Waits until a job ends. Where fewer run than may no record is held.
+fn wait<W: World>(world: &mut W, tickets: &Tickets, held: &Tickets, options: &Options) -> Ended
     requires some { 0 < length tickets.now }
     requires joined { IsJoined W.meaning world.old (holds_in tickets.now) }
+    requires waits { length tickets.now < max (min options.now.jobs 64) 1 → held.now ≡ [] }
     ensures passes { Passes W.meaning world.old world.new }
     ensures joined { IsJoined W.meaning world.new (without result.id (holds_in tickets.now)) }
     ensures fewer { W.meaning.tells world.new → length (without result.id (holds_in tickets.now)) + 1 ≡ length tickets.now }

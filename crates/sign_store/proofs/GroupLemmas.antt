@@ -11,7 +11,7 @@ use Rattle.sign_store.specs.declared.ticket.Ticket.{Ticket}
 use Rattle.sign_store.specs.declared.ticket.Ticketed.{Ticketed}
 use Rattle.sign_store.specs.Entries.{entry_of, put_payload, withdraw_payload}
 use Rattle.sign_store.specs.Forms.{Leads}
-use Rattle.sign_store.specs.Maps.{HasRecord, map_in}
+use Rattle.sign_store.specs.Maps.{HasRecord, Puts, map_in}
 use Rattle.sign_store.specs.Staging.{AreStaged, IsEntry}
 use Rattle.sign_store.specs.Stores.{AreApart, IsTicket, IsOut, HasRoom, KeepsRooms, KeepsTickets, TakesRoom, map_of}
 use Rattle.sign_store.specs.Putting.{AreHeld, AreOutWith, AreStagedFrom, AreTickets, FreesRooms, HasRoomBeside, IsApartFrom, IsOutAny, IsTicketAny, KeepsRoomsBeside, TakesRooms, TakesRoomsBeside, map_with, map_without, put_over, record_of, with_put}
@@ -20,7 +20,6 @@ use Rattle.deciders.proofs.Sizes.{targets_within}
 use Rattle.sign_store.proofs.FormLemmas.{leads_entry, leads_put}
 use Rattle.std.proofs.lemmas.Bool.Decides.{eqb_tells}
 use Rattle.std.proofs.lemmas.List.{nil_from_length, take_rest}
-use Rattle.sign_store.specs.Maps.{Puts}
 use Rattle.sign_store.proofs.StageLemmas.{staged_none}
 use Rattle.sign_store.proofs.TableLemmas.{none_among}
 use Rattle.sign_store.proofs.TicketLemmas.{any_apart, any_less, out_beside, out_still, out_withdrawn, put_has_room, withdrawal_says}

@@ -1,10 +1,9 @@
 use Rattle.std.proofs.Common.{◌≡◌, ◌∙◌, ◌++◌, ◌∷◌, [], List, ap, length, refl, sym, arith}
-use Rattle.build_run.specs.Holds.{Busy}
+use Rattle.build_run.specs.Holds.{Busy, holds_in}
 use Rattle.world_api.specs.Around.{Around, Finished}
 use Rattle.world_api.specs.declared.job.Outcome.TheVariants.{Done}
 use Rattle.world_api.specs.declared.job.Outcome.{Outcome}
 use Rattle.scons_base.specs.declared.ids.RuleId.{RuleId}
-use Rattle.build_run.specs.Holds.{holds_in}
 use Rattle.build_run.specs.Ledgers.{Ledger, ledger_of}
 use Rattle.build_run.proofs.Holding.{no_more}
 use Rattle.build_run.proofs.Causing.{settled}

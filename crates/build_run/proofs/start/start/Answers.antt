@@ -2,11 +2,10 @@ use Rattle.std.proofs.Common.{◌∙◌, ◌++◌, ◌∷◌, List, [], Contains
 use Rattle.std.proofs.lemmas.List.Elements.{Contains-append_left}
 use Rattle.sign_store.specs.Tables.{Map}
 use Rattle.std.proofs.lemmas.List.{map-append}
-use Rattle.build_run.specs.Holds.{holds_in}
+use Rattle.build_run.specs.Holds.{Busy, holds_in}
 use Rattle.build_run.specs.Goings.{IsJoined}
 use Rattle.build_run.specs.Ledgers.{ledger_of}
 use Rattle.build_run.specs.Outs.{IsOutFor, IsStored}
-use Rattle.build_run.specs.Holds.{Busy}
 use Rattle.build_run.specs.declared.tickets.Hold.{Hold}
 use Rattle.build_run.proofs.Causing.{exit_same, exit_inside, inside, shut_fault}
 use Rattle.build_run.proofs.Outs.{apart_both, held_alike, kept_held, no_more_held, outs_front, own_room, own_still, stored_prepared, stored_beside, stored_added, unheld_still}

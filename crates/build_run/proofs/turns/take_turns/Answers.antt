@@ -1,8 +1,7 @@
 use Rattle.std.proofs.Common.{◌≡◌, ◌≤◌, ◌<◌, ◌∙◌, List, max, min, Bool, true, false, length, refl, sym, ap, subst}
 use Rattle.std.proofs.lemmas.Bool.{true≢false}
 use Rattle.build_run.specs.Goings.{IsJoined}
-use Rattle.build_run.specs.Holds.{holds_in}
-use Rattle.build_run.specs.Holds.{Busy}
+use Rattle.build_run.specs.Holds.{Busy, holds_in}
 use Rattle.build_run.specs.Ledgers.{ledger_of, wanting, Ledger}
 use Rattle.build_run.proofs.Causing.{account_as, wanted}
 use Rattle.build_run.proofs.Goings.{passes_on}

@@ -1,7 +1,6 @@
 use Rattle.std.proofs.Common.{◌<◌, ◌∙◌, List, max, min, ap, length, sym, subst, arith}
 use Rattle.build_run.specs.Goings.{IsJoined}
-use Rattle.build_run.specs.Holds.{holds_in}
-use Rattle.build_run.specs.Holds.{Busy}
+use Rattle.build_run.specs.Holds.{Busy, holds_in}
 use Rattle.build_run.proofs.Goings.{passes_on}
 use Rattle.build_run.proofs.Outs.{both_same, stored_alike}
 use Rattle.build_run.proofs.turns.wait_for_all.Goals as goal

@@ -1,6 +1,5 @@
 use Rattle.std.proofs.Common.{ℕ, ◌<◌, get_or}
-use Rattle.build_run.specs.Holds.{KeepsApart}
-use Rattle.build_run.specs.Holds.{Busy}
+use Rattle.build_run.specs.Holds.{Busy, KeepsApart}
 use Rattle.build_run.proofs.tickets.Tickets.are_apart.Given as goal
 
 abbrev pub invariant-loop-busy : goal.invariant-loop-busy

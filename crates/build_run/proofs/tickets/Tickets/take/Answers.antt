@@ -1,9 +1,8 @@
 use Rattle.std.proofs.Common.{◌≡◌, ◌∙◌, ap, List, ◌∷◌, ◌++◌, Contains, sym, subst, position}
 use Rattle.std.specs.List.{remove}
 use Rattle.std.proofs.lemmas.List.Elements.{Contains-get_or}
-use Rattle.build_run.specs.Holds.{holds_in, without}
+use Rattle.build_run.specs.Holds.{Busy, holds_in, without}
 use Rattle.build_run.specs.Outs.{AreOut}
-use Rattle.build_run.specs.Holds.{Busy}
 use Rattle.build_run.proofs.Holding.{has_id, within, taken_at, none_there, found_id}
 use Rattle.build_run.proofs.Outs.{outs_taken_behind}
 use Rattle.build_run.proofs.tickets.Tickets.take.Goals as goal
