@@ -8,7 +8,7 @@ use crate::lookup::{path_of, rule_at};
 use c_scanner::Include;
 use indexmap::{IndexMap, IndexSet};
 use rule_graph::{Graph, Rule};
-use scons_base::{Listing, Memory, NodeId, PathText, Paths, RuleId, Text};
+use scons_base::{Listing, Memory, NodeId, PathText, Paths, RuleId, Text, joined};
 use std::alloc::Global;
 use std::str;
 use variant_dirs::VariantFault;
@@ -42,10 +42,12 @@ impl Found {
         }
     }
 
-    /// The number of the list of directories of a rule.
-    fn list_of(&mut self, id: RuleId, rule: &Rule) -> Result<usize, Memory> {
+    /// The number of the list of directories of a rule, which often is that of the rule before.
+    fn list_of(&mut self, graph: &Graph, id: RuleId) -> Result<usize, Memory> {
+        let rule = rule_at(graph, id)?;
         if let Some((last, list)) = self.last {
-            if last == id {
+            if last == id || has_list_of(graph, last, rule) {
+                self.last = Some((id, list));
                 return Ok(list);
             }
         }
@@ -57,6 +59,14 @@ impl Found {
         let (list, _) = self.lists.insert_full(Text::new(text))?;
         self.last = Some((id, list));
         Ok(list)
+    }
+}
+
+/// Whether a rule of this number has the directories of another one.
+fn has_list_of(graph: &Graph, id: RuleId, rule: &Rule) -> bool {
+    match rule_at(graph, id) {
+        Ok(other) => other.paths.as_slice() == rule.paths.as_slice(),
+        Err(_) => false,
     }
 }
 
@@ -74,7 +84,7 @@ impl Inputs {
         ensures looks { Looks W.meaning world.old world.new }
         ensures cause { HasLookCause (W.meaning.counts world.old) (W.meaning.counts world.new) result }
     {
-        let dirs = self.found.list_of(rule, rule_at(graph, rule)?)?;
+        let dirs = self.found.list_of(graph, rule)?;
         let scan = Scan { file, dirs };
         if let Some(found) = self.found.files.get(&scan) {
             return Ok(Listing::new(Vec::from_slice(self.alloc, found.as_slice())?));
@@ -181,6 +191,24 @@ impl Inputs {
         ensures looks { Looks W.meaning world.old world.new }
         ensures cause { HasLookCause (W.meaning.counts world.old) (W.meaning.counts world.new) result }
     {
+        match plain_place(self.alloc, graph, dir.as_str(), name)? {
+            Some(path) => self.known(world, graph, &path),
+            None => self.search_places(world, graph, dir, name),
+        }
+    }
+
+    /// The same, where a name may stand at more than one place.
+    #[tactic(auto, using(crate::proofs::Looking::looking))]
+    fn search_places<W: World>(
+        &mut self,
+        world: &mut W,
+        graph: &mut Graph,
+        dir: &PathText,
+        name: &str,
+    ) -> Result<Option<NodeId>, ListEnd>
+        ensures looks { Looks W.meaning world.old world.new }
+        ensures cause { HasLookCause (W.meaning.counts world.old) (W.meaning.counts world.new) result }
+    {
         let places = places(self.alloc, graph, dir, name)?;
         for path in places.as_slice() {
             let node = self.known(world, graph, path)?;
@@ -197,6 +225,26 @@ fn push_found(found: &mut Vec<NodeId>, node: Option<NodeId>) -> Result<(), Memor
         found.push(node)?;
     }
     Ok(())
+}
+
+/// The one place of a name in a directory below the top one, where no variant directory is and no step leads elsewhere.
+fn plain_place(
+    alloc: Global,
+    graph: &Graph,
+    dir: &str,
+    name: &str,
+) -> Result<Option<PathText>, Memory> {
+    if !graph.variants().as_slice().is_empty() {
+        return Ok(None);
+    }
+    if dir.starts_with('/') || name.starts_with('/') || name.starts_with('#') {
+        return Ok(None);
+    }
+    if dir == "." {
+        return Ok(PathText::read(alloc, name).ok());
+    }
+    let path = joined(alloc, dir, name)?;
+    Ok(PathText::read(alloc, path.as_str()).ok())
 }
 
 /// Where a name may mean a file.

@@ -6,6 +6,7 @@
 
 mod copies;
 mod end;
+mod fresh;
 mod includes;
 mod inputs;
 mod known;

@@ -5,7 +5,8 @@ use crate::declarations::Declarations;
 use crate::fault::NameFault;
 use crate::given::{Given, Nodes};
 use env_subst::Mode;
-use scons_base::{EnvId, Listing, PathText, Paths, Text};
+use scons_base::{EnvId, Listing, Memory, PathText, Paths, Text, joined};
+use std::alloc::Global;
 
 /// What a text stands for in an environment.
 pub fn expanded(
@@ -20,11 +21,29 @@ pub fn expanded(
 /// The path that an expanded text names.
 pub fn path_at(state: &Declarations, text: &str) -> Result<PathText, NameFault> {
     let locals = &state.locals;
+    if let Some(path) = plain_path(state.alloc, locals.dir.as_str(), text)? {
+        return Ok(path);
+    }
     Ok(PathText::resolve(state.alloc, &locals.top, &locals.dir, text)?)
+}
+
+/// The path that a text names from a directory below the top one, where it has no step that leads elsewhere.
+fn plain_path(alloc: Global, dir: &str, text: &str) -> Result<Option<PathText>, Memory> {
+    if dir.starts_with('/') || text.starts_with('/') || text.starts_with('#') {
+        return Ok(None);
+    }
+    if dir == "." {
+        return Ok(PathText::read(alloc, text).ok());
+    }
+    let path = joined(alloc, dir, text)?;
+    Ok(PathText::read(alloc, path.as_str()).ok())
 }
 
 /// The path that a text names.
 pub fn path_of(state: &Declarations, env: EnvId, text: &Text) -> Result<PathText, NameFault> {
+    if !text.as_str().contains('$') {
+        return path_at(state, text.as_str());
+    }
     let text = state.envs.path_text(env, text.as_str(), &state.locals)?;
     path_at(state, text.as_str())
 }

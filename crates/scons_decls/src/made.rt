@@ -40,10 +40,11 @@ impl Made {
             return Ok(());
         }
         self.targets.insert(path.copy()?)?;
-        self.add_dirs(alloc, path)?;
+        // Above a directory that has a target all are noted.
         match self.by_dir.get_mut(path.dir()) {
             Some(paths) => paths.push(path.copy()?)?,
             None => {
+                self.add_dirs(alloc, path)?;
                 let mut paths = Vec::new(alloc);
                 paths.push(path.copy()?)?;
                 self.by_dir

@@ -22,6 +22,16 @@ struct Actions {
     references: u64,
 }
 
+/// Whether one of these texts stands for the items of a list variable.
+pub(crate) fn has_list(state: &Declarations, env: EnvId, texts: &[Text]) -> bool {
+    for text in texts {
+        if list_named(state, env, text.as_str()).is_some() {
+            return true;
+        }
+    }
+    false
+}
+
 /// The actions of these texts. A text that is the name of a list variable alone stands for its items, each an action in turn.
 pub(crate) fn actions_of(
     alloc: Global,

@@ -15,6 +15,7 @@ mod line;
 mod orders;
 mod reading;
 mod said;
+mod search;
 mod shell;
 mod sources;
 
