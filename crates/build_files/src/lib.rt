@@ -6,7 +6,6 @@
 
 mod copies;
 mod end;
-mod fresh;
 mod includes;
 mod inputs;
 mod known;

@@ -50,39 +50,6 @@ pub(crate) fn decide<W: World, O: Sink, E: Sink>(
     if deps.len() > DEP_LIMIT as usize {
         return Err(ListEnd::too_many(What::Deps, DEP_LIMIT as u64 + 1));
     }
-    if inputs.is_fresh(world, graph, store, rule, deps)? {
-        return Ok(PlanEvent::Fresh(rule));
-    }
-    decide_by_record(
-        graph, deps, inputs, tickets, dirs, account, store, world, out, err, options, rule,
-    )
-}
-
-/// Decides a rule by the record that it would get now.
-fn decide_by_record<W: World, O: Sink, E: Sink>(
-    graph: &Graph,
-    deps: &[NodeId],
-    inputs: &mut Inputs,
-    tickets: &mut Tickets,
-    dirs: &mut IndexSet<PathText>,
-    account: &mut Account,
-    store: &mut Store,
-    world: &mut W,
-    out: &mut O,
-    err: &mut E,
-    options: &Options,
-    rule: RuleId,
-) -> Result<PlanEvent, ListEnd>
-    requires unclosed { W.meaning.closed world.old ≡ [] }
-    requires room { length tickets.old < 64 }
-    requires joined { IsJoined W.meaning world.old (holds_in tickets.old) }
-    requires stored { IsStored W.meaning world.old store.old tickets.old account.old.is_store_shut }
-    ensures passes { Passes W.meaning world.old world.new }
-    ensures ends { AllEnds W.meaning O.meaning E.meaning world.old out.old err.old world.new out.new err.new account.old account.new result }
-    ensures room { length tickets.new ≤ 64 }
-    ensures joined { IsJoined W.meaning world.new (holds_in tickets.new) }
-    ensures stored { IsStored W.meaning world.new store.new tickets.new account.new.is_store_shut }
-{
     match inputs.present(world, graph, rule, deps)? {
         Present::Record(now) => {
             make(

@@ -1,9 +1,0 @@
-use Rattle.std.proofs.Common.{◌≡◌}
-use Rattle.world_api.specs.Looks.{Looks}
-use Rattle.build_files.proofs.inputs.Inputs.are_kept.Given as goal
-
-abbrev pub invariant-loop-target : goal.invariant-loop-target
-invariant-loop-target g l = record {
-  looks : Looks g.W.Disk.meaning l.fn.world l.world;
-  counts : g.W.Disk.meaning.counts l.world ≡ g.W.Disk.meaning.counts l.fn.world;
-}
