@@ -1,5 +1,8 @@
 //! The files that a file includes.
+ghost use Rattle.std.specs.Prelude.{[], IfOk};
+ghost use Rattle.std.specs.Option.{option_to_list};
 ghost use Rattle.build_files.specs.Causes.{HasLookCause};
+ghost use Rattle.build_files.specs.Places.{ArePlaces};
 ghost use Rattle.world_api.specs.Looks.{Looks};
 
 use crate::end::ListEnd;
@@ -7,8 +10,9 @@ use crate::inputs::Inputs;
 use crate::lookup::{path_of, rule_at};
 use c_scanner::Include;
 use indexmap::{IndexMap, IndexSet};
+use path_reading::path_from;
 use rule_graph::{Graph, Rule};
-use scons_base::{Listing, Memory, NodeId, PathText, Paths, RuleId, Text, joined};
+use scons_base::{Listing, Memory, NodeId, PathFault, PathText, Paths, RuleId, Text};
 use std::alloc::Global;
 use std::str;
 use variant_dirs::VariantFault;
@@ -191,9 +195,12 @@ impl Inputs {
         ensures looks { Looks W.meaning world.old world.new }
         ensures cause { HasLookCause (W.meaning.counts world.old) (W.meaning.counts world.new) result }
     {
-        match plain_place(self.alloc, graph, dir.as_str(), name)? {
+        if !graph.variants().as_slice().is_empty() {
+            return self.search_places(world, graph, dir, name);
+        }
+        match only_place(self.alloc, graph.top(), dir, name)? {
             Some(path) => self.known(world, graph, &path),
-            None => self.search_places(world, graph, dir, name),
+            None => Ok(None),
         }
     }
 
@@ -227,28 +234,26 @@ fn push_found(found: &mut Vec<NodeId>, node: Option<NodeId>) -> Result<(), Memor
     Ok(())
 }
 
-/// The one place of a name in a directory below the top one, where no variant directory is and no step leads elsewhere.
-fn plain_place(
+/// Where a name may mean a file, where no variant directory is.
+fn only_place(
     alloc: Global,
-    graph: &Graph,
-    dir: &str,
+    top: &PathText,
+    dir: &PathText,
     name: &str,
-) -> Result<Option<PathText>, Memory> {
-    if !graph.variants().as_slice().is_empty() {
-        return Ok(None);
+) -> Result<Option<PathText>, Memory>
+    ensures { IfOk result (λ p. ArePlaces [] top.now dir.now name.now (option_to_list p)) }
+{
+    match path_from(alloc, top, dir, name) {
+        Ok(path) => Ok(Some(path)),
+        Err(PathFault::Memory) => Err(Memory),
+        Err(_) => Ok(None),
     }
-    if dir.starts_with('/') || name.starts_with('/') || name.starts_with('#') {
-        return Ok(None);
-    }
-    if dir == "." {
-        return Ok(PathText::read(alloc, name).ok());
-    }
-    let path = joined(alloc, dir, name)?;
-    Ok(PathText::read(alloc, path.as_str()).ok())
 }
 
 /// Where a name may mean a file.
-fn places(alloc: Global, graph: &Graph, dir: &PathText, name: &str) -> Result<Paths, Memory> {
+fn places(alloc: Global, graph: &Graph, dir: &PathText, name: &str) -> Result<Paths, Memory>
+    ensures { IfOk result (ArePlaces graph.now.variants graph.now.top dir.now name.now) }
+{
     match graph.variants().search(graph.top(), dir, name) {
         Ok(paths) => Ok(paths),
         Err(VariantFault::Memory) => Err(Memory),

@@ -1,5 +1,7 @@
 //! The environments of a reading, each with its decider and the builders that scripts gave it.
-ghost use Rattle.std.specs.Prelude.{◌<◌, length};
+ghost use Rattle.std.specs.Prelude.{◌≡◌, ◌<◌, Ok, length, IfOk, string_bytes};
+ghost use Rattle.env_subst.specs.Results.{path_text};
+ghost use Rattle.scons_decls.specs.Paths.{held, setting_in};
 
 use crate::fault::NameFault;
 use crate::profile::refuse_variables;
@@ -47,7 +49,8 @@ impl Environments {
 
     /// This environment, or the default one in place of a number that was never given.
     fn held(&self, env: EnvId) -> EnvId
-        ensures { result.0 < length self.now.envs }
+        ensures number { result.0 ≡ held self.now env.0 }
+        ensures there { result.0 < length self.now.envs }
     {
         if env.0 <= self.last.0 { env } else { EnvId(0) }
     }
@@ -169,7 +172,9 @@ impl Environments {
     }
 
     /// The text of a path.
-    pub fn path_text(&self, env: EnvId, text: &str, locals: &Locals) -> Result<String, NameFault> {
+    pub fn path_text(&self, env: EnvId, text: &str, locals: &Locals) -> Result<String, NameFault>
+        ensures { IfOk result (λ s. path_text (setting_in self.now env.0 locals.now) text.now ≡ Ok (string_bytes s)) }
+    {
         refuse_references(self.alloc, text)?;
         Ok(path_text(self.alloc, &self.envs, self.held(env), text, locals)?)
     }
