@@ -46,12 +46,10 @@ impl Found {
         }
     }
 
-    /// The number of the list of directories of a rule, which often is that of the rule before.
-    fn list_of(&mut self, graph: &Graph, id: RuleId) -> Result<usize, Memory> {
-        let rule = rule_at(graph, id)?;
+    /// The number of the list of directories of a rule.
+    fn list_of(&mut self, id: RuleId, rule: &Rule) -> Result<usize, Memory> {
         if let Some((last, list)) = self.last {
-            if last == id || has_list_of(graph, last, rule) {
-                self.last = Some((id, list));
+            if last == id {
                 return Ok(list);
             }
         }
@@ -63,14 +61,6 @@ impl Found {
         let (list, _) = self.lists.insert_full(Text::new(text))?;
         self.last = Some((id, list));
         Ok(list)
-    }
-}
-
-/// Whether a rule of this number has the directories of another one.
-fn has_list_of(graph: &Graph, id: RuleId, rule: &Rule) -> bool {
-    match rule_at(graph, id) {
-        Ok(other) => other.paths.as_slice() == rule.paths.as_slice(),
-        Err(_) => false,
     }
 }
 
@@ -88,7 +78,7 @@ impl Inputs {
         ensures looks { Looks W.meaning world.old world.new }
         ensures cause { HasLookCause (W.meaning.counts world.old) (W.meaning.counts world.new) result }
     {
-        let dirs = self.found.list_of(graph, rule)?;
+        let dirs = self.found.list_of(rule, rule_at(graph, rule)?)?;
         let scan = Scan { file, dirs };
         if let Some(found) = self.found.files.get(&scan) {
             return Ok(Listing::new(Vec::from_slice(self.alloc, found.as_slice())?));

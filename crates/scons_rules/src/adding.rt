@@ -3,17 +3,17 @@ ghost use Rattle.std.specs.Prelude.{◌≡◌, ◌<◌, ◌≤◌, true, length,
 ghost use Rattle.rule_graph.specs.Rules.{are_below, IsRule};
 ghost use Rattle.scons_rules.specs.Numbers.{AreNodes};
 
-use crate::actions::{actions_of, has_list};
+use crate::actions::{actions_of, strs};
 use crate::fault::RuleReadFault;
 use crate::interning::nodes_of;
 use crate::line::{RuleLines, lines_of};
 use crate::reading::{RuleReading, is_cplusplus_source};
 use crate::said::OfRule;
-use crate::search::search_path;
+use crate::shell::refuse_for_shell;
 use crate::sources::all_settled;
 use env_subst::Named;
 use rule_graph::{Graph, Rule};
-use scons_base::{EnvId, Listing, Memory, NodeId, PathText, Paths, Text, Texts};
+use scons_base::{Listing, Memory, NodeId, PathText, Paths, Text};
 use scons_decls::{Declaration, Declarations, Recipe};
 use std::alloc::Global;
 use world_api::{Decider, Work};
@@ -53,7 +53,7 @@ impl RuleReading {
         };
         let nodes = rule_nodes(self.alloc, &mut self.graph, &self.state, named, &said)?;
         let lines = self.lines_of(declaration)?;
-        let paths = search_path(self.alloc, &self.state, &mut self.search, declaration)?;
+        let paths = self.search_path(declaration)?;
         let rule = self.rule_of(declaration, nodes, lines, paths, always)?;
         self.graph.add_rule(rule)?;
         Ok(())
@@ -90,37 +90,28 @@ impl RuleReading {
         })
     }
 
-    fn lines_of(&self, declaration: &Declaration) -> Result<RuleLines, RuleReadFault> {
-        let env = declaration.env;
-        if let Some(texts) = self.own_texts(declaration) {
-            return self.lines_in(env, texts);
+    /// The directories in which a rule looks for headers. An object's stand in its line.
+    fn search_path(&self, declaration: &Declaration) -> Result<Paths, RuleReadFault> {
+        if !matches!(work_of(declaration), Work::Shell) {
+            return Ok(Paths::new(Vec::new(self.alloc)));
         }
-        let texts = self.texts_of(declaration)?;
-        self.lines_in(env, texts.as_slice())
+        let locals = &self.state.locals;
+        let dirs = self.state.envs.header_dirs(declaration.env, locals)?;
+        if matches!(declaration.recipe, Recipe::Object) {
+            refuse_for_shell(dirs.as_slice())?;
+        }
+        Ok(dirs)
     }
 
-    fn lines_in(&self, env: EnvId, texts: &[Text]) -> Result<RuleLines, RuleReadFault> {
-        if !has_list(&self.state, env, texts) {
-            return lines_of(self.alloc, &self.state, env, texts);
-        }
+    fn lines_of(&self, declaration: &Declaration) -> Result<RuleLines, RuleReadFault> {
+        let env = declaration.env;
+        let texts = self.texts_of(declaration)?;
         let actions = actions_of(self.alloc, &self.state, env, texts)?;
         lines_of(self.alloc, &self.state, env, actions.as_slice())
     }
 
-    /// The texts that a script gave.
-    fn own_texts<'a>(&'a self, declaration: &'a Declaration) -> Option<&'a [Text]> {
-        match &declaration.recipe {
-            Recipe::Command(lines) => Some(lines.as_slice()),
-            Recipe::Own(number) => match self.state.builders.get(*number as usize) {
-                Some(builder) => Some(builder.action.as_slice()),
-                None => None,
-            },
-            _ => None,
-        }
-    }
-
-    /// The texts whose expansions are the lines, where a script gave none.
-    fn texts_of(&self, declaration: &Declaration) -> Result<Texts, Memory> {
+    /// The texts whose expansions are the lines.
+    fn texts_of<'a>(&'a self, declaration: &'a Declaration) -> Result<Vec<&'a str>, Memory> {
         match &declaration.recipe {
             Recipe::Object => {
                 if is_cplusplus_source(declaration.sources.as_slice()) {
@@ -131,16 +122,17 @@ impl RuleReading {
             }
             Recipe::Program => self.texts(&["$LINKCOM"]),
             Recipe::StaticLibrary => self.texts(&["$ARCOM", "$RANLIBCOM"]),
-            _ => self.texts(&[]),
+            Recipe::Command(lines) => strs(self.alloc, lines.as_slice()),
+            Recipe::Own(number) => match self.state.builders.get(*number as usize) {
+                Some(builder) => strs(self.alloc, builder.action.as_slice()),
+                None => self.texts(&[]),
+            },
+            Recipe::Install | Recipe::InstallAs => self.texts(&[]),
         }
     }
 
-    fn texts(&self, words: &[&str]) -> Result<Texts, Memory> {
-        let mut texts = Texts::new(Vec::new(self.alloc));
-        for word in words {
-            texts.push(Text::of(self.alloc, word)?)?;
-        }
-        Ok(texts)
+    fn texts<'a>(&self, words: &[&'a str]) -> Result<Vec<&'a str>, Memory> {
+        Ok(Vec::from_slice(self.alloc, words)?)
     }
 
     /// The name of a rule's builder: of one of a script's own its number.

@@ -15,7 +15,6 @@ mod line;
 mod orders;
 mod reading;
 mod said;
-mod search;
 mod shell;
 mod sources;
 

@@ -20,14 +20,14 @@ pub(crate) fn lines_of(
     alloc: Global,
     state: &Declarations,
     env: EnvId,
-    texts: &[Text],
+    texts: &[&str],
 ) -> Result<RuleLines, RuleReadFault> {
     let mut lines = RuleLines {
         lines: Listing::empty(alloc),
         signed: Texts::new(Vec::new(alloc)),
     };
     for text in texts {
-        add_lines(alloc, state, env, &mut lines, text.as_str())?;
+        add_lines(alloc, state, env, &mut lines, text)?;
     }
     Ok(lines)
 }

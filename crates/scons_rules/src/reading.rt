@@ -4,7 +4,6 @@ use crate::aliases::Aliases;
 use crate::fault::RuleReadFault;
 use crate::libraries::{Wanted, wanted_by};
 use crate::said::SaidOf;
-use crate::search::Search;
 use crate::shell::{refuse_for_shell, refuse_path_for_shell};
 use crate::sources::{named_all, named_settled};
 use env_subst::Named;
@@ -25,8 +24,6 @@ pub struct RuleReading {
     pub(crate) said: SaidOf,
     /// The objects that are made of C++ sources.
     cplusplus: IndexSet<PathText>,
-    /// The search path of the last rule that has one without references.
-    pub(crate) search: Option<Search>,
 }
 
 impl RuleReading {
@@ -43,7 +40,6 @@ impl RuleReading {
             aliases,
             said,
             cplusplus,
-            search: None,
         })
     }
 
