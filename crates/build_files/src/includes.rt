@@ -1,5 +1,8 @@
 //! The files that a file includes.
+ghost use Rattle.std.specs.Prelude.{[], IfOk};
+ghost use Rattle.std.specs.Option.{option_to_list};
 ghost use Rattle.build_files.specs.Causes.{HasLookCause};
+ghost use Rattle.build_files.specs.Places.{ArePlaces};
 ghost use Rattle.world_api.specs.Looks.{Looks};
 
 use crate::end::ListEnd;
@@ -7,8 +10,9 @@ use crate::inputs::Inputs;
 use crate::lookup::{path_of, rule_at};
 use c_scanner::Include;
 use indexmap::{IndexMap, IndexSet};
+use path_reading::path_from;
 use rule_graph::{Graph, Rule};
-use scons_base::{Listing, Memory, NodeId, PathText, Paths, RuleId, Text};
+use scons_base::{Listing, Memory, NodeId, PathFault, PathText, Paths, RuleId, Text};
 use std::alloc::Global;
 use std::str;
 use variant_dirs::VariantFault;
@@ -181,6 +185,27 @@ impl Inputs {
         ensures looks { Looks W.meaning world.old world.new }
         ensures cause { HasLookCause (W.meaning.counts world.old) (W.meaning.counts world.new) result }
     {
+        if !graph.variants().as_slice().is_empty() {
+            return self.search_places(world, graph, dir, name);
+        }
+        match only_place(self.alloc, graph.top(), dir, name)? {
+            Some(path) => self.known(world, graph, &path),
+            None => Ok(None),
+        }
+    }
+
+    /// The same, where a name may stand at more than one place.
+    #[tactic(auto, using(crate::proofs::Looking::looking))]
+    fn search_places<W: World>(
+        &mut self,
+        world: &mut W,
+        graph: &mut Graph,
+        dir: &PathText,
+        name: &str,
+    ) -> Result<Option<NodeId>, ListEnd>
+        ensures looks { Looks W.meaning world.old world.new }
+        ensures cause { HasLookCause (W.meaning.counts world.old) (W.meaning.counts world.new) result }
+    {
         let places = places(self.alloc, graph, dir, name)?;
         for path in places.as_slice() {
             let node = self.known(world, graph, path)?;
@@ -199,8 +224,26 @@ fn push_found(found: &mut Vec<NodeId>, node: Option<NodeId>) -> Result<(), Memor
     Ok(())
 }
 
+/// Where a name may mean a file, where no variant directory is.
+fn only_place(
+    alloc: Global,
+    top: &PathText,
+    dir: &PathText,
+    name: &str,
+) -> Result<Option<PathText>, Memory>
+    ensures { IfOk result (λ p. ArePlaces [] top.now dir.now name.now (option_to_list p)) }
+{
+    match path_from(alloc, top, dir, name) {
+        Ok(path) => Ok(Some(path)),
+        Err(PathFault::Memory) => Err(Memory),
+        Err(_) => Ok(None),
+    }
+}
+
 /// Where a name may mean a file.
-fn places(alloc: Global, graph: &Graph, dir: &PathText, name: &str) -> Result<Paths, Memory> {
+fn places(alloc: Global, graph: &Graph, dir: &PathText, name: &str) -> Result<Paths, Memory>
+    ensures { IfOk result (ArePlaces graph.now.variants graph.now.top dir.now name.now) }
+{
     match graph.variants().search(graph.top(), dir, name) {
         Ok(paths) => Ok(paths),
         Err(VariantFault::Memory) => Err(Memory),

@@ -60,16 +60,15 @@ pub fn content_of<R: Files<File = File> + Clock>(
     ensures within { IfOk result (λ content. IfSome content (λ bytes. length bytes ≤ limit)) }
     ensures over { IfErr result (λ refusal. (size : ℕ) → refusal ≡ ReadRefusal.TooLarge size → limit < size) }
 {
-    match metadata_of(rt, path) {
-        Ok(Some(metadata)) if metadata.is_file() => {
-            if metadata.len() > limit {
-                return Err(ReadRefusal::TooLarge(metadata.len()));
-            }
-        }
+    let size = match metadata_of(rt, path) {
+        Ok(Some(metadata)) if metadata.is_file() => metadata.len(),
         Ok(_) => return Ok(None),
         Err(error) => return Err(refusal_of(error.kind())),
+    };
+    if size > limit {
+        return Err(ReadRefusal::TooLarge(size));
     }
-    match bytes_of(rt, alloc, path, limit) {
+    match bytes_of(rt, alloc, path, size, limit) {
         Ok(bytes) if bytes.len() as u64 > limit => Err(ReadRefusal::TooLarge(bytes.len() as u64)),
         Ok(bytes) => Ok(Some(Blob::new(bytes))),
         Err(error) if is_absent(error.kind()) => Ok(None),
@@ -77,14 +76,16 @@ pub fn content_of<R: Files<File = File> + Clock>(
     }
 }
 
+/// The bytes of a file that is said to have so many. There is room for one more, so that the read that finds the end needs none.
 fn bytes_of<R: Files<File = File> + Clock>(
     rt: &R,
     alloc: Global,
     path: &PathText,
+    size: u64,
     limit: u64,
 ) -> io::Result<Vec<u8>> {
     let file = open(rt, path.as_str())?;
-    let mut bytes = Vec::new(alloc);
+    let mut bytes = Vec::with_capacity(alloc, size.saturating_add(1) as usize)?;
     file.take(limit.saturating_add(1)).read_to_end(&mut bytes)?;
     Ok(bytes)
 }

@@ -1,7 +1,7 @@
 //! Objects, and what is linked of them.
 ghost use Rattle.std.specs.Prelude.{◌<◌, length, IfOk};
 
-use crate::site::{Site, as_answer, declare_rule, one_path};
+use crate::site::{Site, as_answer, declare_rule, one_path, only_path};
 use crate::suffixes::{Affixes, affixed, affixes_of, target_of};
 use env_subst::Mode;
 use indexmap::IndexSet;
@@ -68,7 +68,7 @@ pub(crate) fn named_source(
 ) -> Result<PathText, NameFault> {
     let path = file_of(state, site.env, source, name)?;
     match source {
-        Given::Text(_) => affixed(state, &path, affixes),
+        Given::Text(_) if !affixes.are_empty() => affixed(state, &path, affixes),
         _ => Ok(path),
     }
 }
@@ -179,6 +179,9 @@ pub(crate) fn distinct_targets(
 ) -> Result<Paths, NameFault>
     ensures { IfOk result (λ p. 0 < length p) }
 {
+    if let [target] = targets {
+        return only_path(state, named_target(state, site, target, affixes, name)?);
+    }
     let mut paths = IndexSet::new(state.alloc);
     for target in targets {
         paths.insert(named_target(state, site, target, affixes, name)?)?;

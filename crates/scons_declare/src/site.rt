@@ -79,7 +79,13 @@ pub(crate) fn as_answer(state: &Declarations, paths: &[PathText]) -> Result<Answ
 pub(crate) fn one_path(state: &Declarations, path: &PathText) -> Result<Paths, NameFault>
     ensures { IfOk result (λ p. 0 < length p) }
 {
-    let mut paths = Paths::new(Vec::new(state.alloc));
-    paths.push(path.copy()?)?;
+    only_path(state, path.copy()?)
+}
+
+pub(crate) fn only_path(state: &Declarations, path: PathText) -> Result<Paths, NameFault>
+    ensures { IfOk result (λ p. 0 < length p) }
+{
+    let mut paths = Paths::new(Vec::with_capacity(state.alloc, 1)?);
+    paths.push(path)?;
     Ok(paths)
 }

@@ -10,6 +10,13 @@ pub(crate) struct Affixes {
     pub(crate) suffix: Text,
 }
 
+impl Affixes {
+    /// Whether a name stays as it is.
+    pub(crate) fn are_empty(&self) -> bool {
+        self.prefix.as_str().is_empty() && self.suffix.as_str().is_empty()
+    }
+}
+
 /// The prefix and the suffix that two texts of an environment stand for.
 pub(crate) fn affixes_of(
     state: &Declarations,

@@ -1,5 +1,10 @@
 //! The environments of a reading, each with its decider and the builders that scripts gave it.
-ghost use Rattle.std.specs.Prelude.{◌<◌, length};
+ghost use Rattle.std.specs.Prelude.{◌≡◌, ◌<◌, Ok, codes, length, option_copied, IfOk, string_bytes};
+ghost use Rattle.env_vars.specs.Envs.{value_of};
+ghost use Rattle.env_subst.specs.Entries.{search_path};
+ghost use Rattle.env_subst.specs.Results.{path_text};
+ghost use Rattle.env_subst.specs.Settings.{setting};
+ghost use Rattle.scons_decls.specs.Held.{held};
 
 use crate::fault::NameFault;
 use crate::profile::refuse_variables;
@@ -47,7 +52,8 @@ impl Environments {
 
     /// This environment, or the default one in place of a number that was never given.
     fn held(&self, env: EnvId) -> EnvId
-        ensures { result.0 < length self.now.envs }
+        ensures number { result.0 ≡ held self.now.last.0 env.0 }
+        ensures there { result.0 < length self.now.envs }
     {
         if env.0 <= self.last.0 { env } else { EnvId(0) }
     }
@@ -105,7 +111,9 @@ impl Environments {
     }
 
     /// The value of a variable, if it has one.
-    pub fn get(&self, env: EnvId, name: &str) -> Option<&EnvValue> {
+    pub fn get(&self, env: EnvId, name: &str) -> Option<&EnvValue>
+        ensures { option_copied result ≡ value_of self.now.envs (held self.now.last.0 env.0) name.now }
+    {
         self.envs.get(self.held(env), name)
     }
 
@@ -169,7 +177,10 @@ impl Environments {
     }
 
     /// The text of a path.
-    pub fn path_text(&self, env: EnvId, text: &str, locals: &Locals) -> Result<String, NameFault> {
+    pub fn path_text(&self, env: EnvId, text: &str, locals: &Locals) -> Result<String, NameFault>
+        ensures { let w = setting self.now.envs (held self.now.last.0 env.0) locals.now in
+            IfOk result (λ s. path_text w text.now ≡ Ok (string_bytes s)) }
+    {
         refuse_references(self.alloc, text)?;
         Ok(path_text(self.alloc, &self.envs, self.held(env), text, locals)?)
     }
@@ -180,8 +191,22 @@ impl Environments {
     }
 
     /// The directories of a search path.
-    pub fn dirs(&self, env: EnvId, name: &str, locals: &Locals) -> Result<Paths, NameFault> {
+    pub fn dirs(&self, env: EnvId, name: &str, locals: &Locals) -> Result<Paths, NameFault>
+        ensures { let w = setting self.now.envs (held self.now.last.0 env.0) locals.now in
+            IfOk result (λ p. search_path w name.now ≡ Ok p) }
+    {
         Ok(dirs(self.alloc, &self.envs, self.held(env), name, locals)?)
+    }
+
+    /// The directories in which headers are looked for.
+    pub fn header_dirs(&self, env: EnvId, locals: &Locals) -> Result<Paths, NameFault>
+        ensures { let w = setting self.now.envs (held self.now.last.0 env.0) locals.now in
+            IfOk result (λ p. search_path w (codes "CPPPATH") ≡ Ok p) }
+    {
+        if self.get(env, "CPPPATH").is_none() {
+            return Ok(Paths::new(Vec::new(self.alloc)));
+        }
+        self.dirs(env, "CPPPATH", locals)
     }
 
     fn own_decider(&self, env: EnvId) -> Option<Decider> {

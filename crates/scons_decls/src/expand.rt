@@ -1,10 +1,14 @@
 //! Texts of a script, expanded, and read as paths from the script's directory.
-ghost use Rattle.std.specs.Prelude.{◌≡◌, length, IfOk};
+ghost use Rattle.std.specs.Prelude.{◌≡◌, None, length, IfOk};
+ghost use Rattle.scons_base.specs.Resolve.{resolved, resolve_fault};
+ghost use Rattle.env_subst.specs.Expansions.{is_literal};
+ghost use Rattle.scons_decls.specs.Paths.{IsPathOf};
 
 use crate::declarations::Declarations;
 use crate::fault::NameFault;
 use crate::given::{Given, Nodes};
 use env_subst::Mode;
+use path_reading::path_from;
 use scons_base::{EnvId, Listing, PathText, Paths, Text};
 
 /// What a text stands for in an environment.
@@ -18,15 +22,30 @@ pub fn expanded(
 }
 
 /// The path that an expanded text names.
-pub fn path_at(state: &Declarations, text: &str) -> Result<PathText, NameFault> {
+pub fn path_at(state: &Declarations, text: &str) -> Result<PathText, NameFault>
+    ensures path { IfOk result (λ p. p ≡ resolved state.now.locals.top state.now.locals.dir text.now) }
+    ensures no_fault { IfOk result (λ _. resolve_fault state.now.locals.top state.now.locals.dir text.now ≡ None) }
+{
     let locals = &state.locals;
-    Ok(PathText::resolve(state.alloc, &locals.top, &locals.dir, text)?)
+    Ok(path_from(state.alloc, &locals.top, &locals.dir, text)?)
 }
 
 /// The path that a text names.
-pub fn path_of(state: &Declarations, env: EnvId, text: &Text) -> Result<PathText, NameFault> {
+pub fn path_of(state: &Declarations, env: EnvId, text: &Text) -> Result<PathText, NameFault>
+    ensures { IfOk result (IsPathOf state.now env.0 text.now) }
+{
+    if is_literal(text.as_str()) {
+        return path_at(state, text.as_str());
+    }
     let text = state.envs.path_text(env, text.as_str(), &state.locals)?;
     path_at(state, text.as_str())
+}
+
+/// A text without a `$`, which stands for itself.
+fn is_literal(text: &str) -> bool
+    ensures { result ≡ is_literal text.now }
+{
+    text.as_bytes().iter().all(|byte| *byte != b'$')
 }
 
 /// The fault of a call whose arguments are wrong.

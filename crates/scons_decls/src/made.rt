@@ -7,7 +7,7 @@ use std::alloc::Global;
 pub struct Made {
     targets: IndexSet<PathText>,
     by_dir: IndexMap<String, Vec<PathText>>,
-    dirs: IndexSet<PathText>,
+    dirs: IndexSet<String>,
 }
 
 impl Made {
@@ -26,7 +26,7 @@ impl Made {
 
     /// Whether a target was declared below the path.
     pub fn has_below(&self, path: &PathText) -> bool {
-        self.dirs.contains(path)
+        self.dirs.contains(path.as_str())
     }
 
     /// The targets that stand directly in a directory.
@@ -55,14 +55,15 @@ impl Made {
 
     /// Notes the directories above a target, up to one that was noted before.
     fn add_dirs(&mut self, alloc: Global, path: &PathText) -> Result<(), Memory> {
+        if self.dirs.contains(path.dir()) {
+            return Ok(());
+        }
         let mut dir = dir_of(alloc, path)?;
         'dirs: for _ in 0..path.as_str().len() {
-            if self.dirs.contains(&dir) {
+            if !self.dirs.insert(String::from_str(alloc, dir.as_str())?)? {
                 break;
             }
-            let above = dir_of(alloc, &dir)?;
-            self.dirs.insert(dir)?;
-            dir = above;
+            dir = dir_of(alloc, &dir)?;
         }
         Ok(())
     }

@@ -3,6 +3,7 @@ ghost use Rattle.std.specs.Prelude.{◌<◌, ◌≤◌, length, IfSome};
 
 use scons_base::Memory;
 use std::alloc::Global;
+use std::mem;
 
 /// One part of a pattern.
 #[derive(Clone, Copy, Debug, PartialEq, Eq)]
@@ -48,8 +49,11 @@ impl Pattern {
             return Ok(false);
         }
         let mut reached = first_places(alloc, self.parts.as_slice())?;
+        let mut next = Vec::new(alloc);
         for char in name.chars() {
-            reached = self.step(alloc, reached.as_slice(), char)?;
+            next.clear();
+            self.step(reached.as_slice(), &mut next, char)?;
+            mem::swap(&mut reached, &mut next);
         }
         Ok(reached.last().copied().unwrap_or(false))
     }
@@ -58,9 +62,8 @@ impl Pattern {
         matches!(self.chars.first(), Some('.'))
     }
 
-    /// The places of the pattern that are reached behind one more character of a name.
-    fn step(&self, alloc: Global, reached: &[bool], char: char) -> Result<Vec<bool>, Memory> {
-        let mut next = Vec::new(alloc);
+    /// Adds the places of the pattern that are reached behind one more character of a name.
+    fn step(&self, reached: &[bool], next: &mut Vec<bool>, char: char) -> Result<(), Memory> {
         next.push(false)?;
         let mut is_last = false;
         for (place, part) in self.parts.iter().enumerate() {
@@ -72,7 +75,7 @@ impl Pattern {
             };
             next.push(is_last)?;
         }
-        Ok(next)
+        Ok(())
     }
 
     fn takes(&self, part: &Part, char: char) -> bool {

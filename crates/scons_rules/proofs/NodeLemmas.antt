@@ -56,7 +56,7 @@ other_target [] n m a b = rw b refl
 other_target (x ∷ nodes) n m a b =
     rw (or_left (nat_eq x.0 m) (is_target_of nodes m) a) (other_target nodes n m (or_right (nat_eq x.0 m) (is_target_of nodes m) a) b)
 
-distinct_with : (nodes : List NodeId) (n : NodeId) → are_distinct nodes ≡ true → is_target_of nodes n.0 ≡ false → are_distinct (nodes ++ n ∷ []) ≡ true
+pub distinct_with : (nodes : List NodeId) (n : NodeId) → are_distinct nodes ≡ true → is_target_of nodes n.0 ≡ false → are_distinct (nodes ++ n ∷ []) ≡ true
 distinct_with [] n d f = refl
 distinct_with (t ∷ ts) n d f =
     let lacks : is_target_of ts t.0 ≡ false = not_so (is_target_of ts t.0) (and_left (not (is_target_of ts t.0)) (are_distinct ts) d) in
@@ -85,7 +85,7 @@ noted_same keys new nodes n noted there is = record {
   distinct = noted.distinct;
 }
 
-some_of : (nodes : List NodeId) (n : ℕ) → is_target_of nodes n ≡ true → 0 < length nodes
+pub some_of : (nodes : List NodeId) (n : ℕ) → is_target_of nodes n ≡ true → 0 < length nodes
 some_of [] n e = absurd (cc)
 some_of (x ∷ nodes) n e = omega arith
 
@@ -109,6 +109,3 @@ interns_keeps old path id new = by (number_of old path)
 pub absent_from : (inserted there : Bool) → inserted ≡ not there → inserted ≡ true → there ≡ false
 absent_from inserted true e f = absurd (cc)
 absent_from inserted false e f = refl
-
-pub some_from : (slice targets : List (List ℕ)) (nodes : List NodeId) → slice ≡ targets → 0 < length targets → (0 < length slice → 0 < length nodes) → 0 < length nodes
-some_from slice targets nodes e some more = more (rw e some)

@@ -7,7 +7,7 @@ use env_subst::SubstFault;
 use env_text::name_alone;
 use env_vars::{EnvValue, Item};
 use scons_base::limits::{LIST_LIMIT, REFERENCE_LIMIT};
-use scons_base::{EnvId, Memory, Text, Texts};
+use scons_base::{EnvId, Memory, Text};
 use scons_decls::{Declarations, NameFault};
 use std::alloc::Global;
 
@@ -16,25 +16,25 @@ const OWN_NAMES: [&str; 5] = ["TARGET", "TARGETS", "SOURCE", "SOURCES", "SMARTLI
 
 /// What is left to look at, the last first, what was found, and how many references were followed.
 #[derive(Drop)]
-struct Actions {
-    left: Vec<Text>,
-    found: Texts,
+struct Actions<'a> {
+    left: Vec<&'a str>,
+    found: Vec<&'a str>,
     references: u64,
 }
 
 /// The actions of these texts. A text that is the name of a list variable alone stands for its items, each an action in turn.
-pub(crate) fn actions_of(
+pub(crate) fn actions_of<'a>(
     alloc: Global,
-    state: &Declarations,
+    state: &'a Declarations,
     env: EnvId,
-    texts: &[Text],
-) -> Result<Texts, RuleReadFault> {
+    texts: Vec<&'a str>,
+) -> Result<Vec<&'a str>, RuleReadFault> {
     let mut actions = Actions {
         left: Vec::new(alloc),
-        found: Texts::new(Vec::new(alloc)),
+        found: Vec::with_capacity(alloc, texts.len())?,
         references: 0,
     };
-    push_in_front(&mut actions.left, copies(alloc, texts)?)?;
+    push_in_front(&mut actions.left, texts)?;
     'actions: for _ in 0..u64::MAX {
         match actions.left.pop() {
             Some(action) => take(alloc, state, env, &mut actions, action)?,
@@ -45,14 +45,14 @@ pub(crate) fn actions_of(
 }
 
 /// An action as it stands, or what stands in its place.
-fn take(
+fn take<'a>(
     alloc: Global,
-    state: &Declarations,
+    state: &'a Declarations,
     env: EnvId,
-    actions: &mut Actions,
-    action: Text,
+    actions: &mut Actions<'a>,
+    action: &'a str,
 ) -> Result<(), RuleReadFault> {
-    if let Some((name, items)) = list_named(state, env, action.as_str()) {
+    if let Some((name, items)) = list_named(state, env, action) {
         actions.references += count_one(actions)?;
         let items = texts_in(alloc, name, items)?;
         return Ok(push_in_front(&mut actions.left, items)?);
@@ -61,7 +61,7 @@ fn take(
 }
 
 /// One more reference, where there may be one.
-fn count_one(actions: &Actions) -> Result<u64, RuleReadFault>
+fn count_one(actions: &Actions<'_>) -> Result<u64, RuleReadFault>
     ensures { IfOk result (λ n. (n ≡ 1) × (actions.now.references < REFERENCE_LIMIT)) }
 {
     if actions.references < REFERENCE_LIMIT && actions.left.len() <= LIST_LIMIT as usize {
@@ -89,19 +89,27 @@ fn list_named<'a>(
 }
 
 /// The texts of a list variable, which is refused where it has anything else.
-fn texts_in(alloc: Global, name: &str, value: &EnvValue) -> Result<Vec<Text>, RuleReadFault> {
+fn texts_in<'a>(
+    alloc: Global,
+    name: &str,
+    value: &'a EnvValue,
+) -> Result<Vec<&'a str>, RuleReadFault> {
     match value {
-        EnvValue::Words(words) => Ok(copies(alloc, words.as_slice())?),
+        EnvValue::Words(words) => Ok(strs(alloc, words.as_slice())?),
         EnvValue::List(items) => item_texts(alloc, name, items.as_slice()),
         _ => Ok(Vec::new(alloc)),
     }
 }
 
-fn item_texts(alloc: Global, name: &str, items: &[Item]) -> Result<Vec<Text>, RuleReadFault> {
+fn item_texts<'a>(
+    alloc: Global,
+    name: &str,
+    items: &'a [Item],
+) -> Result<Vec<&'a str>, RuleReadFault> {
     let mut texts = Vec::new(alloc);
     for item in items {
         match item {
-            Item::Text(text) => texts.push(text.copy()?)?,
+            Item::Text(text) => texts.push(text.as_str())?,
             _ => return Err(out_of_profile(alloc, name)),
         }
     }
@@ -115,16 +123,17 @@ fn out_of_profile(alloc: Global, name: &str) -> RuleReadFault {
     }
 }
 
-fn copies(alloc: Global, texts: &[Text]) -> Result<Vec<Text>, Memory> {
-    let mut copies = Vec::new(alloc);
+/// These texts, borrowed.
+pub(crate) fn strs<'a>(alloc: Global, texts: &'a [Text]) -> Result<Vec<&'a str>, Memory> {
+    let mut strs = Vec::with_capacity(alloc, texts.len())?;
     for text in texts {
-        copies.push(text.copy()?)?;
+        strs.push(text.as_str())?;
     }
-    Ok(copies)
+    Ok(strs)
 }
 
 /// Puts texts before all that is left, whose last is looked at first.
-fn push_in_front(left: &mut Vec<Text>, texts: Vec<Text>) -> Result<(), Memory> {
+fn push_in_front<'a>(left: &mut Vec<&'a str>, texts: Vec<&'a str>) -> Result<(), Memory> {
     let mut texts = texts;
     texts.reverse();
     left.append(&mut texts)?;

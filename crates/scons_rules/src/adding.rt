@@ -3,20 +3,30 @@ ghost use Rattle.std.specs.Prelude.{◌≡◌, ◌<◌, ◌≤◌, true, length,
 ghost use Rattle.rule_graph.specs.Rules.{are_below, IsRule};
 ghost use Rattle.scons_rules.specs.Numbers.{AreNodes};
 
-use crate::actions::actions_of;
+use crate::actions::{actions_of, strs};
 use crate::fault::RuleReadFault;
 use crate::interning::nodes_of;
 use crate::line::{RuleLines, lines_of};
-use crate::reading::{RuleReading, is_cplusplus_source, sources_of};
+use crate::reading::{RuleReading, is_cplusplus_source};
 use crate::said::OfRule;
 use crate::shell::refuse_for_shell;
 use crate::sources::all_settled;
-use rule_graph::Rule;
-use scons_base::{Listing, Memory, NodeId, PathText, Paths, Text, Texts};
-use scons_decls::{Declaration, Recipe};
+use env_subst::Named;
+use rule_graph::{Graph, Rule};
+use scons_base::{Listing, Memory, NodeId, PathText, Paths, Text};
+use scons_decls::{Declaration, Declarations, Recipe};
+use std::alloc::Global;
 use world_api::{Decider, Work};
 
-/// The nodes that a rule names.
+/// What a rule's call and its libraries name.
+#[derive(Clone, Copy)]
+struct NamedPaths<'a> {
+    targets: &'a [PathText],
+    sources: &'a [Named],
+    libs: &'a [PathText],
+}
+
+/// The nodes of a rule.
 #[derive(Drop)]
 struct RuleNodes {
     targets: Listing<NodeId>,
@@ -28,66 +38,40 @@ struct RuleNodes {
 }
 
 impl RuleReading {
-    /// Puts a rule into the graph, with the libraries that were found.
+    /// Puts a rule into the graph, with the libraries that were found. It is the one that was begun last.
     pub fn add(&mut self, number: usize, libraries: &Paths) -> Result<(), RuleReadFault> {
-        let state = &self.state;
-        let Some(declaration) = state.rules.get(number) else {
+        let Some(declaration) = self.state.rules.get(number) else {
             return Ok(());
         };
-        let targets = declaration.targets.copy()?;
-        let said = self.said.of_rule(self.alloc, targets.as_slice())?;
-        let sources = sources_of(self.alloc, state, declaration)?;
+        let targets = declaration.targets.as_slice();
+        let said = self.said.of_rule(self.alloc, targets)?;
         let always = said.always;
-        let nodes = self.rule_nodes(&targets, &sources, libraries, &said)?;
-        let rule = self.rule_of(number, nodes, always)?;
+        let named = NamedPaths {
+            targets,
+            sources: self.state.locals.sources.as_slice(),
+            libs: libraries.as_slice(),
+        };
+        let nodes = rule_nodes(self.alloc, &mut self.graph, &self.state, named, &said)?;
+        let lines = self.lines_of(declaration)?;
+        let paths = self.search_path(declaration)?;
+        let rule = self.rule_of(declaration, nodes, lines, paths, always)?;
         self.graph.add_rule(rule)?;
         Ok(())
     }
 
-    fn rule_nodes(
-        &mut self,
-        targets: &Paths,
-        sources: &Paths,
-        libraries: &Paths,
-        said: &OfRule,
-    ) -> Result<RuleNodes, RuleReadFault>
-        requires { 0 < length targets.now }
-        ensures { IfOk result (λ n. AreNodes (length self.new.graph.nodes) n) }
-    {
-        let targets = nodes_of(self.alloc, &mut self.graph, targets.as_slice())?;
-        let sources = nodes_of(self.alloc, &mut self.graph, sources.as_slice())?;
-        let libs = nodes_of(self.alloc, &mut self.graph, libraries.as_slice())?;
-        let depends = self.settled_nodes(&said.depends)?;
-        let required = self.settled_nodes(&said.required)?;
-        let ignored = self.settled_nodes(&said.ignored)?;
-        Ok(RuleNodes {
-            targets,
-            sources,
-            libs,
-            depends,
-            required,
-            ignored,
-        })
-    }
-
-    fn settled_nodes(&mut self, paths: &Paths) -> Result<Listing<NodeId>, RuleReadFault>
-        ensures below { IfOk result (λ n. are_below (length self.new.graph.nodes) n ≡ true) }
-        ensures keeps { length self.old.graph.nodes ≤ length self.new.graph.nodes }
-    {
-        let files = all_settled(self.alloc, &self.state, paths.as_slice())?;
-        nodes_of(self.alloc, &mut self.graph, files.as_slice())
-    }
-
-    fn rule_of(&self, number: usize, nodes: RuleNodes, always: bool) -> Result<Rule, RuleReadFault>
+    fn rule_of(
+        &self,
+        declaration: &Declaration,
+        nodes: RuleNodes,
+        lines: RuleLines,
+        paths: Paths,
+        always: bool,
+    ) -> Result<Rule, RuleReadFault>
         requires { AreNodes (length self.now.graph.nodes) nodes }
         ensures { IfOk result (λ r. IsRule (length self.now.graph.nodes) r) }
     {
-        let Some(declaration) = self.state.rules.get(number) else {
-            return Err(RuleReadFault::Memory);
-        };
-        let lines = self.lines_of(declaration)?;
+        let builder = self.builder_of(declaration)?;
         let work = work_of(declaration);
-        let paths = self.search_path(declaration)?;
         Ok(Rule {
             work,
             targets: nodes.targets,
@@ -102,7 +86,7 @@ impl RuleReading {
             scans: matches!(work, Work::Shell),
             always,
             decider: declaration.decider,
-            builder: self.builder_of(declaration)?,
+            builder,
         })
     }
 
@@ -112,7 +96,7 @@ impl RuleReading {
             return Ok(Paths::new(Vec::new(self.alloc)));
         }
         let locals = &self.state.locals;
-        let dirs = self.state.envs.dirs(declaration.env, "CPPPATH", locals)?;
+        let dirs = self.state.envs.header_dirs(declaration.env, locals)?;
         if matches!(declaration.recipe, Recipe::Object) {
             refuse_for_shell(dirs.as_slice())?;
         }
@@ -120,14 +104,14 @@ impl RuleReading {
     }
 
     fn lines_of(&self, declaration: &Declaration) -> Result<RuleLines, RuleReadFault> {
-        let texts = self.texts_of(declaration)?;
         let env = declaration.env;
-        let actions = actions_of(self.alloc, &self.state, env, texts.as_slice())?;
+        let texts = self.texts_of(declaration)?;
+        let actions = actions_of(self.alloc, &self.state, env, texts)?;
         lines_of(self.alloc, &self.state, env, actions.as_slice())
     }
 
     /// The texts whose expansions are the lines.
-    fn texts_of(&self, declaration: &Declaration) -> Result<Texts, Memory> {
+    fn texts_of<'a>(&'a self, declaration: &'a Declaration) -> Result<Vec<&'a str>, Memory> {
         match &declaration.recipe {
             Recipe::Object => {
                 if is_cplusplus_source(declaration.sources.as_slice()) {
@@ -138,21 +122,17 @@ impl RuleReading {
             }
             Recipe::Program => self.texts(&["$LINKCOM"]),
             Recipe::StaticLibrary => self.texts(&["$ARCOM", "$RANLIBCOM"]),
-            Recipe::Command(lines) => lines.copy(),
+            Recipe::Command(lines) => strs(self.alloc, lines.as_slice()),
             Recipe::Own(number) => match self.state.builders.get(*number as usize) {
-                Some(builder) => builder.action.copy(),
+                Some(builder) => strs(self.alloc, builder.action.as_slice()),
                 None => self.texts(&[]),
             },
             Recipe::Install | Recipe::InstallAs => self.texts(&[]),
         }
     }
 
-    fn texts(&self, words: &[&str]) -> Result<Texts, Memory> {
-        let mut texts = Texts::new(Vec::new(self.alloc));
-        for word in words {
-            texts.push(Text::of(self.alloc, word)?)?;
-        }
-        Ok(texts)
+    fn texts<'a>(&self, words: &[&'a str]) -> Result<Vec<&'a str>, Memory> {
+        Ok(Vec::from_slice(self.alloc, words)?)
     }
 
     /// The name of a rule's builder: of one of a script's own its number.
@@ -170,6 +150,46 @@ impl RuleReading {
         };
         Text::of(self.alloc, name)
     }
+}
+
+/// The nodes that a rule names.
+fn rule_nodes(
+    alloc: Global,
+    graph: &mut Graph,
+    state: &Declarations,
+    named: NamedPaths<'_>,
+    said: &OfRule,
+) -> Result<RuleNodes, RuleReadFault>
+    requires { 0 < length named.targets.now }
+    ensures { IfOk result (λ n. AreNodes (length graph.new.nodes) n) }
+{
+    let targets = nodes_of(alloc, graph, named.targets)?;
+    let sources = nodes_of(alloc, graph, named.sources)?;
+    let libs = nodes_of(alloc, graph, named.libs)?;
+    let depends = settled_nodes(alloc, graph, state, &said.depends)?;
+    let required = settled_nodes(alloc, graph, state, &said.required)?;
+    let ignored = settled_nodes(alloc, graph, state, &said.ignored)?;
+    Ok(RuleNodes {
+        targets,
+        sources,
+        libs,
+        depends,
+        required,
+        ignored,
+    })
+}
+
+fn settled_nodes(
+    alloc: Global,
+    graph: &mut Graph,
+    state: &Declarations,
+    paths: &Paths,
+) -> Result<Listing<NodeId>, RuleReadFault>
+    ensures below { IfOk result (λ n. are_below (length graph.new.nodes) n ≡ true) }
+    ensures keeps { length graph.old.nodes ≤ length graph.new.nodes }
+{
+    let files = all_settled(alloc, state, paths.as_slice())?;
+    nodes_of(alloc, graph, files.as_slice())
 }
 
 pub(crate) fn work_of(declaration: &Declaration) -> Work {

@@ -2,6 +2,7 @@
 ghost use Rattle.std.specs.Prelude.{◌<◌, length, IfSome};
 
 use crate::fault::RuleReadFault;
+use env_subst::CommandLines;
 use scons_base::{EnvId, Listing, Memory, Text, Texts};
 use scons_decls::Declarations;
 use std::alloc::Global;
@@ -19,14 +20,14 @@ pub(crate) fn lines_of(
     alloc: Global,
     state: &Declarations,
     env: EnvId,
-    texts: &[Text],
+    texts: &[&str],
 ) -> Result<RuleLines, RuleReadFault> {
     let mut lines = RuleLines {
         lines: Listing::empty(alloc),
         signed: Texts::new(Vec::new(alloc)),
     };
     for text in texts {
-        add_lines(alloc, state, env, &mut lines, text.as_str())?;
+        add_lines(alloc, state, env, &mut lines, text)?;
     }
     Ok(lines)
 }
@@ -38,18 +39,56 @@ fn add_lines(
     lines: &mut RuleLines,
     text: &str,
 ) -> Result<(), RuleReadFault> {
-    let found = state.envs.lines(env, text, &state.locals)?;
-    for line in found.plain.as_slice() {
-        add_line(alloc, &mut lines.lines, line.as_str())?;
+    let CommandLines { plain, signed } = state.envs.lines(env, text, &state.locals)?;
+    add_signed(&mut lines.signed, signed)?;
+    for line in plain.into_vec() {
+        add_line(alloc, &mut lines.lines, line)?;
     }
-    for line in found.signed.as_slice() {
-        lines.signed.push(line.copy()?)?;
+    Ok(())
+}
+
+fn add_signed(signed: &mut Texts, more: Texts) -> Result<(), Memory> {
+    if signed.as_slice().is_empty() {
+        *signed = more;
+        return Ok(());
+    }
+    for line in more.into_vec() {
+        signed.push(line)?;
     }
     Ok(())
 }
 
 /// Adds a line without its marks. An empty one is left out.
-fn add_line(alloc: Global, lines: &mut Listing<Line>, text: &str) -> Result<(), Memory> {
+fn add_line(alloc: Global, lines: &mut Listing<Line>, text: Text) -> Result<(), Memory> {
+    let Marked {
+        quiet,
+        ignore,
+        rest,
+    } = behind_marks(text.as_str());
+    if rest.is_empty() {
+        return Ok(());
+    }
+    let bare = if rest.len() < text.as_str().len() {
+        Text::of(alloc, rest)?
+    } else {
+        text
+    };
+    lines.push(Line {
+        text: bare,
+        quiet,
+        ignore,
+    })
+}
+
+/// What the marks of a line say, and what stands behind them.
+#[derive(Clone, Copy)]
+struct Marked<'a> {
+    quiet: bool,
+    ignore: bool,
+    rest: &'a str,
+}
+
+fn behind_marks(text: &str) -> Marked<'_> {
     let mut quiet = false;
     let mut ignore = false;
     let mut rest = text;
@@ -58,14 +97,11 @@ fn add_line(alloc: Global, lines: &mut Listing<Line>, text: &str) -> Result<(), 
         ignore = ignore || mark == b'-';
         rest = after;
     }
-    if rest.is_empty() {
-        return Ok(());
-    }
-    lines.push(Line {
-        text: Text::of(alloc, rest)?,
+    Marked {
         quiet,
         ignore,
-    })
+        rest,
+    }
 }
 
 /// The mark or white space that a line begins with, and the rest.

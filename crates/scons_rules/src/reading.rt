@@ -4,11 +4,12 @@ use crate::aliases::Aliases;
 use crate::fault::RuleReadFault;
 use crate::libraries::{Wanted, wanted_by};
 use crate::said::SaidOf;
-use crate::shell::refuse_for_shell;
-use crate::sources::{all_settled, named_all};
+use crate::shell::{refuse_for_shell, refuse_path_for_shell};
+use crate::sources::{named_all, named_settled};
+use env_subst::Named;
 use indexmap::IndexSet;
 use rule_graph::Graph;
-use scons_base::{Listing, Memory, PathText, Paths, Text};
+use scons_base::{Listing, Memory, PathText, Text};
 use scons_decls::{Declaration, Declarations, Language, Place, Recipe, language_of};
 use std::alloc::Global;
 use world_api::Work;
@@ -75,41 +76,36 @@ impl RuleReading {
 
     /// Makes a rule the one whose lines are expanded; tells whether it links a program.
     fn begin(&mut self, number: usize) -> Result<bool, RuleReadFault> {
-        let state = &self.state;
-        let Some(declaration) = state.rules.get(number) else {
+        let Some(declaration) = self.state.rules.get(number) else {
             return Ok(false);
         };
+        let state = &self.state;
         let is_program = matches!(declaration.recipe, Recipe::Program);
-        let dir = declaration.dir.copy()?;
-        let smartlink = smartlink_of(self.alloc, &self.cplusplus, declaration)?;
-        let sources = sources_of(self.alloc, state, declaration)?;
-        refuse_in_lines(declaration, sources.as_slice())?;
-        let sources = named_all(self.alloc, state, sources.as_slice())?;
+        let sources = named_settled(self.alloc, state, declaration.sources.as_slice())?;
+        refuse_in_lines(sources.as_slice(), declaration)?;
         let targets = named_all(self.alloc, state, declaration.targets.as_slice())?;
+        let smartlink = smartlink_of(&self.cplusplus, declaration);
         let locals = &mut self.state.locals;
-        locals.dir = dir;
-        locals.smartlink = smartlink;
         locals.sources = sources;
         locals.targets = targets;
+        if locals.dir != declaration.dir {
+            locals.dir = declaration.dir.copy()?;
+        }
+        if locals.smartlink.as_str() != smartlink {
+            locals.smartlink = Text::of(self.alloc, smartlink)?;
+        }
         Ok(is_program)
     }
 }
 
-/// The files that a rule's sources are.
-pub(crate) fn sources_of(
-    alloc: Global,
-    state: &Declarations,
-    declaration: &Declaration,
-) -> Result<Paths, Memory> {
-    all_settled(alloc, state, declaration.sources.as_slice())
-}
-
 /// Refuses what of a rule's sources and targets the shell would act on.
-fn refuse_in_lines(declaration: &Declaration, sources: &[PathText]) -> Result<(), RuleReadFault> {
+fn refuse_in_lines(sources: &[Named], declaration: &Declaration) -> Result<(), RuleReadFault> {
     if !matches!(work_of(declaration), Work::Shell) {
         return Ok(());
     }
-    refuse_for_shell(sources)?;
+    for source in sources {
+        refuse_path_for_shell(&source.path)?;
+    }
     refuse_for_shell(declaration.targets.as_slice())
 }
 
@@ -117,13 +113,12 @@ fn has(paths: &[PathText], path: &PathText) -> bool {
     paths.iter().any(|one| one == path)
 }
 
-fn smartlink_of(
-    alloc: Global,
-    objects: &IndexSet<PathText>,
-    declaration: &Declaration,
-) -> Result<Text, Memory> {
-    let is_cplusplus = has_cplusplus(objects, declaration.sources.as_slice());
-    Text::of(alloc, if is_cplusplus { "$CXX" } else { "$CC" })
+fn smartlink_of(objects: &IndexSet<PathText>, declaration: &Declaration) -> &'static str {
+    if has_cplusplus(objects, declaration.sources.as_slice()) {
+        "$CXX"
+    } else {
+        "$CC"
+    }
 }
 
 /// Whether one of these is a C++ source or an object of one.

@@ -43,20 +43,30 @@ pub(crate) fn named_all(
     state: &Declarations,
     paths: &[PathText],
 ) -> Result<Vec<Named>, RuleReadFault> {
-    let mut named = Vec::new(alloc);
+    let mut named = Vec::with_capacity(alloc, paths.len())?;
     for path in paths {
-        named.push(named_of(state, path)?)?;
+        named.push(named_of(state, path.copy()?)?)?;
     }
     Ok(named)
 }
 
-fn named_of(state: &Declarations, path: &PathText) -> Result<Named, Memory> {
-    let src = match state.locals.variants.source_of(&state.locals.top, path)? {
+/// The files that these paths stand for, each with its source.
+pub(crate) fn named_settled(
+    alloc: Global,
+    state: &Declarations,
+    paths: &[PathText],
+) -> Result<Vec<Named>, RuleReadFault> {
+    let mut named = Vec::with_capacity(alloc, paths.len())?;
+    for path in paths {
+        named.push(named_of(state, settled(state, path)?)?)?;
+    }
+    Ok(named)
+}
+
+fn named_of(state: &Declarations, path: PathText) -> Result<Named, Memory> {
+    let src = match state.locals.variants.source_of(&state.locals.top, &path)? {
         Some(source) => source,
         None => path.copy()?,
     };
-    Ok(Named {
-        path: path.copy()?,
-        src,
-    })
+    Ok(Named { path, src })
 }

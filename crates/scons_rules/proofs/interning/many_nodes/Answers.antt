@@ -1,6 +1,6 @@
 use Rattle.std.proofs.Common.{arith}
 use Rattle.scons_rules.proofs.NodeLemmas.{below_more}
-use Rattle.scons_rules.proofs.interning.nodes_of.Goals as goal
+use Rattle.scons_rules.proofs.interning.many_nodes.Goals as goal
 
 pub loop-path-preserved : goal.loop-path-preserved
 loop-path-preserved c = record {

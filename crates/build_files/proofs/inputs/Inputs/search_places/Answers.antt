@@ -1,6 +1,6 @@
 use Rattle.std.proofs.Common.{◌∙◌}
 use Rattle.world_api.proofs.Looking.{looks_joined}
-use Rattle.build_files.proofs.inputs.Inputs.search_dir.Goals as goal
+use Rattle.build_files.proofs.inputs.Inputs.search_places.Goals as goal
 
 pub returns-in_err-node-clause-looks : goal.returns-in_err-node-clause-looks
 returns-in_err-node-clause-looks g c = looks_joined _ _ _ _ c.loop-path.invariant.looks c.known.ensures.looks

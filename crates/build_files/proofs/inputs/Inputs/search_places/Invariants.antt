@@ -1,6 +1,6 @@
 use Rattle.std.proofs.Common.{◌≡◌}
 use Rattle.world_api.specs.Looks.{Looks}
-use Rattle.build_files.proofs.inputs.Inputs.search_dir.Given as goal
+use Rattle.build_files.proofs.inputs.Inputs.search_places.Given as goal
 
 abbrev pub invariant-loop-path : goal.invariant-loop-path
 invariant-loop-path g l = record {
