@@ -1,5 +1,6 @@
 //! Paths that texts name, read with few allocations: most texts lead down from a directory, so that they are joined to it.
 #![tactic(auto)]
+
 ghost use Rattle.std.specs.Prelude.{◌≡◌, ◌≢◌, ◌<◌, ◌++◌, ◌∷◌, length, false, true, None, Some, IfOk, IfErr, string_bytes};
 ghost use Rattle.scons_base.specs.Normal.{slash};
 ghost use Rattle.scons_base.specs.Parts.{is_absolute, joined};
@@ -47,12 +48,12 @@ fn below(alloc: Global, dir: &PathText, text: &str) -> Result<PathText, PathFaul
 {
     match dir.as_str() {
         "." => PathText::read(alloc, text),
-        dir => PathText::read(alloc, joined(alloc, dir, text)?.as_str()),
+        dir => PathText::read(alloc, text_below(alloc, dir, text)?.as_str()),
     }
 }
 
 /// A directory and a text with a slash between.
-fn joined(alloc: Global, dir: &str, text: &str) -> Result<String, Memory>
+fn text_below(alloc: Global, dir: &str, text: &str) -> Result<String, Memory>
     ensures { IfOk result (λ s. string_bytes s ≡ dir.now ++ slash ∷ text.now) }
 {
     let mut path = String::with_capacity(alloc, dir.len() + 1 + text.len())?;

@@ -1,6 +1,8 @@
 //! The environments of a reading, each with its decider and the builders that scripts gave it.
-ghost use Rattle.std.specs.Prelude.{◌≡◌, ◌<◌, Ok, codes, length, option_copied, IfOk, string_bytes};
+ghost use Rattle.std.specs.Prelude.{◌≡◌, ◌<◌, [], true, Ok, codes, length, option_copied, IfOk, string_bytes};
 ghost use Rattle.env_vars.specs.Envs.{value_of};
+ghost use Rattle.env_subst.specs.declared.locals.Locals.{Locals};
+ghost use Rattle.env_subst.specs.Contents.{said, held_or_nothing};
 ghost use Rattle.env_subst.specs.Entries.{search_path};
 ghost use Rattle.env_subst.specs.Results.{path_text};
 ghost use Rattle.env_subst.specs.Settings.{setting};
@@ -203,7 +205,7 @@ impl Environments {
         ensures { let w = setting self.now.envs (held self.now.last.0 env.0) locals.now in
             IfOk result (λ p. search_path w (codes "CPPPATH") ≡ Ok p) }
     {
-        if self.get(env, "CPPPATH").is_none() {
+        if has_no_items(self.get(env, "CPPPATH")) {
             return Ok(Paths::new(Vec::new(self.alloc)));
         }
         self.dirs(env, "CPPPATH", locals)
@@ -259,6 +261,18 @@ impl Environments {
             }
         }
         Ok(())
+    }
+}
+
+/// Whether a list variable of this value, or without one, has no items.
+fn has_no_items(value: Option<&EnvValue>) -> bool
+    ensures { result ≡ true → (locals : Locals) → said locals (held_or_nothing (option_copied value.entry)) ≡ [] }
+{
+    match value {
+        None => true,
+        Some(EnvValue::List(items)) => items.as_slice().is_empty(),
+        Some(EnvValue::Words(words)) => words.as_slice().is_empty(),
+        Some(_) => false,
     }
 }
 
