@@ -1,7 +1,6 @@
-use Rattle.std.proofs.Common.{◌≡◌, ◌∙◌, List, refl, sym, ap, subst}
+use Rattle.std.proofs.Common.{◌∙◌, List, sym, ap, subst}
 use Rattle.std.proofs.lemmas.Bool.{false≢true}
 use Rattle.sign_store.specs.Putting.{AreHeld, AreTickets, IsApartFrom, map_with}
-use Rattle.sign_store.specs.Stores.{map_of}
 use Rattle.sign_store.proofs.GroupLemmas.{tickets_held}
 use Rattle.sign_store.proofs.Keeping.{stands_in}
 use Rattle.build_run.specs.Holds.{Busy}

@@ -1,7 +1,7 @@
-use Rattle.std.proofs.Common.{◌≡◌, ◌≤◌, ◌∙◌, ◌++◌, List, length, refl, sym, ap, subst, arith}
+use Rattle.std.proofs.Common.{◌∙◌, ◌++◌, List, length, refl, sym, ap, subst, arith}
 use Rattle.sign_store.specs.Putting.{map_with}
 use Rattle.build_run.specs.Holds.{Busy}
-use Rattle.build_run.specs.Outs.{IsStored, KeepsRecords}
+use Rattle.build_run.specs.Outs.{IsStored}
 use Rattle.build_run.proofs.Goings.{goes_here}
 use Rattle.build_run.proofs.ending.put_if_few.Goals as goal
 

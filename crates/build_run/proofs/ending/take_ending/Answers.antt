@@ -1,4 +1,4 @@
-use Rattle.std.proofs.Common.{◌≡◌, ◌≢◌, ◌≤◌, ◌<◌, ◌∙◌, ◌++◌, ◌∷◌, [], List, Some, ap, length, refl, sym, subst, arith}
+use Rattle.std.proofs.Common.{◌∙◌, ◌++◌, ◌∷◌, [], Some, ap, sym, arith}
 use Rattle.world_api.specs.Around.{Around, Finished}
 use Rattle.world_api.specs.declared.job.Outcome.TheVariants.{Done}
 use Rattle.sign_store.specs.Tables.{Map, with_each}
