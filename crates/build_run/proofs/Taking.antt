@@ -1,12 +1,12 @@
 -- Leftover copies are taken away: what was at fault, and what is so behind each step.
-use Rattle.std.proofs.Common.{◌≡◌, ◌∙◌, refl, sym, subst, ap, ℕ, ◌<◌, ◌+◌, List, [], ◌∷◌, length, get_or, Contains, Bool, true, false, Some, None, inl, inr, arith}
+use Rattle.std.proofs.Common.{◌≡◌, ◌∙◌, refl, sym, subst, ap, ℕ, ◌<◌, ◌+◌, List, [], ◌∷◌, length, get_or, Contains, Bool, true, false, None, inl, inr, arith}
 use Rattle.std.specs.Prelude.{◌≢◌, ◌⊎◌, Result, Ok, Err, IsErrAnd, OnOk}
 use Rattle.std.proofs.lemmas.Bool.{cases_lt, false≢true}
 use Rattle.std.proofs.lemmas.List.{get_or_default}
 use Rattle.std.proofs.lemmas.Slice.Eq.{bytes_eq-Decides}
 use Rattle.std.specs.Str.{bytes_eq}
 use Rattle.world_api.specs.Around.{Around, Running, IsUnused}
-use Rattle.world_api.specs.Calls.{Asks, Removes}
+use Rattle.world_api.specs.Calls.{Removes}
 use Rattle.world_api.specs.Counts.{Counts}
 use Rattle.world_api.specs.Looks.{Looks}
 use Rattle.world_api.specs.Meaning.{Meaning, BanksKept}
@@ -14,9 +14,9 @@ use Rattle.rule_graph.specs.declared.build_fault.BuildFault.TheVariants as fault
 use Rattle.rule_graph.specs.Graphs.{RuleGraph}
 use Rattle.deciders.specs.declared.recorded.Rec.{Rec}
 use Rattle.sign_store.specs.Copies.{IsCopyIn}
-use Rattle.build_files.specs.Leftovers.{IsLeftover, AreLeftovers}
+use Rattle.build_files.specs.Leftovers.{AreLeftovers}
 use Rattle.build_files.proofs.Left.{none_runs, left_on, left_before}
-use Rattle.build_files.specs.Causes.{HasEndCause, HasLookCause, IsInside, IsQuiet}
+use Rattle.build_files.specs.Causes.{HasEndCause, HasLookCause, IsInside}
 use Rattle.build_files.specs.declared.end.ListEnd.{ListEnd}
 use Rattle.build_files.specs.declared.end.ListEnd.TheVariants as end
 use Rattle.sign_store.specs.Stores.{IsKept, map_of}
@@ -26,7 +26,7 @@ use Rattle.sign_store.proofs.Keeping.{keeps_on}
 use Rattle.build_run.specs.Causes.{Outside, outside}
 use Rattle.build_run.specs.Ledgers.{Accounted, blank, with_end}
 use Rattle.build_run.specs.Takes.{HasTakeEnd, HasTakeCause, OnlyGo, Takes, IsLeftAt, IsTargetOf}
-use Rattle.build_run.specs.Withdrawals.{AreWithdrawn, HasNone}
+use Rattle.build_run.specs.Withdrawals.{AreWithdrawn}
 use Rattle.build_run.proofs.Causing.{disk_fault, look_end}
 
 -- the end of a look

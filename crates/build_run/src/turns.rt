@@ -103,7 +103,16 @@ fn wait_for_all<W: World, E: Sink>(
         if run.tickets.len() == 0 {
             break;
         }
-        let event = take_ending(graph, &mut run.tickets, &mut run.held, account, store, world, err, options);
+        let event = take_ending(
+            graph,
+            &mut run.tickets,
+            &mut run.held,
+            account,
+            store,
+            world,
+            err,
+            options,
+        );
         tell(graph, run, account, err, Ok(event));
         halt(graph, run, account);
     }
@@ -152,7 +161,16 @@ fn take_turn<W: World, O: Sink, E: Sink>(
             options,
             rule,
         ),
-        Want::Wait => Ok(take_ending(graph, &mut run.tickets, &mut run.held, account, store, world, err, options)),
+        Want::Wait => Ok(take_ending(
+            graph,
+            &mut run.tickets,
+            &mut run.held,
+            account,
+            store,
+            world,
+            err,
+            options,
+        )),
         Want::Rest => Ok(PlanEvent::Halt),
     }
 }

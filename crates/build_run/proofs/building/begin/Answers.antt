@@ -19,3 +19,19 @@ returns-in_err-new-clause-stays g c =
       };
       banks = looks.banks;
     }
+
+pub returns-in_err-new-2-clause-stays : goal.returns-in_err-new-2-clause-stays
+returns-in_err-new-2-clause-stays g c =
+    let m = g.W.Disk.meaning in
+    let looks = c.add_copies.ensures.looks in
+    let was = m.counts c.args.world.now in
+    record {
+      goes = record {
+        passes = record {
+          told = looks.told;
+          later = subst (λ (counts : Counts). Later was counts) (sym c.in_ok-add_copies.ensures.cause) (passes_here m c.args.world.now).later;
+        };
+        runs = λ tells. (looks.around tells).running;
+      };
+      banks = looks.banks;
+    }

@@ -1,7 +1,7 @@
-use Rattle.std.proofs.Common.{sym, subst}
+use Rattle.std.proofs.Common.{subst}
 use Rattle.world_api.specs.Counts.{Counts}
 use Rattle.build_run.specs.Causes.{outside, AreCaused}
-use Rattle.build_run.specs.Ledgers.{ledger_of_end, blank}
+use Rattle.build_run.specs.Ledgers.{ledger_of_end}
 use Rattle.build_run.proofs.Causing.{at_first, caused}
 use Rattle.build_run.proofs.Taking.{take_accounted}
 use Rattle.build_run.proofs.building.build.Goals as goal

@@ -1,5 +1,5 @@
 use Rattle.std.proofs.Common.{ap}
-use Rattle.build_run.specs.Ledgers.{Ledger, ledger_of, blank, with_end}
+use Rattle.build_run.specs.Ledgers.{Ledger, ledger_of, with_end}
 use Rattle.build_run.proofs.Causing.{account_as, ended}
 use Rattle.build_run.proofs.building.ended.Goals as goal
 

@@ -10,7 +10,7 @@ pub go_on-requires-clause-stored : goal.go_on-requires-clause-stored
 go_on-requires-clause-stored g c =
     let stays = c.begin.ensures.stays in
     stored_over g.W.Disk.meaning _ _ c.args.store.now _ _ stays.goes.passes.told.told stays.banks
-    (stored_first g.W.Disk.meaning c.args.world.now c.args.store.now _ _ (both_same _ _ [] [] c.in-Ok.ensures.held c.in-Ok.ensures.none) c.requires.live c.requires.kept)
+    (stored_first g.W.Disk.meaning c.args.world.now c.args.store.now _ _ (both_same _ [] _ [] c.in-Ok.ensures.held c.in-Ok.ensures.none) c.requires.live c.requires.kept)
 
 pub returns-in-Ok-clause-causes : goal.returns-in-Ok-clause-causes
 returns-in-Ok-clause-causes g c =

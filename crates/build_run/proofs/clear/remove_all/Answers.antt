@@ -1,4 +1,4 @@
-use Rattle.std.proofs.Common.{◌∙◌, List, ℕ, Contains, sym, subst, arith}
+use Rattle.std.proofs.Common.{◌∙◌, Contains, sym, subst, arith}
 use Rattle.build_run.proofs.Goings.{stays_on, unused_still, unused_in, gone_still}
 use Rattle.build_run.proofs.Taking.{takes_on, takes_as}
 use Rattle.build_run.proofs.clear.remove_all.Goals as goal

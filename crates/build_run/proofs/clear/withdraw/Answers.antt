@@ -1,10 +1,10 @@
-use Rattle.std.proofs.Common.{◌≡◌, ◌∙◌, ◌++◌, List, inl, inr, refl, sym, ap, subst}
-use Rattle.sign_store.specs.Putting.{AreOutWith, IsApartFrom, map_without}
+use Rattle.std.proofs.Common.{◌≡◌, ◌∙◌, ◌++◌, List, inl, inr, refl, sym, subst}
+use Rattle.sign_store.specs.Putting.{AreOutWith, IsApartFrom, map_with, map_without}
 use Rattle.sign_store.specs.Stores.{map_of}
 use Rattle.sign_store.proofs.Keeping.{stands_in}
 use Rattle.build_run.specs.Holds.{Busy}
 use Rattle.build_run.specs.Ledgers.{ledger_of}
-use Rattle.build_run.specs.Outs.{IsStored, KeepsRecordsBut, KeepsSome}
+use Rattle.build_run.specs.Outs.{IsStored, KeepsRecordsBut}
 use Rattle.build_run.proofs.Causing.{disk_fault}
 use Rattle.build_run.proofs.Goings.{goes_here}
 use Rattle.build_run.proofs.Outs.{kept_elsewhere, out_with, stored_withdrawn, stored_shut, withdrawn, withdrawn_before, ticket_still}
@@ -52,7 +52,7 @@ returns-in-Ok-clause-withdrawn g c =
     let t = c.requires.ticket in
     let slice = c.as_slice.ensures in
     let with = subst (λ (all : List Busy). AreOutWith store all t.rec c.args.ticket.now) (sym slice) (out_with store c.args.held.now c.args.tickets.now c.args.ticket.now c.args.job.now.targets t (c.requires.stored.outs c.requires.unshut) c.requires.room c.requires.beside) in
-    withdrawn g.W.Disk.meaning c.withdraw.new.world c.withdraw.new.self _ t.rec c.args.job.now.targets t.same (c.in-Ok.ensures.map t.rec with) (c.in-Ok.ensures.keeps t.rec with (c.requires.stored.kept c.requires.unshut))
+    withdrawn g.W.Disk.meaning c.withdraw.new.world c.withdraw.new.self (map_with store c.as_slice.result.now) t.rec c.args.job.now.targets t.same (c.in-Ok.ensures.map t.rec with) (c.in-Ok.ensures.keeps t.rec with (c.requires.stored.kept c.requires.unshut))
 
 pub returns-in-Ok-clause-ticket : goal.returns-in-Ok-clause-ticket
 returns-in-Ok-clause-ticket g c =

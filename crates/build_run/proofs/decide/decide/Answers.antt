@@ -1,4 +1,4 @@
-use Rattle.std.proofs.Common.{◌++◌, ◌∙◌, refl, sym}
+use Rattle.std.proofs.Common.{◌++◌, refl}
 use Rattle.build_run.specs.Ledgers.{ledger_of}
 use Rattle.build_run.proofs.Causing.{exit_same, inside, look_end}
 use Rattle.build_run.proofs.Outs.{stored_alike, stored_over}

@@ -6,16 +6,16 @@ use Rattle.build_run.proofs.Goings.{goes_here}
 use Rattle.build_run.proofs.Outs.{held_more}
 use Rattle.build_run.proofs.ending.hold.Goals as goal
 
-pub returns-then-len-clause-goes : goal.returns-then-len-clause-goes
-returns-then-len-clause-goes g c = goes_here g.W.Disk.meaning c.args.world.now
+pub returns-then-len-most_jobs-clause-goes : goal.returns-then-len-most_jobs-clause-goes
+returns-then-len-most_jobs-clause-goes g c = goes_here g.W.Disk.meaning c.args.world.now
 
-pub returns-then-len-clause-stored : goal.returns-then-len-clause-stored
-returns-then-len-clause-stored g c =
+pub returns-then-len-most_jobs-clause-stored : goal.returns-then-len-most_jobs-clause-stored
+returns-then-len-most_jobs-clause-stored g c =
     subst (λ (all : List Busy). IsStored g.W.Disk.meaning c.args.world.now c.args.store.now (all ++ c.args.tickets.now) c.args.account.now.is_store_shut) (sym c.add.ensures)
     (subst (λ (all : List Busy). IsStored g.W.Disk.meaning c.args.world.now c.args.store.now all c.args.account.now.is_store_shut) (sym (append_assoc c.args.held.now (c.args.busy ∷ []) c.args.tickets.now)) c.requires.stored)
 
-pub returns-then-len-clause-puts : goal.returns-then-len-clause-puts
-returns-then-len-clause-puts g c = λ unshut rec is.
+pub returns-then-len-most_jobs-clause-puts : goal.returns-then-len-most_jobs-clause-puts
+returns-then-len-most_jobs-clause-puts g c = λ unshut rec is.
     ap (λ (all : List Busy). map_with c.args.store.now all) c.add.ensures ∙ held_more c.args.store.now c.args.held.now c.args.busy rec is
 
 pub put_held-requires : goal.put_held-requires

@@ -1,7 +1,6 @@
-use Rattle.std.proofs.Common.{◌≡◌, ◌∙◌, List, refl, sym, ap, subst}
+use Rattle.std.proofs.Common.{◌∙◌, List, sym, ap, subst}
 use Rattle.std.proofs.lemmas.Bool.{false≢true}
 use Rattle.sign_store.specs.Putting.{AreHeld, AreTickets, IsApartFrom, map_with}
-use Rattle.sign_store.specs.Stores.{map_of}
 use Rattle.sign_store.proofs.GroupLemmas.{tickets_held}
 use Rattle.sign_store.proofs.Keeping.{stands_in}
 use Rattle.build_run.specs.Holds.{Busy}
@@ -46,14 +45,14 @@ returns-in-Ok-clause-kept g c = λ unshut.
     let are = tickets_held store c.args.held.now (held_outs store c.args.held.now (outs_front store c.args.held.now c.args.tickets.now (c.requires.outs unshut))) in
     c.in-Ok.ensures.map (subst (λ (all : List Busy). AreTickets store all) (sym slice) are) ∙ ap (λ (all : List Busy). map_with store all) slice
 
-pub returns-clause-keeps : goal.returns-clause-keeps
-returns-clause-keeps g c = λ start out a. c.end.ensures.keeps start _ out (disk_fault start (ledger_of c.args.account.now) _ _ out _ c.in-Err.ensures.rose a)
+pub returns-in-Err-clause-keeps : goal.returns-in-Err-clause-keeps
+returns-in-Err-clause-keeps g c = λ start out a. c.end.ensures.keeps start _ out (disk_fault start (ledger_of c.args.account.now) _ _ out _ c.in-Err.ensures.rose a)
 
-pub returns-clause-stored : goal.returns-clause-stored
-returns-clause-stored g c = stored_shut g.W.Disk.meaning _ _ _ _ c.end.ensures.shut
+pub returns-in-Err-clause-stored : goal.returns-in-Err-clause-stored
+returns-in-Err-clause-stored g c = stored_shut g.W.Disk.meaning _ _ _ _ c.end.ensures.shut
 
-pub returns-clause-kept : goal.returns-clause-kept
-returns-clause-kept g c = λ unshut. absurd (false≢true (sym unshut ∙ c.end.ensures.shut))
+pub returns-in-Err-clause-kept : goal.returns-in-Err-clause-kept
+returns-in-Err-clause-kept g c = λ unshut. absurd (false≢true (sym unshut ∙ c.end.ensures.shut))
 
-pub returns-clause-shut : goal.returns-clause-shut
-returns-clause-shut g c = λ unshut. absurd (false≢true (sym unshut ∙ c.end.ensures.shut))
+pub returns-in-Err-clause-shut : goal.returns-in-Err-clause-shut
+returns-in-Err-clause-shut g c = λ unshut. absurd (false≢true (sym unshut ∙ c.end.ensures.shut))

@@ -1,18 +1,18 @@
-use Rattle.std.proofs.Common.{◌≡◌, ◌≤◌, ◌∙◌, ◌++◌, List, length, refl, sym, ap, subst, arith}
+use Rattle.std.proofs.Common.{◌∙◌, ◌++◌, List, length, refl, sym, ap, subst, arith}
 use Rattle.sign_store.specs.Putting.{map_with}
 use Rattle.build_run.specs.Holds.{Busy}
-use Rattle.build_run.specs.Outs.{IsStored, KeepsRecords}
+use Rattle.build_run.specs.Outs.{IsStored}
 use Rattle.build_run.proofs.Goings.{goes_here}
 use Rattle.build_run.proofs.ending.put_if_few.Goals as goal
 
-pub returns-then-len-clause-goes : goal.returns-then-len-clause-goes
-returns-then-len-clause-goes g c = goes_here g.W.Disk.meaning c.args.world.now
+pub returns-then-len-most_jobs-clause-goes : goal.returns-then-len-most_jobs-clause-goes
+returns-then-len-most_jobs-clause-goes g c = goes_here g.W.Disk.meaning c.args.world.now
 
-pub returns-then-len-clause-kept : goal.returns-then-len-clause-kept
-returns-then-len-clause-kept g c = λ unshut. refl
+pub returns-then-len-most_jobs-clause-kept : goal.returns-then-len-most_jobs-clause-kept
+returns-then-len-most_jobs-clause-kept g c = λ unshut. refl
 
-pub returns-then-len-clause-tickets : goal.returns-then-len-clause-tickets
-returns-then-len-clause-tickets g c = record { each = λ rec ticket is. is }
+pub returns-then-len-most_jobs-clause-tickets : goal.returns-then-len-most_jobs-clause-tickets
+returns-then-len-most_jobs-clause-tickets g c = record { each = λ rec ticket is. is }
 
 pub returns-clause-stored : goal.returns-clause-stored
 returns-clause-stored g c =

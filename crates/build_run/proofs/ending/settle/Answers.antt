@@ -1,4 +1,4 @@
-use Rattle.std.proofs.Common.{◌∙◌, ◌++◌, Bool, [], sym, ap, subst}
+use Rattle.std.proofs.Common.{◌∙◌, ◌++◌, Bool, [], sym, subst}
 use Rattle.build_run.specs.Outs.{IsStored}
 use Rattle.build_run.proofs.Goings.{goes_here}
 use Rattle.build_run.proofs.Outs.{held_alike, outs_front, outs_left, stored_beside, stored_left, room_beside}

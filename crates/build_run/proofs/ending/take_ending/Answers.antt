@@ -1,5 +1,6 @@
-use Rattle.std.proofs.Common.{◌≡◌, ◌≢◌, ◌≤◌, ◌<◌, ◌∙◌, ◌++◌, ◌∷◌, [], List, Some, ap, length, refl, sym, subst, arith}
+use Rattle.std.proofs.Common.{◌∙◌, ◌++◌, ◌∷◌, [], Some, ap, sym, arith}
 use Rattle.world_api.specs.Around.{Around, Finished}
+use Rattle.world_api.specs.declared.job.Outcome.TheVariants.{Done}
 use Rattle.sign_store.specs.Tables.{Map, with_each}
 use Rattle.build_run.specs.Holds.{holds_in}
 use Rattle.build_run.proofs.Goings.{joined_on, passes_on}
@@ -20,12 +21,12 @@ returns-clause-keeps g c = λ start out a. c.take_ended.ensures.keeps start out 
 pub returns-clause-done : goal.returns-clause-done
 returns-clause-done g c = λ told id log.
     let before = c.take_ended.ensures.passes.told.told told in
-    c.take_ended.ensures.done told id (log ∙ ap (λ (around : Around). around.log ++ Finished id _ ∷ []) (sym (c.put_if_few.ensures.around before)))
+    c.take_ended.ensures.done told id (log ∙ ap (λ (around : Around). around.log ++ Finished id Done ∷ []) (sym (c.put_if_few.ensures.around before)))
 
 pub returns-clause-only : goal.returns-clause-only
 returns-clause-only g c = λ told rule e.
     let before = c.take_ended.ensures.passes.told.told told in
-    c.take_ended.ensures.only told rule e ∙ ap (λ (around : Around). around.log ++ Finished rule.0 _ ∷ []) (c.put_if_few.ensures.around before)
+    c.take_ended.ensures.only told rule e ∙ ap (λ (around : Around). around.log ++ Finished rule.0 Done ∷ []) (c.put_if_few.ensures.around before)
 
 pub returns-clause-puts : goal.returns-clause-puts
 returns-clause-puts g c = λ rule e.

@@ -1,4 +1,4 @@
-use Rattle.std.proofs.Common.{Bool, ◌++◌, ◌∙◌, inl, inr, subst, sym}
+use Rattle.std.proofs.Common.{Bool, ◌++◌, ◌∙◌, subst, sym}
 use Rattle.build_run.specs.Outs.{IsStored}
 use Rattle.build_run.proofs.Outs.{stored_over, held_ok, unheld_still}
 use Rattle.build_run.proofs.launch.launch.Goals as goal

@@ -1,4 +1,4 @@
-use Rattle.std.proofs.Common.{◌≡◌, ◌∙◌, List, ℕ, Contains, refl, sym, subst}
+use Rattle.std.proofs.Common.{◌∙◌, List, ℕ, Contains, refl, sym, subst}
 use Rattle.sign_store.proofs.Keeping.{kept_as}
 use Rattle.build_run.specs.Takes.{AreTaken, Takes}
 use Rattle.build_run.specs.Withdrawals.{AreWithdrawn}

@@ -1,6 +1,6 @@
-use Rattle.std.proofs.Common.{◌∙◌, ◌<◌, List, ℕ, length, Contains, sym, subst, ap, arith}
+use Rattle.std.proofs.Common.{◌∙◌, ◌<◌, length, Contains, sym, subst, arith}
 use Rattle.deciders.specs.declared.recorded.Rec.{Rec}
-use Rattle.build_run.specs.Takes.{Takes, IsTargetOf}
+use Rattle.build_run.specs.Takes.{IsTargetOf}
 use Rattle.build_run.proofs.Goings.{goes_on}
 use Rattle.build_run.proofs.Taking.{take_inside, take_exit, take_after, takes_on, takes_as, taken_so_far, all_taken}
 use Rattle.build_run.proofs.leftovers.take_each.Goals as goal

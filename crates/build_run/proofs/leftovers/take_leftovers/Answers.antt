@@ -3,7 +3,6 @@ use Rattle.sign_store.specs.Copies.{IsCopyIn}
 use Rattle.sign_store.specs.Stores.{map_of}
 use Rattle.deciders.specs.declared.recorded.Rec.{Rec}
 use Rattle.build_files.specs.Leftovers.{AreLeftovers}
-use Rattle.build_run.proofs.Goings.{goes_on}
 use Rattle.build_run.proofs.Taking.{kept_over, take_end, take_exit, take_after, takes_looked, takes_left, left_taken, done_gone}
 use Rattle.build_run.proofs.leftovers.take_leftovers.Goals as goal
 

@@ -1,4 +1,4 @@
-use Rattle.std.proofs.Common.{◌∙◌, ℕ, List, sym, ap, subst, Contains, arith}
+use Rattle.std.proofs.Common.{◌∙◌, ℕ, List, sym, subst, Contains, arith}
 use Rattle.build_run.specs.Holds.{Busy, holds_in}
 use Rattle.build_run.specs.Outs.{ShareNone}
 use Rattle.build_run.specs.declared.tickets.Hold.{Hold}
