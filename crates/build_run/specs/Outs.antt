@@ -1,5 +1,5 @@
 -- The tickets of the rules that run or whose records are held, and the store that they are of.
-use Rattle.std.specs.Prelude.{◌≡◌, ◌≢◌, ◌⊎◌, ℕ, Bool, false, true, List, [], ◌∷◌, ◌++◌, Contains, Some}
+use Rattle.std.specs.Prelude.{◌≡◌, ◌≢◌, ◌⊎◌, ℕ, Bool, false, true, List, [], ◌∷◌, ◌++◌, Contains, Option, Some, IfSome}
 use Rattle.world_api.specs.Around.{Finished}
 use Rattle.world_api.specs.Meaning.{Meaning}
 use Rattle.world_api.specs.declared.job.Ended.{Ended}
@@ -47,6 +47,11 @@ AreOut store (busy ∷ busies) =
     IsOutFor store busy
     × ((other : Busy) → Contains busies other → IsBeside busy other)
     × AreOut store busies
+
+-- where some are out behind whichever others, so are one that is taken out of them and those that are left
+abbrev pub StayOut : List Busy → Option Busy → List Busy → Type 0
+StayOut busies taken left = (store : Store) (held : List Busy) → AreOut store (held ++ busies)
+    → IfSome taken (λ busy. AreOut store (held ++ busy ∷ left))
 
 -- unless the disk has refused: the store is live, whatever a stop leaves now stands for its map, and the tickets are out
 pub record IsStored {W : Type 0} (m : Meaning W) (world : W) (store : Store) (busies : List Busy) (shut : Bool)

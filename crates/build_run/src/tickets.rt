@@ -1,9 +1,8 @@
 //! The rules whose actions run, or have ended well and have no record yet, each with the ticket for it.
 ghost use Rattle.std.specs.Prelude.{◌≡◌, ◌==◌, position, ◌++◌, ◌∷◌, ◌<◌, [], List, ℕ, true, false, length, Contains, IfOk, IfSome, IfNone};
-ghost use Rattle.sign_store.specs.declared.store.Store.{Store};
 ghost use Rattle.build_run.specs.declared.tickets.Hold.{Hold};
 ghost use Rattle.build_run.specs.Holds.{Busy, hold_for, holds_in, without, KeepsApart};
-ghost use Rattle.build_run.specs.Outs.{AreOut, ShareNone};
+ghost use Rattle.build_run.specs.Outs.{ShareNone, StayOut};
 
 use scons_base::limits::JOB_LIMIT;
 use scons_base::{Memory, PathText, Paths, RuleId};
@@ -139,7 +138,7 @@ impl Tickets {
         ensures left { holds_in self.new ≡ without id (holds_in self.old) }
         ensures rule { IfSome result (λ busy. busy.hold.rule.0 ≡ id) }
         ensures among { IfSome result (λ busy. Contains self.old busy) }
-        ensures outs { (store : Store) (held : List Busy) → AreOut store (held ++ self.old) → IfSome result (λ busy. AreOut store (held ++ busy ∷ self.new)) }
+        ensures outs { StayOut self.old result self.new }
         ensures none { IfNone result (self.new ≡ self.old) }
     {
         let place = place_of(self.busy.as_slice(), id)?;

@@ -5,7 +5,7 @@ use Rattle.deciders.specs.declared.recorded.Rec.{Rec}
 use Rattle.sign_store.specs.declared.store.Store.{Store}
 use Rattle.sign_store.specs.declared.ticket.Ticket.{Ticket}
 use Rattle.sign_store.specs.declared.ticket.Ticketed.{Ticketed}
-use Rattle.sign_store.specs.Ends.{IsEither}
+use Rattle.sign_store.specs.Ends.{IsEither, KeepsAt}
 use Rattle.sign_store.specs.Staging.{AreStagedIn, IsEntry, Spans}
 use Rattle.world_api.specs.Banks.{Banks}
 use Rattle.sign_store.specs.Stores.{AreApart, HasRoom, IsKept, IsOut, IsTicket, TakesRoom, map_of, withdrawal_len}
@@ -166,3 +166,18 @@ pub record KeepsRoomsBeside {T : Type 0} (held : List (Ticketed T)) (old new : S
   pub rooms : length new.rooms.items ≡ length old.rooms.items
   pub others : (room : ℕ) → ((other : Ticketed T) → Contains held other → other.ticket.room ≢ room)
       → slice_index new.rooms.items room ≡ slice_index old.rooms.items room
+
+-- the puts of held tickets are written: a stop leaves what stands for the map with them, up to the new end
+abbrev pub WritesPuts : {W T U E : Type 0} → Meaning W → W → W → Store → Store → List (Ticketed T) → Result U E → Type 0
+WritesPuts m old new store after held result = AreHeld store held → IsKept m old store
+    → OnOk result (KeepsAt m new after.bank after.end (map_with store held))
+
+-- and so is a withdrawal behind them
+abbrev pub WritesWith : {W T U E : Type 0} → Meaning W → W → W → Store → Store → List (Ticketed T) → Ticket → Result U E → Type 0
+WritesWith m old new store after held ticket result = (rec : Rec) → AreOutWith store held rec ticket → IsKept m old store
+    → OnOk result (KeepsAt m new after.bank after.end (map_without store held rec))
+
+-- in the ticket's room, and in theirs
+abbrev pub WritesInRoom : {T U E : Type 0} → Store → Store → List (Ticketed T) → Ticket → Result U E → Type 0
+WritesInRoom old new held ticket result = (rec : Rec) → AreOutWith old held rec ticket
+    → OnOk result (TakesRoomsBeside held ticket.room (length ticket.withdrawal.items) old new)

@@ -8,7 +8,7 @@ ghost use Rattle.deciders.specs.Records.{IsValid};
 ghost use Rattle.deciders.specs.declared.version.Version.TheVariants as version;
 ghost use Rattle.deciders.specs.Spelling.{spelling};
 ghost use Rattle.sign_store.specs.Changing.{BeginsThroughout};
-ghost use Rattle.sign_store.specs.Ends.{AreSettled, KeepsAt, ReadsAsBefore};
+ghost use Rattle.sign_store.specs.Ends.{AreSettled, ReadsAsBefore};
 ghost use Rattle.sign_store.specs.Entries.{entries_len};
 ghost use Rattle.sign_store.specs.Reached.{HasFaultCause, KeepsSettled, LeavesBanks, ReadsBanks, Writes};
 ghost use Rattle.sign_store.specs.Readings.{AreReadable, IsRefusal};
@@ -49,8 +49,8 @@ pub struct Store {
 }
 
 impl Store {
-    ghost use Rattle.sign_store.specs.Putting.{AddTakesRoom, Adds, AddsPuts, AreHeld, AreOutWith, AreTickets, FreesRooms, KeepsRoomsBeside, PutsKeep, PutsKeepApart, PutsRecords, PutsThroughout};
-    ghost use Rattle.sign_store.specs.Putting.{SpansIn, StaysOut, TakesRoomsBeside, WithdrawKeeps, WithdrawKeepsOthers, WithdrawTakesRoom, WithdrawsRecord, WithdrawsThroughout, map_with, map_without};
+    ghost use Rattle.sign_store.specs.Putting.{AddTakesRoom, Adds, AddsPuts, AreTickets, FreesRooms, KeepsRoomsBeside, PutsKeep, PutsKeepApart, PutsRecords, PutsThroughout};
+    ghost use Rattle.sign_store.specs.Putting.{SpansIn, StaysOut, WithdrawKeeps, WithdrawKeepsOthers, WithdrawTakesRoom, WithdrawsRecord, WithdrawsThroughout, WritesInRoom, WritesPuts, WritesWith, map_with};
     ghost use Rattle.sign_store.specs.Stores.{Begins, Fits, IsPrepareRefusal, IsStoredIn, IsTicket, IsOut, IsKept, IsFresh, is_live, map_of, map_of_view, HasMapOf, ShowsMapOf, HasRoom, TakesRoom, KeepsRooms, FreesRoom, GetsRoom, IsUntouched, due_for, KeepsBanks, KeepsTickets, KeepsOut, KeepsOthers};
 
     /// What the banks stand for. Nothing is written.
@@ -360,7 +360,7 @@ impl Store {
         ensures behind { start ≤ self.new.end }
         ensures live { is_live self.new ≡ is_live self.old }
         ensures moments { PutsThroughout W.meaning world.old world.new self.old held.now }
-        ensures keeps { AreHeld self.old held.now → IsKept W.meaning world.old self.old → OnOk result (KeepsAt W.meaning world.new self.new.bank self.new.end (map_with self.old held.now)) }
+        ensures keeps { WritesPuts W.meaning world.old world.new self.old self.new held.now result }
         ensures rooms { KeepsRoomsBeside held.now self.old self.new }
         ensures stands { W.meaning.tells world.new → OnOk result (IsStoredIn (W.meaning.seen world.new) self.new) }
         ensures settled { OnOk result (KeepsSettled W.meaning world.old world.new) }
@@ -391,8 +391,8 @@ impl Store {
         ensures behind { start ≤ self.new.end }
         ensures live { is_live self.new ≡ is_live self.old }
         ensures moments { WithdrawsThroughout W.meaning world.old world.new self.old held.now ticket.now }
-        ensures keeps { (rec : Rec) → AreOutWith self.old held.now rec ticket.now → IsKept W.meaning world.old self.old → OnOk result (KeepsAt W.meaning world.new self.new.bank self.new.end (map_without self.old held.now rec)) }
-        ensures rooms { (rec : Rec) → AreOutWith self.old held.now rec ticket.now → OnOk result (TakesRoomsBeside held.now ticket.now.room (length ticket.now.withdrawal.items) self.old self.new) }
+        ensures keeps { WritesWith W.meaning world.old world.new self.old self.new held.now ticket.now result }
+        ensures rooms { WritesInRoom self.old self.new held.now ticket.now result }
         ensures stands { W.meaning.tells world.new → OnOk result (IsStoredIn (W.meaning.seen world.new) self.new) }
         ensures settled { OnOk result (KeepsSettled W.meaning world.old world.new) }
         ensures around { W.meaning.tells world.new → W.meaning.around world.new ≡ W.meaning.around world.old }
