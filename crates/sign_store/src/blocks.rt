@@ -33,6 +33,7 @@ pub(crate) struct End {
 
 /// Applies the entries of a bank of this version and size, one after the other, up to where they end. What a block cuts is read
 /// again with the next one.
+#[tactic(auto, using(crate::proofs::DiskLemmas::reads_same))]
 pub(crate) fn load_bank<W: Disk>(
     alloc: Global,
     world: &mut W,
