@@ -76,25 +76,45 @@ impl RuleReading {
 
     /// Makes a rule the one whose lines are expanded; tells whether it links a program.
     fn begin(&mut self, number: usize) -> Result<bool, RuleReadFault> {
-        let Some(declaration) = self.state.rules.get(number) else {
+        let state = &self.state;
+        let Some(declaration) = state.rules.get(number) else {
             return Ok(false);
         };
-        let state = &self.state;
         let is_program = matches!(declaration.recipe, Recipe::Program);
+        let smartlink = smartlink_of(&self.cplusplus, declaration);
+        let dir = new_dir(state, &declaration.dir)?;
+        let smartlink = new_smartlink(state, smartlink)?;
         let sources = named_settled(self.alloc, state, declaration.sources.as_slice())?;
         refuse_in_lines(sources.as_slice(), declaration)?;
         let targets = named_all(self.alloc, state, declaration.targets.as_slice())?;
-        let smartlink = smartlink_of(&self.cplusplus, declaration);
         let locals = &mut self.state.locals;
         locals.sources = sources;
         locals.targets = targets;
-        if locals.dir != declaration.dir {
-            locals.dir = declaration.dir.copy()?;
+        if let Some(dir) = dir {
+            locals.dir = dir;
         }
-        if locals.smartlink.as_str() != smartlink {
-            locals.smartlink = Text::of(self.alloc, smartlink)?;
+        if let Some(smartlink) = smartlink {
+            locals.smartlink = smartlink;
         }
         Ok(is_program)
+    }
+}
+
+/// A rule's directory, where it is another than that of the rule before.
+fn new_dir(state: &Declarations, dir: &PathText) -> Result<Option<PathText>, Memory> {
+    if state.locals.dir == *dir {
+        Ok(None)
+    } else {
+        Ok(Some(dir.copy()?))
+    }
+}
+
+/// The same of what `$SMARTLINK` stands for.
+fn new_smartlink(state: &Declarations, smartlink: &str) -> Result<Option<Text>, Memory> {
+    if state.locals.smartlink.as_str() == smartlink {
+        Ok(None)
+    } else {
+        Ok(Some(Text::of(state.alloc, smartlink)?))
     }
 }
 

@@ -4,7 +4,7 @@ use Rattle.scons_rules.proofs.adding.rule_nodes.Goals as goal
 
 pub returns : goal.returns
 returns c = record {
-  has_target = (c.in_ok-targets.ensures {u = tt}).some c.requires;
+  has_target = (c.in_ok-targets.ensures {u = tt}).some (rw c.as_slice.ensures c.requires);
   distinct = (c.in_ok-targets.ensures {u = tt}).distinct;
   targets =
       below_more (length c.nodes_of.new.graph.nodes) (length c.settled_nodes-3.new.graph.nodes) c.in_ok-targets.targets

@@ -3,7 +3,7 @@ use Rattle.rule_graph.specs.Rules.{are_below, are_distinct}
 use Rattle.scons_rules.proofs.interning.few_nodes.Given as goal
 
 abbrev pub invariant-loop-path : goal.invariant-loop-path
-invariant-loop-path l = record {
+invariant-loop-path g l = record {
   distinct : are_distinct l.nodes ≡ true;
   below : are_below (length l.graph.nodes) l.nodes ≡ true;
   some : 0 < l.path-index → 0 < length l.nodes;

@@ -4,7 +4,7 @@ use Rattle.scons_rules.specs.Numbers.{AreNoted}
 use Rattle.scons_rules.proofs.interning.many_nodes.Given as goal
 
 abbrev pub invariant-loop-path : goal.invariant-loop-path
-invariant-loop-path l = record {
+invariant-loop-path g l = record {
   noted : AreNoted l.seen.keys l.nodes;
   below : are_below (length l.graph.nodes) l.nodes ≡ true;
   some : 0 < l.path-index → 0 < length l.nodes;
