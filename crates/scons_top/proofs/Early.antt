@@ -8,7 +8,7 @@ use Rattle.scons_top.specs.declared.report.Report.{Report}
 use Rattle.scons_top.specs.declared.report.Top.{Top}
 use Rattle.scons_top.specs.declared.stop.Stop.{Stop}
 use Rattle.world_api.specs.Looks.{Looks}
-use Rattle.scons_top.proofs.Watching.{looks_joined}
+use Rattle.world_api.proofs.Looking.{looks_joined}
 
 -- one fault more
 pub added : (P : Type 0) (old : List Top) (fault : Top) (new : List Top) → new ≡ old ++ fault ∷ [] → (IsEarly fault → P) → EarlyOnlyIf P old → EarlyOnlyIf P new

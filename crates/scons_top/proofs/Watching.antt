@@ -124,3 +124,6 @@ pub ruleset watching = (watches_same, watches_host, watches_look, watches_store,
 -- nothing is closed still
 pub unclosed_on : {W : Type 0} (m : Meaning W) (old new : W) → Goes m old new → m.closed old ≡ [] → m.closed new ≡ []
 unclosed_on m old new g none = g.passes.told.closed ∙ none
+
+-- nothing was done
+pub ruleset standing = (looks_same)

@@ -54,6 +54,7 @@ pub fn scons<W: World, O: Sink, E: Sink>(
     }
 }
 
+#[tactic(auto, using(crate::proofs::Watching::standing))]
 fn take_words<W: World, O: Sink, E: Sink>(
     alloc: Global,
     words: &[Text],
