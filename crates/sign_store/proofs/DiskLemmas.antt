@@ -1,9 +1,10 @@
 -- Calls of a disk, one after another: what they leave of the banks and of all around.
-use Rattle.std.proofs.Common.{◌≡◌, ◌∙◌, refl}
+use Rattle.std.proofs.Common.{◌≡◌, ◌∙◌, inl, inr, refl}
 use Rattle.std.specs.Prelude.{◌≢◌, Result, Ok, Err, OnOk}
 use Rattle.world_api.specs.declared.disk.Bank.{Bank}
+use Rattle.world_api.specs.Looks.{IsSince}
 use Rattle.world_api.specs.Meaning.{Meaning, Told, Recalls, BankKept, BanksKept, Throughout, AtEither}
-use Rattle.world_api.proofs.Looking.{told_same, recalls_same, bank_same, bank_joined}
+use Rattle.world_api.proofs.Looking.{asks_of, told_same, recalls_same, bank_same, bank_joined, since_same, since_joined}
 use Rattle.world_api.proofs.Moments.{tells_on, recalls_on}
 use Rattle.sign_store.specs.Ends.{StandsFor}
 use Rattle.sign_store.specs.Reached.{KeepsSettled, ReadsBanks, Writes}
@@ -16,6 +17,7 @@ reads_same m w = record {
   around = λ t. refl;
   banks = λ t bank. bank_same m bank w;
   moments = λ stood map. record { on = λ from run. run };
+  before = λ t. since_same m w;
 }
 
 pub reads_joined : {W : Type 0} (m : Meaning W) (a b c : W) → ReadsBanks m a b → ReadsBanks m b c → ReadsBanks m a c
@@ -25,7 +27,20 @@ reads_joined m a b c p q = record {
   around = λ t. q.around t ∙ p.around (q.told.told t);
   banks = λ t bank. bank_joined m bank a b c (p.banks (q.told.told t) bank) (q.banks t bank);
   moments = λ stood map. record { on = λ from run. (q.moments stood map).on from ((p.moments stood map).on from run) };
+  before = λ t. since_joined m a b c (asks_of (m.around a) (m.around b) (p.around (q.told.told t))) (p.banks (q.told.told t)) (p.before (q.told.told t)) (q.before t);
 }
+
+-- at each moment of a call that read all was as before it
+since_read : {W : Type 0} (m : Meaning W) (a b : W) → Throughout m a b (AtEither m a b) → (m.tells b → m.around b ≡ m.around a)
+    → (m.tells b → BanksKept m a b) → m.tells b → IsSince m a b
+unfolding IsSince
+since_read m a b time around banks t = λ moment stood left was_left. elim (time.before t moment stood left was_left) [
+  | inl was ↦ inl was
+  | inr at ↦ elim at.1 [
+    | inl image ↦ inr (asks_of (m.around a) stood (at.0 ∙ around t), image)
+    | inr image ↦ inr (asks_of (m.around a) stood (at.0 ∙ around t), λ bank. (banks t bank).no_more (left bank) (image bank))
+  ]
+]
 
 -- one call that read
 pub looked : {W : Type 0} (m : Meaning W) (a b : W) → Told m a b → Recalls m a b → (m.tells b → m.around b ≡ m.around a) → (m.tells b → BanksKept m a b) → Throughout m a b (AtEither m a b) → ReadsBanks m a b
@@ -35,6 +50,7 @@ looked m a b told recalls around banks time = record {
   around = around;
   banks = banks;
   moments = λ stood map. record { on = λ from run. sync_moments m from a b (StandsFor stood map) run time around banks };
+  before = since_read m a b time around banks;
 }
 
 pub writes_same : {W : Type 0} (m : Meaning W) (bank : Bank) (w : W) → Writes m bank w w

@@ -2,6 +2,7 @@
 use Rattle.std.specs.Prelude.{◌≡◌, ◌≢◌, Result, Err}
 use Rattle.world_api.specs.Causes.{DiskFails}
 use Rattle.world_api.specs.Around.{Around}
+use Rattle.world_api.specs.Looks.{IsSince}
 use Rattle.world_api.specs.Meaning.{Meaning, Told, Recalls, BankKept, BanksKept, Throughout}
 use Rattle.world_api.specs.declared.disk.Bank.{Bank}
 use Rattle.sign_store.specs.declared.refusals.StoreRefusal.{StoreRefusal}
@@ -22,13 +23,14 @@ SeesTheSame m old new = (each : Bank) → m.seen new each ≡ m.seen old each
 pub record Endures {W : Type 0} (m : Meaning W) (old new : W) (stood : Around) (map : Map) : Type 0 where
   pub on : (from : W) → Throughout m from old (StandsFor stood map) → Throughout m from new (StandsFor stood map)
 
--- the disk was read and no more: its banks and all around are as they were
+-- the disk was read and no more: its banks and all around are as they were, and were so at every moment
 pub record ReadsBanks {W : Type 0} (m : Meaning W) (old new : W) : Type 0 where
   pub told : Told m old new
   pub recalls : Recalls m old new
   pub around : m.tells new → m.around new ≡ m.around old
   pub banks : m.tells new → BanksKept m old new
   pub moments : (stood : Around) (map : Map) → Endures m old new stood map
+  pub before : m.tells new → IsSince m old new
 
 -- one bank was written at most: the other and all around are as they were
 pub record Writes {W : Type 0} (m : Meaning W) (bank : Bank) (old new : W) : Type 0 where
