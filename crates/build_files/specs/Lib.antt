@@ -1,3 +1,5 @@
 pub mod Causes
 pub mod Ends
+pub mod Kept
 pub mod Leftovers
+pub mod Seen

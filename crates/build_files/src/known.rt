@@ -103,7 +103,7 @@ impl Inputs {
         ensures { IsQuiet result }
     {
         let node = graph.intern(path)?;
-        self.seen(node)?.is_file = Some(is_file);
+        self.files.keep_is_file(node, is_file)?;
         Ok(Some(node))
     }
 }
