@@ -1,3 +1,4 @@
 pub mod Looking
 pub mod Left
 mod Seeing
+mod Truths
