@@ -1,12 +1,13 @@
 -- What is kept of files stays true as the world is looked at, and as one more file is looked at.
 use Rattle.std.proofs.Common.{◌≡◌, ◌<◌, ◌≤◌, ◌⊎◌, inl, inr, ◌∙◌, ap, sym, subst, refl, ℕ, Bool, true, false, List, length, Option, Some, None, arith}
-use Rattle.std.specs.Prelude.{◌≢◌, Contains, nat_eq, slice_get, is_some, if◌then◌else◌}
+use Rattle.std.specs.Prelude.{◌≢◌, Contains, Result, IfOk, nat_eq, slice_get, is_some, if◌then◌else◌}
 use Rattle.std.specs.List.{list_any}
 use Rattle.std.specs.Option.{option_map}
 use Rattle.std.specs.Str.{bytes_eq}
 use Rattle.std.proofs.lemmas.Bool.Decides.{Decides-eqb}
 use Rattle.std.proofs.lemmas.Option.{slice_get_within}
 use Rattle.deciders.specs.Digests.{digest_of}
+use Rattle.deciders.specs.declared.content.Digest.{Digest}
 use Rattle.rule_graph.specs.Graphs.{RuleGraph}
 use Rattle.world_api.specs.Act.{Content}
 use Rattle.world_api.specs.Around.{Around, Tree, IsRunningTarget}
@@ -15,10 +16,13 @@ use Rattle.world_api.specs.declared.hash.Hash.{Hash}
 use Rattle.build_model.specs.Rules.{Path}
 use Rattle.build_means.specs.Grown.{Begun}
 use Rattle.build_means.proofs.Lists.{none_some, some_same, true_false}
+use Rattle.build_files.specs.Leftovers.{is_made}
 use Rattle.build_files.specs.Kept.{past, stamp_past, includes_in, IsSeenAs, IsUnread, IsTrueOf, AreTrue, IsStill, KeepsContent}
-use Rattle.build_files.specs.Seen.{seen_at}
+use Rattle.build_files.specs.Seen.{seen_at, SeesOne, SeesTheSame}
+use Rattle.build_files.specs.declared.end.ListEnd.{ListEnd}
 use Rattle.build_files.specs.declared.inputs.Inputs.{Inputs}
 use Rattle.build_files.specs.declared.seen.Seen.{Seen}
+use Rattle.build_files.specs.declared.seen.SeenFiles.{SeenFiles}
 
 past_same : (gone : List Path) (old new : Tree) (path : Path) → new path ≡ old path → past gone new path ≡ past gone old path
 past_same gone old new path e = ap (λ (c : Content). if list_any (bytes_eq path) gone then None else c) e
@@ -133,3 +137,59 @@ read_true b g old new before after node path content asks at still same keeps is
     kept_content b g old new after node path content at
     (λ running. still path at (subst (λ r. IsRunningTarget r path) asks.running running)) same keeps
     (asked b g old before after asks is)
+
+-- the same is kept of each file
+pub kept_same : (b : Begun) (g : RuleGraph) (old : Inputs) (files : SeenFiles) (around : Around)
+    → SeesTheSame old.files.seen.items files.seen.items → AreTrue b g old around → AreTrue b g (record old { files = files }) around
+kept_same b g old files around same is = record {
+  reading = is.reading;
+  grown = is.grown;
+  hash = is.hash;
+  declared = is.declared;
+  rest = is.rest;
+  idle = is.idle;
+  seen = λ node path at. subst (λ s. IsTrueOf b old.gone.keys around path s) (sym (same node)) (is.seen node path at);
+  behind = λ node le. same node ∙ is.behind node le;
+  unknown = is.unknown;
+}
+
+-- of one file something else is kept that is true
+module _ (b : Begun) (g : RuleGraph) (old : Inputs) (files : SeenFiles) (around : Around) (node : ℕ) (path : Path) (at : slice_get g.nodes node ≡ Some path)
+    (is : AreTrue b g old around) where
+  kept_this : {seen : Seen} → SeesOne old.files.seen.items files.seen.items node seen → IsTrueOf b old.gone.keys around path seen
+      → AreTrue b g (record old { files = files }) around
+  kept_this sees this =
+      kept_one b g old (record old { files = files }) around node path is refl sees.others at
+      (subst (λ s. IsTrueOf b old.gone.keys around path s) (sym sees.this) this)
+
+  pub kept_stamp : {time : Option ℕ} → (IsRunningTarget around.running path → ⊥) → time ≡ stamp_past old.gone.keys around path
+      → SeesOne old.files.seen.items files.seen.items node (record (seen_at old.files.seen.items node) { stamp = Some time })
+      → AreTrue b g (record old { files = files }) around
+  kept_stamp free same sees =
+      let was = is.seen node path at in
+      kept_this sees (record {
+        now = record { digest = was.now.digest; includes = was.now.includes; stamp = λ other e. sym (some_same e) ∙ same };
+        still = inl free;
+        is_file = was.is_file;
+      })
+
+  pub kept_is_file : {stands : Bool} → is_made g path ≡ false → stands ≡ is_some (past old.gone.keys around.tree path)
+      → SeesOne old.files.seen.items files.seen.items node (record (seen_at old.files.seen.items node) { is_file = Some stands })
+      → AreTrue b g (record old { files = files }) around
+  kept_is_file unmade same sees =
+      let was = is.seen node path at in
+      kept_this sees (record {
+        now = record { digest = was.now.digest; includes = was.now.includes; stamp = was.now.stamp };
+        still = elim was.still [ | inl free ↦ inl free | inr unread ↦ inr (record { digest = unread.digest; includes = unread.includes; stamp = unread.stamp }) ];
+        is_file = λ other e. sym (some_same e) ∙ same ∙ ap is_some (is.rest path unmade);
+      })
+
+-- a digest is by the hash of the build
+pub digest_by : (r : Result (Option Digest) ListEnd) (a b : Hash) (content : Content) → a ≡ b → IfOk r (λ digest. digest ≡ option_map (digest_of a) content)
+    → IfOk r (λ digest. digest ≡ option_map (digest_of b) content)
+digest_by r a b content same is = subst (λ hash. IfOk r (λ digest. digest ≡ option_map (digest_of hash) content)) same is
+
+-- a node has one path
+pub unmade_at : (g : RuleGraph) (node : ℕ) (path named : Path) → slice_get g.nodes node ≡ Some path → slice_get g.nodes node ≡ Some named
+    → is_made g path ≡ false → is_made g named ≡ false
+unmade_at g node path named at there unmade = subst (λ p. is_made g p ≡ false) (some_same (sym at ∙ there)) unmade

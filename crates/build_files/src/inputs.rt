@@ -1,12 +1,13 @@
 //! The files of a build.
-ghost use Rattle.std.specs.Prelude.{◌≡◌, ℕ, List, Some, IfOk, is_some, slice_get};
+ghost use Rattle.std.specs.Prelude.{◌≡◌, ℕ, List, Some, false, IfOk, is_some, slice_get};
 ghost use Rattle.std.specs.List.{list_any};
 ghost use Rattle.std.specs.Option.{option_map};
 ghost use Rattle.std.specs.Str.{bytes_eq};
 ghost use Rattle.deciders.specs.Digests.{digest_of as digest_for};
 ghost use Rattle.build_files.specs.Causes.{HasLookCause};
-ghost use Rattle.build_files.specs.Kept.{past, stamp_past as stamp_for, IsStill, StaysTrue, KeepsContent};
-ghost use Rattle.build_files.specs.Leftovers.{stands};
+ghost use Rattle.build_files.specs.Kept.{past, stamp_past as stamp_for, AreTrue, IsStill, StaysTrue, KeepsContent};
+ghost use Rattle.build_files.specs.Leftovers.{is_made, stands};
+ghost use Rattle.build_means.specs.Grown.{Begun};
 ghost use Rattle.world_api.specs.Looks.{Looks};
 ghost use Rattle.world_api.specs.Reads.{stamp_of};
 
@@ -67,16 +68,21 @@ impl Inputs {
     pub(crate) fn is_file<W: World>(
         &mut self,
         world: &mut W,
-        path: &PathText,
+        graph: &Graph,
         node: NodeId,
     ) -> Result<bool, ListEnd>
         ensures looks { Looks W.meaning world.old world.new }
         ensures cause { HasLookCause (W.meaning.counts world.old) (W.meaning.counts world.new) result }
+        ensures truth { (path : List ℕ) → slice_get graph.now.nodes node.0 ≡ Some path → is_made graph.now path ≡ false
+            → StaysTrue W.meaning graph.now self.old world.old graph.now self.new world.new }
+        ensures file { W.meaning.tells world.new → (b : Begun) (path : List ℕ) → slice_get graph.now.nodes node.0 ≡ Some path
+            → is_made graph.now path ≡ false → AreTrue b graph.now self.old (W.meaning.around world.old)
+            → IfOk result (λ is. is ≡ is_some (b.tree path)) }
     {
         if let Some(is_file) = self.files.is_file(node) {
             return Ok(is_file);
         }
-        let is_file = self.stands(world, path)?;
+        let is_file = self.stands(world, path_of(graph, node)?)?;
         self.files.keep_is_file(node, is_file)?;
         Ok(is_file)
     }
@@ -111,6 +117,11 @@ impl Inputs {
     ) -> Result<Option<Digest>, ListEnd>
         ensures looks { Looks W.meaning world.old world.new }
         ensures cause { HasLookCause (W.meaning.counts world.old) (W.meaning.counts world.new) result }
+        ensures truth { IsStill graph.now (W.meaning.around world.old) node.0
+            → StaysTrue W.meaning graph.now self.old world.old graph.now self.new world.new }
+        ensures digest { W.meaning.tells world.new → (b : Begun) (path : List ℕ) → slice_get graph.now.nodes node.0 ≡ Some path
+            → AreTrue b graph.now self.old (W.meaning.around world.old) → IfOk result
+            (λ digest. digest ≡ option_map (digest_for b.hash) (past self.old.gone.keys (W.meaning.around world.new).tree path)) }
     {
         match self.files.digest(node) {
             Some(digest) => Ok(digest),
@@ -128,6 +139,11 @@ impl Inputs {
     ) -> Result<Option<u64>, ListEnd>
         ensures looks { Looks W.meaning world.old world.new }
         ensures cause { HasLookCause (W.meaning.counts world.old) (W.meaning.counts world.new) result }
+        ensures truth { IsStill graph.now (W.meaning.around world.old) node.0
+            → StaysTrue W.meaning graph.now self.old world.old graph.now self.new world.new }
+        ensures stamp { W.meaning.tells world.new → (b : Begun) (path : List ℕ) → slice_get graph.now.nodes node.0 ≡ Some path
+            → AreTrue b graph.now self.old (W.meaning.around world.old) → IfOk result
+            (λ time. time ≡ stamp_for self.old.gone.keys (W.meaning.around world.new) path) }
     {
         if let Some(stamp) = self.files.stamp(node) {
             return Ok(stamp);

@@ -47,11 +47,10 @@ impl Inputs {
         if graph.rule_of(node).is_some() {
             return Ok(true);
         }
-        let path = path_of(graph, node)?;
-        if self.is_file(world, path, node)? {
+        if self.is_file(world, graph, node)? {
             return Ok(true);
         }
-        self.has_copy_rule(world, graph, path)
+        self.has_copy_rule(world, graph, path_of(graph, node)?)
     }
 
     /// The node of a path that no rule names, where the path is known.
