@@ -73,6 +73,7 @@ asked b g inputs old new asks is = record {
   seen = λ node path at. seen_asked b inputs.gone.keys old new path (seen_at inputs.files.seen.items node) asks (is.seen node path at);
   behind = is.behind;
   unknown = is.unknown;
+  gone = is.gone;
 }
 
 -- something else is kept of one file
@@ -110,6 +111,7 @@ module _ (b : Begun) (g : RuleGraph) (old new : Inputs) (around : Around) (node 
         let within = slice_get_within g.nodes node path at in
         others n (λ same. absurd (omega (arith, same))) ∙ is.behind n le;
     unknown = λ p among. is.unknown p (subst (λ (paths : List Path). Contains paths p) (ap (λ (i : Inputs). i.unknown.keys) rest) among);
+    gone = λ p looked. is.gone p (ap (list_any (bytes_eq p)) (sym same_gone) ∙ looked);
   }
 
 -- a content was kept that stands there
@@ -151,6 +153,7 @@ kept_same b g old files around same is = record {
   seen = λ node path at. subst (λ s. IsTrueOf b old.gone.keys around path s) (sym (same node)) (is.seen node path at);
   behind = λ node le. same node ∙ is.behind node le;
   unknown = is.unknown;
+  gone = is.gone;
 }
 
 -- of one file something else is kept that is true

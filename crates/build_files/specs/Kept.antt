@@ -1,5 +1,5 @@
 -- What is kept of the files of a build, and when it is true.
-use Rattle.std.specs.Prelude.{◌≡◌, ◌≢◌, ◌⊎◌, ◌≤◌, ℕ, Bool, false, List, [], Option, Some, None, Contains, is_some, length, slice_get, if◌then◌else◌}
+use Rattle.std.specs.Prelude.{◌≡◌, ◌≢◌, ◌⊎◌, ◌≤◌, ℕ, Bool, true, false, List, [], Option, Some, None, Contains, is_some, length, slice_get, if◌then◌else◌}
 use Rattle.std.specs.List.{list_any}
 use Rattle.std.specs.Option.{option_map}
 use Rattle.std.specs.Str.{bytes_eq}
@@ -14,7 +14,7 @@ use Rattle.world_api.specs.Meaning.{Meaning}
 use Rattle.world_api.specs.Reads.{stamp_of}
 use Rattle.world_api.specs.declared.hash.Hash.{Hash}
 use Rattle.build_model.specs.Rules.{Path}
-use Rattle.build_means.specs.Copies.{is_known}
+use Rattle.build_means.specs.Copies.{is_copied, is_known}
 use Rattle.build_means.specs.Grown.{Begun, IsGrown}
 use Rattle.build_means.specs.Rules.{IsReading}
 use Rattle.build_files.specs.Leftovers.{is_made}
@@ -68,6 +68,7 @@ pub record AreTrue (b : Begun) (g : RuleGraph) (inputs : Inputs) (around : Aroun
       IsTrueOf b inputs.gone.keys around path (seen_at inputs.files.seen.items node)
   pub behind : (node : ℕ) → length g.nodes ≤ node → seen_at inputs.files.seen.items node ≡ unseen
   pub unknown : (path : Path) → Contains inputs.unknown.keys path → is_known b.graph b.tree path ≡ false
+  pub gone : (path : Path) → list_any (bytes_eq path) inputs.gone.keys ≡ true → is_copied b.graph path ≡ true
 
 -- no running job writes the file of this number
 abbrev pub IsStill : RuleGraph → Around → ℕ → Type 0

@@ -1,7 +1,10 @@
 //! Which paths are known: those that a rule makes, and those at which a file stands.
-ghost use Rattle.std.specs.Prelude.{◌≡◌, IfOk};
+ghost use Rattle.std.specs.Prelude.{◌≡◌, ℕ, List, Some, IfOk, is_some, slice_get};
 ghost use Rattle.build_files.specs.Causes.{HasLookCause, IsQuiet};
+ghost use Rattle.build_files.specs.Kept.{AreTrue, StaysTrue};
 ghost use Rattle.build_files.specs.Leftovers.{is_made, is_declared, is_copied, copied_from};
+ghost use Rattle.build_means.specs.Copies.{copied_from as copied_in, is_known};
+ghost use Rattle.build_means.specs.Grown.{Begun};
 ghost use Rattle.world_api.specs.Looks.{Looks};
 
 use crate::end::ListEnd;
@@ -43,7 +46,11 @@ impl Inputs {
     ) -> Result<bool, ListEnd>
         ensures looks { Looks W.meaning world.old world.new }
         ensures cause { HasLookCause (W.meaning.counts world.old) (W.meaning.counts world.new) result }
+        ensures truth { StaysTrue W.meaning graph.now self.old world.old graph.now self.new world.new }
+        ensures known { W.meaning.tells world.new → (b : Begun) (path : List ℕ) → slice_get graph.now.nodes node.0 ≡ Some path
+            → AreTrue b graph.now self.old (W.meaning.around world.old) → IfOk result (λ is. is ≡ is_known b.graph b.tree path) }
     {
+        graph.laws();
         if graph.rule_of(node).is_some() {
             return Ok(true);
         }
@@ -87,7 +94,10 @@ impl Inputs {
     ) -> Result<bool, ListEnd>
         ensures looks { Looks W.meaning world.old world.new }
         ensures cause { HasLookCause (W.meaning.counts world.old) (W.meaning.counts world.new) result }
+        ensures copied { W.meaning.tells world.new → (b : Begun) → AreTrue b graph.now self.now (W.meaning.around world.old)
+            → IfOk result (λ has. has ≡ is_some (copied_in b.graph b.tree path.now)) }
     {
+        graph.laws();
         Ok(copied_from(world, graph, self.declared, path)?.is_some())
     }
 
