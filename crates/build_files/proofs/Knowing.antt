@@ -1,12 +1,12 @@
 -- What is known of a path in the graph as it has grown is what was known of it as the build began.
 use Rattle.std.proofs.Common.{◌≡◌, ◌<◌, ◌≤◌, ◌⊎◌, inl, inr, ◌∙◌, ap, sym, subst, refl, ℕ, zero, suc, ◌+◌, Bool, true, false, List, [], ◌∷◌, ◌++◌, ◌||◌, not, cond, length, Option, Some, None, lt-ltb, ltb-true, arith}
-use Rattle.std.specs.Prelude.{nat_lt, nat_eq, slice_get, is_some, if◌then◌else◌, ◌&&◌}
+use Rattle.std.specs.Prelude.{Result, IfOk, nat_lt, slice_get, is_some, if◌then◌else◌, ◌&&◌}
 use Rattle.std.specs.List.{list_any}
-use Rattle.std.specs.Option.{option_and_then}
+use Rattle.std.specs.Option.{option_map}
 use Rattle.std.specs.Str.{bytes_eq}
-use Rattle.std.proofs.lemmas.Bool.Decides.{Decides-eqb}
 use Rattle.std.proofs.lemmas.Option.{slice_get_within}
 use Rattle.std.proofs.lemmas.Slice.Eq.{bytes_eq-Decides}
+use Rattle.scons_base.specs.declared.ids.RuleId.{RuleId}
 use Rattle.node_tree.specs.Nodes.{number_of, AreApart}
 use Rattle.rule_graph.specs.declared.rule.Rule.{Rule}
 use Rattle.rule_graph.specs.Graphs.{RuleGraph, path_of}
@@ -19,12 +19,13 @@ use Rattle.build_means.specs.Copies as means
 use Rattle.build_means.specs.Grown.{Begun, IsCopyOf}
 use Rattle.build_means.specs.Rules.{IsReading, paths_of, rule_with}
 use Rattle.build_means.specs.Rules as read
-use Rattle.build_means.proofs.Growing.{get_front, get_either, named, only, in_grown, paths_stay}
+use Rattle.build_means.proofs.Growing.{get_front, get_either, named, only, paths_stay, are_rules}
 use Rattle.build_means.proofs.Lists.{none_some, some_same, true_false, or_neither, among_map, first_place, place_of, at_place}
 use Rattle.build_means.proofs.Readings.{target_number, target_rule, rule_with_target, rule_with_is}
 use Rattle.build_files.proofs.Truths.{asked}
-use Rattle.build_files.specs.Kept.{past, AreTrue}
+use Rattle.build_files.specs.Kept.{past, AreTrue, IsUnmade}
 use Rattle.build_files.specs.Leftovers.{is_made, is_declared, declared_for, is_before, is_copied, is_source, source_among, copied_from, stands, has_rule}
+use Rattle.build_files.specs.declared.end.ListEnd.{ListEnd}
 use Rattle.build_files.specs.declared.inputs.Inputs.{Inputs}
 
 past_end : {A : Type 0} (xs : List A) (i : ℕ) → slice_get xs i ≡ None → length xs ≤ i
@@ -168,11 +169,11 @@ module _ (b : Begun) (g : RuleGraph) (inputs : Inputs) (around : Around) (is : A
       second false d e h = ap (λ x. x || e) h
 
   -- what no rule makes is known where a file stood or it has a copy rule
-  pub unmade_known : (path : Path) → rule_with b.graph path ≡ None
-      → means.is_known b.graph b.tree path ≡ (is_some (copied_from g inputs.declared around path) || is_some (b.tree path))
-  unmade_known path none =
-      ap (λ o. is_some o || (is_some (means.copied_from b.graph b.tree path) || is_some (b.tree path))) none
-      ∙ ap (λ o. is_some o || is_some (b.tree path)) (sym (from_same path))
+  pub unmade_known : (node : ℕ) (path : Path) → slice_get g.nodes node ≡ Some path → rule_of g.rules node ≡ None
+      → means.is_known b.graph b.tree path ≡ (is_some (means.copied_from b.graph b.tree path) || is_some (b.tree path))
+  unmade_known node path at none =
+      ap (λ o. is_some o || (is_some (means.copied_from b.graph b.tree path) || is_some (b.tree path)))
+      ((are_rules b g is.reading now is.grown).undeclared node path at none)
 
 -- whether a path has a copy rule, by what is found now
 pub has_copied : (b : Begun) (g : RuleGraph) (inputs : Inputs) (before after : Around) (path : Path) (source : Option Path) → IsReading g → Asks before after
@@ -180,7 +181,43 @@ pub has_copied : (b : Begun) (g : RuleGraph) (inputs : Inputs) (before after : A
 has_copied b g inputs before after path source now asks found is =
     ap is_some (found ∙ from_same b g inputs after (asked b g inputs before after asks is) now path)
 
+rule_none : (r : Option RuleId) (o : Option ℕ) → option_map (λ id. id.0) r ≡ o → is_some r ≡ false → o ≡ None
+rule_none None o same none = sym same
+rule_none (Some id) o same none = true_false none
+
+rule_some : (r : Option RuleId) (o : Option ℕ) → option_map (λ id. id.0) r ≡ o → is_some r ≡ true → (n : ℕ) × (o ≡ Some n)
+rule_some None o same some = true_false (sym some)
+rule_some (Some id) o same some = (id.0, sym same)
+
 -- a node without a rule has a path that no rule makes
-pub unmade_node : (g : RuleGraph) (node : ℕ) (path : Path) → AreApart g.nodes → slice_get g.nodes node ≡ Some path → rule_of g.rules node ≡ None
-    → is_made g path ≡ false
-unmade_node g node path apart at none = ap (has_rule g.rules) (apart node path at) ∙ ap is_some none
+pub unmade_node : (g : RuleGraph) (node : ℕ) (r : Option RuleId) → AreApart g.nodes → option_map (λ id. id.0) r ≡ rule_of g.rules node → is_some r ≡ false
+    → IsUnmade g node
+unmade_node g node r apart of none = λ path at. ap (has_rule g.rules) (apart node path at) ∙ ap is_some (rule_none r (rule_of g.rules node) of none)
+
+-- a node with a rule has a path that is known
+pub known_made : (b : Begun) (g : RuleGraph) (inputs : Inputs) (around : Around) (node : ℕ) (path : Path) (r : Option RuleId) → IsReading g
+    → option_map (λ id. id.0) r ≡ rule_of g.rules node → is_some r ≡ true → slice_get g.nodes node ≡ Some path → AreTrue b g inputs around
+    → true ≡ means.is_known b.graph b.tree path
+known_made b g inputs around node path r now of some at is =
+    let number = rule_some r (rule_of g.rules node) of some in
+    sym (made_known b g inputs around is now node number.0 path at number.1)
+
+-- one without is known by its file or its copy rule
+pub known_unmade : (b : Begun) (g : RuleGraph) (inputs : Inputs) (around : Around) (node : ℕ) (path : Path) (r : Option RuleId) → IsReading g
+    → option_map (λ id. id.0) r ≡ rule_of g.rules node → is_some r ≡ false → slice_get g.nodes node ≡ Some path → AreTrue b g inputs around
+    → means.is_known b.graph b.tree path ≡ (is_some (means.copied_from b.graph b.tree path) || is_some (b.tree path))
+known_unmade b g inputs around node path r now of none at is =
+    unmade_known b g inputs around is now node path at (rule_none r (rule_of g.rules node) of none)
+
+-- a file stood there
+pub known_file : (copied file known : Bool) → known ≡ (copied || file) → true ≡ file → true ≡ known
+known_file true file known same is = sym same
+known_file false file known same is = is ∙ sym same
+
+-- no file did
+pub known_copied : (r : Result Bool ListEnd) (copied file known : Bool) → known ≡ (copied || file) → false ≡ file → IfOk r (λ has. has ≡ copied) → IfOk r (λ is. is ≡ known)
+known_copied r copied file known same is has = subst (λ x. IfOk r (λ is. is ≡ x)) (sym (same ∙ ap (λ f. copied || f) (sym is) ∙ or_false copied)) has
+  where
+    or_false : (c : Bool) → (c || false) ≡ c
+    or_false true = refl
+    or_false false = refl

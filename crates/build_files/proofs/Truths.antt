@@ -192,7 +192,7 @@ pub digest_by : (r : Result (Option Digest) ListEnd) (a b : Hash) (content : Con
     → IfOk r (λ digest. digest ≡ option_map (digest_of b) content)
 digest_by r a b content same is = subst (λ hash. IfOk r (λ digest. digest ≡ option_map (digest_of hash) content)) same is
 
--- a node has one path
-pub unmade_at : (g : RuleGraph) (node : ℕ) (path named : Path) → slice_get g.nodes node ≡ Some path → slice_get g.nodes node ≡ Some named
-    → is_made g path ≡ false → is_made g named ≡ false
-unmade_at g node path named at there unmade = subst (λ p. is_made g p ≡ false) (some_same (sym at ∙ there)) unmade
+-- what no rule makes stands as it did
+pub file_stood : (b : Begun) (g : RuleGraph) (inputs : Inputs) (before after : Around) (path : Path) → Asks before after → is_made g path ≡ false
+    → AreTrue b g inputs before → is_some (past inputs.gone.keys after.tree path) ≡ is_some (b.tree path)
+file_stood b g inputs before after path asks unmade is = ap is_some ((asked b g inputs before after asks is).rest path unmade)

@@ -74,6 +74,10 @@ pub record AreTrue (b : Begun) (g : RuleGraph) (inputs : Inputs) (around : Aroun
 abbrev pub IsStill : RuleGraph → Around → ℕ → Type 0
 IsStill g around node = (path : Path) → slice_get g.nodes node ≡ Some path → IsRunningTarget around.running path → ⊥
 
+-- no rule makes the file of this number
+abbrev pub IsUnmade : RuleGraph → ℕ → Type 0
+IsUnmade g node = (path : Path) → slice_get g.nodes node ≡ Some path → is_made g path ≡ false
+
 -- What was true of the files of a build is still: of those kept before, over the world before, it is of those kept now.
 abbrev pub StaysTrue : {W : Type 0} → Meaning W → RuleGraph → Inputs → W → RuleGraph → Inputs → W → Type 0
 StaysTrue m before old old_world after new new_world =

@@ -1,12 +1,12 @@
 //! The files of a build.
-ghost use Rattle.std.specs.Prelude.{◌≡◌, ℕ, List, Some, false, IfOk, is_some, slice_get};
+ghost use Rattle.std.specs.Prelude.{◌≡◌, ℕ, List, Some, IfOk, is_some, slice_get};
 ghost use Rattle.std.specs.List.{list_any};
 ghost use Rattle.std.specs.Option.{option_map};
 ghost use Rattle.std.specs.Str.{bytes_eq};
 ghost use Rattle.deciders.specs.Digests.{digest_of as digest_for};
 ghost use Rattle.build_files.specs.Causes.{HasLookCause};
-ghost use Rattle.build_files.specs.Kept.{past, stamp_past as stamp_for, AreTrue, IsStill, StaysTrue, KeepsContent};
-ghost use Rattle.build_files.specs.Leftovers.{is_made, stands};
+ghost use Rattle.build_files.specs.Kept.{past, stamp_past as stamp_for, AreTrue, IsStill, IsUnmade, StaysTrue, KeepsContent};
+ghost use Rattle.build_files.specs.Leftovers.{stands};
 ghost use Rattle.build_means.specs.Grown.{Begun};
 ghost use Rattle.world_api.specs.Looks.{Looks};
 ghost use Rattle.world_api.specs.Reads.{stamp_of};
@@ -73,10 +73,9 @@ impl Inputs {
     ) -> Result<bool, ListEnd>
         ensures looks { Looks W.meaning world.old world.new }
         ensures cause { HasLookCause (W.meaning.counts world.old) (W.meaning.counts world.new) result }
-        ensures truth { (path : List ℕ) → slice_get graph.now.nodes node.0 ≡ Some path → is_made graph.now path ≡ false
-            → StaysTrue W.meaning graph.now self.old world.old graph.now self.new world.new }
+        ensures truth { IsUnmade graph.now node.0 → StaysTrue W.meaning graph.now self.old world.old graph.now self.new world.new }
         ensures file { W.meaning.tells world.new → (b : Begun) (path : List ℕ) → slice_get graph.now.nodes node.0 ≡ Some path
-            → is_made graph.now path ≡ false → AreTrue b graph.now self.old (W.meaning.around world.old)
+            → IsUnmade graph.now node.0 → AreTrue b graph.now self.old (W.meaning.around world.old)
             → IfOk result (λ is. is ≡ is_some (b.tree path)) }
     {
         if let Some(is_file) = self.files.is_file(node) {
