@@ -5,7 +5,6 @@ use Rattle.std.specs.List.{list_any}
 use Rattle.std.specs.Option.{option_map}
 use Rattle.std.specs.Str.{bytes_eq}
 use Rattle.std.proofs.lemmas.Option.{slice_get_within}
-use Rattle.std.proofs.lemmas.Slice.Eq.{bytes_eq-Decides}
 use Rattle.scons_base.specs.declared.ids.RuleId.{RuleId}
 use Rattle.node_tree.specs.Nodes.{number_of, AreApart}
 use Rattle.rule_graph.specs.declared.rule.Rule.{Rule}
@@ -22,16 +21,12 @@ use Rattle.build_means.specs.Rules as read
 use Rattle.build_means.proofs.Growing.{get_front, get_either, named, only, paths_stay, are_rules}
 use Rattle.build_means.proofs.Lists.{none_some, some_same, true_false, or_neither, among_map, first_place, place_of, at_place}
 use Rattle.build_means.proofs.Readings.{target_number, target_rule, rule_with_target, rule_with_is}
+use Rattle.build_files.proofs.Places.{past_end, numbered}
 use Rattle.build_files.proofs.Truths.{asked}
 use Rattle.build_files.specs.Kept.{past, AreTrue, IsUnmade}
 use Rattle.build_files.specs.Leftovers.{is_made, is_declared, declared_for, is_before, is_copied, is_source, source_among, copied_from, stands, has_rule}
 use Rattle.build_files.specs.declared.end.ListEnd.{ListEnd}
 use Rattle.build_files.specs.declared.inputs.Inputs.{Inputs}
-
-past_end : {A : Type 0} (xs : List A) (i : ℕ) → slice_get xs i ≡ None → length xs ≤ i
-past_end [] i e = omega arith
-past_end (x ∷ xs) zero e = none_some (sym e)
-past_end (x ∷ xs) (suc i) e = let k = past_end xs i e in omega arith
 
 module _ (b : Begun) (g : RuleGraph) (inputs : Inputs) (around : Around) (is : AreTrue b g inputs around) (now : IsReading g) where
   -- the rule of a number in the grown graph: one that was declared, or a copy rule
@@ -58,12 +53,6 @@ module _ (b : Begun) (g : RuleGraph) (inputs : Inputs) (around : Around) (is : A
       let same : path ≡ copy.path = only b g is.reading now is.grown (subst (λ r. Among path r.targets) copy.is among) in
       ap (λ p. is_some (means.copied_from b.graph b.tree p)) same ∙ ap is_some copy.copied
 
-  -- a path that has a number stands at it
-  numbered : (node : ℕ) (path : Path) → number_of g.nodes path ≡ Some node → slice_get g.nodes node ≡ Some path
-  numbered node path at =
-      let place = first_place (bytes_eq path) g.nodes node at in
-      place.1 ∙ ap Some (sym ((bytes_eq-Decides path place.0).0 place.2))
-
   declared_front : (x : Rule) (path : Path) → rule_with b.graph path ≡ Some x → is_declared g inputs.declared path ≡ true
   declared_front x path with_rule =
       let h = rule_with_is b.graph is.reading with_rule in
@@ -86,7 +75,7 @@ module _ (b : Begun) (g : RuleGraph) (inputs : Inputs) (around : Around) (is : A
       before : (node r : ℕ) → number_of g.nodes path ≡ Some node → rule_of g.rules node ≡ Some r → (c : Bool) → nat_lt r inputs.declared ≡ c → c ≡ false
       before node r at of false e = refl
       before node r at of true e =
-          let there = rule_there node r path (numbered node path at) of in
+          let there = rule_there node r path (numbered g.nodes node path at) of in
           elim (either r there.0 there.1) [
             | inl front ↦ none_some (sym none ∙ declared_at r there.0 path front there.2)
             | inr back ↦ absurd (omega (arith, ltb-true r inputs.declared e, is.declared, past_end b.graph.rules r back.0))
@@ -122,7 +111,7 @@ module _ (b : Begun) (g : RuleGraph) (inputs : Inputs) (around : Around) (is : A
       rule : (node : ℕ) → number_of g.nodes path ≡ Some node → (o : Option ℕ) → rule_of g.rules node ≡ o → is_some o ≡ false
       rule node at None of = refl
       rule node at (Some r) of =
-          let there = rule_there node r path (numbered node path at) of in
+          let there = rule_there node r path (numbered g.nodes node path at) of in
           elim (either r there.0 there.1) [
             | inl front ↦ none_some (sym none ∙ declared_at r there.0 path front there.2)
             | inr back ↦ true_false (sym (copied_at there.0 path back.1 there.2) ∙ ap (λ c. is_some (if c then means.source_among b.graph b.tree (source_of b.graph.variants b.graph.top path) else None)) uncopied)

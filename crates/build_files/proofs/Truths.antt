@@ -1,6 +1,6 @@
 -- What is kept of files stays true as the world is looked at, and as one more file is looked at.
 use Rattle.std.proofs.Common.{◌≡◌, ◌<◌, ◌≤◌, ◌⊎◌, inl, inr, ◌∙◌, ap, sym, subst, refl, ℕ, Bool, true, false, List, length, Option, Some, None, arith}
-use Rattle.std.specs.Prelude.{◌≢◌, Contains, Result, IfOk, nat_eq, slice_get, is_some, if◌then◌else◌}
+use Rattle.std.specs.Prelude.{◌≢◌, Result, IfOk, nat_eq, slice_get, is_some, if◌then◌else◌}
 use Rattle.std.specs.List.{list_any}
 use Rattle.std.specs.Option.{option_map}
 use Rattle.std.specs.Str.{bytes_eq}
@@ -110,7 +110,7 @@ module _ (b : Begun) (g : RuleGraph) (old new : Inputs) (around : Around) (node 
     behind = λ n le.
         let within = slice_get_within g.nodes node path at in
         others n (λ same. absurd (omega (arith, same))) ∙ is.behind n le;
-    unknown = λ p among. is.unknown p (subst (λ (paths : List Path). Contains paths p) (ap (λ (i : Inputs). i.unknown.keys) rest) among);
+    unknown = λ p among. is.unknown p (ap (λ (i : Inputs). list_any (bytes_eq p) i.unknown.keys) (sym rest) ∙ among);
     gone = λ p looked. is.gone p (ap (list_any (bytes_eq p)) (sym same_gone) ∙ looked);
   }
 
@@ -176,16 +176,22 @@ module _ (b : Begun) (g : RuleGraph) (old : Inputs) (files : SeenFiles) (around 
         is_file = was.is_file;
       })
 
-  pub kept_is_file : {stands : Bool} → is_made g path ≡ false → stands ≡ is_some (past old.gone.keys around.tree path)
-      → SeesOne old.files.seen.items files.seen.items node (record (seen_at old.files.seen.items node) { is_file = Some stands })
+  -- whether a file stood there as the build began
+  pub kept_stood : {stood : Bool} → stood ≡ is_some (b.tree path)
+      → SeesOne old.files.seen.items files.seen.items node (record (seen_at old.files.seen.items node) { is_file = Some stood })
       → AreTrue b g (record old { files = files }) around
-  kept_is_file unmade same sees =
+  kept_stood same sees =
       let was = is.seen node path at in
       kept_this sees (record {
         now = record { digest = was.now.digest; includes = was.now.includes; stamp = was.now.stamp };
         still = elim was.still [ | inl free ↦ inl free | inr unread ↦ inr (record { digest = unread.digest; includes = unread.includes; stamp = unread.stamp }) ];
-        is_file = λ other e. sym (some_same e) ∙ same ∙ ap is_some (is.rest path unmade);
+        is_file = λ other e. sym (some_same e) ∙ same;
       })
+
+  pub kept_is_file : {stands : Bool} → is_made g path ≡ false → stands ≡ is_some (past old.gone.keys around.tree path)
+      → SeesOne old.files.seen.items files.seen.items node (record (seen_at old.files.seen.items node) { is_file = Some stands })
+      → AreTrue b g (record old { files = files }) around
+  kept_is_file unmade same sees = kept_stood (same ∙ ap is_some (is.rest path unmade)) sees
 
 -- a digest is by the hash of the build
 pub digest_by : (r : Result (Option Digest) ListEnd) (a b : Hash) (content : Content) → a ≡ b → IfOk r (λ digest. digest ≡ option_map (digest_of a) content)

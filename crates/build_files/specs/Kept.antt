@@ -1,8 +1,9 @@
 -- What is kept of the files of a build, and when it is true.
-use Rattle.std.specs.Prelude.{◌≡◌, ◌≢◌, ◌⊎◌, ◌≤◌, ℕ, Bool, true, false, List, [], Option, Some, None, Contains, is_some, length, slice_get, if◌then◌else◌}
+use Rattle.std.specs.Prelude.{◌≡◌, ◌≢◌, ◌⊎◌, ◌≤◌, ℕ, Bool, true, false, List, [], Option, Some, None, is_some, length, slice_get, if◌then◌else◌}
 use Rattle.std.specs.List.{list_any}
 use Rattle.std.specs.Option.{option_map}
 use Rattle.std.specs.Str.{bytes_eq}
+use Rattle.scons_base.specs.declared.ids.NodeId.{NodeId}
 use Rattle.c_scanner.specs.Includes.{includes_of}
 use Rattle.c_scanner.specs.declared.line.Include.{Include}
 use Rattle.deciders.specs.Digests.{digest_of}
@@ -67,7 +68,7 @@ pub record AreTrue (b : Begun) (g : RuleGraph) (inputs : Inputs) (around : Aroun
   pub seen : (node : ℕ) (path : Path) → slice_get g.nodes node ≡ Some path →
       IsTrueOf b inputs.gone.keys around path (seen_at inputs.files.seen.items node)
   pub behind : (node : ℕ) → length g.nodes ≤ node → seen_at inputs.files.seen.items node ≡ unseen
-  pub unknown : (path : Path) → Contains inputs.unknown.keys path → is_known b.graph b.tree path ≡ false
+  pub unknown : (path : Path) → list_any (bytes_eq path) inputs.unknown.keys ≡ true → is_known b.graph b.tree path ≡ false
   pub gone : (path : Path) → list_any (bytes_eq path) inputs.gone.keys ≡ true → is_copied b.graph path ≡ true
 
 -- no running job writes the file of this number
@@ -90,3 +91,8 @@ pub record KeepsContent (old new : Inputs) (node : ℕ) (content : Content) : Ty
   pub this : (stamp : Option ℕ) → IsSeenAs old.hash content stamp (seen_at old.files.seen.items node)
       → IsSeenAs old.hash content stamp (seen_at new.files.seen.items node)
   pub is_file : (seen_at new.files.seen.items node).is_file ≡ (seen_at old.files.seen.items node).is_file
+
+-- the node of a path that is known; none of one that isn't
+abbrev pub IsKnownAs : Begun → RuleGraph → Path → Option NodeId → Type 0
+IsKnownAs b g path None = is_known b.graph b.tree path ≡ false
+IsKnownAs b g path (Some node) = (is_known b.graph b.tree path ≡ true) × (slice_get g.nodes node.0 ≡ Some path)

@@ -1,5 +1,7 @@
 //! Which paths are known: those that a rule makes, and those at which a file stands.
-ghost use Rattle.std.specs.Prelude.{◌≡◌, ℕ, List, Some, IfOk, is_some, slice_get};
+ghost use Rattle.std.specs.Prelude.{◌≡◌, ℕ, List, Some, None, true, IfOk, IfSome, is_some, slice_get};
+ghost use Rattle.node_tree.specs.Nodes.{number_of};
+ghost use Rattle.world_api.specs.Around.{Around};
 ghost use Rattle.build_files.specs.Causes.{HasLookCause, IsQuiet};
 ghost use Rattle.build_files.specs.Kept.{AreTrue, StaysTrue};
 ghost use Rattle.build_files.specs.Leftovers.{is_made, is_declared, is_copied, copied_from};
@@ -109,9 +111,16 @@ impl Inputs {
         path: &PathText,
         is_file: bool,
     ) -> Result<Option<NodeId>, ListEnd>
-        ensures { IsQuiet result }
+        ensures quiet { IsQuiet result }
+        ensures truth { (b : Begun) (around : Around) → number_of graph.old.nodes path.now ≡ None → is_file ≡ is_some (b.tree path.now)
+            → AreTrue b graph.old self.old around → AreTrue b graph.new self.new around }
+        ensures node { number_of graph.old.nodes path.now ≡ None
+            → IfOk result (λ node. IfSome node (λ n. slice_get graph.new.nodes n.0 ≡ Some path.now)) }
+        ensures some { IfOk result (λ node. is_some node ≡ true) }
     {
+        graph.laws();
         let node = graph.intern(path)?;
+        graph.laws();
         self.files.keep_is_file(node, is_file)?;
         Ok(Some(node))
     }
