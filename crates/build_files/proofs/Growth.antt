@@ -99,16 +99,25 @@ module _ (b : Begun) (g : RuleGraph) (inputs : Inputs) (around : Around) (path :
     gone = is.gone;
   }
 
--- the path that got its number
-pub interned_at : (b : Begun) (g new : RuleGraph) (inputs : Inputs) (around : Around) (path : Path) (id : ℕ) → number_of g.nodes path ≡ None
-    → Interns g.nodes path id new.nodes → new ≡ record g { nodes = new.nodes } → IsReading g → IsReading new → AreTrue b g inputs around
-    → AreTrue b new inputs around × (slice_get new.nodes id ≡ Some path)
-interned_at b g new inputs around path id none interns rest before after is =
-    let parts : (id ≡ length g.nodes) × (new.nodes ≡ g.nodes ++ path ∷ []) = subst (λ o. MatchOption o ((id ≡ length g.nodes) × (new.nodes ≡ g.nodes ++ path ∷ [])) (λ n. (id ≡ n) × (new.nodes ≡ g.nodes))) none interns in
-    let same : new ≡ with_path g path = rest ∙ ap (λ (nodes : List Path). record g { nodes = nodes }) parts.1 in
-    (subst (λ h. AreTrue b h inputs around) (sym same) (interned b g inputs around path is before (subst IsReading same after)),
-      ap (λ nodes. slice_get nodes id) parts.1 ∙ ap (slice_get (g.nodes ++ path ∷ [])) parts.0 ∙ last g.nodes path)
+one_more : (nodes new : List Path) (path : Path) (id : ℕ) → number_of nodes path ≡ None → Interns nodes path id new → (id ≡ length nodes) × (new ≡ nodes ++ path ∷ [])
+one_more nodes new path id none interns =
+    subst (λ o. MatchOption o ((id ≡ length nodes) × (new ≡ nodes ++ path ∷ [])) (λ n. (id ≡ n) × (new ≡ nodes))) none interns
+
+-- the path that got a number stands at it
+pub interned_at : (nodes new : List Path) (path : Path) (id : ℕ) → number_of nodes path ≡ None → Interns nodes path id new → slice_get new id ≡ Some path
+interned_at nodes new path id none interns =
+    let parts = one_more nodes new path id none interns in
+    ap (λ ps. slice_get ps id) parts.1 ∙ ap (slice_get (nodes ++ path ∷ [])) parts.0 ∙ last nodes
   where
-    last : (nodes : List Path) (p : Path) → slice_get (nodes ++ p ∷ []) (length nodes) ≡ Some p
-    last [] p = refl
-    last (x ∷ nodes) p = last nodes p
+    last : (ps : List Path) → slice_get (ps ++ path ∷ []) (length ps) ≡ Some path
+    last [] = refl
+    last (p ∷ ps) = last ps
+
+-- and what is kept is true still
+pub interned_true : (b : Begun) (g new : RuleGraph) (inputs : Inputs) (around : Around) (path : Path) (id : ℕ) → number_of g.nodes path ≡ None
+    → Interns g.nodes path id new.nodes → new ≡ record g { nodes = new.nodes } → IsReading g → IsReading new → AreTrue b g inputs around
+    → AreTrue b new inputs around
+interned_true b g new inputs around path id none interns rest before after is =
+    let parts = one_more g.nodes new.nodes path id none interns in
+    let same : new ≡ with_path g path = rest ∙ ap (λ (nodes : List Path). record g { nodes = nodes }) parts.1 in
+    subst (λ h. AreTrue b h inputs around) (sym same) (interned b g inputs around path is before (subst IsReading same after))

@@ -3,7 +3,7 @@ ghost use Rattle.std.specs.Prelude.{◌≡◌, ℕ, List, Some, None, true, IfOk
 ghost use Rattle.node_tree.specs.Nodes.{number_of};
 ghost use Rattle.world_api.specs.Around.{Around};
 ghost use Rattle.build_files.specs.Causes.{HasLookCause, IsQuiet};
-ghost use Rattle.build_files.specs.Kept.{AreTrue, StaysTrue};
+ghost use Rattle.build_files.specs.Kept.{AreTrue, IsKnownAs, StaysTrue};
 ghost use Rattle.build_files.specs.Leftovers.{is_made, is_declared, is_copied, copied_from};
 ghost use Rattle.build_means.specs.Copies.{copied_from as copied_in, is_known};
 ghost use Rattle.build_means.specs.Grown.{Begun};
@@ -27,6 +27,9 @@ impl Inputs {
     ) -> Result<Option<NodeId>, ListEnd>
         ensures looks { Looks W.meaning world.old world.new }
         ensures cause { HasLookCause (W.meaning.counts world.old) (W.meaning.counts world.new) result }
+        ensures truth { StaysTrue W.meaning graph.old self.old world.old graph.new self.new world.new }
+        ensures known { W.meaning.tells world.new → (b : Begun) → AreTrue b graph.old self.old (W.meaning.around world.old)
+            → IfOk result (IsKnownAs b graph.new path.now) }
     {
         let Some(node) = graph.find(path) else {
             return self.newly_known(world, graph, path);
@@ -72,6 +75,10 @@ impl Inputs {
     ) -> Result<Option<NodeId>, ListEnd>
         ensures looks { Looks W.meaning world.old world.new }
         ensures cause { HasLookCause (W.meaning.counts world.old) (W.meaning.counts world.new) result }
+        ensures truth { number_of graph.old.nodes path.now ≡ None
+            → StaysTrue W.meaning graph.old self.old world.old graph.new self.new world.new }
+        ensures known { number_of graph.old.nodes path.now ≡ None → W.meaning.tells world.new → (b : Begun)
+            → AreTrue b graph.old self.old (W.meaning.around world.old) → IfOk result (IsKnownAs b graph.new path.now) }
     {
         if self.unknown.contains(path) {
             return Ok(None);
