@@ -10,7 +10,6 @@ use crate::inputs::Inputs;
 use crate::lookup::{path_of, rule_at};
 use c_scanner::Include;
 use indexmap::{IndexMap, IndexSet};
-use path_reading::path_from;
 use rule_graph::{Graph, Rule};
 use scons_base::{Listing, Memory, NodeId, PathFault, PathText, Paths, RuleId, Text};
 use std::alloc::Global;
@@ -233,7 +232,7 @@ fn only_place(
 ) -> Result<Option<PathText>, Memory>
     ensures { IfOk result (λ p. ArePlaces [] top.now dir.now name.now (option_to_list p)) }
 {
-    match path_from(alloc, top, dir, name) {
+    match PathText::resolve(alloc, top, dir, name) {
         Ok(path) => Ok(Some(path)),
         Err(PathFault::Memory) => Err(Memory),
         Err(_) => Ok(None),

@@ -8,7 +8,7 @@ use Rattle.world_api.specs.declared.job.Work.{Work}
 use Rattle.world_api.specs.declared.job.Work.TheVariants.{Shell, Copy, Write}
 use Rattle.world_api.specs.declared.decider.Decider.{Decider}
 use Rattle.world_api.specs.declared.decider.Decider.TheVariants.{Content, Newer, Match, ContentMatch}
-use Rattle.task_plan.specs.Named.{is_scanned_suffix}
+use Rattle.c_scanner.specs.Suffixes.{is_scanned_suffix}
 use Rattle.deciders.specs.Spelling.{work_byte}
 use Rattle.node_tree.specs.Nodes.{AreApart, number_of}
 use Rattle.rule_graph.specs.declared.rule.Rule.{Rule}

@@ -1,3 +1,4 @@
 pub mod Lines
 pub mod Includes
 pub mod Patterns
+pub mod Suffixes

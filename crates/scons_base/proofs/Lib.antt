@@ -3,6 +3,7 @@ pub mod Maps
 pub mod Moves
 pub mod NormalForms
 pub mod Spellings
+pub mod Joining
 pub mod Tails
 pub mod Walks
 pub mod Runs

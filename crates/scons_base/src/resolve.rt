@@ -1,9 +1,11 @@
 //! How a path text is read from a directory.
-ghost use Rattle.std.specs.Prelude.{◌≡◌, ◌≢◌, ◌++◌, List, [], ◌∷◌, ℕ, Some, None, map, length, drop, true, false, IfOk, IfErr, OnOk, MatchOption, string_bytes, if◌then◌else◌};
+ghost use Rattle.std.specs.Prelude.{◌≡◌, ◌≢◌, ◌<◌, ◌++◌, List, [], ◌∷◌, ℕ, Some, None, map, length, drop, true, false, IfOk, IfErr, OnOk, MatchOption, string_bytes, if◌then◌else◌};
 ghost use Rattle.std.specs.List.{starts_with};
 ghost use Rattle.std.specs.Str.{bytes_eq};
 ghost use Rattle.scons_base.specs.Resolve as spec;
-ghost use Rattle.scons_base.specs.Parts.{is_absolute};
+ghost use Rattle.scons_base.specs.Normal.{slash};
+ghost use Rattle.scons_base.specs.Parts.{is_absolute, joined};
+ghost use Rattle.scons_base.specs.PathFaults.{fault_in};
 
 use crate::fault::PathFault;
 use crate::limits::PATH_LIMIT;
@@ -27,17 +29,14 @@ impl PathText {
         ensures fault { IfErr result (λ e. e ≢ PathFault.Memory
             → spec.resolve_fault top.now dir.now text.now ≡ Some e) }
     {
-        if text.is_empty() {
-            return Err(PathFault::Empty);
+        if !leads_on(dir.normal_text()) || !leads_on(text) {
+            return by_steps(alloc, top, dir, text);
         }
-        if let Some(place) = zero_in(text.as_bytes()) {
-            return Err(PathFault::BadByte(place));
+        match below(alloc, dir, text) {
+            Ok(path) => Ok(path),
+            Err(PathFault::Memory) => Err(PathFault::Memory),
+            Err(_) => by_steps(alloc, top, dir, text),
         }
-        let normal = resolved(alloc, top.normal_text(), dir.normal_text(), text)?;
-        if normal.len() > PATH_LIMIT {
-            return Err(PathFault::TooLong(normal.len()));
-        }
-        Ok(PathText::normal(normal))
     }
 
     /// The one spelling of this path where the top directory has the absolute path `top`: relative at the top directory
@@ -52,6 +51,63 @@ impl PathText {
         }
         Ok(PathText::normal(spelling(self.allocator(), top.normal_text(), path)?))
     }
+}
+
+/// The path that a text names, found name by name.
+fn by_steps(
+    alloc: Global,
+    top: &PathText,
+    dir: &PathText,
+    text: &str,
+) -> Result<PathText, PathFault>
+    ensures path { IfOk result (λ p. p ≡ spec.resolved top.now dir.now text.now) }
+    ensures again { IfOk result (λ p. spec.IsResolved top.now p) }
+    ensures no_fault { IfOk result (λ _. spec.resolve_fault top.now dir.now text.now ≡ None) }
+    ensures fault { IfErr result (λ e. e ≢ PathFault.Memory
+        → spec.resolve_fault top.now dir.now text.now ≡ Some e) }
+{
+    if text.is_empty() {
+        return Err(PathFault::Empty);
+    }
+    if let Some(place) = zero_in(text.as_bytes()) {
+        return Err(PathFault::BadByte(place));
+    }
+    let normal = resolved(alloc, top.normal_text(), dir.normal_text(), text)?;
+    if normal.len() > PATH_LIMIT {
+        return Err(PathFault::TooLong(normal.len()));
+    }
+    Ok(PathText::normal(normal))
+}
+
+/// Whether a text counts from the directory that it is read in.
+fn leads_on(text: &str) -> bool
+    ensures { result ≡ true → (0 < length text.now) × (is_absolute text.now ≡ false) × (spec.is_from_top text.now ≡ false) }
+{
+    !matches!(text.as_bytes(), [] | [b'/', ..] | [b'#', ..])
+}
+
+/// The path of a text below a directory, where both together are in normal form: most texts lead down from a directory,
+/// and are joined to it with few allocations.
+fn below(alloc: Global, dir: &PathText, text: &str) -> Result<PathText, PathFault>
+    requires { is_absolute dir.now ≡ false }
+    ensures path { IfOk result (λ p. p ≡ joined dir.now text.now) }
+    ensures no_fault { IfOk result (λ p. fault_in p ≡ None) }
+{
+    match dir.as_str() {
+        "." => PathText::read(alloc, text),
+        dir => PathText::read(alloc, text_below(alloc, dir, text)?.as_str()),
+    }
+}
+
+/// A directory and a text with a slash between.
+fn text_below(alloc: Global, dir: &str, text: &str) -> Result<String, Memory>
+    ensures { IfOk result (λ s. string_bytes s ≡ dir.now ++ slash ∷ text.now) }
+{
+    let mut path = String::with_capacity(alloc, dir.len() + 1 + text.len())?;
+    path.push_str(dir)?;
+    path.push('/')?;
+    path.push_str(text)?;
+    Ok(path)
 }
 
 fn spelling(alloc: Global, top: &str, path: &str) -> Result<String, Memory>

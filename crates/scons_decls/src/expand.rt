@@ -8,7 +8,6 @@ use crate::declarations::Declarations;
 use crate::fault::NameFault;
 use crate::given::{Given, Nodes};
 use env_subst::Mode;
-use path_reading::path_from;
 use scons_base::{EnvId, Listing, PathText, Paths, Text};
 
 /// What a text stands for in an environment.
@@ -27,7 +26,7 @@ pub fn path_at(state: &Declarations, text: &str) -> Result<PathText, NameFault>
     ensures no_fault { IfOk result (λ _. resolve_fault state.now.locals.top state.now.locals.dir text.now ≡ None) }
 {
     let locals = &state.locals;
-    Ok(path_from(state.alloc, &locals.top, &locals.dir, text)?)
+    Ok(PathText::resolve(state.alloc, &locals.top, &locals.dir, text)?)
 }
 
 /// The path that a text names.

@@ -8,7 +8,8 @@ use Rattle.scons_base.specs.declared.ids.NodeId.{NodeId}
 use Rattle.scons_base.specs.Parts.{suffix_of}
 use Rattle.rule_graph.specs.declared.rule.Rule.{Rule}
 use Rattle.rule_graph.specs.Graphs.{RuleGraph}
-use Rattle.task_plan.specs.Named.{stands, put_all, ignored_of, sources_of, named_of, with_targets, left_out_of, is_scanned_node, is_scanned_suffix, scanned_of}
+use Rattle.task_plan.specs.Named.{stands, put_all, ignored_of, sources_of, named_of, with_targets, left_out_of, is_scanned_node, scanned_of}
+use Rattle.c_scanner.specs.Suffixes.{is_scanned_suffix}
 use Rattle.task_plan.specs.Settled.{Kept, kept_of, first_kept}
 use Rattle.task_plan.specs.Listed.{included, found_of, sources_in, IsWalked, IsListing}
 use Rattle.task_plan.specs.Loaded.{IsBlank, NotesNeeds, IsTaskOf}

@@ -1,11 +1,11 @@
 -- What the graph says of a rule: its needs before any file is scanned, and the first files to scan.
-use Rattle.std.specs.Prelude.{◌++◌, ℕ, Bool, true, false, List, [], ◌∷◌, nat_eq, filter, codes, if◌then◌else◌}
+use Rattle.std.specs.Prelude.{◌++◌, ℕ, Bool, true, false, List, [], ◌∷◌, nat_eq, filter, if◌then◌else◌}
 use Rattle.std.specs.List.{list_any, fold}
-use Rattle.std.specs.Str.{bytes_eq}
 use Rattle.world_api.specs.declared.job.Work.{Work}
 use Rattle.world_api.specs.declared.job.Work.TheVariants.{Shell, Copy, Write}
 use Rattle.scons_base.specs.declared.ids.NodeId.{NodeId}
 use Rattle.scons_base.specs.Parts.{suffix_of}
+use Rattle.c_scanner.specs.Suffixes.{is_scanned_suffix}
 use Rattle.rule_graph.specs.declared.rule.Rule.{Rule}
 use Rattle.rule_graph.specs.Graphs.{RuleGraph, path_of}
 
@@ -49,16 +49,6 @@ with_targets rule there = if rule.scans then put_all [] there rule.targets else 
 -- what is left out where it is found: what is ignored, and the rule's own targets
 abbrev pub left_out_of : Rule → List NodeId
 left_out_of rule = with_targets rule (ignored_of rule)
-
--- the suffixes of the sources that are scanned
-abbrev pub scanned_suffixes : List (List ℕ)
-scanned_suffixes =
-    codes ".c" ∷ codes ".C" ∷ codes ".cc" ∷ codes ".cpp" ∷ codes ".cxx" ∷ codes ".h" ∷ codes ".H" ∷ codes ".hh" ∷ codes ".hpp" ∷ codes ".hxx"
-    ∷ codes ".m" ∷ codes ".mm" ∷ codes ".S" ∷ []
-
--- whether a source with this suffix is scanned
-abbrev pub is_scanned_suffix : List ℕ → Bool
-is_scanned_suffix suffix = list_any (λ s. bytes_eq suffix s) scanned_suffixes
 
 -- whether this node is scanned where it is a source
 unfoldable pub is_scanned_node : RuleGraph → NodeId → Bool

@@ -1,10 +1,11 @@
 //! What a rule names: what it needs before any file is scanned, and the first files to scan.
 ghost use Rattle.std.specs.Prelude.{◌≡◌, ◌++◌, ◌<◌, [], if◌then◌else◌, OnOk, IfOk, length, filter};
-ghost use Rattle.task_plan.specs.Named.{put_all as put_all_of, with_sources, with_targets, is_scanned_node, is_scanned_suffix};
+ghost use Rattle.task_plan.specs.Named.{put_all as put_all_of, with_sources, with_targets, is_scanned_node};
 ghost use Rattle.task_plan.specs.Loaded.{NotesNeeds, IsBlank, IsTaskOf};
 
 use crate::sets::{add, add_all, put_all};
 use crate::task::Task;
+use c_scanner::is_scanned;
 use indexmap::IndexSet;
 use rule_graph::{Graph, Rule};
 use scons_base::{Memory, NodeId};
@@ -133,25 +134,4 @@ fn is_scanned_in(graph: &Graph, node: NodeId) -> bool
     ensures { result ≡ is_scanned_node graph.now node }
 {
     node.0 < graph.len() && is_scanned(graph.path(node).suffix())
-}
-
-/// Whether a source with this suffix is scanned.
-fn is_scanned(suffix: &str) -> bool
-    ensures { result ≡ is_scanned_suffix suffix.now }
-{
-    matches!(
-        suffix,
-        ".c" | ".C"
-            | ".cc"
-            | ".cpp"
-            | ".cxx"
-            | ".h"
-            | ".H"
-            | ".hh"
-            | ".hpp"
-            | ".hxx"
-            | ".m"
-            | ".mm"
-            | ".S"
-    )
 }

@@ -3,7 +3,7 @@ use Rattle.std.specs.Prelude.{◌≡◌, ◌-◌, ◌^◌, ℕ, min, List, [], �
 use Rattle.text_files.specs.declared.refusal.TextRefusal.{TextRefusal}
 use Rattle.text_files.specs.declared.refusal.TextRefusal.TheVariants as refusal
 use Rattle.world_api.specs.Replacing.{Pair, replaced}
-use Rattle.world_api.specs.Writing.{files_read, joined_by, pairs_in}
+use Rattle.world_api.specs.Writing.{files_read, joined_by, made_of, pairs_in}
 
 abbrev pub first_long : ℕ → ℕ → Option ℕ → Option ℕ
 first_long limit len later = if nat_lt limit len then Some len else later
@@ -38,6 +38,10 @@ Makes (Ok made) (Some len) whole = ⊥
 Makes (Err (refusal.TooLarge len)) None whole = ⊥
 Makes (Err (refusal.TooLarge len)) (Some first) whole = len ≡ told first
 Makes (Err refusal.Memory) long whole = Unit {0}
+
+-- what such files and such pairs give, joined and replaced
+abbrev pub MakesOfFiles : Result (Option (List ℕ)) TextRefusal → ℕ → List ℕ → Option (List (List ℕ)) → Option (List Pair) → Type 0
+MakesOfFiles result limit between files pairs = Makes result (joined_too_long limit between files pairs) (made_of between files pairs)
 
 -- one step: bytes of at most this length, or how many more there would be
 abbrev pub MakesUpTo : ℕ → List ℕ → Result (List ℕ) TextRefusal → Type 0

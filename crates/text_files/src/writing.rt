@@ -2,8 +2,8 @@
 ghost use Rattle.std.specs.Prelude.{◌≡◌, Some, None, length, map};
 ghost use Rattle.std.specs.Option.{option_map};
 ghost use Rattle.text_files.specs.Named.{named_by};
-ghost use Rattle.text_files.specs.Refusals.{Makes, first_long, joined_too_long, written_too_long};
-ghost use Rattle.world_api.specs.Writing.{bytes_of, files_read, made_of, pairs_in, written};
+ghost use Rattle.text_files.specs.Refusals.{Makes, MakesOfFiles, first_long, written_too_long};
+ghost use Rattle.world_api.specs.Writing.{bytes_of, files_read, pairs_in, written};
 
 use crate::joining::{are_files, joined};
 use crate::pairs::{number_in, pairs_in};
@@ -73,7 +73,7 @@ fn files_written(
     texts: &[Text],
     limit: u64,
 ) -> Result<Content, TextRefusal>
-    ensures { Makes result (joined_too_long limit between.now (option_map (λ files. map bytes_of files.now) files.entry) (pairs_in texts.now)) (made_of between.now (option_map (λ files. map bytes_of files.now) files.entry) (pairs_in texts.now)) }
+    ensures { MakesOfFiles result limit between.now (option_map (λ f. map bytes_of f.now) files.entry) (pairs_in texts.now) }
 {
     let pairs = pairs_in(alloc, texts)?;
     match (files, pairs) {

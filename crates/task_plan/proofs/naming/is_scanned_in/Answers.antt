@@ -1,6 +1,6 @@
 use Rattle.std.proofs.Common.{arith, ◌≤◌, ◌∙◌, ap, length}
 use Rattle.std.proofs.lemmas.Bool.{le-ltb}
-use Rattle.task_plan.specs.Named.{is_scanned_suffix}
+use Rattle.c_scanner.specs.Suffixes.{is_scanned_suffix}
 use Rattle.task_plan.proofs.LoadLemmas.{node_scanned, node_past}
 use Rattle.task_plan.proofs.naming.is_scanned_in.Goals as goal
 

@@ -1,17 +1,16 @@
 -- What a text below a directory names, where both together are a path.
-use Rattle.std.proofs.Common.{◌≡◌, ◌==◌, not, ap, sym, refl, ◌∙◌, ℕ, ◌<◌, ◌≤◌, List, [], ◌∷◌, ◌++◌, length, true, false, Bool, cond, arith, true≢false, ne_eqb, Option, Some, None}
+use Rattle.std.proofs.Common.{◌≡◌, ◌==◌, not, ap, sym, refl, ◌∙◌, ℕ, ◌<◌, ◌≤◌, List, [], ◌∷◌, ◌++◌, length, true, false, Bool, cond, arith, true≢false, ne_eqb, None}
 use Rattle.std.specs.Prelude.{if◌then◌else◌, IsTrue, position, nat_lt}
-use Rattle.std.specs.List.{slice_split, list_all, onto_first, position_or_len}
+use Rattle.std.specs.List.{slice_split, onto_first, position_or_len}
 use Rattle.std.proofs.lemmas.Bool.{and_parts, eqb-true, false≢true, not-true, le-ltb}
 use Rattle.std.proofs.lemmas.List.Folds.{list_all-append}
 use Rattle.std.proofs.lemmas.List.Splits.{length-slice_split}
 use Rattle.std.proofs.lemmas.List.Sums.{AllPass-from_list_all, position_or_len_is}
 use Rattle.scons_base.specs.declared.limits.TheConstants.{PATH_LIMIT}
-use Rattle.scons_base.specs.declared.fault.PathFault.{PathFault}
 use Rattle.scons_base.specs.Normal.{slash, dot, is_top, is_root}
 use Rattle.scons_base.specs.Parts.{is_absolute, joined}
 use Rattle.scons_base.specs.PathFaults.{is_path, fault_in}
-use Rattle.scons_base.specs.Resolve.{follow, enter, walk, target, place_of, spelled, spelling, resolved, resolve_fault, is_from_top, IsResolved}
+use Rattle.scons_base.specs.Resolve.{follow, enter, walk, target, place_of, spelled, resolved, resolve_fault, is_from_top, IsResolved}
 use Rattle.scons_base.proofs.NormalForms.{is_zero_free, path_sound}
 use Rattle.scons_base.proofs.Moves.{relative_root}
 use Rattle.scons_base.proofs.Spellings.{relative_again}
