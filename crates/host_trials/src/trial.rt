@@ -2,7 +2,8 @@
 use crate::graph_text::put_graph;
 use rule_graph::Graph;
 use scons_base::{Blob, PathText, Text};
-use scons_host::{HostEnd, ReadKind, read_scripts};
+use scons_host::{HostEnd, ReadKind};
+use scons_reading::read_scripts;
 use scons_words::{Words, WordsFault, read_words};
 use std::alloc::Global;
 use trial_text::Told;

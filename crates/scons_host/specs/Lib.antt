@@ -3,5 +3,4 @@ pub mod Laws
 pub mod Looking
 pub mod Prints
 pub mod Reading
-pub mod Running
 pub mod Seeing

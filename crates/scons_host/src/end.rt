@@ -1,5 +1,5 @@
 //! How a reading ends that gives no graph.
-use py_eval::EvalKind;
+use py_meaning::EvalKind;
 use py_lex::LexKind;
 use py_parse::ParseKind;
 use rule_graph::What;

@@ -1,7 +1,7 @@
 //! How a fault of a script is told: the name of its kind, and what the kind keeps, after a space each.
 use crate::end::{FirstRule, ReadKind};
 use env_subst::SubstFault;
-use py_eval::EvalKind;
+use py_meaning::EvalKind;
 use py_heap::{Key, ValueFault};
 use py_parse::ParseKind;
 use scons_base::{Memory, PathFault, PathText, Text};

@@ -1,4 +1,4 @@
-//! The host of scripts: what stands behind the names of SCons and their objects, and the reading of scripts.
+//! The host of scripts: what stands behind the names of SCons and their objects.
 //!
 //! A call is looked up by its object, made a request of `scons_calls`, declared on the plain state of `scons_decls`, and
 //! its answer turned into values. The world is asked only for the files of a directory and the bytes of a script. The host
@@ -18,12 +18,15 @@ mod kept;
 mod kind_text;
 mod open;
 mod printing;
-mod reading;
-mod rules;
 mod scopes;
 mod scripts;
 mod state;
 mod stop;
 
+pub use asks::{kind_of, top_of};
 pub use end::{FirstRule, HostEnd, ReadKind};
-pub use reading::read_scripts;
+pub use host::ReadingHost;
+pub use kept::Kept;
+pub use scripts::first;
+pub use state::State;
+pub use stop::{Refusal, Stop};

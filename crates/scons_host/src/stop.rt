@@ -1,6 +1,6 @@
 //! Why a call of the host isn't answered.
 use crate::end::ReadKind;
-use py_eval::EvalKind;
+use py_meaning::EvalKind;
 use py_heap::ValueFault;
 use rule_graph::What;
 use scons_base::{Memory as NoMemory, PathText, Text};

@@ -1,0 +1,9 @@
+use Rattle.std.proofs.Common.{subst}
+use Rattle.std.specs.Prelude.{Result}
+use Rattle.scons_host.specs.declared.stop.Stop.{Stop}
+use Rattle.scons_host.specs.Causes.{HasLookCause}
+use Rattle.scons_host.specs.Looking.{inside_result}
+use Rattle.scons_reading.proofs.rules.finished.Goals as goal
+
+pub returns-in-Ok : goal.returns-in-Ok
+returns-in-Ok c = record { cause = λ old new was. inside_result old new c.made.result (subst (λ (r : Result (Unit {0}) Stop). HasLookCause old new r) c.in-Ok.is was) c.made.ensures }
