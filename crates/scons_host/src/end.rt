@@ -1,6 +1,6 @@
 //! How a reading ends that gives no graph.
-use py_meaning::EvalKind;
 use py_lex::LexKind;
+use py_meaning::EvalKind;
 use py_parse::ParseKind;
 use rule_graph::What;
 use scons_base::{Memory as NoMemory, PathText, Text};

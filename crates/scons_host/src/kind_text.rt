@@ -1,8 +1,8 @@
 //! How a fault of a script is told: the name of its kind, and what the kind keeps, after a space each.
 use crate::end::{FirstRule, ReadKind};
 use env_subst::SubstFault;
-use py_meaning::EvalKind;
 use py_heap::{Key, ValueFault};
+use py_meaning::EvalKind;
 use py_parse::ParseKind;
 use scons_base::{Memory, PathFault, PathText, Text};
 use scons_decls::NameFault;

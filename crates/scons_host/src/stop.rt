@@ -1,7 +1,7 @@
 //! Why a call of the host isn't answered.
 use crate::end::ReadKind;
-use py_meaning::EvalKind;
 use py_heap::ValueFault;
+use py_meaning::EvalKind;
 use rule_graph::What;
 use scons_base::{Memory as NoMemory, PathText, Text};
 use scons_calls::CallFault;
