@@ -302,3 +302,7 @@ module _ (b : Begun) (g : RuleGraph) (grown : IsGrown b g) where
   pub is_copy : (number : ℕ) (of : declared.Rule) → length b.graph.rules ≤ number → slice_get g.rules number ≡ Some of → IsCopyNamed b g number of
   is_copy number of past at =
       copy_by number of past at (either_part b.graph.rules grown.copies number of (sym (ap (λ rules. slice_get rules number) grown.rules) ∙ at))
+
+-- a rule that doesn't scan has no sources that are scanned
+pub unscanned_sources : (g : RuleGraph) (of : declared.Rule) → of.scans ≡ false → scanned_of g of ≡ []
+unscanned_sources g of e = ap (λ c. if c then put_all [] [] (filter (is_scanned_node g) (sources_of of)) else []) e

@@ -28,7 +28,7 @@ use Rattle.build_means.proofs.Lists.{or_either}
 use Rattle.plan_means.specs.Names.{AreNames}
 use Rattle.plan_means.specs.Lists.{KeepsRule, Includes, AreReach}
 use Rattle.plan_means.proofs.Seen.{or_nothing, or_swap, has_append, unseen_same, first_below, rest_below, has_stands, put_paths, Sees}
-use Rattle.plan_means.proofs.Names.{named_below, scanned_below}
+use Rattle.plan_means.proofs.Names.{named_below, scanned_below, unscanned_sources}
 
 pub cancel : {A : Type 0} (front : List A) {xs ys : List A} → front ++ xs ≡ front ++ ys → xs ≡ ys
 cancel [] e = e
@@ -265,7 +265,10 @@ scanned_once_by g of false = tt
 scanned_once : (g : RuleGraph) (of : declared.Rule) → Once (scanned_of g of)
 scanned_once g of = scanned_once_by g of of.scans
 
-no_files : (sources out : List NodeId) (found : List (NodeId × List NodeId)) (files : List NodeId) → IsReach sources out found files → sources ≡ [] → files ≡ []
+pub sources_once : (g : RuleGraph) (of : declared.Rule) (kept : Kept) → KeepsRule g of kept → Once kept.sources
+sources_once g of kept keeps = subst Once (sym keeps.sources) (scanned_once g of)
+
+pub no_files : (sources out : List NodeId) (found : List (NodeId × List NodeId)) (files : List NodeId) → IsReach sources out found files → sources ≡ [] → files ≡ []
 no_files sources out found [] is e = refl
 no_files sources out found (x ∷ files) is e =
     let b = is.earlier 0 x refl (let n : length sources ≡ 0 = ap length e in omega arith) in
@@ -273,9 +276,6 @@ no_files sources out found (x ∷ files) is e =
 
 module _ (g : RuleGraph) (of : declared.Rule) (r : Rule) (kept : Kept) (limit : ℕ) (includes : Path → List Path) (reading : IsReading g)
     (is : IsRule (length g.nodes) of) (names : AreNames g of r) (keeps : KeepsRule g of kept) (agrees : Includes g kept includes) (room : length g.nodes < limit) where
-  sources_once : Once kept.sources
-  sources_once = subst Once (sym keeps.sources) (scanned_once g of)
-
   sources_below : are_below (length g.nodes) kept.sources ≡ true
   sources_below = ap (are_below (length g.nodes)) keeps.sources ∙ scanned_below g reading of is
 
@@ -285,8 +285,8 @@ module _ (g : RuleGraph) (of : declared.Rule) (r : Rule) (kept : Kept) (limit : 
   files_few : length kept.files < limit
   files_few =
       let le = few_once g reading kept.files
-      (files_once g reading kept.sources kept.left_out kept.found kept.files keeps.follows.files sources_once keeps.nodes sources_below)
-      (files_below g reading kept.sources kept.left_out kept.found kept.files keeps.follows.files sources_once keeps.nodes sources_below) in
+      (files_once g reading kept.sources kept.left_out kept.found kept.files keeps.follows.files (sources_once g of kept keeps) keeps.nodes sources_below)
+      (files_below g reading kept.sources kept.left_out kept.found kept.files keeps.follows.files (sources_once g of kept keeps) keeps.nodes sources_below) in
       omega (arith, le, room)
 
   seen_first : of.scans ≡ true → Sees g reading kept.left_out kept.sources (first_scanned r ++ left_out r)
@@ -300,10 +300,10 @@ module _ (g : RuleGraph) (of : declared.Rule) (r : Rule) (kept : Kept) (limit : 
   scan_by : (b : Bool) → of.scans ≡ b → scan_list limit includes r ≡ paths_of g kept.files
   scan_by true e =
       ap (breadth_first includes limit (first_scanned r ++ left_out r)) first_paths
-      ∙ walks g reading kept.sources kept.left_out kept.found kept.files keeps.follows.files sources_once keeps.nodes sources_below includes agrees
+      ∙ walks g reading kept.sources kept.left_out kept.found kept.files keeps.follows.files (sources_once g of kept keeps) keeps.nodes sources_below includes agrees
       (first_scanned r ++ left_out r) limit (seen_first e) files_few
   scan_by false e =
-      let none : kept.sources ≡ [] = keeps.sources ∙ ap (λ c. if c then put_all [] [] (filter (is_scanned_node g) (sources_of of)) else []) e in
+      let none : kept.sources ≡ [] = keeps.sources ∙ unscanned_sources g of e in
       let files = no_files kept.sources kept.left_out kept.found kept.files keeps.follows.files none in
       ap (breadth_first includes limit (first_scanned r ++ left_out r)) (first_paths ∙ ap (paths_of g) none)
       ∙ nothing_first limit (first_scanned r ++ left_out r) ∙ ap (paths_of g) (sym files)
@@ -330,7 +330,7 @@ module _ (g : RuleGraph) (of : declared.Rule) (r : Rule) (kept : Kept) (limit : 
       true_false (sym (among_has (left_cases includes r scanned (has_among p (left_out r) f))) ∙ e)
 
   all_below : are_below (length g.nodes) kept.files ≡ true
-  all_below = files_below g reading kept.sources kept.left_out kept.found kept.files keeps.follows.files sources_once keeps.nodes sources_below
+  all_below = files_below g reading kept.sources kept.left_out kept.found kept.files keeps.follows.files (sources_once g of kept keeps) keeps.nodes sources_below
 
   -- and the dependencies
   pub deps_is : reach limit includes r ≡ paths_of g kept.deps

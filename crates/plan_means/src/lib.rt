@@ -4,4 +4,4 @@
 
 mod laws;
 
-pub use laws::{copies_are_these, lists_are_reach, names_are_these};
+pub use laws::{copies_are_these, decided_may_be, lists_are_reach, names_are_these};
