@@ -172,21 +172,13 @@ impl Inputs {
         if graph.rule_of(node).is_some() {
             return Ok(());
         }
-        if !self.settle(node)? {
+        if !self.files.settle(node)? {
             return Ok(());
         }
         match copied_from(world, graph, self.declared, path_of(graph, node)?)? {
             Some(source) => add_copy_rule(self.alloc, graph, node, &source),
             None => Ok(()),
         }
-    }
-
-    /// Notes that the copy rule of a file was looked for, and says whether it wasn't before.
-    fn settle(&mut self, node: NodeId) -> Result<bool, Memory> {
-        let seen = self.seen(node)?;
-        let is_new = !seen.is_settled;
-        seen.is_settled = true;
-        Ok(is_new)
     }
 }
 
