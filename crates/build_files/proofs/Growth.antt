@@ -5,19 +5,22 @@ use Rattle.std.proofs.lemmas.List.{append-nil}
 use Rattle.node_tree.specs.Nodes.{number_of, AreApart, Interns}
 use Rattle.rule_graph.specs.declared.rule.Rule.{Rule}
 use Rattle.rule_graph.specs.Graphs.{RuleGraph}
+use Rattle.rule_graph.specs.Rules.{rule_of}
 use Rattle.world_api.specs.Around.{Around}
 use Rattle.build_model.specs.Rules.{Path, Among}
+use Rattle.build_means.specs.Copies.{copied_from}
 use Rattle.build_means.specs.Grown.{Begun, IsGrown, IsCopyOf}
 use Rattle.build_means.specs.Rules.{IsReading}
 use Rattle.build_model.specs.Rules as model
 use Rattle.build_means.proofs.Growing.{get_front, get_either, rule_stays}
-use Rattle.build_means.proofs.Lists.{none_some, place_of}
+use Rattle.build_means.proofs.Lists.{none_some, true_false, place_of}
 use Rattle.build_files.proofs.Places.{past_end, numbered}
 use Rattle.build_files.proofs.Truths.{unread_is}
 use Rattle.build_files.specs.Kept.{past, stamp_past, AreTrue, IsTrueOf}
 use Rattle.build_files.specs.Leftovers.{is_made, has_rule}
 use Rattle.build_files.specs.Seen.{seen_at, unseen}
 use Rattle.build_files.specs.declared.inputs.Inputs.{Inputs}
+use Rattle.build_files.specs.declared.seen.Seen.{Seen}
 
 -- the graph with one path more
 abbrev pub with_path : RuleGraph → Path → RuleGraph
@@ -34,7 +37,7 @@ unmade_before g path p apart unmade = by (number_of g.nodes p) refl
 module _ (b : Begun) (g : RuleGraph) (inputs : Inputs) (around : Around) (path : Path) (is : AreTrue b g inputs around) (before : IsReading g)
     (after : IsReading (with_path g path)) where
   -- as if the build had begun with the graph as it was before
-  begun_here : Begun
+  abbrev begun_here : Begun
   begun_here = record { graph = g; law = b.law; hash = b.hash; tree = b.tree }
 
   grown_by_one : IsGrown begun_here (with_path g path)
@@ -85,6 +88,11 @@ module _ (b : Begun) (g : RuleGraph) (inputs : Inputs) (around : Around) (path :
         is_file = λ stood e. none_some e;
       })
 
+  settled_by : (node : ℕ) (p : Path) → (slice_get g.nodes node ≡ Some p) ⊎ ((slice_get g.nodes node ≡ None) × Among p (path ∷ []))
+      → (seen_at inputs.files.seen.items node).is_settled ≡ true → rule_of g.rules node ≡ None → copied_from b.graph b.tree p ≡ None
+  settled_by node p (inl at) = is.settled node p at
+  settled_by node p (inr new) = λ settled none. true_false (sym settled ∙ ap (λ (s : Seen). s.is_settled) (is.behind node (past_end g.nodes node new.0)))
+
   pub interned : AreTrue b (with_path g path) inputs around
   interned = record {
     reading = is.reading;
@@ -94,6 +102,7 @@ module _ (b : Begun) (g : RuleGraph) (inputs : Inputs) (around : Around) (path :
     rest = λ p unmade. is.rest p (unmade_before g path p after.apart unmade);
     idle = λ p unmade. is.idle p (unmade_before g path p after.apart unmade);
     seen = λ node p at. seen_by node p (get_either g.nodes (path ∷ []) node p at);
+    settled = λ node p at. settled_by node p (get_either g.nodes (path ∷ []) node p at);
     behind = λ node le. is.behind node (omega (arith, length-append g.nodes (path ∷ []), le));
     unknown = is.unknown;
     gone = is.gone;

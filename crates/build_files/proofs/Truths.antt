@@ -6,6 +6,7 @@ use Rattle.std.specs.Option.{option_map}
 use Rattle.std.specs.Str.{bytes_eq}
 use Rattle.std.proofs.lemmas.Bool.Decides.{Decides-eqb}
 use Rattle.std.proofs.lemmas.Option.{slice_get_within}
+use Rattle.c_scanner.specs.declared.line.Include.{Include}
 use Rattle.deciders.specs.Digests.{digest_of}
 use Rattle.deciders.specs.declared.content.Digest.{Digest}
 use Rattle.rule_graph.specs.Graphs.{RuleGraph}
@@ -33,7 +34,7 @@ stamp_same gone old new path e s =
     ap (λ (c : Content). if list_any (bytes_eq path) gone then None else option_map (λ bytes. new.stamps path) c) e
     ∙ ap (λ (t : ℕ). if list_any (bytes_eq path) gone then None else option_map (λ bytes. t) (old.tree path)) s
 
-unread_is : (hash : Hash) (content : Content) (changed : Option ℕ) (seen : Seen) → IsUnread seen → IsSeenAs hash content changed seen
+pub unread_is : (hash : Hash) (content : Content) (changed : Option ℕ) (seen : Seen) → IsUnread seen → IsSeenAs hash content changed seen
 unread_is hash content changed seen unread = record {
   digest = λ digest e. none_some (sym unread.digest ∙ e);
   includes = λ includes e. none_some (sym unread.includes ∙ e);
@@ -71,6 +72,7 @@ asked b g inputs old new asks is = record {
   rest = λ path unmade. past_same inputs.gone.keys old.tree new.tree path (asks.files path (is.idle path unmade)) ∙ is.rest path unmade;
   idle = λ path unmade running. is.idle path unmade (subst (λ r. IsRunningTarget r path) asks.running running);
   seen = λ node path at. seen_asked b inputs.gone.keys old new path (seen_at inputs.files.seen.items node) asks (is.seen node path at);
+  settled = is.settled;
   behind = is.behind;
   unknown = is.unknown;
   gone = is.gone;
@@ -80,7 +82,7 @@ asked b g inputs old new asks is = record {
 module _ (b : Begun) (g : RuleGraph) (old new : Inputs) (around : Around) (node : ℕ) (path : Path) (is : AreTrue b g old around)
     (rest : new ≡ record old { files = new.files })
     (others : (other : ℕ) → other ≢ node → seen_at new.files.seen.items other ≡ seen_at old.files.seen.items other)
-    (at : slice_get g.nodes node ≡ Some path) where
+    (settled : (seen_at new.files.seen.items node).is_settled ≡ (seen_at old.files.seen.items node).is_settled) (at : slice_get g.nodes node ≡ Some path) where
   same_gone : new.gone.keys ≡ old.gone.keys
   same_gone = ap (λ (i : Inputs). i.gone.keys) rest
 
@@ -98,6 +100,18 @@ module _ (b : Begun) (g : RuleGraph) (old new : Inputs) (around : Around) (node 
           let differ : n ≢ node = λ same. true_false (sym ((Decides-eqb n node).1 same) ∙ e) in
           subst (λ s. IsTrueOf b old.gone.keys around p s) (sym (others n differ)) (is.seen n p there)
 
+  settled_too : (n : ℕ) → (seen_at new.files.seen.items n).is_settled ≡ true → (seen_at old.files.seen.items n).is_settled ≡ true
+  settled_too n is_so = by (nat_eq n node) refl
+    where
+      by : (c : Bool) → nat_eq n node ≡ c → (seen_at old.files.seen.items n).is_settled ≡ true
+      by true e =
+          let same : n ≡ node = (Decides-eqb n node).0 e in
+          ap (λ k. (seen_at old.files.seen.items k).is_settled) same
+          ∙ sym settled ∙ ap (λ k. (seen_at new.files.seen.items k).is_settled) (sym same) ∙ is_so
+      by false e =
+          let differ : n ≢ node = λ same. true_false (sym ((Decides-eqb n node).1 same) ∙ e) in
+          ap (λ (s : Seen). s.is_settled) (sym (others n differ)) ∙ is_so
+
   pub kept_one : IsTrueOf b old.gone.keys around path (seen_at new.files.seen.items node) → AreTrue b g new around
   kept_one this = record {
     reading = is.reading;
@@ -107,6 +121,7 @@ module _ (b : Begun) (g : RuleGraph) (old new : Inputs) (around : Around) (node 
     rest = λ p unmade. ap (λ (gone : List Path). past gone around.tree p) same_gone ∙ is.rest p unmade;
     idle = is.idle;
     seen = λ n p there. subst (λ (gone : List Path). IsTrueOf b gone around p (seen_at new.files.seen.items n)) (sym same_gone) (each this n p there);
+    settled = λ n p there is_so. is.settled n p there (settled_too n is_so);
     behind = λ n le.
         let within = slice_get_within g.nodes node path at in
         others n (λ same. absurd (omega (arith, same))) ∙ is.behind n le;
@@ -124,7 +139,7 @@ kept_content b g old new around node path content at free same keeps is =
     subst (λ hash. IsSeenAs hash content (stamp_past old.gone.keys around path) (seen_at old.files.seen.items node)) (sym is.hash)
     (subst (λ c. IsSeenAs b.hash c (stamp_past old.gone.keys around path) (seen_at old.files.seen.items node)) (sym same) was.now) in
     let after = keeps.this (stamp_past old.gone.keys around path) before in
-    kept_one b g old new around node path is keeps.rest keeps.others at (record {
+    kept_one b g old new around node path is keeps.rest keeps.others keeps.settled at (record {
       now = subst (λ c. IsSeenAs b.hash c (stamp_past old.gone.keys around path) (seen_at new.files.seen.items node)) same
         (subst (λ hash. IsSeenAs hash content (stamp_past old.gone.keys around path) (seen_at new.files.seen.items node)) is.hash after);
       still = inl free;
@@ -151,6 +166,7 @@ kept_same b g old files around same is = record {
   rest = is.rest;
   idle = is.idle;
   seen = λ node path at. subst (λ s. IsTrueOf b old.gone.keys around path s) (sym (same node)) (is.seen node path at);
+  settled = λ node path at is_so. is.settled node path at (ap (λ (s : Seen). s.is_settled) (sym (same node)) ∙ is_so);
   behind = λ node le. same node ∙ is.behind node le;
   unknown = is.unknown;
   gone = is.gone;
@@ -159,10 +175,10 @@ kept_same b g old files around same is = record {
 -- of one file something else is kept that is true
 module _ (b : Begun) (g : RuleGraph) (old : Inputs) (files : SeenFiles) (around : Around) (node : ℕ) (path : Path) (at : slice_get g.nodes node ≡ Some path)
     (is : AreTrue b g old around) where
-  kept_this : {seen : Seen} → SeesOne old.files.seen.items files.seen.items node seen → IsTrueOf b old.gone.keys around path seen
-      → AreTrue b g (record old { files = files }) around
-  kept_this sees this =
-      kept_one b g old (record old { files = files }) around node path is refl sees.others at
+  kept_this : {seen : Seen} → seen.is_settled ≡ (seen_at old.files.seen.items node).is_settled → SeesOne old.files.seen.items files.seen.items node seen
+      → IsTrueOf b old.gone.keys around path seen → AreTrue b g (record old { files = files }) around
+  kept_this settled sees this =
+      kept_one b g old (record old { files = files }) around node path is refl sees.others (ap (λ (s : Seen). s.is_settled) sees.this ∙ settled) at
       (subst (λ s. IsTrueOf b old.gone.keys around path s) (sym sees.this) this)
 
   pub kept_stamp : {time : Option ℕ} → (IsRunningTarget around.running path → ⊥) → time ≡ stamp_past old.gone.keys around path
@@ -170,7 +186,7 @@ module _ (b : Begun) (g : RuleGraph) (old : Inputs) (files : SeenFiles) (around 
       → AreTrue b g (record old { files = files }) around
   kept_stamp free same sees =
       let was = is.seen node path at in
-      kept_this sees (record {
+      kept_this refl sees (record {
         now = record { digest = was.now.digest; includes = was.now.includes; stamp = λ other e. sym (some_same e) ∙ same };
         still = inl free;
         is_file = was.is_file;
@@ -182,7 +198,7 @@ module _ (b : Begun) (g : RuleGraph) (old : Inputs) (files : SeenFiles) (around 
       → AreTrue b g (record old { files = files }) around
   kept_stood same sees =
       let was = is.seen node path at in
-      kept_this sees (record {
+      kept_this refl sees (record {
         now = record { digest = was.now.digest; includes = was.now.includes; stamp = was.now.stamp };
         still = elim was.still [ | inl free ↦ inl free | inr unread ↦ inr (record { digest = unread.digest; includes = unread.includes; stamp = unread.stamp }) ];
         is_file = λ other e. sym (some_same e) ∙ same;
@@ -192,6 +208,29 @@ module _ (b : Begun) (g : RuleGraph) (old : Inputs) (files : SeenFiles) (around 
       → SeesOne old.files.seen.items files.seen.items node (record (seen_at old.files.seen.items node) { is_file = Some stands })
       → AreTrue b g (record old { files = files }) around
   kept_is_file unmade same sees = kept_stood (same ∙ ap is_some (is.rest path unmade)) sees
+
+  -- what a file includes
+  pub kept_includes : {found : List Include} → (IsRunningTarget around.running path → ⊥) → found ≡ includes_in (past old.gone.keys around.tree path)
+      → SeesOne old.files.seen.items files.seen.items node (record (seen_at old.files.seen.items node) { includes = Some found })
+      → AreTrue b g (record old { files = files }) around
+  kept_includes free same sees =
+      let was = is.seen node path at in
+      kept_this refl sees (record {
+        now = record { digest = was.now.digest; includes = λ other e. sym (some_same e) ∙ same; stamp = was.now.stamp };
+        still = inl free;
+        is_file = was.is_file;
+      })
+
+  -- nothing more of what it includes
+  pub kept_no_includes : SeesOne old.files.seen.items files.seen.items node (record (seen_at old.files.seen.items node) { includes = None })
+      → AreTrue b g (record old { files = files }) around
+  kept_no_includes sees =
+      let was = is.seen node path at in
+      kept_this refl sees (record {
+        now = record { digest = was.now.digest; includes = λ other e. none_some e; stamp = was.now.stamp };
+        still = elim was.still [ | inl free ↦ inl free | inr unread ↦ inr (record { digest = unread.digest; includes = refl; stamp = unread.stamp }) ];
+        is_file = was.is_file;
+      })
 
 -- a digest is by the hash of the build
 pub digest_by : (r : Result (Option Digest) ListEnd) (a b : Hash) (content : Content) → a ≡ b → IfOk r (λ digest. digest ≡ option_map (digest_of a) content)

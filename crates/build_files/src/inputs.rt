@@ -1,12 +1,13 @@
 //! The files of a build.
-ghost use Rattle.std.specs.Prelude.{◌≡◌, ℕ, List, Some, IfOk, is_some, slice_get};
+ghost use Rattle.std.specs.Prelude.{◌≡◌, ℕ, List, Some, IfOk, OnOk, is_some, slice_get, true};
 ghost use Rattle.std.specs.List.{list_any};
 ghost use Rattle.std.specs.Option.{option_map};
 ghost use Rattle.std.specs.Str.{bytes_eq};
 ghost use Rattle.deciders.specs.Digests.{digest_of as digest_for};
 ghost use Rattle.build_files.specs.Causes.{HasLookCause};
-ghost use Rattle.build_files.specs.Kept.{past, stamp_past as stamp_for, AreTrue, IsStill, IsUnmade, StaysTrue, KeepsContent};
+ghost use Rattle.build_files.specs.Kept.{past, stamp_past as stamp_for, AreTrue, IsStill, IsUnmade, StaysTrue, SameGone, KeepsContent};
 ghost use Rattle.build_files.specs.Leftovers.{stands};
+ghost use Rattle.build_files.specs.Seen.{seen_at};
 ghost use Rattle.build_means.specs.Grown.{Begun};
 ghost use Rattle.world_api.specs.Looks.{Looks};
 ghost use Rattle.world_api.specs.Reads.{stamp_of};
@@ -73,6 +74,7 @@ impl Inputs {
     ) -> Result<bool, ListEnd>
         ensures looks { Looks W.meaning world.old world.new }
         ensures cause { HasLookCause (W.meaning.counts world.old) (W.meaning.counts world.new) result }
+        ensures gone { SameGone self.old self.new }
         ensures truth { IsUnmade graph.now node.0 → StaysTrue W.meaning graph.now self.old world.old graph.now self.new world.new }
         ensures file { W.meaning.tells world.new → (b : Begun) (path : List ℕ) → slice_get graph.now.nodes node.0 ≡ Some path
             → IsUnmade graph.now node.0 → AreTrue b graph.now self.old (W.meaning.around world.old)
@@ -116,6 +118,7 @@ impl Inputs {
     ) -> Result<Option<Digest>, ListEnd>
         ensures looks { Looks W.meaning world.old world.new }
         ensures cause { HasLookCause (W.meaning.counts world.old) (W.meaning.counts world.new) result }
+        ensures gone { SameGone self.old self.new }
         ensures truth { IsStill graph.now (W.meaning.around world.old) node.0
             → StaysTrue W.meaning graph.now self.old world.old graph.now self.new world.new }
         ensures digest { W.meaning.tells world.new → (b : Begun) (path : List ℕ) → slice_get graph.now.nodes node.0 ≡ Some path
@@ -138,6 +141,7 @@ impl Inputs {
     ) -> Result<Option<u64>, ListEnd>
         ensures looks { Looks W.meaning world.old world.new }
         ensures cause { HasLookCause (W.meaning.counts world.old) (W.meaning.counts world.new) result }
+        ensures gone { SameGone self.old self.new }
         ensures truth { IsStill graph.now (W.meaning.around world.old) node.0
             → StaysTrue W.meaning graph.now self.old world.old graph.now self.new world.new }
         ensures stamp { W.meaning.tells world.new → (b : Begun) (path : List ℕ) → slice_get graph.now.nodes node.0 ≡ Some path
@@ -177,10 +181,12 @@ impl Inputs {
     ) -> Result<Option<Digest>, ListEnd>
         ensures looks { Looks W.meaning world.old world.new }
         ensures cause { HasLookCause (W.meaning.counts world.old) (W.meaning.counts world.new) result }
+        ensures gone { SameGone self.old self.new }
         ensures truth { IsStill graph.now (W.meaning.around world.old) node.0
             → StaysTrue W.meaning graph.now self.old world.old graph.now self.new world.new }
         ensures digest { W.meaning.tells world.new → (path : List ℕ) → slice_get graph.now.nodes node.0 ≡ Some path → IfOk result
             (λ digest. digest ≡ option_map (digest_for self.old.hash) (past self.old.gone.keys (W.meaning.around world.new).tree path)) }
+        ensures scanned { is_scanned ≡ true → OnOk result (is_some (seen_at self.new.files.seen.items node.0).includes ≡ true) }
     {
         let path = path_of(graph, node)?;
         let content = self.content(world, path)?;
@@ -211,6 +217,7 @@ impl Inputs {
     ) -> Result<Option<Digest>, Memory>
         ensures digest { IfOk result (λ digest. digest ≡ option_map (digest_for self.old.hash) content) }
         ensures keeps { KeepsContent self.old self.new node.0 content }
+        ensures scanned { is_scanned ≡ true → OnOk result (is_some (seen_at self.new.files.seen.items node.0).includes ≡ true) }
     {
         let Some(bytes) = content else {
             self.files.keep_includes(node, Listing::empty(self.alloc))?;

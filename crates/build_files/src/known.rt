@@ -3,7 +3,8 @@ ghost use Rattle.std.specs.Prelude.{◌≡◌, ℕ, List, Some, None, true, IfOk
 ghost use Rattle.node_tree.specs.Nodes.{number_of};
 ghost use Rattle.world_api.specs.Around.{Around};
 ghost use Rattle.build_files.specs.Causes.{HasLookCause, IsQuiet};
-ghost use Rattle.build_files.specs.Kept.{AreTrue, IsKnownAs, StaysTrue};
+ghost use Rattle.build_files.specs.Kept.{AreTrue, IsKnownAs, SameGone, StaysTrue};
+ghost use Rattle.build_files.specs.Searched.{HasMore};
 ghost use Rattle.build_files.specs.Leftovers.{is_made, is_declared, is_copied, copied_from};
 ghost use Rattle.build_means.specs.Copies.{copied_from as copied_in, is_known};
 ghost use Rattle.build_means.specs.Grown.{Begun};
@@ -27,6 +28,8 @@ impl Inputs {
     ) -> Result<Option<NodeId>, ListEnd>
         ensures looks { Looks W.meaning world.old world.new }
         ensures cause { HasLookCause (W.meaning.counts world.old) (W.meaning.counts world.new) result }
+        ensures grows { HasMore graph.old graph.new }
+        ensures gone { SameGone self.old self.new }
         ensures truth { StaysTrue W.meaning graph.old self.old world.old graph.new self.new world.new }
         ensures known { W.meaning.tells world.new → (b : Begun) → AreTrue b graph.old self.old (W.meaning.around world.old)
             → IfOk result (IsKnownAs b graph.new path.now) }
@@ -51,6 +54,7 @@ impl Inputs {
     ) -> Result<bool, ListEnd>
         ensures looks { Looks W.meaning world.old world.new }
         ensures cause { HasLookCause (W.meaning.counts world.old) (W.meaning.counts world.new) result }
+        ensures gone { SameGone self.old self.new }
         ensures truth { StaysTrue W.meaning graph.now self.old world.old graph.now self.new world.new }
         ensures known { W.meaning.tells world.new → (b : Begun) (path : List ℕ) → slice_get graph.now.nodes node.0 ≡ Some path
             → AreTrue b graph.now self.old (W.meaning.around world.old) → IfOk result (λ is. is ≡ is_known b.graph b.tree path) }
@@ -75,6 +79,8 @@ impl Inputs {
     ) -> Result<Option<NodeId>, ListEnd>
         ensures looks { Looks W.meaning world.old world.new }
         ensures cause { HasLookCause (W.meaning.counts world.old) (W.meaning.counts world.new) result }
+        ensures grows { HasMore graph.old graph.new }
+        ensures gone { SameGone self.old self.new }
         ensures truth { number_of graph.old.nodes path.now ≡ None
             → StaysTrue W.meaning graph.old self.old world.old graph.new self.new world.new }
         ensures known { number_of graph.old.nodes path.now ≡ None → W.meaning.tells world.new → (b : Begun)
@@ -89,6 +95,7 @@ impl Inputs {
         if self.has_copy_rule(world, graph, path)? {
             return self.note(graph, path, false);
         }
+        graph.laws();
         let _ = self.unknown.insert(path.copy()?)?;
         Ok(None)
     }
@@ -119,6 +126,8 @@ impl Inputs {
         is_file: bool,
     ) -> Result<Option<NodeId>, ListEnd>
         ensures quiet { IsQuiet result }
+        ensures grows { HasMore graph.old graph.new }
+        ensures gone { SameGone self.old self.new }
         ensures truth { (b : Begun) (around : Around) → number_of graph.old.nodes path.now ≡ None → is_file ≡ is_some (b.tree path.now)
             → AreTrue b graph.old self.old around → AreTrue b graph.new self.new around }
         ensures node { number_of graph.old.nodes path.now ≡ None

@@ -1,5 +1,5 @@
 //! What was found of each file.
-ghost use Rattle.std.specs.Prelude.{◌≡◌, ◌<◌, [], Some, None, true, not, IfOk, OnOk, is_some, length};
+ghost use Rattle.std.specs.Prelude.{◌≡◌, ◌<◌, [], Some, None, true, OnOk, is_some, length};
 ghost use Rattle.build_files.specs.Seen.{seen_at, Sees, SeesOne, SeesTheSame};
 
 use c_scanner::Include;
@@ -144,15 +144,22 @@ impl SeenFiles {
         }
     }
 
-    /// Notes that the copy rule of a file was looked for, and says whether it wasn't before.
-    pub(crate) fn settle(&mut self, node: NodeId) -> Result<bool, Memory>
-        ensures new { IfOk result (λ is_new. is_new ≡ not (seen_at self.old.seen.items node.0).is_settled) }
-        ensures sees { Sees self.old.seen.items self.new.seen.items node.0 (λ seen. record seen { is_settled = true }) result }
+    /// Whether the copy rule of a file was looked for.
+    pub(crate) fn is_settled(&self, node: NodeId) -> bool
+        ensures { result ≡ (seen_at self.now.seen.items node.0).is_settled }
+    {
+        match self.seen.get(node.0 as usize) {
+            Some(seen) => seen.is_settled,
+            None => false,
+        }
+    }
+
+    /// Notes that the copy rule of a file was looked for.
+    pub(crate) fn settle(&mut self, node: NodeId) -> Result<(), Memory>
+        ensures { Sees self.old.seen.items self.new.seen.items node.0 (λ seen. record seen { is_settled = true }) result }
     {
         self.make_room(node)?;
-        let seen = &mut self.seen[node.0 as usize];
-        let is_new = !seen.is_settled;
-        seen.is_settled = true;
-        Ok(is_new)
+        self.seen[node.0 as usize].is_settled = true;
+        Ok(())
     }
 }
