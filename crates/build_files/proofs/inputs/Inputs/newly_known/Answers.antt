@@ -1,5 +1,8 @@
-use Rattle.std.proofs.Common.{◌∙◌, ap, sym, is_some}
+use Rattle.std.proofs.Common.{◌∙◌, ap, sym, refl}
+use Rattle.std.specs.List.{list_any}
+use Rattle.std.specs.Str.{bytes_eq}
 use Rattle.world_api.proofs.Looking.{looks_joined}
+use Rattle.build_means.specs.Copies.{is_known}
 use Rattle.build_files.proofs.Looking.{quiet}
 use Rattle.build_files.proofs.Noting.{stood, undeclared, file_known, copy_known, nothing_known, known_noted, unknown_kept, unknown_more}
 use Rattle.build_files.proofs.Truths.{asked}
@@ -69,10 +72,27 @@ returns-in_err-copy-clause-truth g c = λ none told b is.
     asked b _ _ _ _ (c.has_copy_rule.ensures.looks.around told) (asked b _ _ _ _ (c.stands.ensures.looks.around before) is)
 
 pub returns-in_err-insert-clause-truth : goal.returns-in_err-insert-clause-truth
-returns-in_err-insert-clause-truth g c = λ none told b is. ?
+returns-in_err-insert-clause-truth g c = λ none told b is.
+    let before = c.has_copy_rule.ensures.looks.told.told told in
+    let later = asked b _ _ _ _ (c.has_copy_rule.ensures.looks.around told) (asked b _ _ _ _ (c.stands.ensures.looks.around before) is) in
+    unknown_kept b c.args.graph.now c.args.self.now _ _ refl
+    (λ path among. later.unknown path (ap (list_any (bytes_eq path)) (sym c.in_err-insert.ensures.err) ∙ among)) later
 
 pub returns-clause-truth : goal.returns-clause-truth
-returns-clause-truth g c = λ none told b is. ?
+returns-clause-truth g c = λ none told b is.
+    let before = c.has_copy_rule.ensures.looks.told.told told in
+    let first = asked b _ _ _ _ (c.stands.ensures.looks.around before) is in
+    let later = asked b _ _ _ _ (c.has_copy_rule.ensures.looks.around told) first in
+    let unknown = nothing_known b.graph b.tree c.args.path.now (undeclared b c.args.graph.now c.args.self.now _ _ first none c.laws.ensures.apart)
+      (sym (c.in_ok-has_copy_rule.ensures.copied told b first) ∙ c.if-branch-2.false)
+      (sym (sym c.if-branch.false ∙ c.in_ok-stands.ensures.stands before ∙ stood b c.args.graph.now c.args.self.now _ _ first none)) in
+    unknown_kept b c.args.graph.now c.args.self.now _ _ refl
+    (unknown_more b _ _ _ c.in_ok-insert.ensures.keys (ap (is_known b.graph b.tree) c.in_ok-copy.ensures ∙ unknown) later.unknown) later
 
 pub returns-clause-known : goal.returns-clause-known
-returns-clause-known g c = λ none told b is. ?
+returns-clause-known g c = λ none told b is.
+    let before = c.has_copy_rule.ensures.looks.told.told told in
+    let first = asked b _ _ _ _ (c.stands.ensures.looks.around before) is in
+    nothing_known b.graph b.tree c.args.path.now (undeclared b c.args.graph.now c.args.self.now _ _ first none c.laws.ensures.apart)
+    (sym (c.in_ok-has_copy_rule.ensures.copied told b first) ∙ c.if-branch-2.false)
+    (sym (sym c.if-branch.false ∙ c.in_ok-stands.ensures.stands before ∙ stood b c.args.graph.now c.args.self.now _ _ first none))
