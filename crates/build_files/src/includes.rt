@@ -1,13 +1,8 @@
 //! The files that a file includes.
-ghost use Rattle.std.specs.Prelude.{◌≡◌, ℕ, List, [], ◌∷◌, ◌++◌, Some, IfOk, OnOk, slice_get, is_some, true, if◌then◌else◌};
+ghost use Rattle.std.specs.Prelude.{[], IfOk};
 ghost use Rattle.std.specs.Option.{option_to_list};
-ghost use Rattle.scons_base.specs.Parts.{dir_of};
 ghost use Rattle.build_files.specs.Causes.{HasLookCause};
-ghost use Rattle.build_files.specs.Kept.{includes_in, past, IsStill, SameGone, StaysTrue};
-ghost use Rattle.build_files.specs.Searched.{first_known, meant, AreDirs, AreNodesOf, Gives, HasMore, IsNodeOf};
-ghost use Rattle.build_files.specs.Seen.{seen_at};
-ghost use Rattle.rule_graph.specs.declared.rule.Rule.{Rule};
-ghost use Rattle.build_means.specs.Finds.{dirs_for, found_for, places_in};
+ghost use Rattle.build_files.specs.Places.{ArePlaces};
 ghost use Rattle.world_api.specs.Looks.{Looks};
 
 use crate::end::ListEnd;
@@ -104,24 +99,12 @@ impl Inputs {
     ) -> Result<Vec<NodeId>, ListEnd>
         ensures looks { Looks W.meaning world.old world.new }
         ensures cause { HasLookCause (W.meaning.counts world.old) (W.meaning.counts world.new) result }
-        ensures grows { HasMore graph.old graph.new }
-        ensures gone { SameGone self.old self.new }
-        ensures truth { IsStill graph.old (W.meaning.around world.old) file.0
-            → StaysTrue W.meaning graph.old self.old world.old graph.new self.new world.new }
-        ensures found { IsStill graph.old (W.meaning.around world.old) file.0 → (x : Rule) (path : List ℕ)
-            → slice_get graph.old.rules rule.0 ≡ Some x → slice_get graph.old.nodes file.0 ≡ Some path
-            → Gives W.meaning graph.old self.old world.old world.new result (λ b found. AreNodesOf graph.new
-            (meant b x.paths path (includes_in (past self.old.gone.keys (W.meaning.around world.old).tree path))) found.items) }
     {
         self.read_once(world, graph, file)?;
-        let dirs = Dirs::of(
-            self.alloc,
-            path_of(graph, file)?,
-            &rule_at(graph, rule)?.paths,
-        )?;
         let Some(includes) = self.files.take_includes(file) else {
             return Ok(Vec::new(self.alloc));
         };
+        let dirs = Dirs::of(self.alloc, graph, rule, file)?;
         let found = self.search_each(world, graph, &dirs, includes.as_slice())?;
         self.files.keep_includes(file, includes)?;
         Ok(found)
@@ -137,10 +120,6 @@ impl Inputs {
     ) -> Result<(), ListEnd>
         ensures looks { Looks W.meaning world.old world.new }
         ensures cause { HasLookCause (W.meaning.counts world.old) (W.meaning.counts world.new) result }
-        ensures gone { SameGone self.old self.new }
-        ensures truth { IsStill graph.now (W.meaning.around world.old) file.0
-            → StaysTrue W.meaning graph.now self.old world.old graph.now self.new world.new }
-        ensures kept { OnOk result (is_some (seen_at self.new.files.seen.items file.0).includes ≡ true) }
     {
         if self.files.has_includes(file) {
             return Ok(());
@@ -160,12 +139,6 @@ impl Inputs {
     ) -> Result<Vec<NodeId>, ListEnd>
         ensures looks { Looks W.meaning world.old world.new }
         ensures cause { HasLookCause (W.meaning.counts world.old) (W.meaning.counts world.new) result }
-        ensures grows { HasMore graph.old graph.new }
-        ensures gone { SameGone self.old self.new }
-        ensures truth { StaysTrue W.meaning graph.old self.old world.old graph.new self.new world.new }
-        ensures found { (paths : List (List ℕ)) (file : List ℕ) → AreDirs dirs.now paths file
-            → Gives W.meaning graph.old self.old world.old world.new result
-            (λ b found. AreNodesOf graph.new (meant b paths file includes.now) found.items) }
     {
         let mut found = Vec::new(self.alloc);
         for include in includes {
@@ -186,12 +159,6 @@ impl Inputs {
     ) -> Result<Option<NodeId>, ListEnd>
         ensures looks { Looks W.meaning world.old world.new }
         ensures cause { HasLookCause (W.meaning.counts world.old) (W.meaning.counts world.new) result }
-        ensures grows { HasMore graph.old graph.new }
-        ensures gone { SameGone self.old self.new }
-        ensures truth { StaysTrue W.meaning graph.old self.old world.old graph.new self.new world.new }
-        ensures found { (paths : List (List ℕ)) (file : List ℕ) → AreDirs dirs.now paths file
-            → Gives W.meaning graph.old self.old world.old world.new result
-            (λ b node. IsNodeOf graph.new (found_for b.graph b.tree paths file include.now) node) }
     {
         let Ok(name) = str::from_utf8(include.name.as_slice()) else {
             return Ok(None);
@@ -216,16 +183,11 @@ impl Inputs {
     ) -> Result<Option<NodeId>, ListEnd>
         ensures looks { Looks W.meaning world.old world.new }
         ensures cause { HasLookCause (W.meaning.counts world.old) (W.meaning.counts world.new) result }
-        ensures grows { HasMore graph.old graph.new }
-        ensures gone { SameGone self.old self.new }
-        ensures truth { StaysTrue W.meaning graph.old self.old world.old graph.new self.new world.new }
-        ensures found { Gives W.meaning graph.old self.old world.old world.new result
-            (λ b node. IsNodeOf graph.new (first_known b (places_in b.graph name.now dir.now)) node) }
     {
         if !graph.variants().as_slice().is_empty() {
             return self.search_places(world, graph, dir, name);
         }
-        match only_place(self.alloc, graph, dir, name)? {
+        match only_place(self.alloc, graph.top(), dir, name)? {
             Some(path) => self.known(world, graph, &path),
             None => Ok(None),
         }
@@ -242,11 +204,6 @@ impl Inputs {
     ) -> Result<Option<NodeId>, ListEnd>
         ensures looks { Looks W.meaning world.old world.new }
         ensures cause { HasLookCause (W.meaning.counts world.old) (W.meaning.counts world.new) result }
-        ensures grows { HasMore graph.old graph.new }
-        ensures gone { SameGone self.old self.new }
-        ensures truth { StaysTrue W.meaning graph.old self.old world.old graph.new self.new world.new }
-        ensures found { Gives W.meaning graph.old self.old world.old world.new result
-            (λ b node. IsNodeOf graph.new (first_known b (places_in b.graph name.now dir.now)) node) }
     {
         let places = places(self.alloc, graph, dir, name)?;
         for path in places.as_slice() {
@@ -259,9 +216,7 @@ impl Inputs {
     }
 }
 
-fn push_found(found: &mut Vec<NodeId>, node: Option<NodeId>) -> Result<(), Memory>
-    ensures { OnOk result (found.new.items ≡ found.old.items ++ option_to_list node) }
-{
+fn push_found(found: &mut Vec<NodeId>, node: Option<NodeId>) -> Result<(), Memory> {
     if let Some(node) = node {
         found.push(node)?;
     }
@@ -271,14 +226,13 @@ fn push_found(found: &mut Vec<NodeId>, node: Option<NodeId>) -> Result<(), Memor
 /// Where a name may mean a file, where no variant directory is.
 fn only_place(
     alloc: Global,
-    graph: &Graph,
+    top: &PathText,
     dir: &PathText,
     name: &str,
 ) -> Result<Option<PathText>, Memory>
-    ensures { graph.now.variants ≡ []
-        → IfOk result (λ path. option_to_list path ≡ places_in graph.now name.now dir.now) }
+    ensures { IfOk result (λ p. ArePlaces [] top.now dir.now name.now (option_to_list p)) }
 {
-    match PathText::resolve(alloc, graph.top(), dir, name) {
+    match PathText::resolve(alloc, top, dir, name) {
         Ok(path) => Ok(Some(path)),
         Err(PathFault::Memory) => Err(Memory),
         Err(_) => Ok(None),
@@ -287,7 +241,7 @@ fn only_place(
 
 /// Where a name may mean a file.
 fn places(alloc: Global, graph: &Graph, dir: &PathText, name: &str) -> Result<Paths, Memory>
-    ensures { IfOk result (λ paths. paths ≡ places_in graph.now name.now dir.now) }
+    ensures { IfOk result (ArePlaces graph.now.variants graph.now.top dir.now name.now) }
 {
     match graph.variants().search(graph.top(), dir, name) {
         Ok(paths) => Ok(paths),
@@ -304,24 +258,20 @@ struct Dirs {
 }
 
 impl Dirs {
-    fn of(alloc: Global, file: &PathText, paths: &Paths) -> Result<Dirs, Memory>
-        ensures { IfOk result (λ dirs. AreDirs dirs paths.now file.now) }
-    {
+    fn of(alloc: Global, graph: &Graph, rule: RuleId, file: NodeId) -> Result<Dirs, Memory> {
         let mut dirs = Vec::new(alloc);
-        push_dir(&mut dirs, file.dir())?;
-        for dir in paths.as_slice() {
+        let own = path_of(graph, file)?.dir();
+        push_dir(&mut dirs, own)?;
+        for dir in rule_at(graph, rule)?.paths.as_slice() {
             dirs.push(dir.copy()?)?;
         }
-        push_dir(&mut dirs, file.dir())?;
+        push_dir(&mut dirs, own)?;
         Ok(Dirs { dirs })
     }
 
     /// The directories in the order in which they are searched: the including file's one first for a name in quotes, else
     /// last.
-    fn in_order(&self, quoted: bool) -> &[PathText]
-        ensures { (paths : List (List ℕ)) (file : List ℕ) → AreDirs self.now paths file
-            → result.now ≡ dirs_for paths file quoted }
-    {
+    fn in_order(&self, quoted: bool) -> &[PathText] {
         let dirs = self.dirs.as_slice();
         if dirs.is_empty() {
             return dirs;
@@ -334,9 +284,7 @@ impl Dirs {
     }
 }
 
-fn push_dir(dirs: &mut Vec<PathText>, dir: &str) -> Result<(), Memory>
-    ensures { OnOk result (dirs.new.items ≡ dirs.old.items ++ dir.now ∷ []) }
-{
+fn push_dir(dirs: &mut Vec<PathText>, dir: &str) -> Result<(), Memory> {
     match PathText::read(*dirs.allocator(), dir) {
         Ok(dir) => dirs.push(dir)?,
         Err(_) => return Err(Memory),

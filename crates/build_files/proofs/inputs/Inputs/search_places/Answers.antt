@@ -1,61 +1,15 @@
-use Rattle.std.proofs.Common.{◌∙◌, ◌∷◌, [], sym}
+use Rattle.std.proofs.Common.{◌∙◌}
 use Rattle.world_api.proofs.Looking.{looks_joined}
-use Rattle.build_means.specs.Copies.{is_known}
-use Rattle.build_files.proofs.Candidates.{found_in}
-use Rattle.build_files.proofs.Noting.{more_joined}
-use Rattle.build_files.proofs.Searching.{stays_joined, none_more, none_all, found_here, no_node, node_none, found_one, places_same}
 use Rattle.build_files.proofs.inputs.Inputs.search_places.Goals as goal
 
 pub returns-in_err-node-clause-looks : goal.returns-in_err-node-clause-looks
 returns-in_err-node-clause-looks g c = looks_joined _ _ _ _ c.loop-path.invariant.looks c.known.ensures.looks
 
-pub returns-in_err-node-clause-grows : goal.returns-in_err-node-clause-grows
-returns-in_err-node-clause-grows g c = more_joined _ _ _ c.loop-path.invariant.grows c.known.ensures.grows
-
-pub returns-in_err-node-clause-gone : goal.returns-in_err-node-clause-gone
-returns-in_err-node-clause-gone g c = c.known.ensures.gone ∙ c.loop-path.invariant.gone
-
-pub returns-in_err-node-clause-truth : goal.returns-in_err-node-clause-truth
-returns-in_err-node-clause-truth g c =
-    stays_joined _ _ _ _ _ _ _ _ _ _ c.known.ensures.looks.told.told c.loop-path.invariant.truth c.known.ensures.truth
-
 pub loop-path-preserved : goal.loop-path-preserved
 loop-path-preserved g c = record {
   looks = looks_joined _ _ _ _ c.loop-path.invariant.looks c.known.ensures.looks;
   counts = c.in_ok-node.ensures.cause ∙ c.loop-path.invariant.counts;
-  grows = more_joined _ _ _ c.loop-path.invariant.grows c.known.ensures.grows;
-  gone = c.known.ensures.gone ∙ c.loop-path.invariant.gone;
-  truth = stays_joined _ _ _ _ _ _ _ _ _ _ c.known.ensures.looks.told.told c.loop-path.invariant.truth c.known.ensures.truth;
-  passed = λ told b is.
-    let before = c.known.ensures.looks.told.told told in
-    let here = c.loop-path.invariant.truth before b is in
-    none_more (is_known b.graph b.tree) (λ path. path ∷ []) _ c.loop-path.path-index c.path-item.result c.loop-path-test.true c.path-item.is
-    (c.loop-path.invariant.passed before b is)
-    (no_node _ _ _ (sym c.is_some.ensures ∙ c.if-is_some.false) (found_one b _ _ _ (c.in_ok-node.ensures.known told b here)));
 }
 
 pub returns-then-is_some-clause-looks : goal.returns-then-is_some-clause-looks
 returns-then-is_some-clause-looks g c = looks_joined _ _ _ _ c.loop-path.invariant.looks c.known.ensures.looks
-
-pub returns-then-is_some-clause-grows : goal.returns-then-is_some-clause-grows
-returns-then-is_some-clause-grows g c = more_joined _ _ _ c.loop-path.invariant.grows c.known.ensures.grows
-
-pub returns-then-is_some-clause-gone : goal.returns-then-is_some-clause-gone
-returns-then-is_some-clause-gone g c = c.known.ensures.gone ∙ c.loop-path.invariant.gone
-
-pub returns-then-is_some-clause-truth : goal.returns-then-is_some-clause-truth
-returns-then-is_some-clause-truth g c =
-    stays_joined _ _ _ _ _ _ _ _ _ _ c.known.ensures.looks.told.told c.loop-path.invariant.truth c.known.ensures.truth
-
-pub returns-then-is_some-clause-found : goal.returns-then-is_some-clause-found
-returns-then-is_some-clause-found g c = λ told b is.
-    let before = c.known.ensures.looks.told.told told in
-    let here = c.loop-path.invariant.truth before b is in
-    found_in b _ _ _ _ (c.as_slice-path-items.ensures ∙ c.in_ok-places.ensures ∙ places_same b _ _ _ _ _ is)
-    (found_here (is_known b.graph b.tree) (λ path. path ∷ []) _ _ c.loop-path.path-index c.path-item.result _ c.loop-path-test.true c.path-item.is
-    (c.loop-path.invariant.passed before b is) (sym c.is_some.ensures ∙ c.if-is_some.true) (found_one b _ _ _ (c.in_ok-node.ensures.known told b here)))
-
-pub returns-clause-found : goal.returns-clause-found
-returns-clause-found g c = λ told b is.
-    found_in b _ _ _ _ (c.as_slice-path-items.ensures ∙ c.in_ok-places.ensures ∙ places_same b _ _ _ _ _ is)
-    (node_none _ _ (none_all (is_known b.graph b.tree) (λ path. path ∷ []) _ _ c.loop-path-test.false (c.loop-path.invariant.passed told b is)))
