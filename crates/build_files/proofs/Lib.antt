@@ -1,2 +1,8 @@
+mod Growth
+mod Knowing
 pub mod Looking
 pub mod Left
+mod Noting
+mod Places
+mod Seeing
+mod Truths

@@ -38,11 +38,11 @@ AtRest m world = m.tells world × ((m.around world).running ≡ [])
 abbrev pub stands : Around → List ℕ → Bool
 stands around path = is_some (around.tree path)
 
-abbrev is_before : ℕ → Option ℕ → Bool
+abbrev pub is_before : ℕ → Option ℕ → Bool
 is_before count (Some rule) = nat_lt rule count
 is_before count None = false
 
-abbrev declared_for : ℕ → List Rule → Option ℕ → Bool
+abbrev pub declared_for : ℕ → List Rule → Option ℕ → Bool
 declared_for count rules (Some node) = is_before count (rule_of rules node)
 declared_for count rules None = false
 

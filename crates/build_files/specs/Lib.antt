@@ -1,4 +1,8 @@
 pub mod Causes
+pub mod Copying
 pub mod Ends
+pub mod Kept
 pub mod Leftovers
 pub mod Places
+pub mod Searched
+pub mod Seen

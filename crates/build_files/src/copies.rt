@@ -3,6 +3,7 @@ ghost use Rattle.std.specs.List.{list_any};
 ghost use Rattle.std.specs.Prelude.{◌≡◌, ◌<◌, ℕ, length, IfOk};
 ghost use Rattle.rule_graph.specs.Rules.{IsRule};
 ghost use Rattle.build_files.specs.Causes.{HasLookCause, IsQuiet};
+ghost use Rattle.build_files.specs.Copying.{copying};
 ghost use Rattle.world_api.specs.Looks.{Looks};
 
 use crate::end::ListEnd;
@@ -169,24 +170,28 @@ impl Inputs {
         ensures looks { Looks W.meaning world.old world.new }
         ensures cause { HasLookCause (W.meaning.counts world.old) (W.meaning.counts world.new) result }
     {
-        if graph.rule_of(node).is_some() {
+        if graph.rule_of(node).is_some() || self.files.is_settled(node) {
             return Ok(());
         }
-        if !self.settle(node)? {
-            return Ok(());
-        }
+        self.add_copy_of(world, graph, node)?;
+        Ok(self.files.settle(node)?)
+    }
+
+    /// Adds the copy rule of a file without a rule, where it has one.
+    #[tactic(auto, using(crate::proofs::Looking::looking))]
+    fn add_copy_of<W: World>(
+        &self,
+        world: &mut W,
+        graph: &mut Graph,
+        node: NodeId,
+    ) -> Result<(), ListEnd>
+        ensures looks { Looks W.meaning world.old world.new }
+        ensures cause { HasLookCause (W.meaning.counts world.old) (W.meaning.counts world.new) result }
+    {
         match copied_from(world, graph, self.declared, path_of(graph, node)?)? {
             Some(source) => add_copy_rule(self.alloc, graph, node, &source),
             None => Ok(()),
         }
-    }
-
-    /// Notes that the copy rule of a file was looked for, and says whether it wasn't before.
-    fn settle(&mut self, node: NodeId) -> Result<bool, Memory> {
-        let seen = self.seen(node)?;
-        let is_new = !seen.is_settled;
-        seen.is_settled = true;
-        Ok(is_new)
     }
 }
 
@@ -266,7 +271,8 @@ fn add_kept(
 
 /// The rule that copies a file. It has no line, and none is printed for it.
 fn copy_rule(alloc: Global, target: NodeId, source: NodeId) -> Result<Rule, Memory>
-    ensures { (nodes : ℕ) → target.0 < nodes → source.0 < nodes → IfOk result (IsRule nodes) }
+    ensures rule { (nodes : ℕ) → target.0 < nodes → source.0 < nodes → IfOk result (IsRule nodes) }
+    ensures is { IfOk result (λ rule. rule ≡ copying target source) }
 {
     let mut targets = Listing::empty(alloc);
     targets.push(target)?;

@@ -101,12 +101,12 @@ impl Inputs {
         ensures cause { HasLookCause (W.meaning.counts world.old) (W.meaning.counts world.new) result }
     {
         self.read_once(world, graph, file)?;
-        let Some(includes) = self.seen(file)?.includes.take() else {
+        let Some(includes) = self.files.take_includes(file) else {
             return Ok(Vec::new(self.alloc));
         };
         let dirs = Dirs::of(self.alloc, graph, rule, file)?;
         let found = self.search_each(world, graph, &dirs, includes.as_slice())?;
-        self.seen(file)?.includes = Some(includes);
+        self.files.keep_includes(file, includes)?;
         Ok(found)
     }
 
@@ -121,10 +121,10 @@ impl Inputs {
         ensures looks { Looks W.meaning world.old world.new }
         ensures cause { HasLookCause (W.meaning.counts world.old) (W.meaning.counts world.new) result }
     {
-        if self.seen(file)?.includes.is_some() {
+        if self.files.has_includes(file) {
             return Ok(());
         }
-        let _ = self.read(world, path_of(graph, file)?, file, true)?;
+        let _ = self.read(world, graph, file, true)?;
         Ok(())
     }
 

@@ -1,13 +1,21 @@
 //! The files of a build.
-ghost use Rattle.std.specs.Prelude.{◌≡◌, IfOk};
+ghost use Rattle.std.specs.Prelude.{◌≡◌, ℕ, List, Some, IfOk, OnOk, is_some, slice_get, true};
+ghost use Rattle.std.specs.List.{list_any};
+ghost use Rattle.std.specs.Option.{option_map};
+ghost use Rattle.std.specs.Str.{bytes_eq};
+ghost use Rattle.deciders.specs.Digests.{digest_of as digest_for};
 ghost use Rattle.build_files.specs.Causes.{HasLookCause};
+ghost use Rattle.build_files.specs.Kept.{past, stamp_past as stamp_for, AreTrue, IsStill, IsUnmade, StaysTrue, SameGone, KeepsContent};
 ghost use Rattle.build_files.specs.Leftovers.{stands};
+ghost use Rattle.build_files.specs.Seen.{seen_at};
+ghost use Rattle.build_means.specs.Grown.{Begun};
 ghost use Rattle.world_api.specs.Looks.{Looks};
+ghost use Rattle.world_api.specs.Reads.{stamp_of};
 
 use crate::end::ListEnd;
 use crate::includes::Found;
 use crate::lookup::path_of;
-use crate::seen::{Seen, UNSEEN};
+use crate::seen::SeenFiles;
 use c_scanner::includes;
 use deciders::{Digest, digest_of};
 use indexmap::IndexSet;
@@ -21,8 +29,7 @@ use world_api::{Content, Hash, Kind, World};
 /// rule makes is asked for only once its rule is settled.
 #[derive(Drop)]
 pub struct Inputs {
-    /// By the numbers of their nodes.
-    pub(crate) seen: Vec<Seen>,
+    pub(crate) files: SeenFiles,
     /// Paths that no rule makes and at which no file stands.
     pub(crate) unknown: IndexSet<PathText>,
     /// Files that are looked past, as if none stood there.
@@ -46,7 +53,7 @@ impl Inputs {
     /// The files of a build that looks past these.
     pub fn past(alloc: Global, hash: Hash, graph: &Graph, gone: IndexSet<PathText>) -> Inputs {
         Inputs {
-            seen: Vec::new(alloc),
+            files: SeenFiles::new(alloc),
             unknown: IndexSet::new(alloc),
             gone,
             found: Found::new(alloc),
@@ -57,34 +64,27 @@ impl Inputs {
         }
     }
 
-    /// What was found of a file.
-    pub(crate) fn seen(&mut self, node: NodeId) -> Result<&mut Seen, Memory> {
-        let number = node.0 as usize;
-        for _ in self.seen.len()..number.saturating_add(1) {
-            self.seen.push(UNSEEN)?;
-        }
-        match self.seen.get_mut(number) {
-            Some(seen) => Ok(seen),
-            None => Err(Memory),
-        }
-    }
-
     /// Whether a file stands at the path of a node that no rule makes.
     #[tactic(auto, using(crate::proofs::Looking::looking))]
     pub(crate) fn is_file<W: World>(
         &mut self,
         world: &mut W,
-        path: &PathText,
+        graph: &Graph,
         node: NodeId,
     ) -> Result<bool, ListEnd>
         ensures looks { Looks W.meaning world.old world.new }
         ensures cause { HasLookCause (W.meaning.counts world.old) (W.meaning.counts world.new) result }
+        ensures gone { SameGone self.old self.new }
+        ensures truth { IsUnmade graph.now node.0 → StaysTrue W.meaning graph.now self.old world.old graph.now self.new world.new }
+        ensures file { W.meaning.tells world.new → (b : Begun) (path : List ℕ) → slice_get graph.now.nodes node.0 ≡ Some path
+            → IsUnmade graph.now node.0 → AreTrue b graph.now self.old (W.meaning.around world.old)
+            → IfOk result (λ is. is ≡ is_some (b.tree path)) }
     {
-        if let Some(is_file) = self.seen(node)?.is_file {
+        if let Some(is_file) = self.files.is_file(node) {
             return Ok(is_file);
         }
-        let is_file = self.stands(world, path)?;
-        self.seen(node)?.is_file = Some(is_file);
+        let is_file = self.stands(world, path_of(graph, node)?)?;
+        self.files.keep_is_file(node, is_file)?;
         Ok(is_file)
     }
 
@@ -93,6 +93,8 @@ impl Inputs {
     pub(crate) fn stands<W: World>(&self, world: &mut W, path: &PathText) -> Result<bool, ListEnd>
         ensures looks { Looks W.meaning world.old world.new }
         ensures cause { HasLookCause (W.meaning.counts world.old) (W.meaning.counts world.new) result }
+        ensures stands { W.meaning.tells world.new → IfOk result
+            (λ is. is ≡ is_some (past self.now.gone.keys (W.meaning.around world.new).tree path.now)) }
     {
         if self.is_gone(path) {
             return Ok(false);
@@ -100,7 +102,9 @@ impl Inputs {
         is_file_at(world, path)
     }
 
-    fn is_gone(&self, path: &PathText) -> bool {
+    fn is_gone(&self, path: &PathText) -> bool
+        ensures { result ≡ list_any (bytes_eq path.now) self.now.gone.keys }
+    {
         !self.gone.is_empty() && self.gone.contains(path)
     }
 
@@ -114,10 +118,16 @@ impl Inputs {
     ) -> Result<Option<Digest>, ListEnd>
         ensures looks { Looks W.meaning world.old world.new }
         ensures cause { HasLookCause (W.meaning.counts world.old) (W.meaning.counts world.new) result }
+        ensures gone { SameGone self.old self.new }
+        ensures truth { IsStill graph.now (W.meaning.around world.old) node.0
+            → StaysTrue W.meaning graph.now self.old world.old graph.now self.new world.new }
+        ensures digest { W.meaning.tells world.new → (b : Begun) (path : List ℕ) → slice_get graph.now.nodes node.0 ≡ Some path
+            → AreTrue b graph.now self.old (W.meaning.around world.old) → IfOk result
+            (λ digest. digest ≡ option_map (digest_for b.hash) (past self.old.gone.keys (W.meaning.around world.new).tree path)) }
     {
-        match self.seen(node)?.digest {
+        match self.files.digest(node) {
             Some(digest) => Ok(digest),
-            None => self.read(world, path_of(graph, node)?, node, false),
+            None => self.read(world, graph, node, false),
         }
     }
 
@@ -131,12 +141,18 @@ impl Inputs {
     ) -> Result<Option<u64>, ListEnd>
         ensures looks { Looks W.meaning world.old world.new }
         ensures cause { HasLookCause (W.meaning.counts world.old) (W.meaning.counts world.new) result }
+        ensures gone { SameGone self.old self.new }
+        ensures truth { IsStill graph.now (W.meaning.around world.old) node.0
+            → StaysTrue W.meaning graph.now self.old world.old graph.now self.new world.new }
+        ensures stamp { W.meaning.tells world.new → (b : Begun) (path : List ℕ) → slice_get graph.now.nodes node.0 ≡ Some path
+            → AreTrue b graph.now self.old (W.meaning.around world.old) → IfOk result
+            (λ time. time ≡ stamp_for self.old.gone.keys (W.meaning.around world.new) path) }
     {
-        if let Some(stamp) = self.seen(node)?.stamp {
+        if let Some(stamp) = self.files.stamp(node) {
             return Ok(stamp);
         }
         let stamp = self.stamp_past(world, path_of(graph, node)?)?;
-        self.seen(node)?.stamp = Some(stamp);
+        self.files.keep_stamp(node, stamp)?;
         Ok(stamp)
     }
 
@@ -145,6 +161,8 @@ impl Inputs {
     fn stamp_past<W: World>(&self, world: &mut W, path: &PathText) -> Result<Option<u64>, ListEnd>
         ensures looks { Looks W.meaning world.old world.new }
         ensures cause { HasLookCause (W.meaning.counts world.old) (W.meaning.counts world.new) result }
+        ensures stamp { W.meaning.tells world.new → IfOk result
+            (λ time. time ≡ stamp_for self.now.gone.keys (W.meaning.around world.new) path.now) }
     {
         if self.is_gone(path) {
             return Ok(None);
@@ -157,13 +175,20 @@ impl Inputs {
     pub(crate) fn read<W: World>(
         &mut self,
         world: &mut W,
-        path: &PathText,
+        graph: &Graph,
         node: NodeId,
         is_scanned: bool,
     ) -> Result<Option<Digest>, ListEnd>
         ensures looks { Looks W.meaning world.old world.new }
         ensures cause { HasLookCause (W.meaning.counts world.old) (W.meaning.counts world.new) result }
+        ensures gone { SameGone self.old self.new }
+        ensures truth { IsStill graph.now (W.meaning.around world.old) node.0
+            → StaysTrue W.meaning graph.now self.old world.old graph.now self.new world.new }
+        ensures digest { W.meaning.tells world.new → (path : List ℕ) → slice_get graph.now.nodes node.0 ≡ Some path → IfOk result
+            (λ digest. digest ≡ option_map (digest_for self.old.hash) (past self.old.gone.keys (W.meaning.around world.new).tree path)) }
+        ensures scanned { is_scanned ≡ true → OnOk result (is_some (seen_at self.new.files.seen.items node.0).includes ≡ true) }
     {
+        let path = path_of(graph, node)?;
         let content = self.content(world, path)?;
         Ok(self.keep(path, node, is_scanned, content)?)
     }
@@ -173,6 +198,8 @@ impl Inputs {
     fn content<W: World>(&self, world: &mut W, path: &PathText) -> Result<Content, ListEnd>
         ensures looks { Looks W.meaning world.old world.new }
         ensures cause { HasLookCause (W.meaning.counts world.old) (W.meaning.counts world.new) result }
+        ensures content { W.meaning.tells world.new → IfOk result
+            (λ content. content ≡ past self.now.gone.keys (W.meaning.around world.new).tree path.now) }
     {
         if self.is_gone(path) {
             return Ok(None);
@@ -187,24 +214,23 @@ impl Inputs {
         node: NodeId,
         is_scanned: bool,
         content: Content,
-    ) -> Result<Option<Digest>, Memory> {
-        let (alloc, hash) = (self.alloc, self.hash);
-        let seen = self.seen(node)?;
-        match content {
-            Some(bytes) => {
-                let digest = digest_of(hash, bytes.as_slice());
-                seen.digest = Some(Some(digest));
-                if is_scanned || is_header(path.suffix()) {
-                    seen.includes = Some(includes(alloc, bytes.as_slice())?);
-                }
-                Ok(Some(digest))
-            }
-            None => {
-                seen.digest = Some(None);
-                seen.includes = Some(Listing::empty(alloc));
-                Ok(None)
-            }
+    ) -> Result<Option<Digest>, Memory>
+        ensures digest { IfOk result (λ digest. digest ≡ option_map (digest_for self.old.hash) content) }
+        ensures keeps { KeepsContent self.old self.new node.0 content }
+        ensures scanned { is_scanned ≡ true → OnOk result (is_some (seen_at self.new.files.seen.items node.0).includes ≡ true) }
+    {
+        let Some(bytes) = content else {
+            self.files.keep_includes(node, Listing::empty(self.alloc))?;
+            self.files.keep_digest(node, None)?;
+            return Ok(None);
+        };
+        if is_scanned || is_header(path.suffix()) {
+            let found = includes(self.alloc, bytes.as_slice())?;
+            self.files.keep_includes(node, found)?;
         }
+        let digest = Some(digest_of(self.hash, bytes.as_slice()));
+        self.files.keep_digest(node, digest)?;
+        Ok(digest)
     }
 }
 
@@ -226,6 +252,7 @@ pub(crate) fn is_file_at<W: World>(world: &mut W, path: &PathText) -> Result<boo
 pub(crate) fn stamp_at<W: World>(world: &mut W, path: &PathText) -> Result<Option<u64>, ListEnd>
     ensures looks { Looks W.meaning world.old world.new }
     ensures cause { HasLookCause (W.meaning.counts world.old) (W.meaning.counts world.new) result }
+    ensures stamp { W.meaning.tells world.new → IfOk result (λ time. time ≡ stamp_of (W.meaning.around world.new) path.now) }
 {
     match world.stamp(path) {
         Ok(stamp) => Ok(stamp),
@@ -238,6 +265,7 @@ pub(crate) fn stamp_at<W: World>(world: &mut W, path: &PathText) -> Result<Optio
 fn content_at<W: World>(world: &mut W, path: &PathText) -> Result<Content, ListEnd>
     ensures looks { Looks W.meaning world.old world.new }
     ensures cause { HasLookCause (W.meaning.counts world.old) (W.meaning.counts world.new) result }
+    ensures content { W.meaning.tells world.new → IfOk result (λ content. content ≡ (W.meaning.around world.new).tree path.now) }
 {
     match world.read_file(path, FILE_LIMIT) {
         Ok(content) => Ok(content),

@@ -1,7 +1,13 @@
 //! Which paths are known: those that a rule makes, and those at which a file stands.
-ghost use Rattle.std.specs.Prelude.{◌≡◌, IfOk};
+ghost use Rattle.std.specs.Prelude.{◌≡◌, ℕ, List, Some, None, true, IfOk, IfSome, is_some, slice_get};
+ghost use Rattle.node_tree.specs.Nodes.{number_of};
+ghost use Rattle.world_api.specs.Around.{Around};
 ghost use Rattle.build_files.specs.Causes.{HasLookCause, IsQuiet};
+ghost use Rattle.build_files.specs.Kept.{AreTrue, IsKnownAs, SameGone, StaysTrue};
+ghost use Rattle.build_files.specs.Searched.{HasMore};
 ghost use Rattle.build_files.specs.Leftovers.{is_made, is_declared, is_copied, copied_from};
+ghost use Rattle.build_means.specs.Copies.{copied_from as copied_in, is_known};
+ghost use Rattle.build_means.specs.Grown.{Begun};
 ghost use Rattle.world_api.specs.Looks.{Looks};
 
 use crate::end::ListEnd;
@@ -22,6 +28,11 @@ impl Inputs {
     ) -> Result<Option<NodeId>, ListEnd>
         ensures looks { Looks W.meaning world.old world.new }
         ensures cause { HasLookCause (W.meaning.counts world.old) (W.meaning.counts world.new) result }
+        ensures grows { HasMore graph.old graph.new }
+        ensures gone { SameGone self.old self.new }
+        ensures truth { StaysTrue W.meaning graph.old self.old world.old graph.new self.new world.new }
+        ensures known { W.meaning.tells world.new → (b : Begun) → AreTrue b graph.old self.old (W.meaning.around world.old)
+            → IfOk result (IsKnownAs b graph.new path.now) }
     {
         let Some(node) = graph.find(path) else {
             return self.newly_known(world, graph, path);
@@ -43,15 +54,19 @@ impl Inputs {
     ) -> Result<bool, ListEnd>
         ensures looks { Looks W.meaning world.old world.new }
         ensures cause { HasLookCause (W.meaning.counts world.old) (W.meaning.counts world.new) result }
+        ensures gone { SameGone self.old self.new }
+        ensures truth { StaysTrue W.meaning graph.now self.old world.old graph.now self.new world.new }
+        ensures known { W.meaning.tells world.new → (b : Begun) (path : List ℕ) → slice_get graph.now.nodes node.0 ≡ Some path
+            → AreTrue b graph.now self.old (W.meaning.around world.old) → IfOk result (λ is. is ≡ is_known b.graph b.tree path) }
     {
+        graph.laws();
         if graph.rule_of(node).is_some() {
             return Ok(true);
         }
-        let path = path_of(graph, node)?;
-        if self.is_file(world, path, node)? {
+        if self.is_file(world, graph, node)? {
             return Ok(true);
         }
-        self.has_copy_rule(world, graph, path)
+        self.has_copy_rule(world, graph, path_of(graph, node)?)
     }
 
     /// The node of a path that no rule names, where the path is known.
@@ -64,6 +79,12 @@ impl Inputs {
     ) -> Result<Option<NodeId>, ListEnd>
         ensures looks { Looks W.meaning world.old world.new }
         ensures cause { HasLookCause (W.meaning.counts world.old) (W.meaning.counts world.new) result }
+        ensures grows { HasMore graph.old graph.new }
+        ensures gone { SameGone self.old self.new }
+        ensures truth { number_of graph.old.nodes path.now ≡ None
+            → StaysTrue W.meaning graph.old self.old world.old graph.new self.new world.new }
+        ensures known { number_of graph.old.nodes path.now ≡ None → W.meaning.tells world.new → (b : Begun)
+            → AreTrue b graph.old self.old (W.meaning.around world.old) → IfOk result (IsKnownAs b graph.new path.now) }
     {
         if self.unknown.contains(path) {
             return Ok(None);
@@ -74,6 +95,7 @@ impl Inputs {
         if self.has_copy_rule(world, graph, path)? {
             return self.note(graph, path, false);
         }
+        graph.laws();
         let _ = self.unknown.insert(path.copy()?)?;
         Ok(None)
     }
@@ -88,7 +110,10 @@ impl Inputs {
     ) -> Result<bool, ListEnd>
         ensures looks { Looks W.meaning world.old world.new }
         ensures cause { HasLookCause (W.meaning.counts world.old) (W.meaning.counts world.new) result }
+        ensures copied { W.meaning.tells world.new → (b : Begun) → AreTrue b graph.now self.now (W.meaning.around world.old)
+            → IfOk result (λ has. has ≡ is_some (copied_in b.graph b.tree path.now)) }
     {
+        graph.laws();
         Ok(copied_from(world, graph, self.declared, path)?.is_some())
     }
 
@@ -100,10 +125,19 @@ impl Inputs {
         path: &PathText,
         is_file: bool,
     ) -> Result<Option<NodeId>, ListEnd>
-        ensures { IsQuiet result }
+        ensures quiet { IsQuiet result }
+        ensures grows { HasMore graph.old graph.new }
+        ensures gone { SameGone self.old self.new }
+        ensures truth { (b : Begun) (around : Around) → number_of graph.old.nodes path.now ≡ None → is_file ≡ is_some (b.tree path.now)
+            → AreTrue b graph.old self.old around → AreTrue b graph.new self.new around }
+        ensures node { number_of graph.old.nodes path.now ≡ None
+            → IfOk result (λ node. IfSome node (λ n. slice_get graph.new.nodes n.0 ≡ Some path.now)) }
+        ensures some { IfOk result (λ node. is_some node ≡ true) }
     {
+        graph.laws();
         let node = graph.intern(path)?;
-        self.seen(node)?.is_file = Some(is_file);
+        graph.laws();
+        self.files.keep_is_file(node, is_file)?;
         Ok(Some(node))
     }
 }

@@ -16,12 +16,12 @@ use Rattle.build_means.specs.Laws.{or_copied}
 use Rattle.build_means.proofs.Lists.{none_some, and_both, any_there, map_among, place_of, at_place, first_place}
 use Rattle.build_means.proofs.Readings.{node_path, rule_with_target, rule_with_is, rule_is}
 
-get_front : {A : Type 0} (xs ys : List A) (i : ℕ) (x : A) → slice_get xs i ≡ Some x → slice_get (xs ++ ys) i ≡ Some x
+pub get_front : {A : Type 0} (xs ys : List A) (i : ℕ) (x : A) → slice_get xs i ≡ Some x → slice_get (xs ++ ys) i ≡ Some x
 get_front [] ys i x e = none_some e
 get_front (z ∷ xs) ys zero x e = e
 get_front (z ∷ xs) ys (suc i) x e = get_front xs ys i x e
 
-get_either : {A : Type 0} (xs ys : List A) (i : ℕ) (x : A) → slice_get (xs ++ ys) i ≡ Some x → (slice_get xs i ≡ Some x) ⊎ ((slice_get xs i ≡ None) × Among x ys)
+pub get_either : {A : Type 0} (xs ys : List A) (i : ℕ) (x : A) → slice_get (xs ++ ys) i ≡ Some x → (slice_get xs i ≡ Some x) ⊎ ((slice_get xs i ≡ None) × Among x ys)
 get_either [] ys i x e = inr (refl, at_place ys i e)
 get_either (z ∷ xs) ys zero x e = inl e
 get_either (z ∷ xs) ys (suc i) x e = get_either xs ys i x e
@@ -67,14 +67,14 @@ module _ (b : Begun) (g : RuleGraph) (read : IsReading b.graph) (reading : IsRea
       }
 
   -- the target of a rule is a path of its node
-  named : (node : ℕ) (path : Path) (x : declared.Rule) → slice_get g.nodes node ≡ Some path → is_target_of x.targets node ≡ true → Among path (paths_of g x.targets)
+  pub named : (node : ℕ) (path : Path) (x : declared.Rule) → slice_get g.nodes node ≡ Some path → is_target_of x.targets node ≡ true → Among path (paths_of g x.targets)
   named node path x at is =
       let target = any_there (λ t. nat_eq t.0 node) x.targets is in
       let same = (Decides-eqb target.0.0 node).0 target.2 in
       subst (λ p. Among p (paths_of g x.targets))
       (ap (λ k. unwrap_or (slice_get g.nodes k) []) same ∙ ap (λ o. unwrap_or o []) at) (map_among (path_of g.nodes) target.1)
 
-  only : {p q : Path} → Among p (q ∷ []) → p ≡ q
+  pub only : {p q : Path} → Among p (q ∷ []) → p ≡ q
   only here = refl
   only (there m) = elim m [ ]
 
@@ -113,7 +113,7 @@ module _ (b : Begun) (g : RuleGraph) (read : IsReading b.graph) (reading : IsRea
       rule_by path number place.0 place.1 (named node path place.0 at place.2)
       (get_either b.graph.rules grown.copies number place.0 (sym (ap (λ rules. slice_get rules number) grown.rules) ∙ place.1))
 
-  in_grown : {x : declared.Rule} → Among x b.graph.rules → Among x g.rules
+  pub in_grown : {x : declared.Rule} → Among x b.graph.rules → Among x g.rules
   in_grown {x} m =
       let place = place_of m in
       at_place g.rules place.0 (ap (λ rules. slice_get rules place.0) grown.rules ∙ get_front b.graph.rules grown.copies place.0 x place.1)

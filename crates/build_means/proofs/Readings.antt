@@ -48,13 +48,13 @@ module _ (g : RuleGraph) (reading : IsReading g) where
   node_path n below = let e = slice_get-get_or g.nodes n.0 [] below in e ∙ ap Some (sym (ap (λ o. unwrap_or o []) e))
 
   -- the number of the path of a target
-  target_number : (x : declared.Rule) (i : ℕ) (n : NodeId) → slice_get g.rules i ≡ Some x → Among n x.targets →
+  pub target_number : (x : declared.Rule) (i : ℕ) (n : NodeId) → slice_get g.rules i ≡ Some x → Among n x.targets →
       number_of g.nodes (path_of g.nodes n) ≡ Some n.0
   target_number x i n at m =
       let below = all_there (λ t. nat_lt t.0 (length g.nodes)) m (reading.named.each_rule i x at).targets in
       reading.apart n.0 (path_of g.nodes n) (node_path n (ltb-true n.0 (length g.nodes) below))
 
-  target_rule : (x : declared.Rule) (i : ℕ) (n : NodeId) → slice_get g.rules i ≡ Some x → Among n x.targets → rule_of g.rules n.0 ≡ Some i
+  pub target_rule : (x : declared.Rule) (i : ℕ) (n : NodeId) → slice_get g.rules i ≡ Some x → Among n x.targets → rule_of g.rules n.0 ≡ Some i
   target_rule x i n at m = reading.single i n.0 x at (there_any (λ t. nat_eq t.0 n.0) m ((Decides-eqb n.0 n.0).1 refl))
 
   -- a path that is a target of a rule leads to it
