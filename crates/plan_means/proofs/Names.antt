@@ -1,32 +1,29 @@
 -- What a plan takes of a rule, by paths.
-use Rattle.std.proofs.Common.{◌≡◌, ◌<◌, ◌≤◌, ℕ, zero, suc, Bool, true, false, cond, ◌||◌, ◌&&◌, List, [], ◌∷◌, ◌++◌, length, map, Option, Some, None, refl, sym, subst, ap, ◌∙◌, inl, inr, ◌⊎◌, ⊎_elim, arith}
+use Rattle.std.proofs.Common.{◌≡◌, ◌<◌, ◌≤◌, ℕ, zero, suc, Bool, true, false, ◌||◌, ◌&&◌, List, [], ◌∷◌, ◌++◌, length, map, Option, Some, None, refl, sym, ap, ◌∙◌, inl, inr, ◌⊎◌, arith}
 use Rattle.std.specs.Prelude.{slice_get, nat_eq, nat_lt, filter, if◌then◌else◌}
 use Rattle.std.specs.Option.{option_map}
-use Rattle.std.specs.List.{list_any, list_all}
+use Rattle.std.specs.List.{list_all}
 use Rattle.std.proofs.lemmas.Bool.Decides.{Decides-eqb}
 use Rattle.std.proofs.lemmas.List.{map-append}
 use Rattle.std.proofs.lemmas.List.Folds.{list_any-append, list_all-append}
 use Rattle.scons_base.specs.declared.ids.NodeId.{NodeId}
-use Rattle.scons_base.specs.Parts.{suffix_of}
-use Rattle.c_scanner.specs.Suffixes.{is_scanned_suffix}
 use Rattle.world_api.specs.declared.job.Work.{Work}
 use Rattle.world_api.specs.declared.job.Work.TheVariants.{Shell, Copy, Write}
 use Rattle.rule_graph.specs.declared.rule.Rule as declared
 use Rattle.rule_graph.specs.Graphs.{RuleGraph, path_of}
 use Rattle.rule_graph.specs.Rules.{are_below, IsRule}
-use Rattle.build_model.specs.Rules.{Path, Rule, Among, here, there}
+use Rattle.build_model.specs.Rules.{Path, Among, here, there}
 use Rattle.build_model.specs.Reach.{has, unseen, those, kept_sources, declared as declared_paths, first_scanned, left_out}
-use Rattle.build_model.specs.Graphs.{copy_rule}
 use Rattle.build_model.proofs.Lists.{true_false, none_some, some_same, has_among, among_has, unseen_in}
-use Rattle.build_means.specs.Rules.{IsReading, paths_of, keeps_sources, is_scanned_path, scanned_in, rule_in}
-use Rattle.build_means.specs.Grown.{Begun, IsGrown, IsCopyOf, copy_in, rule_numbered, or_copy_in}
+use Rattle.build_means.specs.Rules.{IsReading, paths_of, keeps_sources, is_scanned_path, rule_in}
+use Rattle.build_means.specs.Grown.{Begun, IsGrown, copy_in, or_copy_in}
 use Rattle.build_means.proofs.Lists.{at_place}
-use Rattle.task_plan.specs.Named.{stands, put, put_all, is_shell, ignored_of, with_sources, sources_of, named_of, with_targets, left_out_of, is_scanned_node, scanned_of}
+use Rattle.task_plan.specs.Named.{stands, put, put_all, is_shell, ignored_of, sources_of, named_of, is_scanned_node, scanned_of}
 use Rattle.task_plan.proofs.NamedLemmas.{put_all-append}
 use Rattle.task_plan.proofs.ListLemmas.{and_both, get-front}
 use Rattle.task_plan.proofs.MetNeeds.{all_put_all}
 use Rattle.plan_means.specs.Names.{AreNames, IsNamed, IsCopyNamed}
-use Rattle.plan_means.proofs.Seen.{or_nothing, or_swap, has_append, same_paths, has_stands, put_paths}
+use Rattle.plan_means.proofs.Seen.{or_nothing, or_swap, has_append, has_stands, put_paths}
 
 or_this : (s e : Bool) → (e ≡ true → s ≡ true) → s ≡ (s || e)
 or_this true e f = refl
@@ -47,7 +44,8 @@ stands_put_by before n x false e =
     list_any-append (λ m. nat_eq n.0 m.0) before (x ∷ []) ∙ ap (λ c. stands before n || c) (or_nothing (nat_eq n.0 x.0))
 
 -- what stands among nodes that are put behind others
-pub stands_all : (before nodes : List NodeId) (n : NodeId) → stands (put_all [] before nodes) n ≡ (stands before n || stands nodes n)
+pub stands_all : (before nodes : List NodeId) (n : NodeId) →
+    stands (put_all [] before nodes) n ≡ (stands before n || stands nodes n)
 stands_all before [] n = sym (or_nothing (stands before n))
 stands_all before (x ∷ nodes) n =
     stands_all (put [] before x) nodes n
@@ -59,12 +57,15 @@ those_none [] = refl
 those_none (p ∷ ps) = those_none ps
 
 module _ (test : Path → Bool) where
-  has_passing : (p : Path) (ps : List Path) → Among p ps → (c : Bool) → has p (filter test ps) ≡ c → (d : Bool) → test p ≡ d → c ≡ d
+  has_passing : (p : Path) (ps : List Path) → Among p ps → (c : Bool) → has p (filter test ps) ≡ c → (d : Bool) →
+      test p ≡ d → c ≡ d
   has_passing p ps m true e true f = refl
   has_passing p ps m false e false f = refl
   has_passing p ps m true e false f = absurd (true_false (sym (passes p ps (has_among p (filter test ps) e)) ∙ f))
     where
-      passes_by : (p q : Path) (qs : List Path) (d : Bool) → test q ≡ d → Among p (if d then q ∷ filter test qs else filter test qs) → (Among p (filter test qs) → test p ≡ true) → test p ≡ true
+      passes_by : (p q : Path) (qs : List Path) (d : Bool) → test q ≡ d →
+          Among p (if d then q ∷ filter test qs else filter test qs) → (Among p (filter test qs) → test p ≡ true) →
+          test p ≡ true
       passes_by p q qs true e here next = e
       passes_by p q qs true e (there m) next = next m
       passes_by p q qs false e m next = next m
@@ -74,11 +75,13 @@ module _ (test : Path → Bool) where
       passes p (q ∷ qs) m = passes_by p q qs (test q) refl m (passes p qs)
   has_passing p ps m false e true f = absurd (true_false (sym (among_has (stays p ps m f)) ∙ e))
     where
-      keeps : (p q : Path) (qs : List Path) (d : Bool) → Among p (filter test qs) → Among p (if d then q ∷ filter test qs else filter test qs)
+      keeps : (p q : Path) (qs : List Path) (d : Bool) → Among p (filter test qs) →
+          Among p (if d then q ∷ filter test qs else filter test qs)
       keeps p q qs true m = there m
       keeps p q qs false m = m
 
-      first : (p : Path) (qs : List Path) (d : Bool) → d ≡ true → Among p (if d then p ∷ filter test qs else filter test qs)
+      first : (p : Path) (qs : List Path) (d : Bool) → d ≡ true →
+          Among p (if d then p ∷ filter test qs else filter test qs)
       first p qs true e = here
       first p qs false e = true_false (sym e)
 
@@ -94,7 +97,8 @@ module _ (test : Path → Bool) where
   those_by p ps ks true false e f = true_false e
   those_by p ps ks false true e f = true_false (sym e)
 
-  those_passing : (ps ks : List Path) → ((p : Path) → Among p ks → Among p ps) → those (filter test ps) ks ≡ filter test ks
+  those_passing : (ps ks : List Path) → ((p : Path) → Among p ks → Among p ps) →
+      those (filter test ps) ks ≡ filter test ks
   those_passing ps [] h = refl
   those_passing ps (k ∷ ks) h =
       those_by k ps ks (has k (filter test ps)) (test k) (has_passing k ps (h k here) (has k (filter test ps)) refl (test k) refl)
@@ -111,11 +115,13 @@ module _ (test : Path → Bool) where
       ∙ ap (λ l. p ∷ l) more
   pass_new p ps seen out false c e new more stay = stay
 
-  seen_first : (p : Path) (seen out : List Path) → ((q : Path) → Among q seen → Among q out) → (q : Path) → Among q (p ∷ seen) → Among q (p ∷ out)
+  seen_first : (p : Path) (seen out : List Path) → ((q : Path) → Among q seen → Among q out) → (q : Path) →
+      Among q (p ∷ seen) → Among q (p ∷ out)
   seen_first p seen out h q here = here
   seen_first p seen out h q (there m) = there (h q m)
 
-  unseen_passing_by : (p : Path) (ps seen out : List Path) (b : Bool) → has p out ≡ b → ((q : Path) → Among q seen → Among q out) →
+  unseen_passing_by : (p : Path) (ps seen out : List Path) (b : Bool) → has p out ≡ b →
+      ((q : Path) → Among q seen → Among q out) →
       unseen seen (filter test (unseen out ps)) ≡ filter test (unseen out ps) →
       unseen (p ∷ seen) (filter test (unseen (p ∷ out) ps)) ≡ filter test (unseen (p ∷ out) ps) →
       unseen seen (filter test (unseen (p ∷ out) ps)) ≡ filter test (unseen (p ∷ out) ps) →
@@ -125,13 +131,15 @@ module _ (test : Path → Bool) where
       pass_new p ps seen out (test p) (has p seen) refl (λ s. true_false (sym (among_has (h p (has_among p seen s))) ∙ e)) more stay
 
   -- paths that stand once and pass a test stand once
-  unseen_passing : (ps seen out : List Path) → ((q : Path) → Among q seen → Among q out) → unseen seen (filter test (unseen out ps)) ≡ filter test (unseen out ps)
+  unseen_passing : (ps seen out : List Path) → ((q : Path) → Among q seen → Among q out) →
+      unseen seen (filter test (unseen out ps)) ≡ filter test (unseen out ps)
   unseen_passing [] seen out h = refl
   unseen_passing (p ∷ ps) seen out h =
       unseen_passing_by p ps seen out (has p out) refl h
       (unseen_passing ps seen out h) (unseen_passing ps (p ∷ seen) (p ∷ out) (seen_first p seen out h)) (unseen_passing ps seen (p ∷ out) (λ q m. there (h q m)))
 
-filter_paths_by : (f : NodeId → Path) (test : Path → Bool) (own : NodeId → Bool) (n : NodeId) (nodes : List NodeId) (b c : Bool) → b ≡ c →
+filter_paths_by : (f : NodeId → Path) (test : Path → Bool) (own : NodeId → Bool) (n : NodeId) (nodes : List NodeId)
+    (b c : Bool) → b ≡ c →
     map f (filter own nodes) ≡ filter test (map f nodes) →
     map f (if b then n ∷ filter own nodes else filter own nodes) ≡ (if c then f n ∷ filter test (map f nodes) else filter test (map f nodes))
 filter_paths_by f test own n nodes true true e h = ap (λ l. f n ∷ l) h
@@ -139,22 +147,26 @@ filter_paths_by f test own n nodes false false e h = h
 filter_paths_by f test own n nodes true false e h = true_false e
 filter_paths_by f test own n nodes false true e h = true_false (sym e)
 
-filter_paths : (f : NodeId → Path) (test : Path → Bool) (own : NodeId → Bool) → ((n : NodeId) → own n ≡ test (f n)) → (nodes : List NodeId) →
+filter_paths : (f : NodeId → Path) (test : Path → Bool) (own : NodeId → Bool) → ((n : NodeId) → own n ≡ test (f n)) →
+    (nodes : List NodeId) →
     map f (filter own nodes) ≡ filter test (map f nodes)
 filter_paths f test own same [] = refl
 filter_paths f test own same (n ∷ nodes) = filter_paths_by f test own n nodes (own n) (test (f n)) (same n) (filter_paths f test own same nodes)
 
-all_passing_by : (own test : NodeId → Bool) (n : NodeId) (nodes : List NodeId) (b c : Bool) → (c && list_all own nodes) ≡ true → own n ≡ c →
-    (list_all own nodes ≡ true → list_all own (filter test nodes) ≡ true) → list_all own (if b then n ∷ filter test nodes else filter test nodes) ≡ true
+all_passing_by : (own test : NodeId → Bool) (n : NodeId) (nodes : List NodeId) (b c : Bool) →
+    (c && list_all own nodes) ≡ true → own n ≡ c →
+    (list_all own nodes ≡ true → list_all own (filter test nodes) ≡ true) →
+    list_all own (if b then n ∷ filter test nodes else filter test nodes) ≡ true
 all_passing_by own test n nodes true true h e next = and_both (own n) (list_all own (filter test nodes)) e (next h)
 all_passing_by own test n nodes false true h e next = next h
 all_passing_by own test n nodes b false h e next = true_false (sym h)
 
-all_passing : (own test : NodeId → Bool) (nodes : List NodeId) → list_all own nodes ≡ true → list_all own (filter test nodes) ≡ true
+all_passing : (own test : NodeId → Bool) (nodes : List NodeId) → list_all own nodes ≡ true →
+    list_all own (filter test nodes) ≡ true
 all_passing own test [] h = refl
 all_passing own test (n ∷ nodes) h = all_passing_by own test n nodes (test n) (own n) h refl (all_passing own test nodes)
 
-scanned_node : (g : RuleGraph) (n : NodeId) → is_scanned_node g n ≡ is_scanned_path (path_of g.nodes n)
+pub scanned_node : (g : RuleGraph) (n : NodeId) → is_scanned_node g n ≡ is_scanned_path (path_of g.nodes n)
 unfolding is_scanned_node is_scanned_path
 scanned_node g n = refl
 
@@ -162,7 +174,8 @@ module _ (g : RuleGraph) (reading : IsReading g) (r : declared.Rule) (is : IsRul
   ignored_stands : (n : NodeId) → stands (ignored_of r) n ≡ stands r.ignored n
   ignored_stands n = stands_all [] r.ignored n
 
-  ignored_seen : (n : NodeId) → n.0 < length g.nodes → has (path_of g.nodes n) (paths_of g r.ignored) ≡ stands (ignored_of r) n
+  ignored_seen : (n : NodeId) → n.0 < length g.nodes →
+      has (path_of g.nodes n) (paths_of g r.ignored) ≡ stands (ignored_of r) n
   ignored_seen n lt = has_stands g reading r.ignored n is.ignored lt ∙ sym (ignored_stands n)
 
   sources_paths_by : (w : Work) → paths_of g (put_all (if is_shell w then ignored_of r else []) [] r.sources)
@@ -176,10 +189,11 @@ module _ (g : RuleGraph) (reading : IsReading g) (r : declared.Rule) (is : IsRul
   pub sources_paths : paths_of g (sources_of r) ≡ kept_sources (rule_in g r)
   sources_paths = sources_paths_by r.work
 
-  below_put : (out before nodes : List NodeId) → are_below (length g.nodes) before ≡ true → are_below (length g.nodes) nodes ≡ true → are_below (length g.nodes) (put_all out before nodes) ≡ true
+  below_put : (out before nodes : List NodeId) → are_below (length g.nodes) before ≡ true →
+      are_below (length g.nodes) nodes ≡ true → are_below (length g.nodes) (put_all out before nodes) ≡ true
   below_put out before nodes h k = all_put_all (λ t. nat_lt t.0 (length g.nodes)) out before nodes h k
 
-  sources_below : are_below (length g.nodes) (sources_of r) ≡ true
+  pub sources_below : are_below (length g.nodes) (sources_of r) ≡ true
   sources_below = below_put (if is_shell r.work then ignored_of r else []) [] r.sources refl is.sources
 
   rest_below : are_below (length g.nodes) (r.depends ++ r.libs) ≡ true
@@ -210,7 +224,8 @@ module _ (g : RuleGraph) (reading : IsReading g) (r : declared.Rule) (is : IsRul
       ∙ ap (λ l. l ++ unseen (kept_sources (rule_in g r) ++ paths_of g r.ignored) (paths_of g (r.depends ++ r.libs))) sources_paths
       ∙ ap (λ l. kept_sources (rule_in g r) ++ unseen (kept_sources (rule_in g r) ++ paths_of g r.ignored) l) (map-append (path_of g.nodes) r.depends r.libs)
 
-  scanned_below_by : (b : Bool) → are_below (length g.nodes) (if b then put_all [] [] (filter (is_scanned_node g) (sources_of r)) else []) ≡ true
+  scanned_below_by : (b : Bool) →
+      are_below (length g.nodes) (if b then put_all [] [] (filter (is_scanned_node g) (sources_of r)) else []) ≡ true
   scanned_below_by true =
       below_put [] [] (filter (is_scanned_node g) (sources_of r)) refl
       (all_passing (λ t. nat_lt t.0 (length g.nodes)) (is_scanned_node g) (sources_of r) sources_below)
@@ -250,7 +265,8 @@ module _ (g : RuleGraph) (reading : IsReading g) (r : declared.Rule) (is : IsRul
   pub copy_names : AreNames g r (copy_in g r)
   copy_names = record { targets = refl; required = refl; named = named_paths; scanned = scanned_paths; left_out = left_out_by r.scans }
 
-same_there : {x y : declared.Rule} (xs : List declared.Rule) (i : ℕ) → slice_get xs i ≡ Some x → slice_get xs i ≡ Some y → x ≡ y
+same_there : {x y : declared.Rule} (xs : List declared.Rule) (i : ℕ) → slice_get xs i ≡ Some x →
+    slice_get xs i ≡ Some y → x ≡ y
 same_there xs i e f = some_same (sym e ∙ f)
 
 past_none : {A : Type 0} (xs : List A) (i : ℕ) → length xs ≤ i → slice_get xs i ≡ None
@@ -258,17 +274,20 @@ past_none [] i le = refl
 past_none (x ∷ xs) zero le = absurd (omega arith)
 past_none (x ∷ xs) (suc i) le = past_none xs i (omega arith)
 
-either_part : {A : Type 0} (xs ys : List A) (i : ℕ) (x : A) → slice_get (xs ++ ys) i ≡ Some x → (slice_get xs i ≡ Some x) ⊎ ((slice_get xs i ≡ None) × Among x ys)
+either_part : {A : Type 0} (xs ys : List A) (i : ℕ) (x : A) → slice_get (xs ++ ys) i ≡ Some x →
+    (slice_get xs i ≡ Some x) ⊎ ((slice_get xs i ≡ None) × Among x ys)
 either_part [] ys i x e = inr (refl, at_place ys i e)
 either_part (z ∷ xs) ys zero x e = inl e
 either_part (z ∷ xs) ys (suc i) x e = either_part xs ys i x e
 
 module _ (b : Begun) (g : RuleGraph) (grown : IsGrown b g) where
-  rule_there : (number : ℕ) (of x : declared.Rule) → slice_get g.rules number ≡ Some of → slice_get b.graph.rules number ≡ Some x → x ≡ of
+  rule_there : (number : ℕ) (of x : declared.Rule) → slice_get g.rules number ≡ Some of →
+      slice_get b.graph.rules number ≡ Some x → x ≡ of
   rule_there number of x at e =
       some_same (sym (ap (λ rules. slice_get rules number) grown.rules ∙ get-front b.graph.rules grown.copies number x e) ∙ at)
 
-  named_by : IsReading g → (number : ℕ) (of : declared.Rule) → slice_get g.rules number ≡ Some of → (o : Option declared.Rule) →
+  named_by : IsReading g → (number : ℕ) (of : declared.Rule) → slice_get g.rules number ≡ Some of →
+      (o : Option declared.Rule) →
       slice_get b.graph.rules number ≡ o → IsNamed b g number of
   named_by reading number of at (Some x) e =
       record {
@@ -283,7 +302,8 @@ module _ (b : Begun) (g : RuleGraph) (grown : IsGrown b g) where
         names = copy_names g reading of (reading.named.each_rule number of at);
       }
 
-  pub is_named : IsReading g → (number : ℕ) (of : declared.Rule) → slice_get g.rules number ≡ Some of → IsNamed b g number of
+  pub is_named : IsReading g → (number : ℕ) (of : declared.Rule) → slice_get g.rules number ≡ Some of →
+      IsNamed b g number of
   is_named reading number of at = named_by reading number of at (slice_get b.graph.rules number) refl
 
   copy_by : (number : ℕ) (of : declared.Rule) → length b.graph.rules ≤ number → slice_get g.rules number ≡ Some of →
@@ -299,7 +319,8 @@ module _ (b : Begun) (g : RuleGraph) (grown : IsGrown b g) where
         sources = ap (λ r. r.sources) copy.is;
       }
 
-  pub is_copy : (number : ℕ) (of : declared.Rule) → length b.graph.rules ≤ number → slice_get g.rules number ≡ Some of → IsCopyNamed b g number of
+  pub is_copy : (number : ℕ) (of : declared.Rule) → length b.graph.rules ≤ number →
+      slice_get g.rules number ≡ Some of → IsCopyNamed b g number of
   is_copy number of past at =
       copy_by number of past at (either_part b.graph.rules grown.copies number of (sym (ap (λ rules. slice_get rules number) grown.rules) ∙ at))
 

@@ -1,8 +1,8 @@
 -- A rule that a tied plan needs is needed by the model.
-use Rattle.std.proofs.Common.{◌≡◌, ◌≢◌, ◌<◌, ℕ, Bool, true, false, ◌||◌, List, [], ◌∷◌, ◌++◌, length, map, Option, Some, None, refl, sym, subst, ap, ◌∙◌, inl, inr, ◌⊎◌, ⊎_elim}
-use Rattle.std.specs.Prelude.{slice_get, nat_eq}
+use Rattle.std.proofs.Common.{◌≡◌, ◌≢◌, ◌<◌, ℕ, Bool, true, false, ◌||◌, List, [], ◌∷◌, ◌++◌, length, Option, Some, None, refl, sym, subst, ap, ◌∙◌, inl, inr, ◌⊎◌, ⊎_elim}
+use Rattle.std.specs.Prelude.{nat_eq}
 use Rattle.std.specs.Option.{option_map}
-use Rattle.std.specs.List.{list_any, cons_option}
+use Rattle.std.specs.List.{cons_option}
 use Rattle.std.proofs.lemmas.List.Folds.{list_any-append}
 use Rattle.scons_base.specs.declared.ids.NodeId.{NodeId}
 use Rattle.scons_base.specs.declared.ids.RuleId.{RuleId}
@@ -10,7 +10,7 @@ use Rattle.rule_graph.specs.Graphs.{RuleGraph, path_of}
 use Rattle.rule_graph.specs.Rules.{rule_of}
 use Rattle.task_plan.specs.States.{state_of}
 use Rattle.task_plan.specs.Named.{stands}
-use Rattle.task_plan.specs.Settled.{Kept, origin_of, is_scanned}
+use Rattle.task_plan.specs.Settled.{origin_of, is_scanned}
 use Rattle.task_plan.specs.Listed.{included}
 use Rattle.task_plan.specs.Orders.{is_among, makers_of, needed_in, needed_of, IsReached, is_root, is_needed as needed_there}
 use Rattle.task_plan.specs.Rooted.{makers_in}
@@ -23,23 +23,23 @@ use Rattle.task_plan.proofs.EnterLemmas.{maker_made}
 use Rattle.task_plan.proofs.MetNeeds.{stands_at}
 use Rattle.task_plan.proofs.ReachedLemmas.{first_or}
 use Rattle.task_plan.proofs.RestLemmas.{place_in}
-use Rattle.build_model.specs.Rules.{Path, Tree, Rule, Among}
+use Rattle.build_model.specs.Rules.{Tree, Rule}
 use Rattle.build_model.specs.Needs.{Found, Needs, as_required, as_dependency, Needed, is_requested, is_needed}
 use Rattle.build_model.specs.Graphs.{rule_at}
 use Rattle.build_model.specs.Steps.{Step}
-use Rattle.build_model.proofs.Lists.{true_false, none_some, some_same, among_same}
+use Rattle.build_model.proofs.Lists.{true_false, among_same}
 use Rattle.build_means.specs.Rules.{paths_of}
 use Rattle.build_means.specs.Grown.{Begun, begun_graph}
 use Rattle.build_means.proofs.Lists.{or_either}
 use Rattle.plan_means.specs.Planning.{IsGraphNow}
 use Rattle.plan_means.specs.Ties.{Ties}
-use Rattle.plan_means.proofs.Knowing.{path_among, one_below, Knows, knows, rule_made, dep_reached, needs_all_below}
+use Rattle.plan_means.proofs.Knowing.{path_among, one_below, knows, rule_made, dep_reached, needs_all_below}
 
 -- a node that this rule makes, by what the graph says
-record IsOf (g : RuleGraph) (nodes : List NodeId) (r : ℕ) : Type 0 where
-  node : NodeId
-  among : stands nodes node ≡ true
-  made : rule_of g.rules node.0 ≡ Some r
+pub record IsOf (g : RuleGraph) (nodes : List NodeId) (r : ℕ) : Type 0 where
+  pub node : NodeId
+  pub among : stands nodes node ≡ true
+  pub made : rule_of g.rules node.0 ≡ Some r
 
 or_left : (b c : Bool) → b ≡ true → (b || c) ≡ true
 or_left true c e = refl
@@ -64,11 +64,12 @@ maker_by g x nodes r (Some m) e h next =
     (first_or r (record { 0 = m }) (makers_in g nodes) h)
 
 -- the makers of nodes make some of them
-maker_in : (g : RuleGraph) (nodes : List NodeId) (r : ℕ) → is_among r (makers_in g nodes) ≡ true → IsOf g nodes r
+pub maker_in : (g : RuleGraph) (nodes : List NodeId) (r : ℕ) → is_among r (makers_in g nodes) ≡ true → IsOf g nodes r
 maker_in g [] r h = true_false (sym h)
 maker_in g (x ∷ nodes) r h = maker_by g x nodes r (rule_of g.rules x.0) refl h (maker_in g nodes r)
 
-module _ (b : Begun) (g : RuleGraph) (requested : List NodeId) (t : Tree) (past : List Step) (plan : Planned) (now : IsGraphNow b g)
+module _ (b : Begun) (g : RuleGraph) (requested : List NodeId) (t : Tree) (past : List Step) (plan : Planned)
+    (now : IsGraphNow b g)
     (ties : Ties b g requested t past plan) where
   -- what a rule needs by a file that the other one makes
   pub record IsNeededBy (number other : ℕ) (needed : state_of plan.states other ≢ Unneeded) : Type 0 where
@@ -76,7 +77,8 @@ module _ (b : Begun) (g : RuleGraph) (requested : List NodeId) (t : Tree) (past 
     pub among : stands ((knows b g requested t past plan now ties other needed).kept.required ++ (knows b g requested t past plan now ties other needed).kept.deps) node ≡ true
     pub origin : origin_of plan.origins node.0 ≡ Made (record { 0 = number })
 
-  pub needed_by : (number other : ℕ) (needed : state_of plan.states other ≢ Unneeded) → is_among number (needed_of plan.rules plan.origins other) ≡ true →
+  pub needed_by : (number other : ℕ) (needed : state_of plan.states other ≢ Unneeded) →
+      is_among number (needed_of plan.rules plan.origins other) ≡ true →
       IsNeededBy number other needed
   needed_by number other needed h =
       let k = knows b g requested t past plan now ties other needed in
@@ -97,7 +99,8 @@ module _ (b : Begun) (g : RuleGraph) (requested : List NodeId) (t : Tree) (past 
     abbrev pub rule_of_number : (number : ℕ) → state_of plan.states number ≢ Unneeded → Rule
     rule_of_number number needed = (knows b g requested t past plan now ties number needed).rule
 
-    needs_of_by : (number other : ℕ) (here_needed : state_of plan.states number ≢ Unneeded) (needed : state_of plan.states other ≢ Unneeded) (node : NodeId) →
+    needs_of_by : (number other : ℕ) (here_needed : state_of plan.states number ≢ Unneeded)
+        (needed : state_of plan.states other ≢ Unneeded) (node : NodeId) →
         origin_of plan.origins node.0 ≡ Made (record { 0 = number }) → node.0 < length g.nodes →
         (stands (knows b g requested t past plan now ties other needed).kept.required node ≡ true)
         ⊎ (stands (knows b g requested t past plan now ties other needed).kept.deps node ≡ true) →
@@ -114,7 +117,8 @@ module _ (b : Begun) (g : RuleGraph) (requested : List NodeId) (t : Tree) (past 
         (made ∙ (knows b g requested t past plan now ties number here_needed).numbered)
 
     -- one rule needs another by the plan, and so it does by the model
-    pub needs_of : (number other : ℕ) (here_needed : state_of plan.states number ≢ Unneeded) (needed : state_of plan.states other ≢ Unneeded) →
+    pub needs_of : (number other : ℕ) (here_needed : state_of plan.states number ≢ Unneeded)
+        (needed : state_of plan.states other ≢ Unneeded) →
         is_among number (needed_of plan.rules plan.origins other) ≡ true →
         Needs (rule_at (begun_graph b) b.tree) found (rule_of_number other needed) (rule_of_number number here_needed)
     needs_of number other here_needed needed h =
@@ -125,7 +129,8 @@ module _ (b : Begun) (g : RuleGraph) (requested : List NodeId) (t : Tree) (past 
         (or_either (stands k.kept.required by.node) (stands k.kept.deps by.node)
         (sym (list_any-append (λ m. nat_eq by.node.0 m.0) k.kept.required k.kept.deps) ∙ by.among))
 
-    root_needed : (number : ℕ) (needed : state_of plan.states number ≢ Unneeded) → is_among number plan.notes.roots ≡ true →
+    root_needed : (number : ℕ) (needed : state_of plan.states number ≢ Unneeded) →
+        is_among number plan.notes.roots ≡ true →
         Needed (rule_at (begun_graph b) b.tree) found (paths_of g requested) (rule_of_number number needed)
     root_needed number needed h =
         let of = maker_in g requested number (ap (is_among number) (sym ties.plan_for.roots) ∙ h) in
@@ -133,7 +138,8 @@ module _ (b : Begun) (g : RuleGraph) (requested : List NodeId) (t : Tree) (past 
         is_requested (path_of g.nodes of.node) (path_among g requested of.node of.among)
         (rule_made b g requested t past plan now ties of.node number lt of.made ∙ (knows b g requested t past plan now ties number needed).numbered)
 
-    pub reached_needed : (number : ℕ) (needed : state_of plan.states number ≢ Unneeded) → IsReached (needed_of plan.rules plan.origins) plan.notes.roots number →
+    pub reached_needed : (number : ℕ) (needed : state_of plan.states number ≢ Unneeded) →
+        IsReached (needed_of plan.rules plan.origins) plan.notes.roots number →
         Needed (rule_at (begun_graph b) b.tree) found (paths_of g requested) (rule_of_number number needed)
     reached_needed number needed (is_root h) = root_needed number needed h
     reached_needed number needed (needed_there other reached h) =

@@ -1,0 +1,97 @@
+-- A plan that meets what laws ask: an object is made of a source, by a rule that doesn't scan, and is requested.
+use Rattle.std.specs.Prelude.{◌≡◌, true, false, [], ◌∷◌, length, Some, None, if◌then◌else◌}
+use Rattle.std.specs.Str.{bytes_eq}
+use Rattle.scons_base.specs.declared.ids.NodeId.{NodeId}
+use Rattle.scons_base.specs.declared.ids.RuleId.{RuleId}
+use Rattle.world_api.specs.declared.hash.Hash.TheVariants.{Md5}
+use Rattle.world_api.specs.declared.job.Work.TheVariants.{Shell}
+use Rattle.world_api.specs.declared.decider.Decider.TheVariants.{Content}
+use Rattle.rule_graph.specs.declared.rule.Rule as declared
+use Rattle.rule_graph.specs.Rules.{are_below}
+use Rattle.rule_graph.specs.Graphs.{RuleGraph}
+use Rattle.task_plan.specs.Settled.{first_kept}
+use Rattle.task_plan.specs.Plans.{Planned, IsDecidedNext}
+use Rattle.task_plan.specs.declared.files.Origin.TheVariants.{Source, Made}
+use Rattle.task_plan.specs.declared.states.RuleState.TheVariants.{Waiting}
+use Rattle.build_model.specs.Rules.{Path, Tree}
+use Rattle.build_means.specs.Grown.{Begun}
+use Rattle.plan_means.specs.Planning.{IsGraphNow}
+use Rattle.plan_means.specs.Ties.{Ties}
+use Rattle.plan_means.specs.Beginning.{AreLookedFor, IsLoaded}
+
+abbrev pub source : Path
+source = 99 ∷ []
+
+abbrev pub object : Path
+object = 111 ∷ []
+
+abbrev pub source_node : NodeId
+source_node = record { 0 = 0 }
+
+abbrev pub object_node : NodeId
+object_node = record { 0 = 1 }
+
+abbrev pub object_rule : declared.Rule
+object_rule = record {
+  work = Shell;
+  targets = object_node ∷ [];
+  sources = source_node ∷ [];
+  libs = [];
+  depends = [];
+  required = [];
+  ignored = [];
+  lines = [];
+  signed = [];
+  paths = [];
+  scans = false;
+  always = false;
+  decider = Content;
+  builder = [];
+}
+
+abbrev pub graph : RuleGraph
+graph = record {
+  top = [];
+  nodes = source ∷ object ∷ [];
+  rules = object_rule ∷ [];
+  aliases = [];
+  defaults = [];
+  helps = [];
+  variants = [];
+}
+
+abbrev pub source_alone : Tree
+source_alone p = if bytes_eq p source then Some (2 ∷ []) else None
+
+abbrev pub begun : Begun
+begun = record { graph = graph; law = λ signed targets given target. None; hash = Md5; tree = source_alone }
+
+abbrev pub first_rule : RuleId
+first_rule = record { 0 = 0 }
+
+-- the plan as it is loaded: the rule waits, and can be decided
+abbrev pub plan : Planned
+plan = record {
+  states = Waiting ∷ [];
+  queue = record { order = first_rule ∷ []; numbers = 0 ∷ []; opens = true ∷ [] };
+  halted = false;
+  rules = first_kept graph object_rule ∷ [];
+  origins = Source ∷ Made first_rule ∷ [];
+  marks = false ∷ [];
+  nexts = None ∷ [];
+  notes = record {
+    places = record { passed = 1; whole = 0; next = 0 } ∷ [];
+    waiters = [] ∷ [] ∷ [];
+    is_ordered = true;
+    roots = first_rule ∷ [];
+  };
+}
+
+-- It meets what is asked of a plan as it is loaded, so it is tied; and it wants its rule decided.
+pub record AreMet : Type 0 where
+  pub now : IsGraphNow begun graph
+  pub below : are_below (length graph.nodes) (object_node ∷ []) ≡ true
+  pub looked : AreLookedFor begun graph (object_node ∷ [])
+  pub loaded : IsLoaded graph (object_node ∷ []) plan
+  pub tied : Ties begun graph (object_node ∷ []) source_alone [] plan
+  pub next : IsDecidedNext plan 0
