@@ -28,7 +28,8 @@ use Rattle.plan_means.specs.Beginning.{AreLookedFor, IsLoaded}
 use Rattle.plan_means.proofs.Needing.{maker_in}
 
 module _ (b : Begun) (g : RuleGraph) (requested : List NodeId) (t : Tree) (plan : Planned) (now : IsGraphNow b g)
-    (below : are_below (length g.nodes) requested ≡ true) (looked : AreLookedFor b g requested) (loaded : IsLoaded g requested plan) where
+    (below : are_below (length g.nodes) requested ≡ true) (looked : AreLookedFor b g requested)
+    (loaded : IsLoaded g requested plan) where
   kept_first : (number : ℕ) (kept : Kept) (needed : state_of plan.states number ≢ Unneeded) →
       slice_get plan.rules number ≡ Some kept →
       kept ≡ first_kept g (loaded.knows number needed).of
@@ -37,12 +38,14 @@ module _ (b : Begun) (g : RuleGraph) (requested : List NodeId) (t : Tree) (plan 
   nothing_scanned : (number : ℕ) (kept : Kept) (needed : state_of plan.states number ≢ Unneeded) →
       slice_get plan.rules number ≡ Some kept → (file : NodeId) →
       is_scanned kept.found file ≡ false
-  nothing_scanned number kept needed at file = ap (λ (k : Kept). is_scanned k.found file) (kept_first number kept needed at)
+  nothing_scanned number kept needed at file = ap (λ (k : Kept). is_scanned k.found file)
+      (kept_first number kept needed at)
 
   nothing_found : (number : ℕ) (kept : Kept) (needed : state_of plan.states number ≢ Unneeded) →
       slice_get plan.rules number ≡ Some kept → (file : NodeId) →
       are_below (length g.nodes) (included kept.found file) ≡ true
-  nothing_found number kept needed at file = ap (λ (k : Kept). are_below (length g.nodes) (included k.found file)) (kept_first number kept needed at)
+  nothing_found number kept needed at file = ap (λ (k : Kept). are_below (length g.nodes) (included k.found file))
+      (kept_first number kept needed at)
 
   waits_or : (number : ℕ) (o : RuleState) → state_of plan.states number ≡ o → (o ≡ Unneeded) ⊎ (o ≡ Waiting)
   waits_or number o e = ⊎_elim (λ same. inl (sym e ∙ same)) (λ h. inr (sym e ∙ h.1)) (loaded.states.at number)
@@ -69,7 +72,8 @@ module _ (b : Begun) (g : RuleGraph) (requested : List NodeId) (t : Tree) (plan 
   asked_next number other needed is_asked h =
       let first = loaded.knows other needed in
       let files = first.of.required ++ named_of first.of in
-      let among : is_among number (makers_of plan.origins files) ≡ true = ap (λ o. is_among number (needed_in plan.origins o)) (sym first.is) ∙ h in
+      let among : is_among number (makers_of plan.origins files) ≡ true = ap
+      (λ o. is_among number (needed_in plan.origins o)) (sym first.is) ∙ h in
       let place = place_in (makers_of plan.origins files) (record { 0 = number }) among in
       let made = maker_made plan.origins files place.0 (record { 0 = number }) place.1 in
       let of = (subst (λ (o : Origin). IsFrom g plan.states made.file.0 o) made.made (loaded.from.each made.file.0)).0 in
@@ -79,15 +83,18 @@ module _ (b : Begun) (g : RuleGraph) (requested : List NodeId) (t : Tree) (plan 
   reached_asked : {number : ℕ} → IsReached (needed_of plan.rules plan.origins) plan.notes.roots number →
       IsAskedFor g requested number
   reached_asked {number} (is_root h) =
-      let of = maker_in g requested number (ap (is_among number) (sym loaded.roots) ∙ h) in IsAskedFor.asked of.node of.among of.made
-  reached_asked {number} (is_needed other reached h) = asked_next number other (loaded.only.only other reached) (reached_asked reached) h
+      let of = maker_in g requested number (ap (is_among number) (sym loaded.roots) ∙ h) in IsAskedFor.asked of.node
+      of.among of.made
+  reached_asked {number} (is_needed other reached h) = asked_next number other (loaded.only.only other reached)
+      (reached_asked reached) h
 
   sources_first : (number : ℕ) (n : NodeId) → state_of plan.states number ≢ Unneeded →
       stands (needs_at plan.rules number) n ≡ true → origin_of plan.origins n.0 ≡ Source →
       rule_at (begun_graph b) b.tree (path_of g.nodes n) ≡ None
   sources_first number n needed need e =
       let first = loaded.knows number needed in
-      looked.named number first.of n (reached_asked (loaded.only.each number needed)) first.at (needs_first number needed n need)
+      looked.named number first.of n (reached_asked (loaded.only.each number needed)) first.at
+      (needs_first number needed n need)
       (subst (λ (o : Origin). IsFrom g plan.states n.0 o) e (loaded.from.each n.0))
 
   pub is_tied : Ties b g requested t [] plan
@@ -108,9 +115,12 @@ module _ (b : Begun) (g : RuleGraph) (requested : List NodeId) (t : Tree) (plan 
       files = λ number kept needed at file h. true_false (sym h ∙ nothing_scanned number kept needed at file);
       nodes = λ number kept needed at file. nothing_found number kept needed at file;
     };
-    scanned = λ number kept decided at. absurd (none_decided (state_of plan.states number) (waits_or number (state_of plan.states number) refl) decided);
+    scanned =
+        λ number kept decided at. absurd (none_decided (state_of plan.states number)
+        (waits_or number (state_of plan.states number) refl) decided);
     sources = sources_first;
     asked = looked.these;
-    states = λ number r numbered. at_first r (state_of plan.states number) (waits_or number (state_of plan.states number) refl);
+    states = λ number r numbered. at_first r (state_of plan.states number)
+        (waits_or number (state_of plan.states number) refl);
     numbered = λ r m. absurd (⊎_elim (λ h. elim h [ ]) (λ h. elim h [ ]) m);
   }

@@ -55,7 +55,8 @@ module _ (b : Begun) (g : RuleGraph) (requested : List NodeId) (build : Build) (
   -- what was found in a scanned file is what is found
   pub whole_agrees : (number : ℕ) (needed : state_of plan.states number ≢ Unneeded) (file : NodeId) →
       is_scanned (know number needed).kept.found file ≡ true →
-      whole_found s build past (know number needed).rule (path_of g.nodes file) ≡ paths_of g (included (know number needed).kept.found file)
+      whole_found s build past (know number needed).rule (path_of g.nodes file) ≡ paths_of g
+      (included (know number needed).kept.found file)
   whole_agrees number needed file h =
       let k = know number needed in
       let seen = tied.ties.sees.each number k.kept k.rule needed k.at k.numbered file h in
@@ -72,7 +73,8 @@ module _ (b : Begun) (g : RuleGraph) (requested : List NodeId) (build : Build) (
     is_found = whole_part;
     is_needed =
         subst (λ l. Needed s.rule_of (whole_found s build past) l (know number needed).rule) (sym tied.asked)
-        (plan_needed b g requested build.after past plan tied.graph tied.ties (whole_found s build past) whole_agrees number needed);
+        (plan_needed b g requested build.after past plan tied.graph tied.ties (whole_found s build past) whole_agrees
+        number needed);
   }
 
   pub room : length g.nodes < s.limit
@@ -95,7 +97,8 @@ module _ (b : Begun) (g : RuleGraph) (requested : List NodeId) (build : Build) (
 
     lists : AreReach g s.limit k.kept (found_in s (in_tree build.after) k.rule) k.rule
     lists =
-        lists_are_reach g k.of k.rule k.kept s.limit (found_in s (in_tree build.after) k.rule) tied.graph.reading k.is k.names k.keeps in_tree_agrees room
+        lists_are_reach g k.of k.rule k.kept s.limit (found_in s (in_tree build.after) k.rule) tied.graph.reading
+        k.is k.names k.keeps in_tree_agrees room
 
     deps_are : paths_of g (deps_of plan.rules number) ≡ paths_of g k.kept.deps
     deps_are = ap (λ o. paths_of g (deps_in o)) k.at
@@ -109,7 +112,8 @@ module _ (b : Begun) (g : RuleGraph) (requested : List NodeId) (build : Build) (
         let n = among_map (path_of g.nodes) k.kept.deps (among_same deps_are m) in
         let h = among_stands k.kept.deps n.0 n.1 in
         subst (λ q. IsReady s build.after (settled past) q ⊎ IsMissing s build.after q) (sym n.2)
-        (done_ready b g requested build.after past plan tied.graph tied.ties number needed n.0 (in_needs k.kept.required k.kept.deps n.0 h)
+        (done_ready b g requested build.after past plan tied.graph tied.ties number needed n.0
+        (in_needs k.kept.required k.kept.deps n.0 h)
         (all_stands (λ x. is_done plan.states plan.origins x) k.kept.deps n.0 through.deps h))
 
     ready_rule : (p : Path) (q : Rule) → s.rule_of p ≡ Some q →
@@ -120,11 +124,14 @@ module _ (b : Begun) (g : RuleGraph) (requested : List NodeId) (build : Build) (
 
     required_done : (p : Path) (q : Rule) → Among p k.rule.required → s.rule_of p ≡ Some q → Among q (settled past)
     required_done p q m e =
-        let n = among_map (path_of g.nodes) k.kept.required (among_same (sym (ap (paths_of g) k.keeps.required ∙ k.names.required)) m) in
+        let n =
+        among_map (path_of g.nodes) k.kept.required (among_same
+        (sym (ap (paths_of g) k.keeps.required ∙ k.names.required)) m) in
         let h = among_stands k.kept.required n.0 n.1 in
         ready_rule p q e
         (subst (λ x. IsReady s build.after (settled past) x ⊎ IsMissing s build.after x) (sym n.2)
-        (done_ready b g requested build.after past plan tied.graph tied.ties number needed n.0 (in_required k.kept.required k.kept.deps n.0 h)
+        (done_ready b g requested build.after past plan tied.graph tied.ties number needed n.0
+        (in_required k.kept.required k.kept.deps n.0 h)
         (all_stands (λ x. is_done plan.states plan.origins x) k.kept.required n.0 through.required h)))
 
     new : IsNew past k.rule
@@ -163,11 +170,14 @@ module _ (b : Begun) (g : RuleGraph) (requested : List NodeId) (build : Build) (
         rest = absent.rest;
         parts = present_are ∙ absent.parts;
         is_missing = absent.is_missing;
-        front_ready = λ q m. without_missing q (each_done q (among_same (sym absent.parts) (among_left (p ∷ absent.rest) m))) (absent.front_there q m);
+        front_ready =
+            λ q m. without_missing q (each_done q (among_same (sym absent.parts) (among_left (p ∷ absent.rest) m)))
+            (absent.front_there q m);
         rest_settled = λ q m. each_done q (among_same (sym absent.parts) (among_right absent.front (there m)));
       };
       required = required_done;
     }
 
     pub may_be_decided : MayBeDecided b g build past plan number
-    may_be_decided = record { rule = k.rule; is = k.numbered; dependencies = present_are; decided = may_decide; lacks = may_lack }
+    may_be_decided =
+        record { rule = k.rule; is = k.numbered; dependencies = present_are; decided = may_decide; lacks = may_lack }

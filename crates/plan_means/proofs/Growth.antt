@@ -49,13 +49,15 @@ module _ (b : Begun) (g h : RuleGraph) (before : IsGraphNow b g) (now : IsGraphN
 
   pub path_stays : (n : NodeId) → n.0 < length g.nodes → path_of h.nodes n ≡ path_of g.nodes n
   path_stays n lt =
-      ap (λ nodes. unwrap_or (slice_get nodes n.0) []) grows.nodes ∙ ap (λ o. unwrap_or o []) (get-within g.nodes grows.more n.0 lt)
+      ap (λ nodes. unwrap_or (slice_get nodes n.0) []) grows.nodes
+      ∙ ap (λ o. unwrap_or o []) (get-within g.nodes grows.more n.0 lt)
 
   pub paths_stay : (nodes : List NodeId) → are_below (length g.nodes) nodes ≡ true → paths_of h nodes ≡ paths_of g nodes
   paths_stay [] below = refl
   paths_stay (n ∷ nodes) below =
       ap (λ p. p ∷ paths_of h nodes) (path_stays n (one_below g (n ∷ nodes) n below (stands_at (n ∷ nodes) 0 n refl)))
-      ∙ ap (λ l. path_of g.nodes n ∷ l) (paths_stay nodes (rest (nat_lt n.0 (length g.nodes)) (are_below (length g.nodes) nodes) below))
+      ∙ ap (λ l. path_of g.nodes n ∷ l) (paths_stay nodes
+      (rest (nat_lt n.0 (length g.nodes)) (are_below (length g.nodes) nodes) below))
     where
       rest : (c d : Bool) → (c && d) ≡ true → d ≡ true
       rest true d e = e
@@ -65,7 +67,8 @@ module _ (b : Begun) (g h : RuleGraph) (before : IsGraphNow b g) (now : IsGraphN
       are_below (length h.nodes) nodes ≡ true
   below_stays nodes below =
       list_all_weaker (λ t. nat_lt t.0 (length g.nodes)) (λ t. nat_lt t.0 (length h.nodes)) nodes
-      (λ t e. lt_true t.0 (length h.nodes) (let lt = ltb-true t.0 (length g.nodes) e in let le = longer in omega arith)) below
+      (λ t e. lt_true t.0 (length h.nodes)
+      (let lt = ltb-true t.0 (length g.nodes) e in let le = longer in omega arith)) below
 
   pub rule_stands : (number : ℕ) (of : declared.Rule) → slice_get g.rules number ≡ Some of →
       slice_get h.rules number ≡ Some of
@@ -87,7 +90,8 @@ module _ (b : Begun) (g h : RuleGraph) (before : IsGraphNow b g) (now : IsGraphN
   rule_same of is =
       let targets = paths_stay of.targets is.targets in
       let sources = paths_stay of.sources is.sources in
-      let scanned : scanned_in h of ≡ scanned_in g of = scanned_stay_by of.scans (paths_of h of.sources) (paths_of g of.sources) sources in
+      let scanned : scanned_in h of ≡ scanned_in g of = scanned_stay_by of.scans (paths_of h of.sources)
+      (paths_of g of.sources) sources in
       let depends = paths_stay of.depends is.depends in
       let libs = paths_stay of.libs is.libs in
       let ignored = paths_stay of.ignored is.ignored in
@@ -108,8 +112,11 @@ module _ (b : Begun) (g h : RuleGraph) (before : IsGraphNow b g) (now : IsGraphN
   numbered_by number of at (Some x) e =
       let is = before.reading.named.each_rule number of at in
       let same : x ≡ of =
-      some_same (sym (ap (λ rules. slice_get rules number) before.grown.rules ∙ get-front b.graph.rules before.grown.copies number x e) ∙ at) in
-      ap (λ o. or_copy_in h o (slice_get h.rules number)) e ∙ ap (λ y. Some (rule_in h y)) same ∙ ap Some (rule_same of is)
+      some_same (sym
+      (ap (λ rules. slice_get rules number) before.grown.rules
+      ∙ get-front b.graph.rules before.grown.copies number x e) ∙ at) in
+      ap (λ o. or_copy_in h o (slice_get h.rules number)) e ∙ ap (λ y. Some (rule_in h y)) same
+      ∙ ap Some (rule_same of is)
       ∙ ap (λ y. Some (rule_in g y)) (sym same) ∙ sym (ap (λ o. or_copy_in g o (slice_get g.rules number)) e)
   numbered_by number of at None e =
       let is = before.reading.named.each_rule number of at in
@@ -124,7 +131,8 @@ module _ (b : Begun) (g h : RuleGraph) (before : IsGraphNow b g) (now : IsGraphN
 
   filter_by : (n : NodeId) (nodes : List NodeId) (c d : Bool) → c ≡ d →
       filter (is_scanned_node h) nodes ≡ filter (is_scanned_node g) nodes →
-      (if c then n ∷ filter (is_scanned_node h) nodes else filter (is_scanned_node h) nodes) ≡ (if d then n ∷ filter (is_scanned_node g) nodes else filter (is_scanned_node g) nodes)
+      (if c then n ∷ filter (is_scanned_node h) nodes else filter (is_scanned_node h) nodes) ≡ (if d then n ∷ filter
+      (is_scanned_node g) nodes else filter (is_scanned_node g) nodes)
   filter_by n nodes true true e f = ap (λ l. n ∷ l) f
   filter_by n nodes false false e f = f
   filter_by n nodes true false e f = true_false e
@@ -135,7 +143,8 @@ module _ (b : Begun) (g h : RuleGraph) (before : IsGraphNow b g) (now : IsGraphN
   filter_stays [] below = refl
   filter_stays (n ∷ nodes) below =
       filter_by n nodes (is_scanned_node h n) (is_scanned_node g n)
-      (scanned_node h n ∙ ap is_scanned_path (path_stays n (below n (stands_at (n ∷ nodes) 0 n refl))) ∙ sym (scanned_node g n))
+      (scanned_node h n ∙ ap is_scanned_path (path_stays n (below n (stands_at (n ∷ nodes) 0 n refl)))
+      ∙ sym (scanned_node g n))
       (filter_stays nodes (λ x m. below x (or_right (nat_eq x.0 n.0) (stands nodes x) m)))
     where
       or_right : (a c : Bool) → c ≡ true → (a || c) ≡ true
@@ -147,8 +156,11 @@ module _ (b : Begun) (g h : RuleGraph) (before : IsGraphNow b g) (now : IsGraphN
   scanned_stays of is = by of.scans
     where
       by : (c : Bool) →
-          (if c then put_all [] [] (filter (is_scanned_node h) (sources_of of)) else []) ≡ (if c then put_all [] [] (filter (is_scanned_node g) (sources_of of)) else [])
-      by true = ap (put_all [] []) (filter_stays (sources_of of) (λ n m. one_below g (sources_of of) n (sources_below g before.reading of is) m))
+          (if c then put_all [] [] (filter (is_scanned_node h) (sources_of of)) else []) ≡ (if c then put_all [] []
+          (filter (is_scanned_node g) (sources_of of)) else [])
+      by true =
+          ap (put_all [] []) (filter_stays (sources_of of)
+          (λ n m. one_below g (sources_of of) n (sources_below g before.reading of is) m))
       by false = refl
 
   module _ (requested : List NodeId) (t : Tree) (past : List Step) (plan : Planned)
@@ -160,7 +172,8 @@ module _ (b : Begun) (g h : RuleGraph) (before : IsGraphNow b g) (now : IsGraphN
     source_by n (inl asked) e none = (one_below g requested n ties.plan_for.nodes asked, ties.asked n asked none)
     source_by n (inr by) e none = (
       need_below b g requested t past plan before ties by.rule by.needed n
-          (ap (λ o. stands (needs_in o) n) (sym (knows b g requested t past plan before ties by.rule by.needed).at) ∙ by.needs),
+          (ap (λ o. stands (needs_in o) n) (sym (knows b g requested t past plan before ties by.rule by.needed).at)
+          ∙ by.needs),
       ties.sources by.rule n by.needed by.needs e,
     )
 
@@ -170,7 +183,8 @@ module _ (b : Begun) (g h : RuleGraph) (before : IsGraphNow b g) (now : IsGraphN
     unmade_by n (Some m) e lt none =
         let place = first_place (λ r. is_target_of r.targets n.0) h.rules m e in
         let lt_now : n.0 < length h.nodes = let le = longer in omega arith in
-        let made = (are_rules b h now.read now.reading now.grown).rules n.0 m (path_of h.nodes n) (node_path h now.reading n lt_now) e in
+        let made = (are_rules b h now.read now.reading now.grown).rules n.0 m (path_of h.nodes n)
+        (node_path h now.reading n lt_now) e in
         let named = is_named b h now.grown now.reading m place.0 place.1 in
         none_some (sym none ∙ ap (rule_at (begun_graph b) b.tree) (sym (path_stays n lt)) ∙ made ∙ named.is)
 
@@ -240,10 +254,12 @@ module _ (b : Begun) (g h : RuleGraph) (before : IsGraphNow b g) (now : IsGraphN
         (file : NodeId) → is_scanned kept.found file ≡ true → file.0 < length g.nodes → IsSeen b h t past r kept file
     seen_stays number kept r needed at numbered file scanned lt =
         let k = known number needed in
-        let seen = ties.sees.each number kept r needed at (sym (numbered_stays number k.of k.stands) ∙ numbered) file scanned in
+        let seen = ties.sees.each number kept r needed at (sym (numbered_stays number k.of k.stands) ∙ numbered) file
+        scanned in
         let path = sym (path_stays file lt) in
         record {
-          ready = subst (λ p. IsReady (begun_setting b) t (settled past) p ⊎ IsMissing (begun_setting b) t p) path seen.ready;
+          ready = subst (λ p. IsReady (begun_setting b) t (settled past) p ⊎ IsMissing (begun_setting b) t p) path
+              seen.ready;
           includes =
               ap (found_in (begun_setting b) (in_tree t) r) (sym path) ∙ seen.includes
               ∙ sym (paths_stay (included kept.found file) (ties.sees.nodes number kept needed at file));
@@ -259,13 +275,15 @@ module _ (b : Begun) (g h : RuleGraph) (before : IsGraphNow b g) (now : IsGraphN
         not_old old =
             let stands = numbered_stands b g before old.0 r old.1 in
             let lt = slice_get_within g.rules old.0 stands.of stands.at in
-            let same : old.0 ≡ number = one_number b h now old.0 number r (numbered_stays old.0 stands.of stands.at ∙ old.1) numbered in
+            let same : old.0 ≡ number = one_number b h now old.0 number r
+            (numbered_stays old.0 stands.of stands.at ∙ old.1) numbered in
             absurd (omega (arith, lt, le, same))
 
     at_by : (number : ℕ) (r : Rule) → (number < length g.rules) ⊎ (length g.rules ≤ number) →
         (state_of plan.states number ≡ Unneeded) ⊎ (state_of plan.states number ≢ Unneeded) →
         rule_numbered b h number ≡ Some r → IsAt past r (state_of plan.states number)
-    at_by number r (inr le) (inl e) numbered = subst (λ (o : RuleState). IsAt past r o) (sym e) (new_rule number r numbered le)
+    at_by number r (inr le) (inl e) numbered = subst (λ (o : RuleState). IsAt past r o) (sym e)
+        (new_rule number r numbered le)
     at_by number r (inr le) (inr needed) numbered =
         let k = known number needed in
         let lt = slice_get_within g.rules number k.of k.stands in absurd (omega (arith, lt, le))
@@ -282,7 +300,8 @@ module _ (b : Begun) (g h : RuleGraph) (before : IsGraphNow b g) (now : IsGraphN
         stands (needs_at plan.rules number) n ≡ true → origin_of plan.origins n.0 ≡ Source →
         rule_at (begun_graph b) b.tree (path_of h.nodes n) ≡ None
     sources_stay number n needed need e =
-        let lt = need_below b g requested t past plan before ties number needed n (ap (λ o. stands (needs_in o) n) (sym (known number needed).at) ∙ need) in
+        let lt = need_below b g requested t past plan before ties number needed n
+        (ap (λ o. stands (needs_in o) n) (sym (known number needed).at) ∙ need) in
         ap (rule_at (begun_graph b) b.tree) (path_stays n lt) ∙ ties.sources number n needed need e
 
     asked_none : (n : NodeId) (o : Option ℕ) → rule_of g.rules n.0 ≡ o → rule_of h.rules n.0 ≡ None → o ≡ None
@@ -293,7 +312,8 @@ module _ (b : Begun) (g h : RuleGraph) (before : IsGraphNow b g) (now : IsGraphN
         rule_at (begun_graph b) b.tree (path_of h.nodes n) ≡ None
     asked_stay n asked none =
         let lt = one_below g requested n ties.plan_for.nodes asked in
-        ap (rule_at (begun_graph b) b.tree) (path_stays n lt) ∙ ties.asked n asked (asked_none n (rule_of g.rules n.0) refl none)
+        ap (rule_at (begun_graph b) b.tree) (path_stays n lt)
+        ∙ ties.asked n asked (asked_none n (rule_of g.rules n.0) refl none)
 
     numbered_still : (r : Rule) → Among r (began past) ⊎ Among r (done past) →
         (number : ℕ) × (rule_numbered b h number ≡ Some r)
@@ -306,13 +326,17 @@ module _ (b : Begun) (g h : RuleGraph) (before : IsGraphNow b g) (now : IsGraphN
     growth_keeps = record {
       plan_for = plan_stays;
       sees = record {
-        each = λ number kept r needed at numbered file scanned. seen_stays number kept r needed at numbered file scanned (ties.sees.files number kept needed at file scanned);
-        files = λ number kept needed at file scanned. let lt = ties.sees.files number kept needed at file scanned in let le = longer in omega arith;
-        nodes = λ number kept needed at file. below_stays (included kept.found file) (ties.sees.nodes number kept needed at file);
+        each = λ number kept r needed at numbered file scanned. seen_stays number kept r needed at numbered file
+            scanned (ties.sees.files number kept needed at file scanned);
+        files = λ number kept needed at file scanned. let lt = ties.sees.files number kept needed at file
+            scanned in let le = longer in omega arith;
+        nodes = λ number kept needed at file. below_stays (included kept.found file)
+            (ties.sees.nodes number kept needed at file);
       };
       scanned = ties.scanned;
       sources = sources_stay;
       asked = asked_stay;
-      states = λ number r numbered. at_by number r (within_or number (length g.rules)) (unneeded_or g (state_of plan.states number)) numbered;
+      states = λ number r numbered. at_by number r (within_or number (length g.rules))
+          (unneeded_or g (state_of plan.states number)) numbered;
       numbered = numbered_still;
     }

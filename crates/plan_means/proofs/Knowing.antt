@@ -53,7 +53,8 @@ path_among g nodes n h = map_among (path_of g.nodes) (stands_among nodes n h)
 
 pub one_below : (g : RuleGraph) (nodes : List NodeId) (n : NodeId) → are_below (length g.nodes) nodes ≡ true →
     stands nodes n ≡ true → n.0 < length g.nodes
-one_below g nodes n below h = ltb-true n.0 (length g.nodes) (all_stands (λ t. nat_lt t.0 (length g.nodes)) nodes n below h)
+one_below g nodes n below h =
+    ltb-true n.0 (length g.nodes) (all_stands (λ t. nat_lt t.0 (length g.nodes)) nodes n below h)
 
 or_right : (b c : Bool) → c ≡ true → (b || c) ≡ true
 or_right true c e = refl
@@ -65,11 +66,13 @@ or_left false c e = true_false (sym e)
 
 -- a dependency, or a required file, is a need
 pub in_needs : (required deps : List NodeId) (n : NodeId) → stands deps n ≡ true → stands (required ++ deps) n ≡ true
-in_needs required deps n h = list_any-append (λ m. nat_eq n.0 m.0) required deps ∙ or_right (stands required n) (stands deps n) h
+in_needs required deps n h = list_any-append (λ m. nat_eq n.0 m.0) required deps
+    ∙ or_right (stands required n) (stands deps n) h
 
 pub in_required : (required deps : List NodeId) (n : NodeId) → stands required n ≡ true →
     stands (required ++ deps) n ≡ true
-in_required required deps n h = list_any-append (λ m. nat_eq n.0 m.0) required deps ∙ or_left (stands required n) (stands deps n) h
+in_required required deps n h = list_any-append (λ m. nat_eq n.0 m.0) required deps
+    ∙ or_left (stands required n) (stands deps n) h
 
 -- what a plan knows of a needed rule
 pub record Knows (b : Begun) (g : RuleGraph) (plan : Planned) (number : ℕ) : Type 0 where
@@ -125,7 +128,8 @@ module _ (b : Begun) (g : RuleGraph) (requested : List NodeId) (t : Tree) (past 
   -- a rule makes the file, by path
   pub rule_made : (n : NodeId) (m : ℕ) → n.0 < length g.nodes → rule_of g.rules n.0 ≡ Some m →
       rule_at (begun_graph b) b.tree (path_of g.nodes n) ≡ rule_numbered b g m
-  rule_made n m lt of = (are_rules b g now.read now.reading now.grown).rules n.0 m (path_of g.nodes n) (node_path g now.reading n lt) of
+  rule_made n m lt of = (are_rules b g now.read now.reading now.grown).rules n.0 m (path_of g.nodes n)
+      (node_path g now.reading n lt) of
 
   module _ (number : ℕ) (needed : state_of plan.states number ≢ Unneeded) where
     abbrev pub k : Knows b g plan number
@@ -153,7 +157,8 @@ module _ (b : Begun) (g : RuleGraph) (requested : List NodeId) (t : Tree) (past 
     pub needs_all_below : are_below (length g.nodes) (k.kept.required ++ k.kept.deps) ≡ true
     needs_all_below =
         list_all-append (λ t. nat_lt t.0 (length g.nodes)) k.kept.required k.kept.deps
-        ∙ and_both (are_below (length g.nodes) k.kept.required) (are_below (length g.nodes) k.kept.deps) required_below deps_below
+        ∙ and_both (are_below (length g.nodes) k.kept.required) (are_below (length g.nodes) k.kept.deps)
+        required_below deps_below
 
     -- what is found where scanned files include what was found in them
     module _ (f : Path → List Path) (agrees : (file : NodeId) → is_scanned k.kept.found file ≡ true →
@@ -182,14 +187,17 @@ module _ (b : Begun) (g : RuleGraph) (requested : List NodeId) (t : Tree) (past 
       source_scanned i n at lt =
           let l = put_all_longer k.kept.left_out k.kept.sources (flat_map (included k.kept.found) k.kept.files) in
           let source : slice_get k.kept.sources i ≡ Some n =
-          sym (get-within k.kept.sources l.more i lt) ∙ ap (λ (xs : List NodeId). slice_get xs i) (sym (k.keeps.follows.files.whole ∙ l.is)) ∙ at in
-          scans_source (among_same (ap (paths_of g) k.keeps.sources ∙ k.names.scanned) (path_among g k.kept.sources n (stands_at k.kept.sources i n source)))
+          sym (get-within k.kept.sources l.more i lt) ∙ ap (λ (xs : List NodeId). slice_get xs i)
+          (sym (k.keeps.follows.files.whole ∙ l.is)) ∙ at in
+          scans_source (among_same (ap (paths_of g) k.keeps.sources ∙ k.names.scanned)
+          (path_among g k.kept.sources n (stands_at k.kept.sources i n source)))
 
       include_by : (by n : NodeId) (c : Bool) → is_scanned k.kept.found by ≡ c →
           stands (included k.kept.found by) n ≡ true →
           Among (path_of g.nodes n) (f (path_of g.nodes by))
       include_by by n true e h = among_same (sym (agrees by e)) (path_among g (included k.kept.found by) n h)
-      include_by by n false e h = true_false (sym h ∙ ap (λ (l : List NodeId). stands l n) (included_none k.kept.found by e))
+      include_by by n false e h =
+          true_false (sym h ∙ ap (λ (l : List NodeId). stands l n) (included_none k.kept.found by e))
 
       file_by : (fuel i : ℕ) (n : NodeId) → i < fuel → slice_get k.kept.files i ≡ Some n →
           (i < length k.kept.sources) ⊎ (length k.kept.sources ≤ i) →
@@ -213,14 +221,16 @@ module _ (b : Begun) (g : RuleGraph) (requested : List NodeId) (t : Tree) (past 
 
       dep_by : (n : NodeId) → (stands k.kept.named n ≡ true) ⊎ (stands k.kept.files n ≡ true) →
           Reaches f k.rule (path_of g.nodes n)
-      dep_by n (inl h) = is_declared (among_same (ap (paths_of g) k.keeps.named ∙ k.names.named) (path_among g k.kept.named n h))
+      dep_by n (inl h) =
+          is_declared (among_same (ap (paths_of g) k.keeps.named ∙ k.names.named) (path_among g k.kept.named n h))
       dep_by n (inr h) = scanned_there (file_scanned n h)
 
       -- and a dependency is reached
       pub dep_reached : (n : NodeId) → stands k.kept.deps n ≡ true → Reaches f k.rule (path_of g.nodes n)
       dep_reached n h =
           dep_by n (or_either (stands k.kept.named n) (stands k.kept.files n)
-          (sym (stands_all k.kept.named k.kept.files n) ∙ ap (λ (l : List NodeId). stands l n) (sym k.keeps.follows.deps) ∙ h))
+          (sym (stands_all k.kept.named k.kept.files n)
+          ∙ ap (λ (l : List NodeId). stands l n) (sym k.keeps.follows.deps) ∙ h))
 
   -- a needed file is met
   pub needed_met : (number : ℕ) (needed : state_of plan.states number ≢ Unneeded) (n : NodeId) →
@@ -230,7 +240,8 @@ module _ (b : Begun) (g : RuleGraph) (requested : List NodeId) (t : Tree) (past 
       let all = ties.plan_for.met.each number know.kept needed know.at in
       all_stands (λ x. is_met plan.origins x) (know.kept.required ++ know.kept.deps) n
       (list_all-append (λ x. is_met plan.origins x) know.kept.required know.kept.deps
-      ∙ and_both (list_all (λ x. is_met plan.origins x) know.kept.required) (list_all (λ x. is_met plan.origins x) know.kept.deps) all.required all.deps) h
+      ∙ and_both (list_all (λ x. is_met plan.origins x) know.kept.required)
+      (list_all (λ x. is_met plan.origins x) know.kept.deps) all.required all.deps) h
 
   settled_by : (o : RuleState) → is_settled o ≡ true → o ≡ Settled
   settled_by Unneeded e = true_false (sym e)
@@ -270,12 +281,15 @@ module _ (b : Begun) (g : RuleGraph) (requested : List NodeId) (t : Tree) (past 
       IsFrom g plan.states n.0 o → is_done_from plan.states o ≡ true →
       IsReady (begun_setting b) t (settled past) (path_of g.nodes n) ⊎ IsMissing (begun_setting b) t (path_of g.nodes n)
   done_by number n Unmet needed need lt e from h = true_false (sym h)
-  done_by number n Source needed need lt e from h = source_ready (path_of g.nodes n) (t (path_of g.nodes n)) refl (ties.sources number n needed need e)
-  done_by number n (Made m) needed need lt e from h = inl (made_ready n m.0 lt from.0 (settled_by (state_of plan.states m.0) h))
+  done_by number n Source needed need lt e from h = source_ready (path_of g.nodes n) (t (path_of g.nodes n)) refl
+      (ties.sources number n needed need e)
+  done_by number n (Made m) needed need lt e from h =
+      inl (made_ready n m.0 lt from.0 (settled_by (state_of plan.states m.0) h))
 
   pub need_below : (number : ℕ) (needed : state_of plan.states number ≢ Unneeded) (n : NodeId) →
       stands ((k number needed).kept.required ++ (k number needed).kept.deps) n ≡ true → n.0 < length g.nodes
-  need_below number needed n h = one_below g ((k number needed).kept.required ++ (k number needed).kept.deps) n (needs_all_below number needed) h
+  need_below number needed n h = one_below g ((k number needed).kept.required ++ (k number needed).kept.deps) n
+      (needs_all_below number needed) h
 
   -- what it requires and depends on stands among its needs
   pub need_at : (number : ℕ) (needed : state_of plan.states number ≢ Unneeded) (n : NodeId) →
@@ -289,4 +303,5 @@ module _ (b : Begun) (g : RuleGraph) (requested : List NodeId) (t : Tree) (past 
       is_done plan.states plan.origins n ≡ true →
       IsReady (begun_setting b) t (settled past) (path_of g.nodes n) ⊎ IsMissing (begun_setting b) t (path_of g.nodes n)
   done_ready number needed n h done =
-      done_by number n (origin_of plan.origins n.0) needed (need_at number needed n h) (need_below number needed n h) refl (ties.plan_for.from.each n.0) done
+      done_by number n (origin_of plan.origins n.0) needed (need_at number needed n h) (need_below number needed n h)
+      refl (ties.plan_for.from.each n.0) done

@@ -35,11 +35,13 @@ or_assoc true b c = refl
 or_assoc false b c = refl
 
 node_is : (n x : NodeId) → nat_eq n.0 x.0 ≡ true → x ≡ n
-node_is n x e = let same : n.0 ≡ x.0 = (Decides-eqb n.0 x.0).0 e in ap (λ (k : ℕ). let y : NodeId = record { 0 = k } in y) (sym same)
+node_is n x e = let same : n.0 ≡ x.0 = (Decides-eqb n.0 x.0).0 e in ap
+    (λ (k : ℕ). let y : NodeId = record { 0 = k } in y) (sym same)
 
 stands_put_by : (before : List NodeId) (n x : NodeId) (s : Bool) → stands before x ≡ s →
     stands (if s then before else before ++ x ∷ []) n ≡ (stands before n || nat_eq n.0 x.0)
-stands_put_by before n x true e = or_this (stands before n) (nat_eq n.0 x.0) (λ same. ap (stands before) (sym (node_is n x same)) ∙ e)
+stands_put_by before n x true e = or_this (stands before n) (nat_eq n.0 x.0)
+    (λ same. ap (stands before) (sym (node_is n x same)) ∙ e)
 stands_put_by before n x false e =
     list_any-append (λ m. nat_eq n.0 m.0) before (x ∷ []) ∙ ap (λ c. stands before n || c) (or_nothing (nat_eq n.0 x.0))
 
@@ -91,7 +93,8 @@ module _ (test : Path → Bool) where
       stays p (q ∷ qs) (there m) f = keeps p q qs (test q) (stays p qs m f)
 
   those_by : (p : Path) (ps ks : List Path) (c d : Bool) → c ≡ d → those (filter test ps) ks ≡ filter test ks →
-      (if c then p ∷ those (filter test ps) ks else those (filter test ps) ks) ≡ (if d then p ∷ filter test ks else filter test ks)
+      (if c then p ∷ those (filter test ps) ks else those (filter test ps) ks) ≡ (if d then p ∷ filter test ks else
+      filter test ks)
   those_by p ps ks true true e f = ap (λ l. p ∷ l) f
   those_by p ps ks false false e f = f
   those_by p ps ks true false e f = true_false e
@@ -101,7 +104,8 @@ module _ (test : Path → Bool) where
       those (filter test ps) ks ≡ filter test ks
   those_passing ps [] h = refl
   those_passing ps (k ∷ ks) h =
-      those_by k ps ks (has k (filter test ps)) (test k) (has_passing k ps (h k here) (has k (filter test ps)) refl (test k) refl)
+      those_by k ps ks (has k (filter test ps)) (test k) (has_passing k ps (h k here) (has k (filter test ps)) refl
+      (test k) refl)
       (those_passing ps ks (λ p m. h p (there m)))
 
   pass_new : (p : Path) (ps seen out : List Path) (d c : Bool) → has p seen ≡ c → (c ≡ true → ⊥) →
@@ -111,7 +115,8 @@ module _ (test : Path → Bool) where
       ≡ (if d then p ∷ filter test (unseen (p ∷ out) ps) else filter test (unseen (p ∷ out) ps))
   pass_new p ps seen out true true e new more stay = absurd (new refl)
   pass_new p ps seen out true false e new more stay =
-      ap (λ c. if c then unseen seen (filter test (unseen (p ∷ out) ps)) else p ∷ unseen (p ∷ seen) (filter test (unseen (p ∷ out) ps))) e
+      ap (λ c. if c then unseen seen (filter test (unseen (p ∷ out) ps)) else p ∷ unseen (p ∷ seen)
+      (filter test (unseen (p ∷ out) ps))) e
       ∙ ap (λ l. p ∷ l) more
   pass_new p ps seen out false c e new more stay = stay
 
@@ -125,10 +130,12 @@ module _ (test : Path → Bool) where
       unseen seen (filter test (unseen out ps)) ≡ filter test (unseen out ps) →
       unseen (p ∷ seen) (filter test (unseen (p ∷ out) ps)) ≡ filter test (unseen (p ∷ out) ps) →
       unseen seen (filter test (unseen (p ∷ out) ps)) ≡ filter test (unseen (p ∷ out) ps) →
-      unseen seen (filter test (if b then unseen out ps else p ∷ unseen (p ∷ out) ps)) ≡ filter test (if b then unseen out ps else p ∷ unseen (p ∷ out) ps)
+      unseen seen (filter test (if b then unseen out ps else p ∷ unseen (p ∷ out) ps)) ≡ filter test
+      (if b then unseen out ps else p ∷ unseen (p ∷ out) ps)
   unseen_passing_by p ps seen out true e h same more stay = same
   unseen_passing_by p ps seen out false e h same more stay =
-      pass_new p ps seen out (test p) (has p seen) refl (λ s. true_false (sym (among_has (h p (has_among p seen s))) ∙ e)) more stay
+      pass_new p ps seen out (test p) (has p seen) refl (λ s. true_false
+      (sym (among_has (h p (has_among p seen s))) ∙ e)) more stay
 
   -- paths that stand once and pass a test stand once
   unseen_passing : (ps seen out : List Path) → ((q : Path) → Among q seen → Among q out) →
@@ -136,12 +143,14 @@ module _ (test : Path → Bool) where
   unseen_passing [] seen out h = refl
   unseen_passing (p ∷ ps) seen out h =
       unseen_passing_by p ps seen out (has p out) refl h
-      (unseen_passing ps seen out h) (unseen_passing ps (p ∷ seen) (p ∷ out) (seen_first p seen out h)) (unseen_passing ps seen (p ∷ out) (λ q m. there (h q m)))
+      (unseen_passing ps seen out h) (unseen_passing ps (p ∷ seen) (p ∷ out) (seen_first p seen out h))
+      (unseen_passing ps seen (p ∷ out) (λ q m. there (h q m)))
 
 filter_paths_by : (f : NodeId → Path) (test : Path → Bool) (own : NodeId → Bool) (n : NodeId) (nodes : List NodeId)
     (b c : Bool) → b ≡ c →
     map f (filter own nodes) ≡ filter test (map f nodes) →
-    map f (if b then n ∷ filter own nodes else filter own nodes) ≡ (if c then f n ∷ filter test (map f nodes) else filter test (map f nodes))
+    map f (if b then n ∷ filter own nodes else filter own nodes) ≡ (if c then f n ∷ filter test (map f nodes) else
+    filter test (map f nodes))
 filter_paths_by f test own n nodes true true e h = ap (λ l. f n ∷ l) h
 filter_paths_by f test own n nodes false false e h = h
 filter_paths_by f test own n nodes true false e h = true_false e
@@ -151,7 +160,8 @@ filter_paths : (f : NodeId → Path) (test : Path → Bool) (own : NodeId → Bo
     (nodes : List NodeId) →
     map f (filter own nodes) ≡ filter test (map f nodes)
 filter_paths f test own same [] = refl
-filter_paths f test own same (n ∷ nodes) = filter_paths_by f test own n nodes (own n) (test (f n)) (same n) (filter_paths f test own same nodes)
+filter_paths f test own same (n ∷ nodes) = filter_paths_by f test own n nodes (own n) (test (f n)) (same n)
+    (filter_paths f test own same nodes)
 
 all_passing_by : (own test : NodeId → Bool) (n : NodeId) (nodes : List NodeId) (b c : Bool) →
     (c && list_all own nodes) ≡ true → own n ≡ c →
@@ -181,7 +191,8 @@ module _ (g : RuleGraph) (reading : IsReading g) (r : declared.Rule) (is : IsRul
   sources_paths_by : (w : Work) → paths_of g (put_all (if is_shell w then ignored_of r else []) [] r.sources)
       ≡ unseen (if keeps_sources w then [] else paths_of g r.ignored) (paths_of g r.sources)
   sources_paths_by Shell =
-      put_paths g reading (ignored_of r) [] r.sources (paths_of g r.ignored) is.sources (λ n lt. ignored_seen n lt ∙ sym (or_nothing (stands (ignored_of r) n)))
+      put_paths g reading (ignored_of r) [] r.sources (paths_of g r.ignored) is.sources
+      (λ n lt. ignored_seen n lt ∙ sym (or_nothing (stands (ignored_of r) n)))
   sources_paths_by Copy = put_paths g reading [] [] r.sources [] is.sources (λ n lt. refl)
   sources_paths_by Write = put_paths g reading [] [] r.sources [] is.sources (λ n lt. refl)
 
@@ -205,14 +216,17 @@ module _ (g : RuleGraph) (reading : IsReading g) (r : declared.Rule) (is : IsRul
   named_all = sym (put_all-append (ignored_of r) (sources_of r) r.depends r.libs)
 
   pub named_below : are_below (length g.nodes) (named_of r) ≡ true
-  named_below = ap (are_below (length g.nodes)) named_all ∙ below_put (ignored_of r) (sources_of r) (r.depends ++ r.libs) sources_below rest_below
+  named_below = ap (are_below (length g.nodes)) named_all ∙ below_put (ignored_of r) (sources_of r)
+      (r.depends ++ r.libs) sources_below rest_below
 
   named_seen : (n : NodeId) → n.0 < length g.nodes →
-      has (path_of g.nodes n) (kept_sources (rule_in g r) ++ paths_of g r.ignored) ≡ (stands (ignored_of r) n || stands (sources_of r) n)
+      has (path_of g.nodes n) (kept_sources (rule_in g r) ++ paths_of g r.ignored) ≡ (stands (ignored_of r)
+      n || stands (sources_of r) n)
   named_seen n lt =
       has_append (path_of g.nodes n) (kept_sources (rule_in g r)) (paths_of g r.ignored)
       ∙ ap (λ l. has (path_of g.nodes n) l || has (path_of g.nodes n) (paths_of g r.ignored)) (sym sources_paths)
-      ∙ ap (λ c. c || has (path_of g.nodes n) (paths_of g r.ignored)) (has_stands g reading (sources_of r) n sources_below lt)
+      ∙ ap (λ c. c || has (path_of g.nodes n) (paths_of g r.ignored))
+      (has_stands g reading (sources_of r) n sources_below lt)
       ∙ ap (λ c. stands (sources_of r) n || c) (ignored_seen n lt)
       ∙ or_swap (stands (sources_of r) n) (stands (ignored_of r) n)
 
@@ -220,9 +234,12 @@ module _ (g : RuleGraph) (reading : IsReading g) (r : declared.Rule) (is : IsRul
   pub named_paths : paths_of g (named_of r) ≡ declared_paths (rule_in g r)
   named_paths =
       ap (paths_of g) named_all
-      ∙ put_paths g reading (ignored_of r) (sources_of r) (r.depends ++ r.libs) (kept_sources (rule_in g r) ++ paths_of g r.ignored) rest_below named_seen
-      ∙ ap (λ l. l ++ unseen (kept_sources (rule_in g r) ++ paths_of g r.ignored) (paths_of g (r.depends ++ r.libs))) sources_paths
-      ∙ ap (λ l. kept_sources (rule_in g r) ++ unseen (kept_sources (rule_in g r) ++ paths_of g r.ignored) l) (map-append (path_of g.nodes) r.depends r.libs)
+      ∙ put_paths g reading (ignored_of r) (sources_of r) (r.depends ++ r.libs)
+      (kept_sources (rule_in g r) ++ paths_of g r.ignored) rest_below named_seen
+      ∙ ap (λ l. l ++ unseen (kept_sources (rule_in g r) ++ paths_of g r.ignored) (paths_of g (r.depends ++ r.libs)))
+      sources_paths
+      ∙ ap (λ l. kept_sources (rule_in g r) ++ unseen (kept_sources (rule_in g r) ++ paths_of g r.ignored) l)
+      (map-append (path_of g.nodes) r.depends r.libs)
 
   scanned_below_by : (b : Bool) →
       are_below (length g.nodes) (if b then put_all [] [] (filter (is_scanned_node g) (sources_of r)) else []) ≡ true
@@ -240,8 +257,10 @@ module _ (g : RuleGraph) (reading : IsReading g) (r : declared.Rule) (is : IsRul
   scanned_paths_by true =
       put_paths g reading [] [] (filter (is_scanned_node g) (sources_of r)) []
       (all_passing (λ t. nat_lt t.0 (length g.nodes)) (is_scanned_node g) (sources_of r) sources_below) (λ n lt. refl)
-      ∙ ap (unseen []) (filter_paths (path_of g.nodes) is_scanned_path (is_scanned_node g) (scanned_node g) (sources_of r) ∙ ap (filter is_scanned_path) sources_paths)
-      ∙ unseen_passing is_scanned_path (paths_of g r.sources) [] (if keeps_sources r.work then [] else paths_of g r.ignored) (λ q m. elim m [ ])
+      ∙ ap (unseen []) (filter_paths (path_of g.nodes) is_scanned_path (is_scanned_node g) (scanned_node g)
+      (sources_of r) ∙ ap (filter is_scanned_path) sources_paths)
+      ∙ unseen_passing is_scanned_path (paths_of g r.sources) []
+      (if keeps_sources r.work then [] else paths_of g r.ignored) (λ q m. elim m [ ])
       ∙ sym (those_passing is_scanned_path (paths_of g r.sources) (kept_sources (rule_in g r))
       (λ p m. (unseen_in (if keeps_sources r.work then [] else paths_of g r.ignored) (paths_of g r.sources) m).0))
 
@@ -250,7 +269,8 @@ module _ (g : RuleGraph) (reading : IsReading g) (r : declared.Rule) (is : IsRul
   scanned_paths = scanned_paths_by r.scans
 
   left_out_by : (b : Bool) → b ≡ true → (n : NodeId) → n.0 < length g.nodes →
-      stands (if b then put_all [] (ignored_of r) r.targets else ignored_of r) n ≡ has (path_of g.nodes n) (left_out (rule_in g r))
+      stands (if b then put_all [] (ignored_of r) r.targets else ignored_of r) n ≡ has (path_of g.nodes n)
+      (left_out (rule_in g r))
   left_out_by false e n lt = true_false (sym e)
   left_out_by true e n lt =
       stands_all (ignored_of r) r.targets n
@@ -260,10 +280,26 @@ module _ (g : RuleGraph) (reading : IsReading g) (r : declared.Rule) (is : IsRul
       ∙ sym (has_append (path_of g.nodes n) (paths_of g r.targets) (paths_of g r.ignored))
 
   pub names : AreNames g r (rule_in g r)
-  names = record { targets = refl; required = refl; named = named_paths; scanned = scanned_paths; left_out = left_out_by r.scans }
+  names =
+      record {
+        targets = refl;
+        required = refl;
+        named = named_paths;
+        scanned = scanned_paths;
+        left_out = left_out_by
+            r.scans;
+      }
 
   pub copy_names : AreNames g r (copy_in g r)
-  copy_names = record { targets = refl; required = refl; named = named_paths; scanned = scanned_paths; left_out = left_out_by r.scans }
+  copy_names =
+      record {
+        targets = refl;
+        required = refl;
+        named = named_paths;
+        scanned = scanned_paths;
+        left_out = left_out_by
+            r.scans;
+      }
 
 same_there : {x y : declared.Rule} (xs : List declared.Rule) (i : ℕ) → slice_get xs i ≡ Some x →
     slice_get xs i ≡ Some y → x ≡ y
@@ -284,7 +320,8 @@ module _ (b : Begun) (g : RuleGraph) (grown : IsGrown b g) where
   rule_there : (number : ℕ) (of x : declared.Rule) → slice_get g.rules number ≡ Some of →
       slice_get b.graph.rules number ≡ Some x → x ≡ of
   rule_there number of x at e =
-      some_same (sym (ap (λ rules. slice_get rules number) grown.rules ∙ get-front b.graph.rules grown.copies number x e) ∙ at)
+      some_same (sym
+      (ap (λ rules. slice_get rules number) grown.rules ∙ get-front b.graph.rules grown.copies number x e) ∙ at)
 
   named_by : IsReading g → (number : ℕ) (of : declared.Rule) → slice_get g.rules number ≡ Some of →
       (o : Option declared.Rule) →
@@ -292,7 +329,8 @@ module _ (b : Begun) (g : RuleGraph) (grown : IsGrown b g) where
   named_by reading number of at (Some x) e =
       record {
         rule = rule_in g of;
-        is = ap (λ o. or_copy_in g o (slice_get g.rules number)) e ∙ ap (λ y. Some (rule_in g y)) (rule_there number of x at e);
+        is = ap (λ o. or_copy_in g o (slice_get g.rules number)) e
+            ∙ ap (λ y. Some (rule_in g y)) (rule_there number of x at e);
         names = names g reading of (reading.named.each_rule number of at);
       }
   named_by reading number of at None e =
@@ -307,7 +345,8 @@ module _ (b : Begun) (g : RuleGraph) (grown : IsGrown b g) where
   is_named reading number of at = named_by reading number of at (slice_get b.graph.rules number) refl
 
   copy_by : (number : ℕ) (of : declared.Rule) → length b.graph.rules ≤ number → slice_get g.rules number ≡ Some of →
-      (slice_get b.graph.rules number ≡ Some of) ⊎ ((slice_get b.graph.rules number ≡ None) × Among of grown.copies) → IsCopyNamed b g number of
+      (slice_get b.graph.rules number ≡ Some of) ⊎ ((slice_get b.graph.rules number ≡ None) × Among of
+      grown.copies) → IsCopyNamed b g number of
   copy_by number of past at (inl e) = none_some (sym (past_none b.graph.rules number past) ∙ e)
   copy_by number of past at (inr h) =
       let copy = grown.each_copy of h.1 in
@@ -322,7 +361,8 @@ module _ (b : Begun) (g : RuleGraph) (grown : IsGrown b g) where
   pub is_copy : (number : ℕ) (of : declared.Rule) → length b.graph.rules ≤ number →
       slice_get g.rules number ≡ Some of → IsCopyNamed b g number of
   is_copy number of past at =
-      copy_by number of past at (either_part b.graph.rules grown.copies number of (sym (ap (λ rules. slice_get rules number) grown.rules) ∙ at))
+      copy_by number of past at (either_part b.graph.rules grown.copies number of
+      (sym (ap (λ rules. slice_get rules number) grown.rules) ∙ at))
 
 -- a rule that doesn't scan has no sources that are scanned
 pub unscanned_sources : (g : RuleGraph) (of : declared.Rule) → of.scans ≡ false → scanned_of g of ≡ []

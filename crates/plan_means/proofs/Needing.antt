@@ -53,14 +53,17 @@ is_self : (x : NodeId) (nodes : List NodeId) → stands (x ∷ nodes) x ≡ true
 is_self x nodes = stands_at (x ∷ nodes) 0 x refl
 
 of_more : (g : RuleGraph) (x : NodeId) (nodes : List NodeId) (r : ℕ) → IsOf g nodes r → IsOf g (x ∷ nodes) r
-of_more g x nodes r o = record { node = o.node; among = or_right (nat_eq o.node.0 x.0) (stands nodes o.node) o.among; made = o.made }
+of_more g x nodes r o =
+    record { node = o.node; among = or_right (nat_eq o.node.0 x.0) (stands nodes o.node) o.among; made = o.made }
 
 maker_by : (g : RuleGraph) (x : NodeId) (nodes : List NodeId) (r : ℕ) (o : Option ℕ) → rule_of g.rules x.0 ≡ o →
-    is_among r (cons_option (option_map (λ (n : ℕ). let y : RuleId = record { 0 = n } in y) o) (makers_in g nodes)) ≡ true →
+    is_among r (cons_option (option_map (λ (n : ℕ). let y : RuleId = record { 0 = n } in y) o)
+    (makers_in g nodes)) ≡ true →
     (is_among r (makers_in g nodes) ≡ true → IsOf g nodes r) → IsOf g (x ∷ nodes) r
 maker_by g x nodes r None e h next = of_more g x nodes r (next h)
 maker_by g x nodes r (Some m) e h next =
-    ⊎_elim (λ same. record { node = x; among = is_self x nodes; made = e ∙ ap Some same }) (λ k. of_more g x nodes r (next k))
+    ⊎_elim (λ same. record { node = x; among = is_self x nodes; made = e ∙ ap Some same })
+    (λ k. of_more g x nodes r (next k))
     (first_or r (record { 0 = m }) (makers_in g nodes) h)
 
 -- the makers of nodes make some of them
@@ -74,7 +77,9 @@ module _ (b : Begun) (g : RuleGraph) (requested : List NodeId) (t : Tree) (past 
   -- what a rule needs by a file that the other one makes
   pub record IsNeededBy (number other : ℕ) (needed : state_of plan.states other ≢ Unneeded) : Type 0 where
     pub node : NodeId
-    pub among : stands ((knows b g requested t past plan now ties other needed).kept.required ++ (knows b g requested t past plan now ties other needed).kept.deps) node ≡ true
+    pub among : stands
+        ((knows b g requested t past plan now ties other needed).kept.required ++ (knows b g requested t past plan
+        now ties other needed).kept.deps) node ≡ true
     pub origin : origin_of plan.origins node.0 ≡ Made (record { 0 = number })
 
   pub needed_by : (number other : ℕ) (needed : state_of plan.states other ≢ Unneeded) →
@@ -86,7 +91,11 @@ module _ (b : Begun) (g : RuleGraph) (requested : List NodeId) (t : Tree) (past 
       ap (λ o. is_among number (needed_in plan.origins o)) (sym k.at) ∙ h in
       let place = place_in (makers_of plan.origins (k.kept.required ++ k.kept.deps)) (record { 0 = number }) among in
       let made = maker_made plan.origins (k.kept.required ++ k.kept.deps) place.0 (record { 0 = number }) place.1 in
-      record { node = made.file; among = stands_at (k.kept.required ++ k.kept.deps) made.place made.file made.at; origin = made.made }
+      record {
+        node = made.file;
+        among = stands_at (k.kept.required ++ k.kept.deps) made.place made.file made.at;
+        origin = made.made;
+      }
 
   -- the graph says so, too
   pub made_of : (node : NodeId) (m : RuleId) → origin_of plan.origins node.0 ≡ Made m → rule_of g.rules node.0 ≡ Some m.0
@@ -107,13 +116,17 @@ module _ (b : Begun) (g : RuleGraph) (requested : List NodeId) (t : Tree) (past 
         Needs (rule_at (begun_graph b) b.tree) found (rule_of_number other needed) (rule_of_number number here_needed)
     needs_of_by number other here_needed needed node origin lt (inl h) =
         let k = knows b g requested t past plan now ties other needed in
-        let made = rule_made b g requested t past plan now ties node number lt (made_of node (record { 0 = number }) origin) in
-        as_required (path_of g.nodes node) (among_same (ap (paths_of g) k.keeps.required ∙ k.names.required) (path_among g k.kept.required node h))
+        let made = rule_made b g requested t past plan now ties node number lt
+        (made_of node (record { 0 = number }) origin) in
+        as_required (path_of g.nodes node) (among_same (ap (paths_of g) k.keeps.required ∙ k.names.required)
+        (path_among g k.kept.required node h))
         (made ∙ (knows b g requested t past plan now ties number here_needed).numbered)
     needs_of_by number other here_needed needed node origin lt (inr h) =
-        let made = rule_made b g requested t past plan now ties node number lt (made_of node (record { 0 = number }) origin) in
+        let made = rule_made b g requested t past plan now ties node number lt
+        (made_of node (record { 0 = number }) origin) in
         as_dependency (path_of g.nodes node)
-        (dep_reached b g requested t past plan now ties other needed (found (rule_of_number other needed)) (agrees other needed) node h)
+        (dep_reached b g requested t past plan now ties other needed (found (rule_of_number other needed))
+        (agrees other needed) node h)
         (made ∙ (knows b g requested t past plan now ties number here_needed).numbered)
 
     -- one rule needs another by the plan, and so it does by the model
@@ -125,7 +138,8 @@ module _ (b : Begun) (g : RuleGraph) (requested : List NodeId) (t : Tree) (past 
         let k = knows b g requested t past plan now ties other needed in
         let by = needed_by number other needed h in
         needs_of_by number other here_needed needed by.node by.origin
-        (one_below g (k.kept.required ++ k.kept.deps) by.node (needs_all_below b g requested t past plan now ties other needed) by.among)
+        (one_below g (k.kept.required ++ k.kept.deps) by.node
+        (needs_all_below b g requested t past plan now ties other needed) by.among)
         (or_either (stands k.kept.required by.node) (stands k.kept.deps by.node)
         (sym (list_any-append (λ m. nat_eq by.node.0 m.0) k.kept.required k.kept.deps) ∙ by.among))
 
@@ -136,7 +150,8 @@ module _ (b : Begun) (g : RuleGraph) (requested : List NodeId) (t : Tree) (past 
         let of = maker_in g requested number (ap (is_among number) (sym ties.plan_for.roots) ∙ h) in
         let lt = one_below g requested of.node ties.plan_for.nodes of.among in
         is_requested (path_of g.nodes of.node) (path_among g requested of.node of.among)
-        (rule_made b g requested t past plan now ties of.node number lt of.made ∙ (knows b g requested t past plan now ties number needed).numbered)
+        (rule_made b g requested t past plan now ties of.node number lt of.made
+        ∙ (knows b g requested t past plan now ties number needed).numbered)
 
     pub reached_needed : (number : ℕ) (needed : state_of plan.states number ≢ Unneeded) →
         IsReached (needed_of plan.rules plan.origins) plan.notes.roots number →
@@ -144,7 +159,8 @@ module _ (b : Begun) (g : RuleGraph) (requested : List NodeId) (t : Tree) (past 
     reached_needed number needed (is_root h) = root_needed number needed h
     reached_needed number needed (needed_there other reached h) =
         let other_needed = ties.plan_for.reached.only other reached in
-        is_needed (rule_of_number other other_needed) (reached_needed other other_needed reached) (needs_of number other needed other_needed h)
+        is_needed (rule_of_number other other_needed) (reached_needed other other_needed reached)
+        (needs_of number other needed other_needed h)
 
     -- each rule that the plan needs is needed
     pub plan_needed : (number : ℕ) (needed : state_of plan.states number ≢ Unneeded) →

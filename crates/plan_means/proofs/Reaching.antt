@@ -80,14 +80,16 @@ once_put before x false false e once = once_more before x once e
 -- what is put behind others stands once
 pub once_put_all : (out before nodes : List NodeId) → Once before → Once (put_all out before nodes)
 once_put_all out before [] once = once
-once_put_all out before (x ∷ nodes) once = once_put_all out (put out before x) nodes (once_put before x (stands out x) (stands before x) refl once)
+once_put_all out before (x ∷ nodes) once = once_put_all out (put out before x) nodes
+    (once_put before x (stands out x) (stands before x) refl once)
 
 once_behind : (y x : NodeId) (done rest : List NodeId) → (b c : Bool) → nat_eq x.0 y.0 ≡ b → stands done x ≡ c →
     stands (done ++ x ∷ rest) y ≡ false → (b || c) ≡ true → c ≡ true
 once_behind y x done rest true c e f new h =
     let it : stands (done ++ x ∷ rest) y ≡ true =
     list_any-append (λ m. nat_eq y.0 m.0) done (x ∷ rest)
-    ∙ or_true (stands done y) (nat_eq y.0 x.0 || stands rest y) (or_left (nat_eq y.0 x.0) (stands rest y) (eq_swap y.0 x.0 ∙ e)) in
+    ∙ or_true (stands done y) (nat_eq y.0 x.0 || stands rest y)
+    (or_left (nat_eq y.0 x.0) (stands rest y) (eq_swap y.0 x.0 ∙ e)) in
     true_false (sym it ∙ new)
 once_behind y x done rest false c e f new h = h
 
@@ -100,8 +102,11 @@ once_before (y ∷ done) rest x once h =
 apart_all : (n : NodeId) (nodes : List NodeId) → stands nodes n ≡ false →
     AllByRecursion (λ m. nat_eq n.0 m ≡ false) (map (λ (y : NodeId). y.0) nodes)
 apart_all n [] e = tt
-apart_all n (x ∷ nodes) e =
-    (neither_first (nat_eq n.0 x.0) (stands nodes n) e, apart_all n nodes (neither_second (nat_eq n.0 x.0) (stands nodes n) e))
+apart_all n (x ∷ nodes) e = (
+  neither_first (nat_eq n.0 x.0) (stands nodes n) e,
+  apart_all n nodes
+      (neither_second (nat_eq n.0 x.0) (stands nodes n) e),
+)
 
 once_distinct : (nodes : List NodeId) → Once nodes → IsDistinct nat_eq (map (λ (y : NodeId). y.0) nodes)
 unfolding IsDistinct
@@ -118,13 +123,15 @@ all_under : (g : RuleGraph) → IsReading g → (nodes : List NodeId) → are_be
     list_any (nat_eq q) (map (λ (y : NodeId). y.0) nodes) ≡ true → q < length g.nodes
 all_under g reading [] below q h = true_false (sym h)
 all_under g reading (x ∷ nodes) below q h =
-    all_under_by (length g.nodes) q x nodes (nat_eq q x.0) refl (first_below g reading x nodes below) h (all_under g reading nodes (rest_below g reading x nodes below) q)
+    all_under_by (length g.nodes) q x nodes (nat_eq q x.0) refl (first_below g reading x nodes below) h
+    (all_under g reading nodes (rest_below g reading x nodes below) q)
 
 -- nodes that stand once are no more than there are
 pub few_once : (g : RuleGraph) → IsReading g → (nodes : List NodeId) → Once nodes →
     are_below (length g.nodes) nodes ≡ true → length nodes ≤ length g.nodes
 few_once g reading nodes once below =
-    let le = length-le_from_distinct_below (map (λ (y : NodeId). y.0) nodes) (length g.nodes) (once_distinct nodes once) (all_under g reading nodes below) in
+    let le = length-le_from_distinct_below (map (λ (y : NodeId). y.0) nodes) (length g.nodes)
+    (once_distinct nodes once) (all_under g reading nodes below) in
     subst (λ (k : ℕ). k ≤ length g.nodes) (length-map nodes (λ (y : NodeId). y.0)) le
 
 stands_flat : (inc : NodeId → List NodeId) (done : List NodeId) (i : ℕ) (by x : NodeId) →
@@ -133,7 +140,8 @@ stands_flat : (inc : NodeId → List NodeId) (done : List NodeId) (i : ℕ) (by 
 stands_flat inc [] i by x at h = cc
 stands_flat inc (d ∷ done) zero by x at h =
     list_any-append (λ m. nat_eq x.0 m.0) (inc d) (flat_map inc done)
-    ∙ or_left (stands (inc d) x) (stands (flat_map inc done) x) (subst (λ (y : NodeId). stands (inc y) x ≡ true) (sym (same_first at)) h)
+    ∙ or_left (stands (inc d) x) (stands (flat_map inc done) x)
+    (subst (λ (y : NodeId). stands (inc y) x ≡ true) (sym (same_first at)) h)
   where
     same_first : {A : Type 0} {a b : A} → Some a ≡ Some b → a ≡ b
     same_first e = cc e
@@ -151,7 +159,8 @@ below_flat : (g : RuleGraph) (inc : NodeId → List NodeId) →
 below_flat g inc h [] = refl
 below_flat g inc h (x ∷ files) =
     list_all-append (λ t. nat_lt t.0 (length g.nodes)) (inc x) (flat_map inc files)
-    ∙ and_both (are_below (length g.nodes) (inc x)) (are_below (length g.nodes) (flat_map inc files)) (h x) (below_flat g inc h files)
+    ∙ and_both (are_below (length g.nodes) (inc x)) (are_below (length g.nodes) (flat_map inc files)) (h x)
+    (below_flat g inc h files)
 
 regroup : (done waiting new : List NodeId) (x : NodeId) →
     (done ++ x ∷ waiting) ++ new ≡ (done ++ x ∷ []) ++ (waiting ++ new)
@@ -172,27 +181,33 @@ module _ (g : RuleGraph) (reading : IsReading g) (sources out : List NodeId) (fo
   pub files_below : are_below (length g.nodes) files ≡ true
   files_below =
       ap (are_below (length g.nodes)) is.whole
-      ∙ all_put_all (λ t. nat_lt t.0 (length g.nodes)) out sources (flat_map (included found) files) sources_below (below_flat g (included found) nodes files)
+      ∙ all_put_all (λ t. nat_lt t.0 (length g.nodes)) out sources (flat_map (included found) files) sources_below
+      (below_flat g (included found) nodes files)
 
   -- there is always a file that waits, until all are listed
   stops : (done rest : List NodeId) (x : NodeId) → files ≡ done ++ x ∷ rest → listed done ≡ done → ⊥
   stops done rest x parts e =
       let l = put_all_longer out sources (flat_map (included found) done) in
-      let le : length sources ≤ length done = let n = length-append sources l.more in let m = ap length (sym e ∙ l.is) in omega arith in
-      let at : slice_get files (length done) ≡ Some x = ap (λ xs. slice_get xs (length done)) parts ∙ at_end done rest x in
+      let le : length sources ≤ length done = let n = length-append sources l.more in let m = ap length
+      (sym e ∙ l.is) in omega arith in
+      let at : slice_get files (length done) ≡ Some x = ap (λ xs. slice_get xs (length done)) parts
+      ∙ at_end done rest x in
       let before = is.earlier (length done) x at le in
       let by_at : slice_get done before.place ≡ Some before.by =
-      sym (get-within done (x ∷ rest) before.place before.before) ∙ ap (λ xs. slice_get xs before.place) (sym parts) ∙ before.at in
+      sym (get-within done (x ∷ rest) before.place before.before) ∙ ap (λ xs. slice_get xs before.place) (sym parts)
+      ∙ before.at in
       let includes = stands_flat (included found) done before.place before.by x by_at before.includes in
       let not_out : stands out x ≡ false =
-      put_all_not_out out sources (flat_map (included found) files) x (length done) le (ap (λ xs. slice_get xs (length done)) (sym is.whole) ∙ at) in
+      put_all_not_out out sources (flat_map (included found) files) x (length done) le
+      (ap (λ xs. slice_get xs (length done)) (sym is.whole) ∙ at) in
       ⊎_elim (λ o. true_false (sym o ∙ not_out))
       (λ s. once_before done rest x (subst Once parts files_once) (sym (ap (λ xs. stands xs x) e) ∙ s))
       (put_all_in out sources (flat_map (included found) done) x includes)
 
   listed_next : (done : List NodeId) (x : NodeId) → listed (done ++ x ∷ []) ≡ put_all out (listed done) (included found x)
   listed_next done x =
-      ap (put_all out sources) (flat_map-append (included found) done (x ∷ []) ∙ ap (λ xs. flat_map (included found) done ++ xs) (append-nil (included found x)))
+      ap (put_all out sources) (flat_map-append (included found) done (x ∷ [])
+      ∙ ap (λ xs. flat_map (included found) done ++ xs) (append-nil (included found x)))
       ∙ put_all-append out sources (flat_map (included found) done) (included found x)
 
   -- what is listed stands first among all files
@@ -206,7 +221,8 @@ module _ (g : RuleGraph) (reading : IsReading g) (sources out : List NodeId) (fo
       )
 
   module _ (f : Path → List Path)
-      (agrees : (file : NodeId) → stands files file ≡ true → f (path_of g.nodes file) ≡ paths_of g (included found file)) where
+      (agrees : (file : NodeId) → stands files file ≡ true → f (path_of g.nodes file) ≡ paths_of g
+      (included found file)) where
     nothing_waits : (done waiting : List NodeId) → files ≡ done ++ [] → listed done ≡ done ++ waiting → waiting ≡ []
     nothing_waits done waiting parts e =
         let all : files ≡ done = parts ∙ append-nil done in
@@ -255,7 +271,8 @@ module _ (g : RuleGraph) (reading : IsReading g) (sources out : List NodeId) (fo
         let listed_now : listed done ≡ done ++ x ∷ waiting = e ∙ ap (λ y. done ++ y ∷ waiting) this in
         let below = news_below g out (done ++ x ∷ waiting) (included found x) l.more l.is (nodes x) in
         let sees_now = subst (λ (y : NodeId). Sees g reading out (done ++ y ∷ waiting) seen) this sees in
-        let in_files : stands files x ≡ true = stands_at files (length done) x (ap (λ xs. slice_get xs (length done)) parts ∙ at_end done rest x) in
+        let in_files : stands files x ≡ true = stands_at files (length done) x
+        (ap (λ xs. slice_get xs (length done)) parts ∙ at_end done rest x) in
         let new : unseen seen (f (path_of g.nodes x)) ≡ paths_of g l.more =
         ap (unseen seen) (agrees x in_files)
         ∙ sym (cancel (paths_of g (done ++ x ∷ waiting))
@@ -263,11 +280,13 @@ module _ (g : RuleGraph) (reading : IsReading g) (sources out : List NodeId) (fo
         ∙ put_paths g reading out (done ++ x ∷ waiting) (included found x) seen (nodes x) sees_now)) in
         let next = walk rest (done ++ x ∷ []) (waiting ++ l.more) (paths_of g l.more ++ seen) n
         (parts ∙ sym (append_assoc done (x ∷ []) rest))
-        (listed_next done x ∙ ap (λ xs. put_all out xs (included found x)) listed_now ∙ l.is ∙ regroup done waiting l.more x)
+        (listed_next done x ∙ ap (λ xs. put_all out xs (included found x)) listed_now ∙ l.is
+        ∙ regroup done waiting l.more x)
         (sees_next done waiting l.more x seen below sees_now) (let k : length (x ∷ rest) < suc n = lt in omega arith) in
         ap (λ (y : NodeId). breadth_first f (suc n) seen (paths_of g (y ∷ waiting))) this
         ∙ ap (λ xs. path_of g.nodes x ∷ breadth_first f n (xs ++ seen) (paths_of g waiting ++ xs)) new
-        ∙ ap (λ xs. path_of g.nodes x ∷ breadth_first f n (paths_of g l.more ++ seen) xs) (sym (map-append (path_of g.nodes) waiting l.more))
+        ∙ ap (λ xs. path_of g.nodes x ∷ breadth_first f n (paths_of g l.more ++ seen) xs)
+        (sym (map-append (path_of g.nodes) waiting l.more))
         ∙ ap (λ xs. path_of g.nodes x ∷ xs) next
 
     pub walks : (seen : List Path) (n : ℕ) → Sees g reading out sources seen → length files < n →
@@ -294,7 +313,8 @@ no_files sources out found (x ∷ files) is e =
 
 module _ (g : RuleGraph) (of : declared.Rule) (r : Rule) (kept : Kept) (limit : ℕ) (includes : Path → List Path)
     (reading : IsReading g)
-    (is : IsRule (length g.nodes) of) (names : AreNames g of r) (keeps : KeepsRule g of kept) (agrees : Includes g kept includes) (room : length g.nodes < limit) where
+    (is : IsRule (length g.nodes) of) (names : AreNames g of r) (keeps : KeepsRule g of kept)
+    (agrees : Includes g kept includes) (room : length g.nodes < limit) where
   sources_below : are_below (length g.nodes) kept.sources ≡ true
   sources_below = ap (are_below (length g.nodes)) keeps.sources ∙ scanned_below g reading of is
 
@@ -304,8 +324,10 @@ module _ (g : RuleGraph) (of : declared.Rule) (r : Rule) (kept : Kept) (limit : 
   files_few : length kept.files < limit
   files_few =
       let le = few_once g reading kept.files
-      (files_once g reading kept.sources kept.left_out kept.found kept.files keeps.follows.files (sources_once g of kept keeps) keeps.nodes sources_below)
-      (files_below g reading kept.sources kept.left_out kept.found kept.files keeps.follows.files (sources_once g of kept keeps) keeps.nodes sources_below) in
+      (files_once g reading kept.sources kept.left_out kept.found kept.files keeps.follows.files
+      (sources_once g of kept keeps) keeps.nodes sources_below)
+      (files_below g reading kept.sources kept.left_out kept.found kept.files keeps.follows.files
+      (sources_once g of kept keeps) keeps.nodes sources_below) in
       omega (arith, le, room)
 
   seen_first : of.scans ≡ true → Sees g reading kept.left_out kept.sources (first_scanned r ++ left_out r)
@@ -319,7 +341,8 @@ module _ (g : RuleGraph) (of : declared.Rule) (r : Rule) (kept : Kept) (limit : 
   scan_by : (b : Bool) → of.scans ≡ b → scan_list limit includes r ≡ paths_of g kept.files
   scan_by true e =
       ap (breadth_first includes limit (first_scanned r ++ left_out r)) first_paths
-      ∙ walks g reading kept.sources kept.left_out kept.found kept.files keeps.follows.files (sources_once g of kept keeps) keeps.nodes sources_below includes agrees
+      ∙ walks g reading kept.sources kept.left_out kept.found kept.files keeps.follows.files
+      (sources_once g of kept keeps) keeps.nodes sources_below includes agrees
       (first_scanned r ++ left_out r) limit (seen_first e) files_few
   scan_by false e =
       let none : kept.sources ≡ [] = keeps.sources ∙ unscanned_sources g of e in
@@ -350,15 +373,19 @@ module _ (g : RuleGraph) (of : declared.Rule) (r : Rule) (kept : Kept) (limit : 
       true_false (sym (among_has (left_cases includes r scanned (has_among p (left_out r) f))) ∙ e)
 
   all_below : are_below (length g.nodes) kept.files ≡ true
-  all_below = files_below g reading kept.sources kept.left_out kept.found kept.files keeps.follows.files (sources_once g of kept keeps) keeps.nodes sources_below
+  all_below = files_below g reading kept.sources kept.left_out kept.found kept.files keeps.follows.files
+      (sources_once g of kept keeps) keeps.nodes sources_below
 
   -- and the dependencies
   pub deps_is : reach limit includes r ≡ paths_of g kept.deps
   deps_is =
       ap (λ l. declared_paths r ++ unseen (declared_paths r ++ left_out r) l) scan_is
-      ∙ ap (λ l. declared_paths r ++ l) (unseen_same (paths_of g kept.files) (declared_paths r ++ left_out r) (declared_paths r)
-      (λ p m. has_append p (declared_paths r) (left_out r) ∙ has_same p m (has p (declared_paths r)) (has p (left_out r)) refl refl))
-      ∙ ap (λ l. l ++ unseen (declared_paths r) (paths_of g kept.files)) (sym names.named ∙ ap (paths_of g) (sym keeps.named))
+      ∙ ap (λ l. declared_paths r ++ l) (unseen_same (paths_of g kept.files) (declared_paths r ++ left_out r)
+      (declared_paths r)
+      (λ p m. has_append p (declared_paths r) (left_out r)
+      ∙ has_same p m (has p (declared_paths r)) (has p (left_out r)) refl refl))
+      ∙ ap (λ l. l ++ unseen (declared_paths r) (paths_of g kept.files))
+      (sym names.named ∙ ap (paths_of g) (sym keeps.named))
       ∙ sym (put_paths g reading [] kept.named kept.files (declared_paths r) all_below named_seen)
       ∙ ap (paths_of g) (sym keeps.follows.deps)
 

@@ -41,8 +41,10 @@ count_first o states h = sym (sum_by-cons (λ x. cond (is_running_state x) 1 0) 
 none_runs : (states : List RuleState) (number : ℕ) → count_by is_running_state states ≡ 0 →
     state_of states number ≡ Running → ⊥
 none_runs [] number h e = true_false (sym (ap is_running_state e))
-none_runs (o ∷ states) zero h e = none_runs_by o (count_by is_running_state states) (is_running_state o) refl (count_first o states h) e
-none_runs (o ∷ states) (suc number) h e = none_runs states number (rest_by (count_by is_running_state states) (is_running_state o) (count_first o states h)) e
+none_runs (o ∷ states) zero h e = none_runs_by o (count_by is_running_state states) (is_running_state o) refl
+    (count_first o states h) e
+none_runs (o ∷ states) (suc number) h e = none_runs states number
+    (rest_by (count_by is_running_state states) (is_running_state o) (count_first o states h)) e
 
 module _ (b : Begun) (g : RuleGraph) (requested : List NodeId) (build : Build) (past : List Step) (plan : Planned)
     (tied : IsTied b g requested build past plan)
@@ -51,7 +53,8 @@ module _ (b : Begun) (g : RuleGraph) (requested : List NodeId) (build : Build) (
       IsPassed (begun_setting b) past (whole_found (begun_setting b) build past) r
   passed_still r p =
       let k = know b g requested build past plan tied p.number p.needed in
-      subst (λ (x : Rule). IsPassed (begun_setting b) past (whole_found (begun_setting b) build past) x) (some_same (sym k.numbered ∙ p.is))
+      subst (λ (x : Rule). IsPassed (begun_setting b) past (whole_found (begun_setting b) build past) x)
+      (some_same (sym k.numbered ∙ p.is))
       (passed b g requested build past plan tied p.number p.needed still.scans
       (λ state. held_up b g requested build past plan tied p.number p.needed (still.waits p.number k.kept state k.at)))
 
@@ -66,7 +69,8 @@ module _ (b : Begun) (g : RuleGraph) (requested : List NodeId) (build : Build) (
     left_by : (number : ℕ) (needed : state_of plan.states number ≢ Unneeded) (o : RuleState) →
         state_of plan.states number ≡ o →
         IsAt past (know b g requested build past plan tied number needed).rule o →
-        IsLeft (begun_setting b) past (whole_found (begun_setting b) build past) (know b g requested build past plan tied number needed).rule
+        IsLeft (begun_setting b) past (whole_found (begun_setting b) build past)
+        (know b g requested build past plan tied number needed).rule
     left_by number needed Unneeded e at = absurd (needed e)
     left_by number needed Waiting e at =
         let k = know b g requested build past plan tied number needed in
@@ -82,7 +86,8 @@ module _ (b : Begun) (g : RuleGraph) (requested : List NodeId) (build : Build) (
         IsLeft (begun_setting b) past (whole_found (begun_setting b) build past) r
     left_still r p =
         let k = know b g requested build past plan tied p.number p.needed in
-        subst (λ (x : Rule). IsLeft (begun_setting b) past (whole_found (begun_setting b) build past) x) (some_same (sym k.numbered ∙ p.is))
+        subst (λ (x : Rule). IsLeft (begun_setting b) past (whole_found (begun_setting b) build past) x)
+        (some_same (sym k.numbered ∙ p.is))
         (left_by p.number p.needed (state_of plan.states p.number) refl (tied.ties.states p.number k.rule k.numbered))
 
     among_order : (r : Rule) → IsPlanned b g requested build past plan tied r →
@@ -92,7 +97,8 @@ module _ (b : Begun) (g : RuleGraph) (requested : List NodeId) (build : Build) (
         let k = know b g requested build past plan tied p.number p.needed in
         let lt = slice_get_within plan.rules p.number k.kept k.at in
         numbered_there b g p.number r o.order p.is
-        ((order_reached plan.rules plan.origins plan.notes.roots o.order o.is).all p.number (tied.ties.plan_for.reached.each p.number p.needed) lt)
+        ((order_reached plan.rules plan.origins plan.notes.roots o.order o.is).all p.number
+        (tied.ties.plan_for.reached.each p.number p.needed) lt)
 
     pub is_at_rest : IsAtRest (begun_setting b) build past (whole_found (begun_setting b) build past)
     is_at_rest = record {

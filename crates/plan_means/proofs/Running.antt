@@ -48,7 +48,8 @@ pub running_known : (b : Begun) (g : RuleGraph) (requested : List NodeId) (t : T
     (plan : Planned) (number : ℕ) (r : Rule) →
     Ties b g requested t past plan → rule_numbered b g number ≡ Some r → IsRunning past r →
     state_of plan.states number ≡ Running
-running_known b g requested t past plan number r ties is runs = running_by past r (state_of plan.states number) (ties.states number r is) runs
+running_known b g requested t past plan number r ties is runs = running_by past r (state_of plan.states number)
+    (ties.states number r is) runs
 
 module _ (b : Begun) (g : RuleGraph) (requested : List NodeId) (t u : Tree) (past : List Step) (plan : Planned)
     (stays : StaysSettled b past t u)
@@ -62,20 +63,23 @@ module _ (b : Begun) (g : RuleGraph) (requested : List NodeId) (t u : Tree) (pas
       IsReady (begun_setting b) u (settled past) p ⊎ IsMissing (begun_setting b) u p
   ready_stays p (inl (is_source bytes none file)) = inl (is_source bytes none (sym (stays.sources p none) ∙ file))
   ready_stays p (inl (is_made r is m)) = inl (is_made r is m)
-  ready_stays p (inr missing) = inr (record { no_rule = missing.no_rule; no_file = sym (stays.sources p missing.no_rule) ∙ missing.no_file })
+  ready_stays p (inr missing) =
+      inr (record { no_rule = missing.no_rule; no_file = sym (stays.sources p missing.no_rule) ∙ missing.no_file })
 
   seen_stays : (r : Rule) (kept : Kept) (file : NodeId) → IsSeen b g t past r kept file → IsSeen b g u past r kept file
   seen_stays r kept file seen = record {
     ready = ready_stays (path_of g.nodes file) seen.ready;
     includes =
-        ap (λ c. includes_of ((begun_setting b).includes r (path_of g.nodes file)) (Some c)) (sym (same_at (path_of g.nodes file) seen.ready)) ∙ seen.includes;
+        ap (λ c. includes_of ((begun_setting b).includes r (path_of g.nodes file)) (Some c))
+        (sym (same_at (path_of g.nodes file) seen.ready)) ∙ seen.includes;
   }
 
   pub changes_keep : Ties b g requested u past plan
   changes_keep = record {
     plan_for = ties.plan_for;
     sees = record {
-      each = λ number kept r needed at numbered file h. seen_stays r kept file (ties.sees.each number kept r needed at numbered file h);
+      each = λ number kept r needed at numbered file h. seen_stays r kept file
+          (ties.sees.each number kept r needed at numbered file h);
       files = ties.sees.files;
       nodes = ties.sees.nodes;
     };

@@ -1,7 +1,8 @@
 -- The example meets what the laws ask.
-use Rattle.std.proofs.Common.{◌≡◌, ◌≢◌, ◌<◌, ℕ, zero, suc, Bool, true, false, ◌||◌, [], ◌∷◌, ◌++◌, length, Some, refl, sym, subst, ap, ◌∙◌, inl, inr, ◌⊎◌, arith}
+use Rattle.std.proofs.Common.{◌≡◌, ◌≢◌, ◌<◌, ℕ, zero, suc, Bool, true, false, ◌||◌, List, [], ◌∷◌, ◌++◌, length, Some, refl, sym, subst, ap, ◌∙◌, inl, inr, ◌⊎◌, arith}
 use Rattle.std.specs.Prelude.{slice_get, nat_eq}
 use Rattle.scons_base.specs.declared.ids.NodeId.{NodeId}
+use Rattle.scons_base.specs.declared.ids.RuleId.{RuleId}
 use Rattle.node_tree.specs.Nodes.{number_of}
 use Rattle.rule_graph.specs.declared.rule.Rule as declared
 use Rattle.rule_graph.specs.Rules.{rule_of, is_target_of, IsRule}
@@ -10,21 +11,24 @@ use Rattle.task_plan.specs.Queues.{is_open, is_placed}
 use Rattle.task_plan.specs.Named.{stands, named_of}
 use Rattle.task_plan.specs.Noted.{Places}
 use Rattle.task_plan.specs.Settled.{Kept, first_kept, origin_of}
-use Rattle.task_plan.specs.Plans.{AreMet as AreMetStates, IsDecidedNext}
+use Rattle.task_plan.specs.Plans.{AreMet as AreMetStates, CanDecide, IsDecidedNext}
 use Rattle.task_plan.specs.Met.{IsFrom, AreNeedsMet}
 use Rattle.task_plan.specs.Admits.{IsFirstAt, IsKnown, Follows}
-use Rattle.task_plan.specs.Orders.{is_among, needed_of, nothing_left, met_first, IsReached, is_root, is_needed}
-use Rattle.task_plan.specs.Ordered.{IsOrderLeft, KeepsOrder, is_past, AreNeedsDone}
-use Rattle.task_plan.specs.Watched.{IsSought, every, IsHeard, IsWatched, IsComplete}
+use Rattle.task_plan.specs.Orders.{is_among, needed_of, nothing_left, met_first, IsOrder, IsReached, is_root, is_needed}
+use Rattle.task_plan.specs.Ordered.{IsOrderLeft, KeepsOrder, IsFirstOf, is_past, AreNeedsDone}
+use Rattle.task_plan.specs.Watched.{IsSought, every, IsHeard, IsWatched, IsComplete, IsNoneReady}
 use Rattle.task_plan.specs.declared.states.RuleState.TheVariants.{Unneeded, Waiting}
+use Rattle.task_plan.proofs.BehindLemmas.{order_only}
 use Rattle.task_plan.proofs.ReachedLemmas.{same_number}
 use Rattle.task_plan.proofs.WalkLemmas.{node_same}
 use Rattle.build_model.specs.Rules.{Path}
 use Rattle.build_model.proofs.Lists.{true_false, none_some, some_same}
 use Rattle.build_means.specs.Rules.{IsReading}
 use Rattle.plan_means.specs.Planning.{IsGraphNow}
+use Rattle.plan_means.specs.Ties.{Ties}
+use Rattle.plan_means.specs.Deciding.{IsTied}
 use Rattle.plan_means.specs.Beginning.{IsLookedFor, AreLookedFor, IsLoaded}
-use Rattle.plan_means.specs.Examples.{source_node, object_node, object_rule, graph, source_alone, begun, first_rule, plan, AreMet}
+use Rattle.plan_means.specs.Examples.{source_node, object_node, object_rule, graph, source_alone, begun, first_rule, plan, build, AreMet}
 use Rattle.plan_means.proofs.Beginning.{is_tied}
 
 -- only the first number stands for anything
@@ -59,7 +63,17 @@ single zero n r e h = single_by n (ap (λ (x : declared.Rule). is_target_of x.ta
 single (suc i) n r e h = none_some e
 
 is_rule : IsRule (length graph.nodes) object_rule
-is_rule = record { has_target = omega arith; distinct = refl; targets = refl; sources = refl; libs = refl; depends = refl; required = refl; ignored = refl }
+is_rule =
+    record {
+      has_target = omega arith;
+      distinct = refl;
+      targets = refl;
+      sources = refl;
+      libs = refl;
+      depends = refl;
+      required = refl;
+      ignored = refl;
+    }
 
 each_rule : (i : ℕ) (r : declared.Rule) → slice_get graph.rules i ≡ Some r → IsRule (length graph.nodes) r
 each_rule zero r e = subst (λ (x : declared.Rule). IsRule (length graph.nodes) x) (some_same e) is_rule
@@ -72,7 +86,17 @@ now : IsGraphNow begun graph
 now = record {
   read = reading;
   reading = reading;
-  grown = record { top = refl; variants = refl; more = []; nodes = refl; copies = []; rules = refl; each_copy = λ r m. elim m [ ] };
+  grown =
+      record {
+        top = refl;
+        variants = refl;
+        more = [];
+        nodes = refl;
+        copies = [];
+        rules = refl;
+        each_copy = λ r m.
+            elim m [ ];
+      };
   room = omega arith;
 }
 
@@ -85,7 +109,8 @@ object_looked none = none_some (sym none)
 named_looked : (number : ℕ) (of : declared.Rule) (n : NodeId) → slice_get graph.rules number ≡ Some of →
     stands (of.required ++ named_of of) n ≡ true → IsLookedFor begun graph n
 named_looked zero of n e h =
-    let need : stands (source_node ∷ []) n ≡ true = ap (λ (x : declared.Rule). stands (x.required ++ named_of x) n) (some_same e) ∙ h in
+    let need : stands (source_node ∷ []) n ≡ true = ap (λ (x : declared.Rule). stands (x.required ++ named_of x) n)
+    (some_same e) ∙ h in
     subst (IsLookedFor begun graph) (sym (only_node source_node n need)) source_looked
 named_looked (suc i) of n e h = none_some e
 
@@ -99,7 +124,8 @@ states : AreMetStates [] plan.states
 states = record { at = at }
   where
     at : (rule : ℕ) →
-        (state_of plan.states rule ≡ state_of [] rule) ⊎ ((state_of [] rule ≡ Unneeded) × (state_of plan.states rule ≡ Waiting))
+        (state_of plan.states rule ≡ state_of [] rule) ⊎ ((state_of [] rule ≡ Unneeded)
+        × (state_of plan.states rule ≡ Waiting))
     at zero = inr (refl, refl)
     at (suc n) = inl refl
 
@@ -162,7 +188,8 @@ watched_at : (rule : ℕ) (k : Kept) (at : Places) → state_of plan.states rule
     slice_get plan.rules rule ≡ Some k → slice_get plan.notes.places rule ≡ Some at →
     IsWatched plan every rule k at
 watched_at zero k at waits e f =
-    subst (λ (x : Kept). IsWatched plan every 0 x at) (some_same e) (subst (λ (x : Places). IsWatched plan every 0 (first_kept graph object_rule) x) (some_same f) watched)
+    subst (λ (x : Kept). IsWatched plan every 0 x at) (some_same e)
+    (subst (λ (x : Places). IsWatched plan every 0 (first_kept graph object_rule) x) (some_same f) watched)
 watched_at (suc n) k at waits e f = none_some e
 
 unneeded_waits : Unneeded ≢ Waiting
@@ -201,15 +228,29 @@ loaded : IsLoaded graph (object_node ∷ []) plan
 loaded = record {
   states = states;
   halted = refl;
-  knows = λ rule needed. only_rule (λ n. IsFirstAt graph plan.rules n) (record { of = object_rule; at = refl; is = refl }) rule needed;
+  knows = λ rule needed. only_rule (λ n. IsFirstAt graph plan.rules n)
+      (record { of = object_rule; at = refl; is = refl }) rule needed;
   fits = λ rule needed. only_rule (λ n. IsKnown graph plan.rules n)
-      (record { of = object_rule; at = refl; kept = first_kept graph object_rule; is = refl; targets = refl; required = refl; named = refl; sources = refl; left_out = refl; whole = refl })
+      (record {
+        of = object_rule;
+        at = refl;
+        kept = first_kept graph object_rule;
+        is = refl;
+        targets = refl;
+        required =
+            refl;
+        named = refl;
+        sources = refl;
+        left_out = refl;
+        whole = refl;
+      })
       rule needed;
   follow = follow;
   from = record { each = from };
   met = record { each = all_met };
   only = record {
-    each = λ rule needed. only_rule (λ n. IsReached (needed_of plan.rules plan.origins) plan.notes.roots n) (is_root refl) rule needed;
+    each = λ rule needed. only_rule (λ n. IsReached (needed_of plan.rules plan.origins) plan.notes.roots n)
+        (is_root refl) rule needed;
     only = λ rule i. root_needed rule (reached_only i);
   };
   complete = complete;
@@ -220,9 +261,44 @@ loaded = record {
 next : IsDecidedNext plan 0
 next = record {
   first = record { opened = refl; first = λ other is_open_too. omega arith };
-  can = record { kept = first_kept graph object_rule; at = refl; waits = refl; ready = record { required = refl; deps = refl; scanned = refl } };
+  can = record {
+    kept = first_kept graph object_rule;
+    at = refl;
+    waits = refl;
+    ready = record
+        { required = refl; deps = refl; scanned = refl };
+  };
   goes = refl;
 }
+
+tied : Ties begun graph (object_node ∷ []) source_alone [] plan
+tied = is_tied begun graph (object_node ∷ []) source_alone plan now refl looked loaded
+
+build_tied : IsTied begun graph (object_node ∷ []) build [] plan
+build_tied = record { graph = now; run = tt; asked = refl; ties = tied; goes_on = λ goes. refl }
+
+none_scans : (rule : ℕ) (k : Kept) (place : ℕ) (file : NodeId) → slice_get plan.rules rule ≡ Some k →
+    slice_get k.files place ≡ Some file → ⊥
+none_scans zero k place file e f = none_some (ap (λ (x : Kept). slice_get x.files place) (some_same e) ∙ f)
+none_scans (suc n) k place file e f = none_some e
+
+none_ready : IsNoneReady plan
+none_ready = record { none = λ rule k place file waits e f can. none_scans rule k place file e f }
+
+own_order : IsOrder plan.rules plan.origins plan.notes.roots (first_rule ∷ [])
+own_order = record { met = first_rule ∷ []; visits = met_first (omega arith) refl nothing_left nothing_left }
+
+decides_first : (other : ℕ) → CanDecide plan other → is_among other (first_rule ∷ []) ≡ true
+decides_first zero can = refl
+decides_first (suc n) can = none_some can.at
+
+own_first : IsFirstOf plan (first_rule ∷ []) first_rule
+own_first = record { before = []; behind = []; is = refl; none = λ other m can. true_false (sym m); all = decides_first }
+
+first : (order : List RuleId) → IsOrder plan.rules plan.origins plan.notes.roots order → IsFirstOf plan order first_rule
+first order is =
+    subst (λ (l : List RuleId). IsFirstOf plan l first_rule)
+    (sym (order_only plan.rules plan.origins plan.notes.roots (first_rule ∷ []) order own_order is)) own_first
 
 pub are_met : AreMet
 are_met = record {
@@ -230,6 +306,10 @@ are_met = record {
   below = refl;
   looked = looked;
   loaded = loaded;
-  tied = is_tied begun graph (object_node ∷ []) source_alone plan now refl looked loaded;
+  tied = tied;
   next = next;
+  is = refl;
+  build_tied = build_tied;
+  none_ready = none_ready;
+  first = first;
 }

@@ -61,7 +61,12 @@ need_of_by plan number other (Some kept) e h =
     let files = kept.required ++ kept.deps in
     let place = place_in (makers_of plan.origins files) (record { 0 = number }) h in
     let made = maker_made plan.origins files place.0 (record { 0 = number }) place.1 in
-    record { node = made.file; need = ap (λ x. stands (needs_in x) made.file) e ∙ stands_at files made.place made.file made.at; origin = made.made }
+    record {
+      node = made.file;
+      need = ap (λ x. stands (needs_in x) made.file) e
+          ∙ stands_at files made.place made.file made.at;
+      origin = made.made;
+    }
 
 need_of : (plan : Planned) (number other : ℕ) → is_among number (needed_of plan.rules plan.origins other) ≡ true →
     IsNeedOf plan number other
@@ -69,13 +74,15 @@ need_of plan number other h = need_of_by plan number other (slice_get plan.rules
 
 module _ (b : Begun) (g : RuleGraph) (requested : List NodeId) (t : Tree) (past : List Step) (old new : Planned)
     (rule : RuleId) (file : NodeId) (found : List NodeId)
-    (now : IsGraphNow b g) (ties : Ties b g requested t past old) (sought : AreSought requested old) (next : IsScannedNext old rule.0 file)
+    (now : IsGraphNow b g) (ties : Ties b g requested t past old) (sought : AreSought requested old)
+    (next : IsScannedNext old rule.0 file)
     (is_found : IsFoundIn b g t old rule file found) (is : IsStep g old (Scanned rule found) new) where
   abbrev news : List NodeId
   news = news_of old (Scanned rule found)
 
   scans : ScansFile g old new rule.0 file found
-  scans = subst (λ o. MatchOption o (IsUnchanged old new) (λ f. ScansFile g old new rule.0 f found)) next.ready.wants is.knows
+  scans = subst (λ o. MatchOption o (IsUnchanged old new) (λ f. ScansFile g old new rule.0 f found)) next.ready.wants
+      is.knows
 
   plan_stays : IsPlanFor g requested new
   plan_stays =
@@ -128,7 +135,8 @@ module _ (b : Begun) (g : RuleGraph) (requested : List NodeId) (t : Tree) (past 
 
   -- what the rule depended on was met
   dep_met : (n : NodeId) → stands k.kept.deps n ≡ true → is_met old.origins n ≡ true
-  dep_met n h = needed_met b g requested t past old now ties rule.0 rule_needed n (in_needs k.kept.required k.kept.deps n h)
+  dep_met n h = needed_met b g requested t past old now ties rule.0 rule_needed n
+      (in_needs k.kept.required k.kept.deps n h)
 
   file_dep : (n : NodeId) → stands k.kept.files n ≡ true → stands k.kept.deps n ≡ true
   file_dep n h =
@@ -138,7 +146,8 @@ module _ (b : Begun) (g : RuleGraph) (requested : List NodeId) (t : Tree) (past 
   named_dep : (n : NodeId) → stands k.kept.named n ≡ true → stands k.kept.deps n ≡ true
   named_dep n h =
       ap (λ (l : List NodeId). stands l n) k.keeps.follows.deps
-      ∙ stands_longer k.kept.named (put_all [] k.kept.named k.kept.files) n (put_all_longer [] k.kept.named k.kept.files) h
+      ∙ stands_longer k.kept.named (put_all [] k.kept.named k.kept.files) n
+      (put_all_longer [] k.kept.named k.kept.files) h
 
   abbrev IsOldOrNews : NodeId → Type 0
   IsOldOrNews n = (is_met old.origins n ≡ true) ⊎ (stands news n ≡ true)
@@ -157,7 +166,8 @@ module _ (b : Begun) (g : RuleGraph) (requested : List NodeId) (t : Tree) (past 
   found_new : (n : NodeId) → stands found n ≡ true → stands after.left_out n ≡ false → IsOldOrNews n
   found_new n h new_file =
       let l = put_all_longer k.kept.left_out k.kept.files found in
-      ⊎_elim (λ o. true_false (sym (ap (λ (x : List NodeId). stands x n) after_left_out ∙ o) ∙ new_file)) (put_split n l.more l.is)
+      ⊎_elim (λ o. true_false (sym (ap (λ (x : List NodeId). stands x n) after_left_out ∙ o) ∙ new_file))
+      (put_split n l.more l.is)
       (put_all_in k.kept.left_out k.kept.files found n h)
 
   found_old : (by n : NodeId) → stands (included k.kept.found by) n ≡ true → stands after.left_out n ≡ false →
@@ -184,12 +194,15 @@ module _ (b : Begun) (g : RuleGraph) (requested : List NodeId) (t : Tree) (past 
   file_by n i at (inl lt) =
       let l = put_all_longer after.left_out after.sources (flat_map (included after.found) after.files) in
       let source : slice_get after.sources i ≡ Some n =
-      sym (get-within after.sources l.more i lt) ∙ ap (λ (x : List NodeId). slice_get x i) (sym (after_follows.files.whole ∙ l.is)) ∙ at in
-      let was : stands k.kept.sources n ≡ true = ap (λ (x : List NodeId). stands x n) (sym after_sources) ∙ stands_at after.sources i n source in
+      sym (get-within after.sources l.more i lt) ∙ ap (λ (x : List NodeId). slice_get x i)
+      (sym (after_follows.files.whole ∙ l.is)) ∙ at in
+      let was : stands k.kept.sources n ≡ true = ap (λ (x : List NodeId). stands x n) (sym after_sources)
+      ∙ stands_at after.sources i n source in
       let files = put_all_longer k.kept.left_out k.kept.sources (flat_map (included k.kept.found) k.kept.files) in
       let in_files : stands k.kept.files n ≡ true =
       ap (λ (x : List NodeId). stands x n) k.keeps.follows.files.whole
-      ∙ stands_longer k.kept.sources (put_all k.kept.left_out k.kept.sources (flat_map (included k.kept.found) k.kept.files)) n files was in
+      ∙ stands_longer k.kept.sources (put_all k.kept.left_out k.kept.sources
+      (flat_map (included k.kept.found) k.kept.files)) n files was in
       inl (dep_met n (file_dep n in_files))
   file_by n i at (inr le) =
       let before = after_follows.files.earlier i n at le in
@@ -215,7 +228,8 @@ module _ (b : Begun) (g : RuleGraph) (requested : List NodeId) (t : Tree) (past 
   need_by number (inl same) needed n h =
       rule_need n (or_either (stands after.required n) (stands after.deps n)
       (sym (list_any-append (λ m. nat_eq n.0 m.0) after.required after.deps)
-      ∙ ap (λ o. stands (needs_in o) n) (sym scans.this.is) ∙ ap (λ (x : ℕ). stands (needs_at new.rules x) n) (sym same) ∙ h))
+      ∙ ap (λ o. stands (needs_in o) n) (sym scans.this.is) ∙ ap (λ (x : ℕ). stands (needs_at new.rules x) n)
+      (sym same) ∙ h))
   need_by number (inr other) needed n h =
       let at = scans.others number (known number needed).kept other needed (known number needed).at in
       inl (needed_met b g requested t past old now ties number needed n (ap (λ o. stands (needs_in o) n) (sym at) ∙ h))
@@ -229,7 +243,8 @@ module _ (b : Begun) (g : RuleGraph) (requested : List NodeId) (t : Tree) (past 
       rule_of g.rules n.0 ≡ Some m → state_of old.states m ≢ Unneeded
   made_before n m Unmet from met of = true_false (sym met)
   made_before n m Source from met of = none_some (sym from ∙ of)
-  made_before n m (Made r) from met of = subst (λ (x : ℕ). state_of old.states x ≢ Unneeded) (some_same (sym from.0 ∙ of)) from.1
+  made_before n m (Made r) from met of = subst (λ (x : ℕ). state_of old.states x ≢ Unneeded)
+      (some_same (sym from.0 ∙ of)) from.1
 
   abbrev IsOldOrAsked : ℕ → Type 0
   IsOldOrAsked number = (state_of old.states number ≢ Unneeded) ⊎ IsAskedFor g news number
@@ -238,29 +253,34 @@ module _ (b : Begun) (g : RuleGraph) (requested : List NodeId) (t : Tree) (past 
   made_now n m e = (subst (λ (o : Origin). IsFrom g new.states n.0 o) e (plan_stays.from.each n.0)).0
 
   old_need : (number : ℕ) (n : NodeId) → rule_of g.rules n.0 ≡ Some number → IsOldOrNews n → IsOldOrAsked number
-  old_need number n of (inl met) = inl (made_before n number (origin_of old.origins n.0) (ties.plan_for.from.each n.0) met of)
+  old_need number n of (inl met) =
+      inl (made_before n number (origin_of old.origins n.0) (ties.plan_for.from.each n.0) met of)
   old_need number n of (inr m) = inr (IsAskedFor.asked n m of)
 
   admitted_need : (number other : ℕ) (n : NodeId) → IsAdmitted g new other → IsAskedFor g news other →
       stands (needs_at new.rules other) n ≡ true → rule_of g.rules n.0 ≡ Some number →
       IsOldOrAsked number
   admitted_need number other n admitted is_asked need of =
-      inr (IsAskedFor.needs admitted.of n is_asked admitted.at (ap (λ o. stands (needs_in o) n) (sym admitted.is) ∙ need) of)
+      inr (IsAskedFor.needs admitted.of n is_asked admitted.at
+      (ap (λ o. stands (needs_in o) n) (sym admitted.is) ∙ need) of)
 
   asked_next : (number other : ℕ) → (state_of old.states other ≡ Unneeded) ⊎ (state_of old.states other ≢ Unneeded) →
       state_of new.states other ≢ Unneeded → IsOldOrAsked other →
       IsNeedOf new number other → IsOldOrAsked number
   asked_next number other (inr needed) still h need =
-      old_need number need.node (made_now need.node (record { 0 = number }) need.origin) (need_or other needed need.node need.need)
+      old_need number need.node (made_now need.node (record { 0 = number }) need.origin)
+      (need_or other needed need.node need.need)
   asked_next number other (inl u) still (inl needed) need = absurd (needed u)
   asked_next number other (inl u) still (inr is_asked) need =
-      admitted_need number other need.node (scans.met other u still) is_asked need.need (made_now need.node (record { 0 = number }) need.origin)
+      admitted_need number other need.node (scans.met other u still) is_asked need.need
+      (made_now need.node (record { 0 = number }) need.origin)
 
   -- a rule that is needed now was needed before, or is asked for by what was found
   reached_or : {number : ℕ} → IsReached (needed_of new.rules new.origins) new.notes.roots number → IsOldOrAsked number
   reached_or {number} (is_root h) = inl (ties.plan_for.order.roots number (ap (is_among number) (sym is.roots) ∙ h))
   reached_or {number} (is_needed other reached h) =
-      asked_next number other (unneeded_or g (state_of old.states other)) (plan_stays.reached.only other reached) (reached_or reached) (need_of new number other h)
+      asked_next number other (unneeded_or g (state_of old.states other)) (plan_stays.reached.only other reached)
+      (reached_or reached) (need_of new number other h)
 
   no_rule : (n : NodeId) → origin_of new.origins n.0 ≡ Source → rule_of g.rules n.0 ≡ None
   no_rule n e = subst (λ (o : Origin). IsFrom g new.states n.0 o) e (plan_stays.from.each n.0)
@@ -288,7 +308,8 @@ module _ (b : Begun) (g : RuleGraph) (requested : List NodeId) (t : Tree) (past 
       IsOldOrAsked number → HasNone n
   asked_none number n u admitted need none (inl needed) = absurd (needed u)
   asked_none number n u admitted need none (inr is_asked) =
-      is_found.looked.named number admitted.of n is_asked admitted.at (ap (λ o. stands (needs_in o) n) (sym admitted.is) ∙ need) none
+      is_found.looked.named number admitted.of n is_asked admitted.at
+      (ap (λ o. stands (needs_in o) n) (sym admitted.is) ∙ need) none
 
   sources_by : (number : ℕ) (n : NodeId) →
       (state_of old.states number ≡ Unneeded) ⊎ (state_of old.states number ≢ Unneeded) →
@@ -302,7 +323,8 @@ module _ (b : Begun) (g : RuleGraph) (requested : List NodeId) (t : Tree) (past 
   file_need : stands (k.kept.required ++ k.kept.deps) file ≡ true
   file_need =
       let same : next.ready.kept ≡ k.kept = some_same (sym next.ready.at ∙ k.at) in
-      let at : slice_get k.kept.files next.ready.place ≡ Some file = ap (λ (x : Kept). slice_get x.files next.ready.place) (sym same) ∙ next.ready.is_file in
+      let at : slice_get k.kept.files next.ready.place ≡ Some file = ap
+      (λ (x : Kept). slice_get x.files next.ready.place) (sym same) ∙ next.ready.is_file in
       in_needs k.kept.required k.kept.deps file (file_dep file (stands_at k.kept.files next.ready.place file at))
 
   file_seen : (r : Rule) → rule_numbered b g rule.0 ≡ Some r → IsSeen b g t past r after file
@@ -310,7 +332,8 @@ module _ (b : Begun) (g : RuleGraph) (requested : List NodeId) (t : Tree) (past 
     ready = done_ready b g requested t past old now ties rule.0 rule_needed file file_need next.ready.can.done;
     includes =
         is_found.includes r numbered
-        ∙ sym (ap (λ (x : List (NodeId × List NodeId)). paths_of g (included x file)) after_found ∙ ap (paths_of g) (included_this k.kept.found file found));
+        ∙ sym (ap (λ (x : List (NodeId × List NodeId)). paths_of g (included x file)) after_found
+        ∙ ap (paths_of g) (included_this k.kept.found file found));
   }
 
   still_scanned : (f : NodeId) → nat_eq f.0 file.0 ≡ false → is_scanned after.found f ≡ true → (c : Bool) →
@@ -325,18 +348,21 @@ module _ (b : Begun) (g : RuleGraph) (requested : List NodeId) (t : Tree) (past 
   was_scanned f e h = still_scanned f e h (is_scanned k.kept.found f) refl
 
   other_included : (f : NodeId) → nat_eq f.0 file.0 ≡ false → included after.found f ≡ included k.kept.found f
-  other_included f e = ap (λ (x : List (NodeId × List NodeId)). included x f) after_found ∙ included_other k.kept.found file f found e
+  other_included f e = ap (λ (x : List (NodeId × List NodeId)). included x f) after_found
+      ∙ included_other k.kept.found file f found e
 
   rule_seen : (r : Rule) (f : NodeId) (c : Bool) → nat_eq f.0 file.0 ≡ c → rule_numbered b g rule.0 ≡ Some r →
       is_scanned after.found f ≡ true → IsSeen b g t past r after f
-  rule_seen r f true e numbered h = subst (λ (x : NodeId). IsSeen b g t past r after x) (sym (node_same f file e)) (file_seen r numbered)
+  rule_seen r f true e numbered h = subst (λ (x : NodeId). IsSeen b g t past r after x) (sym (node_same f file e))
+      (file_seen r numbered)
   rule_seen r f false e numbered h =
       let seen = ties.sees.each rule.0 k.kept r rule_needed k.at numbered f (was_scanned f e h) in
       record { ready = seen.ready; includes = seen.includes ∙ ap (paths_of g) (sym (other_included f e)) }
 
   rule_file : (f : NodeId) (c : Bool) → nat_eq f.0 file.0 ≡ c → is_scanned after.found f ≡ true → f.0 < length g.nodes
   rule_file f true e h =
-      subst (λ (x : NodeId). x.0 < length g.nodes) (sym (node_same f file e)) (need_below b g requested t past old now ties rule.0 rule_needed file file_need)
+      subst (λ (x : NodeId). x.0 < length g.nodes) (sym (node_same f file e))
+      (need_below b g requested t past old now ties rule.0 rule_needed file file_need)
   rule_file f false e h = ties.sees.files rule.0 k.kept rule_needed k.at f (was_scanned f e h)
 
   rule_nodes : (f : NodeId) (c : Bool) → nat_eq f.0 file.0 ≡ c →
@@ -345,7 +371,8 @@ module _ (b : Begun) (g : RuleGraph) (requested : List NodeId) (t : Tree) (past 
       ap (λ (x : NodeId). are_below (length g.nodes) (included after.found x)) (node_same f file e)
       ∙ ap (λ (x : List (NodeId × List NodeId)). are_below (length g.nodes) (included x file)) after_found
       ∙ ap (are_below (length g.nodes)) (included_this k.kept.found file found) ∙ is_found.nodes
-  rule_nodes f false e = ap (are_below (length g.nodes)) (other_included f e) ∙ ties.sees.nodes rule.0 k.kept rule_needed k.at f
+  rule_nodes f false e = ap (are_below (length g.nodes)) (other_included f e)
+      ∙ ties.sees.nodes rule.0 k.kept rule_needed k.at f
 
   after_is : (number : ℕ) (kept : Kept) → number ≡ rule.0 → slice_get new.rules number ≡ Some kept → after ≡ kept
   after_is number kept same at = some_same (sym scans.this.is ∙ ap (slice_get new.rules) (sym same) ∙ at)
@@ -371,8 +398,10 @@ module _ (b : Begun) (g : RuleGraph) (requested : List NodeId) (t : Tree) (past 
   seen_by number kept r (inr needed) (inl same) still at numbered f h =
       let is_after = after_is number kept same at in
       subst (λ (x : Kept). IsSeen b g t past r x f) is_after
-      (rule_seen r f (nat_eq f.0 file.0) refl (ap (rule_numbered b g) (sym same) ∙ numbered) (ap (λ (x : Kept). is_scanned x.found f) is_after ∙ h))
-  seen_by number kept r (inr needed) (inr other) still at numbered f h = ties.sees.each number kept r needed (other_kept number kept other needed at) numbered f h
+      (rule_seen r f (nat_eq f.0 file.0) refl (ap (rule_numbered b g) (sym same) ∙ numbered)
+      (ap (λ (x : Kept). is_scanned x.found f) is_after ∙ h))
+  seen_by number kept r (inr needed) (inr other) still at numbered f h = ties.sees.each number kept r needed
+      (other_kept number kept other needed at) numbered f h
 
   files_by : (number : ℕ) (kept : Kept) →
       (state_of old.states number ≡ Unneeded) ⊎ (state_of old.states number ≢ Unneeded) →
@@ -383,7 +412,8 @@ module _ (b : Begun) (g : RuleGraph) (requested : List NodeId) (t : Tree) (past 
       true_false (sym h ∙ ap (λ (x : Kept). is_scanned x.found f) (first_is number kept (scans.met number u still) at))
   files_by number kept (inr needed) (inl same) still at f h =
       rule_file f (nat_eq f.0 file.0) refl (ap (λ (x : Kept). is_scanned x.found f) (after_is number kept same at) ∙ h)
-  files_by number kept (inr needed) (inr other) still at f h = ties.sees.files number kept needed (other_kept number kept other needed at) f h
+  files_by number kept (inr needed) (inr other) still at f h = ties.sees.files number kept needed
+      (other_kept number kept other needed at) f h
 
   nodes_by : (number : ℕ) (kept : Kept) →
       (state_of old.states number ≡ Unneeded) ⊎ (state_of old.states number ≢ Unneeded) →
@@ -391,10 +421,13 @@ module _ (b : Begun) (g : RuleGraph) (requested : List NodeId) (t : Tree) (past 
       state_of new.states number ≢ Unneeded → slice_get new.rules number ≡ Some kept → (f : NodeId) →
       are_below (length g.nodes) (included kept.found f) ≡ true
   nodes_by number kept (inl u) y still at f =
-      ap (λ (x : Kept). are_below (length g.nodes) (included x.found f)) (first_is number kept (scans.met number u still) at)
+      ap (λ (x : Kept). are_below (length g.nodes) (included x.found f))
+      (first_is number kept (scans.met number u still) at)
   nodes_by number kept (inr needed) (inl same) still at f =
-      ap (λ (x : Kept). are_below (length g.nodes) (included x.found f)) (sym (after_is number kept same at)) ∙ rule_nodes f (nat_eq f.0 file.0) refl
-  nodes_by number kept (inr needed) (inr other) still at f = ties.sees.nodes number kept needed (other_kept number kept other needed at) f
+      ap (λ (x : Kept). are_below (length g.nodes) (included x.found f)) (sym (after_is number kept same at))
+      ∙ rule_nodes f (nat_eq f.0 file.0) refl
+  nodes_by number kept (inr needed) (inr other) still at f = ties.sees.nodes number kept needed
+      (other_kept number kept other needed at) f
 
   decided_needed : (o : RuleState) → IsDecidedState o → o ≢ Unneeded
   decided_needed o h e = subst IsDecidedState e h
@@ -403,16 +436,19 @@ module _ (b : Begun) (g : RuleGraph) (requested : List NodeId) (t : Tree) (past 
   not_this number h same = subst IsDecidedState (ap (state_of old.states) same ∙ next.ready.waits) h
 
   scanned_by : (number : ℕ) (kept : Kept) →
-      (state_of new.states number ≡ state_of old.states number) ⊎ ((state_of old.states number ≡ Unneeded) × (state_of new.states number ≡ Waiting)) →
+      (state_of new.states number ≡ state_of old.states number)
+      ⊎ ((state_of old.states number ≡ Unneeded) × (state_of new.states number ≡ Waiting)) →
       IsDecidedState (state_of new.states number) → slice_get new.rules number ≡ Some kept →
       list_all (λ n. is_scanned kept.found n) kept.files ≡ true
   scanned_by number kept (inl same) decided at =
       let was = subst IsDecidedState same decided in
-      ties.scanned number kept was (other_kept number kept (not_this number was) (decided_needed (state_of old.states number) was) at)
+      ties.scanned number kept was (other_kept number kept (not_this number was)
+      (decided_needed (state_of old.states number) was) at)
   scanned_by number kept (inr h) decided at = absurd (subst IsDecidedState h.1 decided)
 
   at_by : (number : ℕ) (r : Rule) →
-      (state_of new.states number ≡ state_of old.states number) ⊎ ((state_of old.states number ≡ Unneeded) × (state_of new.states number ≡ Waiting)) →
+      (state_of new.states number ≡ state_of old.states number)
+      ⊎ ((state_of old.states number ≡ Unneeded) × (state_of new.states number ≡ Waiting)) →
       IsAt past r (state_of old.states number) → IsAt past r (state_of new.states number)
   at_by number r (inl same) at = subst (λ (o : RuleState). IsAt past r o) (sym same) at
   at_by number r (inr h) at =
@@ -425,11 +461,14 @@ module _ (b : Begun) (g : RuleGraph) (requested : List NodeId) (t : Tree) (past 
     sees = record {
       each = λ number kept r still at numbered f h.
           seen_by number kept r (unneeded_or g (state_of old.states number)) (apart number rule.0) still at numbered f h;
-      files = λ number kept still at f h. files_by number kept (unneeded_or g (state_of old.states number)) (apart number rule.0) still at f h;
-      nodes = λ number kept still at f. nodes_by number kept (unneeded_or g (state_of old.states number)) (apart number rule.0) still at f;
+      files = λ number kept still at f h. files_by number kept (unneeded_or g (state_of old.states number))
+          (apart number rule.0) still at f h;
+      nodes = λ number kept still at f. nodes_by number kept (unneeded_or g (state_of old.states number))
+          (apart number rule.0) still at f;
     };
     scanned = λ number kept decided at. scanned_by number kept (is.states.at number) decided at;
-    sources = λ number n still need e. sources_by number n (unneeded_or g (state_of old.states number)) still need (no_rule n e);
+    sources = λ number n still need e. sources_by number n (unneeded_or g (state_of old.states number)) still need
+        (no_rule n e);
     asked = ties.asked;
     states = λ number r numbered. at_by number r (is.states.at number) (ties.states number r numbered);
     numbered = ties.numbered;

@@ -82,7 +82,8 @@ module _ (g : RuleGraph) (reading : IsReading g) where
       (c : Bool) → bytes_eq (path_of g.nodes n) (path_of g.nodes m) ≡ c → c ≡ b
   same_paths_by n m true e nlt mlt c f =
       let same : n.0 ≡ m.0 = (Decides-eqb n.0 m.0).0 e in
-      sym f ∙ (bytes_eq-Decides (path_of g.nodes n) (path_of g.nodes m)).1 (ap (λ k. path_of g.nodes (record { 0 = k })) same)
+      sym f ∙ (bytes_eq-Decides (path_of g.nodes n) (path_of g.nodes m)).1
+      (ap (λ k. path_of g.nodes (record { 0 = k })) same)
   same_paths_by n m false e nlt mlt false f = refl
   same_paths_by n m false e nlt mlt true f =
       let one = reading.apart n.0 (path_of g.nodes n) (node_path g reading n nlt) in
@@ -94,11 +95,13 @@ module _ (g : RuleGraph) (reading : IsReading g) where
   -- two nodes are one where their paths are
   pub same_paths : (n m : NodeId) → n.0 < length g.nodes → m.0 < length g.nodes →
       bytes_eq (path_of g.nodes n) (path_of g.nodes m) ≡ nat_eq n.0 m.0
-  same_paths n m nlt mlt = same_paths_by n m (nat_eq n.0 m.0) refl nlt mlt (bytes_eq (path_of g.nodes n) (path_of g.nodes m)) refl
+  same_paths n m nlt mlt = same_paths_by n m (nat_eq n.0 m.0) refl nlt mlt
+      (bytes_eq (path_of g.nodes n) (path_of g.nodes m)) refl
 
   pub first_below : (x : NodeId) (nodes : List NodeId) → are_below (length g.nodes) (x ∷ nodes) ≡ true →
       x.0 < length g.nodes
-  first_below x nodes h = ltb-true x.0 (length g.nodes) (and_both (nat_lt x.0 (length g.nodes)) (are_below (length g.nodes) nodes) h).0
+  first_below x nodes h =
+      ltb-true x.0 (length g.nodes) (and_both (nat_lt x.0 (length g.nodes)) (are_below (length g.nodes) nodes) h).0
 
   pub rest_below : (x : NodeId) (nodes : List NodeId) → are_below (length g.nodes) (x ∷ nodes) ≡ true →
       are_below (length g.nodes) nodes ≡ true
@@ -115,7 +118,8 @@ module _ (g : RuleGraph) (reading : IsReading g) where
 
   -- the paths that were seen are those of nodes that are left out or stand before
   abbrev pub Sees : List NodeId → List NodeId → List Path → Type 0
-  Sees out before seen = (n : NodeId) → n.0 < length g.nodes → has (path_of g.nodes n) seen ≡ (stands out n || stands before n)
+  Sees out before seen = (n : NodeId) → n.0 < length g.nodes → has (path_of g.nodes n)
+      seen ≡ (stands out n || stands before n)
 
   sees_more : (out before : List NodeId) (x : NodeId) (seen : List Path) → x.0 < length g.nodes → Sees out before seen →
       Sees out (before ++ x ∷ []) (path_of g.nodes x ∷ seen)
@@ -128,9 +132,11 @@ module _ (g : RuleGraph) (reading : IsReading g) where
   put_by : (out before : List NodeId) (x : NodeId) (nodes : List NodeId) (seen : List Path) (b c h : Bool) →
       h ≡ (b || c) →
       paths_of g (put_all out before nodes) ≡ paths_of g before ++ unseen seen (paths_of g nodes) →
-      paths_of g (put_all out (before ++ x ∷ []) nodes) ≡ paths_of g (before ++ x ∷ []) ++ unseen (path_of g.nodes x ∷ seen) (paths_of g nodes) →
+      paths_of g (put_all out (before ++ x ∷ []) nodes) ≡ paths_of g (before ++ x ∷ []) ++ unseen
+      (path_of g.nodes x ∷ seen) (paths_of g nodes) →
       paths_of g (put_all out (if b then before else (if c then before else before ++ x ∷ [])) nodes)
-      ≡ paths_of g before ++ (if h then unseen seen (paths_of g nodes) else path_of g.nodes x ∷ unseen (path_of g.nodes x ∷ seen) (paths_of g nodes))
+      ≡ paths_of g before ++ (if h then unseen seen (paths_of g nodes) else path_of g.nodes x ∷ unseen
+      (path_of g.nodes x ∷ seen) (paths_of g nodes))
   put_by out before x nodes seen true c true e stay more = stay
   put_by out before x nodes seen true c false e stay more = true_false (sym e)
   put_by out before x nodes seen false true true e stay more = stay

@@ -29,13 +29,18 @@ module _ (b : Begun) (g : RuleGraph) (now : IsGraphNow b g) where
       slice_get b.graph.rules number ≡ read → slice_get g.rules number ≡ here_now →
       or_copy_in g read here_now ≡ Some x → StandsAt g number
   stands_by number x (Some of) o e f is =
-      record { of = of; at = ap (λ rules. slice_get rules number) now.grown.rules ∙ get-front b.graph.rules now.grown.copies number of e }
+      record {
+        of = of;
+        at = ap (λ rules. slice_get rules number) now.grown.rules
+            ∙ get-front b.graph.rules now.grown.copies number of e;
+      }
   stands_by number x None (Some of) e f is = record { of = of; at = f }
   stands_by number x None None e f is = none_some is
 
   -- what is numbered stands in the graph
   pub numbered_stands : (number : ℕ) (x : Rule) → rule_numbered b g number ≡ Some x → StandsAt g number
-  numbered_stands number x is = stands_by number x (slice_get b.graph.rules number) (slice_get g.rules number) refl refl is
+  numbered_stands number x is = stands_by number x (slice_get b.graph.rules number) (slice_get g.rules number) refl
+      refl is
 
   first_of : (of : declared.Rule) (number : ℕ) → slice_get g.rules number ≡ Some of → (targets : List NodeId) →
       of.targets ≡ targets → 0 < length targets →
@@ -45,13 +50,15 @@ module _ (b : Begun) (g : RuleGraph) (now : IsGraphNow b g) where
       (n, ap (λ (l : List NodeId). stands l n) e ∙ first_stands n targets)
     where
       first_stands : (n : NodeId) (targets : List NodeId) → stands (n ∷ targets) n ≡ true
-      first_stands n targets = there_any (λ (m : NodeId). nat_eq n.0 m.0) (let m : Among n (n ∷ targets) = here in m) ((Decides-eqb n.0 n.0).1 refl)
+      first_stands n targets = there_any (λ (m : NodeId). nat_eq n.0 m.0) (let m : Among n (n ∷ targets) = here in m)
+          ((Decides-eqb n.0 n.0).1 refl)
 
   target_of : (of : declared.Rule) (number : ℕ) (node : NodeId) → slice_get g.rules number ≡ Some of →
       stands of.targets node ≡ true → rule_of g.rules node.0 ≡ Some number
   target_of of number node at h =
       now.reading.single number node.0 of at
-      (there_any (λ (t : NodeId). nat_eq t.0 node.0) (stands_among of.targets node h) ((Decides-eqb node.0 node.0).1 refl))
+      (there_any (λ (t : NodeId). nat_eq t.0 node.0) (stands_among of.targets node h)
+      ((Decides-eqb node.0 node.0).1 refl))
 
   -- two numbers of a rule are one
   pub one_number : (n m : ℕ) (x : Rule) → rule_numbered b g n ≡ Some x → rule_numbered b g m ≡ Some x → n ≡ m
@@ -64,11 +71,14 @@ module _ (b : Begun) (g : RuleGraph) (now : IsGraphNow b g) where
       let two_named = is_named b g now.grown now.reading m two.of two.at in
       let target = first_of one.of n one.at one.of.targets refl one_is.has_target in
       let lt : target.0.0 < length g.nodes = below one.of target.0 one_is target.1 in
-      let rules : one_named.rule ≡ two_named.rule = some_same (sym one_named.is ∙ e) ∙ sym (some_same (sym two_named.is ∙ f)) in
-      let targets : paths_of g one.of.targets ≡ paths_of g two.of.targets = one_named.names.targets ∙ ap (λ r. r.targets) rules ∙ sym two_named.names.targets in
+      let rules : one_named.rule ≡ two_named.rule = some_same (sym one_named.is ∙ e)
+      ∙ sym (some_same (sym two_named.is ∙ f)) in
+      let targets : paths_of g one.of.targets ≡ paths_of g two.of.targets = one_named.names.targets
+      ∙ ap (λ r. r.targets) rules ∙ sym two_named.names.targets in
       let among : has (path_of g.nodes target.0) (paths_of g two.of.targets) ≡ true =
       among_has (among_same targets (map_among (path_of g.nodes) (stands_among one.of.targets target.0 target.1))) in
-      let also : stands two.of.targets target.0 ≡ true = sym (has_stands g now.reading two.of.targets target.0 two_is.targets lt) ∙ among in
+      let also : stands two.of.targets target.0 ≡ true = sym
+      (has_stands g now.reading two.of.targets target.0 two_is.targets lt) ∙ among in
       some_same (sym (target_of one.of n target.0 one.at target.1) ∙ target_of two.of m target.0 two.at also)
     where
       below : (of : declared.Rule) (node : NodeId) → IsRule (length g.nodes) of → stands of.targets node ≡ true →

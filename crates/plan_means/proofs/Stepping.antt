@@ -161,16 +161,20 @@ module _ (b : Begun) (g : RuleGraph) (requested : List NodeId) (t : Tree) (past 
   sees_stays : Sees b g t (step ∷ past) new
   sees_stays = record {
     each = λ number kept r needed at numbered file h.
-        seen_stays r kept file (ties.sees.each number kept r (needed_before number needed) (kept_before number kept at) numbered file h);
-    files = λ number kept needed at file h. ties.sees.files number kept (needed_before number needed) (kept_before number kept at) file h;
-    nodes = λ number kept needed at file. ties.sees.nodes number kept (needed_before number needed) (kept_before number kept at) file;
+        seen_stays r kept file (ties.sees.each number kept r (needed_before number needed)
+        (kept_before number kept at) numbered file h);
+    files = λ number kept needed at file h. ties.sees.files number kept (needed_before number needed)
+        (kept_before number kept at) file h;
+    nodes = λ number kept needed at file. ties.sees.nodes number kept (needed_before number needed)
+        (kept_before number kept at) file;
   }
 
   scanned_by : (number : ℕ) (kept : Kept) → Own number ⊎ (Own number → ⊥) →
       IsDecidedState (state_of new.states number) → slice_get old.rules number ≡ Some kept →
       list_all (λ n. is_scanned kept.found n) kept.files ≡ true
   scanned_by number kept (inl own) decided at = moves.scanned number kept own at
-  scanned_by number kept (inr other) decided at = ties.scanned number kept (subst IsDecidedState (moves.others number other) decided) at
+  scanned_by number kept (inr other) decided at = ties.scanned number kept
+      (subst IsDecidedState (moves.others number other) decided) at
 
   source_by : (number : ℕ) (n : NodeId) (o : Origin) → state_of old.states number ≢ Unneeded →
       stands (needs_at old.rules number) n ≡ true → origin_of old.origins n.0 ≡ o →
@@ -194,15 +198,18 @@ module _ (b : Begun) (g : RuleGraph) (requested : List NodeId) (t : Tree) (past 
       rule_at (begun_graph b) b.tree (path_of g.nodes n) ≡ None
   sources_stay number n needed need e =
       let before = needed_before number needed in
-      let was : stands (needs_at old.rules number) n ≡ true = ap (λ rules. stands (needs_at rules number) n) (sym moves.rules) ∙ need in
-      source_by number n (origin_of old.origins n.0) before was refl (ties.plan_for.from.each n.0) (need_was_met number before n was) (no_rule n e)
+      let was : stands (needs_at old.rules number) n ≡ true = ap (λ rules. stands (needs_at rules number) n)
+      (sym moves.rules) ∙ need in
+      source_by number n (origin_of old.origins n.0) before was refl (ties.plan_for.from.each n.0)
+      (need_was_met number before n was) (no_rule n e)
 
   at_by : (number : ℕ) (r : Rule) → Own number ⊎ (Own number → ⊥) → rule_numbered b g number ≡ Some r →
       IsAt (step ∷ past) r (state_of new.states number)
   at_by number r (inl own) numbered = moves.at number r own numbered
   at_by number r (inr other) numbered =
       subst (λ (o : RuleState). IsAt (step ∷ past) r o) (sym (moves.others number other))
-      (at_stays step past r (state_of old.states number) (moves.apart number r other numbered) (ties.states number r numbered))
+      (at_stays step past r (state_of old.states number) (moves.apart number r other numbered)
+      (ties.states number r numbered))
 
   numbered_by : (x : Rule) → Among x (began (step ∷ past)) ⊎ Among x (done (step ∷ past)) →
       (number : ℕ) × (rule_numbered b g number ≡ Some x)
@@ -225,18 +232,22 @@ module _ (b : Begun) (g : RuleGraph) (requested : List NodeId) (t : Tree) (past 
     (step : Step) (now : IsGraphNow b g)
     (ties : Ties b g requested t past old) (rule : ℕ) (r : Rule) (numbered : rule_numbered b g rule ≡ Some r)
     (v : RuleState) (is_of : (x : Rule) → IsOf step x → x ≡ r)
-    (states : new.states ≡ set old.states rule v) (rules : new.rules ≡ old.rules) (needed : state_of old.states rule ≢ Unneeded)
-    (scanned : (kept : Kept) → slice_get old.rules rule ≡ Some kept → list_all (λ n. is_scanned kept.found n) kept.files ≡ true) (at : IsAt (step ∷ past) r v) where
+    (states : new.states ≡ set old.states rule v) (rules : new.rules ≡ old.rules)
+    (needed : state_of old.states rule ≢ Unneeded)
+    (scanned : (kept : Kept) → slice_get old.rules rule ≡ Some kept → list_all (λ n. is_scanned kept.found n)
+    kept.files ≡ true) (at : IsAt (step ∷ past) r v) where
   this_state : state_of new.states rule ≡ v
   this_state =
       ap (λ s. state_of s rule) states
-      ∙ get_or-set_same old.states rule v Unneeded (within_state old.states rule needed (within_or rule (length old.states)))
+      ∙ get_or-set_same old.states rule v Unneeded (within_state old.states rule needed
+      (within_or rule (length old.states)))
 
   own_at : (number : ℕ) (x : Rule) → number ≡ rule → rule_numbered b g number ≡ Some x →
       IsAt (step ∷ past) x (state_of new.states number)
   own_at number x same is =
       let rule_same : r ≡ x = some_same (sym numbered ∙ ap (rule_numbered b g) (sym same) ∙ is) in
-      subst (λ (o : RuleState). IsAt (step ∷ past) x o) (sym (ap (state_of new.states) same ∙ this_state)) (subst (λ (y : Rule). IsAt (step ∷ past) y v) rule_same at)
+      subst (λ (o : RuleState). IsAt (step ∷ past) x o) (sym (ap (state_of new.states) same ∙ this_state))
+      (subst (λ (y : Rule). IsAt (step ∷ past) y v) rule_same at)
 
   moves_one : Moves b g past old new step (λ number. number ≡ rule)
   moves_one = record {
@@ -261,7 +272,8 @@ module _ (b : Begun) (g : RuleGraph) (requested : List NodeId) (t : Tree) (past 
   decided_scanned : (rule : ℕ) → IsDecidedNext old rule → (kept : Kept) → slice_get old.rules rule ≡ Some kept →
       list_all (λ n. is_scanned kept.found n) kept.files ≡ true
   decided_scanned rule next kept at =
-      subst (λ (k : Kept). list_all (λ n. is_scanned k.found n) k.files ≡ true) (some_same (sym next.can.at ∙ at)) next.can.ready.scanned
+      subst (λ (k : Kept). list_all (λ n. is_scanned k.found n) k.files ≡ true) (some_same (sym next.can.at ∙ at))
+      next.can.ready.scanned
 
   running_scanned : (rule : ℕ) → state_of old.states rule ≡ Running → (kept : Kept) →
       slice_get old.rules rule ≡ Some kept → list_all (λ n. is_scanned kept.found n) kept.files ≡ true
@@ -293,16 +305,20 @@ module _ (b : Begun) (g : RuleGraph) (requested : List NodeId) (t : Tree) (past 
   events_keep (is_fresh rule r numbered next) is =
       stays_tied b g requested t past old new (told.Fresh rule) (Fresh r) now ties is tt (λ number. number ≡ rule.0)
       (moves_one b g requested t past old new (Fresh r) now ties rule.0 r numbered Settled (λ x e. e)
-      (is.states ∙ if_open (is_open old.queue rule.0) _ _ next.first.opened) is.knows (waits_needed g old rule.0 next.can.waits) (decided_scanned rule.0 next) here)
+      (is.states ∙ if_open (is_open old.queue rule.0) _ _ next.first.opened) is.knows
+      (waits_needed g old rule.0 next.can.waits) (decided_scanned rule.0 next) here)
   events_keep (has_begun rule r numbered next) is =
       stays_tied b g requested t past old new (told.Started rule) (Began r) now ties is tt (λ number. number ≡ rule.0)
       (moves_one b g requested t past old new (Began r) now ties rule.0 r numbered Running (λ x e. e)
-      (is.states ∙ if_open (is_open old.queue rule.0) _ _ next.first.opened) is.knows (waits_needed g old rule.0 next.can.waits) (decided_scanned rule.0 next)
+      (is.states ∙ if_open (is_open old.queue rule.0) _ _ next.first.opened) is.knows
+      (waits_needed g old rule.0 next.can.waits) (decided_scanned rule.0 next)
       (begun_at r (new_at rule.0 r numbered next)))
   events_keep (lacks_one rule node r p numbered next) is =
-      stays_tied b g requested t past old new (told.Absent rule node) (Lacks r p) now ties is tt (λ number. number ≡ rule.0)
+      stays_tied b g requested t past old new (told.Absent rule node) (Lacks r p) now ties is tt
+      (λ number. number ≡ rule.0)
       (moves_one b g requested t past old new (Lacks r p) now ties rule.0 r numbered Lacking (λ x e. e)
-      (is.states ∙ if_open (is_open old.queue rule.0) _ _ next.first.opened) is.knows (waits_needed g old rule.0 next.can.waits) (decided_scanned rule.0 next)
+      (is.states ∙ if_open (is_open old.queue rule.0) _ _ next.first.opened) is.knows
+      (waits_needed g old rule.0 next.can.waits) (decided_scanned rule.0 next)
       (lacks_there p here))
   events_keep (has_ended rule r numbered runs) is =
       stays_tied b g requested t past old new (told.DoneOk rule) (Ended r true) now ties is tt (λ number. number ≡ rule.0)
@@ -310,9 +326,11 @@ module _ (b : Begun) (g : RuleGraph) (requested : List NodeId) (t : Tree) (past 
       (is.states ∙ if_open (is_running_state (state_of old.states rule.0)) _ _ (runs_true rule.0 runs)) is.knows
       (running_needed (state_of old.states rule.0) (runs_true rule.0 runs)) (running_scanned rule.0 runs) here)
   events_keep (has_failed rule r numbered runs) is =
-      stays_tied b g requested t past old new (told.DoneFailed rule) (Ended r false) now ties is tt (λ number. number ≡ rule.0)
+      stays_tied b g requested t past old new (told.DoneFailed rule) (Ended r false) now ties is tt
+      (λ number. number ≡ rule.0)
       (moves_one b g requested t past old new (Ended r false) now ties rule.0 r numbered Failed (λ x e. e)
       (is.states ∙ if_open (is_running_state (state_of old.states rule.0)) _ _ (runs_true rule.0 runs)) is.knows
-      (running_needed (state_of old.states rule.0) (runs_true rule.0 runs)) (running_scanned rule.0 runs) (failed_there here))
+      (running_needed (state_of old.states rule.0) (runs_true rule.0 runs)) (running_scanned rule.0 runs)
+      (failed_there here))
   events_keep has_halted is =
       stays_tied b g requested t past old new told.Halt Halts now ties is tt (λ number. ⊥) (moves_halt is.states is.knows)

@@ -54,7 +54,8 @@ module _ (b : Begun) (g : RuleGraph) where
   pub numbered_append : (xs ys : List RuleId) → rules_numbered (xs ++ ys) ≡ rules_numbered xs ++ rules_numbered ys
   numbered_append [] ys = refl
   numbered_append (r ∷ xs) ys =
-      ap (with_rule (rule_numbered b g r.0)) (numbered_append xs ys) ∙ with_append (rule_numbered b g r.0) (rules_numbered xs) (rules_numbered ys)
+      ap (with_rule (rule_numbered b g r.0)) (numbered_append xs ys)
+      ∙ with_append (rule_numbered b g r.0) (rules_numbered xs) (rules_numbered ys)
 
   pub numbered_first : (r : RuleId) (rules : List RuleId) (x : Rule) → rule_numbered b g r.0 ≡ Some x →
       rules_numbered (r ∷ rules) ≡ x ∷ rules_numbered rules
@@ -122,21 +123,26 @@ module _ (b : Begun) (g : RuleGraph) (requested : List NodeId) (build : Build) (
   file_rule number needed n Unmet h e from met rules = true_false (sym met)
   file_rule number needed n Source h e from met rules =
       ap (λ o. with_rule o (rules_numbered b g rules))
-      (tied.ties.sources number n needed (need_at b g requested build.after past plan tied.graph tied.ties number needed n h) e)
+      (tied.ties.sources number n needed
+      (need_at b g requested build.after past plan tied.graph tied.ties number needed n h) e)
   file_rule number needed n (Made m) h e from met rules =
       ap (λ o. with_rule o (rules_numbered b g rules))
-      (rule_made b g requested build.after past plan tied.graph tied.ties n m.0 (need_below b g requested build.after past plan tied.graph tied.ties number needed n h) from.0)
+      (rule_made b g requested build.after past plan tied.graph tied.ties n m.0
+      (need_below b g requested build.after past plan tied.graph tied.ties number needed n h) from.0)
 
   -- the rules of files that a needed rule needs
   files_rules : (number : ℕ) (needed : state_of plan.states number ≢ Unneeded) (files : List NodeId) →
-      ((n : NodeId) → stands files n ≡ true → stands ((the number needed).kept.required ++ (the number needed).kept.deps) n ≡ true) →
+      ((n : NodeId) → stands files n ≡ true → stands
+      ((the number needed).kept.required ++ (the number needed).kept.deps) n ≡ true) →
       rules_at (begun_setting b).rule_of (paths_of g files) ≡ rules_numbered b g (makers_of plan.origins files)
   files_rules number needed [] h = refl
   files_rules number needed (n ∷ files) h =
       let this = h n (stands_at (n ∷ files) 0 n refl) in
-      ap (with_rule ((begun_setting b).rule_of (path_of g.nodes n))) (files_rules number needed files (λ x m. h x (or_right (nat_eq x.0 n.0) (stands files x) m)))
+      ap (with_rule ((begun_setting b).rule_of (path_of g.nodes n)))
+      (files_rules number needed files (λ x m. h x (or_right (nat_eq x.0 n.0) (stands files x) m)))
       ∙ file_rule number needed n (origin_of plan.origins n.0) this refl (tied.ties.plan_for.from.each n.0)
-      (needed_met b g requested build.after past plan tied.graph tied.ties number needed n this) (makers_of plan.origins files)
+      (needed_met b g requested build.after past plan tied.graph tied.ties number needed n this)
+      (makers_of plan.origins files)
 
   -- what a rule needs, in order
   needs_are : (number : ℕ) (needed : state_of plan.states number ≢ Unneeded) →
@@ -145,8 +151,10 @@ module _ (b : Begun) (g : RuleGraph) (requested : List NodeId) (build : Build) (
       let k = the number needed in
       let lists = lists_now b g requested build past plan tied number needed none in
       ap (rules_at (begun_setting b).rule_of)
-      (ap (λ l. l ++ reach (begun_setting b).limit (found k.rule) k.rule) (sym (ap (paths_of g) k.keeps.required ∙ k.names.required))
-      ∙ ap (λ l. paths_of g k.kept.required ++ l) lists.deps ∙ sym (map-append (path_of g.nodes) k.kept.required k.kept.deps))
+      (ap (λ l. l ++ reach (begun_setting b).limit (found k.rule) k.rule)
+      (sym (ap (paths_of g) k.keeps.required ∙ k.names.required))
+      ∙ ap (λ l. paths_of g k.kept.required ++ l) lists.deps
+      ∙ sym (map-append (path_of g.nodes) k.kept.required k.kept.deps))
       ∙ files_rules number needed (k.kept.required ++ k.kept.deps) (λ n h. h)
       ∙ ap (λ o. rules_numbered b g (needed_in plan.origins o)) (sym k.at)
 
@@ -156,19 +164,22 @@ module _ (b : Begun) (g : RuleGraph) (requested : List NodeId) (build : Build) (
   asked_rule n None h e rules = ap (λ o. with_rule o (rules_numbered b g rules)) (tied.ties.asked n h e)
   asked_rule n (Some m) h e rules =
       ap (λ o. with_rule o (rules_numbered b g rules))
-      (rule_made b g requested build.after past plan tied.graph tied.ties n m (one_below g requested n tied.ties.plan_for.nodes h) e)
+      (rule_made b g requested build.after past plan tied.graph tied.ties n m
+      (one_below g requested n tied.ties.plan_for.nodes h) e)
 
   asked_rules : (nodes : List NodeId) → ((n : NodeId) → stands nodes n ≡ true → stands requested n ≡ true) →
       rules_at (begun_setting b).rule_of (paths_of g nodes) ≡ rules_numbered b g (makers_in g nodes)
   asked_rules [] h = refl
   asked_rules (n ∷ nodes) h =
-      ap (with_rule ((begun_setting b).rule_of (path_of g.nodes n))) (asked_rules nodes (λ x m. h x (or_right (nat_eq x.0 n.0) (stands nodes x) m)))
+      ap (with_rule ((begun_setting b).rule_of (path_of g.nodes n)))
+      (asked_rules nodes (λ x m. h x (or_right (nat_eq x.0 n.0) (stands nodes x) m)))
       ∙ asked_rule n (rule_of g.rules n.0) (h n (stands_at (n ∷ nodes) 0 n refl)) refl (makers_in g nodes)
 
   -- the rules of what is requested
   roots_are : rules_at (begun_setting b).rule_of build.requested ≡ rules_numbered b g plan.notes.roots
   roots_are =
-      ap (rules_at (begun_setting b).rule_of) tied.asked ∙ asked_rules requested (λ n h. h) ∙ ap (rules_numbered b g) (sym tied.ties.plan_for.roots)
+      ap (rules_at (begun_setting b).rule_of) tied.asked ∙ asked_rules requested (λ n h. h)
+      ∙ ap (rules_numbered b g) (sym tied.ties.plan_for.roots)
 
   -- rules that the plan needs
   abbrev AreNeeded : List RuleId → Type 0
@@ -197,24 +208,34 @@ module _ (b : Begun) (g : RuleGraph) (requested : List NodeId) (build : Build) (
   goes all nothing_left = goes_nowhere
   goes all (met_again {met = met} {rules = rules} {after = after} {order = order} {rule = rule} m v) =
       let k = the rule.0 (all rule.0 (first rule.0 rule rules refl)) in
-      subst (λ l. Goes needs (rules_numbered b g met) l (rules_numbered b g after) (rules_numbered b g order)) (sym (numbered_first b g rule rules k.rule k.numbered))
+      subst (λ l. Goes needs (rules_numbered b g met) l (rules_numbered b g after) (rules_numbered b g order))
+      (sym (numbered_first b g rule rules k.rule k.numbered))
       (goes_again (numbered_there b g rule.0 k.rule met k.numbered m) (goes (λ n h. all n (later n rule rules h)) v))
   goes all (not_known {rules = rules} {rule = rule} le v) =
       absurd (let lt = known_below rule.0 (all rule.0 (first rule.0 rule rules refl)) in omega (arith, lt, le))
-  goes all (met_first {met = met} {between = between} {rules = rules} {after = after} {below = below} {behind = behind} {rule = rule} lt out v w) =
+  goes all (met_first {met = met} {between = between} {rules = rules} {after = after} {below = below}
+      {behind = behind} {rule = rule} lt out v w) =
       let needed = all rule.0 (first rule.0 rule rules refl) in
       let k = the rule.0 needed in
       let inner = goes (needs_needed rule.0 needed) v in
-      let inner_here : Goes needs (k.rule ∷ rules_numbered b g met) (needs k.rule) (rules_numbered b g between) (rules_numbered b g below) =
-      subst (λ l. Goes needs l (needs k.rule) (rules_numbered b g between) (rules_numbered b g below)) (numbered_first b g rule met k.rule k.numbered)
-      (subst (λ l. Goes needs (rules_numbered b g (rule ∷ met)) l (rules_numbered b g between) (rules_numbered b g below)) (sym (needs_are rule.0 needed)) inner) in
+      let inner_here : Goes needs (k.rule ∷ rules_numbered b g met) (needs k.rule) (rules_numbered b g between)
+      (rules_numbered b g below) =
+      subst (λ l. Goes needs l (needs k.rule) (rules_numbered b g between) (rules_numbered b g below))
+      (numbered_first b g rule met k.rule k.numbered)
+      (subst (λ l. Goes needs (rules_numbered b g (rule ∷ met)) l (rules_numbered b g between)
+      (rules_numbered b g below)) (sym (needs_are rule.0 needed)) inner) in
       let outer = goes (λ n h. all n (later n rule rules h)) w in
-      let whole : Goes needs (rules_numbered b g met) (k.rule ∷ rules_numbered b g rules) (rules_numbered b g after) (rules_numbered b g below ++ k.rule ∷ rules_numbered b g behind) =
+      let whole : Goes needs (rules_numbered b g met) (k.rule ∷ rules_numbered b g rules) (rules_numbered b g after)
+      (rules_numbered b g below ++ k.rule ∷ rules_numbered b g behind) =
       goes_into (not_again rule k.rule met k.numbered out) inner_here outer in
-      let order_is : rules_numbered b g (below ++ rule ∷ behind) ≡ rules_numbered b g below ++ k.rule ∷ rules_numbered b g behind =
-      numbered_append b g below (rule ∷ behind) ∙ ap (λ l. rules_numbered b g below ++ l) (numbered_first b g rule behind k.rule k.numbered) in
-      subst (λ l. Goes needs (rules_numbered b g met) l (rules_numbered b g after) (rules_numbered b g (below ++ rule ∷ behind))) (sym (numbered_first b g rule rules k.rule k.numbered))
-      (subst (λ l. Goes needs (rules_numbered b g met) (k.rule ∷ rules_numbered b g rules) (rules_numbered b g after) l) (sym order_is) whole)
+      let order_is : rules_numbered b g (below ++ rule ∷ behind) ≡ rules_numbered b g
+      below ++ k.rule ∷ rules_numbered b g behind =
+      numbered_append b g below (rule ∷ behind) ∙ ap (λ l. rules_numbered b g below ++ l)
+      (numbered_first b g rule behind k.rule k.numbered) in
+      subst (λ l. Goes needs (rules_numbered b g met) l (rules_numbered b g after)
+      (rules_numbered b g (below ++ rule ∷ behind))) (sym (numbered_first b g rule rules k.rule k.numbered))
+      (subst (λ l. Goes needs (rules_numbered b g met) (k.rule ∷ rules_numbered b g rules) (rules_numbered b g after)
+      l) (sym order_is) whole)
 
   -- the build order of the plan is that of the model
   pub order_is : (order : List RuleId) → IsOrder plan.rules plan.origins plan.notes.roots order →
@@ -227,14 +248,16 @@ module _ (b : Begun) (g : RuleGraph) (requested : List NodeId) (build : Build) (
   }
 
   module _ (rule : RuleId) (r : Rule) (is : rule_numbered b g rule.0 ≡ Some r)
-      (first_of : (order : List RuleId) → IsOrder plan.rules plan.origins plan.notes.roots order → IsFirstOf plan order rule) where
+      (first_of : (order : List RuleId) → IsOrder plan.rules plan.origins plan.notes.roots order → IsFirstOf plan
+      order rule) where
     before_passed : (order : List RuleId) (o : IsOrder plan.rules plan.origins plan.notes.roots order)
         (f : IsFirstOf plan order rule) (x : Rule) →
         Among x (rules_numbered b g f.before) → IsPassed (begun_setting b) past found x
     before_passed order o f x m =
         let h = has_number b g x f.before m in
         let in_order : is_among h.number order ≡ true =
-        ap (is_among h.number) f.is ∙ list_any-append (λ (y : RuleId). nat_eq y.0 h.number) f.before (rule ∷ f.behind) ∙ or_left (is_among h.number f.before) _ h.among in
+        ap (is_among h.number) f.is ∙ list_any-append (λ (y : RuleId). nat_eq y.0 h.number) f.before
+        (rule ∷ f.behind) ∙ or_left (is_among h.number f.before) _ h.among in
         let reached = (order_reached plan.rules plan.origins plan.notes.roots order o).only h.number in_order in
         let needed = tied.ties.plan_for.reached.only h.number reached in
         let k = the h.number needed in
@@ -256,6 +279,7 @@ module _ (b : Begun) (g : RuleGraph) (requested : List NodeId) (build : Build) (
           is_order = order_is o.order o.is;
           front = rules_numbered b g f.before;
           behind = rules_numbered b g f.behind;
-          parts = ap (rules_numbered b g) f.is ∙ numbered_append b g f.before (rule ∷ f.behind) ∙ ap (λ l. rules_numbered b g f.before ++ l) (numbered_first b g rule f.behind r is);
+          parts = ap (rules_numbered b g) f.is ∙ numbered_append b g f.before (rule ∷ f.behind)
+              ∙ ap (λ l. rules_numbered b g f.before ++ l) (numbered_first b g rule f.behind r is);
           passed = λ x m. before_passed o.order o.is f x m;
         }

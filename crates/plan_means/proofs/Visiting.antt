@@ -24,7 +24,8 @@ unmet_less : (k : ℕ) (met more : List RuleId) → ((x : ℕ) → is_among x me
     unmet k more ≤ unmet k met
 unfolding unmet
 unmet_less zero met more f = omega arith
-unmet_less (suc k) met more f = less_by (unmet k more) (unmet k met) (is_among k met) (is_among k more) (f k) (unmet_less k met more f)
+unmet_less (suc k) met more f = less_by (unmet k more) (unmet k met) (is_among k met) (is_among k more) (f k)
+    (unmet_less k met more f)
 
 here_less : (m n : ℕ) (b c : Bool) → b ≡ false → c ≡ true → m ≤ n →
     suc (if c then m else suc m) ≤ (if b then n else suc n)
@@ -42,19 +43,23 @@ later_less m n false false f le = omega arith
 next_by : (k : ℕ) (rule : RuleId) (met : List RuleId) → is_among rule.0 met ≡ false →
     (rule.0 < k → suc (unmet k (rule ∷ met)) ≤ unmet k met) → rule.0 < suc k →
     (rule.0 < k) ⊎ (k ≤ rule.0) →
-    suc (if is_among k (rule ∷ met) then unmet k (rule ∷ met) else suc (unmet k (rule ∷ met))) ≤ (if is_among k met then unmet k met else suc (unmet k met))
+    suc (if is_among k (rule ∷ met) then unmet k (rule ∷ met) else suc (unmet k (rule ∷ met))) ≤ (if is_among k met
+    then unmet k met else suc (unmet k met))
 next_by k rule met out next lt (inl less) =
-    later_less (unmet k (rule ∷ met)) (unmet k met) (is_among k met) (is_among k (rule ∷ met)) (later k rule met) (next less)
+    later_less (unmet k (rule ∷ met)) (unmet k met) (is_among k met) (is_among k (rule ∷ met)) (later k rule met)
+    (next less)
 next_by k rule met out next lt (inr past) =
     let same : rule.0 ≡ k = omega arith in
-    here_less (unmet k (rule ∷ met)) (unmet k met) (is_among k met) (is_among k (rule ∷ met)) (ap (λ x. is_among x met) (sym same) ∙ out)
+    here_less (unmet k (rule ∷ met)) (unmet k met) (is_among k met) (is_among k (rule ∷ met))
+    (ap (λ x. is_among x met) (sym same) ∙ out)
     (first k rule met same) (unmet_less k met (rule ∷ met) (λ x h. later x rule met h))
 
 unmet_next : (k : ℕ) (rule : RuleId) (met : List RuleId) → rule.0 < k → is_among rule.0 met ≡ false →
     suc (unmet k (rule ∷ met)) ≤ unmet k met
 unfolding unmet
 unmet_next zero rule met lt out = absurd (omega arith)
-unmet_next (suc k) rule met lt out = next_by k rule met out (λ less. unmet_next k rule met less out) lt (within_or rule.0 k)
+unmet_next (suc k) rule met lt out = next_by k rule met out (λ less. unmet_next k rule met less out) lt
+    (within_or rule.0 k)
 
 module _ (count : ℕ) (needed : ℕ → List RuleId) where
   -- a walk over these rules that comes to an end
@@ -73,12 +78,15 @@ module _ (count : ℕ) (needed : ℕ → List RuleId) where
   into : (met rules : List RuleId) (rule : RuleId) → rule.0 < count → is_among rule.0 met ≡ false →
       (v : Ends (rule ∷ met) (needed rule.0)) →
       Ends v.after rules → Ends met (rule ∷ rules)
-  into met rules rule lt out v w = record { after = w.after; order = v.order ++ rule ∷ w.order; visits = met_first lt out v.visits w.visits }
+  into met rules rule lt out v w =
+      record { after = w.after; order = v.order ++ rule ∷ w.order; visits = met_first lt out v.visits w.visits }
 
   still_few : (n : ℕ) (met : List RuleId) (rule : RuleId) (v : Ends (rule ∷ met) (needed rule.0)) →
       unmet count met ≤ n → unmet count v.after ≤ n
   still_few n met rule v le =
-      let less = unmet_less count met v.after (λ x h. (visited count needed v.visits).stays x (later x rule met h)) in omega arith
+      let less =
+      unmet_less count met v.after (λ x h. (visited count needed v.visits).stays x (later x rule met h)) in omega
+      arith
 
   walk_by : (n : ℕ) (met rules : List RuleId) (rule : RuleId) →
       ((m r : List RuleId) → suc (unmet count m) ≤ n → Ends m r) →
@@ -95,11 +103,13 @@ module _ (count : ℕ) (needed : ℕ → List RuleId) where
   walk : (n : ℕ) → ((met rules : List RuleId) → suc (unmet count met) ≤ n → Ends met rules) →
       (rules met : List RuleId) → unmet count met ≤ n → Ends met rules
   walk n deeper [] met le = record { after = met; order = []; visits = nothing_left }
-  walk n deeper (rule ∷ rules) met le = walk_by n met rules rule deeper (λ m few. walk n deeper rules m few) le (is_among rule.0 met) refl (within_or rule.0 count)
+  walk n deeper (rule ∷ rules) met le = walk_by n met rules rule deeper (λ m few. walk n deeper rules m few) le
+      (is_among rule.0 met) refl (within_or rule.0 count)
 
   ends : (n : ℕ) (met rules : List RuleId) → unmet count met ≤ n → Ends met rules
   ends zero met rules le = walk 0 (λ m r lt. absurd (let no : suc (unmet count m) ≤ 0 = lt in omega arith)) rules met le
-  ends (suc n) met rules le = walk (suc n) (λ m r lt. ends n m r (let k : suc (unmet count m) ≤ suc n = lt in omega arith)) rules met le
+  ends (suc n) met rules le =
+      walk (suc n) (λ m r lt. ends n m r (let k : suc (unmet count m) ≤ suc n = lt in omega arith)) rules met le
 
 -- the order
 pub record HasOrder (rules : List Kept) (origins : List Origin) (roots : List RuleId) : Type 0 where

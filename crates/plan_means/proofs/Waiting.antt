@@ -53,7 +53,13 @@ fails_by : (test : NodeId → Bool) (x : NodeId) (nodes : List NodeId) (c : Bool
     (list_all test nodes ≡ false → Fails test nodes) → Fails test (x ∷ nodes)
 fails_by test x nodes false e h next = record { node = x; among = stands_at (x ∷ nodes) 0 x refl; fails = e }
 fails_by test x nodes true e h next =
-    let f = next h in record { node = f.node; among = later (nat_eq f.node.0 x.0) (stands nodes f.node) f.among; fails = f.fails }
+    let f =
+    next h in record {
+      node = f.node;
+      among = later (nat_eq f.node.0 x.0) (stands nodes f.node) f.among;
+      fails =
+          f.fails;
+    }
   where
     later : (a c : Bool) → c ≡ true → (a || c) ≡ true
     later true c e = refl
@@ -104,11 +110,13 @@ module _ (b : Begun) (g : RuleGraph) (requested : List NodeId) (build : Build) (
       is_done_from plan.states o ≡ false → IsMadeLater node
   made_later_by node Unmet e from met undone = true_false (sym met)
   made_later_by node Source e from met undone = true_false undone
-  made_later_by node (Made m) e from met undone = record { number = m.0; needed = from.1; origin = e; unsettled_state = undone }
+  made_later_by node (Made m) e from met undone =
+      record { number = m.0; needed = from.1; origin = e; unsettled_state = undone }
 
   pub made_later : (node : NodeId) → is_met plan.origins node ≡ true →
       is_done plan.states plan.origins node ≡ false → IsMadeLater node
-  made_later node met undone = made_later_by node (origin_of plan.origins node.0) refl (tied.ties.plan_for.from.each node.0) met undone
+  made_later node met undone = made_later_by node (origin_of plan.origins node.0) refl
+      (tied.ties.plan_for.from.each node.0) met undone
 
   -- so the file waits
   waits_by : (node : NodeId) → node.0 < length g.nodes → IsMadeLater node →
@@ -116,7 +124,8 @@ module _ (b : Begun) (g : RuleGraph) (requested : List NodeId) (build : Build) (
   waits_by node lt later ready =
       let k = the later.number later.needed in
       let rule = rule_made b g requested build.after past plan tied.graph tied.ties node later.number lt
-      (made_of b g requested build.after past plan tied.graph tied.ties node (record { 0 = later.number }) later.origin) ∙ k.numbered in
+      (made_of b g requested build.after past plan tied.graph tied.ties node (record { 0 = later.number })
+      later.origin) ∙ k.numbered in
       by k.rule rule (unsettled later.number k.rule k.numbered later.unsettled_state) ready
     where
       by : (r : Rule) → (begun_setting b).rule_of (path_of g.nodes node) ≡ Some r → (Among r (settled past) → ⊥) →
@@ -154,9 +163,11 @@ module _ (b : Begun) (g : RuleGraph) (requested : List NodeId) (build : Build) (
         record {
           other = other.rule;
           needs =
-              needs_of b g requested build.after past plan tied.graph tied.ties found (whole_agrees b g requested build past plan tied) later.number number later.needed needed
+              needs_of b g requested build.after past plan tied.graph tied.ties found
+              (whole_agrees b g requested build past plan tied) later.number number later.needed needed
               (needs_made g plan number later.number k.kept n tied.ties.plan_for.from tied.ties.plan_for.met needed k.at h
-              (made_of b g requested build.after past plan tied.graph tied.ties n (record { 0 = later.number }) later.origin));
+              (made_of b g requested build.after past plan tied.graph tied.ties n (record { 0 = later.number })
+              later.origin));
           unsettled = unsettled later.number other.rule other.numbered later.unsettled_state;
         }
 
@@ -177,7 +188,8 @@ module _ (b : Begun) (g : RuleGraph) (requested : List NodeId) (build : Build) (
           (c : Bool) → is_done plan.states plan.origins n ≡ c → c ≡ false
       unscanned_undone state n h new false e = refl
       unscanned_undone state n h new true e =
-          let p = place_of_stands k.kept.files n h in absurd (none.none number k.kept p.0 n state k.at p.1 (record { unscanned = new; done = e }))
+          let p = place_of_stands k.kept.files n h in absurd
+          (none.none number k.kept p.0 n state k.at p.1 (record { unscanned = new; done = e }))
 
       all_scanned : IsDecidedState (state_of plan.states number) → (n : NodeId) → stands k.kept.files n ≡ true →
           is_scanned k.kept.found n ≡ true
@@ -197,10 +209,14 @@ module _ (b : Begun) (g : RuleGraph) (requested : List NodeId) (build : Build) (
           IsReady (begun_setting b) build.after (settled past) (path_of g.nodes n) → ⊥
       unscanned_waits_by Unneeded e n h new ready = needed e
       unscanned_waits_by Waiting e n h new ready = waits_now e n h new ready
-      unscanned_waits_by Running e n h new ready = true_false (sym (all_scanned (subst IsDecidedState (sym e) tt) n h) ∙ new)
-      unscanned_waits_by Settled e n h new ready = true_false (sym (all_scanned (subst IsDecidedState (sym e) tt) n h) ∙ new)
-      unscanned_waits_by Failed e n h new ready = true_false (sym (all_scanned (subst IsDecidedState (sym e) tt) n h) ∙ new)
-      unscanned_waits_by Lacking e n h new ready = true_false (sym (all_scanned (subst IsDecidedState (sym e) tt) n h) ∙ new)
+      unscanned_waits_by Running e n h new ready = true_false
+          (sym (all_scanned (subst IsDecidedState (sym e) tt) n h) ∙ new)
+      unscanned_waits_by Settled e n h new ready = true_false
+          (sym (all_scanned (subst IsDecidedState (sym e) tt) n h) ∙ new)
+      unscanned_waits_by Failed e n h new ready = true_false
+          (sym (all_scanned (subst IsDecidedState (sym e) tt) n h) ∙ new)
+      unscanned_waits_by Lacking e n h new ready = true_false
+          (sym (all_scanned (subst IsDecidedState (sym e) tt) n h) ∙ new)
 
       includes_by : (n : NodeId) → stands k.kept.files n ≡ true → (c : Bool) → is_scanned k.kept.found n ≡ c →
           found k.rule (path_of g.nodes n) ≡ paths_of g (included k.kept.found n)
@@ -213,7 +229,8 @@ module _ (b : Begun) (g : RuleGraph) (requested : List NodeId) (build : Build) (
       -- by what is found where all is scanned that can be the plan's lists are the model's
       pub lists_now : AreReach g (begun_setting b).limit k.kept (found k.rule) k.rule
       lists_now =
-          lists_are_reach g k.of k.rule k.kept (begun_setting b).limit (found k.rule) tied.graph.reading k.is k.names k.keeps
+          lists_are_reach g k.of k.rule k.kept (begun_setting b).limit (found k.rule) tied.graph.reading k.is k.names
+          k.keeps
           (λ n h. includes_by n h (is_scanned k.kept.found n) refl) (room b g requested build past plan tied)
 
       passed_by : (o : RuleState) → state_of plan.states number ≡ o →
@@ -237,7 +254,8 @@ module _ (b : Begun) (g : RuleGraph) (requested : List NodeId) (build : Build) (
       scan_stuck state f deps =
           let dep = files_in_deps f.node f.among in
           let is = all_stands (λ n. is_done plan.states plan.origins n) k.kept.deps f.node deps dep in
-          true_false (sym is ∙ unscanned_undone state f.node f.among f.fails (is_done plan.states plan.origins f.node) refl)
+          true_false (sym is
+          ∙ unscanned_undone state f.node f.among f.fails (is_done plan.states plan.origins f.node) refl)
 
       stuck_by : state_of plan.states number ≡ Waiting → (CanDecide plan number → ⊥) → (r d f : Bool) →
           list_all (λ n. is_done plan.states plan.origins n) k.kept.required ≡ r →
@@ -249,15 +267,19 @@ module _ (b : Begun) (g : RuleGraph) (requested : List NodeId) (build : Build) (
       stuck_by state cannot true false f re de fe =
           let x = one_fails (λ n. is_done plan.states plan.origins n) k.kept.deps de in
           held_by x.node (in_needs k.kept.required k.kept.deps x.node x.among) x.fails
-      stuck_by state cannot true true false re de fe = scan_stuck state (one_fails (λ n. is_scanned k.kept.found n) k.kept.files fe) de
+      stuck_by state cannot true true false re de fe = scan_stuck state
+          (one_fails (λ n. is_scanned k.kept.found n) k.kept.files fe) de
       stuck_by state cannot true true true re de fe =
-          absurd (cannot (record { kept = k.kept; at = k.at; waits = state; ready = record { required = re; deps = de; scanned = fe } }))
+          absurd (cannot
+          (record
+          { kept = k.kept; at = k.at; waits = state; ready = record { required = re; deps = de; scanned = fe } }))
 
       -- a rule that can't be decided is passed over
       pub passed_cannot : (CanDecide plan number → ⊥) → IsPassed (begun_setting b) past found k.rule
       passed_cannot cannot =
           passed (λ state. stuck_by state cannot (list_all (λ n. is_done plan.states plan.origins n) k.kept.required)
-          (list_all (λ n. is_done plan.states plan.origins n) k.kept.deps) (list_all (λ n. is_scanned k.kept.found n) k.kept.files) refl refl refl)
+          (list_all (λ n. is_done plan.states plan.origins n) k.kept.deps)
+          (list_all (λ n. is_scanned k.kept.found n) k.kept.files) refl refl refl)
 
   -- a rule of the model that the plan needs
   pub record IsPlanned (r : Rule) : Type 0 where
@@ -281,15 +303,19 @@ module _ (b : Begun) (g : RuleGraph) (requested : List NodeId) (build : Build) (
       is_met_from o ≡ true → (begun_setting b).rule_of (path_of g.nodes node) ≡ Some r → IsPlanned r
   need_planned_by number needed node Unmet r h e from met is = true_false (sym met)
   need_planned_by number needed node Source r h e from met is =
-      none_some (sym (tied.ties.sources number node needed (need_at b g requested build.after past plan tied.graph tied.ties number needed node h) e) ∙ is)
-  need_planned_by number needed node (Made m) r h e from met is = made_planned node m.0 r (need_under number needed node h) from.0 from.1 is
+      none_some (sym
+      (tied.ties.sources number node needed
+      (need_at b g requested build.after past plan tied.graph tied.ties number needed node h) e) ∙ is)
+  need_planned_by number needed node (Made m) r h e from met is = made_planned node m.0 r
+      (need_under number needed node h) from.0 from.1 is
 
   -- the rule of a file that a needed rule needs
   need_planned : (number : ℕ) (needed : state_of plan.states number ≢ Unneeded) (n : NodeId) (r : Rule) →
       stands ((the number needed).kept.required ++ (the number needed).kept.deps) n ≡ true →
       (begun_setting b).rule_of (path_of g.nodes n) ≡ Some r → IsPlanned r
   need_planned number needed n r h is =
-      need_planned_by number needed n (origin_of plan.origins n.0) r h refl (tied.ties.plan_for.from.each n.0) (need_met number needed n h) is
+      need_planned_by number needed n (origin_of plan.origins n.0) r h refl (tied.ties.plan_for.from.each n.0)
+      (need_met number needed n h) is
 
   -- and of a requested file
   asked_planned_by : (node : NodeId) (o : Option ℕ) (r : Rule) → stands requested node ≡ true →
@@ -305,16 +331,19 @@ module _ (b : Begun) (g : RuleGraph) (requested : List NodeId) (build : Build) (
         Needs (begun_setting b).rule_of found (the number needed).rule r → IsPlanned r
     needs_planned number needed r (as_required p m e) =
         let know_it = the number needed in
-        let n = among_map (path_of g.nodes) know_it.kept.required (among_same (sym (ap (paths_of g) know_it.keeps.required ∙ know_it.names.required)) m) in
+        let n = among_map (path_of g.nodes) know_it.kept.required
+        (among_same (sym (ap (paths_of g) know_it.keeps.required ∙ know_it.names.required)) m) in
         need_planned number needed n.0 r
-        (in_required know_it.kept.required know_it.kept.deps n.0 (among_stands know_it.kept.required n.0 n.1)) (ap (begun_setting b).rule_of (sym n.2) ∙ e)
+        (in_required know_it.kept.required know_it.kept.deps n.0 (among_stands know_it.kept.required n.0 n.1))
+        (ap (begun_setting b).rule_of (sym n.2) ∙ e)
     needs_planned number needed r (as_dependency p reached e) =
         let know_it = the number needed in
         let lists = lists_now number needed none in
         let m = among_same lists.deps (reaches_in (found know_it.rule) (begun_setting b).limit lists.room reached) in
         let n = among_map (path_of g.nodes) know_it.kept.deps m in
         need_planned number needed n.0 r
-        (in_needs know_it.kept.required know_it.kept.deps n.0 (among_stands know_it.kept.deps n.0 n.1)) (ap (begun_setting b).rule_of (sym n.2) ∙ e)
+        (in_needs know_it.kept.required know_it.kept.deps n.0 (among_stands know_it.kept.deps n.0 n.1))
+        (ap (begun_setting b).rule_of (sym n.2) ∙ e)
 
     requested_planned : (p : Path) (r : Rule) → Among p build.requested → (begun_setting b).rule_of p ≡ Some r →
         IsPlanned r
@@ -326,7 +355,8 @@ module _ (b : Begun) (g : RuleGraph) (requested : List NodeId) (build : Build) (
     planned_needs : (q r : Rule) → IsPlanned q → Needs (begun_setting b).rule_of found q r → IsPlanned r
     planned_needs q r at needs =
         let same : (the at.number at.needed).rule ≡ q = some_same (sym (the at.number at.needed).numbered ∙ at.is) in
-        needs_planned at.number at.needed r (subst (λ (x : Rule). Needs (begun_setting b).rule_of found x r) (sym same) needs)
+        needs_planned at.number at.needed r (subst (λ (x : Rule). Needs (begun_setting b).rule_of found x r)
+        (sym same) needs)
 
     -- each rule that is needed the plan needs
     pub needed_planned : (r : Rule) → Needed (begun_setting b).rule_of found build.requested r → IsPlanned r

@@ -25,7 +25,8 @@ or_right true c e = refl
 or_right false c e = e
 
 module _ (b : Begun) (g : RuleGraph) (requested : List NodeId) (t : Tree) (past : List Step) (plan : Planned) (number : ℕ)
-    (file : NodeId) (now : IsGraphNow b g) (ties : Ties b g requested t past plan) (next : IsScannedNext plan number file) where
+    (file : NodeId) (now : IsGraphNow b g) (ties : Ties b g requested t past plan)
+    (next : IsScannedNext plan number file) where
   abbrev needed : state_of plan.states number ≢ Unneeded
   needed = waits_needed g plan number next.ready.waits
 
@@ -35,7 +36,8 @@ module _ (b : Begun) (g : RuleGraph) (requested : List NodeId) (t : Tree) (past 
   in_files : stands k.kept.files file ≡ true
   in_files =
       let same : next.ready.kept ≡ k.kept = some_same (sym next.ready.at ∙ k.at) in
-      stands_at k.kept.files next.ready.place file (ap (λ (x : Kept). slice_get x.files next.ready.place) (sym same) ∙ next.ready.is_file)
+      stands_at k.kept.files next.ready.place file (ap (λ (x : Kept). slice_get x.files next.ready.place) (sym same)
+      ∙ next.ready.is_file)
 
   in_deps : stands k.kept.deps file ≡ true
   in_deps =

@@ -35,7 +35,8 @@ pub record MayBeDecided (b : Begun) (g : RuleGraph) (build : Build) (past : List
   pub rule : Rule
   pub is : rule_numbered b g number ≡ Some rule
   pub dependencies : present_dependencies (begun_setting b) build rule ≡ paths_of g (deps_of plan.rules number)
-  pub decided : ((p : Path) → Among p (paths_of g (deps_of plan.rules number)) → IsMissing (begun_setting b) build.after p → ⊥) →
+  pub decided : ((p : Path) → Among p (paths_of g (deps_of plan.rules number)) → IsMissing (begun_setting b)
+      build.after p → ⊥) →
       IsDecided (begun_setting b) build past rule
   pub lacks : (p : Path) → IsFirstAbsent b (paths_of g (deps_of plan.rules number)) build.after p →
       IsLacking (begun_setting b) build past rule p

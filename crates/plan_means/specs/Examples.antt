@@ -1,5 +1,5 @@
 -- A plan that meets what laws ask: an object is made of a source, by a rule that doesn't scan, and is requested.
-use Rattle.std.specs.Prelude.{◌≡◌, true, false, [], ◌∷◌, length, Some, None, if◌then◌else◌}
+use Rattle.std.specs.Prelude.{List, ◌≡◌, true, false, [], ◌∷◌, length, Some, None, if◌then◌else◌}
 use Rattle.std.specs.Str.{bytes_eq}
 use Rattle.scons_base.specs.declared.ids.NodeId.{NodeId}
 use Rattle.scons_base.specs.declared.ids.RuleId.{RuleId}
@@ -11,12 +11,18 @@ use Rattle.rule_graph.specs.Rules.{are_below}
 use Rattle.rule_graph.specs.Graphs.{RuleGraph}
 use Rattle.task_plan.specs.Settled.{first_kept}
 use Rattle.task_plan.specs.Plans.{Planned, IsDecidedNext}
+use Rattle.task_plan.specs.Orders.{IsOrder}
+use Rattle.task_plan.specs.Ordered.{IsFirstOf}
+use Rattle.task_plan.specs.Watched.{IsNoneReady}
 use Rattle.task_plan.specs.declared.files.Origin.TheVariants.{Source, Made}
 use Rattle.task_plan.specs.declared.states.RuleState.TheVariants.{Waiting}
 use Rattle.build_model.specs.Rules.{Path, Tree}
-use Rattle.build_means.specs.Grown.{Begun}
+use Rattle.build_model.specs.Steps.{Build}
+use Rattle.build_means.specs.Rules.{rule_in}
+use Rattle.build_means.specs.Grown.{Begun, rule_numbered}
 use Rattle.plan_means.specs.Planning.{IsGraphNow}
 use Rattle.plan_means.specs.Ties.{Ties}
+use Rattle.plan_means.specs.Deciding.{IsTied}
 use Rattle.plan_means.specs.Beginning.{AreLookedFor, IsLoaded}
 
 abbrev pub source : Path
@@ -87,7 +93,21 @@ plan = record {
   };
 }
 
--- It meets what is asked of a plan as it is loaded, so it is tied; and it wants its rule decided.
+-- the build as it begins
+abbrev pub build : Build
+build = record {
+  before = source_alone;
+  stamps_before = λ p. None;
+  records = λ p. None;
+  requested = object ∷ [];
+  jobs = 1;
+  keeps_going = false;
+  met = [];
+  after = source_alone;
+  stamps_after = λ p. None;
+}
+
+-- It meets what is asked of a plan as it is loaded, so it is tied; it wants its rule decided, and that stands first.
 pub record AreMet : Type 0 where
   pub now : IsGraphNow begun graph
   pub below : are_below (length graph.nodes) (object_node ∷ []) ≡ true
@@ -95,3 +115,7 @@ pub record AreMet : Type 0 where
   pub loaded : IsLoaded graph (object_node ∷ []) plan
   pub tied : Ties begun graph (object_node ∷ []) source_alone [] plan
   pub next : IsDecidedNext plan 0
+  pub is : rule_numbered begun graph 0 ≡ Some (rule_in graph object_rule)
+  pub build_tied : IsTied begun graph (object_node ∷ []) build [] plan
+  pub none_ready : IsNoneReady plan
+  pub first : (order : List RuleId) → IsOrder plan.rules plan.origins plan.notes.roots order → IsFirstOf plan order first_rule

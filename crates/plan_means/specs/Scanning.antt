@@ -18,7 +18,8 @@ use Rattle.plan_means.specs.Beginning.{AreLookedFor}
 
 -- A file may be scanned for the rule with this number: it waits for nothing, or is missing, so no action that runs
 -- writes it.
-pub record MayBeScanned (b : Begun) (g : RuleGraph) (t : Tree) (past : List Step) (number : ℕ) (file : NodeId) : Type 0 where
+pub record MayBeScanned (b : Begun) (g : RuleGraph) (t : Tree) (past : List Step) (number : ℕ) (file : NodeId) : Type
+    0 where
   pub rule : Rule
   pub is : rule_numbered b g number ≡ Some rule
   pub node : file.0 < length g.nodes
