@@ -1,5 +1,5 @@
 -- A plan stays tied while its graph grows.
-use Rattle.std.proofs.Common.{◌≡◌, ◌≢◌, ◌<◌, ◌≤◌, ℕ, zero, suc, Bool, true, false, ◌||◌, ◌&&◌, List, [], ◌∷◌, length, Option, Some, None, refl, sym, subst, ap, ◌∙◌, inl, inr, ◌⊎◌, ltb-true, arith}
+use Rattle.std.proofs.Common.{◌≡◌, ◌≢◌, ◌<◌, ◌≤◌, ℕ, zero, suc, Bool, true, false, ◌&&◌, List, [], ◌∷◌, length, Option, Some, None, refl, sym, subst, ap, ◌∙◌, inl, inr, ◌⊎◌, ltb-true, arith}
 use Rattle.std.specs.Prelude.{slice_get, nat_eq, nat_lt, filter, if◌then◌else◌}
 use Rattle.std.specs.Option.{option_map, unwrap_or}
 use Rattle.std.specs.List.{cons_option}
@@ -34,7 +34,7 @@ use Rattle.build_model.proofs.Lists.{true_false, none_some, some_same}
 use Rattle.build_means.specs.Rules.{paths_of, rule_in, scanned_in, is_scanned_path}
 use Rattle.build_means.specs.Grown.{Begun, begun_graph, begun_setting, rule_numbered, or_copy_in, copy_in}
 use Rattle.build_means.proofs.Growing.{are_rules}
-use Rattle.build_means.proofs.Lists.{first_place}
+use Rattle.build_means.proofs.Lists.{or_second, first_place}
 use Rattle.build_means.proofs.Readings.{node_path}
 use Rattle.plan_means.specs.Planning.{IsGraphNow, IsPlanFor, IsSoughtBy, AreSought}
 use Rattle.plan_means.specs.Ties.{IsNew, IsAt, IsSeen, Ties}
@@ -145,11 +145,7 @@ module _ (b : Begun) (g h : RuleGraph) (before : IsGraphNow b g) (now : IsGraphN
       filter_by n nodes (is_scanned_node h n) (is_scanned_node g n)
       (scanned_node h n ∙ ap is_scanned_path (path_stays n (below n (stands_at (n ∷ nodes) 0 n refl)))
       ∙ sym (scanned_node g n))
-      (filter_stays nodes (λ x m. below x (or_right (nat_eq x.0 n.0) (stands nodes x) m)))
-    where
-      or_right : (a c : Bool) → c ≡ true → (a || c) ≡ true
-      or_right true c e = refl
-      or_right false c e = e
+      (filter_stays nodes (λ x m. below x (or_second (nat_eq x.0 n.0) (stands nodes x) m)))
 
   -- the same sources are scanned
   pub scanned_stays : (of : declared.Rule) → IsRule (length g.nodes) of → scanned_of h of ≡ scanned_of g of
@@ -211,11 +207,7 @@ module _ (b : Begun) (g h : RuleGraph) (before : IsGraphNow b g) (now : IsGraphN
         ap (λ o. cons_option (option_map (λ (m : ℕ). let r : RuleId = record { 0 = m } in r) o) (makers_in h nodes))
         (asked_by n (rule_of g.rules n.0) (f n (stands_at (n ∷ nodes) 0 n refl)) refl)
         ∙ ap (cons_option (option_map (λ (m : ℕ). let r : RuleId = record { 0 = m } in r) (rule_of g.rules n.0)))
-        (makers_stay nodes (λ x m. f x (or_right (nat_eq x.0 n.0) (stands nodes x) m)))
-      where
-        or_right : (a c : Bool) → c ≡ true → (a || c) ≡ true
-        or_right true c e = refl
-        or_right false c e = e
+        (makers_stay nodes (λ x m. f x (or_second (nat_eq x.0 n.0) (stands nodes x) m)))
 
     fits_stay : (number : ℕ) → state_of plan.states number ≢ Unneeded → IsKnown h plan.rules number
     fits_stay number needed =

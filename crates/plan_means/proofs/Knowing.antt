@@ -1,5 +1,5 @@
 -- What a tied plan knows of a needed rule, by paths.
-use Rattle.std.proofs.Common.{◌≡◌, ◌≢◌, ◌<◌, ◌≤◌, ℕ, zero, suc, Bool, true, false, ◌||◌, List, [], ◌++◌, length, Some, None, refl, sym, subst, ap, ◌∙◌, inl, inr, ◌⊎◌, ltb-true, arith}
+use Rattle.std.proofs.Common.{◌≡◌, ◌≢◌, ◌<◌, ◌≤◌, ℕ, zero, suc, Bool, true, false, List, [], ◌++◌, length, Some, None, refl, sym, subst, ap, ◌∙◌, inl, inr, ◌⊎◌, ltb-true, arith}
 use Rattle.std.specs.Prelude.{slice_get, nat_eq, nat_lt}
 use Rattle.std.specs.List.{list_all, flat_map}
 use Rattle.std.proofs.lemmas.List.Folds.{list_any-append, list_all-append}
@@ -30,7 +30,7 @@ use Rattle.build_model.proofs.Lists.{true_false, none_some, some_same, among_has
 use Rattle.build_means.specs.Rules.{paths_of}
 use Rattle.build_means.specs.Grown.{Begun, begun_graph, begun_setting, rule_numbered}
 use Rattle.build_means.proofs.Growing.{are_rules}
-use Rattle.build_means.proofs.Lists.{or_either, map_among, at_place, place_of}
+use Rattle.build_means.proofs.Lists.{or_either, or_first, or_second, map_among, at_place, place_of}
 use Rattle.build_means.proofs.Readings.{node_path}
 use Rattle.plan_means.specs.Names.{AreNames}
 use Rattle.plan_means.specs.Lists.{KeepsRule}
@@ -56,23 +56,15 @@ pub one_below : (g : RuleGraph) (nodes : List NodeId) (n : NodeId) → are_below
 one_below g nodes n below h =
     ltb-true n.0 (length g.nodes) (all_stands (λ t. nat_lt t.0 (length g.nodes)) nodes n below h)
 
-or_right : (b c : Bool) → c ≡ true → (b || c) ≡ true
-or_right true c e = refl
-or_right false c e = e
-
-or_left : (b c : Bool) → b ≡ true → (b || c) ≡ true
-or_left true c e = refl
-or_left false c e = true_false (sym e)
-
 -- a dependency, or a required file, is a need
 pub in_needs : (required deps : List NodeId) (n : NodeId) → stands deps n ≡ true → stands (required ++ deps) n ≡ true
 in_needs required deps n h = list_any-append (λ m. nat_eq n.0 m.0) required deps
-    ∙ or_right (stands required n) (stands deps n) h
+    ∙ or_second (stands required n) (stands deps n) h
 
 pub in_required : (required deps : List NodeId) (n : NodeId) → stands required n ≡ true →
     stands (required ++ deps) n ≡ true
 in_required required deps n h = list_any-append (λ m. nat_eq n.0 m.0) required deps
-    ∙ or_left (stands required n) (stands deps n) h
+    ∙ or_first (stands required n) (stands deps n) h
 
 -- what a plan knows of a needed rule
 pub record Knows (b : Begun) (g : RuleGraph) (plan : Planned) (number : ℕ) : Type 0 where

@@ -1,11 +1,12 @@
 -- What a plan takes of a rule, by paths.
-use Rattle.std.proofs.Common.{◌≡◌, ◌<◌, ◌≤◌, ℕ, zero, suc, Bool, true, false, ◌||◌, ◌&&◌, List, [], ◌∷◌, ◌++◌, length, map, Option, Some, None, refl, sym, ap, ◌∙◌, inl, inr, ◌⊎◌, arith}
+use Rattle.std.proofs.Common.{◌≡◌, ◌<◌, ◌≤◌, ℕ, zero, suc, Bool, true, false, ◌||◌, ◌&&◌, List, [], ◌∷◌, ◌++◌, length, map, Option, Some, None, refl, sym, ap, ◌∙◌, inl, inr, ◌⊎◌}
 use Rattle.std.specs.Prelude.{slice_get, nat_eq, nat_lt, filter, if◌then◌else◌}
 use Rattle.std.specs.Option.{option_map}
 use Rattle.std.specs.List.{list_all}
 use Rattle.std.proofs.lemmas.Bool.Decides.{Decides-eqb}
 use Rattle.std.proofs.lemmas.List.{map-append}
 use Rattle.std.proofs.lemmas.List.Folds.{list_any-append, list_all-append}
+use Rattle.std.proofs.lemmas.Option.{slice_get_past}
 use Rattle.scons_base.specs.declared.ids.NodeId.{NodeId}
 use Rattle.world_api.specs.declared.job.Work.{Work}
 use Rattle.world_api.specs.declared.job.Work.TheVariants.{Shell, Copy, Write}
@@ -301,15 +302,6 @@ module _ (g : RuleGraph) (reading : IsReading g) (r : declared.Rule) (is : IsRul
             r.scans;
       }
 
-same_there : {x y : declared.Rule} (xs : List declared.Rule) (i : ℕ) → slice_get xs i ≡ Some x →
-    slice_get xs i ≡ Some y → x ≡ y
-same_there xs i e f = some_same (sym e ∙ f)
-
-past_none : {A : Type 0} (xs : List A) (i : ℕ) → length xs ≤ i → slice_get xs i ≡ None
-past_none [] i le = refl
-past_none (x ∷ xs) zero le = absurd (omega arith)
-past_none (x ∷ xs) (suc i) le = past_none xs i (omega arith)
-
 either_part : {A : Type 0} (xs ys : List A) (i : ℕ) (x : A) → slice_get (xs ++ ys) i ≡ Some x →
     (slice_get xs i ≡ Some x) ⊎ ((slice_get xs i ≡ None) × Among x ys)
 either_part [] ys i x e = inr (refl, at_place ys i e)
@@ -347,7 +339,7 @@ module _ (b : Begun) (g : RuleGraph) (grown : IsGrown b g) where
   copy_by : (number : ℕ) (of : declared.Rule) → length b.graph.rules ≤ number → slice_get g.rules number ≡ Some of →
       (slice_get b.graph.rules number ≡ Some of) ⊎ ((slice_get b.graph.rules number ≡ None) × Among of
       grown.copies) → IsCopyNamed b g number of
-  copy_by number of past at (inl e) = none_some (sym (past_none b.graph.rules number past) ∙ e)
+  copy_by number of past at (inl e) = none_some (sym (slice_get_past b.graph.rules number past) ∙ e)
   copy_by number of past at (inr h) =
       let copy = grown.each_copy of h.1 in
       record {

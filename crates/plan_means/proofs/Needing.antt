@@ -1,5 +1,5 @@
 -- A rule that a tied plan needs is needed by the model.
-use Rattle.std.proofs.Common.{◌≡◌, ◌≢◌, ◌<◌, ℕ, Bool, true, false, ◌||◌, List, [], ◌∷◌, ◌++◌, length, Option, Some, None, refl, sym, subst, ap, ◌∙◌, inl, inr, ◌⊎◌, ⊎_elim}
+use Rattle.std.proofs.Common.{◌≡◌, ◌≢◌, ◌<◌, ℕ, true, List, [], ◌∷◌, ◌++◌, length, Option, Some, None, refl, sym, subst, ap, ◌∙◌, inl, inr, ◌⊎◌, ⊎_elim}
 use Rattle.std.specs.Prelude.{nat_eq}
 use Rattle.std.specs.Option.{option_map}
 use Rattle.std.specs.List.{cons_option}
@@ -30,7 +30,7 @@ use Rattle.build_model.specs.Steps.{Step}
 use Rattle.build_model.proofs.Lists.{true_false, among_same}
 use Rattle.build_means.specs.Rules.{paths_of}
 use Rattle.build_means.specs.Grown.{Begun, begun_graph}
-use Rattle.build_means.proofs.Lists.{or_either}
+use Rattle.build_means.proofs.Lists.{or_either, or_second}
 use Rattle.plan_means.specs.Planning.{IsGraphNow}
 use Rattle.plan_means.specs.Ties.{Ties}
 use Rattle.plan_means.proofs.Knowing.{path_among, one_below, knows, rule_made, dep_reached, needs_all_below}
@@ -41,20 +41,12 @@ pub record IsOf (g : RuleGraph) (nodes : List NodeId) (r : ℕ) : Type 0 where
   pub among : stands nodes node ≡ true
   pub made : rule_of g.rules node.0 ≡ Some r
 
-or_left : (b c : Bool) → b ≡ true → (b || c) ≡ true
-or_left true c e = refl
-or_left false c e = true_false (sym e)
-
-or_right : (b c : Bool) → c ≡ true → (b || c) ≡ true
-or_right true c e = refl
-or_right false c e = e
-
 is_self : (x : NodeId) (nodes : List NodeId) → stands (x ∷ nodes) x ≡ true
 is_self x nodes = stands_at (x ∷ nodes) 0 x refl
 
 of_more : (g : RuleGraph) (x : NodeId) (nodes : List NodeId) (r : ℕ) → IsOf g nodes r → IsOf g (x ∷ nodes) r
 of_more g x nodes r o =
-    record { node = o.node; among = or_right (nat_eq o.node.0 x.0) (stands nodes o.node) o.among; made = o.made }
+    record { node = o.node; among = or_second (nat_eq o.node.0 x.0) (stands nodes o.node) o.among; made = o.made }
 
 maker_by : (g : RuleGraph) (x : NodeId) (nodes : List NodeId) (r : ℕ) (o : Option ℕ) → rule_of g.rules x.0 ≡ o →
     is_among r (cons_option (option_map (λ (n : ℕ). let y : RuleId = record { 0 = n } in y) o)

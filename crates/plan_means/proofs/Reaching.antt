@@ -22,6 +22,7 @@ use Rattle.build_model.specs.Reach.{has, unseen, breadth_first, declared as decl
 use Rattle.build_model.proofs.Lists.{true_false, same_head, same_tail, has_among, among_has}
 use Rattle.build_model.proofs.Whole.{listed_scanned, left_cases}
 use Rattle.build_means.specs.Rules.{IsReading, paths_of}
+use Rattle.build_means.proofs.Lists.{or_first, or_second, or_neither}
 use Rattle.plan_means.specs.Names.{AreNames}
 use Rattle.plan_means.specs.Lists.{KeepsRule, Includes, AreReach}
 use Rattle.plan_means.proofs.Seen.{or_nothing, or_swap, has_append, unseen_same, first_below, rest_below, has_stands, put_paths, Sees}
@@ -39,36 +40,17 @@ Once (x ∷ xs) = (stands xs x ≡ false) × Once xs
 eq_swap : (m n : ℕ) → nat_eq m n ≡ nat_eq n m
 eq_swap m n = grind (arith, nat_tests)
 
-eq_self : (n : ℕ) → nat_eq n n ≡ true
-eq_self n = grind (arith, nat_tests)
-
-neither_first : (b c : Bool) → (b || c) ≡ false → b ≡ false
-neither_first true c e = true_false e
-neither_first false c e = refl
-
-neither_second : (b c : Bool) → (b || c) ≡ false → c ≡ false
-neither_second true c e = true_false e
-neither_second false c e = e
-
 or_false : (b c : Bool) → b ≡ false → c ≡ false → (b || c) ≡ false
 or_false true c e f = true_false e
 or_false false c e f = f
 
-or_true : (b c : Bool) → c ≡ true → (b || c) ≡ true
-or_true true c e = refl
-or_true false c e = e
-
-or_left : (b c : Bool) → b ≡ true → (b || c) ≡ true
-or_left true c e = refl
-or_left false c e = true_false (sym e)
-
 once_more : (before : List NodeId) (x : NodeId) → Once before → stands before x ≡ false → Once (before ++ x ∷ [])
 once_more [] x once new = (refl, tt)
 once_more (y ∷ before) x once new =
-    let other : nat_eq y.0 x.0 ≡ false = eq_swap y.0 x.0 ∙ neither_first (nat_eq x.0 y.0) (stands before x) new in (
+    let other : nat_eq y.0 x.0 ≡ false = eq_swap y.0 x.0 ∙ (or_neither (nat_eq x.0 y.0) (stands before x) new).0 in (
       list_any-append (λ m. nat_eq y.0 m.0) before (x ∷ [])
           ∙ or_false (stands before y) (nat_eq y.0 x.0 || false) once.0 (or_nothing (nat_eq y.0 x.0) ∙ other),
-      once_more before x once.1 (neither_second (nat_eq x.0 y.0) (stands before x) new),
+      once_more before x once.1 ((or_neither (nat_eq x.0 y.0) (stands before x) new).1),
     )
 
 once_put : (before : List NodeId) (x : NodeId) (b c : Bool) → stands before x ≡ c → Once before →
@@ -88,8 +70,8 @@ once_behind : (y x : NodeId) (done rest : List NodeId) → (b c : Bool) → nat_
 once_behind y x done rest true c e f new h =
     let it : stands (done ++ x ∷ rest) y ≡ true =
     list_any-append (λ m. nat_eq y.0 m.0) done (x ∷ rest)
-    ∙ or_true (stands done y) (nat_eq y.0 x.0 || stands rest y)
-    (or_left (nat_eq y.0 x.0) (stands rest y) (eq_swap y.0 x.0 ∙ e)) in
+    ∙ or_second (stands done y) (nat_eq y.0 x.0 || stands rest y)
+    (or_first (nat_eq y.0 x.0) (stands rest y) (eq_swap y.0 x.0 ∙ e)) in
     true_false (sym it ∙ new)
 once_behind y x done rest false c e f new h = h
 
@@ -103,9 +85,9 @@ apart_all : (n : NodeId) (nodes : List NodeId) → stands nodes n ≡ false →
     AllByRecursion (λ m. nat_eq n.0 m ≡ false) (map (λ (y : NodeId). y.0) nodes)
 apart_all n [] e = tt
 apart_all n (x ∷ nodes) e = (
-  neither_first (nat_eq n.0 x.0) (stands nodes n) e,
+  (or_neither (nat_eq n.0 x.0) (stands nodes n) e).0,
   apart_all n nodes
-      (neither_second (nat_eq n.0 x.0) (stands nodes n) e),
+      ((or_neither (nat_eq n.0 x.0) (stands nodes n) e).1),
 )
 
 once_distinct : (nodes : List NodeId) → Once nodes → IsDistinct nat_eq (map (λ (y : NodeId). y.0) nodes)
@@ -140,14 +122,14 @@ stands_flat : (inc : NodeId → List NodeId) (done : List NodeId) (i : ℕ) (by 
 stands_flat inc [] i by x at h = cc
 stands_flat inc (d ∷ done) zero by x at h =
     list_any-append (λ m. nat_eq x.0 m.0) (inc d) (flat_map inc done)
-    ∙ or_left (stands (inc d) x) (stands (flat_map inc done) x)
+    ∙ or_first (stands (inc d) x) (stands (flat_map inc done) x)
     (subst (λ (y : NodeId). stands (inc y) x ≡ true) (sym (same_first at)) h)
   where
     same_first : {A : Type 0} {a b : A} → Some a ≡ Some b → a ≡ b
     same_first e = cc e
 stands_flat inc (d ∷ done) (suc i) by x at h =
     list_any-append (λ m. nat_eq x.0 m.0) (inc d) (flat_map inc done)
-    ∙ or_true (stands (inc d) x) (stands (flat_map inc done) x) (stands_flat inc done i by x at h)
+    ∙ or_second (stands (inc d) x) (stands (flat_map inc done) x) (stands_flat inc done i by x at h)
 
 at_end : (done rest : List NodeId) (x : NodeId) → slice_get (done ++ x ∷ rest) (length done) ≡ Some x
 at_end [] rest x = refl

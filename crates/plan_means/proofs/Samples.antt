@@ -39,12 +39,12 @@ only_rule P p (suc n) needed = absurd (needed refl)
 waits_unneeded : Waiting ≢ Unneeded
 waits_unneeded e = cc
 
-or_first : (c : Bool) → (c || false) ≡ true → c ≡ true
-or_first true e = refl
-or_first false e = e
+only_first : (c : Bool) → (c || false) ≡ true → c ≡ true
+only_first true e = refl
+only_first false e = e
 
 only_node : (x n : NodeId) → stands (x ∷ []) n ≡ true → n ≡ x
-only_node x n h = node_same n x (or_first (nat_eq n.0 x.0) h)
+only_node x n h = node_same n x (only_first (nat_eq n.0 x.0) h)
 
 nothing : {A : Type 0} (n : NodeId) → stands [] n ≡ true → A
 nothing n h = true_false (sym h)
@@ -55,7 +55,7 @@ apart (suc zero) path e = subst (λ (p : Path). number_of graph.nodes p ≡ Some
 apart (suc (suc n)) path e = none_some e
 
 single_by : (n : ℕ) → is_target_of object_rule.targets n ≡ true → rule_of graph.rules n ≡ Some 0
-single_by n h = subst (λ (m : ℕ). rule_of graph.rules m ≡ Some 0) (same_number 1 n (or_first (nat_eq 1 n) h)) refl
+single_by n h = subst (λ (m : ℕ). rule_of graph.rules m ≡ Some 0) (same_number 1 n (only_first (nat_eq 1 n) h)) refl
 
 single : (i n : ℕ) (r : declared.Rule) → slice_get graph.rules i ≡ Some r → is_target_of r.targets n ≡ true →
     rule_of graph.rules n ≡ Some i
@@ -150,7 +150,7 @@ all_met zero k needed e = subst (AreNeedsMet plan.origins) (some_same e) needs_m
 all_met (suc n) k needed e = none_some e
 
 no_more : (n : ℕ) → is_among (suc n) (first_rule ∷ []) ≡ true → ⊥
-no_more n h = let e : 0 ≡ suc n = same_number 0 (suc n) (or_first (nat_eq 0 (suc n)) h) in absurd (omega (arith, e))
+no_more n h = let e : 0 ≡ suc n = same_number 0 (suc n) (only_first (nat_eq 0 (suc n)) h) in absurd (omega (arith, e))
 
 none_needed : (other n : ℕ) → is_among n (needed_of plan.rules plan.origins other) ≡ true → ⊥
 none_needed zero n h = true_false (sym h)

@@ -1,5 +1,5 @@
 -- A plan stays tied when it is told what a file includes.
-use Rattle.std.proofs.Common.{◌≡◌, ◌≢◌, ◌<◌, ◌≤◌, ℕ, Bool, true, false, ◌||◌, List, [], ◌++◌, length, drop, Option, Some, None, refl, sym, subst, ap, ◌∙◌, inl, inr, ◌⊎◌, ⊎_elim}
+use Rattle.std.proofs.Common.{◌≡◌, ◌≢◌, ◌<◌, ◌≤◌, ℕ, Bool, true, false, List, [], ◌++◌, length, drop, Option, Some, None, refl, sym, subst, ap, ◌∙◌, inl, inr, ◌⊎◌, ⊎_elim}
 use Rattle.std.specs.Prelude.{slice_get, nat_eq, MatchOption}
 use Rattle.std.specs.List.{list_all, flat_map}
 use Rattle.std.proofs.lemmas.List.Folds.{list_any-append}
@@ -37,16 +37,12 @@ use Rattle.build_model.specs.Steps.{Step}
 use Rattle.build_model.proofs.Lists.{true_false, none_some, some_same}
 use Rattle.build_means.specs.Rules.{paths_of}
 use Rattle.build_means.specs.Grown.{Begun, begun_graph, rule_numbered}
-use Rattle.build_means.proofs.Lists.{or_either}
+use Rattle.build_means.proofs.Lists.{or_either, or_second}
 use Rattle.plan_means.specs.Planning.{IsGraphNow, IsPlanFor, IsSoughtBy, AreSought, IsStep}
 use Rattle.plan_means.specs.Ties.{IsNew, IsAt, IsDecidedState, IsSeen, Ties}
 use Rattle.plan_means.specs.Scanning.{IsFoundIn}
 use Rattle.plan_means.proofs.Names.{stands_all}
 use Rattle.plan_means.proofs.Knowing.{Knows, knows, in_needs, in_required, need_below, needed_met, done_ready}
-
-or_right : (a c : Bool) → c ≡ true → (a || c) ≡ true
-or_right true c e = refl
-or_right false c e = e
 
 -- a file by which one rule needs another
 record IsNeedOf (plan : Planned) (number other : ℕ) : Type 0 where
@@ -141,7 +137,7 @@ module _ (b : Begun) (g : RuleGraph) (requested : List NodeId) (t : Tree) (past 
   file_dep : (n : NodeId) → stands k.kept.files n ≡ true → stands k.kept.deps n ≡ true
   file_dep n h =
       ap (λ (l : List NodeId). stands l n) k.keeps.follows.deps ∙ stands_all k.kept.named k.kept.files n
-      ∙ or_right (stands k.kept.named n) (stands k.kept.files n) h
+      ∙ or_second (stands k.kept.named n) (stands k.kept.files n) h
 
   named_dep : (n : NodeId) → stands k.kept.named n ≡ true → stands k.kept.deps n ≡ true
   named_dep n h =

@@ -41,17 +41,6 @@ or_more false true t = refl
 or_more false false true = refl
 or_more false false false = refl
 
-or_assoc : (a b c : Bool) → (a || (b || c)) ≡ ((a || b) || c)
-or_assoc true b c = refl
-or_assoc false b c = refl
-
--- two tests of which each holds where the other does
-pub same_test : (a b : Bool) → (a ≡ true → b ≡ true) → (b ≡ true → a ≡ true) → a ≡ b
-same_test true true f g = refl
-same_test true false f g = sym (f refl)
-same_test false true f g = g refl
-same_test false false f g = refl
-
 pub has_append : (p : Path) (xs ys : List Path) → has p (xs ++ ys) ≡ (has p xs || has p ys)
 has_append p [] ys = refl
 has_append p (x ∷ xs) ys = by (bytes_eq p x) (has_append p xs ys)

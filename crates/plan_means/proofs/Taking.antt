@@ -1,5 +1,5 @@
 -- The order of a tied plan is the build order of the model, and its next rule the one that is taken first.
-use Rattle.std.proofs.Common.{◌≡◌, ◌≢◌, ◌<◌, ℕ, Bool, true, false, ◌||◌, List, [], ◌∷◌, ◌++◌, length, Option, Some, None, refl, sym, subst, ap, ◌∙◌, inl, inr, ◌⊎◌, arith}
+use Rattle.std.proofs.Common.{◌≡◌, ◌≢◌, ◌<◌, ℕ, true, false, List, [], ◌∷◌, ◌++◌, length, Option, Some, None, refl, sym, subst, ap, ◌∙◌, inl, inr, ◌⊎◌, arith}
 use Rattle.std.specs.Prelude.{nat_eq}
 use Rattle.std.specs.Option.{option_map}
 use Rattle.std.specs.List.{cons_option}
@@ -32,6 +32,7 @@ use Rattle.build_model.specs.Resting.{whole_found}
 use Rattle.build_model.specs.OneJob.{IsPassed, IsTakenFirst}
 use Rattle.build_model.proofs.Lists.{true_false, some_same}
 use Rattle.build_means.specs.Rules.{paths_of}
+use Rattle.build_means.proofs.Lists.{or_first, or_second}
 use Rattle.build_means.specs.Grown.{Begun, begun_setting, rule_numbered}
 use Rattle.plan_means.specs.Deciding.{IsTied}
 use Rattle.plan_means.proofs.Visiting.{has_order}
@@ -110,10 +111,6 @@ module _ (b : Begun) (g : RuleGraph) (requested : List NodeId) (build : Build) (
   abbrev needs : Rule → List Rule
   needs r = needs_in_order (begun_setting b).rule_of (begun_setting b).limit found r
 
-  or_right : (a c : Bool) → c ≡ true → (a || c) ≡ true
-  or_right true c e = refl
-  or_right false c e = e
-
   file_rule : (number : ℕ) (needed : state_of plan.states number ≢ Unneeded) (n : NodeId) (o : Origin) →
       stands ((the number needed).kept.required ++ (the number needed).kept.deps) n ≡ true →
       origin_of plan.origins n.0 ≡ o → IsFrom g plan.states n.0 o → is_met_from o ≡ true →
@@ -139,7 +136,7 @@ module _ (b : Begun) (g : RuleGraph) (requested : List NodeId) (build : Build) (
   files_rules number needed (n ∷ files) h =
       let this = h n (stands_at (n ∷ files) 0 n refl) in
       ap (with_rule ((begun_setting b).rule_of (path_of g.nodes n)))
-      (files_rules number needed files (λ x m. h x (or_right (nat_eq x.0 n.0) (stands files x) m)))
+      (files_rules number needed files (λ x m. h x (or_second (nat_eq x.0 n.0) (stands files x) m)))
       ∙ file_rule number needed n (origin_of plan.origins n.0) this refl (tied.ties.plan_for.from.each n.0)
       (needed_met b g requested build.after past plan tied.graph tied.ties number needed n this)
       (makers_of plan.origins files)
@@ -172,7 +169,7 @@ module _ (b : Begun) (g : RuleGraph) (requested : List NodeId) (build : Build) (
   asked_rules [] h = refl
   asked_rules (n ∷ nodes) h =
       ap (with_rule ((begun_setting b).rule_of (path_of g.nodes n)))
-      (asked_rules nodes (λ x m. h x (or_right (nat_eq x.0 n.0) (stands nodes x) m)))
+      (asked_rules nodes (λ x m. h x (or_second (nat_eq x.0 n.0) (stands nodes x) m)))
       ∙ asked_rule n (rule_of g.rules n.0) (h n (stands_at (n ∷ nodes) 0 n refl)) refl (makers_in g nodes)
 
   -- the rules of what is requested
@@ -257,16 +254,12 @@ module _ (b : Begun) (g : RuleGraph) (requested : List NodeId) (build : Build) (
         let h = has_number b g x f.before m in
         let in_order : is_among h.number order ≡ true =
         ap (is_among h.number) f.is ∙ list_any-append (λ (y : RuleId). nat_eq y.0 h.number) f.before
-        (rule ∷ f.behind) ∙ or_left (is_among h.number f.before) _ h.among in
+        (rule ∷ f.behind) ∙ or_first (is_among h.number f.before) _ h.among in
         let reached = (order_reached plan.rules plan.origins plan.notes.roots order o).only h.number in_order in
         let needed = tied.ties.plan_for.reached.only h.number reached in
         let k = the h.number needed in
         subst (λ (y : Rule). IsPassed (begun_setting b) past found y) (some_same (sym k.numbered ∙ h.is))
         (passed_cannot b g requested build past plan tied h.number needed none (f.none h.number h.among))
-      where
-        or_left : (a c : Bool) → a ≡ true → (a || c) ≡ true
-        or_left true c e = refl
-        or_left false c e = true_false (sym e)
 
     pub taken_first : IsTakenFirst (begun_setting b) build past r
     taken_first =

@@ -32,7 +32,7 @@ use Rattle.build_model.proofs.Runs.{settled_done}
 use Rattle.build_model.proofs.Whole.{reaches_in}
 use Rattle.build_means.specs.Rules.{paths_of}
 use Rattle.build_means.specs.Grown.{Begun, begun_setting, rule_numbered}
-use Rattle.build_means.proofs.Lists.{among_map}
+use Rattle.build_means.proofs.Lists.{or_second, among_map}
 use Rattle.plan_means.specs.Lists.{AreReach}
 use Rattle.plan_means.specs.Ties.{IsAt, IsDecidedState}
 use Rattle.plan_means.specs.Deciding.{IsTied}
@@ -68,14 +68,6 @@ fails_by test x nodes true e h next =
 one_fails : (test : NodeId → Bool) (nodes : List NodeId) → list_all test nodes ≡ false → Fails test nodes
 one_fails test [] h = true_false h
 one_fails test (x ∷ nodes) h = fails_by test x nodes (test x) refl h (one_fails test nodes)
-
-or_right : (a c : Bool) → c ≡ true → (a || c) ≡ true
-or_right true c e = refl
-or_right false c e = e
-
-or_left : (a c : Bool) → a ≡ true → (a || c) ≡ true
-or_left true c e = refl
-or_left false c e = true_false (sym e)
 
 module _ (b : Begun) (g : RuleGraph) (requested : List NodeId) (build : Build) (past : List Step) (plan : Planned)
     (tied : IsTied b g requested build past plan) where
@@ -140,7 +132,7 @@ module _ (b : Begun) (g : RuleGraph) (requested : List NodeId) (build : Build) (
     files_in_deps : (n : NodeId) → stands k.kept.files n ≡ true → stands k.kept.deps n ≡ true
     files_in_deps n h =
         ap (λ (l : List NodeId). stands l n) k.keeps.follows.deps ∙ stands_all k.kept.named k.kept.files n
-        ∙ or_right (stands k.kept.named n) (stands k.kept.files n) h
+        ∙ or_second (stands k.kept.named n) (stands k.kept.files n) h
 
     need_met : (n : NodeId) → stands (k.kept.required ++ k.kept.deps) n ≡ true → is_met plan.origins n ≡ true
     need_met n h = needed_met b g requested build.after past plan tied.graph tied.ties number needed n h

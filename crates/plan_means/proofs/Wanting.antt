@@ -1,5 +1,5 @@
 -- A file that a tied plan wants scanned next may be scanned.
-use Rattle.std.proofs.Common.{◌≡◌, ◌≢◌, ℕ, Bool, true, false, ◌||◌, List, ◌++◌, refl, sym, ap, ◌∙◌}
+use Rattle.std.proofs.Common.{◌≡◌, ◌≢◌, ℕ, true, List, ◌++◌, sym, ap, ◌∙◌}
 use Rattle.std.specs.Prelude.{slice_get}
 use Rattle.scons_base.specs.declared.ids.NodeId.{NodeId}
 use Rattle.rule_graph.specs.Graphs.{RuleGraph}
@@ -14,15 +14,12 @@ use Rattle.build_model.specs.Rules.{Tree}
 use Rattle.build_model.specs.Steps.{Step}
 use Rattle.build_model.proofs.Lists.{some_same}
 use Rattle.build_means.specs.Grown.{Begun}
+use Rattle.build_means.proofs.Lists.{or_second}
 use Rattle.plan_means.specs.Planning.{IsGraphNow}
 use Rattle.plan_means.specs.Ties.{Ties}
 use Rattle.plan_means.specs.Scanning.{MayBeScanned}
 use Rattle.plan_means.proofs.Names.{stands_all}
 use Rattle.plan_means.proofs.Knowing.{Knows, knows, in_needs, need_below, done_ready}
-
-or_right : (a c : Bool) → c ≡ true → (a || c) ≡ true
-or_right true c e = refl
-or_right false c e = e
 
 module _ (b : Begun) (g : RuleGraph) (requested : List NodeId) (t : Tree) (past : List Step) (plan : Planned) (number : ℕ)
     (file : NodeId) (now : IsGraphNow b g) (ties : Ties b g requested t past plan)
@@ -42,7 +39,7 @@ module _ (b : Begun) (g : RuleGraph) (requested : List NodeId) (t : Tree) (past 
   in_deps : stands k.kept.deps file ≡ true
   in_deps =
       ap (λ (l : List NodeId). stands l file) k.keeps.follows.deps ∙ stands_all k.kept.named k.kept.files file
-      ∙ or_right (stands k.kept.named file) (stands k.kept.files file) in_files
+      ∙ or_second (stands k.kept.named file) (stands k.kept.files file) in_files
 
   need : stands (k.kept.required ++ k.kept.deps) file ≡ true
   need = in_needs k.kept.required k.kept.deps file in_deps
