@@ -15,4 +15,5 @@ pub mod Scanning
 pub mod Resting
 pub mod Running
 pub mod Wanting
+mod SampleSteps
 mod Samples

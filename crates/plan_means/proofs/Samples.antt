@@ -12,7 +12,7 @@ use Rattle.task_plan.specs.Named.{stands, named_of}
 use Rattle.task_plan.specs.Noted.{Places}
 use Rattle.task_plan.specs.Settled.{Kept, first_kept, origin_of}
 use Rattle.task_plan.specs.Plans.{AreMet as AreMetStates, CanDecide, IsDecidedNext}
-use Rattle.task_plan.specs.Met.{IsFrom, AreNeedsMet}
+use Rattle.task_plan.specs.Met.{is_met_from, IsFrom, AreNeedsMet}
 use Rattle.task_plan.specs.Admits.{IsFirstAt, IsKnown, Follows}
 use Rattle.task_plan.specs.Orders.{is_among, needed_of, nothing_left, met_first, IsOrder, IsReached, is_root, is_needed}
 use Rattle.task_plan.specs.Ordered.{IsOrderLeft, KeepsOrder, IsFirstOf, is_past, AreNeedsDone}
@@ -23,13 +23,15 @@ use Rattle.task_plan.proofs.ReachedLemmas.{same_number}
 use Rattle.task_plan.proofs.WalkLemmas.{node_same}
 use Rattle.build_model.specs.Rules.{Path}
 use Rattle.build_model.proofs.Lists.{true_false, none_some, some_same}
-use Rattle.build_means.specs.Rules.{IsReading}
-use Rattle.plan_means.specs.Planning.{IsGraphNow}
+use Rattle.build_means.specs.Rules.{IsReading, rule_in}
+use Rattle.plan_means.specs.Planning.{IsGraphNow, IsSoughtBy, AreSought}
 use Rattle.plan_means.specs.Ties.{Ties}
 use Rattle.plan_means.specs.Deciding.{IsTied}
 use Rattle.plan_means.specs.Beginning.{IsLookedFor, AreLookedFor, IsLoaded}
 use Rattle.plan_means.specs.Examples.{source_node, object_node, object_rule, graph, source_alone, begun, first_rule, plan, build, AreMet}
+use Rattle.plan_means.specs.Stepping.{is_fresh}
 use Rattle.plan_means.proofs.Beginning.{is_tied}
+use Rattle.plan_means.proofs.SampleSteps.{fresh_step}
 
 -- only the first number stands for anything
 only_rule : (P : ℕ → Type 0) → P 0 → (number : ℕ) → state_of plan.states number ≢ Unneeded → P number
@@ -300,6 +302,19 @@ first order is =
     subst (λ (l : List RuleId). IsFirstOf plan l first_rule)
     (sym (order_only plan.rules plan.origins plan.notes.roots (first_rule ∷ []) order own_order is)) own_first
 
+sought_by : (k : ℕ) (n : NodeId) → n.0 ≡ k → is_met_from (origin_of plan.origins k) ≡ true →
+    (stands (object_node ∷ []) n ≡ true) ⊎ IsSoughtBy plan n
+sought_by zero n e met =
+    let same : source_node ≡ n = ap (λ (x : ℕ). let y : NodeId = record { 0 = x } in y) (sym e) in
+    inr (subst (IsSoughtBy plan) same (record { rule = 0; needed = waits_unneeded; needs = refl }))
+sought_by (suc zero) n e met =
+    let same : object_node ≡ n = ap (λ (x : ℕ). let y : NodeId = record { 0 = x } in y) (sym e) in
+    inl (subst (λ (x : NodeId). stands (object_node ∷ []) x ≡ true) same refl)
+sought_by (suc (suc k)) n e met = true_false (sym met)
+
+sought : AreSought (object_node ∷ []) plan
+sought = record { each = λ n met. sought_by n.0 n refl met }
+
 pub are_met : AreMet
 are_met = record {
   now = now;
@@ -312,4 +327,8 @@ are_met = record {
   build_tied = build_tied;
   none_ready = none_ready;
   first = first;
+  tells = is_fresh first_rule (rule_in graph object_rule) refl next;
+  step = fresh_step;
+  sought = sought;
+  grows = record { more = []; nodes = refl; added = []; rules = refl };
 }

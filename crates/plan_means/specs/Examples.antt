@@ -15,14 +15,17 @@ use Rattle.task_plan.specs.Orders.{IsOrder}
 use Rattle.task_plan.specs.Ordered.{IsFirstOf}
 use Rattle.task_plan.specs.Watched.{IsNoneReady}
 use Rattle.task_plan.specs.declared.files.Origin.TheVariants.{Source, Made}
-use Rattle.task_plan.specs.declared.states.RuleState.TheVariants.{Waiting}
+use Rattle.task_plan.specs.declared.states.RuleState.TheVariants.{Waiting, Settled}
+use Rattle.task_plan.specs.declared.want.PlanEvent.TheVariants as told
 use Rattle.build_model.specs.Rules.{Path, Tree}
-use Rattle.build_model.specs.Steps.{Build}
+use Rattle.build_model.specs.Steps.{Build, Fresh}
 use Rattle.build_means.specs.Rules.{rule_in}
 use Rattle.build_means.specs.Grown.{Begun, rule_numbered}
-use Rattle.plan_means.specs.Planning.{IsGraphNow}
+use Rattle.plan_means.specs.Planning.{IsGraphNow, AreSought, IsStep}
 use Rattle.plan_means.specs.Ties.{Ties}
 use Rattle.plan_means.specs.Deciding.{IsTied}
+use Rattle.plan_means.specs.Stepping.{Tells}
+use Rattle.plan_means.specs.Growth.{Grows}
 use Rattle.plan_means.specs.Beginning.{AreLookedFor, IsLoaded}
 
 abbrev pub source : Path
@@ -93,6 +96,13 @@ plan = record {
   };
 }
 
+-- and the same once its rule was found up to date
+abbrev pub settled_plan : Planned
+settled_plan = record plan {
+  states = Settled ∷ [];
+  queue = record { order = first_rule ∷ []; numbers = 0 ∷ []; opens = false ∷ [] };
+}
+
 -- the build as it begins
 abbrev pub build : Build
 build = record {
@@ -107,7 +117,8 @@ build = record {
   stamps_after = λ p. None;
 }
 
--- It meets what is asked of a plan as it is loaded, so it is tied; it wants its rule decided, and that stands first.
+-- It meets what is asked of a plan as it is loaded, so it is tied; it wants its rule decided, and that stands first; it may be
+-- told that the rule is up to date; and its graph may grow, by nothing.
 pub record AreMet : Type 0 where
   pub now : IsGraphNow begun graph
   pub below : are_below (length graph.nodes) (object_node ∷ []) ≡ true
@@ -119,3 +130,7 @@ pub record AreMet : Type 0 where
   pub build_tied : IsTied begun graph (object_node ∷ []) build [] plan
   pub none_ready : IsNoneReady plan
   pub first : (order : List RuleId) → IsOrder plan.rules plan.origins plan.notes.roots order → IsFirstOf plan order first_rule
+  pub tells : Tells begun graph plan (told.Fresh first_rule) (Fresh (rule_in graph object_rule))
+  pub step : IsStep graph plan (told.Fresh first_rule) settled_plan
+  pub sought : AreSought (object_node ∷ []) plan
+  pub grows : Grows graph graph
