@@ -76,7 +76,8 @@ module _ (b : Begun) (g : RuleGraph) (requested : List NodeId) (t : Tree) (plan 
       (λ o. is_among number (needed_in plan.origins o)) (sym first.is) ∙ h in
       let place = place_in (makers_of plan.origins files) (record { 0 = number }) among in
       let made = maker_made plan.origins files place.0 (record { 0 = number }) place.1 in
-      let of = (subst (λ (o : Origin). IsFrom g plan.states made.file.0 o) made.made (loaded.from.each made.file.0)).0 in
+      let of =
+      (subst (λ (o : Origin). IsFrom g plan.states made.file.0 o) made.made (loaded.from.each made.file.0)).0 in
       IsAskedFor.needs first.of made.file is_asked first.at (stands_at files made.place made.file made.at) of
 
   -- what the plan needs is asked for

@@ -72,7 +72,8 @@ module _ (b : Begun) (g h : RuleGraph) (before : IsGraphNow b g) (now : IsGraphN
 
   pub rule_stands : (number : ℕ) (of : declared.Rule) → slice_get g.rules number ≡ Some of →
       slice_get h.rules number ≡ Some of
-  rule_stands number of at = ap (λ rules. slice_get rules number) grows.rules ∙ get-front g.rules grows.added number of at
+  rule_stands number of at = ap (λ rules. slice_get rules number) grows.rules
+      ∙ get-front g.rules grows.added number of at
 
   -- a node keeps its rule
   pub maker_stays : (n m : ℕ) → rule_of g.rules n ≡ Some m → rule_of h.rules n ≡ Some m
@@ -195,10 +196,12 @@ module _ (b : Begun) (g h : RuleGraph) (before : IsGraphNow b g) (now : IsGraphN
         let node : NodeId = record { 0 = n } in unmade node (sought.each node (ap is_met_from e)) e from
     from_by n (Made m) e from = (maker_stays n m.0 from.0, from.1)
 
-    asked_by : (n : NodeId) (o : Option ℕ) → stands requested n ≡ true → rule_of g.rules n.0 ≡ o → rule_of h.rules n.0 ≡ o
+    asked_by : (n : NodeId) (o : Option ℕ) → stands requested n ≡ true → rule_of g.rules n.0 ≡ o →
+        rule_of h.rules n.0 ≡ o
     asked_by n (Some m) asked e = maker_stays n.0 m e
     asked_by n None asked e =
-        unmade_by n (rule_of h.rules n.0) refl (one_below g requested n ties.plan_for.nodes asked) (ties.asked n asked e)
+        unmade_by n (rule_of h.rules n.0) refl (one_below g requested n ties.plan_for.nodes asked)
+        (ties.asked n asked e)
 
     makers_stay : (nodes : List NodeId) → ((n : NodeId) → stands nodes n ≡ true → stands requested n ≡ true) →
         makers_in h nodes ≡ makers_in g nodes
@@ -283,7 +286,8 @@ module _ (b : Begun) (g h : RuleGraph) (before : IsGraphNow b g) (now : IsGraphN
         let of = stands_below g.rules number lt in
         ties.states number r (sym (numbered_stays number of.0 of.1) ∙ numbered)
       where
-        stands_below : (xs : List declared.Rule) (i : ℕ) → i < length xs → (x : declared.Rule) × (slice_get xs i ≡ Some x)
+        stands_below : (xs : List declared.Rule) (i : ℕ) → i < length xs → (x : declared.Rule)
+            × (slice_get xs i ≡ Some x)
         stands_below [] i lt = absurd (omega arith)
         stands_below (x ∷ xs) zero lt = (x, refl)
         stands_below (x ∷ xs) (suc i) lt = stands_below xs i (omega arith)

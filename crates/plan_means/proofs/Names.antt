@@ -175,7 +175,8 @@ all_passing_by own test n nodes b false h e next = true_false (sym h)
 all_passing : (own test : NodeId → Bool) (nodes : List NodeId) → list_all own nodes ≡ true →
     list_all own (filter test nodes) ≡ true
 all_passing own test [] h = refl
-all_passing own test (n ∷ nodes) h = all_passing_by own test n nodes (test n) (own n) h refl (all_passing own test nodes)
+all_passing own test (n ∷ nodes) h = all_passing_by own test n nodes (test n) (own n) h refl
+    (all_passing own test nodes)
 
 pub scanned_node : (g : RuleGraph) (n : NodeId) → is_scanned_node g n ≡ is_scanned_path (path_of g.nodes n)
 unfolding is_scanned_node is_scanned_path
@@ -252,7 +253,8 @@ module _ (g : RuleGraph) (reading : IsReading g) (r : declared.Rule) (is : IsRul
   pub scanned_below : are_below (length g.nodes) (scanned_of g r) ≡ true
   scanned_below = scanned_below_by r.scans
 
-  scanned_paths_by : (b : Bool) → paths_of g (if b then put_all [] [] (filter (is_scanned_node g) (sources_of r)) else [])
+  scanned_paths_by : (b : Bool) → paths_of g (if b then put_all [] [] (filter (is_scanned_node g) (sources_of r))
+      else [])
       ≡ those (if b then filter is_scanned_path (paths_of g r.sources) else []) (kept_sources (rule_in g r))
   scanned_paths_by false = sym (those_none (kept_sources (rule_in g r)))
   scanned_paths_by true =

@@ -90,7 +90,8 @@ module _ (b : Begun) (g : RuleGraph) (requested : List NodeId) (t : Tree) (past 
       }
 
   -- the graph says so, too
-  pub made_of : (node : NodeId) (m : RuleId) → origin_of plan.origins node.0 ≡ Made m → rule_of g.rules node.0 ≡ Some m.0
+  pub made_of : (node : NodeId) (m : RuleId) → origin_of plan.origins node.0 ≡ Made m →
+      rule_of g.rules node.0 ≡ Some m.0
   made_of node m e = (subst (λ (o : Origin). IsFrom g plan.states node.0 o) e (ties.plan_for.from.each node.0)).0
 
   module _ (found : Found) (agrees : (number : ℕ) (needed : state_of plan.states number ≢ Unneeded) (file : NodeId) →

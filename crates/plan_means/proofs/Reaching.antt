@@ -186,7 +186,8 @@ module _ (g : RuleGraph) (reading : IsReading g) (sources out : List NodeId) (fo
       (λ s. once_before done rest x (subst Once parts files_once) (sym (ap (λ xs. stands xs x) e) ∙ s))
       (put_all_in out sources (flat_map (included found) done) x includes)
 
-  listed_next : (done : List NodeId) (x : NodeId) → listed (done ++ x ∷ []) ≡ put_all out (listed done) (included found x)
+  listed_next : (done : List NodeId) (x : NodeId) → listed (done ++ x ∷ []) ≡ put_all out (listed done)
+      (included found x)
   listed_next done x =
       ap (put_all out sources) (flat_map-append (included found) done (x ∷ [])
       ∙ ap (λ xs. flat_map (included found) done ++ xs) (append-nil (included found x)))
@@ -317,7 +318,8 @@ module _ (g : RuleGraph) (of : declared.Rule) (r : Rule) (kept : Kept) (limit : 
       has_append (path_of g.nodes n) (first_scanned r) (left_out r)
       ∙ ap (λ l. has (path_of g.nodes n) l || has (path_of g.nodes n) (left_out r)) first_paths
       ∙ ap (λ c. c || has (path_of g.nodes n) (left_out r)) (has_stands g reading kept.sources n sources_below lt)
-      ∙ ap (λ c. stands kept.sources n || c) (sym (names.left_out scans n lt) ∙ ap (λ l. stands l n) (sym keeps.left_out))
+      ∙ ap (λ c. stands kept.sources n || c) (sym (names.left_out scans n lt)
+      ∙ ap (λ l. stands l n) (sym keeps.left_out))
       ∙ or_swap (stands kept.sources n) (stands kept.left_out n)
 
   scan_by : (b : Bool) → of.scans ≡ b → scan_list limit includes r ≡ paths_of g kept.files

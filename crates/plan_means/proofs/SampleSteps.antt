@@ -63,7 +63,8 @@ none_needed : (other n : ℕ) → is_among n (needed_of settled_plan.rules settl
 none_needed zero n h = true_false (sym h)
 none_needed (suc other) n h = true_false (sym h)
 
-reached_only : {rule : ℕ} → IsReached (needed_of settled_plan.rules settled_plan.origins) settled_plan.notes.roots rule →
+reached_only : {rule : ℕ} →
+    IsReached (needed_of settled_plan.rules settled_plan.origins) settled_plan.notes.roots rule →
     is_among rule (first_rule ∷ []) ≡ true
 reached_only (is_root h) = h
 reached_only {rule} (is_needed other i h) = absurd (none_needed other rule h)
@@ -74,7 +75,8 @@ root_needed (suc n) h = absurd (no_more n h)
 
 reached : AreReached settled_plan
 reached = record {
-  each = λ rule needed. only_rule (λ n. IsReached (needed_of settled_plan.rules settled_plan.origins) settled_plan.notes.roots n) (is_root refl) rule needed;
+  each = λ rule needed. only_rule (λ n. IsReached (needed_of settled_plan.rules settled_plan.origins)
+      settled_plan.notes.roots n) (is_root refl) rule needed;
   only = λ rule i. root_needed rule (reached_only i);
 }
 
@@ -89,7 +91,8 @@ complete = record {
   room = record { marks = omega arith; waiters = omega arith };
 }
 
-needs_done : (rule : ℕ) (k : Kept) → is_past (state_of settled_plan.states rule) ≡ true → slice_get settled_plan.rules rule ≡ Some k → AreNeedsDone settled_plan k
+needs_done : (rule : ℕ) (k : Kept) → is_past (state_of settled_plan.states rule) ≡ true →
+    slice_get settled_plan.rules rule ≡ Some k → AreNeedsDone settled_plan k
 needs_done zero k past e = subst (AreNeedsDone settled_plan) (some_same e) refl
 needs_done (suc n) k past e = none_some e
 

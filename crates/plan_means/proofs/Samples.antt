@@ -295,7 +295,8 @@ decides_first zero can = refl
 decides_first (suc n) can = none_some can.at
 
 own_first : IsFirstOf plan (first_rule ∷ []) first_rule
-own_first = record { before = []; behind = []; is = refl; none = λ other m can. true_false (sym m); all = decides_first }
+own_first =
+    record { before = []; behind = []; is = refl; none = λ other m can. true_false (sym m); all = decides_first }
 
 first : (order : List RuleId) → IsOrder plan.rules plan.origins plan.notes.roots order → IsFirstOf plan order first_rule
 first order is =

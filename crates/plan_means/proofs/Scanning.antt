@@ -155,9 +155,11 @@ module _ (b : Begun) (g : RuleGraph) (requested : List NodeId) (t : Tree) (past 
   put_split : (n : NodeId) (more : List NodeId) → put_all k.kept.left_out k.kept.files found ≡ k.kept.files ++ more →
       stands (put_all k.kept.left_out k.kept.files found) n ≡ true → IsOldOrNews n
   put_split n more e h =
-      ⊎_elim (λ f. inl (dep_met n (file_dep n f))) (λ m. inr (ap (λ (l : List NodeId). stands l n) (news_are more e) ∙ m))
+      ⊎_elim (λ f. inl (dep_met n (file_dep n f))) (λ m. inr
+      (ap (λ (l : List NodeId). stands l n) (news_are more e) ∙ m))
       (or_either (stands k.kept.files n) (stands more n)
-      (sym (list_any-append (λ m. nat_eq n.0 m.0) k.kept.files more) ∙ sym (ap (λ (l : List NodeId). stands l n) e) ∙ h))
+      (sym (list_any-append (λ m. nat_eq n.0 m.0) k.kept.files more) ∙ sym (ap (λ (l : List NodeId). stands l n) e)
+      ∙ h))
 
   found_new : (n : NodeId) → stands found n ≡ true → stands after.left_out n ≡ false → IsOldOrNews n
   found_new n h new_file =
@@ -456,7 +458,8 @@ module _ (b : Begun) (g : RuleGraph) (requested : List NodeId) (t : Tree) (past 
     plan_for = plan_stays;
     sees = record {
       each = λ number kept r still at numbered f h.
-          seen_by number kept r (unneeded_or g (state_of old.states number)) (apart number rule.0) still at numbered f h;
+          seen_by number kept r (unneeded_or g (state_of old.states number)) (apart number rule.0) still at numbered
+          f h;
       files = λ number kept still at f h. files_by number kept (unneeded_or g (state_of old.states number))
           (apart number rule.0) still at f h;
       nodes = λ number kept still at f. nodes_by number kept (unneeded_or g (state_of old.states number))

@@ -52,7 +52,8 @@ has_append p (x ∷ xs) ys = by (bytes_eq p x) (has_append p xs ys)
 
 unseen_by : (p : Path) (xs seen other : List Path) (b c : Bool) → b ≡ c → unseen seen xs ≡ unseen other xs →
     unseen (p ∷ seen) xs ≡ unseen (p ∷ other) xs →
-    (if b then unseen seen xs else p ∷ unseen (p ∷ seen) xs) ≡ (if c then unseen other xs else p ∷ unseen (p ∷ other) xs)
+    (if b then unseen seen xs else p ∷ unseen (p ∷ seen) xs)
+    ≡ (if c then unseen other xs else p ∷ unseen (p ∷ other) xs)
 unseen_by p xs seen other true true e f g = f
 unseen_by p xs seen other false false e f g = ap (λ l. p ∷ l) g
 unseen_by p xs seen other true false e f g = true_false e
@@ -102,7 +103,8 @@ module _ (g : RuleGraph) (reading : IsReading g) where
   has_stands [] n below lt = refl
   has_stands (x ∷ nodes) n below lt =
       or_one (bytes_eq (path_of g.nodes n) (path_of g.nodes x)) (has (path_of g.nodes n) (paths_of g nodes))
-      ∙ ap (λ c. bytes_eq (path_of g.nodes n) (path_of g.nodes x) || c) (has_stands nodes n (rest_below x nodes below) lt)
+      ∙ ap (λ c. bytes_eq (path_of g.nodes n) (path_of g.nodes x) || c)
+      (has_stands nodes n (rest_below x nodes below) lt)
       ∙ ap (λ c. c || stands nodes n) (same_paths n x lt (first_below x nodes below))
 
   -- the paths that were seen are those of nodes that are left out or stand before
@@ -133,7 +135,8 @@ module _ (g : RuleGraph) (reading : IsReading g) where
   put_by out before x nodes seen false false true e stay more = true_false e
   put_by out before x nodes seen false false false e stay more =
       more
-      ∙ ap (λ l. l ++ unseen (path_of g.nodes x ∷ seen) (paths_of g nodes)) (map-append (path_of g.nodes) before (x ∷ []))
+      ∙ ap (λ l. l ++ unseen (path_of g.nodes x ∷ seen) (paths_of g nodes))
+      (map-append (path_of g.nodes) before (x ∷ []))
       ∙ append_assoc (paths_of g before) (path_of g.nodes x ∷ []) (unseen (path_of g.nodes x ∷ seen) (paths_of g nodes))
 
   -- nodes that are put behind others have the paths that weren't seen

@@ -220,7 +220,8 @@ module _ (b : Begun) (g : RuleGraph) (requested : List NodeId) (t : Tree) (past 
   stays_tied = record {
     plan_for = plan_stays;
     sees = sees_stays;
-    scanned = λ number kept decided at. scanned_by number kept (moves.own_or number) decided (kept_before number kept at);
+    scanned = λ number kept decided at. scanned_by number kept (moves.own_or number) decided
+        (kept_before number kept at);
     sources = sources_stay;
     asked = ties.asked;
     states = λ number r numbered. at_by number r (moves.own_or number) numbered;
@@ -257,7 +258,8 @@ module _ (b : Begun) (g : RuleGraph) (requested : List NodeId) (t : Tree) (past 
     needed = λ number same e. needed (ap (state_of old.states) (sym same) ∙ e);
     scanned = λ number kept same k. scanned kept (ap (slice_get old.rules) (sym same) ∙ k);
     at = own_at;
-    apart = λ number x other is own. other (one_number b g now number rule x is (numbered ∙ ap Some (sym (is_of x own))));
+    apart =
+        λ number x other is own. other (one_number b g now number rule x is (numbered ∙ ap Some (sym (is_of x own))));
     numbered = λ x own. (rule, numbered ∙ ap Some (sym (is_of x own)));
   }
 
@@ -321,7 +323,8 @@ module _ (b : Begun) (g : RuleGraph) (requested : List NodeId) (t : Tree) (past 
       (waits_needed g old rule.0 next.can.waits) (decided_scanned rule.0 next)
       (lacks_there p here))
   events_keep (has_ended rule r numbered runs) is =
-      stays_tied b g requested t past old new (told.DoneOk rule) (Ended r true) now ties is tt (λ number. number ≡ rule.0)
+      stays_tied b g requested t past old new (told.DoneOk rule) (Ended r true) now ties is tt
+      (λ number. number ≡ rule.0)
       (moves_one b g requested t past old new (Ended r true) now ties rule.0 r numbered Settled (λ x e. e)
       (is.states ∙ if_open (is_running_state (state_of old.states rule.0)) _ _ (runs_true rule.0 runs)) is.knows
       (running_needed (state_of old.states rule.0) (runs_true rule.0 runs)) (running_scanned rule.0 runs) here)
@@ -333,4 +336,5 @@ module _ (b : Begun) (g : RuleGraph) (requested : List NodeId) (t : Tree) (past 
       (running_needed (state_of old.states rule.0) (runs_true rule.0 runs)) (running_scanned rule.0 runs)
       (failed_there here))
   events_keep has_halted is =
-      stays_tied b g requested t past old new told.Halt Halts now ties is tt (λ number. ⊥) (moves_halt is.states is.knows)
+      stays_tied b g requested t past old new told.Halt Halts now ties is tt (λ number. ⊥)
+      (moves_halt is.states is.knows)

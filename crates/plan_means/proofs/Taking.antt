@@ -77,7 +77,8 @@ module _ (b : Begun) (g : RuleGraph) where
   pub numbered_there : (n : ℕ) (x : Rule) (rules : List RuleId) → rule_numbered b g n ≡ Some x →
       is_among n rules ≡ true → Among x (rules_numbered rules)
   numbered_there n x [] e m = true_false (sym m)
-  numbered_there n x (r ∷ rules) e m = numbered_there_by n x r rules e (first_or n r rules m) (numbered_there n x rules e)
+  numbered_there n x (r ∷ rules) e m = numbered_there_by n x r rules e (first_or n r rules m)
+      (numbered_there n x rules e)
 
   pub record HasNumber (x : Rule) (rules : List RuleId) : Type 0 where
     pub number : ℕ
@@ -155,7 +156,8 @@ module _ (b : Begun) (g : RuleGraph) (requested : List NodeId) (build : Build) (
       ∙ files_rules number needed (k.kept.required ++ k.kept.deps) (λ n h. h)
       ∙ ap (λ o. rules_numbered b g (needed_in plan.origins o)) (sym k.at)
 
-  asked_rule : (n : NodeId) (o : Option ℕ) → stands requested n ≡ true → rule_of g.rules n.0 ≡ o → (rules : List RuleId) →
+  asked_rule : (n : NodeId) (o : Option ℕ) → stands requested n ≡ true → rule_of g.rules n.0 ≡ o →
+      (rules : List RuleId) →
       with_rule ((begun_setting b).rule_of (path_of g.nodes n)) (rules_numbered b g rules)
       ≡ rules_numbered b g (cons_option (option_map (λ (m : ℕ). let r : RuleId = record { 0 = m } in r) o) rules)
   asked_rule n None h e rules = ap (λ o. with_rule o (rules_numbered b g rules)) (tied.ties.asked n h e)
@@ -201,7 +203,8 @@ module _ (b : Begun) (g : RuleGraph) (requested : List NodeId) (build : Build) (
   -- the same walk over the rules of the model
   goes : {met rules after order : List RuleId} → AreNeeded rules →
       Visits (length plan.rules) (needed_of plan.rules plan.origins) met rules after order →
-      Goes needs (rules_numbered b g met) (rules_numbered b g rules) (rules_numbered b g after) (rules_numbered b g order)
+      Goes needs (rules_numbered b g met) (rules_numbered b g rules) (rules_numbered b g after)
+      (rules_numbered b g order)
   goes all nothing_left = goes_nowhere
   goes all (met_again {met = met} {rules = rules} {after = after} {order = order} {rule = rule} m v) =
       let k = the rule.0 (all rule.0 (first rule.0 rule rules refl)) in

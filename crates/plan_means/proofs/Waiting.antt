@@ -157,7 +157,8 @@ module _ (b : Begun) (g : RuleGraph) (requested : List NodeId) (build : Build) (
           needs =
               needs_of b g requested build.after past plan tied.graph tied.ties found
               (whole_agrees b g requested build past plan tied) later.number number later.needed needed
-              (needs_made g plan number later.number k.kept n tied.ties.plan_for.from tied.ties.plan_for.met needed k.at h
+              (needs_made g plan number later.number k.kept n tied.ties.plan_for.from tied.ties.plan_for.met needed
+              k.at h
               (made_of b g requested build.after past plan tied.graph tied.ties n (record { 0 = later.number })
               later.origin));
           unsettled = unsettled later.number other.rule other.numbered later.unsettled_state;
@@ -316,7 +317,8 @@ module _ (b : Begun) (g : RuleGraph) (requested : List NodeId) (build : Build) (
   asked_planned_by node None r h e is = none_some (sym (tied.ties.asked node h e) ∙ is)
   asked_planned_by node (Some m) r h e is =
       made_planned node m r (one_below g requested node tied.ties.plan_for.nodes h) e
-      (tied.ties.plan_for.order.roots m (ap (is_among m) tied.ties.plan_for.roots ∙ in_makers g requested node m h e)) is
+      (tied.ties.plan_for.order.roots m
+      (ap (is_among m) tied.ties.plan_for.roots ∙ in_makers g requested node m h e)) is
 
   module _ (none : IsNoneReady plan) where
     needs_planned : (number : ℕ) (needed : state_of plan.states number ≢ Unneeded) (r : Rule) →

@@ -21,7 +21,8 @@ use Rattle.plan_means.specs.Scanning.{MayBeScanned}
 use Rattle.plan_means.proofs.Names.{stands_all}
 use Rattle.plan_means.proofs.Knowing.{Knows, knows, in_needs, need_below, done_ready}
 
-module _ (b : Begun) (g : RuleGraph) (requested : List NodeId) (t : Tree) (past : List Step) (plan : Planned) (number : ℕ)
+module _ (b : Begun) (g : RuleGraph) (requested : List NodeId) (t : Tree) (past : List Step) (plan : Planned)
+    (number : ℕ)
     (file : NodeId) (now : IsGraphNow b g) (ties : Ties b g requested t past plan)
     (next : IsScannedNext plan number file) where
   abbrev needed : state_of plan.states number ≢ Unneeded

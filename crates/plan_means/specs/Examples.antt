@@ -117,8 +117,8 @@ build = record {
   stamps_after = λ p. None;
 }
 
--- It meets what is asked of a plan as it is loaded, so it is tied; it wants its rule decided, and that stands first; it may be
--- told that the rule is up to date; and its graph may grow, by nothing.
+-- It meets what is asked of a plan as it is loaded, so it is tied; it wants its rule decided, and that stands first; it
+-- may be told that the rule is up to date; and its graph may grow, by nothing.
 pub record AreMet : Type 0 where
   pub now : IsGraphNow begun graph
   pub below : are_below (length graph.nodes) (object_node ∷ []) ≡ true
@@ -129,7 +129,8 @@ pub record AreMet : Type 0 where
   pub is : rule_numbered begun graph 0 ≡ Some (rule_in graph object_rule)
   pub build_tied : IsTied begun graph (object_node ∷ []) build [] plan
   pub none_ready : IsNoneReady plan
-  pub first : (order : List RuleId) → IsOrder plan.rules plan.origins plan.notes.roots order → IsFirstOf plan order first_rule
+  pub first : (order : List RuleId) → IsOrder plan.rules plan.origins plan.notes.roots order →
+      IsFirstOf plan order first_rule
   pub tells : Tells begun graph plan (told.Fresh first_rule) (Fresh (rule_in graph object_rule))
   pub step : IsStep graph plan (told.Fresh first_rule) settled_plan
   pub sought : AreSought (object_node ∷ []) plan
