@@ -38,7 +38,7 @@ use Rattle.build_means.proofs.Lists.{or_second, first_place}
 use Rattle.build_means.proofs.Readings.{node_path}
 use Rattle.plan_means.specs.Planning.{IsGraphNow, IsPlanFor, IsSoughtBy, AreSought}
 use Rattle.plan_means.specs.Ties.{IsNew, IsAt, IsSeen, Ties}
-use Rattle.plan_means.specs.Growth.{Grows}
+use Rattle.plan_means.specs.Growth.{Grows, AreUnmade}
 use Rattle.plan_means.proofs.Names.{is_named, sources_below, scanned_node}
 use Rattle.plan_means.proofs.Single.{numbered_stands, one_number}
 use Rattle.plan_means.proofs.Knowing.{Knows, knows, one_below, need_below}
@@ -161,7 +161,7 @@ module _ (b : Begun) (g h : RuleGraph) (before : IsGraphNow b g) (now : IsGraphN
       by false = refl
 
   module _ (requested : List NodeId) (t : Tree) (past : List Step) (plan : Planned)
-      (sought : AreSought requested plan) (ties : Ties b g requested t past plan) where
+      (ties : Ties b g requested t past plan) where
     -- a file that was met and counts as a source has no rule
     source_by : (n : NodeId) → (stands requested n ≡ true) ⊎ IsSoughtBy plan n →
         origin_of plan.origins n.0 ≡ Source → rule_of g.rules n.0 ≡ None →
@@ -190,11 +190,18 @@ module _ (b : Begun) (g h : RuleGraph) (before : IsGraphNow b g) (now : IsGraphN
         rule_of g.rules n.0 ≡ None → rule_of h.rules n.0 ≡ None
     unmade n by e none = let s = source_by n by e none in unmade_by n (rule_of h.rules n.0) refl s.0 s.1
 
-    from_by : (n : ℕ) (o : Origin) → origin_of plan.origins n ≡ o → IsFrom g plan.states n o → IsFrom h plan.states n o
-    from_by n Unmet e from = tt
-    from_by n Source e from =
-        let node : NodeId = record { 0 = n } in unmade node (sought.each node (ap is_met_from e)) e from
-    from_by n (Made m) e from = (maker_stays n m.0 from.0, from.1)
+    met_unmade : (n : NodeId) (o : Origin) → (stands requested n ≡ true) ⊎ IsSoughtBy plan n →
+        origin_of plan.origins n.0 ≡ o → IsFrom g plan.states n.0 o → is_met_from o ≡ true →
+        rule_of g.rules n.0 ≡ None → rule_of h.rules n.0 ≡ None
+    met_unmade n Unmet by e from met none = true_false (sym met)
+    met_unmade n Source by e from met none = unmade n by e none
+    met_unmade n (Made m) by e from met none = none_some (sym none ∙ from.0)
+
+    pub sought_unmade : AreSought requested plan → AreUnmade g h plan
+    sought_unmade sought = record {
+      each = λ n met none.
+          met_unmade n (origin_of plan.origins n.0) (sought.each n met) refl (ties.plan_for.from.each n.0) met none;
+    }
 
     asked_by : (n : NodeId) (o : Option ℕ) → stands requested n ≡ true → rule_of g.rules n.0 ≡ o →
         rule_of h.rules n.0 ≡ o
@@ -212,6 +219,12 @@ module _ (b : Begun) (g h : RuleGraph) (before : IsGraphNow b g) (now : IsGraphN
         ∙ ap (cons_option (option_map (λ (m : ℕ). let r : RuleId = record { 0 = m } in r) (rule_of g.rules n.0)))
         (makers_stay nodes (λ x m. f x (or_second (nat_eq x.0 n.0) (stands nodes x) m)))
 
+    from_by : AreUnmade g h plan → (n : ℕ) (o : Origin) → origin_of plan.origins n ≡ o → IsFrom g plan.states n o →
+        IsFrom h plan.states n o
+    from_by kept n Unmet e from = tt
+    from_by kept n Source e from = let node : NodeId = record { 0 = n } in kept.each node (ap is_met_from e) from
+    from_by kept n (Made m) e from = (maker_stays n m.0 from.0, from.1)
+
     fits_stay : (number : ℕ) → state_of plan.states number ≢ Unneeded → IsKnown h plan.rules number
     fits_stay number needed =
         let k = ties.plan_for.fits number needed in
@@ -228,11 +241,11 @@ module _ (b : Begun) (g h : RuleGraph) (before : IsGraphNow b g) (now : IsGraphN
           whole = k.whole;
         }
 
-    plan_stays : IsPlanFor h requested plan
-    plan_stays = record {
+    plan_stays : AreUnmade g h plan → IsPlanFor h requested plan
+    plan_stays kept = record {
       fits = fits_stay;
       follow = ties.plan_for.follow;
-      from = record { each = λ n. from_by n (origin_of plan.origins n) refl (ties.plan_for.from.each n) };
+      from = record { each = λ n. from_by kept n (origin_of plan.origins n) refl (ties.plan_for.from.each n) };
       met = ties.plan_for.met;
       reached = ties.plan_for.reached;
       complete = ties.plan_for.complete;
@@ -318,9 +331,9 @@ module _ (b : Begun) (g h : RuleGraph) (before : IsGraphNow b g) (now : IsGraphN
         let stands = numbered_stands b g before old.0 r old.1 in
         (old.0, numbered_stays old.0 stands.of stands.at ∙ old.1)
 
-    pub growth_keeps : Ties b h requested t past plan
-    growth_keeps = record {
-      plan_for = plan_stays;
+    pub growth_keeps : AreUnmade g h plan → Ties b h requested t past plan
+    growth_keeps kept = record {
+      plan_for = plan_stays kept;
       sees = record {
         each = λ number kept r needed at numbered file scanned. seen_stays number kept r needed at numbered file
             scanned (ties.sees.files number kept needed at file scanned);
