@@ -41,7 +41,7 @@ use Rattle.plan_means.specs.Ties.{IsNew, IsAt, IsSeen, Ties}
 use Rattle.plan_means.specs.Growth.{Grows, AreUnmade}
 use Rattle.plan_means.proofs.Names.{is_named, sources_below, scanned_node}
 use Rattle.plan_means.proofs.Single.{numbered_stands, one_number}
-use Rattle.plan_means.proofs.Knowing.{Knows, knows, one_below, need_below}
+use Rattle.plan_means.proofs.Knowing.{Knows, knows, one_below, need_below, same_kept, all_files_below}
 
 module _ (b : Begun) (g h : RuleGraph) (before : IsGraphNow b g) (now : IsGraphNow b h) (grows : Grows g h) where
   longer : length g.nodes ≤ length h.nodes
@@ -331,14 +331,22 @@ module _ (b : Begun) (g h : RuleGraph) (before : IsGraphNow b g) (now : IsGraphN
         let stands = numbered_stands b g before old.0 r old.1 in
         (old.0, numbered_stays old.0 stands.of stands.at ∙ old.1)
 
+    scanned_below : (number : ℕ) (kept : Kept) (needed : state_of plan.states number ≢ Unneeded) →
+        slice_get plan.rules number ≡ Some kept → (file : NodeId) → is_scanned kept.found file ≡ true →
+        file.0 < length g.nodes
+    scanned_below number kept needed at file scanned =
+        let same = same_kept b g requested t past plan before ties number needed kept at in
+        one_below g (known number needed).kept.files file
+        (all_files_below b g requested t past plan before ties number needed)
+        (ap (λ (x : Kept). stands x.files file) same ∙ ties.sees.files number kept needed at file scanned)
+
     pub growth_keeps : AreUnmade g h plan → Ties b h requested t past plan
     growth_keeps kept = record {
       plan_for = plan_stays kept;
       sees = record {
-        each = λ number kept r needed at numbered file scanned. seen_stays number kept r needed at numbered file
-            scanned (ties.sees.files number kept needed at file scanned);
-        files = λ number kept needed at file scanned. let lt = ties.sees.files number kept needed at file
-            scanned in let le = longer in omega arith;
+        each = λ number kept r needed at numbered file scanned.
+            seen_stays number kept r needed at numbered file scanned (scanned_below number kept needed at file scanned);
+        files = ties.sees.files;
         nodes = λ number kept needed at file. below_stays (included kept.found file)
             (ties.sees.nodes number kept needed at file);
       };

@@ -116,7 +116,7 @@ few_once g reading nodes once below =
     (once_distinct nodes once) (all_under g reading nodes below) in
     subst (λ (k : ℕ). k ≤ length g.nodes) (length-map nodes (λ (y : NodeId). y.0)) le
 
-stands_flat : (inc : NodeId → List NodeId) (done : List NodeId) (i : ℕ) (by x : NodeId) →
+pub stands_flat : (inc : NodeId → List NodeId) (done : List NodeId) (i : ℕ) (by x : NodeId) →
     slice_get done i ≡ Some by → stands (inc by) x ≡ true →
     stands (flat_map inc done) x ≡ true
 stands_flat inc [] i by x at h = cc

@@ -1,5 +1,5 @@
 -- A plan stays tied when it is told what a file includes.
-use Rattle.std.proofs.Common.{◌≡◌, ◌≢◌, ◌<◌, ◌≤◌, ℕ, Bool, true, false, List, [], ◌++◌, length, drop, Option, Some, None, refl, sym, subst, ap, ◌∙◌, inl, inr, ◌⊎◌, ⊎_elim}
+use Rattle.std.proofs.Common.{◌≡◌, ◌≢◌, ◌<◌, ◌≤◌, ℕ, zero, suc, arith, Bool, true, false, List, [], ◌++◌, length, drop, Option, Some, None, refl, sym, subst, ap, ◌∙◌, inl, inr, ◌⊎◌, ⊎_elim}
 use Rattle.std.specs.Prelude.{slice_get, nat_eq, MatchOption}
 use Rattle.std.specs.List.{list_all, flat_map}
 use Rattle.std.proofs.lemmas.List.Folds.{list_any-append}
@@ -30,7 +30,7 @@ use Rattle.task_plan.proofs.MetNeeds.{stands_at, put_all_in, put_all_not_out}
 use Rattle.task_plan.proofs.NamedLemmas.{put_all_longer, stands_longer}
 use Rattle.task_plan.proofs.NextLemmas.{place_of_stands}
 use Rattle.task_plan.proofs.RestLemmas.{place_in}
-use Rattle.task_plan.proofs.WalkLemmas.{node_same, included_this, included_other, scanned_other, within_or}
+use Rattle.task_plan.proofs.WalkLemmas.{node_same, included_none, included_this, included_other, scanned_other, within_or}
 use Rattle.build_model.specs.Rules.{Tree, Rule}
 use Rattle.build_model.specs.Graphs.{rule_at}
 use Rattle.build_model.specs.Steps.{Step}
@@ -38,11 +38,12 @@ use Rattle.build_model.proofs.Lists.{true_false, none_some, some_same}
 use Rattle.build_means.specs.Rules.{paths_of}
 use Rattle.build_means.specs.Grown.{Begun, begun_graph, rule_numbered}
 use Rattle.build_means.proofs.Lists.{or_either, or_second}
-use Rattle.plan_means.specs.Planning.{IsGraphNow, IsPlanFor, IsSoughtBy, AreSought, IsStep}
+use Rattle.plan_means.specs.Planning.{IsGraphNow, IsPlanFor, IsSoughtBy, IsStep}
 use Rattle.plan_means.specs.Ties.{IsNew, IsAt, IsDecidedState, IsSeen, Ties}
 use Rattle.plan_means.specs.Scanning.{IsFoundIn}
 use Rattle.plan_means.proofs.Names.{stands_all}
-use Rattle.plan_means.proofs.Knowing.{Knows, knows, in_needs, in_required, need_below, needed_met, done_ready}
+use Rattle.plan_means.proofs.Reaching.{stands_flat}
+use Rattle.plan_means.proofs.Knowing.{Knows, knows, in_needs, in_required, needed_met, done_ready, need_at}
 
 -- a file by which one rule needs another
 record IsNeedOf (plan : Planned) (number other : ℕ) : Type 0 where
@@ -70,7 +71,7 @@ need_of plan number other h = need_of_by plan number other (slice_get plan.rules
 
 module _ (b : Begun) (g : RuleGraph) (requested : List NodeId) (t : Tree) (past : List Step) (old new : Planned)
     (rule : RuleId) (file : NodeId) (found : List NodeId)
-    (now : IsGraphNow b g) (ties : Ties b g requested t past old) (sought : AreSought requested old)
+    (now : IsGraphNow b g) (ties : Ties b g requested t past old)
     (next : IsScannedNext old rule.0 file)
     (is_found : IsFoundIn b g t old rule file found) (is : IsStep g old (Scanned rule found) new) where
   abbrev news : List NodeId
@@ -129,10 +130,16 @@ module _ (b : Begun) (g : RuleGraph) (requested : List NodeId) (t : Tree) (past 
   after_follows : Follows after
   after_follows = is.follow rule.0 after scans.this.is scans.this.whole
 
-  -- what the rule depended on was met
-  dep_met : (n : NodeId) → stands k.kept.deps n ≡ true → is_met old.origins n ≡ true
-  dep_met n h = needed_met b g requested t past old now ties rule.0 rule_needed n
-      (in_needs k.kept.required k.kept.deps n h)
+  rule_sought : (n : NodeId) → stands (k.kept.required ++ k.kept.deps) n ≡ true → IsSoughtBy old n
+  rule_sought n h = record {
+    rule = rule.0;
+    needed = rule_needed;
+    needs = need_at b g requested t past old now ties rule.0 rule_needed n h;
+  }
+
+  -- what the rule depended on was needed
+  dep_sought : (n : NodeId) → stands k.kept.deps n ≡ true → IsSoughtBy old n
+  dep_sought n h = rule_sought n (in_needs k.kept.required k.kept.deps n h)
 
   file_dep : (n : NodeId) → stands k.kept.files n ≡ true → stands k.kept.deps n ≡ true
   file_dep n h =
@@ -146,7 +153,7 @@ module _ (b : Begun) (g : RuleGraph) (requested : List NodeId) (t : Tree) (past 
       (put_all_longer [] k.kept.named k.kept.files) h
 
   abbrev IsOldOrNews : NodeId → Type 0
-  IsOldOrNews n = (is_met old.origins n ≡ true) ⊎ (stands news n ≡ true)
+  IsOldOrNews n = IsSoughtBy old n ⊎ (stands news n ≡ true)
 
   news_are : (more : List NodeId) → put_all k.kept.left_out k.kept.files found ≡ k.kept.files ++ more → news ≡ more
   news_are more e =
@@ -155,7 +162,7 @@ module _ (b : Begun) (g : RuleGraph) (requested : List NodeId) (t : Tree) (past 
   put_split : (n : NodeId) (more : List NodeId) → put_all k.kept.left_out k.kept.files found ≡ k.kept.files ++ more →
       stands (put_all k.kept.left_out k.kept.files found) n ≡ true → IsOldOrNews n
   put_split n more e h =
-      ⊎_elim (λ f. inl (dep_met n (file_dep n f))) (λ m. inr
+      ⊎_elim (λ f. inl (dep_sought n (file_dep n f))) (λ m. inr
       (ap (λ (l : List NodeId). stands l n) (news_are more e) ∙ m))
       (or_either (stands k.kept.files n) (stands more n)
       (sym (list_any-append (λ m. nat_eq n.0 m.0) k.kept.files more) ∙ sym (ap (λ (l : List NodeId). stands l n) e)
@@ -168,11 +175,22 @@ module _ (b : Begun) (g : RuleGraph) (requested : List NodeId) (t : Tree) (past 
       (put_split n l.more l.is)
       (put_all_in k.kept.left_out k.kept.files found n h)
 
+  -- what was found in a file was scanned
+  includes_scanned : (by n : NodeId) → stands (included k.kept.found by) n ≡ true → (c : Bool) →
+      is_scanned k.kept.found by ≡ c → c ≡ true
+  includes_scanned by n h true e = refl
+  includes_scanned by n h false e =
+      true_false (sym h ∙ ap (λ (x : List NodeId). stands x n) (included_none k.kept.found by e))
+
   found_old : (by n : NodeId) → stands (included k.kept.found by) n ≡ true → stands after.left_out n ≡ false →
       IsOldOrNews n
   found_old by n h new_file =
-      ⊎_elim (λ o. true_false (sym (ap (λ (x : List NodeId). stands x n) after_left_out ∙ o) ∙ new_file)) (λ m. inl m)
-      ((ties.plan_for.met.each rule.0 k.kept rule_needed k.at).found by n h)
+      let scanned = includes_scanned by n h (is_scanned k.kept.found by) refl in
+      let place = place_of_stands k.kept.files by (ties.sees.files rule.0 k.kept rule_needed k.at by scanned) in
+      let listed = stands_flat (included k.kept.found) k.kept.files place.0 by n place.1 h in
+      ⊎_elim (λ o. true_false (sym (ap (λ (x : List NodeId). stands x n) after_left_out ∙ o) ∙ new_file))
+      (λ m. inl (dep_sought n (file_dep n (ap (λ (x : List NodeId). stands x n) k.keeps.follows.files.whole ∙ m))))
+      (put_all_in k.kept.left_out k.kept.sources (flat_map (included k.kept.found) k.kept.files) n listed)
 
   found_by : (by n : NodeId) (c : Bool) → nat_eq by.0 file.0 ≡ c → stands (included after.found by) n ≡ true →
       stands after.left_out n ≡ false → IsOldOrNews n
@@ -201,7 +219,7 @@ module _ (b : Begun) (g : RuleGraph) (requested : List NodeId) (t : Tree) (past 
       ap (λ (x : List NodeId). stands x n) k.keeps.follows.files.whole
       ∙ stands_longer k.kept.sources (put_all k.kept.left_out k.kept.sources
       (flat_map (included k.kept.found) k.kept.files)) n files was in
-      inl (dep_met n (file_dep n in_files))
+      inl (dep_sought n (file_dep n in_files))
   file_by n i at (inr le) =
       let before = after_follows.files.earlier i n at le in
       let new_file : stands after.left_out n ≡ false =
@@ -210,12 +228,12 @@ module _ (b : Begun) (g : RuleGraph) (requested : List NodeId) (t : Tree) (past 
       found_by before.by n (nat_eq before.by.0 file.0) refl before.includes new_file
 
   dep_by : (n : NodeId) → (stands after.named n ≡ true) ⊎ (stands after.files n ≡ true) → IsOldOrNews n
-  dep_by n (inl h) = inl (dep_met n (named_dep n (ap (λ (x : List NodeId). stands x n) (sym after_named) ∙ h)))
+  dep_by n (inl h) = inl (dep_sought n (named_dep n (ap (λ (x : List NodeId). stands x n) (sym after_named) ∙ h)))
   dep_by n (inr h) = let p = place_of_stands after.files n h in file_by n p.0 p.1 (within_or p.0 (length after.sources))
 
   rule_need : (n : NodeId) → (stands after.required n ≡ true) ⊎ (stands after.deps n ≡ true) → IsOldOrNews n
   rule_need n (inl h) =
-      inl (needed_met b g requested t past old now ties rule.0 rule_needed n
+      inl (rule_sought n
       (in_required k.kept.required k.kept.deps n (ap (λ (x : List NodeId). stands x n) (sym after_required) ∙ h)))
   rule_need n (inr h) =
       dep_by n (or_either (stands after.named n) (stands after.files n)
@@ -230,12 +248,21 @@ module _ (b : Begun) (g : RuleGraph) (requested : List NodeId) (t : Tree) (past 
       (sym same) ∙ h))
   need_by number (inr other) needed n h =
       let at = scans.others number (known number needed).kept other needed (known number needed).at in
-      inl (needed_met b g requested t past old now ties number needed n (ap (λ o. stands (needs_in o) n) (sym at) ∙ h))
+      inl (record {
+        rule = number;
+        needed = needed;
+        needs = ap (λ o. stands (needs_in o) n) ((known number needed).at ∙ sym at) ∙ h;
+      })
 
-  -- what a rule needs now that was needed before was met before, or was found in the file
+  -- what a rule needs now that was needed before was needed before, too, or was found in the file
   need_or : (number : ℕ) → state_of old.states number ≢ Unneeded → (n : NodeId) →
       stands (needs_at new.rules number) n ≡ true → IsOldOrNews n
   need_or number needed n h = need_by number (apart number rule.0) needed n h
+
+  sought_met : (n : NodeId) → IsSoughtBy old n → is_met old.origins n ≡ true
+  sought_met n by =
+      needed_met b g requested t past old now ties by.rule by.needed n
+      (ap (λ o. stands (needs_in o) n) (sym (known by.rule by.needed).at) ∙ by.needs)
 
   made_before : (n : NodeId) (m : ℕ) (o : Origin) → IsFrom g old.states n.0 o → is_met_from o ≡ true →
       rule_of g.rules n.0 ≡ Some m → state_of old.states m ≢ Unneeded
@@ -251,8 +278,8 @@ module _ (b : Begun) (g : RuleGraph) (requested : List NodeId) (t : Tree) (past 
   made_now n m e = (subst (λ (o : Origin). IsFrom g new.states n.0 o) e (plan_stays.from.each n.0)).0
 
   old_need : (number : ℕ) (n : NodeId) → rule_of g.rules n.0 ≡ Some number → IsOldOrNews n → IsOldOrAsked number
-  old_need number n of (inl met) =
-      inl (made_before n number (origin_of old.origins n.0) (ties.plan_for.from.each n.0) met of)
+  old_need number n of (inl by) =
+      inl (made_before n number (origin_of old.origins n.0) (ties.plan_for.from.each n.0) (sought_met n by) of)
   old_need number n of (inr m) = inr (IsAskedFor.asked n m of)
 
   admitted_need : (number other : ℕ) (n : NodeId) → IsAdmitted g new other → IsAskedFor g news other →
@@ -286,19 +313,15 @@ module _ (b : Begun) (g : RuleGraph) (requested : List NodeId) (t : Tree) (past 
   abbrev HasNone : NodeId → Type 0
   HasNone n = rule_at (begun_graph b) b.tree (path_of g.nodes n) ≡ None
 
-  sought_none : (n : NodeId) → (stands requested n ≡ true) ⊎ IsSoughtBy old n → origin_of old.origins n.0 ≡ Source →
-      rule_of g.rules n.0 ≡ None → HasNone n
-  sought_none n (inl is_asked) e none = ties.asked n is_asked none
-  sought_none n (inr by) e none = ties.sources by.rule n by.needed by.needs e
-
-  met_none : (n : NodeId) (o : Origin) → origin_of old.origins n.0 ≡ o → IsFrom g old.states n.0 o →
-      is_met_from o ≡ true → rule_of g.rules n.0 ≡ None → HasNone n
-  met_none n Unmet e from met none = true_false (sym met)
-  met_none n Source e from met none = sought_none n (sought.each n (ap is_met_from e)) e none
-  met_none n (Made m) e from met none = none_some (sym none ∙ from.0)
+  sought_none : (n : NodeId) (o : Origin) → IsSoughtBy old n → origin_of old.origins n.0 ≡ o →
+      IsFrom g old.states n.0 o → is_met_from o ≡ true → rule_of g.rules n.0 ≡ None → HasNone n
+  sought_none n Unmet by e from met none = true_false (sym met)
+  sought_none n Source by e from met none = ties.sources by.rule n by.needed by.needs e
+  sought_none n (Made m) by e from met none = none_some (sym none ∙ from.0)
 
   old_none : (n : NodeId) → rule_of g.rules n.0 ≡ None → IsOldOrNews n → HasNone n
-  old_none n none (inl met) = met_none n (origin_of old.origins n.0) refl (ties.plan_for.from.each n.0) met none
+  old_none n none (inl by) =
+      sought_none n (origin_of old.origins n.0) by refl (ties.plan_for.from.each n.0) (sought_met n by) none
   old_none n none (inr m) = is_found.looked.these n m none
 
   asked_none : (number : ℕ) (n : NodeId) → state_of old.states number ≡ Unneeded → IsAdmitted g new number →
@@ -318,12 +341,67 @@ module _ (b : Begun) (g : RuleGraph) (requested : List NodeId) (t : Tree) (past 
       asked_none number n u (scans.met number u still) need none (reached_or (plan_stays.reached.each number still))
 
   -- the scanned file
-  file_need : stands (k.kept.required ++ k.kept.deps) file ≡ true
-  file_need =
+  file_there : stands k.kept.files file ≡ true
+  file_there =
       let same : next.ready.kept ≡ k.kept = some_same (sym next.ready.at ∙ k.at) in
-      let at : slice_get k.kept.files next.ready.place ≡ Some file = ap
-      (λ (x : Kept). slice_get x.files next.ready.place) (sym same) ∙ next.ready.is_file in
-      in_needs k.kept.required k.kept.deps file (file_dep file (stands_at k.kept.files next.ready.place file at))
+      let files = ap (λ (x : Kept). slice_get x.files next.ready.place) (sym same) in
+      stands_at k.kept.files next.ready.place file (files ∙ next.ready.is_file)
+
+  file_need : stands (k.kept.required ++ k.kept.deps) file ≡ true
+  file_need = in_needs k.kept.required k.kept.deps file (file_dep file file_there)
+
+  file_new : is_scanned k.kept.found file ≡ false
+  file_new =
+      let same : next.ready.kept ≡ k.kept = some_same (sym next.ready.at ∙ k.at) in
+      ap (λ (x : Kept). is_scanned x.found file) (sym same) ∙ next.ready.can.unscanned
+
+  source_stays : (i : ℕ) (n : NodeId) → slice_get k.kept.files i ≡ Some n → i < length k.kept.sources →
+      stands after.files n ≡ true
+  source_stays i n at lt =
+      let l = put_all_longer k.kept.left_out k.kept.sources (flat_map (included k.kept.found) k.kept.files) in
+      let source : slice_get k.kept.sources i ≡ Some n =
+      sym (get-within k.kept.sources l.more i lt)
+      ∙ ap (λ (x : List NodeId). slice_get x i) (sym (k.keeps.follows.files.whole ∙ l.is)) ∙ at in
+      let is_source : stands after.sources n ≡ true =
+      ap (λ (x : List NodeId). stands x n) after_sources ∙ stands_at k.kept.sources i n source in
+      let all = put_all_longer after.left_out after.sources (flat_map (included after.found) after.files) in
+      ap (λ (x : List NodeId). stands x n) after_follows.files.whole
+      ∙ stands_longer after.sources (put_all after.left_out after.sources (flat_map (included after.found) after.files))
+      n all is_source
+
+  include_stays : (by n : NodeId) (c : Bool) → nat_eq by.0 file.0 ≡ c → stands (included k.kept.found by) n ≡ true →
+      stands (included after.found by) n ≡ true
+  include_stays by n true e h =
+      true_false (sym h ∙ ap (λ (x : List NodeId). stands x n)
+      (included_none k.kept.found by (ap (is_scanned k.kept.found) (node_same by file e) ∙ file_new)))
+  include_stays by n false e h =
+      ap (λ (x : List (NodeId × List NodeId)). stands (included x by) n) after_found
+      ∙ ap (λ (x : List NodeId). stands x n) (included_other k.kept.found file by found e) ∙ h
+
+  stays_by : (fuel i : ℕ) (n : NodeId) → i < fuel → slice_get k.kept.files i ≡ Some n →
+      (i < length k.kept.sources) ⊎ (length k.kept.sources ≤ i) → stands after.files n ≡ true
+  stays_by zero i n lt at place = absurd (omega arith)
+  stays_by (suc fuel) i n lt at (inl in_sources) = source_stays i n at in_sources
+  stays_by (suc fuel) i n lt at (inr past_them) =
+      let before = k.keeps.follows.files.earlier i n at past_them in
+      let place_lt : before.place < fuel = let one = before.before in omega arith in
+      let by = stays_by fuel before.place before.by place_lt before.at (within_or before.place (length k.kept.sources)) in
+      let there_now = place_of_stands after.files before.by by in
+      let includes = include_stays before.by n (nat_eq before.by.0 file.0) refl before.includes in
+      let listed = stands_flat (included after.found) after.files there_now.0 before.by n there_now.1 includes in
+      let new_file : stands k.kept.left_out n ≡ false =
+      put_all_not_out k.kept.left_out k.kept.sources (flat_map (included k.kept.found) k.kept.files) n i past_them
+      (sym (ap (λ (x : List NodeId). slice_get x i) k.keeps.follows.files.whole) ∙ at) in
+      ⊎_elim (λ o. true_false (sym (ap (λ (x : List NodeId). stands x n) (sym after_left_out) ∙ o) ∙ new_file))
+      (λ m. ap (λ (x : List NodeId). stands x n) after_follows.files.whole ∙ m)
+      (put_all_in after.left_out after.sources (flat_map (included after.found) after.files) n listed)
+
+  -- the files of the rule stay
+  files_stay : (n : NodeId) → stands k.kept.files n ≡ true → stands after.files n ≡ true
+  files_stay n h =
+      let p = place_of_stands k.kept.files n h in
+      let lt : p.0 < suc p.0 = omega arith in
+      stays_by (suc p.0) p.0 n lt p.1 (within_or p.0 (length k.kept.sources))
 
   file_seen : (r : Rule) → rule_numbered b g rule.0 ≡ Some r → IsSeen b g t past r after file
   file_seen r numbered = record {
@@ -357,11 +435,10 @@ module _ (b : Begun) (g : RuleGraph) (requested : List NodeId) (t : Tree) (past 
       let seen = ties.sees.each rule.0 k.kept r rule_needed k.at numbered f (was_scanned f e h) in
       record { ready = seen.ready; includes = seen.includes ∙ ap (paths_of g) (sym (other_included f e)) }
 
-  rule_file : (f : NodeId) (c : Bool) → nat_eq f.0 file.0 ≡ c → is_scanned after.found f ≡ true → f.0 < length g.nodes
-  rule_file f true e h =
-      subst (λ (x : NodeId). x.0 < length g.nodes) (sym (node_same f file e))
-      (need_below b g requested t past old now ties rule.0 rule_needed file file_need)
-  rule_file f false e h = ties.sees.files rule.0 k.kept rule_needed k.at f (was_scanned f e h)
+  rule_file : (f : NodeId) (c : Bool) → nat_eq f.0 file.0 ≡ c → is_scanned after.found f ≡ true →
+      stands after.files f ≡ true
+  rule_file f true e h = ap (stands after.files) (node_same f file e) ∙ files_stay file file_there
+  rule_file f false e h = files_stay f (ties.sees.files rule.0 k.kept rule_needed k.at f (was_scanned f e h))
 
   rule_nodes : (f : NodeId) (c : Bool) → nat_eq f.0 file.0 ≡ c →
       are_below (length g.nodes) (included after.found f) ≡ true
@@ -405,11 +482,13 @@ module _ (b : Begun) (g : RuleGraph) (requested : List NodeId) (t : Tree) (past 
       (state_of old.states number ≡ Unneeded) ⊎ (state_of old.states number ≢ Unneeded) →
       (number ≡ rule.0) ⊎ (number ≢ rule.0) →
       state_of new.states number ≢ Unneeded → slice_get new.rules number ≡ Some kept → (f : NodeId) →
-      is_scanned kept.found f ≡ true → f.0 < length g.nodes
+      is_scanned kept.found f ≡ true → stands kept.files f ≡ true
   files_by number kept (inl u) y still at f h =
       true_false (sym h ∙ ap (λ (x : Kept). is_scanned x.found f) (first_is number kept (scans.met number u still) at))
   files_by number kept (inr needed) (inl same) still at f h =
-      rule_file f (nat_eq f.0 file.0) refl (ap (λ (x : Kept). is_scanned x.found f) (after_is number kept same at) ∙ h)
+      let is_after = after_is number kept same at in
+      sym (ap (λ (x : Kept). stands x.files f) is_after)
+      ∙ rule_file f (nat_eq f.0 file.0) refl (ap (λ (x : Kept). is_scanned x.found f) is_after ∙ h)
   files_by number kept (inr needed) (inr other) still at f h = ties.sees.files number kept needed
       (other_kept number kept other needed at) f h
 

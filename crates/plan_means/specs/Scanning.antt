@@ -12,7 +12,7 @@ use Rattle.build_model.specs.Contents.{in_tree, found_in}
 use Rattle.build_model.specs.Steps.{Step, settled, IsReady, IsMissing}
 use Rattle.build_means.specs.Rules.{paths_of}
 use Rattle.build_means.specs.Grown.{Begun, begun_setting, rule_numbered}
-use Rattle.plan_means.specs.Planning.{IsGraphNow, AreSought, IsStep}
+use Rattle.plan_means.specs.Planning.{IsGraphNow, IsStep}
 use Rattle.plan_means.specs.Ties.{Ties}
 use Rattle.plan_means.specs.Beginning.{AreLookedFor}
 
@@ -44,6 +44,6 @@ pub record IsFoundIn (b : Begun) (g : RuleGraph) (t : Tree) (plan : Planned) (ru
 abbrev pub ScansKeepTies : Type 0
 ScansKeepTies = (b : Begun) (g : RuleGraph) (requested : List NodeId) (t : Tree) (past : List Step)
     (old new : Planned) (rule : RuleId) (file : NodeId)
-    (found : List NodeId) → IsGraphNow b g → Ties b g requested t past old → AreSought requested old →
+    (found : List NodeId) → IsGraphNow b g → Ties b g requested t past old →
     IsScannedNext old rule.0 file →
     IsFoundIn b g t old rule file found → IsStep g old (Scanned rule found) new → Ties b g requested t past new

@@ -1,6 +1,6 @@
 -- That a plan is tied to the steps of a build: what it knows of rules and files is so by paths, and how far its rules
 -- are is what the steps say of them.
-use Rattle.std.specs.Prelude.{◌≡◌, ◌≢◌, ◌⊎◌, ◌<◌, ℕ, true, List, length, Some, None, slice_get}
+use Rattle.std.specs.Prelude.{◌≡◌, ◌≢◌, ◌⊎◌, ℕ, true, List, length, Some, None, slice_get}
 use Rattle.std.specs.List.{list_all}
 use Rattle.scons_base.specs.declared.ids.NodeId.{NodeId}
 use Rattle.rule_graph.specs.Rules.{are_below, rule_of}
@@ -50,10 +50,10 @@ pub record Sees (b : Begun) (g : RuleGraph) (t : Tree) (past : List Step) (plan 
       slice_get plan.rules number ≡ Some kept →
       rule_numbered b g number ≡ Some r → (file : NodeId) → is_scanned kept.found file ≡ true →
       IsSeen b g t past r kept file
-  -- what was scanned are nodes, and so is what was found
+  -- only files of the rule were scanned, and what was found are nodes
   pub files : (number : ℕ) (kept : Kept) → state_of plan.states number ≢ Unneeded →
       slice_get plan.rules number ≡ Some kept →
-      (file : NodeId) → is_scanned kept.found file ≡ true → file.0 < length g.nodes
+      (file : NodeId) → is_scanned kept.found file ≡ true → stands kept.files file ≡ true
   pub nodes : (number : ℕ) (kept : Kept) → state_of plan.states number ≢ Unneeded →
       slice_get plan.rules number ≡ Some kept →
       (file : NodeId) → are_below (length g.nodes) (included kept.found file) ≡ true
