@@ -385,7 +385,8 @@ module _ (b : Begun) (g : RuleGraph) (requested : List NodeId) (t : Tree) (past 
   stays_by (suc fuel) i n lt at (inr past_them) =
       let before = k.keeps.follows.files.earlier i n at past_them in
       let place_lt : before.place < fuel = let one = before.before in omega arith in
-      let by = stays_by fuel before.place before.by place_lt before.at (within_or before.place (length k.kept.sources)) in
+      let by = stays_by fuel before.place before.by place_lt before.at
+      (within_or before.place (length k.kept.sources)) in
       let there_now = place_of_stands after.files before.by by in
       let includes = include_stays before.by n (nat_eq before.by.0 file.0) refl before.includes in
       let listed = stands_flat (included after.found) after.files there_now.0 before.by n there_now.1 includes in

@@ -25,22 +25,22 @@ use Rattle.task_plan.specs.declared.states.RuleState.TheVariants.{Unneeded}
 use Rattle.task_plan.proofs.MetNeeds.{stands_at}
 use Rattle.task_plan.proofs.ReachedLemmas.{first, later, first_or, order_reached}
 use Rattle.build_model.specs.Rules.{Rule, Among, here, there}
-use Rattle.build_model.specs.Reach.{reach}
+use Rattle.build_model.specs.Reach.{reach, scan_list}
 use Rattle.build_model.specs.Needs.{Found, with_rule, rules_at, needs_in_order, IsBuildOrder, Visits as Goes, nothing_left as goes_nowhere, met_again as goes_again, met_first as goes_into}
-use Rattle.build_model.specs.Steps.{Step, Build}
+use Rattle.build_model.specs.Steps.{running, Step, Build}
 use Rattle.build_model.specs.Resting.{whole_found}
-use Rattle.build_model.specs.OneJob.{IsPassed, IsTakenFirst}
+use Rattle.build_model.specs.OneJob.{IsPassed, IsTakenFirst, IsTakenInOrder}
 use Rattle.build_model.proofs.Lists.{true_false, some_same}
 use Rattle.build_means.specs.Rules.{paths_of}
 use Rattle.build_means.proofs.Lists.{or_first, or_second}
 use Rattle.build_means.specs.Grown.{Begun, begun_setting, rule_numbered}
-use Rattle.plan_means.specs.Deciding.{IsTied}
+use Rattle.plan_means.specs.Deciding.{IsTied, HasNoLoop}
 use Rattle.plan_means.proofs.Visiting.{has_order}
 use Rattle.plan_means.proofs.Single.{one_number}
 use Rattle.plan_means.proofs.Knowing.{Knows, rule_made, one_below, need_below, need_at, needed_met}
 use Rattle.plan_means.proofs.Needing.{needed_by}
 use Rattle.plan_means.proofs.Deciding.{know, found_whole}
-use Rattle.plan_means.proofs.Waiting.{lists_now, passed_cannot}
+use Rattle.plan_means.proofs.Waiting.{IsPlanned, needed_planned, lists_now, passed_cannot}
 
 module _ (b : Begun) (g : RuleGraph) where
   -- the rules with these numbers
@@ -250,7 +250,7 @@ module _ (b : Begun) (g : RuleGraph) (requested : List NodeId) (build : Build) (
   module _ (rule : RuleId) (r : Rule) (is : rule_numbered b g rule.0 ≡ Some r)
       (first_of : (order : List RuleId) → IsOrder plan.rules plan.origins plan.notes.roots order → IsFirstOf plan
       order rule) where
-    before_passed : (order : List RuleId) (o : IsOrder plan.rules plan.origins plan.notes.roots order)
+    pub before_passed : (order : List RuleId) (o : IsOrder plan.rules plan.origins plan.notes.roots order)
         (f : IsFirstOf plan order rule) (x : Rule) →
         Among x (rules_numbered b g f.before) → IsPassed (begun_setting b) past found x
     before_passed order o f x m =
@@ -264,7 +264,7 @@ module _ (b : Begun) (g : RuleGraph) (requested : List NodeId) (build : Build) (
         subst (λ (y : Rule). IsPassed (begun_setting b) past found y) (some_same (sym k.numbered ∙ h.is))
         (passed_cannot b g requested build past plan tied h.number needed none (f.none h.number h.among))
 
-    pub taken_first : IsTakenFirst (begun_setting b) build past r
+    abbrev pub taken_first : IsTakenFirst (begun_setting b) build past r
     taken_first =
         let o = has_order plan.rules plan.origins plan.notes.roots in
         let f = first_of o.order o.is in
@@ -279,3 +279,19 @@ module _ (b : Begun) (g : RuleGraph) (requested : List NodeId) (build : Build) (
               ∙ ap (λ l. rules_numbered b g f.before ++ l) (numbered_first b g rule f.behind r is);
           passed = λ x m. before_passed o.order o.is f x m;
         }
+
+    never_cut : (x : Rule) → IsPlanned b g requested build past plan tied x →
+        length (scan_list (begun_setting b).limit (found x) x) < (begun_setting b).limit
+    never_cut x p =
+        subst (λ (y : Rule). length (scan_list (begun_setting b).limit (found y) y) < (begun_setting b).limit)
+        (some_same (sym (the p.number p.needed).numbered ∙ p.is))
+        (lists_now b g requested build past plan tied p.number p.needed none).room
+
+    pub taken_in_order : running past < build.jobs → HasNoLoop b build past →
+        IsTakenInOrder (begun_setting b) build past r
+    taken_in_order room no_loop = record {
+      first = taken_first;
+      room = room;
+      no_cycle = no_loop;
+      not_cut = λ x h. never_cut x (needed_planned b g requested build past plan tied none x h);
+    }

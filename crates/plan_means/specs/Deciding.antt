@@ -1,5 +1,5 @@
 -- What a plan decides about may be decided by the model.
-use Rattle.std.specs.Prelude.{◌≡◌, ℕ, false, List, Some}
+use Rattle.std.specs.Prelude.{◌≡◌, ◌<◌, ℕ, false, List, Some}
 use Rattle.scons_base.specs.declared.ids.NodeId.{NodeId}
 use Rattle.scons_base.specs.declared.ids.RuleId.{RuleId}
 use Rattle.rule_graph.specs.Graphs.{RuleGraph}
@@ -9,8 +9,10 @@ use Rattle.task_plan.specs.Ordered.{IsFirstOf}
 use Rattle.task_plan.specs.Watched.{IsNoneReady}
 use Rattle.task_plan.specs.Plans.{Planned, IsDecidedNext}
 use Rattle.build_model.specs.Rules.{Path, Rule, Among}
-use Rattle.build_model.specs.Steps.{Step, Build, IsRun, IsMissing, IsDecided, IsLacking, is_over, present_dependencies}
-use Rattle.build_model.specs.OneJob.{IsTakenFirst}
+use Rattle.build_model.specs.Steps.{Step, Build, running, IsRun, IsMissing, IsDecided, IsLacking, is_over, present_dependencies}
+use Rattle.build_model.specs.OneJob.{IsTakenFirst, IsTakenInOrder}
+use Rattle.build_model.specs.Needs.{NeedsThrough, Needed}
+use Rattle.build_model.specs.Resting.{whole_found}
 use Rattle.build_means.specs.Rules.{paths_of}
 use Rattle.build_means.specs.Grown.{Begun, begun_setting, rule_numbered}
 use Rattle.build_means.specs.Present.{IsFirstAbsent}
@@ -54,3 +56,18 @@ FirstIsTaken = (b : Begun) (g : RuleGraph) (requested : List NodeId) (build : Bu
     IsTied b g requested build past plan → rule_numbered b g rule.0 ≡ Some r → IsNoneReady plan →
     ((order : List RuleId) → IsOrder plan.rules plan.origins plan.notes.roots order → IsFirstOf plan order rule) →
     IsTakenFirst (begun_setting b) build past r
+
+-- by what was found where all is scanned that can be, no needed rule needs itself
+abbrev pub HasNoLoop : Begun → Build → List Step → Type 0
+HasNoLoop b build past = (x : Rule) →
+    Needed (begun_setting b).rule_of (whole_found (begun_setting b) build past) build.requested x →
+    NeedsThrough (begun_setting b).rule_of (whole_found (begun_setting b) build past) x x → ⊥
+
+-- It is taken in order, too, where one more action may run and no needed rule waits for itself by what was found: the
+-- list of the files that are scanned for one is never cut short.
+abbrev pub InOrderIsTaken : Type 0
+InOrderIsTaken = (b : Begun) (g : RuleGraph) (requested : List NodeId) (build : Build) (past : List Step)
+    (plan : Planned) (rule : RuleId) (r : Rule) →
+    IsTied b g requested build past plan → rule_numbered b g rule.0 ≡ Some r → IsNoneReady plan →
+    ((order : List RuleId) → IsOrder plan.rules plan.origins plan.notes.roots order → IsFirstOf plan order rule) →
+    running past < build.jobs → HasNoLoop b build past → IsTakenInOrder (begun_setting b) build past r

@@ -1,7 +1,7 @@
 //! The laws: each is the contract of a function that does nothing.
 ghost use Rattle.plan_means.specs.Names.{NamesAreThese, CopiesAreThese};
 ghost use Rattle.plan_means.specs.Lists.{ListsAreReach};
-ghost use Rattle.plan_means.specs.Deciding.{DecidedMayBe, FirstIsTaken};
+ghost use Rattle.plan_means.specs.Deciding.{DecidedMayBe, FirstIsTaken, InOrderIsTaken};
 ghost use Rattle.plan_means.specs.Resting.{StillIsIdle, StillIsAtRest};
 ghost use Rattle.plan_means.specs.Stepping.{EventsKeepTies, RunningAreKnown, ChangesKeepTies};
 ghost use Rattle.plan_means.specs.Beginning.{LoadedIsTied};
@@ -32,6 +32,11 @@ pub fn decided_may_be()
 /// And of the rules that could be decided it is the one that the model takes first.
 pub fn first_is_taken()
     ensures { FirstIsTaken }
+{}
+
+/// And it is taken in order, where one more action may run and no needed rule needs itself by what was found.
+pub fn in_order_is_taken()
+    ensures { InOrderIsTaken }
 {}
 
 /// A file that a tied plan wants scanned next may be scanned: no action that runs writes it.
