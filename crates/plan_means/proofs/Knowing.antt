@@ -1,48 +1,41 @@
 -- What a tied plan knows of a needed rule, by paths.
-use Rattle.std.proofs.Common.{◌≡◌, ◌≢◌, ◌<◌, ◌≤◌, ◌+◌, ◌-◌, ℕ, zero, suc, Bool, true, false, cond, ◌||◌, ◌&&◌, List, [], ◌∷◌, ◌++◌, length, map, Option, Some, None, refl, sym, subst, ap, ◌∙◌, inl, inr, ◌⊎◌, ⊎_elim, ltb-true, arith}
-use Rattle.std.specs.Prelude.{slice_get, nat_eq, nat_lt, if◌then◌else◌}
-use Rattle.std.specs.List.{list_any, list_all, flat_map}
-use Rattle.std.proofs.lemmas.Bool.Decides.{Decides-eqb}
+use Rattle.std.proofs.Common.{◌≡◌, ◌≢◌, ◌<◌, ◌≤◌, ℕ, zero, suc, Bool, true, false, List, [], ◌++◌, length, Some, None, refl, sym, subst, ap, ◌∙◌, inl, inr, ◌⊎◌, ltb-true, arith}
+use Rattle.std.specs.Prelude.{slice_get, nat_eq, nat_lt}
+use Rattle.std.specs.List.{list_all, flat_map}
 use Rattle.std.proofs.lemmas.List.Folds.{list_any-append, list_all-append}
-use Rattle.std.proofs.lemmas.Option.{slice_get_within}
 use Rattle.scons_base.specs.declared.ids.NodeId.{NodeId}
-use Rattle.scons_base.specs.declared.ids.RuleId.{RuleId}
-use Rattle.scons_base.specs.declared.limits.TheConstants.{NODE_LIMIT}
 use Rattle.rule_graph.specs.declared.rule.Rule as declared
 use Rattle.rule_graph.specs.Graphs.{RuleGraph, path_of}
 use Rattle.rule_graph.specs.Rules.{are_below, rule_of, IsRule}
 use Rattle.task_plan.specs.States.{state_of}
-use Rattle.task_plan.specs.Named.{stands, put_all, named_of}
+use Rattle.task_plan.specs.Named.{stands}
 use Rattle.task_plan.specs.Settled.{Kept, origin_of, is_scanned, is_done, is_done_from, is_settled}
-use Rattle.task_plan.specs.Listed.{included, IsReach}
+use Rattle.task_plan.specs.Listed.{included}
 use Rattle.task_plan.specs.Plans.{Planned}
-use Rattle.task_plan.specs.Met.{is_met, IsFrom}
-use Rattle.task_plan.specs.Admits.{IsKnown, Follows}
+use Rattle.task_plan.specs.Met.{is_met, IsFrom, needs_in, needs_at}
 use Rattle.task_plan.specs.declared.files.Origin.{Origin}
 use Rattle.task_plan.specs.declared.files.Origin.TheVariants.{Unmet, Source, Made}
 use Rattle.task_plan.specs.declared.states.RuleState.{RuleState}
 use Rattle.task_plan.specs.declared.states.RuleState.TheVariants.{Unneeded, Waiting, Running, Settled, Failed, Lacking}
-use Rattle.task_plan.proofs.ListLemmas.{and_both, get-within, get-behind}
+use Rattle.task_plan.proofs.ListLemmas.{and_both, get-within}
 use Rattle.task_plan.proofs.NamedLemmas.{put_all_longer}
-use Rattle.task_plan.proofs.WalkLemmas.{node_same, included_none, within_or}
+use Rattle.task_plan.proofs.WalkLemmas.{included_none, within_or}
 use Rattle.task_plan.proofs.MetNeeds.{all_put_all, all_stands, stands_at, put_all_not_out}
 use Rattle.task_plan.proofs.NextLemmas.{place_of_stands}
-use Rattle.build_model.specs.Rules.{Path, Bytes, Content, Tree, Rule, Among, here, there}
-use Rattle.build_model.specs.Reach.{has, declared as declared_paths, first_scanned, left_out, IsScanned, scans_source, scans_found, Reaches, is_declared, is_scanned as scanned_there}
-use Rattle.build_model.specs.Contents.{in_tree, found_in}
+use Rattle.build_model.specs.Rules.{Path, Content, Tree, Rule, Among}
+use Rattle.build_model.specs.Reach.{left_out, IsScanned, scans_source, scans_found, Reaches, is_declared, is_scanned as scanned_there}
 use Rattle.build_model.specs.Graphs.{rule_at}
-use Rattle.build_model.specs.Steps.{Step, settled, began, done, IsReady, is_source, is_made, IsMissing, IsRunning}
-use Rattle.build_model.specs.Resting.{IsFaulty}
-use Rattle.build_model.proofs.Lists.{true_false, none_some, some_same, has_among, among_has, among_either, among_same}
-use Rattle.build_means.specs.Rules.{IsReading, paths_of}
+use Rattle.build_model.specs.Steps.{Step, settled, done, IsReady, is_source, is_made, IsMissing}
+use Rattle.build_model.proofs.Lists.{true_false, none_some, some_same, among_has, among_same}
+use Rattle.build_means.specs.Rules.{paths_of}
 use Rattle.build_means.specs.Grown.{Begun, begun_graph, begun_setting, rule_numbered}
 use Rattle.build_means.proofs.Growing.{are_rules}
-use Rattle.build_means.proofs.Lists.{or_either, map_among, at_place, place_of}
+use Rattle.build_means.proofs.Lists.{or_either, or_first, or_second, map_among, at_place, place_of}
 use Rattle.build_means.proofs.Readings.{node_path}
-use Rattle.plan_means.specs.Names.{AreNames, IsNamed}
-use Rattle.plan_means.specs.Lists.{KeepsRule, Includes}
-use Rattle.plan_means.specs.Planning.{IsGraphNow, IsPlanFor}
-use Rattle.plan_means.specs.Ties.{IsNew, IsAt, IsSeen, Sees, Ties}
+use Rattle.plan_means.specs.Names.{AreNames}
+use Rattle.plan_means.specs.Lists.{KeepsRule}
+use Rattle.plan_means.specs.Planning.{IsGraphNow}
+use Rattle.plan_means.specs.Ties.{IsAt, Ties}
 use Rattle.plan_means.proofs.Names.{is_named, named_below, scanned_below, stands_all, unscanned_sources}
 use Rattle.plan_means.proofs.Reaching.{files_below, sources_once, no_files}
 
@@ -54,11 +47,24 @@ pub among_stands : (nodes : List NodeId) (n : NodeId) → Among n nodes → stan
 among_stands nodes n m = let p = place_of m in stands_at nodes p.0 n p.1
 
 -- by path, too
-pub path_among : (g : RuleGraph) (nodes : List NodeId) (n : NodeId) → stands nodes n ≡ true → Among (path_of g.nodes n) (paths_of g nodes)
+pub path_among : (g : RuleGraph) (nodes : List NodeId) (n : NodeId) → stands nodes n ≡ true →
+    Among (path_of g.nodes n) (paths_of g nodes)
 path_among g nodes n h = map_among (path_of g.nodes) (stands_among nodes n h)
 
-pub one_below : (g : RuleGraph) (nodes : List NodeId) (n : NodeId) → are_below (length g.nodes) nodes ≡ true → stands nodes n ≡ true → n.0 < length g.nodes
-one_below g nodes n below h = ltb-true n.0 (length g.nodes) (all_stands (λ t. nat_lt t.0 (length g.nodes)) nodes n below h)
+pub one_below : (g : RuleGraph) (nodes : List NodeId) (n : NodeId) → are_below (length g.nodes) nodes ≡ true →
+    stands nodes n ≡ true → n.0 < length g.nodes
+one_below g nodes n below h =
+    ltb-true n.0 (length g.nodes) (all_stands (λ t. nat_lt t.0 (length g.nodes)) nodes n below h)
+
+-- a dependency, or a required file, is a need
+pub in_needs : (required deps : List NodeId) (n : NodeId) → stands deps n ≡ true → stands (required ++ deps) n ≡ true
+in_needs required deps n h = list_any-append (λ m. nat_eq n.0 m.0) required deps
+    ∙ or_second (stands required n) (stands deps n) h
+
+pub in_required : (required deps : List NodeId) (n : NodeId) → stands required n ≡ true →
+    stands (required ++ deps) n ≡ true
+in_required required deps n h = list_any-append (λ m. nat_eq n.0 m.0) required deps
+    ∙ or_first (stands required n) (stands deps n) h
 
 -- what a plan knows of a needed rule
 pub record Knows (b : Begun) (g : RuleGraph) (plan : Planned) (number : ℕ) : Type 0 where
@@ -72,7 +78,8 @@ pub record Knows (b : Begun) (g : RuleGraph) (plan : Planned) (number : ℕ) : T
   pub names : AreNames g of rule
   pub keeps : KeepsRule g of kept
 
-module _ (b : Begun) (g : RuleGraph) (requested : List NodeId) (t : Tree) (past : List Step) (plan : Planned) (now : IsGraphNow b g)
+module _ (b : Begun) (g : RuleGraph) (requested : List NodeId) (t : Tree) (past : List Step) (plan : Planned)
+    (now : IsGraphNow b g)
     (ties : Ties b g requested t past plan) where
   pub knows : (number : ℕ) → state_of plan.states number ≢ Unneeded → Knows b g plan number
   knows number needed =
@@ -100,18 +107,21 @@ module _ (b : Begun) (g : RuleGraph) (requested : List NodeId) (t : Tree) (past 
       }
 
   -- the kept ones are these
-  pub same_kept : (number : ℕ) (needed : state_of plan.states number ≢ Unneeded) (kept : Kept) → slice_get plan.rules number ≡ Some kept →
+  pub same_kept : (number : ℕ) (needed : state_of plan.states number ≢ Unneeded) (kept : Kept) →
+      slice_get plan.rules number ≡ Some kept →
       (knows number needed).kept ≡ kept
   same_kept number needed kept at = some_same (sym (knows number needed).at ∙ at)
 
-  pub same_rule : (number : ℕ) (needed : state_of plan.states number ≢ Unneeded) (r : Rule) → rule_numbered b g number ≡ Some r →
+  pub same_rule : (number : ℕ) (needed : state_of plan.states number ≢ Unneeded) (r : Rule) →
+      rule_numbered b g number ≡ Some r →
       (knows number needed).rule ≡ r
   same_rule number needed r is = some_same (sym (knows number needed).numbered ∙ is)
 
   -- a rule makes the file, by path
   pub rule_made : (n : NodeId) (m : ℕ) → n.0 < length g.nodes → rule_of g.rules n.0 ≡ Some m →
       rule_at (begun_graph b) b.tree (path_of g.nodes n) ≡ rule_numbered b g m
-  rule_made n m lt of = (are_rules b g now.read now.reading now.grown).rules n.0 m (path_of g.nodes n) (node_path g now.reading n lt) of
+  rule_made n m lt of = (are_rules b g now.read now.reading now.grown).rules n.0 m (path_of g.nodes n)
+      (node_path g now.reading n lt) of
 
   module _ (number : ℕ) (needed : state_of plan.states number ≢ Unneeded) where
     abbrev pub k : Knows b g plan number
@@ -139,19 +149,22 @@ module _ (b : Begun) (g : RuleGraph) (requested : List NodeId) (t : Tree) (past 
     pub needs_all_below : are_below (length g.nodes) (k.kept.required ++ k.kept.deps) ≡ true
     needs_all_below =
         list_all-append (λ t. nat_lt t.0 (length g.nodes)) k.kept.required k.kept.deps
-        ∙ and_both (are_below (length g.nodes) k.kept.required) (are_below (length g.nodes) k.kept.deps) required_below deps_below
+        ∙ and_both (are_below (length g.nodes) k.kept.required) (are_below (length g.nodes) k.kept.deps)
+        required_below deps_below
 
     -- what is found where scanned files include what was found in them
     module _ (f : Path → List Path) (agrees : (file : NodeId) → is_scanned k.kept.found file ≡ true →
         f (path_of g.nodes file) ≡ paths_of g (included k.kept.found file)) where
-      scans_by : (b : Bool) → k.of.scans ≡ b → (i : ℕ) (n : NodeId) → slice_get k.kept.files i ≡ Some n → k.of.scans ≡ true
+      scans_by : (b : Bool) → k.of.scans ≡ b → (i : ℕ) (n : NodeId) → slice_get k.kept.files i ≡ Some n →
+          k.of.scans ≡ true
       scans_by true e i n at = e
       scans_by false e i n at =
           let none : k.kept.sources ≡ [] = k.keeps.sources ∙ unscanned_sources g k.of e in
           let files = no_files k.kept.sources k.kept.left_out k.kept.found k.kept.files k.keeps.follows.files none in
           none_some (sym (ap (λ (l : List NodeId). slice_get l i) files) ∙ at)
 
-      not_left_out : (i : ℕ) (n : NodeId) → slice_get k.kept.files i ≡ Some n → length k.kept.sources ≤ i → Among (path_of g.nodes n) (left_out k.rule) → ⊥
+      not_left_out : (i : ℕ) (n : NodeId) → slice_get k.kept.files i ≡ Some n → length k.kept.sources ≤ i →
+          Among (path_of g.nodes n) (left_out k.rule) → ⊥
       not_left_out i n at le m =
           let lt = one_below g k.kept.files n all_files_below (stands_at k.kept.files i n at) in
           let whole = k.keeps.follows.files.whole in
@@ -161,19 +174,25 @@ module _ (b : Begun) (g : RuleGraph) (requested : List NodeId) (t : Tree) (past 
           let names = k.names.left_out (scans_by k.of.scans refl i n at) n lt in
           true_false (sym (among_has m) ∙ sym names ∙ sym (ap (λ (l : List NodeId). stands l n) k.keeps.left_out) ∙ new)
 
-      source_scanned : (i : ℕ) (n : NodeId) → slice_get k.kept.files i ≡ Some n → i < length k.kept.sources → IsScanned f k.rule (path_of g.nodes n)
+      source_scanned : (i : ℕ) (n : NodeId) → slice_get k.kept.files i ≡ Some n → i < length k.kept.sources →
+          IsScanned f k.rule (path_of g.nodes n)
       source_scanned i n at lt =
           let l = put_all_longer k.kept.left_out k.kept.sources (flat_map (included k.kept.found) k.kept.files) in
           let source : slice_get k.kept.sources i ≡ Some n =
-          sym (get-within k.kept.sources l.more i lt) ∙ ap (λ (xs : List NodeId). slice_get xs i) (sym (k.keeps.follows.files.whole ∙ l.is)) ∙ at in
-          scans_source (among_same (ap (paths_of g) k.keeps.sources ∙ k.names.scanned) (path_among g k.kept.sources n (stands_at k.kept.sources i n source)))
+          sym (get-within k.kept.sources l.more i lt) ∙ ap (λ (xs : List NodeId). slice_get xs i)
+          (sym (k.keeps.follows.files.whole ∙ l.is)) ∙ at in
+          scans_source (among_same (ap (paths_of g) k.keeps.sources ∙ k.names.scanned)
+          (path_among g k.kept.sources n (stands_at k.kept.sources i n source)))
 
-      include_by : (by n : NodeId) (c : Bool) → is_scanned k.kept.found by ≡ c → stands (included k.kept.found by) n ≡ true →
+      include_by : (by n : NodeId) (c : Bool) → is_scanned k.kept.found by ≡ c →
+          stands (included k.kept.found by) n ≡ true →
           Among (path_of g.nodes n) (f (path_of g.nodes by))
       include_by by n true e h = among_same (sym (agrees by e)) (path_among g (included k.kept.found by) n h)
-      include_by by n false e h = true_false (sym h ∙ ap (λ (l : List NodeId). stands l n) (included_none k.kept.found by e))
+      include_by by n false e h =
+          true_false (sym h ∙ ap (λ (l : List NodeId). stands l n) (included_none k.kept.found by e))
 
-      file_by : (fuel i : ℕ) (n : NodeId) → i < fuel → slice_get k.kept.files i ≡ Some n → (i < length k.kept.sources) ⊎ (length k.kept.sources ≤ i) →
+      file_by : (fuel i : ℕ) (n : NodeId) → i < fuel → slice_get k.kept.files i ≡ Some n →
+          (i < length k.kept.sources) ⊎ (length k.kept.sources ≤ i) →
           IsScanned f k.rule (path_of g.nodes n)
       file_by zero i n lt at h = absurd (omega arith)
       file_by (suc fuel) i n lt at (inl in_sources) = source_scanned i n at in_sources
@@ -192,15 +211,18 @@ module _ (b : Begun) (g : RuleGraph) (requested : List NodeId) (t : Tree) (past 
           let lt : p.0 < suc p.0 = omega arith in
           file_by (suc p.0) p.0 n lt p.1 (within_or p.0 (length k.kept.sources))
 
-      dep_by : (n : NodeId) → (stands k.kept.named n ≡ true) ⊎ (stands k.kept.files n ≡ true) → Reaches f k.rule (path_of g.nodes n)
-      dep_by n (inl h) = is_declared (among_same (ap (paths_of g) k.keeps.named ∙ k.names.named) (path_among g k.kept.named n h))
+      dep_by : (n : NodeId) → (stands k.kept.named n ≡ true) ⊎ (stands k.kept.files n ≡ true) →
+          Reaches f k.rule (path_of g.nodes n)
+      dep_by n (inl h) =
+          is_declared (among_same (ap (paths_of g) k.keeps.named ∙ k.names.named) (path_among g k.kept.named n h))
       dep_by n (inr h) = scanned_there (file_scanned n h)
 
       -- and a dependency is reached
       pub dep_reached : (n : NodeId) → stands k.kept.deps n ≡ true → Reaches f k.rule (path_of g.nodes n)
       dep_reached n h =
           dep_by n (or_either (stands k.kept.named n) (stands k.kept.files n)
-          (sym (stands_all k.kept.named k.kept.files n) ∙ ap (λ (l : List NodeId). stands l n) (sym k.keeps.follows.deps) ∙ h))
+          (sym (stands_all k.kept.named k.kept.files n)
+          ∙ ap (λ (l : List NodeId). stands l n) (sym k.keeps.follows.deps) ∙ h))
 
   -- a needed file is met
   pub needed_met : (number : ℕ) (needed : state_of plan.states number ≢ Unneeded) (n : NodeId) →
@@ -210,7 +232,8 @@ module _ (b : Begun) (g : RuleGraph) (requested : List NodeId) (t : Tree) (past 
       let all = ties.plan_for.met.each number know.kept needed know.at in
       all_stands (λ x. is_met plan.origins x) (know.kept.required ++ know.kept.deps) n
       (list_all-append (λ x. is_met plan.origins x) know.kept.required know.kept.deps
-      ∙ and_both (list_all (λ x. is_met plan.origins x) know.kept.required) (list_all (λ x. is_met plan.origins x) know.kept.deps) all.required all.deps) h
+      ∙ and_both (list_all (λ x. is_met plan.origins x) know.kept.required)
+      (list_all (λ x. is_met plan.origins x) know.kept.deps) all.required all.deps) h
 
   settled_by : (o : RuleState) → is_settled o ≡ true → o ≡ Settled
   settled_by Unneeded e = true_false (sym e)
@@ -232,25 +255,45 @@ module _ (b : Begun) (g : RuleGraph) (requested : List NodeId) (t : Tree) (past 
   unfolding is_unneeded
   settled_needed o e u = true_false (sym (ap is_unneeded (sym e ∙ u)))
 
-  -- a file that is done waits for nothing, or is missing
   source_ready : (p : Path) (c : Content) → t p ≡ c → rule_at (begun_graph b) b.tree p ≡ None →
       IsReady (begun_setting b) t (settled past) p ⊎ IsMissing (begun_setting b) t p
   source_ready p None e none = inr (record { no_rule = none; no_file = e })
   source_ready p (Some bytes) e none = inl (is_source bytes none e)
 
-  made_ready : (n : NodeId) (m : ℕ) → n.0 < length g.nodes → rule_of g.rules n.0 ≡ Some m → state_of plan.states m ≡ Settled →
+  made_ready : (n : NodeId) (m : ℕ) → n.0 < length g.nodes → rule_of g.rules n.0 ≡ Some m →
+      state_of plan.states m ≡ Settled →
       IsReady (begun_setting b) t (settled past) (path_of g.nodes n)
   made_ready n m lt of is =
       let know = knows m (settled_needed (state_of plan.states m) is) in
       is_made know.rule (rule_made n m lt of ∙ know.numbered)
       (subst (λ (o : RuleState). IsAt past know.rule o) is (ties.states m know.rule know.numbered))
 
-  done_by : (n : NodeId) (o : Origin) → n.0 < length g.nodes → origin_of plan.origins n.0 ≡ o → IsFrom g plan.states n.0 o → is_done_from plan.states o ≡ true →
+  done_by : (number : ℕ) (n : NodeId) (o : Origin) → state_of plan.states number ≢ Unneeded →
+      stands (needs_at plan.rules number) n ≡ true → n.0 < length g.nodes → origin_of plan.origins n.0 ≡ o →
+      IsFrom g plan.states n.0 o → is_done_from plan.states o ≡ true →
       IsReady (begun_setting b) t (settled past) (path_of g.nodes n) ⊎ IsMissing (begun_setting b) t (path_of g.nodes n)
-  done_by n Unmet lt e from h = true_false (sym h)
-  done_by n Source lt e from h = source_ready (path_of g.nodes n) (t (path_of g.nodes n)) refl (ties.sources n lt e)
-  done_by n (Made m) lt e from h = inl (made_ready n m.0 lt from.0 (settled_by (state_of plan.states m.0) h))
+  done_by number n Unmet needed need lt e from h = true_false (sym h)
+  done_by number n Source needed need lt e from h = source_ready (path_of g.nodes n) (t (path_of g.nodes n)) refl
+      (ties.sources number n needed need e)
+  done_by number n (Made m) needed need lt e from h =
+      inl (made_ready n m.0 lt from.0 (settled_by (state_of plan.states m.0) h))
 
-  pub done_ready : (n : NodeId) → n.0 < length g.nodes → is_done plan.states plan.origins n ≡ true →
+  pub need_below : (number : ℕ) (needed : state_of plan.states number ≢ Unneeded) (n : NodeId) →
+      stands ((k number needed).kept.required ++ (k number needed).kept.deps) n ≡ true → n.0 < length g.nodes
+  need_below number needed n h = one_below g ((k number needed).kept.required ++ (k number needed).kept.deps) n
+      (needs_all_below number needed) h
+
+  -- what it requires and depends on stands among its needs
+  pub need_at : (number : ℕ) (needed : state_of plan.states number ≢ Unneeded) (n : NodeId) →
+      stands ((k number needed).kept.required ++ (k number needed).kept.deps) n ≡ true →
+      stands (needs_at plan.rules number) n ≡ true
+  need_at number needed n h = ap (λ o. stands (needs_in o) n) (k number needed).at ∙ h
+
+  -- a file that a needed rule needs, and that is done, waits for nothing or is missing
+  pub done_ready : (number : ℕ) (needed : state_of plan.states number ≢ Unneeded) (n : NodeId) →
+      stands ((k number needed).kept.required ++ (k number needed).kept.deps) n ≡ true →
+      is_done plan.states plan.origins n ≡ true →
       IsReady (begun_setting b) t (settled past) (path_of g.nodes n) ⊎ IsMissing (begun_setting b) t (path_of g.nodes n)
-  done_ready n lt h = done_by n (origin_of plan.origins n.0) lt refl (ties.plan_for.from.each n.0) h
+  done_ready number needed n h done =
+      done_by number n (origin_of plan.origins n.0) needed (need_at number needed n h) (need_below number needed n h)
+      refl (ties.plan_for.from.each n.0) done

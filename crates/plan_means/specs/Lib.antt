@@ -3,3 +3,9 @@ pub mod Lists
 pub mod Planning
 pub mod Ties
 pub mod Deciding
+pub mod Stepping
+pub mod Beginning
+pub mod Growth
+pub mod Scanning
+pub mod Examples
+pub mod Resting

@@ -1,5 +1,5 @@
 -- What a plan lists of a rule, by paths: what the model lists of it.
-use Rattle.std.specs.Prelude.{◌≡◌, ◌<◌, ◌≤◌, ℕ, true, List, length}
+use Rattle.std.specs.Prelude.{◌≡◌, ◌<◌, ℕ, true, List, length}
 use Rattle.scons_base.specs.declared.ids.NodeId.{NodeId}
 use Rattle.rule_graph.specs.declared.rule.Rule as declared
 use Rattle.rule_graph.specs.Rules.{are_below, IsRule}
@@ -13,7 +13,8 @@ use Rattle.build_model.specs.Reach.{scan_list, reach}
 use Rattle.build_means.specs.Rules.{IsReading, paths_of}
 use Rattle.plan_means.specs.Names.{AreNames}
 
--- What a plan keeps of a rule is what the graph says of it, and its lists follow from what was scanned; whatever was found are nodes.
+-- What a plan keeps of a rule is what the graph says of it, and its lists follow from what was scanned; whatever was
+-- found are nodes.
 pub record KeepsRule (g : RuleGraph) (of : declared.Rule) (kept : Kept) : Type 0 where
   pub targets : kept.targets ≡ of.targets
   pub required : kept.required ≡ of.required
@@ -25,7 +26,8 @@ pub record KeepsRule (g : RuleGraph) (of : declared.Rule) (kept : Kept) : Type 0
 
 -- by paths each file of a rule includes what was found in it
 abbrev pub Includes : RuleGraph → Kept → (Path → List Path) → Type 0
-Includes g kept includes = (file : NodeId) → stands kept.files file ≡ true → includes (path_of g.nodes file) ≡ paths_of g (included kept.found file)
+Includes g kept includes = (file : NodeId) → stands kept.files file ≡ true →
+    includes (path_of g.nodes file) ≡ paths_of g (included kept.found file)
 
 -- By paths the files and dependencies of a rule are those that it reaches by what files include.
 pub record AreReach (g : RuleGraph) (limit : ℕ) (kept : Kept) (includes : Path → List Path) (r : Rule) : Type 0 where
@@ -35,6 +37,8 @@ pub record AreReach (g : RuleGraph) (limit : ℕ) (kept : Kept) (includes : Path
 
 -- So it is of each rule where there is room for all nodes.
 abbrev pub ListsAreReach : Type 0
-ListsAreReach = (g : RuleGraph) (of : declared.Rule) (r : Rule) (kept : Kept) (limit : ℕ) (includes : Path → List Path) →
-    IsReading g → IsRule (length g.nodes) of → AreNames g of r → KeepsRule g of kept → Includes g kept includes → length g.nodes < limit →
+ListsAreReach = (g : RuleGraph) (of : declared.Rule) (r : Rule) (kept : Kept) (limit : ℕ)
+    (includes : Path → List Path) →
+    IsReading g → IsRule (length g.nodes) of → AreNames g of r → KeepsRule g of kept → Includes g kept includes →
+    length g.nodes < limit →
     AreReach g limit kept includes r

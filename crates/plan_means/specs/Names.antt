@@ -1,5 +1,5 @@
 -- What a plan takes from the graph of a rule, by paths: what the model says of that rule.
-use Rattle.std.specs.Prelude.{◌≡◌, ◌<◌, ◌≤◌, ℕ, true, List, [], ◌∷◌, length, Some, slice_get}
+use Rattle.std.specs.Prelude.{◌≡◌, ◌<◌, ◌≤◌, ℕ, true, [], ◌∷◌, length, Some, slice_get}
 use Rattle.scons_base.specs.declared.ids.NodeId.{NodeId}
 use Rattle.rule_graph.specs.declared.rule.Rule as declared
 use Rattle.rule_graph.specs.Graphs.{RuleGraph, path_of}
@@ -17,7 +17,8 @@ pub record AreNames (g : RuleGraph) (of : declared.Rule) (r : Rule) : Type 0 whe
   pub required : paths_of g of.required ≡ r.required
   pub named : paths_of g (named_of of) ≡ declared_paths r
   pub scanned : paths_of g (scanned_of g of) ≡ first_scanned r
-  pub left_out : of.scans ≡ true → (n : NodeId) → n.0 < length g.nodes → stands (left_out_of of) n ≡ has (path_of g.nodes n) (left_out r)
+  pub left_out : of.scans ≡ true → (n : NodeId) → n.0 < length g.nodes →
+      stands (left_out_of of) n ≡ has (path_of g.nodes n) (left_out r)
 
 -- In a grown graph each rule is one of the model, with these names.
 pub record IsNamed (b : Begun) (g : RuleGraph) (number : ℕ) (of : declared.Rule) : Type 0 where
@@ -38,5 +39,6 @@ pub record IsCopyNamed (b : Begun) (g : RuleGraph) (number : ℕ) (of : declared
   pub sources : paths_of g of.sources ≡ source ∷ []
 
 abbrev pub CopiesAreThese : Type 0
-CopiesAreThese = (b : Begun) (g : RuleGraph) → IsGrown b g → (number : ℕ) (of : declared.Rule) → length b.graph.rules ≤ number →
+CopiesAreThese = (b : Begun) (g : RuleGraph) → IsGrown b g → (number : ℕ) (of : declared.Rule) →
+    length b.graph.rules ≤ number →
     slice_get g.rules number ≡ Some of → IsCopyNamed b g number of

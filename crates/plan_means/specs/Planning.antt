@@ -1,15 +1,13 @@
 -- What a plan is for a graph, by its own words, and what an event makes of it.
-use Rattle.std.specs.Prelude.{◌≡◌, ◌≢◌, ◌⊎◌, ◌≤◌, ℕ, Bool, true, List, length, slice_get}
-use Rattle.std.specs.List.{list_all}
+use Rattle.std.specs.Prelude.{◌≡◌, ◌≢◌, ◌⊎◌, ◌≤◌, ℕ, true, List, length}
 use Rattle.scons_base.specs.declared.ids.NodeId.{NodeId}
 use Rattle.scons_base.specs.declared.limits.TheConstants.{NODE_LIMIT}
 use Rattle.rule_graph.specs.Rules.{are_below}
 use Rattle.rule_graph.specs.Graphs.{RuleGraph}
 use Rattle.task_plan.specs.States.{state_of}
 use Rattle.task_plan.specs.Named.{stands}
-use Rattle.task_plan.specs.Settled.{Kept, is_scanned}
 use Rattle.task_plan.specs.Plans.{Planned, Goes}
-use Rattle.task_plan.specs.Met.{is_met, are_met, AllMet, AreFrom, AreNodes, needs_at}
+use Rattle.task_plan.specs.Met.{is_met, AllMet, AreFrom, AreNodes, needs_at}
 use Rattle.task_plan.specs.Admits.{Fits, AllFollow, Knows}
 use Rattle.task_plan.specs.Rooted.{makers_in, AreReached}
 use Rattle.task_plan.specs.Watched.{IsComplete}
@@ -46,9 +44,7 @@ pub record IsPlanFor (g : RuleGraph) (requested : List NodeId) (plan : Planned) 
   pub complete : IsComplete plan
   pub order : KeepsOrder plan
   pub roots : plan.notes.roots ≡ makers_in g requested
-  pub asked : are_met plan.origins requested ≡ true
   pub nodes : are_below (length g.nodes) requested ≡ true
-  pub sought : AreSought requested plan
 
 -- What an event makes of a plan where memory sufficed: the clauses of a step.
 pub record IsStep (g : RuleGraph) (old : Planned) (event : PlanEvent) (new : Planned) : Type 0 where
@@ -60,5 +56,6 @@ pub record IsStep (g : RuleGraph) (old : Planned) (event : PlanEvent) (new : Pla
   pub needs : AreNodes g event → Fits g old → AllMet old → AllMet new
   pub only : AreNodes g event → Fits g old → AreFrom g old → AllMet old → AreReached old → AreReached new
   pub roots : new.notes.roots ≡ old.notes.roots
-  pub complete : AreNodes g event → Fits g old → AreFrom g old → AllMet old → AreReached old → IsComplete old → IsComplete new
+  pub complete : AreNodes g event → Fits g old → AreFrom g old → AllMet old → AreReached old → IsComplete old →
+      IsComplete new
   pub order : AreNodes g event → Fits g old → AreFrom g old → AllMet old → KeepsOrder old → KeepsOrder new
