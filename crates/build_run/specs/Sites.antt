@@ -37,12 +37,12 @@ IsStoredFor m busies site = IsStored m site.world.now site.store.now busies site
 -- No directory is closed. The running jobs have these holds, and their tickets and the held ones are out by the store. Fewer
 -- records are held than jobs may run, and no more than 64 jobs run.
 pub record IsSoundWith {W O E : Type 0} (m : Meaning W) (holds : List Hold) (busies : List Busy) (site : Site W O E) : Type 0
-    where
-  pub unclosed : m.closed site.world.now ≡ []
-  pub joined : IsJoined m site.world.now holds
-  pub stored : IsStoredFor m busies site
-  pub few : length site.run.held < most_jobs site.options
-  pub limit : length site.run.tickets ≤ 64
+  where
+    pub unclosed : m.closed site.world.now ≡ []
+    pub joined : IsJoined m site.world.now holds
+    pub stored : IsStoredFor m busies site
+    pub few : length site.run.held < most_jobs site.options
+    pub limit : length site.run.tickets ≤ 64
 
 -- the running jobs are those of its tickets
 abbrev pub IsSound : {W O E : Type 0} → Meaning W → Site W O E → Type 0

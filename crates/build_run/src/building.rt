@@ -73,7 +73,16 @@ pub fn build<W: World, O: Sink, E: Sink>(
     match set_out(alloc, options.hash, graph, requested, store, world) {
         Ok(run) => {
             let options = *options;
-            let mut site = Site { graph, store, world, out, err, run, account, options };
+            let mut site = Site {
+                graph,
+                store,
+                world,
+                out,
+                err,
+                run,
+                account,
+                options,
+            };
             site.go_on();
             let skipped = site.close();
             answer(site.account, skipped)

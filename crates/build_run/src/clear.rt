@@ -51,7 +51,10 @@ impl<W: World, O: Sink, E: Sink> Site<'_, '_, W, O, E> {
         if !self.store.has_record(ticket) {
             return Ok(());
         }
-        match self.store.withdraw(self.world, self.run.held.as_slice(), ticket) {
+        match self
+            .store
+            .withdraw(self.world, self.run.held.as_slice(), ticket)
+        {
             Ok(()) => {
                 self.run.held.clear();
                 Ok(())

@@ -32,7 +32,8 @@ impl<W: World, O: Sink, E: Sink> Site<'_, '_, W, O, E> {
             Present::Record(now) => self.make(rule, now),
             Present::Lacks(node) => {
                 let missing = missing_fault(self.graph, rule, node)?;
-                self.account.fail(self.err, rule, missing, self.options.keep);
+                self.account
+                    .fail(self.err, rule, missing, self.options.keep);
                 Ok(PlanEvent::Absent(rule, node))
             }
         }

@@ -76,7 +76,14 @@ impl<W: World, O: Sink, E: Sink> Site<'_, '_, W, O, E> {
             }
             outcome => {
                 give_up(self.account.is_store_shut, self.store, busy.ticket);
-                not_done(self.graph, &mut self.account, self.err, &self.options, rule, outcome);
+                not_done(
+                    self.graph,
+                    &mut self.account,
+                    self.err,
+                    &self.options,
+                    rule,
+                    outcome,
+                );
                 PlanEvent::DoneFailed(rule)
             }
         }

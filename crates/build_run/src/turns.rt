@@ -45,7 +45,13 @@ impl<W: World, O: Sink, E: Sink> Site<'_, '_, W, O, E> {
                 return;
             }
             let done = self.take_turn(wanted);
-            tell(self.graph, &mut self.run.plan, &mut self.account, self.err, done);
+            tell(
+                self.graph,
+                &mut self.run.plan,
+                &mut self.account,
+                self.err,
+                done,
+            );
             halt(self.graph, &mut self.run.plan, &self.account);
         }
         self.account.want_memory();
@@ -65,7 +71,13 @@ impl<W: World, O: Sink, E: Sink> Site<'_, '_, W, O, E> {
                 break;
             }
             let event = self.take_ending();
-            tell(self.graph, &mut self.run.plan, &mut self.account, self.err, Ok(event));
+            tell(
+                self.graph,
+                &mut self.run.plan,
+                &mut self.account,
+                self.err,
+                Ok(event),
+            );
             halt(self.graph, &mut self.run.plan, &self.account);
         }
     }

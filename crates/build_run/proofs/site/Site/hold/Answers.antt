@@ -27,7 +27,7 @@ returns-then-len-most_jobs-clause-sound g c =
       stored =
           subst (λ (all : List Busy). stored (all ++ site.run.tickets)) (sym c.add.ensures)
           (subst stored (sym (append_assoc site.run.held (c.args.busy ∷ []) site.run.tickets)) c.requires.stored);
-      few = omega (arith, c.if-len-most_jobs.true);
+      few = omega (arith, c.if-len-most_jobs.true, c.len.ensures, c.most_jobs.ensures);
       limit = c.requires.limit;
     }
 
