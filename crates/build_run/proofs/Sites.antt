@@ -93,7 +93,7 @@ pub cleared_by : {W O E T F : Type 0} (m : Meaning W) (site : Site W O E) (job :
 cleared_by m site job ticket paths (Ok value) same gone withdrawn ticket_for = record {
   gone = λ t path h. gone t path (subst (λ (all : List (List ℕ)). Contains all path) (sym same) h);
   withdrawn = withdrawn;
-  ticket = ticket_for;
+  out = ticket_for;
 }
 cleared_by m site job ticket paths (Err end) same gone withdrawn ticket_for = tt
 

@@ -108,7 +108,7 @@ holds_after (Err end) job site = holds_in site.run.tickets
 pub record IsReady {W O E : Type 0} (site : Site W O E) (job : Job) (ticket : Ticket) : Type 0 where
   pub unshut : site.account.is_store_shut ≡ false
   pub apart : (hold : Hold) → Contains (holds_in site.run.tickets) hold → KeepsApart job hold
-  pub ticket : IsTicketFor site.store.now ticket job.targets
+  pub out : IsTicketFor site.store.now ticket job.targets
   pub room : HasOwnRoom ticket (site.run.held ++ site.run.tickets)
   pub beside : (busy : Busy) → Contains site.run.held busy → ShareNone job.targets busy.hold.targets
 
@@ -116,7 +116,7 @@ pub record IsReady {W O E : Type 0} (site : Site W O E) (job : Job) (ticket : Ti
 pub record IsCleared {W O E : Type 0} (m : Meaning W) (site : Site W O E) (job : Job) (ticket : Ticket) : Type 0 where
   pub gone : AreAbsent m site.world.now job.targets
   pub withdrawn : AreWithdrawn m site.world.now site.store.now job.targets
-  pub ticket : IsTicketFor site.store.now ticket job.targets
+  pub out : IsTicketFor site.store.now ticket job.targets
 
 -- ---- records
 

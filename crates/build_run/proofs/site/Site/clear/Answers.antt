@@ -13,7 +13,7 @@ withdraw-requires-clause-sound g c = sound_still g.W.Disk.meaning c.args.self.no
 pub withdraw-requires-clause-ready : goal.withdraw-requires-clause-ready
 withdraw-requires-clause-ready g c =
     let ready = c.requires.ready in
-    record { unshut = ready.unshut; apart = ready.apart; ticket = ready.ticket; room = ready.room; beside = ready.beside }
+    record { unshut = ready.unshut; apart = ready.apart; out = ready.out; room = ready.room; beside = ready.beside }
 
 pub remove_all-requires : goal.remove_all-requires
 remove_all-requires g c = λ t path h.

@@ -91,7 +91,7 @@ pub returns-clause-kept : goal.returns-clause-kept
 returns-clause-kept g c = λ unshut. c.clear.ensures.kept (sym (ap (λ (l : Ledger). l.shut) c.show.ensures.account) ∙ unshut)
 
 pub returns-clause-ticket : goal.returns-clause-ticket
-returns-clause-ticket g c = held_ok c.begin.result c.in_ok-clear.ensures.cleared.ticket
+returns-clause-ticket g c = held_ok c.begin.result c.in_ok-clear.ensures.cleared.out
 
 pub returns-clause-none : goal.returns-clause-none
 returns-clause-none g c = held_ok c.begin.result c.in_ok-clear.ensures.cleared.withdrawn.map

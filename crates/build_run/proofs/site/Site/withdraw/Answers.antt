@@ -31,7 +31,7 @@ returns-then-not-has_record-clause-goes g c = record {
 pub returns-then-not-has_record-clause-withdrawn : goal.returns-then-not-has_record-clause-withdrawn
 returns-then-not-has_record-clause-withdrawn g c =
     let site = c.args.self.now in
-    let t = c.requires.ready.ticket in
+    let t = c.requires.ready.out in
     withdrawn_before g.W.Disk.meaning site.world.now site.store.now t.rec c.args.job.now.targets t.same (sym (c.has_record.ensures t.rec t.out.own) ∙ c.if-not-has_record.true) (c.requires.sound.stored.kept c.requires.ready.unshut)
 
 pub returns-then-not-has_record-clause-held : goal.returns-then-not-has_record-clause-held
@@ -58,7 +58,7 @@ returns-in-Ok-clause-sound g c =
     let busies = site.run.tickets in
     let ready = c.requires.ready in
     let sound = c.requires.sound in
-    let t = ready.ticket in
+    let t = ready.out in
     let slice = c.as_slice.ensures in
     let shut = site.account.is_store_shut in
     let goes = goes_by m site.world.now c.withdraw.new.world c.withdraw.ensures.told c.withdraw.ensures.around (later_same _ _ c.in-Ok.ensures.kept) in
@@ -82,7 +82,7 @@ returns-in-Ok-clause-withdrawn g c =
     let site = c.args.self.now in
     let store = site.store.now in
     let ready = c.requires.ready in
-    let t = ready.ticket in
+    let t = ready.out in
     let slice = c.as_slice.ensures in
     let with = subst (λ (all : List Busy). AreOutWith store all t.rec c.args.ticket.now) (sym slice) (out_with store site.run.held site.run.tickets c.args.ticket.now c.args.job.now.targets t (c.requires.sound.stored.outs ready.unshut) ready.room ready.beside) in
     withdrawn g.W.Disk.meaning c.withdraw.new.world c.withdraw.new.self (map_with store c.as_slice.result.now) t.rec c.args.job.now.targets t.same (c.in-Ok.ensures.map t.rec with) (c.in-Ok.ensures.keeps t.rec with (c.requires.sound.stored.kept ready.unshut))
@@ -92,7 +92,7 @@ returns-in-Ok-clause-ticket g c =
     let site = c.args.self.now in
     let store = site.store.now in
     let ready = c.requires.ready in
-    let t = ready.ticket in
+    let t = ready.out in
     let with = subst (λ (all : List Busy). AreOutWith store all t.rec c.args.ticket.now) (sym c.as_slice.ensures) (out_with store site.run.held site.run.tickets c.args.ticket.now c.args.job.now.targets t (c.requires.sound.stored.outs ready.unshut) ready.room ready.beside) in
     ticket_still store c.withdraw.new.self c.args.ticket.now c.args.job.now.targets t (c.in-Ok.ensures.out t.rec with)
 
@@ -104,7 +104,7 @@ returns-in-Ok-clause-kept g c = λ unshut path not.
     let site = c.args.self.now in
     let store = site.store.now in
     let ready = c.requires.ready in
-    let t = ready.ticket in
+    let t = ready.out in
     let slice = c.as_slice.ensures in
     let with = subst (λ (all : List Busy). AreOutWith store all t.rec c.args.ticket.now) (sym slice) (out_with store site.run.held site.run.tickets c.args.ticket.now c.args.job.now.targets t (c.requires.sound.stored.outs ready.unshut) ready.room ready.beside) in
     let map = subst (λ (all : List Busy). map_of c.withdraw.new.self ≡ map_without store all t.rec) slice (c.in-Ok.ensures.map t.rec with) in
