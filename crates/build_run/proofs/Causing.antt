@@ -299,7 +299,7 @@ module _ (start : Outside) (ledger : Ledger) where
   printed counts old new err (Ok value) h a = same_out counts old new err h a
   printed counts old new err (Err (end.Fault f)) h a = by f h
     where
-      by : (f : BuildFault) → HasPrintCause {T} old new (Err (end.Fault f)) → Accounted start (outside counts new err) (with_fault ledger f)
+      by : (f : BuildFault) → HasPrintCause {T = T} old new (Err (end.Fault f)) → Accounted start (outside counts new err) (with_fault ledger f)
       by (fault.Missing node path) h = absurd h
       by (fault.Cycle paths) h = absurd h
       by (fault.ActionFailed path code) h = absurd h
@@ -316,7 +316,7 @@ module _ (start : Outside) (ledger : Ledger) where
   begun old new out err (Ok value) h a = same_counts old new out err h a
   begun old new out err (Err (end.Fault f)) h a = by f h
     where
-      by : (f : BuildFault) → HasStartCause {T} old new (Err (end.Fault f)) → Accounted start (outside new out err) (with_fault ledger f)
+      by : (f : BuildFault) → HasStartCause {T = T} old new (Err (end.Fault f)) → Accounted start (outside new out err) (with_fault ledger f)
       by (fault.Missing node path) h = absurd h
       by (fault.Cycle paths) h = absurd h
       by (fault.ActionFailed path code) h = absurd h
@@ -354,7 +354,7 @@ module _ (start : Outside) (ledger : Ledger) where
   untold now target outcome.NoMemory a = a
 
 -- a start that was refused
-pub refused_start : {T : Type 0} (old new : Counts) (e : ListEnd) → StartFails old new → IsUnstarted e → HasStartCause {T} old new (Err e)
+pub refused_start : {T : Type 0} (old new : Counts) (e : ListEnd) → StartFails old new → IsUnstarted e → HasStartCause {T = T} old new (Err e)
 refused_start old new (end.Fault (fault.StartFault path)) fails is = fails
 refused_start old new (end.Fault (fault.Missing node path)) fails is = absurd is
 refused_start old new (end.Fault (fault.Cycle paths)) fails is = absurd is

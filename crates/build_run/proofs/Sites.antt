@@ -104,9 +104,9 @@ joined_after m world (Ok value) job old busies same started refused = subst (λ 
 joined_after m world (Err end) job old busies same started refused = subst (λ (all : List Busy). IsJoined m world (holds_in all)) same refused
 
 -- a start that didn't come about
-pub sound_refused : {W O E T : Type 0} {P : ListEnd → Type 0} (m : Meaning W) (r : Result T ListEnd) (job : Job) (old new : Site W O E) → IsErrAnd r P → new.run.tickets ≡ old.run.tickets → IsSound m new → IsSoundWith m (holds_after r job old) (new.run.held ++ new.run.tickets) new
-sound_refused m (Ok value) job old new is same s = absurd is
-sound_refused m (Err end) job old new is same s = record {
+pub sound_refused : {W O E T : Type 0} (P : ListEnd → Type 0) (m : Meaning W) (r : Result T ListEnd) (job : Job) (old new : Site W O E) → IsErrAnd r P → new.run.tickets ≡ old.run.tickets → IsSound m new → IsSoundWith m (holds_after r job old) (new.run.held ++ new.run.tickets) new
+sound_refused P m (Ok value) job old new is same s = absurd is
+sound_refused P m (Err end) job old new is same s = record {
   unclosed = s.unclosed;
   joined = subst (λ (all : List Busy). IsJoined m new.world.now (holds_in all)) same s.joined;
   stored = s.stored;

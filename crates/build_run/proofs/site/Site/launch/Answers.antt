@@ -27,7 +27,7 @@ pub returns-in_err-clear-clause-ends : goal.returns-in_err-clear-clause-ends
 returns-in_err-clear-clause-ends g c = λ start a. exit_same start (ledger_of c.clear.new.self.account) _ c.from_residual.result _ c.from_residual.ensures.1 (c.in_err-clear.ensures.ends start a)
 
 pub returns-in_err-clear-clause-sound : goal.returns-in_err-clear-clause-sound
-returns-in_err-clear-clause-sound g c = sound_refused g.W.Disk.meaning c.from_residual.result c.args.job c.args.self.now c.clear.new.self c.from_residual.ensures.1 c.clear.ensures.goes.tickets c.clear.ensures.sound
+returns-in_err-clear-clause-sound g c = sound_refused _ g.W.Disk.meaning c.from_residual.result c.args.job c.args.self.now c.clear.new.self c.from_residual.ensures.1 c.clear.ensures.goes.tickets c.clear.ensures.sound
 
 pub returns-in_err-show-clause-passes : goal.returns-in_err-show-clause-passes
 returns-in_err-show-clause-passes g c =
@@ -50,7 +50,7 @@ returns-in_err-show-clause-sound g c =
     let m = g.W.Disk.meaning in
     let shut = ap (λ (l : Ledger). l.shut) c.show.ensures.account in
     let still = sound_still m c.clear.new.self _ (stays_here m c.clear.new.self.world.now) refl refl refl refl shut c.clear.ensures.sound in
-    sound_refused m c.from_residual-in_err-show.result c.args.job c.args.self.now _ c.from_residual-in_err-show.ensures.1 c.clear.ensures.goes.tickets still
+    sound_refused _ m c.from_residual-in_err-show.result c.args.job c.args.self.now _ c.from_residual-in_err-show.ensures.1 c.clear.ensures.goes.tickets still
 
 pub returns-in_err-show-clause-kept : goal.returns-in_err-show-clause-kept
 returns-in_err-show-clause-kept g c = λ unshut. c.clear.ensures.kept (sym (ap (λ (l : Ledger). l.shut) c.show.ensures.account) ∙ unshut)

@@ -6,6 +6,7 @@ use Rattle.world_api.specs.Around.{Around, Finished}
 use Rattle.world_api.specs.declared.job.Outcome.TheVariants.{Done}
 use Rattle.world_api.specs.declared.job.Outcome.{Outcome}
 use Rattle.build_run.specs.Ledgers.{Ledger, ledger_of, wanting}
+use Rattle.scons_base.specs.declared.ids.RuleId.{RuleId}
 use Rattle.build_run.specs.declared.tickets.Hold.{Hold}
 use Rattle.build_run.proofs.Holding.{no_more}
 use Rattle.build_run.proofs.Causing.{account_as, settled, untold}

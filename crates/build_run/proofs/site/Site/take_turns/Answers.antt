@@ -6,9 +6,6 @@ use Rattle.build_run.proofs.Goings.{passes_on, stays_here}
 use Rattle.build_run.proofs.Sites.{same_on, site_here, sound_still}
 use Rattle.build_run.proofs.site.Site.take_turns.Goals as goal
 
-pub loop-turn-begins : goal.loop-turn-begins
-loop-turn-begins g c = record { passes = site_here g.W.Disk.meaning c.args.self.now; accounts = λ start a. a; sound = c.requires.sound }
-
 pub loop-turn-preserved : goal.loop-turn-preserved
 loop-turn-preserved g c =
     let m = g.W.Disk.meaning in
