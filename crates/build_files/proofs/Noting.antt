@@ -84,15 +84,15 @@ unknown_kept b g old new around same unknown is = subst (λ i. AreTrue b g i aro
   gone = is.gone;
 })
 
-either_there : {p k : Path} {keys : List Path} {path : Path} → (list_any (bytes_eq p) keys ≡ true) ⊎ (p ≡ path) → (list_any (bytes_eq p) (k ∷ keys) ≡ true) ⊎ (p ≡ path)
-either_there {p} {k} {keys} (inl e) = inl (or_second (bytes_eq p k) (list_any (bytes_eq p) keys) e)
-either_there (inr same) = inr same
+either_there : (p k path : Path) (keys : List Path) → (list_any (bytes_eq p) keys ≡ true) ⊎ (p ≡ path) → (list_any (bytes_eq p) (k ∷ keys) ≡ true) ⊎ (p ≡ path)
+either_there p k path keys (inl e) = inl (or_second (bytes_eq p k) (list_any (bytes_eq p) keys) e)
+either_there p k path keys (inr same) = inr same
 
 among_end : (keys : List Path) (path p : Path) → list_any (bytes_eq p) (keys ++ path ∷ []) ≡ true → (list_any (bytes_eq p) keys ≡ true) ⊎ (p ≡ path)
-among_end [] path p e = elim (or_either (bytes_eq p path) false e) [ inl same ↦ inr ((bytes_eq-Decides p path).0 same) | inr no ↦ true_false (sym no) ]
+among_end [] path p e = elim (or_either (bytes_eq p path) false e) [ inl same ↦ inr ((bytes_eq-Decides p path).0 same) | inr none ↦ true_false (sym none) ]
 among_end (k ∷ keys) path p e = elim (or_either (bytes_eq p k) (list_any (bytes_eq p) (keys ++ path ∷ [])) e) [
   | inl same ↦ inl (or_first (bytes_eq p k) (list_any (bytes_eq p) keys) same)
-  | inr rest ↦ either_there (among_end keys path p rest)
+  | inr rest ↦ either_there p k path keys (among_end keys path p rest)
 ]
 
 -- what is among the keys once a path was inserted is that path or was there

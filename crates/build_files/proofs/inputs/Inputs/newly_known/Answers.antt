@@ -41,8 +41,8 @@ returns-then-branch-clause-truth g c = λ none told b is.
 pub returns-then-branch-clause-known : goal.returns-then-branch-clause-known
 returns-then-branch-clause-known g c = λ none told b is.
     let later = asked b _ _ _ _ (c.stands.ensures.looks.around told) is in
-    known_noted b _ _ c.note.result
-    (file_known b.graph b.tree _ (sym (sym c.if-branch.true ∙ c.in_ok-stands.ensures.stands told ∙ stood b c.args.graph.now c.args.self.now _ _ later none)))
+    known_noted b c.note.new.graph c.args.path.now c.note.result
+    (file_known b.graph b.tree c.args.path.now (sym (sym c.if-branch.true ∙ c.in_ok-stands.ensures.stands told ∙ stood b c.args.graph.now c.args.self.now _ _ later none)))
     (c.note.ensures.node none) c.note.ensures.some
 
 pub returns-in_err-has_copy_rule-clause-truth : goal.returns-in_err-has_copy_rule-clause-truth
@@ -62,8 +62,8 @@ pub returns-then-branch-2-clause-known : goal.returns-then-branch-2-clause-known
 returns-then-branch-2-clause-known g c = λ none told b is.
     let before = c.has_copy_rule.ensures.looks.told.told told in
     let later = asked b _ _ _ _ (c.stands.ensures.looks.around before) is in
-    known_noted b _ _ c.note-then-branch-2.result
-    (copy_known b.graph b.tree _ (sym (c.in_ok-has_copy_rule.ensures.copied told b later) ∙ c.if-branch-2.true))
+    known_noted b c.note-then-branch-2.new.graph c.args.path.now c.note-then-branch-2.result
+    (copy_known b.graph b.tree c.args.path.now (sym (c.in_ok-has_copy_rule.ensures.copied told b later) ∙ c.if-branch-2.true))
     (c.note-then-branch-2.ensures.node none) c.note-then-branch-2.ensures.some
 
 pub returns-in_err-copy-clause-truth : goal.returns-in_err-copy-clause-truth
