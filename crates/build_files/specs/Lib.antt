@@ -3,6 +3,5 @@ pub mod Copying
 pub mod Ends
 pub mod Kept
 pub mod Leftovers
-pub mod Presence
 pub mod Searched
 pub mod Seen

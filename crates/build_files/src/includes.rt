@@ -1,12 +1,10 @@
 //! The files that a file includes.
-ghost use Rattle.std.specs.Prelude.{◌≡◌, ℕ, List, [], ◌∷◌, ◌++◌, Some, IfOk, OnOk, slice_get, is_some, true, if◌then◌else◌};
+ghost use Rattle.std.specs.Prelude.{◌≡◌, ℕ, List, [], ◌∷◌, ◌++◌, IfOk, OnOk, is_some, true};
 ghost use Rattle.std.specs.Option.{option_to_list};
-ghost use Rattle.scons_base.specs.Parts.{dir_of};
 ghost use Rattle.build_files.specs.Causes.{HasLookCause};
-ghost use Rattle.build_files.specs.Kept.{includes_in, past, IsStill, SameGone, StaysTrue};
+ghost use Rattle.build_files.specs.Kept.{IsStill, SameGone, StaysTrue};
 ghost use Rattle.build_files.specs.Searched.{first_known, meant, AreDirs, AreNodesOf, Gives, HasMore, IsNodeOf};
 ghost use Rattle.build_files.specs.Seen.{seen_at};
-ghost use Rattle.rule_graph.specs.declared.rule.Rule.{Rule};
 ghost use Rattle.build_means.specs.Finds.{dirs_for, found_for, places_in};
 ghost use Rattle.world_api.specs.Looks.{Looks};
 
@@ -104,14 +102,6 @@ impl Inputs {
     ) -> Result<Vec<NodeId>, ListEnd>
         ensures looks { Looks W.meaning world.old world.new }
         ensures cause { HasLookCause (W.meaning.counts world.old) (W.meaning.counts world.new) result }
-        ensures grows { HasMore graph.old graph.new }
-        ensures gone { SameGone self.old self.new }
-        ensures truth { IsStill graph.old (W.meaning.around world.old) file.0
-            → StaysTrue W.meaning graph.old self.old world.old graph.new self.new world.new }
-        ensures found { IsStill graph.old (W.meaning.around world.old) file.0 → (x : Rule) (path : List ℕ)
-            → slice_get graph.old.rules rule.0 ≡ Some x → slice_get graph.old.nodes file.0 ≡ Some path
-            → Gives W.meaning graph.old self.old world.old world.new result (λ b found. AreNodesOf graph.new
-            (meant b x.paths path (includes_in (past self.old.gone.keys (W.meaning.around world.old).tree path))) found.items) }
     {
         self.read_once(world, graph, file)?;
         let dirs = Dirs::of(

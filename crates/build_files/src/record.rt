@@ -1,15 +1,6 @@
 //! What a rule's record would be now, and whether the rule is stale.
-ghost use Rattle.std.specs.Prelude.{◌≡◌, ℕ, List, IfOk, Some, map, slice_get, option_copied};
-ghost use Rattle.rule_graph.specs.Graphs.{path_of as path_in};
-ghost use Rattle.build_model.specs.Rules.{Rule as ModelRule};
-ghost use Rattle.build_model.specs.Records.{stamp_kept};
-ghost use Rattle.build_means.specs.Grown.{rule_numbered};
-ghost use Rattle.build_means.specs.Present.{IsSeenDep};
-ghost use Rattle.build_means.specs.Rules.{decider_of};
+ghost use Rattle.std.specs.Prelude.{◌≡◌, IfOk, option_copied};
 ghost use Rattle.build_files.specs.Causes.{HasLookCause};
-ghost use Rattle.build_files.specs.Kept.{past, stamp_past, IsStill, SameGone, StaysTrue};
-ghost use Rattle.build_files.specs.Presence.{AreStill, AreLookedFor, IsPresentAs};
-ghost use Rattle.build_files.specs.Searched.{Gives};
 ghost use Rattle.sign_store.specs.Copies.{AreCopiesOf};
 ghost use Rattle.sign_store.specs.Stores.{map_of, map_of_view};
 ghost use Rattle.sign_store.specs.Tables.{Map};
@@ -82,15 +73,7 @@ impl Inputs {
     ) -> Result<Present, ListEnd>
         ensures looks { Looks W.meaning world.old world.new }
         ensures cause { HasLookCause (W.meaning.counts world.old) (W.meaning.counts world.new) result }
-        ensures gone { SameGone self.old self.new }
-        ensures truth { AreStill graph.now (W.meaning.around world.old) nodes.now
-            → StaysTrue W.meaning graph.now self.old world.old graph.now self.new world.new }
-        ensures present { AreStill graph.now (W.meaning.around world.old) nodes.now → AreLookedFor graph.now self.old nodes.now
-            → Gives W.meaning graph.now self.old world.old world.new result (λ b present. (r : ModelRule)
-            → rule_numbered b graph.now rule.0 ≡ Some r → IsPresentAs b graph.now r nodes.now
-            (past self.old.gone.keys (W.meaning.around world.old).tree) (stamp_past self.old.gone.keys (W.meaning.around world.old)) present) }
     {
-        graph.laws();
         let mut deps = Vec::with_capacity(self.alloc, nodes.len())?;
         let decider = rule_at(graph, rule)?.decider;
         for node in nodes {
@@ -118,14 +101,6 @@ impl Inputs {
     ) -> Result<Dep, ListEnd>
         ensures looks { Looks W.meaning world.old world.new }
         ensures cause { HasLookCause (W.meaning.counts world.old) (W.meaning.counts world.new) result }
-        ensures gone { SameGone self.old self.new }
-        ensures truth { IsStill graph.now (W.meaning.around world.old) node.0
-            → StaysTrue W.meaning graph.now self.old world.old graph.now self.new world.new }
-        ensures dep { IsStill graph.now (W.meaning.around world.old) node.0
-            → Gives W.meaning graph.now self.old world.old world.new result (λ b dep. (r : ModelRule)
-            → r.decider ≡ decider_of decider → IsSeenDep b r (past self.old.gone.keys (W.meaning.around world.old).tree)
-            (stamp_past self.old.gone.keys (W.meaning.around world.old)) (path_in graph.now.nodes node) dep) }
-        ensures node { IfOk result (λ dep. slice_get graph.now.nodes node.0 ≡ Some dep.name) }
     {
         let digest = self.digest(world, graph, node)?;
         let stamp = self.stamp_for(world, graph, decider, node)?;
@@ -147,12 +122,6 @@ impl Inputs {
     ) -> Result<Option<u64>, ListEnd>
         ensures looks { Looks W.meaning world.old world.new }
         ensures cause { HasLookCause (W.meaning.counts world.old) (W.meaning.counts world.new) result }
-        ensures gone { SameGone self.old self.new }
-        ensures truth { IsStill graph.now (W.meaning.around world.old) node.0
-            → StaysTrue W.meaning graph.now self.old world.old graph.now self.new world.new }
-        ensures stamp { (path : List ℕ) → slice_get graph.now.nodes node.0 ≡ Some path
-            → Gives W.meaning graph.now self.old world.old world.new result
-            (λ b time. time ≡ stamp_kept (decider_of decider) (stamp_past self.old.gone.keys (W.meaning.around world.new) path)) }
     {
         match decider {
             Decider::Content => Ok(None),
@@ -162,9 +131,7 @@ impl Inputs {
 }
 
 /// The paths of these nodes.
-fn paths_of(alloc: Global, graph: &Graph, nodes: &[NodeId]) -> Result<Paths, Memory>
-    ensures { IfOk result (λ paths. paths ≡ map (path_in graph.now.nodes) nodes.now) }
-{
+fn paths_of(alloc: Global, graph: &Graph, nodes: &[NodeId]) -> Result<Paths, Memory> {
     let mut paths = Vec::with_capacity(alloc, nodes.len())?;
     for node in nodes {
         paths.push(path_of(graph, *node)?.copy()?)?;

@@ -7,5 +7,5 @@ returns-in_err-found-clause-looks g c = looks_joined _ _ _ _ c.read_once.ensures
 pub returns-clause-looks : goal.returns-clause-looks
 returns-clause-looks g c = looks_joined _ _ _ _ c.read_once.ensures.looks c.search_each.ensures.looks
 
-pub returns-in_err-seen-2-clause-looks : goal.returns-in_err-seen-2-clause-looks
-returns-in_err-seen-2-clause-looks g c = looks_joined _ _ _ _ c.read_once.ensures.looks c.search_each.ensures.looks
+pub returns-in_err-keep_includes-clause-looks : goal.returns-in_err-keep_includes-clause-looks
+returns-in_err-keep_includes-clause-looks g c = looks_joined _ _ _ _ c.read_once.ensures.looks c.search_each.ensures.looks
