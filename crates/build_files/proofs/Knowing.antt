@@ -1,5 +1,5 @@
 -- What is known of a path in the graph as it has grown is what was known of it as the build began.
-use Rattle.std.proofs.Common.{◌≡◌, ◌<◌, ◌≤◌, ◌⊎◌, inl, inr, ◌∙◌, ap, sym, subst, refl, ℕ, zero, suc, ◌+◌, Bool, true, false, List, [], ◌∷◌, ◌++◌, ◌||◌, not, cond, length, Option, Some, None, lt-ltb, ltb-true, arith}
+use Rattle.std.proofs.Common.{◌≡◌, ◌<◌, ◌⊎◌, inl, inr, ◌∙◌, ap, sym, subst, refl, ℕ, Bool, true, false, ◌||◌, not, Option, Some, None, lt-ltb, ltb-true, arith}
 use Rattle.std.specs.Prelude.{Result, IfOk, nat_lt, slice_get, is_some, if◌then◌else◌, ◌&&◌}
 use Rattle.std.specs.List.{list_any}
 use Rattle.std.specs.Option.{option_map}
@@ -11,15 +11,15 @@ use Rattle.rule_graph.specs.declared.rule.Rule.{Rule}
 use Rattle.rule_graph.specs.Graphs.{RuleGraph, path_of}
 use Rattle.rule_graph.specs.Rules.{rule_of, is_target_of}
 use Rattle.variant_dirs.specs.Variants.{variant_of, source_of}
-use Rattle.world_api.specs.Around.{Around, Tree}
+use Rattle.world_api.specs.Around.{Around}
 use Rattle.world_api.specs.Calls.{Asks}
 use Rattle.build_model.specs.Rules.{Path, Among}
 use Rattle.build_means.specs.Copies as means
-use Rattle.build_means.specs.Grown.{Begun, IsCopyOf}
+use Rattle.build_means.specs.Grown.{Begun}
 use Rattle.build_means.specs.Rules.{IsReading, paths_of, rule_with}
 use Rattle.build_means.specs.Rules as read
 use Rattle.build_means.proofs.Growing.{get_front, get_either, named, only, paths_stay, are_rules}
-use Rattle.build_means.proofs.Lists.{none_some, some_same, true_false, or_neither, among_map, first_place, place_of, at_place}
+use Rattle.build_means.proofs.Lists.{none_some, true_false, among_map, first_place, place_of, at_place}
 use Rattle.build_means.proofs.Readings.{target_number, target_rule, rule_with_target, rule_with_is}
 use Rattle.build_files.proofs.Places.{past_end, numbered}
 use Rattle.build_files.proofs.Truths.{asked}
@@ -137,7 +137,7 @@ module _ (b : Begun) (g : RuleGraph) (inputs : Inputs) (around : Around) (is : A
   from_same path =
       ap (λ c. if c then source_among g inputs.declared around (source_of g.variants g.top path) else None) (copied_same path)
       ∙ ap (λ (o : Option Path). if means.is_copied b.graph path then source_among g inputs.declared around o else None)
-        (ap (λ variants. source_of variants g.top path) is.grown.variants ∙ ap (λ top. source_of b.graph.variants top path) is.grown.top)
+      (ap (λ variants. source_of variants g.top path) is.grown.variants ∙ ap (λ top. source_of b.graph.variants top path) is.grown.top)
       ∙ ap (λ (o : Option Path). if means.is_copied b.graph path then o else None) (among (source_of b.graph.variants b.graph.top path))
     where
       among : (o : Option Path) → source_among g inputs.declared around o ≡ means.source_among b.graph b.tree o

@@ -20,7 +20,7 @@ use Rattle.build_means.proofs.Growing.{get_front}
 use Rattle.build_means.proofs.Lists.{none_some, true_false, or_either, or_first, or_second}
 use Rattle.build_files.proofs.Places.{numbered}
 use Rattle.build_files.specs.Kept.{past, AreTrue, IsKnownAs}
-use Rattle.build_files.specs.Leftovers.{is_made, has_rule}
+use Rattle.build_files.specs.Leftovers.{has_rule}
 use Rattle.build_files.specs.Searched.{HasMore}
 use Rattle.build_files.specs.declared.end.ListEnd.{ListEnd}
 use Rattle.build_files.specs.declared.inputs.Inputs.{Inputs}

@@ -1,5 +1,5 @@
 -- What is kept of files stays true as the world is looked at, and as one more file is looked at.
-use Rattle.std.proofs.Common.{◌≡◌, ◌<◌, ◌≤◌, ◌⊎◌, inl, inr, ◌∙◌, ap, sym, subst, refl, ℕ, Bool, true, false, List, length, Option, Some, None, arith}
+use Rattle.std.proofs.Common.{◌≡◌, inl, inr, ◌∙◌, ap, sym, subst, refl, ℕ, Bool, true, false, List, Option, Some, None, arith}
 use Rattle.std.specs.Prelude.{◌≢◌, Result, IfOk, nat_eq, slice_get, is_some, if◌then◌else◌}
 use Rattle.std.specs.List.{list_any}
 use Rattle.std.specs.Option.{option_map}
@@ -56,10 +56,10 @@ seen_asked b gone old new path seen asks is = elim is.still [
         is_file = is.is_file;
       }
   | inr unread ↦ record {
-      now = unread_is b.hash (past gone new.tree path) (stamp_past gone new path) seen unread;
-      still = inr unread;
-      is_file = is.is_file;
-    }
+    now = unread_is b.hash (past gone new.tree path) (stamp_past gone new path) seen unread;
+    still = inr unread;
+    is_file = is.is_file;
+  }
 ]
 
 -- the world was looked at
@@ -141,7 +141,7 @@ kept_content b g old new around node path content at free same keeps is =
     let after = keeps.this (stamp_past old.gone.keys around path) before in
     kept_one b g old new around node path is keeps.rest keeps.others keeps.settled at (record {
       now = subst (λ c. IsSeenAs b.hash c (stamp_past old.gone.keys around path) (seen_at new.files.seen.items node)) same
-        (subst (λ hash. IsSeenAs hash content (stamp_past old.gone.keys around path) (seen_at new.files.seen.items node)) is.hash after);
+          (subst (λ hash. IsSeenAs hash content (stamp_past old.gone.keys around path) (seen_at new.files.seen.items node)) is.hash after);
       still = inl free;
       is_file = λ stands e. was.is_file stands (sym keeps.is_file ∙ e);
     })
@@ -200,7 +200,7 @@ module _ (b : Begun) (g : RuleGraph) (old : Inputs) (files : SeenFiles) (around 
       let was = is.seen node path at in
       kept_this refl sees (record {
         now = record { digest = was.now.digest; includes = was.now.includes; stamp = was.now.stamp };
-        still = elim was.still [ | inl free ↦ inl free | inr unread ↦ inr (record { digest = unread.digest; includes = unread.includes; stamp = unread.stamp }) ];
+        still = elim was.still [ inl free ↦ inl free | inr unread ↦ inr (record { digest = unread.digest; includes = unread.includes; stamp = unread.stamp }) ];
         is_file = λ other e. sym (some_same e) ∙ same;
       })
 
@@ -228,7 +228,7 @@ module _ (b : Begun) (g : RuleGraph) (old : Inputs) (files : SeenFiles) (around 
       let was = is.seen node path at in
       kept_this refl sees (record {
         now = record { digest = was.now.digest; includes = λ other e. none_some e; stamp = was.now.stamp };
-        still = elim was.still [ | inl free ↦ inl free | inr unread ↦ inr (record { digest = unread.digest; includes = refl; stamp = unread.stamp }) ];
+        still = elim was.still [ inl free ↦ inl free | inr unread ↦ inr (record { digest = unread.digest; includes = refl; stamp = unread.stamp }) ];
         is_file = was.is_file;
       })
 

@@ -84,8 +84,8 @@ returns-clause-truth g c = λ none told b is.
     let first = asked b _ _ _ _ (c.stands.ensures.looks.around before) is in
     let later = asked b _ _ _ _ (c.has_copy_rule.ensures.looks.around told) first in
     let unknown = nothing_known b.graph b.tree c.args.path.now (undeclared b c.args.graph.now c.args.self.now _ _ first none c.laws.ensures.apart)
-      (sym (c.in_ok-has_copy_rule.ensures.copied told b first) ∙ c.if-branch-2.false)
-      (sym (sym c.if-branch.false ∙ c.in_ok-stands.ensures.stands before ∙ stood b c.args.graph.now c.args.self.now _ _ first none)) in
+    (sym (c.in_ok-has_copy_rule.ensures.copied told b first) ∙ c.if-branch-2.false)
+    (sym (sym c.if-branch.false ∙ c.in_ok-stands.ensures.stands before ∙ stood b c.args.graph.now c.args.self.now _ _ first none)) in
     unknown_kept b c.args.graph.now c.args.self.now _ _ refl
     (unknown_more b _ _ _ c.in_ok-insert.ensures.keys (ap (is_known b.graph b.tree) c.in_ok-copy.ensures ∙ unknown) later.unknown) later
 

@@ -4,7 +4,7 @@ use Rattle.build_means.specs.Copies.{is_known}
 use Rattle.build_means.specs.Finds.{places_in}
 use Rattle.build_files.proofs.Candidates.{found_in_dirs, found_nothing}
 use Rattle.build_files.proofs.Noting.{more_joined}
-use Rattle.build_files.proofs.Searching.{stays_joined, none_more, none_all, found_here, no_node, node_none}
+use Rattle.build_files.proofs.Searching.{none_more, none_all, found_here, no_node, node_none}
 use Rattle.build_files.proofs.inputs.Inputs.search.Goals as goal
 
 pub returns-in_err-node-clause-looks : goal.returns-in_err-node-clause-looks
@@ -18,7 +18,7 @@ returns-in_err-node-clause-gone g c = c.search_dir.ensures.gone ∙ c.loop-dir.i
 
 pub returns-in_err-node-clause-truth : goal.returns-in_err-node-clause-truth
 returns-in_err-node-clause-truth g c =
-    stays_joined _ _ _ _ _ _ _ _ _ _ c.search_dir.ensures.looks.told.told c.loop-dir.invariant.truth c.search_dir.ensures.truth
+    λ told b is. c.search_dir.ensures.truth told b (c.loop-dir.invariant.truth (c.search_dir.ensures.looks.told.told told) b is)
 
 pub loop-dir-preserved : goal.loop-dir-preserved
 loop-dir-preserved g c = record {
@@ -26,7 +26,7 @@ loop-dir-preserved g c = record {
   counts = c.in_ok-node.ensures.cause ∙ c.loop-dir.invariant.counts;
   grows = more_joined _ _ _ c.loop-dir.invariant.grows c.search_dir.ensures.grows;
   gone = c.search_dir.ensures.gone ∙ c.loop-dir.invariant.gone;
-  truth = stays_joined _ _ _ _ _ _ _ _ _ _ c.search_dir.ensures.looks.told.told c.loop-dir.invariant.truth c.search_dir.ensures.truth;
+  truth = λ told b is. c.search_dir.ensures.truth told b (c.loop-dir.invariant.truth (c.search_dir.ensures.looks.told.told told) b is);
   passed = λ told b is.
     let before = c.search_dir.ensures.looks.told.told told in
     let here = c.loop-dir.invariant.truth before b is in
@@ -46,7 +46,7 @@ returns-then-is_some-clause-gone g c = c.search_dir.ensures.gone ∙ c.loop-dir.
 
 pub returns-then-is_some-clause-truth : goal.returns-then-is_some-clause-truth
 returns-then-is_some-clause-truth g c =
-    stays_joined _ _ _ _ _ _ _ _ _ _ c.search_dir.ensures.looks.told.told c.loop-dir.invariant.truth c.search_dir.ensures.truth
+    λ told b is. c.search_dir.ensures.truth told b (c.loop-dir.invariant.truth (c.search_dir.ensures.looks.told.told told) b is)
 
 pub returns-then-is_some-clause-found : goal.returns-then-is_some-clause-found
 returns-then-is_some-clause-found g c = λ paths file are told b is.

@@ -2,7 +2,7 @@ use Rattle.std.proofs.Common.{◌∙◌}
 use Rattle.world_api.proofs.Looking.{looks_joined}
 use Rattle.build_means.specs.Finds.{found_for}
 use Rattle.build_files.proofs.Noting.{more_joined}
-use Rattle.build_files.proofs.Searching.{stays_joined, meant_more, meant_all}
+use Rattle.build_files.proofs.Searching.{meant_more, meant_all}
 use Rattle.build_files.proofs.inputs.Inputs.search_each.Goals as goal
 
 pub returns-in_err-node-clause-looks : goal.returns-in_err-node-clause-looks
@@ -16,7 +16,7 @@ returns-in_err-node-clause-gone g c = c.search.ensures.gone ∙ c.loop-include.i
 
 pub returns-in_err-node-clause-truth : goal.returns-in_err-node-clause-truth
 returns-in_err-node-clause-truth g c =
-    stays_joined _ _ _ _ _ _ _ _ _ _ c.search.ensures.looks.told.told c.loop-include.invariant.truth c.search.ensures.truth
+    λ told b is. c.search.ensures.truth told b (c.loop-include.invariant.truth (c.search.ensures.looks.told.told told) b is)
 
 pub returns-in_err-push_found-clause-looks : goal.returns-in_err-push_found-clause-looks
 returns-in_err-push_found-clause-looks g c = looks_joined _ _ _ _ c.loop-include.invariant.looks c.search.ensures.looks
@@ -29,7 +29,7 @@ returns-in_err-push_found-clause-gone g c = c.search.ensures.gone ∙ c.loop-inc
 
 pub returns-in_err-push_found-clause-truth : goal.returns-in_err-push_found-clause-truth
 returns-in_err-push_found-clause-truth g c =
-    stays_joined _ _ _ _ _ _ _ _ _ _ c.search.ensures.looks.told.told c.loop-include.invariant.truth c.search.ensures.truth
+    λ told b is. c.search.ensures.truth told b (c.loop-include.invariant.truth (c.search.ensures.looks.told.told told) b is)
 
 pub loop-include-preserved : goal.loop-include-preserved
 loop-include-preserved g c = record {
@@ -37,7 +37,7 @@ loop-include-preserved g c = record {
   counts = c.in_ok-node.ensures.cause ∙ c.loop-include.invariant.counts;
   grows = more_joined _ _ _ c.loop-include.invariant.grows c.search.ensures.grows;
   gone = c.search.ensures.gone ∙ c.loop-include.invariant.gone;
-  truth = stays_joined _ _ _ _ _ _ _ _ _ _ c.search.ensures.looks.told.told c.loop-include.invariant.truth c.search.ensures.truth;
+  truth = λ told b is. c.search.ensures.truth told b (c.loop-include.invariant.truth (c.search.ensures.looks.told.told told) b is);
   found = λ paths file are told b is.
     let before = c.search.ensures.looks.told.told told in
     let here = c.loop-include.invariant.truth before b is in

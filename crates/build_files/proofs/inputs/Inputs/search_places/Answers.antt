@@ -3,7 +3,7 @@ use Rattle.world_api.proofs.Looking.{looks_joined}
 use Rattle.build_means.specs.Copies.{is_known}
 use Rattle.build_files.proofs.Candidates.{found_in}
 use Rattle.build_files.proofs.Noting.{more_joined}
-use Rattle.build_files.proofs.Searching.{stays_joined, none_more, none_all, found_here, no_node, node_none, found_one, places_same}
+use Rattle.build_files.proofs.Searching.{none_more, none_all, found_here, no_node, node_none, found_one, places_same}
 use Rattle.build_files.proofs.inputs.Inputs.search_places.Goals as goal
 
 pub returns-in_err-node-clause-looks : goal.returns-in_err-node-clause-looks
@@ -17,7 +17,7 @@ returns-in_err-node-clause-gone g c = c.known.ensures.gone ∙ c.loop-path.invar
 
 pub returns-in_err-node-clause-truth : goal.returns-in_err-node-clause-truth
 returns-in_err-node-clause-truth g c =
-    stays_joined _ _ _ _ _ _ _ _ _ _ c.known.ensures.looks.told.told c.loop-path.invariant.truth c.known.ensures.truth
+    λ told b is. c.known.ensures.truth told b (c.loop-path.invariant.truth (c.known.ensures.looks.told.told told) b is)
 
 pub loop-path-preserved : goal.loop-path-preserved
 loop-path-preserved g c = record {
@@ -25,7 +25,7 @@ loop-path-preserved g c = record {
   counts = c.in_ok-node.ensures.cause ∙ c.loop-path.invariant.counts;
   grows = more_joined _ _ _ c.loop-path.invariant.grows c.known.ensures.grows;
   gone = c.known.ensures.gone ∙ c.loop-path.invariant.gone;
-  truth = stays_joined _ _ _ _ _ _ _ _ _ _ c.known.ensures.looks.told.told c.loop-path.invariant.truth c.known.ensures.truth;
+  truth = λ told b is. c.known.ensures.truth told b (c.loop-path.invariant.truth (c.known.ensures.looks.told.told told) b is);
   passed = λ told b is.
     let before = c.known.ensures.looks.told.told told in
     let here = c.loop-path.invariant.truth before b is in
@@ -45,7 +45,7 @@ returns-then-is_some-clause-gone g c = c.known.ensures.gone ∙ c.loop-path.inva
 
 pub returns-then-is_some-clause-truth : goal.returns-then-is_some-clause-truth
 returns-then-is_some-clause-truth g c =
-    stays_joined _ _ _ _ _ _ _ _ _ _ c.known.ensures.looks.told.told c.loop-path.invariant.truth c.known.ensures.truth
+    λ told b is. c.known.ensures.truth told b (c.loop-path.invariant.truth (c.known.ensures.looks.told.told told) b is)
 
 pub returns-then-is_some-clause-found : goal.returns-then-is_some-clause-found
 returns-then-is_some-clause-found g c = λ told b is.
