@@ -106,6 +106,7 @@ module _ (b : Begun) (g : RuleGraph) (requested : List NodeId) (t : Tree) (plan 
       from = loaded.from;
       met = loaded.met;
       reached = loaded.only;
+      sought = loaded.sought;
       complete = loaded.complete;
       order = loaded.order;
       roots = loaded.roots;

@@ -15,9 +15,9 @@ use Rattle.task_plan.specs.Named.{stands, put_all, sources_of, is_scanned_node, 
 use Rattle.task_plan.specs.Settled.{Kept, origin_of, is_scanned}
 use Rattle.task_plan.specs.Listed.{included}
 use Rattle.task_plan.specs.Plans.{Planned}
-use Rattle.task_plan.specs.Met.{is_met_from, IsFrom, needs_in, needs_at}
+use Rattle.task_plan.specs.Met.{is_met, is_met_from, IsFrom, needs_in, needs_at}
 use Rattle.task_plan.specs.Admits.{IsKnown}
-use Rattle.task_plan.specs.Rooted.{makers_in}
+use Rattle.task_plan.specs.Rooted.{makers_in, IsSoughtBy}
 use Rattle.task_plan.specs.declared.files.Origin.{Origin}
 use Rattle.task_plan.specs.declared.files.Origin.TheVariants.{Unmet, Source, Made}
 use Rattle.task_plan.specs.declared.states.RuleState.{RuleState}
@@ -36,9 +36,9 @@ use Rattle.build_means.specs.Grown.{Begun, begun_graph, begun_setting, rule_numb
 use Rattle.build_means.proofs.Growing.{are_rules}
 use Rattle.build_means.proofs.Lists.{or_second, first_place}
 use Rattle.build_means.proofs.Readings.{node_path}
-use Rattle.plan_means.specs.Planning.{IsGraphNow, IsPlanFor, IsSoughtBy, AreSought}
+use Rattle.plan_means.specs.Planning.{IsGraphNow, IsPlanFor}
 use Rattle.plan_means.specs.Ties.{IsNew, IsAt, IsSeen, Ties}
-use Rattle.plan_means.specs.Growth.{Grows, AreUnmade}
+use Rattle.plan_means.specs.Growth.{Grows}
 use Rattle.plan_means.proofs.Names.{is_named, sources_below, scanned_node}
 use Rattle.plan_means.proofs.Single.{numbered_stands, one_number}
 use Rattle.plan_means.proofs.Knowing.{Knows, knows, one_below, need_below, same_kept, all_files_below}
@@ -197,11 +197,11 @@ module _ (b : Begun) (g h : RuleGraph) (before : IsGraphNow b g) (now : IsGraphN
     met_unmade n Source by e from met none = unmade n by e none
     met_unmade n (Made m) by e from met none = none_some (sym none ∙ from.0)
 
-    pub sought_unmade : AreSought requested plan → AreUnmade g h plan
-    sought_unmade sought = record {
-      each = λ n met none.
-          met_unmade n (origin_of plan.origins n.0) (sought.each n met) refl (ties.plan_for.from.each n.0) met none;
-    }
+    -- no rule was put behind that makes a file which the plan has met
+    met_stays : (n : NodeId) → is_met plan.origins n ≡ true → rule_of g.rules n.0 ≡ None → rule_of h.rules n.0 ≡ None
+    met_stays n met none =
+        met_unmade n (origin_of plan.origins n.0) (ties.plan_for.sought.each n met) refl (ties.plan_for.from.each n.0)
+        met none
 
     asked_by : (n : NodeId) (o : Option ℕ) → stands requested n ≡ true → rule_of g.rules n.0 ≡ o →
         rule_of h.rules n.0 ≡ o
@@ -219,11 +219,11 @@ module _ (b : Begun) (g h : RuleGraph) (before : IsGraphNow b g) (now : IsGraphN
         ∙ ap (cons_option (option_map (λ (m : ℕ). let r : RuleId = record { 0 = m } in r) (rule_of g.rules n.0)))
         (makers_stay nodes (λ x m. f x (or_second (nat_eq x.0 n.0) (stands nodes x) m)))
 
-    from_by : AreUnmade g h plan → (n : ℕ) (o : Origin) → origin_of plan.origins n ≡ o → IsFrom g plan.states n o →
+    from_by : (n : ℕ) (o : Origin) → origin_of plan.origins n ≡ o → IsFrom g plan.states n o →
         IsFrom h plan.states n o
-    from_by kept n Unmet e from = tt
-    from_by kept n Source e from = let node : NodeId = record { 0 = n } in kept.each node (ap is_met_from e) from
-    from_by kept n (Made m) e from = (maker_stays n m.0 from.0, from.1)
+    from_by n Unmet e from = tt
+    from_by n Source e from = let node : NodeId = record { 0 = n } in met_stays node (ap is_met_from e) from
+    from_by n (Made m) e from = (maker_stays n m.0 from.0, from.1)
 
     fits_stay : (number : ℕ) → state_of plan.states number ≢ Unneeded → IsKnown h plan.rules number
     fits_stay number needed =
@@ -241,13 +241,14 @@ module _ (b : Begun) (g h : RuleGraph) (before : IsGraphNow b g) (now : IsGraphN
           whole = k.whole;
         }
 
-    plan_stays : AreUnmade g h plan → IsPlanFor h requested plan
-    plan_stays kept = record {
+    plan_stays : IsPlanFor h requested plan
+    plan_stays = record {
       fits = fits_stay;
       follow = ties.plan_for.follow;
-      from = record { each = λ n. from_by kept n (origin_of plan.origins n) refl (ties.plan_for.from.each n) };
+      from = record { each = λ n. from_by n (origin_of plan.origins n) refl (ties.plan_for.from.each n) };
       met = ties.plan_for.met;
       reached = ties.plan_for.reached;
+      sought = ties.plan_for.sought;
       complete = ties.plan_for.complete;
       order = ties.plan_for.order;
       roots = ties.plan_for.roots ∙ sym (makers_stay requested (λ n m. m));
@@ -340,9 +341,9 @@ module _ (b : Begun) (g h : RuleGraph) (before : IsGraphNow b g) (now : IsGraphN
         (all_files_below b g requested t past plan before ties number needed)
         (ap (λ (x : Kept). stands x.files file) same ∙ ties.sees.files number kept needed at file scanned)
 
-    pub growth_keeps : AreUnmade g h plan → Ties b h requested t past plan
-    growth_keeps kept = record {
-      plan_for = plan_stays kept;
+    pub growth_keeps : Ties b h requested t past plan
+    growth_keeps = record {
+      plan_for = plan_stays;
       sees = record {
         each = λ number kept r needed at numbered file scanned.
             seen_stays number kept r needed at numbered file scanned (scanned_below number kept needed at file scanned);

@@ -1,13 +1,15 @@
 -- The plan of the example, told that its rule is up to date.
-use Rattle.std.proofs.Common.{◌≡◌, ◌≢◌, ℕ, zero, suc, Bool, true, false, ◌||◌, [], ◌∷◌, Some, refl, sym, subst, arith}
+use Rattle.std.proofs.Common.{◌≡◌, ◌≢◌, ◌⊎◌, inl, inr, ℕ, zero, suc, Bool, true, false, ◌||◌, List, [], ◌∷◌, Some, refl, sym, subst, arith}
 use Rattle.std.specs.Prelude.{slice_get, nat_eq}
+use Rattle.scons_base.specs.declared.ids.NodeId.{NodeId}
 use Rattle.task_plan.specs.States.{state_of}
+use Rattle.task_plan.specs.Named.{stands}
 use Rattle.task_plan.specs.Settled.{Kept, first_kept, origin_of}
 use Rattle.task_plan.specs.Met.{IsFrom, AreNeedsMet}
 use Rattle.task_plan.specs.Admits.{IsKnown, Follows, AllFollow}
 use Rattle.task_plan.specs.Orders.{is_among, needed_of, nothing_left, IsReached, is_root, is_needed}
 use Rattle.task_plan.specs.Ordered.{IsOrderLeft, KeepsOrder, AreNeedsDone, is_past}
-use Rattle.task_plan.specs.Rooted.{AreReached}
+use Rattle.task_plan.specs.Rooted.{AreReached, IsSoughtBy, AreSought}
 use Rattle.task_plan.specs.Watched.{IsComplete}
 use Rattle.task_plan.specs.declared.states.RuleState.TheVariants.{Unneeded, Waiting, Settled}
 use Rattle.task_plan.specs.declared.want.PlanEvent.TheVariants as told
@@ -69,6 +71,10 @@ reached_only : {rule : ℕ} →
 reached_only (is_root h) = h
 reached_only {rule} (is_needed other i h) = absurd (none_needed other rule h)
 
+needed_still : (rule : ℕ) → state_of plan.states rule ≢ Unneeded → state_of settled_plan.states rule ≢ Unneeded
+needed_still zero needed = settled_needed
+needed_still (suc n) needed = needed
+
 root_needed : (rule : ℕ) → is_among rule (first_rule ∷ []) ≡ true → state_of settled_plan.states rule ≢ Unneeded
 root_needed zero h = settled_needed
 root_needed (suc n) h = absurd (no_more n h)
@@ -79,6 +85,13 @@ reached = record {
       settled_plan.notes.roots n) (is_root refl) rule needed;
   only = λ rule i. root_needed rule (reached_only i);
 }
+
+still_sought : (requested : List NodeId) → AreSought requested plan → AreSought requested settled_plan
+still_sought requested s = record { each = λ n met. by n (s.each n met) }
+  where
+    by : (n : NodeId) → (stands requested n ≡ true) ⊎ IsSoughtBy plan n → (stands requested n ≡ true) ⊎ IsSoughtBy settled_plan n
+    by n (inl asked) = inl asked
+    by n (inr k) = inr (record { rule = k.rule; needed = needed_still k.rule k.needed; needs = k.needs })
 
 complete : IsComplete settled_plan
 complete = record {
@@ -125,6 +138,7 @@ fresh_step = record {
   origins = λ f. record { each = from };
   needs = λ nodes f m. record { each = λ rule k needed e. all_met rule k e };
   only = λ nodes f o m r. reached;
+  sought = λ nodes f o m r. record { each = still_sought };
   roots = refl;
   complete = λ nodes f o m r c. complete;
   order = λ nodes f o m k. order;

@@ -17,6 +17,7 @@ use Rattle.task_plan.specs.Admits.{IsFirstAt, IsKnown, Follows}
 use Rattle.task_plan.specs.Orders.{is_among, needed_of, nothing_left, met_first, IsOrder, IsReached, is_root, is_needed}
 use Rattle.task_plan.specs.Ordered.{IsOrderLeft, KeepsOrder, IsFirstOf, is_past, AreNeedsDone}
 use Rattle.task_plan.specs.Watched.{IsSought, every, IsHeard, IsWatched, IsComplete, IsNoneReady}
+use Rattle.task_plan.specs.Rooted.{IsSoughtBy, AreSought}
 use Rattle.task_plan.specs.declared.states.RuleState.TheVariants.{Unneeded, Waiting}
 use Rattle.task_plan.proofs.BehindLemmas.{order_only}
 use Rattle.task_plan.proofs.ReachedLemmas.{same_number}
@@ -24,7 +25,7 @@ use Rattle.task_plan.proofs.WalkLemmas.{node_same}
 use Rattle.build_model.specs.Rules.{Path}
 use Rattle.build_model.proofs.Lists.{true_false, none_some, some_same}
 use Rattle.build_means.specs.Rules.{IsReading, rule_in}
-use Rattle.plan_means.specs.Planning.{IsGraphNow, IsSoughtBy, AreSought}
+use Rattle.plan_means.specs.Planning.{IsGraphNow}
 use Rattle.plan_means.specs.Ties.{Ties}
 use Rattle.plan_means.specs.Deciding.{IsTied}
 use Rattle.plan_means.specs.Beginning.{IsLookedFor, AreLookedFor, IsLoaded}
@@ -226,6 +227,19 @@ none_past (suc n) k e = true_false (sym e)
 keeps_order : KeepsOrder plan
 keeps_order = record { ordered = λ e. order_left; done = λ rule k past at. none_past rule k past; roots = root_needed }
 
+sought_by : (k : ℕ) (n : NodeId) → n.0 ≡ k → is_met_from (origin_of plan.origins k) ≡ true →
+    (stands (object_node ∷ []) n ≡ true) ⊎ IsSoughtBy plan n
+sought_by zero n e met =
+    let same : source_node ≡ n = ap (λ (x : ℕ). let y : NodeId = record { 0 = x } in y) (sym e) in
+    inr (subst (IsSoughtBy plan) same (record { rule = 0; needed = waits_unneeded; needs = refl }))
+sought_by (suc zero) n e met =
+    let same : object_node ≡ n = ap (λ (x : ℕ). let y : NodeId = record { 0 = x } in y) (sym e) in
+    inl (subst (λ (x : NodeId). stands (object_node ∷ []) x ≡ true) same refl)
+sought_by (suc (suc k)) n e met = true_false (sym met)
+
+sought : AreSought (object_node ∷ []) plan
+sought = record { each = λ n met. sought_by n.0 n refl met }
+
 loaded : IsLoaded graph (object_node ∷ []) plan
 loaded = record {
   states = states;
@@ -255,6 +269,7 @@ loaded = record {
         (is_root refl) rule needed;
     only = λ rule i. root_needed rule (reached_only i);
   };
+  sought = sought;
   complete = complete;
   roots = refl;
   order = keeps_order;
@@ -303,19 +318,6 @@ first order is =
     subst (λ (l : List RuleId). IsFirstOf plan l first_rule)
     (sym (order_only plan.rules plan.origins plan.notes.roots (first_rule ∷ []) order own_order is)) own_first
 
-sought_by : (k : ℕ) (n : NodeId) → n.0 ≡ k → is_met_from (origin_of plan.origins k) ≡ true →
-    (stands (object_node ∷ []) n ≡ true) ⊎ IsSoughtBy plan n
-sought_by zero n e met =
-    let same : source_node ≡ n = ap (λ (x : ℕ). let y : NodeId = record { 0 = x } in y) (sym e) in
-    inr (subst (IsSoughtBy plan) same (record { rule = 0; needed = waits_unneeded; needs = refl }))
-sought_by (suc zero) n e met =
-    let same : object_node ≡ n = ap (λ (x : ℕ). let y : NodeId = record { 0 = x } in y) (sym e) in
-    inl (subst (λ (x : NodeId). stands (object_node ∷ []) x ≡ true) same refl)
-sought_by (suc (suc k)) n e met = true_false (sym met)
-
-sought : AreSought (object_node ∷ []) plan
-sought = record { each = λ n met. sought_by n.0 n refl met }
-
 pub are_met : AreMet
 are_met = record {
   now = now;
@@ -330,6 +332,5 @@ are_met = record {
   first = first;
   tells = is_fresh first_rule (rule_in graph object_rule) refl next;
   step = fresh_step;
-  sought = sought;
   grows = record { more = []; nodes = refl; added = []; rules = refl };
 }

@@ -16,7 +16,7 @@ use Rattle.task_plan.specs.Plans.{Planned, IsScannedNext}
 use Rattle.task_plan.specs.Met.{is_met, is_met_from, IsFrom, IsAskedFor, needs_in, needs_at}
 use Rattle.task_plan.specs.Admits.{Follows, IsAdmitted, IsUnchanged, ScansFile}
 use Rattle.task_plan.specs.Orders.{is_among, makers_of, needed_in, needed_of, IsReached, is_root, is_needed}
-use Rattle.task_plan.specs.Rooted.{news_in, news_of}
+use Rattle.task_plan.specs.Rooted.{news_in, news_of, IsSoughtBy}
 use Rattle.task_plan.specs.declared.files.Origin.{Origin}
 use Rattle.task_plan.specs.declared.files.Origin.TheVariants.{Unmet, Source, Made}
 use Rattle.task_plan.specs.declared.states.RuleState.{RuleState}
@@ -38,7 +38,7 @@ use Rattle.build_model.proofs.Lists.{true_false, none_some, some_same}
 use Rattle.build_means.specs.Rules.{paths_of}
 use Rattle.build_means.specs.Grown.{Begun, begun_graph, rule_numbered}
 use Rattle.build_means.proofs.Lists.{or_either, or_second}
-use Rattle.plan_means.specs.Planning.{IsGraphNow, IsPlanFor, IsSoughtBy, IsStep}
+use Rattle.plan_means.specs.Planning.{IsGraphNow, IsPlanFor, IsStep}
 use Rattle.plan_means.specs.Ties.{IsNew, IsAt, IsDecidedState, IsSeen, Ties}
 use Rattle.plan_means.specs.Scanning.{IsFoundIn}
 use Rattle.plan_means.proofs.Names.{stands_all}
@@ -91,6 +91,7 @@ module _ (b : Begun) (g : RuleGraph) (requested : List NodeId) (t : Tree) (past 
         from = is.origins p.from;
         met = is.needs nodes p.fits p.met;
         reached = is.only nodes p.fits p.from p.met p.reached;
+        sought = (is.sought nodes p.fits p.from p.met p.reached).each requested p.sought;
         complete = is.complete nodes p.fits p.from p.met p.reached p.complete;
         order = is.order nodes p.fits p.from p.met p.order;
         roots = is.roots ∙ p.roots;

@@ -133,6 +133,7 @@ module _ (b : Begun) (g : RuleGraph) (requested : List NodeId) (t : Tree) (past 
         from = is.origins p.from;
         met = is.needs nodes p.fits p.met;
         reached = is.only nodes p.fits p.from p.met p.reached;
+        sought = (is.sought nodes p.fits p.from p.met p.reached).each requested p.sought;
         complete = is.complete nodes p.fits p.from p.met p.reached p.complete;
         order = is.order nodes p.fits p.from p.met p.order;
         roots = is.roots ∙ p.roots;

@@ -9,7 +9,7 @@ use Rattle.task_plan.specs.Named.{stands, named_of}
 use Rattle.task_plan.specs.Plans.{Planned, AreMet}
 use Rattle.task_plan.specs.Met.{IsAskedFor, AllMet, AreFrom}
 use Rattle.task_plan.specs.Admits.{IsFirstAt, Fits, AllFollow}
-use Rattle.task_plan.specs.Rooted.{makers_in, AreReached}
+use Rattle.task_plan.specs.Rooted.{makers_in, AreReached, AreSought}
 use Rattle.task_plan.specs.Watched.{IsComplete}
 use Rattle.task_plan.specs.Ordered.{KeepsOrder}
 use Rattle.task_plan.specs.declared.states.RuleState.TheVariants.{Unneeded}
@@ -40,6 +40,7 @@ pub record IsLoaded (g : RuleGraph) (requested : List NodeId) (plan : Planned) :
   pub from : AreFrom g plan
   pub met : AllMet plan
   pub only : AreReached plan
+  pub sought : AreSought requested plan
   pub complete : IsComplete plan
   pub roots : plan.notes.roots ≡ makers_in g requested
   pub order : KeepsOrder plan

@@ -21,7 +21,7 @@ use Rattle.build_model.specs.Rules.{Path, Tree}
 use Rattle.build_model.specs.Steps.{Build, Fresh}
 use Rattle.build_means.specs.Rules.{rule_in}
 use Rattle.build_means.specs.Grown.{Begun, rule_numbered}
-use Rattle.plan_means.specs.Planning.{IsGraphNow, AreSought, IsStep}
+use Rattle.plan_means.specs.Planning.{IsGraphNow, IsStep}
 use Rattle.plan_means.specs.Ties.{Ties}
 use Rattle.plan_means.specs.Deciding.{IsTied}
 use Rattle.plan_means.specs.Stepping.{Tells}
@@ -133,5 +133,4 @@ pub record AreMet : Type 0 where
       IsFirstOf plan order first_rule
   pub tells : Tells begun graph plan (told.Fresh first_rule) (Fresh (rule_in graph object_rule))
   pub step : IsStep graph plan (told.Fresh first_rule) settled_plan
-  pub sought : AreSought (object_node ∷ []) plan
   pub grows : Grows graph graph

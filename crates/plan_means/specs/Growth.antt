@@ -1,15 +1,13 @@
 -- The graph of a build grows while files are scanned: a plan that is tied over it stays so.
-use Rattle.std.specs.Prelude.{◌≡◌, true, List, ◌++◌, None}
+use Rattle.std.specs.Prelude.{◌≡◌, List, ◌++◌}
 use Rattle.scons_base.specs.declared.ids.NodeId.{NodeId}
 use Rattle.rule_graph.specs.declared.rule.Rule as declared
 use Rattle.rule_graph.specs.Graphs.{RuleGraph}
-use Rattle.rule_graph.specs.Rules.{rule_of}
-use Rattle.task_plan.specs.Met.{is_met}
 use Rattle.task_plan.specs.Plans.{Planned}
 use Rattle.build_model.specs.Rules.{Path, Tree}
 use Rattle.build_model.specs.Steps.{Step}
 use Rattle.build_means.specs.Grown.{Begun}
-use Rattle.plan_means.specs.Planning.{IsGraphNow, AreSought}
+use Rattle.plan_means.specs.Planning.{IsGraphNow}
 use Rattle.plan_means.specs.Ties.{Ties}
 
 -- Nodes and rules were put behind those of a graph.
@@ -19,19 +17,7 @@ pub record Grows (g h : RuleGraph) : Type 0 where
   pub added : List declared.Rule
   pub rules : h.rules ≡ g.rules ++ added
 
--- No rule was put behind that makes a file which the plan has met.
-pub record AreUnmade (g h : RuleGraph) (plan : Planned) : Type 0 where
-  pub each : (n : NodeId) → is_met plan.origins n ≡ true → rule_of g.rules n.0 ≡ None → rule_of h.rules n.0 ≡ None
-
 abbrev pub GrowthKeepsTies : Type 0
 GrowthKeepsTies = (b : Begun) (g h : RuleGraph) (requested : List NodeId) (t : Tree) (past : List Step)
     (plan : Planned) →
-    IsGraphNow b g → IsGraphNow b h → Grows g h → AreUnmade g h plan → Ties b g requested t past plan →
-    Ties b h requested t past plan
-
--- So it is where each file that the plan has met is requested or needed.
-abbrev pub SoughtAreUnmade : Type 0
-SoughtAreUnmade = (b : Begun) (g h : RuleGraph) (requested : List NodeId) (t : Tree) (past : List Step)
-    (plan : Planned) →
-    IsGraphNow b g → IsGraphNow b h → Grows g h → AreSought requested plan → Ties b g requested t past plan →
-    AreUnmade g h plan
+    IsGraphNow b g → IsGraphNow b h → Grows g h → Ties b g requested t past plan → Ties b h requested t past plan

@@ -1,18 +1,15 @@
 -- What a plan is for a graph, by its own words, and what an event makes of it.
-use Rattle.std.specs.Prelude.{◌≡◌, ◌≢◌, ◌⊎◌, ◌≤◌, ℕ, true, List, length}
+use Rattle.std.specs.Prelude.{◌≡◌, ◌≤◌, true, List, length}
 use Rattle.scons_base.specs.declared.ids.NodeId.{NodeId}
 use Rattle.scons_base.specs.declared.limits.TheConstants.{NODE_LIMIT}
 use Rattle.rule_graph.specs.Rules.{are_below}
 use Rattle.rule_graph.specs.Graphs.{RuleGraph}
-use Rattle.task_plan.specs.States.{state_of}
-use Rattle.task_plan.specs.Named.{stands}
 use Rattle.task_plan.specs.Plans.{Planned, Goes}
-use Rattle.task_plan.specs.Met.{is_met, AllMet, AreFrom, AreNodes, needs_at}
+use Rattle.task_plan.specs.Met.{AllMet, AreFrom, AreNodes}
 use Rattle.task_plan.specs.Admits.{Fits, AllFollow, Knows}
-use Rattle.task_plan.specs.Rooted.{makers_in, AreReached}
+use Rattle.task_plan.specs.Rooted.{makers_in, AreReached, AreSought, KeepsSought}
 use Rattle.task_plan.specs.Watched.{IsComplete}
 use Rattle.task_plan.specs.Ordered.{KeepsOrder}
-use Rattle.task_plan.specs.declared.states.RuleState.TheVariants.{Unneeded}
 use Rattle.task_plan.specs.declared.want.PlanEvent.{PlanEvent}
 use Rattle.build_means.specs.Rules.{IsReading}
 use Rattle.build_means.specs.Grown.{Begun, IsGrown}
@@ -24,16 +21,6 @@ pub record IsGraphNow (b : Begun) (g : RuleGraph) : Type 0 where
   pub grown : IsGrown b g
   pub room : length g.nodes ≤ NODE_LIMIT
 
--- a needed rule requires or depends on a file
-pub record IsSoughtBy (plan : Planned) (n : NodeId) : Type 0 where
-  pub rule : ℕ
-  pub needed : state_of plan.states rule ≢ Unneeded
-  pub needs : stands (needs_at plan.rules rule) n ≡ true
-
--- Each file that the plan has met is requested, or a needed rule requires or depends on it.
-pub record AreSought (requested : List NodeId) (plan : Planned) : Type 0 where
-  pub each : (n : NodeId) → is_met plan.origins n ≡ true → (stands requested n ≡ true) ⊎ IsSoughtBy plan n
-
 -- A plan for this graph and these requested nodes: all that its own clauses say of one that hasn't halted.
 pub record IsPlanFor (g : RuleGraph) (requested : List NodeId) (plan : Planned) : Type 0 where
   pub fits : Fits g plan
@@ -41,6 +28,7 @@ pub record IsPlanFor (g : RuleGraph) (requested : List NodeId) (plan : Planned) 
   pub from : AreFrom g plan
   pub met : AllMet plan
   pub reached : AreReached plan
+  pub sought : AreSought requested plan
   pub complete : IsComplete plan
   pub order : KeepsOrder plan
   pub roots : plan.notes.roots ≡ makers_in g requested
@@ -55,6 +43,7 @@ pub record IsStep (g : RuleGraph) (old : Planned) (event : PlanEvent) (new : Pla
   pub origins : AreFrom g old → AreFrom g new
   pub needs : AreNodes g event → Fits g old → AllMet old → AllMet new
   pub only : AreNodes g event → Fits g old → AreFrom g old → AllMet old → AreReached old → AreReached new
+  pub sought : AreNodes g event → Fits g old → AreFrom g old → AllMet old → AreReached old → KeepsSought old new
   pub roots : new.notes.roots ≡ old.notes.roots
   pub complete : AreNodes g event → Fits g old → AreFrom g old → AllMet old → AreReached old → IsComplete old →
       IsComplete new

@@ -5,7 +5,7 @@ ghost use Rattle.plan_means.specs.Deciding.{DecidedMayBe, FirstIsTaken, InOrderI
 ghost use Rattle.plan_means.specs.Resting.{StillIsIdle, StillIsAtRest};
 ghost use Rattle.plan_means.specs.Stepping.{EventsKeepTies, RunningAreKnown, ChangesKeepTies};
 ghost use Rattle.plan_means.specs.Beginning.{LoadedIsTied};
-ghost use Rattle.plan_means.specs.Growth.{GrowthKeepsTies, SoughtAreUnmade};
+ghost use Rattle.plan_means.specs.Growth.{GrowthKeepsTies};
 ghost use Rattle.plan_means.specs.Scanning.{ScannedMayBe, ScansKeepTies};
 ghost use Rattle.plan_means.specs.Examples.{AreMet};
 
@@ -77,11 +77,6 @@ pub fn loaded_is_tied()
 /// A plan stays tied while nodes and copy rules are put behind those of its graph.
 pub fn growth_keeps_ties()
     ensures { GrowthKeepsTies }
-{}
-
-/// No copy rule that is put behind makes a file which a tied plan has met, where each of these is requested or needed.
-pub fn sought_are_unmade()
-    ensures { SoughtAreUnmade }
 {}
 
 /// A plan that is told what a file includes stays tied.

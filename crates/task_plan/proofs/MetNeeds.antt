@@ -377,8 +377,8 @@ module _ (g : RuleGraph) where
   none_wanted o file e f = none-some file (sym e ∙ f)
 
   -- no file was wanted
-  pub finds_unwanted : (a b : Planned) (rule : ℕ) (inc : List NodeId) → wanted a rule ≡ None → KeepsRoom a b → Finds g a b [] → FindsFile g a b rule inc
-  finds_unwanted a b rule inc none k l = record { keeps = k; from = l.from; met = λ file kept w at below n h. absurd (none_wanted (wanted a rule) file none w) }
+  pub finds_unwanted : (a b : Planned) (rule : ℕ) (inc : List NodeId) → wanted a rule ≡ None → b.origins ≡ a.origins → KeepsRoom a b → Finds g a b [] → FindsFile g a b rule inc
+  finds_unwanted a b rule inc none o k l = record { keeps = k; from = l.from; met = λ file kept w at below n h. absurd (none_wanted (wanted a rule) file none w); same = λ w. o }
 
   noted_by : {X : Type 0} (news : X → List NodeId) (a b c d : Planned) (rule : ℕ) (inc : List NodeId) (o : Option X) → b.origins ≡ a.origins → b.states ≡ a.states
       → MatchOption o (NotesNone a b rule) (λ _. NotesFile a b rule inc) → MatchOption o (Unit {0}) (λ x. AreNews a rule inc (news x)) → MatchOption o (c ≡ b) (λ _. Admits g b c none [])
@@ -386,7 +386,7 @@ module _ (g : RuleGraph) where
   noted_by news a b c d rule inc None e s n w k l u =
       let same = finds_none g a b (still_same a b s) (λ n. ap (λ x. origin_of x n) e) in
       let here : KeepsRoom b d = keeps_trans b c d (keeps_same b c (ap (λ p. p.origins) k) (ap (λ p. p.states) k)) (keeps_same c d u.origins u.states) in
-      finds_unwanted a d rule inc n.wants (keeps_trans a b d (keeps_same a b e s) here)
+      finds_unwanted a d rule inc n.wants (u.origins ∙ ap (λ p. p.origins) k ∙ e) (keeps_trans a b d (keeps_same a b e s) here)
       (finds_on g a b d [] same here (finds_on g b c d [] (finds_same g b c k) (keeps_same c d u.origins u.states) (finds_stays g c d u)))
   noted_by news a b c d rule inc (Some x) e s n w k l u =
       let last = keeps_same c d u.origins u.states in
@@ -397,6 +397,7 @@ module _ (g : RuleGraph) where
             let same : w.kept ≡ kept = same_Some w.kept kept (sym w.at ∙ at) in
             let is : put_all kept.left_out kept.files inc ≡ kept.files ++ news x = rw same at w.is in
             news_by b c d kept inc (news x) m is l last below (put_all_in kept.left_out kept.files inc m h);
+        same = λ none. absurd (none_wanted (wanted a rule) n.file none n.wants);
       }
 
   some_news : {X : Type 0} (P : X → Type 0) (o : Option X) → IfSome o P → MatchOption o (Unit {0}) P
@@ -421,6 +422,7 @@ module _ (g : RuleGraph) where
     keeps = keeps_trans a b c d.keeps (keeps_same b c o s);
     from = λ h. from_same g b c (still_same b c s) (λ n. ap (λ x. origin_of x n) o) (d.from h);
     met = λ file kept w at below n h. met_still_by b c kept n o (d.met file kept w at below n h);
+    same = λ w. o ∙ d.same w;
   }
 
   -- there is room, and then the requested nodes are met

@@ -102,12 +102,13 @@ pub record AreNews (plan : Planned) (rule : ℕ) (includes new : List NodeId) : 
   pub at : slice_get plan.rules rule ≡ Some kept
   pub is : put_all kept.left_out kept.files includes ≡ kept.files ++ new
 
--- what the file that was wanted includes was met, less what stood among the rule's files or is left out
+-- what the file that was wanted includes was met, less what stood among the rule's files or is left out; where none was no file is met
 pub record FindsFile (graph : RuleGraph) (old new : Planned) (rule : ℕ) (includes : List NodeId) : Type 0 where
   pub keeps : KeepsRoom old new
   pub from : AreFrom graph old → AreFrom graph new
   pub met : (file : NodeId) (kept : Kept) → wanted old rule ≡ Some file → slice_get old.rules rule ≡ Some kept → are_below (length graph.nodes) includes ≡ true → (n : NodeId) → stands includes n ≡ true
       → (stands kept.left_out n ≡ true) ⊎ ((stands kept.files n ≡ true) ⊎ (is_met new.origins n ≡ true))
+  pub same : wanted old rule ≡ None → new.origins ≡ old.origins
 
 -- what an event makes of the files: only a scan changes them
 abbrev pub FindsBy : RuleGraph → Planned → PlanEvent → Planned → Type 0

@@ -1,5 +1,5 @@
 -- What the graph says of a rule: its needs before any file is scanned, and the first files to scan.
-use Rattle.std.specs.Prelude.{◌++◌, ℕ, Bool, true, false, List, [], ◌∷◌, nat_eq, filter, if◌then◌else◌}
+use Rattle.std.specs.Prelude.{◌++◌, Bool, true, false, List, [], ◌∷◌, nat_eq, filter, if◌then◌else◌}
 use Rattle.std.specs.List.{list_any, fold}
 use Rattle.world_api.specs.declared.job.Work.{Work}
 use Rattle.world_api.specs.declared.job.Work.TheVariants.{Shell, Copy, Write}

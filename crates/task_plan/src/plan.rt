@@ -12,7 +12,7 @@ ghost use Rattle.task_plan.specs.Held.{AreHeld, HasAllHeld, HasEachOnce, HaveFir
 ghost use Rattle.task_plan.specs.Watched.{IsComplete, AreTargets, IsNoneReady, IsStill, AreGoingOn, IsFinished};
 ghost use Rattle.task_plan.specs.Met.{are_met, AllMet, AllReached, AreFrom, AreNodes, Finds, FindsBy};
 ghost use Rattle.task_plan.specs.Orders.{IsOrder};
-ghost use Rattle.task_plan.specs.Rooted.{makers_in, news_of, AreReached, NeedsNoOthers};
+ghost use Rattle.task_plan.specs.Rooted.{makers_in, news_of, AreReached, AreSought, KeepsSought, NeedsNoOthers};
 ghost use Rattle.task_plan.specs.Ordered.{BeginsOrder, IsFirstOf, KeepsOrder, LeavesQueue, TakesBy};
 ghost use Rattle.rule_graph.specs.Rules.{are_below};
 ghost use Rattle.task_plan.specs.Admits.{Admits, Fits, AllFollow, IsFirstAt, Knows, none};
@@ -88,6 +88,7 @@ impl Plan {
         ensures needs { IfOk result AllMet }
         ensures reached { IfOk result (λ plan. AllReached graph.now requested.now plan.states) }
         ensures only { IfOk result AreReached }
+        ensures sought { IfOk result (AreSought requested.now) }
         ensures complete { IfOk result IsComplete }
         ensures roots { IfOk result (λ plan. plan.notes.roots ≡ makers_in graph.now requested.now) }
         ensures order { IfOk result KeepsOrder }
@@ -129,6 +130,8 @@ impl Plan {
         ensures roots { OnOk result (self.new.notes.roots ≡ self.old.notes.roots ++ makers_in graph.now requested.now) }
         ensures only { OnOk result (self.old.states ≡ [] → self.old.origins ≡ [] → self.old.notes.roots ≡ []
             → AreReached self.new) }
+        ensures sought { OnOk result (self.old.states ≡ [] → self.old.origins ≡ [] → self.old.notes.roots ≡ []
+            → AreSought requested.now self.new) }
         ensures complete { OnOk result (self.old.states ≡ [] → self.old.origins ≡ [] → self.old.notes.roots ≡ []
             → self.old.notes.is_ordered ≡ false → IsComplete self.new) }
         ensures order { OnOk result (self.old.notes.roots ≡ [] → self.old.notes.is_ordered ≡ false
@@ -228,6 +231,8 @@ impl Plan {
             → AllMet self.old → AllMet self.new) }
         ensures only { OnOk result (AreNodes graph.now event → Fits graph.now self.old → AreFrom graph.now self.old
             → AllMet self.old → AreReached self.old → AreReached self.new) }
+        ensures sought { OnOk result (AreNodes graph.now event → Fits graph.now self.old → AreFrom graph.now self.old
+            → AllMet self.old → AreReached self.old → KeepsSought self.old self.new) }
         ensures roots { OnOk result (self.new.notes.roots ≡ self.old.notes.roots) }
         ensures complete { OnOk result (AreNodes graph.now event → Fits graph.now self.old → AreFrom graph.now self.old
             → AllMet self.old → AreReached self.old → IsComplete self.old → IsComplete self.new) }

@@ -54,7 +54,7 @@ pub returns-clause-others : goal.returns-clause-others
 returns-clause-others c =
     let p = c.put_task.ensures in
     others_put c.args.graph.now c.args.self.now c.put_task.new.self c.meet_needs.new.self c.pass.new.self c.find_ready.new.self c.args.rule.0 c.rule.result.now c.in_ok-task.task c.args.needed.now.items c.meet_needs.new.needed.items
-    p.states p.rules p.room c.requires.room.states c.rule.ensures.at c.in_ok-task.ensures c.in_ok-meet_needs.ensures.others c.pass.ensures.stays c.find_ready.ensures.stays
+    p.states p.origins p.rules p.room c.requires.room.states c.rule.ensures.at c.in_ok-task.ensures c.in_ok-meet_needs.ensures.others c.pass.ensures.stays c.find_ready.ensures.stays
 
 pub returns-clause-meets : goal.returns-clause-meets
 returns-clause-meets c =

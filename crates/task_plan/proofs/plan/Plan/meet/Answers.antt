@@ -7,7 +7,7 @@ use Rattle.task_plan.proofs.MetLemmas.{keeps_noted, still_same, still_after, fin
 use Rattle.task_plan.proofs.AdmitLemmas.{noted_brings, brings_noted}
 use Rattle.task_plan.proofs.WatchMeets.{keeps_origin, keeps_watch_brings}
 use Rattle.task_plan.proofs.LeaveLemmas.{order_same, order_trans, order_noted}
-use Rattle.task_plan.proofs.OtherLemmas.{others_same, others_made}
+use Rattle.task_plan.proofs.OtherLemmas.{met_one, others_same, others_met, others_made}
 use Rattle.task_plan.proofs.plan.Plan.meet.Goals as goal
 
 pub note_origin-requires : goal.note_origin-requires
@@ -95,14 +95,16 @@ returns-in-None-clause-order c =
     order_noted a b c.args.node.0 Source unmet c.note_origin-in-None.ensures
 
 pub returns-then-not-is_unmet-clause-others : goal.returns-then-not-is_unmet-clause-others
-returns-then-not-is_unmet-clause-others c = others_same c.args.graph.now c.args.self.now c.args.self.now _ c.args.needed.now.items refl
+returns-then-not-is_unmet-clause-others c = others_same c.args.graph.now c.args.self.now c.args.self.now _ c.args.needed.now.items refl refl
 
 pub returns-in-Some-clause-others : goal.returns-in-Some-clause-others
 returns-in-Some-clause-others c =
     on_ok_weaker c.need_rule.result
     (λ k. others_made c.args.graph.now c.args.self.now c.note_origin.new.self c.need_rule.new.self c.args.node c.in-Some.rule.0 c.args.needed.now.items c.need_rule.new.needed.items (ap (λ p. p.states) c.note_origin.ensures)
-    (sym c.in-Some.ensures.of) k) c.need_rule.ensures.others
+    (met_one c.args.self.now c.note_origin.new.self c.args.node (Made c.in-Some.rule) (ap (λ p. p.origins) c.note_origin.ensures)) (sym c.in-Some.ensures.of) k) c.need_rule.ensures.others
 
 pub returns-in-None-clause-others : goal.returns-in-None-clause-others
 returns-in-None-clause-others c =
-    others_same c.args.graph.now c.args.self.now c.note_origin-in-None.new.self _ c.args.needed.now.items (ap (λ p. p.states) c.note_origin-in-None.ensures)
+    let e = c.note_origin-in-None.ensures in
+    others_met c.args.graph.now c.args.self.now c.note_origin-in-None.new.self c.args.node c.args.needed.now.items (ap (λ p. p.states) e)
+    (met_one c.args.self.now c.note_origin-in-None.new.self c.args.node Source (ap (λ p. p.origins) e))

@@ -24,7 +24,7 @@ loop-node-init c =
       order = order_same a;
       ready = λ ok n h. absurd (let bad : false ≡ true = h in cc);
       hears = hears_none g a a c.args.rule.0;
-      others = others_same g a a c.args.growth.now.new.items c.args.needed.now.items refl;
+      others = others_same g a a c.args.growth.now.new.items c.args.needed.now.items refl refl;
     }
 
 pub loop-node-preserved : goal.loop-node-preserved

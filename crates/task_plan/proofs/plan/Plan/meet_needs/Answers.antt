@@ -26,7 +26,7 @@ loop-place-init c =
       leaves = leaves_same a;
       order = order_same a;
       hears = hears_none g a a c.args.rule.0;
-      others = others_same g a a (needs_at a.rules c.args.rule.0) c.args.needed.now.items refl;
+      others = others_same g a a (needs_at a.rules c.args.rule.0) c.args.needed.now.items refl refl;
     }
 
 pub loop-place-preserved : goal.loop-place-preserved

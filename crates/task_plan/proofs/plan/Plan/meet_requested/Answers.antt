@@ -22,7 +22,7 @@ loop-node-init c =
       order = roots_same g a;
       brings = brings_none g a a c.args.needed.now.items c.args.needed.now.items (widens_same a a refl) refl;
       watch = brings_watch_same a c.args.needed.now.items;
-      others = others_same g a a c.args.requested.now c.args.needed.now.items refl;
+      others = others_same g a a c.args.requested.now c.args.needed.now.items refl refl;
     }
 
 pub loop-node-preserved : goal.loop-node-preserved

@@ -46,6 +46,9 @@ returns-clause-complete c = c.in_ok-begin.ensures.complete c.in_ok-plan.ensures.
 pub returns-clause-only : goal.returns-clause-only
 returns-clause-only c = c.in_ok-begin.ensures.only c.in_ok-plan.ensures.states c.in_ok-plan.ensures.origins c.in_ok-plan.ensures.roots
 
+pub returns-clause-sought : goal.returns-clause-sought
+returns-clause-sought c = c.in_ok-begin.ensures.sought c.in_ok-plan.ensures.states c.in_ok-plan.ensures.origins c.in_ok-plan.ensures.roots
+
 pub returns-clause-roots : goal.returns-clause-roots
 returns-clause-roots c = c.in_ok-begin.ensures.roots ∙ ap (λ r. r ++ makers_in c.args.graph.now c.args.requested.now) c.in_ok-plan.ensures.roots
 

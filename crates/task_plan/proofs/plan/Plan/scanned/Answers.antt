@@ -36,7 +36,7 @@ pub returns-clause-others : goal.returns-clause-others
 returns-clause-others c =
     let t = c.in_ok-take_noted.ensures in
     noted_others (λ (_ : Growth). Admits c.args.graph.now c.note_found.new.self c.take_noted.new.self none []) (λ (x : Growth). x.new.items) c.args.graph.now c.args.self.now c.note_found.new.self c.take_noted.new.self c.look_on.new.self c.args.rule.0 c.args.found.items c.in_ok-noted.noted
-    c.note_found.ensures.states c.in_ok-noted.ensures.news t.admits t.others c.look_on.ensures.stays
+    c.note_found.ensures.states c.note_found.ensures.origins c.in_ok-noted.ensures.news t.admits t.others c.look_on.ensures.stays
 
 pub returns-clause-roots : goal.returns-clause-roots
 returns-clause-roots c =

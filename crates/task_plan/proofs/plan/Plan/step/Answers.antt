@@ -1,8 +1,9 @@
 use Rattle.std.proofs.Common.{◌≡◌, ℕ, true, sym}
+use Rattle.std.specs.Prelude.{OnOk}
 use Rattle.task_plan.specs.Plans.{AreWaiting, CanDecide, is_scan}
-use Rattle.task_plan.specs.Met.{FindsBy}
-use Rattle.task_plan.specs.Admits.{Knows}
-use Rattle.task_plan.specs.Rooted.{NeedsNoOthers, news_of}
+use Rattle.task_plan.specs.Met.{AreFrom, AreNodes, AllMet, FindsBy}
+use Rattle.task_plan.specs.Admits.{Fits, Knows}
+use Rattle.task_plan.specs.Rooted.{AreReached, NeedsNoOthers, news_of}
 use Rattle.std.proofs.lemmas.Result.{on_ok_weaker}
 use Rattle.task_plan.proofs.PlanLemmas.{goes_on}
 use Rattle.task_plan.proofs.AdmitLemmas.{fits_step}
@@ -11,7 +12,7 @@ use Rattle.task_plan.proofs.TrackLemmas.{waiting_of}
 use Rattle.task_plan.proofs.WatchSteps.{targets_of}
 use Rattle.task_plan.specs.Queues.{is_open}
 use Rattle.task_plan.proofs.OrderSteps.{IsUnscanned, is_unscanned, order_step}
-use Rattle.task_plan.proofs.RootSteps.{others_by, reached_step}
+use Rattle.task_plan.proofs.RootSteps.{StaysReached, others_by, reached_step}
 use Rattle.task_plan.proofs.WantLemmas.{can_decide}
 use Rattle.task_plan.proofs.plan.Plan.step.Goals as goal
 
@@ -42,8 +43,10 @@ returns-clause-needs c =
     (λ k d n f m. all_met_step c.args.graph.now c.args.self.now c.take-taken.new.self c.args.event w c.take-taken.ensures.states k d n f c.follows.ensures c.follows-2.ensures m) c.take-taken.ensures.knows
     c.take-taken.ensures.finds
 
-pub returns-clause-only : goal.returns-clause-only
-returns-clause-only c =
+-- what is needed is reached still, and what was met is for it
+reached : (c : goal.After-follows-2) → OnOk c.take-taken.result
+    (AreNodes c.args.graph.now c.args.event → Fits c.args.graph.now c.args.self.now → AreFrom c.args.graph.now c.args.self.now → AllMet c.args.self.now → AreReached c.args.self.now → StaysReached c.args.self.now c.take-taken.new.self)
+reached c =
     let i = c.self.inside in
     let g = c.args.graph.now in
     let a = c.args.self.now in
@@ -57,8 +60,14 @@ returns-clause-only c =
     on_ok_both {P = Knows g a e b × FindsBy g a e b} {Q = (b.notes.roots ≡ a.notes.roots) × (is_scan e ≡ true → NeedsNoOthers g a b (news_of a e))} c.take-taken.result
     (λ p q n fits from met r.
     reached_step g a b e on p.0 p.1 from (from_step g a b e on p.1 from) fits (fits_step g a b e w s.states p.0 fits) met
-    (all_met_step g a b e w s.states p.0 p.1 n fits c.follows.ensures c.follows-2.ensures met) c.follows.ensures c.follows-2.ensures un q.0 (others_by g a b e w s.states q.1) r)
+    (all_met_step g a b e w s.states p.0 p.1 n fits c.follows.ensures c.follows-2.ensures met) c.follows.ensures c.follows-2.ensures un q.0 (others_by g a b e w s.states p.1 q.1) r)
     (on_ok_both c.take-taken.result (λ k d. (k, d)) s.knows s.finds) (on_ok_both c.take-taken.result (λ x o. (x, o)) s.roots s.others)
+
+pub returns-clause-only : goal.returns-clause-only
+returns-clause-only c = on_ok_weaker c.take-taken.result (λ f n fits from met r. (f n fits from met r).reached) (reached c)
+
+pub returns-clause-sought : goal.returns-clause-sought
+returns-clause-sought c = on_ok_weaker c.take-taken.result (λ f n fits from met r. (f n fits from met r).sought) (reached c)
 
 pub returns-clause-complete : goal.returns-clause-complete
 returns-clause-complete c =

@@ -4,6 +4,7 @@ use Rattle.std.proofs.lemmas.Result.{on_ok_weaker}
 use Rattle.task_plan.specs.States.{state_of}
 use Rattle.task_plan.specs.Settled.{next_of}
 use Rattle.task_plan.specs.Plans.{Planned}
+use Rattle.task_plan.specs.Met.{is_met}
 use Rattle.task_plan.specs.Rooted.{news_in, AreReached}
 use Rattle.task_plan.proofs.WantLemmas.{planned, unwanted_by}
 use Rattle.task_plan.proofs.AdmitLemmas.{scans_none, scans_still}
@@ -39,7 +40,7 @@ returns-then-not-contains-clause-finds c =
     let unmarked : get_or i.scannable c.args.rule.0 false ≡ false = cc in
     let p = planned i.states i.queue i.halted i.tasks.items i.files.origins.items i.scannable i.files.waiters.items i.is_ordered i.roots.items in
     rw (sym c.self.view_is)
-    (finds_unwanted c.args.graph.now p p c.args.rule.0 c.args.found.items (unwanted_by (get_or i.scannable c.args.rule.0 false) (slice_get (map next_of i.tasks.items) c.args.rule.0) unmarked)
+    (finds_unwanted c.args.graph.now p p c.args.rule.0 c.args.found.items (unwanted_by (get_or i.scannable c.args.rule.0 false) (slice_get (map next_of i.tasks.items) c.args.rule.0) unmarked) refl
     (keeps_same p p refl refl) (finds_same c.args.graph.now p p refl))
 
 pub returns-clause-finds : goal.returns-clause-finds
@@ -68,10 +69,16 @@ returns-clause-order c =
     on_ok_weaker c.scanned-taken.result (λ f k. takes_halted a b d c.args.rule.0 e (f (deps_halted a b d c.args.rule.0 e k))) c.scanned-taken.ensures.order
 
 pub returns-then-not-contains-clause-others : goal.returns-then-not-contains-clause-others
-returns-then-not-contains-clause-others c = let a = c.args.self.now in others_none c.args.graph.now a a (news_in (slice_get a.rules c.args.rule.0) c.args.found.items) refl
+returns-then-not-contains-clause-others c = let a = c.args.self.now in others_none c.args.graph.now a a (news_in (slice_get a.rules c.args.rule.0) c.args.found.items) refl refl
 
 pub returns-clause-others : goal.returns-clause-others
-returns-clause-others c = on_ok_weaker c.scanned-taken.result (λ k. record { each = λ r u ne. k.each r u (λ v. ne (ap (λ s. state_of s r) c.halt_where.ensures.states ∙ v)) }) c.scanned-taken.ensures.others
+returns-clause-others c =
+    let e = c.halt_where.ensures in
+    on_ok_weaker c.scanned-taken.result
+    (λ k. record {
+      each = λ r u ne. k.each r u (λ v. ne (ap (λ s. state_of s r) e.states ∙ v));
+      files = record { met = λ n h. k.files.met n (ap (λ o. is_met o n) (sym e.origins) ∙ h) };
+    }) c.scanned-taken.ensures.others
 
 pub returns-clause-roots : goal.returns-clause-roots
 returns-clause-roots c = on_ok_weaker c.scanned-taken.result (λ e. ap (λ (x : Planned). x.notes.roots) c.halt_where.ensures.rest ∙ e) c.scanned-taken.ensures.roots
