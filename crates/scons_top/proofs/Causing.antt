@@ -17,6 +17,7 @@ use Rattle.build_files.specs.Causes.{HasFaultCause as HasLookFault}
 use Rattle.build_files.specs.declared.end.ListEnd.{ListEnd}
 use Rattle.build_files.specs.declared.end.ListEnd.TheVariants as list_end
 use Rattle.scons_report.specs.Causes.{HasFaultCause as HasListFault, HasEndCause as HasListEnd}
+use Rattle.world_api.proofs.Looking.{since_call}
 use Rattle.sign_store.specs.Reached.{HasFaultCause as HasStoreCause}
 use Rattle.sign_store.specs.declared.refusals.StoreRefusal.{StoreRefusal}
 use Rattle.sign_store.specs.declared.refusals.StoreRefusal.TheVariants as refusal
@@ -575,4 +576,4 @@ on_err P (Err e) p = p
 
 pub ruleset late = (memory_late, refused_late)
 
-pub ruleset causing = (watches_same, watches_host, watches_look, watches_store, later_same, later_tree, later_disk, later_look, later_list, later_store, look_stop, inside, sink_memory, sink_refused, memory_late, refused_late, inner_memory)
+pub ruleset causing = (since_call, watches_same, watches_host, watches_look, watches_store, later_same, later_tree, later_disk, later_look, later_list, later_store, look_stop, inside, sink_memory, sink_refused, memory_late, refused_late, inner_memory)

@@ -7,8 +7,8 @@ use Rattle.scons_top.specs.Faults.{IsEarly, IsEarlyStop, IsLateStop, EarlyOnlyIf
 use Rattle.scons_top.specs.declared.report.Report.{Report}
 use Rattle.scons_top.specs.declared.report.Top.{Top}
 use Rattle.scons_top.specs.declared.stop.Stop.{Stop}
-use Rattle.scons_top.specs.Watching.{LooksAtAll}
-use Rattle.scons_top.proofs.Watching.{looks_joined}
+use Rattle.world_api.specs.Looks.{Looks}
+use Rattle.world_api.proofs.Looking.{looks_joined}
 
 -- one fault more
 pub added : (P : Type 0) (old : List Top) (fault : Top) (new : List Top) → new ≡ old ++ fault ∷ [] → (IsEarly fault → P) → EarlyOnlyIf P old → EarlyOnlyIf P new
@@ -38,6 +38,6 @@ pub any_stop : {T : Type 0} (P : Type 0) (r : Result T Stop) → P → IfErr r (
 any_stop P (Ok value) p = tt
 any_stop P (Err stop) p = λ is. p
 
-pub stop_after : {T W : Type 0} (m : Meaning W) (a b c : W) (r : Result T Stop) → LooksAtAll m a b → IfErr r (λ stop. IsEarlyStop stop → LooksAtAll m b c) → IfErr r (λ stop. IsEarlyStop stop → LooksAtAll m a c)
+pub stop_after : {T W : Type 0} (m : Meaning W) (a b c : W) (r : Result T Stop) → Looks m a b → IfErr r (λ stop. IsEarlyStop stop → Looks m b c) → IfErr r (λ stop. IsEarlyStop stop → Looks m a c)
 stop_after m a b c (Ok value) first then = then
 stop_after m a b c (Err stop) first then = λ is. looks_joined m a b c first (then is)

@@ -5,8 +5,7 @@ use Rattle.world_api.specs.Causes.{Later, TreeFails, DiskFails}
 use Rattle.world_api.specs.Counts.{Counts}
 use Rattle.world_api.specs.Looks.{IsTreeAlone, Looks, LooksAtFiles}
 use Rattle.world_api.specs.Meaning.{Meaning}
-use Rattle.world_api.proofs.Looking.{asks_of, asks_same, asks_joined, bank_same, bank_joined, told_same, recalls_same}
-use Rattle.world_api.proofs.Moments.{tells_on, recalls_on}
+use Rattle.world_api.proofs.Looking.{asks_of, looks_same, looks_joined}
 use Rattle.rule_graph.specs.declared.build_fault.BuildFault.{BuildFault}
 use Rattle.rule_graph.specs.declared.build_fault.BuildFault.TheVariants as fault
 use Rattle.sign_store.specs.Reached.{ReadsBanks, HasFaultCause}
@@ -19,7 +18,7 @@ use Rattle.build_files.specs.declared.end.ListEnd.TheVariants as end
 use Rattle.scons_report.specs.Causes.{HasListCause, HasFaultCause as HasListFault}
 use Rattle.build_run.specs.Goings.{Passes, Goes, Stays}
 use Rattle.build_run.proofs.Goings.{passes_on}
-use Rattle.scons_top.specs.Watching.{LooksAtAll, Watches}
+use Rattle.scons_top.specs.Watching.{Watches}
 
 pub later_same : (a b : Counts) → b ≡ a → Later a b
 later_same a b same = subst (λ c. Later a c) (sym same) (record { disk = omega arith; tree = omega arith; start = omega arith; action = omega arith })
@@ -75,25 +74,6 @@ later_store m old new (Err (refusal.Foreign bank)) h = later_same (m.counts old)
 later_store m old new (Err (refusal.Large size)) h = later_same (m.counts old) (m.counts new) (h.kept (λ is. cc))
 later_store m old new (Err refusal.Memory) h = later_same (m.counts old) (m.counts new) (h.kept (λ is. cc))
 
-pub looks_same : {W : Type 0} (m : Meaning W) (w : W) → LooksAtAll m w w
-looks_same m w = record {
-  told = told_same m w;
-  recalls = recalls_same m w;
-  around = λ t. asks_same (m.around w);
-  banks = λ t bank. bank_same m bank w;
-}
-
-pub looks_joined : {W : Type 0} (m : Meaning W) (a b c : W) → LooksAtAll m a b → LooksAtAll m b c → LooksAtAll m a c
-looks_joined m a b c p q = record {
-  told = tells_on m a b c p.told q.told;
-  recalls = recalls_on m a b c q.told p.recalls q.recalls;
-  around = λ t. asks_joined (m.around a) (m.around b) (m.around c) (p.around (q.told.told t)) (q.around t);
-  banks = λ t bank. bank_joined m bank a b c (p.banks (q.told.told t) bank) (q.banks t bank);
-}
-
-looked : {W : Type 0} (m : Meaning W) (old new : W) → Looks m old new → LooksAtAll m old new
-looked m old new h = record { told = h.told; recalls = h.recalls; around = h.around; banks = h.banks }
-
 pub watches_same : {W : Type 0} (m : Meaning W) (w : W) → Watches m w w
 watches_same m w = record { looks = looks_same m w; later = later_same (m.counts w) (m.counts w) refl }
 
@@ -105,17 +85,17 @@ watches_on m a b c p q = record {
 
 -- the reading of scripts only looks
 pub watches_host : {W : Type 0} (m : Meaning W) (old new : W) → LooksAtFiles m old new → Watches m old new
-watches_host m old new h = record { looks = looked m old new h.looks; later = later_alone (m.counts old) (m.counts new) h.counts }
+watches_host m old new h = record { looks = h.looks; later = later_alone (m.counts old) (m.counts new) h.counts }
 
 -- and so does that of the store
 pub watches_store : {W : Type 0} (m : Meaning W) (old new : W) → ReadsBanks m old new → Later (m.counts old) (m.counts new) → Watches m old new
 watches_store m old new h later = record {
-  looks = record { told = h.told; recalls = h.recalls; around = λ t. asks_of (m.around old) (m.around new) (h.around t); banks = h.banks };
+  looks = record { told = h.told; recalls = h.recalls; around = λ t. asks_of (m.around old) (m.around new) (h.around t); banks = h.banks; before = h.before };
   later = later;
 }
 
 pub watches_look : {W : Type 0} (m : Meaning W) (old new : W) → Looks m old new → Later (m.counts old) (m.counts new) → Watches m old new
-watches_look m old new h later = record { looks = looked m old new h; later = later }
+watches_look m old new h later = record { looks = h; later = later }
 
 pub stays_of : {W : Type 0} (m : Meaning W) (old new : W) → Watches m old new → Stays m old new
 stays_of m old new w = record {
@@ -144,3 +124,6 @@ pub ruleset watching = (watches_same, watches_host, watches_look, watches_store,
 -- nothing is closed still
 pub unclosed_on : {W : Type 0} (m : Meaning W) (old new : W) → Goes m old new → m.closed old ≡ [] → m.closed new ≡ []
 unclosed_on m old new g none = g.passes.told.closed ∙ none
+
+-- nothing was done
+pub ruleset standing = (looks_same, watches_same)

@@ -22,6 +22,7 @@ use std::alloc::Global;
 use world_api::{Kind, Sink, World};
 
 /// Removes each target that is a file, or with `-n` says which they are.
+#[tactic(auto, using(crate::proofs::Watching::standing))]
 pub(crate) fn clean_requests<W: World, O: Sink>(
     alloc: Global,
     graph: &Graph,
@@ -46,6 +47,7 @@ pub(crate) fn clean_requests<W: World, O: Sink>(
     Ok(good(alloc))
 }
 
+#[tactic(auto, using(crate::proofs::Watching::standing))]
 fn clean_rules<W: World, O: Sink>(
     alloc: Global,
     graph: &Graph,
@@ -67,6 +69,7 @@ fn clean_rules<W: World, O: Sink>(
     Ok(())
 }
 
+#[tactic(auto, using(crate::proofs::Watching::standing))]
 fn clean_all<W: World, O: Sink>(
     alloc: Global,
     graph: &Graph,

@@ -23,6 +23,7 @@ use std::alloc::Global;
 use world_api::{Fault, Hash, Sink, World, print};
 
 /// Reads the store, and lists what would be started.
+#[tactic(auto, using(crate::proofs::Watching::standing))]
 pub(crate) fn list_requests<W: World, O: Sink, E: Sink>(
     alloc: Global,
     graph: &mut Graph,

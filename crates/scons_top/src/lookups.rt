@@ -35,6 +35,7 @@ impl Lookups {
 }
 
 /// Whether a file without a rule is a leftover copy. The records are read for one in a variant directory with copies alone.
+#[tactic(auto, using(crate::proofs::Watching::standing))]
 pub(crate) fn is_left_over<W: World>(
     alloc: Global,
     world: &mut W,

@@ -14,6 +14,7 @@ use std::alloc::Global;
 use world_api::{Kind, World};
 
 /// The fault of the first member that isn't there, if one is to be made.
+#[tactic(auto, using(crate::proofs::Watching::standing))]
 pub(crate) fn check_members<W: World>(
     alloc: Global,
     world: &mut W,
@@ -34,6 +35,7 @@ pub(crate) fn check_members<W: World>(
     Ok(())
 }
 
+#[tactic(auto, using(crate::proofs::Watching::standing))]
 fn check_member<W: World>(
     alloc: Global,
     world: &mut W,

@@ -24,6 +24,7 @@ pub(crate) struct Request {
 }
 
 /// What is requested: the words, without any the defaults, without those the top directory.
+#[tactic(auto, using(crate::proofs::Watching::standing))]
 pub(crate) fn requests_of<W: World>(
     alloc: Global,
     world: &mut W,
@@ -40,6 +41,7 @@ pub(crate) fn requests_of<W: World>(
     requests_for(alloc, world, graph, words.clean, asked.as_slice())
 }
 
+#[tactic(auto, using(crate::proofs::Watching::standing))]
 fn requests_for<W: World>(
     alloc: Global,
     world: &mut W,
@@ -75,6 +77,7 @@ fn defaults_of(alloc: Global, graph: &Graph) -> Result<Texts, Memory> {
 }
 
 /// What a word stands for: an alias, a path that has a rule, a file, or a directory.
+#[tactic(auto, using(crate::proofs::Watching::standing))]
 fn request_of<W: World>(
     alloc: Global,
     world: &mut W,

@@ -6,7 +6,7 @@ ghost use Rattle.scons_top.specs.Stops.{Reports, SinkReports};
 ghost use Rattle.scons_top.specs.Faults.{IsEarly, IsEarlyStop, EarlyOnlyIf};
 ghost use Rattle.world_api.specs.Statuses.{HasStatus};
 ghost use Rattle.scons_top.specs.declared.report.Top.{Top};
-ghost use Rattle.scons_top.specs.Watching.{LooksAtAll};
+ghost use Rattle.world_api.specs.Looks.{Looks};
 ghost use Rattle.scons_words.specs.Readings.{read};
 ghost use Rattle.scons_words.specs.declared.words.Words.{Words};
 ghost use Rattle.world_api.specs.Causes.{Later};
@@ -42,9 +42,9 @@ pub fn scons<W: World, O: Sink, E: Sink>(
     ensures told { Told W.meaning world.old world.new }
     ensures later { Later (W.meaning.counts world.old) (W.meaning.counts world.new) }
     ensures idle { W.meaning.tells world.new → (W.meaning.around world.new).running ≡ [] }
-    ensures dry { (said : Words) → read words.now ≡ Ok said → IsTrue said.dry → LooksAtAll W.meaning world.old world.new }
-    ensures help { (said : Words) → read words.now ≡ Ok said → IsTrue said.help → LooksAtAll W.meaning world.old world.new }
-    ensures unchanged { (fault : Top) → Contains result.faults fault → IsEarly fault → LooksAtAll W.meaning world.old world.new }
+    ensures dry { (said : Words) → read words.now ≡ Ok said → IsTrue said.dry → Looks W.meaning world.old world.new }
+    ensures help { (said : Words) → read words.now ≡ Ok said → IsTrue said.help → Looks W.meaning world.old world.new }
+    ensures unchanged { (fault : Top) → Contains result.faults fault → IsEarly fault → Looks W.meaning world.old world.new }
     ensures status { HasStatus result.status result.faults }
     ensures causes { RunCauses W.meaning O.meaning E.meaning world.old out.old err.old world.new out.new err.new result }
 {
@@ -54,6 +54,7 @@ pub fn scons<W: World, O: Sink, E: Sink>(
     }
 }
 
+#[tactic(auto, using(crate::proofs::Watching::standing))]
 fn take_words<W: World, O: Sink, E: Sink>(
     alloc: Global,
     words: &[Text],
@@ -66,9 +67,9 @@ fn take_words<W: World, O: Sink, E: Sink>(
     ensures passes { Passes W.meaning world.old world.new }
     ensures reports { Reports W.meaning O.meaning E.meaning world.old out.old err.old world.new out.new err.new result }
     ensures idle { W.meaning.tells world.new → (W.meaning.around world.new).running ≡ [] }
-    ensures dry { (said : Words) → read words.now ≡ Ok said → IsTrue said.dry → LooksAtAll W.meaning world.old world.new }
-    ensures help { (said : Words) → read words.now ≡ Ok said → IsTrue said.help → LooksAtAll W.meaning world.old world.new }
-    ensures early { IfErr result (λ stop. IsEarlyStop stop → LooksAtAll W.meaning world.old world.new) }
+    ensures dry { (said : Words) → read words.now ≡ Ok said → IsTrue said.dry → Looks W.meaning world.old world.new }
+    ensures help { (said : Words) → read words.now ≡ Ok said → IsTrue said.help → Looks W.meaning world.old world.new }
+    ensures early { IfErr result (λ stop. IsEarlyStop stop → Looks W.meaning world.old world.new) }
     ensures late { IfOk result (λ report. EarlyOnlyIf ⊥ report.faults) }
     ensures status { IfOk result (λ report. HasStatus report.status report.faults) }
 {
@@ -92,9 +93,9 @@ pub(crate) fn run<W: World, O: Sink, E: Sink>(
     ensures passes { Passes W.meaning world.old world.new }
     ensures reports { Reports W.meaning O.meaning E.meaning world.old out.old err.old world.new out.new err.new result }
     ensures idle { W.meaning.tells world.new → (W.meaning.around world.new).running ≡ [] }
-    ensures dry { IsTrue words.now.dry → LooksAtAll W.meaning world.old world.new }
-    ensures help { IsTrue words.now.help → LooksAtAll W.meaning world.old world.new }
-    ensures early { IfErr result (λ stop. IsEarlyStop stop → LooksAtAll W.meaning world.old world.new) }
+    ensures dry { IsTrue words.now.dry → Looks W.meaning world.old world.new }
+    ensures help { IsTrue words.now.help → Looks W.meaning world.old world.new }
+    ensures early { IfErr result (λ stop. IsEarlyStop stop → Looks W.meaning world.old world.new) }
     ensures late { IfOk result (λ report. EarlyOnlyIf ⊥ report.faults) }
     ensures status { IfOk result (λ report. HasStatus report.status report.faults) }
 {
@@ -138,8 +139,8 @@ fn serve<W: World, O: Sink, E: Sink>(
     ensures passes { Passes W.meaning world.old world.new }
     ensures reports { Reports W.meaning O.meaning E.meaning world.old out.old err.old world.new out.new err.new result }
     ensures idle { W.meaning.tells world.new → (W.meaning.around world.new).running ≡ [] }
-    ensures dry { IsTrue words.now.dry → LooksAtAll W.meaning world.old world.new }
-    ensures early { IfErr result (λ stop. IsEarlyStop stop → LooksAtAll W.meaning world.old world.new) }
+    ensures dry { IsTrue words.now.dry → Looks W.meaning world.old world.new }
+    ensures early { IfErr result (λ stop. IsEarlyStop stop → Looks W.meaning world.old world.new) }
     ensures late { IfOk result (λ report. EarlyOnlyIf ⊥ report.faults) }
     ensures status { IfOk result (λ report. HasStatus report.status report.faults) }
 {

@@ -1,6 +1,13 @@
+use Rattle.world_api.proofs.Looking.{asked}
 use Rattle.scons_top.proofs.Causing.{top_named, top_wanting, top_refused}
+use Rattle.scons_top.proofs.Watching.{watches_host}
 use Rattle.scons_top.proofs.reading.ask_for_top.Goals as goal
 use Rattle.scons_top.proofs.reading.ask_for_top.Goals.{in-Ok, in-Err-Memory, in-Err-Fault}
+
+pub returns-clause-watches : goal.returns-clause-watches
+returns-clause-watches g c =
+    let top = c.top_path.ensures in
+    watches_host _ _ _ (asked _ _ _ top.told top.recalls top.around top.banks top.time c.top_path.result top.kept top.rose)
 
 pub returns-clause-step : goal.returns-clause-step
 returns-clause-step g c =

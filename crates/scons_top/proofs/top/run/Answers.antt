@@ -1,4 +1,4 @@
-use Rattle.scons_top.proofs.Watching.{looks_joined}
+use Rattle.world_api.proofs.Looking.{looks_joined}
 use Rattle.scons_top.proofs.Early.{any_stop, stop_after}
 use Rattle.std.proofs.Common.{◌∙◌}
 use Rattle.scons_top.proofs.Causing.{same_world, exit_report, world_stop, stop_back, report_back}
