@@ -31,10 +31,18 @@ abbrev copy_text : List ℕ → List ℕ → List ℕ
 copy_text [] text = []
 copy_text (byte ∷ builder) text = text
 
+-- what is written
+abbrev pub write_line : List ℕ → List ℕ
+write_line target = line_text (codes "Creating '" ++ target ++ codes "'")
+
+abbrev pub write_text : List (List ℕ) → List NodeId → List ℕ
+write_text nodes [] = []
+write_text nodes (target ∷ targets) = write_line (path_of nodes target)
+
 abbrev work_text : RuleGraph → Rule → Work → List ℕ
 work_text graph rule Shell = lines_text rule.lines
 work_text graph rule Copy = copy_text rule.builder (install_text graph.nodes rule.sources rule.targets)
-work_text graph rule Write = lines_text rule.lines
+work_text graph rule Write = write_text graph.nodes rule.targets
 
 abbrev pub rule_text : RuleGraph → Rule → List ℕ
 rule_text graph rule = work_text graph rule rule.work

@@ -2,15 +2,15 @@
 ghost use Rattle.std.specs.Prelude.{◌≡◌, ◌<◌, ◌++◌, ℕ, length, slice_get, Some, IfOk, IfSome, OnOk, IsTrue, string_bytes};
 ghost use Rattle.rule_graph.specs.Rules.{are_below};
 ghost use Rattle.rule_graph.specs.declared.rule.Rule.{Rule};
-ghost use Rattle.report_texts.specs.Lines.{rule_text, lines_text, install_line, install_text, shown};
+ghost use Rattle.report_texts.specs.Lines.{rule_text, lines_text, install_line, install_text, write_line, write_text, shown};
 
 use rule_graph::{Graph, Rule};
 use scons_base::{Memory, NodeId, PathText, RuleId};
 use std::alloc::Global;
 use world_api::{Line, Work};
 
-/// The lines of a rule: those of its action that are neither quiet nor empty, or what an Install does. A copy of a variant
-/// directory prints nothing.
+/// The lines of a rule: those of its action that are neither quiet nor empty, or what an Install does or is written. A copy
+/// of a variant directory prints nothing.
 pub fn rule_text(alloc: Global, graph: &Graph, rule: RuleId) -> Result<String, Memory>
     requires { rule.0 < length graph.now.rules }
     ensures { IfOk result (λ text. (named : Rule) → slice_get graph.now.rules rule.0 ≡ Some named
@@ -27,7 +27,8 @@ pub fn rule_text(alloc: Global, graph: &Graph, rule: RuleId) -> Result<String, M
             )
         }
         Work::Copy => Ok(String::new(alloc)),
-        Work::Shell | Work::Write => lines_text(alloc, rule.lines.as_slice()),
+        Work::Shell => lines_text(alloc, rule.lines.as_slice()),
+        Work::Write => write_text(alloc, graph, rule.targets.as_slice()),
     }
 }
 
@@ -76,4 +77,22 @@ fn install_line(alloc: Global, source: &PathText, target: &PathText) -> Result<S
     let source = source.as_str();
     let target = target.as_str();
     Ok(format!(in alloc; "Install file: \"{source}\" as \"{target}\"\n")?)
+}
+
+/// What a rule that writes does. Such a rule has one target.
+fn write_text(alloc: Global, graph: &Graph, targets: &[NodeId]) -> Result<String, Memory>
+    requires { IsTrue (are_below (length graph.now.nodes) targets.now) }
+    ensures { IfOk result (λ text. string_bytes text ≡ write_text graph.now.nodes targets.now) }
+{
+    match targets {
+        [target, ..] => write_line(alloc, graph.path(*target)),
+        [] => Ok(String::new(alloc)),
+    }
+}
+
+fn write_line(alloc: Global, target: &PathText) -> Result<String, Memory>
+    ensures { IfOk result (λ text. string_bytes text ≡ write_line target.now) }
+{
+    let target = target.as_str();
+    Ok(format!(in alloc; "Creating '{target}'\n")?)
 }

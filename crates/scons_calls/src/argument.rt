@@ -3,7 +3,7 @@ use crate::exports::Exports;
 use env_subst::Mode;
 use py_heap::Value;
 use scons_base::{Text, Texts};
-use scons_decls::{Given, Nodes};
+use scons_decls::{Given, Nodes, Pairs};
 
 #[derive(Drop)]
 pub enum Argument {
@@ -11,6 +11,7 @@ pub enum Argument {
     Place(Given),
     Nodes(Nodes),
     Texts(Texts),
+    Pairs(Pairs),
     Exports(Exports),
     Flag(bool),
     Mode(Mode),

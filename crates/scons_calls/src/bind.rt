@@ -126,6 +126,6 @@ fn is_other(kind: Kind, value: Value) -> bool {
         Kind::False => !matches!(value, Value::Bool(false) | Value::Int(0)),
         Kind::None => !matches!(value, Value::Nil),
         Kind::Text | Kind::Place | Kind::Nodes | Kind::Lines | Kind::Names => false,
-        Kind::Exports | Kind::Flag | Kind::Mode | Kind::Any => false,
+        Kind::Texts | Kind::Pairs | Kind::Exports | Kind::Flag | Kind::Mode | Kind::Any => false,
     }
 }

@@ -7,6 +7,8 @@ use std::alloc::{AllocError, AllocFailed};
 pub enum CallFault {
     /// A wrong number, name or kind of arguments.
     Arguments,
+    /// An argument of another kind than its name takes.
+    Argument(Text),
     /// A named argument on which SCons acts and that is left out here.
     LeftOut(Text),
     Memory,

@@ -17,6 +17,7 @@ mod left_out;
 mod name;
 mod nodes;
 mod objects;
+mod replacing;
 mod request;
 mod requests;
 mod signature;

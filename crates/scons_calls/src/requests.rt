@@ -13,7 +13,9 @@ use env_subst::Mode;
 use py_heap::{Heap, Value};
 use py_host::{Args, Scope};
 use scons_base::{Listing, Memory, Text, Texts};
-use scons_decls::{Builder, Call, Change, Given, Maker, Nodes, RuleCall, SayCall, Variables};
+use scons_decls::{
+    Builder, Call, Change, Given, Maker, Nodes, Pairs, RuleCall, SayCall, Variables,
+};
 use std::alloc::Global;
 
 /// What a call of a name asks.
@@ -29,7 +31,7 @@ pub fn request_of(
     let alloc = heap.allocator();
     match name {
         Name::Builds(name) => built(alloc, maker_of(name), &mut arguments, variables),
-        Name::Environs(name) => Ok(declares(environs(alloc, name, &mut arguments, variables))),
+        Name::Environs(name) => Ok(declares(environs(alloc, name, &mut arguments, variables)?)),
         Name::Says(name) => Ok(declares(said(alloc, name, &mut arguments)?)),
         Name::Tells(name) => Ok(told(alloc, name, &mut arguments)),
         Name::Shares(name) => shared(alloc, name, &mut arguments, args),
@@ -122,19 +124,14 @@ fn put_named(alloc: Global, values: &mut Scope, args: &Args) -> Result<(), Memor
     Ok(())
 }
 
-/// A call of a builder. Where one list alone is given it is the sources.
+/// A call of a builder.
 fn built(
     alloc: Global,
     maker: Maker,
     arguments: &mut Arguments,
     variables: Variables,
 ) -> Result<Request, CallFault> {
-    let (targets, sources) = match (take(arguments), take(arguments)) {
-        (None, None) => return Err(CallFault::Arguments),
-        (targets, None) => (None, nodes_in(alloc, targets)),
-        (None, sources) => (None, nodes_in(alloc, sources)),
-        (targets, sources) => (Some(nodes_in(alloc, targets)), nodes_in(alloc, sources)),
-    };
+    let (targets, sources) = targets_and_sources(alloc, arguments)?;
     Ok(declares(Call::Rules(RuleCall::Build {
         maker,
         targets,
@@ -143,9 +140,27 @@ fn built(
     })))
 }
 
+/// Targets, if any are given, and sources. Where one list alone is given it is the sources.
+fn targets_and_sources(
+    alloc: Global,
+    from: &mut Arguments,
+) -> Result<(Option<Nodes>, Nodes), CallFault> {
+    Ok(match (take(from), take(from)) {
+        (None, None) => return Err(CallFault::Arguments),
+        (targets, None) => (None, nodes_in(alloc, targets)),
+        (None, sources) => (None, nodes_in(alloc, sources)),
+        (targets, sources) => (Some(nodes_in(alloc, targets)), nodes_in(alloc, sources)),
+    })
+}
+
 /// What is asked by the names that are called with variables, or act on them.
-fn environs(alloc: Global, name: Environs, from: &mut Arguments, variables: Variables) -> Call {
-    match name {
+fn environs(
+    alloc: Global,
+    name: Environs,
+    from: &mut Arguments,
+    variables: Variables,
+) -> Result<Call, CallFault> {
+    Ok(match name {
         Environs::Environment => Call::Environment(variables),
         Environs::DefaultEnvironment => Call::DefaultEnvironment(variables),
         Environs::Clone => Call::Clone(variables),
@@ -161,10 +176,25 @@ fn environs(alloc: Global, name: Environs, from: &mut Arguments, variables: Vari
             action: texts(alloc, from),
             variables,
         }),
+        Environs::Textfile => Call::Rules(RuleCall::Textfile {
+            targets: nodes(alloc, from),
+            texts: texts(alloc, from),
+            pairs: pairs(alloc, from),
+            variables,
+        }),
+        Environs::Substfile => {
+            let (targets, sources) = targets_and_sources(alloc, from)?;
+            Call::Rules(RuleCall::Substfile {
+                targets,
+                sources,
+                pairs: pairs(alloc, from),
+                variables,
+            })
+        }
         Environs::Builder => Call::NewBuilder(builder_of(alloc, from)),
         Environs::Decider => Call::Decider(text(alloc, from)),
         Environs::Help => Call::Help(text(alloc, from)),
-    }
+    })
 }
 
 /// What is asked by the names that say something of nodes.
@@ -291,6 +321,13 @@ fn texts(alloc: Global, from: &mut Arguments) -> Texts {
     match take(from) {
         Some(Argument::Texts(texts)) => texts,
         _ => Texts::new(Vec::new(alloc)),
+    }
+}
+
+fn pairs(alloc: Global, from: &mut Arguments) -> Pairs {
+    match take(from) {
+        Some(Argument::Pairs(pairs)) => pairs,
+        _ => Listing::empty(alloc),
     }
 }
 

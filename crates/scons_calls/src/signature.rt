@@ -13,6 +13,10 @@ pub enum Kind {
     Lines,
     /// Names: texts, flattened and cut at white space.
     Names,
+    /// Texts as they stand, flattened.
+    Texts,
+    /// What is replaced in a text: a dict of keys, which aren't empty, with texts and numbers.
+    Pairs,
     /// What is exported: names, and dicts of names and values.
     Exports,
     /// True or False, 1 or 0.

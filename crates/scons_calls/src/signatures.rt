@@ -62,6 +62,18 @@ const COMMAND: &[Parameter] = &[
     one!("action", Lines),
 ];
 
+const TEXTFILE: &[Parameter] = &[
+    one!("target", Nodes),
+    one!("source", Texts),
+    option!("SUBST_DICT", Pairs),
+];
+
+const SUBSTFILE: &[Parameter] = &[
+    option!("target", Nodes),
+    option!("source", Nodes),
+    option!("SUBST_DICT", Pairs),
+];
+
 const BUILDER: &[Parameter] = &[
     one!("action", Lines),
     option!("suffix", Text),
@@ -197,6 +209,8 @@ fn of_environs(environs: Environs) -> Signature {
         Environs::Replace | Environs::SetDefault => (VARIABLES, NONE, Others::Variables),
         Environs::Subst => (SUBST, OF_SUBST, Others::Refused),
         Environs::Command => (COMMAND, OF_COMMANDS, Others::Variables),
+        Environs::Textfile => (TEXTFILE, OF_BUILDS, Others::Variables),
+        Environs::Substfile => (SUBSTFILE, OF_BUILDS, Others::Variables),
         Environs::Builder => (BUILDER, NONE, Others::LeftOut),
         Environs::Decider => (DECIDER, NONE, Others::Refused),
         Environs::Help => (HELP, NONE, Others::Refused),

@@ -40,6 +40,17 @@ fn line(heap: &Heap, value: Value) -> Result<Text, CallFault> {
     text(heap, value)
 }
 
+/// Texts as they stand, flattened.
+pub fn texts(heap: &Heap, values: &[Value]) -> Result<Texts, CallFault> {
+    let mut items = Vec::new(heap.allocator());
+    flattened(heap, values, &mut items)?;
+    let mut texts = Texts::new(Vec::new(heap.allocator()));
+    for item in &items {
+        texts.push(text(heap, *item)?)?;
+    }
+    Ok(texts)
+}
+
 /// Names, cut at white space and flattened. `*` stands for all names.
 pub fn names(heap: &Heap, values: &[Value]) -> Result<Texts, CallFault> {
     let mut items = Vec::new(heap.allocator());

@@ -20,7 +20,7 @@ pub(crate) fn build(
         return Err(NameFault::NoSource);
     }
     let site = site_of(state, env, place, variables)?;
-    let targets = as_slice(targets);
+    let targets = slice_of(targets);
     let sources = sources.as_slice();
     match maker {
         Maker::Object => objects(state, site, targets, sources),
@@ -39,7 +39,8 @@ pub(crate) fn build(
     }
 }
 
-fn as_slice(nodes: &Option<Nodes>) -> Option<&[Given]> {
+/// What stands for nodes, where any are given.
+pub(crate) fn slice_of(nodes: &Option<Nodes>) -> Option<&[Given]> {
     match nodes {
         Some(nodes) => Some(nodes.as_slice()),
         None => None,

@@ -1,5 +1,5 @@
 //! One call, declared.
-use crate::build::build;
+use crate::build::{build, slice_of};
 use crate::environment_calls::{
     change, change_default, clone_environment, get, new_environment, set, set_builder, set_decider,
     subst,
@@ -8,6 +8,7 @@ use crate::install::{install, install_as};
 use crate::own::{command, new_builder};
 use crate::said::{alias, ask, say};
 use crate::site::{plain_site, site_of};
+use crate::writing::{substfile, textfile};
 use env_subst::Mode;
 use scons_base::{EnvId, Listing, Text};
 use scons_decls::{
@@ -69,6 +70,25 @@ fn declare_rules(
         } => {
             let site = site_of(state, env, place, variables)?;
             command(state, site, targets.as_slice(), sources.as_slice(), action)
+        }
+        RuleCall::Textfile {
+            targets,
+            texts,
+            pairs,
+            variables,
+        } => {
+            let site = site_of(state, env, place, variables)?;
+            textfile(state, site, targets.as_slice(), texts, pairs.as_slice())
+        }
+        RuleCall::Substfile {
+            targets,
+            sources,
+            pairs,
+            variables,
+        } => {
+            let site = site_of(state, env, place, variables)?;
+            let targets = slice_of(targets);
+            substfile(state, site, targets, sources.as_slice(), pairs.as_slice())
         }
         RuleCall::Install { dirs, sources } => {
             let site = plain_site(state, env, place);

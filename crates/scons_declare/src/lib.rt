@@ -11,5 +11,6 @@ mod said;
 mod site;
 mod suffixes;
 mod variables;
+mod writing;
 
 pub use declaring::declare;

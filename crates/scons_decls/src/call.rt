@@ -1,6 +1,6 @@
 //! The calls of SCons names, with their arguments flattened and typed.
 use crate::builder::Builder;
-use crate::given::{Given, Nodes, Variables};
+use crate::given::{Given, Nodes, Pairs, Variables};
 use env_subst::Mode;
 use env_vars::EnvValue;
 use scons_base::{Text, Texts};
@@ -68,6 +68,20 @@ pub enum RuleCall {
         targets: Nodes,
         sources: Nodes,
         action: Texts,
+        variables: Variables,
+    },
+    /// `Textfile(target, source, SUBST_DICT)`
+    Textfile {
+        targets: Nodes,
+        texts: Texts,
+        pairs: Pairs,
+        variables: Variables,
+    },
+    /// `Substfile(target, source, SUBST_DICT)`
+    Substfile {
+        targets: Option<Nodes>,
+        sources: Nodes,
+        pairs: Pairs,
         variables: Variables,
     },
     Install {

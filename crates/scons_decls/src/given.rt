@@ -30,6 +30,9 @@ impl Given {
 /// What stands for several nodes, in order.
 pub type Nodes = Listing<Given>;
 
+/// What is replaced in a text: keys, which aren't empty, with their values, in order.
+pub type Pairs = Listing<(Text, Text)>;
+
 /// Variables that a call gives, and the builders that it gives names to (`BUILDERS`).
 #[derive(Drop)]
 pub struct Variables {

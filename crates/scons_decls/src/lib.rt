@@ -33,7 +33,7 @@ pub use expand::{
     as_nodes, bad_argument, dir_of, expanded, file_of, files_of, listed, path_at, path_of,
 };
 pub use fault::NameFault;
-pub use given::{Given, Nodes, Variables};
+pub use given::{Given, Nodes, Pairs, Variables};
 pub use language::{Language, language_of};
 pub use made::Made;
 pub use place::Place;

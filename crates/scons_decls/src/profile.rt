@@ -6,7 +6,7 @@ use scons_base::Text;
 use std::alloc::Global;
 
 /// The variables and arguments on which SCons acts where a script sets them, and this program doesn't.
-const NOT_SET: [&str; 29] = [
+const NOT_SET: [&str; 30] = [
     "tools",
     "toolpath",
     "parse_flags",
@@ -28,6 +28,7 @@ const NOT_SET: [&str; 29] = [
     "TEMPFILEDIR",
     "TEMPFILESUFFIX",
     "INSTALLSTR",
+    "SUBST_DICT",
     "TARGET_ARCH",
     "TARGET_OS",
     "MSVC_VERSION",
@@ -39,7 +40,7 @@ const NOT_SET: [&str; 29] = [
 ];
 
 /// Those that SCons gives a value by itself: a script that reads them, or refers to them in a text, is refused too.
-const LEFT_OUT: [&str; 70] = [
+const LEFT_OUT: [&str; 76] = [
     "ENV",
     "SHELL",
     "SPAWN",
@@ -60,6 +61,12 @@ const LEFT_OUT: [&str; 70] = [
     "LIBSUFFIXES",
     "INSTALL",
     "INSTALLVERSIONEDLIB",
+    "FILE_ENCODING",
+    "LINESEPARATOR",
+    "SUBSTFILEPREFIX",
+    "SUBSTFILESUFFIX",
+    "TEXTFILEPREFIX",
+    "TEXTFILESUFFIX",
     "SMARTLINK",
     "RPATHPREFIX",
     "RPATHSUFFIX",

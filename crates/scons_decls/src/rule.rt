@@ -1,6 +1,7 @@
 //! A rule as it was declared.
 ghost use Rattle.std.specs.Prelude.{◌<◌, length};
 
+use crate::given::Pairs;
 use crate::place::Place;
 use scons_base::{EnvId, PathText, Paths, Texts};
 use world_api::Decider;
@@ -16,6 +17,10 @@ pub enum Recipe {
     Command(Texts),
     /// A builder of a script's own, by its number.
     Own(u32),
+    /// A `Textfile`: its texts, and what is replaced in them.
+    Textfile(Texts, Pairs),
+    /// A `Substfile`, with what is replaced in its sources.
+    Substfile(Pairs),
     Install,
     InstallAs,
 }

@@ -50,6 +50,7 @@ impl Stop {
 pub fn refused(alloc: Global, name: &str, fault: CallFault) -> Refusal {
     match fault {
         CallFault::Arguments => bad_argument(alloc, name),
+        CallFault::Argument(name) => Refusal::Kind(ReadKind::Name(NameFault::BadArgument(name))),
         CallFault::LeftOut(name) => Refusal::Kind(ReadKind::Name(NameFault::OutOfProfile(name))),
         CallFault::Memory => Refusal::Memory,
     }

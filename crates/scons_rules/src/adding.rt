@@ -11,6 +11,7 @@ use crate::reading::{RuleReading, is_cplusplus_source};
 use crate::said::OfRule;
 use crate::shell::refuse_for_shell;
 use crate::sources::all_settled;
+use crate::writing::{substituting, written};
 use rule_graph::{Graph, Rule};
 use scons_base::{Listing, Memory, NodeId, Paths, Text};
 use scons_decls::{Declaration, Declarations, Recipe};
@@ -95,7 +96,7 @@ fn rule_of(
 ) -> Result<Rule, RuleReadFault>
     ensures { (count : ℕ) → AreNodes count nodes → IfOk result (IsRule count) }
 {
-    let lines = rule_lines(alloc, state, declaration)?;
+    let lines = rule_lines(alloc, state, declaration, nodes.sources.len())?;
     let paths = search_path(alloc, state, declaration)?;
     let builder = builder_of(alloc, declaration)?;
     let work = work_of(declaration);
@@ -133,7 +134,28 @@ fn search_path(
     Ok(dirs)
 }
 
+/// The lines of a rule of so many sources, and what it signs.
 fn rule_lines(
+    alloc: Global,
+    state: &Declarations,
+    declaration: &Declaration,
+    sources: usize,
+) -> Result<RuleLines, RuleReadFault> {
+    let env = declaration.env;
+    let signed = match &declaration.recipe {
+        Recipe::Textfile(texts, pairs) => {
+            written(alloc, state, env, texts.as_slice(), pairs.as_slice())?
+        }
+        Recipe::Substfile(pairs) => substituting(alloc, state, env, sources, pairs.as_slice())?,
+        _ => return shell_lines(alloc, state, declaration),
+    };
+    Ok(RuleLines {
+        lines: Listing::empty(alloc),
+        signed,
+    })
+}
+
+fn shell_lines(
     alloc: Global,
     state: &Declarations,
     declaration: &Declaration,
@@ -169,6 +191,7 @@ fn texts_of<'a>(
             Some(builder) => strs(alloc, builder.action.as_slice()),
             None => Ok(Vec::new(alloc)),
         },
+        Recipe::Textfile(..) | Recipe::Substfile(_) => Ok(Vec::new(alloc)),
         Recipe::Install | Recipe::InstallAs => Ok(Vec::new(alloc)),
     }
 }
@@ -186,6 +209,8 @@ fn builder_of(alloc: Global, declaration: &Declaration) -> Result<Text, Memory> 
         Recipe::Program => "Program",
         Recipe::StaticLibrary => "StaticLibrary",
         Recipe::Command(_) => "Command",
+        Recipe::Textfile(..) => "Textfile",
+        Recipe::Substfile(_) => "Substfile",
         Recipe::Install => "Install",
         Recipe::InstallAs => "InstallAs",
         Recipe::Own(number) => {
@@ -198,6 +223,7 @@ fn builder_of(alloc: Global, declaration: &Declaration) -> Result<Text, Memory> 
 pub(crate) fn work_of(declaration: &Declaration) -> Work {
     match declaration.recipe {
         Recipe::Install | Recipe::InstallAs => Work::Copy,
+        Recipe::Textfile(..) | Recipe::Substfile(_) => Work::Write,
         _ => Work::Shell,
     }
 }

@@ -17,6 +17,7 @@ mod reading;
 mod said;
 mod shell;
 mod sources;
+mod writing;
 
 pub use fault::RuleReadFault;
 pub use libraries::{AskedFile, Wanted};

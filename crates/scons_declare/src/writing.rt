@@ -1,0 +1,84 @@
+//! Textfile and Substfile: rules that write.
+ghost use Rattle.std.specs.Prelude.{◌<◌, length, IfOk};
+
+use crate::objects::named_target;
+use crate::site::{Site, as_answer, declare_rule, only_path};
+use crate::suffixes::{affixes_of, target_of};
+use scons_base::{Listing, Memory, PathText, Paths, Text, Texts};
+use scons_decls::{
+    Answer, Declarations, Given, NameFault, Pairs, Recipe, bad_argument, file_of, files_of,
+};
+
+/// The suffix of the file that a Substfile is made of, where its target isn't named.
+const SOURCE_SUFFIX: &str = ".in";
+
+/// `Textfile(target, source, SUBST_DICT)`: a target without a suffix gets one.
+pub(crate) fn textfile(
+    state: &mut Declarations,
+    site: Site,
+    targets: &[Given],
+    texts: &Texts,
+    pairs: &[(Text, Text)],
+) -> Result<Answer, NameFault> {
+    let [target] = targets else {
+        return Err(bad_argument(state, "Textfile"));
+    };
+    let affixes = affixes_of(state, site.env, "", ".txt")?;
+    let targets = only_path(
+        state,
+        named_target(state, site, target, &affixes, "Textfile")?,
+    )?;
+    let answer = as_answer(state, targets.as_slice())?;
+    let recipe = Recipe::Textfile(texts.copy()?, copies_of(state, pairs)?);
+    let sources = Paths::new(Vec::new(state.alloc));
+    declare_rule(state, site, recipe, targets, sources)?;
+    Ok(answer)
+}
+
+/// `Substfile(target, source, SUBST_DICT)` and `Substfile(source, SUBST_DICT)`.
+pub(crate) fn substfile(
+    state: &mut Declarations,
+    site: Site,
+    targets: Option<&[Given]>,
+    sources: &[Given],
+    pairs: &[(Text, Text)],
+) -> Result<Answer, NameFault> {
+    let sources = files_of(state, site.env, sources, "Substfile")?;
+    let targets = substituted(state, site, targets, sources.as_slice())?;
+    let answer = as_answer(state, targets.as_slice())?;
+    let recipe = Recipe::Substfile(copies_of(state, pairs)?);
+    declare_rule(state, site, recipe, targets, sources)?;
+    Ok(answer)
+}
+
+/// The one target of a Substfile: where none is named, its one source without `.in`.
+fn substituted(
+    state: &Declarations,
+    site: Site,
+    targets: Option<&[Given]>,
+    sources: &[PathText],
+) -> Result<Paths, NameFault>
+    ensures { IfOk result (λ p. 0 < length p) }
+{
+    match (targets, sources) {
+        (Some([target]), _) => only_path(state, file_of(state, site.env, target, "Substfile")?),
+        (None, [source]) => only_path(state, bare(state, site, source)?),
+        _ => Err(bad_argument(state, "Substfile")),
+    }
+}
+
+fn bare(state: &Declarations, site: Site, source: &PathText) -> Result<PathText, NameFault> {
+    if source.suffix() != SOURCE_SUFFIX {
+        return Err(NameFault::BadSuffix(source.copy()?));
+    }
+    let plain = affixes_of(state, site.env, "", "")?;
+    target_of(state, source, SOURCE_SUFFIX, &plain)
+}
+
+fn copies_of(state: &Declarations, pairs: &[(Text, Text)]) -> Result<Pairs, Memory> {
+    let mut copies = Listing::empty(state.alloc);
+    for (key, value) in pairs {
+        copies.push((key.copy()?, value.copy()?))?;
+    }
+    Ok(copies)
+}
