@@ -96,7 +96,7 @@ fn value_at(parameter: &Parameter, place: usize, args: &Args) -> Option<Value> {
     }
 }
 
-/// The argument of a parameter. None stands for an argument that isn't given where none need be.
+/// The argument of a parameter. None stands for an argument that isn't given where none need be, but for what is replaced.
 fn argument(
     heap: &Heap,
     objects: &Objects,
@@ -111,12 +111,16 @@ fn argument(
     }
     match value_at(parameter, place, args) {
         None => Ok(None),
-        Some(Value::Nil) if matches!(parameter.takes, Takes::OneOrNone) => Ok(None),
+        Some(Value::Nil) if may_be_none(parameter) => Ok(None),
         Some(value) if is_other(parameter.kind, value) => {
             Err(left_out(heap.allocator(), parameter.name))
         }
         Some(value) => Ok(Some(converted(heap, objects, parameter.kind, &[value])?)),
     }
+}
+
+fn may_be_none(parameter: &Parameter) -> bool {
+    matches!(parameter.takes, Takes::OneOrNone) && !matches!(parameter.kind, Kind::Pairs)
 }
 
 /// Whether a value is another one than a kind has alone, which is left out here.
