@@ -1,0 +1,4 @@
+pub mod Ways
+pub mod Clears
+pub mod Turns
+pub mod Laws
