@@ -6,3 +6,5 @@ pub mod Carrying
 pub mod Keeping
 pub mod Launching
 pub mod Ending
+pub mod Settled
+mod Samples

@@ -1,14 +1,14 @@
 -- What each turn of a build keeps: a law for each.
-use Rattle.std.specs.Prelude.{◌≡◌, ◌⊎◌, false, List, [], ◌∷◌}
+use Rattle.std.specs.Prelude.{◌≡◌, ◌⊎◌, false, List, [], ◌∷◌, ◌++◌, Some, None}
 use Rattle.world_api.specs.Around.{Around}
 use Rattle.world_api.specs.Calls.{Starts, Ends}
 use Rattle.world_api.specs.Counts.{Counts}
 use Rattle.world_api.specs.declared.job.Ended.{Ended}
 use Rattle.world_api.specs.declared.job.Job.{Job}
-use Rattle.build_model.specs.Rules.{Path, Rule}
+use Rattle.build_model.specs.Rules.{Path, Tree, Rule, Among}
 use Rattle.build_model.specs.Moments.{Job as Given}
 use Rattle.build_model.specs.Steps as model
-use Rattle.build_model.specs.Steps.{Step, Fresh, Began, Lacks, Halts, IsLacking, is_over, running}
+use Rattle.build_model.specs.Steps.{Step, Fresh, Began, Lacks, Halts, settled, IsLacking, is_over, running}
 use Rattle.build_model.specs.Waiting.{IsIdle}
 use Rattle.build_means.specs.Rules.{IsReading}
 use Rattle.build_means.specs.Builds.{Wanted, Kept, Runs, setting_in, build_in, jobs_at_once}
@@ -70,6 +70,17 @@ EndingsKeepWays = (w : Wanted) (kept : Kept) (counts : Counts) (before old new :
     (ended : Ended) → IsReading w.graph → (way : IsWay w kept counts before jobs old past) → MayWait w kept before old past →
     (ends : Ends (Unit {0}) ended old new) →
     EndsFor w kept counts before jobs old new past way.log.entries ends.which ended
+
+-- what no rule makes, and what these rules make, is the same in two trees
+pub record StaysSo (w : Wanted) (before : Around) (rules : List Rule) (t u : Tree) : Type 0 where
+  pub sources : (p : Path) → (setting_in w before).rule_of p ≡ None → t p ≡ u p
+  pub made : (p : Path) (r : Rule) → (setting_in w before).rule_of p ≡ Some r → Among r rules → t p ≡ u p
+
+-- From one place of a build's way to a later one what no rule makes, and what is settled there, stays.
+abbrev pub SettledStay : Type 0
+SettledStay = (w : Wanted) (kept : Kept) (counts : Counts) (before old new : Around) (jobs more : List Given)
+    (past later : List Step) → IsReading w.graph → IsWay w kept counts before jobs old past →
+    IsWay w kept counts before (more ++ jobs) new (later ++ past) → StaysSo w before (settled past) old.tree new.tree
 
 -- the steps of a build are these
 abbrev pub RunsSo : Wanted → Kept → Counts → Around → Around → List Step → Type 0

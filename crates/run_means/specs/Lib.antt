@@ -2,3 +2,4 @@ pub mod Ways
 pub mod Clears
 pub mod Turns
 pub mod Laws
+pub mod Examples

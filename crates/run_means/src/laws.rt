@@ -1,6 +1,7 @@
 //! The laws: each is the contract of a function that does nothing.
 ghost use Rattle.run_means.specs.Clears.{CallsAreClears};
-ghost use Rattle.run_means.specs.Laws.{WaysBegin, ClearsKeepWays, FreshKeepsWays, LacksKeepWays, HaltsKeepWays, LaunchesKeepWays, RefusalsKeepWays, EndingsKeepWays, WaysAreRuns};
+ghost use Rattle.run_means.specs.Examples.{AreMet};
+ghost use Rattle.run_means.specs.Laws.{WaysBegin, ClearsKeepWays, FreshKeepsWays, LacksKeepWays, HaltsKeepWays, LaunchesKeepWays, RefusalsKeepWays, EndingsKeepWays, SettledStay, WaysAreRuns};
 
 /// Where nothing runs a build has come no step far.
 pub fn ways_begin()
@@ -47,7 +48,17 @@ pub fn endings_keep_ways()
     ensures { EndingsKeepWays }
 {}
 
+/// What no rule makes, and what is settled, stays.
+pub fn settled_stay()
+    ensures { SettledStay }
+{}
+
 /// How far a build came is what it did.
 pub fn ways_are_runs()
     ensures { WaysAreRuns }
+{}
+
+/// What the laws ask is met: by a build that copies a source to an object.
+pub fn premises_are_met()
+    ensures { AreMet }
 {}

@@ -6,5 +6,6 @@ mod laws;
 
 pub use laws::{
     calls_are_clears, clears_keep_ways, endings_keep_ways, fresh_keeps_ways, halts_keep_ways,
-    lacks_keep_ways, launches_keep_ways, refusals_keep_ways, ways_are_runs, ways_begin,
+    lacks_keep_ways, launches_keep_ways, premises_are_met, refusals_keep_ways, settled_stay,
+    ways_are_runs, ways_begin,
 };
