@@ -5,7 +5,7 @@ use Rattle.world_api.specs.Counts.{Counts}
 use Rattle.world_api.specs.Reads.{stamp_of}
 use Rattle.world_api.specs.declared.job.Job.{Job}
 use Rattle.build_model.specs.Rules.{Path, Bytes, Content, Tree, Rule, Setting, Among}
-use Rattle.build_model.specs.Contents.{IsLawful, in_tree, dependencies}
+use Rattle.build_model.specs.Contents.{IsLawful}
 use Rattle.build_model.specs.Laws.{AreGivenSo}
 use Rattle.build_model.specs.Moments.{Job as Given, job_rule, MayWrite, Changes, IsCourse, changes}
 use Rattle.build_model.specs.OneJob.{TakesFirst}

@@ -1,13 +1,13 @@
 -- What calls change, as changes of a course: only targets of rules whose action runs.
-use Rattle.std.proofs.Common.{◌≡◌, ◌≢◌, ◌⊎◌, ℕ, List, [], ◌∷◌, ◌++◌, Option, Contains, refl, sym, subst, ap, ◌∙◌}
+use Rattle.std.proofs.Common.{◌≡◌, ◌≢◌, List, Contains, sym, subst, ap, ◌∙◌}
 use Rattle.std.specs.Option.{option_map}
 use Rattle.world_api.specs.Around.{Around, Running, IsRunningTarget}
 use Rattle.world_api.specs.Calls.{Asks, MakesDir, Removes}
 use Rattle.world_api.specs.Reads.{stamp_of}
-use Rattle.build_model.specs.Rules.{Path, Tree, Stamps, Among}
+use Rattle.build_model.specs.Rules.{Path, Tree, Stamps}
 use Rattle.build_model.specs.Moments.{Job as Given, MayWrite, Changes}
 use Rattle.build_model.specs.Steps.{Step}
-use Rattle.run_means.specs.Clears.{Clears, AreClears, CallsAreClears}
+use Rattle.run_means.specs.Clears.{Clears, CallsAreClears}
 
 stamp_same : (old new : Around) (p : Path) → old.tree p ≡ new.tree p → old.stamps p ≡ new.stamps p → stamp_of old p ≡ stamp_of new p
 stamp_same old new p file stamp =

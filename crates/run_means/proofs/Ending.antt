@@ -1,7 +1,7 @@
 -- A job ends: that is the step of its rule.
-use Rattle.std.proofs.Common.{◌≡◌, ◌⊎◌, ℕ, suc, pred, true, false, List, [], ◌∷◌, ◌++◌, length, Contains, refl, sym, subst, ap, ◌∙◌, append_assoc}
+use Rattle.std.proofs.Common.{◌≡◌, suc, pred, false, List, [], ◌∷◌, ◌++◌, length, refl, sym, subst, ap, ◌∙◌, append_assoc}
 use Rattle.world_api.specs.Act.{Given as Contents, Law, act}
-use Rattle.world_api.specs.Around.{Around, Running, Finished}
+use Rattle.world_api.specs.Around.{Around, Finished}
 use Rattle.world_api.specs.Calls.{Ends}
 use Rattle.world_api.specs.Counts.{Counts}
 use Rattle.world_api.specs.Reads.{stamp_of}
@@ -137,7 +137,7 @@ module _ (w : Wanted) (kept : Kept) (counts : Counts) (before old new : Around) 
         (λ runs. AreOwn w kept before new jobs After (way.log.entries ++ Finished ended.id ended.outcome ∷ []) runs Others)
         (sym ends.running) others_own;
     once = once_parts.0;
-    number = ap pred (way.number ∙ ap length ends.was ∙ length_less ends.which ends.front ends.back) ∙ sym (ap length ends.running);
+    count = ap pred (way.count ∙ ap length ends.was ∙ length_less ends.which ends.front ends.back) ∙ sym (ap length ends.running);
     law = ends.law ∙ way.law;
     met = λ bytes m. ends.met bytes (way.met bytes m);
     first = takes_now w kept before old new reading jobs past way.course change more way.first;

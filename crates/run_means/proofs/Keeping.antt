@@ -1,17 +1,17 @@
 -- A build begins, stays where it is while running jobs alone write, takes a step that no call makes, and is what it did.
-use Rattle.std.proofs.Common.{◌≡◌, true, false, Bool, List, [], ◌∷◌, length, Contains, refl, sym, subst, ap, ◌∙◌, append-nil}
-use Rattle.world_api.specs.Around.{Around, Running}
+use Rattle.std.proofs.Common.{◌≡◌, List, [], ◌∷◌, length, Contains, refl, sym, subst, ap, ◌∙◌, append-nil}
+use Rattle.world_api.specs.Around.{Around}
 use Rattle.world_api.specs.Calls.{Grows}
 use Rattle.world_api.specs.Counts.{Counts}
 use Rattle.world_api.specs.Reads.{stamp_of}
-use Rattle.build_model.specs.Rules.{Path, Bytes, Rule, Among, there}
-use Rattle.build_model.specs.Moments.{Job as Given, IsCourse, begins, finds, lacks, halts, Changes}
-use Rattle.build_model.specs.Steps.{Step, Fresh, Lacks, Halts, began, done, IsRunning, IsLacking, is_over, running}
+use Rattle.build_model.specs.Rules.{Path, Bytes, Rule, Among}
+use Rattle.build_model.specs.Moments.{Job as Given, begins, finds, lacks, halts, Changes}
+use Rattle.build_model.specs.Steps.{Step, Fresh, Lacks, Halts, began, done, IsRunning, IsLacking}
 use Rattle.build_model.proofs.Lists.{true_false}
 use Rattle.build_model.proofs.Staying.{course_is_seen_so}
 use Rattle.build_means.specs.Rules.{IsReading}
-use Rattle.build_means.specs.Builds.{Wanted, Kept, IsJobIn, setting_in, build_in}
-use Rattle.build_means.specs.Logs.{AreUnrisen, nothing, is_fresh, lacks_one, has_halted}
+use Rattle.build_means.specs.Builds.{Wanted, Kept, setting_in, build_in}
+use Rattle.build_means.specs.Logs.{nothing, is_fresh, lacks_one, has_halted}
 use Rattle.run_means.specs.Ways.{IsWay, AreOwn, none_runs}
 use Rattle.run_means.specs.Clears.{Clears}
 use Rattle.run_means.specs.Turns.{MayBeFresh}
@@ -28,7 +28,7 @@ begin w kept counts before none = record {
   rules = [];
   own = subst (λ runs. AreOwn w kept before before [] [] [] runs []) (sym none) none_runs;
   once = tt;
-  number = ap length (sym none);
+  count = ap length (sym none);
   law = refl;
   met = λ bytes m. m;
   first = tt;
@@ -70,7 +70,7 @@ module _ (w : Wanted) (kept : Kept) (counts : Counts) (before : Around) where
         own = subst (λ runs. AreOwn w kept before new jobs past way.log.entries runs way.rules) (sym clears.running)
             (own_now w kept before old new reading jobs past way.course change more way.own);
         once = way.once;
-        number = way.number ∙ ap length (sym clears.running);
+        count = way.count ∙ ap length (sym clears.running);
         law = clears.law ∙ way.law;
         met = λ bytes m. grows bytes (way.met bytes m);
         first = takes_now w kept before old new reading jobs past way.course change more way.first;
@@ -92,7 +92,7 @@ module _ (w : Wanted) (kept : Kept) (counts : Counts) (before : Around) where
     own = still_own way (Fresh r ∷ past)
         (λ q runs. record { began = runs.began; not_done = not_done_by may.decided.not_began runs });
     once = way.once;
-    number = way.number;
+    count = way.count;
     law = way.law;
     met = way.met;
     first = (may.first, way.first);
@@ -108,7 +108,7 @@ module _ (w : Wanted) (kept : Kept) (counts : Counts) (before : Around) where
     own = still_own way (Lacks r p ∷ past)
         (λ q runs. record { began = runs.began; not_done = not_done_by may.not_began runs });
     once = way.once;
-    number = way.number;
+    count = way.count;
     law = way.law;
     met = way.met;
     first = way.first;
@@ -123,7 +123,7 @@ module _ (w : Wanted) (kept : Kept) (counts : Counts) (before : Around) where
     rules = way.rules;
     own = still_own way (Halts ∷ past) (λ q runs. record { began = runs.began; not_done = runs.not_done });
     once = way.once;
-    number = way.number;
+    count = way.count;
     law = way.law;
     met = way.met;
     first = way.first;

@@ -1,5 +1,5 @@
 -- A rule begins: its targets are cleared, and its job starts, or doesn't.
-use Rattle.std.proofs.Common.{◌≡◌, ◌+◌, ℕ, suc, false, List, [], ◌∷◌, ◌++◌, length, map, Contains, refl, sym, subst, ap, ◌∙◌, arith, append_assoc, length-append}
+use Rattle.std.proofs.Common.{◌≡◌, suc, false, List, [], ◌∷◌, ◌++◌, length, Contains, refl, sym, subst, ap, ◌∙◌, arith, append_assoc, length-append}
 use Rattle.world_api.specs.Around.{Around, Running, Started, IsRunningTarget, given_of}
 use Rattle.world_api.specs.Calls.{Starts}
 use Rattle.world_api.specs.Counts.{Counts}
@@ -8,7 +8,7 @@ use Rattle.world_api.specs.declared.job.Job.{Job}
 use Rattle.build_model.specs.Rules.{Path, Bytes, Content, Rule, Among, here, there}
 use Rattle.build_model.specs.Contents.{in_tree, dependencies}
 use Rattle.build_model.specs.Moments.{Job as Given, IsCourse, starts, fails, MayWrite, Changes}
-use Rattle.build_model.specs.Steps.{Step, Began, Ended, IsRunning, contents_of, with_content}
+use Rattle.build_model.specs.Steps.{Step, Began, Ended, contents_of, with_content}
 use Rattle.build_model.proofs.Lists.{true_false, among_left, among_right, same_map}
 use Rattle.build_model.proofs.Staying.{given_so}
 use Rattle.build_means.specs.Rules.{IsReading}
@@ -79,7 +79,7 @@ module _ (w : Wanted) (kept : Kept) (counts : Counts) (before old : Around) (job
             (λ q m runs. record { began = runs.began; not_done = not_done_by may.decided.not_began (own_runs w kept before old way.own m) })
             (own_now w kept before old new reading Begun (Began r ∷ past) begun_course change more begun_own));
         once = way.once;
-        number = way.number ∙ ap length (sym clears.running);
+        count = way.count ∙ ap length (sym clears.running);
         law = clears.law ∙ way.law;
         met = λ bytes m. grows bytes (way.met bytes m);
         first = takes_now w kept before old new reading Begun (Began r ∷ past) begun_course change more (may.first, way.first);
@@ -147,7 +147,7 @@ module _ (w : Wanted) (kept : Kept) (counts : Counts) (before old : Around) (job
           (λ runs. AreOwn w kept before new Begun (Began r ∷ past) (way.log.entries ++ Started job at ∷ []) runs (way.rules ++ r ∷ []))
           (sym run_more) (own_join w kept before new own_olds (one_runs own_last none_runs));
       once = unique_push way.rules way.once (λ m. may.decided.not_began (own_runs w kept before old way.own m).began);
-      number = ap suc way.number ∙ sym (ap length run_more ∙ length_push old.running Run);
+      count = ap suc way.count ∙ sym (ap length run_more ∙ length_push old.running Run);
       law = start.law ∙ clears.law ∙ way.law;
       met = λ bytes m. grows bytes (way.met bytes m);
       first = takes_now w kept before old new reading Begun (Began r ∷ past) begun_course change more (may.first, way.first);

@@ -1,5 +1,5 @@
 -- What stands in a list, by its place and by walking there; and lists in which each stands once.
-use Rattle.std.proofs.Common.{◌≡◌, ◌<◌, ℕ, zero, suc, List, [], ◌∷◌, ◌++◌, length, get_or, refl, subst, ap, inl, inr, ◌⊎◌, arith}
+use Rattle.std.proofs.Common.{◌≡◌, ◌<◌, ℕ, zero, suc, List, [], ◌∷◌, ◌++◌, length, get_or, refl, subst, inl, inr, ◌⊎◌, arith}
 use Rattle.std.specs.Prelude.{Contains}
 use Rattle.build_model.specs.Rules.{Among, here, there, Unique}
 use Rattle.build_model.proofs.Lists.{among_right, among_either}

@@ -1,5 +1,5 @@
 -- The example meets what the laws ask.
-use Rattle.std.proofs.Common.{◌≡◌, ◌<◌, ℕ, zero, suc, Bool, true, false, ◌||◌, List, [], ◌∷◌, length, Contains, Some, None, cond, refl, sym, subst, ap, ◌∙◌, inl, inr, arith}
+use Rattle.std.proofs.Common.{◌≡◌, ℕ, zero, suc, Bool, true, false, ◌||◌, [], ◌∷◌, length, Some, cond, refl, sym, subst, ap, ◌∙◌, inl, arith}
 use Rattle.std.specs.Prelude.{slice_get, nat_eq}
 use Rattle.std.specs.Str.{bytes_eq}
 use Rattle.std.proofs.lemmas.Bool.Decides.{Decides-eqb}
@@ -9,7 +9,7 @@ use Rattle.world_api.specs.Around.{IsRunningTarget}
 use Rattle.world_api.specs.Calls.{Starts, Ends}
 use Rattle.rule_graph.specs.declared.rule.Rule as declared
 use Rattle.rule_graph.specs.Rules.{rule_of, is_target_of, IsRule}
-use Rattle.build_model.specs.Rules.{Path, Setting, Rule, Among, here, there}
+use Rattle.build_model.specs.Rules.{Path, Setting, Among, here, there}
 use Rattle.build_model.specs.Needs.{is_requested, nothing_left, met_first}
 use Rattle.build_model.specs.OneJob.{IsTakenFirst}
 use Rattle.build_model.specs.Records.{IsMet}

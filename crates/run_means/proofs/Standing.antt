@@ -1,5 +1,5 @@
 -- What could be decided, and for what was waited, is so still where all that waits for nothing stays.
-use Rattle.std.proofs.Common.{◌≡◌, List, [], ◌∷◌, Some, refl, sym, ap, ◌∙◌, inl, inr, ◌⊎◌}
+use Rattle.std.proofs.Common.{◌≡◌, List, [], ◌∷◌, Some, sym, ap, ◌∙◌, inl, inr, ◌⊎◌}
 use Rattle.build_model.specs.Rules.{Path, Bytes, Tree, Stamps, Rule, Setting}
 use Rattle.build_model.specs.Needs.{Found}
 use Rattle.build_model.specs.Contents.{in_tree, found_in, includes_of}

@@ -1,5 +1,5 @@
 -- A build that meets what laws ask: an object is a copy of a source, and is requested.
-use Rattle.std.specs.Prelude.{◌≡◌, List, false, [], ◌∷◌, Some, None, if◌then◌else◌}
+use Rattle.std.specs.Prelude.{◌≡◌, false, [], ◌∷◌, Some, None, if◌then◌else◌}
 use Rattle.std.specs.Str.{bytes_eq}
 use Rattle.scons_base.specs.declared.ids.NodeId.{NodeId}
 use Rattle.world_api.specs.Around.{Around, Tree as Files, Running, Started, Finished, given_of}

@@ -39,7 +39,7 @@ pub record IsWay (w : Wanted) (kept : Kept) (counts : Counts) (before : Around) 
   pub rules : List Rule
   pub own : AreOwn w kept before around jobs past log.entries around.running rules
   pub once : Unique rules
-  pub number : running past ≡ length around.running
+  pub count : running past ≡ length around.running
   pub law : around.law ≡ before.law
   pub met : Grows before.met around.met
   -- of the rules that could be decided the one that stands first was taken
