@@ -1,4 +1,4 @@
--- A build that came so far has come as far where only targets of rules whose action runs have changed, and more was met.
+-- A build has come as far still where only targets of rules whose action runs have changed, and more was met.
 use Rattle.std.proofs.Common.{◌≡◌, ◌⊎◌, List, [], ◌∷◌, map, Some, None, refl, sym, subst, ap, ◌∙◌}
 use Rattle.world_api.specs.Around.{Around, Entry, Running}
 use Rattle.world_api.specs.Counts.{Counts}
@@ -35,9 +35,11 @@ paths_given t (p ∷ ps) = ap (λ l. p ∷ l) (paths_given t ps)
 
 -- the rules of a reading have their places
 pub lawful_in : (w : Wanted) (before : Around) → IsReading w.graph → IsLawful (setting_in w before)
-lawful_in w before reading = lawful (graph_in w before) before.tree (is_graph w.graph reading before.law w.hash before.tree)
+lawful_in w before reading = lawful (graph_in w before) before.tree
+    (is_graph w.graph reading before.law w.hash before.tree)
 
-module _ (w : Wanted) (kept : Kept) (before old new : Around) (reading : IsReading w.graph) (jobs : List Given) (past : List Step)
+module _ (w : Wanted) (kept : Kept) (before old new : Around) (reading : IsReading w.graph) (jobs : List Given)
+    (past : List Step)
     (course : IsCourse (setting_in w before) (build_in w kept before old) jobs old.tree (stamp_of old) past)
     (change : Changes jobs past old.tree new.tree (stamp_of old) (stamp_of new))
     (grows : (bytes : Bytes) → Among bytes old.met → Among bytes new.met) where
@@ -105,7 +107,8 @@ module _ (w : Wanted) (kept : Kept) (before old new : Around) (reading : IsReadi
       subst (λ x. present_dependencies S Now x ≡ present_dependencies S B x) (sym j.2) (job_dependencies j.0 j.1)
 
   -- so a job is still one of it
-  pub job_now : {r : Rule} {job : Job} → Among r (began past) → IsJobIn w kept before old r job → IsJobIn w kept before new r job
+  pub job_now : {r : Rule} {job : Job} → Among r (began past) → IsJobIn w kept before old r job →
+      IsJobIn w kept before new r job
   job_now m h = record {
     work = h.work;
     targets = h.targets;
@@ -114,13 +117,16 @@ module _ (w : Wanted) (kept : Kept) (before old new : Around) (reading : IsReadi
     deps = h.deps ∙ sym (dependencies_now m);
   }
 
-  pub entries_now : {counts : Counts} {steps : List Step} {entries : List Entry} → ((r : Rule) → Among r (began steps) → Among r (began past)) →
+  pub entries_now : {counts : Counts} {steps : List Step} {entries : List Entry} →
+      ((r : Rule) → Among r (began steps) → Among r (began past)) →
       AreEntries (IsJobIn w kept before old) (AreUnrisen w.keep counts) steps entries →
       AreEntries (IsJobIn w kept before new) (AreUnrisen w.keep counts) steps entries
   entries_now {counts} {steps} {entries} within are =
       let IsJob : Rule → Job → Type 0 = IsJobIn w kept before old in
-      let log : IsLogged IsJob (AreUnrisen w.keep counts) steps [] entries = record { entries = entries; grown = refl; are = are } in
-      let too = logged_too IsJob (IsJobIn w kept before new) (AreUnrisen w.keep counts) (AreUnrisen w.keep counts) (λ c at. at) log
+      let log : IsLogged IsJob (AreUnrisen w.keep counts) steps [] entries =
+      record { entries = entries; grown = refl; are = are } in
+      let too = logged_too IsJob (IsJobIn w kept before new) (AreUnrisen w.keep counts) (AreUnrisen w.keep counts)
+      (λ c at. at) log
       (λ r job m of_rule. job_now (within r m) of_rule) in
       subst (λ l. AreEntries (IsJobIn w kept before new) (AreUnrisen w.keep counts) steps l) (sym too.grown) too.are
 
@@ -139,7 +145,8 @@ module _ (w : Wanted) (kept : Kept) (before old new : Around) (reading : IsReadi
     };
   }
 
-  pub own_now : {entries : List Entry} {runs : List Running} {rules : List Rule} → AreOwn w kept before old jobs past entries runs rules →
+  pub own_now : {entries : List Entry} {runs : List Running} {rules : List Rule} →
+      AreOwn w kept before old jobs past entries runs rules →
       AreOwn w kept before new jobs past entries runs rules
   own_now none_runs = none_runs
   own_now (one_runs h more) = one_runs (one_now h) (own_now more)

@@ -9,13 +9,16 @@ use Rattle.build_model.specs.Moments.{Job as Given, MayWrite, Changes}
 use Rattle.build_model.specs.Steps.{Step}
 use Rattle.run_means.specs.Clears.{Clears, CallsAreClears}
 
-stamp_same : (old new : Around) (p : Path) → old.tree p ≡ new.tree p → old.stamps p ≡ new.stamps p → stamp_of old p ≡ stamp_of new p
+stamp_same : (old new : Around) (p : Path) → old.tree p ≡ new.tree p → old.stamps p ≡ new.stamps p →
+    stamp_of old p ≡ stamp_of new p
 stamp_same old new p file stamp =
     ap (option_map (λ bytes. old.stamps p)) file ∙ ap (λ n. option_map (λ bytes. n) (new.tree p)) stamp
 
--- where only targets of running jobs and these paths change, all of which actions that run may write, that is a change of a course
+-- Where only targets of running jobs and these paths change, and actions that run may write all of these, that is a
+-- change of a course.
 pub changed : {jobs : List Given} {past : List Step} (old new : Around) (running : List Running) (paths : List Path) →
-    ((p : Path) → IsRunningTarget running p → MayWrite jobs past p) → ((p : Path) → Contains paths p → MayWrite jobs past p) →
+    ((p : Path) → IsRunningTarget running p → MayWrite jobs past p) →
+    ((p : Path) → Contains paths p → MayWrite jobs past p) →
     ((p : Path) → (IsRunningTarget running p → ⊥) → (Contains paths p → ⊥) → new.tree p ≡ old.tree p) →
     ((p : Path) → (IsRunningTarget running p → ⊥) → (Contains paths p → ⊥) → new.stamps p ≡ old.stamps p) →
     Changes jobs past old.tree new.tree (stamp_of old) (stamp_of new)
@@ -80,4 +83,9 @@ module _ (paths : List Path) where
       }
 
 pub calls_clear : CallsAreClears
-calls_clear paths = record { looks = looks paths; makes_dir = makes_dir paths; removes = removes paths; joined = joined paths }
+calls_clear paths = record {
+  looks = looks paths;
+  makes_dir = makes_dir paths;
+  removes = removes paths;
+  joined = joined paths;
+}

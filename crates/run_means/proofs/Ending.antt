@@ -42,7 +42,8 @@ work_is Copy = refl
 work_is Write = refl
 
 -- a job of a rule makes what the rule's action does
-acts_same : {old law : Law} (r : Rule) (job : Job) (given : Contents) (p : Path) → old ≡ law → work_byte job.work ≡ r.work →
+acts_same : {old law : Law} (r : Rule) (job : Job) (given : Contents) (p : Path) → old ≡ law →
+    work_byte job.work ≡ r.work →
     job.signed ≡ r.signed → job.targets ≡ r.targets →
     act old job.work job.signed job.targets given p ≡ act_by law r.work r.signed r.targets given p
 acts_same {old} {law} r job given p same work signed targets =
@@ -51,8 +52,9 @@ acts_same {old} {law} r job given p same work signed targets =
     ∙ ap (λ x. act law (work_at r.work) x job.targets given p) signed
     ∙ ap (λ x. act law (work_at r.work) r.signed x given p) targets
 
-module _ (w : Wanted) (kept : Kept) (counts : Counts) (before old new : Around) (jobs : List Given) (past : List Step) (ended : Ended)
-    (reading : IsReading w.graph) (way : IsWay w kept counts before jobs old past) (wait : MayWait w kept before old past)
+module _ (w : Wanted) (kept : Kept) (counts : Counts) (before old new : Around) (jobs : List Given) (past : List Step)
+    (ended : Ended) (reading : IsReading w.graph) (way : IsWay w kept counts before jobs old past)
+    (wait : MayWait w kept before old past)
     (Sure : Type 0) (sure : Sure) (ends : Ends Sure ended old new) where
   change : Changes jobs past old.tree new.tree (stamp_of old) (stamp_of new)
   change =
@@ -79,7 +81,8 @@ module _ (w : Wanted) (kept : Kept) (counts : Counts) (before old new : Around) 
   once_parts : Unique Others × (Among R Others → ⊥)
   once_parts = unique_less R ended_own.front_rules ended_own.back_rules (subst (λ l. Unique l) ended_own.parts way.once)
 
-  has_made : ended.outcome ≡ Done → HasMade (setting_in w before) new.tree (record { rule = R; given = ends.which.given })
+  has_made : ended.outcome ≡ Done →
+      HasMade (setting_in w before) new.tree (record { rule = R; given = ends.which.given })
   has_made done_well p m =
       let job_of = ended_own.own.job_of in
       ends.made sure done_well p (among_contains (subst (λ ps. Among p ps) (sym job_of.targets) m))
@@ -89,9 +92,11 @@ module _ (w : Wanted) (kept : Kept) (counts : Counts) (before old new : Around) 
   course_now = course_on w kept before old new reading jobs past way.course change more
 
   ended_course : (o : Outcome) → ended.outcome ≡ o →
-      IsCourse (setting_in w before) (build_in w kept before new) jobs new.tree (stamp_of new) (model.Ended R (is_done o) ∷ past)
+      IsCourse (setting_in w before) (build_in w kept before new) jobs new.tree (stamp_of new)
+      (model.Ended R (is_done o) ∷ past)
   ended_course Done e =
-      makes (record { rule = R; given = ends.which.given }) ended_own.own.given ended_own.own.runs (has_made e) course_now
+      makes (record { rule = R; given = ends.which.given }) ended_own.own.given ended_own.own.runs (has_made e)
+      course_now
   ended_course (Failed status) e = fails R ended_own.own.runs course_now
   ended_course Broken e = fails R ended_own.own.runs course_now
   ended_course NoMemory e = fails R ended_own.own.runs course_now
@@ -113,14 +118,16 @@ module _ (w : Wanted) (kept : Kept) (counts : Counts) (before old new : Around) 
     not_done = not_among (λ e. once_parts.1 (subst (λ x. Among x Others) e m)) runs.not_done;
   }
 
-  others_own : AreOwn w kept before new jobs After (way.log.entries ++ Finished ended.id ended.outcome ∷ []) (ends.front ++ ends.back) Others
+  others_own : AreOwn w kept before new jobs After (way.log.entries ++ Finished ended.id ended.outcome ∷ [])
+      (ends.front ++ ends.back) Others
   others_own =
       own_further w kept before new (λ j m. m) (λ e m. among_left (Finished ended.id ended.outcome ∷ []) m) runs_still
       (own_now w kept before old new reading jobs past way.course change more
       (own_join w kept before old ended_own.front_own ended_own.back_own))
 
   has_started : HasStarted (IsJobIn w kept before old) way.log.entries R ended.id
-  has_started = subst (λ id. HasStarted (IsJobIn w kept before old) way.log.entries R id) (sym ends.id) ended_own.own.started
+  has_started = subst (λ id. HasStarted (IsJobIn w kept before old) way.log.entries R id) (sym ends.id)
+      ended_own.own.started
 
   ended_way : IsWay w kept counts before jobs new After
   ended_way = record {
@@ -134,10 +141,12 @@ module _ (w : Wanted) (kept : Kept) (counts : Counts) (before old new : Around) 
     };
     rules = Others;
     own = subst
-        (λ runs. AreOwn w kept before new jobs After (way.log.entries ++ Finished ended.id ended.outcome ∷ []) runs Others)
+        (λ runs. AreOwn w kept before new jobs After (way.log.entries ++ Finished ended.id ended.outcome ∷ []) runs
+        Others)
         (sym ends.running) others_own;
     once = once_parts.0;
-    count = ap pred (way.count ∙ ap length ends.was ∙ length_less ends.which ends.front ends.back) ∙ sym (ap length ends.running);
+    count = ap pred (way.count ∙ ap length ends.was ∙ length_less ends.which ends.front ends.back)
+        ∙ sym (ap length ends.running);
     law = ends.law ∙ way.law;
     met = λ bytes m. ends.met bytes (way.met bytes m);
     first = takes_now w kept before old new reading jobs past way.course change more way.first;

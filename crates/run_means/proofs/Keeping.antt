@@ -1,4 +1,4 @@
--- A build begins, stays where it is while running jobs alone write, takes a step that no call makes, and is what it did.
+-- A build begins, stays where it is while running jobs alone write, and takes a step that no call makes.
 use Rattle.std.proofs.Common.{◌≡◌, List, [], ◌∷◌, length, Contains, refl, sym, subst, ap, ◌∙◌, append-nil}
 use Rattle.world_api.specs.Around.{Around}
 use Rattle.world_api.specs.Calls.{Grows}
@@ -46,16 +46,19 @@ pub none_there : {A B : Type 0} {x : A} → Contains [] x → B
 none_there {x = x} h = elim (contains_among [] h) [ ]
 
 -- a rule that runs is another one than one that hasn't begun
-pub not_done_by : {past : List Step} {q r : Rule} → (Among r (began past) → ⊥) → IsRunning past q → Among q (r ∷ done past) → ⊥
+pub not_done_by : {past : List Step} {q r : Rule} → (Among r (began past) → ⊥) → IsRunning past q →
+    Among q (r ∷ done past) → ⊥
 not_done_by {past} not_began runs m =
     not_among (λ e. not_began (subst (λ x. Among x (began past)) e runs.began)) runs.not_done m
 
 module _ (w : Wanted) (kept : Kept) (counts : Counts) (before : Around) where
-  pub cleared : (old new : Around) (jobs : List Given) (past : List Step) → IsReading w.graph → IsWay w kept counts before jobs old past →
+  pub cleared : (old new : Around) (jobs : List Given) (past : List Step) → IsReading w.graph →
+      IsWay w kept counts before jobs old past →
       Clears [] old new → IsWay w kept counts before jobs new past
   cleared old new jobs past reading way clears =
       let change : Changes jobs past old.tree new.tree (stamp_of old) (stamp_of new) =
-      changed old new old.running [] (λ p target. own_write w kept before old way.own target) (λ p m. none_there m) clears.files
+      changed old new old.running [] (λ p target. own_write w kept before old way.own target) (λ p m. none_there m)
+      clears.files
       clears.stamps in
       let grows = same_met old new clears.met in
       let more = met_on old new grows in
@@ -78,12 +81,15 @@ module _ (w : Wanted) (kept : Kept) (counts : Counts) (before : Around) where
       }
 
   -- a step that no call makes leaves what runs
-  still_own : {around : Around} {jobs : List Given} {past : List Step} (way : IsWay w kept counts before jobs around past) (later : List Step) →
-      ((r : Rule) → IsRunning past r → IsRunning later r) → AreOwn w kept before around jobs later way.log.entries around.running way.rules
+  still_own : {around : Around} {jobs : List Given} {past : List Step}
+      (way : IsWay w kept counts before jobs around past) (later : List Step) →
+      ((r : Rule) → IsRunning past r → IsRunning later r) →
+      AreOwn w kept before around jobs later way.log.entries around.running way.rules
   still_own {around} way later still =
       own_further w kept before around (λ j m. m) (λ e m. m) (λ r m runs. still r runs) way.own
 
-  pub fresh : (around : Around) (jobs : List Given) (past : List Step) (r : Rule) → IsWay w kept counts before jobs around past →
+  pub fresh : (around : Around) (jobs : List Given) (past : List Step) (r : Rule) →
+      IsWay w kept counts before jobs around past →
       MayBeFresh w kept before around past r → IsWay w kept counts before jobs around (Fresh r ∷ past)
   fresh around jobs past r way may = record {
     course = finds r may.decided may.fresh way.course;
@@ -99,8 +105,10 @@ module _ (w : Wanted) (kept : Kept) (counts : Counts) (before : Around) where
     waits = way.waits;
   }
 
-  pub lacking : (around : Around) (jobs : List Given) (past : List Step) (r : Rule) (p : Path) → IsWay w kept counts before jobs around past →
-      IsLacking (setting_in w before) (build_in w kept before around) past r p → IsWay w kept counts before jobs around (Lacks r p ∷ past)
+  pub lacking : (around : Around) (jobs : List Given) (past : List Step) (r : Rule) (p : Path) →
+      IsWay w kept counts before jobs around past →
+      IsLacking (setting_in w before) (build_in w kept before around) past r p →
+      IsWay w kept counts before jobs around (Lacks r p ∷ past)
   lacking around jobs past r p way may = record {
     course = lacks r p may way.course;
     log = record { entries = way.log.entries; grown = way.log.grown; are = lacks_one r p way.log.are };
@@ -130,12 +138,14 @@ module _ (w : Wanted) (kept : Kept) (counts : Counts) (before : Around) where
     waits = λ e. true_false e;
   }
 
-  pub did : (after : Around) (jobs : List Given) (past : List Step) → IsReading w.graph → IsWay w kept counts before jobs after past →
+  pub did : (after : Around) (jobs : List Given) (past : List Step) → IsReading w.graph →
+      IsWay w kept counts before jobs after past →
       RunsSo w kept counts before after past
   did after jobs past reading way = (
     record {
       steps = past;
-      seen = course_is_seen_so (setting_in w before) (build_in w kept before after) (lawful_in w before reading) way.course;
+      seen = course_is_seen_so (setting_in w before) (build_in w kept before after) (lawful_in w before reading)
+          way.course;
       log = way.log;
       first = way.first;
     },

@@ -29,12 +29,14 @@ length_push xs x = omega (arith, length-append xs (x ∷ []))
 abbrev with_path : Path → Content → Path × Content
 with_path p c = (p, c)
 
-module _ (w : Wanted) (kept : Kept) (counts : Counts) (before old : Around) (jobs : List Given) (past : List Step) (r : Rule)
-    (reading : IsReading w.graph) (way : IsWay w kept counts before jobs old past) (may : MayBegin w kept before old past r) where
+module _ (w : Wanted) (kept : Kept) (counts : Counts) (before old : Around) (jobs : List Given) (past : List Step)
+    (r : Rule) (reading : IsReading w.graph) (way : IsWay w kept counts before jobs old past)
+    (may : MayBegin w kept before old past r) where
   abbrev Begun : List Given
   Begun = job_for w before old r ∷ jobs
 
-  begun_course : IsCourse (setting_in w before) (build_in w kept before old) Begun old.tree (stamp_of old) (Began r ∷ past)
+  begun_course : IsCourse (setting_in w before) (build_in w kept before old) Begun old.tree (stamp_of old)
+      (Began r ∷ past)
   begun_course = starts r may.decided may.start way.course
 
   -- from here on its targets may change, and those of the jobs that run
@@ -51,7 +53,8 @@ module _ (w : Wanted) (kept : Kept) (counts : Counts) (before old : Around) (job
     target = contains_among r.targets m;
   }
 
-  clear_change : (mid : Around) → Clears r.targets old mid → Changes Begun (Began r ∷ past) old.tree mid.tree (stamp_of old) (stamp_of mid)
+  clear_change : (mid : Around) → Clears r.targets old mid →
+      Changes Begun (Began r ∷ past) old.tree mid.tree (stamp_of old) (stamp_of mid)
   clear_change mid clears = changed old mid old.running r.targets run_may these_may clears.files clears.stamps
 
   begun_own : AreOwn w kept before old Begun (Began r ∷ past) way.log.entries old.running way.rules
@@ -59,7 +62,8 @@ module _ (w : Wanted) (kept : Kept) (counts : Counts) (before old : Around) (job
       own_further w kept before old (λ j m. there m) (λ e m. m)
       (λ q m runs. record { began = there runs.began; not_done = runs.not_done }) way.own
 
-  pub refused : (new : Around) → Clears r.targets old new → IsWay w kept counts before Begun new (Ended r false ∷ Began r ∷ past)
+  pub refused : (new : Around) → Clears r.targets old new →
+      IsWay w kept counts before Begun new (Ended r false ∷ Began r ∷ past)
   refused new clears =
       let change = clear_change new clears in
       let grows = same_met old new clears.met in
@@ -74,19 +78,25 @@ module _ (w : Wanted) (kept : Kept) (counts : Counts) (before old : Around) (job
               (was_refused r way.log.are);
         };
         rules = way.rules;
-        own = subst (λ runs. AreOwn w kept before new Begun (Ended r false ∷ Began r ∷ past) way.log.entries runs way.rules) (sym clears.running)
+        own = subst (λ runs. AreOwn w kept before new Begun (Ended r false ∷ Began r ∷ past) way.log.entries runs
+            way.rules) (sym clears.running)
             (own_further w kept before new (λ j m. m) (λ e m. m)
-            (λ q m runs. record { began = runs.began; not_done = not_done_by may.decided.not_began (own_runs w kept before old way.own m) })
+            (λ q m runs. record {
+              began = runs.began;
+              not_done = not_done_by may.decided.not_began (own_runs w kept before old way.own m);
+            })
             (own_now w kept before old new reading Begun (Began r ∷ past) begun_course change more begun_own));
         once = way.once;
         count = way.count ∙ ap length (sym clears.running);
         law = clears.law ∙ way.law;
         met = λ bytes m. grows bytes (way.met bytes m);
-        first = takes_now w kept before old new reading Begun (Began r ∷ past) begun_course change more (may.first, way.first);
+        first = takes_now w kept before old new reading Begun (Began r ∷ past) begun_course change more
+            (may.first, way.first);
         waits = λ e. true_false e;
       }
 
-  module _ (mid new : Around) (job : Job) (at : Counts) (clears : Clears r.targets old mid) (start : Starts job at mid new)
+  module _ (mid new : Around) (job : Job) (at : Counts) (clears : Clears r.targets old mid)
+      (start : Starts job at mid new)
       (handed : IsHanded w kept counts before old way.log.entries r job at) where
     abbrev Run : Running
     Run = record { job = job; given = given_of mid.tree job.deps }
@@ -107,24 +117,36 @@ module _ (w : Wanted) (kept : Kept) (counts : Counts) (before old : Around) (job
     more = met_on old new grows
 
     -- what the job is given is what its dependencies held when the rule began
-    given_same : given_of mid.tree job.deps ≡ contents_of old.tree (dependencies (setting_in w before) (in_tree old.tree) r)
+    given_same : given_of mid.tree job.deps ≡ contents_of old.tree
+        (dependencies (setting_in w before) (in_tree old.tree) r)
     given_same =
-        let given = given_so (setting_in w before) (build_in w kept before old) (lawful_in w before reading) begun_course in
+        let given = given_so (setting_in w before) (build_in w kept before old) (lawful_in w before reading)
+        begun_course in
         ap (given_of mid.tree) handed.job_of.deps
-        ∙ same_map (with_content mid.tree) (with_content old.tree) (dependencies (setting_in w before) (in_tree old.tree) r)
-        (λ p m. ap (with_path p) (sym ((clear_change mid clears).contents p (given.unwritten (job_for w before old r) here p m))))
+        ∙ same_map (with_content mid.tree) (with_content old.tree)
+        (dependencies (setting_in w before) (in_tree old.tree) r)
+        (λ p m. ap (with_path p) (sym ((clear_change mid clears).contents p
+        (given.unwritten (job_for w before old r) here p m))))
 
     own_last : IsOwn w kept before new Begun (Began r ∷ past) (way.log.entries ++ Started job at ∷ []) Run r
     own_last =
-        let job_of = job_now w kept before old new reading Begun (Began r ∷ past) begun_course change more here handed.job_of in
+        let job_of = job_now w kept before old new reading Begun (Began r ∷ past) begun_course change more here
+        handed.job_of in
         record {
           given = subst (λ l. Among (record { rule = r; given = l }) Begun) (sym given_same) here;
           runs = record { began = here; not_done = may.decided.not_done };
           job_of = job_of;
-          started = record { job = job; counts = at; of_rule = job_of; started = among_right way.log.entries here; has_id = refl };
+          started = record {
+            job = job;
+            counts = at;
+            of_rule = job_of;
+            started = among_right way.log.entries here;
+            has_id = refl;
+          };
         }
 
-    own_olds : AreOwn w kept before new Begun (Began r ∷ past) (way.log.entries ++ Started job at ∷ []) old.running way.rules
+    own_olds : AreOwn w kept before new Begun (Began r ∷ past) (way.log.entries ++ Started job at ∷ []) old.running
+        way.rules
     own_olds =
         own_further w kept before new (λ j m. m) (λ e m. among_left (Started job at ∷ []) m) (λ q m runs. runs)
         (own_now w kept before old new reading Begun (Began r ∷ past) begun_course change more begun_own)
@@ -144,12 +166,15 @@ module _ (w : Wanted) (kept : Kept) (counts : Counts) (before old : Around) (job
       };
       rules = way.rules ++ r ∷ [];
       own = subst
-          (λ runs. AreOwn w kept before new Begun (Began r ∷ past) (way.log.entries ++ Started job at ∷ []) runs (way.rules ++ r ∷ []))
+          (λ runs. AreOwn w kept before new Begun (Began r ∷ past) (way.log.entries ++ Started job at ∷ []) runs
+          (way.rules ++ r ∷ []))
           (sym run_more) (own_join w kept before new own_olds (one_runs own_last none_runs));
       once = unique_push way.rules way.once (λ m. may.decided.not_began (own_runs w kept before old way.own m).began);
       count = ap suc way.count ∙ sym (ap length run_more ∙ length_push old.running Run);
       law = start.law ∙ clears.law ∙ way.law;
       met = λ bytes m. grows bytes (way.met bytes m);
-      first = takes_now w kept before old new reading Begun (Began r ∷ past) begun_course change more (may.first, way.first);
-      waits = λ e. waits_now w kept before old new reading Begun (Began r ∷ past) begun_course change more (way.waits e);
+      first = takes_now w kept before old new reading Begun (Began r ∷ past) begun_course change more
+          (may.first, way.first);
+      waits = λ e. waits_now w kept before old new reading Begun (Began r ∷ past) begun_course change more
+          (way.waits e);
     }

@@ -16,7 +16,8 @@ pub among_contains : {A : Type 0} {x : A} {xs : List A} → Among x xs → Conta
 among_contains here = (0, omega arith, refl)
 among_contains (there m) = let h = among_contains m in (suc h.0, omega (arith, h.1), h.2)
 
-pushed_out : {A : Type 0} {x y : A} {ys : List A} → (Among y ys → ⊥) → (Among x (y ∷ ys) → ⊥) → Among y ys ⊎ Among y (x ∷ []) → ⊥
+pushed_out : {A : Type 0} {x y : A} {ys : List A} → (Among y ys → ⊥) → (Among x (y ∷ ys) → ⊥) →
+    Among y ys ⊎ Among y (x ∷ []) → ⊥
 pushed_out once out (inl m) = once m
 pushed_out once out (inr here) = out here
 pushed_out once out (inr (there m)) = elim m [ ]
@@ -38,7 +39,8 @@ less_out ys zs once out here = once (among_right ys here)
 less_out ys zs once out (there m) = out m
 
 -- one less in the middle: it doesn't stand among the others
-pub unique_less : {A : Type 0} (x : A) (xs ys : List A) → Unique (xs ++ x ∷ ys) → Unique (xs ++ ys) × (Among x (xs ++ ys) → ⊥)
+pub unique_less : {A : Type 0} (x : A) (xs ys : List A) → Unique (xs ++ x ∷ ys) →
+    Unique (xs ++ ys) × (Among x (xs ++ ys) → ⊥)
 unique_less x [] ys once = (once.1, once.0)
 unique_less x (y ∷ xs) ys once =
     let h = unique_less x xs ys once.1 in ((λ m. once.0 (among_more x xs ys m), h.0), λ m. less_out xs ys once.0 h.1 m)

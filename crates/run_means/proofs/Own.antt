@@ -37,13 +37,15 @@ module _ (w : Wanted) (kept : Kept) (before around : Around) where
     own_runs (one_runs h more) (there m) = own_runs more m
 
     pub own_join : {front back : List Running} {rules others : List Rule} →
-        AreOwn w kept before around jobs past entries front rules → AreOwn w kept before around jobs past entries back others →
+        AreOwn w kept before around jobs past entries front rules →
+        AreOwn w kept before around jobs past entries back others →
         AreOwn w kept before around jobs past entries (front ++ back) (rules ++ others)
     own_join none_runs back = back
     own_join (one_runs h more) back = one_runs h (own_join more back)
 
   -- one of the jobs that run, and the others
-  pub record OwnParts (jobs : List Given) (past : List Step) (entries : List Entry) (front : List Running) (which : Running)
+  pub record OwnParts (jobs : List Given) (past : List Step) (entries : List Entry) (front : List Running)
+      (which : Running)
       (back : List Running) (rules : List Rule) : Type 0 where
     pub front_rules : List Rule
     pub rule : Rule
@@ -83,8 +85,10 @@ module _ (w : Wanted) (kept : Kept) (before around : Around) where
 
   -- the jobs that run are so still by more jobs, steps and entries, where the actions of their rules run still
   module _ {jobs later_jobs : List Given} {past later : List Step} {entries log : List Entry}
-      (more_jobs : (j : Given) → Among j jobs → Among j later_jobs) (more_entries : (e : Entry) → Among e entries → Among e log) where
-    own_one : {run : Running} {r : Rule} → (IsRunning past r → IsRunning later r) → IsOwn w kept before around jobs past entries run r →
+      (more_jobs : (j : Given) → Among j jobs → Among j later_jobs)
+      (more_entries : (e : Entry) → Among e entries → Among e log) where
+    own_one : {run : Running} {r : Rule} → (IsRunning past r → IsRunning later r) →
+        IsOwn w kept before around jobs past entries run r →
         IsOwn w kept before around later_jobs later log run r
     own_one still h = record {
       given = more_jobs _ h.given;
@@ -99,7 +103,10 @@ module _ (w : Wanted) (kept : Kept) (before around : Around) where
       };
     }
 
-    pub own_further : {running : List Running} {rules : List Rule} → ((r : Rule) → Among r rules → IsRunning past r → IsRunning later r) →
-        AreOwn w kept before around jobs past entries running rules → AreOwn w kept before around later_jobs later log running rules
+    pub own_further : {running : List Running} {rules : List Rule} →
+        ((r : Rule) → Among r rules → IsRunning past r → IsRunning later r) →
+        AreOwn w kept before around jobs past entries running rules →
+        AreOwn w kept before around later_jobs later log running rules
     own_further still none_runs = none_runs
-    own_further still (one_runs {r = r} h more) = one_runs (own_one (still r here) h) (own_further (λ q m. still q (there m)) more)
+    own_further still (one_runs {r = r} h more) =
+        one_runs (own_one (still r here) h) (own_further (λ q m. still q (there m)) more)

@@ -26,7 +26,8 @@ module _ (s : Setting) (b c : Build) where
   so_later step past (inl h) = inl h
   so_later {r} step past (inr h) = inr (began_later step past r h.0, h.1, h.2)
 
-  pub settled_so : {r : Rule} (past : List Step) → IsRun s b past → IsRun s c past → Among r (settled past) → SettledSo past r
+  pub settled_so : {r : Rule} (past : List Step) → IsRun s b past → IsRun s c past → Among r (settled past) →
+      SettledSo past r
   settled_so [] run other m = elim m [ ]
   settled_so (Fresh x ∷ past) run other here = inl (run.0.1, other.0.1)
   settled_so (Fresh x ∷ past) run other (there m) = so_later (Fresh x) past (settled_so past run.1 other.1 m)
@@ -37,7 +38,8 @@ module _ (s : Setting) (b c : Build) where
   settled_so (Lacks x p ∷ past) run other m = so_later (Lacks x p) past (settled_so past run.1 other.1 m)
   settled_so (Halts ∷ past) run other m = so_later Halts past (settled_so past run.1 other.1 m)
 
-module _ (w : Wanted) (kept : Kept) (counts : Counts) (before old new : Around) (jobs more : List Given) (past later : List Step)
+module _ (w : Wanted) (kept : Kept) (counts : Counts) (before old new : Around) (jobs more : List Given)
+    (past later : List Step)
     (reading : IsReading w.graph) (way : IsWay w kept counts before jobs old past)
     (further : IsWay w kept counts before (more ++ jobs) new (later ++ past)) where
   abbrev S : Setting

@@ -18,11 +18,13 @@ module _ (s : Setting) (b : Build) (met : List Bytes) (u : Tree) (later : Stamps
   abbrev pub StaysSettled : List Step → Type 0
   StaysSettled past = Stays s (settled past) b.after u b.stamps_after later
 
-  ready_on : (past : List Step) {p : Path} → StaysSettled past → IsReady s b.after (settled past) p → IsReady s u (settled past) p
+  ready_on : (past : List Step) {p : Path} → StaysSettled past → IsReady s b.after (settled past) p →
+      IsReady s u (settled past) p
   ready_on past {p} stays (is_source bytes none file) = is_source bytes none (sym (stays.sources p none).0 ∙ file)
   ready_on past stays (is_made r e m) = is_made r e m
 
-  ready_back : (past : List Step) {p : Path} → StaysSettled past → IsReady s u (settled past) p → IsReady s b.after (settled past) p
+  ready_back : (past : List Step) {p : Path} → StaysSettled past → IsReady s u (settled past) p →
+      IsReady s b.after (settled past) p
   ready_back past {p} stays (is_source bytes none file) = is_source bytes none ((stays.sources p none).0 ∙ file)
   ready_back past stays (is_made r e m) = is_made r e m
 
@@ -39,7 +41,8 @@ module _ (s : Setting) (b : Build) (met : List Bytes) (u : Tree) (later : Stamps
       inl (ready_on past stays h.0, h.1 ∙ ap (λ c. includes_of (s.includes r p) (Some c)) (same_at past stays h.0))
   found_cases past stays found r p (inr h) = inr (λ ready. h.0 (ready_back past stays ready), h.1)
 
-  found_whole_on : (past : List Step) (found : Found) → StaysSettled past → IsFoundWhole s b past found → IsFoundWhole s Later past found
+  found_whole_on : (past : List Step) (found : Found) → StaysSettled past → IsFoundWhole s b past found →
+      IsFoundWhole s Later past found
   found_whole_on past found stays h r p = found_cases past stays found r p (h r p)
 
   first_on : (past : List Step) {r : Rule} → StaysSettled past → IsTakenFirst s b past r → IsTakenFirst s Later past r
@@ -61,7 +64,8 @@ module _ (s : Setting) (b : Build) (met : List Bytes) (u : Tree) (later : Stamps
       inr (record { found = h.found; found_whole = found_whole_on past h.found stays h.found_whole; passed = h.passed })
 
   stays_before : (step : Step) (past : List Step) → StaysSettled (step ∷ past) → StaysSettled past
-  stays_before step past h = record { sources = h.sources; made = λ p r e m. h.made p r e (settled_later step past r m) }
+  stays_before step past h = record
+      { sources = h.sources; made = λ p r e m. h.made p r e (settled_later step past r m) }
 
   pub takes_on : (past : List Step) → StaysSettled past → TakesFirst s b past → TakesFirst s Later past
   takes_on [] stays h = tt

@@ -6,8 +6,10 @@ use Rattle.build_model.specs.Rules.{Path}
 
 -- Of files only targets of running jobs and these paths change.
 pub record Clears (paths : List Path) (old new : Around) : Type 0 where
-  pub files : (path : Path) → (IsRunningTarget old.running path → ⊥) → (Contains paths path → ⊥) → new.tree path ≡ old.tree path
-  pub stamps : (path : Path) → (IsRunningTarget old.running path → ⊥) → (Contains paths path → ⊥) → new.stamps path ≡ old.stamps path
+  pub files : (path : Path) → (IsRunningTarget old.running path → ⊥) → (Contains paths path → ⊥) →
+      new.tree path ≡ old.tree path
+  pub stamps : (path : Path) → (IsRunningTarget old.running path → ⊥) → (Contains paths path → ⊥) →
+      new.stamps path ≡ old.stamps path
   pub running : new.running ≡ old.running
   pub log : new.log ≡ old.log
   pub met : new.met ≡ old.met

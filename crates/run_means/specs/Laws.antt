@@ -23,25 +23,27 @@ WaysBegin = (w : Wanted) (kept : Kept) (counts : Counts) (before : Around) → b
 
 -- It stays where it is through calls that change no more than what running jobs write.
 abbrev pub ClearsKeepWays : Type 0
-ClearsKeepWays = (w : Wanted) (kept : Kept) (counts : Counts) (before old new : Around) (jobs : List Given) (past : List Step) →
-    IsReading w.graph → IsWay w kept counts before jobs old past → Clears [] old new → IsWay w kept counts before jobs new past
+ClearsKeepWays = (w : Wanted) (kept : Kept) (counts : Counts) (before old new : Around) (jobs : List Given)
+    (past : List Step) → IsReading w.graph → IsWay w kept counts before jobs old past → Clears [] old new →
+    IsWay w kept counts before jobs new past
 
 -- It comes a step further where a rule is found up to date,
 abbrev pub FreshKeepsWays : Type 0
-FreshKeepsWays = (w : Wanted) (kept : Kept) (counts : Counts) (before around : Around) (jobs : List Given) (past : List Step)
-    (r : Rule) → IsWay w kept counts before jobs around past → MayBeFresh w kept before around past r →
+FreshKeepsWays = (w : Wanted) (kept : Kept) (counts : Counts) (before around : Around) (jobs : List Given)
+    (past : List Step) (r : Rule) → IsWay w kept counts before jobs around past → MayBeFresh w kept before around past r →
     IsWay w kept counts before jobs around (Fresh r ∷ past)
 
 -- where one lacks a dependency,
 abbrev pub LacksKeepWays : Type 0
-LacksKeepWays = (w : Wanted) (kept : Kept) (counts : Counts) (before around : Around) (jobs : List Given) (past : List Step)
-    (r : Rule) (p : Path) → IsWay w kept counts before jobs around past →
+LacksKeepWays = (w : Wanted) (kept : Kept) (counts : Counts) (before around : Around) (jobs : List Given)
+    (past : List Step) (r : Rule) (p : Path) → IsWay w kept counts before jobs around past →
     IsLacking (setting_in w before) (build_in w kept before around) past r p →
     IsWay w kept counts before jobs around (Lacks r p ∷ past)
 
 -- and where nothing further is decided.
 abbrev pub HaltsKeepWays : Type 0
-HaltsKeepWays = (w : Wanted) (kept : Kept) (counts : Counts) (before around : Around) (jobs : List Given) (past : List Step) →
+HaltsKeepWays = (w : Wanted) (kept : Kept) (counts : Counts) (before around : Around) (jobs : List Given)
+    (past : List Step) →
     IsWay w kept counts before jobs around past → IsWay w kept counts before jobs around (Halts ∷ past)
 
 -- A rule begins: its targets are cleared, and its job starts.
@@ -54,8 +56,8 @@ LaunchesKeepWays = (w : Wanted) (kept : Kept) (counts : Counts) (before old mid 
 
 -- Or no job starts: then the rule has ended otherwise than well.
 abbrev pub RefusalsKeepWays : Type 0
-RefusalsKeepWays = (w : Wanted) (kept : Kept) (counts : Counts) (before old new : Around) (jobs : List Given) (past : List Step)
-    (r : Rule) → IsReading w.graph → IsWay w kept counts before jobs old past → MayBegin w kept before old past r →
+RefusalsKeepWays = (w : Wanted) (kept : Kept) (counts : Counts) (before old new : Around) (jobs : List Given)
+    (past : List Step) (r : Rule) → IsReading w.graph → IsWay w kept counts before jobs old past → MayBegin w kept before old past r →
     Clears r.targets old new →
     IsWay w kept counts before (job_for w before old r ∷ jobs) new (model.Ended r false ∷ Began r ∷ past)
 
@@ -66,8 +68,9 @@ MayWait w kept before around past = is_over false past ≡ false →
 
 -- A job ends, in a world that is sure: what it made is what the law says.
 abbrev pub EndingsKeepWays : Type 0
-EndingsKeepWays = (w : Wanted) (kept : Kept) (counts : Counts) (before old new : Around) (jobs : List Given) (past : List Step)
-    (ended : Ended) → IsReading w.graph → (way : IsWay w kept counts before jobs old past) → MayWait w kept before old past →
+EndingsKeepWays = (w : Wanted) (kept : Kept) (counts : Counts) (before old new : Around) (jobs : List Given)
+    (past : List Step) (ended : Ended) → IsReading w.graph → (way : IsWay w kept counts before jobs old past) →
+    MayWait w kept before old past →
     (ends : Ends (Unit {0}) ended old new) →
     EndsFor w kept counts before jobs old new past way.log.entries ends.which ended
 
@@ -88,5 +91,6 @@ RunsSo w kept counts before after past = (runs : Runs w kept counts before after
 
 -- However far a build has come by its world, it did these steps.
 abbrev pub WaysAreRuns : Type 0
-WaysAreRuns = (w : Wanted) (kept : Kept) (counts : Counts) (before after : Around) (jobs : List Given) (past : List Step) →
+WaysAreRuns = (w : Wanted) (kept : Kept) (counts : Counts) (before after : Around) (jobs : List Given)
+    (past : List Step) →
     IsReading w.graph → IsWay w kept counts before jobs after past → RunsSo w kept counts before after past

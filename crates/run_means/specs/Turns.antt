@@ -32,8 +32,8 @@ job_for w before around r =
     record { rule = r; given = contents_of around.tree (dependencies (setting_in w before) (in_tree around.tree) r) }
 
 -- the world is handed a job of the rule with an id of its own, when these were the counts
-pub record IsHanded (w : Wanted) (kept : Kept) (counts : Counts) (before around : Around) (entries : List Entry) (r : Rule)
-    (job : Job) (at : Counts) : Type 0 where
+pub record IsHanded (w : Wanted) (kept : Kept) (counts : Counts) (before around : Around) (entries : List Entry)
+    (r : Rule) (job : Job) (at : Counts) : Type 0 where
   pub job_of : IsJobIn w kept before around r job
   pub unrisen : AreUnrisen w.keep counts at
   pub new_id : IsNewId entries job.id

@@ -12,8 +12,8 @@ use Rattle.build_model.specs.Waiting.{WaitsRightly}
 use Rattle.build_means.specs.Builds.{Wanted, Kept, IsJobIn, setting_in, build_in}
 use Rattle.build_means.specs.Logs.{AreUnrisen, HasStarted, IsLogged}
 
--- A running job of the world is that of a rule whose action runs: in the model the rule was given the same, and the log has
--- the start.
+-- A running job of the world is that of a rule whose action runs: in the model the rule was given the same, and the
+-- log has the start.
 pub record IsOwn (w : Wanted) (kept : Kept) (before around : Around) (jobs : List Given) (past : List Step)
     (entries : List Entry) (run : Running) (r : Rule) : Type 0 where
   pub given : Among (record { rule = r; given = run.given }) jobs
@@ -29,8 +29,8 @@ pub data AreOwn (w : Wanted) (kept : Kept) (before around : Around) (jobs : List
       IsOwn w kept before around jobs past entries run r → AreOwn w kept before around jobs past entries more rules →
       AreOwn w kept before around jobs past entries (run ∷ more) (r ∷ rules)
 
--- A build that began with this store and these surroundings has come so far: it took these steps and started these jobs of
--- the model, and what stands around is what a course of the model comes to.
+-- A build that began with this store and these surroundings has come so far: it took these steps and started these
+-- jobs of the model, and what stands around is what a course of the model comes to.
 pub record IsWay (w : Wanted) (kept : Kept) (counts : Counts) (before : Around) (jobs : List Given) (around : Around)
     (past : List Step) : Type 0 where
   pub course : IsCourse (setting_in w before) (build_in w kept before around) jobs around.tree (stamp_of around) past
