@@ -5,7 +5,7 @@ use Rattle.std.specs.Str.{bytes_eq}
 use Rattle.std.proofs.lemmas.Bool.Decides.{Decides-eqb}
 use Rattle.std.proofs.lemmas.Slice.Eq.{bytes_eq-Decides}
 use Rattle.node_tree.specs.Nodes.{number_of}
-use Rattle.world_api.specs.Around.{IsRunningTarget}
+use Rattle.world_api.specs.Around.{Around, IsRunningTarget}
 use Rattle.world_api.specs.Calls.{Starts, Ends}
 use Rattle.rule_graph.specs.declared.rule.Rule as declared
 use Rattle.rule_graph.specs.Rules.{rule_of, is_target_of, IsRule}
@@ -14,15 +14,15 @@ use Rattle.build_model.specs.Needs.{is_requested, nothing_left, met_first}
 use Rattle.build_model.specs.OneJob.{IsTakenFirst}
 use Rattle.build_model.specs.Records.{IsMet}
 use Rattle.build_model.specs.Resting.{whole_found}
-use Rattle.build_model.specs.Steps.{Build, IsReady, is_source, IsDecided, IsStart}
+use Rattle.build_model.specs.Steps.{Build, IsReady, is_source, IsDecided, IsFresh, IsStart, IsLacking}
 use Rattle.build_model.proofs.Lists.{none_some, some_same}
 use Rattle.build_model.proofs.Scanning.{all_is_found}
 use Rattle.build_means.specs.Due.{is_due}
 use Rattle.build_means.specs.Rules.{IsReading}
-use Rattle.build_means.specs.Builds.{setting_in, build_in}
+use Rattle.build_means.specs.Builds.{Kept, setting_in, build_in}
 use Rattle.run_means.specs.Clears.{Clears}
-use Rattle.run_means.specs.Turns.{MayBegin, IsHanded}
-use Rattle.run_means.specs.Examples.{source, object, declared_rule, graph, wanted, none_kept, no_faults, source_alone, both, copying, job, run, before, busy, ended, after, AreMet}
+use Rattle.run_means.specs.Turns.{MayBeFresh, MayBegin, IsHanded}
+use Rattle.run_means.specs.Examples.{source, object, declared_rule, graph, wanted, none_kept, no_faults, source_alone, both, copying, job, run, before, busy, ended, after, copy_kept, built, bare, AreMet}
 use Rattle.run_means.proofs.Lists.{contains_among, among_contains}
 use Rattle.run_means.proofs.Carrying.{lawful_in}
 
@@ -62,57 +62,83 @@ each_rule (suc i) r e = none_some e
 reading : IsReading graph
 reading = record { apart = apart; single = single; named = record { each_rule = each_rule; each_alias = refl } }
 
-abbrev S : Setting
-S = setting_in wanted before
-
-abbrev B : Build
-B = build_in wanted none_kept before before
-
 only : {A : Type 0} {x y : A} → Among x (y ∷ []) → y ≡ x
 only here = refl
 only (there m) = elim m [ ]
 
-source_ready : IsReady S source_alone [] source
-source_ready = is_source (2 ∷ []) refl refl
+-- where the source is there the rule may be decided
+module _ (kept : Kept) (around : Around) (file : around.tree source ≡ Some (2 ∷ [])) where
+  abbrev S : Setting
+  S = setting_in wanted around
 
-decided : IsDecided S B [] copying
-decided = record {
+  abbrev B : Build
+  B = build_in wanted kept around around
+
+  source_ready : IsReady S around.tree [] source
+  source_ready = is_source (2 ∷ []) refl file
+
+  decided : IsDecided S B [] copying
+  decided = record {
+    goes_on = refl;
+    not_began = λ m. elim m [ ];
+    not_done = λ m. elim m [ ];
+    prepared = record {
+      wanted = record { found = λ r p. []; is_found = λ r p. inl refl; is_needed = is_requested object here refl };
+      whole = omega arith;
+      dependencies = λ p m. subst (λ q. IsReady S around.tree [] q) (only m) source_ready;
+      required = λ p q m e. elim m [ ];
+    };
+  }
+
+  first : IsTakenFirst S B [] copying
+  first = record {
+    found = whole_found S B [];
+    found_whole = all_is_found S B [] (lawful_in wanted around reading) tt;
+    order = copying ∷ [];
+    is_order = record { met = copying ∷ []; visits = met_first (λ m. elim m [ ]) nothing_left nothing_left };
+    front = [];
+    behind = [];
+    parts = refl;
+    passed = λ x m. elim m [ ];
+  }
+
+met_source : (p : Path) → Among p (source ∷ []) → IsMet ((2 ∷ []) ∷ []) (source_alone p)
+met_source p m = subst (λ q. IsMet ((2 ∷ []) ∷ []) (source_alone q)) (only m) here
+
+met_both : (p : Path) → Among p (source ∷ []) → IsMet ((2 ∷ []) ∷ []) (both p)
+met_both p m = subst (λ q. IsMet ((2 ∷ []) ∷ []) (both q)) (only m) here
+
+start : IsStart (setting_in wanted before) (build_in wanted none_kept before before) [] copying
+unfolding is_due
+start = record { due = refl; each_met = met_source; room = omega arith }
+
+may : MayBegin wanted none_kept before before [] copying
+may = record { first = first none_kept before refl; decided = decided none_kept before refl; start = start }
+
+is_fresh : IsFresh (setting_in wanted built) (build_in wanted copy_kept built built) copying
+unfolding is_due
+is_fresh = record { not_due = refl; each_met = met_both; same = λ p m. refl }
+
+fresh : MayBeFresh wanted copy_kept built built [] copying
+fresh = record { first = first copy_kept built refl; decided = decided copy_kept built refl; fresh = is_fresh }
+
+lacks : IsLacking (setting_in wanted bare) (build_in wanted none_kept bare bare) [] copying source
+lacks = record {
   goes_on = refl;
   not_began = λ m. elim m [ ];
   not_done = λ m. elim m [ ];
-  prepared = record {
-    wanted = record { found = λ r p. []; is_found = λ r p. inl refl; is_needed = is_requested object here refl };
-    whole = omega arith;
-    dependencies = λ p m. subst (λ q. IsReady S source_alone [] q) (only m) source_ready;
-    required = λ p q m e. elim m [ ];
+  wanted = record { found = λ r p. []; is_found = λ r p. inl refl; is_needed = is_requested object here refl };
+  whole = omega arith;
+  first_missing = record {
+    front = [];
+    rest = [];
+    parts = refl;
+    is_missing = record { no_rule = refl; no_file = refl };
+    front_ready = λ q m. elim m [ ];
+    rest_settled = λ q m. elim m [ ];
   };
+  required = λ q x m e. elim m [ ];
 }
-
-first : IsTakenFirst S B [] copying
-first = record {
-  found = whole_found S B [];
-  found_whole = all_is_found S B [] (lawful_in wanted before reading) tt;
-  order = copying ∷ [];
-  is_order = record { met = copying ∷ []; visits = met_first (λ m. elim m [ ]) nothing_left nothing_left };
-  front = [];
-  behind = [];
-  parts = refl;
-  passed = λ x m. elim m [ ];
-}
-
-start : IsStart S B [] copying
-unfolding is_due
-start = record {
-  due = refl;
-  each_met = λ p m. by p m;
-  room = omega arith;
-}
-  where
-    by : (p : Path) → Among p (source ∷ []) → IsMet B.met (source_alone p)
-    by p m = subst (λ q. IsMet B.met (source_alone q)) (only m) here
-
-may : MayBegin wanted none_kept before before [] copying
-may = record { first = first; decided = decided; start = start }
 
 clears : Clears copying.targets before before
 clears = record {
@@ -183,4 +209,6 @@ are_met = record {
   handed = handed;
   waits = λ e. inl refl;
   ends = ends;
+  fresh = fresh;
+  lacks = lacks;
 }

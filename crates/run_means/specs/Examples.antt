@@ -1,24 +1,25 @@
--- A build that meets what laws ask: an object is a copy of a source, and is requested.
+-- Builds that meet what laws ask: an object is a copy of a source, and is requested.
 use Rattle.std.specs.Prelude.{◌≡◌, false, [], ◌∷◌, Some, None, if◌then◌else◌}
 use Rattle.std.specs.Str.{bytes_eq}
 use Rattle.scons_base.specs.declared.ids.NodeId.{NodeId}
 use Rattle.world_api.specs.Around.{Around, Tree as Files, Running, Started, Finished, given_of}
 use Rattle.world_api.specs.Calls.{Starts, Ends}
 use Rattle.world_api.specs.Counts.{Counts}
-use Rattle.world_api.specs.declared.decider.Decider.TheVariants.{Content}
+use Rattle.world_api.specs.declared.decider.Decider.TheVariants.{Newer}
 use Rattle.world_api.specs.declared.hash.Hash.TheVariants.{Md5}
 use Rattle.world_api.specs.declared.job.Ended.{Ended}
 use Rattle.world_api.specs.declared.job.Job.{Job}
 use Rattle.world_api.specs.declared.job.Outcome.TheVariants.{Done}
 use Rattle.world_api.specs.declared.job.Work.TheVariants.{Copy}
+use Rattle.deciders.specs.declared.recorded.Rec.{Rec}
 use Rattle.rule_graph.specs.declared.rule.Rule as declared
 use Rattle.rule_graph.specs.Graphs.{RuleGraph}
 use Rattle.build_model.specs.Rules.{Path, Rule}
-use Rattle.build_model.specs.Steps.{Began}
+use Rattle.build_model.specs.Steps.{Began, IsLacking}
 use Rattle.build_means.specs.Rules.{IsReading, rule_in}
-use Rattle.build_means.specs.Builds.{Wanted, Kept}
+use Rattle.build_means.specs.Builds.{Wanted, Kept, setting_in, build_in}
 use Rattle.run_means.specs.Clears.{Clears}
-use Rattle.run_means.specs.Turns.{MayBegin, IsHanded}
+use Rattle.run_means.specs.Turns.{MayBeFresh, MayBegin, IsHanded}
 use Rattle.run_means.specs.Laws.{MayWait}
 
 abbrev pub source : Path
@@ -47,7 +48,7 @@ declared_rule = record {
   paths = [];
   scans = false;
   always = false;
-  decider = Content;
+  decider = Newer;
   builder = [];
 }
 
@@ -109,7 +110,28 @@ ended = record { id = 1; outcome = Done }
 abbrev pub after : Around
 after = record before { tree = both; log = Started job no_faults ∷ Finished 1 Done ∷ [] }
 
--- Its rule may begin, nothing has to be cleared, its job starts, the build may wait for it, and it ends.
+-- the record of the copy, as of each path
+abbrev pub copied : Rec
+copied = record {
+  work = Copy;
+  hash = Md5;
+  targets = object ∷ [];
+  signed = [];
+  deps = record { name = source; digest = None; stamp = None } ∷ [];
+}
+
+abbrev pub copy_kept : Kept
+copy_kept path = Some copied
+
+-- the world where the object is there already, and where nothing is
+abbrev pub built : Around
+built = record before { tree = both }
+
+abbrev pub bare : Around
+bare = record before { tree = λ path. None; met = [] }
+
+-- The rule may begin, nothing has to be cleared, its job starts, the build may wait for it, and it ends. Where the object
+-- is there already the rule is up to date, and where nothing is it lacks the source.
 pub record AreMet : Type 0 where
   pub reading : IsReading graph
   pub none_runs : before.running ≡ []
@@ -119,3 +141,5 @@ pub record AreMet : Type 0 where
   pub handed : IsHanded wanted none_kept no_faults before before [] copying job no_faults
   pub waits : MayWait wanted none_kept before busy (Began copying ∷ [])
   pub ends : Ends (Unit {0}) ended busy after
+  pub fresh : MayBeFresh wanted copy_kept built built [] copying
+  pub lacks : IsLacking (setting_in wanted bare) (build_in wanted none_kept bare bare) [] copying source

@@ -30,8 +30,8 @@ ClearsKeepWays = (w : Wanted) (kept : Kept) (counts : Counts) (before old new : 
 -- It comes a step further where a rule is found up to date,
 abbrev pub FreshKeepsWays : Type 0
 FreshKeepsWays = (w : Wanted) (kept : Kept) (counts : Counts) (before around : Around) (jobs : List Given)
-    (past : List Step) (r : Rule) → IsWay w kept counts before jobs around past → MayBeFresh w kept before around past r →
-    IsWay w kept counts before jobs around (Fresh r ∷ past)
+    (past : List Step) (r : Rule) → IsWay w kept counts before jobs around past →
+    MayBeFresh w kept before around past r → IsWay w kept counts before jobs around (Fresh r ∷ past)
 
 -- where one lacks a dependency,
 abbrev pub LacksKeepWays : Type 0
@@ -43,8 +43,8 @@ LacksKeepWays = (w : Wanted) (kept : Kept) (counts : Counts) (before around : Ar
 -- and where nothing further is decided.
 abbrev pub HaltsKeepWays : Type 0
 HaltsKeepWays = (w : Wanted) (kept : Kept) (counts : Counts) (before around : Around) (jobs : List Given)
-    (past : List Step) →
-    IsWay w kept counts before jobs around past → IsWay w kept counts before jobs around (Halts ∷ past)
+    (past : List Step) → IsWay w kept counts before jobs around past →
+    IsWay w kept counts before jobs around (Halts ∷ past)
 
 -- A rule begins: its targets are cleared, and its job starts.
 abbrev pub LaunchesKeepWays : Type 0
@@ -57,8 +57,8 @@ LaunchesKeepWays = (w : Wanted) (kept : Kept) (counts : Counts) (before old mid 
 -- Or no job starts: then the rule has ended otherwise than well.
 abbrev pub RefusalsKeepWays : Type 0
 RefusalsKeepWays = (w : Wanted) (kept : Kept) (counts : Counts) (before old new : Around) (jobs : List Given)
-    (past : List Step) (r : Rule) → IsReading w.graph → IsWay w kept counts before jobs old past → MayBegin w kept before old past r →
-    Clears r.targets old new →
+    (past : List Step) (r : Rule) → IsReading w.graph → IsWay w kept counts before jobs old past →
+    MayBegin w kept before old past r → Clears r.targets old new →
     IsWay w kept counts before (job_for w before old r ∷ jobs) new (model.Ended r false ∷ Began r ∷ past)
 
 -- it may wait for an ending, unless something is at fault: as many actions run as may, or nothing can be decided
@@ -66,12 +66,12 @@ abbrev pub MayWait : Wanted → Kept → Around → Around → List Step → Typ
 MayWait w kept before around past = is_over false past ≡ false →
     (running past ≡ jobs_at_once w.jobs) ⊎ IsIdle (setting_in w before) (build_in w kept before around) past
 
--- A job ends, in a world that is sure: what it made is what the law says.
+-- A job ends, in a world that is sure: what it made is what the law says. It holds by whatever makes a world sure
+-- (`ended_for` of proofs/Ending.antt); a law can't say so.
 abbrev pub EndingsKeepWays : Type 0
 EndingsKeepWays = (w : Wanted) (kept : Kept) (counts : Counts) (before old new : Around) (jobs : List Given)
     (past : List Step) (ended : Ended) → IsReading w.graph → (way : IsWay w kept counts before jobs old past) →
-    MayWait w kept before old past →
-    (ends : Ends (Unit {0}) ended old new) →
+    MayWait w kept before old past → (ends : Ends (Unit {0}) ended old new) →
     EndsFor w kept counts before jobs old new past way.log.entries ends.which ended
 
 -- what no rule makes, and what these rules make, is the same in two trees
@@ -92,5 +92,5 @@ RunsSo w kept counts before after past = (runs : Runs w kept counts before after
 -- However far a build has come by its world, it did these steps.
 abbrev pub WaysAreRuns : Type 0
 WaysAreRuns = (w : Wanted) (kept : Kept) (counts : Counts) (before after : Around) (jobs : List Given)
-    (past : List Step) →
-    IsReading w.graph → IsWay w kept counts before jobs after past → RunsSo w kept counts before after past
+    (past : List Step) → IsReading w.graph → IsWay w kept counts before jobs after past →
+    RunsSo w kept counts before after past
