@@ -11,11 +11,11 @@ use Rattle.world_api.specs.declared.job.Outcome.{Outcome}
 use Rattle.world_api.specs.declared.job.Outcome.TheVariants as outcome
 use Rattle.rule_graph.specs.declared.build_fault.BuildFault.{BuildFault}
 use Rattle.rule_graph.specs.declared.build_fault.BuildFault.TheVariants as fault
-use Rattle.build_files.specs.Causes.{HasLookCause, HasEndCause, IsInside}
+use Rattle.build_files.specs.Causes.{HasLookCause, HasEndCause, IsInside, IsQuiet}
 use Rattle.build_files.specs.Causes.{HasFaultCause as HasLookFault}
 use Rattle.build_files.specs.declared.end.ListEnd.{ListEnd}
 use Rattle.build_files.specs.declared.end.ListEnd.TheVariants as end
-use Rattle.build_run.specs.Causes.{Outside, outside, IsLater, HasCause, HasPrintCause, HasStartCause, IsInner, IsTreeFault, IsStartFault, IsActionFault, IsUnstarted, HasAny, AreTold, AreCaused}
+use Rattle.build_run.specs.Causes.{Outside, outside, IsLater, HasCause, HasPrintEnd, HasStartCause, HasStartEnd, IsInner, IsTreeFault, IsStartFault, IsActionFault, IsUnstarted, HasAny, AreTold, AreCaused}
 use Rattle.world_api.specs.Printed.{SinkMeaning}
 use Rattle.build_run.specs.Ledgers.{Ledger, Accounted, Reports, blank, ledger_of, with_fault, wanting, with_shut, with_end, with_done, with_outcome}
 use Rattle.build_run.specs.declared.account.Account.{Account}
@@ -154,6 +154,11 @@ later_looked a b (Err end.Memory) h = (later_alone a b 0 0 h).counts
 -- nothing was at fault before
 pub look_after : (a b c : Counts) (e : ListEnd) → b ≡ a → HasEndCause b c e → HasEndCause a c e
 look_after a b c e same h = subst (λ x. HasEndCause x c e) same h
+
+-- the exit of a `?`, where nothing outside was at fault
+pub quiet_exit : {T : Type 0} (r : Result T ListEnd) (e : ListEnd) → IsErrAnd r (λ x. x ≡ e) → IsInside e → IsQuiet r
+quiet_exit (Ok value) e is inside = absurd is
+quiet_exit (Err x) e is inside = λ counts. subst (λ (y : ListEnd). HasEndCause counts counts y) (sym is) (inside counts)
 
 module _ (start : Outside) (ledger : Ledger) where
   -- where nothing changed
@@ -294,42 +299,39 @@ module _ (start : Outside) (ledger : Ledger) where
   exit_inside counts out err (Ok value) h a = absurd h
   exit_inside counts out err (Err x) h a = inside counts out err x h a
 
-  -- a print, and what it ends with
-  pub printed : {T : Type 0} (counts : Counts) (old new err : ℕ) (r : Result T ListEnd) → HasPrintCause old new r → Accounted start (outside counts old err) ledger → Accounted start (outside counts new err) (with_done ledger r)
-  printed counts old new err (Ok value) h a = same_out counts old new err h a
-  printed counts old new err (Err (end.Fault f)) h a = by f h
-    where
-      by : (f : BuildFault) → HasPrintCause {T = T} old new (Err (end.Fault f)) → Accounted start (outside counts new err) (with_fault ledger f)
-      by (fault.Missing node path) h = absurd h
-      by (fault.Cycle paths) h = absurd h
-      by (fault.ActionFailed path code) h = absurd h
-      by (fault.TreeFault path) h = absurd h
-      by (fault.StartFault path) h = absurd h
-      by fault.StoreFault h = absurd h
-      by fault.OutFault h = out_fault counts old new err h a
-      by (fault.TooLarge path size) h = absurd h
-      by (fault.TooMany what count) h = absurd h
-  printed counts old new err (Err end.Memory) h a = absurd h
+  -- a print that was refused
+  pub print_end : (counts : Counts) (old new err : ℕ) (e : ListEnd) → HasPrintEnd old new e → Accounted start (outside counts old err) ledger → Accounted start (outside counts new err) (with_end ledger e)
+  print_end counts old new err (end.Fault (fault.Missing node target)) h a = absurd h
+  print_end counts old new err (end.Fault (fault.Cycle paths)) h a = absurd h
+  print_end counts old new err (end.Fault (fault.ActionFailed target code)) h a = absurd h
+  print_end counts old new err (end.Fault (fault.TreeFault path)) h a = absurd h
+  print_end counts old new err (end.Fault (fault.StartFault target)) h a = absurd h
+  print_end counts old new err (end.Fault fault.StoreFault) h a = absurd h
+  print_end counts old new err (end.Fault fault.OutFault) h a = out_fault counts old new err h a
+  print_end counts old new err (end.Fault (fault.TooLarge path size)) h a = absurd h
+  print_end counts old new err (end.Fault (fault.TooMany what count)) h a = absurd h
+  print_end counts old new err end.Memory h a = absurd h
+
+  -- a start that was refused
+  start_end : (old new : Counts) (out err : ℕ) (e : ListEnd) → HasStartEnd old new e → Accounted start (outside old out err) ledger → Accounted start (outside new out err) (with_end ledger e)
+  start_end old new out err (end.Fault (fault.Missing node target)) h a = absurd h
+  start_end old new out err (end.Fault (fault.Cycle paths)) h a = absurd h
+  start_end old new out err (end.Fault (fault.ActionFailed target code)) h a = absurd h
+  start_end old new out err (end.Fault (fault.TreeFault path)) h a = absurd h
+  start_end old new out err (end.Fault (fault.StartFault target)) h a = start_fault old new out err target h a
+  start_end old new out err (end.Fault fault.StoreFault) h a = absurd h
+  start_end old new out err (end.Fault fault.OutFault) h a = absurd h
+  start_end old new out err (end.Fault (fault.TooLarge path size)) h a = absurd h
+  start_end old new out err (end.Fault (fault.TooMany what count)) h a = absurd h
+  start_end old new out err end.Memory h a = elim h [
+    | inl same ↦ wanted (outside new out err) (same_counts old new out err same a)
+    | inr fails ↦ wanting_on (outside old out err) (outside new out err) (later_start old new out err fails) a
+  ]
 
   -- a start, and what it ends with
   pub begun : {T : Type 0} (old new : Counts) (out err : ℕ) (r : Result T ListEnd) → HasStartCause old new r → Accounted start (outside old out err) ledger → Accounted start (outside new out err) (with_done ledger r)
   begun old new out err (Ok value) h a = same_counts old new out err h a
-  begun old new out err (Err (end.Fault f)) h a = by f h
-    where
-      by : (f : BuildFault) → HasStartCause {T = T} old new (Err (end.Fault f)) → Accounted start (outside new out err) (with_fault ledger f)
-      by (fault.Missing node path) h = absurd h
-      by (fault.Cycle paths) h = absurd h
-      by (fault.ActionFailed path code) h = absurd h
-      by (fault.TreeFault path) h = absurd h
-      by (fault.StartFault path) h = start_fault old new out err path h a
-      by fault.StoreFault h = absurd h
-      by fault.OutFault h = absurd h
-      by (fault.TooLarge path size) h = absurd h
-      by (fault.TooMany what count) h = absurd h
-  begun old new out err (Err end.Memory) h a = elim h [
-    | inl same ↦ wanted (outside new out err) (same_counts old new out err same a)
-    | inr fails ↦ wanting_on (outside old out err) (outside new out err) (later_start old new out err fails) a
-  ]
+  begun old new out err (Err e) h a = start_end old new out err e h a
 
   -- an ending, of whichever target
   pub settled : (old new : Counts) (out err : ℕ) (target : List ℕ) (o : Outcome) → HasOutcomeCause o old new → Accounted start (outside old out err) ledger → Accounted start (outside new out err) (with_outcome ledger target o)
@@ -353,13 +355,13 @@ module _ (start : Outside) (ledger : Ledger) where
   untold now target outcome.Broken a = dropped now (fault.StartFault target) a
   untold now target outcome.NoMemory a = a
 
--- a start that was refused
-pub refused_start : {T : Type 0} (old new : Counts) (e : ListEnd) → StartFails old new → IsUnstarted e → HasStartCause {T = T} old new (Err e)
-refused_start old new (end.Fault (fault.StartFault path)) fails is = fails
-refused_start old new (end.Fault (fault.Missing node path)) fails is = absurd is
+-- the end of a start that was refused
+pub refused_start : (old new : Counts) (e : ListEnd) → StartFails old new → IsUnstarted e → HasStartEnd old new e
+refused_start old new (end.Fault (fault.Missing node target)) fails is = absurd is
 refused_start old new (end.Fault (fault.Cycle paths)) fails is = absurd is
-refused_start old new (end.Fault (fault.ActionFailed path code)) fails is = absurd is
+refused_start old new (end.Fault (fault.ActionFailed target code)) fails is = absurd is
 refused_start old new (end.Fault (fault.TreeFault path)) fails is = absurd is
+refused_start old new (end.Fault (fault.StartFault target)) fails is = fails
 refused_start old new (end.Fault fault.StoreFault) fails is = absurd is
 refused_start old new (end.Fault fault.OutFault) fails is = absurd is
 refused_start old new (end.Fault (fault.TooLarge path size)) fails is = absurd is

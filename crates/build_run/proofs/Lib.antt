@@ -4,3 +4,4 @@ pub mod Causing
 pub mod Outs
 pub mod Sites
 pub mod Taking
+mod Lending

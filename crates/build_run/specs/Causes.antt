@@ -77,18 +77,27 @@ abbrev pub BuildCauses : {W O E : Type 0} → Meaning W → SinkMeaning O → Si
 BuildCauses m o e world out err new_world new_out new_err faults memory =
     AreCaused (outside (m.counts world) (o.faults out) (e.faults err)) (outside (m.counts new_world) (o.faults new_out) (e.faults new_err)) faults memory
 
--- a text was printed, or standard output was at fault
+-- a print was refused: standard output was at fault
+abbrev pub HasPrintEnd : ℕ → ℕ → ListEnd → Type 0
+HasPrintEnd old new (end.Fault fault.OutFault) = Rose old new
+HasPrintEnd old new (end.Fault other) = ⊥
+HasPrintEnd old new end.Memory = ⊥
+
+-- or a text was printed
 abbrev pub HasPrintCause : {T : Type 0} → ℕ → ℕ → Result T ListEnd → Type 0
 HasPrintCause old new (Ok value) = new ≡ old
-HasPrintCause old new (Err (end.Fault fault.OutFault)) = Rose old new
-HasPrintCause old new (Err other) = ⊥
+HasPrintCause old new (Err e) = HasPrintEnd old new e
 
--- a job was started, or the start was at fault, though for want of memory its target may remain untold
+-- a start was refused: it was at fault, though for want of memory its target may remain untold
+abbrev pub HasStartEnd : Counts → Counts → ListEnd → Type 0
+HasStartEnd old new (end.Fault (fault.StartFault target)) = StartFails old new
+HasStartEnd old new (end.Fault other) = ⊥
+HasStartEnd old new end.Memory = (new ≡ old) ⊎ StartFails old new
+
+-- or a job was started
 abbrev pub HasStartCause : {T : Type 0} → Counts → Counts → Result T ListEnd → Type 0
 HasStartCause old new (Ok value) = new ≡ old
-HasStartCause old new (Err (end.Fault (fault.StartFault target))) = StartFails old new
-HasStartCause old new (Err (end.Fault other)) = ⊥
-HasStartCause old new (Err end.Memory) = (new ≡ old) ⊎ StartFails old new
+HasStartCause old new (Err e) = HasStartEnd old new e
 
 -- an end for which the start of a job was at fault, though its target may remain untold for want of memory
 abbrev pub IsUnstarted : ListEnd → Type 0

@@ -1,7 +1,7 @@
 use Rattle.std.proofs.Common.{◌++◌, ◌∙◌, List, Contains, ap, refl, subst, sym}
 use Rattle.build_run.specs.Holds.{Busy, holds_in}
 use Rattle.build_run.specs.Ledgers.{Ledger, ledger_of}
-use Rattle.build_run.proofs.Causing.{account_as, begun, exit_same, printed, same_out}
+use Rattle.build_run.proofs.Causing.{account_as, begun, exit_same, print_end, same_out}
 use Rattle.build_run.proofs.Goings.{passes_on}
 use Rattle.build_run.proofs.Outs.{held_ok, stored_alike, stored_over, unheld_still}
 use Rattle.build_run.proofs.Sites.{joined_after, site_goes, sound_refused, sound_still}
@@ -42,7 +42,7 @@ returns-in_err-show-clause-ends g c = λ start a.
     let r = c.from_residual-in_err-show in
     let before = c.in_ok-clear.ensures.ends start a in
     exit_same start (ledger_of c.show.new.account) _ r.result _ r.ensures.1
-    (printed start (ledger_of c.show.new.account) _ _ _ _ _ c.in_err-show.ensures.cause
+    (print_end start (ledger_of c.show.new.account) _ _ _ _ _ c.in_err-show.ensures.cause
     (account_as start _ (ledger_of c.clear.new.self.account) (ledger_of c.show.new.account) c.show.ensures.account before))
 
 pub returns-in_err-show-clause-sound : goal.returns-in_err-show-clause-sound

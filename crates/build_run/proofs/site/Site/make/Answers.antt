@@ -30,3 +30,6 @@ pub start-requires-clause-sound : goal.start-requires-clause-sound
 start-requires-clause-sound g c =
     let stays = looked_at g.W.Disk.meaning _ _ c.is_stale.result c.is_stale.ensures.looks c.is_stale.ensures.cause in
     sound_still g.W.Disk.meaning c.args.self.now _ stays refl refl refl refl refl c.requires.sound
+
+pub returns-clause-kept : goal.returns-clause-kept
+returns-clause-kept g c = λ unshut. c.start.ensures.kept (sym c.note_start.ensures.shut ∙ unshut)

@@ -1,4 +1,4 @@
-use Rattle.std.proofs.Common.{◌<◌, ◌≤◌, ◌∙◌, ◌++◌, ◌∷◌, [], ℕ, List, Some, Contains, ap, length, subst, sym}
+use Rattle.std.proofs.Common.{◌≡◌, ◌<◌, ◌≤◌, ◌∙◌, ◌++◌, ◌∷◌, [], ℕ, List, Some, Contains, ap, false, length, subst, sym}
 use Rattle.world_api.specs.Around.{Around, Finished}
 use Rattle.world_api.specs.declared.job.Outcome.TheVariants.{Done}
 use Rattle.sign_store.specs.Tables.{Map, with_each}
@@ -32,7 +32,7 @@ returns-clause-takes g c =
     let puts = c.put_if_few.ensures.puts in
     let takes = c.take_ended.ensures.takes in
     let told = c.take_ended.ensures.passes.passes.told.told in
-    let kept = λ unshut. c.put_if_few.ensures.kept (takes.shut unshut) in
+    let kept = λ (unshut : c.take_ended.new.self.account.is_store_shut ≡ false). c.put_if_few.ensures.kept (takes.shut unshut) in
     record {
       fewer = λ t. takes.fewer t ∙ ap (λ (busies : List Busy). length busies) puts.tickets;
       no_more = subst (λ (n : ℕ). length c.take_ended.new.self.run.tickets ≤ n) (ap (λ (busies : List Busy). length busies) puts.tickets) takes.no_more;

@@ -1,4 +1,4 @@
-use Rattle.std.proofs.Common.{◌≡◌, ◌∙◌, ◌++◌, List, ap, arith, inl, inr, length, refl, sym, subst}
+use Rattle.std.proofs.Common.{◌≡◌, ◌∙◌, ◌++◌, List, ap, arith, inl, inr, length, refl, sym, subst, true}
 use Rattle.sign_store.specs.Putting.{AreOutWith, IsApartFrom, map_with, map_without}
 use Rattle.sign_store.specs.Stores.{map_of}
 use Rattle.sign_store.proofs.Keeping.{stands_in}
@@ -129,7 +129,7 @@ returns-in-Err-clause-sound g c =
     record {
       unclosed = c.withdraw.ensures.told.closed ∙ sound.unclosed;
       joined = joined_on m site.world.now c.withdraw.new.world (holds_in site.run.tickets) goes sound.joined;
-      stored = stored_shut m _ _ _ _ refl;
+      stored = stored_shut m c.withdraw.new.world c.withdraw.new.self (site.run.held ++ site.run.tickets) true refl;
       few = sound.few;
       limit = sound.limit;
     }
