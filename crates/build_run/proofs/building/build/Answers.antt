@@ -14,7 +14,7 @@ pub go_on-requires : goal.go_on-requires
 go_on-requires g c =
     let m = g.W.Disk.meaning in
     let out = c.set_out.ensures in
-    let run = c.in-Ok.run in
+    let run = c.in-Ok.run' in
     let told = out.goes.passes.told in
     record {
       unclosed = told.closed ∙ c.requires.unclosed;
@@ -33,6 +33,9 @@ returns-in-Ok-clause-causes g c =
     let begun = same_counts start (ledger_of c.new-account.result) _ _ _ _ c.in-Ok.ensures.cause first in
     let closed = c.close-skipped.ensures.accounts start (c.go_on.ensures.accounts start begun) in
     let said = caused start _ (ledger_of_end c.answer.result) (ended start _ (ledger_of c.close-skipped.new.self.account) _ _ c.answer.ensures.faults c.answer.ensures.memory closed) in
+    let lent_world = c.close-skipped.ensures.same.world ∙ c.go_on.ensures.passes.same.world in
+    let lent_out = c.close-skipped.ensures.same.out ∙ c.go_on.ensures.passes.same.out in
+    let lent_err = c.close-skipped.ensures.same.err ∙ c.go_on.ensures.passes.same.err in
     causes_given g.W.Disk.meaning g.O.Sink.meaning g.E.Sink.meaning start c.close-skipped.new.self _ _ _ _ _ (search rules) (search rules) (search rules) said
 
 pub returns-in-Err-clause-causes : goal.returns-in-Err-clause-causes
@@ -45,6 +48,7 @@ returns-in-Err-clause-causes g c =
 pub returns-in-Ok-clause-told : goal.returns-in-Ok-clause-told
 returns-in-Ok-clause-told g c =
     let m = g.W.Disk.meaning in
+    let lent = c.close-skipped.ensures.same.world ∙ c.go_on.ensures.passes.same.world in
     let same : c.close-skipped.new.self.world.now ≡ c.world-1.given = search rules in
     let ran = passes_on m _ _ _ c.set_out.ensures.goes.passes c.go_on.ensures.passes.passes in
     (passes_given m c.args.world.now _ c.world-1.given (sym c.close-skipped.ensures.world ∙ same) ran).told
@@ -52,11 +56,13 @@ returns-in-Ok-clause-told g c =
 pub returns-in-Ok-clause-later : goal.returns-in-Ok-clause-later
 returns-in-Ok-clause-later g c =
     let m = g.W.Disk.meaning in
+    let lent = c.close-skipped.ensures.same.world ∙ c.go_on.ensures.passes.same.world in
     let same : c.close-skipped.new.self.world.now ≡ c.world-1.given = search rules in
     let ran = passes_on m _ _ _ c.set_out.ensures.goes.passes c.go_on.ensures.passes.passes in
     (passes_given m c.args.world.now _ c.world-1.given (sym c.close-skipped.ensures.world ∙ same) ran).later
 
 pub returns-in-Ok-clause-idle : goal.returns-in-Ok-clause-idle
 returns-in-Ok-clause-idle g c =
+    let lent = c.close-skipped.ensures.same.world ∙ c.go_on.ensures.passes.same.world in
     let same : c.close-skipped.new.self.world.now ≡ c.world-1.given = search rules in
     idle_given g.W.Disk.meaning c.go_on.new.self.world.now c.world-1.given (sym c.close-skipped.ensures.world ∙ same) c.go_on.ensures.idle

@@ -1,6 +1,6 @@
-use Rattle.std.proofs.Common.{[], ℤ, SFits, ap, w32, to_z-of_z, rules, subst, sym}
+use Rattle.std.proofs.Common.{[], ℤ, SFits, w32, to_z-of_z, rules, subst}
 use Rattle.rule_graph.specs.declared.build_fault.BuildFault.TheVariants as fault
-use Rattle.build_run.specs.Ledgers.{Ledger, Reports, ledger_of, wanting, with_fault}
+use Rattle.build_run.specs.Ledgers.{Reports, ledger_of, with_fault}
 use Rattle.build_run.proofs.Causing.{wants_untold}
 use Rattle.build_run.proofs.ending.not_done.Goals as goal
 
