@@ -23,6 +23,7 @@ use scons_base::{Listing, Memory, NodeId, PathText, RuleId};
 use scons_report::cycle_fault;
 use sign_store::Store;
 use std::alloc::Global;
+use std::mem;
 use task_plan::Plan;
 use world_api::{Hash, Sink, World};
 
@@ -85,7 +86,7 @@ pub fn build<W: World, O: Sink, E: Sink>(
             };
             site.go_on();
             let skipped = site.close();
-            answer(site.account, skipped)
+            site.ended(skipped)
         }
         Err(end) => {
             account.end(err, end);
@@ -156,6 +157,19 @@ impl<W: World, O: Sink, E: Sink> Site<'_, '_, W, O, E> {
                 Listing::empty(self.account.alloc)
             }
         }
+    }
+
+    /// What is to be reported, taken out.
+    fn ended(&mut self, skipped: Listing<(PathText, PathText)>) -> BuildEnd
+        ensures same { IsSame self.old self.new }
+        ensures world { self.new.world.now ≡ self.old.world.now }
+        ensures out { self.new.out.now ≡ self.old.out.now }
+        ensures err { self.new.err.now ≡ self.old.err.now }
+        ensures faults { result.faults ≡ self.old.account.faults.items }
+        ensures memory { result.memory ≡ self.old.account.memory }
+    {
+        let blank = Account::new(self.account.alloc);
+        answer(mem::replace(&mut self.account, blank), skipped)
     }
 }
 
