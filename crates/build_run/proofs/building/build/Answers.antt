@@ -42,9 +42,9 @@ returns-in-Ok-clause-causes g c =
     let lent_world = ending.same.world ∙ c.close-skipped.ensures.same.world ∙ c.go_on.ensures.passes.same.world in
     let lent_out = ending.same.out ∙ c.close-skipped.ensures.same.out ∙ c.go_on.ensures.passes.same.out in
     let lent_err = ending.same.err ∙ c.close-skipped.ensures.same.err ∙ c.go_on.ensures.passes.same.err in
-    let world : c.ended.new.self.world.now ≡ c.world-1.given = search rules in
-    let out : c.ended.new.self.out.now ≡ c.out-1.given = search rules in
-    let err : c.ended.new.self.err.now ≡ c.err-1.given = search rules in
+    let world : c.ended.new.self.world.now ≡ c.world-1.given = search (rules, c.world-1) in
+    let out : c.ended.new.self.out.now ≡ c.out-1.given = search (rules, c.out-1) in
+    let err : c.ended.new.self.err.now ≡ c.err-1.given = search (rules, c.err-1) in
     causes_given w o e start c.close-skipped.new.self _ _ _ _ _ (sym ending.world ∙ world) (sym ending.out ∙ out) (sym ending.err ∙ err) said
 
 pub returns-in-Err-clause-causes : goal.returns-in-Err-clause-causes
@@ -58,7 +58,7 @@ pub returns-in-Ok-clause-told : goal.returns-in-Ok-clause-told
 returns-in-Ok-clause-told g c =
     let m = g.W.Disk.meaning in
     let lent = c.ended.ensures.same.world ∙ c.close-skipped.ensures.same.world ∙ c.go_on.ensures.passes.same.world in
-    let same : c.ended.new.self.world.now ≡ c.world-1.given = search rules in
+    let same : c.ended.new.self.world.now ≡ c.world-1.given = search (rules, c.world-1) in
     let ran = passes_on m _ _ _ c.set_out.ensures.goes.passes c.go_on.ensures.passes.passes in
     (passes_given m c.args.world.now _ c.world-1.given (sym (c.ended.ensures.world ∙ c.close-skipped.ensures.world) ∙ same) ran).told
 
@@ -66,12 +66,9 @@ pub returns-in-Ok-clause-later : goal.returns-in-Ok-clause-later
 returns-in-Ok-clause-later g c =
     let m = g.W.Disk.meaning in
     let lent = c.ended.ensures.same.world ∙ c.close-skipped.ensures.same.world ∙ c.go_on.ensures.passes.same.world in
-    let same : c.ended.new.self.world.now ≡ c.world-1.given = search rules in
+    let same : c.ended.new.self.world.now ≡ c.world-1.given = search (rules, c.world-1) in
     let ran = passes_on m _ _ _ c.set_out.ensures.goes.passes c.go_on.ensures.passes.passes in
     (passes_given m c.args.world.now _ c.world-1.given (sym (c.ended.ensures.world ∙ c.close-skipped.ensures.world) ∙ same) ran).later
 
 pub returns-in-Ok-clause-idle : goal.returns-in-Ok-clause-idle
-returns-in-Ok-clause-idle g c =
-    let lent = c.ended.ensures.same.world ∙ c.close-skipped.ensures.same.world ∙ c.go_on.ensures.passes.same.world in
-    let same : c.ended.new.self.world.now ≡ c.world-1.given = search rules in
-    idle_given g.W.Disk.meaning c.go_on.new.self.world.now c.world-1.given (sym (c.ended.ensures.world ∙ c.close-skipped.ensures.world) ∙ same) c.go_on.ensures.idle
+returns-in-Ok-clause-idle g c = c.world-1.given-x
