@@ -1,5 +1,6 @@
 pub mod Causes
 pub mod Copying
+pub mod Dueness
 pub mod Ends
 pub mod Kept
 pub mod Leftovers

@@ -1,10 +1,16 @@
 //! What a rule's record would be now, and whether the rule is stale.
-ghost use Rattle.std.specs.Prelude.{◌≡◌, IfOk, option_copied};
+ghost use Rattle.std.specs.Prelude.{◌≡◌, ℕ, List, Some, IfOk, not, option_copied};
+ghost use Rattle.build_model.specs.Stale.{first_stamp as stamp_first};
+ghost use Rattle.build_means.specs.Due.{is_due_for};
+ghost use Rattle.build_means.specs.Records.{record_in, records_in, HasOwnDigests};
+ghost use Rattle.build_means.specs.Rules.{decider_of};
 ghost use Rattle.build_files.specs.Causes.{HasLookCause};
+ghost use Rattle.build_files.specs.Dueness.{made_by, AreIdle, FindsDue, HaveOwnDigests};
 ghost use Rattle.sign_store.specs.Copies.{AreCopiesOf};
 ghost use Rattle.sign_store.specs.Stores.{map_of, map_of_view};
 ghost use Rattle.sign_store.specs.Tables.{Map};
 ghost use Rattle.world_api.specs.Looks.{Looks};
+ghost use Rattle.world_api.specs.Reads.{stamp_of};
 
 use crate::end::ListEnd;
 use crate::inputs::{Inputs, is_file_at, stamp_at};
@@ -150,6 +156,8 @@ pub fn is_stale<W: World, R: Records>(
 ) -> Result<bool, ListEnd>
     ensures looks { Looks W.meaning world.old world.new }
     ensures cause { HasLookCause (W.meaning.counts world.old) (W.meaning.counts world.new) result }
+    ensures due { W.meaning.tells world.new → AreIdle (W.meaning.around world.old) now.now.targets → HaveOwnDigests (R.map records.now)
+        → HasOwnDigests now.now → FindsDue graph.now rule.0 (R.map records.now) now.now (W.meaning.around world.old) result }
 {
     let rule = rule_at(graph, rule)?;
     if rule.always {
@@ -174,7 +182,10 @@ fn has_record<R: Records>(
     decider: Decider,
     now: &Rec,
     made: Option<u64>,
-) -> bool {
+) -> bool
+    ensures kept { HaveOwnDigests (R.map records.now) → HasOwnDigests now.now → (bytes : List ℕ)
+        → result ≡ not (is_due_for (decider_of decider) made (record_in now.now) (Some bytes) (records_in (R.map records.now) target.now)) }
+{
     match records.record(target) {
         Some(old) => !changed(decider, old, now, made),
         None => false,
@@ -190,6 +201,8 @@ fn made_at<W: World>(
 ) -> Result<Option<u64>, ListEnd>
     ensures looks { Looks W.meaning world.old world.new }
     ensures cause { HasLookCause (W.meaning.counts world.old) (W.meaning.counts world.new) result }
+    ensures stamp { W.meaning.tells world.new → IfOk result
+        (λ made. made ≡ made_by decider (stamp_first (stamp_of (W.meaning.around world.new)) targets.now)) }
 {
     match decider {
         Decider::Newer => first_stamp(world, targets),
@@ -202,6 +215,8 @@ fn made_at<W: World>(
 fn first_stamp<W: World>(world: &mut W, targets: &[PathText]) -> Result<Option<u64>, ListEnd>
     ensures looks { Looks W.meaning world.old world.new }
     ensures cause { HasLookCause (W.meaning.counts world.old) (W.meaning.counts world.new) result }
+    ensures stamp { W.meaning.tells world.new → IfOk result
+        (λ made. made ≡ stamp_first (stamp_of (W.meaning.around world.new)) targets.now) }
 {
     let Some(target) = targets.first() else {
         return Ok(None);

@@ -22,7 +22,7 @@ use Rattle.deciders.specs.Changes as kept
 use Rattle.build_model.specs.Rules.{Among, here, there}
 use Rattle.build_model.specs.Stale as model
 use Rattle.build_means.specs.Rules.{decider_of}
-use Rattle.build_means.specs.Records.{dependency_in, record_in}
+use Rattle.build_means.specs.Records.{dependency_in, record_in, HasOwnDigests}
 use Rattle.build_means.proofs.Lists.{true_false, none_some, some_same, and_both, place_of, at_place, among_map, map_among}
 
 hash_same : (a b : Hash) → hash_byte a ≡ hash_byte b → a ≡ b
@@ -111,18 +111,19 @@ module _ (hash : Hash) where
       let rest = deps_same xs ys fs.1 gs.1 (same_tail e) in
       λ i. first i ∷ rest i
 
-digests_valid : (rec : Rec) → IsValid rec → list_all (is_by rec.hash) rec.deps ≡ true
+-- a valid record has its own digests
+pub digests_valid : (rec : Rec) → IsValid rec → HasOwnDigests rec
 digests_valid rec valid =
     let once = and_both (not (length rec.targets == 0)) (named_once [] rec.targets && (named_once [] (map name_of rec.deps) && list_all (is_by rec.hash) rec.deps)) valid in
     let names = and_both (named_once [] rec.targets) (named_once [] (map name_of rec.deps) && list_all (is_by rec.hash) rec.deps) once.1 in
     (and_both (named_once [] (map name_of rec.deps)) (list_all (is_by rec.hash) rec.deps) names.1).1
 
--- valid records are one where the records of the model are
-pub record_same : (a b : Rec) → IsValid a → IsValid b → record_in a ≡ record_in b → a ≡ b
+-- records whose digests are their own are one where the records of the model are
+pub record_same : (a b : Rec) → HasOwnDigests a → HasOwnDigests b → record_in a ≡ record_in b → a ≡ b
 record_same a b f g e =
     let works = work_same a.work b.work (ap (λ r. r.work) e) in
     let hashes = hash_same a.hash b.hash (ap (λ r. r.hash) e) in
-    let deps = deps_same a.hash a.deps b.deps (digests_valid a f) (subst (λ h. list_all (is_by h) b.deps ≡ true) (sym hashes) (digests_valid b g))
+    let deps = deps_same a.hash a.deps b.deps f (subst (λ h. list_all (is_by h) b.deps ≡ true) (sym hashes) g)
     (ap (λ r. r.dependencies) e) in
     λ i. record { work = works i; hash = hashes i; targets = ap (λ r. r.targets) e i; signed = ap (λ r. r.signed) e i; deps = deps i }
 
@@ -197,7 +198,7 @@ from_both (c ∷ cs) [] h = absurd h
 from_both (c ∷ cs) (d ∷ ds) (inl h) = ((c, d), here, (h.0, λ e. h.1 (ap (option_map bytes_of) e)))
 from_both (c ∷ cs) (d ∷ ds) (inr h) = let k = from_both cs ds h in (k.0, there k.1, k.2)
 
-module _ (target : Option ℕ) (old now : Rec) (f : IsValid old) (g : IsValid now) where
+module _ (target : Option ℕ) (old now : Rec) (f : HasOwnDigests old) (g : HasOwnDigests now) where
   not_action : (kept.IsSameAction old now → ⊥) → model.IsSameAction (record_in old) (record_in now) → ⊥
   not_action n h = n (from_action old now h)
 
@@ -209,7 +210,7 @@ module _ (target : Option ℕ) (old now : Rec) (f : IsValid old) (g : IsValid no
   differs_by false e x m h = inl (λ same. true_false (sym ((Decides-eqb (hash_byte old.hash) (hash_byte now.hash)).1 (sym same.hash)) ∙ e))
   differs_by true e x m h =
       let hashes = hash_same old.hash now.hash ((Decides-eqb (hash_byte old.hash) (hash_byte now.hash)).0 e) in
-      inr (to_both old.hash old.deps now.deps (digests_valid old f) (subst (λ k. list_all (is_by k) now.deps ≡ true) (sym hashes) (digests_valid now g)) m h)
+      inr (to_both old.hash old.deps now.deps f (subst (λ k. list_all (is_by k) now.deps ≡ true) (sym hashes) g) m h)
 
   to_changed : (d : Decider) → kept.HasChanged d old now target → model.HasChanged (decider_of d) target (record_in old) (record_in now)
   to_changed Content h = λ e. h (sym (record_same old now f g e))

@@ -1,7 +1,9 @@
 -- The records of a store as records of the model.
-use Rattle.std.specs.Prelude.{ℕ, List, map, Option}
+use Rattle.std.specs.Prelude.{◌≡◌, ℕ, true, List, map, Option}
+use Rattle.std.specs.List.{list_all}
 use Rattle.std.specs.Option.{option_map}
 use Rattle.deciders.specs.Digests.{bytes_of}
+use Rattle.deciders.specs.Records.{is_by}
 use Rattle.deciders.specs.Spelling.{work_byte, hash_byte}
 use Rattle.deciders.specs.declared.recorded.Dep.{Dep}
 use Rattle.deciders.specs.declared.recorded.Rec.{Rec}
@@ -22,3 +24,7 @@ record_in rec = record {
 -- The records of each path, where a store has these.
 abbrev pub records_in : (List ℕ → Option Rec) → Records
 records_in kept path = option_map record_in (kept path)
+
+-- each digest of a record was made by its function, as in every record that is valid
+abbrev pub HasOwnDigests : Rec → Type 0
+HasOwnDigests rec = list_all (is_by rec.hash) rec.deps ≡ true
