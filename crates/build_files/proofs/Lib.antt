@@ -4,6 +4,7 @@ pub mod Looking
 pub mod Left
 mod Noting
 mod Places
+mod Presence
 mod RuleAt
 mod Seeing
 mod Testing

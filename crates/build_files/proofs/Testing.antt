@@ -20,7 +20,7 @@ use Rattle.world_api.specs.Reads.{stamp_of}
 use Rattle.world_api.specs.declared.decider.Decider.{Decider}
 use Rattle.world_api.specs.declared.decider.Decider.TheVariants.{Content, Newer, Match, ContentMatch}
 use Rattle.build_model.specs.Rules as model
-use Rattle.build_model.specs.Rules.{Path, Rule, Record, Among}
+use Rattle.build_model.specs.Rules.{Path, Rule, Record}
 use Rattle.build_model.specs.Stale.{first_stamp}
 use Rattle.build_means.specs.Due.{has_changed, is_due_for, is_due}
 use Rattle.build_means.specs.Records.{record_in, records_in, HasOwnDigests}

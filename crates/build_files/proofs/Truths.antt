@@ -25,10 +25,10 @@ use Rattle.build_files.specs.declared.inputs.Inputs.{Inputs}
 use Rattle.build_files.specs.declared.seen.Seen.{Seen}
 use Rattle.build_files.specs.declared.seen.SeenFiles.{SeenFiles}
 
-past_same : (gone : List Path) (old new : Tree) (path : Path) → new path ≡ old path → past gone new path ≡ past gone old path
+pub past_same : (gone : List Path) (old new : Tree) (path : Path) → new path ≡ old path → past gone new path ≡ past gone old path
 past_same gone old new path e = ap (λ (c : Content). if list_any (bytes_eq path) gone then None else c) e
 
-stamp_same : (gone : List Path) (old new : Around) (path : Path) → new.tree path ≡ old.tree path → new.stamps path ≡ old.stamps path
+pub stamp_same : (gone : List Path) (old new : Around) (path : Path) → new.tree path ≡ old.tree path → new.stamps path ≡ old.stamps path
     → stamp_past gone new path ≡ stamp_past gone old path
 stamp_same gone old new path e s =
     ap (λ (c : Content). if list_any (bytes_eq path) gone then None else option_map (λ bytes. new.stamps path) c) e

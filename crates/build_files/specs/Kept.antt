@@ -1,5 +1,5 @@
 -- What is kept of the files of a build, and when it is true.
-use Rattle.std.specs.Prelude.{◌≡◌, ◌≢◌, ◌⊎◌, ◌≤◌, ◌||◌, ℕ, Bool, true, false, not, List, [], Option, Some, None, is_some, length, slice_get, if◌then◌else◌}
+use Rattle.std.specs.Prelude.{◌≡◌, ◌≢◌, ◌⊎◌, ◌≤◌, ℕ, Bool, true, false, List, [], Option, Some, None, Result, IfOk, is_some, length, slice_get, if◌then◌else◌}
 use Rattle.std.specs.List.{list_any}
 use Rattle.std.specs.Option.{option_map}
 use Rattle.std.specs.Str.{bytes_eq}
@@ -21,6 +21,7 @@ use Rattle.build_means.specs.Grown.{Begun, IsGrown}
 use Rattle.build_means.specs.Rules.{IsReading}
 use Rattle.build_files.specs.Leftovers.{is_made}
 use Rattle.build_files.specs.Seen.{seen_at, unseen}
+use Rattle.build_files.specs.declared.end.ListEnd.{ListEnd}
 use Rattle.build_files.specs.declared.inputs.Inputs.{Inputs}
 use Rattle.build_files.specs.declared.seen.Seen.{Seen}
 
@@ -74,11 +75,6 @@ pub record AreTrue (b : Begun) (g : RuleGraph) (inputs : Inputs) (around : Aroun
   pub unknown : (path : Path) → list_any (bytes_eq path) inputs.unknown.keys ≡ true → is_known b.graph b.tree path ≡ false
   pub gone : (path : Path) → list_any (bytes_eq path) inputs.gone.keys ≡ true → is_copied b.graph path ≡ true
 
--- whether the copy rule of a file was looked for, or needn't be: it has a rule, or nothing is copied
-abbrev pub is_looked_for : RuleGraph → Inputs → ℕ → Bool
-is_looked_for g inputs node =
-    (seen_at inputs.files.seen.items node).is_settled || (is_some (rule_of g.rules node) || not (list_any (λ variant. variant.duplicate) g.variants))
-
 -- no running job writes the file of this number
 abbrev pub IsStill : RuleGraph → Around → ℕ → Type 0
 IsStill g around node = (path : Path) → slice_get g.nodes node ≡ Some path → IsRunningTarget around.running path → ⊥
@@ -91,6 +87,10 @@ IsUnmade g node = (path : Path) → slice_get g.nodes node ≡ Some path → is_
 abbrev pub StaysTrue : {W : Type 0} → Meaning W → RuleGraph → Inputs → W → RuleGraph → Inputs → W → Type 0
 StaysTrue m before old old_world after new new_world =
     m.tells new_world → (b : Begun) → AreTrue b before old (m.around old_world) → AreTrue b after new (m.around new_world)
+
+-- What comes of a call has P, whatever the build began with, where what was kept before it is true.
+abbrev pub Gives : {W T : Type 0} → Meaning W → RuleGraph → Inputs → W → W → Result T ListEnd → (Begun → T → Type 0) → Type 0
+Gives m g inputs old new result P = m.tells new → (b : Begun) → AreTrue b g inputs (m.around old) → IfOk result (P b)
 
 -- the same files are looked past
 abbrev pub SameGone : Inputs → Inputs → Type 0

@@ -5,5 +5,6 @@ pub mod Ends
 pub mod Kept
 pub mod Leftovers
 pub mod Places
+pub mod Presence
 pub mod Searched
 pub mod Seen

@@ -1,11 +1,17 @@
 //! What a rule's record would be now, and whether the rule is stale.
-ghost use Rattle.std.specs.Prelude.{◌≡◌, ℕ, List, Some, IfOk, not, option_copied};
+ghost use Rattle.std.specs.Prelude.{◌≡◌, ℕ, List, Some, IfOk, not, option_copied, slice_get};
+ghost use Rattle.rule_graph.specs.Graphs.{path_of as path_in};
+ghost use Rattle.build_model.specs.Records.{stamp_kept};
+ghost use Rattle.build_model.specs.Rules.{Rule as ModelRule};
 ghost use Rattle.build_model.specs.Stale.{first_stamp as stamp_first};
 ghost use Rattle.build_means.specs.Due.{is_due_for};
 ghost use Rattle.build_means.specs.Records.{record_in, records_in, HasOwnDigests};
-ghost use Rattle.build_means.specs.Rules.{decider_of};
+ghost use Rattle.build_means.specs.Present.{IsSeenDep};
+ghost use Rattle.build_means.specs.Rules.{decider_of, paths_of as paths_in};
 ghost use Rattle.build_files.specs.Causes.{HasLookCause};
 ghost use Rattle.build_files.specs.Dueness.{made_by, AreIdle, FindsDue, HaveOwnDigests};
+ghost use Rattle.build_files.specs.Kept.{past, stamp_past, Gives, IsStill, SameGone, StaysTrue};
+ghost use Rattle.build_files.specs.Presence.{is_lacking, AreStill, IsPresentFor};
 ghost use Rattle.sign_store.specs.Copies.{AreCopiesOf};
 ghost use Rattle.sign_store.specs.Stores.{map_of, map_of_view};
 ghost use Rattle.sign_store.specs.Tables.{Map};
@@ -79,12 +85,18 @@ impl Inputs {
     ) -> Result<Present, ListEnd>
         ensures looks { Looks W.meaning world.old world.new }
         ensures cause { HasLookCause (W.meaning.counts world.old) (W.meaning.counts world.new) result }
+        ensures gone { SameGone self.old self.new }
+        ensures truth { AreStill graph.now (W.meaning.around world.old) nodes.now
+            → StaysTrue W.meaning graph.now self.old world.old graph.now self.new world.new }
+        ensures present { AreStill graph.now (W.meaning.around world.old) nodes.now → Gives W.meaning graph.now self.old world.old world.new result
+            (IsPresentFor graph.now rule.0 nodes.now self.old.gone.keys (W.meaning.around world.old)) }
     {
+        graph.laws();
         let mut deps = Vec::with_capacity(self.alloc, nodes.len())?;
         let decider = rule_at(graph, rule)?.decider;
         for node in nodes {
             let dep = self.dep(world, graph, decider, *node)?;
-            if dep.digest.is_none() && graph.rule_of(*node).is_none() {
+            if is_lacking(graph, *node, &dep) {
                 return Ok(Present::Lacks(*node));
             }
             deps.push(dep)?;
@@ -107,6 +119,14 @@ impl Inputs {
     ) -> Result<Dep, ListEnd>
         ensures looks { Looks W.meaning world.old world.new }
         ensures cause { HasLookCause (W.meaning.counts world.old) (W.meaning.counts world.new) result }
+        ensures gone { SameGone self.old self.new }
+        ensures truth { IsStill graph.now (W.meaning.around world.old) node.0
+            → StaysTrue W.meaning graph.now self.old world.old graph.now self.new world.new }
+        ensures dep { IsStill graph.now (W.meaning.around world.old) node.0
+            → Gives W.meaning graph.now self.old world.old world.new result (λ b dep. (r : ModelRule)
+            → r.decider ≡ decider_of decider → IsSeenDep b r (past self.old.gone.keys (W.meaning.around world.old).tree)
+            (stamp_past self.old.gone.keys (W.meaning.around world.old)) (path_in graph.now.nodes node) dep) }
+        ensures node { IfOk result (λ dep. slice_get graph.now.nodes node.0 ≡ Some dep.name) }
     {
         let digest = self.digest(world, graph, node)?;
         let stamp = self.stamp_for(world, graph, decider, node)?;
@@ -128,6 +148,12 @@ impl Inputs {
     ) -> Result<Option<u64>, ListEnd>
         ensures looks { Looks W.meaning world.old world.new }
         ensures cause { HasLookCause (W.meaning.counts world.old) (W.meaning.counts world.new) result }
+        ensures gone { SameGone self.old self.new }
+        ensures truth { IsStill graph.now (W.meaning.around world.old) node.0
+            → StaysTrue W.meaning graph.now self.old world.old graph.now self.new world.new }
+        ensures stamp { (path : List ℕ) → slice_get graph.now.nodes node.0 ≡ Some path
+            → Gives W.meaning graph.now self.old world.old world.new result
+            (λ b time. time ≡ stamp_kept (decider_of decider) (stamp_past self.old.gone.keys (W.meaning.around world.new) path)) }
     {
         match decider {
             Decider::Content => Ok(None),
@@ -136,8 +162,17 @@ impl Inputs {
     }
 }
 
+/// Whether a dependency is missing: no rule makes it, and it is no file.
+fn is_lacking(graph: &Graph, node: NodeId, dep: &Dep) -> bool
+    ensures { result ≡ is_lacking graph.now node.0 dep.now.digest }
+{
+    dep.digest.is_none() && graph.rule_of(node).is_none()
+}
+
 /// The paths of these nodes.
-fn paths_of(alloc: Global, graph: &Graph, nodes: &[NodeId]) -> Result<Paths, Memory> {
+fn paths_of(alloc: Global, graph: &Graph, nodes: &[NodeId]) -> Result<Paths, Memory>
+    ensures { IfOk result (λ paths. paths ≡ paths_in graph.now nodes.now) }
+{
     let mut paths = Vec::with_capacity(alloc, nodes.len())?;
     for node in nodes {
         paths.push(path_of(graph, *node)?.copy()?)?;

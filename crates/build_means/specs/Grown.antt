@@ -1,10 +1,11 @@
 -- The graph of a reading as a build goes on: nodes and copy rules are put behind those that are there.
 use Rattle.std.specs.Prelude.{◌≡◌, ℕ, true, List, ◌++◌, Option, Some, None, slice_get}
 use Rattle.std.specs.Option.{option_map}
+use Rattle.scons_base.specs.declared.ids.NodeId.{NodeId}
 use Rattle.world_api.specs.Act.{Law}
 use Rattle.world_api.specs.declared.hash.Hash.{Hash}
 use Rattle.rule_graph.specs.declared.rule.Rule as declared
-use Rattle.rule_graph.specs.Graphs.{RuleGraph}
+use Rattle.rule_graph.specs.Graphs.{RuleGraph, path_of}
 use Rattle.rule_graph.specs.Rules.{rule_of}
 use Rattle.build_model.specs.Rules.{Path, Tree, Rule, Setting, Among}
 use Rattle.build_model.specs.Graphs.{Graph, copy_rule, setting, rule_at}
@@ -60,6 +61,10 @@ pub record AreRulesOf (b : Begun) (g : RuleGraph) : Type 0 where
   pub rules : (node number : ℕ) (path : Path) → slice_get g.nodes node ≡ Some path → rule_of g.rules node ≡ Some number →
       rule_at (begun_graph b) b.tree path ≡ rule_numbered b g number
   pub undeclared : (node : ℕ) (path : Path) → slice_get g.nodes node ≡ Some path → rule_of g.rules node ≡ None → rule_with b.graph path ≡ None
+
+-- The copy rule of a file was looked for: where no rule of the graph makes it, it has none.
+abbrev pub IsLookedFor : Begun → RuleGraph → NodeId → Type 0
+IsLookedFor b g n = rule_of g.rules n.0 ≡ None → rule_at (begun_graph b) b.tree (path_of g.nodes n) ≡ None
 
 abbrev pub GrownAreThese : Type 0
 GrownAreThese = (b : Begun) (g : RuleGraph) → IsReading b.graph → IsReading g → IsGrown b g → AreRulesOf b g

@@ -27,7 +27,8 @@ use Rattle.build_means.specs.Rules.{IsReading, rule_in}
 use Rattle.plan_means.specs.Planning.{IsGraphNow, IsSoughtBy, AreSought}
 use Rattle.plan_means.specs.Ties.{Ties}
 use Rattle.plan_means.specs.Deciding.{IsTied}
-use Rattle.plan_means.specs.Beginning.{IsLookedFor, AreLookedFor, IsLoaded}
+use Rattle.build_means.specs.Grown.{IsLookedFor}
+use Rattle.plan_means.specs.Beginning.{AreLookedFor, IsLoaded}
 use Rattle.plan_means.specs.Examples.{source_node, object_node, object_rule, graph, source_alone, begun, first_rule, plan, build, AreMet}
 use Rattle.plan_means.specs.Stepping.{is_fresh}
 use Rattle.plan_means.proofs.Beginning.{is_tied}

@@ -1,9 +1,9 @@
 -- A plan as it is loaded: it is tied to a build without steps.
-use Rattle.std.specs.Prelude.{◌≡◌, ◌≢◌, ℕ, true, false, List, [], ◌++◌, length, Some, None, slice_get}
+use Rattle.std.specs.Prelude.{◌≡◌, ◌≢◌, ℕ, true, false, List, [], ◌++◌, length, Some, slice_get}
 use Rattle.scons_base.specs.declared.ids.NodeId.{NodeId}
 use Rattle.rule_graph.specs.declared.rule.Rule as declared
-use Rattle.rule_graph.specs.Rules.{are_below, rule_of}
-use Rattle.rule_graph.specs.Graphs.{RuleGraph, path_of}
+use Rattle.rule_graph.specs.Rules.{are_below}
+use Rattle.rule_graph.specs.Graphs.{RuleGraph}
 use Rattle.task_plan.specs.States.{state_of}
 use Rattle.task_plan.specs.Named.{stands, named_of}
 use Rattle.task_plan.specs.Plans.{Planned, AreMet}
@@ -14,16 +14,11 @@ use Rattle.task_plan.specs.Watched.{IsComplete}
 use Rattle.task_plan.specs.Ordered.{KeepsOrder}
 use Rattle.task_plan.specs.declared.states.RuleState.TheVariants.{Unneeded}
 use Rattle.build_model.specs.Rules.{Tree}
-use Rattle.build_model.specs.Graphs.{rule_at}
-use Rattle.build_means.specs.Grown.{Begun, begun_graph}
+use Rattle.build_means.specs.Grown.{Begun, IsLookedFor}
 use Rattle.plan_means.specs.Planning.{IsGraphNow}
 use Rattle.plan_means.specs.Ties.{Ties}
 
--- The copy rule of a file was looked for: where no rule of the graph makes it, it has none.
-abbrev pub IsLookedFor : Begun → RuleGraph → NodeId → Type 0
-IsLookedFor b g n = rule_of g.rules n.0 ≡ None → rule_at (begun_graph b) b.tree (path_of g.nodes n) ≡ None
-
--- So it is of these files, and of all that their rules, and those of what these need, require and name.
+-- The copy rule of each of these files was looked for, and of all that their rules, and those of what these need, require and name.
 pub record AreLookedFor (b : Begun) (g : RuleGraph) (nodes : List NodeId) : Type 0 where
   pub these : (n : NodeId) → stands nodes n ≡ true → IsLookedFor b g n
   pub named : (number : ℕ) (of : declared.Rule) (n : NodeId) → IsAskedFor g nodes number →
