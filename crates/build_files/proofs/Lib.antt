@@ -1,3 +1,4 @@
+mod Candidates
 mod Growth
 mod Knowing
 pub mod Looking
@@ -6,6 +7,7 @@ mod Noting
 mod Places
 mod Presence
 mod RuleAt
+mod Searching
 mod Seeing
 mod Testing
 mod Truths

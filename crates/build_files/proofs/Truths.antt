@@ -34,6 +34,11 @@ stamp_same gone old new path e s =
     ap (λ (c : Content). if list_any (bytes_eq path) gone then None else option_map (λ bytes. new.stamps path) c) e
     ∙ ap (λ (t : ℕ). if list_any (bytes_eq path) gone then None else option_map (λ bytes. t) (old.tree path)) s
 
+-- a file that no job writes includes the same after a look
+pub included_same : (gone : List Path) (old new : Around) (path : Path) → (IsRunningTarget old.running path → ⊥) → Asks old new
+    → includes_in (past gone new.tree path) ≡ includes_in (past gone old.tree path)
+included_same gone old new path free asks = ap includes_in (past_same gone old.tree new.tree path (asks.files path free))
+
 pub unread_is : (hash : Hash) (content : Content) (changed : Option ℕ) (seen : Seen) → IsUnread seen → IsSeenAs hash content changed seen
 unread_is hash content changed seen unread = record {
   digest = λ digest e. none_some (sym unread.digest ∙ e);

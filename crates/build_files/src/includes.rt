@@ -1,8 +1,14 @@
 //! The files that a file includes.
-ghost use Rattle.std.specs.Prelude.{[], IfOk};
+ghost use Rattle.std.specs.Prelude.{◌≡◌, ℕ, List, [], ◌∷◌, ◌++◌, Some, IfOk, OnOk, is_some, slice_get, true};
 ghost use Rattle.std.specs.Option.{option_to_list};
+ghost use Rattle.rule_graph.specs.declared.rule.Rule.{Rule as DeclaredRule};
+ghost use Rattle.rule_graph.specs.Graphs.{RuleGraph};
 ghost use Rattle.build_files.specs.Causes.{HasLookCause};
+ghost use Rattle.build_files.specs.Kept.{includes_in, past, Gives, IsStill, SameGone, StaysTrue};
 ghost use Rattle.build_files.specs.Places.{ArePlaces};
+ghost use Rattle.build_files.specs.Searched.{first_known, meant, AreDirs, AreNodesOf, HasMore, IsNodeOf};
+ghost use Rattle.build_files.specs.Seen.{seen_at};
+ghost use Rattle.build_means.specs.Finds.{dirs_for, found_for, places_in};
 ghost use Rattle.world_api.specs.Looks.{Looks};
 
 use crate::end::ListEnd;
@@ -99,12 +105,21 @@ impl Inputs {
     ) -> Result<Vec<NodeId>, ListEnd>
         ensures looks { Looks W.meaning world.old world.new }
         ensures cause { HasLookCause (W.meaning.counts world.old) (W.meaning.counts world.new) result }
+        ensures grows { HasMore graph.old graph.new }
+        ensures gone { SameGone self.old self.new }
+        ensures truth { IsStill graph.old (W.meaning.around world.old) file.0
+            → StaysTrue W.meaning graph.old self.old world.old graph.new self.new world.new }
+        ensures found { IsStill graph.old (W.meaning.around world.old) file.0 → (x : DeclaredRule) (path : List ℕ)
+            → slice_get graph.old.rules rule.0 ≡ Some x → slice_get graph.old.nodes file.0 ≡ Some path
+            → Gives W.meaning graph.old self.old world.old world.new result (λ b found. AreNodesOf graph.new
+            (meant b x.paths path (includes_in (past self.old.gone.keys (W.meaning.around world.old).tree path))) found.items) }
     {
         self.read_once(world, graph, file)?;
+        let paths = rule_at(graph, rule)?.paths.as_slice();
+        let dirs = Dirs::of(self.alloc, path_of(graph, file)?, paths)?;
         let Some(includes) = self.files.take_includes(file) else {
             return Ok(Vec::new(self.alloc));
         };
-        let dirs = Dirs::of(self.alloc, graph, rule, file)?;
         let found = self.search_each(world, graph, &dirs, includes.as_slice())?;
         self.files.keep_includes(file, includes)?;
         Ok(found)
@@ -120,6 +135,10 @@ impl Inputs {
     ) -> Result<(), ListEnd>
         ensures looks { Looks W.meaning world.old world.new }
         ensures cause { HasLookCause (W.meaning.counts world.old) (W.meaning.counts world.new) result }
+        ensures gone { SameGone self.old self.new }
+        ensures truth { IsStill graph.now (W.meaning.around world.old) file.0
+            → StaysTrue W.meaning graph.now self.old world.old graph.now self.new world.new }
+        ensures kept { OnOk result (is_some (seen_at self.new.files.seen.items file.0).includes ≡ true) }
     {
         if self.files.has_includes(file) {
             return Ok(());
@@ -139,6 +158,12 @@ impl Inputs {
     ) -> Result<Vec<NodeId>, ListEnd>
         ensures looks { Looks W.meaning world.old world.new }
         ensures cause { HasLookCause (W.meaning.counts world.old) (W.meaning.counts world.new) result }
+        ensures grows { HasMore graph.old graph.new }
+        ensures gone { SameGone self.old self.new }
+        ensures truth { StaysTrue W.meaning graph.old self.old world.old graph.new self.new world.new }
+        ensures found { (paths : List (List ℕ)) (file : List ℕ) → AreDirs dirs.now paths file
+            → Gives W.meaning graph.old self.old world.old world.new result
+            (λ b found. AreNodesOf graph.new (meant b paths file includes.now) found.items) }
     {
         let mut found = Vec::new(self.alloc);
         for include in includes {
@@ -159,6 +184,12 @@ impl Inputs {
     ) -> Result<Option<NodeId>, ListEnd>
         ensures looks { Looks W.meaning world.old world.new }
         ensures cause { HasLookCause (W.meaning.counts world.old) (W.meaning.counts world.new) result }
+        ensures grows { HasMore graph.old graph.new }
+        ensures gone { SameGone self.old self.new }
+        ensures truth { StaysTrue W.meaning graph.old self.old world.old graph.new self.new world.new }
+        ensures found { (paths : List (List ℕ)) (file : List ℕ) → AreDirs dirs.now paths file
+            → Gives W.meaning graph.old self.old world.old world.new result
+            (λ b node. IsNodeOf graph.new (found_for b.graph b.tree paths file include.now) node) }
     {
         let Ok(name) = str::from_utf8(include.name.as_slice()) else {
             return Ok(None);
@@ -183,6 +214,11 @@ impl Inputs {
     ) -> Result<Option<NodeId>, ListEnd>
         ensures looks { Looks W.meaning world.old world.new }
         ensures cause { HasLookCause (W.meaning.counts world.old) (W.meaning.counts world.new) result }
+        ensures grows { HasMore graph.old graph.new }
+        ensures gone { SameGone self.old self.new }
+        ensures truth { StaysTrue W.meaning graph.old self.old world.old graph.new self.new world.new }
+        ensures found { Gives W.meaning graph.old self.old world.old world.new result
+            (λ b node. IsNodeOf graph.new (first_known b (places_in b.graph name.now dir.now)) node) }
     {
         if !graph.variants().as_slice().is_empty() {
             return self.search_places(world, graph, dir, name);
@@ -204,6 +240,11 @@ impl Inputs {
     ) -> Result<Option<NodeId>, ListEnd>
         ensures looks { Looks W.meaning world.old world.new }
         ensures cause { HasLookCause (W.meaning.counts world.old) (W.meaning.counts world.new) result }
+        ensures grows { HasMore graph.old graph.new }
+        ensures gone { SameGone self.old self.new }
+        ensures truth { StaysTrue W.meaning graph.old self.old world.old graph.new self.new world.new }
+        ensures found { Gives W.meaning graph.old self.old world.old world.new result
+            (λ b node. IsNodeOf graph.new (first_known b (places_in b.graph name.now dir.now)) node) }
     {
         let places = places(self.alloc, graph, dir, name)?;
         for path in places.as_slice() {
@@ -216,7 +257,9 @@ impl Inputs {
     }
 }
 
-fn push_found(found: &mut Vec<NodeId>, node: Option<NodeId>) -> Result<(), Memory> {
+fn push_found(found: &mut Vec<NodeId>, node: Option<NodeId>) -> Result<(), Memory>
+    ensures { OnOk result (found.new.items ≡ found.old.items ++ option_to_list node) }
+{
     if let Some(node) = node {
         found.push(node)?;
     }
@@ -230,7 +273,9 @@ fn only_place(
     dir: &PathText,
     name: &str,
 ) -> Result<Option<PathText>, Memory>
-    ensures { IfOk result (λ p. ArePlaces [] top.now dir.now name.now (option_to_list p)) }
+    ensures places { IfOk result (λ p. ArePlaces [] top.now dir.now name.now (option_to_list p)) }
+    ensures only { (g : RuleGraph) → g.top ≡ top.now → g.variants ≡ []
+        → IfOk result (λ p. option_to_list p ≡ places_in g name.now dir.now) }
 {
     match PathText::resolve(alloc, top, dir, name) {
         Ok(path) => Ok(Some(path)),
@@ -241,7 +286,8 @@ fn only_place(
 
 /// Where a name may mean a file.
 fn places(alloc: Global, graph: &Graph, dir: &PathText, name: &str) -> Result<Paths, Memory>
-    ensures { IfOk result (ArePlaces graph.now.variants graph.now.top dir.now name.now) }
+    ensures searched { IfOk result (ArePlaces graph.now.variants graph.now.top dir.now name.now) }
+    ensures places { IfOk result (λ p. p ≡ places_in graph.now name.now dir.now) }
 {
     match graph.variants().search(graph.top(), dir, name) {
         Ok(paths) => Ok(paths),
@@ -258,20 +304,24 @@ struct Dirs {
 }
 
 impl Dirs {
-    fn of(alloc: Global, graph: &Graph, rule: RuleId, file: NodeId) -> Result<Dirs, Memory> {
+    fn of(alloc: Global, file: &PathText, paths: &[PathText]) -> Result<Dirs, Memory>
+        ensures { IfOk result (λ dirs. AreDirs dirs paths.now file.now) }
+    {
         let mut dirs = Vec::new(alloc);
-        let own = path_of(graph, file)?.dir();
-        push_dir(&mut dirs, own)?;
-        for dir in rule_at(graph, rule)?.paths.as_slice() {
+        push_dir(&mut dirs, file.dir())?;
+        for dir in paths {
             dirs.push(dir.copy()?)?;
         }
-        push_dir(&mut dirs, own)?;
+        push_dir(&mut dirs, file.dir())?;
         Ok(Dirs { dirs })
     }
 
     /// The directories in the order in which they are searched: the including file's one first for a name in quotes, else
     /// last.
-    fn in_order(&self, quoted: bool) -> &[PathText] {
+    fn in_order(&self, quoted: bool) -> &[PathText]
+        ensures { (paths : List (List ℕ)) (file : List ℕ) → AreDirs self.now paths file
+            → result.now ≡ dirs_for paths file quoted }
+    {
         let dirs = self.dirs.as_slice();
         if dirs.is_empty() {
             return dirs;
@@ -284,7 +334,9 @@ impl Dirs {
     }
 }
 
-fn push_dir(dirs: &mut Vec<PathText>, dir: &str) -> Result<(), Memory> {
+fn push_dir(dirs: &mut Vec<PathText>, dir: &str) -> Result<(), Memory>
+    ensures { OnOk result (dirs.new.items ≡ dirs.old.items ++ dir.now ∷ []) }
+{
     match PathText::read(*dirs.allocator(), dir) {
         Ok(dir) => dirs.push(dir)?,
         Err(_) => return Err(Memory),
