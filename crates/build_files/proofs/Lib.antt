@@ -1,4 +1,5 @@
 mod Candidates
+mod Copying
 mod Growth
 mod Knowing
 pub mod Looking

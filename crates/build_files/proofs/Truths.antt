@@ -10,15 +10,17 @@ use Rattle.c_scanner.specs.declared.line.Include.{Include}
 use Rattle.deciders.specs.Digests.{digest_of}
 use Rattle.deciders.specs.declared.content.Digest.{Digest}
 use Rattle.rule_graph.specs.Graphs.{RuleGraph}
+use Rattle.rule_graph.specs.Rules.{rule_of}
 use Rattle.world_api.specs.Act.{Content}
 use Rattle.world_api.specs.Around.{Around, Tree, IsRunningTarget}
 use Rattle.world_api.specs.Calls.{Asks}
 use Rattle.world_api.specs.declared.hash.Hash.{Hash}
 use Rattle.build_model.specs.Rules.{Path}
+use Rattle.build_means.specs.Copies.{copied_from}
 use Rattle.build_means.specs.Grown.{Begun}
 use Rattle.build_means.proofs.Lists.{none_some, some_same, true_false}
 use Rattle.build_files.specs.Leftovers.{is_made}
-use Rattle.build_files.specs.Kept.{past, stamp_past, includes_in, IsSeenAs, IsUnread, IsTrueOf, AreTrue, IsStill, KeepsContent}
+use Rattle.build_files.specs.Kept.{past, stamp_past, includes_in, IsSeenAs, IsUnread, IsTrueOf, AreTrue, IsLeftAlone, IsStill, KeepsContent, LooksAt}
 use Rattle.build_files.specs.Seen.{seen_at, SeesOne, SeesTheSame}
 use Rattle.build_files.specs.declared.end.ListEnd.{ListEnd}
 use Rattle.build_files.specs.declared.inputs.Inputs.{Inputs}
@@ -246,3 +248,71 @@ digest_by r a b content same is = subst (λ hash. IfOk r (λ digest. digest ≡ 
 pub file_stood : (b : Begun) (g : RuleGraph) (inputs : Inputs) (before after : Around) (path : Path) → Asks before after → is_made g path ≡ false
     → AreTrue b g inputs before → is_some (past inputs.gone.keys after.tree path) ≡ is_some (b.tree path)
 file_stood b g inputs before after path asks unmade is = ap is_some ((asked b g inputs before after asks is).rest path unmade)
+
+-- which rules were looked at, and what scans found, is none of what is kept of files
+pub noted : (b : Begun) (g : RuleGraph) (old new : Inputs) (around : Around) → AreTrue b g old around → AreTrue b g (record old { found = new.found; looked_at = new.looked_at }) around
+noted b g old new around is = record {
+  reading = is.reading;
+  grown = is.grown;
+  hash = is.hash;
+  declared = is.declared;
+  rest = is.rest;
+  idle = is.idle;
+  seen = is.seen;
+  settled = is.settled;
+  behind = is.behind;
+  unknown = is.unknown;
+  gone = is.gone;
+}
+
+pub looked_on : (b : Begun) (g : RuleGraph) (old new : Inputs) (around : Around) → LooksAt old new → AreTrue b g old around → AreTrue b g new around
+looked_on b g old new around same is = subst (λ i. AreTrue b g i around) (sym same) (noted b g old (record new { found = old.found }) around is)
+
+-- the copy rule of one file was looked for
+pub kept_settled : (b : Begun) (g : RuleGraph) (old : Inputs) (files : SeenFiles) (around : Around) (node : ℕ) (path : Path) → slice_get g.nodes node ≡ Some path
+    → IsLeftAlone b g node path → SeesOne old.files.seen.items files.seen.items node (record (seen_at old.files.seen.items node) { is_settled = true })
+    → AreTrue b g old around → AreTrue b g (record old { files = files }) around
+kept_settled b g old files around node path at left sees is = record {
+  reading = is.reading;
+  grown = is.grown;
+  hash = is.hash;
+  declared = is.declared;
+  rest = is.rest;
+  idle = is.idle;
+  seen = λ n p there. by (nat_eq n node) n p refl there;
+  settled = λ n p there is_so none. settled_by (nat_eq n node) n p refl there is_so none;
+  behind = λ n le.
+      let within = slice_get_within g.nodes node path at in
+      sees.others n (λ same. absurd (omega (arith, same))) ∙ is.behind n le;
+  unknown = is.unknown;
+  gone = is.gone;
+}
+  where
+    this : IsTrueOf b old.gone.keys around path (record (seen_at old.files.seen.items node) { is_settled = true })
+    this =
+        let was = is.seen node path at in
+        record {
+          now = record { digest = was.now.digest; includes = was.now.includes; stamp = was.now.stamp };
+          still = elim was.still [ inl free ↦ inl free | inr unread ↦ inr (record { digest = unread.digest; includes = unread.includes; stamp = unread.stamp }) ];
+          is_file = was.is_file;
+        }
+
+    by : (c : Bool) (n : ℕ) (p : Path) → nat_eq n node ≡ c → slice_get g.nodes n ≡ Some p → IsTrueOf b old.gone.keys around p (seen_at files.seen.items n)
+    by true n p e there =
+        let same : n ≡ node = (Decides-eqb n node).0 e in
+        let path_same : path ≡ p = some_same (sym at ∙ (sym (ap (λ k. slice_get g.nodes k) same) ∙ there)) in
+        subst (λ k. IsTrueOf b old.gone.keys around p (seen_at files.seen.items k)) (sym same)
+        (subst (λ q. IsTrueOf b old.gone.keys around q (seen_at files.seen.items node)) path_same (subst (λ s. IsTrueOf b old.gone.keys around path s) (sym sees.this) this))
+    by false n p e there =
+        let differ : n ≢ node = λ same. true_false (sym ((Decides-eqb n node).1 same) ∙ e) in
+        subst (λ s. IsTrueOf b old.gone.keys around p s) (sym (sees.others n differ)) (is.seen n p there)
+
+    settled_by : (c : Bool) (n : ℕ) (p : Path) → nat_eq n node ≡ c → slice_get g.nodes n ≡ Some p → (seen_at files.seen.items n).is_settled ≡ true
+        → rule_of g.rules n ≡ None → copied_from b.graph b.tree p ≡ None
+    settled_by true n p e there is_so none =
+        let same : n ≡ node = (Decides-eqb n node).0 e in
+        let path_same : path ≡ p = some_same (sym at ∙ (sym (ap (λ k. slice_get g.nodes k) same) ∙ there)) in
+        ap (copied_from b.graph b.tree) (sym path_same) ∙ left (ap (rule_of g.rules) (sym same) ∙ none)
+    settled_by false n p e there is_so none =
+        let differ : n ≢ node = λ same. true_false (sym ((Decides-eqb n node).1 same) ∙ e) in
+        is.settled n p there (ap (λ (s : Seen). s.is_settled) (sym (sees.others n differ)) ∙ is_so) none

@@ -96,6 +96,14 @@ Gives m g inputs old new result P = m.tells new → (b : Begun) → AreTrue b g 
 abbrev pub SameGone : Inputs → Inputs → Type 0
 SameGone old new = new.gone ≡ old.gone
 
+-- only which rules were looked at changes
+abbrev pub LooksAt : Inputs → Inputs → Type 0
+LooksAt old new = new ≡ record old { looked_at = new.looked_at }
+
+-- a file without a rule has no copy rule
+abbrev pub IsLeftAlone : Begun → RuleGraph → ℕ → Path → Type 0
+IsLeftAlone b g node path = rule_of g.rules node ≡ None → copied_from b.graph b.tree path ≡ None
+
 -- What is kept changes of one file alone, by a content that it holds.
 pub record KeepsContent (old new : Inputs) (node : ℕ) (content : Content) : Type 0 where
   pub rest : new ≡ record old { files = new.files }

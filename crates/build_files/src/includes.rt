@@ -82,6 +82,10 @@ impl Inputs {
     ) -> Result<Listing<NodeId>, ListEnd>
         ensures looks { Looks W.meaning world.old world.new }
         ensures cause { HasLookCause (W.meaning.counts world.old) (W.meaning.counts world.new) result }
+        ensures grows { HasMore graph.old graph.new }
+        ensures gone { SameGone self.old self.new }
+        ensures truth { IsStill graph.old (W.meaning.around world.old) file.0
+            → StaysTrue W.meaning graph.old self.old world.old graph.new self.new world.new }
     {
         let dirs = self.found.list_of(rule, rule_at(graph, rule)?)?;
         let scan = Scan { file, dirs };

@@ -1,0 +1,3 @@
+use Rattle.std.proofs.Common.{◌∙◌}
+use Rattle.build_files.proofs.Truths.{noted}
+use Rattle.build_files.proofs.inputs.Inputs.scan.Goals as goal
