@@ -49,7 +49,8 @@ fn put_needs(text: &mut Told, graph: &Small, rule: usize, way: Need, call: &str)
                 name_of(false, &target(rule)),
                 name_of(false, &target(other)),
             );
-            text.put_all(&[call, "('", name, "', '", needed, "')\n"]);
+            text.put(call);
+            text.put_all(&["('", name, "', '", needed, "')\n"]);
         }
     }
 }
@@ -120,7 +121,9 @@ pub(crate) fn made_text(
     text.put_all(&["-> ", name, "\n"]);
     for (spot, digest) in given {
         let needed = name_of(graph.shape.copied, spot);
-        text.put_all(&[needed, " ", digest.as_str(), "\n"]);
+        text.put_all(&[needed, " "]);
+        text.put(digest.as_str());
+        text.put("\n");
     }
     text
 }
