@@ -55,6 +55,17 @@ impl Row {
         }
     }
 
+    /// How many graphs are taken.
+    fn taken(&self) -> u64 {
+        let left = self.shape.graphs().saturating_sub(self.from);
+        left.saturating_add(self.step.saturating_sub(1)) / self.step.max(1)
+    }
+
+    /// The number of the graph that is taken at this place.
+    fn taken_at(&self, place: u64) -> u64 {
+        self.from.saturating_add(place.saturating_mul(self.step))
+    }
+
     /// Which job ends at each wait, in an order of this number: its digits.
     fn endings(&self, alloc: Global, told: &mut Told, order: u32) -> Vec<u32> {
         let mut endings = Vec::new(alloc);
@@ -75,12 +86,11 @@ pub(crate) fn put_graphs(alloc: Global, told: &mut Told, text: &str) {
         cyclic: 0,
         builds: 0,
     };
-    let mut number = row.from;
-    while number < row.shape.graphs() && !told.is_refused() {
+    for place in 0..row.taken() {
+        let number = row.taken_at(place);
         if let Some(wrong) = try_graph(alloc, told, &row, number, &mut tally) {
             return told.show(format_args!("graph {number}: {wrong}\n"));
         }
-        number = number.saturating_add(row.step);
     }
     put_tally(told, &tally);
 }
@@ -120,16 +130,13 @@ fn try_graph(alloc: Global, told: &mut Told, row: &Row, number: u64, tally: &mut
 /// Builds graphs, and then once more after an edit, stopped after each number of calls in each way, and on from there.
 pub(crate) fn put_graph_stops(alloc: Global, told: &mut Told, text: &str) {
     let row = Row::read(told, text);
-    let mut graphs: u64 = 0;
-    let mut number = row.from;
-    while number < row.shape.graphs() && !told.is_refused() {
+    for place in 0..row.taken() {
+        let number = row.taken_at(place);
         if let Some(wrong) = try_stops(alloc, told, &row, number) {
             return told.show(format_args!("graph {number}: {wrong}\n"));
         }
-        graphs = graphs.wrapping_add(1);
-        number = number.saturating_add(row.step);
     }
-    told.show(graphs);
+    told.show(row.taken());
     told.put(" graphs, stopped after each call, none wrong\n");
 }
 
