@@ -8,14 +8,20 @@
 //! `failures` builds once with each failure of the outside, and once more without it. `stops` stops a build after each
 //! number of its calls, in each way that a stop may turn out, and builds on. `cuts` builds with the signature file cut to each
 //! length. `turns` builds over and over, and `banks` says how large the signature file's halves are, and
-//! `bytes` shows one of them.
+//! `bytes` shows one of them. `graphs` builds all small graphs of a shape, beside slow functions that are the definitions of `build_model`,
+//! and `graph_stops` stops such builds.
 #![tactic(auto)]
 
 mod acts;
 mod builds;
 mod failures;
+mod graph_texts;
+mod graphs;
 mod idle;
+mod looked;
+mod rounds;
 mod runs;
+mod small;
 mod spoiled;
 mod steps;
 mod stops;

@@ -1,6 +1,7 @@
 //! One trial: its steps over a world of its own.
 use crate::acts::world_of;
 use crate::failures::put_failures;
+use crate::graphs::{put_graph_stops, put_graphs};
 use crate::idle::IdleWorld;
 use crate::runs::put_run;
 use crate::spoiled::{bank_of, put_cuts, spoil};
@@ -57,6 +58,8 @@ fn put_runs(told: &mut Told, world: &mut IdleWorld, step: Step) {
         "cuts" => put_cuts(told, world, step.rest),
         "failures" => put_failures(told, world, step.rest),
         "stops" => put_stops(told, world, step.rest),
+        "graphs" => put_graphs(world.alloc, told, step.rest),
+        "graph_stops" => put_graph_stops(world.alloc, told, step.rest),
         _ => told.refuse(),
     }
 }
