@@ -61,6 +61,7 @@ module _ (b : Begun) (g : RuleGraph) (inputs : Inputs) (around : Around) (path :
         undeclared = copy.undeclared;
         copied = copy.copied;
         is = ap (λ (x : model.Rule). record x { copies = true }) same ∙ copy.is;
+        lines = copy.lines;
       }
     where
       behind : {r : Rule} (copies rules : List Rule) → Among r copies → Among r (rules ++ copies)

@@ -1,5 +1,5 @@
 -- The graph of a reading as a build goes on: nodes and copy rules are put behind those that are there.
-use Rattle.std.specs.Prelude.{◌≡◌, ℕ, true, List, ◌++◌, Option, Some, None, slice_get}
+use Rattle.std.specs.Prelude.{◌≡◌, ℕ, true, List, [], ◌++◌, Option, Some, None, slice_get}
 use Rattle.std.specs.Option.{option_map}
 use Rattle.scons_base.specs.declared.ids.NodeId.{NodeId}
 use Rattle.world_api.specs.Act.{Law}
@@ -30,13 +30,14 @@ begun_setting b = setting (begun_graph b) b.tree
 abbrev pub copy_in : RuleGraph → declared.Rule → Rule
 copy_in g r = record (rule_in g r) { copies = true }
 
--- a rule copies a path for which none was declared
+-- a rule copies a path for which none was declared, by no lines
 pub record IsCopyOf (b : Begun) (g : RuleGraph) (r : declared.Rule) : Type 0 where
   pub path : Path
   pub source : Path
   pub undeclared : rule_with b.graph path ≡ None
   pub copied : copied_from b.graph b.tree path ≡ Some source
   pub is : copy_in g r ≡ copy_rule path source
+  pub lines : r.lines ≡ []
 
 -- The graph is the one of the reading with nodes and copy rules behind.
 pub record IsGrown (b : Begun) (g : RuleGraph) : Type 0 where
