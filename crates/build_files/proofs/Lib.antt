@@ -10,4 +10,4 @@ mod RuleAt
 mod Searching
 mod Seeing
 mod Testing
-mod Truths
+pub mod Truths
