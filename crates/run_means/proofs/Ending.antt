@@ -36,7 +36,7 @@ length_less x [] ys = refl
 length_less x (y ∷ xs) ys = ap suc (length_less x xs ys)
 
 -- the work of its number
-work_is : (work : Work) → work_at (work_byte work) ≡ work
+pub work_is : (work : Work) → work_at (work_byte work) ≡ work
 work_is Shell = refl
 work_is Copy = refl
 work_is Write = refl
