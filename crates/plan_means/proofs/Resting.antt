@@ -38,7 +38,7 @@ count_first : (o : RuleState) (states : List RuleState) → count_by is_running_
 count_first o states h = sym (sum_by-cons (λ x. cond (is_running_state x) 1 0) o states) ∙ h
 
 -- where the count of those that run is none, none runs
-none_runs : (states : List RuleState) (number : ℕ) → count_by is_running_state states ≡ 0 →
+pub none_runs : (states : List RuleState) (number : ℕ) → count_by is_running_state states ≡ 0 →
     state_of states number ≡ Running → ⊥
 none_runs [] number h e = true_false (sym (ap is_running_state e))
 none_runs (o ∷ states) zero h e = none_runs_by o (count_by is_running_state states) (is_running_state o) refl

@@ -110,7 +110,7 @@ module _ (o : Outset) (outset : IsOutset o) (jobs : List Given) (s : Standing) (
     place = needed_place decided.prepared.wanted.is_needed
 
     pub makes : (path : Path) → Among path r.targets → MakesIt o path r
-    makes path m = makes_each o outset place.1 path m
+    makes path m = makes_each o outset place.0 place.1 path m
 
     pub place_among : Among place.0 r.targets
     place_among = (lawful o outset).makes place.0 r place.1
@@ -125,8 +125,8 @@ module _ (o : Outset) (outset : IsOutset o) (jobs : List Given) (s : Standing) (
         ap (is_due r Now.before Now.stamps_before Now.records) (sym record_is)
         ∙ due_agrees r Now.before s.around.tree Now.stamps_before (stamp_of s.around) Now.records (records_in s.records)
         (record_in rec)
-        (λ p m. unbegun_same o outset jobs s.around past way (makes p m) decided.not_began)
-        (λ p m. unbegun_stamp o outset jobs s.around past way (makes p m) decided.not_began)
+        (λ p m. unbegun_same o outset jobs s.around past way p (makes p m) decided.not_began)
+        (λ p m. unbegun_stamp o outset jobs s.around past way p (makes p m) decided.not_began)
         (λ p m. ap (option_map record_in) (sym (knows.records p r (makes p m) decided.not_began)))
 
     met_by : (path : Path) (c : Content) → s.around.tree path ≡ c →
@@ -151,7 +151,7 @@ module _ (o : Outset) (outset : IsOutset o) (jobs : List Given) (s : Standing) (
       fresh = record {
         not_due = due_same ∙ not_due;
         each_met = each_met;
-        same = λ p m. unbegun_same o outset jobs s.around past way (makes p m) decided.not_began;
+        same = λ p m. unbegun_same o outset jobs s.around past way p (makes p m) decided.not_began;
       };
     }
 

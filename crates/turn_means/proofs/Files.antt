@@ -51,7 +51,7 @@ module _ (b : Begun) (g : RuleGraph) (inputs : Inputs) (old new : Around) (paths
           includes = λ includes e. was.now.includes includes e ∙ ap includes_in (sym same);
           stamp = λ time e. was.now.stamp time e ∙ sym (stamp_same gone old new path file (writes.stamps path free out));
         };
-        still = inl (λ target. elim writes.running path target [ | inl h ↦ free h | inr m ↦ out m ]);
+        still = inl (λ target. elim (writes.running path target) [ | inl h ↦ free h | inr m ↦ out m ]);
         is_file = was.is_file;
       }
 
@@ -72,7 +72,7 @@ module _ (b : Begun) (g : RuleGraph) (inputs : Inputs) (old new : Around) (paths
   true_still was = record was {
     rest = λ path e. past_same inputs.gone.keys old.tree new.tree path (writes.files path (was.idle path e) (not_among path e))
         ∙ was.rest path e;
-    idle = λ path e target. elim writes.running path target [ | inl h ↦ was.idle path e h | inr m ↦ not_among path e m ];
+    idle = λ path e target. elim (writes.running path target) [ | inl h ↦ was.idle path e h | inr m ↦ not_among path e m ];
     seen = λ node path at.
         seen_true inputs.gone.keys path (seen_at inputs.files.seen.items node) (unread node path at) (was.seen node path at);
   }

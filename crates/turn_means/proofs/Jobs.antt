@@ -31,6 +31,7 @@ use Rattle.run_means.specs.Laws.{MayWait}
 use Rattle.run_means.specs.Turns.{MayBegin, job_for, EndsFor}
 use Rattle.run_means.specs.Ways.{IsWay, IsOwn}
 use Rattle.run_means.proofs.Ending.{ended_for}
+use Rattle.run_means.proofs.Keeping.{none_there}
 use Rattle.run_means.proofs.Launching.{launched, refused}
 use Rattle.run_means.proofs.Lists.{contains_among, among_contains}
 use Rattle.run_means.proofs.Settled.{stays_so}
@@ -120,8 +121,8 @@ module _ (o : Outset) (outset : IsOutset o) where
             (λ m. out (subst (λ ps. Contains ps path) job_targets m))
             ∙ is.clears.stamps path free out;
         running = λ path target.
-            elim run_either mid.running (record { job = job; given = given_of mid.tree job.deps }) path
-            (subst (λ runs. IsRunningTarget runs path) is.starts.running target) [
+            elim (run_either mid.running (record { job = job; given = given_of mid.tree job.deps }) path
+            (subst (λ runs. IsRunningTarget runs path) is.starts.running target)) [
               | inl t ↦ inl (subst (λ runs. IsRunningTarget runs path) is.clears.running t)
               | inr m ↦ inr (subst (λ ps. Contains ps path) job_targets m)
             ];
@@ -142,7 +143,7 @@ module _ (o : Outset) (outset : IsOutset o) where
       -- what another rule makes isn't among its targets
       apart : {path : Path} {q : Rule} → MakesIt o path q → (Among q (r ∷ began past) → ⊥) → Contains r.targets path → ⊥
       apart {path} e not_began m =
-          not_began (subst (λ x. Among x (r ∷ began past)) (one_rule o outset (own path m) e) here)
+          not_began (subst (λ x. Among x (r ∷ began past)) (one_rule o outset path (own path m) e) here)
 
       numbered_now : AreNumbered o old.graph Later new.around.log
       numbered_now entries grown other at_counts m =
@@ -219,7 +220,7 @@ module _ (o : Outset) (outset : IsOutset o) where
           let target : Among place.0 one.rule.targets = (lawful o outset).makes place.0 one.rule place.1 in
           let mine : Among place.0 Which.targets = among_same (sym one.targets ∙ started.of_rule.targets) target in
           let own_place = begun_place o outset jobs old.around past at.way ending.own.runs.began in
-          let same : one.rule ≡ Which = one_rule o outset place.1 (makes_each o outset own_place.1 place.0 mine) in
+          let same : one.rule ≡ Which = one_rule o outset place.0 place.1 (makes_each o outset own_place.0 own_place.1 place.0 mine) in
           ap (rule_numbered (begun_at o) old.graph) (ends.id ∙ sym started.has_id) ∙ one.numbered ∙ ap Some same
 
       tells : (well : Bool) → state_of old.plan.states ended.id ≡ Runs →
@@ -269,7 +270,7 @@ module _ (o : Outset) (outset : IsOutset o) where
       knows_behind keeps = subst (λ s. Knows o s Behind) (sym is_told.rest) (record {
         now = k.now;
         truth = true_still (begun_at o) old.graph old.inputs old.around new.around [] writes_none
-            (λ path m. elim contains_among [] m [ ]) (λ node path at_node m. elim contains_among [] m [ ]) k.truth;
+            (λ path m. none_there m) (λ node path at_node m. none_there m) k.truth;
         none_gone = k.none_gone;
         unread = record {
           each = λ node path q at_node e out. k.unread.each node path q at_node e (unsettled (is_done ended.outcome) q out);
@@ -277,7 +278,7 @@ module _ (o : Outset) (outset : IsOutset o) where
         ties = ties_behind;
         goes_on = not_over (is_done ended.outcome) o.wanted.keep keeps k.goes_on;
         records = λ path q e not_began.
-            is_told.records path (unbegun_still o outset jobs old.around past at.way e not_began) ∙ k.records path q e not_began;
+            is_told.records path (unbegun_still o outset jobs old.around past at.way path e not_began) ∙ k.records path q e not_began;
         numbered = numbered_behind;
       })
 

@@ -79,7 +79,8 @@ module _ (b : Begun) (g : RuleGraph) (now : IsGraphNow b g) (number : ℕ) (r : 
   pub lines_are : (of : declared.Rule) (path : Path) → slice_get g.rules number ≡ Some of → Among path r.targets →
       of.lines ≡ lines_for b.graph r
   lines_are of path at m =
-      elim get_either b.graph.rules now.grown.copies number of (sym (ap (λ rules. slice_get rules number) now.grown.rules) ∙ at) [
+      elim (get_either b.graph.rules now.grown.copies number of
+      (sym (ap (λ rules. slice_get rules number) now.grown.rules) ∙ at)) [
         | inl e ↦ declared_lines of path e at m
         | inr h ↦ copied_lines of path h.0 at m (now.grown.each_copy of h.1)
       ]

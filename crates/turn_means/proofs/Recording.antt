@@ -16,6 +16,7 @@ use Rattle.build_model.proofs.Ready.{needed_place}
 use Rattle.build_model.proofs.Runs.{begun_prepared, settled_done}
 use Rattle.build_means.specs.Builds.{Kept}
 use Rattle.build_means.specs.Records.{record_in, records_in}
+use Rattle.run_means.proofs.Keeping.{none_there}
 use Rattle.run_means.proofs.Lists.{contains_among, among_contains}
 use Rattle.turn_means.specs.Standing.{Outset, IsOutset, setting_at, Standing, IsAt}
 use Rattle.turn_means.specs.Laws.{IsWeighed}
@@ -29,9 +30,6 @@ stamp_same : (old new : Around) (path : Path) → new.tree path ≡ old.tree pat
     stamp_of new path ≡ stamp_of old path
 stamp_same old new path file time =
     ap (option_map (λ bytes. new.stamps path)) file ∙ ap (λ t. option_map (λ bytes. t) (old.tree path)) time
-
-none_of : {A : Type 0} {p : Path} → Contains [] p → A
-none_of m = elim contains_among [] m [ ]
 
 pub begins : (o : Outset) (around : Around) → AreRecorded o around [] o.kept
 begins o around p = is_kept (λ r m t. elim m [ ]) refl
@@ -116,8 +114,8 @@ module _ (o : Outset) (outset : IsOutset o) where
   pub stays : (jobs : List Given) (old new : Around) (past : List Step) → IsWayTo o jobs old past → Writes [] old new →
       Stay o old new past
   stays jobs old new past way writes = record {
-    records = λ records are p. after_now jobs old new past way [] writes (λ q m ready. none_of m) records p (are p);
-    to_have = λ r rec m is. is ∙ sym (begun_kept jobs old new past way [] writes (λ q n ready. none_of n) m);
+    records = λ records are p. after_now jobs old new past way [] writes (λ q m ready. none_there m) records p (are p);
+    to_have = λ r rec m is. is ∙ sym (begun_kept jobs old new past way [] writes (λ q n ready. none_there n) m);
   }
 
   module _ (jobs : List Given) (old new : Around) (past : List Step) (r : Rule) (records after : Kept) (way : IsWayTo o jobs old past)
@@ -128,11 +126,13 @@ module _ (o : Outset) (outset : IsOutset o) where
     not_settled m = is_decided.not_done (settled_done past m)
 
     own : (p : Path) → Contains r.targets p → MakesIt o p r
-    own p m = makes_each o outset (needed_place is_decided.prepared.wanted.is_needed).1 p (contains_among r.targets m)
+    own p m =
+        let place = needed_place is_decided.prepared.wanted.is_needed in
+        makes_each o outset place.0 place.1 p (contains_among r.targets m)
 
     unready : (p : Path) → Contains r.targets p → IsReady (setting_at o) old.tree (settled past) p → ⊥
     unready p m (is_source bytes no_rule file) = none_some (sym no_rule ∙ own p m)
-    unready p m (is_made q e n) = not_settled (subst (λ x. Among x (settled past)) (one_rule o outset e (own p m)) n)
+    unready p m (is_made q e n) = not_settled (subst (λ x. Among x (settled past)) (one_rule o outset p e (own p m)) n)
 
     same : (p : Path) → (Contains r.targets p → ⊥) → records_in after p ≡ records_in records p
     same p out = ap (option_map record_in) (others p out)
@@ -169,7 +169,7 @@ module _ (o : Outset) (outset : IsOutset o) where
   module _ (jobs : List Given) (old new : Around) (past : List Step) (r : Rule) (records : Kept) (way : IsWayTo o jobs old past)
       (runs : IsRunning past r) (writes : Writes [] old new) (are : AreRecorded o old past records) where
     now : (p : Path) → IsRecordAfter (setting_at o) (build_at o new) past (records_in records) p
-    now p = after_now jobs old new past way [] writes (λ q m ready. none_of m) records p (are p)
+    now p = after_now jobs old new past way [] writes (λ q m ready. none_there m) records p (are p)
 
     failed_at : (p : Path) → IsRecordAfter (setting_at o) (build_at o new) past (records_in records) p →
         IsRecordAfter (setting_at o) (build_at o new) (Ended r false ∷ past) (records_in records) p
@@ -183,7 +183,7 @@ module _ (o : Outset) (outset : IsOutset o) where
       put_at p m =
           is_put r runs.began here (contains_among r.targets m)
           (ap (option_map record_in) (have p m)
-          ∙ ap Some (is ∙ sym (begun_kept jobs old new past way [] writes (λ q n ready. none_of n) runs.began)))
+          ∙ ap Some (is ∙ sym (begun_kept jobs old new past way [] writes (λ q n ready. none_there n) runs.began)))
 
       other_at : (p : Path) → (Contains r.targets p → ⊥) → IsRecordAfter (setting_at o) (build_at o new) past (records_in records) p →
           IsRecordAfter (setting_at o) (build_at o new) (Ended r true ∷ past) (records_in after) p

@@ -27,12 +27,12 @@ module _ (o : Outset) (outset : IsOutset o) where
   lawful = lawful_in o.wanted o.before outset.reading
 
   -- a path has one rule
-  pub one_rule : {path : Path} {r q : Rule} → MakesIt o path r → MakesIt o path q → r ≡ q
-  one_rule e f = some_same (sym e ∙ f)
+  pub one_rule : (path : Path) {r q : Rule} → MakesIt o path r → MakesIt o path q → r ≡ q
+  one_rule path e f = some_same (sym e ∙ f)
 
   -- a rule makes its targets, where it makes any path
-  pub makes_each : {path : Path} {r : Rule} → MakesIt o path r → (target : Path) → Among target r.targets → MakesIt o target r
-  makes_each {path} {r} e target m = lawful.alone path r e target m
+  pub makes_each : (path : Path) {r : Rule} → MakesIt o path r → (target : Path) → Among target r.targets → MakesIt o target r
+  makes_each path {r} e target m = lawful.alone path r e target m
 
   module _ (jobs : List Given) (around : Around) (past : List Step)
       (way : IsWay o.wanted o.kept o.counts o.before jobs around past) where
@@ -52,39 +52,41 @@ module _ (o : Outset) (outset : IsOutset o) where
         let own = own_of o.wanted o.kept o.before around way.own (contains_among around.running target.1) in
         let m : Among path own.0.targets =
         subst (λ ps. Among path ps) own.1.job_of.targets (contains_among target.0.job.targets target.2) in
-        (own.0, makes_each (begun_place own.1.runs.began).1 path m, own.1.runs)
+        let place = begun_place own.1.runs.began in
+        (own.0, makes_each place.0 place.1 path m, own.1.runs)
 
-    pub source_still : {path : Path} → (setting_at o).rule_of path ≡ None → IsRunningTarget around.running path → ⊥
-    source_still none target = none_some (sym none ∙ (runs_for target).1)
+    pub source_still : (path : Path) → (setting_at o).rule_of path ≡ None → IsRunningTarget around.running path → ⊥
+    source_still path none target = none_some (sym none ∙ (runs_for target).1)
 
-    pub settled_still : {path : Path} {r : Rule} → MakesIt o path r → Among r (settled past) →
+    pub settled_still : (path : Path) {r : Rule} → MakesIt o path r → Among r (settled past) →
         IsRunningTarget around.running path → ⊥
-    settled_still e m target =
+    settled_still path e m target =
         let runs = runs_for target in
-        runs.2.not_done (settled_done past (subst (λ x. Among x (settled past)) (one_rule e runs.1) m))
+        runs.2.not_done (settled_done past (subst (λ x. Among x (settled past)) (one_rule path e runs.1) m))
 
     pub ready_still : {path : Path} → IsReady (setting_at o) around.tree (settled past) path →
         IsRunningTarget around.running path → ⊥
-    ready_still (is_source bytes none file) = source_still none
-    ready_still (is_made r e m) = settled_still e m
+    ready_still {path} (is_source bytes none file) = source_still path none
+    ready_still {path} (is_made r e m) = settled_still path e m
 
-    pub unbegun_still : {path : Path} {r : Rule} → MakesIt o path r → (Among r (began past) → ⊥) →
+    pub unbegun_still : (path : Path) {r : Rule} → MakesIt o path r → (Among r (began past) → ⊥) →
         IsRunningTarget around.running path → ⊥
-    unbegun_still e not_began target =
+    unbegun_still path e not_began target =
         let runs = runs_for target in
-        not_began (subst (λ x. Among x (began past)) (one_rule runs.1 e) runs.2.began)
+        not_began (subst (λ x. Among x (began past)) (one_rule path runs.1 e) runs.2.began)
 
     -- no rule that began makes it
-    none_began : {path : Path} {r : Rule} → MakesIt o path r → (Among r (began past) → ⊥) →
+    none_began : (path : Path) {r : Rule} → MakesIt o path r → (Among r (began past) → ⊥) →
         (q : Rule) → Among q (began past) → Among path q.targets → ⊥
-    none_began {path} e not_began q m target =
-        not_began (subst (λ x. Among x (began past)) (one_rule (makes_each (begun_place m).1 path target) e) m)
+    none_began path e not_began q m target =
+        let place = begun_place m in
+        not_began (subst (λ x. Among x (began past)) (one_rule path (makes_each place.0 place.1 path target) e) m)
 
     -- so it stands as it did, and was changed then
-    pub unbegun_same : {path : Path} {r : Rule} → MakesIt o path r → (Among r (began past) → ⊥) →
+    pub unbegun_same : (path : Path) {r : Rule} → MakesIt o path r → (Among r (began past) → ⊥) →
         o.before.tree path ≡ around.tree path
-    unbegun_same {path} e not_began = seen_so.untouched path (none_began e not_began)
+    unbegun_same path e not_began = seen_so.untouched path (none_began path e not_began)
 
-    pub unbegun_stamp : {path : Path} {r : Rule} → MakesIt o path r → (Among r (began past) → ⊥) →
+    pub unbegun_stamp : (path : Path) {r : Rule} → MakesIt o path r → (Among r (began past) → ⊥) →
         stamp_of o.before path ≡ stamp_of around path
-    unbegun_stamp {path} e not_began = seen_so.unstamped path (none_began e not_began)
+    unbegun_stamp path e not_began = seen_so.unstamped path (none_began path e not_began)

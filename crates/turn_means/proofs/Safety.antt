@@ -1,6 +1,6 @@
 -- Records stay true from call to call, and what a stop leaves is told by them.
 use Rattle.std.proofs.Common.{◌≡◌, ◌⊎◌, inl, inr, Bool, true, false, List, [], ◌∷◌, ◌++◌, Contains, Option, Some, None, map, cond, refl, sym, subst, ap, ◌∙◌, option_map}
-use Rattle.std.proofs.lemmas.Str.{bytes_eq-Decides}
+use Rattle.std.proofs.lemmas.Slice.Eq.{bytes_eq-Decides}
 use Rattle.std.specs.Str.{bytes_eq}
 use Rattle.world_api.specs.Act.{act}
 use Rattle.world_api.specs.Around.{Around, Running, IsRunningTarget, given_of}
@@ -20,6 +20,7 @@ use Rattle.build_means.specs.Graphs.{act_by}
 use Rattle.build_means.specs.Records.{record_in, records_in}
 use Rattle.build_means.proofs.Lists.{any_there}
 use Rattle.run_means.proofs.Ending.{work_is}
+use Rattle.run_means.proofs.Keeping.{none_there}
 use Rattle.run_means.proofs.Lists.{contains_among, among_contains}
 use Rattle.turn_means.specs.Recording.{HaveNone}
 use Rattle.turn_means.specs.Safety.{IsSafe, IsLeft, IsTicketOf, IsTrue, ActsAs, AreSafe, DoneAreTrue}
@@ -34,7 +35,7 @@ run_later : {run : Running} {running : List Running} {path : Path} → IsRunning
 run_later {running = running} t = (t.0, among_contains (there (contains_among running t.1)), t.2)
 
 pub written_or : (running : List Running) (path : Path) → IsRunningTarget running path ⊎ (IsRunningTarget running path → ⊥)
-written_or [] path = inr (λ t. elim contains_among [] t.1 [ ])
+written_or [] path = inr (λ t. none_there t.1)
 written_or (run ∷ running) path = by (contained run.job.targets path) (written_or running path)
   where
     out : (Contains run.job.targets path → ⊥) → (IsRunningTarget running path → ⊥) → IsRunningTarget (run ∷ running) path → ⊥
@@ -143,8 +144,8 @@ module _ (s : Setting) (records : Kept) where
       IsSafe s old records → IsSafe s new records
   starts job counts old new start without safe = record {
     none = λ path target.
-        elim run_either old.running (record { job = job; given = given_of old.tree job.deps }) path
-        (subst (λ runs. IsRunningTarget runs path) start.running target) [
+        elim (run_either old.running (record { job = job; given = given_of old.tree job.deps }) path
+        (subst (λ runs. IsRunningTarget runs path) start.running target)) [
           | inl t ↦ safe.none path t
           | inr m ↦ without path m
         ];

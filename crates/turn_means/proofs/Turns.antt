@@ -59,7 +59,7 @@ not_halted halted goes_on e = true_false (sym (halted e).ended ∙ goes_on)
 pub none_more : (old log entries : List Entry) → log ≡ old → log ≡ old ++ entries → (entry : Entry) → Among entry entries → {A : Type 0} → A
 none_more old log entries same grown entry m =
     let none : entries ≡ [] = sym (append_cancel_left old [] entries (append-nil old ∙ sym same ∙ grown)) in
-    elim among_same none m [ ]
+    elim (among_same none m) [ ]
 
 module _ (o : Outset) (outset : IsOutset o) where
   module _ (jobs : List Given) (past : List Step) (old new : Around) (asks : Asks old new) where
