@@ -1,9 +1,7 @@
 -- What is decided of the rule that a plan has chosen: what the model asks of a rule that is found up to date, or begins.
-use Rattle.std.proofs.Common.{◌≡◌, ◌<◌, ℕ, Bool, true, false, ◌||◌, List, [], ◌∷◌, length, map, Contains, Option, Some, None, refl, sym, subst, ap, ◌∙◌, option_map}
-use Rattle.std.specs.Prelude.{slice_get}
+use Rattle.std.proofs.Common.{◌≡◌, ◌<◌, ℕ, Bool, true, false, ◌||◌, List, [], ◌∷◌, length, map, Contains, Some, None, refl, sym, subst, ap, ◌∙◌, option_map}
 use Rattle.std.specs.List.{list_any}
 use Rattle.scons_base.specs.declared.ids.RuleId.{RuleId}
-use Rattle.world_api.specs.Around.{Around, Entry}
 use Rattle.world_api.specs.Counts.{Counts}
 use Rattle.world_api.specs.Reads.{stamp_of}
 use Rattle.world_api.specs.declared.job.Job.{Job}
@@ -11,7 +9,6 @@ use Rattle.deciders.specs.Records as kept_record
 use Rattle.deciders.specs.Spelling.{work_byte}
 use Rattle.deciders.specs.declared.recorded.Dep.{Dep}
 use Rattle.deciders.specs.declared.recorded.Rec.{Rec}
-use Rattle.rule_graph.specs.declared.rule.Rule as declared
 use Rattle.task_plan.specs.Settled.{deps_of}
 use Rattle.build_model.specs.Rules.{Path, Content, Tree, Stamps, Rule, Record, Records, Dependency, Among, here, there}
 use Rattle.build_model.specs.Contents.{in_tree}
@@ -19,8 +16,8 @@ use Rattle.build_model.specs.Moments.{Job as Given}
 use Rattle.build_model.specs.OneJob.{IsTakenFirst}
 use Rattle.build_model.specs.Records.{IsMet, dependency_of}
 use Rattle.build_model.specs.Stale.{name_of, first_stamp}
-use Rattle.build_model.specs.Steps.{Step, Build, began, settled, running, present_dependencies, present_record, IsDecided, IsFresh, IsStart}
-use Rattle.build_model.proofs.Lists.{same_map, some_same}
+use Rattle.build_model.specs.Steps.{Step, Build, began, present_dependencies, present_record, IsDecided}
+use Rattle.build_model.proofs.Lists.{some_same}
 use Rattle.build_model.proofs.Ready.{needed_place}
 use Rattle.build_means.specs.Builds.{IsJobIn, jobs_at_once}
 use Rattle.build_means.specs.Due.{is_due_for, is_due}
@@ -37,7 +34,7 @@ use Rattle.plan_means.proofs.Taking.{taken_first}
 use Rattle.run_means.specs.Turns.{MayBeFresh, MayBegin, IsHanded}
 use Rattle.run_means.specs.Ways.{IsWay}
 use Rattle.run_means.proofs.Lists.{contains_among}
-use Rattle.turn_means.specs.Standing.{Outset, IsOutset, begun_at, setting_at, Standing, Knows, IsAt}
+use Rattle.turn_means.specs.Standing.{Outset, IsOutset, begun_at, setting_at, Standing, Knows}
 use Rattle.turn_means.specs.Laws.{IsWeighed, is_due_now, IsJobFrom}
 use Rattle.turn_means.proofs.Numbers.{lines_are}
 use Rattle.turn_means.specs.Recording.{build_at}
@@ -106,7 +103,7 @@ module _ (o : Outset) (outset : IsOutset o) (jobs : List Given) (s : Standing) (
     dependencies : present_dependencies (setting_at o) Now r ≡ Paths
     dependencies = subst (λ x. present_dependencies (setting_at o) Now x ≡ Paths) same may.dependencies
 
-    place : (path : Path) × MakesIt o path r
+    pub place : (path : Path) × MakesIt o path r
     place = needed_place decided.prepared.wanted.is_needed
 
     pub makes : (path : Path) → Among path r.targets → MakesIt o path r

@@ -1,21 +1,20 @@
 -- What a build did by how it stands, and that it succeeded where its plan is finished.
-use Rattle.std.proofs.Common.{◌≡◌, ◌≢◌, ℕ, Bool, true, false, List, Some, count_by, refl, sym, subst, ap, ◌∙◌}
+use Rattle.std.proofs.Common.{◌≡◌, ◌≢◌, ℕ, Bool, true, false, List, count_by, refl, sym, subst, ◌∙◌}
 use Rattle.task_plan.specs.States.{state_of, is_running}
 use Rattle.task_plan.specs.Watched.{IsNoneReady, IsGoingOn, AreGoingOn, IsFinished}
 use Rattle.task_plan.specs.declared.states.RuleState.{RuleState}
 use Rattle.task_plan.specs.declared.states.RuleState.TheVariants.{Unneeded, Waiting, Running, Settled, Failed, Lacking}
-use Rattle.build_model.specs.Rules.{Path, Rule, Among}
+use Rattle.build_model.specs.Rules.{Rule}
 use Rattle.build_model.specs.Moments.{Job as Given}
 use Rattle.build_model.specs.Needs.{is_requested}
 use Rattle.build_model.specs.Resting.{IsFaulty}
-use Rattle.build_model.specs.Steps.{Step, settled, is_over}
+use Rattle.build_model.specs.Steps.{Step, is_over}
 use Rattle.build_model.specs.Waiting.{WaitsRightly}
 use Rattle.build_model.proofs.Ending.{faulty_over}
 use Rattle.build_model.proofs.Lists.{true_false}
 use Rattle.build_means.specs.Builds.{AllSettled, Succeeded}
-use Rattle.build_means.specs.Grown.{rule_numbered}
 use Rattle.build_means.specs.Laws.{SettledSucceed}
-use Rattle.plan_means.specs.Ties.{IsAt as IsAtState, Ties}
+use Rattle.plan_means.specs.Ties.{IsAt as IsAtState}
 use Rattle.plan_means.proofs.Deciding.{know}
 use Rattle.plan_means.proofs.Resting.{none_runs}
 use Rattle.plan_means.proofs.Waiting.{needed_planned}

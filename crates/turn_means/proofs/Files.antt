@@ -1,10 +1,10 @@
 -- What is kept of files stays true where only targets of running jobs change, and files of which nothing was read.
-use Rattle.std.proofs.Common.{◌≡◌, ◌⊎◌, inl, inr, ℕ, true, false, Bool, List, Contains, Some, None, refl, sym, subst, ap, ◌∙◌, option_map}
+use Rattle.std.proofs.Common.{◌≡◌, ◌⊎◌, inl, inr, ℕ, true, false, Bool, List, Contains, Some, refl, sym, ap, ◌∙◌, option_map}
 use Rattle.std.specs.Prelude.{slice_get}
 use Rattle.deciders.specs.Digests.{digest_of}
 use Rattle.rule_graph.specs.Graphs.{RuleGraph}
 use Rattle.world_api.specs.Around.{Around, IsRunningTarget}
-use Rattle.build_model.specs.Rules.{Path, Among}
+use Rattle.build_model.specs.Rules.{Path}
 use Rattle.build_model.specs.Reach.{has}
 use Rattle.build_model.proofs.Lists.{true_false, has_among, not_has}
 use Rattle.build_means.specs.Grown.{Begun}
@@ -28,7 +28,7 @@ contained paths path = by (has path paths) refl
 module _ (b : Begun) (g : RuleGraph) (inputs : Inputs) (old new : Around) (paths : List Path) (writes : Writes paths old new)
     (made : (path : Path) → Contains paths path → is_made g path ≡ true)
     (unread : (node : ℕ) (path : Path) → slice_get g.nodes node ≡ Some path → Contains paths path →
-        IsUnread (seen_at inputs.files.seen.items node)) where
+    IsUnread (seen_at inputs.files.seen.items node)) where
   not_among : (path : Path) → is_made g path ≡ false → Contains paths path → ⊥
   not_among path e m = true_false (sym (made path m) ∙ e)
 
@@ -51,7 +51,7 @@ module _ (b : Begun) (g : RuleGraph) (inputs : Inputs) (old new : Around) (paths
           includes = λ includes e. was.now.includes includes e ∙ ap includes_in (sym same);
           stamp = λ time e. was.now.stamp time e ∙ sym (stamp_same gone old new path file (writes.stamps path free out));
         };
-        still = inl (λ target. elim (writes.running path target) [ | inl h ↦ free h | inr m ↦ out m ]);
+        still = inl (λ target. elim (writes.running path target) [ inl h ↦ free h | inr m ↦ out m ]);
         is_file = was.is_file;
       }
 
@@ -69,10 +69,18 @@ module _ (b : Begun) (g : RuleGraph) (inputs : Inputs) (old new : Around) (paths
   ]
 
   pub true_still : AreTrue b g inputs old → AreTrue b g inputs new
-  true_still was = record was {
+  true_still was = record {
+    reading = was.reading;
+    grown = was.grown;
+    hash = was.hash;
+    declared = was.declared;
     rest = λ path e. past_same inputs.gone.keys old.tree new.tree path (writes.files path (was.idle path e) (not_among path e))
         ∙ was.rest path e;
-    idle = λ path e target. elim (writes.running path target) [ | inl h ↦ was.idle path e h | inr m ↦ not_among path e m ];
+    idle = λ path e target. elim (writes.running path target) [ inl h ↦ was.idle path e h | inr m ↦ not_among path e m ];
     seen = λ node path at.
         seen_true inputs.gone.keys path (seen_at inputs.files.seen.items node) (unread node path at) (was.seen node path at);
+    settled = was.settled;
+    behind = was.behind;
+    unknown = was.unknown;
+    gone = was.gone;
   }

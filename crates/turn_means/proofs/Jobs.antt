@@ -1,27 +1,24 @@
 -- How a build stands behind a job that starts, or is refused, and behind one that ends.
-use Rattle.std.proofs.Common.{◌≡◌, ◌⊎◌, inl, inr, ◌<◌, ℕ, true, false, Bool, List, [], ◌∷◌, ◌++◌, length, Contains, Some, None, cond, refl, sym, subst, ap, ◌∙◌, append_assoc}
-use Rattle.std.specs.Prelude.{slice_get}
+use Rattle.std.proofs.Common.{◌≡◌, ◌⊎◌, inl, inr, ◌<◌, true, false, Bool, List, [], ◌∷◌, ◌++◌, length, Contains, Some, refl, sym, subst, ap, ◌∙◌, append_assoc}
 use Rattle.std.proofs.lemmas.List.{append_cancel_left}
 use Rattle.scons_base.specs.declared.ids.RuleId.{RuleId}
 use Rattle.world_api.specs.Around.{Around, Entry, Running, Started, Finished, IsRunningTarget, given_of}
-use Rattle.world_api.specs.Calls.{Starts, Ends}
+use Rattle.world_api.specs.Calls.{Ends}
 use Rattle.world_api.specs.Counts.{Counts}
 use Rattle.world_api.specs.declared.job.Ended.{Ended}
 use Rattle.world_api.specs.declared.job.Job.{Job}
 use Rattle.deciders.specs.declared.recorded.Rec.{Rec}
 use Rattle.task_plan.specs.States.{state_of}
 use Rattle.task_plan.specs.declared.states.RuleState.TheVariants.{Running as Runs}
-use Rattle.task_plan.specs.declared.want.PlanEvent.TheVariants as told
 use Rattle.build_model.specs.Rules.{Path, Rule, Record, Among, here, there}
 use Rattle.build_model.specs.Moments.{Job as Given}
 use Rattle.build_model.specs.Steps as model
 use Rattle.build_model.specs.Steps.{Step, Began, began, settled, is_over, IsRunning}
-use Rattle.build_model.proofs.Lists.{true_false, some_same, among_same, among_either, among_left, among_right}
+use Rattle.build_model.proofs.Lists.{true_false, among_same, among_either, among_left, among_right}
 use Rattle.build_model.proofs.Runs.{settled_done}
-use Rattle.build_means.specs.Builds.{jobs_at_once, IsJobIn}
+use Rattle.build_means.specs.Builds.{jobs_at_once}
 use Rattle.build_means.specs.Grown.{rule_numbered}
-use Rattle.build_means.specs.Logs.{is_done, HasStarted}
-use Rattle.plan_means.specs.Planning.{IsStep}
+use Rattle.build_means.specs.Logs.{is_done}
 use Rattle.plan_means.specs.Stepping.{Tells, has_begun, has_ended, has_failed}
 use Rattle.plan_means.specs.Ties.{Ties}
 use Rattle.plan_means.proofs.Running.{changes_keep, running_known}
@@ -29,20 +26,29 @@ use Rattle.plan_means.proofs.Stepping.{events_keep}
 use Rattle.run_means.specs.Clears.{Clears}
 use Rattle.run_means.specs.Laws.{MayWait}
 use Rattle.run_means.specs.Turns.{MayBegin, job_for, EndsFor}
-use Rattle.run_means.specs.Ways.{IsWay, IsOwn}
+use Rattle.run_means.specs.Ways.{IsWay}
 use Rattle.run_means.proofs.Ending.{ended_for}
 use Rattle.run_means.proofs.Keeping.{none_there}
 use Rattle.run_means.proofs.Launching.{launched, refused}
 use Rattle.run_means.proofs.Lists.{contains_among, among_contains}
 use Rattle.run_means.proofs.Settled.{stays_so}
-use Rattle.turn_means.specs.Standing.{Outset, IsOutset, begun_at, setting_at, Standing, IsNumbered, AreNumbered, Knows, IsAt}
+use Rattle.turn_means.specs.Standing.{Outset, IsOutset, begun_at, Standing, IsNumbered, AreNumbered, Knows, IsAt}
 use Rattle.turn_means.specs.Laws.{IsWeighed, is_due_now, IsLaunched, IsToldEnding, IsEnded, StandsBehind, told_by}
 use Rattle.turn_means.specs.Writing.{Writes}
-use Rattle.turn_means.proofs.Deciding.{decided, makes, may_begin, handed}
+use Rattle.turn_means.proofs.Deciding.{makes, may_begin, handed}
 use Rattle.turn_means.proofs.Files.{true_still}
 use Rattle.turn_means.proofs.Numbers.{targets_made}
-use Rattle.turn_means.proofs.Running.{MakesIt, lawful, one_rule, makes_each, begun_place, runs_for, unbegun_still}
+use Rattle.turn_means.proofs.Running.{MakesIt, lawful, one_rule, makes_each, begun_place, unbegun_still}
 use Rattle.turn_means.proofs.Turns.{unfaulted, not_halted}
+
+only_one : {A : Type 0} {x y : A} → Among x (y ∷ []) → x ≡ y
+only_one here = refl
+only_one (there m) = elim m [ ]
+
+-- the job of a start
+abbrev job_in : Job → Entry → Job
+job_in other (Started job counts) = job
+job_in other (Finished id outcome) = other
 
 -- what a log has behind what it had
 log_more : (base old log entries more : List Entry) (last : Entry) → old ≡ base ++ entries → log ≡ old ++ last ∷ [] → log ≡ base ++ more →
@@ -52,17 +58,16 @@ log_more base old log entries more last was grown now =
     (sym now ∙ grown ∙ ap (λ l. l ++ last ∷ []) was ∙ append_assoc base entries (last ∷ []))
 
 -- one that runs among these and one more
-run_either : (running : List Running) (last : Running) (path : Path) → IsRunningTarget (running ++ last ∷ []) path →
+pub run_either : (running : List Running) (last : Running) (path : Path) → IsRunningTarget (running ++ last ∷ []) path →
     IsRunningTarget running path ⊎ Contains last.job.targets path
 run_either running last path target = by (among_either running (contains_among (running ++ last ∷ []) target.1))
   where
     by : Among target.0 running ⊎ Among target.0 (last ∷ []) → IsRunningTarget running path ⊎ Contains last.job.targets path
     by (inl m) = inl (target.0, among_contains m, target.2)
-    by (inr here) = inr target.2
-    by (inr (there m)) = elim m [ ]
+    by (inr m) = inr (subst (λ run. Contains run.job.targets path) (only_one m) target.2)
 
 -- one that still runs ran
-run_before : (front : List Running) (which : Running) (back : List Running) (path : Path) → IsRunningTarget (front ++ back) path →
+pub run_before : (front : List Running) (which : Running) (back : List Running) (path : Path) → IsRunningTarget (front ++ back) path →
     IsRunningTarget (front ++ which ∷ back) path
 run_before front which back path target = (target.0, among_contains (by (among_either front (contains_among (front ++ back) target.1))), target.2)
   where
@@ -134,7 +139,7 @@ module _ (o : Outset) (outset : IsOutset o) where
       ties_now : Ties (begun_at o) old.graph o.wanted.requested new.around.tree Later new.plan
       ties_now =
           let told_ties = events_keep (begun_at o) old.graph o.wanted.requested old.around.tree past old.plan new.plan
-          (told.Started rule) (Began r) known.now known.ties (has_begun rule r weighed.is weighed.chosen.next) is.step in
+          known.now known.ties (has_begun rule r weighed.is weighed.chosen.next) is.step in
           let same = stays_so o.wanted o.kept o.counts o.before old.around new.around jobs
           (job_for o.wanted o.before old.around r ∷ []) past (Began r ∷ []) outset.reading at.way way_now in
           changes_keep (begun_at o) old.graph o.wanted.requested old.around.tree new.around.tree Later new.plan
@@ -158,13 +163,15 @@ module _ (o : Outset) (outset : IsOutset o) where
           by other (inl n) =
               let is_one = known.numbered at.way.log.entries at.way.log.grown other at_counts n in
               record { rule = is_one.rule; numbered = is_one.numbered; targets = is_one.targets; stands = there is_one.stands }
-          by other (inr here) = record {
-            rule = r;
-            numbered = ap (rule_numbered (begun_at o) old.graph) is.job_from.id ∙ weighed.is;
-            targets = job_targets;
-            stands = here;
-          }
-          by other (inr (there n)) = elim n [ ]
+          by other (inr n) =
+              let same : other ≡ job = ap (job_in other) (only_one n) in
+              record {
+                rule = r;
+                numbered = ap (λ (j : Job). rule_numbered (begun_at o) old.graph j.id) same
+                    ∙ ap (rule_numbered (begun_at o) old.graph) is.job_from.id ∙ weighed.is;
+                targets = ap (λ (j : Job). j.targets) same ∙ job_targets;
+                stands = here;
+              }
 
       knows_now : Knows o new Later
       knows_now = subst (λ s. Knows o s Later) (sym is.rest) (record {
@@ -237,7 +244,7 @@ module _ (o : Outset) (outset : IsOutset o) where
           let runs = running_known (begun_at o) old.graph o.wanted.requested old.around.tree past old.plan ended.id Which k.ties
           ended_number ending.own.runs in
           events_keep (begun_at o) old.graph o.wanted.requested new.around.tree past old.plan new.plan
-          (told_by (record { 0 = ended.id }) (is_done ended.outcome)) (model.Ended Which (is_done ended.outcome)) k.now still
+          k.now still
           (tells (is_done ended.outcome) runs) is_told.step
 
       unsettled : (well : Bool) (q : Rule) → (Among q (settled (model.Ended Which well ∷ past)) → ⊥) → Among q (settled past) → ⊥

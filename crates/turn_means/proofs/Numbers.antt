@@ -1,18 +1,17 @@
 -- The rule of a number, by its paths.
-use Rattle.std.proofs.Common.{◌≡◌, ◌⊎◌, inl, inr, ℕ, true, false, List, [], ◌∷◌, Contains, Option, Some, None, refl, sym, subst, ap, ◌∙◌, is_some, option_map}
+use Rattle.std.proofs.Common.{◌≡◌, inl, inr, ℕ, true, List, [], ◌∷◌, Option, Some, None, refl, sym, ap, ◌∙◌, is_some, option_map}
 use Rattle.std.specs.Prelude.{slice_get}
 use Rattle.std.specs.Option.{option_and_then, unwrap_or}
 use Rattle.node_tree.specs.Nodes.{number_of}
 use Rattle.rule_graph.specs.declared.rule.Rule as declared
 use Rattle.rule_graph.specs.Graphs.{RuleGraph}
 use Rattle.rule_graph.specs.Rules.{rule_of}
-use Rattle.world_api.specs.declared.job.Line.{Line}
-use Rattle.build_model.specs.Rules.{Path, Rule, Among}
+use Rattle.build_model.specs.Rules.{Path, Rule, Among, here}
 use Rattle.build_model.proofs.Lists.{none_some, some_same, among_same}
 use Rattle.build_means.specs.Grown.{Begun, IsCopyOf, rule_numbered, or_copy_in, copy_in}
 use Rattle.build_means.specs.Logs.{lines_for}
 use Rattle.build_means.specs.Rules.{paths_of, rule_in, rule_with, rule_for}
-use Rattle.build_means.proofs.Growing.{get_either, paths_stay}
+use Rattle.build_means.proofs.Growing.{get_either, only, paths_stay}
 use Rattle.build_means.proofs.Lists.{at_place}
 use Rattle.build_means.proofs.Readings.{rule_with_target}
 use Rattle.build_files.specs.Leftovers.{has_rule, is_made}
@@ -69,11 +68,7 @@ module _ (b : Begun) (g : RuleGraph) (now : IsGraphNow b g) (number : ℕ) (r : 
       some_same (sym (ap (λ o. or_copy_in g o (slice_get g.rules number)) none ∙ ap (option_map (copy_in g)) at) ∙ is) in
       let targets : r.targets ≡ copy.path ∷ [] = ap (λ (x : Rule). x.targets) (sym same ∙ copy.is) in
       copy.lines ∙ sym (lines_at r.targets path None m
-      (λ q n. ap (rule_with b.graph) (only (among_same targets n)) ∙ copy.undeclared))
-    where
-      only : {p q : Path} → Among p (q ∷ []) → p ≡ q
-      only here = refl
-      only (there n) = elim n [ ]
+      (λ q n. ap (rule_with b.graph) (only b g now.read now.reading now.grown (among_same targets n)) ∙ copy.undeclared))
 
   -- and its lines are those of the model's rule
   pub lines_are : (of : declared.Rule) (path : Path) → slice_get g.rules number ≡ Some of → Among path r.targets →

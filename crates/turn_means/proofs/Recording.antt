@@ -1,14 +1,14 @@
 -- The records that a build's steps leave.
-use Rattle.std.proofs.Common.{◌≡◌, ◌⊎◌, inl, inr, true, false, List, [], ◌∷◌, Contains, Some, None, map, refl, sym, subst, ap, ◌∙◌, option_map}
+use Rattle.std.proofs.Common.{◌≡◌, ◌⊎◌, inl, inr, true, false, List, [], ◌∷◌, Contains, Some, refl, sym, subst, ap, ◌∙◌, option_map}
 use Rattle.scons_base.specs.declared.ids.RuleId.{RuleId}
-use Rattle.world_api.specs.Around.{Around, IsRunningTarget}
+use Rattle.world_api.specs.Around.{Around}
 use Rattle.world_api.specs.Reads.{stamp_of}
 use Rattle.deciders.specs.declared.recorded.Rec.{Rec}
-use Rattle.build_model.specs.Rules.{Path, Content, Rule, Record, Among, here, there}
+use Rattle.build_model.specs.Rules.{Path, Rule, Among, here, there}
 use Rattle.build_model.specs.Contents.{in_tree, dependencies}
 use Rattle.build_model.specs.Leaving.{IsRecordAfter, is_put, is_withdrawn, is_kept}
 use Rattle.build_model.specs.Moments.{Job as Given}
-use Rattle.build_model.specs.Records.{record_of, dependency_of, known_digest, stamp_kept}
+use Rattle.build_model.specs.Records.{dependency_of, known_digest, stamp_kept}
 use Rattle.build_model.specs.Steps.{Step, Fresh, Began, Ended, Lacks, Halts, began, settled, present_record, IsReady, is_source, is_made, IsPrepared, IsDecided, IsRunning}
 use Rattle.build_model.proofs.Agree.{same_record}
 use Rattle.build_model.proofs.Lists.{none_some, same_map}

@@ -1,12 +1,12 @@
 -- Which rules the running jobs are for, and what that leaves alone: sources, what is settled, and what didn't begin.
-use Rattle.std.proofs.Common.{◌≡◌, ◌⊎◌, inl, inr, List, Contains, Some, None, refl, sym, subst, ap, ◌∙◌}
+use Rattle.std.proofs.Common.{◌≡◌, List, Some, None, sym, subst, ◌∙◌}
 use Rattle.world_api.specs.Around.{Around, IsRunningTarget}
 use Rattle.world_api.specs.Reads.{stamp_of}
 use Rattle.build_model.specs.Rules.{Path, Rule, Among}
 use Rattle.build_model.specs.Contents.{IsLawful}
 use Rattle.build_model.specs.Laws.{IsSeenSo}
 use Rattle.build_model.specs.Moments.{Job as Given}
-use Rattle.build_model.specs.Steps.{Step, Build, began, settled, IsReady, is_source, is_made, IsRun, IsRunning}
+use Rattle.build_model.specs.Steps.{Step, began, settled, IsReady, is_source, is_made, IsRun, IsRunning}
 use Rattle.build_model.proofs.Lists.{none_some, some_same}
 use Rattle.build_model.proofs.Ready.{needed_place}
 use Rattle.build_model.proofs.Runs.{begun_prepared, settled_done}

@@ -1,5 +1,5 @@
 -- Records stay true from call to call, and what a stop leaves is told by them.
-use Rattle.std.proofs.Common.{◌≡◌, ◌⊎◌, inl, inr, Bool, true, false, List, [], ◌∷◌, ◌++◌, Contains, Option, Some, None, map, cond, refl, sym, subst, ap, ◌∙◌, option_map}
+use Rattle.std.proofs.Common.{◌≡◌, ◌⊎◌, inl, inr, Bool, true, false, List, [], ◌∷◌, Contains, Option, Some, None, cond, refl, sym, subst, ap, ◌∙◌, option_map}
 use Rattle.std.proofs.lemmas.Slice.Eq.{bytes_eq-Decides}
 use Rattle.std.specs.Str.{bytes_eq}
 use Rattle.world_api.specs.Act.{act}
@@ -14,7 +14,7 @@ use Rattle.deciders.specs.declared.recorded.Rec.{Rec}
 use Rattle.sign_store.specs.Tables.{is_among, with_each}
 use Rattle.build_model.specs.Rules.{Path, Bytes, Content, Tree, Setting, Record, Among, here, there}
 use Rattle.build_model.specs.Records.{AreSound, IsMadeBy, IsMet}
-use Rattle.build_model.proofs.Lists.{none_some, some_same, true_false}
+use Rattle.build_model.proofs.Lists.{none_some, some_same}
 use Rattle.build_means.specs.Builds.{Kept}
 use Rattle.build_means.specs.Graphs.{act_by}
 use Rattle.build_means.specs.Records.{record_in, records_in}
@@ -28,29 +28,29 @@ use Rattle.turn_means.proofs.Files.{contained}
 use Rattle.turn_means.proofs.Jobs.{run_either, run_before}
 
 -- some running job writes a path, or none does
-run_here : {run : Running} {running : List Running} {path : Path} → Contains run.job.targets path → IsRunningTarget (run ∷ running) path
-run_here {run} m = (run, among_contains here, m)
+run_here : {run : Running} (running : List Running) {path : Path} → Contains run.job.targets path → IsRunningTarget (run ∷ running) path
+run_here {run} running m = (run, among_contains here, m)
 
-run_later : {run : Running} {running : List Running} {path : Path} → IsRunningTarget running path → IsRunningTarget (run ∷ running) path
-run_later {running = running} t = (t.0, among_contains (there (contains_among running t.1)), t.2)
+run_later : {run : Running} (running : List Running) {path : Path} → IsRunningTarget running path → IsRunningTarget (run ∷ running) path
+run_later running t = (t.0, among_contains (there (contains_among running t.1)), t.2)
 
 pub written_or : (running : List Running) (path : Path) → IsRunningTarget running path ⊎ (IsRunningTarget running path → ⊥)
 written_or [] path = inr (λ t. none_there t.1)
 written_or (run ∷ running) path = by (contained run.job.targets path) (written_or running path)
   where
     out : (Contains run.job.targets path → ⊥) → (IsRunningTarget running path → ⊥) → IsRunningTarget (run ∷ running) path → ⊥
-    out no none t = at t (contains_among (run ∷ running) t.1)
+    out unlisted none t = at t (contains_among (run ∷ running) t.1)
       where
         at : (t : IsRunningTarget (run ∷ running) path) → Among t.0 (run ∷ running) → ⊥
-        at t here = no t.2
+        at t here = unlisted t.2
         at t (there m) = none (t.0, among_contains m, t.2)
 
     by : Contains run.job.targets path ⊎ (Contains run.job.targets path → ⊥) →
         IsRunningTarget running path ⊎ (IsRunningTarget running path → ⊥) →
         IsRunningTarget (run ∷ running) path ⊎ (IsRunningTarget (run ∷ running) path → ⊥)
-    by (inl m) rest = inl (run_here m)
-    by (inr no) (inl t) = inl (run_later t)
-    by (inr no) (inr none) = inr (out no none)
+    by (inl m) rest = inl (run_here running m)
+    by (inr unlisted) (inl t) = inl (run_later running t)
+    by (inr unlisted) (inr none) = inr (out unlisted none)
 
 among_is : (paths : List Path) (path : Path) → is_among paths path ≡ true → Among path paths
 among_is paths path e =

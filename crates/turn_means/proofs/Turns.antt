@@ -1,11 +1,10 @@
 -- How a build stands behind a turn that starts no job and takes no ending.
-use Rattle.std.proofs.Common.{◌≡◌, ◌⊎◌, inl, inr, ℕ, true, false, Bool, List, [], ◌∷◌, ◌++◌, Contains, Some, None, cond, refl, sym, subst, ap, ◌∙◌, append-nil}
+use Rattle.std.proofs.Common.{◌≡◌, true, false, Bool, List, [], ◌∷◌, ◌++◌, Some, cond, refl, sym, subst, ap, ◌∙◌, append-nil}
 use Rattle.std.proofs.lemmas.List.{append_cancel_left}
 use Rattle.scons_base.specs.declared.ids.NodeId.{NodeId}
 use Rattle.scons_base.specs.declared.ids.RuleId.{RuleId}
 use Rattle.world_api.specs.Around.{Around, Entry, Started}
 use Rattle.world_api.specs.Calls.{Asks}
-use Rattle.world_api.specs.Counts.{Counts}
 use Rattle.world_api.specs.declared.job.Job.{Job}
 use Rattle.deciders.specs.declared.recorded.Rec.{Rec}
 use Rattle.rule_graph.specs.Graphs.{RuleGraph}
@@ -23,7 +22,7 @@ use Rattle.plan_means.specs.Deciding.{MayBeDecided}
 use Rattle.plan_means.specs.Growth.{Grows}
 use Rattle.plan_means.specs.Planning.{IsGraphNow}
 use Rattle.plan_means.specs.Scanning.{IsFoundIn}
-use Rattle.plan_means.specs.Stepping.{Tells, is_fresh, lacks_one}
+use Rattle.plan_means.specs.Stepping.{is_fresh, lacks_one}
 use Rattle.plan_means.specs.Ties.{Ties}
 use Rattle.plan_means.proofs.Beginning.{is_tied}
 use Rattle.plan_means.proofs.Deciding.{may_be_decided}
@@ -37,7 +36,7 @@ use Rattle.run_means.specs.Ways.{IsWay}
 use Rattle.run_means.proofs.Clearing.{calls_clear}
 use Rattle.run_means.proofs.Keeping.{begin, cleared, fresh, lacking, halting}
 use Rattle.run_means.proofs.Settled.{stays_so}
-use Rattle.turn_means.specs.Standing.{Outset, IsOutset, begun_at, setting_at, Standing, AreUnread, KeepsUnbegun, IsNumbered, AreNumbered, Knows, IsHalted, IsAt}
+use Rattle.turn_means.specs.Standing.{Outset, IsOutset, begun_at, setting_at, Standing, IsNumbered, Knows, IsHalted, IsAt}
 use Rattle.turn_means.specs.Laws.{IsSetOut, LooksOn, Reports, IsTold, IsWeighed, is_due_now}
 use Rattle.turn_means.proofs.Deciding.{tied, may_be_fresh}
 use Rattle.turn_means.specs.Recording.{build_at}
@@ -200,8 +199,7 @@ module _ (o : Outset) (outset : IsOutset o) where
       (fresh o.wanted o.kept o.counts o.before old.around jobs past r at.way
       (may_be_fresh o outset jobs old past at.way k rule r rec weighed not_due))
       weighed.goes_on is_told.goes is_told.reports (λ e w. w) (λ q m. m) (λ q out m. out m) (λ q out m. out (there m))
-      (λ e k. events_keep (begun_at o) old.graph o.wanted.requested old.around.tree past old.plan new.plan
-      (told.Fresh rule) (Fresh r) k.now k.ties (is_fresh rule r weighed.is weighed.chosen.next) is_told.step)
+      (λ e k. events_keep (begun_at o) old.graph o.wanted.requested old.around.tree past old.plan new.plan k.now k.ties (is_fresh rule r weighed.is weighed.chosen.next) is_told.step)
       (λ e k. k.goes_on)
 
   -- a build that goes on after faults isn't over
@@ -228,8 +226,7 @@ module _ (o : Outset) (outset : IsOutset o) where
         (lacking o.wanted o.kept o.counts o.before old.around jobs past r path at.way is_lacking)
         goes_on is_told.goes is_told.reports (λ e w. true_false (sym faulted ∙ e)) (λ q m. m) (λ q out m. out m)
         (λ q out m. out m)
-        (λ e k. events_keep (begun_at o) old.graph o.wanted.requested old.around.tree past old.plan new.plan
-        (told.Absent rule node) (Lacks r path) k.now k.ties (lacks_one rule node r path is next) is_told.step)
+        (λ e k. events_keep (begun_at o) old.graph o.wanted.requested old.around.tree past old.plan new.plan k.now k.ties (lacks_one rule node r path is next) is_told.step)
         (λ e k. not_over o.wanted.keep past (keeps e) k.goes_on)
 
   -- a build sets out

@@ -1,5 +1,5 @@
 -- What each turn of a build keeps: a law for each.
-use Rattle.std.specs.Prelude.{◌≡◌, ◌⊎◌, ◌<◌, ℕ, Bool, true, false, List, [], ◌∷◌, length, map, Contains, Some, slice_get}
+use Rattle.std.specs.Prelude.{◌≡◌, ◌<◌, ℕ, Bool, true, false, List, [], ◌∷◌, length, map, Contains, Some, slice_get}
 use Rattle.std.specs.List.{count_by}
 use Rattle.scons_base.specs.declared.ids.NodeId.{NodeId}
 use Rattle.scons_base.specs.declared.ids.RuleId.{RuleId}
@@ -9,7 +9,6 @@ use Rattle.world_api.specs.Counts.{Counts}
 use Rattle.world_api.specs.Reads.{stamp_of}
 use Rattle.world_api.specs.declared.job.Ended.{Ended}
 use Rattle.world_api.specs.declared.job.Job.{Job}
-use Rattle.deciders.specs.declared.recorded.Dep.{Dep}
 use Rattle.deciders.specs.declared.recorded.Rec.{Rec}
 use Rattle.deciders.specs.Records.{name_of}
 use Rattle.rule_graph.specs.declared.rule.Rule as declared
@@ -23,7 +22,7 @@ use Rattle.task_plan.specs.Watched.{IsNoneReady, AreGoingOn, IsFinished}
 use Rattle.task_plan.specs.Plans.{Planned, IsDecidedNext, IsScannedNext}
 use Rattle.task_plan.specs.declared.want.PlanEvent.{PlanEvent}
 use Rattle.task_plan.specs.declared.want.PlanEvent.TheVariants as told
-use Rattle.build_model.specs.Rules.{Path, Rule, Among}
+use Rattle.build_model.specs.Rules.{Path, Rule}
 use Rattle.build_model.specs.Moments.{Job as Given}
 use Rattle.build_model.specs.Steps as model
 use Rattle.build_model.specs.Steps.{Step, Fresh, Began, Lacks, Halts}
@@ -43,7 +42,6 @@ use Rattle.plan_means.specs.Scanning.{IsFoundIn}
 use Rattle.run_means.specs.Clears.{Clears}
 use Rattle.run_means.specs.Laws.{MayWait, RunsSo}
 use Rattle.run_means.specs.Turns.{job_for}
-use Rattle.run_means.specs.Ways.{IsWay}
 use Rattle.turn_means.specs.Standing.{Outset, IsOutset, Standing, begun_at, AreUnread, IsAt}
 
 -- ---- a build begins

@@ -1,6 +1,5 @@
 -- That records tell the truth wherever a build may be stopped, call by call.
 use Rattle.std.specs.Prelude.{◌≡◌, ◌⊎◌, List, Contains, map, Some, None}
-use Rattle.deciders.specs.Spelling.{work_byte}
 use Rattle.deciders.specs.declared.recorded.Rec.{Rec}
 use Rattle.sign_store.specs.Tables.{with_each}
 use Rattle.world_api.specs.Around.{Around, Running, IsRunningTarget}

@@ -7,7 +7,6 @@ mod laws;
 pub use laws::{
     begun_have_none, calls_are_safe, done_are_true, ended_have_theirs, endings_stand, ends_stand,
     finished_succeed, fresh_stands, halts_stand, lacks_stand, launches_stand, looks_stand,
-    records_are_left, records_begin, records_stay, refusals_stand, scans_stand,
-    setting_out_stands, standing_runs, stops_are_sound, true_stay, weighed_have_records,
-    well_goes_on,
+    records_are_left, records_begin, records_stay, refusals_stand, scans_stand, setting_out_stands,
+    standing_runs, stops_are_sound, true_stay, weighed_have_records, well_goes_on,
 };
