@@ -1,4 +1,5 @@
 mod Candidates
+mod Copying
 mod Growth
 mod Knowing
 pub mod Looking
@@ -7,6 +8,7 @@ mod Noting
 mod Places
 mod Presence
 mod RuleAt
+mod Scans
 mod Searching
 mod Seeing
 mod Testing
