@@ -175,7 +175,7 @@ pub has_copied : (b : Begun) (g : RuleGraph) (inputs : Inputs) (before after : A
 has_copied b g inputs before after path source now asks found is =
     ap is_some (from_found b g inputs before after path source now asks found is)
 
-rule_none : (r : Option RuleId) (o : Option ℕ) → option_map (λ id. id.0) r ≡ o → is_some r ≡ false → o ≡ None
+pub rule_none : (r : Option RuleId) (o : Option ℕ) → option_map (λ id. id.0) r ≡ o → is_some r ≡ false → o ≡ None
 rule_none None o same none = sym same
 rule_none (Some id) o same none = true_false none
 

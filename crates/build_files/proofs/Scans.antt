@@ -1,8 +1,9 @@
 -- What scans found stays so as the graph grows and as more is found.
 use Rattle.std.proofs.Common.{◌≡◌, ◌∙◌, ap, sym, subst, refl, ℕ, Bool, true, false, cond, List, [], ◌∷◌, ◌++◌, Option, Some, None}
-use Rattle.std.specs.Prelude.{Result, Ok, Err, IfOk, nat_eq, slice_get, is_some, if◌then◌else◌}
+use Rattle.std.specs.Prelude.{Result, Ok, Err, IfOk, IsErrAnd, nat_eq, slice_get, is_some, if◌then◌else◌}
 use Rattle.std.specs.Global.{Vec}
 use Rattle.std.specs.List.{list_any}
+use Rattle.std.specs.Map.{lookup}
 use Rattle.std.specs.Option.{option_map}
 use Rattle.std.specs.Str.{bytes_eq}
 use Rattle.std.specs.Cmp.Lexicographic.{pointwise}
@@ -16,12 +17,14 @@ use Rattle.rule_graph.specs.declared.rule.Rule.{Rule}
 use Rattle.rule_graph.specs.Graphs.{RuleGraph}
 use Rattle.world_api.specs.Around.{Around, IsRunningTarget}
 use Rattle.world_api.specs.Calls.{Asks}
+use Rattle.world_api.specs.Counts.{Counts}
 use Rattle.build_model.specs.Rules.{Path}
 use Rattle.build_means.specs.Grown.{Begun}
 use Rattle.build_means.proofs.Growing.{get_front}
 use Rattle.build_means.proofs.Lists.{none_some, some_same, true_false, and_both}
 use Rattle.build_files.proofs.Searching.{place_more, nodes_more}
 use Rattle.build_files.proofs.Truths.{included_same}
+use Rattle.build_files.specs.Causes.{HasEndCause, HasLookCause}
 use Rattle.build_files.specs.Kept.{dirs_at, includes_in, past, same_scan, AreFound, AreTrue, IsFoundAs, IsFoundFor, IsListOf, IsStill, SameGone}
 use Rattle.build_files.specs.Searched.{meant, AreNodesOf, HasMore}
 use Rattle.build_files.specs.declared.end.ListEnd.{ListEnd}
@@ -160,6 +163,18 @@ found_kept b g gone around old new scan value lists last updates this is = recor
         (found_at_same b g gone around new scan q value.items e (found_over b g gone around old new scan value.items stay this))
     by false q nodes e same = found_over b g gone around old new q nodes.items stay (is.each q nodes same)
 
+-- where a scan couldn't be kept it is as it was
+pub found_unkept : (b : Begun) (g : RuleGraph) (gone : List Path) (around : Around) (old new : Found) → new.lists.keys ≡ old.lists.keys → new.last ≡ old.last
+    → new.files.entries ≡ old.files.entries → AreFound b g gone around old → AreFound b g gone around new
+found_unkept b g gone around old new lists last same is = record {
+  each = λ scan nodes kept.
+      found_over b g gone around old new scan nodes.items (dirs_kept old new lists)
+      (is.each scan nodes (ap (λ entries. lookup (same_scan scan) entries) (sym same) ∙ kept));
+  last = λ rule list noted.
+      let l = is.last rule list (sym last ∙ noted) in
+      record { declared = l.declared; at = l.at; dirs = dirs_kept old new lists list l.declared.paths l.dirs };
+}
+
 -- so what is kept of files is true
 pub found_true : (b : Begun) (g : RuleGraph) (old : Inputs) (found : Found) (around : Around) → AreFound b g old.gone.keys around found → AreTrue b g old around
     → AreTrue b g (record old { found = found }) around
@@ -208,3 +223,8 @@ pub kept_nodes : (g : RuleGraph) (paths : List Path) (nodes : List NodeId) (r : 
     → IfOk r (λ found. AreNodesOf g paths found)
 kept_nodes g paths nodes (Ok kept) same are = subst (λ ns. AreNodesOf g paths ns) (sym same) are
 kept_nodes g paths nodes (Err e) same are = tt
+
+-- and an end that is handed on has its cause
+pub handed_on : {T : Type 0} (a b : Counts) (r : Result T ListEnd) (e : ListEnd) → IsErrAnd r (λ x. x ≡ e) → HasEndCause a b e → HasLookCause a b r
+handed_on a b (Ok value) e h is = absurd h
+handed_on a b (Err x) e h is = subst (λ y. HasEndCause a b y) (sym h) is

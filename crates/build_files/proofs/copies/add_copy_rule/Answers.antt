@@ -38,13 +38,13 @@ returns-clause-truth c = λ b inputs around path at none copied is.
     let second : IsReading c.intern.new.self = record { apart = c.laws-2.ensures.apart; single = c.laws-2.ensures.single; named = c.laws-2.ensures.named } in
     let third : IsReading c.add_rule.new.self = record { apart = c.laws-3.ensures.apart; single = c.laws-3.ensures.single; named = c.laws-3.ensures.named } in
     copy_true b c.args.graph.now c.intern.new.self c.add_rule.new.self inputs around c.args.node c.in_ok-source.source path c.args.source.now _ c.in_ok-source.ensures.ok.0 c.intern.ensures.rest
-    (subst (λ (rule : Rule). AddsRule c.intern.new.self rule _ c.add_rule.new.self) c.in_ok-rule.ensures.is c.in_ok-add_rule.ensures.ok) first second third at none copied is
+    (subst (λ (rule : Rule). AddsRule c.intern.new.self rule c.in_ok-add_rule.field-0.0 c.add_rule.new.self) c.in_ok-rule.ensures.is c.in_ok-add_rule.ensures.ok) first second third at none copied is
 
 pub returns-clause-made : goal.returns-clause-made
 returns-clause-made c = λ none.
     let second : IsReading c.intern.new.self = record { apart = c.laws-2.ensures.apart; single = c.laws-2.ensures.single; named = c.laws-2.ensures.named } in
     let third : IsReading c.add_rule.new.self = record { apart = c.laws-3.ensures.apart; single = c.laws-3.ensures.single; named = c.laws-3.ensures.named } in
-    copy_made c.args.graph.now c.intern.new.self c.add_rule.new.self c.args.node c.in_ok-source.source _ c.intern.ensures.rest (subst (λ (rule : Rule). AddsRule c.intern.new.self rule _ c.add_rule.new.self) c.in_ok-rule.ensures.is c.in_ok-add_rule.ensures.ok) second third none
+    copy_made c.args.graph.now c.intern.new.self c.add_rule.new.self c.args.node c.in_ok-source.source _ c.intern.ensures.rest (subst (λ (rule : Rule). AddsRule c.intern.new.self rule c.in_ok-add_rule.field-0.0 c.add_rule.new.self) c.in_ok-rule.ensures.is c.in_ok-add_rule.ensures.ok) second third none
 
 pub returns-in_err-add_rule-clause-grows : goal.returns-in_err-add_rule-clause-grows
 returns-in_err-add_rule-clause-grows c =

@@ -27,8 +27,8 @@ returns-clause-gone g c = c.add_found.ensures.gone ∙ c.scan.ensures.gone
 pub returns-clause-truth : goal.returns-clause-truth
 returns-clause-truth g c = λ still told b is. c.add_found.ensures.truth told b (c.scan.ensures.truth still (c.add_found.ensures.looks.told.told told) b is)
 
-pub returns-in_err-scan-clause-grows : goal.returns-in_err-scan-clause-grows
-returns-in_err-scan-clause-grows g c = grew_by_nodes _ _ c.scan.ensures.grows
+pub returns-in_err-found-clause-grows : goal.returns-in_err-found-clause-grows
+returns-in_err-found-clause-grows g c = grew_by_nodes _ _ c.scan.ensures.grows
 
 pub returns-clause-found : goal.returns-clause-found
 returns-clause-found g c = λ still x path rule at told b is.
