@@ -1,3 +1,4 @@
+mod Beginning
 mod Candidates
 mod Copying
 mod Growth
