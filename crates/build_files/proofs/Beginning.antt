@@ -1,5 +1,5 @@
 -- What is kept of files is true as a build begins: nothing is kept.
-use Rattle.std.proofs.Common.{◌≡◌, inr, ◌∙◌, ap, sym, subst, refl, ℕ, true, List, [], length, None, Some, arith}
+use Rattle.std.proofs.Common.{◌≡◌, inr, ◌∙◌, ap, sym, subst, refl, ℕ, List, [], length, arith}
 use Rattle.std.specs.List.{list_any}
 use Rattle.std.specs.Str.{bytes_eq}
 use Rattle.std.proofs.lemmas.List.{append-nil}
@@ -12,7 +12,7 @@ use Rattle.build_means.specs.Rules.{IsReading}
 use Rattle.build_means.proofs.Lists.{none_some, true_false}
 use Rattle.build_files.proofs.Truths.{unread_is}
 use Rattle.build_files.specs.Beginnings.{Begins}
-use Rattle.build_files.specs.Kept.{past, stamp_past, AreTrue, IsTrueOf}
+use Rattle.build_files.specs.Kept.{past, stamp_past, AreFound, AreTrue, IsTrueOf}
 use Rattle.build_files.specs.Seen.{seen_at, unseen}
 use Rattle.build_files.specs.declared.inputs.Inputs.{Inputs}
 use Rattle.build_files.specs.declared.seen.Seen.{Seen}
@@ -34,8 +34,9 @@ module _ (b : Begun) (g : RuleGraph) (inputs : Inputs) (gone : List Path) (aroun
       let none = subst (λ (r : List Running). IsRunningTarget r path) is.idle running in
       absurd (omega (arith, none.1.1))
 
-  pub begun_true : inputs.unknown.keys ≡ [] → inputs.declared ≡ length g.rules → AreTrue b g inputs around
-  begun_true unknown declared = record {
+  pub begun_true : inputs.unknown.keys ≡ [] → inputs.declared ≡ length g.rules → AreFound b g inputs.gone.keys around inputs.found →
+      AreTrue b g inputs around
+  begun_true unknown declared found = record {
     reading = subst IsReading (sym is.graph) is.reading;
     grown = record {
       top = ap (λ (x : RuleGraph). x.top) (sym is.graph);
@@ -55,4 +56,5 @@ module _ (b : Begun) (g : RuleGraph) (inputs : Inputs) (gone : List Path) (aroun
     behind = λ node le. nothing node;
     unknown = λ path among. true_false (sym among ∙ ap (list_any (bytes_eq path)) unknown);
     gone = λ path looked. ap (λ (x : RuleGraph). is_copied x path) is.graph ∙ is.copied path (ap (list_any (bytes_eq path)) (sym keys) ∙ looked);
+    found = found;
   }

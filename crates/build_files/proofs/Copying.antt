@@ -1,5 +1,5 @@
 -- What is kept of files stays true as the copy rule of a file is added.
-use Rattle.std.proofs.Common.{◌≡◌, ◌⊎◌, inl, inr, ◌∙◌, ap, sym, subst, refl, ℕ, Bool, true, false, List, [], ◌∷◌, ◌++◌, append_assoc, length, Option, Some, None}
+use Rattle.std.proofs.Common.{◌≡◌, ◌⊎◌, inl, inr, ◌∙◌, ap, sym, subst, refl, ℕ, true, false, List, [], ◌∷◌, ◌++◌, append_assoc, length, Option, Some, None}
 use Rattle.std.specs.Prelude.{Result, Ok, Err, IfOk, OnOk, MatchOption, nat_eq, slice_get, is_some}
 use Rattle.std.specs.Str.{bytes_eq}
 use Rattle.std.specs.Cmp.Lexicographic.{pointwise}
@@ -7,15 +7,14 @@ use Rattle.std.proofs.lemmas.Bool.Decides.{Decides-eqb}
 use Rattle.std.proofs.lemmas.List.{append-nil}
 use Rattle.std.specs.Option.{unwrap_or}
 use Rattle.scons_base.specs.declared.ids.NodeId.{NodeId}
-use Rattle.node_tree.specs.Nodes.{number_of, AreApart, Interns}
+use Rattle.node_tree.specs.Nodes.{number_of, Interns}
 use Rattle.rule_graph.specs.declared.rule.Rule.{Rule}
 use Rattle.rule_graph.specs.Graphs.{RuleGraph, path_of, AddsRule}
 use Rattle.rule_graph.specs.Rules.{rule_of, is_target_of, equal_rule, is_same, node_eq, AreSingle}
 use Rattle.world_api.specs.Around.{Around}
 use Rattle.build_model.specs.Rules.{Path, Among, here, there}
-use Rattle.build_model.specs.Graphs.{copy_rule}
 use Rattle.build_means.specs.Copies.{copied_from}
-use Rattle.build_means.specs.Grown.{Begun, IsGrown, IsCopyOf, copy_in}
+use Rattle.build_means.specs.Grown.{Begun, IsCopyOf, copy_in}
 use Rattle.build_means.specs.Rules.{IsReading, rule_with}
 use Rattle.build_means.proofs.Growing.{get_front, are_rules}
 use Rattle.build_means.proofs.Lists.{none_some, true_false, first_place, and_both, or_first}

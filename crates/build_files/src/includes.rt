@@ -44,10 +44,14 @@ pub(crate) struct Found {
 }
 
 impl Found {
-    pub(crate) fn new(alloc: Global) -> Found {
+    pub(crate) fn new(alloc: Global) -> Found
+        ensures { (b : Begun) (g : RuleGraph) (gone : List (List ℕ)) (around : Around) → AreFound b g gone around result }
+    {
+        let lists = IndexSet::new(alloc);
+        let files = IndexMap::new(alloc);
         Found {
-            lists: IndexSet::new(alloc),
-            files: IndexMap::new(alloc),
+            lists,
+            files,
             last: None,
             alloc,
         }
@@ -120,10 +124,7 @@ impl Inputs {
     {
         let dirs = self.found.list_of(rule, rule_at(graph, rule)?)?;
         match self.found.files.get(&Scan { file, dirs }) {
-            Some(found) => Ok(Some(Listing::new(Vec::from_slice(
-                self.alloc,
-                found.as_slice(),
-            )?))),
+            Some(found) => Ok(Some(Listing::new(Vec::from_slice(self.alloc, found.as_slice())?))),
             None => Ok(None),
         }
     }

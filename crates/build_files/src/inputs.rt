@@ -61,11 +61,12 @@ impl Inputs {
     {
         let files = SeenFiles::new(alloc);
         let unknown = IndexSet::new(alloc);
+        let found = Found::new(alloc);
         Inputs {
             files,
             unknown,
             gone,
-            found: Found::new(alloc),
+            found,
             looked_at: Vec::new(alloc),
             declared: graph.rules(),
             hash,

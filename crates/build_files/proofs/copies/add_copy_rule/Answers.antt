@@ -1,4 +1,4 @@
-use Rattle.std.proofs.Common.{◌∙◌, ap, sym, subst}
+use Rattle.std.proofs.Common.{sym, subst}
 use Rattle.rule_graph.specs.declared.rule.Rule.{Rule}
 use Rattle.rule_graph.specs.Graphs.{AddsRule}
 use Rattle.build_means.specs.Rules.{IsReading}

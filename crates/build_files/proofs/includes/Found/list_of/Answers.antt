@@ -19,8 +19,8 @@ returns-in_err-list-clause-truth c = λ b g gone around at is.
     let stay = dirs_kept c.args.self.now new c.in_err-list.ensures.err in
     found_listed b g gone around c.args.self.now new refl stay
     (λ rule list noted.
-      let l = is.last rule list noted in
-      record { declared = l.declared; at = l.at; dirs = stay list l.declared.paths l.dirs }) is
+    let l = is.last rule list noted in
+    record { declared = l.declared; at = l.at; dirs = stay list l.declared.paths l.dirs }) is
 
 pub returns-clause-truth : goal.returns-clause-truth
 returns-clause-truth c = λ b g gone around at is.

@@ -1,8 +1,6 @@
-use Rattle.std.proofs.Common.{◌∙◌, refl, ap}
+use Rattle.std.proofs.Common.{◌∙◌, refl}
 use Rattle.world_api.proofs.Looking.{looks_same, looks_joined}
-use Rattle.build_files.specs.declared.inputs.Inputs.{Inputs}
 use Rattle.build_files.proofs.Copying.{grew_same, grew_joined}
-use Rattle.build_files.proofs.Truths.{looked_on}
 use Rattle.build_files.proofs.inputs.Inputs.add_rest.Goals as goal
 
 pub returns-in_err-add_named-clause-looks : goal.returns-in_err-add_named-clause-looks

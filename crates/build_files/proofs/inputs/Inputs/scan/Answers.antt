@@ -1,4 +1,4 @@
-use Rattle.std.proofs.Common.{◌∙◌, List, Option, IfSome, ap, sym, subst}
+use Rattle.std.proofs.Common.{List, Option, IfSome, ap, subst}
 use Rattle.scons_base.specs.declared.ids.NodeId.{NodeId}
 use Rattle.build_model.specs.Rules.{Path}
 use Rattle.build_files.specs.Kept.{includes_in, past}
