@@ -15,6 +15,7 @@ use Rattle.build_model.specs.Rules as model
 use Rattle.build_means.proofs.Growing.{get_front, get_either, rule_stays}
 use Rattle.build_means.proofs.Lists.{none_some, true_false, place_of}
 use Rattle.build_files.proofs.Places.{past_end, numbered}
+use Rattle.build_files.proofs.Scans.{found_more}
 use Rattle.build_files.proofs.Truths.{unread_is}
 use Rattle.build_files.specs.Kept.{past, stamp_past, AreTrue, IsTrueOf}
 use Rattle.build_files.specs.Leftovers.{is_made, has_rule}
@@ -107,6 +108,7 @@ module _ (b : Begun) (g : RuleGraph) (inputs : Inputs) (around : Around) (path :
     behind = λ node le. is.behind node (omega (arith, length-append g.nodes (path ∷ []), le));
     unknown = is.unknown;
     gone = is.gone;
+    found = found_more b g (with_path g path) inputs.gone.keys around inputs.found (record { more = path ∷ []; nodes = refl; rest = refl }) is.found;
   }
 
 one_more : (nodes new : List Path) (path : Path) (id : ℕ) → number_of nodes path ≡ None → Interns nodes path id new → (id ≡ length nodes) × (new ≡ nodes ++ path ∷ [])

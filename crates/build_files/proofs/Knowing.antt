@@ -164,13 +164,18 @@ module _ (b : Begun) (g : RuleGraph) (inputs : Inputs) (around : Around) (is : A
       ap (λ o. is_some o || (is_some (means.copied_from b.graph b.tree path) || is_some (b.tree path)))
       ((are_rules b g is.reading now is.grown).undeclared node path at none)
 
+-- what a path is copied from, by what is found now
+pub from_found : (b : Begun) (g : RuleGraph) (inputs : Inputs) (before after : Around) (path : Path) (source : Option Path) → IsReading g → Asks before after
+    → source ≡ copied_from g inputs.declared after path → AreTrue b g inputs before → source ≡ means.copied_from b.graph b.tree path
+from_found b g inputs before after path source now asks found is = found ∙ from_same b g inputs after (asked b g inputs before after asks is) now path
+
 -- whether a path has a copy rule, by what is found now
 pub has_copied : (b : Begun) (g : RuleGraph) (inputs : Inputs) (before after : Around) (path : Path) (source : Option Path) → IsReading g → Asks before after
     → source ≡ copied_from g inputs.declared after path → AreTrue b g inputs before → is_some source ≡ is_some (means.copied_from b.graph b.tree path)
 has_copied b g inputs before after path source now asks found is =
-    ap is_some (found ∙ from_same b g inputs after (asked b g inputs before after asks is) now path)
+    ap is_some (from_found b g inputs before after path source now asks found is)
 
-rule_none : (r : Option RuleId) (o : Option ℕ) → option_map (λ id. id.0) r ≡ o → is_some r ≡ false → o ≡ None
+pub rule_none : (r : Option RuleId) (o : Option ℕ) → option_map (λ id. id.0) r ≡ o → is_some r ≡ false → o ≡ None
 rule_none None o same none = sym same
 rule_none (Some id) o same none = true_false none
 

@@ -1,4 +1,6 @@
+mod Beginning
 mod Candidates
+mod Copying
 mod Growth
 mod Knowing
 pub mod Looking
@@ -7,6 +9,7 @@ mod Noting
 mod Places
 mod Presence
 mod RuleAt
+mod Scans
 mod Searching
 mod Seeing
 mod Testing

@@ -82,6 +82,7 @@ unknown_kept b g old new around same unknown is = subst (λ i. AreTrue b g i aro
   behind = is.behind;
   unknown = unknown;
   gone = is.gone;
+  found = is.found;
 })
 
 either_there : (p k path : Path) (keys : List Path) → (list_any (bytes_eq p) keys ≡ true) ⊎ (p ≡ path) → (list_any (bytes_eq p) (k ∷ keys) ≡ true) ⊎ (p ≡ path)

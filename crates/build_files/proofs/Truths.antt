@@ -10,17 +10,21 @@ use Rattle.c_scanner.specs.declared.line.Include.{Include}
 use Rattle.deciders.specs.Digests.{digest_of}
 use Rattle.deciders.specs.declared.content.Digest.{Digest}
 use Rattle.rule_graph.specs.Graphs.{RuleGraph}
+use Rattle.rule_graph.specs.Rules.{rule_of}
 use Rattle.world_api.specs.Act.{Content}
 use Rattle.world_api.specs.Around.{Around, Tree, IsRunningTarget}
 use Rattle.world_api.specs.Calls.{Asks}
 use Rattle.world_api.specs.declared.hash.Hash.{Hash}
 use Rattle.build_model.specs.Rules.{Path}
+use Rattle.build_means.specs.Copies.{copied_from}
 use Rattle.build_means.specs.Grown.{Begun}
 use Rattle.build_means.proofs.Lists.{none_some, some_same, true_false}
 use Rattle.build_files.specs.Leftovers.{is_made}
-use Rattle.build_files.specs.Kept.{past, stamp_past, includes_in, IsSeenAs, IsUnread, IsTrueOf, AreTrue, IsStill, KeepsContent}
+use Rattle.build_files.specs.Kept.{past, stamp_past, includes_in, IsSeenAs, IsUnread, IsTrueOf, AreFound, AreTrue, IsLeftAlone, IsStill, KeepsContent, LooksAt}
+use Rattle.build_files.specs.Searched.{meant, AreNodesOf}
 use Rattle.build_files.specs.Seen.{seen_at, SeesOne, SeesTheSame}
 use Rattle.build_files.specs.declared.end.ListEnd.{ListEnd}
+use Rattle.build_files.specs.declared.includes.Found.{Found}
 use Rattle.build_files.specs.declared.inputs.Inputs.{Inputs}
 use Rattle.build_files.specs.declared.seen.Seen.{Seen}
 use Rattle.build_files.specs.declared.seen.SeenFiles.{SeenFiles}
@@ -67,6 +71,23 @@ seen_asked b gone old new path seen asks is = elim is.still [
   }
 ]
 
+-- what scans found is so after a look
+found_asked : (b : Begun) (g : RuleGraph) (gone : List Path) (old new : Around) (found : Found) → Asks old new → AreFound b g gone old found
+    → AreFound b g gone new found
+found_asked b g gone old new found asks is = record {
+  each = λ scan nodes kept.
+      let e = is.each scan nodes kept in
+      record {
+        paths = e.paths;
+        path = e.path;
+        dirs = e.dirs;
+        file = e.file;
+        still = λ running. e.still (subst (λ r. IsRunningTarget r e.path) asks.running running);
+        meaning = subst (λ includes. AreNodesOf g (meant b e.paths e.path includes) nodes.items) (sym (included_same gone old new e.path e.still asks)) e.meaning;
+      };
+  last = is.last;
+}
+
 -- the world was looked at
 pub asked : (b : Begun) (g : RuleGraph) (inputs : Inputs) (old new : Around) → Asks old new → AreTrue b g inputs old → AreTrue b g inputs new
 asked b g inputs old new asks is = record {
@@ -81,6 +102,7 @@ asked b g inputs old new asks is = record {
   behind = is.behind;
   unknown = is.unknown;
   gone = is.gone;
+  found = found_asked b g inputs.gone.keys old new inputs.found asks is.found;
 }
 
 -- something else is kept of one file
@@ -132,6 +154,8 @@ module _ (b : Begun) (g : RuleGraph) (old new : Inputs) (around : Around) (node 
         others n (λ same. absurd (omega (arith, same))) ∙ is.behind n le;
     unknown = λ p among. is.unknown p (ap (λ (i : Inputs). list_any (bytes_eq p) i.unknown.keys) (sym rest) ∙ among);
     gone = λ p looked. is.gone p (ap (list_any (bytes_eq p)) (sym same_gone) ∙ looked);
+    found = subst (λ (gone : List Path). AreFound b g gone around new.found) (sym same_gone)
+        (subst (λ (f : Found). AreFound b g old.gone.keys around f) (sym (ap (λ (i : Inputs). i.found) rest)) is.found);
   }
 
 -- a content was kept that stands there
@@ -175,6 +199,7 @@ kept_same b g old files around same is = record {
   behind = λ node le. same node ∙ is.behind node le;
   unknown = is.unknown;
   gone = is.gone;
+  found = is.found;
 }
 
 -- of one file something else is kept that is true
@@ -246,3 +271,70 @@ digest_by r a b content same is = subst (λ hash. IfOk r (λ digest. digest ≡ 
 pub file_stood : (b : Begun) (g : RuleGraph) (inputs : Inputs) (before after : Around) (path : Path) → Asks before after → is_made g path ≡ false
     → AreTrue b g inputs before → is_some (past inputs.gone.keys after.tree path) ≡ is_some (b.tree path)
 file_stood b g inputs before after path asks unmade is = ap is_some ((asked b g inputs before after asks is).rest path unmade)
+
+-- which rules were looked at is none of what is kept of files
+pub looked_on : (b : Begun) (g : RuleGraph) (old new : Inputs) (around : Around) → LooksAt old new → AreTrue b g old around → AreTrue b g new around
+looked_on b g old new around same is = subst (λ i. AreTrue b g i around) (sym same) (record {
+  reading = is.reading;
+  grown = is.grown;
+  hash = is.hash;
+  declared = is.declared;
+  rest = is.rest;
+  idle = is.idle;
+  seen = is.seen;
+  settled = is.settled;
+  behind = is.behind;
+  unknown = is.unknown;
+  gone = is.gone;
+  found = is.found;
+})
+
+-- the copy rule of one file was looked for
+pub kept_settled : (b : Begun) (g : RuleGraph) (old : Inputs) (files : SeenFiles) (around : Around) (node : ℕ) → IsLeftAlone b g node
+    → SeesOne old.files.seen.items files.seen.items node (record (seen_at old.files.seen.items node) { is_settled = true })
+    → AreTrue b g old around → AreTrue b g (record old { files = files }) around
+kept_settled b g old files around node alone sees is = record {
+  reading = is.reading;
+  grown = is.grown;
+  hash = is.hash;
+  declared = is.declared;
+  rest = is.rest;
+  idle = is.idle;
+  seen = λ n p there. by (nat_eq n node) n p refl there;
+  settled = λ n p there is_so none. settled_by (nat_eq n node) n p refl there is_so none;
+  behind = λ n le.
+      let within = slice_get_within g.nodes node alone.path alone.at in
+      sees.others n (λ same. absurd (omega (arith, same))) ∙ is.behind n le;
+  unknown = is.unknown;
+  gone = is.gone;
+  found = is.found;
+}
+  where
+    this : IsTrueOf b old.gone.keys around alone.path (record (seen_at old.files.seen.items node) { is_settled = true })
+    this =
+        let was = is.seen node alone.path alone.at in
+        record {
+          now = record { digest = was.now.digest; includes = was.now.includes; stamp = was.now.stamp };
+          still = elim was.still [ inl free ↦ inl free | inr unread ↦ inr (record { digest = unread.digest; includes = unread.includes; stamp = unread.stamp }) ];
+          is_file = was.is_file;
+        }
+
+    by : (c : Bool) (n : ℕ) (p : Path) → nat_eq n node ≡ c → slice_get g.nodes n ≡ Some p → IsTrueOf b old.gone.keys around p (seen_at files.seen.items n)
+    by true n p e there =
+        let same : n ≡ node = (Decides-eqb n node).0 e in
+        let path_same : alone.path ≡ p = some_same (sym alone.at ∙ (sym (ap (λ k. slice_get g.nodes k) same) ∙ there)) in
+        subst (λ k. IsTrueOf b old.gone.keys around p (seen_at files.seen.items k)) (sym same)
+        (subst (λ q. IsTrueOf b old.gone.keys around q (seen_at files.seen.items node)) path_same (subst (λ s. IsTrueOf b old.gone.keys around alone.path s) (sym sees.this) this))
+    by false n p e there =
+        let differ : n ≢ node = λ same. true_false (sym ((Decides-eqb n node).1 same) ∙ e) in
+        subst (λ s. IsTrueOf b old.gone.keys around p s) (sym (sees.others n differ)) (is.seen n p there)
+
+    settled_by : (c : Bool) (n : ℕ) (p : Path) → nat_eq n node ≡ c → slice_get g.nodes n ≡ Some p → (seen_at files.seen.items n).is_settled ≡ true
+        → rule_of g.rules n ≡ None → copied_from b.graph b.tree p ≡ None
+    settled_by true n p e there is_so none =
+        let same : n ≡ node = (Decides-eqb n node).0 e in
+        let path_same : alone.path ≡ p = some_same (sym alone.at ∙ (sym (ap (λ k. slice_get g.nodes k) same) ∙ there)) in
+        ap (copied_from b.graph b.tree) (sym path_same) ∙ alone.uncopied (ap (rule_of g.rules) (sym same) ∙ none)
+    settled_by false n p e there is_so none =
+        let differ : n ≢ node = λ same. true_false (sym ((Decides-eqb n node).1 same) ∙ e) in
+        is.settled n p there (ap (λ (s : Seen). s.is_settled) (sym (sees.others n differ)) ∙ is_so) none

@@ -1,15 +1,19 @@
 -- What is kept of the files of a build, and when it is true.
-use Rattle.std.specs.Prelude.{◌≡◌, ◌≢◌, ◌⊎◌, ◌≤◌, ℕ, Bool, true, false, List, [], Option, Some, None, Result, IfOk, is_some, length, slice_get, if◌then◌else◌}
+use Rattle.std.specs.Prelude.{◌≡◌, ◌≢◌, ◌⊎◌, ◌≤◌, ◌&&◌, ℕ, Bool, true, false, List, [], Option, Some, None, Result, IfOk, is_some, length, nat_eq, slice_get, if◌then◌else◌}
 use Rattle.std.specs.List.{list_any}
 use Rattle.std.specs.Option.{option_map}
 use Rattle.std.specs.Str.{bytes_eq}
+use Rattle.std.specs.Global.{Vec}
+use Rattle.indexmap.specs.IndexMap.{get}
 use Rattle.scons_base.specs.declared.ids.NodeId.{NodeId}
+use Rattle.scons_base.specs.declared.ids.RuleId.{RuleId}
 use Rattle.c_scanner.specs.Includes.{includes_of}
 use Rattle.c_scanner.specs.declared.line.Include.{Include}
 use Rattle.deciders.specs.Digests.{digest_of}
 use Rattle.deciders.specs.declared.content.Digest.{Digest}
 use Rattle.rule_graph.specs.Graphs.{RuleGraph}
 use Rattle.rule_graph.specs.Rules.{rule_of}
+use Rattle.rule_graph.specs.declared.rule.Rule.{Rule}
 use Rattle.world_api.specs.Act.{Content}
 use Rattle.world_api.specs.Around.{Around, Tree, IsRunningTarget}
 use Rattle.world_api.specs.Meaning.{Meaning}
@@ -20,8 +24,11 @@ use Rattle.build_means.specs.Copies.{is_copied, is_known, copied_from}
 use Rattle.build_means.specs.Grown.{Begun, IsGrown}
 use Rattle.build_means.specs.Rules.{IsReading}
 use Rattle.build_files.specs.Leftovers.{is_made}
+use Rattle.build_files.specs.Searched.{meant, AreNodesOf}
 use Rattle.build_files.specs.Seen.{seen_at, unseen}
 use Rattle.build_files.specs.declared.end.ListEnd.{ListEnd}
+use Rattle.build_files.specs.declared.includes.Found.{Found}
+use Rattle.build_files.specs.declared.includes.Scan.{Scan}
 use Rattle.build_files.specs.declared.inputs.Inputs.{Inputs}
 use Rattle.build_files.specs.declared.seen.Seen.{Seen}
 
@@ -57,6 +64,35 @@ pub record IsTrueOf (b : Begun) (gone : List Path) (around : Around) (path : Pat
   pub still : (IsRunningTarget around.running path → ⊥) ⊎ IsUnread seen
   pub is_file : (is : Bool) → seen.is_file ≡ Some is → is ≡ is_some (b.tree path)
 
+-- the list of directories that has this number
+abbrev pub dirs_at : Found → ℕ → Option (List Path)
+dirs_at found number = option_map (λ dirs. dirs.items) (slice_get found.lists.keys number)
+
+-- whether two scans are of one file with one list of directories
+abbrev pub same_scan : Scan → Scan → Bool
+same_scan a b = nat_eq a.file.0 b.file.0 && nat_eq a.dirs b.dirs
+
+-- What a scan found is so: the nodes of what the file includes now, looked for in the directories of that number; and no running
+-- job writes the file.
+pub record IsFoundAs (b : Begun) (g : RuleGraph) (gone : List Path) (around : Around) (found : Found) (scan : Scan) (nodes : List NodeId) : Type 0 where
+  pub paths : List Path
+  pub path : Path
+  pub dirs : dirs_at found scan.dirs ≡ Some paths
+  pub file : slice_get g.nodes scan.file.0 ≡ Some path
+  pub still : IsRunningTarget around.running path → ⊥
+  pub meaning : AreNodesOf g (meant b paths path (includes_in (past gone around.tree path))) nodes
+
+-- the directories of a rule have this number
+pub record IsListOf (g : RuleGraph) (found : Found) (rule : RuleId) (list : ℕ) : Type 0 where
+  pub declared : Rule
+  pub at : slice_get g.rules rule.0 ≡ Some declared
+  pub dirs : dirs_at found list ≡ Some declared.paths
+
+-- What scans found is so, and the rule that was scanned last has the directories that are noted of it.
+pub record AreFound (b : Begun) (g : RuleGraph) (gone : List Path) (around : Around) (found : Found) : Type 0 where
+  pub each : (scan : Scan) (nodes : Vec NodeId) → get same_scan found.files scan ≡ Some nodes → IsFoundAs b g gone around found scan nodes.items
+  pub last : (rule : RuleId) (list : ℕ) → found.last ≡ Some (rule, list) → IsListOf g found rule list
+
 -- What is kept of the files of a build is true: of what stands there now, and of what stood there as the build began. The graph
 -- is the one that was read, with nodes and copy rules behind. What no rule makes stands as it did, and running jobs write
 -- targets of rules alone. Where the copy rule of a file was looked for it has its rule. What is looked past lies in variant directories with copies.
@@ -74,6 +110,7 @@ pub record AreTrue (b : Begun) (g : RuleGraph) (inputs : Inputs) (around : Aroun
   pub behind : (node : ℕ) → length g.nodes ≤ node → seen_at inputs.files.seen.items node ≡ unseen
   pub unknown : (path : Path) → list_any (bytes_eq path) inputs.unknown.keys ≡ true → is_known b.graph b.tree path ≡ false
   pub gone : (path : Path) → list_any (bytes_eq path) inputs.gone.keys ≡ true → is_copied b.graph path ≡ true
+  pub found : AreFound b g inputs.gone.keys around inputs.found
 
 -- no running job writes the file of this number
 abbrev pub IsStill : RuleGraph → Around → ℕ → Type 0
@@ -92,9 +129,27 @@ StaysTrue m before old old_world after new new_world =
 abbrev pub Gives : {W T : Type 0} → Meaning W → RuleGraph → Inputs → W → W → Result T ListEnd → (Begun → T → Type 0) → Type 0
 Gives m g inputs old new result P = m.tells new → (b : Begun) → AreTrue b g inputs (m.around old) → IfOk result (P b)
 
+-- Of a file that no running job writes these are the nodes of what it includes now, as a rule finds it.
+pub record IsFoundFor (b : Begun) (g : RuleGraph) (inputs : Inputs) (around : Around) (rule file : ℕ) (nodes : List NodeId) : Type 0 where
+  pub path : Path
+  pub at : slice_get g.nodes file ≡ Some path
+  pub still : IsRunningTarget around.running path → ⊥
+  pub meaning : (x : Rule) → slice_get g.rules rule ≡ Some x
+      → AreNodesOf g (meant b x.paths path (includes_in (past inputs.gone.keys around.tree path))) nodes
+
 -- the same files are looked past
 abbrev pub SameGone : Inputs → Inputs → Type 0
 SameGone old new = new.gone ≡ old.gone
+
+-- only which rules were looked at changes
+abbrev pub LooksAt : Inputs → Inputs → Type 0
+LooksAt old new = new ≡ record old { looked_at = new.looked_at }
+
+-- Where no rule makes the file of this number it has no copy rule.
+pub record IsLeftAlone (b : Begun) (g : RuleGraph) (node : ℕ) : Type 0 where
+  pub path : Path
+  pub at : slice_get g.nodes node ≡ Some path
+  pub uncopied : rule_of g.rules node ≡ None → copied_from b.graph b.tree path ≡ None
 
 -- What is kept changes of one file alone, by a content that it holds.
 pub record KeepsContent (old new : Inputs) (node : ℕ) (content : Content) : Type 0 where

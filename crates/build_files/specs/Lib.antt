@@ -1,3 +1,4 @@
+pub mod Beginnings
 pub mod Causes
 pub mod Copying
 pub mod Dueness

@@ -4,6 +4,7 @@ use Rattle.std.specs.List.{AllZip, filter_map}
 use Rattle.scons_base.specs.declared.ids.NodeId.{NodeId}
 use Rattle.scons_base.specs.Parts.{dir_of}
 use Rattle.c_scanner.specs.declared.line.Include.{Include}
+use Rattle.rule_graph.specs.declared.rule.Rule.{Rule}
 use Rattle.rule_graph.specs.Graphs.{RuleGraph}
 use Rattle.build_model.specs.Rules.{Path}
 use Rattle.build_means.specs.Copies.{is_known}
@@ -16,6 +17,14 @@ pub record HasMore (old new : RuleGraph) : Type 0 where
   pub more : List Path
   pub nodes : new.nodes ≡ old.nodes ++ more
   pub rest : new ≡ record old { nodes = new.nodes }
+
+-- Nodes and rules were put behind those of a graph, and it is else as it was.
+pub record GrowsTo (old new : RuleGraph) : Type 0 where
+  pub more : List Path
+  pub nodes : new.nodes ≡ old.nodes ++ more
+  pub added : List Rule
+  pub rules : new.rules ≡ old.rules ++ added
+  pub rest : new ≡ record old { nodes = new.nodes; rules = new.rules }
 
 -- the node of a path, and none where there is no path
 abbrev pub IsNodeOf : RuleGraph → Option Path → Option NodeId → Type 0

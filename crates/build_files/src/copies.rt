@@ -1,9 +1,15 @@
 //! The copy rules of variant directories, added as their paths come up.
 ghost use Rattle.std.specs.List.{list_any};
-ghost use Rattle.std.specs.Prelude.{◌≡◌, ◌<◌, ℕ, length, IfOk};
-ghost use Rattle.rule_graph.specs.Rules.{IsRule};
+ghost use Rattle.std.specs.Prelude.{◌≡◌, ◌<◌, ℕ, List, Some, None, true, length, slice_get, is_some, IfOk, OnOk};
+ghost use Rattle.rule_graph.specs.Rules.{rule_of, IsRule};
+ghost use Rattle.rule_graph.specs.declared.rule.Rule.{Rule as DeclaredRule};
+ghost use Rattle.world_api.specs.Around.{Around};
+ghost use Rattle.build_means.specs.Copies.{copied_from as copied_in};
+ghost use Rattle.build_means.specs.Grown.{Begun};
 ghost use Rattle.build_files.specs.Causes.{HasLookCause, IsQuiet};
 ghost use Rattle.build_files.specs.Copying.{copying};
+ghost use Rattle.build_files.specs.Kept.{includes_in, past, AreTrue, Gives, IsLeftAlone, IsStill, LooksAt, SameGone, StaysTrue};
+ghost use Rattle.build_files.specs.Searched.{meant, AreNodesOf, GrowsTo};
 ghost use Rattle.world_api.specs.Looks.{Looks};
 
 use crate::end::ListEnd;
@@ -29,6 +35,14 @@ impl Inputs {
     ) -> Result<Listing<NodeId>, ListEnd>
         ensures looks { Looks W.meaning world.old world.new }
         ensures cause { HasLookCause (W.meaning.counts world.old) (W.meaning.counts world.new) result }
+        ensures grows { GrowsTo graph.old graph.new }
+        ensures gone { SameGone self.old self.new }
+        ensures truth { IsStill graph.old (W.meaning.around world.old) file.0
+            → StaysTrue W.meaning graph.old self.old world.old graph.new self.new world.new }
+        ensures found { IsStill graph.old (W.meaning.around world.old) file.0 → (x : DeclaredRule) (path : List ℕ)
+            → slice_get graph.old.rules rule.0 ≡ Some x → slice_get graph.old.nodes file.0 ≡ Some path
+            → Gives W.meaning graph.old self.old world.old world.new result (λ b found. AreNodesOf graph.new
+            (meant b x.paths path (includes_in (past self.old.gone.keys (W.meaning.around world.old).tree path))) found) }
     {
         let found = self.scan(world, graph, rule, file)?;
         self.add_found(world, graph, rule, &found)?;
@@ -46,6 +60,9 @@ impl Inputs {
     ) -> Result<(), ListEnd>
         ensures looks { Looks W.meaning world.old world.new }
         ensures cause { HasLookCause (W.meaning.counts world.old) (W.meaning.counts world.new) result }
+        ensures grows { GrowsTo graph.old graph.new }
+        ensures gone { SameGone self.old self.new }
+        ensures truth { StaysTrue W.meaning graph.old self.old world.old graph.new self.new world.new }
     {
         if !has_copies(graph) {
             return Ok(());
@@ -64,6 +81,9 @@ impl Inputs {
     ) -> Result<(), ListEnd>
         ensures looks { Looks W.meaning world.old world.new }
         ensures cause { HasLookCause (W.meaning.counts world.old) (W.meaning.counts world.new) result }
+        ensures grows { GrowsTo graph.old graph.new }
+        ensures gone { SameGone self.old self.new }
+        ensures truth { StaysTrue W.meaning graph.old self.old world.old graph.new self.new world.new }
     {
         if !has_copies(graph) {
             return Ok(());
@@ -83,6 +103,9 @@ impl Inputs {
     ) -> Result<(), ListEnd>
         ensures looks { Looks W.meaning world.old world.new }
         ensures cause { HasLookCause (W.meaning.counts world.old) (W.meaning.counts world.new) result }
+        ensures grows { GrowsTo graph.old graph.new }
+        ensures gone { SameGone self.old self.new }
+        ensures truth { StaysTrue W.meaning graph.old self.old world.old graph.new self.new world.new }
     {
         for place in 0..usize::MAX {
             let Some(rule) = rules.get(place).copied() else {
@@ -104,6 +127,9 @@ impl Inputs {
     ) -> Result<(), ListEnd>
         ensures looks { Looks W.meaning world.old world.new }
         ensures cause { HasLookCause (W.meaning.counts world.old) (W.meaning.counts world.new) result }
+        ensures grows { GrowsTo graph.old graph.new }
+        ensures gone { SameGone self.old self.new }
+        ensures truth { StaysTrue W.meaning graph.old self.old world.old graph.new self.new world.new }
     {
         let nodes = files_named(self.alloc, rule_at(graph, rule)?)?;
         self.add_each_copy(world, graph, nodes.as_slice(), rules)
@@ -120,6 +146,9 @@ impl Inputs {
     ) -> Result<(), ListEnd>
         ensures looks { Looks W.meaning world.old world.new }
         ensures cause { HasLookCause (W.meaning.counts world.old) (W.meaning.counts world.new) result }
+        ensures grows { GrowsTo graph.old graph.new }
+        ensures gone { SameGone self.old self.new }
+        ensures truth { StaysTrue W.meaning graph.old self.old world.old graph.new self.new world.new }
     {
         for node in nodes {
             self.add_copy(world, graph, *node)?;
@@ -134,7 +163,9 @@ impl Inputs {
         graph: &Graph,
         node: NodeId,
         rules: &mut Vec<RuleId>,
-    ) -> Result<(), Memory> {
+    ) -> Result<(), Memory>
+        ensures { LooksAt self.old self.new }
+    {
         let Some(rule) = graph.rule_of(node) else {
             return Ok(());
         };
@@ -145,7 +176,9 @@ impl Inputs {
     }
 
     /// Notes that a rule was looked at, and says whether it wasn't before.
-    fn look_at(&mut self, rule: RuleId) -> Result<bool, Memory> {
+    fn look_at(&mut self, rule: RuleId) -> Result<bool, Memory>
+        ensures { LooksAt self.old self.new }
+    {
         let number = rule.0 as usize;
         for _ in self.looked_at.len()..number.saturating_add(1) {
             self.looked_at.push(false)?;
@@ -169,8 +202,15 @@ impl Inputs {
     ) -> Result<(), ListEnd>
         ensures looks { Looks W.meaning world.old world.new }
         ensures cause { HasLookCause (W.meaning.counts world.old) (W.meaning.counts world.new) result }
+        ensures grows { GrowsTo graph.old graph.new }
+        ensures gone { SameGone self.old self.new }
+        ensures truth { StaysTrue W.meaning graph.old self.old world.old graph.new self.new world.new }
     {
-        if graph.rule_of(node).is_some() || self.files.is_settled(node) {
+        graph.laws();
+        if graph.rule_of(node).is_some() {
+            return Ok(());
+        }
+        if self.files.is_settled(node) {
             return Ok(());
         }
         self.add_copy_of(world, graph, node)?;
@@ -187,7 +227,13 @@ impl Inputs {
     ) -> Result<(), ListEnd>
         ensures looks { Looks W.meaning world.old world.new }
         ensures cause { HasLookCause (W.meaning.counts world.old) (W.meaning.counts world.new) result }
+        ensures grows { GrowsTo graph.old graph.new }
+        ensures truth { rule_of graph.old.rules node.0 ≡ None → W.meaning.tells world.new → (b : Begun)
+            → AreTrue b graph.old self.now (W.meaning.around world.old) → AreTrue b graph.new self.now (W.meaning.around world.new) }
+        ensures left { rule_of graph.old.rules node.0 ≡ None
+            → Gives W.meaning graph.old self.now world.old world.new result (λ b _. IsLeftAlone b graph.new node.0) }
     {
+        graph.laws();
         match copied_from(world, graph, self.declared, path_of(graph, node)?)? {
             Some(source) => add_copy_rule(self.alloc, graph, node, &source),
             None => Ok(()),
@@ -204,11 +250,19 @@ fn add_copy_rule(
     source: &PathText,
 ) -> Result<(), ListEnd>
     requires { node.0 < length graph.old.nodes }
-    ensures { IsQuiet result }
+    ensures quiet { IsQuiet result }
+    ensures grows { GrowsTo graph.old graph.new }
+    ensures truth { (b : Begun) (inputs : Inputs) (around : Around) (path : List ℕ) → slice_get graph.old.nodes node.0 ≡ Some path
+        → rule_of graph.old.rules node.0 ≡ None → copied_in b.graph b.tree path ≡ Some source.now
+        → AreTrue b graph.old inputs around → AreTrue b graph.new inputs around }
+    ensures made { rule_of graph.old.rules node.0 ≡ None → OnOk result (is_some (rule_of graph.new.rules node.0) ≡ true) }
 {
+    graph.laws();
     let source = graph.intern(source)?;
+    graph.laws();
     let rule = copy_rule(alloc, node, source)?;
     let _ = graph.add_rule(rule)?;
+    graph.laws();
     Ok(())
 }
 

@@ -1,14 +1,16 @@
 //! The files that a file includes.
-ghost use Rattle.std.specs.Prelude.{◌≡◌, ℕ, List, [], ◌∷◌, ◌++◌, Some, IfOk, OnOk, is_some, slice_get, true};
+ghost use Rattle.std.specs.Prelude.{◌≡◌, ℕ, List, [], ◌∷◌, ◌++◌, Some, IfOk, IfSome, OnOk, is_some, slice_get, true};
 ghost use Rattle.std.specs.Option.{option_to_list};
 ghost use Rattle.rule_graph.specs.declared.rule.Rule.{Rule as DeclaredRule};
 ghost use Rattle.rule_graph.specs.Graphs.{RuleGraph};
-ghost use Rattle.build_files.specs.Causes.{HasLookCause};
-ghost use Rattle.build_files.specs.Kept.{includes_in, past, Gives, IsStill, SameGone, StaysTrue};
+ghost use Rattle.build_files.specs.Causes.{HasLookCause, IsQuiet};
+ghost use Rattle.build_files.specs.Kept.{dirs_at, includes_in, past, AreFound, AreTrue, Gives, IsFoundFor, IsStill, SameGone, StaysTrue};
 ghost use Rattle.build_files.specs.Places.{ArePlaces};
 ghost use Rattle.build_files.specs.Searched.{first_known, meant, AreDirs, AreNodesOf, HasMore, IsNodeOf};
 ghost use Rattle.build_files.specs.Seen.{seen_at};
 ghost use Rattle.build_means.specs.Finds.{dirs_for, found_for, places_in};
+ghost use Rattle.build_means.specs.Grown.{Begun};
+ghost use Rattle.world_api.specs.Around.{Around};
 ghost use Rattle.world_api.specs.Looks.{Looks};
 
 use crate::end::ListEnd;
@@ -17,7 +19,7 @@ use crate::lookup::{path_of, rule_at};
 use c_scanner::Include;
 use indexmap::{IndexMap, IndexSet};
 use rule_graph::{Graph, Rule};
-use scons_base::{Listing, Memory, NodeId, PathFault, PathText, Paths, RuleId, Text};
+use scons_base::{Listing, Memory, NodeId, PathFault, PathText, Paths, RuleId};
 use std::alloc::Global;
 use std::str;
 use variant_dirs::VariantFault;
@@ -33,8 +35,8 @@ pub(crate) struct Scan {
 /// What was found by scans: a file that is scanned for many rules with the same directories is looked up once.
 #[derive(Drop)]
 pub(crate) struct Found {
-    /// The lists of directories, each as one text.
-    lists: IndexSet<Text>,
+    /// The lists of directories.
+    lists: IndexSet<Vec<PathText>>,
     files: IndexMap<Scan, Vec<NodeId>>,
     /// The rule that was scanned last, and the number of its list.
     last: Option<(RuleId, usize)>,
@@ -42,28 +44,34 @@ pub(crate) struct Found {
 }
 
 impl Found {
-    pub(crate) fn new(alloc: Global) -> Found {
+    pub(crate) fn new(alloc: Global) -> Found
+        ensures { (b : Begun) (g : RuleGraph) (gone : List (List ℕ)) (around : Around) → AreFound b g gone around result }
+    {
+        let lists = IndexSet::new(alloc);
+        let files = IndexMap::new(alloc);
         Found {
-            lists: IndexSet::new(alloc),
-            files: IndexMap::new(alloc),
+            lists,
+            files,
             last: None,
             alloc,
         }
     }
 
     /// The number of the list of directories of a rule.
-    fn list_of(&mut self, id: RuleId, rule: &Rule) -> Result<usize, Memory> {
+    fn list_of(&mut self, id: RuleId, rule: &Rule) -> Result<usize, Memory>
+        ensures truth { (b : Begun) (g : RuleGraph) (gone : List (List ℕ)) (around : Around) → slice_get g.rules id.0 ≡ Some rule.now
+            → AreFound b g gone around self.old → AreFound b g gone around self.new }
+        ensures list { (b : Begun) (g : RuleGraph) (gone : List (List ℕ)) (around : Around) → slice_get g.rules id.0 ≡ Some rule.now
+            → AreFound b g gone around self.old → IfOk result (λ list. dirs_at self.new list ≡ Some rule.now.paths) }
+        ensures files { self.new.files ≡ self.old.files }
+    {
         if let Some((last, list)) = self.last {
             if last == id {
                 return Ok(list);
             }
         }
-        let mut text = String::new(self.alloc);
-        for dir in rule.paths.as_slice() {
-            text.push_str(dir.as_str())?;
-            text.push('\0')?;
-        }
-        let (list, _) = self.lists.insert_full(Text::new(text))?;
+        let dirs = rule.paths.copy()?.into_vec();
+        let (list, _) = self.lists.insert_full(dirs)?;
         self.last = Some((id, list));
         Ok(list)
     }
@@ -82,15 +90,63 @@ impl Inputs {
     ) -> Result<Listing<NodeId>, ListEnd>
         ensures looks { Looks W.meaning world.old world.new }
         ensures cause { HasLookCause (W.meaning.counts world.old) (W.meaning.counts world.new) result }
+        ensures grows { HasMore graph.old graph.new }
+        ensures gone { SameGone self.old self.new }
+        ensures truth { IsStill graph.old (W.meaning.around world.old) file.0
+            → StaysTrue W.meaning graph.old self.old world.old graph.new self.new world.new }
+        ensures found { IsStill graph.old (W.meaning.around world.old) file.0 → (x : DeclaredRule) (path : List ℕ)
+            → slice_get graph.old.rules rule.0 ≡ Some x → slice_get graph.old.nodes file.0 ≡ Some path
+            → Gives W.meaning graph.old self.old world.old world.new result (λ b found. AreNodesOf graph.new
+            (meant b x.paths path (includes_in (past self.old.gone.keys (W.meaning.around world.old).tree path))) found) }
     {
-        let dirs = self.found.list_of(rule, rule_at(graph, rule)?)?;
-        let scan = Scan { file, dirs };
-        if let Some(found) = self.found.files.get(&scan) {
-            return Ok(Listing::new(Vec::from_slice(self.alloc, found.as_slice())?));
+        if let Some(found) = self.found_before(graph, rule, file)? {
+            return Ok(found);
         }
         let found = self.look_up(world, graph, rule, file)?;
+        self.keep_found(graph, rule, file, found)
+    }
+
+    /// What was found by a scan before.
+    #[tactic(auto, using(crate::proofs::Looking::looking))]
+    fn found_before(
+        &mut self,
+        graph: &Graph,
+        rule: RuleId,
+        file: NodeId,
+    ) -> Result<Option<Listing<NodeId>>, ListEnd>
+        ensures quiet { IsQuiet result }
+        ensures gone { SameGone self.old self.new }
+        ensures truth { (b : Begun) (around : Around) → AreTrue b graph.now self.old around → AreTrue b graph.now self.new around }
+        ensures found { (b : Begun) (around : Around) (x : DeclaredRule) (path : List ℕ) → slice_get graph.now.rules rule.0 ≡ Some x
+            → slice_get graph.now.nodes file.0 ≡ Some path → AreTrue b graph.now self.old around
+            → IfOk result (λ found. IfSome found (AreNodesOf graph.now
+            (meant b x.paths path (includes_in (past self.old.gone.keys around.tree path))))) }
+    {
+        let dirs = self.found.list_of(rule, rule_at(graph, rule)?)?;
+        match self.found.files.get(&Scan { file, dirs }) {
+            Some(found) => Ok(Some(Listing::new(Vec::from_slice(self.alloc, found.as_slice())?))),
+            None => Ok(None),
+        }
+    }
+
+    /// Keeps what a scan found.
+    #[tactic(auto, using(crate::proofs::Looking::looking))]
+    fn keep_found(
+        &mut self,
+        graph: &Graph,
+        rule: RuleId,
+        file: NodeId,
+        found: Vec<NodeId>,
+    ) -> Result<Listing<NodeId>, ListEnd>
+        ensures quiet { IsQuiet result }
+        ensures gone { SameGone self.old self.new }
+        ensures truth { (b : Begun) (around : Around) → IsFoundFor b graph.now self.old around rule.0 file.0 found.items
+            → AreTrue b graph.now self.old around → AreTrue b graph.now self.new around }
+        ensures same { IfOk result (λ kept. kept ≡ found.items) }
+    {
         let copy = Vec::from_slice(self.alloc, found.as_slice())?;
-        let _ = self.found.files.insert(scan, found)?;
+        let dirs = self.found.list_of(rule, rule_at(graph, rule)?)?;
+        let _ = self.found.files.insert(Scan { file, dirs }, found)?;
         Ok(Listing::new(copy))
     }
 
@@ -113,6 +169,7 @@ impl Inputs {
             → slice_get graph.old.rules rule.0 ≡ Some x → slice_get graph.old.nodes file.0 ≡ Some path
             → Gives W.meaning graph.old self.old world.old world.new result (λ b found. AreNodesOf graph.new
             (meant b x.paths path (includes_in (past self.old.gone.keys (W.meaning.around world.old).tree path))) found.items) }
+        ensures known { OnOk result (is_some (slice_get graph.old.nodes file.0) ≡ true) }
     {
         self.read_once(world, graph, file)?;
         let paths = rule_at(graph, rule)?.paths.as_slice();

@@ -1,15 +1,48 @@
-use Rattle.std.proofs.Common.{◌∙◌}
-use Rattle.world_api.proofs.Looking.{looks_joined}
+use Rattle.std.proofs.Common.{◌∙◌, refl, ap}
+use Rattle.world_api.proofs.Looking.{looks_same, looks_joined}
+use Rattle.build_files.specs.declared.inputs.Inputs.{Inputs}
+use Rattle.build_files.proofs.Copying.{grew_same, grew_joined}
+use Rattle.build_files.proofs.Truths.{looked_on}
 use Rattle.build_files.proofs.inputs.Inputs.add_each_copy.Goals as goal
 
 pub returns-in_err-add_copy-clause-looks : goal.returns-in_err-add_copy-clause-looks
 returns-in_err-add_copy-clause-looks g c = looks_joined _ _ _ _ c.loop-node.invariant.looks c.add_copy.ensures.looks
 
+pub returns-in_err-add_copy-clause-grows : goal.returns-in_err-add_copy-clause-grows
+returns-in_err-add_copy-clause-grows g c = grew_joined _ _ _ c.loop-node.invariant.grows c.add_copy.ensures.grows
+
+pub returns-in_err-add_copy-clause-gone : goal.returns-in_err-add_copy-clause-gone
+returns-in_err-add_copy-clause-gone g c = c.add_copy.ensures.gone ∙ c.loop-node.invariant.gone
+
+pub returns-in_err-add_copy-clause-truth : goal.returns-in_err-add_copy-clause-truth
+returns-in_err-add_copy-clause-truth g c = λ told b is. c.add_copy.ensures.truth told b (c.loop-node.invariant.truth (c.add_copy.ensures.looks.told.told told) b is)
+
 pub returns-in_err-add_rule-clause-looks : goal.returns-in_err-add_rule-clause-looks
 returns-in_err-add_rule-clause-looks g c = looks_joined _ _ _ _ c.loop-node.invariant.looks c.add_copy.ensures.looks
+
+pub returns-in_err-add_rule-clause-grows : goal.returns-in_err-add_rule-clause-grows
+returns-in_err-add_rule-clause-grows g c = grew_joined _ _ _ c.loop-node.invariant.grows c.add_copy.ensures.grows
+
+pub returns-in_err-add_rule-clause-gone : goal.returns-in_err-add_rule-clause-gone
+returns-in_err-add_rule-clause-gone g c = ap (λ (i : Inputs). i.gone) c.add_rule.ensures ∙ (c.add_copy.ensures.gone ∙ c.loop-node.invariant.gone)
+
+pub returns-in_err-add_rule-clause-truth : goal.returns-in_err-add_rule-clause-truth
+returns-in_err-add_rule-clause-truth g c = λ told b is. looked_on b _ _ _ _ c.add_rule.ensures (c.add_copy.ensures.truth told b (c.loop-node.invariant.truth (c.add_copy.ensures.looks.told.told told) b is))
+
+pub loop-node-init : goal.loop-node-init
+loop-node-init g c = record {
+  looks = looks_same _ _;
+  counts = refl;
+  grows = grew_same c.args.graph.now;
+  gone = refl;
+  truth = λ told b is. is;
+}
 
 pub loop-node-preserved : goal.loop-node-preserved
 loop-node-preserved g c = record {
   looks = looks_joined _ _ _ _ c.loop-node.invariant.looks c.add_copy.ensures.looks;
   counts = c.in_ok-add_copy.ensures.cause ∙ c.loop-node.invariant.counts;
+  grows = grew_joined _ _ _ c.loop-node.invariant.grows c.add_copy.ensures.grows;
+  gone = ap (λ (i : Inputs). i.gone) c.add_rule.ensures ∙ (c.add_copy.ensures.gone ∙ c.loop-node.invariant.gone);
+  truth = λ told b is. looked_on b _ _ _ _ c.add_rule.ensures (c.add_copy.ensures.truth told b (c.loop-node.invariant.truth (c.add_copy.ensures.looks.told.told told) b is));
 }

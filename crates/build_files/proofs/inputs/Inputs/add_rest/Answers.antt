@@ -1,12 +1,34 @@
-use Rattle.std.proofs.Common.{◌∙◌}
-use Rattle.world_api.proofs.Looking.{looks_joined}
+use Rattle.std.proofs.Common.{◌∙◌, refl}
+use Rattle.world_api.proofs.Looking.{looks_same, looks_joined}
+use Rattle.build_files.proofs.Copying.{grew_same, grew_joined}
 use Rattle.build_files.proofs.inputs.Inputs.add_rest.Goals as goal
 
 pub returns-in_err-add_named-clause-looks : goal.returns-in_err-add_named-clause-looks
 returns-in_err-add_named-clause-looks g c = looks_joined _ _ _ _ c.loop-place.invariant.looks c.add_named.ensures.looks
 
+pub returns-in_err-add_named-clause-grows : goal.returns-in_err-add_named-clause-grows
+returns-in_err-add_named-clause-grows g c = grew_joined _ _ _ c.loop-place.invariant.grows c.add_named.ensures.grows
+
+pub returns-in_err-add_named-clause-gone : goal.returns-in_err-add_named-clause-gone
+returns-in_err-add_named-clause-gone g c = c.add_named.ensures.gone ∙ c.loop-place.invariant.gone
+
+pub returns-in_err-add_named-clause-truth : goal.returns-in_err-add_named-clause-truth
+returns-in_err-add_named-clause-truth g c = λ told b is. c.add_named.ensures.truth told b (c.loop-place.invariant.truth (c.add_named.ensures.looks.told.told told) b is)
+
+pub loop-place-init : goal.loop-place-init
+loop-place-init g c = record {
+  looks = looks_same _ _;
+  counts = refl;
+  grows = grew_same c.args.graph.now;
+  gone = refl;
+  truth = λ told b is. is;
+}
+
 pub loop-place-preserved : goal.loop-place-preserved
 loop-place-preserved g c = record {
   looks = looks_joined _ _ _ _ c.loop-place.invariant.looks c.add_named.ensures.looks;
   counts = c.in_ok-add_named.ensures.cause ∙ c.loop-place.invariant.counts;
+  grows = grew_joined _ _ _ c.loop-place.invariant.grows c.add_named.ensures.grows;
+  gone = c.add_named.ensures.gone ∙ c.loop-place.invariant.gone;
+  truth = λ told b is. c.add_named.ensures.truth told b (c.loop-place.invariant.truth (c.add_named.ensures.looks.told.told told) b is);
 }
