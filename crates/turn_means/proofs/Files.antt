@@ -1,6 +1,9 @@
 -- What is kept of files stays true where only targets of running jobs change, and files of which nothing was read.
-use Rattle.std.proofs.Common.{◌≡◌, ◌⊎◌, inl, inr, ℕ, true, false, Bool, List, Contains, Some, refl, sym, ap, ◌∙◌, option_map}
+use Rattle.std.proofs.Common.{◌≡◌, ◌⊎◌, inl, inr, ℕ, true, false, Bool, List, Contains, Some, refl, sym, subst, ap, ◌∙◌, option_map}
 use Rattle.std.specs.Prelude.{slice_get}
+use Rattle.std.specs.Global.{Vec}
+use Rattle.indexmap.specs.IndexMap.{get}
+use Rattle.scons_base.specs.declared.ids.NodeId.{NodeId}
 use Rattle.deciders.specs.Digests.{digest_of}
 use Rattle.rule_graph.specs.Graphs.{RuleGraph}
 use Rattle.world_api.specs.Around.{Around, IsRunningTarget}
@@ -8,9 +11,11 @@ use Rattle.build_model.specs.Rules.{Path}
 use Rattle.build_model.specs.Reach.{has}
 use Rattle.build_model.proofs.Lists.{true_false, has_among, not_has}
 use Rattle.build_means.specs.Grown.{Begun}
-use Rattle.build_files.specs.Kept.{past, stamp_past, includes_in, IsUnread, IsTrueOf, AreTrue}
+use Rattle.build_files.specs.Kept.{past, stamp_past, includes_in, same_scan, IsFoundAs, IsUnread, IsTrueOf, AreTrue}
 use Rattle.build_files.specs.Leftovers.{is_made}
+use Rattle.build_files.specs.Searched.{meant, AreNodesOf}
 use Rattle.build_files.specs.Seen.{seen_at}
+use Rattle.build_files.specs.declared.includes.Scan.{Scan}
 use Rattle.build_files.specs.declared.inputs.Inputs.{Inputs}
 use Rattle.build_files.specs.declared.seen.Seen.{Seen}
 use Rattle.build_files.proofs.Truths.{past_same, stamp_same, unread_is}
@@ -28,7 +33,9 @@ contained paths path = by (has path paths) refl
 module _ (b : Begun) (g : RuleGraph) (inputs : Inputs) (old new : Around) (paths : List Path) (writes : Writes paths old new)
     (made : (path : Path) → Contains paths path → is_made g path ≡ true)
     (unread : (node : ℕ) (path : Path) → slice_get g.nodes node ≡ Some path → Contains paths path →
-    IsUnread (seen_at inputs.files.seen.items node)) where
+    IsUnread (seen_at inputs.files.seen.items node))
+    (unscanned : (scan : Scan) (nodes : Vec NodeId) → get same_scan inputs.found.files scan ≡ Some nodes → (path : Path) →
+    slice_get g.nodes scan.file.0 ≡ Some path → Contains paths path → ⊥) where
   not_among : (path : Path) → is_made g path ≡ false → Contains paths path → ⊥
   not_among path e m = true_false (sym (made path m) ∙ e)
 
@@ -68,6 +75,20 @@ module _ (b : Begun) (g : RuleGraph) (inputs : Inputs) (old new : Around) (paths
     | inr nothing ↦ unread_true gone path seen nothing was
   ]
 
+  scan_true : (gone : List Path) (scan : Scan) (nodes : Vec NodeId) → get same_scan inputs.found.files scan ≡ Some nodes →
+      IsFoundAs b g gone old inputs.found scan nodes.items → IsFoundAs b g gone new inputs.found scan nodes.items
+  scan_true gone scan nodes kept was =
+      let out = unscanned scan nodes kept was.path was.file in
+      record {
+        paths = was.paths;
+        path = was.path;
+        dirs = was.dirs;
+        file = was.file;
+        still = λ target. elim (writes.running was.path target) [ | inl h ↦ was.still h | inr m ↦ out m ];
+        meaning = subst (λ c. AreNodesOf g (meant b was.paths was.path (includes_in c)) nodes.items)
+            (sym (past_same gone old.tree new.tree was.path (writes.files was.path was.still out))) was.meaning;
+      }
+
   pub true_still : AreTrue b g inputs old → AreTrue b g inputs new
   true_still was = record {
     reading = was.reading;
@@ -83,4 +104,8 @@ module _ (b : Begun) (g : RuleGraph) (inputs : Inputs) (old new : Around) (paths
     behind = was.behind;
     unknown = was.unknown;
     gone = was.gone;
+    found = record {
+      each = λ scan nodes kept. scan_true inputs.gone.keys scan nodes kept (was.found.each scan nodes kept);
+      last = was.found.last;
+    };
   }

@@ -178,9 +178,10 @@ module _ (o : Outset) (outset : IsOutset o) where
         now = known.now;
         truth = true_still (begun_at o) old.graph old.inputs old.around new.around r.targets writes
             (λ path m. targets_made (begun_at o) old.graph known.now rule.0 r weighed.is path (contains_among r.targets m))
-            (λ node path at_node m. known.unread.each node path r at_node (own path m) not_settled) known.truth;
+            (λ node path at_node m. known.unread.each node path r at_node (own path m) not_settled)
+            (λ scan nodes kept path at_scan m. not_settled (known.unread.scans scan nodes kept path r at_scan (own path m))) known.truth;
         none_gone = known.none_gone;
-        unread = record { each = known.unread.each };
+        unread = record { scans = known.unread.scans; each = known.unread.each };
         ties = ties_now;
         goes_on = known.goes_on;
         records = λ path q e not_began. is.records path (apart e not_began) ∙ known.records path q e (λ m. not_began (there m));
@@ -251,8 +252,9 @@ module _ (o : Outset) (outset : IsOutset o) where
       unsettled true q out m = out (there m)
       unsettled false q out m = out m
 
-      began_same : (well : Bool) (q : Rule) → Among q (began past) → Among q (began (model.Ended Which well ∷ past))
-      began_same well q m = m
+      still_settled : (well : Bool) (q : Rule) → Among q (settled past) → Among q (settled (model.Ended Which well ∷ past))
+      still_settled true q m = there m
+      still_settled false q m = m
 
       not_over : (well keep : Bool) → (well ≡ false → keep ≡ true) → is_over keep past ≡ false →
           is_over keep (model.Ended Which well ∷ past) ≡ false
@@ -277,9 +279,12 @@ module _ (o : Outset) (outset : IsOutset o) where
       knows_behind keeps = subst (λ s. Knows o s Behind) (sym is_told.rest) (record {
         now = k.now;
         truth = true_still (begun_at o) old.graph old.inputs old.around new.around [] writes_none
-            (λ path m. none_there m) (λ node path at_node m. none_there m) k.truth;
+            (λ path m. none_there m) (λ node path at_node m. none_there m)
+            (λ scan nodes kept path at_scan m. none_there m) k.truth;
         none_gone = k.none_gone;
         unread = record {
+          scans = λ scan nodes kept path q at_scan e.
+              still_settled (is_done ended.outcome) q (k.unread.scans scan nodes kept path q at_scan e);
           each = λ node path q at_node e out. k.unread.each node path q at_node e (unsettled (is_done ended.outcome) q out);
         };
         ties = ties_behind;

@@ -14,7 +14,7 @@ use Rattle.task_plan.specs.declared.want.PlanEvent.TheVariants as told
 use Rattle.build_model.specs.Rules.{Path, Rule, Among, there}
 use Rattle.build_model.specs.Moments.{Job as Given}
 use Rattle.build_model.specs.Steps.{Step, Fresh, Lacks, Halts, began, settled, is_over, IsLacking}
-use Rattle.build_model.proofs.Lists.{true_false, some_same, among_same}
+use Rattle.build_model.proofs.Lists.{none_some, true_false, some_same, among_same}
 use Rattle.build_means.specs.Grown.{rule_numbered}
 use Rattle.build_means.specs.Present.{IsFirstAbsent}
 use Rattle.build_means.specs.Rules.{paths_of}
@@ -147,14 +147,18 @@ module _ (o : Outset) (outset : IsOutset o) where
     told_knows : Knows o old past → ((r : Rule) → Among r (began past) → Among r (began later)) →
         ((r : Rule) → (Among r (began later) → ⊥) → Among r (began past) → ⊥) →
         ((r : Rule) → (Among r (settled later) → ⊥) → Among r (settled past) → ⊥) →
+        ((r : Rule) → Among r (settled past) → Among r (settled later)) →
         Ties (begun_at o) old.graph o.wanted.requested old.around.tree later new.plan → is_over o.wanted.keep later ≡ false →
         Knows o new later
-    told_knows k more fewer unsettled ties goes_on =
+    told_knows k more fewer unsettled more_settled ties goes_on =
         subst (λ s. Knows o s later) (sym rest) (record {
           now = k.now;
           truth = k.truth;
           none_gone = k.none_gone;
-          unread = record { each = λ node path r at e out. k.unread.each node path r at e (unsettled r out) };
+          unread = record {
+            scans = λ scan nodes kept path r at e. more_settled r (k.unread.scans scan nodes kept path r at e);
+            each = λ node path r at e out. k.unread.each node path r at e (unsettled r out);
+          };
           ties = ties;
           goes_on = goes_on;
           records = λ path r e not_began. k.records path r e (fewer r not_began);
@@ -170,11 +174,12 @@ module _ (o : Outset) (outset : IsOutset o) where
         ((r : Rule) → Among r (began past) → Among r (began later)) →
         ((r : Rule) → (Among r (began later) → ⊥) → Among r (began past) → ⊥) →
         ((r : Rule) → (Among r (settled later) → ⊥) → Among r (settled past) → ⊥) →
+        ((r : Rule) → Among r (settled past) → Among r (settled later)) →
         (new.ended ≡ false → Knows o old past → Ties (begun_at o) old.graph o.wanted.requested old.around.tree later new.plan) →
         (new.ended ≡ false → Knows o old past → is_over o.wanted.keep later ≡ false) → IsAt o jobs new later
-    told_at jobs at way goes_on goes reports well more fewer unsettled ties over = record {
+    told_at jobs at way goes_on goes reports well more fewer unsettled more_settled ties over = record {
       way = subst (λ s. IsWay o.wanted o.kept o.counts o.before jobs s.around later) (sym rest) way;
-      knows = λ e. let k = at.knows goes_on in told_knows k more fewer unsettled (ties e k) (over e k);
+      knows = λ e. let k = at.knows goes_on in told_knows k more fewer unsettled more_settled (ties e k) (over e k);
       halted = λ e. not_halted at.halted goes_on (sym goes ∙ e);
       told = reports.told;
       well = λ e. well e (at.well (unfaulted old new reports e));
@@ -186,6 +191,7 @@ module _ (o : Outset) (outset : IsOutset o) where
       IsTold old new (told.Scanned rule found) → IsAt o jobs new past
   scanned jobs old new past rule file found at goes_on next is is_told =
       told_at old new past past is_told.rest jobs at at.way goes_on is_told.goes is_told.reports (λ e w. w) (λ r m. m) (λ r out m. out m) (λ r out m. out m)
+      (λ r m. m)
       (λ e k. scans_keep (begun_at o) old.graph o.wanted.requested old.around.tree past old.plan new.plan rule file found k.now k.ties
       next is is_told.step)
       (λ e k. k.goes_on)
@@ -198,7 +204,7 @@ module _ (o : Outset) (outset : IsOutset o) where
       told_at old new past (Fresh r ∷ past) is_told.rest jobs at
       (fresh o.wanted o.kept o.counts o.before old.around jobs past r at.way
       (may_be_fresh o outset jobs old past at.way k rule r rec weighed not_due))
-      weighed.goes_on is_told.goes is_told.reports (λ e w. w) (λ q m. m) (λ q out m. out m) (λ q out m. out (there m))
+      weighed.goes_on is_told.goes is_told.reports (λ e w. w) (λ q m. m) (λ q out m. out m) (λ q out m. out (there m)) (λ q m. there m)
       (λ e k. events_keep (begun_at o) old.graph o.wanted.requested old.around.tree past old.plan new.plan k.now k.ties (is_fresh rule r weighed.is weighed.chosen.next) is_told.step)
       (λ e k. k.goes_on)
 
@@ -225,7 +231,7 @@ module _ (o : Outset) (outset : IsOutset o) where
         told_at old new past (Lacks r path ∷ past) is_told.rest jobs at
         (lacking o.wanted o.kept o.counts o.before old.around jobs past r path at.way is_lacking)
         goes_on is_told.goes is_told.reports (λ e w. true_false (sym faulted ∙ e)) (λ q m. m) (λ q out m. out m)
-        (λ q out m. out m)
+        (λ q out m. out m) (λ q m. m)
         (λ e k. events_keep (begun_at o) old.graph o.wanted.requested old.around.tree past old.plan new.plan k.now k.ties (lacks_one rule node r path is next) is_told.step)
         (λ e k. not_over o.wanted.keep past (keeps e) k.goes_on)
 
@@ -240,7 +246,10 @@ module _ (o : Outset) (outset : IsOutset o) where
           now = out.now;
           truth = out.truth;
           none_gone = out.none_gone;
-          unread = record { each = λ node path r at e unsettled. out.unread node };
+          unread = record {
+            scans = λ scan nodes kept path r at e. none_some (sym (out.unscanned scan) ∙ kept);
+            each = λ node path r at e unsettled. out.unread node;
+          };
           ties = is_tied (begun_at o) s.graph o.wanted.requested s.around.tree s.plan out.now out.below out.looked out.loaded;
           goes_on = refl;
           records = λ path r e not_began. out.records path;

@@ -1,6 +1,7 @@
 -- What each turn of a build keeps: a law for each.
-use Rattle.std.specs.Prelude.{◌≡◌, ◌<◌, ℕ, Bool, true, false, List, [], ◌∷◌, length, map, Contains, Some, slice_get}
+use Rattle.std.specs.Prelude.{◌≡◌, ◌<◌, ℕ, Bool, true, false, List, [], ◌∷◌, length, map, Contains, Some, None, slice_get}
 use Rattle.std.specs.List.{count_by}
+use Rattle.indexmap.specs.IndexMap.{get}
 use Rattle.scons_base.specs.declared.ids.NodeId.{NodeId}
 use Rattle.scons_base.specs.declared.ids.RuleId.{RuleId}
 use Rattle.world_api.specs.Around.{Around, IsRunningTarget}
@@ -33,8 +34,9 @@ use Rattle.build_means.specs.Logs.{AreUnrisen, is_done}
 use Rattle.build_means.specs.Present.{IsPresent, IsFirstAbsent}
 use Rattle.build_means.specs.Records.{record_in, records_in}
 use Rattle.build_means.specs.Rules.{paths_of}
-use Rattle.build_files.specs.Kept.{AreTrue, IsUnread}
+use Rattle.build_files.specs.Kept.{AreTrue, IsUnread, same_scan}
 use Rattle.build_files.specs.Seen.{seen_at}
+use Rattle.build_files.specs.declared.includes.Scan.{Scan}
 use Rattle.plan_means.specs.Beginning.{AreLookedFor, IsLoaded}
 use Rattle.plan_means.specs.Growth.{Grows}
 use Rattle.plan_means.specs.Planning.{IsGraphNow, IsStep}
@@ -54,6 +56,7 @@ pub record IsSetOut (o : Outset) (s : Standing) : Type 0 where
   pub truth : AreTrue (begun_at o) s.graph s.inputs s.around
   pub none_gone : s.inputs.gone.keys ≡ []
   pub unread : (node : ℕ) → IsUnread (seen_at s.inputs.files.seen.items node)
+  pub unscanned : (scan : Scan) → get same_scan s.inputs.found.files scan ≡ None
   pub below : are_below (length s.graph.nodes) o.wanted.requested ≡ true
   pub looked : AreLookedFor (begun_at o) s.graph o.wanted.requested
   pub loaded : IsLoaded s.graph o.wanted.requested s.plan

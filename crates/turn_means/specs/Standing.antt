@@ -1,5 +1,8 @@
 -- How a build stands between two calls: what it began with, what it knows, and what stands around it.
 use Rattle.std.specs.Prelude.{◌≡◌, ℕ, Bool, true, false, List, [], ◌++◌, length, Some, slice_get}
+use Rattle.std.specs.Global.{Vec}
+use Rattle.indexmap.specs.IndexMap.{get}
+use Rattle.scons_base.specs.declared.ids.NodeId.{NodeId}
 use Rattle.world_api.specs.Around.{Around, Entry, Started}
 use Rattle.world_api.specs.Counts.{Counts}
 use Rattle.world_api.specs.declared.job.Job.{Job}
@@ -12,8 +15,9 @@ use Rattle.build_model.specs.Steps.{Step, began, settled, is_over}
 use Rattle.build_means.specs.Builds.{Wanted, Kept}
 use Rattle.build_means.specs.Grown.{Begun, begun_setting, rule_numbered}
 use Rattle.build_means.specs.Rules.{IsReading}
-use Rattle.build_files.specs.Kept.{AreTrue, IsUnread}
+use Rattle.build_files.specs.Kept.{AreTrue, IsUnread, same_scan}
 use Rattle.build_files.specs.Seen.{seen_at}
+use Rattle.build_files.specs.declared.includes.Scan.{Scan}
 use Rattle.build_files.specs.declared.inputs.Inputs.{Inputs}
 use Rattle.plan_means.specs.Planning.{IsGraphNow}
 use Rattle.plan_means.specs.Ties.{Ties}
@@ -49,8 +53,10 @@ pub record Standing : Type 0 where
   pub ended : Bool
   pub around : Around
 
--- of the files that unsettled rules make nothing was read
+-- of the files that unsettled rules make nothing was read, and none was scanned
 pub record AreUnread (o : Outset) (g : RuleGraph) (inputs : Inputs) (past : List Step) : Type 0 where
+  pub scans : (scan : Scan) (nodes : Vec NodeId) → get same_scan inputs.found.files scan ≡ Some nodes → (path : Path) (r : Rule) →
+      slice_get g.nodes scan.file.0 ≡ Some path → (setting_at o).rule_of path ≡ Some r → Among r (settled past)
   pub each : (node : ℕ) (path : Path) (r : Rule) → slice_get g.nodes node ≡ Some path → (setting_at o).rule_of path ≡ Some r →
       (Among r (settled past) → ⊥) → IsUnread (seen_at inputs.files.seen.items node)
 
