@@ -2,4 +2,6 @@ pub mod Holding
 pub mod Goings
 pub mod Causing
 pub mod Outs
+pub mod Sites
 pub mod Taking
+mod Lending

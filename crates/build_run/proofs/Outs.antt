@@ -19,7 +19,7 @@ use Rattle.sign_store.proofs.GroupLemmas.{tickets_held}
 use Rattle.sign_store.proofs.Keeping.{kept_as, keeps_on}
 use Rattle.task_plan.specs.declared.want.PlanEvent.TheVariants.{DoneOk}
 use Rattle.build_run.specs.Holds.{Busy, holds_in}
-use Rattle.build_run.specs.Outs.{IsTicketFor, IsOutFor, IsBeside, AreOut, HasOwnRoom, IsStored, KeepsHeld, KeepsRecordsBut, KeepsSome, ShareNone}
+use Rattle.build_run.specs.Outs.{IsTicketFor, IsOutFor, IsBeside, AreOut, HasOwnRoom, IsStored, KeepsSome, ShareNone}
 use Rattle.build_run.specs.Withdrawals.{HasNone, AreWithdrawn}
 use Rattle.build_run.specs.declared.tickets.Hold.{Hold}
 use Rattle.build_run.proofs.Holding.{at_front, further, in_front, in_pushed}
@@ -332,9 +332,9 @@ kept_elsewhere store held rec targets map same is path not =
     ∙ ap (λ b. cond b None (map_with store held path)) (not_among rec.targets path (λ h. not (subst (λ (paths : List (List ℕ)). Contains paths path) same h)))
 
 -- what held rules have made stays where a job makes none of it
-pub kept_held : (old : Store) (held : List Busy) (new : Store) (new_held : List Busy) (targets : List (List ℕ)) (shut : Bool) → ((busy : Busy) → Contains held busy → ShareNone targets busy.hold.targets)
-    → KeepsRecordsBut targets old held new new_held shut → KeepsHeld old held new new_held shut
-kept_held old held new new_held targets shut apart keeps unshut busy path h made = keeps unshut path (λ here. apart busy h path here made)
+pub kept_held : (old : Store) (held : List Busy) (new : Store) (new_held : List Busy) (targets : List (List ℕ)) → ((busy : Busy) → Contains held busy → ShareNone targets busy.hold.targets)
+    → ((path : List ℕ) → (Contains targets path → ⊥) → map_with new new_held path ≡ map_with old held path) → (busy : Busy) (path : List ℕ) → Contains held busy → Contains busy.hold.targets path → map_with new new_held path ≡ map_with old held path
+kept_held old held new new_held targets apart keeps busy path h made = keeps path (λ here. apart busy h path here made)
 
 -- where map and tickets stay it stays
 pub held_alike : (old new : Store) (held : List Busy) → map_of new ≡ map_of old → ((one : Busy) (rec : Rec) → Contains held one → IsOut old rec one.ticket → IsTicket new rec one.ticket) → AreOut old held → map_with new held ≡ map_with old held
