@@ -24,7 +24,7 @@ use Rattle.build_run.proofs.Goings.{goes_here, joined_on, passes_here, passes_on
 use Rattle.build_run.proofs.Outs.{both_same, stored_alike, stored_first, stored_over}
 
 pub same_here : {W O E : Type 0} (s : Site W O E) → IsSame s s
-same_here s = record { graph = refl; store = refl; world = refl; out = refl; err = refl; options = refl }
+same_here s = record { graph = refl; store = refl; world = refl; out = refl; err = refl; run = refl; account = refl; options = refl }
 
 pub same_on : {W O E : Type 0} (a b c : Site W O E) → IsSame a b → IsSame b c → IsSame a c
 same_on a b c p q = record {
@@ -33,6 +33,8 @@ same_on a b c p q = record {
   world = q.world ∙ p.world;
   out = q.out ∙ p.out;
   err = q.err ∙ p.err;
+  run = q.run ∙ p.run;
+  account = q.account ∙ p.account;
   options = q.options ∙ p.options;
 }
 
@@ -60,30 +62,30 @@ pub goes_by : {W : Type 0} (m : Meaning W) (old new : W) → Told m old new → 
 goes_by m old new told around later = record { passes = record { told = told; later = later }; runs = λ t. ap (λ (a : Around). a.running) (around t) }
 
 -- calls that neither write a bank nor start or end a job
-pub sound_still : {W O E : Type 0} (m : Meaning W) (old new : Site W O E) → Stays m old.world.now new.world.now → new.store.now ≡ old.store.now → new.run.held ≡ old.run.held → new.run.tickets ≡ old.run.tickets → new.options ≡ old.options
-    → new.account.is_store_shut ≡ old.account.is_store_shut → IsSound m old → IsSound m new
+pub sound_still : {W O E : Type 0} (m : Meaning W) (old new : Site W O E) → Stays m old.world.now new.world.now → new.store.now ≡ old.store.now → new.run.now.held ≡ old.run.now.held → new.run.now.tickets ≡ old.run.now.tickets → new.options ≡ old.options
+    → new.account.now.is_store_shut ≡ old.account.now.is_store_shut → IsSound m old → IsSound m new
 sound_still m old new stays store held tickets options shut s =
     let told = stays.goes.passes.told in
     record {
       unclosed = told.closed ∙ s.unclosed;
-      joined = subst (λ (busies : List Busy). IsJoined m new.world.now (holds_in busies)) (sym tickets) (joined_on m old.world.now new.world.now (holds_in old.run.tickets) stays.goes s.joined);
+      joined = subst (λ (busies : List Busy). IsJoined m new.world.now (holds_in busies)) (sym tickets) (joined_on m old.world.now new.world.now (holds_in old.run.now.tickets) stays.goes s.joined);
       stored =
-          subst (λ (after : Store). IsStored m new.world.now after (new.run.held ++ new.run.tickets) new.account.is_store_shut) (sym store)
-          (stored_alike m new.world.now old.store.now (old.run.held ++ old.run.tickets) (new.run.held ++ new.run.tickets) old.account.is_store_shut new.account.is_store_shut
-          (both_same new.run.held old.run.held new.run.tickets old.run.tickets held tickets) shut
-          (stored_over m old.world.now new.world.now old.store.now (old.run.held ++ old.run.tickets) old.account.is_store_shut told.told stays.banks s.stored));
+          subst (λ (after : Store). IsStored m new.world.now after (new.run.now.held ++ new.run.now.tickets) new.account.now.is_store_shut) (sym store)
+          (stored_alike m new.world.now old.store.now (old.run.now.held ++ old.run.now.tickets) (new.run.now.held ++ new.run.now.tickets) old.account.now.is_store_shut new.account.now.is_store_shut
+          (both_same new.run.now.held old.run.now.held new.run.now.tickets old.run.now.tickets held tickets) shut
+          (stored_over m old.world.now new.world.now old.store.now (old.run.now.held ++ old.run.now.tickets) old.account.now.is_store_shut told.told stays.banks s.stored));
       few =
-          subst (λ (o : Options). length new.run.held < most_jobs o) (sym options)
+          subst (λ (o : Options). length new.run.now.held < most_jobs o) (sym options)
           (subst (λ (busies : List Busy). length busies < most_jobs old.options) (sym held) s.few);
       limit = subst (λ (busies : List Busy). length busies ≤ 64) (sym tickets) s.limit;
     }
 
 -- the held records were put
-pub sound_put : {W O E : Type 0} (m : Meaning W) (old new : Site W O E) → SitePuts m old new → IsStoredFor m new.run.tickets new → new.run.held ≡ [] → m.closed old.world.now ≡ [] → IsJoined m old.world.now (holds_in old.run.tickets) → length old.run.tickets ≤ 64 → IsSound m new
+pub sound_put : {W O E : Type 0} (m : Meaning W) (old new : Site W O E) → SitePuts m old new → IsStoredFor m new.run.now.tickets new → new.run.now.held ≡ [] → m.closed old.world.now ≡ [] → IsJoined m old.world.now (holds_in old.run.now.tickets) → length old.run.now.tickets ≤ 64 → IsSound m new
 sound_put m old new puts stored none unclosed joined limit = record {
   unclosed = puts.goes.passes.told.closed ∙ unclosed;
-  joined = subst (λ (busies : List Busy). IsJoined m new.world.now (holds_in busies)) (sym puts.tickets) (joined_on m old.world.now new.world.now (holds_in old.run.tickets) puts.goes joined);
-  stored = subst (λ (busies : List Busy). IsStoredFor m (busies ++ new.run.tickets) new) (sym none) stored;
+  joined = subst (λ (busies : List Busy). IsJoined m new.world.now (holds_in busies)) (sym puts.tickets) (joined_on m old.world.now new.world.now (holds_in old.run.now.tickets) puts.goes joined);
+  stored = subst (λ (busies : List Busy). IsStoredFor m (busies ++ new.run.now.tickets) new) (sym none) stored;
   few = omega (arith, ap (λ (busies : List Busy). length busies) none);
   limit = subst (λ (busies : List Busy). length busies ≤ 64) (sym puts.tickets) limit;
 }
@@ -98,13 +100,13 @@ cleared_by m site job ticket paths (Ok value) same gone withdrawn ticket_for = r
 cleared_by m site job ticket paths (Err end) same gone withdrawn ticket_for = tt
 
 -- the running jobs behind a start
-pub joined_after : {W O E T : Type 0} (m : Meaning W) (world : W) (r : Result T ListEnd) (job : Job) (old : Site W O E) (busies : List Busy) → busies ≡ old.run.tickets → OnOk r (IsJoined m world (holds_in busies ++ hold_for job ∷ [])) → OnErr r (IsJoined m world (holds_in busies))
+pub joined_after : {W O E T : Type 0} (m : Meaning W) (world : W) (r : Result T ListEnd) (job : Job) (old : Site W O E) (busies : List Busy) → busies ≡ old.run.now.tickets → OnOk r (IsJoined m world (holds_in busies ++ hold_for job ∷ [])) → OnErr r (IsJoined m world (holds_in busies))
     → IsJoined m world (holds_after r job old)
 joined_after m world (Ok value) job old busies same started refused = subst (λ (all : List Busy). IsJoined m world (holds_in all ++ hold_for job ∷ [])) same started
 joined_after m world (Err end) job old busies same started refused = subst (λ (all : List Busy). IsJoined m world (holds_in all)) same refused
 
 -- a start that didn't come about
-pub sound_refused : {W O E T : Type 0} (P : ListEnd → Type 0) (m : Meaning W) (r : Result T ListEnd) (job : Job) (old new : Site W O E) → IsErrAnd r P → new.run.tickets ≡ old.run.tickets → IsSound m new → IsSoundWith m (holds_after r job old) (new.run.held ++ new.run.tickets) new
+pub sound_refused : {W O E T : Type 0} (P : ListEnd → Type 0) (m : Meaning W) (r : Result T ListEnd) (job : Job) (old new : Site W O E) → IsErrAnd r P → new.run.now.tickets ≡ old.run.now.tickets → IsSound m new → IsSoundWith m (holds_after r job old) (new.run.now.held ++ new.run.now.tickets) new
 sound_refused P m (Ok value) job old new is same s = absurd is
 sound_refused P m (Err end) job old new is same s = record {
   unclosed = s.unclosed;
@@ -122,11 +124,11 @@ looked_at m old new r looks cause = record {
 }
 
 -- a site where nothing runs and nothing is held
-pub sound_first : {W O E : Type 0} (m : Meaning W) (site : Site W O E) → site.run.tickets ≡ [] → site.run.held ≡ [] → m.closed site.world.now ≡ [] → (m.tells site.world.now → (m.around site.world.now).running ≡ []) → is_live site.store.now ≡ true → IsKept m site.world.now site.store.now → IsSound m site
+pub sound_first : {W O E : Type 0} (m : Meaning W) (site : Site W O E) → site.run.now.tickets ≡ [] → site.run.now.held ≡ [] → m.closed site.world.now ≡ [] → (m.tells site.world.now → (m.around site.world.now).running ≡ []) → is_live site.store.now ≡ true → IsKept m site.world.now site.store.now → IsSound m site
 sound_first m site tickets held unclosed idle live kept = record {
   unclosed = unclosed;
   joined = subst (λ (all : List Busy). IsJoined m site.world.now (holds_in all)) (sym tickets) (record { apart = tt; runs = λ t. ap holds_of (idle t) });
-  stored = stored_first m site.world.now site.store.now _ _ (both_same site.run.held [] site.run.tickets [] held tickets) live kept;
+  stored = stored_first m site.world.now site.store.now _ _ (both_same site.run.now.held [] site.run.now.tickets [] held tickets) live kept;
   few = omega (arith, ap (λ (all : List Busy). length all) held);
   limit = omega (arith, ap (λ (all : List Busy). length all) tickets);
 }

@@ -78,3 +78,9 @@ pub record Reports {E : Type 0} (e : SinkMeaning E) (err : E) (old : Account) (w
   pub shut : new.is_store_shut ≡ old.is_store_shut
   pub accounts : (counts : Counts) (out : ℕ)
       → Accounts (outside counts out (e.faults err)) with (outside counts out (e.faults new_err)) (ledger_of new)
+
+-- what was accounted for is so still, over calls on the world and both sinks
+abbrev pub AllAccounts : {W O E : Type 0} → Meaning W → SinkMeaning O → SinkMeaning E → W → O → E → Account → W → O → E → Account → Type 0
+AllAccounts m o e world out err account new_world new_out new_err new_account =
+    Accounts (outside (m.counts world) (o.faults out) (e.faults err)) (ledger_of account)
+    (outside (m.counts new_world) (o.faults new_out) (e.faults new_err)) (ledger_of new_account)

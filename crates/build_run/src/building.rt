@@ -5,8 +5,8 @@ ghost use Rattle.world_api.specs.Meaning.{Told};
 ghost use Rattle.sign_store.specs.Stores.{IsKept, is_live};
 ghost use Rattle.build_files.specs.Causes.{HasLookCause, IsQuiet};
 ghost use Rattle.build_run.specs.Causes.{BuildCauses, IsInner};
-ghost use Rattle.build_run.specs.Goings.{Goes, Stays};
-ghost use Rattle.build_run.specs.Ledgers.{ledger_of, Reports};
+ghost use Rattle.build_run.specs.Goings.{Goes, Passes, Stays};
+ghost use Rattle.build_run.specs.Ledgers.{ledger_of, AllAccounts, Reports};
 ghost use Rattle.build_run.specs.Sites.{IsSame, SiteAccounts, most_jobs};
 ghost use Rattle.build_run.specs.Takes.{HasTakeCause};
 
@@ -23,7 +23,6 @@ use scons_base::{Listing, Memory, NodeId, PathText, RuleId};
 use scons_report::cycle_fault;
 use sign_store::Store;
 use std::alloc::Global;
-use std::mem;
 use task_plan::Plan;
 use world_api::{Hash, Sink, World};
 
@@ -72,21 +71,18 @@ pub fn build<W: World, O: Sink, E: Sink>(
 {
     let mut account = Account::new(alloc);
     match set_out(alloc, options.hash, graph, requested, store, world) {
-        Ok(run) => {
-            let options = *options;
-            let mut site = Site {
+        Ok(mut run) => {
+            let skipped = make_all(
                 graph,
                 store,
                 world,
                 out,
                 err,
-                run,
-                account,
-                options,
-            };
-            site.go_on();
-            let skipped = site.close();
-            site.ended(skipped)
+                &mut run,
+                &mut account,
+                *options,
+            );
+            answer(account, skipped)
         }
         Err(end) => {
             account.end(err, end);
@@ -142,6 +138,41 @@ fn begin<W: World>(
     })
 }
 
+/// Makes what the plan wants, and says which rules were held back. When it returns nothing runs.
+fn make_all<W: World, O: Sink, E: Sink>(
+    graph: &mut Graph,
+    store: &mut Store,
+    world: &mut W,
+    out: &mut O,
+    err: &mut E,
+    run: &mut Run,
+    account: &mut Account,
+    options: Options,
+) -> Listing<(PathText, PathText)>
+    requires unclosed { W.meaning.closed world.old ≡ [] }
+    requires idle { W.meaning.tells world.old → (W.meaning.around world.old).running ≡ [] }
+    requires live { is_live store.old ≡ true }
+    requires kept { IsKept W.meaning world.old store.old }
+    requires none { run.old.tickets ≡ [] }
+    requires held { run.old.held ≡ [] }
+    ensures passes { Passes W.meaning world.old world.new }
+    ensures idle { W.meaning.tells world.new → (W.meaning.around world.new).running ≡ [] }
+    ensures accounts { AllAccounts W.meaning O.meaning E.meaning world.old out.old err.old account.old world.new out.new err.new account.new }
+{
+    let mut site = Site {
+        graph,
+        store,
+        world,
+        out,
+        err,
+        run,
+        account,
+        options,
+    };
+    site.go_on();
+    site.close()
+}
+
 impl<W: World, O: Sink, E: Sink> Site<'_, '_, W, O, E> {
     /// Looks for rules that wait for themselves, and says which rules were held back.
     fn close(&mut self) -> Listing<(PathText, PathText)>
@@ -149,27 +180,14 @@ impl<W: World, O: Sink, E: Sink> Site<'_, '_, W, O, E> {
         ensures world { self.new.world.now ≡ self.old.world.now }
         ensures accounts { SiteAccounts W.meaning O.meaning E.meaning self.old self.new }
     {
-        tell_cycle(self.graph, &self.run.plan, &mut self.account, self.err);
-        match skipped(self.graph, &self.run.plan, &self.account) {
+        tell_cycle(self.graph, &self.run.plan, self.account, self.err);
+        match skipped(self.graph, &self.run.plan, self.account) {
             Ok(skipped) => skipped,
             Err(_) => {
                 self.account.want_memory();
                 Listing::empty(self.account.alloc)
             }
         }
-    }
-
-    /// What is to be reported, taken out.
-    fn ended(&mut self, skipped: Listing<(PathText, PathText)>) -> BuildEnd
-        ensures same { IsSame self.old self.new }
-        ensures world { self.new.world.now ≡ self.old.world.now }
-        ensures out { self.new.out.now ≡ self.old.out.now }
-        ensures err { self.new.err.now ≡ self.old.err.now }
-        ensures faults { result.faults ≡ self.old.account.faults.items }
-        ensures memory { result.memory ≡ self.old.account.memory }
-    {
-        let blank = Account::new(self.account.alloc);
-        answer(mem::replace(&mut self.account, blank), skipped)
     }
 }
 

@@ -25,7 +25,7 @@ impl<W: World, O: Sink, E: Sink> Site<'_, '_, W, O, E> {
         ensures goes { SiteGoes W.meaning self.old self.new }
         ensures ends { SiteEnds W.meaning O.meaning E.meaning self.old self.new result }
         ensures sound { IsSound W.meaning self.new }
-        ensures held { KeepsSome self.old.run.held self.new.run.held }
+        ensures held { KeepsSome self.old.run.now.held self.new.run.now.held }
         ensures kept { KeepsRecordsBut job.now.targets self.old self.new }
         ensures cleared { OnOk result (IsCleared W.meaning self.new job.now ticket.now) }
     {
@@ -43,7 +43,7 @@ impl<W: World, O: Sink, E: Sink> Site<'_, '_, W, O, E> {
         ensures goes { SiteGoes W.meaning self.old self.new }
         ensures ends { SiteEnds W.meaning O.meaning E.meaning self.old self.new result }
         ensures sound { IsSound W.meaning self.new }
-        ensures held { KeepsSome self.old.run.held self.new.run.held }
+        ensures held { KeepsSome self.old.run.now.held self.new.run.now.held }
         ensures kept { KeepsRecordsBut job.now.targets self.old self.new }
         ensures withdrawn { OnOk result (AreWithdrawn W.meaning self.new.world.now self.new.store.now job.now.targets) }
         ensures ticket { OnOk result (IsTicketFor self.new.store.now ticket.now job.now.targets) }

@@ -1,10 +1,11 @@
 //! Whether a rule is stale.
 ghost use Rattle.std.specs.Prelude.{◌≡◌, ◌≤◌, ◌<◌, [], length, IfOk};
-ghost use Rattle.build_files.specs.Causes.{IsQuiet};
+ghost use Rattle.build_files.specs.Causes.{HasLookCause, IsQuiet};
 ghost use Rattle.build_run.specs.Causes.{IsInner};
+ghost use Rattle.build_run.specs.Goings.{Stays};
 ghost use Rattle.build_run.specs.Sites.{IsSound, KeepsHeld, SiteEnds, SitePasses};
 
-use crate::site::Site;
+use crate::site::{Run, Site};
 use build_files::{ListEnd, Present, first_target, is_stale, path_of};
 use deciders::Rec;
 use rule_graph::{BuildFault, Graph, What};
@@ -17,18 +18,14 @@ impl<W: World, O: Sink, E: Sink> Site<'_, '_, W, O, E> {
     /// Decides a rule: it is fresh, its action is started, or one of its dependencies is missing.
     pub(crate) fn decide(&mut self, rule: RuleId) -> Result<PlanEvent, ListEnd>
         requires sound { IsSound W.meaning self.old }
-        requires room { length self.old.run.tickets < 64 }
+        requires room { length self.old.run.now.tickets < 64 }
         ensures passes { SitePasses W.meaning self.old self.new }
         ensures ends { SiteEnds W.meaning O.meaning E.meaning self.old self.new result }
         ensures sound { IsSound W.meaning self.new }
-        ensures few { length self.new.run.held ≤ length self.old.run.held }
+        ensures few { length self.new.run.now.held ≤ length self.old.run.now.held }
         ensures kept { KeepsHeld self.old self.new }
     {
-        let deps = self.run.plan.deps(rule);
-        if deps.len() > DEP_LIMIT as usize {
-            return Err(ListEnd::too_many(What::Deps, DEP_LIMIT as u64 + 1));
-        }
-        match self.run.inputs.present(self.world, self.graph, rule, deps)? {
+        match present(self.run, self.world, self.graph, rule)? {
             Present::Record(now) => self.make(rule, now),
             Present::Lacks(node) => {
                 let missing = missing_fault(self.graph, rule, node)?;
@@ -42,11 +39,11 @@ impl<W: World, O: Sink, E: Sink> Site<'_, '_, W, O, E> {
     /// Starts the action of a rule with this record where it is stale.
     fn make(&mut self, rule: RuleId, now: Rec) -> Result<PlanEvent, ListEnd>
         requires sound { IsSound W.meaning self.old }
-        requires room { length self.old.run.tickets < 64 }
+        requires room { length self.old.run.now.tickets < 64 }
         ensures passes { SitePasses W.meaning self.old self.new }
         ensures ends { SiteEnds W.meaning O.meaning E.meaning self.old self.new result }
         ensures sound { IsSound W.meaning self.new }
-        ensures few { length self.new.run.held ≤ length self.old.run.held }
+        ensures few { length self.new.run.now.held ≤ length self.old.run.now.held }
         ensures kept { KeepsHeld self.old self.new }
     {
         if !is_stale(self.world, self.graph, self.store, rule, &now)? {
@@ -56,6 +53,25 @@ impl<W: World, O: Sink, E: Sink> Site<'_, '_, W, O, E> {
         self.account.note_start(rule);
         Ok(PlanEvent::Started(rule))
     }
+}
+
+/// The record of a rule over its dependencies as they are now, or one of them that isn't there.
+fn present<W: World>(
+    run: &mut Run,
+    world: &mut W,
+    graph: &Graph,
+    rule: RuleId,
+) -> Result<Present, ListEnd>
+    ensures stays { Stays W.meaning world.old world.new }
+    ensures cause { HasLookCause (W.meaning.counts world.old) (W.meaning.counts world.new) result }
+    ensures tickets { run.new.tickets ≡ run.old.tickets }
+    ensures held { run.new.held ≡ run.old.held }
+{
+    let deps = run.plan.deps(rule);
+    if deps.len() > DEP_LIMIT as usize {
+        return Err(ListEnd::too_many(What::Deps, DEP_LIMIT as u64 + 1));
+    }
+    run.inputs.present(world, graph, rule, deps)
 }
 
 /// The fault that a dependency of a rule has no rule and is no file.

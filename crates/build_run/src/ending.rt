@@ -26,7 +26,7 @@ impl<W: World, O: Sink, E: Sink> Site<'_, '_, W, O, E> {
     /// for one long action has all of them on the disk.
     pub(crate) fn take_ending(&mut self) -> PlanEvent
         requires sound { IsSound W.meaning self.old }
-        requires some { 0 < length self.old.run.tickets }
+        requires some { 0 < length self.old.run.now.tickets }
         ensures passes { SitePasses W.meaning self.old self.new }
         ensures accounts { SiteAccounts W.meaning O.meaning E.meaning self.old self.new }
         ensures sound { IsSound W.meaning self.new }
@@ -43,7 +43,7 @@ impl<W: World, O: Sink, E: Sink> Site<'_, '_, W, O, E> {
         ensures accounts { SiteAccounts W.meaning O.meaning E.meaning self.old self.new }
         ensures sound { IsSound W.meaning self.new }
         ensures kept { KeepsRecords self.old self.new }
-        ensures waits { length self.old.run.tickets < most_jobs self.old.options → self.new.run.held ≡ [] }
+        ensures waits { length self.old.run.now.tickets < most_jobs self.old.options → self.new.run.now.held ≡ [] }
         ensures tickets { KeepsTickets self.old.store.now self.new.store.now }
     {
         if self.run.tickets.len() >= self.options.most_jobs() {
@@ -56,14 +56,14 @@ impl<W: World, O: Sink, E: Sink> Site<'_, '_, W, O, E> {
     /// reported. An ending that is no running rule's, of which nothing can be told, is answered as want of memory is.
     fn take_ended(&mut self) -> PlanEvent
         requires sound { IsSound W.meaning self.old }
-        requires some { 0 < length self.old.run.tickets }
-        requires waits { length self.old.run.tickets < most_jobs self.old.options → self.old.run.held ≡ [] }
+        requires some { 0 < length self.old.run.now.tickets }
+        requires waits { length self.old.run.now.tickets < most_jobs self.old.options → self.old.run.now.held ≡ [] }
         ensures passes { SitePasses W.meaning self.old self.new }
         ensures accounts { SiteAccounts W.meaning O.meaning E.meaning self.old self.new }
         ensures sound { IsSound W.meaning self.new }
         ensures takes { TakesEnding W.meaning self.old self.new result }
     {
-        let ended = wait(self.world, &self.run, &self.options);
+        let ended = wait(self.world, self.run, &self.options);
         let Some(busy) = self.run.tickets.take(ended.id) else {
             self.account.want_memory();
             return PlanEvent::Halt;
@@ -78,7 +78,7 @@ impl<W: World, O: Sink, E: Sink> Site<'_, '_, W, O, E> {
                 give_up(self.account.is_store_shut, self.store, busy.ticket);
                 not_done(
                     self.graph,
-                    &mut self.account,
+                    self.account,
                     self.err,
                     &self.options,
                     rule,
@@ -91,8 +91,8 @@ impl<W: World, O: Sink, E: Sink> Site<'_, '_, W, O, E> {
 
     /// Holds a record behind those that are held. Once there are as many as jobs may run they are put.
     fn hold(&mut self, busy: Busy)
-        requires { IsSoundWith W.meaning (holds_in self.old.run.tickets)
-            (self.old.run.held ++ busy ∷ self.old.run.tickets) self.old }
+        requires { IsSoundWith W.meaning (holds_in self.old.run.now.tickets)
+            (self.old.run.now.held ++ busy ∷ self.old.run.now.tickets) self.old }
         ensures puts { SitePuts W.meaning self.old self.new }
         ensures accounts { SiteAccounts W.meaning O.meaning E.meaning self.old self.new }
         ensures sound { IsSound W.meaning self.new }
@@ -108,11 +108,11 @@ impl<W: World, O: Sink, E: Sink> Site<'_, '_, W, O, E> {
 
     /// Puts the records that are held, unless the store has refused before. None is held then.
     pub(crate) fn put_held(&mut self)
-        requires { IsStoredFor W.meaning (self.old.run.held ++ self.old.run.tickets) self.old }
+        requires { IsStoredFor W.meaning (self.old.run.now.held ++ self.old.run.now.tickets) self.old }
         ensures puts { SitePuts W.meaning self.old self.new }
         ensures accounts { SiteAccounts W.meaning O.meaning E.meaning self.old self.new }
-        ensures stored { IsStoredFor W.meaning self.new.run.tickets self.new }
-        ensures none { self.new.run.held ≡ [] }
+        ensures stored { IsStoredFor W.meaning self.new.run.now.tickets self.new }
+        ensures none { self.new.run.now.held ≡ [] }
         ensures kept { KeepsRecords self.old self.new }
         ensures tickets { KeepsTickets self.old.store.now self.new.store.now }
     {

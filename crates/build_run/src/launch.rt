@@ -26,17 +26,17 @@ impl<W: World, O: Sink, E: Sink> Site<'_, '_, W, O, E> {
         requires ready { IsReady self.old job ticket.now }
         ensures passes { SitePasses W.meaning self.old self.new }
         ensures ends { SiteEnds W.meaning O.meaning E.meaning self.old self.new result }
-        ensures sound { IsSoundWith W.meaning (holds_after result job self.old) (self.new.run.held ++ self.new.run.tickets) self.new }
-        ensures tickets { self.new.run.tickets ≡ self.old.run.tickets }
-        ensures held { KeepsSome self.old.run.held self.new.run.held }
+        ensures sound { IsSoundWith W.meaning (holds_after result job self.old) (self.new.run.now.held ++ self.new.run.now.tickets) self.new }
+        ensures tickets { self.new.run.now.tickets ≡ self.old.run.now.tickets }
+        ensures held { KeepsSome self.old.run.now.held self.new.run.now.held }
         ensures kept { KeepsRecordsBut job.targets self.old self.new }
         ensures ticket { OnOk result (IsTicketFor self.new.store.now ticket.now job.targets) }
         ensures none { OnOk result (HasNone (map_of self.new.store.now) job.targets) }
         ensures err { self.new.err.now ≡ self.old.err.now }
     {
         self.clear(&job, ticket)?;
-        show(&mut self.account, self.out, text)?;
-        begin(self.graph, self.world, job, &self.run, self.store)
+        show(self.account, self.out, text)?;
+        begin(self.graph, self.world, job, self.run, self.store)
     }
 }
 

@@ -1,4 +1,4 @@
-//! Where a build goes on: what it is lent, what it keeps from call to call, and what it has to report.
+//! Where a build goes on: what it is lent, what it knows, and what it has to report.
 
 use crate::account::Account;
 use crate::building::Options;
@@ -11,7 +11,8 @@ use sign_store::Store;
 use task_plan::Plan;
 use world_api::{Sink, World};
 
-/// A build that goes on. Its steps are methods: a call that needs the store or the account alone gets just these.
+/// A build that goes on. Its steps are methods: a call that needs the store or the account alone gets just these. It owns
+/// nothing, so what was lent to it has behind it what it held in the end.
 #[derive(Drop)]
 pub(crate) struct Site<'a, 'p, W: World, O: Sink, E: Sink> {
     pub(crate) graph: &'a mut Graph,
@@ -19,8 +20,8 @@ pub(crate) struct Site<'a, 'p, W: World, O: Sink, E: Sink> {
     pub(crate) world: &'a mut W,
     pub(crate) out: &'p mut O,
     pub(crate) err: &'p mut E,
-    pub(crate) run: Run,
-    pub(crate) account: Account,
+    pub(crate) run: &'p mut Run,
+    pub(crate) account: &'p mut Account,
     pub(crate) options: Options,
 }
 

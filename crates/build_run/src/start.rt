@@ -24,11 +24,11 @@ impl<W: World, O: Sink, E: Sink> Site<'_, '_, W, O, E> {
     /// a fault of the store nothing starts.
     pub(crate) fn start(&mut self, rule: RuleId, now: Rec) -> Result<(), ListEnd>
         requires sound { IsSound W.meaning self.old }
-        requires room { length self.old.run.tickets < 64 }
+        requires room { length self.old.run.now.tickets < 64 }
         ensures passes { SitePasses W.meaning self.old self.new }
         ensures ends { SiteEnds W.meaning O.meaning E.meaning self.old self.new result }
         ensures sound { IsSound W.meaning self.new }
-        ensures few { length self.new.run.held ≤ length self.old.run.held }
+        ensures few { length self.new.run.now.held ≤ length self.old.run.now.held }
         ensures kept { KeepsHeld self.old self.new }
         ensures err { self.new.err.now ≡ self.old.err.now }
     {

@@ -22,7 +22,7 @@ impl<W: World, O: Sink, E: Sink> Site<'_, '_, W, O, E> {
         requires sound { IsSound W.meaning self.old }
         ensures passes { SitePasses W.meaning self.old self.new }
         ensures accounts { SiteAccounts W.meaning O.meaning E.meaning self.old self.new }
-        ensures put { self.new.run.held ≡ [] }
+        ensures put { self.new.run.now.held ≡ [] }
         ensures idle { W.meaning.tells self.new.world.now → (W.meaning.around self.new.world.now).running ≡ [] }
     {
         self.take_turns();
@@ -37,10 +37,10 @@ impl<W: World, O: Sink, E: Sink> Site<'_, '_, W, O, E> {
         ensures passes { SitePasses W.meaning self.old self.new }
         ensures accounts { SiteAccounts W.meaning O.meaning E.meaning self.old self.new }
         ensures sound { IsSound W.meaning self.new }
-        ensures rests { self.new.account.memory ≡ false → IsIdle self.new.run.plan × (length self.new.run.tickets ≡ 0) }
+        ensures rests { self.new.account.now.memory ≡ false → IsIdle self.new.run.now.plan × (length self.new.run.now.tickets ≡ 0) }
     {
         for _turn in 0..u64::MAX {
-            let wanted = want(&self.run, &self.options);
+            let wanted = want(self.run, &self.options);
             if wanted == Want::Rest {
                 return;
             }
@@ -48,11 +48,11 @@ impl<W: World, O: Sink, E: Sink> Site<'_, '_, W, O, E> {
             tell(
                 self.graph,
                 &mut self.run.plan,
-                &mut self.account,
+                self.account,
                 self.err,
                 done,
             );
-            halt(self.graph, &mut self.run.plan, &self.account);
+            halt(self.graph, &mut self.run.plan, self.account);
         }
         self.account.want_memory();
     }
@@ -74,19 +74,19 @@ impl<W: World, O: Sink, E: Sink> Site<'_, '_, W, O, E> {
             tell(
                 self.graph,
                 &mut self.run.plan,
-                &mut self.account,
+                self.account,
                 self.err,
                 Ok(event),
             );
-            halt(self.graph, &mut self.run.plan, &self.account);
+            halt(self.graph, &mut self.run.plan, self.account);
         }
     }
 
     /// Does what is wanted.
     fn take_turn(&mut self, wanted: Want) -> Result<PlanEvent, ListEnd>
         requires sound { IsSound W.meaning self.old }
-        requires some { wanted ≡ Want.Wait → 0 < length self.old.run.tickets }
-        requires room { (rule : RuleId) → wanted ≡ Want.Decide rule → length self.old.run.tickets < 64 }
+        requires some { wanted ≡ Want.Wait → 0 < length self.old.run.now.tickets }
+        requires room { (rule : RuleId) → wanted ≡ Want.Decide rule → length self.old.run.now.tickets < 64 }
         ensures passes { SitePasses W.meaning self.old self.new }
         ensures ends { SiteEnds W.meaning O.meaning E.meaning self.old self.new result }
         ensures sound { IsSound W.meaning self.new }

@@ -19,13 +19,13 @@ pub remove_all-requires : goal.remove_all-requires
 remove_all-requires g c = λ t path h.
     let m = g.W.Disk.meaning in
     let now = c.withdraw.new.self in
-    are_unused c.args.job.now (m.around now.world.now).running (holds_in now.run.tickets) (c.withdraw.ensures.sound.joined.runs t)
+    are_unused c.args.job.now (m.around now.world.now).running (holds_in now.run.now.tickets) (c.withdraw.ensures.sound.joined.runs t)
     (λ hold there. c.requires.ready.apart hold (subst (λ (busies : List Busy). Contains (holds_in busies) hold) c.withdraw.ensures.goes.tickets there))
     path (subst (λ (paths : List (List ℕ)). Contains paths path) c.as_slice-targets.ensures h)
 
 pub returns-in_err-make_dirs-clause-goes : goal.returns-in_err-make_dirs-clause-goes
 returns-in_err-make_dirs-clause-goes g c = record {
-  same = record { graph = refl; store = refl; world = refl; out = refl; err = refl; options = refl };
+  same = record { graph = refl; store = refl; world = refl; out = refl; err = refl; run = refl; account = refl; options = refl };
   goes = c.make_dirs.ensures.stays.goes;
   tickets = refl;
   out = refl;
@@ -34,7 +34,7 @@ returns-in_err-make_dirs-clause-goes g c = record {
 
 pub returns-in_err-make_dirs-clause-ends : goal.returns-in_err-make_dirs-clause-ends
 returns-in_err-make_dirs-clause-ends g c = λ start a.
-    let before = ledger_of c.args.self.now.account in
+    let before = ledger_of c.args.self.now.account.now in
     exit_same start before _ c.from_residual.result _ c.from_residual.ensures.1 (look_end start before _ _ _ _ _ c.in_err-make_dirs.ensures.cause a)
 
 pub returns-in_err-make_dirs-clause-sound : goal.returns-in_err-make_dirs-clause-sound
@@ -59,8 +59,8 @@ returns-in_err-withdraw-clause-goes g c =
 
 pub returns-in_err-withdraw-clause-ends : goal.returns-in_err-withdraw-clause-ends
 returns-in_err-withdraw-clause-ends g c = λ start a.
-    exit_same start (ledger_of c.withdraw.new.self.account) _ c.from_residual-in_err-withdraw.result _ c.from_residual-in_err-withdraw.ensures.1
-    (c.in_err-withdraw.ensures.ends start (same_counts start (ledger_of c.args.self.now.account) _ _ _ _ c.in_ok-make_dirs.ensures.cause a))
+    exit_same start (ledger_of c.withdraw.new.self.account.now) _ c.from_residual-in_err-withdraw.result _ c.from_residual-in_err-withdraw.ensures.1
+    (c.in_err-withdraw.ensures.ends start (same_counts start (ledger_of c.args.self.now.account.now) _ _ _ _ c.in_ok-make_dirs.ensures.cause a))
 
 pub returns-clause-goes : goal.returns-clause-goes
 returns-clause-goes g c =
@@ -76,8 +76,8 @@ returns-clause-goes g c =
 
 pub returns-clause-ends : goal.returns-clause-ends
 returns-clause-ends g c = λ start a.
-    looked start (ledger_of c.withdraw.new.self.account) _ _ _ _ _ c.remove_all.ensures.cause
-    (c.in_ok-withdraw.ensures.ends start (same_counts start (ledger_of c.args.self.now.account) _ _ _ _ c.in_ok-make_dirs.ensures.cause a))
+    looked start (ledger_of c.withdraw.new.self.account.now) _ _ _ _ _ c.remove_all.ensures.cause
+    (c.in_ok-withdraw.ensures.ends start (same_counts start (ledger_of c.args.self.now.account.now) _ _ _ _ c.in_ok-make_dirs.ensures.cause a))
 
 pub returns-clause-sound : goal.returns-clause-sound
 returns-clause-sound g c = sound_still g.W.Disk.meaning c.withdraw.new.self _ c.remove_all.ensures.stays refl refl refl refl refl c.withdraw.ensures.sound

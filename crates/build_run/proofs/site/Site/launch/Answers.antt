@@ -18,13 +18,13 @@ pub begin-requires-clause-withdrawn : goal.begin-requires-clause-withdrawn
 begin-requires-clause-withdrawn g c = c.in_ok-clear.ensures.cleared.withdrawn
 
 pub begin-requires-clause-unheld : goal.begin-requires-clause-unheld
-begin-requires-clause-unheld g c = unheld_still c.args.self.now.run.held c.clear.new.self.run.held c.args.job.targets c.clear.ensures.held c.requires.ready.beside
+begin-requires-clause-unheld g c = unheld_still c.args.self.now.run.now.held c.clear.new.self.run.now.held c.args.job.targets c.clear.ensures.held c.requires.ready.beside
 
 pub returns-in_err-clear-clause-passes : goal.returns-in_err-clear-clause-passes
 returns-in_err-clear-clause-passes g c = site_goes g.W.Disk.meaning _ _ c.clear.ensures.goes
 
 pub returns-in_err-clear-clause-ends : goal.returns-in_err-clear-clause-ends
-returns-in_err-clear-clause-ends g c = λ start a. exit_same start (ledger_of c.clear.new.self.account) _ c.from_residual.result _ c.from_residual.ensures.1 (c.in_err-clear.ensures.ends start a)
+returns-in_err-clear-clause-ends g c = λ start a. exit_same start (ledger_of c.clear.new.self.account.now) _ c.from_residual.result _ c.from_residual.ensures.1 (c.in_err-clear.ensures.ends start a)
 
 pub returns-in_err-clear-clause-sound : goal.returns-in_err-clear-clause-sound
 returns-in_err-clear-clause-sound g c = sound_refused _ g.W.Disk.meaning c.from_residual.result c.args.job c.args.self.now c.clear.new.self c.from_residual.ensures.1 c.clear.ensures.goes.tickets c.clear.ensures.sound
@@ -41,9 +41,9 @@ pub returns-in_err-show-clause-ends : goal.returns-in_err-show-clause-ends
 returns-in_err-show-clause-ends g c = λ start a.
     let r = c.from_residual-in_err-show in
     let before = c.in_ok-clear.ensures.ends start a in
-    exit_same start (ledger_of c.show.new.account) _ r.result _ r.ensures.1
-    (print_end start (ledger_of c.show.new.account) _ _ _ _ _ c.in_err-show.ensures.cause
-    (account_as start _ (ledger_of c.clear.new.self.account) (ledger_of c.show.new.account) c.show.ensures.account before))
+    exit_same start (ledger_of c.show.new.account.now) _ r.result _ r.ensures.1
+    (print_end start (ledger_of c.show.new.account.now) _ _ _ _ _ c.in_err-show.ensures.cause
+    (account_as start _ (ledger_of c.clear.new.self.account.now) (ledger_of c.show.new.account.now) c.show.ensures.account before))
 
 pub returns-in_err-show-clause-sound : goal.returns-in_err-show-clause-sound
 returns-in_err-show-clause-sound g c =
@@ -65,11 +65,11 @@ returns-clause-passes g c =
 
 pub returns-clause-ends : goal.returns-clause-ends
 returns-clause-ends g c = λ start a.
-    let now = ledger_of c.show.new.account in
+    let now = ledger_of c.show.new.account.now in
     let before = c.in_ok-clear.ensures.ends start a in
     begun start now _ _ _ _ c.begin.result c.begin.ensures.cause
     (same_out start now _ _ _ _ c.in_ok-show.ensures.cause
-    (account_as start _ (ledger_of c.clear.new.self.account) now c.show.ensures.account before))
+    (account_as start _ (ledger_of c.clear.new.self.account.now) now c.show.ensures.account before))
 
 pub returns-clause-sound : goal.returns-clause-sound
 returns-clause-sound g c =
@@ -79,9 +79,9 @@ returns-clause-sound g c =
     let passes = c.begin.ensures.passes in
     record {
       unclosed = passes.told.closed ∙ sound.unclosed;
-      joined = joined_after m c.begin.new.world c.begin.result c.args.job c.args.self.now cleared.run.tickets c.clear.ensures.goes.tickets c.begin.ensures.started c.begin.ensures.refused;
+      joined = joined_after m c.begin.new.world c.begin.result c.args.job c.args.self.now cleared.run.now.tickets c.clear.ensures.goes.tickets c.begin.ensures.started c.begin.ensures.refused;
       stored =
-          stored_over m cleared.world.now c.begin.new.world cleared.store.now (cleared.run.held ++ cleared.run.tickets) c.show.new.account.is_store_shut passes.told.told c.begin.ensures.banks
+          stored_over m cleared.world.now c.begin.new.world cleared.store.now (cleared.run.now.held ++ cleared.run.now.tickets) c.show.new.account.now.is_store_shut passes.told.told c.begin.ensures.banks
           (stored_alike m cleared.world.now cleared.store.now _ _ _ _ refl (ap (λ (l : Ledger). l.shut) c.show.ensures.account) sound.stored);
       few = sound.few;
       limit = sound.limit;

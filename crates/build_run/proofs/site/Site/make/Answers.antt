@@ -7,7 +7,7 @@ use Rattle.build_run.proofs.site.Site.make.Goals as goal
 
 pub returns-in_err-is_stale-clause-ends : goal.returns-in_err-is_stale-clause-ends
 returns-in_err-is_stale-clause-ends g c = λ start a.
-    let before = ledger_of c.args.self.now.account in
+    let before = ledger_of c.args.self.now.account.now in
     exit_same start before _ c.from_residual.result _ c.from_residual.ensures.1 (look_end start before _ _ _ _ _ c.in_err-is_stale.ensures.cause a)
 
 pub returns-in_err-is_stale-clause-sound : goal.returns-in_err-is_stale-clause-sound

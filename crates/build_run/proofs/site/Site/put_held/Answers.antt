@@ -21,7 +21,7 @@ put-requires-clause-stands g c =
 
 pub returns-then-self-clause-puts : goal.returns-then-self-clause-puts
 returns-then-self-clause-puts g c = record {
-  same = record { graph = refl; store = refl; world = refl; out = refl; err = refl; options = refl };
+  same = record { graph = refl; store = refl; world = refl; out = refl; err = refl; run = refl; account = refl; options = refl };
   goes = goes_here g.W.Disk.meaning c.args.self.now.world.now;
   around = λ told. refl;
   tickets = refl;
@@ -42,7 +42,7 @@ pub returns-in-Ok-clause-puts : goal.returns-in-Ok-clause-puts
 returns-in-Ok-clause-puts g c =
     let m = g.W.Disk.meaning in
     record {
-      same = record { graph = refl; store = refl; world = refl; out = refl; err = refl; options = refl };
+      same = record { graph = refl; store = refl; world = refl; out = refl; err = refl; run = refl; account = refl; options = refl };
       goes = goes_by m c.args.self.now.world.now c.put.new.world c.put.ensures.told c.put.ensures.around (later_same _ _ c.in-Ok.ensures.kept);
       around = c.put.ensures.around;
       tickets = refl;
@@ -55,7 +55,7 @@ returns-in-Ok-clause-stored g c =
     let slice = c.as_slice.ensures in
     let site = c.args.self.now in
     let store = site.store.now in
-    stored_put g.W.Disk.meaning site.world.now c.put.new.world store c.put.new.self site.run.held site.run.tickets site.account.is_store_shut c.in-Ok.ensures.live
+    stored_put g.W.Disk.meaning site.world.now c.put.new.world store c.put.new.self site.run.now.held site.run.now.tickets site.account.now.is_store_shut c.in-Ok.ensures.live
     (λ are keeps. c.in-Ok.ensures.keeps (subst (λ (all : List Busy). AreHeld store all) (sym slice) are) keeps)
     (λ rec ticket are apart out. c.in-Ok.ensures.outs rec ticket (subst (λ (all : List Busy). AreHeld store all) (sym slice) are) (subst (λ (all : List Busy). IsApartFrom store rec ticket all) (sym slice) apart) out)
     (λ are. c.in-Ok.ensures.map (subst (λ (all : List Busy). AreTickets store all) (sym slice) are) ∙ ap (λ (all : List Busy). map_with store all) slice)
@@ -66,7 +66,7 @@ returns-in-Ok-clause-kept g c = λ unshut.
     let slice = c.as_slice.ensures in
     let site = c.args.self.now in
     let store = site.store.now in
-    let are = tickets_held store site.run.held (held_outs store site.run.held (outs_front store site.run.held site.run.tickets (c.requires.outs unshut))) in
+    let are = tickets_held store site.run.now.held (held_outs store site.run.now.held (outs_front store site.run.now.held site.run.now.tickets (c.requires.outs unshut))) in
     ap (λ (all : List Busy). map_with c.put.new.self all) c.clear-in-Ok.ensures
     ∙ (c.in-Ok.ensures.map (subst (λ (all : List Busy). AreTickets store all) (sym slice) are) ∙ ap (λ (all : List Busy). map_with store all) slice)
 
@@ -74,7 +74,7 @@ pub returns-in-Err-clause-puts : goal.returns-in-Err-clause-puts
 returns-in-Err-clause-puts g c =
     let m = g.W.Disk.meaning in
     record {
-      same = record { graph = refl; store = refl; world = refl; out = refl; err = refl; options = refl };
+      same = record { graph = refl; store = refl; world = refl; out = refl; err = refl; run = refl; account = refl; options = refl };
       goes = goes_by m c.args.self.now.world.now c.put.new.world c.put.ensures.told c.put.ensures.around (later_disk _ _ c.in-Err.ensures.rose);
       around = c.put.ensures.around;
       tickets = refl;
@@ -83,7 +83,7 @@ returns-in-Err-clause-puts g c =
     }
 
 pub returns-in-Err-clause-accounts : goal.returns-in-Err-clause-accounts
-returns-in-Err-clause-accounts g c = λ start a. c.end.ensures.accounts _ _ start (disk_fault start (ledger_of c.args.self.now.account) _ _ _ _ c.in-Err.ensures.rose a)
+returns-in-Err-clause-accounts g c = λ start a. c.end.ensures.accounts _ _ start (disk_fault start (ledger_of c.args.self.now.account.now) _ _ _ _ c.in-Err.ensures.rose a)
 
 pub returns-in-Err-clause-stored : goal.returns-in-Err-clause-stored
 returns-in-Err-clause-stored g c = stored_shut g.W.Disk.meaning _ _ _ _ c.end.ensures.shut

@@ -8,7 +8,7 @@ put_held-requires g c = c.requires.stored
 
 pub returns-then-len-most_jobs-clause-puts : goal.returns-then-len-most_jobs-clause-puts
 returns-then-len-most_jobs-clause-puts g c = record {
-  same = record { graph = refl; store = refl; world = refl; out = refl; err = refl; options = refl };
+  same = record { graph = refl; store = refl; world = refl; out = refl; err = refl; run = refl; account = refl; options = refl };
   goes = goes_here g.W.Disk.meaning c.args.self.now.world.now;
   around = λ told. refl;
   tickets = refl;

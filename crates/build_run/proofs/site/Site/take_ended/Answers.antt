@@ -17,13 +17,13 @@ use Rattle.build_run.proofs.site.Site.take_ended.Goals as goal
 
 pub returns-in_default-clause-passes : goal.returns-in_default-clause-passes
 returns-in_default-clause-passes g c = record {
-  same = record { graph = refl; store = refl; world = refl; out = refl; err = refl; options = refl };
+  same = record { graph = refl; store = refl; world = refl; out = refl; err = refl; run = refl; account = refl; options = refl };
   passes = c.wait-ended.ensures.passes;
 }
 
 pub returns-in_default-clause-accounts : goal.returns-in_default-clause-accounts
 returns-in_default-clause-accounts g c = λ start a.
-    let before = ledger_of c.args.self.now.account in
+    let before = ledger_of c.args.self.now.account.now in
     account_as start _ (wanting before) (ledger_of c.want_memory.new.self) c.want_memory.ensures
     (untold start before _ [] c.wait-ended.result.outcome (settled start before _ _ _ _ [] c.wait-ended.result.outcome c.wait-ended.ensures.cause a))
 
@@ -38,8 +38,8 @@ returns-in_default-clause-sound g c =
       unclosed = told.closed ∙ s.unclosed;
       joined = subst (λ (holds : List Hold). IsJoined m world holds) (sym c.take.ensures.left) c.wait-ended.ensures.joined;
       stored =
-          stored_alike m world site.store.now _ _ _ _ (ap (λ (all : List Busy). site.run.held ++ all) c.in_default.ensures.none) (ap (λ (l : Ledger). l.shut) c.want_memory.ensures)
-          (stored_over m site.world.now world site.store.now (site.run.held ++ site.run.tickets) site.account.is_store_shut told.told c.wait-ended.ensures.banks s.stored);
+          stored_alike m world site.store.now _ _ _ _ (ap (λ (all : List Busy). site.run.now.held ++ all) c.in_default.ensures.none) (ap (λ (l : Ledger). l.shut) c.want_memory.ensures)
+          (stored_over m site.world.now world site.store.now (site.run.now.held ++ site.run.now.tickets) site.account.now.is_store_shut told.told c.wait-ended.ensures.banks s.stored);
       few = s.few;
       limit = subst (λ (all : List Busy). length all ≤ 64) (sym c.in_default.ensures.none) s.limit;
     }
@@ -49,7 +49,7 @@ returns-in_default-clause-takes g c =
     let site = c.args.self.now in
     record {
       fewer = λ t. omega (arith, c.wait-ended.ensures.fewer t, ap length c.take.ensures.left, held_count c.take.new.self);
-      no_more = omega (arith, ap length c.take.ensures.left, no_more c.wait-ended.result.id (holds_in site.run.tickets), held_count site.run.tickets, held_count c.take.new.self);
+      no_more = omega (arith, ap length c.take.ensures.left, no_more c.wait-ended.result.id (holds_in site.run.now.tickets), held_count site.run.now.tickets, held_count c.take.new.self);
       done = λ t id log. absurd (omega (arith, c.wait-ended.ensures.fewer t, ap length c.take.ensures.left, held_count c.take.new.self, ap length c.in_default.ensures.none));
       only = λ t rule e. absurd cc;
       puts = λ rule e. absurd cc;
@@ -65,15 +65,15 @@ hold-requires g c =
     let s = c.requires.sound in
     let world = c.wait-ended.new.world in
     let told = c.wait-ended.ensures.passes.told in
-    let shut = site.account.is_store_shut in
+    let shut = site.account.now.is_store_shut in
     record {
       unclosed = told.closed ∙ s.unclosed;
       joined = subst (λ (holds : List Hold). IsJoined m world holds) (sym c.take.ensures.left) c.wait-ended.ensures.joined;
       stored =
-          stored_taken m world site.store.now (site.run.held ++ site.run.tickets) (site.run.held ++ c.in-Some.busy ∷ c.take.new.self) shut (c.in-Some.ensures.outs site.store.now site.run.held)
-          (stored_over m site.world.now world site.store.now (site.run.held ++ site.run.tickets) shut told.told c.wait-ended.ensures.banks s.stored);
+          stored_taken m world site.store.now (site.run.now.held ++ site.run.now.tickets) (site.run.now.held ++ c.in-Some.busy ∷ c.take.new.self) shut (c.in-Some.ensures.outs site.store.now site.run.now.held)
+          (stored_over m site.world.now world site.store.now (site.run.now.held ++ site.run.now.tickets) shut told.told c.wait-ended.ensures.banks s.stored);
       few = s.few;
-      limit = omega (arith, s.limit, ap length c.take.ensures.left, no_more c.wait-ended.result.id (holds_in site.run.tickets), held_count site.run.tickets, held_count c.take.new.self);
+      limit = omega (arith, s.limit, ap length c.take.ensures.left, no_more c.wait-ended.result.id (holds_in site.run.now.tickets), held_count site.run.now.tickets, held_count c.take.new.self);
     }
 
 pub returns-in-Done-clause-passes : goal.returns-in-Done-clause-passes
@@ -86,7 +86,7 @@ returns-in-Done-clause-passes g c =
 
 pub returns-in-Done-clause-accounts : goal.returns-in-Done-clause-accounts
 returns-in-Done-clause-accounts g c = λ start a.
-    c.hold.ensures.accounts start (rw c.in-Done.is at (settled start (ledger_of c.args.self.now.account) _ _ _ _ [] c.wait-ended.result.outcome c.wait-ended.ensures.cause a))
+    c.hold.ensures.accounts start (rw c.in-Done.is at (settled start (ledger_of c.args.self.now.account.now) _ _ _ _ [] c.wait-ended.result.outcome c.wait-ended.ensures.cause a))
 
 pub returns-in-Done-clause-takes : goal.returns-in-Done-clause-takes
 returns-in-Done-clause-takes g c =
@@ -99,7 +99,7 @@ returns-in-Done-clause-takes g c =
     let count = ap (λ (all : List Busy). length all) p.tickets in
     record {
       fewer = λ t. omega (arith, c.wait-ended.ensures.fewer (told t), ap length c.take.ensures.left, held_count c.take.new.self, count);
-      no_more = omega (arith, ap length c.take.ensures.left, no_more ended.id (holds_in site.run.tickets), held_count site.run.tickets, held_count c.take.new.self, count);
+      no_more = omega (arith, ap length c.take.ensures.left, no_more ended.id (holds_in site.run.now.tickets), held_count site.run.now.tickets, held_count c.take.new.self, count);
       done = λ t id log.
           let same : before ++ Finished ended.id ended.outcome ∷ [] ≡ before ++ Finished id Done ∷ [] =
           sym (c.wait-ended.ensures.log (told t)) ∙ (ap (λ (around : Around). around.log) (sym (p.around t)) ∙ log) in
@@ -120,29 +120,29 @@ returns-in-Done-clause-takes g c =
 
 pub returns-in_default-outcome-clause-passes : goal.returns-in_default-outcome-clause-passes
 returns-in_default-outcome-clause-passes g c = record {
-  same = record { graph = refl; store = refl; world = refl; out = refl; err = refl; options = refl };
+  same = record { graph = refl; store = refl; world = refl; out = refl; err = refl; run = refl; account = refl; options = refl };
   passes = c.wait-ended.ensures.passes;
 }
 
 pub returns-in_default-outcome-clause-accounts : goal.returns-in_default-outcome-clause-accounts
 returns-in_default-outcome-clause-accounts g c = λ start a.
     let done = c.not_done.ensures in
-    done.1.accounts _ _ start (settled start (ledger_of c.args.self.now.account) _ _ _ _ done.0 c.wait-ended.result.outcome c.wait-ended.ensures.cause a)
+    done.1.accounts _ _ start (settled start (ledger_of c.args.self.now.account.now) _ _ _ _ done.0 c.wait-ended.result.outcome c.wait-ended.ensures.cause a)
 
 pub returns-in_default-outcome-clause-sound : goal.returns-in_default-outcome-clause-sound
 returns-in_default-outcome-clause-sound g c =
     let m = g.W.Disk.meaning in
     let site = c.args.self.now in
-    let held = site.run.held in
+    let held = site.run.now.held in
     let left = c.take.new.self in
     let busy = c.in-Some.busy in
     let s = c.requires.sound in
     let world = c.wait-ended.new.world in
     let told = c.wait-ended.ensures.passes.told in
-    let shut = site.account.is_store_shut in
+    let shut = site.account.now.is_store_shut in
     let gone = c.give_up.ensures in
-    let taken = stored_taken m world site.store.now (held ++ site.run.tickets) (held ++ busy ∷ left) shut (c.in-Some.ensures.outs site.store.now held)
-    (stored_over m site.world.now world site.store.now (held ++ site.run.tickets) shut told.told c.wait-ended.ensures.banks s.stored) in
+    let taken = stored_taken m world site.store.now (held ++ site.run.now.tickets) (held ++ busy ∷ left) shut (c.in-Some.ensures.outs site.store.now held)
+    (stored_over m site.world.now world site.store.now (held ++ site.run.now.tickets) shut told.told c.wait-ended.ensures.banks s.stored) in
     record {
       unclosed = told.closed ∙ s.unclosed;
       joined = subst (λ (holds : List Hold). IsJoined m world holds) (sym c.take.ensures.left) c.wait-ended.ensures.joined;
@@ -152,27 +152,27 @@ returns-in_default-outcome-clause-sound g c =
           (room_beside m world site.store.now held busy left shut taken)
           (stored_left m world site.store.now held busy left shut taken));
       few = s.few;
-      limit = omega (arith, s.limit, ap length c.take.ensures.left, no_more c.wait-ended.result.id (holds_in site.run.tickets), held_count site.run.tickets, held_count left);
+      limit = omega (arith, s.limit, ap length c.take.ensures.left, no_more c.wait-ended.result.id (holds_in site.run.now.tickets), held_count site.run.now.tickets, held_count left);
     }
 
 pub returns-in_default-outcome-clause-takes : goal.returns-in_default-outcome-clause-takes
 returns-in_default-outcome-clause-takes g c =
     let m = g.W.Disk.meaning in
     let site = c.args.self.now in
-    let held = site.run.held in
+    let held = site.run.now.held in
     let left = c.take.new.self in
     let busy = c.in-Some.busy in
     let ended = c.wait-ended.result in
     let world = c.wait-ended.new.world in
     let told = c.wait-ended.ensures.passes.told in
-    let shut = site.account.is_store_shut in
+    let shut = site.account.now.is_store_shut in
     let gone = c.give_up.ensures in
-    let taken = stored_taken m world site.store.now (held ++ site.run.tickets) (held ++ busy ∷ left) shut (c.in-Some.ensures.outs site.store.now held)
-    (stored_over m site.world.now world site.store.now (held ++ site.run.tickets) shut told.told c.wait-ended.ensures.banks c.requires.sound.stored) in
+    let taken = stored_taken m world site.store.now (held ++ site.run.now.tickets) (held ++ busy ∷ left) shut (c.in-Some.ensures.outs site.store.now held)
+    (stored_over m site.world.now world site.store.now (held ++ site.run.now.tickets) shut told.told c.wait-ended.ensures.banks c.requires.sound.stored) in
     let before = (m.around site.world.now).log in
     record {
       fewer = λ t. omega (arith, c.wait-ended.ensures.fewer t, ap length c.take.ensures.left, held_count left);
-      no_more = omega (arith, ap length c.take.ensures.left, no_more ended.id (holds_in site.run.tickets), held_count site.run.tickets, held_count left);
+      no_more = omega (arith, ap length c.take.ensures.left, no_more ended.id (holds_in site.run.now.tickets), held_count site.run.now.tickets, held_count left);
       done = λ t id log.
           let same : before ++ Finished ended.id ended.outcome ∷ [] ≡ before ++ Finished id Done ∷ [] = sym (c.wait-ended.ensures.log t) ∙ log in
           let last : Finished ended.id ended.outcome ≡ Finished id Done = last_of before _ _ same in

@@ -16,7 +16,7 @@ take_ended-requires-clause-waits g c = λ fewer.
     let puts = c.put_if_few.ensures.puts in
     let now = c.put_if_few.new.self in
     c.put_if_few.ensures.waits
-    (subst (λ (o : Options). length c.args.self.now.run.tickets < most_jobs o) puts.same.options
+    (subst (λ (o : Options). length c.args.self.now.run.now.tickets < most_jobs o) puts.same.options
     (subst (λ (busies : List Busy). length busies < most_jobs now.options) puts.tickets fewer))
 
 pub returns-clause-passes : goal.returns-clause-passes
@@ -32,10 +32,10 @@ returns-clause-takes g c =
     let puts = c.put_if_few.ensures.puts in
     let takes = c.take_ended.ensures.takes in
     let told = c.take_ended.ensures.passes.passes.told.told in
-    let kept = λ (unshut : c.take_ended.new.self.account.is_store_shut ≡ false). c.put_if_few.ensures.kept (takes.shut unshut) in
+    let kept = λ (unshut : c.take_ended.new.self.account.now.is_store_shut ≡ false). c.put_if_few.ensures.kept (takes.shut unshut) in
     record {
       fewer = λ t. takes.fewer t ∙ ap (λ (busies : List Busy). length busies) puts.tickets;
-      no_more = subst (λ (n : ℕ). length c.take_ended.new.self.run.tickets ≤ n) (ap (λ (busies : List Busy). length busies) puts.tickets) takes.no_more;
+      no_more = subst (λ (n : ℕ). length c.take_ended.new.self.run.now.tickets ≤ n) (ap (λ (busies : List Busy). length busies) puts.tickets) takes.no_more;
       done = λ t id log. takes.done t id (log ∙ ap (λ (around : Around). around.log ++ Finished id Done ∷ []) (sym (puts.around (told t))));
       only = λ t rule e. takes.only t rule e ∙ ap (λ (around : Around). around.log ++ Finished rule.0 Done ∷ []) (puts.around (told t));
       puts = λ rule e.

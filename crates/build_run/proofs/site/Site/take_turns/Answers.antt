@@ -23,7 +23,7 @@ loop-turn-preserved g c =
 
 pub returns-clause-accounts : goal.returns-clause-accounts
 returns-clause-accounts g c = λ start a.
-    let before = ledger_of c.loop-turn.self.account in
+    let before = ledger_of c.loop-turn.self.account.now in
     account_as start _ (wanting before) (ledger_of c.want_memory.new.self) c.want_memory.ensures (wanted start before _ (c.loop-turn.invariant.accounts start a))
 
 pub returns-clause-passes : goal.returns-clause-passes

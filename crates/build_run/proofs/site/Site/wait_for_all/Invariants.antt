@@ -8,6 +8,6 @@ invariant-loop-turn g l =
     record {
       passes : SitePasses m l.fn.self l.self;
       accounts : SiteAccounts m g.O.Sink.meaning g.E.Sink.meaning l.fn.self l.self;
-      left : m.tells l.self.world.now → length l.self.run.tickets + l._turn ≤ l.running;
+      left : m.tells l.self.world.now → length l.self.run.now.tickets + l._turn ≤ l.running;
       sound : IsSound m l.self;
     }

@@ -21,7 +21,7 @@ withdraw-requires-clause-stands g c =
 
 pub returns-then-not-has_record-clause-goes : goal.returns-then-not-has_record-clause-goes
 returns-then-not-has_record-clause-goes g c = record {
-  same = record { graph = refl; store = refl; world = refl; out = refl; err = refl; options = refl };
+  same = record { graph = refl; store = refl; world = refl; out = refl; err = refl; run = refl; account = refl; options = refl };
   goes = goes_here g.W.Disk.meaning c.args.self.now.world.now;
   tickets = refl;
   out = refl;
@@ -42,7 +42,7 @@ returns-then-not-has_record-clause-kept g c = λ unshut path not. refl
 
 pub returns-in-Ok-clause-goes : goal.returns-in-Ok-clause-goes
 returns-in-Ok-clause-goes g c = record {
-  same = record { graph = refl; store = refl; world = refl; out = refl; err = refl; options = refl };
+  same = record { graph = refl; store = refl; world = refl; out = refl; err = refl; run = refl; account = refl; options = refl };
   goes = goes_by g.W.Disk.meaning c.args.self.now.world.now c.withdraw.new.world c.withdraw.ensures.told c.withdraw.ensures.around (later_same _ _ c.in-Ok.ensures.kept);
   tickets = refl;
   out = refl;
@@ -54,13 +54,13 @@ returns-in-Ok-clause-sound g c =
     let m = g.W.Disk.meaning in
     let site = c.args.self.now in
     let store = site.store.now in
-    let held = site.run.held in
-    let busies = site.run.tickets in
+    let held = site.run.now.held in
+    let busies = site.run.now.tickets in
     let ready = c.requires.ready in
     let sound = c.requires.sound in
     let t = ready.out in
     let slice = c.as_slice.ensures in
-    let shut = site.account.is_store_shut in
+    let shut = site.account.now.is_store_shut in
     let goes = goes_by m site.world.now c.withdraw.new.world c.withdraw.ensures.told c.withdraw.ensures.around (later_same _ _ c.in-Ok.ensures.kept) in
     let with = subst (λ (all : List Busy). AreOutWith store all t.rec c.args.ticket.now) (sym slice) (out_with store held busies c.args.ticket.now c.args.job.now.targets t (sound.stored.outs ready.unshut) ready.room ready.beside) in
     let map = subst (λ (all : List Busy). map_of c.withdraw.new.self ≡ map_without store all t.rec) slice (c.in-Ok.ensures.map t.rec with) in
@@ -84,7 +84,7 @@ returns-in-Ok-clause-withdrawn g c =
     let ready = c.requires.ready in
     let t = ready.out in
     let slice = c.as_slice.ensures in
-    let with = subst (λ (all : List Busy). AreOutWith store all t.rec c.args.ticket.now) (sym slice) (out_with store site.run.held site.run.tickets c.args.ticket.now c.args.job.now.targets t (c.requires.sound.stored.outs ready.unshut) ready.room ready.beside) in
+    let with = subst (λ (all : List Busy). AreOutWith store all t.rec c.args.ticket.now) (sym slice) (out_with store site.run.now.held site.run.now.tickets c.args.ticket.now c.args.job.now.targets t (c.requires.sound.stored.outs ready.unshut) ready.room ready.beside) in
     withdrawn g.W.Disk.meaning c.withdraw.new.world c.withdraw.new.self (map_with store c.as_slice.result.now) t.rec c.args.job.now.targets t.same (c.in-Ok.ensures.map t.rec with) (c.in-Ok.ensures.keeps t.rec with (c.requires.sound.stored.kept ready.unshut))
 
 pub returns-in-Ok-clause-ticket : goal.returns-in-Ok-clause-ticket
@@ -93,7 +93,7 @@ returns-in-Ok-clause-ticket g c =
     let store = site.store.now in
     let ready = c.requires.ready in
     let t = ready.out in
-    let with = subst (λ (all : List Busy). AreOutWith store all t.rec c.args.ticket.now) (sym c.as_slice.ensures) (out_with store site.run.held site.run.tickets c.args.ticket.now c.args.job.now.targets t (c.requires.sound.stored.outs ready.unshut) ready.room ready.beside) in
+    let with = subst (λ (all : List Busy). AreOutWith store all t.rec c.args.ticket.now) (sym c.as_slice.ensures) (out_with store site.run.now.held site.run.now.tickets c.args.ticket.now c.args.job.now.targets t (c.requires.sound.stored.outs ready.unshut) ready.room ready.beside) in
     ticket_still store c.withdraw.new.self c.args.ticket.now c.args.job.now.targets t (c.in-Ok.ensures.out t.rec with)
 
 pub returns-in-Ok-clause-held : goal.returns-in-Ok-clause-held
@@ -106,14 +106,14 @@ returns-in-Ok-clause-kept g c = λ unshut path not.
     let ready = c.requires.ready in
     let t = ready.out in
     let slice = c.as_slice.ensures in
-    let with = subst (λ (all : List Busy). AreOutWith store all t.rec c.args.ticket.now) (sym slice) (out_with store site.run.held site.run.tickets c.args.ticket.now c.args.job.now.targets t (c.requires.sound.stored.outs ready.unshut) ready.room ready.beside) in
+    let with = subst (λ (all : List Busy). AreOutWith store all t.rec c.args.ticket.now) (sym slice) (out_with store site.run.now.held site.run.now.tickets c.args.ticket.now c.args.job.now.targets t (c.requires.sound.stored.outs ready.unshut) ready.room ready.beside) in
     let map = subst (λ (all : List Busy). map_of c.withdraw.new.self ≡ map_without store all t.rec) slice (c.in-Ok.ensures.map t.rec with) in
     ap (λ (all : List Busy). map_with c.withdraw.new.self all path) c.clear.ensures
-    ∙ kept_elsewhere store site.run.held t.rec c.args.job.now.targets (map_of c.withdraw.new.self) t.same map path not
+    ∙ kept_elsewhere store site.run.now.held t.rec c.args.job.now.targets (map_of c.withdraw.new.self) t.same map path not
 
 pub returns-in-Err-clause-goes : goal.returns-in-Err-clause-goes
 returns-in-Err-clause-goes g c = record {
-  same = record { graph = refl; store = refl; world = refl; out = refl; err = refl; options = refl };
+  same = record { graph = refl; store = refl; world = refl; out = refl; err = refl; run = refl; account = refl; options = refl };
   goes = goes_by g.W.Disk.meaning c.args.self.now.world.now c.withdraw.new.world c.withdraw.ensures.told c.withdraw.ensures.around (later_disk _ _ c.in-Err.ensures.rose);
   tickets = refl;
   out = refl;
@@ -128,8 +128,8 @@ returns-in-Err-clause-sound g c =
     let goes = goes_by m site.world.now c.withdraw.new.world c.withdraw.ensures.told c.withdraw.ensures.around (later_disk _ _ c.in-Err.ensures.rose) in
     record {
       unclosed = c.withdraw.ensures.told.closed ∙ sound.unclosed;
-      joined = joined_on m site.world.now c.withdraw.new.world (holds_in site.run.tickets) goes sound.joined;
-      stored = stored_shut m c.withdraw.new.world c.withdraw.new.self (site.run.held ++ site.run.tickets) true refl;
+      joined = joined_on m site.world.now c.withdraw.new.world (holds_in site.run.now.tickets) goes sound.joined;
+      stored = stored_shut m c.withdraw.new.world c.withdraw.new.self (site.run.now.held ++ site.run.now.tickets) true refl;
       few = sound.few;
       limit = sound.limit;
     }
@@ -141,4 +141,4 @@ pub returns-in-Err-clause-kept : goal.returns-in-Err-clause-kept
 returns-in-Err-clause-kept g c = λ unshut. absurd cc
 
 pub returns-in-Err-clause-ends : goal.returns-in-Err-clause-ends
-returns-in-Err-clause-ends g c = λ start a. disk_fault start (ledger_of c.args.self.now.account) _ _ _ _ c.in-Err.ensures.rose a
+returns-in-Err-clause-ends g c = λ start a. disk_fault start (ledger_of c.args.self.now.account.now) _ _ _ _ c.in-Err.ensures.rose a
