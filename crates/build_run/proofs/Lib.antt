@@ -1,3 +1,4 @@
+mod Clearing
 pub mod Holding
 pub mod Goings
 pub mod Causing

@@ -1,6 +1,6 @@
 //! Clearing the way of an action: the directories of its targets stand, their records are withdrawn, and they are removed.
-ghost use Rattle.std.specs.Prelude.{◌≡◌, [], None, Contains, OnOk};
-ghost use Rattle.build_run.specs.Goings.{Stays, Leaves, AreGone, AreUnused};
+ghost use Rattle.std.specs.Prelude.{◌≡◌, ◌∷◌, [], None, Contains, OnOk};
+ghost use Rattle.build_run.specs.Goings.{ClearsAt, Stays, Leaves, AreGone, AreUnused};
 ghost use Rattle.build_files.specs.Causes.{HasLookCause};
 ghost use Rattle.build_run.specs.Outs.{IsTicketFor, KeepsSome};
 ghost use Rattle.build_run.specs.Sites.{IsSound, IsReady, IsCleared, KeepsRecordsBut, SiteEnds, SiteGoes};
@@ -28,6 +28,8 @@ impl<W: World, O: Sink, E: Sink> Site<'_, '_, W, O, E> {
         ensures held { KeepsSome self.old.run.now.held self.new.run.now.held }
         ensures kept { KeepsRecordsBut job.now.targets self.old self.new }
         ensures cleared { OnOk result (IsCleared W.meaning self.new job.now ticket.now) }
+        ensures clears { ClearsAt W.meaning job.now.targets self.old.world.now self.new.world.now }
+        ensures same { OnOk result (W.meaning.counts self.new.world.now ≡ W.meaning.counts self.old.world.now) }
     {
         let targets = job.targets.as_slice();
         make_dirs(self.account.alloc, self.world, &mut self.run.dirs, targets)?;
@@ -47,6 +49,8 @@ impl<W: World, O: Sink, E: Sink> Site<'_, '_, W, O, E> {
         ensures kept { KeepsRecordsBut job.now.targets self.old self.new }
         ensures withdrawn { OnOk result (AreWithdrawn W.meaning self.new.world.now self.new.store.now job.now.targets) }
         ensures ticket { OnOk result (IsTicketFor self.new.store.now ticket.now job.now.targets) }
+        ensures clears { ClearsAt W.meaning [] self.old.world.now self.new.world.now }
+        ensures same { OnOk result (W.meaning.counts self.new.world.now ≡ W.meaning.counts self.old.world.now) }
     {
         if !self.store.has_record(ticket) {
             return Ok(());
@@ -74,6 +78,7 @@ pub(crate) fn remove_all<W: World>(world: &mut W, targets: &[PathText]) -> Resul
     ensures cause { HasLookCause (W.meaning.counts world.old) (W.meaning.counts world.new) result }
     ensures gone { AreGone W.meaning world.new targets.now result }
     ensures only { Takes W.meaning world.old world.new (Contains targets.now) }
+    ensures clears { ClearsAt W.meaning targets.now world.old world.new }
 {
     for target in targets {
         remove(world, target)?;
@@ -88,6 +93,7 @@ fn remove<W: World>(world: &mut W, target: &PathText) -> Result<(), ListEnd>
     ensures gone { W.meaning.tells world.new → OnOk result ((W.meaning.around world.new).tree target.now ≡ None) }
     ensures others { W.meaning.tells world.new → Leaves target.now (W.meaning.around world.old) (W.meaning.around world.new) }
     ensures only { Takes W.meaning world.old world.new (λ path. path ≡ target.now) }
+    ensures clears { ClearsAt W.meaning (target.now ∷ []) world.old world.new }
 {
     match world.remove(target) {
         Ok(()) => Ok(()),
@@ -105,6 +111,7 @@ fn make_dirs<W: World>(
     requires { W.meaning.closed world.old ≡ [] }
     ensures stays { Stays W.meaning world.old world.new }
     ensures cause { HasLookCause (W.meaning.counts world.old) (W.meaning.counts world.new) result }
+    ensures clears { ClearsAt W.meaning [] world.old world.new }
 {
     for target in targets {
         make_dir(alloc, world, dirs, target)?;
@@ -122,6 +129,7 @@ fn make_dir<W: World>(
     requires { W.meaning.closed world.old ≡ [] }
     ensures stays { Stays W.meaning world.old world.new }
     ensures cause { HasLookCause (W.meaning.counts world.old) (W.meaning.counts world.new) result }
+    ensures clears { ClearsAt W.meaning [] world.old world.new }
 {
     let Ok(dir) = PathText::read(alloc, target.dir()) else {
         return Err(ListEnd::Memory);
@@ -138,6 +146,7 @@ fn raise_dir<W: World>(world: &mut W, dir: &PathText) -> Result<(), ListEnd>
     requires { W.meaning.closed world.old ≡ [] }
     ensures stays { Stays W.meaning world.old world.new }
     ensures cause { HasLookCause (W.meaning.counts world.old) (W.meaning.counts world.new) result }
+    ensures clears { ClearsAt W.meaning [] world.old world.new }
 {
     match world.make_dir(dir) {
         Ok(()) => Ok(()),

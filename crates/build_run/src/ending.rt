@@ -7,6 +7,7 @@ ghost use Rattle.build_run.specs.Outs.{LogsEnding};
 ghost use Rattle.build_run.specs.Sites.{IsSound, IsSoundWith, IsStoredFor, KeepsRecords, PutsRecord, SiteAccounts, SitePasses, SitePuts, TakesEnding, most_jobs};
 ghost use Rattle.sign_store.specs.Stores.{KeepsTickets};
 ghost use Rattle.world_api.specs.Causes.{HasOutcomeCause};
+ghost use Rattle.world_api.specs.Laws.{EndsJob};
 ghost use Rattle.world_api.specs.Meaning.{BanksKept};
 
 use crate::account::Account;
@@ -143,6 +144,7 @@ fn wait<W: World>(world: &mut W, run: &Run, options: &Options) -> Ended
     ensures log { LogsEnding W.meaning world.old world.new result }
     ensures cause { HasOutcomeCause result.outcome (W.meaning.counts world.old) (W.meaning.counts world.new) }
     ensures banks { W.meaning.tells world.new → BanksKept W.meaning world.old world.new }
+    ensures ends { W.meaning.tells world.new → EndsJob W.meaning result world.old world.new }
 {
     world.wait()
 }

@@ -1,7 +1,8 @@
 //! Starting a job.
 ghost use Rattle.std.specs.Prelude.{◌≡◌, ◌≤◌, ◌++◌, ◌∷◌, [], length, Contains, OnOk, OnErr};
 ghost use Rattle.build_run.specs.Causes.{HasPrintCause, HasStartCause, IsUnstarted};
-ghost use Rattle.build_run.specs.Goings.{Passes, IsJoined, AreAbsent};
+ghost use Rattle.build_run.specs.Goings.{Passes, ClearsAt, LaunchesAt, IsJoined, AreAbsent};
+ghost use Rattle.world_api.specs.Laws.{StartsJob};
 ghost use Rattle.build_run.specs.Ledgers.{ledger_of};
 ghost use Rattle.build_run.specs.Holds.{Busy, hold_for, holds_in, KeepsApart};
 ghost use Rattle.build_run.specs.Outs.{IsTicketFor, KeepsSome, ShareNone};
@@ -33,6 +34,8 @@ impl<W: World, O: Sink, E: Sink> Site<'_, '_, W, O, E> {
         ensures ticket { OnOk result (IsTicketFor self.new.store.now ticket.now job.targets) }
         ensures none { OnOk result (HasNone (map_of self.new.store.now) job.targets) }
         ensures err { self.new.err.now ≡ self.old.err.now }
+        ensures starts { OnOk result (LaunchesAt W.meaning job self.old.world.now self.new.world.now) }
+        ensures clears { OnErr result (ClearsAt W.meaning job.targets self.old.world.now self.new.world.now) }
     {
         self.clear(&job, ticket)?;
         show(self.account, self.out, text)?;
@@ -74,6 +77,8 @@ fn begin<W: World>(
     ensures cause { HasStartCause (W.meaning.counts world.old) (W.meaning.counts world.new) result }
     ensures started { OnOk result (IsJoined W.meaning world.new (holds_in run.now.tickets ++ hold_for job ∷ [])) }
     ensures refused { OnErr result (IsJoined W.meaning world.new (holds_in run.now.tickets)) }
+    ensures starts { W.meaning.tells world.new → OnOk result (StartsJob W.meaning job world.old world.new) }
+    ensures asks { OnErr result (ClearsAt W.meaning [] world.old world.new) }
 {
     let rule = RuleId(job.id);
     match world.start(job) {

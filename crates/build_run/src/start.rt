@@ -2,6 +2,7 @@
 ghost use Rattle.std.specs.Prelude.{◌≡◌, ◌<◌, ◌≤◌, [], length, true, IfOk};
 ghost use Rattle.build_files.specs.Causes.{IsQuiet};
 ghost use Rattle.build_run.specs.Sites.{IsSound, KeepsHeld, SiteEnds, SitePasses};
+ghost use Rattle.turn_means.specs.Laws.{IsJobFrom};
 ghost use Rattle.sign_store.specs.Stores.{IsOut, IsFresh, KeepsBanks, KeepsOthers, KeepsOut, is_live, map_of};
 
 use crate::building::Options;
@@ -111,7 +112,7 @@ pub(crate) fn prepare(alloc: Global, store: &mut Store, now: Rec) -> Result<Tick
 
 /// The job of a rule. Its number is the rule's.
 fn job_of(alloc: Global, graph: &Graph, rule: RuleId, now: &Rec) -> Result<Job, Memory>
-    ensures { IfOk result (λ job. job.targets ≡ now.now.targets) }
+    ensures { IfOk result (IsJobFrom graph.now rule now.now) }
 {
     let mut deps = Vec::with_capacity(alloc, now.deps.len())?;
     for dep in now.deps.as_slice() {

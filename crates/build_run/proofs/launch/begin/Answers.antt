@@ -1,5 +1,7 @@
+use Rattle.std.proofs.Common.{[]}
 use Rattle.build_run.specs.Holds.{holds_in}
 use Rattle.build_run.proofs.Causing.{refused_start}
+use Rattle.build_run.proofs.Clearing.{clears_asked}
 use Rattle.build_run.proofs.Goings.{can_start, joined_started}
 use Rattle.build_run.proofs.launch.begin.Goals as goal
 
@@ -11,3 +13,9 @@ returns-in-Ok-clause-started g c = joined_started g.W.Disk.meaning c.args.world.
 
 pub returns-in-Err-Fault-clause-cause : goal.returns-in-Err-Fault-clause-cause
 returns-in-Err-Fault-clause-cause g c = refused_start _ _ _ (c.in-Err-Fault.ensures.rose (cc c.in-Err-Fault.field-0-is)) c.unstarted.ensures
+
+pub returns-in-Err-Fault-clause-asks : goal.returns-in-Err-Fault-clause-asks
+returns-in-Err-Fault-clause-asks g c = clears_asked g.W.Disk.meaning [] c.args.world.now c.start.new.self (λ t. c.in-Err-Fault.ensures.refused t)
+
+pub returns-in-Err-Memory-clause-asks : goal.returns-in-Err-Memory-clause-asks
+returns-in-Err-Memory-clause-asks g c = clears_asked g.W.Disk.meaning [] c.args.world.now c.start.new.self (λ t. c.in-Err-Memory.ensures.refused t)

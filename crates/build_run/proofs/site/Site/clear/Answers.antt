@@ -1,6 +1,8 @@
-use Rattle.std.proofs.Common.{ℕ, List, Contains, inl, refl, subst}
+use Rattle.std.proofs.Common.{ℕ, List, [], Contains, inl, refl, subst}
+use Rattle.build_run.specs.Goings.{ClearsAt}
 use Rattle.build_run.specs.Holds.{Busy, holds_in}
 use Rattle.build_run.specs.Ledgers.{ledger_of}
+use Rattle.build_run.proofs.Clearing.{clears_none, clears_on}
 use Rattle.build_run.proofs.Goings.{goes_on, are_unused}
 use Rattle.build_run.proofs.Outs.{withdrawn_on}
 use Rattle.build_run.proofs.Sites.{cleared_by, sound_still}
@@ -88,3 +90,21 @@ returns-clause-cleared g c =
     let after = c.in_ok-withdraw.ensures in
     cleared_by g.W.Disk.meaning _ c.args.job.now c.args.ticket.now _ c.remove_all.result c.as_slice-targets.ensures c.remove_all.ensures.gone
     (withdrawn_on g.W.Disk.meaning _ _ c.withdraw.new.self.store.now c.args.job.now.targets stays.goes.passes.told.told stays.banks after.withdrawn) after.ticket
+
+pub returns-in_err-make_dirs-clause-clears : goal.returns-in_err-make_dirs-clause-clears
+returns-in_err-make_dirs-clause-clears g c =
+    clears_none g.W.Disk.meaning c.args.job.now.targets _ _ c.make_dirs.ensures.clears
+
+pub returns-in_err-withdraw-clause-clears : goal.returns-in_err-withdraw-clause-clears
+returns-in_err-withdraw-clause-clears g c =
+    let m = g.W.Disk.meaning in
+    clears_none m c.args.job.now.targets _ _
+    (clears_on m [] _ _ _ c.withdraw.ensures.goes.goes.passes.told c.make_dirs.ensures.clears c.withdraw.ensures.clears)
+
+pub returns-clause-clears : goal.returns-clause-clears
+returns-clause-clears g c =
+    let m = g.W.Disk.meaning in
+    let first = clears_none m c.args.job.now.targets _ _
+    (clears_on m [] _ _ _ c.withdraw.ensures.goes.goes.passes.told c.make_dirs.ensures.clears c.withdraw.ensures.clears) in
+    clears_on m c.args.job.now.targets _ _ _ c.remove_all.ensures.stays.goes.passes.told first
+    (subst (λ (paths : List (List ℕ)). ClearsAt m paths c.withdraw.new.self.world.now c.remove_all.new.world) c.as_slice-targets.ensures c.remove_all.ensures.clears)

@@ -2,6 +2,7 @@ use Rattle.std.proofs.Common.{◌++◌, ◌∙◌, List, Contains, ap, refl, sub
 use Rattle.build_run.specs.Holds.{Busy, holds_in}
 use Rattle.build_run.specs.Ledgers.{Ledger, ledger_of}
 use Rattle.build_run.proofs.Causing.{account_as, begun, exit_same, print_end, same_out}
+use Rattle.build_run.proofs.Clearing.{held_err, launched, refused}
 use Rattle.build_run.proofs.Goings.{passes_on}
 use Rattle.build_run.proofs.Outs.{held_ok, stored_alike, stored_over, unheld_still}
 use Rattle.build_run.proofs.Sites.{joined_after, site_goes, sound_refused, sound_still}
@@ -95,3 +96,19 @@ returns-clause-ticket g c = held_ok c.begin.result c.in_ok-clear.ensures.cleared
 
 pub returns-clause-none : goal.returns-clause-none
 returns-clause-none g c = held_ok c.begin.result c.in_ok-clear.ensures.cleared.withdrawn.map
+
+pub returns-in_err-clear-clause-clears : goal.returns-in_err-clear-clause-clears
+returns-in_err-clear-clause-clears g c = held_err c.from_residual.result c.clear.ensures.clears
+
+pub returns-in_err-show-clause-clears : goal.returns-in_err-show-clause-clears
+returns-in_err-show-clause-clears g c = held_err c.from_residual-in_err-show.result c.clear.ensures.clears
+
+pub returns-clause-starts : goal.returns-clause-starts
+returns-clause-starts g c =
+    launched g.W.Disk.meaning c.args.job c.args.self.now.world.now c.clear.new.self.world.now c.begin.new.world c.begin.result
+    c.begin.ensures.passes.told c.clear.ensures.clears c.in_ok-clear.ensures.same c.begin.ensures.starts
+
+pub returns-clause-clears : goal.returns-clause-clears
+returns-clause-clears g c =
+    refused g.W.Disk.meaning c.args.job c.args.self.now.world.now c.clear.new.self.world.now c.begin.new.world c.begin.result
+    c.begin.ensures.passes.told c.clear.ensures.clears c.begin.ensures.asks

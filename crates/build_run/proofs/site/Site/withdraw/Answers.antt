@@ -1,4 +1,4 @@
-use Rattle.std.proofs.Common.{◌≡◌, ◌∙◌, ◌++◌, List, ap, arith, inl, inr, length, refl, sym, subst, true}
+use Rattle.std.proofs.Common.{◌≡◌, ◌∙◌, ◌++◌, [], List, ap, arith, inl, inr, length, refl, sym, subst, true}
 use Rattle.sign_store.specs.Putting.{AreOutWith, IsApartFrom, map_with, map_without}
 use Rattle.sign_store.specs.Stores.{map_of}
 use Rattle.sign_store.proofs.Keeping.{stands_in}
@@ -6,6 +6,7 @@ use Rattle.build_run.specs.Holds.{Busy, holds_in}
 use Rattle.build_run.specs.Ledgers.{ledger_of}
 use Rattle.build_run.specs.Outs.{IsStored}
 use Rattle.build_run.proofs.Causing.{disk_fault}
+use Rattle.build_run.proofs.Clearing.{clears_around, clears_here}
 use Rattle.build_run.proofs.Goings.{goes_here, joined_on}
 use Rattle.build_run.proofs.Outs.{kept_elsewhere, out_with, stored_withdrawn, stored_shut, withdrawn, withdrawn_before, ticket_still}
 use Rattle.build_run.proofs.Sites.{goes_by, later_disk, later_same}
@@ -142,3 +143,12 @@ returns-in-Err-clause-kept g c = λ unshut. absurd cc
 
 pub returns-in-Err-clause-ends : goal.returns-in-Err-clause-ends
 returns-in-Err-clause-ends g c = λ start a. disk_fault start (ledger_of c.args.self.now.account.now) _ _ _ _ c.in-Err.ensures.rose a
+
+pub returns-then-not-has_record-clause-clears : goal.returns-then-not-has_record-clause-clears
+returns-then-not-has_record-clause-clears g c = clears_here g.W.Disk.meaning [] c.args.self.now.world.now
+
+pub returns-in-Ok-clause-clears : goal.returns-in-Ok-clause-clears
+returns-in-Ok-clause-clears g c = clears_around g.W.Disk.meaning [] c.args.self.now.world.now c.withdraw.new.world c.withdraw.ensures.around
+
+pub returns-in-Err-clause-clears : goal.returns-in-Err-clause-clears
+returns-in-Err-clause-clears g c = clears_around g.W.Disk.meaning [] c.args.self.now.world.now c.withdraw.new.world c.withdraw.ensures.around

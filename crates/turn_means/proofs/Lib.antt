@@ -1,0 +1,9 @@
+pub mod Files
+pub mod Numbers
+pub mod Running
+pub mod Deciding
+pub mod Turns
+pub mod Jobs
+pub mod Ends
+pub mod Recording
+pub mod Safety
