@@ -151,10 +151,6 @@ later_looked a b (Ok value) h = subst (λ (c : Counts). Later a c) (sym h) (late
 later_looked a b (Err (end.Fault f)) h = (later_fault a b f h).counts
 later_looked a b (Err end.Memory) h = (later_alone a b 0 0 h).counts
 
--- nothing was at fault before
-pub look_after : (a b c : Counts) (e : ListEnd) → b ≡ a → HasEndCause b c e → HasEndCause a c e
-look_after a b c e same h = subst (λ x. HasEndCause x c e) same h
-
 -- the exit of a `?`, where nothing outside was at fault
 pub quiet_exit : {T : Type 0} (r : Result T ListEnd) (e : ListEnd) → IsErrAnd r (λ x. x ≡ e) → IsInside e → IsQuiet r
 quiet_exit (Ok value) e is inside = absurd is
@@ -167,9 +163,6 @@ module _ (start : Outside) (ledger : Ledger) where
 
   pub same_out : (counts : Counts) (a b err : ℕ) → b ≡ a → Accounted start (outside counts a err) ledger → Accounted start (outside counts b err) ledger
   same_out counts a b err same h = subst (λ o. Accounted start (outside counts o err) ledger) (sym same) h
-
-  pub same_err : (counts : Counts) (out a b : ℕ) → b ≡ a → Accounted start (outside counts out a) ledger → Accounted start (outside counts out b) ledger
-  same_err counts out a b same h = subst (λ e. Accounted start (outside counts out e) ledger) (sym same) h
 
   -- for want of memory nothing need be told
   pub wanting_on : (old new : Outside) → IsLater old new → Accounted start old ledger → Accounted start new (wanting ledger)

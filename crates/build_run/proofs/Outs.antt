@@ -164,9 +164,6 @@ none_by : (b : Bool) (x : Option Rec) → x ≡ None → cond b None x ≡ None
 none_by true x none = refl
 none_by false x none = none
 
-none_without : (old new : Store) (targets : List (List ℕ)) → map_of new ≡ with_each targets None (map_of old) → KeepsNone old new
-none_without old new targets is paths none path among = ap (λ (m : Map). m path) is ∙ none_by (is_among targets path) (map_of old path) (none path among)
-
 others_still : (old new : Store) (ticket : Ticket) (busies : List Busy) → KeepsOthers ticket old new → KeepsNone old new → HasOwnRoom ticket busies → AreOut old busies → AreOut new busies
 others_still old new ticket busies keeps nones own =
     outs_still old new busies (λ busy h out.
@@ -204,10 +201,6 @@ stored_prepared m world old new busies shut live banks map keeps s = record {
 -- a new ticket's room is its own
 pub own_room : (old : Store) (ticket : Ticket) (busies : List Busy) → IsFresh old ticket → AreOut old busies → HasOwnRoom ticket busies
 own_room old ticket busies fresh outs busy h = let t = (out_in old busies busy outs h).ticket in fresh.apart t.rec busy.ticket t.out
-
-none_apart : (b : Bool) (x y : Option Rec) → b ≢ true → x ≡ None → cond b y x ≡ None
-none_apart true x y not none = absurd (not refl)
-none_apart false x y not none = none
 
 -- ---- tickets in front of others
 

@@ -45,13 +45,7 @@ impl<W: World, O: Sink, E: Sink> Site<'_, '_, W, O, E> {
                 return;
             }
             let done = self.take_turn(wanted);
-            tell(
-                self.graph,
-                &mut self.run.plan,
-                self.account,
-                self.err,
-                done,
-            );
+            tell(self.graph, &mut self.run.plan, self.account, self.err, done);
             halt(self.graph, &mut self.run.plan, self.account);
         }
         self.account.want_memory();

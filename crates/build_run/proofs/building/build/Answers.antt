@@ -24,6 +24,9 @@ returns-in-Ok-clause-told g c = (passes_on g.W.Disk.meaning _ _ _ c.set_out.ensu
 pub returns-in-Ok-clause-later : goal.returns-in-Ok-clause-later
 returns-in-Ok-clause-later g c = (passes_on g.W.Disk.meaning _ _ _ c.set_out.ensures.goes.passes c.make_all-skipped.ensures.passes).later
 
+pub returns-in-Ok-clause-idle : goal.returns-in-Ok-clause-idle
+returns-in-Ok-clause-idle g c = c.make_all-skipped.ensures.idle
+
 pub returns-in-Ok-clause-causes : goal.returns-in-Ok-clause-causes
 returns-in-Ok-clause-causes g c =
     let start = outside (g.W.Disk.meaning.counts c.args.world.now) (g.O.Sink.meaning.faults c.args.out.now) (g.E.Sink.meaning.faults c.args.err.now) in

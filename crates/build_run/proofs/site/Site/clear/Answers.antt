@@ -52,7 +52,7 @@ pub returns-in_err-withdraw-clause-goes : goal.returns-in_err-withdraw-clause-go
 returns-in_err-withdraw-clause-goes g c =
     let went = c.withdraw.ensures.goes in
     record {
-      same = record { graph = went.same.graph; store = went.same.store; world = went.same.world; out = went.same.out; err = went.same.err; options = went.same.options };
+      same = record { graph = went.same.graph; store = went.same.store; world = went.same.world; out = went.same.out; err = went.same.err; run = went.same.run; account = went.same.account; options = went.same.options };
       goes = goes_on g.W.Disk.meaning _ _ _ c.make_dirs.ensures.stays.goes went.goes;
       tickets = went.tickets;
       out = went.out;
@@ -69,7 +69,7 @@ returns-clause-goes g c =
     let m = g.W.Disk.meaning in
     let went = c.withdraw.ensures.goes in
     record {
-      same = record { graph = went.same.graph; store = went.same.store; world = went.same.world; out = went.same.out; err = went.same.err; options = went.same.options };
+      same = record { graph = went.same.graph; store = went.same.store; world = went.same.world; out = went.same.out; err = went.same.err; run = went.same.run; account = went.same.account; options = went.same.options };
       goes = goes_on m _ _ _ (goes_on m _ _ _ c.make_dirs.ensures.stays.goes went.goes) c.remove_all.ensures.stays.goes;
       tickets = went.tickets;
       out = went.out;

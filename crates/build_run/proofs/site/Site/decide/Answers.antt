@@ -1,4 +1,4 @@
-use Rattle.std.proofs.Common.{List, ap, refl}
+use Rattle.std.proofs.Common.{◌∙◌, List, Contains, ap, refl, subst, sym}
 use Rattle.sign_store.specs.Putting.{map_with}
 use Rattle.build_run.specs.Holds.{Busy}
 use Rattle.build_run.specs.Ledgers.{ledger_of}
@@ -46,3 +46,8 @@ returns-in_ok-missing-in-Lacks-clause-sound g c =
 
 pub returns-in_ok-missing-in-Lacks-clause-kept : goal.returns-in_ok-missing-in-Lacks-clause-kept
 returns-in_ok-missing-in-Lacks-clause-kept g c = λ unshut busy path h made. ap (λ (all : List Busy). map_with c.args.self.now.store.now all path) c.present.ensures.held
+
+pub returns-in-Record-clause-kept : goal.returns-in-Record-clause-kept
+returns-in-Record-clause-kept g c = λ unshut busy path h made.
+    c.make.ensures.kept unshut busy path (subst (λ (all : List Busy). Contains all busy) (sym c.present.ensures.held) h) made
+    ∙ ap (λ (all : List Busy). map_with c.args.self.now.store.now all path) c.present.ensures.held

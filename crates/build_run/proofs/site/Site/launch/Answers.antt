@@ -34,7 +34,7 @@ pub returns-in_err-show-clause-passes : goal.returns-in_err-show-clause-passes
 returns-in_err-show-clause-passes g c =
     let went = c.clear.ensures.goes in
     record {
-      same = record { graph = went.same.graph; store = went.same.store; world = went.same.world; out = went.same.out; err = went.same.err; options = went.same.options };
+      same = record { graph = went.same.graph; store = went.same.store; world = went.same.world; out = went.same.out; err = went.same.err; run = went.same.run; account = went.same.account; options = went.same.options };
       passes = went.goes.passes;
     }
 
@@ -42,9 +42,9 @@ pub returns-in_err-show-clause-ends : goal.returns-in_err-show-clause-ends
 returns-in_err-show-clause-ends g c = λ start a.
     let r = c.from_residual-in_err-show in
     let before = c.in_ok-clear.ensures.ends start a in
-    exit_same start (ledger_of c.show.new.account.now) _ r.result _ r.ensures.1
-    (print_end start (ledger_of c.show.new.account.now) _ _ _ _ _ c.in_err-show.ensures.cause
-    (account_as start _ (ledger_of c.clear.new.self.account.now) (ledger_of c.show.new.account.now) c.show.ensures.account before))
+    exit_same start (ledger_of c.show.new.account) _ r.result _ r.ensures.1
+    (print_end start (ledger_of c.show.new.account) _ _ _ _ _ c.in_err-show.ensures.cause
+    (account_as start _ (ledger_of c.clear.new.self.account.now) (ledger_of c.show.new.account) c.show.ensures.account before))
 
 pub returns-in_err-show-clause-sound : goal.returns-in_err-show-clause-sound
 returns-in_err-show-clause-sound g c =
@@ -60,13 +60,13 @@ pub returns-clause-passes : goal.returns-clause-passes
 returns-clause-passes g c =
     let went = c.clear.ensures.goes in
     record {
-      same = record { graph = went.same.graph; store = went.same.store; world = went.same.world; out = went.same.out; err = went.same.err; options = went.same.options };
+      same = record { graph = went.same.graph; store = went.same.store; world = went.same.world; out = went.same.out; err = went.same.err; run = went.same.run; account = went.same.account; options = went.same.options };
       passes = passes_on g.W.Disk.meaning _ _ _ went.goes.passes c.begin.ensures.passes;
     }
 
 pub returns-clause-ends : goal.returns-clause-ends
 returns-clause-ends g c = λ start a.
-    let now = ledger_of c.show.new.account.now in
+    let now = ledger_of c.show.new.account in
     let before = c.in_ok-clear.ensures.ends start a in
     begun start now _ _ _ _ c.begin.result c.begin.ensures.cause
     (same_out start now _ _ _ _ c.in_ok-show.ensures.cause
@@ -82,7 +82,7 @@ returns-clause-sound g c =
       unclosed = passes.told.closed ∙ sound.unclosed;
       joined = joined_after m c.begin.new.world c.begin.result c.args.job c.args.self.now cleared.run.now.tickets c.clear.ensures.goes.tickets c.begin.ensures.started c.begin.ensures.refused;
       stored =
-          stored_over m cleared.world.now c.begin.new.world cleared.store.now (cleared.run.now.held ++ cleared.run.now.tickets) c.show.new.account.now.is_store_shut passes.told.told c.begin.ensures.banks
+          stored_over m cleared.world.now c.begin.new.world cleared.store.now (cleared.run.now.held ++ cleared.run.now.tickets) c.show.new.account.is_store_shut passes.told.told c.begin.ensures.banks
           (stored_alike m cleared.world.now cleared.store.now _ _ _ _ refl (ap (λ (l : Ledger). l.shut) c.show.ensures.account) sound.stored);
       few = sound.few;
       limit = sound.limit;

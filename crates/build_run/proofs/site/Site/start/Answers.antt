@@ -76,7 +76,7 @@ pub returns-in-Ok-clause-passes : goal.returns-in-Ok-clause-passes
 returns-in-Ok-clause-passes g c =
     let p = c.launch.ensures.passes in
     record {
-      same = record { graph = p.same.graph; store = p.same.store; world = p.same.world; out = p.same.out; err = p.same.err; options = p.same.options };
+      same = record { graph = p.same.graph; store = p.same.store; world = p.same.world; out = p.same.out; err = p.same.err; run = p.same.run; account = p.same.account; options = p.same.options };
       passes = p.passes;
     }
 
@@ -129,7 +129,7 @@ pub returns-clause-passes : goal.returns-clause-passes
 returns-clause-passes g c =
     let p = c.launch.ensures.passes in
     record {
-      same = record { graph = p.same.graph; store = p.same.store; world = p.same.world; out = p.same.out; err = p.same.err; options = p.same.options };
+      same = record { graph = p.same.graph; store = p.same.store; world = p.same.world; out = p.same.out; err = p.same.err; run = p.same.run; account = p.same.account; options = p.same.options };
       passes = p.passes;
     }
 

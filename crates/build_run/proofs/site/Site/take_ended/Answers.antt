@@ -80,7 +80,7 @@ pub returns-in-Done-clause-passes : goal.returns-in-Done-clause-passes
 returns-in-Done-clause-passes g c =
     let p = c.hold.ensures.puts in
     record {
-      same = record { graph = p.same.graph; store = p.same.store; world = p.same.world; out = p.same.out; err = p.same.err; options = p.same.options };
+      same = record { graph = p.same.graph; store = p.same.store; world = p.same.world; out = p.same.out; err = p.same.err; run = p.same.run; account = p.same.account; options = p.same.options };
       passes = passes_on g.W.Disk.meaning _ _ _ c.wait-ended.ensures.passes p.goes.passes;
     }
 

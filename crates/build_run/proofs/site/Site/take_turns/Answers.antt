@@ -14,7 +14,7 @@ loop-turn-preserved g c =
     let same = same_on _ _ _ before.passes.same turn.passes.same in
     record {
       passes = record {
-        same = record { graph = same.graph; store = same.store; world = same.world; out = same.out; err = same.err; options = same.options };
+        same = record { graph = same.graph; store = same.store; world = same.world; out = same.out; err = same.err; run = same.run; account = same.account; options = same.options };
         passes = passes_on m _ _ _ before.passes.passes turn.passes.passes;
       };
       accounts = λ start a. c.tell.ensures.accounts _ _ start (turn.ends start (before.accounts start a));
@@ -30,7 +30,7 @@ pub returns-clause-passes : goal.returns-clause-passes
 returns-clause-passes g c =
     let p = c.loop-turn.invariant.passes in
     record {
-      same = record { graph = p.same.graph; store = p.same.store; world = p.same.world; out = p.same.out; err = p.same.err; options = p.same.options };
+      same = record { graph = p.same.graph; store = p.same.store; world = p.same.world; out = p.same.out; err = p.same.err; run = p.same.run; account = p.same.account; options = p.same.options };
       passes = p.passes;
     }
 

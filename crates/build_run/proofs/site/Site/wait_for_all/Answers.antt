@@ -11,7 +11,7 @@ loop-turn-preserved g c =
     let same = same_on _ _ _ before.passes.same ending.passes.same in
     record {
       passes = record {
-        same = record { graph = same.graph; store = same.store; world = same.world; out = same.out; err = same.err; options = same.options };
+        same = record { graph = same.graph; store = same.store; world = same.world; out = same.out; err = same.err; run = same.run; account = same.account; options = same.options };
         passes = passes_on m _ _ _ before.passes.passes ending.passes.passes;
       };
       accounts = λ start a. c.tell.ensures.accounts _ _ start (ending.accounts start (before.accounts start a));
