@@ -1,9 +1,9 @@
 -- What is accounted for, carried on from call to call.
-use Rattle.std.proofs.Common.{◌≡◌, ◌≢◌, ◌∙◌, ◌≤◌, ◌⊎◌, inl, inr, sym, subst, refl, ℕ, List, [], ◌∷◌, ◌++◌, true, false, Bool, Some, Contains, arith}
+use Rattle.std.proofs.Common.{ap, ◌≡◌, ◌≢◌, ◌∙◌, ◌≤◌, ◌⊎◌, inl, inr, sym, subst, refl, ℕ, List, [], ◌∷◌, ◌++◌, true, false, Bool, Some, Contains, arith}
 use Rattle.std.specs.Prelude.{All, Result, Ok, Err, IsErrAnd}
 use Rattle.std.proofs.lemmas.Bool.{false≢true}
 use Rattle.std.proofs.lemmas.List.Elements.{All-push, All-pop, All-nil, All-weaker, Contains-append_left, Contains-push}
-use Rattle.world_api.specs.Causes.{TreeFails, DiskFails, StartFails, ActionFails, HasOutcomeCause}
+use Rattle.world_api.specs.Causes.{Later, TreeFails, DiskFails, StartFails, ActionFails, HasOutcomeCause}
 use Rattle.scons_base.specs.Rising.{Rose}
 use Rattle.world_api.specs.Counts.{Counts}
 use Rattle.world_api.specs.Looks.{IsTreeAlone}
@@ -11,12 +11,14 @@ use Rattle.world_api.specs.declared.job.Outcome.{Outcome}
 use Rattle.world_api.specs.declared.job.Outcome.TheVariants as outcome
 use Rattle.rule_graph.specs.declared.build_fault.BuildFault.{BuildFault}
 use Rattle.rule_graph.specs.declared.build_fault.BuildFault.TheVariants as fault
-use Rattle.build_files.specs.Causes.{HasLookCause, HasEndCause, IsInside}
+use Rattle.build_files.specs.Causes.{HasLookCause, HasEndCause, IsInside, IsQuiet}
 use Rattle.build_files.specs.Causes.{HasFaultCause as HasLookFault}
 use Rattle.build_files.specs.declared.end.ListEnd.{ListEnd}
 use Rattle.build_files.specs.declared.end.ListEnd.TheVariants as end
-use Rattle.build_run.specs.Causes.{Outside, outside, IsLater, HasCause, IsInner, IsTreeFault, IsStartFault, IsActionFault, HasAny, AreTold, AreCaused}
-use Rattle.build_run.specs.Ledgers.{Ledger, Accounted, blank, with_fault, wanting, with_shut, with_end, with_done, with_outcome, IsUnstarted}
+use Rattle.build_run.specs.Causes.{Outside, outside, IsLater, HasCause, HasPrintEnd, HasStartCause, HasStartEnd, IsInner, IsTreeFault, IsStartFault, IsActionFault, IsUnstarted, HasAny, AreTold, AreCaused}
+use Rattle.world_api.specs.Printed.{SinkMeaning}
+use Rattle.build_run.specs.Ledgers.{Ledger, Accounted, Reports, blank, ledger_of, with_fault, wanting, with_shut, with_end, with_done, with_outcome}
+use Rattle.build_run.specs.declared.account.Account.{Account}
 
 rose_on : (a b c : ℕ) → Rose a b → b ≤ c → Rose a c
 rose_on a b c r le = let up = r.later in let more = r.more in record { later = omega (arith, up, le); more = omega (arith, more, le) }
@@ -132,9 +134,27 @@ later_action a b out err f = let up = f.rose.later in record { counts = record {
 later_alone : (a b : Counts) (out err : ℕ) → IsTreeAlone a b → IsLater (outside a out err) (outside b out err)
 later_alone a b out err f = record { counts = record { disk = omega (arith, f.disk); tree = f.tree; start = omega (arith, f.start); action = omega (arith, f.action) }; out = omega arith; err = omega arith }
 
--- nothing was at fault before
-pub look_after : (a b c : Counts) (e : ListEnd) → b ≡ a → HasEndCause b c e → HasEndCause a c e
-look_after a b c e same h = subst (λ x. HasEndCause x c e) same h
+-- no count fell over a look
+later_fault : (a b : Counts) (f : BuildFault) → HasLookFault a b f → IsLater (outside a 0 0) (outside b 0 0)
+later_fault a b (fault.Missing node target) h = absurd h
+later_fault a b (fault.Cycle paths) h = absurd h
+later_fault a b (fault.ActionFailed target code) h = absurd h
+later_fault a b (fault.TreeFault path) h = later_tree a b 0 0 h
+later_fault a b (fault.StartFault target) h = absurd h
+later_fault a b fault.StoreFault h = absurd h
+later_fault a b fault.OutFault h = absurd h
+later_fault a b (fault.TooLarge path size) h = subst (λ (c : Counts). IsLater (outside a 0 0) (outside c 0 0)) (sym h) (later_here (outside a 0 0))
+later_fault a b (fault.TooMany what count) h = subst (λ (c : Counts). IsLater (outside a 0 0) (outside c 0 0)) (sym h) (later_here (outside a 0 0))
+
+pub later_looked : {T : Type 0} (a b : Counts) (r : Result T ListEnd) → HasLookCause a b r → Later a b
+later_looked a b (Ok value) h = subst (λ (c : Counts). Later a c) (sym h) (later_here (outside a 0 0)).counts
+later_looked a b (Err (end.Fault f)) h = (later_fault a b f h).counts
+later_looked a b (Err end.Memory) h = (later_alone a b 0 0 h).counts
+
+-- the exit of a `?`, where nothing outside was at fault
+pub quiet_exit : {T : Type 0} (r : Result T ListEnd) (e : ListEnd) → IsErrAnd r (λ x. x ≡ e) → IsInside e → IsQuiet r
+quiet_exit (Ok value) e is inside = absurd is
+quiet_exit (Err x) e is inside = λ counts. subst (λ (y : ListEnd). HasEndCause counts counts y) (sym is) (inside counts)
 
 module _ (start : Outside) (ledger : Ledger) where
   -- where nothing changed
@@ -143,9 +163,6 @@ module _ (start : Outside) (ledger : Ledger) where
 
   pub same_out : (counts : Counts) (a b err : ℕ) → b ≡ a → Accounted start (outside counts a err) ledger → Accounted start (outside counts b err) ledger
   same_out counts a b err same h = subst (λ o. Accounted start (outside counts o err) ledger) (sym same) h
-
-  pub same_err : (counts : Counts) (out a b : ℕ) → b ≡ a → Accounted start (outside counts out a) ledger → Accounted start (outside counts out b) ledger
-  same_err counts out a b same h = subst (λ e. Accounted start (outside counts out e) ledger) (sym same) h
 
   -- for want of memory nothing need be told
   pub wanting_on : (old new : Outside) → IsLater old new → Accounted start old ledger → Accounted start new (wanting ledger)
@@ -275,21 +292,39 @@ module _ (start : Outside) (ledger : Ledger) where
   exit_inside counts out err (Ok value) h a = absurd h
   exit_inside counts out err (Err x) h a = inside counts out err x h a
 
-  -- a job that wasn't started
-  pub unstarted : (old new : Counts) (out err : ℕ) (e : ListEnd) → StartFails old new → IsUnstarted e → Accounted start (outside old out err) ledger → Accounted start (outside new out err) (with_end ledger e)
-  unstarted old new out err (end.Fault f) fails is a = by f is
-    where
-      by : (f : BuildFault) → IsStartFault f → Accounted start (outside new out err) (with_fault ledger f)
-      by (fault.StartFault target) is = start_fault old new out err target fails a
-      by (fault.Missing node target) is = absurd is
-      by (fault.Cycle paths) is = absurd is
-      by (fault.ActionFailed target code) is = absurd is
-      by (fault.TreeFault path) is = absurd is
-      by fault.StoreFault is = absurd is
-      by fault.OutFault is = absurd is
-      by (fault.TooLarge path size) is = absurd is
-      by (fault.TooMany what count) is = absurd is
-  unstarted old new out err end.Memory fails is a = wanting_on (outside old out err) (outside new out err) (later_start old new out err fails) a
+  -- a print that was refused
+  pub print_end : (counts : Counts) (old new err : ℕ) (e : ListEnd) → HasPrintEnd old new e → Accounted start (outside counts old err) ledger → Accounted start (outside counts new err) (with_end ledger e)
+  print_end counts old new err (end.Fault (fault.Missing node target)) h a = absurd h
+  print_end counts old new err (end.Fault (fault.Cycle paths)) h a = absurd h
+  print_end counts old new err (end.Fault (fault.ActionFailed target code)) h a = absurd h
+  print_end counts old new err (end.Fault (fault.TreeFault path)) h a = absurd h
+  print_end counts old new err (end.Fault (fault.StartFault target)) h a = absurd h
+  print_end counts old new err (end.Fault fault.StoreFault) h a = absurd h
+  print_end counts old new err (end.Fault fault.OutFault) h a = out_fault counts old new err h a
+  print_end counts old new err (end.Fault (fault.TooLarge path size)) h a = absurd h
+  print_end counts old new err (end.Fault (fault.TooMany what count)) h a = absurd h
+  print_end counts old new err end.Memory h a = absurd h
+
+  -- a start that was refused
+  start_end : (old new : Counts) (out err : ℕ) (e : ListEnd) → HasStartEnd old new e → Accounted start (outside old out err) ledger → Accounted start (outside new out err) (with_end ledger e)
+  start_end old new out err (end.Fault (fault.Missing node target)) h a = absurd h
+  start_end old new out err (end.Fault (fault.Cycle paths)) h a = absurd h
+  start_end old new out err (end.Fault (fault.ActionFailed target code)) h a = absurd h
+  start_end old new out err (end.Fault (fault.TreeFault path)) h a = absurd h
+  start_end old new out err (end.Fault (fault.StartFault target)) h a = start_fault old new out err target h a
+  start_end old new out err (end.Fault fault.StoreFault) h a = absurd h
+  start_end old new out err (end.Fault fault.OutFault) h a = absurd h
+  start_end old new out err (end.Fault (fault.TooLarge path size)) h a = absurd h
+  start_end old new out err (end.Fault (fault.TooMany what count)) h a = absurd h
+  start_end old new out err end.Memory h a = elim h [
+    | inl same ↦ wanted (outside new out err) (same_counts old new out err same a)
+    | inr fails ↦ wanting_on (outside old out err) (outside new out err) (later_start old new out err fails) a
+  ]
+
+  -- a start, and what it ends with
+  pub begun : {T : Type 0} (old new : Counts) (out err : ℕ) (r : Result T ListEnd) → HasStartCause old new r → Accounted start (outside old out err) ledger → Accounted start (outside new out err) (with_done ledger r)
+  begun old new out err (Ok value) h a = same_counts old new out err h a
+  begun old new out err (Err e) h a = start_end old new out err e h a
 
   -- an ending, of whichever target
   pub settled : (old new : Counts) (out err : ℕ) (target : List ℕ) (o : Outcome) → HasOutcomeCause o old new → Accounted start (outside old out err) ledger → Accounted start (outside new out err) (with_outcome ledger target o)
@@ -313,6 +348,19 @@ module _ (start : Outside) (ledger : Ledger) where
   untold now target outcome.Broken a = dropped now (fault.StartFault target) a
   untold now target outcome.NoMemory a = a
 
+-- the end of a start that was refused
+pub refused_start : (old new : Counts) (e : ListEnd) → StartFails old new → IsUnstarted e → HasStartEnd old new e
+refused_start old new (end.Fault (fault.Missing node target)) fails is = absurd is
+refused_start old new (end.Fault (fault.Cycle paths)) fails is = absurd is
+refused_start old new (end.Fault (fault.ActionFailed target code)) fails is = absurd is
+refused_start old new (end.Fault (fault.TreeFault path)) fails is = absurd is
+refused_start old new (end.Fault (fault.StartFault target)) fails is = fails
+refused_start old new (end.Fault fault.StoreFault) fails is = absurd is
+refused_start old new (end.Fault fault.OutFault) fails is = absurd is
+refused_start old new (end.Fault (fault.TooLarge path size)) fails is = absurd is
+refused_start old new (end.Fault (fault.TooMany what count)) fails is = absurd is
+refused_start old new end.Memory fails is = inr fails
+
 -- at the start nothing was found
 pub at_first : (start : Outside) → Accounted start start blank
 at_first start = record {
@@ -330,6 +378,13 @@ as_faults start now old new shut memory same a = subst (λ (fs : List BuildFault
 -- the same account
 pub account_as : (start now : Outside) (old new : Ledger) → new ≡ old → Accounted start now old → Accounted start now new
 account_as start now old new same a = subst (λ ledger. Accounted start now ledger) (sym same) a
+
+-- an ending that isn't told for want of memory, of whichever target
+pub wants_untold : {E : Type 0} (e : SinkMeaning E) (err : E) (old : Account) (target : List ℕ) (o : Outcome) (new : Account) → ledger_of new ≡ wanting (ledger_of old) → Reports e err old (with_outcome (ledger_of old) target o) err new
+wants_untold e err old target o new is = record {
+  shut = ap (λ (l : Ledger). l.shut) is;
+  accounts = λ counts out start a. account_as start _ (wanting (ledger_of old)) (ledger_of new) is (untold start (ledger_of old) _ target o a);
+}
 
 -- an answer with the faults of an account, of which the store is no more asked
 pub ended : (start now : Outside) (ledger : Ledger) (faults : List BuildFault) (memory : Bool) → faults ≡ ledger.faults → memory ≡ ledger.memory

@@ -6,7 +6,7 @@ use Rattle.std.proofs.lemmas.List.{get_or_default, get_or-map, map-append, lengt
 use Rattle.std.proofs.lemmas.List.Elements.{Contains-get_or}
 use Rattle.std.proofs.lemmas.Slice.Eq.{bytes_eq-Decides}
 use Rattle.world_api.specs.Around.{Around, Running, IsUnused, IsRunningTarget, given_of}
-use Rattle.world_api.specs.Calls.{CanStart, IsOpen, IsClosed, Starts, Ends}
+use Rattle.world_api.specs.Calls.{CanStart, Starts, Ends}
 use Rattle.world_api.specs.Meaning.{Meaning, Told}
 use Rattle.world_api.specs.declared.job.Job.{Job}
 use Rattle.world_api.specs.declared.job.Ended.{Ended}
@@ -70,16 +70,6 @@ can_start job around holds same apart clear = record {
 pub are_unused : (job : Job) (running : List Running) (holds : List Hold) → holds_of running ≡ holds → ((hold : Hold) → Contains holds hold → KeepsApart job hold)
     → (path : List ℕ) → Contains job.targets path → IsUnused running path
 are_unused job running holds same apart path t = λ run h. let a = apart (hold_of run) (held running holds run same h) in (a.made path t, a.read path t)
-
-none_closed : {P : Type 0} (closed : List (List ℕ)) (path : List ℕ) → closed ≡ [] → IsClosed closed path → P
-none_closed {P} closed path none h = absurd (let lt : h.1.0 < length closed = h.1.1 in omega (arith, ap length none))
-
--- where no directory is closed all is open
-pub all_open : (closed : List (List ℕ)) (job : Job) → closed ≡ [] → IsOpen closed job
-all_open closed job none = record { targets = λ path t h. none_closed closed path none h; deps = λ path d h. none_closed closed path none h }
-
-pub not_closed : (closed : List (List ℕ)) (path : List ℕ) → closed ≡ [] → IsClosed closed path → ⊥
-not_closed closed path none h = none_closed closed path none h
 
 -- the tickets after a start
 pub joined_started : {W : Type 0} (m : Meaning W) (old new : W) (holds : List Hold) (job : Job) → (m.tells new → m.tells old) → (m.tells new → Starts job (m.counts old) (m.around old) (m.around new))

@@ -1,5 +1,8 @@
+mod Clearing
 pub mod Holding
 pub mod Goings
 pub mod Causing
 pub mod Outs
+pub mod Sites
 pub mod Taking
+mod Lending

@@ -19,7 +19,7 @@ use Rattle.sign_store.proofs.GroupLemmas.{tickets_held}
 use Rattle.sign_store.proofs.Keeping.{kept_as, keeps_on}
 use Rattle.task_plan.specs.declared.want.PlanEvent.TheVariants.{DoneOk}
 use Rattle.build_run.specs.Holds.{Busy, holds_in}
-use Rattle.build_run.specs.Outs.{IsTicketFor, IsOutFor, IsBeside, AreOut, HasOwnRoom, IsStored, KeepsHeld, KeepsRecordsBut, KeepsSome, ShareNone}
+use Rattle.build_run.specs.Outs.{IsTicketFor, IsOutFor, IsBeside, AreOut, HasOwnRoom, IsStored, KeepsSome, ShareNone}
 use Rattle.build_run.specs.Withdrawals.{HasNone, AreWithdrawn}
 use Rattle.build_run.specs.declared.tickets.Hold.{Hold}
 use Rattle.build_run.proofs.Holding.{at_front, further, in_front, in_pushed}
@@ -164,9 +164,6 @@ none_by : (b : Bool) (x : Option Rec) → x ≡ None → cond b None x ≡ None
 none_by true x none = refl
 none_by false x none = none
 
-none_without : (old new : Store) (targets : List (List ℕ)) → map_of new ≡ with_each targets None (map_of old) → KeepsNone old new
-none_without old new targets is paths none path among = ap (λ (m : Map). m path) is ∙ none_by (is_among targets path) (map_of old path) (none path among)
-
 others_still : (old new : Store) (ticket : Ticket) (busies : List Busy) → KeepsOthers ticket old new → KeepsNone old new → HasOwnRoom ticket busies → AreOut old busies → AreOut new busies
 others_still old new ticket busies keeps nones own =
     outs_still old new busies (λ busy h out.
@@ -204,10 +201,6 @@ stored_prepared m world old new busies shut live banks map keeps s = record {
 -- a new ticket's room is its own
 pub own_room : (old : Store) (ticket : Ticket) (busies : List Busy) → IsFresh old ticket → AreOut old busies → HasOwnRoom ticket busies
 own_room old ticket busies fresh outs busy h = let t = (out_in old busies busy outs h).ticket in fresh.apart t.rec busy.ticket t.out
-
-none_apart : (b : Bool) (x y : Option Rec) → b ≢ true → x ≡ None → cond b y x ≡ None
-none_apart true x y not none = absurd (not refl)
-none_apart false x y not none = none
 
 -- ---- tickets in front of others
 
@@ -332,9 +325,9 @@ kept_elsewhere store held rec targets map same is path not =
     ∙ ap (λ b. cond b None (map_with store held path)) (not_among rec.targets path (λ h. not (subst (λ (paths : List (List ℕ)). Contains paths path) same h)))
 
 -- what held rules have made stays where a job makes none of it
-pub kept_held : (old : Store) (held : List Busy) (new : Store) (new_held : List Busy) (targets : List (List ℕ)) (shut : Bool) → ((busy : Busy) → Contains held busy → ShareNone targets busy.hold.targets)
-    → KeepsRecordsBut targets old held new new_held shut → KeepsHeld old held new new_held shut
-kept_held old held new new_held targets shut apart keeps unshut busy path h made = keeps unshut path (λ here. apart busy h path here made)
+pub kept_held : (old : Store) (held : List Busy) (new : Store) (new_held : List Busy) (targets : List (List ℕ)) → ((busy : Busy) → Contains held busy → ShareNone targets busy.hold.targets)
+    → ((path : List ℕ) → (Contains targets path → ⊥) → map_with new new_held path ≡ map_with old held path) → (busy : Busy) (path : List ℕ) → Contains held busy → Contains busy.hold.targets path → map_with new new_held path ≡ map_with old held path
+kept_held old held new new_held targets apart keeps busy path h made = keeps path (λ here. apart busy h path here made)
 
 -- where map and tickets stay it stays
 pub held_alike : (old new : Store) (held : List Busy) → map_of new ≡ map_of old → ((one : Busy) (rec : Rec) → Contains held one → IsOut old rec one.ticket → IsTicket new rec one.ticket) → AreOut old held → map_with new held ≡ map_with old held

@@ -1,12 +1,14 @@
 -- Why a build has the faults that it reports: each tells what was at fault outside, and what was at fault is told.
-use Rattle.std.specs.Prelude.{◌≡◌, ◌≢◌, ◌≤◌, ◌⊎◌, Bool, false, ℕ, List, All, Contains}
-use Rattle.world_api.specs.Causes.{Later}
+use Rattle.std.specs.Prelude.{◌≡◌, ◌≢◌, ◌≤◌, ◌⊎◌, Bool, false, ℕ, List, All, Contains, Result, Ok, Err}
+use Rattle.world_api.specs.Causes.{Later, StartFails}
 use Rattle.scons_base.specs.Rising.{Rose}
 use Rattle.world_api.specs.Counts.{Counts}
 use Rattle.world_api.specs.Meaning.{Meaning}
 use Rattle.world_api.specs.Printed.{SinkMeaning}
 use Rattle.rule_graph.specs.declared.build_fault.BuildFault.{BuildFault}
 use Rattle.rule_graph.specs.declared.build_fault.BuildFault.TheVariants as fault
+use Rattle.build_files.specs.declared.end.ListEnd.{ListEnd}
+use Rattle.build_files.specs.declared.end.ListEnd.TheVariants as end
 
 -- how often the world, standard output and standard error were at fault
 pub record Outside : Type 0 where
@@ -74,3 +76,30 @@ pub record AreCaused (old new : Outside) (faults : List BuildFault) (memory : Bo
 abbrev pub BuildCauses : {W O E : Type 0} → Meaning W → SinkMeaning O → SinkMeaning E → W → O → E → W → O → E → List BuildFault → Bool → Type 0
 BuildCauses m o e world out err new_world new_out new_err faults memory =
     AreCaused (outside (m.counts world) (o.faults out) (e.faults err)) (outside (m.counts new_world) (o.faults new_out) (e.faults new_err)) faults memory
+
+-- a print was refused: standard output was at fault
+abbrev pub HasPrintEnd : ℕ → ℕ → ListEnd → Type 0
+HasPrintEnd old new (end.Fault fault.OutFault) = Rose old new
+HasPrintEnd old new (end.Fault other) = ⊥
+HasPrintEnd old new end.Memory = ⊥
+
+-- or a text was printed
+abbrev pub HasPrintCause : {T : Type 0} → ℕ → ℕ → Result T ListEnd → Type 0
+HasPrintCause old new (Ok value) = new ≡ old
+HasPrintCause old new (Err e) = HasPrintEnd old new e
+
+-- a start was refused: it was at fault, though for want of memory its target may remain untold
+abbrev pub HasStartEnd : Counts → Counts → ListEnd → Type 0
+HasStartEnd old new (end.Fault (fault.StartFault target)) = StartFails old new
+HasStartEnd old new (end.Fault other) = ⊥
+HasStartEnd old new end.Memory = (new ≡ old) ⊎ StartFails old new
+
+-- or a job was started
+abbrev pub HasStartCause : {T : Type 0} → Counts → Counts → Result T ListEnd → Type 0
+HasStartCause old new (Ok value) = new ≡ old
+HasStartCause old new (Err e) = HasStartEnd old new e
+
+-- an end for which the start of a job was at fault, though its target may remain untold for want of memory
+abbrev pub IsUnstarted : ListEnd → Type 0
+IsUnstarted (end.Fault fault) = IsStartFault fault
+IsUnstarted end.Memory = Unit {0}

@@ -1,8 +1,12 @@
 -- What goes on while a build makes its calls.
 use Rattle.std.specs.Prelude.{◌≡◌, ◌≢◌, ℕ, List, None, Contains, Result, OnOk}
 use Rattle.world_api.specs.Around.{Around, IsRunningTarget, IsUnused}
+use Rattle.world_api.specs.Calls.{Starts}
 use Rattle.world_api.specs.Causes.{Later}
+use Rattle.world_api.specs.Counts.{Counts}
 use Rattle.world_api.specs.Meaning.{Meaning, Told, BanksKept}
+use Rattle.world_api.specs.declared.job.Job.{Job}
+use Rattle.run_means.specs.Clears.{Clears}
 use Rattle.build_run.specs.declared.tickets.Hold.{Hold}
 use Rattle.build_run.specs.Holds.{holds_of, AreApart}
 
@@ -20,6 +24,20 @@ pub record Goes {W : Type 0} (m : Meaning W) (old new : W) : Type 0 where
 pub record Stays {W : Type 0} (m : Meaning W) (old new : W) : Type 0 where
   pub goes : Goes m old new
   pub banks : m.tells new → BanksKept m old new
+
+-- of files only targets of running jobs, and these, change
+abbrev pub ClearsAt : {W : Type 0} → Meaning W → List (List ℕ) → W → W → Type 0
+ClearsAt m paths old new = m.tells new → Clears paths (m.around old) (m.around new)
+
+-- A job's targets were cleared, and then it started.
+pub record Launches (job : Job) (counts : Counts) (old new : Around) : Type 0 where
+  pub mid : Around
+  pub clears : Clears job.targets old mid
+  pub starts : Starts job counts mid new
+
+-- the counts of faults were those from before
+abbrev pub LaunchesAt : {W : Type 0} → Meaning W → Job → W → W → Type 0
+LaunchesAt m job old new = m.tells new → Launches job (m.counts old) (m.around old) (m.around new)
 
 -- the running jobs are those of the tickets, and no two have one number
 pub record IsJoined {W : Type 0} (m : Meaning W) (world : W) (holds : List Hold) : Type 0 where

@@ -10,7 +10,7 @@ use Rattle.rule_graph.specs.declared.build_fault.BuildFault.{BuildFault}
 use Rattle.rule_graph.specs.declared.build_fault.BuildFault.TheVariants as fault
 use Rattle.build_files.specs.declared.end.ListEnd.{ListEnd}
 use Rattle.build_files.specs.declared.end.ListEnd.TheVariants as end
-use Rattle.build_run.specs.Causes.{Outside, outside, IsLater, HasCause, AreTold, IsStartFault}
+use Rattle.build_run.specs.Causes.{Outside, outside, IsLater, HasCause, AreTold}
 use Rattle.build_run.specs.declared.account.Account.{Account}
 use Rattle.build_run.specs.declared.end.BuildEnd.{BuildEnd}
 
@@ -63,65 +63,24 @@ pub record Accounted (start now : Outside) (ledger : Ledger) : Type 0 where
   pub told : ledger.memory ≡ false → AreTold start now ledger.faults
   pub shut : ledger.shut ≡ true → Rose start.counts.disk_faults now.counts.disk_faults
 
--- what was accounted for is so still: with no call outside
-abbrev pub Keeps : Ledger → Ledger → Type 0
-Keeps before after = (start now : Outside) → Accounted start now before → Accounted start now after
+-- What was accounted for is so still.
+abbrev pub Accounts : Outside → Ledger → Outside → Ledger → Type 0
+Accounts old before new after = (start : Outside) → Accounted start old before → Accounted start new after
 
--- over calls on standard error
-abbrev pub ErrKeeps : {E : Type 0} → SinkMeaning E → E → E → Ledger → Ledger → Type 0
-ErrKeeps e err new_err before after = (start : Outside) (counts : Counts) (out : ℕ)
-    → Accounted start (outside counts out (e.faults err)) before → Accounted start (outside counts out (e.faults new_err)) after
+-- an account into which this went, with no call outside
+pub record Keeps (old : Account) (with : Ledger) (new : Account) : Type 0 where
+  pub shut : new.is_store_shut ≡ old.is_store_shut
+  pub accounts : (now : Outside) → Accounts now with now (ledger_of new)
 
--- over calls on standard output
-abbrev pub OutKeeps : {O : Type 0} → SinkMeaning O → O → O → Ledger → Ledger → Type 0
-OutKeeps o out new_out before after = (start : Outside) (counts : Counts) (err : ℕ)
-    → Accounted start (outside counts (o.faults out) err) before → Accounted start (outside counts (o.faults new_out) err) after
+-- an account into which this went, over calls on standard error, whatever else lies outside
+pub record Reports {E : Type 0} (e : SinkMeaning E) (err : E) (old : Account) (with : Ledger) (new_err : E) (new : Account)
+    : Type 0 where
+  pub shut : new.is_store_shut ≡ old.is_store_shut
+  pub accounts : (counts : Counts) (out : ℕ)
+      → Accounts (outside counts out (e.faults err)) with (outside counts out (e.faults new_err)) (ledger_of new)
 
--- over calls on the world
-abbrev pub WorldKeeps : {W : Type 0} → Meaning W → W → W → Ledger → Ledger → Type 0
-WorldKeeps m world new_world before after = (start : Outside) (out err : ℕ)
-    → Accounted start (outside (m.counts world) out err) before → Accounted start (outside (m.counts new_world) out err) after
-
--- the same, and then the end that comes is to be reported
-abbrev pub WorldEnds : {W T : Type 0} → Meaning W → W → W → Result T ListEnd → Type 0
-WorldEnds m world new_world result = (ledger : Ledger) → WorldKeeps m world new_world ledger (with_done ledger result)
-
--- over calls on the world and standard output, and then the end that comes is to be reported
-abbrev pub StartEnds : {W O T : Type 0} → Meaning W → SinkMeaning O → W → O → W → O → Account → Account → Result T ListEnd → Type 0
-StartEnds m o world out new_world new_out before after result = (start : Outside) (err : ℕ)
-    → Accounted start (outside (m.counts world) (o.faults out) err) (ledger_of before)
-    → Accounted start (outside (m.counts new_world) (o.faults new_out) err) (with_done (ledger_of after) result)
-
--- over calls on the world and standard error
-abbrev pub EndKeeps : {W E : Type 0} → Meaning W → SinkMeaning E → W → E → W → E → Ledger → Ledger → Type 0
-EndKeeps m e world err new_world new_err before after = (start : Outside) (out : ℕ)
-    → Accounted start (outside (m.counts world) out (e.faults err)) before → Accounted start (outside (m.counts new_world) out (e.faults new_err)) after
-
--- over calls on the world and both sinks
-abbrev pub AllKeeps : {W O E : Type 0} → Meaning W → SinkMeaning O → SinkMeaning E → W → O → E → W → O → E → Account → Account → Type 0
-AllKeeps m o e world out err new_world new_out new_err before after = (start : Outside)
-    → Accounted start (outside (m.counts world) (o.faults out) (e.faults err)) (ledger_of before)
-    → Accounted start (outside (m.counts new_world) (o.faults new_out) (e.faults new_err)) (ledger_of after)
-
--- the same, and then the end that comes is to be reported
-abbrev pub AllEnds : {W O E T : Type 0} → Meaning W → SinkMeaning O → SinkMeaning E → W → O → E → W → O → E → Account → Account → Result T ListEnd → Type 0
-AllEnds m o e world out err new_world new_out new_err before after result = (start : Outside)
-    → Accounted start (outside (m.counts world) (o.faults out) (e.faults err)) (ledger_of before)
-    → Accounted start (outside (m.counts new_world) (o.faults new_out) (e.faults new_err)) (with_done (ledger_of after) result)
-
--- an ending that was accounted for is so once it is reported, whichever target it is reported of
-abbrev pub ErrSettles : {E : Type 0} → SinkMeaning E → Outcome → E → E → Ledger → Ledger → Type 0
-ErrSettles e outcome err new_err before after = (start : Outside) (counts : Counts) (out : ℕ)
-    → ((target : List ℕ) → Accounted start (outside counts out (e.faults err)) (with_outcome before target outcome))
-    → Accounted start (outside counts out (e.faults new_err)) after
-
--- the same, over calls on the world too
-abbrev pub Settles : {W E : Type 0} → Meaning W → SinkMeaning E → Outcome → W → E → W → E → Ledger → Ledger → Type 0
-Settles m e outcome world err new_world new_err before after = (start : Outside) (out : ℕ)
-    → ((target : List ℕ) → Accounted start (outside (m.counts world) out (e.faults err)) (with_outcome before target outcome))
-    → Accounted start (outside (m.counts new_world) out (e.faults new_err)) after
-
--- an end for which the start of a job was at fault, though its target may remain untold for want of memory
-abbrev pub IsUnstarted : ListEnd → Type 0
-IsUnstarted (end.Fault fault) = IsStartFault fault
-IsUnstarted end.Memory = Unit {0}
+-- what was accounted for is so still, over calls on the world and both sinks
+abbrev pub AllAccounts : {W O E : Type 0} → Meaning W → SinkMeaning O → SinkMeaning E → W → O → E → Account → W → O → E → Account → Type 0
+AllAccounts m o e world out err account new_world new_out new_err new_account =
+    Accounts (outside (m.counts world) (o.faults out) (e.faults err)) (ledger_of account)
+    (outside (m.counts new_world) (o.faults new_out) (e.faults new_err)) (ledger_of new_account)

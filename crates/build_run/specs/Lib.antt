@@ -3,5 +3,6 @@ pub mod Goings
 pub mod Holds
 pub mod Ledgers
 pub mod Outs
+pub mod Sites
 pub mod Takes
 pub mod Withdrawals

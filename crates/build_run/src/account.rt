@@ -25,7 +25,7 @@ pub(crate) struct Account {
 
 impl Account {
     ghost use Rattle.std.specs.Prelude.{◌≡◌};
-    ghost use Rattle.build_run.specs.Ledgers.{ledger_of, blank, wanting, with_fault, with_end, Keeps, ErrKeeps};
+    ghost use Rattle.build_run.specs.Ledgers.{ledger_of, blank, wanting, with_fault, with_end, Keeps, Reports};
 
     pub(crate) fn new(alloc: Global) -> Account
         ensures { ledger_of result ≡ blank }
@@ -45,8 +45,7 @@ impl Account {
 
     /// Nothing new starts any more.
     pub(crate) fn end<E: Sink>(&mut self, err: &mut E, end: ListEnd)
-        ensures shut { self.new.is_store_shut ≡ self.old.is_store_shut }
-        ensures keeps { ErrKeeps E.meaning err.old err.new (with_end (ledger_of self.old) end) (ledger_of self.new) }
+        ensures { Reports E.meaning err.old self.old (with_end (ledger_of self.old) end) err.new self.new }
     {
         self.is_ended = true;
         match end {
@@ -63,8 +62,7 @@ impl Account {
         fault: BuildFault,
         goes_on: bool,
     )
-        ensures shut { self.new.is_store_shut ≡ self.old.is_store_shut }
-        ensures keeps { ErrKeeps E.meaning err.old err.new (with_fault (ledger_of self.old) fault) (ledger_of self.new) }
+        ensures { Reports E.meaning err.old self.old (with_fault (ledger_of self.old) fault) err.new self.new }
     {
         self.report(err, fault);
         self.note_faulty(rule);
@@ -73,8 +71,7 @@ impl Account {
 
     /// Keeps a fault and prints it.
     pub(crate) fn report<E: Sink>(&mut self, err: &mut E, fault: BuildFault)
-        ensures shut { self.new.is_store_shut ≡ self.old.is_store_shut }
-        ensures keeps { ErrKeeps E.meaning err.old err.new (with_fault (ledger_of self.old) fault) (ledger_of self.new) }
+        ensures { Reports E.meaning err.old self.old (with_fault (ledger_of self.old) fault) err.new self.new }
     {
         let text = fault_text(self.alloc, &fault);
         self.keep(fault);
@@ -83,8 +80,7 @@ impl Account {
 
     /// Prints a text, unless standard error has refused before. Want of memory for it is noted.
     fn show<E: Sink>(&mut self, err: &mut E, text: Result<String, Memory>)
-        ensures shut { self.new.is_store_shut ≡ self.old.is_store_shut }
-        ensures keeps { ErrKeeps E.meaning err.old err.new (ledger_of self.old) (ledger_of self.new) }
+        ensures { Reports E.meaning err.old self.old (ledger_of self.old) err.new self.new }
     {
         if self.is_err_shut {
             return;
@@ -97,8 +93,7 @@ impl Account {
 
     /// Prints a text. A sink that refuses is noted.
     fn write<E: Sink>(&mut self, err: &mut E, text: &str)
-        ensures shut { self.new.is_store_shut ≡ self.old.is_store_shut }
-        ensures keeps { ErrKeeps E.meaning err.old err.new (ledger_of self.old) (ledger_of self.new) }
+        ensures { Reports E.meaning err.old self.old (ledger_of self.old) err.new self.new }
     {
         match print(err, text) {
             Ok(()) => {}
@@ -111,8 +106,7 @@ impl Account {
     }
 
     fn keep(&mut self, fault: BuildFault)
-        ensures shut { self.new.is_store_shut ≡ self.old.is_store_shut }
-        ensures keeps { Keeps (with_fault (ledger_of self.old) fault) (ledger_of self.new) }
+        ensures { Keeps self.old (with_fault (ledger_of self.old) fault) self.new }
     {
         match self.faults.push(fault) {
             Ok(()) => {}
@@ -128,8 +122,7 @@ impl Account {
     }
 
     fn note_faulty(&mut self, rule: RuleId)
-        ensures shut { self.new.is_store_shut ≡ self.old.is_store_shut }
-        ensures keeps { Keeps (ledger_of self.old) (ledger_of self.new) }
+        ensures { Keeps self.old (ledger_of self.old) self.new }
     {
         match self.faulty.push(rule) {
             Ok(()) => {}
@@ -138,8 +131,7 @@ impl Account {
     }
 
     pub(crate) fn note_start(&mut self, rule: RuleId)
-        ensures shut { self.new.is_store_shut ≡ self.old.is_store_shut }
-        ensures keeps { Keeps (ledger_of self.old) (ledger_of self.new) }
+        ensures { Keeps self.old (ledger_of self.old) self.new }
     {
         match self.started.push(rule) {
             Ok(()) => {}

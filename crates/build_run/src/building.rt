@@ -1,18 +1,20 @@
 //! A build from its first look to its answer.
-ghost use Rattle.std.specs.Prelude.{◌≡◌, [], true, max, min, IfOk};
+ghost use Rattle.std.specs.Prelude.{◌≡◌, [], true, IfOk, IfSome, OnOk};
 ghost use Rattle.world_api.specs.Causes.{Later};
 ghost use Rattle.world_api.specs.Meaning.{Told};
 ghost use Rattle.sign_store.specs.Stores.{IsKept, is_live};
 ghost use Rattle.build_files.specs.Causes.{HasLookCause, IsQuiet};
 ghost use Rattle.build_run.specs.Causes.{BuildCauses, IsInner};
-ghost use Rattle.build_run.specs.Goings.{Stays};
-ghost use Rattle.build_run.specs.Ledgers.{blank, ledger_of, ledger_of_end, with_done, with_end, ErrKeeps};
+ghost use Rattle.build_run.specs.Goings.{Goes, Passes, Stays};
+ghost use Rattle.build_run.specs.Ledgers.{ledger_of, AllAccounts, Reports};
+ghost use Rattle.build_run.specs.Sites.{IsSame, SiteAccounts, most_jobs};
+ghost use Rattle.build_run.specs.Takes.{HasTakeCause};
 
 use crate::account::Account;
 use crate::end::BuildEnd;
 use crate::leftovers::take_leftovers;
+use crate::site::{Run, Site};
 use crate::tickets::Tickets;
-use crate::turns::go_on;
 use build_files::{Inputs, ListEnd, first_target};
 use indexmap::IndexSet;
 use rule_graph::{BuildFault, Graph};
@@ -40,22 +42,10 @@ pub struct Options {
 impl Options {
     /// How many jobs may run at a time: none asked for counts as one. As many records are held at most.
     pub(crate) fn most_jobs(&self) -> usize
-        ensures { result ≡ max (min self.now.jobs 64) 1 }
+        ensures { result ≡ most_jobs self.now }
     {
         self.jobs.min(JOB_LIMIT).max(1) as usize
     }
-}
-
-/// What a build knows besides what it reports.
-#[derive(Drop)]
-pub(crate) struct Run {
-    pub(crate) plan: Plan,
-    pub(crate) inputs: Inputs,
-    pub(crate) tickets: Tickets,
-    /// The rules whose actions ended well and whose records aren't put yet, in the order of their endings.
-    pub(crate) held: Tickets,
-    /// Directories that were made or stand.
-    pub(crate) dirs: IndexSet<PathText>,
 }
 
 /// Takes leftover copies away, and makes the requested nodes, and all that they need, as far as it is stale. When it returns
@@ -79,61 +69,49 @@ pub fn build<W: World, O: Sink, E: Sink>(
     ensures idle { W.meaning.tells world.new → (W.meaning.around world.new).running ≡ [] }
     ensures causes { BuildCauses W.meaning O.meaning E.meaning world.old out.old err.old world.new out.new err.new result.faults result.memory }
 {
-    match take_leftovers(alloc, graph, store, world) {
-        Ok(()) => make(alloc, graph, requested, store, world, out, err, options),
-        Err(end) => ended(alloc, err, end),
-    }
-}
-
-/// The answer of a build that ended before it began to make anything.
-fn ended<E: Sink>(alloc: Global, err: &mut E, end: ListEnd) -> BuildEnd
-    ensures { ErrKeeps E.meaning err.old err.new (with_end blank end) (ledger_of_end result) }
-{
     let mut account = Account::new(alloc);
-    account.end(err, end);
-    answer(account, Listing::empty(alloc))
-}
-
-/// Makes the requested nodes, once no leftover copy stands.
-fn make<W: World, O: Sink, E: Sink>(
-    alloc: Global,
-    graph: &mut Graph,
-    requested: &[NodeId],
-    store: &mut Store,
-    world: &mut W,
-    out: &mut O,
-    err: &mut E,
-    options: &Options,
-) -> BuildEnd
-    requires unclosed { W.meaning.closed world.old ≡ [] }
-    requires idle { W.meaning.tells world.old → (W.meaning.around world.old).running ≡ [] }
-    requires live { is_live store.old ≡ true }
-    requires kept { IsKept W.meaning world.old store.old }
-    ensures told { Told W.meaning world.old world.new }
-    ensures later { Later (W.meaning.counts world.old) (W.meaning.counts world.new) }
-    ensures idle { W.meaning.tells world.new → (W.meaning.around world.new).running ≡ [] }
-    ensures causes { BuildCauses W.meaning O.meaning E.meaning world.old out.old err.old world.new out.new err.new result.faults result.memory }
-{
-    let mut account = Account::new(alloc);
-    match begin(alloc, options.hash, graph, requested, world) {
+    match set_out(alloc, options.hash, graph, requested, store, world) {
         Ok(mut run) => {
-            go_on(
+            let skipped = make_all(
                 graph,
-                &mut run,
-                &mut account,
                 store,
                 world,
                 out,
                 err,
-                options,
+                &mut run,
+                &mut account,
+                *options,
             );
-            close(alloc, graph, &run, account, err)
+            answer(account, skipped)
         }
         Err(end) => {
             account.end(err, end);
             answer(account, Listing::empty(alloc))
         }
     }
+}
+
+/// Takes leftover copies away, and begins to look at what the requested nodes need.
+fn set_out<W: World>(
+    alloc: Global,
+    hash: Hash,
+    graph: &mut Graph,
+    requested: &[NodeId],
+    store: &mut Store,
+    world: &mut W,
+) -> Result<Run, ListEnd>
+    requires idle { W.meaning.tells world.old → (W.meaning.around world.old).running ≡ [] }
+    requires live { is_live store.old ≡ true }
+    requires kept { IsKept W.meaning world.old store.old }
+    ensures goes { Goes W.meaning world.old world.new }
+    ensures cause { HasTakeCause (W.meaning.counts world.old) (W.meaning.counts world.new) result }
+    ensures live { OnOk result (is_live store.new ≡ true) }
+    ensures kept { OnOk result (IsKept W.meaning world.new store.new) }
+    ensures none { IfOk result (λ run. run.tickets ≡ []) }
+    ensures held { IfOk result (λ run. run.held ≡ []) }
+{
+    take_leftovers(alloc, graph, store, world)?;
+    begin(alloc, hash, graph, requested, world)
 }
 
 fn begin<W: World>(
@@ -160,55 +138,88 @@ fn begin<W: World>(
     })
 }
 
-/// Looks for rules that wait for themselves, and says which rules were held back.
-fn close<E: Sink>(
-    alloc: Global,
-    graph: &Graph,
-    run: &Run,
-    mut account: Account,
+/// Makes what the plan wants, and says which rules were held back. When it returns nothing runs.
+fn make_all<W: World, O: Sink, E: Sink>(
+    graph: &mut Graph,
+    store: &mut Store,
+    world: &mut W,
+    out: &mut O,
     err: &mut E,
-) -> BuildEnd
-    ensures { ErrKeeps E.meaning err.old err.new (ledger_of account) (ledger_of_end result) }
+    run: &mut Run,
+    account: &mut Account,
+    options: Options,
+) -> Listing<(PathText, PathText)>
+    requires unclosed { W.meaning.closed world.old ≡ [] }
+    requires idle { W.meaning.tells world.old → (W.meaning.around world.old).running ≡ [] }
+    requires live { is_live store.old ≡ true }
+    requires kept { IsKept W.meaning world.old store.old }
+    requires none { run.old.tickets ≡ [] }
+    requires held { run.old.held ≡ [] }
+    ensures passes { Passes W.meaning world.old world.new }
+    ensures idle { W.meaning.tells world.new → (W.meaning.around world.new).running ≡ [] }
+    ensures accounts { AllAccounts W.meaning O.meaning E.meaning world.old out.old err.old account.old world.new out.new err.new account.new }
 {
-    tell_cycle(alloc, graph, run, &mut account, err);
-    match skipped(alloc, graph, run, account.faulty.as_slice()) {
-        Ok(skipped) => answer(account, skipped),
-        Err(_) => {
-            account.want_memory();
-            answer(account, Listing::empty(alloc))
+    let mut site = Site {
+        graph,
+        store,
+        world,
+        out,
+        err,
+        run,
+        account,
+        options,
+    };
+    site.go_on();
+    site.close()
+}
+
+impl<W: World, O: Sink, E: Sink> Site<'_, '_, W, O, E> {
+    /// Looks for rules that wait for themselves, and says which rules were held back.
+    fn close(&mut self) -> Listing<(PathText, PathText)>
+        ensures same { IsSame self.old self.new }
+        ensures world { self.new.world.now ≡ self.old.world.now }
+        ensures accounts { SiteAccounts W.meaning O.meaning E.meaning self.old self.new }
+    {
+        tell_cycle(self.graph, &self.run.plan, self.account, self.err);
+        match skipped(self.graph, &self.run.plan, self.account) {
+            Ok(skipped) => skipped,
+            Err(_) => {
+                self.account.want_memory();
+                Listing::empty(self.account.alloc)
+            }
         }
     }
 }
 
 /// Reports rules that wait for themselves, unless nothing was to start any more.
-fn tell_cycle<E: Sink>(alloc: Global, graph: &Graph, run: &Run, account: &mut Account, err: &mut E)
-    ensures { ErrKeeps E.meaning err.old err.new (ledger_of account.old) (ledger_of account.new) }
+fn tell_cycle<E: Sink>(graph: &Graph, plan: &Plan, account: &mut Account, err: &mut E)
+    ensures { Reports E.meaning err.old account.old (ledger_of account.old) err.new account.new }
 {
     if account.is_ended {
         return;
     }
-    match find_cycle(alloc, graph, run, account, err) {
-        Ok(()) => {}
+    match find_cycle(account.alloc, graph, plan, &mut account.faulty) {
+        Ok(Some(fault)) => account.report(err, fault),
+        Ok(None) => {}
         Err(end) => account.end(err, end),
     }
 }
 
-fn find_cycle<E: Sink>(
+/// The fault of rules that wait for themselves, where some do. They are noted as rules at fault.
+fn find_cycle(
     alloc: Global,
     graph: &Graph,
-    run: &Run,
-    account: &mut Account,
-    err: &mut E,
-) -> Result<(), ListEnd>
-    ensures { ErrKeeps E.meaning err.old err.new (ledger_of account.old) (with_done (ledger_of account.new) result) }
+    plan: &Plan,
+    faulty: &mut Vec<RuleId>,
+) -> Result<Option<BuildFault>, ListEnd>
+    ensures inner { IfOk result (λ found. IfSome found IsInner) }
+    ensures quiet { IsQuiet result }
 {
-    let Some(rules) = run.plan.cycle()? else {
-        return Ok(());
+    let Some(rules) = plan.cycle()? else {
+        return Ok(None);
     };
-    account.faulty.extend_from_slice(rules.as_slice())?;
-    let fault = cycle_of(alloc, graph, rules.as_slice())?;
-    account.report(err, fault);
-    Ok(())
+    faulty.extend_from_slice(rules.as_slice())?;
+    Ok(Some(cycle_of(alloc, graph, rules.as_slice())?))
 }
 
 /// The fault of rules that wait for themselves.
@@ -222,15 +233,14 @@ fn cycle_of(alloc: Global, graph: &Graph, rules: &[RuleId]) -> Result<BuildFault
     }
 }
 
-/// The rules that were held back by these, each with the one that did.
+/// The rules that were held back by those at fault, each with the one that did.
 fn skipped(
-    alloc: Global,
     graph: &Graph,
-    run: &Run,
-    faulty: &[RuleId],
+    plan: &Plan,
+    account: &Account,
 ) -> Result<Listing<(PathText, PathText)>, Memory> {
-    let mut pairs = Vec::new(alloc);
-    for (held, by) in run.plan.held_by(faulty)?.as_slice() {
+    let mut pairs = Vec::new(account.alloc);
+    for (held, by) in plan.held_by(account.faulty.as_slice())?.as_slice() {
         let held = first_target(graph, *held)?;
         let by = first_target(graph, *by)?;
         pairs.push((held, by))?;

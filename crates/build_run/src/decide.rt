@@ -1,124 +1,80 @@
 //! Whether a rule is stale.
-ghost use Rattle.std.specs.Prelude.{◌≡◌, ◌≤◌, ◌<◌, ◌++◌, [], length, IfOk};
-ghost use Rattle.build_files.specs.Causes.{IsQuiet};
+ghost use Rattle.std.specs.Prelude.{◌≡◌, ◌≤◌, ◌<◌, [], length, IfOk};
+ghost use Rattle.build_files.specs.Causes.{HasLookCause, IsQuiet};
 ghost use Rattle.build_run.specs.Causes.{IsInner};
-ghost use Rattle.build_run.specs.Goings.{Passes, IsJoined};
-ghost use Rattle.build_run.specs.Holds.{holds_in};
-ghost use Rattle.build_run.specs.Ledgers.{ledger_of, with_done, AllEnds, StartEnds, ErrKeeps};
-ghost use Rattle.build_run.specs.Outs.{IsStored, KeepsHeld};
+ghost use Rattle.build_run.specs.Goings.{Stays};
+ghost use Rattle.build_run.specs.Sites.{IsSound, KeepsHeld, SiteEnds, SitePasses};
 
-use crate::account::Account;
-use crate::building::Options;
-use crate::start::start;
-use crate::tickets::Tickets;
-use build_files::{Inputs, ListEnd, Present, first_target, is_stale, path_of};
+use crate::site::{Run, Site};
+use build_files::{ListEnd, Present, first_target, is_stale, path_of};
 use deciders::Rec;
-use indexmap::IndexSet;
 use rule_graph::{BuildFault, Graph, What};
 use scons_base::limits::DEP_LIMIT;
-use scons_base::{NodeId, PathText, RuleId};
-use sign_store::Store;
-use task_plan::{Plan, PlanEvent};
+use scons_base::{NodeId, RuleId};
+use task_plan::PlanEvent;
 use world_api::{Sink, World};
 
-/// Decides a rule: it is fresh, its action is started, or one of its dependencies is missing.
-pub(crate) fn decide<W: World, O: Sink, E: Sink>(
-    graph: &Graph,
-    plan: &Plan,
-    inputs: &mut Inputs,
-    tickets: &mut Tickets,
-    held: &mut Tickets,
-    dirs: &mut IndexSet<PathText>,
-    account: &mut Account,
-    store: &mut Store,
+impl<W: World, O: Sink, E: Sink> Site<'_, '_, W, O, E> {
+    /// Decides a rule: it is fresh, its action is started, or one of its dependencies is missing.
+    pub(crate) fn decide(&mut self, rule: RuleId) -> Result<PlanEvent, ListEnd>
+        requires sound { IsSound W.meaning self.old }
+        requires room { length self.old.run.now.tickets < 64 }
+        ensures passes { SitePasses W.meaning self.old self.new }
+        ensures ends { SiteEnds W.meaning O.meaning E.meaning self.old self.new result }
+        ensures sound { IsSound W.meaning self.new }
+        ensures few { length self.new.run.now.held ≤ length self.old.run.now.held }
+        ensures kept { KeepsHeld self.old self.new }
+    {
+        match present(self.run, self.world, self.graph, rule)? {
+            Present::Record(now) => self.make(rule, now),
+            Present::Lacks(node) => {
+                let missing = missing_fault(self.graph, rule, node)?;
+                self.account
+                    .fail(self.err, rule, missing, self.options.keep);
+                Ok(PlanEvent::Absent(rule, node))
+            }
+        }
+    }
+
+    /// Starts the action of a rule with this record where it is stale.
+    fn make(&mut self, rule: RuleId, now: Rec) -> Result<PlanEvent, ListEnd>
+        requires sound { IsSound W.meaning self.old }
+        requires room { length self.old.run.now.tickets < 64 }
+        ensures passes { SitePasses W.meaning self.old self.new }
+        ensures ends { SiteEnds W.meaning O.meaning E.meaning self.old self.new result }
+        ensures sound { IsSound W.meaning self.new }
+        ensures few { length self.new.run.now.held ≤ length self.old.run.now.held }
+        ensures kept { KeepsHeld self.old self.new }
+    {
+        if !is_stale(self.world, self.graph, self.store, rule, &now)? {
+            return Ok(PlanEvent::Fresh(rule));
+        }
+        self.start(rule, now)?;
+        self.account.note_start(rule);
+        Ok(PlanEvent::Started(rule))
+    }
+}
+
+/// The record of a rule over its dependencies as they are now, or one of them that isn't there.
+fn present<W: World>(
+    run: &mut Run,
     world: &mut W,
-    out: &mut O,
-    err: &mut E,
-    options: &Options,
+    graph: &Graph,
     rule: RuleId,
-) -> Result<PlanEvent, ListEnd>
-    requires unclosed { W.meaning.closed world.old ≡ [] }
-    requires room { length tickets.old < 64 }
-    requires joined { IsJoined W.meaning world.old (holds_in tickets.old) }
-    requires stored { IsStored W.meaning world.old store.old (held.old ++ tickets.old) account.old.is_store_shut }
-    ensures passes { Passes W.meaning world.old world.new }
-    ensures ends { AllEnds W.meaning O.meaning E.meaning world.old out.old err.old world.new out.new err.new account.old account.new result }
-    ensures room { length tickets.new ≤ 64 }
-    ensures joined { IsJoined W.meaning world.new (holds_in tickets.new) }
-    ensures stored { IsStored W.meaning world.new store.new (held.new ++ tickets.new) account.new.is_store_shut }
-    ensures few { length held.new ≤ length held.old }
-    ensures kept { KeepsHeld store.old held.old store.new held.new account.new.is_store_shut }
+) -> Result<Present, ListEnd>
+    ensures stays { Stays W.meaning world.old world.new }
+    ensures cause { HasLookCause (W.meaning.counts world.old) (W.meaning.counts world.new) result }
+    ensures tickets { run.new.tickets ≡ run.old.tickets }
+    ensures held { run.new.held ≡ run.old.held }
 {
-    let deps = plan.deps(rule);
+    let deps = run.plan.deps(rule);
     if deps.len() > DEP_LIMIT as usize {
         return Err(ListEnd::too_many(What::Deps, DEP_LIMIT as u64 + 1));
     }
-    match inputs.present(world, graph, rule, deps)? {
-        Present::Record(now) => {
-            make(
-                graph, tickets, held, dirs, account, store, world, out, options, rule, now,
-            )
-        }
-        Present::Lacks(node) => {
-            report_missing(graph, account, err, options, rule, node)?;
-            Ok(PlanEvent::Absent(rule, node))
-        }
-    }
+    run.inputs.present(world, graph, rule, deps)
 }
 
-/// Starts the action of a rule with this record where it is stale.
-fn make<W: World, O: Sink>(
-    graph: &Graph,
-    tickets: &mut Tickets,
-    held: &mut Tickets,
-    dirs: &mut IndexSet<PathText>,
-    account: &mut Account,
-    store: &mut Store,
-    world: &mut W,
-    out: &mut O,
-    options: &Options,
-    rule: RuleId,
-    now: Rec,
-) -> Result<PlanEvent, ListEnd>
-    requires unclosed { W.meaning.closed world.old ≡ [] }
-    requires room { length tickets.old < 64 }
-    requires joined { IsJoined W.meaning world.old (holds_in tickets.old) }
-    requires stored { IsStored W.meaning world.old store.old (held.old ++ tickets.old) account.old.is_store_shut }
-    ensures passes { Passes W.meaning world.old world.new }
-    ensures ends { StartEnds W.meaning O.meaning world.old out.old world.new out.new account.old account.new result }
-    ensures room { length tickets.new ≤ 64 }
-    ensures joined { IsJoined W.meaning world.new (holds_in tickets.new) }
-    ensures stored { IsStored W.meaning world.new store.new (held.new ++ tickets.new) account.new.is_store_shut }
-    ensures few { length held.new ≤ length held.old }
-    ensures kept { KeepsHeld store.old held.old store.new held.new account.new.is_store_shut }
-{
-    if !is_stale(world, graph, store, rule, &now)? {
-        return Ok(PlanEvent::Fresh(rule));
-    }
-    start(
-        graph, tickets, held, dirs, account, store, world, out, options, rule, now,
-    )?;
-    account.note_start(rule);
-    Ok(PlanEvent::Started(rule))
-}
-
-/// Reports that a dependency of a rule has no rule and is no file.
-fn report_missing<E: Sink>(
-    graph: &Graph,
-    account: &mut Account,
-    err: &mut E,
-    options: &Options,
-    rule: RuleId,
-    node: NodeId,
-) -> Result<(), ListEnd>
-    ensures shut { account.new.is_store_shut ≡ account.old.is_store_shut }
-    ensures keeps { ErrKeeps E.meaning err.old err.new (ledger_of account.old) (with_done (ledger_of account.new) result) }
-{
-    let missing = missing_fault(graph, rule, node)?;
-    account.fail(err, rule, missing, options.keep);
-    Ok(())
-}
-
+/// The fault that a dependency of a rule has no rule and is no file.
 fn missing_fault(graph: &Graph, rule: RuleId, node: NodeId) -> Result<BuildFault, ListEnd>
     ensures inner { IfOk result IsInner }
     ensures quiet { IsQuiet result }

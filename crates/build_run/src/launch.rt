@@ -1,65 +1,52 @@
 //! Starting a job.
-ghost use Rattle.std.specs.Prelude.{◌≡◌, ◌++◌, ◌∷◌, [], false, Contains, OnOk, OnErr};
-ghost use Rattle.build_run.specs.Goings.{Passes, IsJoined, AreAbsent};
-ghost use Rattle.build_run.specs.Ledgers.{ledger_of, with_done, StartEnds, OutKeeps, WorldEnds, IsUnstarted};
+ghost use Rattle.std.specs.Prelude.{◌≡◌, ◌≤◌, ◌++◌, ◌∷◌, [], length, Contains, OnOk, OnErr};
+ghost use Rattle.build_run.specs.Causes.{HasPrintCause, HasStartCause, IsUnstarted};
+ghost use Rattle.build_run.specs.Goings.{Passes, ClearsAt, LaunchesAt, IsJoined, AreAbsent};
+ghost use Rattle.world_api.specs.Laws.{StartsJob};
+ghost use Rattle.build_run.specs.Ledgers.{ledger_of};
 ghost use Rattle.build_run.specs.Holds.{Busy, hold_for, holds_in, KeepsApart};
-ghost use Rattle.build_run.specs.Outs.{IsStored, IsTicketFor, HasOwnRoom, KeepsRecordsBut, KeepsSome, ShareNone};
+ghost use Rattle.build_run.specs.Outs.{IsTicketFor, KeepsSome, ShareNone};
+ghost use Rattle.build_run.specs.Sites.{IsReady, IsSound, IsSoundWith, KeepsRecordsBut, SiteEnds, SitePasses, holds_after};
 ghost use Rattle.build_run.specs.declared.tickets.Hold.{Hold};
 ghost use Rattle.build_run.specs.Withdrawals.{AreWithdrawn, HasNone};
 ghost use Rattle.sign_store.specs.Stores.{map_of};
 ghost use Rattle.world_api.specs.Meaning.{BanksKept};
 
 use crate::account::Account;
-use crate::clear::clear;
-use crate::tickets::Tickets;
+use crate::site::{Run, Site};
 use build_files::{ListEnd, first_target};
-use indexmap::IndexSet;
 use rule_graph::{BuildFault, Graph};
-use scons_base::{PathText, RuleId};
+use scons_base::RuleId;
 use sign_store::{Store, Ticket};
 use world_api::{AskRefusal, Job, Sink, World, print};
 
-/// Clears the way of a job, prints its text and starts it.
-pub(crate) fn launch<W: World, O: Sink>(
-    graph: &Graph,
-    tickets: &Tickets,
-    held: &mut Tickets,
-    dirs: &mut IndexSet<PathText>,
-    account: &mut Account,
-    store: &mut Store,
-    world: &mut W,
-    out: &mut O,
-    text: &str,
-    job: Job,
-    ticket: &Ticket,
-) -> Result<(), ListEnd>
-    requires unclosed { W.meaning.closed world.old ≡ [] }
-    requires joined { IsJoined W.meaning world.old (holds_in tickets.now) }
-    requires unshut { account.old.is_store_shut ≡ false }
-    requires stored { IsStored W.meaning world.old store.old (held.old ++ tickets.now) account.old.is_store_shut }
-    requires apart { (hold : Hold) → Contains (holds_in tickets.now) hold → KeepsApart job hold }
-    requires ticket { IsTicketFor store.old ticket.now job.targets }
-    requires room { HasOwnRoom ticket.now (held.old ++ tickets.now) }
-    requires beside { (busy : Busy) → Contains held.old busy → ShareNone job.targets busy.hold.targets }
-    ensures passes { Passes W.meaning world.old world.new }
-    ensures ends { StartEnds W.meaning O.meaning world.old out.old world.new out.new account.old account.new result }
-    ensures started { OnOk result (IsJoined W.meaning world.new (holds_in tickets.now ++ hold_for job ∷ [])) }
-    ensures refused { OnErr result (IsJoined W.meaning world.new (holds_in tickets.now)) }
-    ensures stored { IsStored W.meaning world.new store.new (held.new ++ tickets.now) account.new.is_store_shut }
-    ensures held { KeepsSome held.old held.new }
-    ensures kept { KeepsRecordsBut job.targets store.old held.old store.new held.new account.new.is_store_shut }
-    ensures ticket { OnOk result (IsTicketFor store.new ticket.now job.targets) }
-    ensures none { OnOk result (HasNone (map_of store.new) job.targets) }
-{
-    clear(dirs, account, store, world, &job, ticket, tickets, held)?;
-    show(account, out, text)?;
-    begin(graph, world, job, tickets, held, store)
+impl<W: World, O: Sink, E: Sink> Site<'_, '_, W, O, E> {
+    /// Clears the way of a job, prints its text and starts it.
+    pub(crate) fn launch(&mut self, text: &str, job: Job, ticket: &Ticket) -> Result<(), ListEnd>
+        requires sound { IsSound W.meaning self.old }
+        requires ready { IsReady self.old job ticket.now }
+        ensures passes { SitePasses W.meaning self.old self.new }
+        ensures ends { SiteEnds W.meaning O.meaning E.meaning self.old self.new result }
+        ensures sound { IsSoundWith W.meaning (holds_after result job self.old) (self.new.run.now.held ++ self.new.run.now.tickets) self.new }
+        ensures tickets { self.new.run.now.tickets ≡ self.old.run.now.tickets }
+        ensures held { KeepsSome self.old.run.now.held self.new.run.now.held }
+        ensures kept { KeepsRecordsBut job.targets self.old self.new }
+        ensures ticket { OnOk result (IsTicketFor self.new.store.now ticket.now job.targets) }
+        ensures none { OnOk result (HasNone (map_of self.new.store.now) job.targets) }
+        ensures err { self.new.err.now ≡ self.old.err.now }
+        ensures starts { OnOk result (LaunchesAt W.meaning job self.old.world.now self.new.world.now) }
+        ensures clears { OnErr result (ClearsAt W.meaning job.targets self.old.world.now self.new.world.now) }
+    {
+        self.clear(&job, ticket)?;
+        show(self.account, self.out, text)?;
+        begin(self.graph, self.world, job, self.run, self.store)
+    }
 }
 
 /// Prints the text of a rule. A sink that refuses is noted.
 fn show<O: Sink>(account: &mut Account, out: &mut O, text: &str) -> Result<(), ListEnd>
-    ensures shut { account.new.is_store_shut ≡ account.old.is_store_shut }
-    ensures keeps { OutKeeps O.meaning out.old out.new (ledger_of account.old) (with_done (ledger_of account.new) result) }
+    ensures account { ledger_of account.new ≡ ledger_of account.old }
+    ensures cause { HasPrintCause (O.meaning.faults out.old) (O.meaning.faults out.new) result }
 {
     match print(out, text) {
         Ok(()) => Ok(()),
@@ -76,21 +63,22 @@ fn begin<W: World>(
     graph: &Graph,
     world: &mut W,
     job: Job,
-    tickets: &Tickets,
-    held: &Tickets,
+    run: &Run,
     store: &Store,
 ) -> Result<(), ListEnd>
     requires unclosed { W.meaning.closed world.old ≡ [] }
-    requires joined { IsJoined W.meaning world.old (holds_in tickets.now) }
-    requires apart { (hold : Hold) → Contains (holds_in tickets.now) hold → KeepsApart job hold }
+    requires joined { IsJoined W.meaning world.old (holds_in run.now.tickets) }
+    requires apart { (hold : Hold) → Contains (holds_in run.now.tickets) hold → KeepsApart job hold }
     requires clear { AreAbsent W.meaning world.old job.targets }
     requires withdrawn { AreWithdrawn W.meaning world.old store.now job.targets }
-    requires unheld { (busy : Busy) → Contains held.now busy → ShareNone job.targets busy.hold.targets }
+    requires unheld { (busy : Busy) → Contains run.now.held busy → ShareNone job.targets busy.hold.targets }
     ensures passes { Passes W.meaning world.old world.new }
     ensures banks { W.meaning.tells world.new → BanksKept W.meaning world.old world.new }
-    ensures ends { WorldEnds W.meaning world.old world.new result }
-    ensures started { OnOk result (IsJoined W.meaning world.new (holds_in tickets.now ++ hold_for job ∷ [])) }
-    ensures refused { OnErr result (IsJoined W.meaning world.new (holds_in tickets.now)) }
+    ensures cause { HasStartCause (W.meaning.counts world.old) (W.meaning.counts world.new) result }
+    ensures started { OnOk result (IsJoined W.meaning world.new (holds_in run.now.tickets ++ hold_for job ∷ [])) }
+    ensures refused { OnErr result (IsJoined W.meaning world.new (holds_in run.now.tickets)) }
+    ensures starts { W.meaning.tells world.new → OnOk result (StartsJob W.meaning job world.old world.new) }
+    ensures asks { OnErr result (ClearsAt W.meaning [] world.old world.new) }
 {
     let rule = RuleId(job.id);
     match world.start(job) {

@@ -13,6 +13,7 @@ mod end;
 mod ending;
 mod launch;
 mod leftovers;
+mod site;
 mod start;
 mod tickets;
 mod turns;

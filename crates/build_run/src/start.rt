@@ -1,89 +1,60 @@
 //! How the action of a stale rule starts.
-ghost use Rattle.std.specs.Prelude.{◌≡◌, ◌<◌, ◌≤◌, ◌++◌, [], length, true, IfOk};
-ghost use Rattle.build_run.specs.Goings.{Passes, IsJoined};
-ghost use Rattle.build_run.specs.Holds.{holds_in};
+ghost use Rattle.std.specs.Prelude.{◌≡◌, ◌<◌, ◌≤◌, [], length, true, IfOk};
 ghost use Rattle.build_files.specs.Causes.{IsQuiet};
-ghost use Rattle.build_run.specs.Ledgers.{StartEnds};
-ghost use Rattle.build_run.specs.Outs.{IsStored, KeepsHeld};
+ghost use Rattle.build_run.specs.Sites.{IsSound, KeepsHeld, SiteEnds, SitePasses};
+ghost use Rattle.turn_means.specs.Laws.{IsJobFrom};
 ghost use Rattle.sign_store.specs.Stores.{IsOut, IsFresh, KeepsBanks, KeepsOthers, KeepsOut, is_live, map_of};
 
-use crate::account::Account;
 use crate::building::Options;
-use crate::launch::launch;
-use crate::tickets::{Hold, Tickets};
+use crate::site::Site;
+use crate::tickets::Hold;
 use build_files::{ListEnd, rule_at};
 use deciders::{Rec, is_valid};
-use indexmap::IndexSet;
 use rule_graph::{BuildFault, Graph, What};
-use scons_base::{Memory, PathText, Paths, RuleId};
+use scons_base::{Memory, Paths, RuleId};
 use scons_report::rule_text;
 use sign_store::{PrepareRefusal, Store, Ticket};
 use std::alloc::Global;
 use world_api::{Job, Sink, World, copy_lines};
 
-/// Starts the action of a rule with this record. All memory is taken before anything of the rule is touched.
-///
-/// A plan gives each rule once, and after those that make what it reads. So no job comes up that gets in the way of one
-/// that runs, or makes what one has made whose record is held; such a one would be answered as want of memory is. After a
-/// fault of the store nothing starts.
-pub(crate) fn start<W: World, O: Sink>(
-    graph: &Graph,
-    tickets: &mut Tickets,
-    held: &mut Tickets,
-    dirs: &mut IndexSet<PathText>,
-    account: &mut Account,
-    store: &mut Store,
-    world: &mut W,
-    out: &mut O,
-    options: &Options,
-    rule: RuleId,
-    now: Rec,
-) -> Result<(), ListEnd>
-    requires unclosed { W.meaning.closed world.old ≡ [] }
-    requires room { length tickets.old < 64 }
-    requires joined { IsJoined W.meaning world.old (holds_in tickets.old) }
-    requires stored { IsStored W.meaning world.old store.old (held.old ++ tickets.old) account.old.is_store_shut }
-    ensures passes { Passes W.meaning world.old world.new }
-    ensures ends { StartEnds W.meaning O.meaning world.old out.old world.new out.new account.old account.new result }
-    ensures room { length tickets.new ≤ 64 }
-    ensures joined { IsJoined W.meaning world.new (holds_in tickets.new) }
-    ensures stored { IsStored W.meaning world.new store.new (held.new ++ tickets.new) account.new.is_store_shut }
-    ensures few { length held.new ≤ length held.old }
-    ensures kept { KeepsHeld store.old held.old store.new held.new account.new.is_store_shut }
-{
-    if account.is_store_shut {
-        return Err(ListEnd::Fault(BuildFault::StoreFault));
-    }
-    let text = shown_text(account.alloc, graph, options, rule)?;
-    let job = job_of(account.alloc, graph, rule, &now)?;
-    let hold = Hold::of(&job)?;
-    if !tickets.are_apart(&job) {
-        return Err(ListEnd::Memory);
-    }
-    if !held.make_none_of(&job) {
-        return Err(ListEnd::Memory);
-    }
-    let ticket = prepare(account.alloc, store, now)?;
-    match launch(
-        graph,
-        tickets,
-        held,
-        dirs,
-        account,
-        store,
-        world,
-        out,
-        text.as_str(),
-        job,
-        &ticket,
-    ) {
-        Ok(()) => {
-            tickets.add(hold, ticket);
-            Ok(())
+impl<W: World, O: Sink, E: Sink> Site<'_, '_, W, O, E> {
+    /// Starts the action of a rule with this record. All memory is taken before anything of the rule is touched.
+    ///
+    /// A plan gives each rule once, and after those that make what it reads. So no job comes up that gets in the way of one
+    /// that runs, or makes what one has made whose record is held; such a one would be answered as want of memory is. After
+    /// a fault of the store nothing starts.
+    pub(crate) fn start(&mut self, rule: RuleId, now: Rec) -> Result<(), ListEnd>
+        requires sound { IsSound W.meaning self.old }
+        requires room { length self.old.run.now.tickets < 64 }
+        ensures passes { SitePasses W.meaning self.old self.new }
+        ensures ends { SiteEnds W.meaning O.meaning E.meaning self.old self.new result }
+        ensures sound { IsSound W.meaning self.new }
+        ensures few { length self.new.run.now.held ≤ length self.old.run.now.held }
+        ensures kept { KeepsHeld self.old self.new }
+        ensures err { self.new.err.now ≡ self.old.err.now }
+    {
+        if self.account.is_store_shut {
+            return Err(ListEnd::Fault(BuildFault::StoreFault));
         }
-        Err(end) => {
-            give_up(account.is_store_shut, store, ticket);
-            Err(end)
+        let text = shown_text(self.account.alloc, self.graph, &self.options, rule)?;
+        let job = job_of(self.account.alloc, self.graph, rule, &now)?;
+        let hold = Hold::of(&job)?;
+        if !self.run.tickets.are_apart(&job) {
+            return Err(ListEnd::Memory);
+        }
+        if !self.run.held.make_none_of(&job) {
+            return Err(ListEnd::Memory);
+        }
+        let ticket = prepare(self.account.alloc, self.store, now)?;
+        match self.launch(text.as_str(), job, &ticket) {
+            Ok(()) => {
+                self.run.tickets.add(hold, ticket);
+                Ok(())
+            }
+            Err(end) => {
+                give_up(self.account.is_store_shut, self.store, ticket);
+                Err(end)
+            }
         }
     }
 }
@@ -141,7 +112,7 @@ pub(crate) fn prepare(alloc: Global, store: &mut Store, now: Rec) -> Result<Tick
 
 /// The job of a rule. Its number is the rule's.
 fn job_of(alloc: Global, graph: &Graph, rule: RuleId, now: &Rec) -> Result<Job, Memory>
-    ensures { IfOk result (λ job. job.targets ≡ now.now.targets) }
+    ensures { IfOk result (IsJobFrom graph.now rule now.now) }
 {
     let mut deps = Vec::with_capacity(alloc, now.deps.len())?;
     for dep in now.deps.as_slice() {

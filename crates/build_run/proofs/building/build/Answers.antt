@@ -1,20 +1,43 @@
-use Rattle.std.proofs.Common.{subst}
-use Rattle.world_api.specs.Counts.{Counts}
-use Rattle.build_run.specs.Causes.{outside, AreCaused}
-use Rattle.build_run.specs.Ledgers.{ledger_of_end}
-use Rattle.build_run.proofs.Causing.{at_first, caused}
+use Rattle.std.proofs.Common.{◌∙◌, ap}
+use Rattle.build_run.specs.Causes.{outside}
+use Rattle.build_run.specs.Ledgers.{ledger_of, ledger_of_end, blank, with_end}
+use Rattle.build_run.proofs.Causing.{account_as, at_first, caused, ended, same_counts}
+use Rattle.build_run.proofs.Goings.{passes_on}
 use Rattle.build_run.proofs.Taking.{take_accounted}
 use Rattle.build_run.proofs.building.build.Goals as goal
 
+pub make_all-requires : goal.make_all-requires
+make_all-requires g c =
+    let goes = c.set_out.ensures.goes in
+    record {
+      unclosed = goes.passes.told.closed ∙ c.requires.unclosed;
+      idle = λ t. goes.runs t ∙ c.requires.idle (goes.passes.told.told t);
+      live = c.in-Ok.ensures.live;
+      kept = c.in-Ok.ensures.kept;
+      none = c.in-Ok.ensures.none;
+      held = c.in-Ok.ensures.held;
+    }
+
+pub returns-in-Ok-clause-told : goal.returns-in-Ok-clause-told
+returns-in-Ok-clause-told g c = (passes_on g.W.Disk.meaning _ _ _ c.set_out.ensures.goes.passes c.make_all-skipped.ensures.passes).told
+
+pub returns-in-Ok-clause-later : goal.returns-in-Ok-clause-later
+returns-in-Ok-clause-later g c = (passes_on g.W.Disk.meaning _ _ _ c.set_out.ensures.goes.passes c.make_all-skipped.ensures.passes).later
+
+pub returns-in-Ok-clause-idle : goal.returns-in-Ok-clause-idle
+returns-in-Ok-clause-idle g c = c.make_all-skipped.ensures.idle
+
 pub returns-in-Ok-clause-causes : goal.returns-in-Ok-clause-causes
 returns-in-Ok-clause-causes g c =
-    let e = g.E.Sink.meaning.faults in
-    let o = g.O.Sink.meaning.faults in
-    subst (λ (counts : Counts). AreCaused (outside counts (o c.args.out.now) (e c.args.err.now)) (outside (g.W.Disk.meaning.counts c.make.new.world) (o c.make.new.out) (e c.make.new.err)) c.make.result.faults c.make.result.memory)
-    c.in-Ok.ensures.cause c.make.ensures.causes
+    let start = outside (g.W.Disk.meaning.counts c.args.world.now) (g.O.Sink.meaning.faults c.args.out.now) (g.E.Sink.meaning.faults c.args.err.now) in
+    let first = account_as start start blank (ledger_of c.new-account.result) c.new-account.ensures (at_first start) in
+    let begun = same_counts start (ledger_of c.new-account.result) _ _ _ _ c.in-Ok.ensures.cause first in
+    let made = c.make_all-skipped.ensures.accounts start begun in
+    caused start _ (ledger_of_end c.answer.result) (ended start _ (ledger_of c.make_all-skipped.new.account) _ _ c.answer.ensures.faults c.answer.ensures.memory made)
 
 pub returns-in-Err-clause-causes : goal.returns-in-Err-clause-causes
 returns-in-Err-clause-causes g c =
     let start = outside (g.W.Disk.meaning.counts c.args.world.now) (g.O.Sink.meaning.faults c.args.out.now) (g.E.Sink.meaning.faults c.args.err.now) in
     let begun = take_accounted start _ _ _ _ _ c.in-Err.ensures.cause (at_first start) in
-    caused start _ (ledger_of_end c.ended.result) (c.ended.ensures start _ _ begun)
+    let owed = account_as start _ (with_end blank c.in-Err.end) (with_end (ledger_of c.new-account.result) c.in-Err.end) (ap (λ l. with_end l c.in-Err.end) c.new-account.ensures) begun in
+    caused start _ (ledger_of_end c.answer-in-Err.result) (ended start _ (ledger_of c.end.new.self) _ _ c.answer-in-Err.ensures.faults c.answer-in-Err.ensures.memory (c.end.ensures.accounts _ _ start owed))

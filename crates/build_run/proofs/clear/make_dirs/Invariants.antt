@@ -1,5 +1,5 @@
-use Rattle.std.proofs.Common.{◌≡◌}
-use Rattle.build_run.specs.Goings.{Stays}
+use Rattle.std.proofs.Common.{◌≡◌, []}
+use Rattle.build_run.specs.Goings.{ClearsAt, Stays}
 use Rattle.build_run.proofs.clear.make_dirs.Given as goal
 
 abbrev pub invariant-loop-target : goal.invariant-loop-target
@@ -8,4 +8,5 @@ invariant-loop-target g l =
     record {
       stays : Stays m l.fn.world l.world;
       same : m.counts l.world ≡ m.counts l.fn.world;
+      clears : ClearsAt m [] l.fn.world l.world;
     }

@@ -1,4 +1,5 @@
 use Rattle.std.proofs.Common.{◌∙◌, Contains, sym, subst, arith}
+use Rattle.build_run.proofs.Clearing.{clears_on, clears_one}
 use Rattle.build_run.proofs.Goings.{stays_on, unused_still, unused_in, gone_still}
 use Rattle.build_run.proofs.Taking.{takes_on, takes_as}
 use Rattle.build_run.proofs.clear.remove_all.Goals as goal
@@ -25,6 +26,8 @@ loop-target-preserved g c =
       only =
           let one = takes_as m c.loop-target.world c.remove.new.world _ _ (λ path same. subst (Contains c.args.targets.now) (sym same) (c.loop-target.target-index, omega (arith, c.loop-target-test.true), sym c.target-item.is)) c.remove.ensures.only in
           takes_on m c.args.world.now c.loop-target.world c.remove.new.world _ q.told.told p.runs c.loop-target.invariant.only one;
+      clears = clears_on m c.args.targets.now _ _ _ q.told c.loop-target.invariant.clears
+          (clears_one m c.args.targets.now _ _ _ (c.loop-target.target-index, omega (arith, c.loop-target-test.true), sym c.target-item.is) c.remove.ensures.clears);
     }
 
 pub returns-in_err-remove-clause-only : goal.returns-in_err-remove-clause-only
@@ -32,3 +35,9 @@ returns-in_err-remove-clause-only g c =
     let m = g.W.Disk.meaning in
     let one = takes_as m c.loop-target.world c.remove.new.world _ _ (λ path same. subst (Contains c.args.targets.now) (sym same) (c.loop-target.target-index, omega (arith, c.loop-target-test.true), sym c.target-item.is)) c.remove.ensures.only in
     takes_on m c.args.world.now c.loop-target.world c.remove.new.world _ c.remove.ensures.stays.goes.passes.told.told c.loop-target.invariant.stays.goes.runs c.loop-target.invariant.only one
+
+pub returns-in_err-remove-clause-clears : goal.returns-in_err-remove-clause-clears
+returns-in_err-remove-clause-clears g c =
+    let m = g.W.Disk.meaning in
+    clears_on m c.args.targets.now _ _ _ c.remove.ensures.stays.goes.passes.told c.loop-target.invariant.clears
+    (clears_one m c.args.targets.now _ _ _ (c.loop-target.target-index, omega (arith, c.loop-target-test.true), sym c.target-item.is) c.remove.ensures.clears)

@@ -6,13 +6,13 @@ use Rattle.build_run.proofs.ending.wait.Goals as goal
 
 pub wait-requires : goal.wait-requires
 wait-requires g c = λ told.
-    let some : 0 < length (holds_in c.args.tickets.now) = omega (arith, held_count c.args.tickets.now, c.requires.some) in
-    some_runs g.W.Disk.meaning c.args.world.now (holds_in c.args.tickets.now) c.requires.joined some told
+    let some : 0 < length (holds_in c.args.run.now.tickets) = omega (arith, held_count c.args.run.now.tickets, c.requires.some) in
+    some_runs g.W.Disk.meaning c.args.world.now (holds_in c.args.run.now.tickets) c.requires.joined some told
 
 pub returns-clause-joined : goal.returns-clause-joined
-returns-clause-joined g c = joined_ended g.W.Disk.meaning c.args.world.now c.wait.new.self (holds_in c.args.tickets.now) c.wait.result c.wait.ensures.told.told c.wait.ensures.around c.requires.joined
+returns-clause-joined g c = joined_ended g.W.Disk.meaning c.args.world.now c.wait.new.self (holds_in c.args.run.now.tickets) c.wait.result c.wait.ensures.told.told c.wait.ensures.around c.requires.joined
 
 pub returns-clause-fewer : goal.returns-clause-fewer
 returns-clause-fewer g c = λ told.
-    let left = fewer g.W.Disk.meaning c.args.world.now c.wait.new.self (holds_in c.args.tickets.now) c.wait.result c.wait.ensures.told.told c.wait.ensures.around c.requires.joined told in
-    omega (arith, left, held_count c.args.tickets.now)
+    let left = fewer g.W.Disk.meaning c.args.world.now c.wait.new.self (holds_in c.args.run.now.tickets) c.wait.result c.wait.ensures.told.told c.wait.ensures.around c.requires.joined told in
+    omega (arith, left, held_count c.args.run.now.tickets)

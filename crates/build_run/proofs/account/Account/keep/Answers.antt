@@ -1,10 +1,14 @@
-use Rattle.build_run.specs.Ledgers.{ledger_of}
+use Rattle.std.proofs.Common.{ap, refl}
+use Rattle.build_run.specs.Ledgers.{Ledger, ledger_of}
 use Rattle.build_run.proofs.Causing.{account_as, as_faults, dropped}
 use Rattle.build_run.proofs.account.Account.keep.Goals.{in-Ok, in-Err}
 use Rattle.build_run.proofs.account.Account.keep.Goals as goal
 
-pub returns-clause-keeps : goal.returns-clause-keeps
-returns-clause-keeps c = elim c.match-push.branch [
-  | in-Ok w ↦ λ start now a. rw w.self-is (as_faults start now _ _ _ _ w.in-Ok.ensures.items a)
-  | in-Err w ↦ λ start now a. rw w.self-is (account_as start now _ _ w.want_memory.ensures (as_faults start now _ _ _ _ w.in-Err.ensures.items (dropped start (ledger_of c.args.self.now) now c.args.fault a)))
+pub returns : goal.returns
+returns c = elim c.match-push.branch [
+  | in-Ok w ↦ rw w.self-is (record { shut = refl; accounts = λ now start a. as_faults start now _ _ _ _ w.in-Ok.ensures.items a })
+  | in-Err w ↦ rw w.self-is (record {
+    shut = ap (λ (l : Ledger). l.shut) w.want_memory.ensures;
+    accounts = λ now start a. account_as start now _ _ w.want_memory.ensures (as_faults start now _ _ _ _ w.in-Err.ensures.items (dropped start (ledger_of c.args.self.now) now c.args.fault a));
+  })
 ]

@@ -1,0 +1,30 @@
+use Rattle.std.proofs.Common.{◌∙◌, rules}
+use Rattle.build_run.specs.Ledgers.{ledger_of}
+use Rattle.build_run.specs.Sites.{outside_of}
+use Rattle.build_run.proofs.Lending.{accounts_given, idle_given, passes_given}
+use Rattle.build_run.proofs.Sites.{sound_first}
+use Rattle.build_run.proofs.building.make_all.Goals as goal
+
+pub go_on-requires : goal.go_on-requires
+go_on-requires g c = record { sound = sound_first g.W.Disk.meaning _ c.requires.none c.requires.held c.requires.unclosed c.requires.idle c.requires.live c.requires.kept }
+
+pub returns-clause-passes : goal.returns-clause-passes
+returns-clause-passes g c =
+    let lent = c.close.ensures.same.world ∙ c.go_on.ensures.passes.same.world in
+    passes_given g.W.Disk.meaning c.close.new.self _ _ _ (search rules) c.close.ensures.world c.go_on.ensures.passes.passes
+
+pub returns-clause-idle : goal.returns-clause-idle
+returns-clause-idle g c =
+    let lent = c.close.ensures.same.world ∙ c.go_on.ensures.passes.same.world in
+    idle_given g.W.Disk.meaning c.close.new.self _ _ (search rules) c.close.ensures.world c.go_on.ensures.idle
+
+pub returns-clause-accounts : goal.returns-clause-accounts
+returns-clause-accounts g c =
+    let same = c.close.ensures.same in
+    let passes = c.go_on.ensures.passes.same in
+    let lent_world = same.world ∙ passes.world in
+    let lent_out = same.out ∙ passes.out in
+    let lent_err = same.err ∙ passes.err in
+    let lent_account = same.account ∙ passes.account in
+    accounts_given g.W.Disk.meaning c.close.new.self g.O.Sink.meaning g.E.Sink.meaning _ _ _ _ _ _ (search rules) (search rules) (search rules) (search rules)
+    (λ start a. c.close.ensures.accounts start (c.go_on.ensures.accounts start a))

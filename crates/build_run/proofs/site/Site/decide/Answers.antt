@@ -1,0 +1,53 @@
+use Rattle.std.proofs.Common.{◌∙◌, List, Contains, ap, refl, subst, sym}
+use Rattle.sign_store.specs.Putting.{map_with}
+use Rattle.build_run.specs.Holds.{Busy}
+use Rattle.build_run.specs.Ledgers.{ledger_of}
+use Rattle.build_run.proofs.Causing.{exit_same, inside, inner, look_end, same_counts}
+use Rattle.build_run.proofs.Sites.{sound_still}
+use Rattle.build_run.proofs.site.Site.decide.Goals as goal
+
+pub returns-in_err-now-clause-ends : goal.returns-in_err-now-clause-ends
+returns-in_err-now-clause-ends g c = λ start a.
+    let before = ledger_of c.args.self.now.account.now in
+    exit_same start before _ c.from_residual.result _ c.from_residual.ensures.1 (look_end start before _ _ _ _ _ c.in_err-now.ensures.cause a)
+
+pub returns-in_err-now-clause-sound : goal.returns-in_err-now-clause-sound
+returns-in_err-now-clause-sound g c =
+    sound_still g.W.Disk.meaning c.args.self.now _ c.present.ensures.stays refl c.present.ensures.held c.present.ensures.tickets refl refl c.requires.sound
+
+pub returns-in_err-now-clause-kept : goal.returns-in_err-now-clause-kept
+returns-in_err-now-clause-kept g c = λ unshut busy path h made. ap (λ (all : List Busy). map_with c.args.self.now.store.now all path) c.present.ensures.held
+
+pub make-requires-clause-sound : goal.make-requires-clause-sound
+make-requires-clause-sound g c =
+    sound_still g.W.Disk.meaning c.args.self.now _ c.present.ensures.stays refl c.present.ensures.held c.present.ensures.tickets refl refl c.requires.sound
+
+pub returns-in_err-missing-in-Lacks-clause-ends : goal.returns-in_err-missing-in-Lacks-clause-ends
+returns-in_err-missing-in-Lacks-clause-ends g c = λ start a.
+    let before = ledger_of c.args.self.now.account.now in
+    let r = c.from_residual-in_err-missing-in-Lacks in
+    exit_same start before _ r.result _ r.ensures.1 (inside start before _ _ _ _ c.in_err-missing-in-Lacks.ensures.quiet (same_counts start before _ _ _ _ c.in_ok-now.ensures.cause a))
+
+pub returns-in_err-missing-in-Lacks-clause-sound : goal.returns-in_err-missing-in-Lacks-clause-sound
+returns-in_err-missing-in-Lacks-clause-sound g c =
+    sound_still g.W.Disk.meaning c.args.self.now _ c.present.ensures.stays refl c.present.ensures.held c.present.ensures.tickets refl refl c.requires.sound
+
+pub returns-in_err-missing-in-Lacks-clause-kept : goal.returns-in_err-missing-in-Lacks-clause-kept
+returns-in_err-missing-in-Lacks-clause-kept g c = λ unshut busy path h made. ap (λ (all : List Busy). map_with c.args.self.now.store.now all path) c.present.ensures.held
+
+pub returns-in_ok-missing-in-Lacks-clause-ends : goal.returns-in_ok-missing-in-Lacks-clause-ends
+returns-in_ok-missing-in-Lacks-clause-ends g c = λ start a.
+    let before = ledger_of c.args.self.now.account.now in
+    c.fail.ensures.accounts _ _ start (inner start before _ c.in_ok-missing-in-Lacks.missing c.in_ok-missing-in-Lacks.ensures.inner (same_counts start before _ _ _ _ c.in_ok-now.ensures.cause a))
+
+pub returns-in_ok-missing-in-Lacks-clause-sound : goal.returns-in_ok-missing-in-Lacks-clause-sound
+returns-in_ok-missing-in-Lacks-clause-sound g c =
+    sound_still g.W.Disk.meaning c.args.self.now _ c.present.ensures.stays refl c.present.ensures.held c.present.ensures.tickets refl c.fail.ensures.shut c.requires.sound
+
+pub returns-in_ok-missing-in-Lacks-clause-kept : goal.returns-in_ok-missing-in-Lacks-clause-kept
+returns-in_ok-missing-in-Lacks-clause-kept g c = λ unshut busy path h made. ap (λ (all : List Busy). map_with c.args.self.now.store.now all path) c.present.ensures.held
+
+pub returns-in-Record-clause-kept : goal.returns-in-Record-clause-kept
+returns-in-Record-clause-kept g c = λ unshut busy path h made.
+    c.make.ensures.kept unshut busy path (subst (λ (all : List Busy). Contains all busy) (sym c.present.ensures.held) h) made
+    ∙ ap (λ (all : List Busy). map_with c.args.self.now.store.now all path) c.present.ensures.held

@@ -1,0 +1,190 @@
+use Rattle.std.proofs.Common.{◌≡◌, ◌≤◌, ◌∙◌, ◌++◌, ◌∷◌, [], Bool, List, ap, length, refl, subst, sym, arith}
+use Rattle.std.proofs.lemmas.List.Elements.{Contains-append_left}
+use Rattle.build_run.specs.Goings.{IsJoined}
+use Rattle.build_run.specs.Holds.{Busy, holds_in}
+use Rattle.build_run.specs.Outs.{IsStored}
+use Rattle.world_api.specs.Around.{Around, Finished}
+use Rattle.world_api.specs.declared.job.Outcome.TheVariants.{Done}
+use Rattle.world_api.specs.declared.job.Outcome.{Outcome}
+use Rattle.build_run.specs.Ledgers.{Ledger, ledger_of, wanting}
+use Rattle.scons_base.specs.declared.ids.RuleId.{RuleId}
+use Rattle.build_run.specs.declared.tickets.Hold.{Hold}
+use Rattle.build_run.proofs.Holding.{no_more}
+use Rattle.build_run.proofs.Causing.{account_as, settled, untold}
+use Rattle.build_run.proofs.Goings.{passes_on}
+use Rattle.build_run.proofs.Outs.{held_alike, held_count, last_of, outs_front, outs_left, room_beside, rule_of, stored_alike, stored_beside, stored_left, stored_over, stored_taken}
+use Rattle.build_run.proofs.site.Site.take_ended.Goals as goal
+
+pub returns-in_default-clause-passes : goal.returns-in_default-clause-passes
+returns-in_default-clause-passes g c = record {
+  same = record { graph = refl; store = refl; world = refl; out = refl; err = refl; run = refl; account = refl; options = refl };
+  passes = c.wait-ended.ensures.passes;
+}
+
+pub returns-in_default-clause-accounts : goal.returns-in_default-clause-accounts
+returns-in_default-clause-accounts g c = λ start a.
+    let before = ledger_of c.args.self.now.account.now in
+    account_as start _ (wanting before) (ledger_of c.want_memory.new.self) c.want_memory.ensures
+    (untold start before _ [] c.wait-ended.result.outcome (settled start before _ _ _ _ [] c.wait-ended.result.outcome c.wait-ended.ensures.cause a))
+
+pub returns-in_default-clause-sound : goal.returns-in_default-clause-sound
+returns-in_default-clause-sound g c =
+    let m = g.W.Disk.meaning in
+    let site = c.args.self.now in
+    let s = c.requires.sound in
+    let world = c.wait-ended.new.world in
+    let told = c.wait-ended.ensures.passes.told in
+    record {
+      unclosed = told.closed ∙ s.unclosed;
+      joined = subst (λ (holds : List Hold). IsJoined m world holds) (sym c.take.ensures.left) c.wait-ended.ensures.joined;
+      stored =
+          stored_alike m world site.store.now _ _ _ _ (ap (λ (all : List Busy). site.run.now.held ++ all) c.in_default.ensures.none) (ap (λ (l : Ledger). l.shut) c.want_memory.ensures)
+          (stored_over m site.world.now world site.store.now (site.run.now.held ++ site.run.now.tickets) site.account.now.is_store_shut told.told c.wait-ended.ensures.banks s.stored);
+      few = s.few;
+      limit = subst (λ (all : List Busy). length all ≤ 64) (sym c.in_default.ensures.none) s.limit;
+    }
+
+pub returns-in_default-clause-takes : goal.returns-in_default-clause-takes
+returns-in_default-clause-takes g c =
+    let site = c.args.self.now in
+    record {
+      fewer = λ t. omega (arith, c.wait-ended.ensures.fewer t, ap length c.take.ensures.left, held_count c.take.new.self);
+      no_more = omega (arith, ap length c.take.ensures.left, no_more c.wait-ended.result.id (holds_in site.run.now.tickets), held_count site.run.now.tickets, held_count c.take.new.self);
+      done = λ t id log. absurd (omega (arith, c.wait-ended.ensures.fewer t, ap length c.take.ensures.left, held_count c.take.new.self, ap length c.in_default.ensures.none));
+      only = λ t rule e. absurd cc;
+      puts = λ rule e. absurd cc;
+      kept = λ other unshut. refl;
+      out = refl;
+      shut = λ unshut. sym (ap (λ (l : Ledger). l.shut) c.want_memory.ensures) ∙ unshut;
+    }
+
+pub hold-requires : goal.hold-requires
+hold-requires g c =
+    let m = g.W.Disk.meaning in
+    let site = c.args.self.now in
+    let s = c.requires.sound in
+    let world = c.wait-ended.new.world in
+    let told = c.wait-ended.ensures.passes.told in
+    let shut = site.account.now.is_store_shut in
+    record {
+      unclosed = told.closed ∙ s.unclosed;
+      joined = subst (λ (holds : List Hold). IsJoined m world holds) (sym c.take.ensures.left) c.wait-ended.ensures.joined;
+      stored =
+          stored_taken m world site.store.now (site.run.now.held ++ site.run.now.tickets) (site.run.now.held ++ c.in-Some.busy ∷ c.take.new.self) shut (c.in-Some.ensures.outs site.store.now site.run.now.held)
+          (stored_over m site.world.now world site.store.now (site.run.now.held ++ site.run.now.tickets) shut told.told c.wait-ended.ensures.banks s.stored);
+      few = s.few;
+      limit = omega (arith, s.limit, ap length c.take.ensures.left, no_more c.wait-ended.result.id (holds_in site.run.now.tickets), held_count site.run.now.tickets, held_count c.take.new.self);
+    }
+
+pub returns-in-Done-clause-passes : goal.returns-in-Done-clause-passes
+returns-in-Done-clause-passes g c =
+    let p = c.hold.ensures.puts in
+    record {
+      same = record { graph = p.same.graph; store = p.same.store; world = p.same.world; out = p.same.out; err = p.same.err; run = p.same.run; account = p.same.account; options = p.same.options };
+      passes = passes_on g.W.Disk.meaning _ _ _ c.wait-ended.ensures.passes p.goes.passes;
+    }
+
+pub returns-in-Done-clause-accounts : goal.returns-in-Done-clause-accounts
+returns-in-Done-clause-accounts g c = λ start a.
+    c.hold.ensures.accounts start (rw c.in-Done.is at (settled start (ledger_of c.args.self.now.account.now) _ _ _ _ [] c.wait-ended.result.outcome c.wait-ended.ensures.cause a))
+
+pub returns-in-Done-clause-takes : goal.returns-in-Done-clause-takes
+returns-in-Done-clause-takes g c =
+    let m = g.W.Disk.meaning in
+    let site = c.args.self.now in
+    let ended = c.wait-ended.result in
+    let before = (m.around site.world.now).log in
+    let p = c.hold.ensures.puts in
+    let told = p.goes.passes.told.told in
+    let count = ap (λ (all : List Busy). length all) p.tickets in
+    record {
+      fewer = λ t. omega (arith, c.wait-ended.ensures.fewer (told t), ap length c.take.ensures.left, held_count c.take.new.self, count);
+      no_more = omega (arith, ap length c.take.ensures.left, no_more ended.id (holds_in site.run.now.tickets), held_count site.run.now.tickets, held_count c.take.new.self, count);
+      done = λ t id log.
+          let same : before ++ Finished ended.id ended.outcome ∷ [] ≡ before ++ Finished id Done ∷ [] =
+          sym (c.wait-ended.ensures.log (told t)) ∙ (ap (λ (around : Around). around.log) (sym (p.around t)) ∙ log) in
+          let last : Finished ended.id ended.outcome ≡ Finished id Done = last_of before _ _ same in
+          let own : ended.id ≡ id = cc in
+          rule_of c.in-Some.busy.hold.rule id (c.in-Some.ensures.rule ∙ own);
+      only = λ t rule e.
+          let own : c.in-Some.busy.hold.rule ≡ rule = cc in
+          ap (λ (around : Around). around.log) (p.around t)
+          ∙ (c.wait-ended.ensures.log (told t)
+          ∙ (ap (λ id. before ++ Finished id ended.outcome ∷ []) (sym c.in-Some.ensures.rule ∙ ap (λ (r : RuleId). r.0) own)
+          ∙ ap (λ (outcome : Outcome). before ++ Finished rule.0 outcome ∷ []) c.in-Done.is));
+      puts = λ rule e. record { busy = c.in-Some.busy; among = c.in-Some.ensures.among; own = cc; puts = c.hold.ensures.record };
+      kept = λ other. absurd (other c.in-Some.busy.hold.rule refl);
+      out = p.out;
+      shut = p.shut;
+    }
+
+pub returns-in_default-outcome-clause-passes : goal.returns-in_default-outcome-clause-passes
+returns-in_default-outcome-clause-passes g c = record {
+  same = record { graph = refl; store = refl; world = refl; out = refl; err = refl; run = refl; account = refl; options = refl };
+  passes = c.wait-ended.ensures.passes;
+}
+
+pub returns-in_default-outcome-clause-accounts : goal.returns-in_default-outcome-clause-accounts
+returns-in_default-outcome-clause-accounts g c = λ start a.
+    let done = c.not_done.ensures in
+    done.1.accounts _ _ start (settled start (ledger_of c.args.self.now.account.now) _ _ _ _ done.0 c.wait-ended.result.outcome c.wait-ended.ensures.cause a)
+
+pub returns-in_default-outcome-clause-sound : goal.returns-in_default-outcome-clause-sound
+returns-in_default-outcome-clause-sound g c =
+    let m = g.W.Disk.meaning in
+    let site = c.args.self.now in
+    let held = site.run.now.held in
+    let left = c.take.new.self in
+    let busy = c.in-Some.busy in
+    let s = c.requires.sound in
+    let world = c.wait-ended.new.world in
+    let told = c.wait-ended.ensures.passes.told in
+    let shut = site.account.now.is_store_shut in
+    let gone = c.give_up.ensures in
+    let taken = stored_taken m world site.store.now (held ++ site.run.now.tickets) (held ++ busy ∷ left) shut (c.in-Some.ensures.outs site.store.now held)
+    (stored_over m site.world.now world site.store.now (held ++ site.run.now.tickets) shut told.told c.wait-ended.ensures.banks s.stored) in
+    record {
+      unclosed = told.closed ∙ s.unclosed;
+      joined = subst (λ (holds : List Hold). IsJoined m world holds) (sym c.take.ensures.left) c.wait-ended.ensures.joined;
+      stored =
+          subst (λ (after : Bool). IsStored m world c.give_up.new.store (held ++ left) after) (sym c.not_done.ensures.1.shut)
+          (stored_beside m world site.store.now c.give_up.new.store busy.ticket (held ++ left) shut gone.live gone.banks gone.map gone.outs
+          (room_beside m world site.store.now held busy left shut taken)
+          (stored_left m world site.store.now held busy left shut taken));
+      few = s.few;
+      limit = omega (arith, s.limit, ap length c.take.ensures.left, no_more c.wait-ended.result.id (holds_in site.run.now.tickets), held_count site.run.now.tickets, held_count left);
+    }
+
+pub returns-in_default-outcome-clause-takes : goal.returns-in_default-outcome-clause-takes
+returns-in_default-outcome-clause-takes g c =
+    let m = g.W.Disk.meaning in
+    let site = c.args.self.now in
+    let held = site.run.now.held in
+    let left = c.take.new.self in
+    let busy = c.in-Some.busy in
+    let ended = c.wait-ended.result in
+    let world = c.wait-ended.new.world in
+    let told = c.wait-ended.ensures.passes.told in
+    let shut = site.account.now.is_store_shut in
+    let gone = c.give_up.ensures in
+    let taken = stored_taken m world site.store.now (held ++ site.run.now.tickets) (held ++ busy ∷ left) shut (c.in-Some.ensures.outs site.store.now held)
+    (stored_over m site.world.now world site.store.now (held ++ site.run.now.tickets) shut told.told c.wait-ended.ensures.banks c.requires.sound.stored) in
+    let before = (m.around site.world.now).log in
+    record {
+      fewer = λ t. omega (arith, c.wait-ended.ensures.fewer t, ap length c.take.ensures.left, held_count left);
+      no_more = omega (arith, ap length c.take.ensures.left, no_more ended.id (holds_in site.run.now.tickets), held_count site.run.now.tickets, held_count left);
+      done = λ t id log.
+          let same : before ++ Finished ended.id ended.outcome ∷ [] ≡ before ++ Finished id Done ∷ [] = sym (c.wait-ended.ensures.log t) ∙ log in
+          let last : Finished ended.id ended.outcome ≡ Finished id Done = last_of before _ _ same in
+          let done : ended.outcome ≡ Done = cc in
+          absurd (c.in_default-outcome.not-Done done);
+      only = λ t rule e. absurd cc;
+      puts = λ rule e. absurd cc;
+      kept = λ other unshut.
+          let unshut_before = sym c.not_done.ensures.1.shut ∙ unshut in
+          let own = room_beside m world site.store.now held busy left shut taken unshut_before in
+          held_alike site.store.now c.give_up.new.store held gone.map (λ one rec h out. (gone.outs.each rec one.ticket (own one (Contains-append_left held left one h)) out).own)
+          (outs_front site.store.now held left (outs_left site.store.now held left busy (taken.outs unshut_before)));
+      out = refl;
+      shut = λ unshut. sym c.not_done.ensures.1.shut ∙ unshut;
+    }

@@ -1,0 +1,54 @@
+use Rattle.std.proofs.Common.{◌≡◌, ◌<◌, ◌≤◌, ◌∙◌, ◌++◌, ◌∷◌, [], ℕ, List, Some, Contains, ap, false, length, subst, sym}
+use Rattle.world_api.specs.Around.{Around, Finished}
+use Rattle.world_api.specs.declared.job.Outcome.TheVariants.{Done}
+use Rattle.sign_store.specs.Tables.{Map, with_each}
+use Rattle.build_run.specs.Holds.{Busy}
+use Rattle.build_run.specs.Sites.{most_jobs}
+use Rattle.build_run.specs.declared.building.Options.{Options}
+use Rattle.build_run.proofs.Sites.{site_on, site_puts}
+use Rattle.build_run.proofs.site.Site.take_ending.Goals as goal
+
+pub take_ended-requires-clause-some : goal.take_ended-requires-clause-some
+take_ended-requires-clause-some g c = subst (λ (busies : List Busy). 0 < length busies) (sym c.put_if_few.ensures.puts.tickets) c.requires.some
+
+pub take_ended-requires-clause-waits : goal.take_ended-requires-clause-waits
+take_ended-requires-clause-waits g c = λ fewer.
+    let puts = c.put_if_few.ensures.puts in
+    let now = c.put_if_few.new.self in
+    c.put_if_few.ensures.waits
+    (subst (λ (o : Options). length c.args.self.now.run.now.tickets < most_jobs o) puts.same.options
+    (subst (λ (busies : List Busy). length busies < most_jobs now.options) puts.tickets fewer))
+
+pub returns-clause-passes : goal.returns-clause-passes
+returns-clause-passes g c =
+    let m = g.W.Disk.meaning in
+    site_on m _ _ _ (site_puts m _ _ c.put_if_few.ensures.puts) c.take_ended.ensures.passes
+
+pub returns-clause-accounts : goal.returns-clause-accounts
+returns-clause-accounts g c = λ start a. c.take_ended.ensures.accounts start (c.put_if_few.ensures.accounts start a)
+
+pub returns-clause-takes : goal.returns-clause-takes
+returns-clause-takes g c =
+    let puts = c.put_if_few.ensures.puts in
+    let takes = c.take_ended.ensures.takes in
+    let told = c.take_ended.ensures.passes.passes.told.told in
+    let kept = λ (unshut : c.take_ended.new.self.account.now.is_store_shut ≡ false). c.put_if_few.ensures.kept (takes.shut unshut) in
+    record {
+      fewer = λ t. takes.fewer t ∙ ap (λ (busies : List Busy). length busies) puts.tickets;
+      no_more = subst (λ (n : ℕ). length c.take_ended.new.self.run.now.tickets ≤ n) (ap (λ (busies : List Busy). length busies) puts.tickets) takes.no_more;
+      done = λ t id log. takes.done t id (log ∙ ap (λ (around : Around). around.log ++ Finished id Done ∷ []) (sym (puts.around (told t))));
+      only = λ t rule e. takes.only t rule e ∙ ap (λ (around : Around). around.log ++ Finished rule.0 Done ∷ []) (puts.around (told t));
+      puts = λ rule e.
+          let put = takes.puts rule e in
+          record {
+            busy = put.busy;
+            among = subst (λ (busies : List Busy). Contains busies put.busy) puts.tickets put.among;
+            own = put.own;
+            puts = λ unshut rec is.
+                put.puts unshut rec (c.put_if_few.ensures.tickets.each rec put.busy.ticket is)
+                ∙ ap (λ (m : Map). with_each rec.targets (Some rec) m) (kept unshut);
+          };
+      kept = λ other unshut. takes.kept other unshut ∙ kept unshut;
+      out = takes.out ∙ puts.out;
+      shut = λ unshut. puts.shut (takes.shut unshut);
+    }

@@ -1,0 +1,11 @@
+use Rattle.build_run.specs.Sites.{IsSound, SiteAccounts, SitePasses}
+use Rattle.build_run.proofs.site.Site.take_turns.Given as goal
+
+abbrev pub invariant-loop-turn : goal.invariant-loop-turn
+invariant-loop-turn g l =
+    let m = g.W.Disk.meaning in
+    record {
+      passes : SitePasses m l.fn.self l.self;
+      accounts : SiteAccounts m g.O.Sink.meaning g.E.Sink.meaning l.fn.self l.self;
+      sound : IsSound m l.self;
+    }

@@ -1,0 +1,13 @@
+use Rattle.std.proofs.Common.{◌≤◌, ◌+◌, length}
+use Rattle.build_run.specs.Sites.{IsSound, SiteAccounts, SitePasses}
+use Rattle.build_run.proofs.site.Site.wait_for_all.Given as goal
+
+abbrev pub invariant-loop-turn : goal.invariant-loop-turn
+invariant-loop-turn g l =
+    let m = g.W.Disk.meaning in
+    record {
+      passes : SitePasses m l.fn.self l.self;
+      accounts : SiteAccounts m g.O.Sink.meaning g.E.Sink.meaning l.fn.self l.self;
+      left : m.tells l.self.world.now → length l.self.run.now.tickets + l._turn ≤ l.running;
+      sound : IsSound m l.self;
+    }
