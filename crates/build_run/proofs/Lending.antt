@@ -2,10 +2,8 @@
 use Rattle.std.proofs.Common.{◌≡◌, ◌∙◌, [], subst, sym}
 use Rattle.world_api.specs.Meaning.{Meaning}
 use Rattle.world_api.specs.Printed.{SinkMeaning}
-use Rattle.build_run.specs.Causes.{Outside, outside}
 use Rattle.build_run.specs.Goings.{Passes}
-use Rattle.build_run.specs.Ledgers.{Accounts, Ledger, ledger_of}
-use Rattle.build_run.specs.Sites.{outside_of}
+use Rattle.build_run.specs.Ledgers.{AllAccounts}
 use Rattle.build_run.specs.declared.account.Account.{Account}
 use Rattle.build_run.specs.declared.site.Site.{Site}
 
@@ -16,10 +14,12 @@ module _ {W O E : Type 0} (m : Meaning W) (last : Site W O E) where
   pub idle_given : (now world : W) → last.world.now ≡ world → last.world.now ≡ now → (m.tells now → (m.around now).running ≡ []) → m.tells world → (m.around world).running ≡ []
   idle_given now world lent same idle = subst (λ (w : W). m.tells w → (m.around w).running ≡ []) (sym same ∙ lent) idle
 
-  pub accounts_given : (o : SinkMeaning O) (e : SinkMeaning E) (old : Outside) (before : Ledger) (world : W) (out : O) (err : E) (account : Account) → last.world.now ≡ world → last.out.now ≡ out → last.err.now ≡ err → last.account.now ≡ account
-      → Accounts old before (outside_of m o e last) (ledger_of last.account.now) → Accounts old before (outside (m.counts world) (o.faults out) (e.faults err)) (ledger_of account)
-  accounts_given o e old before world out err account w p q r accounts =
-      subst (λ (x : Account). Accounts old before (outside (m.counts world) (o.faults out) (e.faults err)) (ledger_of x)) r
-      (subst (λ (x : E). Accounts old before (outside (m.counts world) (o.faults out) (e.faults x)) (ledger_of last.account.now)) q
-      (subst (λ (x : O). Accounts old before (outside (m.counts world) (o.faults x) (e.faults last.err.now)) (ledger_of last.account.now)) p
-      (subst (λ (x : W). Accounts old before (outside (m.counts x) (o.faults last.out.now) (e.faults last.err.now)) (ledger_of last.account.now)) w accounts)))
+  pub accounts_given : (o : SinkMeaning O) (e : SinkMeaning E) (old : W) (old_out : O) (old_err : E) (before : Account) (world : W) (out : O) (err : E) (account : Account) →
+      last.world.now ≡ world → last.out.now ≡ out → last.err.now ≡ err → last.account.now ≡ account →
+      AllAccounts m o e old old_out old_err before last.world.now last.out.now last.err.now last.account.now →
+      AllAccounts m o e old old_out old_err before world out err account
+  accounts_given o e old old_out old_err before world out err account w p q r accounts =
+      subst (λ (x : Account). AllAccounts m o e old old_out old_err before world out err x) r
+      (subst (λ (x : E). AllAccounts m o e old old_out old_err before world out x last.account.now) q
+      (subst (λ (x : O). AllAccounts m o e old old_out old_err before world x last.err.now last.account.now) p
+      (subst (λ (x : W). AllAccounts m o e old old_out old_err before x last.out.now last.err.now last.account.now) w accounts)))

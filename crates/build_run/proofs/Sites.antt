@@ -13,14 +13,14 @@ use Rattle.world_api.specs.declared.job.Job.{Job}
 use Rattle.sign_store.specs.Stores.{IsKept, is_live}
 use Rattle.sign_store.specs.declared.store.Store.{Store}
 use Rattle.sign_store.specs.declared.ticket.Ticket.{Ticket}
-use Rattle.build_run.specs.Goings.{AreGone, Goes, IsJoined, Passes, Stays}
+use Rattle.build_run.specs.Goings.{AreGone, Goes, IsJoined, Stays}
 use Rattle.build_run.specs.Holds.{Busy, hold_for, holds_in, holds_of}
 use Rattle.build_run.specs.Outs.{IsStored, IsTicketFor}
 use Rattle.build_run.specs.Sites.{IsCleared, IsSame, IsSound, IsSoundWith, IsStoredFor, holds_after, SiteGoes, SitePasses, SitePuts, most_jobs}
 use Rattle.build_run.specs.Withdrawals.{AreWithdrawn}
 use Rattle.build_run.specs.declared.building.Options.{Options}
 use Rattle.build_run.specs.declared.site.Site.{Site}
-use Rattle.build_run.proofs.Goings.{goes_here, joined_on, passes_here, passes_on}
+use Rattle.build_run.proofs.Goings.{joined_on, passes_here, passes_on}
 use Rattle.build_run.proofs.Outs.{both_same, stored_alike, stored_first, stored_over}
 
 pub same_here : {W O E : Type 0} (s : Site W O E) → IsSame s s

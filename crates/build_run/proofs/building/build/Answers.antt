@@ -6,8 +6,8 @@ use Rattle.build_run.proofs.Goings.{passes_on}
 use Rattle.build_run.proofs.Taking.{take_accounted}
 use Rattle.build_run.proofs.building.build.Goals as goal
 
-pub make_all-requires : goal.make_all-requires
-make_all-requires g c =
+pub make_all-skipped-requires : goal.make_all-skipped-requires
+make_all-skipped-requires g c =
     let goes = c.set_out.ensures.goes in
     record {
       unclosed = goes.passes.told.closed ∙ c.requires.unclosed;

@@ -1,6 +1,4 @@
 use Rattle.std.proofs.Common.{◌∙◌, rules}
-use Rattle.build_run.specs.Ledgers.{ledger_of}
-use Rattle.build_run.specs.Sites.{outside_of}
 use Rattle.build_run.proofs.Lending.{accounts_given, idle_given, passes_given}
 use Rattle.build_run.proofs.Sites.{sound_first}
 use Rattle.build_run.proofs.building.make_all.Goals as goal
@@ -26,5 +24,6 @@ returns-clause-accounts g c =
     let lent_out = same.out ∙ passes.out in
     let lent_err = same.err ∙ passes.err in
     let lent_account = same.account ∙ passes.account in
-    accounts_given g.W.Disk.meaning c.close.new.self g.O.Sink.meaning g.E.Sink.meaning _ _ _ _ _ _ (search rules) (search rules) (search rules) (search rules)
+    accounts_given g.W.Disk.meaning c.close.new.self g.O.Sink.meaning g.E.Sink.meaning c.args.world.now c.args.out.now c.args.err.now c.args.account.now
+    _ _ _ c.account-1.given.0 (search rules) (search rules) (search rules) (search rules)
     (λ start a. c.close.ensures.accounts start (c.go_on.ensures.accounts start a))

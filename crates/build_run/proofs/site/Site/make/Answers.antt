@@ -1,7 +1,6 @@
 use Rattle.std.proofs.Common.{◌∙◌, refl, sym}
 use Rattle.build_run.specs.Ledgers.{ledger_of}
-use Rattle.build_run.proofs.Causing.{exit_same, look_end, same_counts}
-use Rattle.build_run.proofs.Goings.{passes_on, stays_here}
+use Rattle.build_run.proofs.Causing.{exit_same, look_end}
 use Rattle.build_run.proofs.Sites.{looked_at, sound_still}
 use Rattle.build_run.proofs.site.Site.make.Goals as goal
 

@@ -67,7 +67,7 @@ launch-requires-clause-ready g c =
     record {
       unshut = c.if-self.false;
       apart = c.are_apart.ensures c.if-not-are_apart.false;
-      out = record { rec = c.args.now; out = c.in_ok-ticket.ensures.out; same = sym c.in_ok-job.ensures };
+      out = record { rec = c.args.now; out = c.in_ok-ticket.ensures.out; same = sym c.in_ok-job.ensures.targets };
       room = own_room site.store.now c.in_ok-ticket.ticket (site.run.now.held ++ site.run.now.tickets) c.in_ok-ticket.ensures.fresh (c.requires.sound.stored.outs c.if-self.false);
       beside = c.make_none_of.ensures c.if-not-make_none_of.false;
     }

@@ -3,7 +3,7 @@ use Rattle.std.proofs.lemmas.Bool.{true≢false}
 use Rattle.build_run.specs.Ledgers.{Ledger, ledger_of, wanting}
 use Rattle.build_run.proofs.Causing.{account_as, wanted}
 use Rattle.build_run.proofs.Goings.{passes_on, stays_here}
-use Rattle.build_run.proofs.Sites.{same_on, site_here, sound_still}
+use Rattle.build_run.proofs.Sites.{same_on, sound_still}
 use Rattle.build_run.proofs.site.Site.take_turns.Goals as goal
 
 pub loop-turn-preserved : goal.loop-turn-preserved
