@@ -84,7 +84,7 @@ module _ (b : Begun) (g : RuleGraph) (inputs : Inputs) (old new : Around) (paths
         path = was.path;
         dirs = was.dirs;
         file = was.file;
-        still = λ target. elim (writes.running was.path target) [ | inl h ↦ was.still h | inr m ↦ out m ];
+        still = λ target. elim (writes.running was.path target) [ inl h ↦ was.still h | inr m ↦ out m ];
         meaning = subst (λ c. AreNodesOf g (meant b was.paths was.path (includes_in c)) nodes.items)
             (sym (past_same gone old.tree new.tree was.path (writes.files was.path was.still out))) was.meaning;
       }
