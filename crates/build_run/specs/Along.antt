@@ -3,7 +3,7 @@ use Rattle.std.specs.Prelude.{◌≡◌, ◌⊎◌, ◌<◌, ℕ, Bool, true, fa
 use Rattle.scons_base.specs.declared.ids.NodeId.{NodeId}
 use Rattle.scons_base.specs.declared.ids.RuleId.{RuleId}
 use Rattle.world_api.specs.Meaning.{Meaning}
-use Rattle.task_plan.specs.Plans.{Planned, IsScannedNext}
+use Rattle.task_plan.specs.Plans.{Planned, IsScannedNext, is_halt, is_scan}
 use Rattle.task_plan.specs.Watched.{IsStill}
 use Rattle.task_plan.specs.declared.want.PlanEvent.{PlanEvent}
 use Rattle.task_plan.specs.declared.want.Want.{Want}
@@ -13,6 +13,8 @@ use Rattle.build_model.specs.Moments.{Job as Given}
 use Rattle.build_model.specs.Steps.{Step, began}
 use Rattle.build_means.specs.Builds.{jobs_at_once}
 use Rattle.build_files.specs.declared.end.ListEnd.{ListEnd}
+use Rattle.plan_means.specs.Planning.{IsStep}
+use Rattle.rule_graph.specs.Graphs.{RuleGraph}
 use Rattle.turn_means.specs.Standing.{Outset, IsOutset, setting_at, Standing, IsAt}
 use Rattle.turn_means.specs.Laws.{IsChosen, IsTold}
 use Rattle.build_run.specs.Holds.{Busy}
@@ -87,3 +89,14 @@ Leads m o site (Err end) = EndsOn m o site
 abbrev pub GoesAlong : {W O E : Type 0} → Meaning W → Site W O E → Site W O E → Want → Result PlanEvent ListEnd → Type 0
 GoesAlong m old new wanted result = m.tells new.world.now → m.sure new.world.now → (o : Outset) → IsOutset o → IsAlong m o old →
     IsWantedOf (length old.run.now.tickets) (most_jobs old.options) old.run.now.plan wanted → Leads m o new result
+
+-- A plan took an event, or memory was wanting for it: then that is an end, which is to be reported.
+pub data StepsOr (g : RuleGraph) (old : Planned) (event : PlanEvent) (new : Planned) (before after : Account) : Type 0 where
+  stepped : IsStep g old event new → new.halted ≡ (old.halted || is_halt event) → after ≡ before → StepsOr g old event new before after
+  wanted : after.is_ended ≡ true → is_faulted after ≡ true → is_scan event ≡ true → StepsOr g old event new before after
+
+-- a fault is kept, and so is an end
+pub record Keeps (before after : Account) : Type 0 where
+  pub faulted : is_faulted before ≡ true → is_faulted after ≡ true
+  pub ended : before.is_ended ≡ true → after.is_ended ≡ true
+  pub told : (before.is_ended ≡ true → is_faulted before ≡ true) → after.is_ended ≡ true → is_faulted after ≡ true

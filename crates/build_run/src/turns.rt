@@ -1,7 +1,7 @@
 //! The turns of a build: what the plan wants is done, and the plan is told what came of it.
 ghost use Rattle.std.specs.Prelude.{◌≡◌, ◌≤◌, ◌<◌, [], false, length};
 ghost use Rattle.build_files.specs.Causes.{HasLookCause};
-ghost use Rattle.build_run.specs.Along.{GoesAlong, IsWantedOf};
+ghost use Rattle.build_run.specs.Along.{GoesAlong, IsWantedOf, StepsOr};
 ghost use Rattle.build_run.specs.Goings.{Stays};
 ghost use Rattle.build_run.specs.Ledgers.{ledger_of, with_done, Keeps, Reports};
 ghost use Rattle.build_run.specs.Sites.{IsSound, SiteAccounts, SiteEnds, SitePasses, most_jobs};
@@ -159,7 +159,8 @@ fn tell<E: Sink>(
 }
 
 fn step(graph: &Graph, plan: &mut Plan, account: &mut Account, event: PlanEvent)
-    ensures { Keeps account.old (ledger_of account.old) account.new }
+    ensures keeps { Keeps account.old (ledger_of account.old) account.new }
+    ensures steps { StepsOr graph.now plan.old event plan.new account.old account.new }
 {
     match plan.step(graph, event) {
         Ok(()) => {}
