@@ -6,3 +6,4 @@ pub mod Outs
 pub mod Sites
 pub mod Taking
 mod Lending
+mod Telling

@@ -24,7 +24,7 @@ pub(crate) struct Account {
 }
 
 impl Account {
-    ghost use Rattle.std.specs.Prelude.{◌≡◌};
+    ghost use Rattle.std.specs.Prelude.{◌≡◌, true};
     ghost use Rattle.build_run.specs.Ledgers.{ledger_of, blank, wanting, with_fault, with_end, Keeps, Reports};
 
     pub(crate) fn new(alloc: Global) -> Account
@@ -115,7 +115,9 @@ impl Account {
     }
 
     pub(crate) fn want_memory(&mut self)
-        ensures { ledger_of self.new ≡ wanting (ledger_of self.old) }
+        ensures ledger { ledger_of self.new ≡ wanting (ledger_of self.old) }
+        ensures ended { self.new.is_ended ≡ true }
+        ensures memory { self.new.memory ≡ true }
     {
         self.memory = true;
         self.is_ended = true;

@@ -1,11 +1,14 @@
 //! The turns of a build: what the plan wants is done, and the plan is told what came of it.
 ghost use Rattle.std.specs.Prelude.{◌≡◌, ◌≤◌, ◌<◌, [], false, length};
 ghost use Rattle.build_files.specs.Causes.{HasLookCause};
+ghost use Rattle.build_run.specs.Along.{GoesAlong, IsWantedOf, StepsOr};
 ghost use Rattle.build_run.specs.Goings.{Stays};
 ghost use Rattle.build_run.specs.Ledgers.{ledger_of, with_done, Keeps, Reports};
 ghost use Rattle.build_run.specs.Sites.{IsSound, SiteAccounts, SiteEnds, SitePasses, most_jobs};
 ghost use Rattle.scons_base.specs.declared.ids.RuleId.{RuleId};
+ghost use Rattle.task_plan.specs.Ordered.{KeepsOrder};
 ghost use Rattle.task_plan.specs.Plans.{IsIdle};
+ghost use Rattle.task_plan.specs.Watched.{IsComplete};
 
 use crate::account::Account;
 use crate::building::Options;
@@ -83,6 +86,7 @@ impl<W: World, O: Sink, E: Sink> Site<'_, '_, W, O, E> {
         requires room { (rule : RuleId) → wanted ≡ Want.Decide rule → length self.old.run.now.tickets < 64 }
         ensures passes { SitePasses W.meaning self.old self.new }
         ensures ends { SiteEnds W.meaning O.meaning E.meaning self.old self.new result }
+        ensures along { GoesAlong W.meaning self.old self.new wanted result }
         ensures sound { IsSound W.meaning self.new }
     {
         match wanted {
@@ -117,6 +121,8 @@ fn want(run: &Run, options: &Options) -> Want
     ensures room { (rule : RuleId) → result ≡ Want.Decide rule → length run.now.tickets ≤ 64 → length run.now.tickets < 64 }
     ensures jobs { (rule : RuleId) → result ≡ Want.Decide rule → length run.now.tickets < most_jobs options.now }
     ensures rests { result ≡ Want.Rest → IsIdle run.now.plan × (length run.now.tickets ≡ 0) }
+    ensures wanted { length run.now.tickets ≤ most_jobs options.now → KeepsOrder run.now.plan → IsComplete run.now.plan
+        → IsWantedOf (length run.now.tickets) (most_jobs options.now) run.now.plan result }
 {
     let running = run.tickets.len();
     if running >= options.most_jobs() {
@@ -153,7 +159,8 @@ fn tell<E: Sink>(
 }
 
 fn step(graph: &Graph, plan: &mut Plan, account: &mut Account, event: PlanEvent)
-    ensures { Keeps account.old (ledger_of account.old) account.new }
+    ensures keeps { Keeps account.old (ledger_of account.old) account.new }
+    ensures steps { StepsOr graph.now plan.old event plan.new account.old account.new }
 {
     match plan.step(graph, event) {
         Ok(()) => {}

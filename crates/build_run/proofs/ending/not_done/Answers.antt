@@ -5,7 +5,7 @@ use Rattle.build_run.proofs.Causing.{wants_untold}
 use Rattle.build_run.proofs.ending.not_done.Goals as goal
 
 pub returns-in_default : goal.returns-in_default
-returns-in_default g c = ([], wants_untold g.E.Sink.meaning c.args.err.now c.args.account.now [] c.args.outcome c.want_memory.new.self c.want_memory.ensures)
+returns-in_default g c = ([], wants_untold g.E.Sink.meaning c.args.err.now c.args.account.now [] c.args.outcome c.want_memory.new.self c.want_memory.ensures.ledger)
 
 pub returns-in-Failed : goal.returns-in-Failed
 returns-in-Failed g c =
@@ -17,4 +17,4 @@ pub returns-in-Broken : goal.returns-in-Broken
 returns-in-Broken g c = (c.in-Ok.target, rw c.in-Broken.is c.end.ensures)
 
 pub returns-in-NoMemory : goal.returns-in-NoMemory
-returns-in-NoMemory g c = ([], wants_untold g.E.Sink.meaning c.args.err.now c.args.account.now [] c.args.outcome c.want_memory-in-NoMemory.new.self c.want_memory-in-NoMemory.ensures)
+returns-in-NoMemory g c = ([], wants_untold g.E.Sink.meaning c.args.err.now c.args.account.now [] c.args.outcome c.want_memory-in-NoMemory.new.self c.want_memory-in-NoMemory.ensures.ledger)

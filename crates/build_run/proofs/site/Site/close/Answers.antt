@@ -8,4 +8,4 @@ returns-in-Ok-clause-accounts g c = λ start a. c.tell_cycle.ensures.accounts _ 
 pub returns-in-Err-clause-accounts : goal.returns-in-Err-clause-accounts
 returns-in-Err-clause-accounts g c = λ start a.
     let told = ledger_of c.tell_cycle.new.account in
-    account_as start _ (wanting told) (ledger_of c.want_memory.new.self) c.want_memory.ensures (wanted start told _ (c.tell_cycle.ensures.accounts _ _ start a))
+    account_as start _ (wanting told) (ledger_of c.want_memory.new.self) c.want_memory.ensures.ledger (wanted start told _ (c.tell_cycle.ensures.accounts _ _ start a))

@@ -24,7 +24,7 @@ returns-in_default-clause-passes g c = record {
 pub returns-in_default-clause-accounts : goal.returns-in_default-clause-accounts
 returns-in_default-clause-accounts g c = λ start a.
     let before = ledger_of c.args.self.now.account.now in
-    account_as start _ (wanting before) (ledger_of c.want_memory.new.self) c.want_memory.ensures
+    account_as start _ (wanting before) (ledger_of c.want_memory.new.self) c.want_memory.ensures.ledger
     (untold start before _ [] c.wait-ended.result.outcome (settled start before _ _ _ _ [] c.wait-ended.result.outcome c.wait-ended.ensures.cause a))
 
 pub returns-in_default-clause-sound : goal.returns-in_default-clause-sound
@@ -38,7 +38,7 @@ returns-in_default-clause-sound g c =
       unclosed = told.closed ∙ s.unclosed;
       joined = subst (λ (holds : List Hold). IsJoined m world holds) (sym c.take.ensures.left) c.wait-ended.ensures.joined;
       stored =
-          stored_alike m world site.store.now _ _ _ _ (ap (λ (all : List Busy). site.run.now.held ++ all) c.in_default.ensures.none) (ap (λ (l : Ledger). l.shut) c.want_memory.ensures)
+          stored_alike m world site.store.now _ _ _ _ (ap (λ (all : List Busy). site.run.now.held ++ all) c.in_default.ensures.none) (ap (λ (l : Ledger). l.shut) c.want_memory.ensures.ledger)
           (stored_over m site.world.now world site.store.now (site.run.now.held ++ site.run.now.tickets) site.account.now.is_store_shut told.told c.wait-ended.ensures.banks s.stored);
       few = s.few;
       limit = subst (λ (all : List Busy). length all ≤ 64) (sym c.in_default.ensures.none) s.limit;
@@ -55,7 +55,7 @@ returns-in_default-clause-takes g c =
       puts = λ rule e. absurd cc;
       kept = λ other unshut. refl;
       out = refl;
-      shut = λ unshut. sym (ap (λ (l : Ledger). l.shut) c.want_memory.ensures) ∙ unshut;
+      shut = λ unshut. sym (ap (λ (l : Ledger). l.shut) c.want_memory.ensures.ledger) ∙ unshut;
     }
 
 pub hold-requires : goal.hold-requires

@@ -24,7 +24,7 @@ loop-turn-preserved g c =
 pub returns-clause-accounts : goal.returns-clause-accounts
 returns-clause-accounts g c = λ start a.
     let before = ledger_of c.loop-turn.self.account.now in
-    account_as start _ (wanting before) (ledger_of c.want_memory.new.self) c.want_memory.ensures (wanted start before _ (c.loop-turn.invariant.accounts start a))
+    account_as start _ (wanting before) (ledger_of c.want_memory.new.self) c.want_memory.ensures.ledger (wanted start before _ (c.loop-turn.invariant.accounts start a))
 
 pub returns-clause-passes : goal.returns-clause-passes
 returns-clause-passes g c =
@@ -37,7 +37,7 @@ returns-clause-passes g c =
 pub returns-clause-sound : goal.returns-clause-sound
 returns-clause-sound g c =
     let m = g.W.Disk.meaning in
-    sound_still m c.loop-turn.self _ (stays_here m c.loop-turn.self.world.now) refl refl refl refl (ap (λ (l : Ledger). l.shut) c.want_memory.ensures) c.loop-turn.invariant.sound
+    sound_still m c.loop-turn.self _ (stays_here m c.loop-turn.self.world.now) refl refl refl refl (ap (λ (l : Ledger). l.shut) c.want_memory.ensures.ledger) c.loop-turn.invariant.sound
 
 pub returns-clause-rests : goal.returns-clause-rests
-returns-clause-rests g c = λ told. absurd (true≢false (sym (ap (λ (l : Ledger). l.memory) c.want_memory.ensures) ∙ told))
+returns-clause-rests g c = λ told. absurd (true≢false (sym (ap (λ (l : Ledger). l.memory) c.want_memory.ensures.ledger) ∙ told))
