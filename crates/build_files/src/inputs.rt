@@ -1,11 +1,12 @@
 //! The files of a build.
-ghost use Rattle.std.specs.Prelude.{◌≡◌, ℕ, List, [], Some, IfOk, OnOk, is_some, slice_get, true};
+ghost use Rattle.std.specs.Prelude.{◌≡◌, ℕ, List, [], Some, IfOk, OnOk, is_some, slice_get, true, ◌∷◌};
 ghost use Rattle.std.specs.List.{list_any};
 ghost use Rattle.std.specs.Option.{option_map};
 ghost use Rattle.std.specs.Str.{bytes_eq};
 ghost use Rattle.deciders.specs.Digests.{digest_of as digest_for};
 ghost use Rattle.build_files.specs.Beginnings.{Begins};
 ghost use Rattle.build_files.specs.Causes.{HasLookCause};
+ghost use Rattle.build_files.specs.Reading.{ReadsOnly};
 ghost use Rattle.build_files.specs.Kept.{past, stamp_past as stamp_for, AreTrue, IsStill, IsUnmade, StaysTrue, SameGone, KeepsContent};
 ghost use Rattle.build_files.specs.Leftovers.{stands};
 ghost use Rattle.build_files.specs.Seen.{seen_at};
@@ -85,6 +86,7 @@ impl Inputs {
         ensures looks { Looks W.meaning world.old world.new }
         ensures cause { HasLookCause (W.meaning.counts world.old) (W.meaning.counts world.new) result }
         ensures gone { SameGone self.old self.new }
+        ensures only { ReadsOnly [] self.old self.new }
         ensures truth { IsUnmade graph.now node.0 → StaysTrue W.meaning graph.now self.old world.old graph.now self.new world.new }
         ensures file { W.meaning.tells world.new → (b : Begun) (path : List ℕ) → slice_get graph.now.nodes node.0 ≡ Some path
             → IsUnmade graph.now node.0 → AreTrue b graph.now self.old (W.meaning.around world.old)
@@ -129,6 +131,7 @@ impl Inputs {
         ensures looks { Looks W.meaning world.old world.new }
         ensures cause { HasLookCause (W.meaning.counts world.old) (W.meaning.counts world.new) result }
         ensures gone { SameGone self.old self.new }
+        ensures only { ReadsOnly (node ∷ []) self.old self.new }
         ensures truth { IsStill graph.now (W.meaning.around world.old) node.0
             → StaysTrue W.meaning graph.now self.old world.old graph.now self.new world.new }
         ensures digest { W.meaning.tells world.new → (b : Begun) (path : List ℕ) → slice_get graph.now.nodes node.0 ≡ Some path
@@ -152,6 +155,7 @@ impl Inputs {
         ensures looks { Looks W.meaning world.old world.new }
         ensures cause { HasLookCause (W.meaning.counts world.old) (W.meaning.counts world.new) result }
         ensures gone { SameGone self.old self.new }
+        ensures only { ReadsOnly (node ∷ []) self.old self.new }
         ensures truth { IsStill graph.now (W.meaning.around world.old) node.0
             → StaysTrue W.meaning graph.now self.old world.old graph.now self.new world.new }
         ensures stamp { W.meaning.tells world.new → (b : Begun) (path : List ℕ) → slice_get graph.now.nodes node.0 ≡ Some path
@@ -192,6 +196,7 @@ impl Inputs {
         ensures looks { Looks W.meaning world.old world.new }
         ensures cause { HasLookCause (W.meaning.counts world.old) (W.meaning.counts world.new) result }
         ensures gone { SameGone self.old self.new }
+        ensures only { ReadsOnly (node ∷ []) self.old self.new }
         ensures truth { IsStill graph.now (W.meaning.around world.old) node.0
             → StaysTrue W.meaning graph.now self.old world.old graph.now self.new world.new }
         ensures digest { W.meaning.tells world.new → (path : List ℕ) → slice_get graph.now.nodes node.0 ≡ Some path → IfOk result
