@@ -1,15 +1,17 @@
 //! The files of a build.
-ghost use Rattle.std.specs.Prelude.{◌≡◌, ℕ, List, [], Some, IfOk, OnOk, is_some, slice_get, true, ◌∷◌};
+ghost use Rattle.std.specs.Prelude.{◌≡◌, ℕ, List, [], None, Some, IfOk, OnOk, is_some, slice_get, true, ◌∷◌};
 ghost use Rattle.std.specs.List.{list_any};
 ghost use Rattle.std.specs.Option.{option_map};
 ghost use Rattle.std.specs.Str.{bytes_eq};
+ghost use Rattle.indexmap.specs.IndexMap.{get};
 ghost use Rattle.deciders.specs.Digests.{digest_of as digest_for};
 ghost use Rattle.build_files.specs.Beginnings.{Begins};
 ghost use Rattle.build_files.specs.Causes.{HasLookCause};
 ghost use Rattle.build_files.specs.Reading.{ReadsOnly};
-ghost use Rattle.build_files.specs.Kept.{past, stamp_past as stamp_for, AreTrue, IsStill, IsUnmade, StaysTrue, SameGone, KeepsContent};
+ghost use Rattle.build_files.specs.Kept.{past, same_scan, stamp_past as stamp_for, AreTrue, IsStill, IsUnmade, IsUnread, StaysTrue, SameGone, KeepsContent};
 ghost use Rattle.build_files.specs.Leftovers.{stands};
 ghost use Rattle.build_files.specs.Seen.{seen_at};
+ghost use Rattle.build_files.specs.declared.includes.Scan.{Scan};
 ghost use Rattle.build_means.specs.Grown.{Begun};
 ghost use Rattle.world_api.specs.Around.{Around};
 ghost use Rattle.world_api.specs.Looks.{Looks};
@@ -51,6 +53,8 @@ impl Inputs {
     /// The files of a build over a graph in which all rules are declared ones.
     pub fn new(alloc: Global, hash: Hash, graph: &Graph) -> Inputs
         ensures truth { (b : Begun) (around : Around) → Begins b graph.now hash [] around → AreTrue b graph.now result around }
+        ensures unread { (node : ℕ) → IsUnread (seen_at result.files.seen.items node) }
+        ensures unscanned { (scan : Scan) → get same_scan result.found.files scan ≡ None }
     {
         let gone = IndexSet::new(alloc);
         Inputs::past(alloc, hash, graph, gone)
@@ -59,6 +63,8 @@ impl Inputs {
     /// The files of a build that looks past these.
     pub fn past(alloc: Global, hash: Hash, graph: &Graph, gone: IndexSet<PathText>) -> Inputs
         ensures truth { (b : Begun) (around : Around) → Begins b graph.now hash gone.keys around → AreTrue b graph.now result around }
+        ensures unread { (node : ℕ) → IsUnread (seen_at result.files.seen.items node) }
+        ensures unscanned { (scan : Scan) → get same_scan result.found.files scan ≡ None }
     {
         let files = SeenFiles::new(alloc);
         let unknown = IndexSet::new(alloc);
