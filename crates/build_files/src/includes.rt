@@ -1,11 +1,12 @@
 //! The files that a file includes.
-ghost use Rattle.std.specs.Prelude.{◌≡◌, ℕ, List, [], ◌∷◌, ◌++◌, Some, IfOk, IfSome, OnOk, is_some, slice_get, true};
+ghost use Rattle.std.specs.Prelude.{◌≡◌, ℕ, List, [], ◌∷◌, ◌++◌, None, Some, IfOk, IfSome, OnOk, is_some, slice_get, true};
 ghost use Rattle.std.specs.Option.{option_to_list};
+ghost use Rattle.indexmap.specs.IndexMap.{get};
 ghost use Rattle.rule_graph.specs.declared.rule.Rule.{Rule as DeclaredRule};
 ghost use Rattle.rule_graph.specs.Graphs.{RuleGraph};
 ghost use Rattle.build_files.specs.Causes.{HasLookCause, IsQuiet};
 ghost use Rattle.build_files.specs.Reading.{ReadsOnly};
-ghost use Rattle.build_files.specs.Kept.{dirs_at, includes_in, past, AreFound, AreTrue, Gives, IsFoundFor, IsStill, SameGone, StaysTrue};
+ghost use Rattle.build_files.specs.Kept.{dirs_at, includes_in, past, same_scan, AreFound, AreTrue, Gives, IsFoundFor, IsStill, SameGone, StaysTrue};
 ghost use Rattle.build_files.specs.Places.{ArePlaces};
 ghost use Rattle.build_files.specs.Searched.{first_known, meant, AreDirs, AreNodesOf, HasMore, IsNodeOf};
 ghost use Rattle.build_files.specs.Seen.{seen_at};
