@@ -7,6 +7,7 @@ pub mod Looking
 pub mod Left
 mod Noting
 mod Places
+pub mod Reading
 mod Presence
 mod RuleAt
 mod Scans

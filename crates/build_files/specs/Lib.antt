@@ -7,5 +7,6 @@ pub mod Kept
 pub mod Leftovers
 pub mod Places
 pub mod Presence
+pub mod Reading
 pub mod Searched
 pub mod Seen

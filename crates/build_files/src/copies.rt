@@ -1,6 +1,6 @@
 //! The copy rules of variant directories, added as their paths come up.
 ghost use Rattle.std.specs.List.{list_any};
-ghost use Rattle.std.specs.Prelude.{◌≡◌, ◌<◌, ℕ, List, Some, None, true, length, slice_get, is_some, IfOk, OnOk};
+ghost use Rattle.std.specs.Prelude.{◌≡◌, ◌<◌, ℕ, List, Some, None, true, length, slice_get, is_some, IfOk, OnOk, [], ◌∷◌};
 ghost use Rattle.rule_graph.specs.Rules.{rule_of, IsRule};
 ghost use Rattle.rule_graph.specs.declared.rule.Rule.{Rule as DeclaredRule};
 ghost use Rattle.world_api.specs.Around.{Around};
@@ -8,6 +8,7 @@ ghost use Rattle.build_means.specs.Copies.{copied_from as copied_in};
 ghost use Rattle.build_means.specs.Grown.{Begun};
 ghost use Rattle.build_files.specs.Causes.{HasLookCause, IsQuiet};
 ghost use Rattle.build_files.specs.Copying.{copying};
+ghost use Rattle.build_files.specs.Reading.{ReadsOnly};
 ghost use Rattle.build_files.specs.Kept.{includes_in, past, AreTrue, Gives, IsLeftAlone, IsStill, LooksAt, SameGone, StaysTrue};
 ghost use Rattle.build_files.specs.Searched.{meant, AreNodesOf, GrowsTo};
 ghost use Rattle.world_api.specs.Looks.{Looks};
@@ -37,6 +38,7 @@ impl Inputs {
         ensures cause { HasLookCause (W.meaning.counts world.old) (W.meaning.counts world.new) result }
         ensures grows { GrowsTo graph.old graph.new }
         ensures gone { SameGone self.old self.new }
+        ensures only { ReadsOnly (file ∷ []) self.old self.new }
         ensures truth { IsStill graph.old (W.meaning.around world.old) file.0
             → StaysTrue W.meaning graph.old self.old world.old graph.new self.new world.new }
         ensures found { IsStill graph.old (W.meaning.around world.old) file.0 → (x : DeclaredRule) (path : List ℕ)
@@ -62,6 +64,7 @@ impl Inputs {
         ensures cause { HasLookCause (W.meaning.counts world.old) (W.meaning.counts world.new) result }
         ensures grows { GrowsTo graph.old graph.new }
         ensures gone { SameGone self.old self.new }
+        ensures only { ReadsOnly [] self.old self.new }
         ensures truth { StaysTrue W.meaning graph.old self.old world.old graph.new self.new world.new }
     {
         if !has_copies(graph) {
@@ -83,6 +86,7 @@ impl Inputs {
         ensures cause { HasLookCause (W.meaning.counts world.old) (W.meaning.counts world.new) result }
         ensures grows { GrowsTo graph.old graph.new }
         ensures gone { SameGone self.old self.new }
+        ensures only { ReadsOnly [] self.old self.new }
         ensures truth { StaysTrue W.meaning graph.old self.old world.old graph.new self.new world.new }
     {
         if !has_copies(graph) {
@@ -105,6 +109,7 @@ impl Inputs {
         ensures cause { HasLookCause (W.meaning.counts world.old) (W.meaning.counts world.new) result }
         ensures grows { GrowsTo graph.old graph.new }
         ensures gone { SameGone self.old self.new }
+        ensures only { ReadsOnly [] self.old self.new }
         ensures truth { StaysTrue W.meaning graph.old self.old world.old graph.new self.new world.new }
     {
         for place in 0..usize::MAX {
@@ -129,6 +134,7 @@ impl Inputs {
         ensures cause { HasLookCause (W.meaning.counts world.old) (W.meaning.counts world.new) result }
         ensures grows { GrowsTo graph.old graph.new }
         ensures gone { SameGone self.old self.new }
+        ensures only { ReadsOnly [] self.old self.new }
         ensures truth { StaysTrue W.meaning graph.old self.old world.old graph.new self.new world.new }
     {
         let nodes = files_named(self.alloc, rule_at(graph, rule)?)?;
@@ -148,6 +154,7 @@ impl Inputs {
         ensures cause { HasLookCause (W.meaning.counts world.old) (W.meaning.counts world.new) result }
         ensures grows { GrowsTo graph.old graph.new }
         ensures gone { SameGone self.old self.new }
+        ensures only { ReadsOnly [] self.old self.new }
         ensures truth { StaysTrue W.meaning graph.old self.old world.old graph.new self.new world.new }
     {
         for node in nodes {
@@ -204,6 +211,7 @@ impl Inputs {
         ensures cause { HasLookCause (W.meaning.counts world.old) (W.meaning.counts world.new) result }
         ensures grows { GrowsTo graph.old graph.new }
         ensures gone { SameGone self.old self.new }
+        ensures only { ReadsOnly [] self.old self.new }
         ensures truth { StaysTrue W.meaning graph.old self.old world.old graph.new self.new world.new }
     {
         graph.laws();

@@ -1,10 +1,12 @@
 //! The files that a file includes.
-ghost use Rattle.std.specs.Prelude.{◌≡◌, ℕ, List, [], ◌∷◌, ◌++◌, Some, IfOk, IfSome, OnOk, is_some, slice_get, true};
+ghost use Rattle.std.specs.Prelude.{◌≡◌, ℕ, List, [], ◌∷◌, ◌++◌, None, Some, IfOk, IfSome, OnOk, is_some, slice_get, true};
 ghost use Rattle.std.specs.Option.{option_to_list};
+ghost use Rattle.indexmap.specs.IndexMap.{get};
 ghost use Rattle.rule_graph.specs.declared.rule.Rule.{Rule as DeclaredRule};
 ghost use Rattle.rule_graph.specs.Graphs.{RuleGraph};
 ghost use Rattle.build_files.specs.Causes.{HasLookCause, IsQuiet};
-ghost use Rattle.build_files.specs.Kept.{dirs_at, includes_in, past, AreFound, AreTrue, Gives, IsFoundFor, IsStill, SameGone, StaysTrue};
+ghost use Rattle.build_files.specs.Reading.{ReadsOnly};
+ghost use Rattle.build_files.specs.Kept.{dirs_at, includes_in, past, same_scan, AreFound, AreTrue, Gives, IsFoundFor, IsStill, SameGone, StaysTrue};
 ghost use Rattle.build_files.specs.Places.{ArePlaces};
 ghost use Rattle.build_files.specs.Searched.{first_known, meant, AreDirs, AreNodesOf, HasMore, IsNodeOf};
 ghost use Rattle.build_files.specs.Seen.{seen_at};
@@ -46,6 +48,7 @@ pub(crate) struct Found {
 impl Found {
     pub(crate) fn new(alloc: Global) -> Found
         ensures { (b : Begun) (g : RuleGraph) (gone : List (List ℕ)) (around : Around) → AreFound b g gone around result }
+        ensures unscanned { (scan : Scan) → get same_scan result.files scan ≡ None }
     {
         let lists = IndexSet::new(alloc);
         let files = IndexMap::new(alloc);
@@ -92,6 +95,7 @@ impl Inputs {
         ensures cause { HasLookCause (W.meaning.counts world.old) (W.meaning.counts world.new) result }
         ensures grows { HasMore graph.old graph.new }
         ensures gone { SameGone self.old self.new }
+        ensures only { ReadsOnly (file ∷ []) self.old self.new }
         ensures truth { IsStill graph.old (W.meaning.around world.old) file.0
             → StaysTrue W.meaning graph.old self.old world.old graph.new self.new world.new }
         ensures found { IsStill graph.old (W.meaning.around world.old) file.0 → (x : DeclaredRule) (path : List ℕ)
@@ -116,6 +120,7 @@ impl Inputs {
     ) -> Result<Option<Listing<NodeId>>, ListEnd>
         ensures quiet { IsQuiet result }
         ensures gone { SameGone self.old self.new }
+        ensures only { ReadsOnly [] self.old self.new }
         ensures truth { (b : Begun) (around : Around) → AreTrue b graph.now self.old around → AreTrue b graph.now self.new around }
         ensures found { (b : Begun) (around : Around) (x : DeclaredRule) (path : List ℕ) → slice_get graph.now.rules rule.0 ≡ Some x
             → slice_get graph.now.nodes file.0 ≡ Some path → AreTrue b graph.now self.old around
@@ -140,6 +145,7 @@ impl Inputs {
     ) -> Result<Listing<NodeId>, ListEnd>
         ensures quiet { IsQuiet result }
         ensures gone { SameGone self.old self.new }
+        ensures only { ReadsOnly (file ∷ []) self.old self.new }
         ensures truth { (b : Begun) (around : Around) → IsFoundFor b graph.now self.old around rule.0 file.0 found.items
             → AreTrue b graph.now self.old around → AreTrue b graph.now self.new around }
         ensures same { IfOk result (λ kept. kept ≡ found.items) }
@@ -163,6 +169,7 @@ impl Inputs {
         ensures cause { HasLookCause (W.meaning.counts world.old) (W.meaning.counts world.new) result }
         ensures grows { HasMore graph.old graph.new }
         ensures gone { SameGone self.old self.new }
+        ensures only { ReadsOnly (file ∷ []) self.old self.new }
         ensures truth { IsStill graph.old (W.meaning.around world.old) file.0
             → StaysTrue W.meaning graph.old self.old world.old graph.new self.new world.new }
         ensures found { IsStill graph.old (W.meaning.around world.old) file.0 → (x : DeclaredRule) (path : List ℕ)
@@ -193,6 +200,7 @@ impl Inputs {
         ensures looks { Looks W.meaning world.old world.new }
         ensures cause { HasLookCause (W.meaning.counts world.old) (W.meaning.counts world.new) result }
         ensures gone { SameGone self.old self.new }
+        ensures only { ReadsOnly (file ∷ []) self.old self.new }
         ensures truth { IsStill graph.now (W.meaning.around world.old) file.0
             → StaysTrue W.meaning graph.now self.old world.old graph.now self.new world.new }
         ensures kept { OnOk result (is_some (seen_at self.new.files.seen.items file.0).includes ≡ true) }
@@ -217,6 +225,7 @@ impl Inputs {
         ensures cause { HasLookCause (W.meaning.counts world.old) (W.meaning.counts world.new) result }
         ensures grows { HasMore graph.old graph.new }
         ensures gone { SameGone self.old self.new }
+        ensures only { ReadsOnly [] self.old self.new }
         ensures truth { StaysTrue W.meaning graph.old self.old world.old graph.new self.new world.new }
         ensures found { (paths : List (List ℕ)) (file : List ℕ) → AreDirs dirs.now paths file
             → Gives W.meaning graph.old self.old world.old world.new result
@@ -243,6 +252,7 @@ impl Inputs {
         ensures cause { HasLookCause (W.meaning.counts world.old) (W.meaning.counts world.new) result }
         ensures grows { HasMore graph.old graph.new }
         ensures gone { SameGone self.old self.new }
+        ensures only { ReadsOnly [] self.old self.new }
         ensures truth { StaysTrue W.meaning graph.old self.old world.old graph.new self.new world.new }
         ensures found { (paths : List (List ℕ)) (file : List ℕ) → AreDirs dirs.now paths file
             → Gives W.meaning graph.old self.old world.old world.new result
@@ -273,6 +283,7 @@ impl Inputs {
         ensures cause { HasLookCause (W.meaning.counts world.old) (W.meaning.counts world.new) result }
         ensures grows { HasMore graph.old graph.new }
         ensures gone { SameGone self.old self.new }
+        ensures only { ReadsOnly [] self.old self.new }
         ensures truth { StaysTrue W.meaning graph.old self.old world.old graph.new self.new world.new }
         ensures found { Gives W.meaning graph.old self.old world.old world.new result
             (λ b node. IsNodeOf graph.new (first_known b (places_in b.graph name.now dir.now)) node) }
@@ -299,6 +310,7 @@ impl Inputs {
         ensures cause { HasLookCause (W.meaning.counts world.old) (W.meaning.counts world.new) result }
         ensures grows { HasMore graph.old graph.new }
         ensures gone { SameGone self.old self.new }
+        ensures only { ReadsOnly [] self.old self.new }
         ensures truth { StaysTrue W.meaning graph.old self.old world.old graph.new self.new world.new }
         ensures found { Gives W.meaning graph.old self.old world.old world.new result
             (λ b node. IsNodeOf graph.new (first_known b (places_in b.graph name.now dir.now)) node) }

@@ -1,8 +1,9 @@
 //! Which paths are known: those that a rule makes, and those at which a file stands.
-ghost use Rattle.std.specs.Prelude.{◌≡◌, ℕ, List, Some, None, true, IfOk, IfSome, is_some, slice_get};
+ghost use Rattle.std.specs.Prelude.{◌≡◌, ℕ, List, Some, None, true, IfOk, IfSome, is_some, slice_get, [], ◌∷◌};
 ghost use Rattle.node_tree.specs.Nodes.{number_of};
 ghost use Rattle.world_api.specs.Around.{Around};
 ghost use Rattle.build_files.specs.Causes.{HasLookCause, IsQuiet};
+ghost use Rattle.build_files.specs.Reading.{ReadsOnly};
 ghost use Rattle.build_files.specs.Kept.{AreTrue, IsKnownAs, SameGone, StaysTrue};
 ghost use Rattle.build_files.specs.Searched.{HasMore};
 ghost use Rattle.build_files.specs.Leftovers.{is_made, is_declared, is_copied, copied_from};
@@ -30,6 +31,7 @@ impl Inputs {
         ensures cause { HasLookCause (W.meaning.counts world.old) (W.meaning.counts world.new) result }
         ensures grows { HasMore graph.old graph.new }
         ensures gone { SameGone self.old self.new }
+        ensures only { ReadsOnly [] self.old self.new }
         ensures truth { StaysTrue W.meaning graph.old self.old world.old graph.new self.new world.new }
         ensures known { W.meaning.tells world.new → (b : Begun) → AreTrue b graph.old self.old (W.meaning.around world.old)
             → IfOk result (IsKnownAs b graph.new path.now) }
@@ -55,6 +57,7 @@ impl Inputs {
         ensures looks { Looks W.meaning world.old world.new }
         ensures cause { HasLookCause (W.meaning.counts world.old) (W.meaning.counts world.new) result }
         ensures gone { SameGone self.old self.new }
+        ensures only { ReadsOnly [] self.old self.new }
         ensures truth { StaysTrue W.meaning graph.now self.old world.old graph.now self.new world.new }
         ensures known { W.meaning.tells world.new → (b : Begun) (path : List ℕ) → slice_get graph.now.nodes node.0 ≡ Some path
             → AreTrue b graph.now self.old (W.meaning.around world.old) → IfOk result (λ is. is ≡ is_known b.graph b.tree path) }
@@ -81,6 +84,7 @@ impl Inputs {
         ensures cause { HasLookCause (W.meaning.counts world.old) (W.meaning.counts world.new) result }
         ensures grows { HasMore graph.old graph.new }
         ensures gone { SameGone self.old self.new }
+        ensures only { ReadsOnly [] self.old self.new }
         ensures truth { number_of graph.old.nodes path.now ≡ None
             → StaysTrue W.meaning graph.old self.old world.old graph.new self.new world.new }
         ensures known { number_of graph.old.nodes path.now ≡ None → W.meaning.tells world.new → (b : Begun)
@@ -128,6 +132,7 @@ impl Inputs {
         ensures quiet { IsQuiet result }
         ensures grows { HasMore graph.old graph.new }
         ensures gone { SameGone self.old self.new }
+        ensures only { ReadsOnly [] self.old self.new }
         ensures truth { (b : Begun) (around : Around) → number_of graph.old.nodes path.now ≡ None → is_file ≡ is_some (b.tree path.now)
             → AreTrue b graph.old self.old around → AreTrue b graph.new self.new around }
         ensures node { number_of graph.old.nodes path.now ≡ None

@@ -1,7 +1,8 @@
-use Rattle.std.proofs.Common.{◌∙◌, refl, ap}
+use Rattle.std.proofs.Common.{◌∙◌, [], refl, ap}
 use Rattle.world_api.proofs.Looking.{looks_same, looks_joined}
 use Rattle.build_files.specs.declared.inputs.Inputs.{Inputs}
 use Rattle.build_files.proofs.Copying.{grew_same, grew_joined}
+use Rattle.build_files.proofs.Reading.{looked_only, reads_joined, reads_none}
 use Rattle.build_files.proofs.Truths.{looked_on}
 use Rattle.build_files.proofs.inputs.Inputs.add_each_copy.Goals as goal
 
@@ -35,6 +36,7 @@ loop-node-init g c = record {
   counts = refl;
   grows = grew_same c.args.graph.now;
   gone = refl;
+  only = reads_none [] c.args.self.now;
   truth = λ told b is. is;
 }
 
@@ -44,5 +46,6 @@ loop-node-preserved g c = record {
   counts = c.in_ok-add_copy.ensures.cause ∙ c.loop-node.invariant.counts;
   grows = grew_joined _ _ _ c.loop-node.invariant.grows c.add_copy.ensures.grows;
   gone = ap (λ (i : Inputs). i.gone) c.add_rule.ensures ∙ (c.add_copy.ensures.gone ∙ c.loop-node.invariant.gone);
+  only = looked_only [] c.args.self.now _ _ c.add_rule.ensures (reads_joined [] _ _ _ c.loop-node.invariant.only c.add_copy.ensures.only);
   truth = λ told b is. looked_on b _ _ _ _ c.add_rule.ensures (c.add_copy.ensures.truth told b (c.loop-node.invariant.truth (c.add_copy.ensures.looks.told.told told) b is));
 }

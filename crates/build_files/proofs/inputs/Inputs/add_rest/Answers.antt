@@ -1,6 +1,7 @@
-use Rattle.std.proofs.Common.{◌∙◌, refl}
+use Rattle.std.proofs.Common.{◌∙◌, [], refl}
 use Rattle.world_api.proofs.Looking.{looks_same, looks_joined}
 use Rattle.build_files.proofs.Copying.{grew_same, grew_joined}
+use Rattle.build_files.proofs.Reading.{reads_joined, reads_none}
 use Rattle.build_files.proofs.inputs.Inputs.add_rest.Goals as goal
 
 pub returns-in_err-add_named-clause-looks : goal.returns-in_err-add_named-clause-looks
@@ -21,6 +22,7 @@ loop-place-init g c = record {
   counts = refl;
   grows = grew_same c.args.graph.now;
   gone = refl;
+  only = reads_none [] c.args.self.now;
   truth = λ told b is. is;
 }
 
@@ -30,5 +32,6 @@ loop-place-preserved g c = record {
   counts = c.in_ok-add_named.ensures.cause ∙ c.loop-place.invariant.counts;
   grows = grew_joined _ _ _ c.loop-place.invariant.grows c.add_named.ensures.grows;
   gone = c.add_named.ensures.gone ∙ c.loop-place.invariant.gone;
+  only = reads_joined [] _ _ _ c.loop-place.invariant.only c.add_named.ensures.only;
   truth = λ told b is. c.add_named.ensures.truth told b (c.loop-place.invariant.truth (c.add_named.ensures.looks.told.told told) b is);
 }

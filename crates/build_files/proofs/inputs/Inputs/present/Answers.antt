@@ -8,6 +8,7 @@ use Rattle.world_api.proofs.Looking.{looks_same, looks_joined}
 use Rattle.build_means.specs.Rules.{IsReading, paths_of}
 use Rattle.build_files.specs.Kept.{past, stamp_past}
 use Rattle.build_files.proofs.Presence.{AreThere, none_there, there_more, first_absent, is_present, among_ids, at_path, still_on, seen_since, ok_same, not_missing, is_missing}
+use Rattle.build_files.proofs.Reading.{reads_joined, reads_none, reads_one}
 use Rattle.build_files.proofs.RuleAt.{of_rule}
 use Rattle.build_files.proofs.inputs.Inputs.present.Goals as goal
 
@@ -55,6 +56,7 @@ loop-node-init g c = record {
   looks = looks_same _ _;
   counts = refl;
   gone = refl;
+  only = reads_none c.args.nodes.now c.args.self.now;
   truth = λ still told b is. is;
   there = λ still told b is r same.
       subst (λ (deps : List Dep). AreThere b r (past c.args.self.now.gone.keys (g.W.Disk.meaning.around c.args.world.now).tree)
@@ -74,6 +76,7 @@ loop-node-preserved g c =
       looks = looks_joined _ _ _ _ c.loop-node.invariant.looks c.dep.ensures.looks;
       counts = c.in_ok-dep.ensures.cause ∙ c.loop-node.invariant.counts;
       gone = c.dep.ensures.gone ∙ c.loop-node.invariant.gone;
+      only = reads_joined c.args.nodes.now _ _ _ c.loop-node.invariant.only (reads_one c.args.nodes.now node _ _ among c.dep.ensures.only);
       truth = λ still told b is.
           let before = c.dep.ensures.looks.told.told told in
           c.dep.ensures.truth (still_on graph _ _ node.0 (c.loop-node.invariant.looks.around before) (still node among)) told b (c.loop-node.invariant.truth still before b is);

@@ -1,4 +1,4 @@
-use Rattle.std.proofs.Common.{◌∙◌, None, refl, sym, subst}
+use Rattle.std.proofs.Common.{◌∙◌, [], None, refl, sym, subst}
 use Rattle.std.specs.Str.{IsUtf8}
 use Rattle.world_api.proofs.Looking.{looks_same, looks_joined}
 use Rattle.build_means.specs.Copies.{is_known}
@@ -6,6 +6,7 @@ use Rattle.build_means.specs.Finds.{places_in}
 use Rattle.build_files.specs.Searched.{first_known}
 use Rattle.build_files.proofs.Candidates.{found_in_dirs, found_nothing}
 use Rattle.build_files.proofs.Noting.{more_same, more_joined}
+use Rattle.build_files.proofs.Reading.{reads_joined, reads_none}
 use Rattle.build_files.proofs.Searching.{none_more, none_all, found_here, no_node, node_none}
 use Rattle.build_files.proofs.inputs.Inputs.search.Goals as goal
 
@@ -32,6 +33,7 @@ loop-dir-init g c = record {
   counts = refl;
   grows = more_same c.args.graph.now;
   gone = refl;
+  only = reads_none [] c.args.self.now;
   truth = λ told b is. is;
   passed = λ told b is. refl;
 }
@@ -42,6 +44,7 @@ loop-dir-preserved g c = record {
   counts = c.in_ok-node.ensures.cause ∙ c.loop-dir.invariant.counts;
   grows = more_joined _ _ _ c.loop-dir.invariant.grows c.search_dir.ensures.grows;
   gone = c.search_dir.ensures.gone ∙ c.loop-dir.invariant.gone;
+  only = reads_joined [] _ _ _ c.loop-dir.invariant.only c.search_dir.ensures.only;
   truth = λ told b is. c.search_dir.ensures.truth told b (c.loop-dir.invariant.truth (c.search_dir.ensures.looks.told.told told) b is);
   passed = λ told b is.
       let before = c.search_dir.ensures.looks.told.told told in

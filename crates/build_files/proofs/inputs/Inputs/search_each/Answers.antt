@@ -4,6 +4,7 @@ use Rattle.world_api.proofs.Looking.{looks_same, looks_joined}
 use Rattle.build_means.specs.Finds.{found_for}
 use Rattle.build_files.specs.Searched.{AreNodesOf}
 use Rattle.build_files.proofs.Noting.{more_same, more_joined}
+use Rattle.build_files.proofs.Reading.{reads_joined, reads_none}
 use Rattle.build_files.proofs.Searching.{meant_more, meant_all}
 use Rattle.build_files.proofs.inputs.Inputs.search_each.Goals as goal
 
@@ -39,6 +40,7 @@ loop-include-init g c = record {
   counts = refl;
   grows = more_same c.args.graph.now;
   gone = refl;
+  only = reads_none [] c.args.self.now;
   truth = λ told b is. is;
   found = λ paths file are told b is. subst (λ (nodes : List NodeId). AreNodesOf c.args.graph.now [] nodes) (sym c.new-found.ensures.items) tt;
 }
@@ -49,6 +51,7 @@ loop-include-preserved g c = record {
   counts = c.in_ok-node.ensures.cause ∙ c.loop-include.invariant.counts;
   grows = more_joined _ _ _ c.loop-include.invariant.grows c.search.ensures.grows;
   gone = c.search.ensures.gone ∙ c.loop-include.invariant.gone;
+  only = reads_joined [] _ _ _ c.loop-include.invariant.only c.search.ensures.only;
   truth = λ told b is. c.search.ensures.truth told b (c.loop-include.invariant.truth (c.search.ensures.looks.told.told told) b is);
   found = λ paths file are told b is.
       let before = c.search.ensures.looks.told.told told in

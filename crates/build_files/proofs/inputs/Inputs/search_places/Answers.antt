@@ -5,6 +5,7 @@ use Rattle.build_means.specs.Finds.{places_in}
 use Rattle.build_files.specs.Searched.{first_known}
 use Rattle.build_files.proofs.Candidates.{found_in}
 use Rattle.build_files.proofs.Noting.{more_same, more_joined}
+use Rattle.build_files.proofs.Reading.{reads_joined, reads_none}
 use Rattle.build_files.proofs.Searching.{none_more, none_all, found_here, no_node, node_none, found_one, places_same}
 use Rattle.build_files.proofs.inputs.Inputs.search_places.Goals as goal
 
@@ -27,6 +28,7 @@ loop-path-init g c = record {
   counts = refl;
   grows = more_same c.args.graph.now;
   gone = refl;
+  only = reads_none [] c.args.self.now;
   truth = λ told b is. is;
   passed = λ told b is. refl;
 }
@@ -37,6 +39,7 @@ loop-path-preserved g c = record {
   counts = c.in_ok-node.ensures.cause ∙ c.loop-path.invariant.counts;
   grows = more_joined _ _ _ c.loop-path.invariant.grows c.known.ensures.grows;
   gone = c.known.ensures.gone ∙ c.loop-path.invariant.gone;
+  only = reads_joined [] _ _ _ c.loop-path.invariant.only c.known.ensures.only;
   truth = λ told b is. c.known.ensures.truth told b (c.loop-path.invariant.truth (c.known.ensures.looks.told.told told) b is);
   passed = λ told b is.
       let before = c.known.ensures.looks.told.told told in
