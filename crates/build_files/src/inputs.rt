@@ -1,5 +1,6 @@
 //! The files of a build.
 ghost use Rattle.std.specs.Prelude.{◌≡◌, ℕ, List, [], None, Some, IfOk, OnOk, is_some, slice_get, true, ◌∷◌};
+ghost use Rattle.std.specs.Prelude.{◌≡◌, ℕ, List, [], Some, IfOk, OnOk, is_some, slice_get, true, false};
 ghost use Rattle.std.specs.List.{list_any};
 ghost use Rattle.std.specs.Option.{option_map};
 ghost use Rattle.std.specs.Str.{bytes_eq};
@@ -10,6 +11,7 @@ ghost use Rattle.build_files.specs.Causes.{HasLookCause};
 ghost use Rattle.build_files.specs.Reading.{ReadsOnly};
 ghost use Rattle.build_files.specs.Kept.{past, same_scan, stamp_past as stamp_for, AreTrue, IsStill, IsUnmade, IsUnread, StaysTrue, SameGone, KeepsContent};
 ghost use Rattle.build_files.specs.Leftovers.{stands};
+ghost use Rattle.build_files.specs.Marked.{is_marked, KeepsMarks};
 ghost use Rattle.build_files.specs.Seen.{seen_at};
 ghost use Rattle.build_files.specs.declared.includes.Scan.{Scan};
 ghost use Rattle.build_means.specs.Grown.{Begun};
@@ -55,6 +57,7 @@ impl Inputs {
         ensures truth { (b : Begun) (around : Around) → Begins b graph.now hash [] around → AreTrue b graph.now result around }
         ensures unread { (node : ℕ) → IsUnread (seen_at result.files.seen.items node) }
         ensures unscanned { (scan : Scan) → get same_scan result.found.files scan ≡ None }
+        ensures unmarked { (number : ℕ) → is_marked result number ≡ false }
     {
         let gone = IndexSet::new(alloc);
         Inputs::past(alloc, hash, graph, gone)
@@ -65,6 +68,7 @@ impl Inputs {
         ensures truth { (b : Begun) (around : Around) → Begins b graph.now hash gone.keys around → AreTrue b graph.now result around }
         ensures unread { (node : ℕ) → IsUnread (seen_at result.files.seen.items node) }
         ensures unscanned { (scan : Scan) → get same_scan result.found.files scan ≡ None }
+        ensures unmarked { (number : ℕ) → is_marked result number ≡ false }
     {
         let files = SeenFiles::new(alloc);
         let unknown = IndexSet::new(alloc);
@@ -97,6 +101,7 @@ impl Inputs {
         ensures file { W.meaning.tells world.new → (b : Begun) (path : List ℕ) → slice_get graph.now.nodes node.0 ≡ Some path
             → IsUnmade graph.now node.0 → AreTrue b graph.now self.old (W.meaning.around world.old)
             → IfOk result (λ is. is ≡ is_some (b.tree path)) }
+        ensures marks { KeepsMarks graph.now self.old graph.now self.new }
     {
         if let Some(is_file) = self.files.is_file(node) {
             return Ok(is_file);
@@ -143,6 +148,7 @@ impl Inputs {
         ensures digest { W.meaning.tells world.new → (b : Begun) (path : List ℕ) → slice_get graph.now.nodes node.0 ≡ Some path
             → AreTrue b graph.now self.old (W.meaning.around world.old) → IfOk result
             (λ digest. digest ≡ option_map (digest_for b.hash) (past self.old.gone.keys (W.meaning.around world.new).tree path)) }
+        ensures marks { KeepsMarks graph.now self.old graph.now self.new }
     {
         match self.files.digest(node) {
             Some(digest) => Ok(digest),
@@ -167,6 +173,7 @@ impl Inputs {
         ensures stamp { W.meaning.tells world.new → (b : Begun) (path : List ℕ) → slice_get graph.now.nodes node.0 ≡ Some path
             → AreTrue b graph.now self.old (W.meaning.around world.old) → IfOk result
             (λ time. time ≡ stamp_for self.old.gone.keys (W.meaning.around world.new) path) }
+        ensures marks { KeepsMarks graph.now self.old graph.now self.new }
     {
         if let Some(stamp) = self.files.stamp(node) {
             return Ok(stamp);
@@ -208,6 +215,7 @@ impl Inputs {
         ensures digest { W.meaning.tells world.new → (path : List ℕ) → slice_get graph.now.nodes node.0 ≡ Some path → IfOk result
             (λ digest. digest ≡ option_map (digest_for self.old.hash) (past self.old.gone.keys (W.meaning.around world.new).tree path)) }
         ensures scanned { is_scanned ≡ true → OnOk result (is_some (seen_at self.new.files.seen.items node.0).includes ≡ true) }
+        ensures marks { KeepsMarks graph.now self.old graph.now self.new }
     {
         let path = path_of(graph, node)?;
         let content = self.content(world, path)?;

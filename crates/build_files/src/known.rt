@@ -5,6 +5,7 @@ ghost use Rattle.world_api.specs.Around.{Around};
 ghost use Rattle.build_files.specs.Causes.{HasLookCause, IsQuiet};
 ghost use Rattle.build_files.specs.Reading.{ReadsOnly};
 ghost use Rattle.build_files.specs.Kept.{AreTrue, IsKnownAs, SameGone, StaysTrue};
+ghost use Rattle.build_files.specs.Marked.{KeepsMarks};
 ghost use Rattle.build_files.specs.Searched.{HasMore};
 ghost use Rattle.build_files.specs.Leftovers.{is_made, is_declared, is_copied, copied_from};
 ghost use Rattle.build_means.specs.Copies.{copied_from as copied_in, is_known};
@@ -35,6 +36,7 @@ impl Inputs {
         ensures truth { StaysTrue W.meaning graph.old self.old world.old graph.new self.new world.new }
         ensures known { W.meaning.tells world.new → (b : Begun) → AreTrue b graph.old self.old (W.meaning.around world.old)
             → IfOk result (IsKnownAs b graph.new path.now) }
+        ensures marks { KeepsMarks graph.old self.old graph.new self.new }
     {
         let Some(node) = graph.find(path) else {
             return self.newly_known(world, graph, path);
@@ -61,6 +63,7 @@ impl Inputs {
         ensures truth { StaysTrue W.meaning graph.now self.old world.old graph.now self.new world.new }
         ensures known { W.meaning.tells world.new → (b : Begun) (path : List ℕ) → slice_get graph.now.nodes node.0 ≡ Some path
             → AreTrue b graph.now self.old (W.meaning.around world.old) → IfOk result (λ is. is ≡ is_known b.graph b.tree path) }
+        ensures marks { KeepsMarks graph.now self.old graph.now self.new }
     {
         graph.laws();
         if graph.rule_of(node).is_some() {
@@ -89,6 +92,7 @@ impl Inputs {
             → StaysTrue W.meaning graph.old self.old world.old graph.new self.new world.new }
         ensures known { number_of graph.old.nodes path.now ≡ None → W.meaning.tells world.new → (b : Begun)
             → AreTrue b graph.old self.old (W.meaning.around world.old) → IfOk result (IsKnownAs b graph.new path.now) }
+        ensures marks { KeepsMarks graph.old self.old graph.new self.new }
     {
         if self.unknown.contains(path) {
             return Ok(None);
@@ -138,6 +142,7 @@ impl Inputs {
         ensures node { number_of graph.old.nodes path.now ≡ None
             → IfOk result (λ node. IfSome node (λ n. slice_get graph.new.nodes n.0 ≡ Some path.now)) }
         ensures some { IfOk result (λ node. is_some node ≡ true) }
+        ensures marks { KeepsMarks graph.old self.old graph.new self.new }
     {
         graph.laws();
         let node = graph.intern(path)?;
