@@ -4,6 +4,7 @@ pub mod Goings
 pub mod Holds
 pub mod Ledgers
 pub mod Outs
+pub mod Outsets
 pub mod Sites
 pub mod Takes
 pub mod Withdrawals
