@@ -7,3 +7,4 @@ pub mod Jobs
 pub mod Ends
 pub mod Recording
 pub mod Safety
+pub mod OwnDigests
