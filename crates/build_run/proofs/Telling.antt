@@ -3,12 +3,6 @@ use Rattle.std.proofs.Common.{◌≡◌, Bool, true, false, ◌||◌, ap, refl, 
 use Rattle.build_model.proofs.Lists.{true_false}
 use Rattle.task_plan.specs.Plans.{is_halt, is_scan}
 use Rattle.task_plan.specs.declared.want.PlanEvent.{PlanEvent}
-use Rattle.build_run.specs.Along.{is_faulted}
-use Rattle.build_run.specs.declared.account.Account.{Account}
-
--- what wants memory is to be reported
-pub faulted_by : (account : Account) → account.memory ≡ true → is_faulted account ≡ true
-faulted_by account e = ap (λ b. b || is_faulted (record account { memory = false })) e
 
 -- an event that was taken halts a plan only where it is a halt
 pub took : (halted : Bool) (event : PlanEvent) (new : Bool) → new ≡ (halted || (is_halt event || false)) → new ≡ (halted || is_halt event)

@@ -87,6 +87,24 @@ pub record IsAlong {W O E : Type 0} (m : Meaning W) (o : Outset) (site : Site W 
   pub well : site.account.now.is_ended ≡ false → GoesWell m o site
   pub halted : site.account.now.is_ended ≡ true → site.run.now.plan.halted ≡ true
 
+-- ---- accounts
+
+-- nothing new starts any more, and that is to be reported
+pub record IsEnd (account : Account) : Type 0 where
+  pub ended : account.is_ended ≡ true
+  pub faulted : is_faulted account ≡ true
+
+-- what was reported stays so, and whether an end came
+pub record SameEnds (before after : Account) : Type 0 where
+  pub ended : after.is_ended ≡ before.is_ended
+  pub faulted : is_faulted after ≡ is_faulted before
+
+-- a fault is kept, and so is an end; an end is to be reported
+pub record KeepsEnds (before after : Account) : Type 0 where
+  pub faulted : is_faulted before ≡ true → is_faulted after ≡ true
+  pub ended : before.is_ended ≡ true → after.is_ended ≡ true
+  pub told : (before.is_ended ≡ true → is_faulted before ≡ true) → after.is_ended ≡ true → is_faulted after ≡ true
+
 -- ---- turns
 
 -- a plan that goes on overlooks nothing, and keeps to the build order
@@ -133,13 +151,6 @@ StaysAlong m old new = m.tells new.world.now → m.sure new.world.now → (o : O
 abbrev pub ComesOn : {W O E : Type 0} → Meaning W → Site W O E → Site W O E → Type 0
 ComesOn m old new =
     m.tells new.world.now → m.sure new.world.now → (o : Outset) → IsOutset o → IsAlong m o old → IsOn o new.run.now.held (standing_of m new)
-
--- an action failed
-abbrev pub HasFailed : Outcome → Type 0
-HasFailed (outcome.Failed code) = Unit {0}
-HasFailed outcome.Done = ⊥
-HasFailed outcome.Broken = ⊥
-HasFailed outcome.NoMemory = ⊥
 
 -- ---- waits
 
@@ -213,6 +224,13 @@ pub data StandsPut {W O E : Type 0} (m : Meaning W) (old new : Site W O E) : Typ
   was_put : new.account.now ≡ old.account.now → m.counts new.world.now ≡ m.counts old.world.now → StandsPut m old new
   was_refused : IsEnd new.account.now → StandsPut m old new
 
+-- an action failed
+abbrev pub HasFailed : Outcome → Type 0
+HasFailed (outcome.Failed code) = Unit {0}
+HasFailed outcome.Done = ⊥
+HasFailed outcome.Broken = ⊥
+HasFailed outcome.NoMemory = ⊥
+
 -- an action that wasn't done is an end, unless it failed and the build goes on after that
 abbrev pub GoesOnAfter : Outcome → Options → Account → Type 0
 GoesOnAfter outcome options account = account.is_ended ≡ false → options.keep ≡ true × HasFailed outcome
@@ -232,24 +250,6 @@ pub record Presents {W : Type 0} (m : Meaning W) (g : RuleGraph) (old : Run) (wo
       (IsPresentFor g rule.0 (deps_of old.plan.rules rule.0) old.inputs.gone.keys (m.around world))
   pub only : ReadsOnly (deps_of old.plan.rules rule.0) old.inputs new.inputs
   pub marks : KeepsMarks g old.inputs g new.inputs
-
--- ---- accounts
-
--- nothing new starts any more, and that is to be reported
-pub record IsEnd (account : Account) : Type 0 where
-  pub ended : account.is_ended ≡ true
-  pub faulted : is_faulted account ≡ true
-
--- what was reported stays so, and whether an end came
-pub record SameEnds (before after : Account) : Type 0 where
-  pub ended : after.is_ended ≡ before.is_ended
-  pub faulted : is_faulted after ≡ is_faulted before
-
--- a fault is kept, and so is an end; an end is to be reported
-pub record KeepsEnds (before after : Account) : Type 0 where
-  pub faulted : is_faulted before ≡ true → is_faulted after ≡ true
-  pub ended : before.is_ended ≡ true → after.is_ended ≡ true
-  pub told : (before.is_ended ≡ true → is_faulted before ≡ true) → after.is_ended ≡ true → is_faulted after ≡ true
 
 -- A plan took an event, or memory was wanting for it: then that is an end.
 pub data StepsOr (g : RuleGraph) (old : Planned) (event : PlanEvent) (new : Planned) (before after : Account) : Type 0 where

@@ -1,6 +1,6 @@
 use Rattle.std.proofs.Common.{refl}
 use Rattle.build_run.specs.Along.{stepped, wanted}
-use Rattle.build_run.proofs.Telling.{faulted_by, took, was_scan}
+use Rattle.build_run.proofs.Telling.{took, was_scan}
 use Rattle.build_run.proofs.turns.step.Goals as goal
 
 pub returns-in-Ok-clause-steps : goal.returns-in-Ok-clause-steps
@@ -22,4 +22,4 @@ returns-in-Ok-clause-steps c =
 
 pub returns-in-Err-clause-steps : goal.returns-in-Err-clause-steps
 returns-in-Err-clause-steps c =
-    wanted c.want_memory.ensures.ended (faulted_by c.want_memory.new.self c.want_memory.ensures.memory) (was_scan c.args.event c.in-Err.ensures.memory)
+    wanted c.want_memory.ensures.ends.ended c.want_memory.ensures.ends.faulted (was_scan c.args.event c.in-Err.ensures.memory)
