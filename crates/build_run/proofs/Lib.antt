@@ -1,3 +1,4 @@
+mod Alongs
 mod Clearing
 pub mod Holding
 pub mod Goings

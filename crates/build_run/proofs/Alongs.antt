@@ -1,0 +1,135 @@
+-- How a build goes along when it is told what came of a turn, and from turn to turn.
+use Rattle.std.proofs.Common.{◌≡◌, ◌⊎◌, inl, inr, Bool, true, false, ◌||◌, List, [], ◌∷◌, ap, refl, sym, subst, ◌∙◌}
+use Rattle.std.specs.Prelude.{Result, Ok, Err}
+use Rattle.world_api.specs.Around.{Around}
+use Rattle.world_api.specs.Meaning.{Meaning, Told}
+use Rattle.task_plan.specs.Plans.{Planned, is_halt}
+use Rattle.task_plan.specs.declared.want.PlanEvent.{PlanEvent}
+use Rattle.build_files.specs.declared.end.ListEnd.{ListEnd}
+use Rattle.plan_means.specs.Planning.{IsStep}
+use Rattle.build_model.specs.Steps.{Halts}
+use Rattle.build_model.proofs.Lists.{true_false}
+use Rattle.run_means.specs.Clears.{Clears}
+use Rattle.turn_means.specs.Laws.{IsTold}
+use Rattle.turn_means.specs.Standing.{Outset, IsOutset, Standing}
+use Rattle.turn_means.proofs.Turns.{ends, halts}
+use Rattle.build_run.specs.Along.{AreAsked, EndsOn, GoesOn, GoesWell, IsAlong, IsEnd, IsOn, IsReliable, Leads, StaysAlong, StepsOr, Tells, is_faulted, standing_of, stepped, wanted}
+use Rattle.build_run.specs.Holds.{Busy}
+use Rattle.build_run.specs.declared.account.Account.{Account}
+use Rattle.build_run.specs.declared.site.Site.{Site}
+
+-- What came of a turn was told to this plan and this account.
+pub record ToldTo {W O E : Type 0} (m : Meaning W) (o : Outset) (old : Site W O E) (plan : Planned) (account : Account) : Type 0 where
+  pub on : IsOn o old.run.now.held (record (standing_of m old) { plan = plan; faulted = is_faulted account; ended = account.is_ended })
+  pub well : account.is_ended ≡ false → GoesWell m o old
+
+or_false : (b c : Bool) → c ≡ false → (b || c) ≡ b
+or_false true c e = refl
+or_false false c e = e
+
+module _ (o : Outset) (outset : IsOutset o) where
+  -- the plan is halted behind an end
+  pub halted_on : (held : List Busy) (s new : Standing) → IsOn o held s → new.around ≡ s.around → new.ended ≡ true → new.faulted ≡ true →
+      IsOn o held new
+  halted_on held s new on around ended faulted = record {
+    jobs = on.jobs;
+    past = Halts ∷ on.past;
+    at = halts o outset on.jobs s new on.past on.at around ended faulted;
+    began = on.began;
+  }
+
+  -- an end is told of
+  pub ended_on : (held : List Busy) (s new : Standing) → IsOn o held s → Clears [] s.around new.around → new.ended ≡ true →
+      new.faulted ≡ true → new.plan.halted ≡ s.plan.halted → IsOn o held new
+  ended_on held s new on clears ended faulted goes = record {
+    jobs = on.jobs;
+    past = on.past;
+    at = ends o outset on.jobs s new on.past on.at clears ended faulted goes;
+    began = on.began;
+  }
+
+  module _ {W O E : Type 0} (m : Meaning W) (old : Site W O E) where
+    abbrev Told_standing : Planned → Account → Standing
+    Told_standing plan account = record (standing_of m old) { plan = plan; faulted = is_faulted account; ended = account.is_ended }
+
+    -- an end was noted, and the plan is halted
+    ended_told : (plan : Planned) (account : Account) → EndsOn m o old → IsEnd account → ToldTo m o old plan account
+    ended_told plan account ends_on is = record {
+      on = halted_on old.run.now.held (record (standing_of m old) { faulted = true; ended = true }) (Told_standing plan account)
+          (ends_on (record (standing_of m old) { faulted = true; ended = true }) refl refl refl refl) refl is.ended is.faulted;
+      well = λ e. true_false (sym is.ended ∙ e);
+    }
+
+    module _ (event : PlanEvent) (goes : GoesOn m o old event) (mid plan : Planned) (account : Account)
+        (step : IsStep old.graph.now old.run.now.plan event mid) (halted : mid.halted ≡ (old.run.now.plan.halted || is_halt event))
+        (same : account ≡ old.account.now) (stays : account.is_ended ≡ false → plan ≡ mid) where
+      on_mid : IsOn o old.run.now.held (Told_standing mid account)
+      on_mid = goes.told (Told_standing mid account) (record {
+        step = step;
+        goes = halted ∙ or_false old.run.now.plan.halted (is_halt event) goes.goes;
+        rest = refl;
+        reports = record {
+          stays = λ e. ap is_faulted same ∙ e;
+          told = λ e. ap is_faulted same ∙ goes.reported (sym (ap (λ (a : Account). a.is_ended) same) ∙ e);
+        };
+      })
+
+      on_by : (b : Bool) → account.is_ended ≡ b → IsOn o old.run.now.held (Told_standing plan account)
+      on_by true e = halted_on old.run.now.held (Told_standing mid account) (Told_standing plan account) on_mid refl e
+          (ap is_faulted same ∙ goes.reported (sym (ap (λ (a : Account). a.is_ended) same) ∙ e))
+      on_by false e = subst (λ p. IsOn o old.run.now.held (Told_standing p account)) (sym (stays e)) on_mid
+
+      stepped_told : ToldTo m o old plan account
+      stepped_told = record {
+        on = on_by account.is_ended refl;
+        well = λ e. goes.well (sym (ap (λ (a : Account). a.is_ended) same) ∙ e);
+      }
+
+    event_told : (event : PlanEvent) → GoesOn m o old event → (mid plan : Planned) (account : Account) →
+        (account.is_ended ≡ false → plan ≡ mid) → StepsOr old.graph.now old.run.now.plan event mid old.account.now account →
+        ToldTo m o old plan account
+    event_told event goes mid plan account stays (stepped step halted same) =
+        stepped_told event goes mid plan account step halted same stays
+    event_told event goes mid plan account stays (wanted ended faulted scan) =
+        ended_told plan account (goes.ends scan) (record { ended = ended; faulted = faulted })
+
+    -- So it is whatever was told.
+    pub told_to : (done : Result PlanEvent ListEnd) → Leads m o old done → (mid plan : Planned) (account : Account) →
+        (account.is_ended ≡ false → plan ≡ mid) → Tells old.graph.now old.run.now.plan old.account.now done mid account →
+        ToldTo m o old plan account
+    told_to (Ok event) goes mid plan account stays tells = event_told event goes mid plan account stays tells
+    told_to (Err end) ends_on mid plan account stays tells = ended_told plan account ends_on tells.1
+
+-- no call may be made
+pub clears_here : (around : Around) → Clears [] around around
+clears_here around = record {
+  files = λ path free out. refl;
+  stamps = λ path free out. refl;
+  running = refl;
+  log = refl;
+  met = refl;
+  law = refl;
+}
+
+-- where it goes along an end may come
+pub along_ends : {W O E : Type 0} (m : Meaning W) (o : Outset) → IsOutset o → (site : Site W O E) → IsAlong m o site → EndsOn m o site
+along_ends m o outset site along s around ended faulted goes =
+    ended_on o outset site.run.now.held (standing_of m site) s along.on
+    (subst (λ a. Clears [] (m.around site.world.now) a) (sym around) (clears_here (m.around site.world.now))) ended faulted goes
+
+-- turns one behind the other
+pub along_on : {W O E : Type 0} (m : Meaning W) (old mid new : Site W O E) → Told m mid.world.now new.world.now → StaysAlong m old mid →
+    StaysAlong m mid new → StaysAlong m old new
+along_on m old mid new told first then tells sure o outset along =
+    then tells sure o outset (first (told.told tells) (told.sure tells sure) o outset along)
+
+-- a plan of a build that goes along is reliable, unless it has halted
+pub is_reliable : {W O E : Type 0} (m : Meaning W) (o : Outset) (site : Site W O E) → IsAlong m o site → site.run.now.plan.halted ≡ false →
+    IsReliable site.run.now.plan
+is_reliable m o site along goes = by site.account.now.is_ended refl
+  where
+    by : (b : Bool) → site.account.now.is_ended ≡ b → IsReliable site.run.now.plan
+    by true e = true_false (sym (along.halted e) ∙ goes)
+    by false e =
+        let ties = (along.on.at.knows e).ties in
+        record { complete = ties.plan_for.complete; order = ties.plan_for.order }
