@@ -126,7 +126,7 @@ returns-in_default-outcome-clause-passes g c = record {
 
 pub returns-in_default-outcome-clause-accounts : goal.returns-in_default-outcome-clause-accounts
 returns-in_default-outcome-clause-accounts g c = λ start a.
-    let done = c.not_done.ensures in
+    let done = c.not_done.ensures.reports in
     done.1.accounts _ _ start (settled start (ledger_of c.args.self.now.account.now) _ _ _ _ done.0 c.wait-ended.result.outcome c.wait-ended.ensures.cause a)
 
 pub returns-in_default-outcome-clause-sound : goal.returns-in_default-outcome-clause-sound
@@ -147,7 +147,7 @@ returns-in_default-outcome-clause-sound g c =
       unclosed = told.closed ∙ s.unclosed;
       joined = subst (λ (holds : List Hold). IsJoined m world holds) (sym c.take.ensures.left) c.wait-ended.ensures.joined;
       stored =
-          subst (λ (after : Bool). IsStored m world c.give_up.new.store (held ++ left) after) (sym c.not_done.ensures.1.shut)
+          subst (λ (after : Bool). IsStored m world c.give_up.new.store (held ++ left) after) (sym c.not_done.ensures.reports.1.shut)
           (stored_beside m world site.store.now c.give_up.new.store busy.ticket (held ++ left) shut gone.live gone.banks gone.map gone.outs
           (room_beside m world site.store.now held busy left shut taken)
           (stored_left m world site.store.now held busy left shut taken));
@@ -181,10 +181,10 @@ returns-in_default-outcome-clause-takes g c =
       only = λ t rule e. absurd cc;
       puts = λ rule e. absurd cc;
       kept = λ other unshut.
-          let unshut_before = sym c.not_done.ensures.1.shut ∙ unshut in
+          let unshut_before = sym c.not_done.ensures.reports.1.shut ∙ unshut in
           let own = room_beside m world site.store.now held busy left shut taken unshut_before in
           held_alike site.store.now c.give_up.new.store held gone.map (λ one rec h out. (gone.outs.each rec one.ticket (own one (Contains-append_left held left one h)) out).own)
           (outs_front site.store.now held left (outs_left site.store.now held left busy (taken.outs unshut_before)));
       out = refl;
-      shut = λ unshut. sym c.not_done.ensures.1.shut ∙ unshut;
+      shut = λ unshut. sym c.not_done.ensures.reports.1.shut ∙ unshut;
     }
