@@ -1,6 +1,6 @@
 -- How a build goes along behind an ending.
-use Rattle.std.proofs.Common.{◌≡◌, ◌∙◌, ◌⊎◌, ◌++◌, ◌∷◌, [], ℕ, Bool, true, false, List, Option, Some, Contains, ap, cond, inl, inr, refl, subst, sym, arith}
-use Rattle.std.proofs.lemmas.List.Elements.{Contains-append_left, Contains-append_right}
+use Rattle.std.proofs.Common.{◌≡◌, ◌∙◌, ◌⊎◌, ◌++◌, ◌∷◌, [], ℕ, Bool, true, false, List, Option, Some, Contains, length, ◌≤◌, ap, cond, inl, inr, refl, subst, sym, arith}
+use Rattle.std.proofs.lemmas.List.{length-map}
 use Rattle.world_api.specs.Around.{Around, Running, IsRunningTarget}
 use Rattle.world_api.specs.Calls.{Ends}
 use Rattle.world_api.specs.Causes.{HasOutcomeCause}
@@ -17,30 +17,41 @@ use Rattle.sign_store.specs.declared.store.Store.{Store}
 use Rattle.task_plan.specs.declared.want.PlanEvent.TheVariants as told
 use Rattle.rule_graph.specs.Graphs.{RuleGraph}
 use Rattle.task_plan.specs.Plans.{Planned, is_halt, is_scan}
+use Rattle.task_plan.specs.Watched.{IsStill}
+use Rattle.task_plan.specs.declared.want.Want.TheVariants as want
 use Rattle.task_plan.specs.declared.want.PlanEvent.{PlanEvent}
 use Rattle.build_model.specs.Rules.{Path, Rule, Among}
 use Rattle.build_model.specs.Steps as model
-use Rattle.build_model.specs.Steps.{Step, began}
+use Rattle.build_model.specs.Moments.{Job as Given}
+use Rattle.build_model.specs.Steps.{Step, began, is_over, running}
+use Rattle.build_model.specs.Waiting.{IsIdle}
+use Rattle.build_model.proofs.Runs.{running_few}
 use Rattle.build_model.proofs.Lists.{true_false}
-use Rattle.build_means.specs.Builds.{Kept}
+use Rattle.build_means.specs.Builds.{Kept, jobs_at_once}
 use Rattle.build_means.specs.Logs.{AreUnrisen, is_done}
 use Rattle.build_files.specs.Marked.{AreGoneOver}
 use Rattle.build_files.specs.declared.inputs.Inputs.{Inputs}
 use Rattle.plan_means.specs.Planning.{IsStep}
-use Rattle.turn_means.specs.Standing.{Outset, IsOutset, setting_at, Standing}
-use Rattle.turn_means.specs.Laws.{Reports, IsTold, IsToldEnding, IsEnded, told_by, told_of}
+use Rattle.plan_means.proofs.Resting.{is_idle}
+use Rattle.run_means.specs.Clears.{Clears}
+use Rattle.run_means.specs.Laws.{MayWait}
+use Rattle.turn_means.specs.Standing.{Outset, IsOutset, begun_at, setting_at, Standing, IsAt}
+use Rattle.turn_means.specs.Recording.{build_at}
+use Rattle.turn_means.specs.Laws.{IsTold, IsToldEnding, IsEnded, told_by, told_of}
+use Rattle.turn_means.proofs.Deciding.{tied}
 use Rattle.turn_means.proofs.Jobs.{ends_behind}
-use Rattle.turn_means.proofs.Running.{runs_for}
-use Rattle.build_run.specs.Along.{is_faulted, standing_of, HeldBegan, IsOn, GoesWell, GoesOn, MayTake, HasFailed, HoldsFewer, KeepsEnds, KeepsKnown, StandsPut, was_put, was_refused}
-use Rattle.build_run.specs.Goings.{IsJoined}
+use Rattle.turn_means.proofs.Turns.{ends}
+use Rattle.turn_means.proofs.Running.{run_so, runs_for}
+use Rattle.build_run.specs.Along.{is_faulted, standing_of, HeldBegan, IsAlong, IsOn, IsWantedOf, GoesWell, GoesOn, MayTake, HasFailed, HoldsFewer, KeepsEnds, KeepsKnown, StandsPut, was_put, was_refused}
 use Rattle.build_run.specs.Holds.{Busy, hold_of, holds_in, holds_of}
 use Rattle.build_run.specs.Outs.{IsTicketFor}
-use Rattle.build_run.specs.Sites.{records_of}
+use Rattle.build_run.specs.Sites.{KeepsRecords, most_jobs, records_of}
 use Rattle.build_run.specs.declared.account.Account.{Account}
+use Rattle.build_run.specs.declared.building.Options.{Options}
 use Rattle.build_run.specs.declared.site.Site.{Site}
 use Rattle.build_run.specs.declared.tickets.Hold.{Hold}
 use Rattle.build_run.proofs.Holding.{at_front, further, in_front, in_pushed}
-use Rattle.build_run.proofs.Outs.{among_in, held_in}
+use Rattle.build_run.proofs.Outs.{among_in, held_count, held_in}
 
 -- what isn't so now wasn't before
 pub not_before : (old new : Bool) → (old ≡ true → new ≡ true) → new ≡ false → old ≡ false
@@ -247,3 +258,107 @@ pub put_others : (store : Store) (busy : Busy) (old new : Map) (path : List ℕ)
 put_others store busy old new path ticket puts out =
     ap (λ (map : Map). map path) (puts ticket.rec ticket.out.own)
     ∙ with_others ticket.rec.targets (Some ticket.rec) old path (λ h. out (subst (λ (paths : List (List ℕ)). Contains paths path) ticket.same h))
+
+-- ---- why it may wait
+
+-- what isn't so would be so only where the build had ended
+pub not_so : (b : Bool) → (b ≡ true → true ≡ false) → b ≡ false
+not_so true none = true_false (none refl)
+not_so false none = refl
+
+module _ (o : Outset) (outset : IsOutset o) (s : Standing) (on : (jobs : List Given) × (past : List Step) × IsAt o jobs s past)
+    (tickets : List Busy) (most : ℕ) (asked : most ≡ jobs_at_once o.wanted.jobs) (joined : holds_of s.around.running ≡ holds_in tickets)
+    (halts : s.ended ≡ true → s.plan.halted ≡ true) where
+  abbrev Jobs : List Given
+  Jobs = on.0
+
+  abbrev Past : List Step
+  Past = on.1
+
+  at : IsAt o Jobs s Past
+  at = on.2
+
+  -- as many run as there are tickets
+  run_each : running Past ≡ length tickets
+  run_each = omega (arith, at.way.count, length-map s.around.running hold_of, ap length joined, held_count tickets)
+
+  -- no more run than may
+  run_few : running Past ≤ jobs_at_once o.wanted.jobs
+  run_few = running_few (setting_at o) (build_at o s.around) Past (run_so o outset Jobs s.around Past at.way)
+
+  idle_by : (ended : Bool) → s.ended ≡ ended → is_over false Past ≡ false → (s.plan.halted ≡ false → IsStill s.plan) →
+      IsIdle (setting_at o) (build_at o s.around) Past
+  idle_by true e goes still = true_false (sym (at.halted (halts e)).over ∙ goes)
+  idle_by false e goes still =
+      is_idle (begun_at o) s.graph o.wanted.requested (build_at o s.around) Past s.plan (tied o outset Jobs s Past at.way (at.knows e))
+      (still (not_so s.plan.halted (λ h. sym (at.halted h).ended ∙ e)))
+
+  pub may_wait : (most ≤ length tickets) ⊎ (s.plan.halted ≡ false → IsStill s.plan) → MayWait o.wanted o.kept o.before s.around Past
+  may_wait (inl full) goes = inl (omega (arith, full, asked, run_each, run_few))
+  may_wait (inr still) goes = inr (idle_by s.ended refl goes still)
+
+-- ---- over the records that are put before
+
+module _ {W O E : Type 0} (m : Meaning W) (o : Outset) (outset : IsOutset o) (old mid : Site W O E) (along : IsAlong m o old)
+    (around : m.around mid.world.now ≡ m.around old.world.now) (options : mid.options ≡ old.options)
+    (known : KeepsKnown old mid) (held : HoldsFewer old.run.now.held mid.run.now.held)
+    (records : KeepsRecords old mid) (stands : StandsPut m old mid) where
+  -- where the build goes on only the records were put
+  same_standing : mid.account.now ≡ old.account.now → records_of mid ≡ records_of old → standing_of m mid ≡ standing_of m old
+  same_standing account kept =
+      ap (λ (x : RuleGraph). standing x mid.run.now.inputs mid.run.now.plan (records_of mid) mid.account.now (m.around mid.world.now)) known.graph
+      ∙ ap (λ (x : Inputs). standing old.graph.now x mid.run.now.plan (records_of mid) mid.account.now (m.around mid.world.now)) known.inputs
+      ∙ ap (λ (x : Planned). standing old.graph.now old.run.now.inputs x (records_of mid) mid.account.now (m.around mid.world.now)) known.plan
+      ∙ ap (λ (x : Kept). standing old.graph.now old.run.now.inputs old.run.now.plan x mid.account.now (m.around mid.world.now)) kept
+      ∙ ap (λ (x : Account). standing old.graph.now old.run.now.inputs old.run.now.plan (records_of old) x (m.around mid.world.now)) account
+      ∙ ap (λ (x : Around). standing old.graph.now old.run.now.inputs old.run.now.plan (records_of old) old.account.now x) around
+    where
+      standing : RuleGraph → Inputs → Planned → Kept → Account → Around → Standing
+      standing g i p r a x =
+          record { graph = g; inputs = i; plan = p; records = r; faulted = is_faulted a; ended = a.is_ended; around = x }
+
+  none_cleared : Clears [] (m.around old.world.now) (m.around mid.world.now)
+  none_cleared = subst (λ (a : Around). Clears [] (m.around old.world.now) a) (sym around)
+      (record { files = λ path free out. refl; stamps = λ path free out. refl; running = refl; log = refl; met = refl; law = refl })
+
+  ended_there : mid.account.now.is_ended ≡ true → IsAt o along.on.jobs (standing_of m mid) along.on.past
+  ended_there e =
+      ends o outset along.on.jobs (standing_of m old) (standing_of m mid) along.on.past along.on.at none_cleared e
+      ((put_ends m old mid stands).told along.on.at.told e) (ap (λ (p : Planned). p.halted) known.plan)
+
+  at_by : (ended : Bool) → mid.account.now.is_ended ≡ ended → StandsPut m old mid → IsAt o along.on.jobs (standing_of m mid) along.on.past
+  at_by true e put = ended_there e
+  at_by false e (was_refused end) = true_false (sym end.ended ∙ e)
+  at_by false e (was_put account counts) =
+      let goes = sym (ap (λ (a : Account). a.is_ended) account) ∙ e in
+      let unshut = ap (λ (a : Account). a.is_store_shut) account ∙ (along.well goes).unshut in
+      subst (λ (s : Standing). IsAt o along.on.jobs s along.on.past) (sym (same_standing account (records unshut))) along.on.at
+
+  well_put : mid.account.now.is_ended ≡ false → GoesWell m o mid
+  well_put e =
+      let was = along.well (not_before old.account.now.is_ended mid.account.now.is_ended (put_ends m old mid stands).ended e) in
+      record {
+        unrisen = unrisen_as o.wanted.keep o.counts (m.counts old.world.now) (m.counts mid.world.now) (put_counts m old mid stands e) was.unrisen;
+        unshut = put_unshut m old mid stands e ∙ was.unshut;
+        looked = looked_as old.graph.now mid.graph.now old.run.now.inputs mid.run.now.inputs known.graph known.inputs was.looked;
+      }
+
+  pub may_take : holds_of (m.around old.world.now).running ≡ holds_in old.run.now.tickets →
+      IsWantedOf (length old.run.now.tickets) (most_jobs old.options) old.run.now.plan want.Wait → MayTake m o mid
+  may_take joined wanted = record {
+    on = record {
+      jobs = along.on.jobs;
+      past = along.on.past;
+      at = at_by mid.account.now.is_ended refl stands;
+      began = λ busy path h. along.on.began busy path (held busy h);
+      wait =
+          subst (λ (a : Around). MayWait o.wanted o.kept o.before a along.on.past) (sym around)
+          (may_wait o outset (standing_of m old) (along.on.jobs, along.on.past, along.on.at) old.run.now.tickets (most_jobs old.options)
+          along.asked.jobs joined along.halted wanted);
+    };
+    asked = record {
+      keep = ap (λ (x : Options). x.keep) options ∙ along.asked.keep;
+      jobs = ap most_jobs options ∙ along.asked.jobs;
+    };
+    well = well_put;
+  }
