@@ -8,3 +8,4 @@ pub mod Sites
 pub mod Taking
 mod Lending
 mod Telling
+mod EndingOn
