@@ -72,7 +72,7 @@ module _ (o : Outset) (outset : IsOutset o) where
           stays = λ e. ap is_faulted same ∙ e;
           told = λ e. ap is_faulted same ∙ goes.reported (sym (ap (λ (a : Account). a.is_ended) same) ∙ e);
         };
-      })
+      }) (λ e. ap (λ (a : Account). a.is_ended) same ∙ e)
 
       on_by : (b : Bool) → account.is_ended ≡ b → IsOn o old.run.now.held (Told_standing plan account)
       on_by true e = halted_on old.run.now.held (Told_standing mid account) (Told_standing plan account) on_mid refl e
