@@ -17,6 +17,11 @@ use Rattle.build_files.specs.declared.inputs.Inputs.{Inputs}
 use Rattle.build_files.specs.declared.seen.Seen.{Seen}
 use Rattle.build_files.specs.declared.seen.SeenFiles.{SeenFiles}
 
+-- of no file anything is kept
+pub unread_none : (files : List Seen) → files ≡ [] → (node : ℕ) → IsUnread (seen_at files node)
+unread_none files none node =
+    subst (λ fs. IsUnread (seen_at fs node)) (sym none) (record { digest = refl; includes = refl; stamp = refl })
+
 -- nothing is read as a build begins
 pub begun_unread : (inputs : Inputs) → ((node : ℕ) → IsUnread (seen_at inputs.files.seen.items node))
     → ((scan : Scan) → get same_scan inputs.found.files scan ≡ None) → (node : ℕ) → IsUnreadIn inputs node
@@ -130,4 +135,7 @@ reads_scan old found scan value updates node out is = record {
 
 -- which rules were looked at is nothing that is read
 pub looked_only : (files : List NodeId) (old mid new : Inputs) → LooksAt mid new → ReadsOnly files old mid → ReadsOnly files old new
-looked_only files old mid new same only = subst (λ i. ReadsOnly files old i) (sym same) only
+looked_only files old mid new same only =
+    subst (λ i. ReadsOnly files old i) (sym same) (λ node out is.
+    let then = only node out is in
+    record { seen = then.seen; scans = then.scans })

@@ -47,7 +47,7 @@ pub(crate) struct Found {
 
 impl Found {
     pub(crate) fn new(alloc: Global) -> Found
-        ensures { (b : Begun) (g : RuleGraph) (gone : List (List ℕ)) (around : Around) → AreFound b g gone around result }
+        ensures truth { (b : Begun) (g : RuleGraph) (gone : List (List ℕ)) (around : Around) → AreFound b g gone around result }
         ensures unscanned { (scan : Scan) → get same_scan result.files scan ≡ None }
     {
         let lists = IndexSet::new(alloc);
