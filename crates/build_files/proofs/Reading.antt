@@ -103,6 +103,14 @@ pub reads_taken : (old : Inputs) (files : SeenFiles) (node : ℕ)
     → ReadsOnly [] old (record old { files = files })
 reads_taken old files node sees = reads_aside old files node _ sees (λ is. record { digest = is.digest; includes = refl; stamp = is.stamp })
 
+-- so it is while what the file includes is looked for
+pub reads_searched : (file : NodeId) (old read : Inputs) (taken : SeenFiles) (new : Inputs) → ReadsOnly (file ∷ []) old read
+    → SeesOne read.files.seen.items taken.seen.items file.0 (record (seen_at read.files.seen.items file.0) { includes = None })
+    → ReadsOnly [] (record read { files = taken }) new → ReadsOnly (file ∷ []) old new
+reads_searched file old read taken new first sees then =
+    reads_joined (file ∷ []) old read new first
+    (reads_fewer (file ∷ []) read new (reads_joined [] read (record read { files = taken }) new (reads_taken read taken file.0 sees) then))
+
 -- no scan is kept that wasn't
 pub reads_listed : (old : Inputs) (found : Found) → found.files ≡ old.found.files → ReadsOnly [] old (record old { found = found })
 reads_listed old found same node out is = record {
