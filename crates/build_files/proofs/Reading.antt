@@ -1,13 +1,13 @@
 -- Which files were read, call by call.
-use Rattle.std.proofs.Common.{◌≡◌, ◌≢◌, ℕ, Bool, true, false, cond, List, [], ◌∷◌, Option, Some, None, refl, sym, subst, ap, ◌∙◌}
+use Rattle.std.proofs.Common.{◌≡◌, ◌≢◌, ◌<◌, ℕ, Bool, true, false, cond, List, [], ◌∷◌, length, get_or, Some, None, refl, sym, subst, ap, ◌∙◌}
 use Rattle.std.specs.Prelude.{nat_eq}
 use Rattle.std.specs.Global.{Vec}
-use Rattle.std.specs.Map.{lookup}
 use Rattle.std.proofs.lemmas.Bool.Decides.{Decides-eqb}
+use Rattle.std.proofs.lemmas.Option.{slice_get-get_or}
 use Rattle.indexmap.specs.IndexMap.{get}
 use Rattle.scons_base.specs.declared.ids.NodeId.{NodeId}
 use Rattle.build_model.specs.Rules.{Among, here, there}
-use Rattle.build_means.proofs.Lists.{none_some, true_false, and_both}
+use Rattle.build_means.proofs.Lists.{at_place, none_some, true_false, and_both}
 use Rattle.build_files.specs.Kept.{IsUnread, LooksAt, same_scan}
 use Rattle.build_files.specs.Reading.{IsUnreadIn, ReadsOnly}
 use Rattle.build_files.specs.Seen.{seen_at, SeesOne, SeesTheSame}
@@ -49,6 +49,12 @@ reads_one files file old new among first node out is = first node (λ other m. a
     apart other here = out file among
     apart other (there m) = elim m [ ]
 
+-- one more of some files is read
+pub reads_next : (files : List NodeId) (n : ℕ) (none : NodeId) (old mid new : Inputs) → n < length files → ReadsOnly files old mid
+    → ReadsOnly (get_or files n none ∷ []) mid new → ReadsOnly files old new
+reads_next files n none old mid new within first then =
+    reads_joined files old mid new first (reads_one files (get_or files n none) mid new (at_place files n (slice_get-get_or files n none within)) then)
+
 -- where of all other files the same is kept, and no further scan
 pub reads_by : (file : NodeId) (old new : Inputs) → new.found ≡ old.found →
     ((other : ℕ) → other ≢ file.0 → seen_at new.files.seen.items other ≡ seen_at old.files.seen.items other) → ReadsOnly (file ∷ []) old new
@@ -85,19 +91,7 @@ reads_aside old files node seen sees this =
         let differ : other ≢ node = λ same. true_false (sym ((Decides-eqb other node).1 same) ∙ e) in
         subst IsUnread (sym (sees.others other differ)) is
 
--- as whether a file stood there
-pub reads_stood : (old : Inputs) (files : SeenFiles) (node : ℕ) (stood : Bool)
-    → SeesOne old.files.seen.items files.seen.items node (record (seen_at old.files.seen.items node) { is_file = Some stood })
-    → ReadsOnly [] old (record old { files = files })
-reads_stood old files node stood sees = reads_aside old files node _ sees (λ is. record { digest = is.digest; includes = is.includes; stamp = is.stamp })
-
--- and that its copy rule was looked for
-pub reads_settled : (old : Inputs) (files : SeenFiles) (node : ℕ)
-    → SeesOne old.files.seen.items files.seen.items node (record (seen_at old.files.seen.items node) { is_settled = true })
-    → ReadsOnly [] old (record old { files = files })
-reads_settled old files node sees = reads_aside old files node _ sees (λ is. record { digest = is.digest; includes = is.includes; stamp = is.stamp })
-
--- what it includes was taken out
+-- as where what it includes was taken out
 pub reads_taken : (old : Inputs) (files : SeenFiles) (node : ℕ)
     → SeesOne old.files.seen.items files.seen.items node (record (seen_at old.files.seen.items node) { includes = None })
     → ReadsOnly [] old (record old { files = files })
@@ -116,13 +110,6 @@ pub reads_listed : (old : Inputs) (found : Found) → found.files ≡ old.found.
 reads_listed old found same node out is = record {
   seen = is.seen;
   scans = λ scan nodes kept. is.scans scan nodes (ap (λ files. get same_scan files scan) (sym same) ∙ kept);
-}
-
--- the same scans are kept
-pub reads_unscanned : (old : Inputs) (found : Found) → found.files.entries ≡ old.found.files.entries → ReadsOnly [] old (record old { found = found })
-reads_unscanned old found same node out is = record {
-  seen = is.seen;
-  scans = λ scan nodes kept. is.scans scan nodes (ap (λ entries. lookup (same_scan scan) entries) (sym same) ∙ kept);
 }
 
 -- a scan of one file is kept
