@@ -1,13 +1,13 @@
 -- Which files were read, call by call.
-use Rattle.std.proofs.Common.{◌≡◌, ◌≢◌, ℕ, Bool, true, false, cond, List, [], ◌∷◌, Option, Some, None, refl, sym, subst, ap, ◌∙◌}
+use Rattle.std.proofs.Common.{◌≡◌, ◌≢◌, ◌<◌, ℕ, Bool, true, false, cond, List, [], ◌∷◌, length, get_or, Some, None, refl, sym, subst, ap, ◌∙◌}
 use Rattle.std.specs.Prelude.{nat_eq}
 use Rattle.std.specs.Global.{Vec}
-use Rattle.std.specs.Map.{lookup}
 use Rattle.std.proofs.lemmas.Bool.Decides.{Decides-eqb}
+use Rattle.std.proofs.lemmas.Option.{slice_get-get_or}
 use Rattle.indexmap.specs.IndexMap.{get}
 use Rattle.scons_base.specs.declared.ids.NodeId.{NodeId}
 use Rattle.build_model.specs.Rules.{Among, here, there}
-use Rattle.build_means.proofs.Lists.{none_some, true_false, and_both}
+use Rattle.build_means.proofs.Lists.{at_place, none_some, true_false, and_both}
 use Rattle.build_files.specs.Kept.{IsUnread, LooksAt, same_scan}
 use Rattle.build_files.specs.Reading.{IsUnreadIn, ReadsOnly}
 use Rattle.build_files.specs.Seen.{seen_at, SeesOne, SeesTheSame}
@@ -16,6 +16,11 @@ use Rattle.build_files.specs.declared.includes.Scan.{Scan}
 use Rattle.build_files.specs.declared.inputs.Inputs.{Inputs}
 use Rattle.build_files.specs.declared.seen.Seen.{Seen}
 use Rattle.build_files.specs.declared.seen.SeenFiles.{SeenFiles}
+
+-- of no file anything is kept
+pub unread_none : (files : List Seen) → files ≡ [] → (node : ℕ) → IsUnread (seen_at files node)
+unread_none files none node =
+    subst (λ fs. IsUnread (seen_at fs node)) (sym none) (record { digest = refl; includes = refl; stamp = refl })
 
 -- nothing is read as a build begins
 pub begun_unread : (inputs : Inputs) → ((node : ℕ) → IsUnread (seen_at inputs.files.seen.items node))
@@ -43,6 +48,12 @@ reads_one files file old new among first node out is = first node (λ other m. a
     apart : (other : NodeId) → Among other (file ∷ []) → other.0 ≢ node
     apart other here = out file among
     apart other (there m) = elim m [ ]
+
+-- one more of some files is read
+pub reads_next : (files : List NodeId) (n : ℕ) (none : NodeId) (old mid new : Inputs) → n < length files → ReadsOnly files old mid
+    → ReadsOnly (get_or files n none ∷ []) mid new → ReadsOnly files old new
+reads_next files n none old mid new within first then =
+    reads_joined files old mid new first (reads_one files (get_or files n none) mid new (at_place files n (slice_get-get_or files n none within)) then)
 
 -- where of all other files the same is kept, and no further scan
 pub reads_by : (file : NodeId) (old new : Inputs) → new.found ≡ old.found →
@@ -80,36 +91,25 @@ reads_aside old files node seen sees this =
         let differ : other ≢ node = λ same. true_false (sym ((Decides-eqb other node).1 same) ∙ e) in
         subst IsUnread (sym (sees.others other differ)) is
 
--- as whether a file stood there
-pub reads_stood : (old : Inputs) (files : SeenFiles) (node : ℕ) (stood : Bool)
-    → SeesOne old.files.seen.items files.seen.items node (record (seen_at old.files.seen.items node) { is_file = Some stood })
-    → ReadsOnly [] old (record old { files = files })
-reads_stood old files node stood sees = reads_aside old files node _ sees (λ is. record { digest = is.digest; includes = is.includes; stamp = is.stamp })
-
--- and that its copy rule was looked for
-pub reads_settled : (old : Inputs) (files : SeenFiles) (node : ℕ)
-    → SeesOne old.files.seen.items files.seen.items node (record (seen_at old.files.seen.items node) { is_settled = true })
-    → ReadsOnly [] old (record old { files = files })
-reads_settled old files node sees = reads_aside old files node _ sees (λ is. record { digest = is.digest; includes = is.includes; stamp = is.stamp })
-
--- what it includes was taken out
+-- as where what it includes was taken out
 pub reads_taken : (old : Inputs) (files : SeenFiles) (node : ℕ)
     → SeesOne old.files.seen.items files.seen.items node (record (seen_at old.files.seen.items node) { includes = None })
     → ReadsOnly [] old (record old { files = files })
 reads_taken old files node sees = reads_aside old files node _ sees (λ is. record { digest = is.digest; includes = refl; stamp = is.stamp })
+
+-- so it is while what the file includes is looked for
+pub reads_searched : (file : NodeId) (old read : Inputs) (taken : SeenFiles) (new : Inputs) → ReadsOnly (file ∷ []) old read
+    → SeesOne read.files.seen.items taken.seen.items file.0 (record (seen_at read.files.seen.items file.0) { includes = None })
+    → ReadsOnly [] (record read { files = taken }) new → ReadsOnly (file ∷ []) old new
+reads_searched file old read taken new first sees then =
+    reads_joined (file ∷ []) old read new first
+    (reads_fewer (file ∷ []) read new (reads_joined [] read (record read { files = taken }) new (reads_taken read taken file.0 sees) then))
 
 -- no scan is kept that wasn't
 pub reads_listed : (old : Inputs) (found : Found) → found.files ≡ old.found.files → ReadsOnly [] old (record old { found = found })
 reads_listed old found same node out is = record {
   seen = is.seen;
   scans = λ scan nodes kept. is.scans scan nodes (ap (λ files. get same_scan files scan) (sym same) ∙ kept);
-}
-
--- the same scans are kept
-pub reads_unscanned : (old : Inputs) (found : Found) → found.files.entries ≡ old.found.files.entries → ReadsOnly [] old (record old { found = found })
-reads_unscanned old found same node out is = record {
-  seen = is.seen;
-  scans = λ scan nodes kept. is.scans scan nodes (ap (λ entries. lookup (same_scan scan) entries) (sym same) ∙ kept);
 }
 
 -- a scan of one file is kept
@@ -130,4 +130,7 @@ reads_scan old found scan value updates node out is = record {
 
 -- which rules were looked at is nothing that is read
 pub looked_only : (files : List NodeId) (old mid new : Inputs) → LooksAt mid new → ReadsOnly files old mid → ReadsOnly files old new
-looked_only files old mid new same only = subst (λ i. ReadsOnly files old i) (sym same) only
+looked_only files old mid new same only =
+    subst (λ i. ReadsOnly files old i) (sym same) (λ node out is.
+    let then = only node out is in
+    record { seen = then.seen; scans = then.scans })

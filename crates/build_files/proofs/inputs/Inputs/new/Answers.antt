@@ -8,4 +8,6 @@ returns c = record {
   truth = λ b around is.
       c.past.ensures.truth b around
       (subst (λ (keys : List Path). Begins b c.args.graph.now c.args.hash keys around) (sym c.new-gone.ensures.empty) is);
+  unread = c.past.ensures.unread;
+  unscanned = c.past.ensures.unscanned;
 }

@@ -1,10 +1,13 @@
 use Rattle.std.proofs.Common.{refl}
 use Rattle.build_files.proofs.Beginning.{begun_true}
+use Rattle.build_files.proofs.Reading.{unread_none}
 use Rattle.build_files.proofs.inputs.Inputs.past.Goals as goal
 
 pub returns : goal.returns
 returns c = record {
   truth = λ b around is.
       begun_true b c.args.graph.now _ c.args.gone.keys around c.new-files.ensures refl is c.new-unknown.ensures.empty c.rules.ensures.len
-      (c.new-found.ensures b c.args.graph.now c.args.gone.keys around);
+      (c.new-found.ensures.truth b c.args.graph.now c.args.gone.keys around);
+  unread = λ node. unread_none c.new-files.result.seen.items c.new-files.ensures node;
+  unscanned = c.new-found.ensures.unscanned;
 }

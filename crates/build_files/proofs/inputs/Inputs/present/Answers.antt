@@ -8,7 +8,7 @@ use Rattle.world_api.proofs.Looking.{looks_same, looks_joined}
 use Rattle.build_means.specs.Rules.{IsReading, paths_of}
 use Rattle.build_files.specs.Kept.{past, stamp_past}
 use Rattle.build_files.proofs.Presence.{AreThere, none_there, there_more, first_absent, is_present, among_ids, at_path, still_on, seen_since, ok_same, not_missing, is_missing}
-use Rattle.build_files.proofs.Reading.{reads_joined, reads_none, reads_one}
+use Rattle.build_files.proofs.Reading.{reads_next, reads_none}
 use Rattle.build_files.proofs.RuleAt.{of_rule}
 use Rattle.build_files.proofs.inputs.Inputs.present.Goals as goal
 
@@ -20,6 +20,21 @@ returns-in_err-push-clause-looks g c = looks_joined _ _ _ _ c.loop-node.invarian
 
 pub returns-then-is_lacking-clause-looks : goal.returns-then-is_lacking-clause-looks
 returns-then-is_lacking-clause-looks g c = looks_joined _ _ _ _ c.loop-node.invariant.looks c.dep.ensures.looks
+
+pub returns-in_err-dep-clause-only : goal.returns-in_err-dep-clause-only
+returns-in_err-dep-clause-only g c =
+    reads_next c.args.nodes.now c.loop-node.node-index (record { 0 = 0 }) c.args.self.now c.loop-node.self c.dep.new.self (omega (arith, c.loop-node-test.true))
+    c.loop-node.invariant.only c.dep.ensures.only
+
+pub returns-in_err-push-clause-only : goal.returns-in_err-push-clause-only
+returns-in_err-push-clause-only g c =
+    reads_next c.args.nodes.now c.loop-node.node-index (record { 0 = 0 }) c.args.self.now c.loop-node.self c.dep.new.self (omega (arith, c.loop-node-test.true))
+    c.loop-node.invariant.only c.dep.ensures.only
+
+pub returns-then-is_lacking-clause-only : goal.returns-then-is_lacking-clause-only
+returns-then-is_lacking-clause-only g c =
+    reads_next c.args.nodes.now c.loop-node.node-index (record { 0 = 0 }) c.args.self.now c.loop-node.self c.dep.new.self (omega (arith, c.loop-node-test.true))
+    c.loop-node.invariant.only c.dep.ensures.only
 
 pub returns-in_err-dep-clause-truth : goal.returns-in_err-dep-clause-truth
 returns-in_err-dep-clause-truth g c = λ still told b is.
@@ -76,7 +91,7 @@ loop-node-preserved g c =
       looks = looks_joined _ _ _ _ c.loop-node.invariant.looks c.dep.ensures.looks;
       counts = c.in_ok-dep.ensures.cause ∙ c.loop-node.invariant.counts;
       gone = c.dep.ensures.gone ∙ c.loop-node.invariant.gone;
-      only = reads_joined c.args.nodes.now _ _ _ c.loop-node.invariant.only (reads_one c.args.nodes.now node _ _ among c.dep.ensures.only);
+      only = reads_next c.args.nodes.now c.loop-node.node-index (record { 0 = 0 }) c.args.self.now c.loop-node.self c.dep.new.self within c.loop-node.invariant.only c.dep.ensures.only;
       truth = λ still told b is.
           let before = c.dep.ensures.looks.told.told told in
           c.dep.ensures.truth (still_on graph _ _ node.0 (c.loop-node.invariant.looks.around before) (still node among)) told b (c.loop-node.invariant.truth still before b is);

@@ -1,6 +1,7 @@
-use Rattle.build_files.proofs.Truths.{ap, asked, read_true}
+use Rattle.std.proofs.Common.{ap}
 use Rattle.build_files.specs.declared.inputs.Inputs.{Inputs}
 use Rattle.build_files.proofs.Reading.{reads_by}
+use Rattle.build_files.proofs.Truths.{asked, read_true}
 use Rattle.build_files.proofs.inputs.Inputs.read.Goals as goal
 
 pub returns-clause-truth : goal.returns-clause-truth
