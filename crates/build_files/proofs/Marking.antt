@@ -14,9 +14,11 @@ use Rattle.rule_graph.specs.Graphs.{RuleGraph}
 use Rattle.rule_graph.specs.Rules.{rule_of, is_target_of, AreSingle}
 use Rattle.build_model.specs.Rules.{Among, here, there}
 use Rattle.build_means.proofs.Lists.{none_some, some_same, true_false, or_either, or_first, or_second, or_neither, first_place}
+use Rattle.build_means.specs.Rules.{keeps_sources}
+use Rattle.world_api.specs.declared.job.Work.TheVariants.{Shell}
 use Rattle.build_means.proofs.Growing.{get_front, get_either}
 use Rattle.build_files.specs.Kept.{LooksAt}
-use Rattle.build_files.specs.Marked.{is_among, is_listed, is_marked, was_settled, copies_somewhere, AreAllSought, AreGoneOver, AreGoneOverBut, AreNamedSought, AreSought, IsNamedBy, IsRuleMarked, IsSought, KeepsMarks, KeepsRules, KeepsSought, Marks, PutsBehind}
+use Rattle.build_files.specs.Marked.{is_among, is_listed, is_marked, was_settled, copies_somewhere, AreAllSought, AreGoneOver, AreGoneOverBut, AreNamedSought, AreSought, IsNamedBy, is_required, is_source, is_needed, is_library, IsRuleMarked, IsSought, KeepsMarks, KeepsRules, KeepsSought, Marks, PutsBehind}
 use Rattle.build_files.specs.Searched.{GrowsTo, HasMore}
 use Rattle.build_files.specs.Seen.{seen_at, SeesOne}
 use Rattle.build_files.specs.declared.inputs.Inputs.{Inputs}
@@ -189,3 +191,42 @@ looked_again g old new number is_new rules looks marks again = record {
     by : (k : ℕ) → is_marked new k ≡ true → (c : Bool) → nat_eq k number ≡ c → is_marked old k ≡ true
     by k e true same = ap (is_marked old) ((Decides-eqb k number).0 same) ∙ was (is_marked old number) (sym again ∙ marks.was)
     by k e false away = sym (marks.others k (apart k number away)) ∙ e
+
+-- The sources of a rule were put behind others: all but the ignored ones, or all where the rule keeps them.
+pub record TakesSources (of : Rule) (before after : List NodeId) : Type 0 where
+  pub there : (n : NodeId) → is_among before n ≡ true → is_among after n ≡ true
+  pub sources : (n : NodeId) → is_among of.sources n ≡ true → (keeps_sources of.work ≡ true) ⊎ (is_among of.ignored n ≡ false) → is_among after n ≡ true
+
+pub takes_all : (of : Rule) (before sources after : List NodeId) → sources ≡ of.sources → after ≡ before ++ sources → TakesSources of before after
+takes_all of before sources after same is = record {
+  there = λ n e. ap (λ (ns : List NodeId). is_among ns n) is ∙ among_left before sources n e;
+  sources = λ n e keeps. ap (λ (ns : List NodeId). is_among ns n) is ∙ among_right before sources n (ap (λ (ns : List NodeId). is_among ns n) same ∙ e);
+}
+
+pub takes_kept : (of : Rule) (out before after : List NodeId) → of.work ≡ Shell → ((n : NodeId) → is_among out n ≡ is_among of.ignored n)
+    → after ≡ before ++ filter (λ m. not (is_among out m)) of.sources → TakesSources of before after
+takes_kept of out before after work same is = record {
+  there = λ n e. ap (λ (ns : List NodeId). is_among ns n) is ∙ among_left before (filter (λ m. not (is_among out m)) of.sources) n e;
+  sources = λ n e keeps. elim keeps [
+    | inl k ↦ true_false (sym k ∙ ap keeps_sources work)
+    | inr none ↦ kept_among out before of.sources after n is e (same n ∙ none)
+  ];
+}
+
+-- so all that a rule names stands there
+pub named_among : (of : Rule) (out required first second third : List NodeId) → ((n : NodeId) → is_among out n ≡ is_among of.ignored n) → required ≡ of.required
+    → TakesSources of required first → second ≡ first ++ filter (λ m. not (is_among out m)) of.depends → third ≡ second ++ filter (λ m. not (is_among out m)) of.libs
+    → (n : NodeId) → IsNamedBy of n → is_among third n ≡ true
+named_among of out required first second third same are takes depends libs n named = by named
+  where
+    later : is_among second n ≡ true → is_among third n ≡ true
+    later e = ap (λ (ns : List NodeId). is_among ns n) libs ∙ among_left second (filter (λ m. not (is_among out m)) of.libs) n e
+
+    on : is_among first n ≡ true → is_among third n ≡ true
+    on e = later (ap (λ (ns : List NodeId). is_among ns n) depends ∙ among_left first (filter (λ m. not (is_among out m)) of.depends) n e)
+
+    by : IsNamedBy of n → is_among third n ≡ true
+    by (is_required e) = on (takes.there n (ap (λ (ns : List NodeId). is_among ns n) are ∙ e))
+    by (is_source e keeps) = on (takes.sources n e keeps)
+    by (is_needed e none) = later (kept_among out first of.depends second n depends e (same n ∙ none))
+    by (is_library e none) = kept_among out second of.libs third n libs e (same n ∙ none)
