@@ -8,4 +8,5 @@ returns c = record {
   truth = λ b around is.
       c.past.ensures.truth b around
       (subst (λ (keys : List Path). Begins b c.args.graph.now c.args.hash keys around) (sym c.new-gone.ensures.empty) is);
+  unmarked = c.past.ensures.unmarked;
 }
