@@ -1,26 +1,25 @@
 -- Which rules are marked and which files are sought, call by call.
-use Rattle.std.proofs.Common.{◌≡◌, ◌≢◌, ◌<◌, ◌≤◌, ◌+◌, ◌⊎◌, inl, inr, ◌∙◌, ap, sym, subst, refl, ℕ, zero, suc, Bool, true, false, not, cond, ◌||◌, List, [], ◌∷◌, ◌++◌, append_assoc, length, length-append, drop, Option, Some, None, arith}
+use Rattle.std.proofs.Common.{◌≡◌, ◌≢◌, ◌<◌, ◌≤◌, ◌+◌, ◌⊎◌, inl, inr, ◌∙◌, ap, sym, subst, refl, ℕ, zero, suc, Bool, true, false, not, cond, ◌||◌, List, [], ◌∷◌, ◌++◌, append_assoc, length, length-append, drop, take, Option, Some, None, arith}
 use Rattle.std.specs.Prelude.{nat_eq, filter, get_or, slice_get}
 use Rattle.std.specs.Global.{Vec}
 use Rattle.std.specs.List.{list_any}
 use Rattle.std.proofs.lemmas.Bool.Decides.{Decides-eqb}
-use Rattle.std.proofs.lemmas.List.{append-nil, drop-append-le}
+use Rattle.std.proofs.lemmas.List.{append-nil, drop-append-le, take_more}
 use Rattle.std.proofs.lemmas.List.Folds.{list_any-append}
 use Rattle.scons_base.specs.declared.ids.NodeId.{NodeId}
 use Rattle.scons_base.specs.declared.ids.RuleId.{RuleId}
 use Rattle.variant_dirs.specs.declared.variants.Variant.{Variant}
 use Rattle.rule_graph.specs.declared.rule.Rule.{Rule}
 use Rattle.rule_graph.specs.Graphs.{RuleGraph}
-use Rattle.rule_graph.specs.Rules.{rule_of, is_target_of, AreSingle}
-use Rattle.build_model.specs.Rules.{Among, here, there}
-use Rattle.build_means.proofs.Lists.{none_some, some_same, true_false, or_either, or_first, or_second, or_neither, first_place}
+use Rattle.rule_graph.specs.Rules.{rule_of}
+use Rattle.build_means.proofs.Lists.{none_some, some_same, true_false, or_either, or_first, or_second, or_neither}
 use Rattle.build_means.specs.Rules.{keeps_sources}
 use Rattle.world_api.specs.declared.job.Work.TheVariants.{Shell}
-use Rattle.build_means.proofs.Growing.{get_front, get_either}
+use Rattle.build_means.proofs.Growing.{get_front}
 use Rattle.build_files.specs.Kept.{LooksAt}
-use Rattle.build_files.specs.Marked.{is_among, is_listed, is_marked, was_settled, copies_somewhere, AreAllSought, AreGoneOver, AreGoneOverBut, AreNamedSought, AreSought, IsNamedBy, is_required, is_source, is_needed, is_library, IsRuleMarked, IsSought, KeepsMarks, KeepsRules, KeepsSought, Marks, PutsBehind}
+use Rattle.build_files.specs.Marked.{is_among, is_listed, is_marked, was_settled, copies_somewhere, AreAllSought, AreGoneOver, AreGoneOverBut, AreNamedSought, AreSought, IsNamedBy, is_required, is_source, is_needed, is_library, IsRuleMarked, IsSought, KeepsMarks, KeepsSought, Marks, PutsBehind}
 use Rattle.build_files.specs.Searched.{GrowsTo, HasMore}
-use Rattle.build_files.specs.Seen.{seen_at, SeesOne}
+use Rattle.build_files.specs.Seen.{seen_at}
 use Rattle.build_files.specs.declared.inputs.Inputs.{Inputs}
 use Rattle.build_files.specs.declared.seen.Seen.{Seen}
 
@@ -88,61 +87,9 @@ marks_grown g h inputs same = record {
   unruled = λ node e none. ap (λ (rules : List Rule). rule_of rules node) same ∙ none;
 }
 
+-- numbers that a test tells apart
 apart : (n m : ℕ) → nat_eq n m ≡ false → n ≢ m
 apart n m e = λ same. true_false (sym ((Decides-eqb n m).1 same) ∙ e)
-
--- A file without a rule that wasn't settled got one, and no other did.
-pub marks_ruled : (g h : RuleGraph) (old new : Inputs) (node : ℕ) → rule_of g.rules node ≡ None → was_settled old node ≡ false → KeepsRules g h node
-    → new.looked_at ≡ old.looked_at → ((n : ℕ) → was_settled old n ≡ true → was_settled new n ≡ true) → KeepsMarks g old h new
-marks_ruled g h old new node none unsettled keeps looked settled = record {
-  marked = looked;
-  settled = settled;
-  ruled = λ n number e. by_ruled n number e (nat_eq n node) refl;
-  unruled = λ n done bare. by_unruled n done bare (nat_eq n node) refl;
-}
-  where
-    by_ruled : (n number : ℕ) → rule_of g.rules n ≡ Some number → (c : Bool) → nat_eq n node ≡ c → rule_of h.rules n ≡ Some number
-    by_ruled n number e true same = none_some (sym none ∙ ap (rule_of g.rules) (sym ((Decides-eqb n node).0 same)) ∙ e)
-    by_ruled n number e false other = keeps n (apart n node other) ∙ e
-
-    by_unruled : (n : ℕ) → was_settled old n ≡ true → rule_of g.rules n ≡ None → (c : Bool) → nat_eq n node ≡ c → rule_of h.rules n ≡ None
-    by_unruled n done bare true same = true_false (sym done ∙ ap (was_settled old) ((Decides-eqb n node).0 same) ∙ unsettled)
-    by_unruled n done bare false other = keeps n (apart n node other) ∙ bare
-
--- a file was settled, and others stay as they were
-pub settled_more : (old new : Inputs) (node : ℕ) → SeesOne old.files.seen.items new.files.seen.items node (record (seen_at old.files.seen.items node) { is_settled = true })
-    → (n : ℕ) → was_settled old n ≡ true → was_settled new n ≡ true
-settled_more old new node sees n done = by (nat_eq n node) refl
-  where
-    by : (c : Bool) → nat_eq n node ≡ c → was_settled new n ≡ true
-    by true same = ap (was_settled new) ((Decides-eqb n node).0 same) ∙ ap (λ (s : Seen). s.is_settled) sees.this
-    by false other = ap (λ (s : Seen). s.is_settled) (sees.others n (apart n node other)) ∙ done
-
--- the rules of nodes where one was put behind: each but its target has the one that it had
-pub rules_kept : (g h : RuleGraph) (x : Rule) (node : ℕ) → h.rules ≡ g.rules ++ x ∷ [] → ((n : ℕ) → n ≢ node → is_target_of x.targets n ≡ false)
-    → AreSingle g.rules → AreSingle h.rules → KeepsRules g h node
-rules_kept g h x node same targets before after other away = by (rule_of g.rules other) refl
-  where
-    late : (i : ℕ) (r : Rule) → is_target_of r.targets other ≡ true → rule_of g.rules other ≡ None → (slice_get g.rules i ≡ Some r) ⊎ ((slice_get g.rules i ≡ None) × Among r (x ∷ []))
-        → rule_of h.rules other ≡ None
-    late i r target none (inl at) = none_some (sym none ∙ before i other r at target)
-    late i r target none (inr new) = true_false (sym target ∙ ap (λ (y : Rule). is_target_of y.targets other) (only new.1) ∙ targets other away)
-      where
-        only : {r y : Rule} → Among r (y ∷ []) → r ≡ y
-        only here = refl
-        only (there m) = elim m [ ]
-
-    bare : rule_of g.rules other ≡ None → (o : Option ℕ) → rule_of h.rules other ≡ o → rule_of h.rules other ≡ None
-    bare none None e = e
-    bare none (Some i) e =
-        let place = first_place (λ r. is_target_of r.targets other) h.rules i e in
-        late i place.0 place.2 none (get_either g.rules (x ∷ []) i place.0 (ap (λ (rules : List Rule). slice_get rules i) (sym same) ∙ place.1))
-
-    by : (o : Option ℕ) → rule_of g.rules other ≡ o → rule_of h.rules other ≡ rule_of g.rules other
-    by None e = bare e (rule_of h.rules other) refl ∙ sym e
-    by (Some i) e =
-        let place = first_place (λ r. is_target_of r.targets other) g.rules i e in
-        after i other place.0 (ap (λ (rules : List Rule). slice_get rules i) same ∙ get_front g.rules (x ∷ []) i place.0 place.1) place.2 ∙ sym e
 
 -- what was looked for still is
 pub kept_sought : (g : RuleGraph) (a : Inputs) (h : RuleGraph) (b : Inputs) → KeepsMarks g a h b → KeepsSought g a h b
@@ -230,3 +177,124 @@ named_among of out required first second third same are takes depends libs n nam
     by (is_source e keeps) = on (takes.sources n e keeps)
     by (is_needed e none) = later (kept_among out first of.depends second n depends e (same n ∙ none))
     by (is_library e none) = kept_among out second of.libs third n libs e (same n ∙ none)
+
+-- rules that stand among others
+listed_left : (xs ys : List RuleId) (k : ℕ) → is_listed xs k ≡ true → is_listed (xs ++ ys) k ≡ true
+listed_left xs ys k e = list_any-append (λ r. nat_eq k r.0) xs ys ∙ or_first (is_listed xs k) (is_listed ys k) e
+
+listed_right : (xs ys : List RuleId) (k : ℕ) → is_listed ys k ≡ true → is_listed (xs ++ ys) k ≡ true
+listed_right xs ys k e = list_any-append (λ r. nat_eq k r.0) xs ys ∙ or_second (is_listed xs k) (is_listed ys k) e
+
+listed_either : (xs ys : List RuleId) (k : ℕ) → is_listed (xs ++ ys) k ≡ true → (is_listed xs k ≡ true) ⊎ (is_listed ys k ≡ true)
+listed_either xs ys k e = or_either (is_listed xs k) (is_listed ys k) (sym (list_any-append (λ r. nat_eq k r.0) xs ys) ∙ e)
+
+listed_neither : (xs ys : List RuleId) (k : ℕ) → is_listed (xs ++ ys) k ≡ false → (is_listed xs k ≡ false) × (is_listed ys k ≡ false)
+listed_neither xs ys k e = or_neither (is_listed xs k) (is_listed ys k) (sym (list_any-append (λ r. nat_eq k r.0) xs ys) ∙ e)
+
+pub rules_grown : (g h : RuleGraph) → GrowsTo g h → length g.rules ≤ length h.rules
+rules_grown g h grew = let e = ap (λ (rules : List Rule). length rules) grew.rules in omega (arith, e, length-append g.rules grew.added)
+
+-- no rule was put behind
+pub puts_none : (g : RuleGraph) (a : Inputs) (h : RuleGraph) (b : Inputs) (rules : List RuleId) → KeepsMarks g a h b → PutsBehind g a h b rules rules
+puts_none g a h b rules keeps = record {
+  more = [];
+  is = sym (append-nil rules);
+  sought = kept_sought g a h b keeps;
+  marked = λ k e. inl (sym (ap (λ (l : Vec Bool). get_or l.items k false) keeps.marked) ∙ e);
+  known = λ k e. true_false (sym e);
+}
+
+pub puts_joined : (g : RuleGraph) (a : Inputs) (h : RuleGraph) (b : Inputs) (i : RuleGraph) (c : Inputs) (x y z : List RuleId) → length h.rules ≤ length i.rules
+    → PutsBehind g a h b x y → PutsBehind h b i c y z → PutsBehind g a i c x z
+puts_joined g a h b i c x y z le p q = record {
+  more = p.more ++ q.more;
+  is = q.is ∙ ap (λ (rs : List RuleId). rs ++ q.more) p.is ∙ append_assoc x p.more q.more;
+  sought = λ n e. q.sought n (p.sought n e);
+  marked = λ k e. elim (q.marked k e) [
+    | inl was ↦ elim (p.marked k was) [
+      | inl old ↦ inl old
+      | inr there ↦ inr (listed_left p.more q.more k there)
+    ]
+    | inr new ↦ inr (listed_right p.more q.more k new)
+  ];
+  known = λ k e. elim (listed_either p.more q.more k e) [
+    | inl there ↦ let below = p.known k there in omega (arith, below, le)
+    | inr new ↦ q.known k new
+  ];
+}
+
+-- a file was looked for, and its rule looked at
+pub sought_now : (h : RuleGraph) (b c : Inputs) (n : NodeId) → LooksAt b c → (rule_of h.rules n.0 ≡ None → was_settled b n.0 ≡ true) → IsRuleMarked h c n.0 → IsSought h c n
+sought_now h b c n looks settled marked = record {
+  marked = marked;
+  settled = λ none. ap (λ (i : Inputs). was_settled i n.0) looks ∙ settled none;
+}
+
+-- so it is of one file more
+pub all_more : (h : RuleGraph) (c : Inputs) (nodes : List NodeId) (node : NodeId) → AreAllSought h c nodes → IsSought h c node → AreAllSought h c (nodes ++ node ∷ [])
+all_more h c nodes node all sought n e =
+    elim (or_either (is_among nodes n) (is_among (node ∷ []) n) (sym (list_any-append (λ m. nat_eq n.0 m.0) nodes (node ∷ [])) ∙ e)) [
+      | inl there ↦ all n there
+      | inr one ↦ subst (λ m. IsSought h c m) (sym (eq_node n node (only one))) sought
+    ]
+  where
+    only : (nat_eq n.0 node.0 || false) ≡ true → nat_eq n.0 node.0 ≡ true
+    only e = elim (or_either (nat_eq n.0 node.0) false e) [ inl f ↦ f | inr f ↦ true_false (sym f) ]
+
+-- a rule within a graph is the one that was there before it grew
+rule_before : (rules added : List Rule) (k : ℕ) (of : Rule) → k < length rules → slice_get (rules ++ added) k ≡ Some of → slice_get rules k ≡ Some of
+rule_before [] added k of below at = absurd (omega (arith, below))
+rule_before (r ∷ rules) added zero of below at = at
+rule_before (r ∷ rules) added (suc k) of below at = rule_before rules added k of (omega (arith, below)) at
+
+pub rule_was : (g h : RuleGraph) (k : ℕ) (of : Rule) → GrowsTo g h → k < length g.rules → slice_get h.rules k ≡ Some of → slice_get g.rules k ≡ Some of
+rule_was g h k of grew below at = rule_before g.rules grew.added k of below (sym (ap (λ (rules : List Rule). slice_get rules k) grew.rules) ∙ at)
+
+-- rules that are put behind are still to do
+pub over_put : (g : RuleGraph) (a : Inputs) (h : RuleGraph) (b : Inputs) (todo more : List RuleId) → GrowsTo g h → KeepsSought g a h b
+    → ((k : ℕ) → is_marked b k ≡ true → (is_marked a k ≡ true) ⊎ (is_listed more k ≡ true)) → ((k : ℕ) → is_listed more k ≡ true → k < length h.rules)
+    → AreGoneOverBut g a todo → AreGoneOverBut h b (todo ++ more)
+over_put g a h b todo more grew sought marked known over = record {
+  known = λ k e. elim (marked k e) [
+    | inl old ↦ let below = over.known k old in omega (arith, below, rules_grown g h grew)
+    | inr new ↦ known k new
+  ];
+  named = λ k of e none at n named. by k of none at n named (marked k e);
+}
+  where
+    by : (k : ℕ) (of : Rule) → is_listed (todo ++ more) k ≡ false → slice_get h.rules k ≡ Some of → (n : NodeId) → IsNamedBy of n → (is_marked a k ≡ true) ⊎ (is_listed more k ≡ true)
+        → IsSought h b n
+    by k of none at n named (inl old) =
+        sought n (over.named k of old (listed_neither todo more k none).0 (rule_was g h k of grew (over.known k old) at) n named)
+    by k of none at n named (inr new) = true_false (sym new ∙ (listed_neither todo more k none).1)
+
+-- of a rule that is still to do all was looked for that it names
+pub over_done : (h : RuleGraph) (b : Inputs) (rule : RuleId) (todo : List RuleId) → ((of : Rule) → slice_get h.rules rule.0 ≡ Some of → AreNamedSought h b of)
+    → AreGoneOverBut h b (rule ∷ todo) → AreGoneOverBut h b todo
+over_done h b rule todo sought over = record {
+  known = over.known;
+  named = λ k of e none at. by k of e none at (nat_eq k rule.0) refl;
+}
+  where
+    by : (k : ℕ) (of : Rule) → is_marked b k ≡ true → is_listed todo k ≡ false → slice_get h.rules k ≡ Some of → (c : Bool) → nat_eq k rule.0 ≡ c → AreNamedSought h b of
+    by k of e none at true same = sought of (sym (ap (slice_get h.rules) ((Decides-eqb k rule.0).0 same)) ∙ at)
+    by k of e none at false away = over.named k of e (ap (λ c. c || is_listed todo k) away ∙ none) at
+
+-- where no rule was looked at all is gone over as before
+pub over_kept : (g : RuleGraph) (a : Inputs) (h : RuleGraph) (b : Inputs) → GrowsTo g h → KeepsMarks g a h b → AreGoneOver g a → AreGoneOver h b
+over_kept g a h b grew keeps over some =
+    let was = over (sym (ap copies_somewhere grew.rest) ∙ some) in
+    over_put g a h b [] [] grew (kept_sought g a h b keeps) (λ k e. inl (sym (ap (λ (l : Vec Bool). get_or l.items k false) keeps.marked) ∙ e)) (λ k e. true_false (sym e)) was
+
+-- the step of a loop over files
+pub each_puts : (g : RuleGraph) (a : Inputs) (h : RuleGraph) (b : Inputs) (i : RuleGraph) (c d : Inputs) (before mid after : List RuleId) → GrowsTo h i
+    → PutsBehind g a h b before mid → KeepsMarks h b i c → PutsBehind i c i d mid after → PutsBehind g a i d before after
+each_puts g a h b i c d before mid after grew p keeps q =
+    puts_joined g a i c i d before mid after (omega arith) (puts_joined g a h b i c before mid mid (rules_grown h i grew) p (puts_none h b i c mid keeps)) q
+
+pub each_sought : (h : RuleGraph) (b : Inputs) (i : RuleGraph) (c d : Inputs) (mid after : List RuleId) (nodes : List NodeId) (k : ℕ) (node : NodeId) → k < length nodes → node ≡ get_or nodes k node
+    → AreAllSought h b (take k nodes) → KeepsMarks h b i c → PutsBehind i c i d mid after → LooksAt c d → (rule_of i.rules node.0 ≡ None → was_settled c node.0 ≡ true) → IsRuleMarked i d node.0
+    → AreAllSought i d (take (k + 1) nodes)
+each_sought h b i c d mid after nodes k node below is all keeps puts looks settled marked =
+    subst (AreAllSought i d) (sym (take_more nodes k node below ∙ ap (λ m. take k nodes ++ m ∷ []) (sym is)))
+    (all_more i d (take k nodes) node (λ n e. puts.sought n (kept_sought h b i c keeps n (all n e))) (sought_now i c d node looks settled marked))
