@@ -1,10 +1,12 @@
 -- Which rules are marked and which files are sought, call by call.
-use Rattle.std.proofs.Common.{◌≡◌, ◌≢◌, ◌<◌, ◌≤◌, ◌+◌, ◌⊎◌, inl, inr, ◌∙◌, ap, sym, subst, refl, ℕ, zero, suc, Bool, true, false, not, cond, ◌||◌, List, [], ◌∷◌, ◌++◌, append_assoc, length, length-append, drop, take, Option, Some, None, arith}
-use Rattle.std.specs.Prelude.{nat_eq, filter, get_or, slice_get}
+use Rattle.std.proofs.Common.{◌≡◌, ◌≢◌, ◌<◌, ◌≤◌, ◌+◌, ◌⊎◌, inl, inr, ◌∙◌, ap, sym, subst, refl, ℕ, zero, suc, Bool, true, false, not, cond, ◌||◌, List, [], ◌∷◌, ◌++◌, append_assoc, length, length-append, drop, take, Option, Some, None, arith, ltb-true, Bor}
+use Rattle.std.specs.Prelude.{nat_eq, nat_lt, filter, get_or, slice_get, is_some, IfSome}
+use Rattle.std.specs.Option.{option_copied}
 use Rattle.std.specs.Global.{Vec}
 use Rattle.std.specs.List.{list_any}
 use Rattle.std.proofs.lemmas.Bool.Decides.{Decides-eqb}
-use Rattle.std.proofs.lemmas.List.{append-nil, drop-append-le, take_more}
+use Rattle.std.proofs.lemmas.List.{append-nil, drop-append-le, drop_more, take_more}
+use Rattle.std.proofs.lemmas.Option.{slice_get-get_or}
 use Rattle.std.proofs.lemmas.List.Folds.{list_any-append}
 use Rattle.scons_base.specs.declared.ids.NodeId.{NodeId}
 use Rattle.scons_base.specs.declared.ids.RuleId.{RuleId}
@@ -268,18 +270,6 @@ over_put g a h b todo more grew sought marked known over = record {
         sought n (over.named k of old (listed_neither todo more k none).0 (rule_was g h k of grew (over.known k old) at) n named)
     by k of none at n named (inr new) = true_false (sym new ∙ (listed_neither todo more k none).1)
 
--- of a rule that is still to do all was looked for that it names
-pub over_done : (h : RuleGraph) (b : Inputs) (rule : RuleId) (todo : List RuleId) → ((of : Rule) → slice_get h.rules rule.0 ≡ Some of → AreNamedSought h b of)
-    → AreGoneOverBut h b (rule ∷ todo) → AreGoneOverBut h b todo
-over_done h b rule todo sought over = record {
-  known = over.known;
-  named = λ k of e none at. by k of e none at (nat_eq k rule.0) refl;
-}
-  where
-    by : (k : ℕ) (of : Rule) → is_marked b k ≡ true → is_listed todo k ≡ false → slice_get h.rules k ≡ Some of → (c : Bool) → nat_eq k rule.0 ≡ c → AreNamedSought h b of
-    by k of e none at true same = sought of (sym (ap (slice_get h.rules) ((Decides-eqb k rule.0).0 same)) ∙ at)
-    by k of e none at false away = over.named k of e (ap (λ c. c || is_listed todo k) away ∙ none) at
-
 -- where no rule was looked at all is gone over as before
 pub over_kept : (g : RuleGraph) (a : Inputs) (h : RuleGraph) (b : Inputs) → GrowsTo g h → KeepsMarks g a h b → AreGoneOver g a → AreGoneOver h b
 over_kept g a h b grew keeps over some =
@@ -298,3 +288,61 @@ pub each_sought : (h : RuleGraph) (b : Inputs) (i : RuleGraph) (c d : Inputs) (m
 each_sought h b i c d mid after nodes k node below is all keeps puts looks settled marked =
     subst (AreAllSought i d) (sym (take_more nodes k node below ∙ ap (λ m. take k nodes ++ m ∷ []) (sym is)))
     (all_more i d (take k nodes) node (λ n e. puts.sought n (kept_sought h b i c keeps n (all n e))) (sought_now i c d node looks settled marked))
+
+-- what was looked for in a call is in the next, and what was put behind is still to do
+pub over_puts : (g : RuleGraph) (a : Inputs) (h : RuleGraph) (b : Inputs) (before after : List RuleId) → GrowsTo g h → PutsBehind g a h b before after → AreGoneOverBut g a before
+    → AreGoneOverBut h b after
+over_puts g a h b before after grew puts over =
+    subst (AreGoneOverBut h b) (sym puts.is) (over_put g a h b before puts.more grew puts.sought puts.marked puts.known over)
+
+-- what stands at a place, and behind it
+place_within : (rules : List RuleId) (place : ℕ) (rule : RuleId) → slice_get rules place ≡ Some rule → place < length rules
+place_within [] place rule at = none_some at
+place_within (r ∷ rules) zero rule at = omega arith
+place_within (r ∷ rules) (suc place) rule at = let below = place_within rules place rule at in omega (arith, below)
+
+drop_at_place : (rules : List RuleId) (place : ℕ) (rule : RuleId) → slice_get rules place ≡ Some rule → drop place rules ≡ rule ∷ drop (place + 1) rules
+drop_at_place rules place rule at =
+    let within = place_within rules place rule at in
+    drop_more rules place rule within ∙ ap (λ (x : RuleId). x ∷ drop (place + 1) rules) (some_same (sym (slice_get-get_or rules place rule within) ∙ at))
+
+-- what was copied from a place stands there
+pub copied_at : (rules : List RuleId) (place : ℕ) (r : Option (Bor RuleId)) (rule : RuleId) → option_copied r ≡ Some rule → is_some r ≡ nat_lt place (length rules)
+    → IfSome r (λ x. x.now ≡ get_or rules place x.now) → slice_get rules place ≡ Some rule
+copied_at rules place None rule same within at = none_some same
+copied_at rules place (Some x) rule same within at =
+    slice_get-get_or rules place x.now (ltb-true place (length rules) (sym within)) ∙ ap (λ (y : RuleId). Some y) (sym at) ∙ same
+
+-- the step of a loop over rules that are still to do
+pub over_next : (g : RuleGraph) (a : Inputs) (h : RuleGraph) (b : Inputs) (before after : List RuleId) (place : ℕ) (rule : RuleId) → slice_get before place ≡ Some rule → GrowsTo g h
+    → PutsBehind g a h b before after → ((of : Rule) → slice_get g.rules rule.0 ≡ Some of → AreNamedSought h b of) → AreGoneOverBut g a (drop place before)
+    → AreGoneOverBut h b (drop (place + 1) after)
+over_next g a h b before after place rule at grew puts sought over = record {
+  known = λ k e. elim (puts.marked k e) [
+    | inl old ↦ let below = over.known k old in omega (arith, below, rules_grown g h grew)
+    | inr new ↦ puts.known k new
+  ];
+  named = λ k of e none here n named.
+      let apart = listed_neither rest puts.more k (sym (ap (λ (rs : List RuleId). is_listed rs k) tail) ∙ none) in
+      by k of apart.0 apart.1 here n named (puts.marked k e);
+}
+  where
+    rest : List RuleId
+    rest = drop (place + 1) before
+
+    front : drop place before ≡ rule ∷ drop (place + 1) before
+    front = drop_at_place before place rule at
+
+    tail : drop (place + 1) after ≡ drop (place + 1) before ++ puts.more
+    tail = ap (drop (place + 1)) puts.is ∙ drop-append-le (place + 1) before puts.more (let within = place_within before place rule at in omega (arith, within))
+
+    old_one : (k : ℕ) (of : Rule) → is_listed (drop (place + 1) before) k ≡ false → is_marked a k ≡ true → slice_get g.rules k ≡ Some of → (n : NodeId) → IsNamedBy of n
+        → (c : Bool) → nat_eq k rule.0 ≡ c → IsSought h b n
+    old_one k of none old was n named true same = sought of (sym (ap (slice_get g.rules) ((Decides-eqb k rule.0).0 same)) ∙ was) n named
+    old_one k of none old was n named false away =
+        puts.sought n (over.named k of old (ap (λ (rs : List RuleId). is_listed rs k) front ∙ ap (λ c. c || is_listed (drop (place + 1) before) k) away ∙ none) was n named)
+
+    by : (k : ℕ) (of : Rule) → is_listed (drop (place + 1) before) k ≡ false → is_listed puts.more k ≡ false → slice_get h.rules k ≡ Some of → (n : NodeId) → IsNamedBy of n
+        → (is_marked a k ≡ true) ⊎ (is_listed puts.more k ≡ true) → IsSought h b n
+    by k of none away here n named (inl old) = old_one k of none old (rule_was g h k of grew (over.known k old) here) n named (nat_eq k rule.0) refl
+    by k of none away here n named (inr new) = true_false (sym new ∙ away)
