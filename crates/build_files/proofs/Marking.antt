@@ -1,6 +1,6 @@
 -- Which rules are marked and which files are sought, call by call.
 use Rattle.std.proofs.Common.{◌≡◌, ◌≢◌, ◌<◌, ◌≤◌, ◌+◌, ◌⊎◌, inl, inr, ◌∙◌, ap, sym, subst, refl, ℕ, zero, suc, Bool, true, false, not, cond, ◌||◌, List, [], ◌∷◌, ◌++◌, append_assoc, length, length-append, drop, take, Option, Some, None, arith, ltb-true, Bor}
-use Rattle.std.specs.Prelude.{nat_eq, nat_lt, filter, get_or, slice_get, is_some, IfSome}
+use Rattle.std.specs.Prelude.{nat_eq, nat_lt, filter, get_or, slice_get, is_some, IfSome, Result, Ok, Err, OnOk}
 use Rattle.std.specs.Option.{option_copied}
 use Rattle.std.specs.Global.{Vec}
 use Rattle.std.specs.List.{list_any}
@@ -19,9 +19,10 @@ use Rattle.build_means.specs.Rules.{keeps_sources}
 use Rattle.world_api.specs.declared.job.Work.TheVariants.{Shell}
 use Rattle.build_means.proofs.Growing.{get_front}
 use Rattle.build_files.specs.Kept.{LooksAt}
-use Rattle.build_files.specs.Marked.{is_among, is_listed, is_marked, was_settled, copies_somewhere, AreAllSought, AreGoneOver, AreGoneOverBut, AreNamedSought, AreSought, IsNamedBy, is_required, is_source, is_needed, is_library, IsRuleMarked, IsSought, KeepsMarks, KeepsSought, Marks, PutsBehind}
+use Rattle.build_files.specs.Marked.{is_among, is_listed, is_marked, was_settled, copies_somewhere, AreAllSought, AreGoneOver, AreGoneOverBut, AreGoneOverWith, AreNamedSought, AreSought, IsNamedBy, is_required, is_source, is_needed, is_library, IsRuleMarked, IsSought, KeepsMarks, KeepsSought, Marks, PutsBehind}
 use Rattle.build_files.specs.Searched.{GrowsTo, HasMore}
 use Rattle.build_files.specs.Seen.{seen_at}
+use Rattle.build_files.specs.declared.end.ListEnd.{ListEnd}
 use Rattle.build_files.specs.declared.inputs.Inputs.{Inputs}
 use Rattle.build_files.specs.declared.seen.Seen.{Seen}
 
@@ -346,3 +347,13 @@ over_next g a h b before after place rule at grew puts sought over = record {
         → (is_marked a k ≡ true) ⊎ (is_listed puts.more k ≡ true) → IsSought h b n
     by k of none away here n named (inl old) = old_one k of none old (rule_was g h k of grew (over.known k old) here) n named (nat_eq k rule.0) refl
     by k of none away here n named (inr new) = true_false (sym new ∙ away)
+
+-- after a call all is gone over, and the files that it was for were looked for
+pub copies_over : {T : Type 0} (g : RuleGraph) (a : Inputs) (h : RuleGraph) (b : Inputs) (i : RuleGraph) (c : Inputs) (before rules : List RuleId) (nodes : List NodeId) (r : Result T ListEnd)
+    → before ≡ [] → copies_somewhere g ≡ true → GrowsTo g h → PutsBehind g a h b before rules → AreAllSought h b nodes → (AreGoneOverBut h b rules → OnOk r (AreGoneOverBut i c []))
+    → OnOk r (KeepsSought h b i c) → AreGoneOver g a → OnOk r (AreGoneOverWith i c nodes)
+copies_over g a h b i c before rules nodes (Err e) none some grew puts all rest sought over = tt
+copies_over g a h b i c before rules nodes (Ok x) none some grew puts all rest sought over = record {
+  over = λ _. rest (over_puts g a h b before rules grew puts (subst (AreGoneOverBut g a) (sym none) (over some)));
+  these = λ _ n e. sought n (all n e);
+}
