@@ -3,28 +3,23 @@ use Rattle.std.proofs.Common.{◌≡◌, ◌≢◌, ◌<◌, ◌≤◌, ◌+◌,
 use Rattle.std.specs.Prelude.{nat_eq, nat_lt, filter, get_or, slice_get, is_some, IfSome, Result, Ok, Err, OnOk}
 use Rattle.std.specs.Option.{option_copied}
 use Rattle.std.specs.Global.{Vec}
-use Rattle.std.specs.List.{list_any}
 use Rattle.std.proofs.lemmas.Bool.Decides.{Decides-eqb}
 use Rattle.std.proofs.lemmas.List.{append-nil, drop-append-le, drop_more, take_more}
 use Rattle.std.proofs.lemmas.Option.{slice_get-get_or}
 use Rattle.std.proofs.lemmas.List.Folds.{list_any-append}
 use Rattle.scons_base.specs.declared.ids.NodeId.{NodeId}
 use Rattle.scons_base.specs.declared.ids.RuleId.{RuleId}
-use Rattle.variant_dirs.specs.declared.variants.Variant.{Variant}
 use Rattle.rule_graph.specs.declared.rule.Rule.{Rule}
 use Rattle.rule_graph.specs.Graphs.{RuleGraph}
 use Rattle.rule_graph.specs.Rules.{rule_of}
 use Rattle.build_means.proofs.Lists.{none_some, some_same, true_false, or_either, or_first, or_second, or_neither}
 use Rattle.build_means.specs.Rules.{keeps_sources}
 use Rattle.world_api.specs.declared.job.Work.TheVariants.{Shell}
-use Rattle.build_means.proofs.Growing.{get_front}
 use Rattle.build_files.specs.Kept.{LooksAt}
-use Rattle.build_files.specs.Marked.{is_among, is_listed, is_marked, was_settled, copies_somewhere, AreAllSought, AreGoneOver, AreGoneOverBut, AreGoneOverWith, AreNamedSought, AreSought, IsNamedBy, is_required, is_source, is_needed, is_library, IsRuleMarked, IsSought, KeepsMarks, KeepsSought, Marks, PutsBehind}
-use Rattle.build_files.specs.Searched.{GrowsTo, HasMore}
-use Rattle.build_files.specs.Seen.{seen_at}
+use Rattle.build_files.specs.Marked.{is_among, is_listed, is_marked, was_settled, copies_somewhere, AreAllSought, AreGoneOver, AreGoneOverBut, AreGoneOverWith, AreNamedSought, IsNamedBy, is_required, is_source, is_needed, is_library, IsRuleMarked, IsSought, KeepsMarks, KeepsSought, Marks, PutsBehind}
+use Rattle.build_files.specs.Searched.{GrowsTo}
 use Rattle.build_files.specs.declared.end.ListEnd.{ListEnd}
 use Rattle.build_files.specs.declared.inputs.Inputs.{Inputs}
-use Rattle.build_files.specs.declared.seen.Seen.{Seen}
 
 -- nodes of one number are one
 eq_node : (a b : NodeId) → nat_eq a.0 b.0 ≡ true → a ≡ b
@@ -79,15 +74,6 @@ marks_joined g a h b i c p q = record {
   settled = λ node e. q.settled node (p.settled node e);
   ruled = λ node number e. q.ruled node number (p.ruled node number e);
   unruled = λ node e none. q.unruled node (p.settled node e) (p.unruled node e none);
-}
-
--- the graph grew, and nothing else changed
-pub marks_grown : (g h : RuleGraph) (inputs : Inputs) → h.rules ≡ g.rules → KeepsMarks g inputs h inputs
-marks_grown g h inputs same = record {
-  marked = refl;
-  settled = λ node e. e;
-  ruled = λ node number e. ap (λ (rules : List Rule). rule_of rules node) same ∙ e;
-  unruled = λ node e none. ap (λ (rules : List Rule). rule_of rules node) same ∙ none;
 }
 
 -- numbers that a test tells apart

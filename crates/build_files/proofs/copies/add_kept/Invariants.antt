@@ -1,5 +1,4 @@
 use Rattle.std.proofs.Common.{◌≡◌, ◌++◌, not, filter, take}
-use Rattle.scons_base.specs.declared.ids.NodeId.{NodeId}
 use Rattle.build_files.specs.Marked.{is_among}
 use Rattle.build_files.proofs.copies.add_kept.Given as goal
 

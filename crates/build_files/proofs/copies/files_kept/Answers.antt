@@ -1,4 +1,4 @@
-use Rattle.std.proofs.Common.{◌∙◌, ap, List, [], false, refl}
+use Rattle.std.proofs.Common.{◌∙◌, ap, List}
 use Rattle.scons_base.specs.declared.ids.NodeId.{NodeId}
 use Rattle.build_files.specs.Marked.{is_among}
 use Rattle.build_files.proofs.Marking.{kept_among, neither_among}

@@ -36,9 +36,9 @@ loop-place-preserved g c = record {
   gone = c.add_named.ensures.gone ∙ c.loop-place.invariant.gone;
   over = λ over.
       let at : slice_get c.loop-place.rules.items c.loop-place.place ≡ Some c.in-Some.rule =
-          copied_at c.loop-place.rules.items c.loop-place.place c.get.result c.in-Some.rule (sym c.copied.ensures ∙ c.in-Some.is)
-          (c.get.ensures.lookup.0 ∙ ap (λ (rs : List RuleId). nat_lt c.loop-place.place (length rs)) c.deref.ensures.value)
-          (subst (λ (rs : List RuleId). IfSome c.get.result (λ x. x.now ≡ get_or rs c.loop-place.place x.now)) c.deref.ensures.value c.get.ensures.lookup.1) in
+      copied_at c.loop-place.rules.items c.loop-place.place c.get.result c.in-Some.rule (sym c.copied.ensures ∙ c.in-Some.is)
+      (c.get.ensures.lookup.0 ∙ ap (λ (rs : List RuleId). nat_lt c.loop-place.place (length rs)) c.deref.ensures.value)
+      (subst (λ (rs : List RuleId). IfSome c.get.result (λ x. x.now ≡ get_or rs c.loop-place.place x.now)) c.deref.ensures.value c.get.ensures.lookup.1) in
       over_next _ _ _ _ _ _ c.loop-place.place c.in-Some.rule at c.add_named.ensures.grows c.in_ok-add_named.ensures.looked c.in_ok-add_named.ensures.named (c.loop-place.invariant.over over);
   sought = λ n e. c.in_ok-add_named.ensures.looked.sought n (c.loop-place.invariant.sought n e);
   truth = λ told b is. c.add_named.ensures.truth told b (c.loop-place.invariant.truth (c.add_named.ensures.looks.told.told told) b is);

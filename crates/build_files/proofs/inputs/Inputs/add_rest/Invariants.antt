@@ -1,4 +1,4 @@
-use Rattle.std.proofs.Common.{◌≡◌, ◌≤◌, drop, length}
+use Rattle.std.proofs.Common.{◌≡◌, drop}
 use Rattle.world_api.specs.Looks.{Looks}
 use Rattle.build_files.specs.Kept.{SameGone, StaysTrue}
 use Rattle.build_files.specs.Marked.{AreGoneOverBut, KeepsSought}
