@@ -5,6 +5,7 @@ mod Growth
 mod Knowing
 pub mod Looking
 pub mod Left
+pub mod Marking
 mod Noting
 mod Places
 pub mod Reading

@@ -2,6 +2,10 @@ use Rattle.std.proofs.Common.{◌≡◌, []}
 use Rattle.world_api.specs.Looks.{Looks}
 use Rattle.build_files.specs.Kept.{SameGone, StaysTrue}
 use Rattle.build_files.specs.Reading.{ReadsOnly}
+use Rattle.std.proofs.Common.{◌≡◌, take}
+use Rattle.world_api.specs.Looks.{Looks}
+use Rattle.build_files.specs.Kept.{SameGone, StaysTrue}
+use Rattle.build_files.specs.Marked.{AreAllSought, PutsBehind}
 use Rattle.build_files.specs.Searched.{GrowsTo}
 use Rattle.build_files.proofs.inputs.Inputs.add_each_copy.Given as goal
 
@@ -12,5 +16,7 @@ invariant-loop-node g l = record {
   grows : GrowsTo l.fn.graph l.graph;
   gone : SameGone l.fn.self l.self;
   only : ReadsOnly [] l.fn.self l.self;
+  puts : PutsBehind l.fn.graph l.fn.self l.graph l.self l.fn.rules.items l.rules.items;
+  sought : AreAllSought l.graph l.self (take l.node-index l.nodes);
   truth : StaysTrue g.W.Disk.meaning l.fn.graph l.fn.self l.fn.world l.graph l.self l.world;
 }

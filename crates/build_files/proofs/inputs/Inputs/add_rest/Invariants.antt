@@ -2,6 +2,10 @@ use Rattle.std.proofs.Common.{◌≡◌, []}
 use Rattle.world_api.specs.Looks.{Looks}
 use Rattle.build_files.specs.Kept.{SameGone, StaysTrue}
 use Rattle.build_files.specs.Reading.{ReadsOnly}
+use Rattle.std.proofs.Common.{◌≡◌, drop}
+use Rattle.world_api.specs.Looks.{Looks}
+use Rattle.build_files.specs.Kept.{SameGone, StaysTrue}
+use Rattle.build_files.specs.Marked.{AreGoneOverBut, KeepsSought}
 use Rattle.build_files.specs.Searched.{GrowsTo}
 use Rattle.build_files.proofs.inputs.Inputs.add_rest.Given as goal
 
@@ -12,5 +16,7 @@ invariant-loop-place g l = record {
   grows : GrowsTo l.fn.graph l.graph;
   gone : SameGone l.fn.self l.self;
   only : ReadsOnly [] l.fn.self l.self;
+  over : AreGoneOverBut l.fn.graph l.fn.self l.fn.rules.items → AreGoneOverBut l.graph l.self (drop l.place l.rules.items);
+  sought : KeepsSought l.fn.graph l.fn.self l.graph l.self;
   truth : StaysTrue g.W.Disk.meaning l.fn.graph l.fn.self l.fn.world l.graph l.self l.world;
 }

@@ -10,4 +10,5 @@ returns c = record {
       (subst (λ (keys : List Path). Begins b c.args.graph.now c.args.hash keys around) (sym c.new-gone.ensures.empty) is);
   unread = c.past.ensures.unread;
   unscanned = c.past.ensures.unscanned;
+  unmarked = c.past.ensures.unmarked;
 }

@@ -2,6 +2,7 @@ use Rattle.std.proofs.Common.{◌∙◌, [], ◌∷◌}
 use Rattle.world_api.proofs.Looking.{looks_joined}
 use Rattle.build_files.proofs.Copying.{grew_by_nodes, grew_joined, nodes_grown}
 use Rattle.build_files.proofs.Reading.{reads_fewer, reads_joined}
+use Rattle.build_files.proofs.Marking.{over_kept}
 use Rattle.build_files.proofs.inputs.Inputs.scanned.Goals as goal
 
 pub returns-in_err-add_found-clause-looks : goal.returns-in_err-add_found-clause-looks
@@ -45,3 +46,6 @@ pub returns-clause-found : goal.returns-clause-found
 returns-clause-found g c = λ still x path rule at told b is.
     nodes_grown c.scan.new.graph c.add_found.new.graph _ _ c.add_found.ensures.grows
     (c.in_ok-found.ensures.found still x path rule at (c.add_found.ensures.looks.told.told told) b is)
+
+pub returns-clause-looked : goal.returns-clause-looked
+returns-clause-looked g c = λ over. c.in_ok-add_found.ensures.looked (over_kept _ _ _ _ (grew_by_nodes _ _ c.scan.ensures.grows) c.scan.ensures.marks over)

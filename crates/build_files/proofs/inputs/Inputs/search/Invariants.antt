@@ -6,6 +6,7 @@ use Rattle.build_means.specs.Finds.{places_in}
 use Rattle.build_means.specs.Grown.{Begun}
 use Rattle.build_files.specs.Kept.{AreTrue, SameGone, StaysTrue}
 use Rattle.build_files.specs.Reading.{ReadsOnly}
+use Rattle.build_files.specs.Marked.{KeepsMarks}
 use Rattle.build_files.specs.Searched.{HasMore}
 use Rattle.build_files.proofs.inputs.Inputs.search.Given as goal
 
@@ -16,6 +17,7 @@ invariant-loop-dir g l = record {
   grows : HasMore l.fn.graph l.graph;
   gone : SameGone l.fn.self l.self;
   only : ReadsOnly [] l.fn.self l.self;
+  marks : KeepsMarks l.fn.graph l.fn.self l.graph l.self;
   truth : StaysTrue g.W.Disk.meaning l.fn.graph l.fn.self l.fn.world l.graph l.self l.world;
   passed : g.W.Disk.meaning.tells l.world → (b : Begun) → AreTrue b l.fn.graph l.fn.self (g.W.Disk.meaning.around l.fn.world)
       → find (is_known b.graph b.tree) (flat_map (places_in b.graph l.name) (take l.dir-index l.dir-items)) ≡ None;
