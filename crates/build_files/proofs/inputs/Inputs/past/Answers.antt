@@ -11,6 +11,5 @@ returns c = record {
       (c.new-found.ensures.truth b c.args.graph.now c.args.gone.keys around);
   unread = λ node. unread_none c.new-files.result.seen.items c.new-files.ensures node;
   unscanned = c.new-found.ensures.unscanned;
-      (c.new-found.ensures b c.args.graph.now c.args.gone.keys around);
   unmarked = λ number. ap (λ items. get_or items number false) c.new.ensures.items;
 }
