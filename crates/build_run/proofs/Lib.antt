@@ -1,3 +1,5 @@
+mod Settling
+mod Scanning
 mod Alongs
 mod Clearing
 pub mod Holding

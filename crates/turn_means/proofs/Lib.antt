@@ -1,3 +1,4 @@
+pub mod Looked
 pub mod Files
 pub mod Numbers
 pub mod Running
