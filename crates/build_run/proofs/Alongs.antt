@@ -1,11 +1,14 @@
 -- How a build goes along when it is told what came of a turn, and from turn to turn.
-use Rattle.std.proofs.Common.{◌≡◌, ◌⊎◌, inl, inr, Bool, true, false, ◌||◌, List, [], ◌∷◌, ap, refl, sym, subst, ◌∙◌}
+use Rattle.std.proofs.Common.{◌≡◌, ◌⊎◌, inl, inr, Bool, true, false, ◌||◌, List, [], ◌∷◌, length, ap, refl, sym, subst, ◌∙◌}
 use Rattle.std.specs.Prelude.{Result, Ok, Err}
 use Rattle.world_api.specs.Around.{Around}
 use Rattle.world_api.specs.Meaning.{Meaning, Told}
 use Rattle.task_plan.specs.Plans.{Planned, is_halt}
+use Rattle.task_plan.specs.Watched.{IsStill}
 use Rattle.task_plan.specs.declared.want.PlanEvent.{PlanEvent}
+use Rattle.task_plan.specs.declared.want.Want.{Want}
 use Rattle.build_files.specs.declared.end.ListEnd.{ListEnd}
+use Rattle.build_files.specs.declared.end.ListEnd.TheVariants as list_end
 use Rattle.plan_means.specs.Planning.{IsStep}
 use Rattle.build_model.specs.Steps.{Halts}
 use Rattle.build_model.proofs.Lists.{true_false}
@@ -13,8 +16,10 @@ use Rattle.run_means.specs.Clears.{Clears}
 use Rattle.turn_means.specs.Laws.{IsTold}
 use Rattle.turn_means.specs.Standing.{Outset, IsOutset, Standing}
 use Rattle.turn_means.proofs.Turns.{ends, halts}
-use Rattle.build_run.specs.Along.{AreAsked, EndsOn, GoesOn, GoesWell, IsAlong, IsEnd, IsOn, IsReliable, Leads, StaysAlong, StepsOr, Tells, is_faulted, standing_of, stepped, wanted}
+use Rattle.build_run.specs.Along.{AreAsked, EndsOn, GoesAlong, GoesOn, GoesWell, IsAlong, IsEnd, IsOn, IsReliable, IsWantedOf, Leads, RestsAlong, StaysAlong, StepsOr, Tells, TellsAlong, is_faulted, standing_of, stepped, wanted}
 use Rattle.build_run.specs.Holds.{Busy}
+use Rattle.build_run.specs.Sites.{most_jobs}
+use Rattle.build_run.specs.declared.building.Options.{Options}
 use Rattle.build_run.specs.declared.account.Account.{Account}
 use Rattle.build_run.specs.declared.site.Site.{Site}
 
@@ -133,3 +138,28 @@ is_reliable m o site along goes = by site.account.now.is_ended refl
     by false e =
         let ties = (along.on.at.knows e).ties in
         record { complete = ties.plan_for.complete; order = ties.plan_for.order }
+
+-- a turn that is wanted is told
+pub turn_along : {W O E : Type 0} (m : Meaning W) (old mid new : Site W O E) (done : Result PlanEvent ListEnd) → Told m mid.world.now new.world.now →
+    mid.options ≡ old.options → (want : Want) → ((old.run.now.plan.halted ≡ false → IsReliable old.run.now.plan) →
+    IsWantedOf (length old.run.now.tickets) (most_jobs old.options) old.run.now.plan want) →
+    GoesAlong m old mid want done → TellsAlong m mid new done → StaysAlong m old new
+turn_along m old mid new done told same want may goes tells_along tells sure o outset along =
+    tells_along o outset (record { keep = ap (λ (x : Options). x.keep) same ∙ along.asked.keep; jobs = ap most_jobs same ∙ along.asked.jobs })
+    (goes (told.told tells) (told.sure tells sure) o outset along (may (is_reliable m o old along)))
+
+-- where want of memory is told it is an end
+pub memory_along : {W O E : Type 0} (m : Meaning W) (old new : Site W O E) → m.around new.world.now ≡ m.around old.world.now →
+    TellsAlong m old new (Err list_end.Memory) → StaysAlong m old new
+memory_along m old new same tells_along tells sure o outset along = tells_along o outset along.asked (along_ends m o outset old along)
+
+-- at rest nothing can be scanned and decided
+pub rests_by : {W O E : Type 0} (m : Meaning W) (start site : Site W O E) → StaysAlong m start site →
+    ((site.run.now.plan.halted ≡ false → IsReliable site.run.now.plan) → site.run.now.plan.halted ≡ false → IsStill site.run.now.plan) →
+    RestsAlong m start site
+rests_by m start site along still tells sure o outset began none halted =
+    still (is_reliable m o site (along tells sure o outset began)) halted
+
+-- memory is wanting, so nothing is said of rest
+pub rests_wanting : {W O E : Type 0} (m : Meaning W) (start site : Site W O E) → site.account.now.memory ≡ true → RestsAlong m start site
+rests_wanting m start site wanting tells sure o outset began none halted = true_false (sym wanting ∙ none)

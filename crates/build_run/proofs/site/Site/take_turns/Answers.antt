@@ -1,3 +1,6 @@
+use Rattle.std.proofs.Common.{inl, inr, refl, sym, ◌∙◌}
+use Rattle.std.proofs.lemmas.Bool.{true≢false}
+use Rattle.build_run.proofs.Alongs.{along_on, memory_along, rests_by, rests_wanting, turn_along}
 use Rattle.build_run.proofs.Sites.{site_on}
 use Rattle.build_run.proofs.site.Site.take_turns.Goals as goal
 
@@ -6,13 +9,16 @@ loop-turn-preserved g c =
     let m = g.W.Disk.meaning in
     let before = c.loop-turn.invariant in
     let turn = c.take_turn-done.ensures in
-    let p = site_on m _ _ _ (site_on m _ _ _ before.passes turn.passes) c.tell.ensures.passes in
+    let tell = c.tell.ensures in
+    let p = site_on m _ _ _ (site_on m _ _ _ before.passes turn.passes) tell.passes in
+    let told = site_on m _ _ _ turn.passes tell.passes in
     record {
       passes = record {
         same = record { graph = p.same.graph; store = p.same.store; world = p.same.world; out = p.same.out; err = p.same.err; run = p.same.run; account = p.same.account; options = p.same.options };
         passes = p.passes;
       };
-      accounts = λ start a. c.tell.ensures.accounts start (turn.ends start (before.accounts start a));
-      sound = c.tell.ensures.sound turn.sound;
-      along = ?;
+      accounts = λ start a. tell.accounts start (turn.ends start (before.accounts start a));
+      sound = tell.sound turn.sound;
+      along = along_on m _ _ _ told.passes.told before.along
+          (turn_along m _ _ _ _ tell.passes.passes.told turn.passes.same.options _ (c.want-wanted.ensures.wanted ?) turn.along tell.along);
     }
