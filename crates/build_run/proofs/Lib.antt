@@ -7,3 +7,4 @@ pub mod Sites
 pub mod Taking
 mod Lending
 mod Telling
+mod Starting
