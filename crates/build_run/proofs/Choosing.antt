@@ -23,13 +23,15 @@ use Rattle.task_plan.specs.States.{state_of}
 use Rattle.task_plan.specs.Plans.{Planned, IsDecidedNext}
 use Rattle.task_plan.specs.Settled.{Kept, deps_in, deps_of, is_done, IsReady as IsThrough}
 use Rattle.task_plan.specs.declared.states.RuleState.TheVariants.{Unneeded, Waiting}
+use Rattle.task_plan.specs.declared.want.PlanEvent.{PlanEvent}
+use Rattle.task_plan.specs.declared.want.PlanEvent.TheVariants as told
 use Rattle.task_plan.proofs.MetNeeds.{all_stands}
 use Rattle.build_model.specs.Rules.{Path, Content, Tree, Stamps, Rule, Record, Records, Dependency, Setting, Among, here, there}
 use Rattle.build_model.specs.Contents.{in_tree}
 use Rattle.build_model.specs.Moments.{Job as Given}
 use Rattle.build_model.specs.Records.{dependency_of, known_digest, stamp_kept}
 use Rattle.build_model.specs.Stale.{first_stamp}
-use Rattle.build_model.specs.Steps.{Step, began, settled, IsReady, is_source, is_made, IsMissing}
+use Rattle.build_model.specs.Steps.{Step, Fresh, began, settled, IsReady, is_source, is_made, IsMissing}
 use Rattle.build_model.proofs.Lists.{none_some, some_same, true_false, among_same}
 use Rattle.build_model.proofs.Ready.{needed_place}
 use Rattle.build_model.proofs.Runs.{settled_prepared}
@@ -55,13 +57,13 @@ use Rattle.plan_means.proofs.Knowing.{knows as known_of, among_stands, in_needs,
 use Rattle.run_means.specs.Ways.{IsWay}
 use Rattle.run_means.proofs.Lists.{contains_among, among_contains}
 use Rattle.turn_means.specs.Standing.{Outset, IsOutset, begun_at, setting_at, Standing, AreUnread, Knows, IsAt}
-use Rattle.turn_means.specs.Laws.{HasMet, IsWeighed, LooksOn, is_due_now}
+use Rattle.turn_means.specs.Laws.{HasMet, IsTold, IsWeighed, LooksOn, is_due_now}
 use Rattle.turn_means.specs.Recording.{build_at}
 use Rattle.turn_means.proofs.Deciding.{decided, makes}
 use Rattle.turn_means.proofs.Files.{contained}
 use Rattle.turn_means.proofs.Running.{MakesIt, lawful, one_rule, makes_each, ready_still, source_still, unbegun_still, run_so}
-use Rattle.turn_means.proofs.Turns.{looked}
-use Rattle.build_run.specs.Along.{AreAsked, GoesWell, HeldBegan, IsAlong, IsDue, is_faulted, standing_of}
+use Rattle.turn_means.proofs.Turns.{looked, found_fresh}
+use Rattle.build_run.specs.Along.{AreAsked, GoesOn, GoesWell, HeldBegan, IsAlong, IsDue, KeepsEnds, is_faulted, standing_of}
 use Rattle.build_run.specs.Holds.{Busy}
 use Rattle.build_run.specs.Outs.{AreOut}
 use Rattle.build_run.specs.Sites.{records_of}
@@ -360,4 +362,75 @@ module _ {W O E : Type 0} (m : Meaning W) (o : Outset) (outset : IsOutset o) (ol
           looked = subst (λ (g : RuleGraph). AreGoneOver g new.run.now.inputs) (sym graph) (over_marks old.graph.now old.run.now.inputs new.run.now.inputs marks well.looked);
         };
     halted = λ e. ap (λ (p : Planned). p.halted) same_plan ∙ along.halted (sym (ap (λ (a : Account). a.is_ended) account) ∙ e);
+  }
+
+-- ---- a rule that is found due, or not
+
+module _ (o : Outset) (outset : IsOutset o) (jobs : List Given) (s : Standing) (past : List Step)
+    (way : IsWay o.wanted o.kept o.counts o.before jobs s.around past) (known : Knows o s past)
+    (rule : RuleId) (r : Rule) (rec : Rec) (weighed : IsWeighed o s rule r rec) where
+  pub targets_are : rec.targets ≡ r.targets
+  targets_are = own_targets o outset jobs s past way known rule r rec weighed
+
+  -- what is found by the store's map over the files before a look is so now
+  pub due_now : (store : Store) (held : List Busy) (inputs : Inputs) (around : Around) → Asks s.around around → HeldBegan o past held →
+      AreOut store held → s.records ≡ map_with store held → (found : Bool) →
+      found ≡ is_due r s.around.tree (stamp_of s.around) (records_in (map_of store)) (record_in rec) →
+      found ≡ is_due_now (record s { inputs = inputs; around = around }) r rec
+  due_now store held inputs around asks has outs same found is =
+      let free = target_free o outset jobs s past way known rule r rec weighed in
+      is
+      ∙ due_agrees r s.around.tree around.tree (stamp_of s.around) (stamp_of around) (records_in (map_of store)) (records_in s.records) (record_in rec)
+      (λ path m. sym (asks.files path (free path m)))
+      (λ path m. sym (stamp_at s.around around asks path (free path m)))
+      (λ path m. ap (λ (kept : Option Rec). option_map record_in kept)
+      (sym (ap (λ (records : Map). records path) same
+      ∙ map_beside store held path outs (held_apart o outset jobs s past way known rule r rec weighed held has path m))))
+
+-- the plan is told the same where the account alone is another
+pub told_before : (was : Standing) (faulted ended : Bool) (s : Standing) (event : PlanEvent) → (was.faulted ≡ true → faulted ≡ true) →
+    IsTold (record was { faulted = faulted; ended = ended }) s event → IsTold was s event
+told_before was faulted ended s event keeps t = record {
+  step = t.step;
+  goes = t.goes;
+  rest = t.rest;
+  reports = record { stays = λ e. t.reports.stays (keeps e); told = t.reports.told };
+}
+
+-- an end isn't taken back
+pub goes_before : (before after : Account) → KeepsEnds before after → after.is_ended ≡ false → before.is_ended ≡ false
+goes_before before after keeps e = by before.is_ended refl
+  where
+    by : (b : Bool) → before.is_ended ≡ b → b ≡ false
+    by true was = true_false (sym (keeps.ended was) ∙ e)
+    by false was = refl
+
+-- before an end a plan may go on
+pub not_ended : {W O E : Type 0} (m : Meaning W) (o : Outset) (site : Site W O E) → IsAlong m o site → site.run.now.plan.halted ≡ false →
+    site.account.now.is_ended ≡ false
+not_ended m o site along goes = by site.account.now.is_ended refl
+  where
+    by : (b : Bool) → site.account.now.is_ended ≡ b → b ≡ false
+    by true was = true_false (sym (along.halted was) ∙ goes)
+    by false was = refl
+
+-- the same is kept of files
+pub marks_here : (g : RuleGraph) (inputs : Inputs) → KeepsMarks g inputs g inputs
+marks_here g inputs = record { marked = refl; settled = λ node e. e; ruled = λ node number e. e; unruled = λ node was e. e }
+
+module _ {W O E : Type 0} (m : Meaning W) (o : Outset) (outset : IsOutset o) (site : Site W O E) (along : IsAlong m o site) where
+  -- a rule is up to date
+  pub fresh_on : (rule : RuleId) (rec : Rec) (due : IsDue m o site rule rec) → is_due_now (standing_of m site) due.model rec ≡ false →
+      GoesOn m o site (told.Fresh rule)
+  fresh_on rule rec due not_due = record {
+    told = λ s t. record {
+      jobs = along.on.jobs;
+      past = Fresh due.model ∷ along.on.past;
+      at = found_fresh o outset along.on.jobs (standing_of m site) s along.on.past rule due.model rec along.on.at due.weighed not_due t;
+      began = along.on.began;
+    };
+    ends = λ e. true_false (sym e);
+    goes = refl;
+    reported = along.on.at.told;
+    well = along.well;
   }

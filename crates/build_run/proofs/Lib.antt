@@ -8,3 +8,4 @@ pub mod Taking
 mod Lending
 mod Telling
 mod Starting
+mod Choosing
