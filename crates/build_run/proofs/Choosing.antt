@@ -423,7 +423,7 @@ module _ {W O E : Type 0} (m : Meaning W) (o : Outset) (outset : IsOutset o) (si
   pub fresh_on : (rule : RuleId) (rec : Rec) (due : IsDue m o site rule rec) → is_due_now (standing_of m site) due.model rec ≡ false →
       GoesOn m o site (told.Fresh rule)
   fresh_on rule rec due not_due = record {
-    told = λ s t. record {
+    told = λ s t stays. record {
       jobs = along.on.jobs;
       past = Fresh due.model ∷ along.on.past;
       at = found_fresh o outset along.on.jobs (standing_of m site) s along.on.past rule due.model rec along.on.at due.weighed not_due t;

@@ -200,7 +200,7 @@ module _ {W O E : Type 0} (m : Meaning W) (o : Outset) (outset : IsOutset o) (ol
 
       pub launched_on : GoesOn m o new (Started rule)
       launched_on = record {
-        told = on_now;
+        told = λ s t stays. on_now s t;
         ends = λ e. true_false (sym e);
         goes = refl;
         reported = λ e. faulted ∙ along.on.at.told (sym ended ∙ e);

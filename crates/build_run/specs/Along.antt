@@ -127,7 +127,8 @@ EndsOn m o site = (s : Standing) → s.around ≡ m.around site.world.now → s.
 
 -- What came of a turn is told, and by its event the build stands at some steps.
 pub record GoesOn {W O E : Type 0} (m : Meaning W) (o : Outset) (site : Site W O E) (event : PlanEvent) : Type 0 where
-  pub told : (s : Standing) → IsTold (standing_of m site) s event → IsOn o site.run.now.held s
+  pub told : (s : Standing) → IsTold (standing_of m site) s event → (site.account.now.is_ended ≡ true → s.ended ≡ true) →
+      IsOn o site.run.now.held s
   -- where memory is wanting for what a scan found that is an end
   pub ends : is_scan event ≡ true → EndsOn m o site
   pub goes : is_halt event ≡ false

@@ -137,7 +137,7 @@ returns-clause-along g c = λ tells sure o outset along due.
     let noted = c.note_start.new.self in
     let ends = c.note_start.ensures.ends in
     record {
-      told = λ now t. goes.told now (told_before (standing_of m c.start.new.self) (is_faulted noted) noted.is_ended now _ ends.faulted t);
+      told = λ now t stays. goes.told now (told_before (standing_of m c.start.new.self) (is_faulted noted) noted.is_ended now _ ends.faulted t) (λ e. stays (ends.ended e));
       ends = λ e. true_false (sym e);
       goes = refl;
       reported = ends.told goes.reported;
