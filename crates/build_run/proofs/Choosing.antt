@@ -21,7 +21,11 @@ use Rattle.rule_graph.specs.Rules.{rule_of}
 use Rattle.rule_graph.specs.declared.rule.Rule as declared
 use Rattle.task_plan.specs.States.{state_of}
 use Rattle.task_plan.specs.Plans.{Planned, IsDecidedNext}
-use Rattle.task_plan.specs.Settled.{Kept, deps_in, deps_of, is_done, IsReady as IsThrough}
+use Rattle.task_plan.specs.Met.{IsFrom, needs_at}
+use Rattle.task_plan.specs.Named.{stands}
+use Rattle.task_plan.specs.Settled.{Kept, deps_in, deps_of, is_done, is_done_from, origin_of, IsReady as IsThrough}
+use Rattle.task_plan.specs.declared.files.Origin.{Origin}
+use Rattle.task_plan.specs.declared.files.Origin.TheVariants.{Unmet, Source, Made}
 use Rattle.task_plan.specs.declared.states.RuleState.TheVariants.{Unneeded, Waiting}
 use Rattle.task_plan.specs.declared.want.PlanEvent.{PlanEvent}
 use Rattle.task_plan.specs.declared.want.PlanEvent.TheVariants as told
@@ -36,7 +40,7 @@ use Rattle.build_model.proofs.Lists.{none_some, some_same, true_false, among_sam
 use Rattle.build_model.proofs.Ready.{needed_place}
 use Rattle.build_model.proofs.Runs.{settled_prepared}
 use Rattle.build_means.specs.Due.{is_due_for, is_due}
-use Rattle.build_means.specs.Grown.{rule_numbered}
+use Rattle.build_means.specs.Grown.{IsLookedFor, rule_numbered}
 use Rattle.build_means.specs.Present.{record_over}
 use Rattle.build_means.specs.Records.{record_in, records_in}
 use Rattle.build_means.specs.Rules.{paths_of}
@@ -53,7 +57,7 @@ use Rattle.build_files.specs.declared.includes.Scan.{Scan}
 use Rattle.build_files.specs.declared.inputs.Inputs.{Inputs}
 use Rattle.plan_means.specs.Growth.{Grows}
 use Rattle.plan_means.specs.Planning.{IsGraphNow}
-use Rattle.plan_means.proofs.Knowing.{knows as known_of, among_stands, in_needs, done_ready}
+use Rattle.plan_means.proofs.Knowing.{knows as known_of, among_stands, in_needs, need_at, done_ready}
 use Rattle.run_means.specs.Ways.{IsWay}
 use Rattle.run_means.proofs.Lists.{contains_among, among_contains}
 use Rattle.turn_means.specs.Standing.{Outset, IsOutset, begun_at, setting_at, Standing, AreUnread, Knows, IsAt}
@@ -130,6 +134,29 @@ module _ (o : Outset) (outset : IsOutset o) (jobs : List Given) (s : Standing) (
       | inl ready ↦ ready_still o outset jobs s.around past way ready target
       | inr missing ↦ source_still o outset jobs s.around past way (path_of s.graph.nodes node) missing.no_rule target
     ]
+
+    looked_by : (node : NodeId) (origin : Origin) → stands (needs_at s.plan.rules rule.0) node ≡ true → origin_of s.plan.origins node.0 ≡ origin →
+        IsFrom s.graph s.plan.states node.0 origin → is_done_from s.plan.states origin ≡ true → IsLookedFor (begun_at o) s.graph node
+    looked_by node Unmet need e from done none = true_false (sym done)
+    looked_by node Source need e from done none = known.ties.sources rule.0 node needed need e
+    looked_by node (Made number) need e from done none = none_some (sym none ∙ from.0)
+
+    -- the copy rule of each was looked for
+    pub looked_for : (node : NodeId) → Among node (deps_of s.plan.rules rule.0) → IsLookedFor (begun_at o) s.graph node
+    looked_for node m =
+        let k = known_of (begun_at o) s.graph o.wanted.requested s.around.tree past s.plan known.now known.ties rule.0 needed in
+        let through = subst (λ (x : Kept). IsThrough s.plan.states s.plan.origins x) (some_same (sym next.can.at ∙ k.at)) next.can.ready in
+        let h = among_stands k.kept.deps node (among_same (ap (λ (x : Option Kept). deps_in x) k.at) m) in
+        let need = need_at (begun_at o) s.graph o.wanted.requested s.around.tree past s.plan known.now known.ties rule.0 needed node
+        (in_needs k.kept.required k.kept.deps node h) in
+        looked_by node (origin_of s.plan.origins node.0) need refl (known.ties.plan_for.from.each node.0)
+        (all_stands (λ x. is_done s.plan.states s.plan.origins x) k.kept.deps node through.deps h)
+
+    -- the rule of this number
+    pub numbered_rule : (r : Rule) × (rule_numbered (begun_at o) s.graph rule.0 ≡ Some r)
+    numbered_rule =
+        let k = known_of (begun_at o) s.graph o.wanted.requested s.around.tree past s.plan known.now known.ties rule.0 needed in
+        (k.rule, k.numbered)
 
     path_at : (node : NodeId) (path : Path) → slice_get s.graph.nodes node.0 ≡ Some path → path_of s.graph.nodes node ≡ path
     path_at node path at = ap (λ (x : Option Path). unwrap_or x []) at

@@ -9,3 +9,4 @@ mod Lending
 mod Telling
 mod Starting
 mod Choosing
+mod Presenting

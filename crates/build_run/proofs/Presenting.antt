@@ -25,14 +25,14 @@ use Rattle.build_files.specs.declared.record.Present.TheVariants as present
 use Rattle.turn_means.specs.Standing.{Outset, IsOutset, begun_at, Standing, Knows, IsAt}
 use Rattle.turn_means.specs.Laws.{HasMet, IsChosen, IsTold, IsWeighed}
 use Rattle.turn_means.proofs.Turns.{lacks}
-use Rattle.build_run.specs.Along.{IsAlong, IsDue, IsOn, Presents, is_faulted, standing_of}
+use Rattle.build_run.specs.Along.{GoesOn, IsAlong, IsDue, IsOn, KeepsEnds, Presents, is_faulted, standing_of}
 use Rattle.build_run.specs.Holds.{Busy}
 use Rattle.build_run.specs.Sites.{most_jobs}
 use Rattle.build_run.specs.declared.account.Account.{Account}
 use Rattle.build_run.specs.declared.building.Options.{Options}
 use Rattle.build_run.specs.declared.site.Run.{Run}
 use Rattle.build_run.specs.declared.site.Site.{Site}
-use Rattle.build_run.proofs.Choosing.{along_looked, deps_still, looked_for, not_ended, numbered_rule, paths_still, told_before, unread_still, weighed_on}
+use Rattle.build_run.proofs.Choosing.{along_looked, deps_still, goes_before, looked_for, not_ended, numbered_rule, paths_still, told_before, unread_still, weighed_on}
 
 -- the first that is missing is so still behind a look
 absent_on : (b : Begun) (paths : List Path) (old new : Around) (path : Path) → Asks old new →
@@ -159,3 +159,33 @@ module _ {W O E : Type 0} (m : Meaning W) (o : Outset) (outset : IsOutset o) (ol
       goes_with : (ended now : Bool) → (ended ≡ true → now ≡ true) → now ≡ false → ended ≡ false
       goes_with true now stays e = true_false (sym (stays refl) ∙ e)
       goes_with false now stays e = refl
+
+-- behind a fault of that the build goes on, or not
+module _ {W O E : Type 0} (m : Meaning W) (o : Outset) (outset : IsOutset o) (old last : Site W O E) (along : IsAlong m o old)
+    (rule : RuleId) (chosen : IsChosen old.run.now.plan rule) (asks : Asks (m.around old.world.now) (m.around last.world.now))
+    (graph : last.graph.now ≡ old.graph.now) (store : last.store.now ≡ old.store.now) (options : last.options ≡ old.options)
+    (run : last.run.now ≡ record old.run.now { inputs = last.run.now.inputs }) (tells : m.tells last.world.now)
+    (result : Result Present ListEnd)
+    (presents : Presents m old.graph.now old.run.now old.world.now rule last.run.now last.world.now result)
+    (counts : m.counts last.world.now ≡ m.counts old.world.now) (node : NodeId) (ok : result ≡ Ok (present.Lacks node))
+    (ends : KeepsEnds old.account.now last.account.now) (faulted : is_faulted last.account.now ≡ true)
+    (goes : last.account.now.is_ended ≡ false → old.options.keep ≡ true)
+    (shut : last.account.now.is_store_shut ≡ old.account.now.is_store_shut) where
+  here_along : IsAlong m o (record last { account = old.account })
+  here_along =
+      along_present m o outset old (record last { account = old.account }) along rule chosen asks graph store refl options run tells
+      result presents counts
+
+  pub lacks_on : GoesOn m o last (told.Absent rule node)
+  lacks_on = record {
+    told = λ s t stays.
+        lacks_told m o outset old (record last { account = old.account }) along rule chosen asks graph store refl options run tells
+        result presents counts node ok (is_faulted last.account.now) last.account.now.is_ended ends.faulted faulted
+        (λ e. sym along.asked.keep ∙ goes e) s t stays;
+    ends = λ e. true_false (sym e);
+    goes = refl;
+    reported = ends.told along.on.at.told;
+    well = λ e.
+        let well = here_along.well (goes_before old.account.now last.account.now ends e) in
+        record { unrisen = well.unrisen; unshut = shut ∙ well.unshut; looked = well.looked };
+  }
