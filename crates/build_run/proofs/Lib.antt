@@ -7,3 +7,8 @@ pub mod Sites
 pub mod Taking
 mod Lending
 mod Telling
+mod Leaving
+mod Outsetting
+mod Finishing
+mod Closing
+mod Building

@@ -141,6 +141,7 @@ fn begin<W: World>(
     let mut inputs = Inputs::new(alloc, hash, graph);
     inputs.add_copies(world, graph, requested)?;
     graph.laws();
+    let _ = graph.len();
     let plan = Plan::new(alloc, graph, requested)?;
     Ok(Run {
         plan,

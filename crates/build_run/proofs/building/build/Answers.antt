@@ -30,7 +30,7 @@ returns-in-Ok-clause-idle g c = c.make_all-skipped.ensures.idle
 pub returns-in-Ok-clause-causes : goal.returns-in-Ok-clause-causes
 returns-in-Ok-clause-causes g c =
     let start = outside (g.W.Disk.meaning.counts c.args.world.now) (g.O.Sink.meaning.faults c.args.out.now) (g.E.Sink.meaning.faults c.args.err.now) in
-    let first = account_as start start blank (ledger_of c.new-account.result) c.new-account.ensures (at_first start) in
+    let first = account_as start start blank (ledger_of c.new-account.result) c.new-account.ensures.ledger (at_first start) in
     let begun = same_counts start (ledger_of c.new-account.result) _ _ _ _ c.in-Ok.ensures.cause first in
     let made = c.make_all-skipped.ensures.accounts start begun in
     caused start _ (ledger_of_end c.answer.result) (ended start _ (ledger_of c.make_all-skipped.new.account) _ _ c.answer.ensures.faults c.answer.ensures.memory made)
@@ -39,5 +39,5 @@ pub returns-in-Err-clause-causes : goal.returns-in-Err-clause-causes
 returns-in-Err-clause-causes g c =
     let start = outside (g.W.Disk.meaning.counts c.args.world.now) (g.O.Sink.meaning.faults c.args.out.now) (g.E.Sink.meaning.faults c.args.err.now) in
     let begun = take_accounted start _ _ _ _ _ c.in-Err.ensures.cause (at_first start) in
-    let owed = account_as start _ (with_end blank c.in-Err.end) (with_end (ledger_of c.new-account.result) c.in-Err.end) (ap (λ l. with_end l c.in-Err.end) c.new-account.ensures) begun in
-    caused start _ (ledger_of_end c.answer-in-Err.result) (ended start _ (ledger_of c.end.new.self) _ _ c.answer-in-Err.ensures.faults c.answer-in-Err.ensures.memory (c.end.ensures.accounts _ _ start owed))
+    let owed = account_as start _ (with_end blank c.in-Err.end) (with_end (ledger_of c.new-account.result) c.in-Err.end) (ap (λ l. with_end l c.in-Err.end) c.new-account.ensures.ledger) begun in
+    caused start _ (ledger_of_end c.answer-in-Err.result) (ended start _ (ledger_of c.end.new.self) _ _ c.answer-in-Err.ensures.faults c.answer-in-Err.ensures.memory (c.end.ensures.reports.accounts _ _ start owed))
