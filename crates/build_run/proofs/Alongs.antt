@@ -7,6 +7,7 @@ use Rattle.task_plan.specs.Plans.{Planned, is_halt}
 use Rattle.task_plan.specs.Watched.{IsStill}
 use Rattle.task_plan.specs.declared.want.PlanEvent.{PlanEvent}
 use Rattle.task_plan.specs.declared.want.Want.{Want}
+use Rattle.task_plan.specs.declared.want.Want.TheVariants as want
 use Rattle.build_files.specs.declared.end.ListEnd.{ListEnd}
 use Rattle.build_files.specs.declared.end.ListEnd.TheVariants as list_end
 use Rattle.plan_means.specs.Planning.{IsStep}
@@ -141,10 +142,10 @@ is_reliable m o site along goes = by site.account.now.is_ended refl
 
 -- a turn that is wanted is told
 pub turn_along : {W O E : Type 0} (m : Meaning W) (old mid new : Site W O E) (done : Result PlanEvent ListEnd) → Told m mid.world.now new.world.now →
-    mid.options ≡ old.options → (want : Want) → ((old.run.now.plan.halted ≡ false → IsReliable old.run.now.plan) →
-    IsWantedOf (length old.run.now.tickets) (most_jobs old.options) old.run.now.plan want) →
-    GoesAlong m old mid want done → TellsAlong m mid new done → StaysAlong m old new
-turn_along m old mid new done told same want may goes tells_along tells sure o outset along =
+    mid.options ≡ old.options → (wish : Want) → ((old.run.now.plan.halted ≡ false → IsReliable old.run.now.plan) →
+    IsWantedOf (length old.run.now.tickets) (most_jobs old.options) old.run.now.plan wish) →
+    GoesAlong m old mid wish done → TellsAlong m mid new done → StaysAlong m old new
+turn_along m old mid new done told same wish may goes tells_along tells sure o outset along =
     tells_along o outset (record { keep = ap (λ (x : Options). x.keep) same ∙ along.asked.keep; jobs = ap most_jobs same ∙ along.asked.jobs })
     (goes (told.told tells) (told.sure tells sure) o outset along (may (is_reliable m o old along)))
 
@@ -163,3 +164,9 @@ rests_by m start site along still tells sure o outset began none halted =
 -- memory is wanting, so nothing is said of rest
 pub rests_wanting : {W O E : Type 0} (m : Meaning W) (start site : Site W O E) → site.account.now.memory ≡ true → RestsAlong m start site
 rests_wanting m start site wanting tells sure o outset began none halted = true_false (sym wanting ∙ none)
+
+-- a build whose plan has halted may wait
+pub waits_halted : {W O E : Type 0} (site : Site W O E) → site.run.now.plan.halted ≡ true →
+    (site.run.now.plan.halted ≡ false → IsReliable site.run.now.plan) →
+    IsWantedOf (length site.run.now.tickets) (most_jobs site.options) site.run.now.plan want.Wait
+waits_halted site halted reliable = inr (λ e. true_false (sym halted ∙ e))

@@ -1,3 +1,4 @@
+mod Idle
 mod Settling
 mod Scanning
 mod Alongs
