@@ -1,9 +1,7 @@
 -- What looks leave of a build, and of a rule that it decides.
-use Rattle.std.proofs.Common.{◌≡◌, ◌≢◌, ◌∙◌, ◌⊎◌, ◌||◌, ◌++◌, ℕ, true, false, Bool, List, [], ◌∷◌, Contains, Option, Some, None, cond, map, inl, inr, refl, sym, subst, ap, option_map, append-nil, arith}
-use Rattle.std.specs.Prelude.{Result, Ok, Err, IfOk, get_or, slice_get, unwrap_or}
-use Rattle.std.specs.List.{list_any, list_all}
-use Rattle.std.specs.Global.{Vec}
-use Rattle.indexmap.specs.IndexMap.{get}
+use Rattle.std.proofs.Common.{◌≡◌, ◌≢◌, ◌∙◌, ◌⊎◌, ◌||◌, ℕ, true, false, Bool, List, [], ◌∷◌, Contains, Option, Some, cond, map, inl, inr, refl, sym, subst, ap, option_map, append-nil}
+use Rattle.std.specs.Prelude.{get_or, slice_get, unwrap_or}
+use Rattle.std.specs.List.{list_any}
 use Rattle.scons_base.specs.declared.ids.NodeId.{NodeId}
 use Rattle.scons_base.specs.declared.ids.RuleId.{RuleId}
 use Rattle.world_api.specs.Around.{Around, IsRunningTarget}
@@ -17,8 +15,6 @@ use Rattle.sign_store.specs.Stores.{map_of}
 use Rattle.sign_store.specs.Tables.{Map, is_among}
 use Rattle.sign_store.specs.declared.store.Store.{Store}
 use Rattle.rule_graph.specs.Graphs.{RuleGraph, path_of}
-use Rattle.rule_graph.specs.Rules.{rule_of}
-use Rattle.rule_graph.specs.declared.rule.Rule as declared
 use Rattle.task_plan.specs.States.{state_of}
 use Rattle.task_plan.specs.Plans.{Planned, IsDecidedNext}
 use Rattle.task_plan.specs.Met.{IsFrom, needs_at}
@@ -46,31 +42,26 @@ use Rattle.build_means.specs.Records.{record_in, records_in}
 use Rattle.build_means.specs.Rules.{paths_of}
 use Rattle.build_means.specs.Logs.{AreUnrisen}
 use Rattle.build_means.proofs.Lists.{among_map}
-use Rattle.build_files.specs.Dueness.{AreIdle, FindsDue}
-use Rattle.build_files.specs.Kept.{AreTrue, IsUnread, same_scan}
-use Rattle.build_files.specs.Marked.{AreGoneOver, KeepsMarks, IsNamedBy, is_marked}
+use Rattle.build_files.specs.Dueness.{AreIdle}
+use Rattle.build_files.specs.Kept.{AreTrue}
+use Rattle.build_files.specs.Marked.{AreGoneOver, KeepsMarks, is_marked}
 use Rattle.build_files.specs.Presence.{AreStill}
 use Rattle.build_files.specs.Reading.{IsUnreadIn, ReadsOnly}
-use Rattle.build_files.specs.Seen.{seen_at}
-use Rattle.build_files.specs.declared.end.ListEnd.{ListEnd}
-use Rattle.build_files.specs.declared.includes.Scan.{Scan}
 use Rattle.build_files.specs.declared.inputs.Inputs.{Inputs}
-use Rattle.plan_means.specs.Growth.{Grows}
 use Rattle.plan_means.specs.Planning.{IsGraphNow}
 use Rattle.plan_means.proofs.Knowing.{knows as known_of, among_stands, in_needs, need_at, done_ready}
 use Rattle.run_means.specs.Ways.{IsWay}
 use Rattle.run_means.proofs.Lists.{contains_among, among_contains}
-use Rattle.turn_means.specs.Standing.{Outset, IsOutset, begun_at, setting_at, Standing, AreUnread, Knows, IsAt}
-use Rattle.turn_means.specs.Laws.{HasMet, IsTold, IsWeighed, LooksOn, is_due_now}
+use Rattle.turn_means.specs.Standing.{Outset, IsOutset, begun_at, setting_at, Standing, AreUnread, Knows}
+use Rattle.turn_means.specs.Laws.{IsTold, IsWeighed, LooksOn, is_due_now}
 use Rattle.turn_means.specs.Recording.{build_at}
 use Rattle.turn_means.proofs.Deciding.{decided, makes}
 use Rattle.turn_means.proofs.Files.{contained}
 use Rattle.turn_means.proofs.Running.{MakesIt, lawful, one_rule, makes_each, ready_still, source_still, unbegun_still, run_so}
 use Rattle.turn_means.proofs.Turns.{looked, found_fresh}
-use Rattle.build_run.specs.Along.{AreAsked, GoesOn, GoesWell, HeldBegan, IsAlong, IsDue, KeepsEnds, is_faulted, standing_of}
+use Rattle.build_run.specs.Along.{AreAsked, GoesOn, HeldBegan, IsAlong, IsDue, KeepsEnds, is_faulted, standing_of}
 use Rattle.build_run.specs.Holds.{Busy}
 use Rattle.build_run.specs.Outs.{AreOut}
-use Rattle.build_run.specs.Sites.{records_of}
 use Rattle.build_run.specs.declared.account.Account.{Account}
 use Rattle.build_run.specs.declared.building.Options.{Options}
 use Rattle.build_run.specs.declared.site.Run.{Run}

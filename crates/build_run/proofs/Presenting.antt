@@ -1,6 +1,6 @@
 -- What a build decides by what its rule reads.
-use Rattle.std.proofs.Common.{◌≡◌, ◌≢◌, ◌∙◌, ◌<◌, ℕ, true, false, Bool, List, [], ◌∷◌, Contains, Some, length, refl, sym, subst, ap}
-use Rattle.std.specs.Prelude.{Result, Ok, Err, IfOk}
+use Rattle.std.proofs.Common.{◌≡◌, ◌∙◌, ◌<◌, true, false, Bool, List, [], ◌∷◌, Some, length, refl, sym, subst, ap}
+use Rattle.std.specs.Prelude.{Result, Ok, IfOk}
 use Rattle.scons_base.specs.declared.ids.NodeId.{NodeId}
 use Rattle.scons_base.specs.declared.ids.RuleId.{RuleId}
 use Rattle.world_api.specs.Around.{Around, IsRunningTarget}
@@ -12,7 +12,7 @@ use Rattle.sign_store.specs.declared.store.Store.{Store}
 use Rattle.rule_graph.specs.Graphs.{RuleGraph, path_of}
 use Rattle.task_plan.specs.Settled.{deps_of}
 use Rattle.task_plan.specs.declared.want.PlanEvent.TheVariants as told
-use Rattle.build_model.specs.Rules.{Path, Tree, Rule, Among, here, there}
+use Rattle.build_model.specs.Rules.{Path, Rule, Among, here}
 use Rattle.build_model.specs.Steps.{Lacks}
 use Rattle.build_model.proofs.Lists.{true_false, among_same, among_left, among_right}
 use Rattle.build_means.specs.Grown.{Begun, rule_numbered}
@@ -26,7 +26,6 @@ use Rattle.turn_means.specs.Standing.{Outset, IsOutset, begun_at, Standing, Know
 use Rattle.turn_means.specs.Laws.{HasMet, IsChosen, IsTold, IsWeighed}
 use Rattle.turn_means.proofs.Turns.{lacks}
 use Rattle.build_run.specs.Along.{GoesOn, IsAlong, IsDue, IsOn, KeepsEnds, Presents, is_faulted, standing_of}
-use Rattle.build_run.specs.Holds.{Busy}
 use Rattle.build_run.specs.Sites.{most_jobs}
 use Rattle.build_run.specs.declared.account.Account.{Account}
 use Rattle.build_run.specs.declared.building.Options.{Options}

@@ -1,12 +1,11 @@
 -- How a build stands behind a start, and behind one that was refused.
-use Rattle.std.proofs.Common.{◌≡◌, ◌∙◌, ◌<◌, ℕ, true, false, Bool, List, [], ◌∷◌, Contains, Some, length, inl, inr, refl, sym, subst, ap, arith}
+use Rattle.std.proofs.Common.{◌≡◌, ◌∙◌, ◌<◌, true, false, List, [], ◌∷◌, Contains, length, inl, inr, refl, sym, subst, ap, arith}
 use Rattle.std.specs.Prelude.{Result, Ok, Err, IsErrAnd}
 use Rattle.scons_base.specs.declared.ids.NodeId.{NodeId}
 use Rattle.scons_base.specs.declared.ids.RuleId.{RuleId}
 use Rattle.world_api.specs.Around.{Around, Running}
 use Rattle.world_api.specs.Calls.{Starts}
 use Rattle.world_api.specs.Counts.{Counts}
-use Rattle.world_api.specs.Looks.{Looks}
 use Rattle.world_api.specs.Meaning.{Meaning}
 use Rattle.world_api.specs.declared.job.Job.{Job}
 use Rattle.deciders.specs.declared.recorded.Rec.{Rec}
@@ -15,9 +14,9 @@ use Rattle.task_plan.specs.Plans.{Planned}
 use Rattle.task_plan.specs.Settled.{deps_of}
 use Rattle.task_plan.specs.declared.want.PlanEvent.{PlanEvent}
 use Rattle.task_plan.specs.declared.want.PlanEvent.TheVariants.{Started}
-use Rattle.build_model.specs.Rules.{Path, Record, Rule, Among, there}
+use Rattle.build_model.specs.Rules.{Path, Record, there}
 use Rattle.build_model.specs.Steps as model
-use Rattle.build_model.specs.Steps.{Step, Began, began}
+use Rattle.build_model.specs.Steps.{Began, began}
 use Rattle.build_model.proofs.Lists.{true_false}
 use Rattle.build_means.specs.Builds.{jobs_at_once}
 use Rattle.build_means.specs.Logs.{AreUnrisen}
@@ -31,13 +30,13 @@ use Rattle.build_files.specs.declared.record.Present.{Present}
 use Rattle.plan_means.specs.Planning.{IsStep}
 use Rattle.run_means.specs.Clears.{Clears}
 use Rattle.run_means.specs.Turns.{job_for}
-use Rattle.turn_means.specs.Standing.{Outset, IsOutset, Standing, setting_at}
+use Rattle.turn_means.specs.Standing.{Outset, IsOutset, Standing}
 use Rattle.turn_means.specs.Laws.{IsJobFrom, IsTold, is_due_now}
 use Rattle.turn_means.proofs.Jobs.{launches, refuses}
 use Rattle.turn_means.proofs.Turns.{ends}
 use Rattle.build_run.specs.Along.{AreAsked, EndsOn, GoesOn, GoesWell, HeldBegan, IsAlong, IsDue, IsOn, Leads, LeadsTo, Presents, is_faulted, standing_of}
 use Rattle.build_run.specs.Goings.{IsJoined, Launches}
-use Rattle.build_run.specs.Holds.{Busy, hold_of, holds_in, holds_of}
+use Rattle.build_run.specs.Holds.{Busy, holds_in, holds_of}
 use Rattle.build_run.specs.Outs.{KeepsSome}
 use Rattle.build_run.specs.Sites.{most_jobs, records_of}
 use Rattle.build_run.specs.declared.site.Run.{Run}
