@@ -12,3 +12,6 @@ pub mod Taking
 mod Lending
 mod Telling
 mod EndingOn
+mod Starting
+mod Choosing
+mod Presenting
