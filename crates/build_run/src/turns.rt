@@ -129,6 +129,8 @@ impl<W: World, O: Sink, E: Sink> Site<'_, '_, W, O, E> {
             .run
             .inputs
             .scanned(self.world, self.graph, rule, file)?;
+        self.graph.laws();
+        let _ = self.graph.len();
         Ok(PlanEvent::Scanned(rule, found))
     }
 }

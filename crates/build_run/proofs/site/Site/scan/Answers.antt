@@ -2,14 +2,41 @@ use Rattle.std.proofs.Common.{◌∙◌, refl, subst, sym}
 use Rattle.world_api.specs.Counts.{Counts}
 use Rattle.build_means.specs.Logs.{AreUnrisen}
 use Rattle.build_run.proofs.Scanning.{goes_on, scan_ends, scan_told, still}
+use Rattle.build_run.proofs.Starting.{end_of_turn}
 use Rattle.build_run.proofs.site.Site.scan.Goals as goal
 
 pub returns-in_err-found-clause-along : goal.returns-in_err-found-clause-along
 returns-in_err-found-clause-along g c = λ tells sure o outset along next.
-    ?
+    let m = g.W.Disk.meaning in
+    let old = c.args.self.now in
+    end_of_turn _ m o _ c.from_residual.result c.from_residual.ensures.1
+    (λ s same ended faulted halted.
+    scan_ends m o outset old c.args.rule c.args.file along next (m.around c.scanned.new.world) (c.scanned.ensures.looks.around tells) s same ended faulted halted)
 
 pub returns-clause-along : goal.returns-clause-along
 returns-clause-along g c = λ tells sure o outset along next.
     let m = g.W.Disk.meaning in
     let old = c.args.self.now in
-    ?
+    let is = c.scanned.ensures in
+    let ok = c.in_ok-found.ensures in
+    let asks = is.looks.around tells in
+    let quiet = still m o outset old c.args.rule c.args.file along next in
+    let open = goes_on m o outset old c.args.rule c.args.file along next in
+    let well = along.well open in
+    let known = along.on.at.knows open in
+    record {
+      told = λ s is_told stays.
+          scan_told m o outset old c.args.rule c.args.file along next c.scanned.new.graph c.scanned.new.self (m.around c.scanned.new.world) c.in_ok-found.found
+          asks is.grows (record { apart = c.laws.ensures.apart; single = c.laws.ensures.single; named = c.laws.ensures.named }) c.len.ensures.limit
+          is.gone is.only (is.truth quiet tells _ known.truth) (ok.looked well.looked)
+          (λ x path at_rule at_file. ok.found quiet x path at_rule at_file tells _ known.truth) s is_told;
+      ends = λ scan s same ended faulted halted.
+          scan_ends m o outset old c.args.rule c.args.file along next (m.around c.scanned.new.world) asks s same ended faulted halted;
+      goes = refl;
+      reported = along.on.at.told;
+      well = λ e. record {
+        unrisen = subst (λ (counts : Counts). AreUnrisen o.wanted.keep o.counts counts) (sym ok.cause) well.unrisen;
+        unshut = well.unshut;
+        looked = (ok.looked well.looked).over;
+      };
+    }
