@@ -1,13 +1,13 @@
 -- What looks leave of a build, and of a rule that it decides.
 use Rattle.std.proofs.Common.{◌≡◌, ◌≢◌, ◌∙◌, ◌⊎◌, ◌||◌, ℕ, true, false, Bool, List, [], ◌∷◌, Contains, Option, Some, cond, map, inl, inr, refl, sym, subst, ap, option_map, append-nil}
-use Rattle.std.specs.Prelude.{get_or, slice_get, unwrap_or}
+use Rattle.std.specs.Prelude.{Ok, get_or, slice_get, unwrap_or}
 use Rattle.std.specs.List.{list_any}
 use Rattle.scons_base.specs.declared.ids.NodeId.{NodeId}
 use Rattle.scons_base.specs.declared.ids.RuleId.{RuleId}
 use Rattle.world_api.specs.Around.{Around, IsRunningTarget}
 use Rattle.world_api.specs.Calls.{Asks}
 use Rattle.world_api.specs.Counts.{Counts}
-use Rattle.world_api.specs.Meaning.{Meaning}
+use Rattle.world_api.specs.Meaning.{IsImage, Meaning}
 use Rattle.world_api.specs.Reads.{stamp_of}
 use Rattle.deciders.specs.declared.recorded.Rec.{Rec}
 use Rattle.sign_store.specs.Putting.{map_with, put_over, record_of, with_put}
@@ -38,11 +38,11 @@ use Rattle.build_model.proofs.Runs.{settled_prepared}
 use Rattle.build_means.specs.Due.{is_due_for, is_due}
 use Rattle.build_means.specs.Grown.{IsLookedFor, rule_numbered}
 use Rattle.build_means.specs.Present.{record_over}
-use Rattle.build_means.specs.Records.{record_in, records_in}
+use Rattle.build_means.specs.Records.{HasOwnDigests, record_in, records_in}
 use Rattle.build_means.specs.Rules.{paths_of}
 use Rattle.build_means.specs.Logs.{AreUnrisen}
 use Rattle.build_means.proofs.Lists.{among_map}
-use Rattle.build_files.specs.Dueness.{AreIdle}
+use Rattle.build_files.specs.Dueness.{AreIdle, FindsDue, HaveOwnDigests}
 use Rattle.build_files.specs.Kept.{AreTrue}
 use Rattle.build_files.specs.Marked.{AreGoneOver, KeepsMarks, is_marked}
 use Rattle.build_files.specs.Presence.{AreStill}
@@ -57,17 +57,19 @@ use Rattle.turn_means.specs.Laws.{IsTold, IsWeighed, LooksOn, is_due_now}
 use Rattle.turn_means.specs.Recording.{build_at}
 use Rattle.turn_means.proofs.Deciding.{decided, makes}
 use Rattle.turn_means.proofs.Files.{contained}
+use Rattle.turn_means.proofs.OwnDigests.{own_digests}
 use Rattle.turn_means.proofs.Running.{MakesIt, lawful, one_rule, makes_each, ready_still, source_still, unbegun_still, run_so}
 use Rattle.turn_means.proofs.Turns.{looked, found_fresh}
 use Rattle.build_run.specs.Along.{AreAsked, GoesOn, HeldBegan, IsAlong, IsDue, KeepsEnds, is_faulted, standing_of}
 use Rattle.build_run.specs.Holds.{Busy}
 use Rattle.build_run.specs.Outs.{AreOut}
+use Rattle.build_run.specs.Sites.{IsSound}
 use Rattle.build_run.specs.declared.account.Account.{Account}
 use Rattle.build_run.specs.declared.building.Options.{Options}
 use Rattle.build_run.specs.declared.site.Run.{Run}
 use Rattle.build_run.specs.declared.site.Site.{Site}
 use Rattle.build_run.proofs.Holding.{at_front, further}
-use Rattle.build_run.proofs.Outs.{among_in}
+use Rattle.build_run.proofs.Outs.{among_in, outs_front}
 
 -- ---- over a look
 
@@ -452,3 +454,30 @@ module _ {W O E : Type 0} (m : Meaning W) (o : Outset) (outset : IsOutset o) (si
     reported = along.on.at.told;
     well = along.well;
   }
+
+-- what a look at a rule that is due tells of it
+module _ {W O E : Type 0} (m : Meaning W) (o : Outset) (outset : IsOutset o) (site : Site W O E) (along : IsAlong m o site)
+    (rule : RuleId) (rec : Rec) (due : IsDue m o site rule rec) (world : W)
+    (asks : Asks (m.around site.world.now) (m.around world)) where
+  known_here : Knows o (standing_of m site) along.on.past
+  known_here = along.on.at.knows due.weighed.goes_on
+
+  pub weighed_now : IsWeighed o (record (standing_of m site) { inputs = site.run.now.inputs; around = m.around world }) rule due.model rec
+  weighed_now =
+      weighed_on o outset along.on.jobs (standing_of m site) along.on.past along.on.at.way known_here rule due.weighed.chosen.next
+      site.run.now.inputs (m.around world) asks due.model rec due.weighed
+
+  -- whether it is stale
+  pub found_now : IsSound m site → ((disk : W) → m.tells disk → IsImage m disk (m.seen disk)) → m.tells site.world.now → (found : Bool) →
+      (AreIdle (m.around site.world.now) rec.targets → HaveOwnDigests (map_of site.store.now) → HasOwnDigests rec →
+      FindsDue site.graph.now rule.0 (map_of site.store.now) rec (m.around site.world.now) (Ok found)) →
+      found ≡ is_due_now (record (standing_of m site) { inputs = site.run.now.inputs; around = m.around world }) due.model rec
+  found_now sound reads_as tells found finds =
+      let on = along.on in
+      let s = standing_of m site in
+      let unshut = (along.well due.weighed.goes_on).unshut in
+      let own = own_digests m site.world.now site.store.now reads_as tells (sound.stored.kept unshut) in
+      let is = finds (targets_idle o outset on.jobs s on.past on.at.way known_here rule due.model rec due.weighed) own due.own
+      (begun_at o) due.model known_here.now.grown due.weighed.is (targets_are o outset on.jobs s on.past on.at.way known_here rule due.model rec due.weighed) in
+      due_now o outset on.jobs s on.past on.at.way known_here rule due.model rec due.weighed site.store.now site.run.now.held site.run.now.inputs
+      (m.around world) asks on.began (outs_front site.store.now site.run.now.held site.run.now.tickets (sound.stored.outs unshut)) refl found is

@@ -2,13 +2,11 @@ use Rattle.std.proofs.Common.{◌∙◌, [], refl, sym}
 use Rattle.build_model.proofs.Lists.{true_false}
 use Rattle.build_files.proofs.Truths.{asked}
 use Rattle.turn_means.specs.Standing.{begun_at}
-use Rattle.turn_means.proofs.OwnDigests.{own_digests}
 use Rattle.build_run.specs.Along.{is_faulted, standing_of}
 use Rattle.build_run.specs.Ledgers.{ledger_of}
 use Rattle.build_run.proofs.Causing.{exit_same, look_end}
-use Rattle.build_run.proofs.Choosing.{along_looked, due_now, fresh_on, goes_before, marks_here, targets_are, targets_idle, told_before, weighed_on}
+use Rattle.build_run.proofs.Choosing.{along_looked, found_now, fresh_on, goes_before, marks_here, told_before, weighed_now}
 use Rattle.build_run.proofs.Clearing.{clears_asked}
-use Rattle.build_run.proofs.Outs.{outs_front}
 use Rattle.build_run.proofs.Sites.{looked_at, sound_still}
 use Rattle.build_run.proofs.Starting.{end_of_turn, ended_on}
 use Rattle.build_run.proofs.site.Site.make.Goals as goal
@@ -54,18 +52,10 @@ pub returns-then-not-branch-clause-along : goal.returns-then-not-branch-clause-a
 returns-then-not-branch-clause-along g c = λ tells sure o outset along due.
     let m = g.W.Disk.meaning in
     let site = c.args.self.now in
-    let s = standing_of m site in
-    let on = along.on in
     let looks = c.is_stale.ensures.looks in
     let asks = looks.around tells in
-    let known = on.at.knows due.weighed.goes_on in
-    let unshut = (along.well due.weighed.goes_on).unshut in
-    let stored = c.requires.sound.stored in
-    let own = own_digests m site.world.now site.store.now g.met.W.Disk.reads_as (looks.told.told tells) (stored.kept unshut) in
-    let found = c.in_ok-is_stale.ensures.due tells (targets_idle o outset on.jobs s on.past on.at.way known c.args.rule due.model c.args.now due.weighed) own due.own
-    (begun_at o) due.model known.now.grown due.weighed.is (targets_are o outset on.jobs s on.past on.at.way known c.args.rule due.model c.args.now due.weighed) in
-    let is = due_now o outset on.jobs s on.past on.at.way known c.args.rule due.model c.args.now due.weighed site.store.now site.run.now.held site.run.now.inputs
-    (m.around c.is_stale.new.world) asks on.began (outs_front site.store.now site.run.now.held site.run.now.tickets (stored.outs unshut)) refl c.in_ok-is_stale.field-0 found in
+    let is = found_now m o outset site along c.args.rule c.args.now due c.is_stale.new.world asks c.requires.sound g.met.W.Disk.reads_as
+    (looks.told.told tells) c.in_ok-is_stale.field-0 (c.in_ok-is_stale.ensures.due tells) in
     fresh_on m o outset _
     (along_looked m o outset site _ along asks refl refl refl refl refl c.in_ok-is_stale.ensures.cause
     (λ is. asked (begun_at o) site.graph.now site.run.now.inputs (m.around site.world.now) (m.around c.is_stale.new.world) asks is) refl (λ is. is) (marks_here site.graph.now site.run.now.inputs))
@@ -74,7 +64,7 @@ returns-then-not-branch-clause-along g c = λ tells sure o outset along due.
       room = due.room;
       own = due.own;
       model = due.model;
-      weighed = weighed_on o outset on.jobs s on.past on.at.way known c.args.rule due.weighed.chosen.next site.run.now.inputs (m.around c.is_stale.new.world) asks due.model c.args.now due.weighed;
+      weighed = weighed_now m o outset site along c.args.rule c.args.now due c.is_stale.new.world asks;
     })
     (sym is ∙ c.if-not-branch.true)
 
@@ -82,19 +72,11 @@ pub returns-in_err-start-clause-along : goal.returns-in_err-start-clause-along
 returns-in_err-start-clause-along g c = λ tells sure o outset along due.
     let m = g.W.Disk.meaning in
     let site = c.args.self.now in
-    let s = standing_of m site in
-    let on = along.on in
     let looks = c.is_stale.ensures.looks in
     let before = c.start.ensures.passes.passes.told.told tells in
     let asks = looks.around before in
-    let known = on.at.knows due.weighed.goes_on in
-    let unshut = (along.well due.weighed.goes_on).unshut in
-    let stored = c.requires.sound.stored in
-    let own = own_digests m site.world.now site.store.now g.met.W.Disk.reads_as (looks.told.told before) (stored.kept unshut) in
-    let found = c.in_ok-is_stale.ensures.due before (targets_idle o outset on.jobs s on.past on.at.way known c.args.rule due.model c.args.now due.weighed) own due.own
-    (begun_at o) due.model known.now.grown due.weighed.is (targets_are o outset on.jobs s on.past on.at.way known c.args.rule due.model c.args.now due.weighed) in
-    let is = due_now o outset on.jobs s on.past on.at.way known c.args.rule due.model c.args.now due.weighed site.store.now site.run.now.held site.run.now.inputs
-    (m.around c.is_stale.new.world) asks on.began (outs_front site.store.now site.run.now.held site.run.now.tickets (stored.outs unshut)) refl c.in_ok-is_stale.field-0 found in
+    let is = found_now m o outset site along c.args.rule c.args.now due c.is_stale.new.world asks c.requires.sound g.met.W.Disk.reads_as
+    (looks.told.told before) c.in_ok-is_stale.field-0 (c.in_ok-is_stale.ensures.due before) in
     end_of_turn _ m o _ c.from_residual-in_err-start.result c.from_residual-in_err-start.ensures.1
     (c.in_err-start.ensures.along tells sure o outset
     (along_looked m o outset site _ along asks refl refl refl refl refl c.in_ok-is_stale.ensures.cause
@@ -103,7 +85,7 @@ returns-in_err-start-clause-along g c = λ tells sure o outset along due.
       room = due.room;
       own = due.own;
       model = due.model;
-      weighed = weighed_on o outset on.jobs s on.past on.at.way known c.args.rule due.weighed.chosen.next site.run.now.inputs (m.around c.is_stale.new.world) asks due.model c.args.now due.weighed;
+      weighed = weighed_now m o outset site along c.args.rule c.args.now due c.is_stale.new.world asks;
     })
     (sym is ∙ c.if-not-branch.false))
 
@@ -111,19 +93,11 @@ pub returns-clause-along : goal.returns-clause-along
 returns-clause-along g c = λ tells sure o outset along due.
     let m = g.W.Disk.meaning in
     let site = c.args.self.now in
-    let s = standing_of m site in
-    let on = along.on in
     let looks = c.is_stale.ensures.looks in
     let before = c.start.ensures.passes.passes.told.told tells in
     let asks = looks.around before in
-    let known = on.at.knows due.weighed.goes_on in
-    let unshut = (along.well due.weighed.goes_on).unshut in
-    let stored = c.requires.sound.stored in
-    let own = own_digests m site.world.now site.store.now g.met.W.Disk.reads_as (looks.told.told before) (stored.kept unshut) in
-    let found = c.in_ok-is_stale.ensures.due before (targets_idle o outset on.jobs s on.past on.at.way known c.args.rule due.model c.args.now due.weighed) own due.own
-    (begun_at o) due.model known.now.grown due.weighed.is (targets_are o outset on.jobs s on.past on.at.way known c.args.rule due.model c.args.now due.weighed) in
-    let is = due_now o outset on.jobs s on.past on.at.way known c.args.rule due.model c.args.now due.weighed site.store.now site.run.now.held site.run.now.inputs
-    (m.around c.is_stale.new.world) asks on.began (outs_front site.store.now site.run.now.held site.run.now.tickets (stored.outs unshut)) refl c.in_ok-is_stale.field-0 found in
+    let is = found_now m o outset site along c.args.rule c.args.now due c.is_stale.new.world asks c.requires.sound g.met.W.Disk.reads_as
+    (looks.told.told before) c.in_ok-is_stale.field-0 (c.in_ok-is_stale.ensures.due before) in
     let goes = c.in_ok-start.ensures.along tells sure o outset
     (along_looked m o outset site _ along asks refl refl refl refl refl c.in_ok-is_stale.ensures.cause
     (λ is. asked (begun_at o) site.graph.now site.run.now.inputs (m.around site.world.now) (m.around c.is_stale.new.world) asks is) refl (λ is. is) (marks_here site.graph.now site.run.now.inputs))
@@ -131,7 +105,7 @@ returns-clause-along g c = λ tells sure o outset along due.
       room = due.room;
       own = due.own;
       model = due.model;
-      weighed = weighed_on o outset on.jobs s on.past on.at.way known c.args.rule due.weighed.chosen.next site.run.now.inputs (m.around c.is_stale.new.world) asks due.model c.args.now due.weighed;
+      weighed = weighed_now m o outset site along c.args.rule c.args.now due c.is_stale.new.world asks;
     })
     (sym is ∙ c.if-not-branch.false) in
     let noted = c.note_start.new.self in
