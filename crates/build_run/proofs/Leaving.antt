@@ -1,5 +1,5 @@
 -- What is left where leftover copies are taken away: the rest is as it was.
-use Rattle.std.proofs.Common.{◌≡◌, ◌∙◌, refl, ap, sym, subst, ℕ, List, [], Contains, Bool, true, false, None, inl, inr}
+use Rattle.std.proofs.Common.{◌≡◌, ◌∙◌, refl, ap, sym, subst, ℕ, List, [], Contains, Bool, true, false, None, inl, inr, if◌then◌else◌}
 use Rattle.world_api.specs.Around.{Around}
 use Rattle.world_api.specs.Looks.{Looks}
 use Rattle.world_api.specs.Meaning.{Meaning}
@@ -30,7 +30,7 @@ both_go may a b c p q = λ path. elim (q path) [
 unset_by : (paths : List (List ℕ)) (map : Map) (path : List ℕ) (b : Bool) → is_among paths path ≡ b → (Contains paths path → ⊥) →
     with_each paths None map path ≡ map path
 unset_by paths map path true e out = absurd (out (among_in paths path e))
-unset_by paths map path false e out = rw e in refl
+unset_by paths map path false e out = ap (λ (b : Bool). if b then None else map path) e
 
 pub unset_others : (paths : List (List ℕ)) (old new : Map) → new ≡ with_each paths None old → (path : List ℕ) →
     (Contains paths path → ⊥) → new path ≡ old path

@@ -11,4 +11,4 @@ mod Leaving
 mod Outsetting
 mod Finishing
 mod Closing
-mod Building
+mod Builds
