@@ -1,5 +1,5 @@
 -- Where no job runs no rule of a plan runs.
-use Rattle.std.proofs.Common.{◌≡◌, ◌≢◌, ◌⊎◌, inl, inr, ℕ, zero, suc, pred, Bool, true, false, List, [], ◌∷◌, length, count_by, refl, sym, subst, ap, ◌∙◌, absurd, arith}
+use Rattle.std.proofs.Common.{◌≡◌, ◌≢◌, ◌⊎◌, inl, inr, ℕ, zero, suc, pred, Bool, true, false, List, [], ◌∷◌, length, count_by, refl, sym, subst, ap, ◌∙◌, arith}
 use Rattle.std.specs.Prelude.{get_or}
 use Rattle.task_plan.specs.States.{is_running, state_of}
 use Rattle.task_plan.specs.declared.states.RuleState.{RuleState}

@@ -1,10 +1,9 @@
 -- How a build goes along when a file was scanned.
-use Rattle.std.proofs.Common.{◌≡◌, ◌<◌, ◌∙◌, ◌⊎◌, ◌++◌, ◌&&◌, inl, inr, ℕ, zero, suc, true, false, Bool, List, [], ◌∷◌, Option, Some, None, length, refl, sym, subst, ap, absurd, arith, option_map}
+use Rattle.std.proofs.Common.{◌≡◌, ◌≢◌, ◌≤◌, ◌<◌, ◌∙◌, ◌⊎◌, ◌++◌, ◌&&◌, inl, inr, ℕ, zero, suc, true, false, Bool, List, [], ◌∷◌, Option, Some, None, length, refl, sym, subst, ap, arith, lt-ltb, option_map}
 use Rattle.std.specs.Prelude.{Result, Ok, Err, slice_get, nat_lt, unwrap_or}
 use Rattle.std.specs.List.{AllZip, filter_map}
 use Rattle.scons_base.specs.declared.ids.NodeId.{NodeId}
 use Rattle.scons_base.specs.declared.ids.RuleId.{RuleId}
-use Rattle.c_scanner.specs.Includes.{includes_of as lines_of}
 use Rattle.rule_graph.specs.declared.rule.Rule as declared
 use Rattle.rule_graph.specs.Graphs.{RuleGraph, path_of}
 use Rattle.rule_graph.specs.Rules.{are_below}
@@ -68,10 +67,13 @@ nodes_paths g (p ∷ paths) [] is = elim is [ ]
 nodes_paths g (p ∷ paths) (n ∷ nodes) is =
     ap (λ (q : Path). q ∷ paths_of g nodes) (path_at g n p is.0) ∙ ap (λ (qs : List Path). p ∷ qs) (nodes_paths g paths nodes is.1)
 
+is_under : (nodes : List Path) (i : ℕ) (path : Path) → slice_get nodes i ≡ Some path → i < length nodes
+is_under [] i path e = none_some e
+is_under (q ∷ nodes) zero path e = omega arith
+is_under (q ∷ nodes) (suc i) path e = let under = is_under nodes i path e in omega arith
+
 is_below : (nodes : List Path) (i : ℕ) (path : Path) → slice_get nodes i ≡ Some path → nat_lt i (length nodes) ≡ true
-is_below [] i path e = none_some e
-is_below (q ∷ nodes) zero path e = refl
-is_below (q ∷ nodes) (suc i) path e = is_below nodes i path e
+is_below nodes i path e = lt-ltb i (length nodes) (is_under nodes i path e)
 
 nodes_below : (g : RuleGraph) (paths : List Path) (nodes : List NodeId) → AreNodesOf g paths nodes → are_below (length g.nodes) nodes ≡ true
 nodes_below g [] [] is = refl
@@ -82,7 +84,7 @@ nodes_below g (p ∷ paths) (n ∷ nodes) is =
 
 -- a target of a rule
 first_target : (g : RuleGraph) (ids : List NodeId) → 0 < length ids → (p : Path) × Among p (paths_of g ids)
-first_target g [] some = absurd (omega some)
+first_target g [] some = absurd (omega (arith, some))
 first_target g (n ∷ ids) some = (path_of g.nodes n, here)
 
 module _ (b : Begun) (g : RuleGraph) (now : IsGraphNow b g) (number : ℕ) (r : Rule) (is : rule_numbered b g number ≡ Some r) where
@@ -128,7 +130,7 @@ module _ (b : Begun) (g : RuleGraph) (now : IsGraphNow b g) (number : ℕ) (r : 
       includes_of ((begun_setting b).includes r p) (Some content) ≡ meant b paths p (includes_in content)
   unfolding finds
   includes_by None paths p same = refl
-  includes_by (Some bytes) paths p same = ap (λ ps. filter_map (found_for b.graph b.tree ps p) (lines_of bytes)) same
+  includes_by (Some bytes) paths p same = ap (λ ps. filter_map (found_for b.graph b.tree ps p) (includes_in (Some bytes))) same
 
 -- ---- a file was scanned
 
@@ -177,6 +179,7 @@ module _ {W O E : Type 0} (m : Meaning W) (o : Outset) (outset : IsOutset o) (ol
 
   -- it is scanned for the rule by the files as they are
   scans : IsScanned (found_in (setting_at o) (in_tree A.tree) k.rule) k.rule (path_of G.nodes file)
+  unfolding k
   scans =
       file_scanned B G o.wanted.requested A.tree Past old.run.now.plan known.now known.ties rule.0 needed
       (found_in (setting_at o) (in_tree A.tree) k.rule)

@@ -1,5 +1,5 @@
 -- Whether the rule of a path is settled, and of which files nothing was read then.
-use Rattle.std.proofs.Common.{◌≡◌, ◌≢◌, ◌⊎◌, inl, inr, ℕ, List, [], ◌∷◌, ◌++◌, ap, refl, sym, subst, ◌∙◌, absurd, arith, zero, suc, length, ◌≤◌, Contains}
+use Rattle.std.proofs.Common.{◌≡◌, ◌≢◌, ◌⊎◌, inl, inr, ℕ, List, [], ◌∷◌, ◌++◌, ap, refl, sym, subst, ◌∙◌, arith, zero, suc, length, ◌≤◌, Contains}
 use Rattle.std.specs.Prelude.{slice_get, Some, None}
 use Rattle.std.specs.Global.{Vec}
 use Rattle.indexmap.specs.IndexMap.{get}
@@ -16,7 +16,7 @@ use Rattle.build_means.proofs.Growing.{get_either}
 use Rattle.build_means.proofs.Lists.{none_some, some_same}
 use Rattle.build_files.specs.Kept.{AreTrue, IsUnread, same_scan}
 use Rattle.build_files.specs.Reading.{IsUnreadIn, ReadsOnly}
-use Rattle.build_files.specs.Seen.{Seen, seen_at, unseen}
+use Rattle.build_files.specs.Seen.{seen_at, unseen}
 use Rattle.build_files.specs.declared.includes.Scan.{Scan}
 use Rattle.build_files.specs.declared.inputs.Inputs.{Inputs}
 use Rattle.run_means.specs.Ways.{IsWay}

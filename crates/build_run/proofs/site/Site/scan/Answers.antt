@@ -21,9 +21,9 @@ returns-clause-along g c = λ tells sure o outset along next.
     let ok = c.in_ok-found.ensures in
     let asks = is.looks.around tells in
     let quiet = still m o outset old c.args.rule c.args.file along next in
-    let open = goes_on m o outset old c.args.rule c.args.file along next in
-    let well = along.well open in
-    let known = along.on.at.knows open in
+    let going = goes_on m o outset old c.args.rule c.args.file along next in
+    let well = along.well going in
+    let known = along.on.at.knows going in
     record {
       told = λ s is_told stays.
           scan_told m o outset old c.args.rule c.args.file along next c.scanned.new.graph c.scanned.new.self (m.around c.scanned.new.world) c.in_ok-found.found
