@@ -31,6 +31,9 @@ returns-in_err-add_rule-clause-grows g c = grew_joined _ _ _ c.loop-node.invaria
 pub returns-in_err-add_rule-clause-gone : goal.returns-in_err-add_rule-clause-gone
 returns-in_err-add_rule-clause-gone g c = ap (λ (i : Inputs). i.gone) c.add_rule.ensures.looks ∙ (c.add_copy.ensures.gone ∙ c.loop-node.invariant.gone)
 
+pub returns-in_err-add_rule-clause-only : goal.returns-in_err-add_rule-clause-only
+returns-in_err-add_rule-clause-only g c = looked_only [] c.args.self.now _ _ c.add_rule.ensures.looks (reads_joined [] _ _ _ c.loop-node.invariant.only c.add_copy.ensures.only)
+
 pub returns-in_err-add_rule-clause-truth : goal.returns-in_err-add_rule-clause-truth
 returns-in_err-add_rule-clause-truth g c = λ told b is. looked_on b _ _ _ _ c.add_rule.ensures.looks (c.add_copy.ensures.truth told b (c.loop-node.invariant.truth (c.add_copy.ensures.looks.told.told told) b is))
 
