@@ -1,7 +1,6 @@
 //! The copy rules of variant directories, added as their paths come up.
 ghost use Rattle.std.specs.List.{list_any};
-ghost use Rattle.std.specs.Prelude.{◌≡◌, ◌<◌, ℕ, List, Some, None, true, length, slice_get, is_some, IfOk, OnOk, [], ◌∷◌};
-ghost use Rattle.std.specs.Prelude.{◌≡◌, ◌<◌, ◌++◌, ◌||◌, ℕ, List, [], Some, None, true, false, not, filter, length, slice_get, is_some, IfOk, OnOk};
+ghost use Rattle.std.specs.Prelude.{◌≡◌, ◌<◌, ℕ, List, Some, None, true, length, slice_get, is_some, IfOk, OnOk, [], ◌∷◌, ◌++◌, ◌||◌, false, not, filter};
 ghost use Rattle.rule_graph.specs.Rules.{rule_of, IsRule};
 ghost use Rattle.rule_graph.specs.declared.rule.Rule.{Rule as DeclaredRule};
 ghost use Rattle.world_api.specs.Around.{Around};

@@ -7,7 +7,6 @@ ghost use Rattle.rule_graph.specs.Graphs.{RuleGraph};
 ghost use Rattle.build_files.specs.Causes.{HasLookCause, IsQuiet};
 ghost use Rattle.build_files.specs.Reading.{ReadsOnly};
 ghost use Rattle.build_files.specs.Kept.{dirs_at, includes_in, past, same_scan, AreFound, AreTrue, Gives, IsFoundFor, IsStill, SameGone, StaysTrue};
-ghost use Rattle.build_files.specs.Kept.{dirs_at, includes_in, past, AreFound, AreTrue, Gives, IsFoundFor, IsStill, SameGone, StaysTrue};
 ghost use Rattle.build_files.specs.Marked.{KeepsMarks};
 ghost use Rattle.build_files.specs.Places.{ArePlaces};
 ghost use Rattle.build_files.specs.Searched.{first_known, meant, AreDirs, AreNodesOf, HasMore, IsNodeOf};

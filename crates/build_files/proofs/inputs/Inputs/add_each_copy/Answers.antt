@@ -1,5 +1,4 @@
-use Rattle.std.proofs.Common.{◌∙◌, [], refl, ap}
-use Rattle.std.proofs.Common.{◌∙◌, ◌≡◌, ◌<◌, refl, ap, sym, length, get_or, arith}
+use Rattle.std.proofs.Common.{◌∙◌, [], refl, ap, ◌≡◌, ◌<◌, sym, length, get_or, arith}
 use Rattle.std.proofs.lemmas.List.{get_or_default}
 use Rattle.scons_base.specs.declared.ids.NodeId.{NodeId}
 use Rattle.world_api.proofs.Looking.{looks_same, looks_joined}
@@ -32,6 +31,9 @@ returns-in_err-add_rule-clause-grows g c = grew_joined _ _ _ c.loop-node.invaria
 pub returns-in_err-add_rule-clause-gone : goal.returns-in_err-add_rule-clause-gone
 returns-in_err-add_rule-clause-gone g c = ap (λ (i : Inputs). i.gone) c.add_rule.ensures.looks ∙ (c.add_copy.ensures.gone ∙ c.loop-node.invariant.gone)
 
+pub returns-in_err-add_rule-clause-only : goal.returns-in_err-add_rule-clause-only
+returns-in_err-add_rule-clause-only g c = looked_only [] c.args.self.now _ _ c.add_rule.ensures.looks (reads_joined [] _ _ _ c.loop-node.invariant.only c.add_copy.ensures.only)
+
 pub returns-in_err-add_rule-clause-truth : goal.returns-in_err-add_rule-clause-truth
 returns-in_err-add_rule-clause-truth g c = λ told b is. looked_on b _ _ _ _ c.add_rule.ensures.looks (c.add_copy.ensures.truth told b (c.loop-node.invariant.truth (c.add_copy.ensures.looks.told.told told) b is))
 
@@ -52,9 +54,7 @@ loop-node-preserved g c = record {
   looks = looks_joined _ _ _ _ c.loop-node.invariant.looks c.add_copy.ensures.looks;
   counts = c.in_ok-add_copy.ensures.cause ∙ c.loop-node.invariant.counts;
   grows = grew_joined _ _ _ c.loop-node.invariant.grows c.add_copy.ensures.grows;
-  gone = ap (λ (i : Inputs). i.gone) c.add_rule.ensures ∙ (c.add_copy.ensures.gone ∙ c.loop-node.invariant.gone);
-  only = looked_only [] c.args.self.now _ _ c.add_rule.ensures (reads_joined [] _ _ _ c.loop-node.invariant.only c.add_copy.ensures.only);
-  truth = λ told b is. looked_on b _ _ _ _ c.add_rule.ensures (c.add_copy.ensures.truth told b (c.loop-node.invariant.truth (c.add_copy.ensures.looks.told.told told) b is));
+  only = looked_only [] c.args.self.now _ _ c.add_rule.ensures.looks (reads_joined [] _ _ _ c.loop-node.invariant.only c.add_copy.ensures.only);
   gone = ap (λ (i : Inputs). i.gone) c.add_rule.ensures.looks ∙ (c.add_copy.ensures.gone ∙ c.loop-node.invariant.gone);
   puts = each_puts _ _ _ _ _ _ _ _ _ _ c.add_copy.ensures.grows c.loop-node.invariant.puts c.add_copy.ensures.marks c.in_ok-add_rule.ensures.looked;
   sought =

@@ -1,11 +1,8 @@
-use Rattle.std.proofs.Common.{◌∙◌, [], refl}
+use Rattle.std.proofs.Common.{◌∙◌, [], refl, ◌≡◌, Some, slice_get, sym, ap, subst, List, length, get_or, IfSome, nat_lt}
 use Rattle.world_api.proofs.Looking.{looks_same, looks_joined}
 use Rattle.build_files.proofs.Copying.{grew_same, grew_joined}
 use Rattle.build_files.proofs.Reading.{reads_joined, reads_none}
-use Rattle.std.proofs.Common.{◌∙◌, ◌≡◌, Some, refl, slice_get, sym, ap, subst, List, length, get_or, IfSome, nat_lt}
 use Rattle.scons_base.specs.declared.ids.RuleId.{RuleId}
-use Rattle.world_api.proofs.Looking.{looks_same, looks_joined}
-use Rattle.build_files.proofs.Copying.{grew_same, grew_joined}
 use Rattle.build_files.proofs.Marking.{copied_at, over_next}
 use Rattle.build_files.proofs.inputs.Inputs.add_rest.Goals as goal
 

@@ -1,10 +1,7 @@
-use Rattle.std.proofs.Common.{◌≡◌, []}
+use Rattle.std.proofs.Common.{◌≡◌, [], drop}
 use Rattle.world_api.specs.Looks.{Looks}
 use Rattle.build_files.specs.Kept.{SameGone, StaysTrue}
 use Rattle.build_files.specs.Reading.{ReadsOnly}
-use Rattle.std.proofs.Common.{◌≡◌, drop}
-use Rattle.world_api.specs.Looks.{Looks}
-use Rattle.build_files.specs.Kept.{SameGone, StaysTrue}
 use Rattle.build_files.specs.Marked.{AreGoneOverBut, KeepsSought}
 use Rattle.build_files.specs.Searched.{GrowsTo}
 use Rattle.build_files.proofs.inputs.Inputs.add_rest.Given as goal

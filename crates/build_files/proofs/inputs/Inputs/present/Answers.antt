@@ -36,6 +36,7 @@ pub returns-then-is_lacking-clause-only : goal.returns-then-is_lacking-clause-on
 returns-then-is_lacking-clause-only g c =
     reads_next c.args.nodes.now c.loop-node.node-index (record { 0 = 0 }) c.args.self.now c.loop-node.self c.dep.new.self (omega (arith, c.loop-node-test.true))
     c.loop-node.invariant.only c.dep.ensures.only
+
 pub returns-in_err-dep-clause-marks : goal.returns-in_err-dep-clause-marks
 returns-in_err-dep-clause-marks g c = marks_joined _ _ _ _ _ _ c.loop-node.invariant.marks c.dep.ensures.marks
 
