@@ -15,6 +15,7 @@ use Rattle.rule_graph.specs.Rules.{rule_of}
 use Rattle.build_means.proofs.Lists.{none_some, some_same, true_false, or_either, or_first, or_second, or_neither}
 use Rattle.build_means.specs.Rules.{keeps_sources}
 use Rattle.world_api.specs.declared.job.Work.TheVariants.{Shell}
+use Rattle.build_files.proofs.Copying.{grew_same}
 use Rattle.build_files.specs.Kept.{LooksAt}
 use Rattle.build_files.specs.Marked.{is_among, is_listed, is_marked, was_settled, copies_somewhere, AreAllSought, AreGoneOver, AreGoneOverBut, AreGoneOverWith, AreNamedSought, IsNamedBy, is_required, is_source, is_needed, is_library, IsRuleMarked, IsSought, KeepsMarks, KeepsSought, Marks, PutsBehind}
 use Rattle.build_files.specs.Searched.{GrowsTo}
@@ -24,9 +25,6 @@ use Rattle.build_files.specs.declared.inputs.Inputs.{Inputs}
 -- nodes of one number are one
 eq_node : (a b : NodeId) → nat_eq a.0 b.0 ≡ true → a ≡ b
 eq_node a b e = let node : ℕ → NodeId = λ k. record { 0 = k } in ap node ((Decides-eqb a.0 b.0).0 e)
-
-eq_self : (n : ℕ) → nat_eq n n ≡ true
-eq_self n = (Decides-eqb n n).1 refl
 
 -- what stands among two lists
 pub among_left : (xs ys : List NodeId) (n : NodeId) → is_among xs n ≡ true → is_among (xs ++ ys) n ≡ true
@@ -292,6 +290,17 @@ drop_at_place : (rules : List RuleId) (place : ℕ) (rule : RuleId) → slice_ge
 drop_at_place rules place rule at =
     let within = place_within rules place rule at in
     drop_more rules place rule within ∙ ap (λ (x : RuleId). x ∷ drop (place + 1) rules) (some_same (sym (slice_get-get_or rules place rule within) ∙ at))
+
+-- so it is over one graph
+pub over_same : (g : RuleGraph) (a b : Inputs) → KeepsMarks g a g b → AreGoneOver g a → AreGoneOver g b
+over_same g a b keeps over = over_kept g a g b (grew_same g) keeps over
+
+-- and where no rule was looked at yet
+pub over_none : (g : RuleGraph) (inputs : Inputs) → ((number : ℕ) → is_marked inputs number ≡ false) → AreGoneOver g inputs
+over_none g inputs none _ = record {
+  known = λ k e. true_false (sym e ∙ none k);
+  named = λ k of e _ at. true_false (sym e ∙ none k);
+}
 
 -- what was copied from a place stands there
 pub copied_at : (rules : List RuleId) (place : ℕ) (r : Option (Bor RuleId)) (rule : RuleId) → option_copied r ≡ Some rule → is_some r ≡ nat_lt place (length rules)

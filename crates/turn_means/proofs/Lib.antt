@@ -5,6 +5,7 @@ pub mod Running
 pub mod Deciding
 pub mod Turns
 pub mod Jobs
+pub mod Looked
 pub mod Ends
 pub mod Recording
 pub mod Safety
