@@ -51,7 +51,7 @@ module _ (o : Outset) (outset : IsOutset o) (jobs : List Given) (s : Standing) (
         none_over (faulty_over (faulty past k.rule
         (subst (λ x. IsAtState past k.rule x) e (known.ties.states number k.rule k.numbered))))
 
-    goes_by : (number : ℕ) (state : RuleState) → state_of s.plan.states number ≡ state →
+    pub goes_by : (number : ℕ) (state : RuleState) → state_of s.plan.states number ≡ state →
         (state_of s.plan.states number ≡ Running → ⊥) → IsGoingOn state
     goes_by number Unneeded e none_runs = tt
     goes_by number Waiting e none_runs = tt

@@ -1,4 +1,3 @@
-pub mod Looked
 pub mod Files
 pub mod Numbers
 pub mod Running

@@ -1,7 +1,4 @@
 -- Where all that was looked at is gone over, the copy rules of sought files were looked for, and of all that their rules name.
-use Rattle.std.proofs.Common.{◌≡◌, ◌≢◌, ◌<◌, ◌≤◌, ◌⊎◌, inl, inr, ℕ, zero, suc, Bool, true, false, cond, ◌&&◌, List, [], ◌∷◌, ◌++◌, length, Option, Some, None, refl, sym, subst, ap, ◌∙◌, arith, ltb-true}
-use Rattle.std.specs.Prelude.{slice_get, nat_eq, nat_lt, if◌then◌else◌, find, filter}
-use Rattle.std.specs.List.{list_any, flat_map}
 use Rattle.std.proofs.Common.{◌≡◌, ◌<◌, ◌⊎◌, inl, inr, ℕ, Bool, true, false, cond, ◌&&◌, List, [], ◌∷◌, ◌++◌, length, Some, None, refl, sym, subst, ap, ◌∙◌, arith, ltb-true}
 use Rattle.std.specs.Prelude.{slice_get, nat_eq, nat_lt, if◌then◌else◌, find, filter}
 use Rattle.std.specs.List.{list_any}
@@ -10,7 +7,6 @@ use Rattle.std.proofs.lemmas.Bool.Decides.{Decides-eqb}
 use Rattle.scons_base.specs.declared.ids.NodeId.{NodeId}
 use Rattle.scons_base.specs.declared.ids.RuleId.{RuleId}
 use Rattle.scons_base.specs.Parts.{lies_in}
-use Rattle.variant_dirs.specs.Variants.{variant_of, source_of}
 use Rattle.variant_dirs.specs.Variants.{source_of}
 use Rattle.variant_dirs.specs.declared.variants.Variant.{Variant}
 use Rattle.world_api.specs.Around.{Around}
@@ -20,7 +16,6 @@ use Rattle.rule_graph.specs.declared.rule.Rule as declared
 use Rattle.rule_graph.specs.Graphs.{RuleGraph, path_of}
 use Rattle.rule_graph.specs.Rules.{rule_of, are_below, IsRule}
 use Rattle.task_plan.specs.Admits.{IsKnown, Fits, Follows, AllFollow}
-use Rattle.task_plan.specs.Listed.{included}
 use Rattle.task_plan.specs.Met.{IsAskedFor}
 use Rattle.task_plan.specs.Named.{stands, put, put_all, is_shell, ignored_of, sources_of, named_of, left_out_of, scanned_of, is_scanned_node}
 use Rattle.task_plan.specs.Plans.{Planned, IsScannedNext}
@@ -34,10 +29,6 @@ use Rattle.task_plan.proofs.NamedLemmas.{put_all_longer, stands_longer}
 use Rattle.task_plan.proofs.WatchMeets.{stands_one}
 use Rattle.task_plan.proofs.WatchScans.{stands_split}
 use Rattle.build_model.specs.Rules.{Path, Tree}
-use Rattle.build_model.specs.Graphs.{rule_at, copy_rule}
-use Rattle.build_model.proofs.Lists.{none_some, true_false, some_same}
-use Rattle.build_means.specs.Copies.{has_copies, source_among, copied_from}
-use Rattle.build_means.specs.Grown.{Begun, begun_graph, IsLookedFor}
 use Rattle.build_model.specs.Graphs.{copy_rule}
 use Rattle.build_model.proofs.Lists.{none_some, true_false, some_same}
 use Rattle.build_means.specs.Copies.{has_copies, source_among, copied_from}
@@ -54,7 +45,6 @@ use Rattle.build_files.specs.Marked.{is_among, is_marked, copies_somewhere, AreA
 use Rattle.build_files.specs.declared.inputs.Inputs.{Inputs}
 
 -- what was put behind others stood there, or was put and isn't left out
-put_one : (out first xs : List NodeId) (x n : NodeId) (b c : Bool) → stands out x ≡ b → stands (if b then first else (if c then first else first ++ x ∷ [])) n ≡ true →
 put_one : (out first xs : List NodeId) (x n : NodeId) (b c : Bool) → stands out x ≡ b →
     stands (if b then first else (if c then first else first ++ x ∷ [])) n ≡ true →
     (stands first n ≡ true) ⊎ ((stands (x ∷ xs) n ≡ true) × (stands out n ≡ false))
@@ -67,7 +57,6 @@ put_one out first xs x n false false is e = elim (stands_split first (x ∷ []) 
       inr (subst (λ m. stands (x ∷ xs) m ≡ true) same (or_first (nat_eq x.0 x.0) (stands xs x) ((Decides-eqb x.0 x.0).1 refl)), subst (λ m. stands out m ≡ false) same is)
 ]
 
-put_split : (out first xs : List NodeId) (n : NodeId) → stands (put_all out first xs) n ≡ true → (stands first n ≡ true) ⊎ ((stands xs n ≡ true) × (stands out n ≡ false))
 put_split : (out first xs : List NodeId) (n : NodeId) → stands (put_all out first xs) n ≡ true →
     (stands first n ≡ true) ⊎ ((stands xs n ≡ true) × (stands out n ≡ false))
 put_split out first [] n e = inl e
@@ -84,7 +73,6 @@ unignored of n none = by (is_among of.ignored n) refl
     by true e = true_false (sym (put_all_has [] of.ignored n e) ∙ none)
     by false e = e
 
-kept_source : (of : declared.Rule) (n : NodeId) (work : Work) → stands (if is_shell work then ignored_of of else []) n ≡ false → (keeps_sources work ≡ true) ⊎ (is_among of.ignored n ≡ false)
 kept_source : (of : declared.Rule) (n : NodeId) (work : Work) →
     stands (if is_shell work then ignored_of of else []) n ≡ false →
     (keeps_sources work ≡ true) ⊎ (is_among of.ignored n ≡ false)
@@ -98,7 +86,6 @@ source_named of n e = elim (put_split (if is_shell of.work then ignored_of of el
   | inr h ↦ is_source h.0 (kept_source of n of.work h.1)
 ]
 
-depends_named : (of : declared.Rule) (n : NodeId) → stands (put_all (ignored_of of) (sources_of of) of.depends) n ≡ true → IsNamedBy of n
 depends_named : (of : declared.Rule) (n : NodeId) → stands (put_all (ignored_of of) (sources_of of) of.depends) n ≡ true →
     IsNamedBy of n
 depends_named of n e = elim (put_split (ignored_of of) (sources_of of) of.depends n e) [
@@ -117,14 +104,12 @@ named_by of n e = elim (stands_split of.required (named_of of) n e) [
 ]
 
 -- where no variant directory has copies no path has a source
-uncopied_step : (v : Variant) (variants : List Variant) (test : Variant → Bool) (b : Bool) → v.duplicate ≡ false → has_copies (find test variants) ≡ false →
 uncopied_step : (v : Variant) (variants : List Variant) (test : Variant → Bool) (b : Bool) → v.duplicate ≡ false →
     has_copies (find test variants) ≡ false →
     has_copies (cond b (Some v) (find test variants)) ≡ false
 uncopied_step v variants test true none rest = none
 uncopied_step v variants test false none rest = rest
 
-uncopied_find : (variants : List Variant) (test : Variant → Bool) → list_any (λ (v : Variant). v.duplicate) variants ≡ false → has_copies (find test variants) ≡ false
 uncopied_find : (variants : List Variant) (test : Variant → Bool) →
     list_any (λ (v : Variant). v.duplicate) variants ≡ false → has_copies (find test variants) ≡ false
 uncopied_find [] test none = refl
@@ -137,7 +122,6 @@ uncopied g tree path none =
     ap (λ c. if c then source_among g tree (source_of g.variants g.top path) else None) (uncopied_find g.variants (λ v. lies_in path v.dir) none)
 
 module _ (b : Begun) (g : RuleGraph) (inputs : Inputs) (around : Around) (now : IsGraphNow b g) (is : AreTrue b g inputs around) where
-  bare_looked : (n : NodeId) → n.0 < length g.nodes → (rule_of g.rules n.0 ≡ None → copied_from b.graph b.tree (path_of g.nodes n) ≡ None) → IsLookedFor b g n
   bare_looked : (n : NodeId) → n.0 < length g.nodes →
       (rule_of g.rules n.0 ≡ None → copied_from b.graph b.tree (path_of g.nodes n) ≡ None) → IsLookedFor b g n
   bare_looked n below copied none =
@@ -156,10 +140,6 @@ module _ (b : Begun) (g : RuleGraph) (inputs : Inputs) (around : Around) (now : 
   none_looked none n below =
       bare_looked n below (λ _. uncopied b.graph b.tree (path_of g.nodes n) (sym (ap (λ vs. list_any (λ (v : Variant). v.duplicate) vs) now.grown.variants) ∙ none))
 
-  below_among : (nodes : List NodeId) (n : NodeId) → are_below (length g.nodes) nodes ≡ true → is_among nodes n ≡ true → n.0 < length g.nodes
-  below_among nodes n below e = ltb-true n.0 (length g.nodes) (all_stands (λ t. nat_lt t.0 (length g.nodes)) nodes n below e)
-
-  named_below : (number : ℕ) (of : declared.Rule) (n : NodeId) → slice_get g.rules number ≡ Some of → IsNamedBy of n → n.0 < length g.nodes
   below_among : (nodes : List NodeId) (n : NodeId) → are_below (length g.nodes) nodes ≡ true → is_among nodes n ≡ true →
       n.0 < length g.nodes
   below_among nodes n below e = ltb-true n.0 (length g.nodes) (all_stands (λ t. nat_lt t.0 (length g.nodes)) nodes n below e)
@@ -197,7 +177,6 @@ module _ (b : Begun) (g : RuleGraph) (inputs : Inputs) (around : Around) (now : 
     }
 
 -- Where all that was looked at is gone over and these files are sought, their copy rules were looked for, and those of all that they ask for.
-pub sought_are_looked_for : (b : Begun) (g : RuleGraph) (inputs : Inputs) (around : Around) (nodes : List NodeId) → IsGraphNow b g → are_below (length g.nodes) nodes ≡ true →
 pub sought_are_looked_for : (b : Begun) (g : RuleGraph) (inputs : Inputs) (around : Around) (nodes : List NodeId) →
     IsGraphNow b g → are_below (length g.nodes) nodes ≡ true →
     AreTrue b g inputs around → AreGoneOver g inputs → AreSought g inputs nodes → AreLookedFor b g nodes
@@ -208,7 +187,6 @@ sought_are_looked_for b g inputs around nodes now below is over sought = by (cop
     by false none = none_asked b g inputs around now is nodes below none
 
 -- a rule of which a file was listed to scan is one that scans
-first_file : (files : List NodeId) (place : ℕ) (file : NodeId) → slice_get files place ≡ Some file → (x : NodeId) × (slice_get files 0 ≡ Some x)
 first_file : (files : List NodeId) (place : ℕ) (file : NodeId) → slice_get files place ≡ Some file →
     (x : NodeId) × (slice_get files 0 ≡ Some x)
 first_file [] place file at = none_some at
@@ -217,7 +195,6 @@ first_file (x ∷ files) place file at = (x, refl)
 scans_by : (g : RuleGraph) (of : declared.Rule) (c : Bool) → of.scans ≡ c → c ≡ false → scanned_of g of ≡ []
 scans_by g of c is none = ap (λ s. if s then put_all [] [] (filter (is_scanned_node g) (sources_of of)) else []) (is ∙ none)
 
-scans_true : (g : RuleGraph) (of : declared.Rule) (kept : Kept) (place : ℕ) (file : NodeId) → kept.sources ≡ scanned_of g of → Follows kept → slice_get kept.files place ≡ Some file → of.scans ≡ true
 scans_true : (g : RuleGraph) (of : declared.Rule) (kept : Kept) (place : ℕ) (file : NodeId) →
     kept.sources ≡ scanned_of g of → Follows kept → slice_get kept.files place ≡ Some file → of.scans ≡ true
 scans_true g of kept place file sources follows at = by of.scans refl
@@ -231,7 +208,6 @@ scans_true g of kept place file sources follows at = by of.scans refl
         absurd (omega (arith, before.before))
 
 -- what isn't left out of what is found for such a rule is neither ignored nor a target of it
-not_left_out : (of : declared.Rule) (n : NodeId) → of.scans ≡ true → stands (left_out_of of) n ≡ false → (is_among of.ignored n ≡ false) × (is_among of.targets n ≡ false)
 not_left_out : (of : declared.Rule) (n : NodeId) → of.scans ≡ true → stands (left_out_of of) n ≡ false →
     (is_among of.ignored n ≡ false) × (is_among of.targets n ≡ false)
 not_left_out of n scans none = (ignored (is_among of.ignored n) refl, target (is_among of.targets n) refl)
@@ -248,7 +224,6 @@ not_left_out of n scans none = (ignored (is_among of.ignored n) refl, target (is
     target true e = true_false (sym (put_all_has (ignored_of of) of.targets n e) ∙ out)
     target false e = e
 
-all_below : (limit : ℕ) (xs : List NodeId) → ((n : NodeId) → stands xs n ≡ true → nat_lt n.0 limit ≡ true) → are_below limit xs ≡ true
 all_below : (limit : ℕ) (xs : List NodeId) → ((n : NodeId) → stands xs n ≡ true → nat_lt n.0 limit ≡ true) →
     are_below limit xs ≡ true
 all_below limit [] f = refl
@@ -261,14 +236,12 @@ all_below limit (x ∷ xs) f =
     both_true false c first second = first
 
 -- what comes to a rule by a scan was found, and isn't left out of what is known of it
-comes : (plan : Planned) (rule : RuleId) (kept : Kept) (found : List NodeId) → slice_get plan.rules rule.0 ≡ Some kept → (n : NodeId) → stands (news_of plan (Scanned rule found)) n ≡ true →
 comes : (plan : Planned) (rule : RuleId) (kept : Kept) (found : List NodeId) → slice_get plan.rules rule.0 ≡ Some kept →
     (n : NodeId) → stands (news_of plan (Scanned rule found)) n ≡ true →
     IsPut kept.left_out found n
 comes plan rule kept found at n e = news_put kept.left_out kept.files found n (sym (ap (λ o. stands (news_in o found) n) at) ∙ e)
 
 -- And so it is of the files that come to a rule by a scan, where of what was found each was sought that the rule doesn't leave out.
-pub found_are_looked_for : (b : Begun) (g : RuleGraph) (inputs : Inputs) (around : Around) (plan : Planned) (rule : RuleId) (file : NodeId) (found : List NodeId) → IsGraphNow b g →
 pub found_are_looked_for : (b : Begun) (g : RuleGraph) (inputs : Inputs) (around : Around) (plan : Planned) (rule : RuleId) (file : NodeId) (found : List NodeId) →
     IsGraphNow b g →
     are_below (length g.nodes) found ≡ true → AreTrue b g inputs around → AreGoneOver g inputs → AreKeptSought g inputs rule.0 found → Fits g plan → AllFollow plan →
