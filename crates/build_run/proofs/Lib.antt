@@ -10,5 +10,4 @@ mod Telling
 mod Leaving
 mod Outsetting
 mod Finishing
-mod Closing
 mod Builds
