@@ -15,3 +15,7 @@ mod EndingOn
 mod Starting
 mod Choosing
 mod Presenting
+mod Leaving
+mod Outsetting
+mod Finishing
+mod Builds

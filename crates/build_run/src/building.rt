@@ -28,6 +28,7 @@ use scons_report::cycle_fault;
 use sign_store::Store;
 use std::alloc::Global;
 use task_plan::Plan;
+use turn_means::finished_succeed;
 use world_api::{Hash, Sink, World};
 
 /// How a build is to be done.
@@ -141,6 +142,7 @@ fn begin<W: World>(
     let mut inputs = Inputs::new(alloc, hash, graph);
     inputs.add_copies(world, graph, requested)?;
     graph.laws();
+    let _ = graph.len();
     let plan = Plan::new(alloc, graph, requested)?;
     Ok(Run {
         plan,
@@ -173,6 +175,7 @@ fn make_all<W: World, O: Sink, E: Sink>(
     ensures accounts { AllAccounts W.meaning O.meaning E.meaning world.old out.old err.old account.old world.new out.new err.new account.new }
     ensures makes { MakesAll W.meaning graph.old run.old store.old world.old account.old options world.new account.new }
 {
+    finished_succeed();
     let mut site = Site {
         graph,
         store,

@@ -35,3 +35,6 @@ returns-in_err-new-2-clause-stays g c =
       };
       banks = looks.banks;
     }
+
+pub returns-clause-sets : goal.returns-clause-sets
+returns-clause-sets g c = ?
