@@ -57,6 +57,7 @@ impl Inputs {
         ensures unread { (node : ℕ) → IsUnread (seen_at result.files.seen.items node) }
         ensures unscanned { (scan : Scan) → get same_scan result.found.files scan ≡ None }
         ensures unmarked { (number : ℕ) → is_marked result number ≡ false }
+        ensures gone { result.gone.keys ≡ [] }
     {
         let gone = IndexSet::new(alloc);
         Inputs::past(alloc, hash, graph, gone)
@@ -68,6 +69,7 @@ impl Inputs {
         ensures unread { (node : ℕ) → IsUnread (seen_at result.files.seen.items node) }
         ensures unscanned { (scan : Scan) → get same_scan result.found.files scan ≡ None }
         ensures unmarked { (number : ℕ) → is_marked result number ≡ false }
+        ensures gone { result.gone.keys ≡ gone.keys }
     {
         let files = SeenFiles::new(alloc);
         let unknown = IndexSet::new(alloc);

@@ -1,4 +1,3 @@
-mod Idle
 mod Settling
 mod Scanning
 mod Alongs

@@ -1,4 +1,4 @@
-use Rattle.std.proofs.Common.{List, sym, subst}
+use Rattle.std.proofs.Common.{◌∙◌, List, sym, subst}
 use Rattle.build_model.specs.Rules.{Path}
 use Rattle.build_files.specs.Beginnings.{Begins}
 use Rattle.build_files.proofs.inputs.Inputs.new.Goals as goal
@@ -11,4 +11,5 @@ returns c = record {
   unread = c.past.ensures.unread;
   unscanned = c.past.ensures.unscanned;
   unmarked = c.past.ensures.unmarked;
+  gone = c.past.ensures.gone ∙ c.new-gone.ensures.empty;
 }

@@ -12,4 +12,5 @@ returns c = record {
   unread = λ node. unread_none c.new-files.result.seen.items c.new-files.ensures node;
   unscanned = c.new-found.ensures.unscanned;
   unmarked = λ number. ap (λ items. get_or items number false) c.new.ensures.items;
+  gone = refl;
 }
