@@ -1,6 +1,6 @@
 -- How a build goes along when it is told what came of a turn, and from turn to turn.
 use Rattle.std.proofs.Common.{◌≡◌, ◌⊎◌, inl, inr, Bool, true, false, ◌||◌, List, [], ◌∷◌, length, ap, refl, sym, subst, ◌∙◌}
-use Rattle.std.specs.Prelude.{Result, Ok, Err}
+use Rattle.std.specs.Prelude.{Result, Ok, Err, Contains, nat_lt}
 use Rattle.world_api.specs.Around.{Around}
 use Rattle.world_api.specs.Meaning.{Meaning, Told}
 use Rattle.task_plan.specs.Plans.{Planned, is_halt}
@@ -17,12 +17,13 @@ use Rattle.run_means.specs.Clears.{Clears}
 use Rattle.turn_means.specs.Laws.{IsTold}
 use Rattle.turn_means.specs.Standing.{Outset, IsOutset, Standing}
 use Rattle.turn_means.proofs.Turns.{ends, halts}
-use Rattle.build_run.specs.Along.{AreAsked, EndsOn, GoesAlong, GoesOn, GoesWell, IsAlong, IsEnd, IsOn, IsReliable, IsWantedOf, Leads, RestsAlong, StaysAlong, StepsOr, Tells, TellsAlong, is_faulted, standing_of, stepped, wanted}
+use Rattle.build_run.specs.Along.{AreAsked, ComesOn, EndsOn, HoldsFewer, KeepsEnds, KeepsKnown, StandsPut, was_put, was_refused, GoesAlong, GoesOn, GoesWell, IsAlong, IsEnd, IsOn, IsReliable, IsWantedOf, Leads, RestsAlong, StaysAlong, StepsOr, Tells, TellsAlong, is_faulted, standing_of, stepped, wanted}
 use Rattle.build_run.specs.Holds.{Busy}
-use Rattle.build_run.specs.Sites.{most_jobs}
+use Rattle.build_run.specs.Sites.{KeepsRecords, most_jobs, records_of}
 use Rattle.build_run.specs.declared.building.Options.{Options}
 use Rattle.build_run.specs.declared.account.Account.{Account}
 use Rattle.build_run.specs.declared.site.Site.{Site}
+use Rattle.build_run.proofs.EndingOn.{not_before}
 
 -- What came of a turn was told to this plan and this account.
 pub record ToldTo {W O E : Type 0} (m : Meaning W) (o : Outset) (old : Site W O E) (plan : Planned) (account : Account) : Type 0 where
@@ -163,10 +164,90 @@ rests_by m start site along still tells sure o outset began none halted =
 
 -- memory is wanting, so nothing is said of rest
 pub rests_wanting : {W O E : Type 0} (m : Meaning W) (start site : Site W O E) → site.account.now.memory ≡ true → RestsAlong m start site
-rests_wanting m start site wanting tells sure o outset began none halted = true_false (sym wanting ∙ none)
+rests_wanting m start site wanting tells sure o outset began none halted =
+    true_false (sym (ap (λ b. b || nat_lt 0 (length site.account.now.faults.items)) wanting) ∙ none)
 
 -- a build whose plan has halted may wait
 pub waits_halted : {W O E : Type 0} (site : Site W O E) → site.run.now.plan.halted ≡ true →
     (site.run.now.plan.halted ≡ false → IsReliable site.run.now.plan) →
     IsWantedOf (length site.run.now.tickets) (most_jobs site.options) site.run.now.plan want.Wait
 waits_halted site halted reliable = inr (λ e. true_false (sym halted ∙ e))
+
+-- ---- records are put
+
+-- fewer are held
+pub fewer_on : (o : Outset) (held fewer : List Busy) (s : Standing) → HoldsFewer held fewer → IsOn o held s → IsOn o fewer s
+fewer_on o held fewer s less on = record {
+  jobs = on.jobs;
+  past = on.past;
+  at = on.at;
+  began = λ busy path h made. on.began busy path (less busy h) made;
+}
+
+module _ {W O E : Type 0} (m : Meaning W) (o : Outset) (outset : IsOutset o) (old new : Site W O E) (along : IsAlong m o old)
+    (around : m.around new.world.now ≡ m.around old.world.now) (known : KeepsKnown old new) (stands : StandsPut m old new)
+    (less : HoldsFewer old.run.now.held new.run.now.held) (kept : KeepsRecords old new) where
+  clears_same : Clears [] (m.around old.world.now) (m.around new.world.now)
+  clears_same = subst (λ a. Clears [] (m.around old.world.now) a) (sym around) (clears_here (m.around old.world.now))
+
+  end_put : IsEnd new.account.now → IsOn o new.run.now.held (standing_of m new)
+  end_put is =
+      fewer_on o old.run.now.held new.run.now.held (standing_of m new) less
+      (ended_on o outset old.run.now.held (standing_of m old) (standing_of m new) along.on clears_same is.ended is.faulted
+      (ap (λ (p : Planned). p.halted) known.plan))
+
+  same_put : new.account.now ≡ old.account.now → old.account.now.is_ended ≡ false → IsOn o new.run.now.held (standing_of m new)
+  same_put same e =
+      let records : records_of new ≡ records_of old = kept (ap (λ (a : Account). a.is_store_shut) same ∙ (along.well e).unshut) in
+      let standing : standing_of m new ≡ standing_of m old = (λ i. record {
+        graph = known.graph i;
+        inputs = known.inputs i;
+        plan = known.plan i;
+        records = records i;
+        faulted = is_faulted (same i);
+        ended = (same i).is_ended;
+        around = around i;
+      }) in
+      subst (λ s. IsOn o new.run.now.held s) (sym standing)
+      (fewer_on o old.run.now.held new.run.now.held (standing_of m old) less along.on)
+
+  put_by : (b : Bool) → old.account.now.is_ended ≡ b → StandsPut m old new → IsOn o new.run.now.held (standing_of m new)
+  put_by true e (was_put same counts) =
+      end_put (record {
+        ended = ap (λ (a : Account). a.is_ended) same ∙ e;
+        faulted = ap is_faulted same ∙ along.on.at.told e;
+      })
+  put_by false e (was_put same counts) = same_put same e
+  put_by b e (was_refused is) = end_put is
+
+  -- the build stands where it stood
+  pub put_on : IsOn o new.run.now.held (standing_of m new)
+  put_on = put_by old.account.now.is_ended refl stands
+
+-- ---- at the end
+
+-- the turns, the waits and what is put behind them
+pub goes_to_rest : {W O E : Type 0} (m : Meaning W) (old mid last new : Site W O E) → Told m last.world.now new.world.now →
+    Told m mid.world.now last.world.now → StaysAlong m old mid → StaysAlong m mid last →
+    (m.tells new.world.now → m.around new.world.now ≡ m.around last.world.now) → KeepsKnown last new → StandsPut m last new →
+    HoldsFewer last.run.now.held new.run.now.held → KeepsRecords last new → ComesOn m old new
+goes_to_rest m old mid last new told before first then around known stands less kept tells sure o outset along =
+    put_on m o outset last new (along_on m old mid last before first then (told.told tells) (told.sure tells sure) o outset along)
+    (around tells) known stands less kept
+
+-- where none runs behind the turns nothing changes but what is put
+pub still_at_rest : {W O E : Type 0} (m : Meaning W) (old mid last new : Site W O E) → Told m last.world.now new.world.now →
+    RestsAlong m old mid → (length mid.run.now.tickets ≡ 0) ⊎ (mid.run.now.plan.halted ≡ true) →
+    (length mid.run.now.tickets ≡ 0 → last ≡ mid) → (mid.run.now.plan.halted ≡ true → last.run.now.plan.halted ≡ true) →
+    KeepsKnown last new → KeepsEnds last.account.now new.account.now → RestsAlong m old new
+still_at_rest m old mid last new told rests (inl zero) same halts known ends tells sure o outset along none goes =
+    let is = same zero in
+    let unfaulted : is_faulted last.account.now ≡ false = not_before (is_faulted last.account.now) (is_faulted new.account.now) ends.faulted none in
+    subst IsStill (sym (known.plan ∙ ap (λ (s : Site W O E). s.run.now.plan) is))
+    (rests
+    (subst (λ (s : Site W O E). m.tells s.world.now) is (told.told tells))
+    (subst (λ (s : Site W O E). m.sure s.world.now) is (told.sure tells sure)) o outset along
+    (ap (λ (s : Site W O E). is_faulted s.account.now) (sym is) ∙ unfaulted)
+    (ap (λ (s : Site W O E). s.run.now.plan.halted) (sym is) ∙ ap (λ (p : Planned). p.halted) (sym known.plan) ∙ goes))
+still_at_rest m old mid last new told rests (inr halted) same halts known ends tells sure o outset along none goes =
+    true_false (sym (ap (λ (p : Planned). p.halted) known.plan ∙ halts halted) ∙ goes)

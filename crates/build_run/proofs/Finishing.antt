@@ -136,7 +136,7 @@ not_so false c f e = refl
 
 module _ {W O E : Type 0} (m : Meaning W) (o : Outset) (outset : IsOutset o) (mid : Site W O E) (after : Account)
     (on : IsOn o mid.run.now.held (standing_of m mid)) (rest : (m.around mid.world.now).running ≡ [])
-    (still : mid.account.now.memory ≡ false → mid.run.now.plan.halted ≡ false → IsStill mid.run.now.plan)
+    (still : is_faulted mid.account.now ≡ false → mid.run.now.plan.halted ≡ false → IsStill mid.run.now.plan)
     (ends : KeepsEnds mid.account.now after) (finishes : FinishesWell mid.graph.now mid.run.now.plan mid.account.now after)
     (law : FinishedSucceed) where
   abbrev s : Standing
@@ -153,7 +153,7 @@ module _ {W O E : Type 0} (m : Meaning W) (o : Outset) (outset : IsOutset o) (mi
     no_halt = not_so mid.run.now.plan.halted mid.account.now.is_ended (λ e. (on.at.halted e).ended) not_ended
 
     at_last : IsStill mid.run.now.plan
-    at_last = still (or_parts mid.account.now.memory (nat_lt 0 (length mid.account.now.faults.items)) unfaulted).0 no_halt
+    at_last = still unfaulted no_halt
 
     knows_all : Knows o s on.past
     knows_all = on.at.knows not_ended

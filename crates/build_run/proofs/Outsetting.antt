@@ -28,6 +28,7 @@ use Rattle.plan_means.specs.Beginning.{AreLookedFor, IsLoaded}
 use Rattle.plan_means.specs.Planning.{IsGraphNow}
 use Rattle.task_plan.specs.Plans.{Planned}
 use Rattle.turn_means.specs.Standing.{Outset, begun_at}
+use Rattle.turn_means.proofs.Looked.{sought_are_looked_for}
 use Rattle.build_run.specs.Outsets.{IsBegunBy, SetsOut, SetsOutOn}
 use Rattle.build_run.specs.declared.site.Run.{Run}
 
@@ -79,7 +80,11 @@ module _ {W : Type 0} (m : Meaning W) (g : RuleGraph) (requested : List NodeId) 
     scans = λ scan nodes e. cc (sym (is.unscanned scan) ∙ e);
   })
 
-  module _ (tells : m.tells new) (rest : (m.around world).running ≡ []) (o : Outset) (by : IsBegunBy g requested hash (m.around world) o) where
+  module _ (tells : m.tells new) (rest : (m.around world).running ≡ []) (o : Outset) (by : IsBegunBy g requested hash (m.around world) o)
+      (below : are_below (length g.nodes) requested ≡ true) where
+    below_now : are_below (length h.nodes) requested ≡ true
+    below_now = below_grown g h requested is.grows below
+
     begins_so : Begins (begun_at o) g hash [] (m.around world)
     begins_so = record {
       graph = by.graph;
@@ -102,10 +107,11 @@ module _ {W : Type 0} (m : Meaning W) (g : RuleGraph) (requested : List NodeId) 
     }
 
     looked_for : AreLookedFor (begun_at o) h requested
-    looked_for = ?
+    looked_for =
+        sought_are_looked_for (begun_at o) h run.inputs (m.around new) requested graph_now below_now true_now is.over.over is.over.these
 
-    pub has_set_out : are_below (length g.nodes) requested ≡ true → SetsOutOn o h run (m.around new)
-    has_set_out below = record {
+    pub has_set_out : SetsOutOn o h run (m.around new)
+    has_set_out = record {
       set = record {
         none_runs = ap (λ (a : Around). a.running) by.before ∙ rest;
         around = subst (λ (a : Around). Asks a (m.around new)) (sym by.before) (is.looks.around tells);
@@ -115,7 +121,7 @@ module _ {W : Type 0} (m : Meaning W) (g : RuleGraph) (requested : List NodeId) 
         unread = λ node. (unread_still node).seen;
         unscanned = λ scan. unscanned_by run.inputs scan (get same_scan run.inputs.found.files scan) refl (unread_still scan.file.0);
         below = subst (λ (nodes : List NodeId). are_below (length h.nodes) nodes ≡ true) (sym by.requested)
-            (below_grown g h requested is.grows below);
+            below_now;
         looked = subst (λ (nodes : List NodeId). AreLookedFor (begun_at o) h nodes) (sym by.requested) looked_for;
         loaded = subst (λ (nodes : List NodeId). IsLoaded h nodes run.plan) (sym by.requested) is.loaded;
         records = λ path. refl;

@@ -203,14 +203,6 @@ pub record KeepsKnown {W O E : Type 0} (old new : Site W O E) : Type 0 where
   pub plan : new.run.now.plan ≡ old.run.now.plan
   pub inputs : new.run.now.inputs ≡ old.run.now.inputs
 
--- only the graph, the world, and what is kept of files may be other
-pub record IsKnownAnew {W O E : Type 0} (old new : Site W O E) : Type 0 where
-  pub store : new.store.now ≡ old.store.now
-  pub out : new.out.now ≡ old.out.now
-  pub err : new.err.now ≡ old.err.now
-  pub account : new.account.now ≡ old.account.now
-  pub run : new.run.now ≡ record old.run.now { inputs = new.run.now.inputs }
-
 -- held ones were put, or not
 abbrev pub HoldsFewer : List Busy → List Busy → Type 0
 HoldsFewer held new_held = (busy : Busy) → Contains new_held busy → Contains held busy
@@ -266,7 +258,7 @@ Tells g plan account (Err end) new_plan new_account = (new_plan ≡ plan) × IsE
 abbrev pub TellsAlong : {W O E : Type 0} → Meaning W → Site W O E → Site W O E → Result PlanEvent ListEnd → Type 0
 TellsAlong m old new done = (o : Outset) → IsOutset o → AreAsked o old.options → Leads m o old done → IsAlong m o new
 
--- At rest nothing can be scanned and decided, unless memory was wanting.
+-- At rest nothing can be scanned and decided, where nothing is to be reported.
 abbrev pub RestsAlong : {W O E : Type 0} → Meaning W → Site W O E → Site W O E → Type 0
 RestsAlong m old new = m.tells new.world.now → m.sure new.world.now → (o : Outset) → IsOutset o → IsAlong m o old →
-    new.account.now.memory ≡ false → new.run.now.plan.halted ≡ false → IsStill new.run.now.plan
+    is_faulted new.account.now ≡ false → new.run.now.plan.halted ≡ false → IsStill new.run.now.plan

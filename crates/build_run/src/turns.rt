@@ -1,10 +1,8 @@
 //! The turns of a build: what the plan wants is done, and the plan is told what came of it.
 ghost use Rattle.std.specs.Prelude.{◌≡◌, ◌≢◌, ◌⊎◌, ◌≤◌, ◌<◌, [], true, false, length, Err};
-ghost use Rattle.build_files.specs.Causes.{HasLookCause};
-ghost use Rattle.build_run.specs.Along.{ComesOn, GoesAlong, IsKnownAnew, IsReliable, IsWantedOf, RestsAlong, StaysAlong, StepsOr, Tells, TellsAlong};
-ghost use Rattle.build_run.specs.Goings.{Stays};
+ghost use Rattle.build_run.specs.Along.{ComesOn, GoesAlong, IsReliable, IsWantedOf, RestsAlong, StaysAlong, StepsOr, Tells, TellsAlong};
 ghost use Rattle.build_run.specs.Ledgers.{ledger_of, with_done, Accounts, Keeps, Reports};
-ghost use Rattle.build_run.specs.Sites.{IsSame, IsSound, SiteAccounts, SiteEnds, SitePasses, most_jobs, outside_of};
+ghost use Rattle.build_run.specs.Sites.{IsSound, SiteAccounts, SiteEnds, SitePasses, most_jobs, outside_of};
 ghost use Rattle.scons_base.specs.declared.ids.RuleId.{RuleId};
 ghost use Rattle.task_plan.specs.Plans.{IsIdle};
 ghost use Rattle.task_plan.specs.Watched.{IsStill};
@@ -66,6 +64,7 @@ impl<W: World, O: Sink, E: Sink> Site<'_, '_, W, O, E> {
         ensures idle { W.meaning.tells self.new.world.now → (W.meaning.around self.new.world.now).running ≡ [] }
         ensures along { (length self.old.run.now.tickets ≡ 0) ⊎ (self.old.run.now.plan.halted ≡ true) → StaysAlong W.meaning self.old self.new }
         ensures none { length self.old.run.now.tickets ≡ 0 → self.new ≡ self.old }
+        ensures halted { self.old.run.now.plan.halted ≡ true → self.new.run.now.plan.halted ≡ true }
     {
         let running = self.run.tickets.len();
         for _turn in 0..running {
@@ -119,10 +118,9 @@ impl<W: World, O: Sink, E: Sink> Site<'_, '_, W, O, E> {
 
     /// Scans a file for a rule.
     fn scan(&mut self, rule: RuleId, file: NodeId) -> Result<PlanEvent, ListEnd>
-        ensures same { IsSame self.old self.new }
-        ensures stays { Stays W.meaning self.old.world.now self.new.world.now }
-        ensures cause { HasLookCause (W.meaning.counts self.old.world.now) (W.meaning.counts self.new.world.now) result }
-        ensures rest { IsKnownAnew self.old self.new }
+        ensures passes { SitePasses W.meaning self.old self.new }
+        ensures ends { SiteEnds W.meaning O.meaning E.meaning self.old self.new result }
+        ensures sound { IsSound W.meaning self.old → IsSound W.meaning self.new }
         ensures along { GoesAlong W.meaning self.old self.new (Want.Scan rule file) result }
     {
         let found = self

@@ -1,7 +1,10 @@
 use Rattle.std.proofs.Common.{◌∙◌, refl, subst, sym}
 use Rattle.world_api.specs.Counts.{Counts}
 use Rattle.build_means.specs.Logs.{AreUnrisen}
+use Rattle.build_run.specs.Ledgers.{ledger_of}
+use Rattle.build_run.proofs.Causing.{exit_same, look_end, same_counts}
 use Rattle.build_run.proofs.Scanning.{goes_on, scan_ends, scan_told, still}
+use Rattle.build_run.proofs.Sites.{looked_at, sound_still}
 use Rattle.build_run.proofs.Starting.{end_of_turn}
 use Rattle.build_run.proofs.site.Site.scan.Goals as goal
 
@@ -40,3 +43,22 @@ returns-clause-along g c = λ tells sure o outset along next.
         looked = (ok.looked well.looked).over;
       };
     }
+
+pub returns-in_err-found-clause-ends : goal.returns-in_err-found-clause-ends
+returns-in_err-found-clause-ends g c = λ start a.
+    let before = ledger_of c.args.self.now.account.now in
+    exit_same start before _ c.from_residual.result _ c.from_residual.ensures.1 (look_end start before _ _ _ _ _ c.in_err-found.ensures.cause a)
+
+pub returns-in_err-found-clause-sound : goal.returns-in_err-found-clause-sound
+returns-in_err-found-clause-sound g c =
+    let stays = looked_at g.W.Disk.meaning _ _ c.scanned.result c.scanned.ensures.looks c.scanned.ensures.cause in
+    sound_still g.W.Disk.meaning c.args.self.now _ stays refl refl refl refl refl
+
+pub returns-clause-ends : goal.returns-clause-ends
+returns-clause-ends g c = λ start a.
+    same_counts start (ledger_of c.args.self.now.account.now) _ _ _ _ c.in_ok-found.ensures.cause a
+
+pub returns-clause-sound : goal.returns-clause-sound
+returns-clause-sound g c =
+    let stays = looked_at g.W.Disk.meaning _ _ c.scanned.result c.scanned.ensures.looks c.scanned.ensures.cause in
+    sound_still g.W.Disk.meaning c.args.self.now _ stays refl refl refl refl refl

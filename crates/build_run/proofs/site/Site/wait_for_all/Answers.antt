@@ -1,5 +1,6 @@
-use Rattle.std.proofs.Common.{◌∙◌, ap, arith, refl, sym, subst, inl, inr, absurd}
+use Rattle.std.proofs.Common.{◌∙◌, List, ap, arith, length}
 use Rattle.task_plan.specs.Plans.{Planned}
+use Rattle.build_run.specs.Holds.{Busy}
 use Rattle.build_run.proofs.Alongs.{along_on, turn_along, waits_halted}
 use Rattle.build_run.proofs.Sites.{site_on}
 use Rattle.build_run.proofs.site.Site.wait_for_all.Goals as goal
@@ -18,9 +19,11 @@ loop-turn-preserved g c =
         passes = p.passes;
       };
       accounts = λ start a. tell.accounts start (ending.accounts start (before.accounts start a));
-      left = ?;
+      left = λ t.
+          let told_mid = tell.passes.passes.told.told t in
+          omega (arith, ending.takes.fewer told_mid, before.left (ending.passes.passes.told.told told_mid), ap (λ (busies : List Busy). length busies) tell.tickets);
       sound = tell.sound ending.sound;
-      same = λ e. absurd (omega e);
+      same = λ e. absurd (omega (arith, e));
       halted = λ e. tell.halted (ap (λ (p : Planned). p.halted) ending.halted ∙ before.halted e);
       along = λ e. along_on m _ _ _ told.passes.told (before.along e)
           (turn_along m _ _ _ _ tell.passes.passes.told ending.passes.same.options _ (waits_halted _ (before.halted e)) ending.along tell.along);
