@@ -151,9 +151,9 @@ turn_along m old mid new done told same wish may goes tells_along tells sure o o
     (goes (told.told tells) (told.sure tells sure) o outset along (may (is_reliable m o old along)))
 
 -- where want of memory is told it is an end
-pub memory_along : {W O E : Type 0} (m : Meaning W) (old new : Site W O E) → m.around new.world.now ≡ m.around old.world.now →
+pub memory_along : {W O E : Type 0} (m : Meaning W) (old new : Site W O E) →
     TellsAlong m old new (Err list_end.Memory) → StaysAlong m old new
-memory_along m old new same tells_along tells sure o outset along = tells_along o outset along.asked (along_ends m o outset old along)
+memory_along m old new tells_along tells sure o outset along = tells_along o outset along.asked (along_ends m o outset old along)
 
 -- at rest nothing can be scanned and decided
 pub rests_by : {W O E : Type 0} (m : Meaning W) (start site : Site W O E) → StaysAlong m start site →
@@ -240,14 +240,14 @@ pub still_at_rest : {W O E : Type 0} (m : Meaning W) (old mid last new : Site W 
     RestsAlong m old mid → (length mid.run.now.tickets ≡ 0) ⊎ (mid.run.now.plan.halted ≡ true) →
     (length mid.run.now.tickets ≡ 0 → last ≡ mid) → (mid.run.now.plan.halted ≡ true → last.run.now.plan.halted ≡ true) →
     KeepsKnown last new → KeepsEnds last.account.now new.account.now → RestsAlong m old new
-still_at_rest m old mid last new told rests (inl zero) same halts known ends tells sure o outset along none goes =
+still_at_rest {W} {O} {E} m old mid last new told rests (inl zero) same halting known keeps tells sure o outset along none goes =
     let is = same zero in
-    let unfaulted : is_faulted last.account.now ≡ false = not_before (is_faulted last.account.now) (is_faulted new.account.now) ends.faulted none in
+    let unfaulted : is_faulted last.account.now ≡ false = not_before (is_faulted last.account.now) (is_faulted new.account.now) keeps.faulted none in
     subst IsStill (sym (known.plan ∙ ap (λ (s : Site W O E). s.run.now.plan) is))
     (rests
     (subst (λ (s : Site W O E). m.tells s.world.now) is (told.told tells))
     (subst (λ (s : Site W O E). m.sure s.world.now) is (told.sure tells sure)) o outset along
     (ap (λ (s : Site W O E). is_faulted s.account.now) (sym is) ∙ unfaulted)
     (ap (λ (s : Site W O E). s.run.now.plan.halted) (sym is) ∙ ap (λ (p : Planned). p.halted) (sym known.plan) ∙ goes))
-still_at_rest m old mid last new told rests (inr halted) same halts known ends tells sure o outset along none goes =
-    true_false (sym (ap (λ (p : Planned). p.halted) known.plan ∙ halts halted) ∙ goes)
+still_at_rest m old mid last new told rests (inr halted) same halting known keeps tells sure o outset along none goes =
+    true_false (sym (ap (λ (p : Planned). p.halted) known.plan ∙ halting halted) ∙ goes)

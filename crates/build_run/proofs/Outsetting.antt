@@ -47,7 +47,7 @@ below_grown g h nodes grows e =
     below_more (length g.nodes) (length h.nodes) nodes (omega (arith, more, length-append g.nodes grows.more)) e
 
 none_among : (node : ℕ) (file : NodeId) → Among file [] → file.0 ≡ node → ⊥
-none_among node file () e
+none_among node file m e = elim m [ ]
 
 unscanned_by : (inputs : Inputs) (scan : Scan) (o : Option (Vec NodeId)) → get same_scan inputs.found.files scan ≡ o →
     IsUnreadIn inputs scan.file.0 → o ≡ None

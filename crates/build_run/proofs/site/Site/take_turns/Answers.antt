@@ -1,5 +1,4 @@
-use Rattle.std.proofs.Common.{inl, inr, refl, sym, ◌∙◌}
-use Rattle.std.proofs.lemmas.Bool.{true≢false}
+use Rattle.std.proofs.Common.{rules}
 use Rattle.build_run.proofs.Alongs.{along_on, memory_along, rests_by, rests_wanting, turn_along}
 use Rattle.build_run.proofs.Sites.{site_on}
 use Rattle.build_run.proofs.site.Site.take_turns.Goals as goal
@@ -20,5 +19,14 @@ loop-turn-preserved g c =
       accounts = λ start a. tell.accounts start (turn.ends start (before.accounts start a));
       sound = tell.sound turn.sound;
       along = along_on m _ _ _ told.passes.told before.along
-          (turn_along m _ _ _ _ tell.passes.passes.told turn.passes.same.options _ (c.want-wanted.ensures.wanted ?) turn.along tell.along);
+          (turn_along m _ _ _ _ tell.passes.passes.told turn.passes.same.options _ (c.want-wanted.ensures.wanted (search rules)) turn.along tell.along);
     }
+
+pub returns-then-eq-clause-still : goal.returns-then-eq-clause-still
+returns-then-eq-clause-still g c =
+    rests_by g.W.Disk.meaning c.args.self.now c.loop-turn.self c.loop-turn.invariant.along (c.want-wanted.ensures.still (search rules))
+
+pub returns-clause-along : goal.returns-clause-along
+returns-clause-along g c =
+    along_on g.W.Disk.meaning c.args.self.now c.loop-turn.self c.tell-2.new.self c.tell-2.ensures.passes.passes.told c.loop-turn.invariant.along
+    (memory_along g.W.Disk.meaning c.loop-turn.self c.tell-2.new.self c.tell-2.ensures.along)

@@ -1,5 +1,7 @@
 use Rattle.std.proofs.Common.{◌∙◌, List, ap, arith, length}
+use Rattle.std.specs.Prelude.{Ok}
 use Rattle.task_plan.specs.Plans.{Planned}
+use Rattle.task_plan.specs.declared.want.Want.TheVariants as want
 use Rattle.build_run.specs.Holds.{Busy}
 use Rattle.build_run.proofs.Alongs.{along_on, turn_along, waits_halted}
 use Rattle.build_run.proofs.Sites.{site_on}
@@ -26,5 +28,6 @@ loop-turn-preserved g c =
       same = λ e. absurd (omega (arith, e));
       halted = λ e. tell.halted (ap (λ (p : Planned). p.halted) ending.halted ∙ before.halted e);
       along = λ e. along_on m _ _ _ told.passes.told (before.along e)
-          (turn_along m _ _ _ _ tell.passes.passes.told ending.passes.same.options _ (waits_halted _ (before.halted e)) ending.along tell.along);
+          (turn_along m c.loop-turn.self c.take_ending-event.new.self c.tell.new.self (Ok c.take_ending-event.result) tell.passes.passes.told
+          ending.passes.same.options want.Wait (waits_halted c.loop-turn.self (before.halted e)) ending.along tell.along);
     }
