@@ -1,6 +1,6 @@
 -- How a build goes along when it is told what came of a turn, and from turn to turn.
 use Rattle.std.proofs.Common.{◌≡◌, ◌⊎◌, inl, inr, Bool, true, false, ◌||◌, List, [], ◌∷◌, length, ap, refl, sym, subst, ◌∙◌}
-use Rattle.std.specs.Prelude.{Result, Ok, Err, Contains, nat_lt}
+use Rattle.std.specs.Prelude.{Result, Ok, Err, nat_lt}
 use Rattle.world_api.specs.Around.{Around}
 use Rattle.world_api.specs.Meaning.{Meaning, Told}
 use Rattle.task_plan.specs.Plans.{Planned, is_halt}
@@ -14,10 +14,9 @@ use Rattle.plan_means.specs.Planning.{IsStep}
 use Rattle.build_model.specs.Steps.{Halts}
 use Rattle.build_model.proofs.Lists.{true_false}
 use Rattle.run_means.specs.Clears.{Clears}
-use Rattle.turn_means.specs.Laws.{IsTold}
 use Rattle.turn_means.specs.Standing.{Outset, IsOutset, Standing}
 use Rattle.turn_means.proofs.Turns.{ends, halts}
-use Rattle.build_run.specs.Along.{AreAsked, ComesOn, EndsOn, HoldsFewer, KeepsEnds, KeepsKnown, StandsPut, was_put, was_refused, GoesAlong, GoesOn, GoesWell, IsAlong, IsEnd, IsOn, IsReliable, IsWantedOf, Leads, RestsAlong, StaysAlong, StepsOr, Tells, TellsAlong, is_faulted, standing_of, stepped, wanted}
+use Rattle.build_run.specs.Along.{ComesOn, EndsOn, HoldsFewer, KeepsEnds, KeepsKnown, StandsPut, was_put, was_refused, GoesAlong, GoesOn, GoesWell, IsAlong, IsEnd, IsOn, IsReliable, IsWantedOf, Leads, RestsAlong, StaysAlong, StepsOr, Tells, TellsAlong, is_faulted, standing_of, stepped, wanted}
 use Rattle.build_run.specs.Holds.{Busy}
 use Rattle.build_run.specs.Sites.{KeepsRecords, most_jobs, records_of}
 use Rattle.build_run.specs.declared.building.Options.{Options}

@@ -1,12 +1,8 @@
 -- How a build comes to its end: where nothing runs no rule of its plan does, and where nothing is to be reported it succeeded.
-use Rattle.std.proofs.Common.{◌≡◌, ◌≢◌, ◌∙◌, ◌+◌, ℕ, zero, suc, pred, Bool, true, false, ◌||◌, cond, List, [], ◌∷◌, length, count_by, Contains, refl, sym, subst, ap, inl, inr, ◌⊎◌, arith}
-use Rattle.std.specs.Prelude.{nat_lt}
-use Rattle.std.proofs.lemmas.Bool.{or_parts}
-use Rattle.std.proofs.lemmas.List.Folds.{sum_by-cons}
-use Rattle.world_api.specs.Around.{Around}
+use Rattle.std.proofs.Common.{◌≡◌, ◌∙◌, ◌+◌, ℕ, zero, suc, pred, Bool, true, false, cond, List, [], ◌∷◌, length, count_by, refl, sym, subst, ap, inl, inr, ◌⊎◌, arith}
+use Rattle.std.proofs.lemmas.List.Sums.{sum_by-cons}
 use Rattle.world_api.specs.Counts.{Counts}
 use Rattle.world_api.specs.Meaning.{Meaning}
-use Rattle.rule_graph.specs.Graphs.{RuleGraph}
 use Rattle.sign_store.specs.Putting.{map_with}
 use Rattle.sign_store.specs.Stores.{map_of}
 use Rattle.sign_store.specs.Tables.{Map}
@@ -14,7 +10,7 @@ use Rattle.task_plan.specs.States.{state_of, is_running}
 use Rattle.task_plan.specs.Watched.{IsFinished, IsStill}
 use Rattle.task_plan.specs.declared.states.RuleState.{RuleState}
 use Rattle.task_plan.specs.declared.states.RuleState.TheVariants.{Unneeded, Waiting, Running, Settled, Failed, Lacking}
-use Rattle.build_model.specs.Rules.{Path, Rule, Setting, Among, here, there}
+use Rattle.build_model.specs.Rules.{Rule, Setting, Among, here, there}
 use Rattle.build_model.specs.Moments.{Job as Given}
 use Rattle.build_model.specs.Steps.{Step, Fresh, Began, Ended, Lacks, Halts, Build, began, done, running, IsRunning, IsRun}
 use Rattle.build_model.proofs.Lists.{true_false}
@@ -30,10 +26,9 @@ use Rattle.turn_means.specs.Standing.{Outset, IsOutset, begun_at, setting_at, St
 use Rattle.turn_means.proofs.Deciding.{tied}
 use Rattle.turn_means.proofs.Ends.{runs, goes_on}
 use Rattle.turn_means.proofs.Turns.{sets_out}
-use Rattle.build_run.specs.Along.{is_faulted, standing_of, ComesOn, GoesWell, HeldBegan, IsAlong, IsOn, KeepsEnds, RestsAlong}
+use Rattle.build_run.specs.Along.{is_faulted, standing_of, HeldBegan, IsAlong, IsOn, KeepsEnds}
 use Rattle.build_run.specs.Holds.{Busy}
 use Rattle.build_run.specs.Outsets.{FinishesWell, HasMade, IsReadyFor}
-use Rattle.build_run.specs.Sites.{records_of}
 use Rattle.build_run.specs.declared.account.Account.{Account}
 use Rattle.build_run.specs.declared.site.Site.{Site}
 
@@ -97,13 +92,16 @@ module _ (s : Setting) (b : Build) where
   none_runs : (past : List Step) → IsRun s b past → running past ≡ 0 → (r : Rule) → IsRunning past r → ⊥
   none_runs past run none r h = let a = all_running past run in none_in a.rules r (a.counts ∙ none) (a.all r h)
 
+none_more : (n : ℕ) → n ≡ 0 → 0 + n ≡ 0
+none_more n e = omega (arith, e)
+
 count_first : (state : RuleState) (n : ℕ) → (state ≡ Running → ⊥) → n ≡ 0 → cond (is_running state) 1 0 + n ≡ 0
-count_first Unneeded n none e = e
-count_first Waiting n none e = e
+count_first Unneeded n none e = none_more n e
+count_first Waiting n none e = none_more n e
 count_first Running n none e = absurd (none refl)
-count_first Settled n none e = e
-count_first Failed n none e = e
-count_first Lacking n none e = e
+count_first Settled n none e = none_more n e
+count_first Failed n none e = none_more n e
+count_first Lacking n none e = none_more n e
 
 count_none : (states : List RuleState) → ((number : ℕ) → state_of states number ≡ Running → ⊥) → count_by is_running states ≡ 0
 count_none [] none = refl

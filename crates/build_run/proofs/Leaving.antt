@@ -1,5 +1,5 @@
 -- What is left where leftover copies are taken away: the rest is as it was.
-use Rattle.std.proofs.Common.{◌≡◌, ◌∙◌, refl, ap, sym, subst, ℕ, List, [], Contains, Bool, true, false, None, inl, inr, if◌then◌else◌}
+use Rattle.std.proofs.Common.{◌≡◌, ◌∙◌, refl, ap, ℕ, List, [], Contains, Bool, true, false, None, inl, inr, if◌then◌else◌}
 use Rattle.world_api.specs.Around.{Around}
 use Rattle.world_api.specs.Looks.{Looks}
 use Rattle.world_api.specs.Meaning.{Meaning}

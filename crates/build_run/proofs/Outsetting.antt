@@ -1,5 +1,5 @@
 -- A build that has begun to look has set out.
-use Rattle.std.proofs.Common.{arith, ◌≡◌, ◌∙◌, ◌<◌, ◌≤◌, ℕ, Bool, true, false, List, [], ◌∷◌, ◌++◌, length, length-append, Option, Some, None, refl, sym, subst, ap, ltb-true}
+use Rattle.std.proofs.Common.{arith, ◌≡◌, ◌∙◌, ◌<◌, ◌≤◌, ℕ, true, List, [], ◌∷◌, ◌++◌, length, length-append, Option, Some, None, refl, sym, subst, ap, ltb-true}
 use Rattle.std.specs.Prelude.{nat_lt}
 use Rattle.std.proofs.lemmas.Bool.{and_parts, and_from, lt-ltb}
 use Rattle.std.specs.Global.{Vec}
@@ -13,7 +13,7 @@ use Rattle.world_api.specs.Meaning.{Meaning}
 use Rattle.world_api.specs.declared.hash.Hash.{Hash}
 use Rattle.rule_graph.specs.Graphs.{RuleGraph}
 use Rattle.rule_graph.specs.Rules.{are_below}
-use Rattle.build_model.specs.Rules.{Path, Among}
+use Rattle.build_model.specs.Rules.{Among}
 use Rattle.build_means.specs.Grown.{Begun}
 use Rattle.build_means.specs.Rules.{IsReading}
 use Rattle.build_files.specs.Beginnings.{Begins}
@@ -26,7 +26,6 @@ use Rattle.build_files.specs.declared.includes.Scan.{Scan}
 use Rattle.build_files.specs.declared.inputs.Inputs.{Inputs}
 use Rattle.plan_means.specs.Beginning.{AreLookedFor, IsLoaded}
 use Rattle.plan_means.specs.Planning.{IsGraphNow}
-use Rattle.task_plan.specs.Plans.{Planned}
 use Rattle.turn_means.specs.Standing.{Outset, begun_at}
 use Rattle.turn_means.proofs.Looked.{sought_are_looked_for}
 use Rattle.build_run.specs.Outsets.{IsBegunBy, SetsOut, SetsOutOn}

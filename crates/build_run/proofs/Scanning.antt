@@ -1,7 +1,7 @@
 -- How a build goes along when a file was scanned.
-use Rattle.std.proofs.Common.{◌≡◌, ◌≢◌, ◌≤◌, ◌<◌, ◌∙◌, ◌⊎◌, ◌++◌, ◌&&◌, inl, inr, ℕ, zero, suc, true, false, Bool, List, [], ◌∷◌, Option, Some, None, length, refl, sym, subst, ap, arith, lt-ltb, option_map}
-use Rattle.std.specs.Prelude.{Result, Ok, Err, slice_get, nat_lt, unwrap_or}
-use Rattle.std.specs.List.{AllZip, filter_map}
+use Rattle.std.proofs.Common.{◌≡◌, ◌≢◌, ◌≤◌, ◌<◌, ◌∙◌, ◌&&◌, inl, inr, ℕ, zero, suc, true, false, Bool, List, [], ◌∷◌, Option, Some, None, length, refl, sym, subst, ap, arith, lt-ltb, option_map}
+use Rattle.std.specs.Prelude.{slice_get, nat_lt, unwrap_or}
+use Rattle.std.specs.List.{filter_map}
 use Rattle.scons_base.specs.declared.ids.NodeId.{NodeId}
 use Rattle.scons_base.specs.declared.ids.RuleId.{RuleId}
 use Rattle.rule_graph.specs.declared.rule.Rule as declared
@@ -12,7 +12,6 @@ use Rattle.world_api.specs.Around.{Around, IsRunningTarget}
 use Rattle.world_api.specs.Calls.{Asks}
 use Rattle.world_api.specs.Meaning.{Meaning}
 use Rattle.task_plan.specs.Plans.{IsScannedNext}
-use Rattle.task_plan.specs.Rooted.{news_of}
 use Rattle.scons_base.specs.declared.limits.TheConstants.{NODE_LIMIT}
 use Rattle.task_plan.specs.Settled.{Kept}
 use Rattle.task_plan.specs.States.{state_of}
@@ -21,26 +20,24 @@ use Rattle.task_plan.specs.declared.want.PlanEvent.TheVariants as told
 use Rattle.build_model.specs.Contents.{in_tree, found_in, includes_of}
 use Rattle.build_model.specs.Reach.{IsScanned, scans_source, scans_found, first_scanned}
 use Rattle.build_model.specs.Rules.{Path, Rule, Among, here, there}
-use Rattle.build_model.specs.Steps.{Step, settled}
+use Rattle.build_model.specs.Steps.{Step}
 use Rattle.build_model.proofs.Lists.{true_false, among_same}
 use Rattle.build_means.specs.Finds.{finds, found_for, search_path}
 use Rattle.build_means.specs.Grown.{Begun, begun_setting, copy_in, or_copy_in, rule_numbered, IsCopyOf}
-use Rattle.build_means.specs.Rules.{IsReading, paths_of, rule_for, rule_in, rule_with}
+use Rattle.build_means.specs.Rules.{IsReading, paths_of, rule_in, rule_with}
 use Rattle.build_means.proofs.Growing.{get_either, get_front, paths_stay}
 use Rattle.build_means.proofs.Lists.{none_some, some_same, at_place}
 use Rattle.build_means.proofs.Readings.{node_path, rule_with_target}
 use Rattle.build_files.specs.Kept.{includes_in, past as looked_past, AreTrue, IsStill}
-use Rattle.build_files.specs.Marked.{AreGoneOver, AreGoneOverFor}
+use Rattle.build_files.specs.Marked.{AreGoneOverFor}
 use Rattle.build_files.specs.Reading.{ReadsOnly}
 use Rattle.build_files.specs.Searched.{meant, AreNodesOf, GrowsTo}
-use Rattle.build_files.specs.declared.end.ListEnd.{ListEnd}
 use Rattle.build_files.specs.declared.inputs.Inputs.{Inputs}
 use Rattle.plan_means.specs.Growth.{Grows}
 use Rattle.plan_means.specs.Planning.{IsGraphNow}
 use Rattle.plan_means.specs.Scanning.{IsFoundIn, MayBeScanned}
 use Rattle.plan_means.proofs.Growth.{numbered_stays}
 use Rattle.plan_means.proofs.Knowing.{Knows as Known, knows as known_of, among_stands, file_scanned}
-use Rattle.plan_means.proofs.Single.{numbered_stands}
 use Rattle.plan_means.proofs.Wanting.{may_be_scanned}
 use Rattle.turn_means.specs.Laws.{IsTold, LooksOn}
 use Rattle.run_means.specs.Clears.{Clears}
@@ -49,7 +46,7 @@ use Rattle.turn_means.specs.Standing.{Outset, IsOutset, IsAt, begun_at, setting_
 use Rattle.turn_means.proofs.Looked.{found_are_looked_for}
 use Rattle.turn_means.proofs.Running.{ready_still, source_still}
 use Rattle.turn_means.proofs.Turns.{looked, scanned}
-use Rattle.build_run.specs.Along.{EndsOn, GoesOn, GoesWell, IsAlong, IsOn, is_faulted, standing_of}
+use Rattle.build_run.specs.Along.{IsAlong, IsOn, standing_of}
 use Rattle.build_run.specs.declared.site.Site.{Site}
 use Rattle.build_run.proofs.Alongs.{ended_on}
 use Rattle.build_run.proofs.Settling.{IsReadable, unread_still}

@@ -1,8 +1,6 @@
 -- Whether the rule of a path is settled, and of which files nothing was read then.
-use Rattle.std.proofs.Common.{◌≡◌, ◌≢◌, ◌⊎◌, inl, inr, ℕ, List, [], ◌∷◌, ◌++◌, ap, refl, sym, subst, ◌∙◌, arith, zero, suc, length, ◌≤◌, Contains}
+use Rattle.std.proofs.Common.{◌≡◌, ◌⊎◌, inl, inr, ℕ, List, [], ◌∷◌, ◌++◌, ap, refl, sym, subst, ◌∙◌, arith, zero, suc, length, ◌≤◌, Contains}
 use Rattle.std.specs.Prelude.{slice_get, Some, None}
-use Rattle.std.specs.Global.{Vec}
-use Rattle.indexmap.specs.IndexMap.{get}
 use Rattle.scons_base.specs.declared.ids.NodeId.{NodeId}
 use Rattle.rule_graph.specs.Graphs.{RuleGraph}
 use Rattle.world_api.specs.Around.{Around}
@@ -11,13 +9,10 @@ use Rattle.build_model.specs.Moments.{Job as Given}
 use Rattle.build_model.specs.Steps.{Step, settled, IsReady, IsMissing, is_source, is_made}
 use Rattle.build_model.proofs.Runs.{settled_prepared}
 use Rattle.build_model.proofs.Ready.{needed_place}
-use Rattle.build_means.specs.Grown.{Begun}
 use Rattle.build_means.proofs.Growing.{get_either}
 use Rattle.build_means.proofs.Lists.{none_some, some_same}
-use Rattle.build_files.specs.Kept.{AreTrue, IsUnread, same_scan}
+use Rattle.build_files.specs.Kept.{AreTrue, IsUnread}
 use Rattle.build_files.specs.Reading.{IsUnreadIn, ReadsOnly}
-use Rattle.build_files.specs.Seen.{seen_at, unseen}
-use Rattle.build_files.specs.declared.includes.Scan.{Scan}
 use Rattle.build_files.specs.declared.inputs.Inputs.{Inputs}
 use Rattle.run_means.specs.Ways.{IsWay}
 use Rattle.run_means.proofs.Lists.{contains_among, among_contains}

@@ -1,5 +1,5 @@
 -- What a plan and an account are told.
-use Rattle.std.proofs.Common.{◌≡◌, Bool, true, false, ◌||◌, ap, refl, sym, ◌∙◌}
+use Rattle.std.proofs.Common.{◌≡◌, Bool, true, false, ◌||◌, ap, refl, ◌∙◌}
 use Rattle.build_model.proofs.Lists.{true_false}
 use Rattle.task_plan.specs.Plans.{is_halt, is_scan}
 use Rattle.task_plan.specs.declared.want.PlanEvent.{PlanEvent}

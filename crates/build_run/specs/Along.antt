@@ -1,6 +1,5 @@
 -- How a build goes along: what its site knows, beside the steps of the model that it took.
-use Rattle.std.specs.Prelude.{◌≡◌, ◌≢◌, ◌⊎◌, ◌<◌, ◌≤◌, ℕ, Bool, true, false, ◌||◌, nat_lt, List, length, Contains, Some, Result, Ok, Err}
-use Rattle.scons_base.specs.declared.ids.NodeId.{NodeId}
+use Rattle.std.specs.Prelude.{◌≡◌, ◌⊎◌, ◌<◌, ◌≤◌, ℕ, Bool, true, false, ◌||◌, nat_lt, List, length, Contains, Some, Result, Ok, Err}
 use Rattle.scons_base.specs.declared.ids.RuleId.{RuleId}
 use Rattle.world_api.specs.Meaning.{Meaning}
 use Rattle.world_api.specs.declared.job.Outcome.{Outcome}

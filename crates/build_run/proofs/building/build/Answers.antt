@@ -1,4 +1,5 @@
 use Rattle.std.proofs.Common.{◌∙◌, ap}
+use Rattle.build_means.specs.Rules.{IsReading}
 use Rattle.build_run.specs.Causes.{outside}
 use Rattle.build_run.specs.Ledgers.{ledger_of, ledger_of_end, blank, with_end}
 use Rattle.build_run.proofs.Builds.{build_ran, build_refused, build_succeeded, is_blank, refused_untold}
@@ -45,31 +46,31 @@ returns-in-Err-clause-causes g c =
 
 pub returns-in-Ok-clause-runs : goal.returns-in-Ok-clause-runs
 returns-in-Ok-clause-runs g c =
-    let read = record { apart = c.laws.ensures.apart; single = c.laws.ensures.single; named = c.laws.ensures.named } in
+    let read : IsReading c.args.graph.now = record { apart = c.laws.ensures.apart; single = c.laws.ensures.single; named = c.laws.ensures.named } in
     build_ran g.W.Disk.meaning c.args.graph.now c.args.requested.now c.args.options.now read c.args.world.now c.set_out.new.world
-    c.make_all-skipped.new.world c.args.store.now c.set_out.new.store c.requires.idle c.set_out.new.graph c.in-Ok.run c.new-account.result
+    c.make_all-skipped.new.world c.args.store.now c.set_out.new.store c.requires.idle c.set_out.new.graph c.in-Ok.run' c.new-account.result
     c.make_all-skipped.new.account c.set_out.ensures.goes.passes.told.told c.make_all-skipped.ensures.passes.told.told c.in-Ok.ensures.cause
     c.in-Ok.ensures.sets (is_blank c.new-account.result c.new-account.ensures.ledger c.new-account.ensures.ended)
     c.make_all-skipped.ensures.makes
 
 pub returns-in-Ok-clause-succeeds : goal.returns-in-Ok-clause-succeeds
 returns-in-Ok-clause-succeeds g c =
-    let read = record { apart = c.laws.ensures.apart; single = c.laws.ensures.single; named = c.laws.ensures.named } in
+    let read : IsReading c.args.graph.now = record { apart = c.laws.ensures.apart; single = c.laws.ensures.single; named = c.laws.ensures.named } in
     build_succeeded g.W.Disk.meaning c.args.graph.now c.args.requested.now c.args.options.now read c.args.world.now c.set_out.new.world
-    c.make_all-skipped.new.world c.args.store.now c.set_out.new.store c.requires.idle c.set_out.new.graph c.in-Ok.run c.new-account.result
+    c.make_all-skipped.new.world c.args.store.now c.set_out.new.store c.requires.idle c.set_out.new.graph c.in-Ok.run' c.new-account.result
     c.make_all-skipped.new.account c.set_out.ensures.goes.passes.told.told c.make_all-skipped.ensures.passes.told.told c.in-Ok.ensures.cause
     c.in-Ok.ensures.sets (is_blank c.new-account.result c.new-account.ensures.ledger c.new-account.ensures.ended)
     c.make_all-skipped.ensures.makes c.answer.result c.answer.ensures.faulted
 
 pub returns-in-Err-clause-runs : goal.returns-in-Err-clause-runs
 returns-in-Err-clause-runs g c =
-    let read = record { apart = c.laws.ensures.apart; single = c.laws.ensures.single; named = c.laws.ensures.named } in
+    let read : IsReading c.args.graph.now = record { apart = c.laws.ensures.apart; single = c.laws.ensures.single; named = c.laws.ensures.named } in
     build_refused g.W.Disk.meaning c.args.graph.now c.args.requested.now c.args.options.now read c.args.world.now c.set_out.new.world
     c.set_out.new.world c.args.store.now c.set_out.new.store c.requires.idle c.set_out.ensures.goes.passes.told.told c.in-Err.ensures.rest
 
 pub returns-in-Err-clause-succeeds : goal.returns-in-Err-clause-succeeds
 returns-in-Err-clause-succeeds g c =
-    let read = record { apart = c.laws.ensures.apart; single = c.laws.ensures.single; named = c.laws.ensures.named } in
+    let read : IsReading c.args.graph.now = record { apart = c.laws.ensures.apart; single = c.laws.ensures.single; named = c.laws.ensures.named } in
     refused_untold g.W.Disk.meaning c.args.graph.now c.args.requested.now c.args.options.now read c.args.world.now c.set_out.new.world
     c.set_out.new.world c.args.store.now c.set_out.new.store c.requires.idle c.end.new.self c.end.ensures.ends.faulted c.answer-in-Err.result
     c.answer-in-Err.ensures.faulted

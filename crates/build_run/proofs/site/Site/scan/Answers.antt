@@ -1,4 +1,4 @@
-use Rattle.std.proofs.Common.{◌∙◌, refl, subst, sym}
+use Rattle.std.proofs.Common.{refl, subst, sym}
 use Rattle.world_api.specs.Counts.{Counts}
 use Rattle.build_means.specs.Logs.{AreUnrisen}
 use Rattle.build_run.specs.Ledgers.{ledger_of}

@@ -1,5 +1,5 @@
 use Rattle.std.proofs.Common.{rules}
-use Rattle.build_run.proofs.Alongs.{along_on, memory_along, rests_by, rests_wanting, turn_along}
+use Rattle.build_run.proofs.Alongs.{along_on, memory_along, rests_by, turn_along}
 use Rattle.build_run.proofs.Sites.{site_on}
 use Rattle.build_run.proofs.site.Site.take_turns.Goals as goal
 

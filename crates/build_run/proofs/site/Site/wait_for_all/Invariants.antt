@@ -1,4 +1,4 @@
-use Rattle.std.proofs.Common.{◌≡◌, ◌≤◌, ◌+◌, ◌⊎◌, true, length}
+use Rattle.std.proofs.Common.{◌≡◌, ◌≤◌, ◌+◌, true, length}
 use Rattle.build_run.specs.Along.{StaysAlong}
 use Rattle.build_run.specs.Sites.{IsSound, SiteAccounts, SitePasses}
 use Rattle.build_run.proofs.site.Site.wait_for_all.Given as goal
