@@ -1,7 +1,6 @@
 -- What looks leave of a build, and of a rule that it decides.
-use Rattle.std.proofs.Common.{◌≡◌, ◌≢◌, ◌∙◌, ◌⊎◌, ◌||◌, ℕ, true, false, Bool, List, [], ◌∷◌, Contains, Option, Some, cond, map, inl, inr, refl, sym, subst, ap, option_map, append-nil}
-use Rattle.std.specs.Prelude.{Ok, get_or, slice_get, unwrap_or}
-use Rattle.std.specs.List.{list_any}
+use Rattle.std.proofs.Common.{◌≡◌, ◌≢◌, ◌∙◌, ◌⊎◌, ℕ, true, false, Bool, List, [], ◌∷◌, Contains, Option, Some, cond, map, inl, inr, refl, sym, subst, ap, option_map, append-nil}
+use Rattle.std.specs.Prelude.{Ok, slice_get, unwrap_or}
 use Rattle.scons_base.specs.declared.ids.NodeId.{NodeId}
 use Rattle.scons_base.specs.declared.ids.RuleId.{RuleId}
 use Rattle.world_api.specs.Around.{Around, IsRunningTarget}
@@ -26,16 +25,13 @@ use Rattle.task_plan.specs.declared.states.RuleState.TheVariants.{Unneeded, Wait
 use Rattle.task_plan.specs.declared.want.PlanEvent.{PlanEvent}
 use Rattle.task_plan.specs.declared.want.PlanEvent.TheVariants as told
 use Rattle.task_plan.proofs.MetNeeds.{all_stands}
-use Rattle.build_model.specs.Rules.{Path, Content, Tree, Stamps, Rule, Record, Records, Dependency, Setting, Among, here, there}
+use Rattle.build_model.specs.Rules.{Path, Content, Rule, Record, Dependency, Setting, Among, here, there}
 use Rattle.build_model.specs.Contents.{in_tree}
 use Rattle.build_model.specs.Moments.{Job as Given}
 use Rattle.build_model.specs.Records.{dependency_of, known_digest, stamp_kept}
-use Rattle.build_model.specs.Stale.{first_stamp}
-use Rattle.build_model.specs.Steps.{Step, Fresh, began, settled, IsReady, is_source, is_made, IsMissing}
+use Rattle.build_model.specs.Steps.{Step, Fresh, began, settled, IsReady, IsMissing}
 use Rattle.build_model.proofs.Lists.{none_some, some_same, true_false, among_same}
-use Rattle.build_model.proofs.Ready.{needed_place}
-use Rattle.build_model.proofs.Runs.{settled_prepared}
-use Rattle.build_means.specs.Due.{is_due_for, is_due}
+use Rattle.build_means.specs.Due.{is_due}
 use Rattle.build_means.specs.Grown.{IsLookedFor, rule_numbered}
 use Rattle.build_means.specs.Present.{record_over}
 use Rattle.build_means.specs.Records.{HasOwnDigests, record_in, records_in}
@@ -44,22 +40,21 @@ use Rattle.build_means.specs.Logs.{AreUnrisen}
 use Rattle.build_means.proofs.Lists.{among_map}
 use Rattle.build_files.specs.Dueness.{AreIdle, FindsDue, HaveOwnDigests}
 use Rattle.build_files.specs.Kept.{AreTrue}
-use Rattle.build_files.specs.Marked.{AreGoneOver, KeepsMarks, is_marked}
+use Rattle.build_files.specs.Marked.{AreGoneOver, KeepsMarks}
 use Rattle.build_files.specs.Presence.{AreStill}
 use Rattle.build_files.specs.Reading.{IsUnreadIn, ReadsOnly}
 use Rattle.build_files.specs.declared.inputs.Inputs.{Inputs}
 use Rattle.plan_means.specs.Planning.{IsGraphNow}
 use Rattle.plan_means.proofs.Knowing.{knows as known_of, among_stands, in_needs, need_at, done_ready}
 use Rattle.run_means.specs.Ways.{IsWay}
-use Rattle.run_means.proofs.Lists.{contains_among, among_contains}
 use Rattle.turn_means.specs.Standing.{Outset, IsOutset, begun_at, setting_at, Standing, AreUnread, Knows}
 use Rattle.turn_means.specs.Laws.{IsTold, IsWeighed, LooksOn, is_due_now}
-use Rattle.turn_means.specs.Recording.{build_at}
-use Rattle.turn_means.proofs.Deciding.{decided, makes}
-use Rattle.turn_means.proofs.Files.{contained}
+use Rattle.turn_means.proofs.Deciding.{decided, due_agrees, makes}
 use Rattle.turn_means.proofs.OwnDigests.{own_digests}
-use Rattle.turn_means.proofs.Running.{MakesIt, lawful, one_rule, makes_each, ready_still, source_still, unbegun_still, run_so}
+use Rattle.turn_means.proofs.Running.{MakesIt, one_rule, ready_still, source_still, unbegun_still}
 use Rattle.turn_means.proofs.Turns.{looked, found_fresh}
+use Rattle.build_files.proofs.Marking.{over_same as marks_kept}
+use Rattle.build_run.proofs.Settling.{IsReadable, readable_settled, settled_or}
 use Rattle.build_run.specs.Along.{AreAsked, GoesOn, HeldBegan, IsAlong, IsDue, KeepsEnds, is_faulted, standing_of}
 use Rattle.build_run.specs.Holds.{Busy}
 use Rattle.build_run.specs.Outs.{AreOut}
@@ -184,41 +179,11 @@ module _ (o : Outset) (outset : IsOutset o) (jobs : List Given) (s : Standing) (
 
     -- ---- of which files nothing was read
 
-    settled_place : {r : Rule} → Among r (settled past) → (path : Path) × MakesIt o path r
-    settled_place m =
-        needed_place (settled_prepared (setting_at o) (build_at o s.around) past (run_so o outset jobs s.around past way) m).wanted.is_needed
-
-    -- whether the rule of a path is settled
-    settled_or : (path : Path) (r : Rule) → MakesIt o path r → Among r (settled past) ⊎ (Among r (settled past) → ⊥)
-    settled_or path r e = by (settled past) (λ q m. m)
-      where
-        front : (q : Rule) (rules : List Rule) → Among q (settled past) → Contains q.targets path ⊎ (Contains q.targets path → ⊥) →
-            Among r rules ⊎ (Among r rules → ⊥) → Among r (q ∷ rules) ⊎ (Among r (q ∷ rules) → ⊥)
-        front q rules m (inl has) rest =
-            let place = settled_place m in
-            let same : q ≡ r = one_rule o outset path (makes_each o outset place.0 place.1 path (contains_among q.targets has)) e in
-            inl (subst (λ (x : Rule). Among x (q ∷ rules)) same here)
-        front q rules m (inr out) (inl more) = inl (there more)
-        front q rules m (inr out) (inr none) = inr (λ h. not_front q rules out none h)
-          where
-            not_front : (q : Rule) (rules : List Rule) → (Contains q.targets path → ⊥) → (Among r rules → ⊥) → Among r (q ∷ rules) → ⊥
-            not_front q rules out none here = out (among_contains ((lawful o outset).makes path r e))
-            not_front q rules out none (there h) = none h
-
-        by : (rules : List Rule) → ((q : Rule) → Among q rules → Among q (settled past)) → Among r rules ⊎ (Among r rules → ⊥)
-        by [] within = inr (λ m. elim m [ ])
-        by (q ∷ rules) within = front q rules (within q here) (contained q.targets path) (by rules (λ x m. within x (there m)))
-
     -- a dependency that a rule makes has it settled
     dep_settled : (node : NodeId) (path : Path) (r : Rule) → Among node (deps_of s.plan.rules rule.0) → slice_get s.graph.nodes node.0 ≡ Some path →
         MakesIt o path r → Among r (settled past)
     dep_settled node path r m at e =
-        by (subst (λ (p : Path). IsReady (setting_at o) s.around.tree (settled past) p ⊎ IsMissing (setting_at o) s.around.tree p) (path_at node path at) (each_ready node m))
-      where
-        by : IsReady (setting_at o) s.around.tree (settled past) path ⊎ IsMissing (setting_at o) s.around.tree path → Among r (settled past)
-        by (inl (is_source bytes none file)) = none_some (sym none ∙ e)
-        by (inl (is_made q is h)) = subst (λ (x : Rule). Among x (settled past)) (some_same (sym is ∙ e)) h
-        by (inr missing) = none_some (sym missing.no_rule ∙ e)
+        readable_settled o outset jobs s.around past way path r (subst (λ (p : Path). IsReadable o s.around past p) (path_at node path at) (each_ready node m)) e
 
     -- nothing was read of what an unsettled rule makes
     unread_before : (inputs : Inputs) → AreUnread o s.graph inputs past → (node : ℕ) (path : Path) (r : Rule) → slice_get s.graph.nodes node ≡ Some path →
@@ -237,7 +202,7 @@ module _ (o : Outset) (outset : IsOutset o) (jobs : List Given) (s : Standing) (
 
     pub unread_still : (old new : Inputs) → ReadsOnly (deps_of s.plan.rules rule.0) old new → AreUnread o s.graph old past → AreUnread o s.graph new past
     unread_still old new only unread = record {
-      scans = λ scan nodes kept path r at e. elim (settled_or path r e) [
+      scans = λ scan nodes kept path r at e. elim (settled_or o outset jobs s.around past way path r e) [
         | inl m ↦ m
         | inr out ↦ absurd ((unread_after old new only unread scan.file.0 path r at e out).scans scan nodes kept refl)
       ];
@@ -270,29 +235,6 @@ module _ (o : Outset) (outset : IsOutset o) (jobs : List Given) (s : Standing) (
 
 -- ---- whether a rule is due
 
-same_any : {A : Type 0} (f h : A → Bool) (xs : List A) → ((x : A) → Among x xs → f x ≡ h x) → list_any f xs ≡ list_any h xs
-same_any f h [] e = refl
-same_any f h (x ∷ xs) e = ap (λ b. b || list_any f xs) (e x here) ∙ ap (λ b. h x || b) (same_any f h xs (λ y m. e y (there m)))
-
-first_same : (stamps later : Stamps) (targets : List Path) → ((p : Path) → Among p targets → stamps p ≡ later p) →
-    first_stamp stamps targets ≡ first_stamp later targets
-first_same stamps later [] e = refl
-first_same stamps later (p ∷ targets) e = e p here
-
--- a rule is due by what stands and is recorded at its targets alone
-due_agrees : (r : Rule) (t u : Tree) (stamps later : Stamps) (m n : Records) (now : Record) →
-    ((p : Path) → Among p r.targets → t p ≡ u p) → ((p : Path) → Among p r.targets → stamps p ≡ later p) →
-    ((p : Path) → Among p r.targets → m p ≡ n p) → is_due r t stamps m now ≡ is_due r u later n now
-unfolding is_due
-due_agrees r t u stamps later m n now files times records =
-    ap (λ b. r.always || b)
-    (same_any (λ p. is_due_for r.decider (first_stamp stamps r.targets) now (t p) (m p))
-    (λ p. is_due_for r.decider (first_stamp later r.targets) now (u p) (n p)) r.targets
-    (λ p among.
-    ap (λ s. is_due_for r.decider s now (t p) (m p)) (first_same stamps later r.targets times)
-    ∙ ap (λ c. is_due_for r.decider (first_stamp later r.targets) now c (m p)) (files p among)
-    ∙ ap (is_due_for r.decider (first_stamp later r.targets) now (u p)) (records p among)))
-
 not_among : (paths : List (List ℕ)) (path : List ℕ) → (Contains paths path → ⊥) → is_among paths path ≡ false
 not_among paths path not = by (is_among paths path) refl
   where
@@ -316,21 +258,6 @@ map_beside store held path outs apart = by held (map_of store) outs apart
         (not_among t.rec.targets path (λ h. apart one (at_front held one) (subst (λ (paths : List (List ℕ)). Contains paths path) t.same h))))
 
 -- ---- a look leaves how a build stands
-
--- all that was looked for still is
-over_marks : (g : RuleGraph) (old new : Inputs) → KeepsMarks g old g new → AreGoneOver g old → AreGoneOver g new
-over_marks g old new marks over copies =
-    let was = over copies in
-    let same : (number : ℕ) → is_marked new number ≡ is_marked old number = λ number. ap (λ marked. get_or marked.items number false) marks.marked in
-    record {
-      known = λ number e. was.known number (sym (same number) ∙ e);
-      named = λ number of e unlisted at n named.
-          let sought = was.named number of (sym (same number) ∙ e) unlisted at n named in
-          record {
-            marked = λ other is. same other ∙ sought.marked other is;
-            settled = λ none. marks.settled n.0 (sought.settled none);
-          };
-    }
 
 module _ {W O E : Type 0} (m : Meaning W) (o : Outset) (outset : IsOutset o) (old new : Site W O E) (along : IsAlong m o old)
     (asks : Asks (m.around old.world.now) (m.around new.world.now)) (graph : new.graph.now ≡ old.graph.now) (store : new.store.now ≡ old.store.now)
@@ -379,7 +306,7 @@ module _ {W O E : Type 0} (m : Meaning W) (o : Outset) (outset : IsOutset o) (ol
         record {
           unrisen = subst (λ (c : Counts). AreUnrisen o.wanted.keep o.counts c) (sym counts) well.unrisen;
           unshut = ap (λ (a : Account). a.is_store_shut) account ∙ well.unshut;
-          looked = subst (λ (g : RuleGraph). AreGoneOver g new.run.now.inputs) (sym graph) (over_marks old.graph.now old.run.now.inputs new.run.now.inputs marks well.looked);
+          looked = subst (λ (g : RuleGraph). AreGoneOver g new.run.now.inputs) (sym graph) (marks_kept old.graph.now old.run.now.inputs new.run.now.inputs marks well.looked);
         };
     halted = λ e. ap (λ (p : Planned). p.halted) same_plan ∙ along.halted (sym (ap (λ (a : Account). a.is_ended) account) ∙ e);
   }

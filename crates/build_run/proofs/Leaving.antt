@@ -127,8 +127,8 @@ leaves_left m a b c g store new_store left told looks found p = λ t rest.
     let asks = looks.around (told t) in
     let still = asks.running ∙ rest in
     let widens : (path : List ℕ) → IsTargetOf left path → IsLeftAt g (m.around a) (map_of store) path = λ path is.
-        let was = (found (told t) still).each is.0 is.1 in
-        (is.0, was.0, left_before g (m.around a) (m.around b) is.0 rest asks was.1, is.2) in
+    let was = (found (told t) still).each is.0 is.1 in
+    (is.0, was.0, left_before g (m.around a) (m.around b) is.0 rest asks was.1, is.2) in
     let may = IsLeftAt g (m.around a) (map_of store) in
     leaves_on m a b c store store new_store may told (leaves_looked m a b store store may looks refl)
     (leaves_as m b c store new_store (IsTargetOf left) may widens p) t rest

@@ -135,10 +135,13 @@ module _ {W O E : Type 0} (m : Meaning W) (o : Outset) (outset : IsOutset o) (ol
     (along : IsAlong m o old) (next : IsScannedNext old.run.now.plan rule.0 file) where
   abbrev G : RuleGraph
   G = old.graph.now
+
   abbrev A : Around
   A = m.around old.world.now
+
   abbrev B : Begun
   B = begun_at o
+
   abbrev Past : List Step
   Past = along.on.past
 

@@ -88,13 +88,7 @@ impl<W: World, O: Sink, E: Sink> Site<'_, '_, W, O, E> {
         ensures memory { done ≡ Err ListEnd.Memory → self.new.account.now.memory ≡ true }
         ensures halts { done ≡ Err ListEnd.Memory → self.new.run.now.plan.halted ≡ true }
     {
-        tell(
-            self.graph,
-            &mut self.run.plan,
-            self.account,
-            self.err,
-            done,
-        );
+        tell(self.graph, &mut self.run.plan, self.account, self.err, done);
         halt(self.graph, &mut self.run.plan, self.account);
     }
 
@@ -123,10 +117,7 @@ impl<W: World, O: Sink, E: Sink> Site<'_, '_, W, O, E> {
         ensures sound { IsSound W.meaning self.old → IsSound W.meaning self.new }
         ensures along { GoesAlong W.meaning self.old self.new (Want.Scan rule file) result }
     {
-        let found = self
-            .run
-            .inputs
-            .scanned(self.world, self.graph, rule, file)?;
+        let found = self.run.inputs.scanned(self.world, self.graph, rule, file)?;
         self.graph.laws();
         let _ = self.graph.len();
         Ok(PlanEvent::Scanned(rule, found))
