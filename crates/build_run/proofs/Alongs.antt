@@ -1,7 +1,6 @@
 -- How a build goes along when it is told what came of a turn, and from turn to turn.
 use Rattle.std.proofs.Common.{◌≡◌, ◌⊎◌, inl, inr, Bool, true, false, ◌||◌, List, [], ◌∷◌, length, ap, refl, sym, subst, ◌∙◌}
 use Rattle.std.specs.Prelude.{Result, Ok, Err, nat_lt}
-use Rattle.world_api.specs.Around.{Around}
 use Rattle.world_api.specs.Meaning.{Meaning, Told}
 use Rattle.task_plan.specs.Plans.{Planned, is_halt}
 use Rattle.task_plan.specs.Watched.{IsStill}
@@ -22,6 +21,7 @@ use Rattle.build_run.specs.Sites.{KeepsRecords, most_jobs, records_of}
 use Rattle.build_run.specs.declared.building.Options.{Options}
 use Rattle.build_run.specs.declared.account.Account.{Account}
 use Rattle.build_run.specs.declared.site.Site.{Site}
+use Rattle.build_run.proofs.Clearing.{clears_same}
 use Rattle.build_run.proofs.EndingOn.{not_before}
 
 -- What came of a turn was told to this plan and this account.
@@ -106,22 +106,11 @@ module _ (o : Outset) (outset : IsOutset o) where
     told_to (Ok event) goes mid plan account stays tells = event_told event goes mid plan account stays tells
     told_to (Err end) ends_on mid plan account stays tells = ended_told plan account ends_on tells.1
 
--- no call may be made
-pub clears_here : (around : Around) → Clears [] around around
-clears_here around = record {
-  files = λ path free out. refl;
-  stamps = λ path free out. refl;
-  running = refl;
-  log = refl;
-  met = refl;
-  law = refl;
-}
-
 -- where it goes along an end may come
 pub along_ends : {W O E : Type 0} (m : Meaning W) (o : Outset) → IsOutset o → (site : Site W O E) → IsAlong m o site → EndsOn m o site
 along_ends m o outset site along s around ended faulted goes =
     ended_on o outset site.run.now.held (standing_of m site) s along.on
-    (subst (λ a. Clears [] (m.around site.world.now) a) (sym around) (clears_here (m.around site.world.now))) ended faulted goes
+    (clears_same [] (m.around site.world.now) s.around around) ended faulted goes
 
 -- turns one behind the other
 pub along_on : {W O E : Type 0} (m : Meaning W) (old mid new : Site W O E) → Told m mid.world.now new.world.now → StaysAlong m old mid →
@@ -186,13 +175,10 @@ fewer_on o held fewer s less on = record {
 module _ {W O E : Type 0} (m : Meaning W) (o : Outset) (outset : IsOutset o) (old new : Site W O E) (along : IsAlong m o old)
     (around : m.around new.world.now ≡ m.around old.world.now) (known : KeepsKnown old new) (stands : StandsPut m old new)
     (less : HoldsFewer old.run.now.held new.run.now.held) (kept : KeepsRecords old new) where
-  clears_same : Clears [] (m.around old.world.now) (m.around new.world.now)
-  clears_same = subst (λ a. Clears [] (m.around old.world.now) a) (sym around) (clears_here (m.around old.world.now))
-
   end_put : IsEnd new.account.now → IsOn o new.run.now.held (standing_of m new)
   end_put is =
       fewer_on o old.run.now.held new.run.now.held (standing_of m new) less
-      (ended_on o outset old.run.now.held (standing_of m old) (standing_of m new) along.on clears_same is.ended is.faulted
+      (ended_on o outset old.run.now.held (standing_of m old) (standing_of m new) along.on (clears_same [] (m.around old.world.now) (m.around new.world.now) around) is.ended is.faulted
       (ap (λ (p : Planned). p.halted) known.plan))
 
   same_put : new.account.now ≡ old.account.now → old.account.now.is_ended ≡ false → IsOn o new.run.now.held (standing_of m new)

@@ -11,7 +11,7 @@ use Rattle.world_api.specs.Reads.{stamp_of}
 use Rattle.deciders.specs.declared.recorded.Rec.{Rec}
 use Rattle.sign_store.specs.Putting.{map_with, put_over, record_of, with_put}
 use Rattle.sign_store.specs.Stores.{map_of}
-use Rattle.sign_store.specs.Tables.{Map, is_among}
+use Rattle.sign_store.specs.Tables.{Map}
 use Rattle.sign_store.specs.declared.store.Store.{Store}
 use Rattle.rule_graph.specs.Graphs.{RuleGraph, path_of}
 use Rattle.task_plan.specs.States.{state_of}
@@ -64,7 +64,8 @@ use Rattle.build_run.specs.declared.building.Options.{Options}
 use Rattle.build_run.specs.declared.site.Run.{Run}
 use Rattle.build_run.specs.declared.site.Site.{Site}
 use Rattle.build_run.proofs.Holding.{at_front, further}
-use Rattle.build_run.proofs.Outs.{among_in, outs_front}
+use Rattle.build_run.proofs.EndingOn.{not_before}
+use Rattle.build_run.proofs.Outs.{outs_front, not_among}
 
 -- ---- over a look
 
@@ -235,13 +236,6 @@ module _ (o : Outset) (outset : IsOutset o) (jobs : List Given) (s : Standing) (
 
 -- ---- whether a rule is due
 
-not_among : (paths : List (List ℕ)) (path : List ℕ) → (Contains paths path → ⊥) → is_among paths path ≡ false
-not_among paths path not = by (is_among paths path) refl
-  where
-    by : (b : Bool) → is_among paths path ≡ b → is_among paths path ≡ false
-    by true e = absurd (not (among_in paths path e))
-    by false e = e
-
 -- the held records leave what is recorded of other paths
 map_beside : (store : Store) (held : List Busy) (path : List ℕ) → AreOut store held →
     ((busy : Busy) → Contains held busy → Contains busy.hold.targets path → ⊥) → map_with store held path ≡ map_of store path
@@ -346,11 +340,7 @@ told_before was faulted ended s event keeps t = record {
 
 -- an end isn't taken back
 pub goes_before : (before after : Account) → KeepsEnds before after → after.is_ended ≡ false → before.is_ended ≡ false
-goes_before before after keeps e = by before.is_ended refl
-  where
-    by : (b : Bool) → before.is_ended ≡ b → b ≡ false
-    by true was = true_false (sym (keeps.ended was) ∙ e)
-    by false was = refl
+goes_before before after keeps e = not_before before.is_ended after.is_ended keeps.ended e
 
 -- before an end a plan may go on
 pub not_ended : {W O E : Type 0} (m : Meaning W) (o : Outset) (site : Site W O E) → IsAlong m o site → site.run.now.plan.halted ≡ false →

@@ -1,5 +1,5 @@
 -- How a build comes to its end: where nothing runs no rule of its plan does, and where nothing is to be reported it succeeded.
-use Rattle.std.proofs.Common.{◌≡◌, ◌∙◌, ◌+◌, ℕ, zero, suc, pred, Bool, true, false, cond, List, [], ◌∷◌, length, count_by, refl, sym, subst, ap, inl, inr, ◌⊎◌, arith}
+use Rattle.std.proofs.Common.{◌≡◌, ◌∙◌, ◌+◌, ℕ, zero, suc, pred, true, false, cond, List, [], ◌∷◌, length, count_by, refl, sym, subst, ap, inl, inr, ◌⊎◌, arith}
 use Rattle.std.proofs.lemmas.List.Sums.{sum_by-cons}
 use Rattle.world_api.specs.Counts.{Counts}
 use Rattle.world_api.specs.Meaning.{Meaning}
@@ -31,6 +31,7 @@ use Rattle.build_run.specs.Holds.{Busy}
 use Rattle.build_run.specs.Outsets.{FinishesWell, HasMade, IsReadyFor}
 use Rattle.build_run.specs.declared.account.Account.{Account}
 use Rattle.build_run.specs.declared.site.Site.{Site}
+use Rattle.build_run.proofs.EndingOn.{not_before}
 
 -- ---- where no job runs no rule does
 
@@ -128,10 +129,6 @@ module _ (o : Outset) (outset : IsOutset o) (jobs : List Given) (s : Standing) (
 
 -- ---- what a build did
 
-not_so : (b c : Bool) → (b ≡ true → c ≡ true) → c ≡ false → b ≡ false
-not_so true c f e = true_false (sym (f refl) ∙ e)
-not_so false c f e = refl
-
 module _ {W O E : Type 0} (m : Meaning W) (o : Outset) (outset : IsOutset o) (mid : Site W O E) (after : Account)
     (on : IsOn o mid.run.now.held (standing_of m mid)) (rest : (m.around mid.world.now).running ≡ [])
     (still : is_faulted mid.account.now ≡ false → mid.run.now.plan.halted ≡ false → IsStill mid.run.now.plan)
@@ -142,13 +139,13 @@ module _ {W O E : Type 0} (m : Meaning W) (o : Outset) (outset : IsOutset o) (mi
 
   module _ (well : is_faulted after ≡ false) where
     unfaulted : is_faulted mid.account.now ≡ false
-    unfaulted = not_so (is_faulted mid.account.now) (is_faulted after) ends.faulted well
+    unfaulted = not_before (is_faulted mid.account.now) (is_faulted after) ends.faulted well
 
     not_ended : mid.account.now.is_ended ≡ false
-    not_ended = not_so mid.account.now.is_ended (is_faulted mid.account.now) on.at.told unfaulted
+    not_ended = not_before mid.account.now.is_ended (is_faulted mid.account.now) on.at.told unfaulted
 
     no_halt : mid.run.now.plan.halted ≡ false
-    no_halt = not_so mid.run.now.plan.halted mid.account.now.is_ended (λ e. (on.at.halted e).ended) not_ended
+    no_halt = not_before mid.run.now.plan.halted mid.account.now.is_ended (λ e. (on.at.halted e).ended) not_ended
 
     at_last : IsStill mid.run.now.plan
     at_last = still unfaulted no_halt
