@@ -257,6 +257,10 @@ Tells g plan account (Err end) new_plan new_account = (new_plan ≡ plan) × IsE
 abbrev pub TellsAlong : {W O E : Type 0} → Meaning W → Site W O E → Site W O E → Result PlanEvent ListEnd → Type 0
 TellsAlong m old new done = (o : Outset) → IsOutset o → AreAsked o old.options → Leads m o old done → IsAlong m o new
 
+-- no job runs, or the plan has halted
+abbrev pub IsSpent : {W O E : Type 0} → Site W O E → Type 0
+IsSpent site = (length site.run.now.tickets ≡ 0) ⊎ (site.run.now.plan.halted ≡ true)
+
 -- At rest nothing can be scanned and decided, where nothing is to be reported.
 abbrev pub RestsAlong : {W O E : Type 0} → Meaning W → Site W O E → Site W O E → Type 0
 RestsAlong m old new = m.tells new.world.now → m.sure new.world.now → (o : Outset) → IsOutset o → IsAlong m o old →

@@ -72,6 +72,10 @@ abbrev pub Leaves : {W : Type 0} → Meaning W → W → Store → W → Store �
 Leaves m old store new new_store may = m.tells new → (m.around old).running ≡ [] →
     LeavesRest may (m.around old) (map_of store) (m.around new) (map_of new_store)
 
+-- of leftover copies, as they are before
+abbrev pub LeavesCopies : {W : Type 0} → Meaning W → RuleGraph → W → Store → W → Store → Type 0
+LeavesCopies m g old store new new_store = Leaves m old store new new_store (IsLeftAt g (m.around old) (map_of store))
+
 -- Leftover copies went, and then the build has set out.
 pub record HasSetOut {W : Type 0} (m : Meaning W) (g : RuleGraph) (requested : List NodeId) (hash : Hash) (world : W) (map : Map)
     (h : RuleGraph) (run : Run) (new : W) (left_map : Map) : Type 0 where

@@ -10,9 +10,9 @@ ghost use Rattle.build_run.specs.Along.{is_faulted, KeepsEnds};
 ghost use Rattle.build_run.specs.Causes.{BuildCauses, IsInner};
 ghost use Rattle.build_run.specs.Goings.{Goes, Passes, Stays};
 ghost use Rattle.build_run.specs.Ledgers.{ledger_of, AllAccounts, Reports};
-ghost use Rattle.build_run.specs.Outsets.{wanted_of, BuildRuns, BuildSucceeds, FinishesWell, Leaves, MakesAll, SetsOut, SetsOutBehind};
+ghost use Rattle.build_run.specs.Outsets.{wanted_of, BuildRuns, BuildSucceeds, FinishesWell, LeavesCopies, MakesAll, SetsOut, SetsOutBehind};
 ghost use Rattle.build_run.specs.Sites.{IsSame, SiteAccounts, most_jobs};
-ghost use Rattle.build_run.specs.Takes.{HasTakeCause, IsLeftAt};
+ghost use Rattle.build_run.specs.Takes.{HasTakeCause};
 
 use crate::account::Account;
 use crate::end::BuildEnd;
@@ -118,7 +118,7 @@ fn set_out<W: World>(
     ensures none { IfOk result (λ run. run.tickets ≡ []) }
     ensures held { IfOk result (λ run. run.held ≡ []) }
     ensures sets { IfOk result (SetsOutBehind W.meaning graph.old requested.now hash world.old store.old graph.new world.new store.new) }
-    ensures rest { OnErr result (Leaves W.meaning world.old store.old world.new store.new (IsLeftAt graph.old (W.meaning.around world.old) (map_of store.old))) }
+    ensures rest { OnErr result (LeavesCopies W.meaning graph.old world.old store.old world.new store.new) }
 {
     take_leftovers(alloc, graph, store, world)?;
     begin(alloc, hash, graph, requested, world)

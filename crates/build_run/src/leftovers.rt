@@ -3,7 +3,7 @@ ghost use Rattle.std.specs.Prelude.{◌≡◌, ℕ, List, [], true, Contains, On
 ghost use Rattle.build_files.specs.Causes.{HasLookCause};
 ghost use Rattle.build_run.specs.Goings.{ClearsAt, Goes, Stays, AreUnused};
 ghost use Rattle.build_run.specs.Outs.{IsTicketFor};
-ghost use Rattle.build_run.specs.Outsets.{Leaves};
+ghost use Rattle.build_run.specs.Outsets.{Leaves, LeavesCopies};
 ghost use Rattle.build_run.specs.Takes.{HasTakeCause, AreTaken, Takes, IsLeftAt, IsTargetOf};
 ghost use Rattle.build_run.specs.Withdrawals.{AreWithdrawn};
 ghost use Rattle.sign_store.specs.Stores.{IsKept, is_live, map_of};
@@ -36,7 +36,7 @@ pub(crate) fn take_leftovers<W: World>(
     ensures kept { OnOk result (IsKept W.meaning world.new store.new) }
     ensures gone { AreTaken W.meaning world.new (IsLeftAt graph.now (W.meaning.around world.old) (map_of store.old)) result }
     ensures only { Takes W.meaning world.old world.new (IsLeftAt graph.now (W.meaning.around world.old) (map_of store.old)) }
-    ensures rest { Leaves W.meaning world.old store.old world.new store.new (IsLeftAt graph.now (W.meaning.around world.old) (map_of store.old)) }
+    ensures rest { LeavesCopies W.meaning graph.now world.old store.old world.new store.new }
 {
     let left = leftover_copies(alloc, world, graph, store)?;
     take_each(alloc, store, world, left.as_slice())

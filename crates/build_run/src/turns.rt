@@ -1,6 +1,6 @@
 //! The turns of a build: what the plan wants is done, and the plan is told what came of it.
 ghost use Rattle.std.specs.Prelude.{◌≡◌, ◌≢◌, ◌⊎◌, ◌≤◌, ◌<◌, [], true, false, length, Err};
-ghost use Rattle.build_run.specs.Along.{ComesOn, GoesAlong, IsReliable, IsWantedOf, RestsAlong, StaysAlong, StepsOr, Tells, TellsAlong};
+ghost use Rattle.build_run.specs.Along.{ComesOn, GoesAlong, IsReliable, IsSpent, IsWantedOf, RestsAlong, StaysAlong, StepsOr, Tells, TellsAlong};
 ghost use Rattle.build_run.specs.Ledgers.{ledger_of, with_done, Accounts, Keeps, Reports};
 ghost use Rattle.build_run.specs.Sites.{IsSound, SiteAccounts, SiteEnds, SitePasses, most_jobs, outside_of};
 ghost use Rattle.scons_base.specs.declared.ids.RuleId.{RuleId};
@@ -42,7 +42,7 @@ impl<W: World, O: Sink, E: Sink> Site<'_, '_, W, O, E> {
         ensures rests { self.new.account.now.memory ≡ false → IsIdle self.new.run.now.plan × (length self.new.run.now.tickets ≡ 0) }
         ensures along { StaysAlong W.meaning self.old self.new }
         ensures still { RestsAlong W.meaning self.old self.new }
-        ensures halts { (length self.new.run.now.tickets ≡ 0) ⊎ (self.new.run.now.plan.halted ≡ true) }
+        ensures halts { IsSpent self.new }
     {
         for _turn in 0..u64::MAX {
             let wanted = want(self.run, &self.options);
@@ -62,7 +62,7 @@ impl<W: World, O: Sink, E: Sink> Site<'_, '_, W, O, E> {
         ensures accounts { SiteAccounts W.meaning O.meaning E.meaning self.old self.new }
         ensures sound { IsSound W.meaning self.new }
         ensures idle { W.meaning.tells self.new.world.now → (W.meaning.around self.new.world.now).running ≡ [] }
-        ensures along { (length self.old.run.now.tickets ≡ 0) ⊎ (self.old.run.now.plan.halted ≡ true) → StaysAlong W.meaning self.old self.new }
+        ensures along { IsSpent self.old → StaysAlong W.meaning self.old self.new }
         ensures none { length self.old.run.now.tickets ≡ 0 → self.new ≡ self.old }
         ensures halted { self.old.run.now.plan.halted ≡ true → self.new.run.now.plan.halted ≡ true }
     {
