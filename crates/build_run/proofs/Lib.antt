@@ -1,3 +1,4 @@
+mod Booking
 mod Settling
 mod Scanning
 mod Alongs
