@@ -24,7 +24,7 @@ use Rattle.build_run.specs.Sites.{KeepsRecords, SitePuts, most_jobs, records_of}
 use Rattle.build_run.specs.declared.building.Options.{Options}
 use Rattle.build_run.specs.declared.account.Account.{Account}
 use Rattle.build_run.specs.declared.site.Site.{Site}
-use Rattle.build_run.proofs.Booking.{StaysBooked, clears_booked, halts_booked, kept_on}
+use Rattle.build_run.proofs.Booking.{StaysBooked, clears_booked, halts_booked, kept_on, puts_book}
 use Rattle.build_run.proofs.EndingOn.{not_before}
 
 -- What came of a turn was told to this plan and this account.
@@ -179,18 +179,6 @@ pub waits_halted : {W O E : Type 0} (site : Site W O E) → site.run.now.plan.ha
 waits_halted site halted reliable = inr (λ e. true_false (sym halted ∙ e))
 
 -- ---- records are put
-
--- nothing that was booked is lost
-pub puts_book : {W O E : Type 0} (m : Meaning W) (old new : Site W O E) → SitePuts m old new → KeepsTickets old.store.now new.store.now →
-    KeepsRecords old new → StaysBooked (book_of old) (book_of new)
-puts_book m old new puts tickets kept = record {
-  unshut = puts.shut;
-  keeps = λ e. record {
-    records = kept e;
-    running = λ busy h. subst (λ (all : List Busy). Contains all busy) puts.tickets h;
-    tickets = λ busy rec h is. tickets.each rec busy.ticket is;
-  };
-}
 
 module _ {W O E : Type 0} (m : Meaning W) (o : Outset) (outset : IsOutset o) (old new : Site W O E) (along : IsAlong m o old)
     (around : m.around new.world.now ≡ m.around old.world.now) (known : KeepsKnown old new) (stands : StandsPut m old new)
