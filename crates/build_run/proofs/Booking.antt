@@ -1,6 +1,8 @@
 -- What a build has booked, from call to call.
-use Rattle.std.proofs.Common.{◌≡◌, ◌⊎◌, inl, inr, ◌++◌, ◌∷◌, Bool, true, false, cond, List, [], Contains, Option, Some, None, ap, refl, subst, sym, ◌∙◌}
-use Rattle.world_api.specs.Around.{Around, IsRunningTarget}
+use Rattle.std.proofs.Common.{◌≡◌, ◌⊎◌, inl, inr, ◌++◌, ◌∷◌, arith, Bool, true, false, cond, ◌||◌, List, [], Contains, Option, Some, None, ap, refl, subst, sym, ◌∙◌}
+use Rattle.std.specs.Str.{bytes_eq}
+use Rattle.std.proofs.lemmas.Slice.Eq.{bytes_eq-Decides}
+use Rattle.world_api.specs.Around.{Around, IsRunningTarget, given_of}
 use Rattle.world_api.specs.Calls.{Asks, Ends, Starts}
 use Rattle.world_api.specs.Meaning.{Meaning}
 use Rattle.world_api.specs.Counts.{Counts}
@@ -22,7 +24,6 @@ use Rattle.turn_means.specs.Writing.{Writes}
 use Rattle.turn_means.proofs.Recording.{begins_without, begun_others, ends_with, leaves, stays}
 use Rattle.turn_means.proofs.Jobs.{run_before, run_either}
 use Rattle.turn_means.proofs.Running.{begun_place, lawful, makes_each, one_rule}
-use Rattle.world_api.specs.Reads.{given_of}
 use Rattle.build_run.specs.Along.{HoldsFewer, IsOn}
 use Rattle.turn_means.specs.Standing.{Standing}
 use Rattle.build_run.specs.Books.{Book, AreBooked, IsBooked, book_of}
@@ -30,7 +31,7 @@ use Rattle.build_run.specs.Holds.{Busy}
 use Rattle.build_run.specs.Outs.{AreOut}
 use Rattle.build_run.specs.Sites.{KeepsRecords, SitePuts}
 use Rattle.build_run.specs.declared.site.Site.{Site}
-use Rattle.build_run.proofs.Holding.{in_pushed}
+use Rattle.build_run.proofs.Holding.{in_front, in_pushed}
 use Rattle.build_run.proofs.Outs.{among_in, out_in}
 
 -- nothing that was booked was lost
@@ -127,6 +128,17 @@ ends_write Sure ended old new ends = record {
       inl (subst (λ runs. IsRunningTarget runs path) (sym ends.was)
       (run_before ends.front ends.which ends.back path (subst (λ runs. IsRunningTarget runs path) ends.running target)));
 }
+
+or_true : (b c : Bool) → c ≡ true → (b || c) ≡ true
+or_true true c e = refl
+or_true false c e = e
+
+in_among : (paths : List Path) (path : Path) → Contains paths path → is_among paths path ≡ true
+in_among [] path h = absurd (omega (arith, h.1))
+in_among (first ∷ paths) path h = elim (in_front paths first path h) [
+  | inl same ↦ ap (λ (b : Bool). b || is_among paths path) ((bytes_eq-Decides first path).1 same)
+  | inr more ↦ or_true (bytes_eq first path) (is_among paths path) (in_among paths path more)
+]
 
 -- what is among the paths has the record, and the rest has what it had
 with_own : (paths : List Path) (rec : Rec) (map : Map) (path : Path) → Contains paths path → with_each paths (Some rec) map path ≡ Some rec
