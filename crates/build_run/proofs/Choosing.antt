@@ -245,7 +245,7 @@ not_among paths path not = by (is_among paths path) refl
     by false e = e
 
 -- the held records leave what is recorded of other paths
-map_beside : (store : Store) (held : List Busy) (path : List ℕ) → AreOut store held →
+pub map_beside : (store : Store) (held : List Busy) (path : List ℕ) → AreOut store held →
     ((busy : Busy) → Contains held busy → Contains busy.hold.targets path → ⊥) → map_with store held path ≡ map_of store path
 map_beside store held path outs apart = by held (map_of store) outs apart
   where

@@ -206,47 +206,61 @@ pub returns-then-self-clause-along : goal.returns-then-self-clause-along
 returns-then-self-clause-along g c = λ tells sure o outset along due is_due.
     let m = g.W.Disk.meaning in
     let site = c.args.self.now in
-    ended_on m o outset site along site.world.now site.run.now.held site.run.now.plan (clears_here m [] site.world.now tells) refl refl
+    ended_on m o outset site along site.world.now (book_of site) site.run.now.plan (clears_here m [] site.world.now tells) (λ busy h. h) (same_book (book_of site)) refl
 
 pub returns-then-not-are_apart-clause-along : goal.returns-then-not-are_apart-clause-along
 returns-then-not-are_apart-clause-along g c = λ tells sure o outset along due is_due.
     let m = g.W.Disk.meaning in
     let site = c.args.self.now in
-    ended_on m o outset site along site.world.now site.run.now.held site.run.now.plan (clears_here m [] site.world.now tells) refl refl
+    ended_on m o outset site along site.world.now (book_of site) site.run.now.plan (clears_here m [] site.world.now tells) (λ busy h. h) (same_book (book_of site)) refl
 
 pub returns-then-not-make_none_of-clause-along : goal.returns-then-not-make_none_of-clause-along
 returns-then-not-make_none_of-clause-along g c = λ tells sure o outset along due is_due.
     let m = g.W.Disk.meaning in
     let site = c.args.self.now in
-    ended_on m o outset site along site.world.now site.run.now.held site.run.now.plan (clears_here m [] site.world.now tells) refl refl
+    ended_on m o outset site along site.world.now (book_of site) site.run.now.plan (clears_here m [] site.world.now tells) (λ busy h. h) (same_book (book_of site)) refl
 
 pub returns-in_err-text-clause-along : goal.returns-in_err-text-clause-along
 returns-in_err-text-clause-along g c = λ tells sure o outset along due is_due.
     let m = g.W.Disk.meaning in
     let site = c.args.self.now in
     end_leads _ m o _ _ c.from_residual.result c.from_residual.ensures.1
-    (ended_on m o outset site along site.world.now site.run.now.held site.run.now.plan (clears_here m [] site.world.now tells) refl refl)
+    (ended_on m o outset site along site.world.now (book_of site) site.run.now.plan (clears_here m [] site.world.now tells) (λ busy h. h) (same_book (book_of site)) refl)
 
 pub returns-in_err-job-clause-along : goal.returns-in_err-job-clause-along
 returns-in_err-job-clause-along g c = λ tells sure o outset along due is_due.
     let m = g.W.Disk.meaning in
     let site = c.args.self.now in
     end_leads _ m o _ _ c.from_residual-in_err-job.result c.from_residual-in_err-job.ensures.1
-    (ended_on m o outset site along site.world.now site.run.now.held site.run.now.plan (clears_here m [] site.world.now tells) refl refl)
+    (ended_on m o outset site along site.world.now (book_of site) site.run.now.plan (clears_here m [] site.world.now tells) (λ busy h. h) (same_book (book_of site)) refl)
 
 pub returns-in_err-hold-clause-along : goal.returns-in_err-hold-clause-along
 returns-in_err-hold-clause-along g c = λ tells sure o outset along due is_due.
     let m = g.W.Disk.meaning in
     let site = c.args.self.now in
     end_leads _ m o _ _ c.from_residual-in_err-hold.result c.from_residual-in_err-hold.ensures.1
-    (ended_on m o outset site along site.world.now site.run.now.held site.run.now.plan (clears_here m [] site.world.now tells) refl refl)
+    (ended_on m o outset site along site.world.now (book_of site) site.run.now.plan (clears_here m [] site.world.now tells) (λ busy h. h) (same_book (book_of site)) refl)
 
 pub returns-in_err-ticket-clause-along : goal.returns-in_err-ticket-clause-along
 returns-in_err-ticket-clause-along g c = λ tells sure o outset along due is_due.
     let m = g.W.Disk.meaning in
+    let p = c.prepare.ensures in
     let site = c.args.self.now in
+    let outs = c.requires.sound.stored.outs c.if-self.false in
     end_leads _ m o _ _ c.from_residual-in_err-ticket.result c.from_residual-in_err-ticket.ensures.1
-    (ended_on m o outset site along site.world.now site.run.now.held site.run.now.plan (clears_here m [] site.world.now tells) refl refl)
+    (ended_on m o outset site along site.world.now (record (book_of site) { store = c.prepare.new.store }) site.run.now.plan (clears_here m [] site.world.now tells) (λ busy h. h)
+    (record {
+      unshut = λ e. e;
+      keeps = λ e. record {
+        records = held_alike site.store.now c.prepare.new.store site.run.now.held p.map (λ one rec h out. (p.outs.each rec one.ticket out).own)
+            (outs_front site.store.now site.run.now.held site.run.now.tickets outs);
+        running = λ busy h. h;
+        tickets = λ busy rec h is.
+            tickets_out site.store.now c.prepare.new.store (site.run.now.held ++ site.run.now.tickets) outs busy rec
+            (Contains-append_right site.run.now.held site.run.now.tickets busy h) (λ of out. p.outs.each of busy.ticket out) is;
+      };
+    })
+    refl)
 
 pub returns-in-Ok-clause-along : goal.returns-in-Ok-clause-along
 returns-in-Ok-clause-along g c = λ tells sure o outset along due is_due.
@@ -265,6 +279,10 @@ returns-in-Ok-clause-along g c = λ tells sure o outset along due is_due.
     (c.in-Ok.ensures.starts tells) well.counts known.graph known.plan known.inputs account.ended account.faulted unshut
     (λ path out. c.launch.ensures.kept unshut path out ∙ ap (λ (m : Map). m path) before)
     (held_within site.run.now.held now.run.now.held c.launch.ensures.held)
+    (book_of now) (takes_away g c unshut (c.launch.ensures.sound.stored.outs unshut) c.in-Ok.ensures.none)
+    (record { hold = c.in_ok-hold.hold; ticket = c.in_ok-ticket.ticket })
+    (ap (λ (h : Hold). h.targets) c.in_ok-hold.ensures) (c.launch.ensures.outs.each c.args.now c.in_ok-ticket.ticket c.in_ok-ticket.ensures.out.own)
+    refl refl c.add.ensures
 
 pub returns-clause-along : goal.returns-clause-along
 returns-clause-along g c = λ tells sure o outset along due is_due.
@@ -272,6 +290,30 @@ returns-clause-along g c = λ tells sure o outset along due is_due.
     let site = c.args.self.now in
     let now = c.launch.new.self in
     let room = room_in m o site c.requires.sound.joined (c.launch.ensures.passes.passes.told.told tells) along.asked due.room in
-    refused_on m o outset site along c.args.rule c.args.now due is_due c.in_ok-job.job c.in_ok-job.ensures room
-    now.world.now now.run.now.held now.run.now.plan (c.in-Err.ensures.clears tells)
+    ends_as m o now.world.now (book_of now) (record (book_of now) { store = c.give_up.new.store }) now.run.now.plan (λ busy h. h)
+    (record {
+      unshut = λ e. e;
+      keeps = λ e.
+          let outs = c.launch.ensures.sound.stored.outs e in
+          let own = own_room_now g c in
+          record {
+            records = held_alike now.store.now c.give_up.new.store now.run.now.held c.give_up.ensures.map
+                (λ one rec k out. (c.give_up.ensures.outs.each rec one.ticket (own one (Contains-append_left now.run.now.held now.run.now.tickets one k)) out).own)
+                (outs_front now.store.now now.run.now.held now.run.now.tickets outs);
+            running = λ busy h. h;
+            tickets = λ busy rec h is.
+                let among = Contains-append_right now.run.now.held now.run.now.tickets busy h in
+                tickets_out now.store.now c.give_up.new.store (now.run.now.held ++ now.run.now.tickets) outs busy rec among
+                (λ of out. c.give_up.ensures.outs.each of busy.ticket (own busy among) out) is;
+          };
+    })
+    (left_on m o outset site along c.args.rule c.args.now due is_due c.in_ok-job.job c.in_ok-job.ensures room
+    now.world.now (book_of now) now.run.now.plan (c.in-Err.ensures.clears tells)
     (held_within site.run.now.held now.run.now.held c.launch.ensures.held) c.launch.ensures.known.plan
+    (left_by m c.in_ok-job.job.targets c.prepare.new.store site now (book_of site)
+    (λ unshut none. takes_away g c unshut (c.launch.ensures.sound.stored.outs unshut) none)
+    (λ e. record {
+      records = e ∙ before_held g c;
+      running = λ busy h. subst (λ (all : List Busy). Contains all busy) c.launch.ensures.tickets h;
+      tickets = λ busy rec h is. kept_ticket g c busy rec h is;
+    }) tells c.in-Err.ensures.refused))
