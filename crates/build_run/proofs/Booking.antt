@@ -133,7 +133,7 @@ or_true : (b c : Bool) → c ≡ true → (b || c) ≡ true
 or_true true c e = refl
 or_true false c e = e
 
-in_among : (paths : List Path) (path : Path) → Contains paths path → is_among paths path ≡ true
+pub in_among : (paths : List Path) (path : Path) → Contains paths path → is_among paths path ≡ true
 in_among [] path h = absurd (omega (arith, h.1))
 in_among (first ∷ paths) path h = elim (in_front paths first path h) [
   | inl same ↦ ap (λ (b : Bool). b || is_among paths path) ((bytes_eq-Decides first path).1 same)

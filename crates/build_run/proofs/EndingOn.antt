@@ -263,6 +263,12 @@ module _ {W O E : Type 0} (m : Meaning W) (old new : Site W O E) where
 pub was_done : (outcome : Outcome) → outcome ≡ Done → is_done outcome ≡ true
 was_done outcome e = ap is_done e
 
+pub done_is : (outcome : Outcome) → is_done outcome ≡ true → outcome ≡ Done
+done_is Done e = refl
+done_is (Failed code) e = true_false (sym e)
+done_is Broken e = true_false (sym e)
+done_is NoMemory e = true_false (sym e)
+
 pub was_not_done : (outcome : Outcome) → (outcome ≡ Done → ⊥) → is_done outcome ≡ false
 was_not_done Done other = absurd (other refl)
 was_not_done (Failed code) other = refl

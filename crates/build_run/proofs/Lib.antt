@@ -15,6 +15,7 @@ mod EndingOn
 mod Starting
 mod Choosing
 mod Presenting
+mod Launching
 mod Leaving
 mod Outsetting
 mod Finishing

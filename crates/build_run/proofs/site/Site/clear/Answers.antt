@@ -2,7 +2,8 @@ use Rattle.std.proofs.Common.{ℕ, List, [], Contains, inl, refl, subst}
 use Rattle.build_run.specs.Goings.{ClearsAt}
 use Rattle.build_run.specs.Holds.{Busy, holds_in}
 use Rattle.build_run.specs.Ledgers.{ledger_of}
-use Rattle.build_run.proofs.Clearing.{clears_none, clears_on}
+use Rattle.build_run.specs.Books.{shut, untouched, withdrawn}
+use Rattle.build_run.proofs.Clearing.{clears_none, clears_on, held_err}
 use Rattle.build_run.proofs.Goings.{goes_on, are_unused}
 use Rattle.build_run.proofs.Outs.{withdrawn_on}
 use Rattle.build_run.proofs.Sites.{cleared_by, sound_still}
