@@ -18,3 +18,5 @@ mod Leaving
 mod Outsetting
 mod Finishing
 mod Builds
+mod Safely
+mod Stopping

@@ -64,19 +64,21 @@ GoesSafely m old new = (s : Setting) → IsSafeNow m s old → StaysSafe m s old
 pub record HasTrueRecord (s : Setting) (store : Store) (around : Around) (busy : Busy) : Type 0 where
   pub rec : Rec
   pub is : IsTicket store rec busy.ticket
+  pub targets : rec.targets ≡ busy.hold.targets
   pub true_now : IsTrue s around rec
 
 -- a ticket is for the record that the running job of its rule is to have
 pub record HasOwnRecord (s : Setting) (store : Store) (around : Around) (busy : Busy) : Type 0 where
   pub rec : Rec
   pub is : IsTicket store rec busy.ticket
+  pub targets : rec.targets ≡ busy.hold.targets
   pub each : (run : Running) → Contains around.running run → run.job.id ≡ busy.hold.rule.0 → IsTicketOf s around.met run rec
 
 -- what is held is true, unless the disk has refused, and what runs is to have the record of its ticket
-pub record AreSafeIn {W : Type 0} (m : Meaning W) (s : Setting) (world : W) (store : Store) (held tickets : List Busy) (account : Account)
+pub record AreSafeIn {W : Type 0} (m : Meaning W) (s : Setting) (world : W) (store : Store) (rest busies : List Busy) (account : Account)
     : Type 0 where
-  pub held : account.is_store_shut ≡ false → (busy : Busy) → Contains held busy → HasTrueRecord s store (m.around world) busy
-  pub tickets : (busy : Busy) → Contains tickets busy → HasOwnRecord s store (m.around world) busy
+  pub held : account.is_store_shut ≡ false → (busy : Busy) → Contains rest busy → HasTrueRecord s store (m.around world) busy
+  pub tickets : (busy : Busy) → Contains busies busy → HasOwnRecord s store (m.around world) busy
 
 abbrev pub AreSafe : {W O E : Type 0} → Meaning W → Setting → Site W O E → Type 0
 AreSafe m s site = m.tells site.world.now → m.sure site.world.now →
