@@ -1,5 +1,5 @@
 //! The graph of one copy.
-ghost use Rattle.std.specs.Prelude.{◌≡◌, ◌<◌, ◌≤◌, ◌∷◌, [], length, IfSome};
+ghost use Rattle.std.specs.Prelude.{◌≡◌, ◌<◌, ◌≤◌, ◌∷◌, [], ℕ, length, IfSome};
 ghost use Rattle.rule_graph.specs.Rules.{IsRule};
 
 use rule_graph::{Graph, Rule};
