@@ -1,0 +1,4 @@
+pub mod Order
+pub mod Reasons
+pub mod Texts
+pub mod Laws
