@@ -1,5 +1,5 @@
 //! The names of dependencies.
-ghost use Rattle.std.specs.Prelude.{◌≡◌, ◌↔◌, map, IsTrue, MatchOption};
+ghost use Rattle.std.specs.Prelude.{◌≡◌, ◌<◌, ◌↔◌, length, map, IsTrue, MatchOption};
 ghost use Rattle.deciders.specs.Records.{name_of};
 ghost use Rattle.explain_report.specs.Reasons.{Somewhere, First, IsNew};
 
