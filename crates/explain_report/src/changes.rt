@@ -83,7 +83,7 @@ fn next_pair<'a>(xs: &'a [Dep], ys: &'a [Dep]) -> Option<(&'a Dep, &'a Dep, &'a 
     Some((x, y, x_rest, y_rest))
 }
 
-fn first_of(deps: &[Dep]) -> Option<(&Dep, &[Dep])>
+pub(crate) fn first_of(deps: &[Dep]) -> Option<(&Dep, &[Dep])>
     ensures { MatchOption result (deps.now ≡ []) (λ parts. deps.now ≡ parts.0.now ∷ parts.1.now) }
 {
     match deps {

@@ -3,6 +3,7 @@ ghost use Rattle.std.specs.Prelude.{◌≡◌, ◌<◌, ◌↔◌, length, map, 
 ghost use Rattle.deciders.specs.Records.{name_of};
 ghost use Rattle.explain_report.specs.Reasons.{Somewhere, First, IsNew};
 
+use crate::changes::first_of;
 use deciders::Dep;
 
 /// The place of the first of these dependencies that is new beside the others.
@@ -13,7 +14,7 @@ pub(crate) fn first_new(others: &[Dep], deps: &[Dep]) -> Option<usize>
     let mut place = 0;
     // names that stand one behind the other in both are found without a search
     let mut expected = 0;
-    while let [dep, behind @ ..] = rest {
+    while let Some((dep, behind)) = first_of(rest) {
         match place_from(dep, expected, others) {
             Some(found) => expected = found + 1,
             None => return Some(place),
