@@ -8,7 +8,9 @@ use Rattle.explain_report.specs.Reasons.{Somewhere, FirstFrom}
 -- one step of a search that found nothing at the first item
 pub goes_on : {A : Type 0} (P : A → Type 0) (start : ℕ) (xs : List A) (x : A) (rest : List A) → xs ≡ x ∷ rest → (P x → ⊥) →
     (place : ℕ) → FirstFrom (start + 1) P rest place → FirstFrom start P xs place
-goes_on P start xs x rest e not place f = subst (λ l. FirstFrom start P l place) (sym e) (inr (not, f))
+goes_on P start xs x rest e not place f =
+    let next : start + 1 ≡ suc start = omega arith in
+    subst (λ l. FirstFrom start P l place) (sym e) (inr (not, subst (λ k. FirstFrom k P rest place) next f))
 
 behind_first : {A : Type 0} (P : A → Type 0) (x : A) (rest : List A) → (P x → ⊥) → Somewhere P (x ∷ rest) → Somewhere P rest
 behind_first P x rest not (inl p) = absurd (not p)
