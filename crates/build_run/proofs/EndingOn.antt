@@ -140,9 +140,10 @@ apart_one (hold ∷ holds) one other apart h k e = elim (in_front holds hold one
 ]
 
 -- the job that ended is that of its number
-hold_in : (running : List Running) (which : Running) → Among which running → Contains (holds_of running) (hold_of which)
-hold_in (run ∷ running) which here = at_front (holds_of running) (hold_of run)
-hold_in (run ∷ running) which (there m) = further (holds_of running) (hold_of run) (hold_of which) (hold_in running which m)
+hold_in : (all : List Running) (which : Running) → Among which all → Contains (holds_of all) (hold_of which)
+hold_in [] which m = elim m [ ]
+hold_in (run ∷ all) which here = at_front (holds_of all) (hold_of run)
+hold_in (run ∷ all) which (there m) = further (holds_of all) (hold_of run) (hold_of which) (hold_in all which m)
 
 module _ {W O E : Type 0} (m : Meaning W) (o : Outset) (outset : IsOutset o) (old new : Site W O E) (busy : Busy) (ended : Ended) (event : PlanEvent)
     (may : MayTake m o old) (is : IsTakenOn m o old new busy ended event)
@@ -162,7 +163,7 @@ module _ {W O E : Type 0} (m : Meaning W) (o : Outset) (outset : IsOutset o) (ol
   began_behind one path h target = by (in_pushed old.run.now.held busy one (is.held one h))
     where
       by : Contains old.run.now.held one ⊎ (busy ≡ one) → (r : Rule) × ((setting_at o).rule_of path ≡ Some r) × Among r (began may.on.past)
-      by (inl there) = may.on.began one path there target
+      by (inl before) = may.on.began one path before target
       by (inr same) =
           let runs = runs_for o outset may.on.jobs (m.around old.world.now) may.on.past may.on.at.way
           (makes path (subst (λ (b : Busy). Contains b.hold.targets path) (sym same) target)) in

@@ -283,7 +283,7 @@ returns-in-Ok-clause-along g c = λ tells sure o outset along due is_due.
     (λ path out. c.launch.ensures.kept unshut path out ∙ ap (λ (m : Map). m path) before)
     (held_within site.run.now.held now.run.now.held c.launch.ensures.held)
     (book_of now)
-    (takes_away m site _ now c.in_ok-job.job.targets (c.requires.sound.stored.outs c.if-self.false) p.map p.outs refl refl c.launch.ensures.tickets c.launch.ensures.held
+    (takes_away m site now c.prepare.new.store c.in_ok-job.job.targets (c.requires.sound.stored.outs c.if-self.false) p.map p.outs c.launch.ensures.tickets c.launch.ensures.held
     (c.make_none_of.ensures c.if-not-make_none_of.false) c.launch.ensures.outs c.launch.ensures.kept c.launch.ensures.sound.stored.outs unshut c.in-Ok.ensures.none)
     (record { hold = c.in_ok-hold.hold; ticket = c.in_ok-ticket.ticket })
     (ap (λ (h : Hold). h.targets) c.in_ok-hold.ensures) (c.launch.ensures.outs.each c.args.now c.in_ok-ticket.ticket c.in_ok-ticket.ensures.out.own)
@@ -320,6 +320,6 @@ returns-clause-along g c = λ tells sure o outset along due is_due.
     (left_on m o outset site along c.args.rule c.args.now due is_due c.in_ok-job.job c.in_ok-job.ensures room
     now.world.now (book_of now) now.run.now.plan (c.in-Err.ensures.clears tells)
     (held_within site.run.now.held now.run.now.held c.launch.ensures.held) c.launch.ensures.known.plan
-    (left_by m site _ now c.in_ok-job.job.targets outs p.map p.outs refl refl c.launch.ensures.tickets c.launch.ensures.held
+    (left_by m site now c.prepare.new.store c.in_ok-job.job.targets outs p.map p.outs c.launch.ensures.tickets c.launch.ensures.held
     (c.make_none_of.ensures c.if-not-make_none_of.false) c.launch.ensures.outs c.launch.ensures.kept c.launch.ensures.sound.stored.outs
-    tells c.in-Err.ensures.refused))
+    _ tells c.in-Err.ensures.refused refl refl))
