@@ -1,29 +1,42 @@
 -- What is kept in the banks and what tickets are for, from call to call, wherever a build is stopped.
 use Rattle.std.proofs.Common.{◌≡◌, ◌≢◌, ◌⊎◌, ◌∙◌, ◌++◌, ◌||◌, ℕ, List, [], ◌∷◌, Bool, true, false, cond, Some, None, Contains, inl, inr, ap, arith, refl, sym, subst}
+use Rattle.std.specs.Prelude.{Result, Ok, Err, OnOk, OnErr}
 use Rattle.std.specs.Str.{bytes_eq}
 use Rattle.std.proofs.lemmas.Slice.Eq.{bytes_eq-Decides}
 use Rattle.deciders.specs.declared.recorded.Rec.{Rec}
-use Rattle.sign_store.specs.Putting.{map_with, put_over, with_put}
-use Rattle.sign_store.specs.Stores.{KeepsTickets}
+use Rattle.sign_store.specs.Putting.{put_over, with_put}
+use Rattle.sign_store.specs.Ends.{IsEither}
+use Rattle.sign_store.specs.Stores.{IsKept, KeepsTickets, map_of}
 use Rattle.sign_store.specs.Tables.{Map, is_among, with_each}
 use Rattle.sign_store.specs.declared.store.Store.{Store}
-use Rattle.world_api.specs.Around.{Around, Running, IsRunningTarget}
-use Rattle.world_api.specs.Meaning.{Meaning, Told}
+use Rattle.world_api.specs.Around.{Around, Running, IsRunningTarget, given_of}
+use Rattle.world_api.specs.Calls.{Starts}
+use Rattle.world_api.specs.Counts.{Counts}
+use Rattle.world_api.specs.Laws.{HasOnlyNow, StartsJob}
+use Rattle.world_api.specs.Meaning.{Meaning, IsImage, Told, Throughout}
+use Rattle.world_api.specs.declared.job.Job.{Job}
+use Rattle.build_files.specs.declared.end.ListEnd.{ListEnd}
 use Rattle.build_model.specs.Rules.{Path, Setting}
 use Rattle.run_means.specs.Clears.{Clears}
 use Rattle.turn_means.specs.Recording.{HaveNone}
 use Rattle.turn_means.specs.Safety.{IsSafe, IsTicketOf}
+use Rattle.turn_means.proofs.Jobs.{run_either}
 use Rattle.turn_means.proofs.Safety.{calls, true_stays}
 use Rattle.build_run.specs.Along.{HoldsFewer}
 use Rattle.build_run.specs.Goings.{ClearsAt}
-use Rattle.build_run.specs.Holds.{Busy}
+use Rattle.build_run.specs.Holds.{Busy, KeepsApart, holds_in}
 use Rattle.build_run.specs.Outs.{ShareNone}
 use Rattle.build_run.specs.Safe.{AreSafe, AreSafeIn, GoesSafely, HasOwnRecord, HasTrueRecord, IsSafeSite, SiteGoesSafely, SiteStaysSafe}
 use Rattle.build_run.specs.Withdrawals.{HasNone}
 use Rattle.build_run.specs.declared.account.Account.{Account}
+use Rattle.build_run.specs.declared.site.Run.{Run}
 use Rattle.build_run.specs.declared.site.Site.{Site}
-use Rattle.build_run.proofs.Holding.{at_front, further, in_front}
-use Rattle.build_run.proofs.Safely.{safe_on}
+use Rattle.build_run.specs.declared.tickets.Hold.{Hold}
+use Rattle.build_run.proofs.Clearing.{clears_around}
+use Rattle.build_run.proofs.Goings.{told_here}
+use Rattle.build_run.proofs.Holding.{at_front, further, in_front, in_pushed}
+use Rattle.build_run.proofs.Outs.{held_in}
+use Rattle.build_run.proofs.Safely.{safe_on, safe_stored, safely_here}
 
 -- ---- paths among others
 
@@ -93,10 +106,13 @@ pub are_cleared : {W : Type 0} (m : Meaning W) (s : Setting) (paths : List Path)
 are_cleared m s paths old new store after rest fewer busies account was told clears keeps within unshut apart safe tells sure =
     let before = safe (told.told tells) (told.sure tells sure) in
     record {
-      held = λ open busy h. true_cleared s paths (m.around old) (m.around new) store after keeps (clears tells) busy (apart busy h)
-          (before.held (unshut open) busy (within busy h));
+      held = λ opened busy h. true_cleared s paths (m.around old) (m.around new) store after keeps (clears tells) busy (apart busy h)
+          (before.held (unshut opened) busy (within busy h));
       tickets = λ busy h. own_cleared s paths (m.around old) (m.around new) store after keeps (clears tells) busy (before.tickets busy h);
     }
+
+pub same_tickets : (store : Store) → KeepsTickets store store
+same_tickets store = record { each = λ rec ticket is. is }
 
 -- a site over calls on its world
 module _ {W O E : Type 0} (m : Meaning W) where
@@ -125,3 +141,108 @@ module _ {W O E : Type 0} (m : Meaning W) where
               told clears keeps within unshut apart safe.tickets tells sure);
         };
       }
+
+  none_shared : (busy : Busy) → ShareNone [] busy.hold.targets
+  none_shared busy path among = absurd (omega (arith, among.1))
+
+  -- no call was made
+  pub site_rests : HasOnlyNow m → (a b : Site W O E) → b.world.now ≡ a.world.now → b.store.now ≡ a.store.now → b.run.now.held ≡ a.run.now.held →
+      b.run.now.tickets ≡ a.run.now.tickets → (b.account.now.is_store_shut ≡ false → a.account.now.is_store_shut ≡ false) → SiteGoesSafely m a b
+  site_rests only a b world store held same unshut =
+      site_called [] a b (subst (λ (w : W). Told m a.world.now w) (sym world) (told_here m a.world.now))
+      (subst (λ (w : W). GoesSafely m a.world.now w) (sym world) (safely_here m only a.world.now))
+      (clears_around m [] a.world.now b.world.now (λ t. ap (λ (w : W). m.around w) world))
+      (subst (λ (st : Store). KeepsTickets a.store.now st) (sym store) (same_tickets a.store.now))
+      (λ busy h. subst (λ (all : List Busy). Contains all busy) held h) same unshut (λ busy h. none_shared busy)
+
+  -- looks, and other calls that change none of their files
+  pub site_looked : (a b : Site W O E) → Told m a.world.now b.world.now → GoesSafely m a.world.now b.world.now →
+      ClearsAt m [] a.world.now b.world.now → KeepsTickets a.store.now b.store.now → HoldsFewer a.run.now.held b.run.now.held →
+      b.run.now.tickets ≡ a.run.now.tickets → (b.account.now.is_store_shut ≡ false → a.account.now.is_store_shut ≡ false) → SiteGoesSafely m a b
+  site_looked a b told goes clears keeps within same unshut =
+      site_called [] a b told goes clears keeps within same unshut (λ busy h. none_shared busy)
+
+  -- calls on the store
+  pub site_stored : HasOnlyNow m → ((w : W) → m.tells w → IsImage m w (m.seen w)) → (a b : Site W O E) (map : Map) →
+      Told m a.world.now b.world.now → (m.tells b.world.now → m.around b.world.now ≡ m.around a.world.now) → IsKept m a.world.now a.store.now →
+      Throughout m a.world.now b.world.now (IsEither (m.around a.world.now) (map_of a.store.now) map) →
+      ((s : Setting) → AreSafeIn m s a.world.now a.store.now a.run.now.held a.run.now.tickets a.account.now →
+      IsSafe s (m.around a.world.now) (map_of a.store.now) → IsSafe s (m.around a.world.now) map) →
+      KeepsTickets a.store.now b.store.now → HoldsFewer a.run.now.held b.run.now.held →
+      b.run.now.tickets ≡ a.run.now.tickets → (b.account.now.is_store_shut ≡ false → a.account.now.is_store_shut ≡ false) → SiteGoesSafely m a b
+  site_stored only reads a b map told around kept time so keeps within same unshut s safe =
+      let one = safe_stored m s only reads a.world.now b.world.now a.store.now map told around kept time
+      (λ tells sure was. so s (safe.tickets tells sure) was) safe.world in
+      record {
+        moments = one.moments;
+        now = record {
+          world = one.now;
+          tickets = λ tells sure. subst (λ (all : List Busy). AreSafeIn m s b.world.now b.store.now b.run.now.held all b.account.now) (sym same)
+              (are_cleared m s [] a.world.now b.world.now a.store.now b.store.now a.run.now.held b.run.now.held a.run.now.tickets b.account.now a.account.now
+              told (clears_around m [] a.world.now b.world.now around) keeps within unshut (λ busy h. none_shared busy) safe.tickets tells sure);
+        };
+      }
+
+pub none_fewer : (rest fewer : List Busy) → fewer ≡ [] → HoldsFewer rest fewer
+none_fewer rest fewer none busy h = absurd (omega (arith, (subst (λ (all : List Busy). Contains all busy) none h).1))
+
+-- ---- a job starts
+
+module _ (s : Setting) (job : Job) (counts : Counts) (old new : Around) (store : Store) (starts : Starts job counts old new) (busy : Busy) where
+  met_still : (bytes : List ℕ) → Contains old.met bytes → Contains new.met bytes
+  met_still bytes h = subst (λ (all : List (List ℕ)). Contains all bytes) (sym starts.met) h
+
+  pub true_started : ShareNone job.targets busy.hold.targets → HasTrueRecord s store old busy → HasTrueRecord s store new busy
+  true_started apart t = record {
+    rec = t.rec;
+    is = t.is;
+    targets = t.targets;
+    true_now = true_stays s old new t.rec t.true_now met_still
+        (λ path h. starts.files path (t.true_now.still path h) (λ among. apart path among (subst (λ (all : List Path). Contains all path) t.targets h)))
+        (λ path h target.
+        elim (run_either old.running (record { job = job; given = given_of old.tree job.deps }) path
+        (subst (λ (runs : List Running). IsRunningTarget runs path) starts.running target)) [
+          | inl before ↦ t.true_now.still path h before
+          | inr among ↦ apart path among (subst (λ (all : List Path). Contains all path) t.targets h)
+        ]);
+  }
+
+  pub own_started : busy.hold.rule.0 ≢ job.id → HasOwnRecord s store old busy → HasOwnRecord s store new busy
+  own_started other t = record {
+    rec = t.rec;
+    is = t.is;
+    targets = t.targets;
+    each = λ run h id. elim (in_pushed old.running (record { job = job; given = given_of old.tree job.deps }) run
+        (subst (λ (runs : List Running). Contains runs run) starts.running h)) [
+      | inl before ↦ subst (λ (met : List (List ℕ)). IsTicketOf s met run t.rec) (sym starts.met) (t.each run before id)
+      | inr same ↦ absurd (other (sym id ∙ ap (λ (r : Running). r.job.id) (sym same)))
+    ];
+  }
+
+-- a job started, or was refused
+module _ {W O E T : Type 0} (m : Meaning W) (a b : Site W O E) (job : Job) where
+  begun : (s : Setting) → Told m a.world.now b.world.now → (m.tells b.world.now → StartsJob m job a.world.now b.world.now) → b.store.now ≡ a.store.now →
+      b.run.now ≡ a.run.now → (b.account.now.is_store_shut ≡ false → a.account.now.is_store_shut ≡ false) →
+      ((busy : Busy) → Contains a.run.now.held busy → ShareNone job.targets busy.hold.targets) →
+      ((hold : Hold) → Contains (holds_in a.run.now.tickets) hold → KeepsApart job hold) → AreSafe m s a → AreSafe m s b
+  begun s told starts store run unshut beside apart safe tells sure =
+      let before = safe (told.told tells) (told.sure tells sure) in
+      subst (λ (r : Run). AreSafeIn m s b.world.now b.store.now r.held r.tickets b.account.now) (sym run)
+      (subst (λ (st : Store). AreSafeIn m s b.world.now st a.run.now.held a.run.now.tickets b.account.now) (sym store) (record {
+        held = λ opened busy h. true_started s job (m.counts a.world.now) (m.around a.world.now) (m.around b.world.now) a.store.now (starts tells) busy
+            (beside busy h) (before.held (unshut opened) busy h);
+        tickets = λ busy h. own_started s job (m.counts a.world.now) (m.around a.world.now) (m.around b.world.now) a.store.now (starts tells) busy
+            (apart busy.hold (held_in a.run.now.tickets busy h)).new_id (before.tickets busy h);
+      }))
+
+  pub site_begun : (r : Result T ListEnd) → Told m a.world.now b.world.now → GoesSafely m a.world.now b.world.now →
+      (m.tells b.world.now → OnOk r (StartsJob m job a.world.now b.world.now)) → OnErr r (ClearsAt m [] a.world.now b.world.now) →
+      b.store.now ≡ a.store.now → b.run.now ≡ a.run.now → (b.account.now.is_store_shut ≡ false → a.account.now.is_store_shut ≡ false) →
+      ((busy : Busy) → Contains a.run.now.held busy → ShareNone job.targets busy.hold.targets) →
+      ((hold : Hold) → Contains (holds_in a.run.now.tickets) hold → KeepsApart job hold) → SiteGoesSafely m a b
+  site_begun (Ok done) told goes starts asks store run unshut beside apart s safe =
+      let one = goes s safe.world in
+      record { moments = one.moments; now = record { world = one.now; tickets = begun s told starts store run unshut beside apart safe.tickets } }
+  site_begun (Err end) told goes starts asks store run unshut beside apart =
+      site_looked m a b told goes asks (subst (λ (st : Store). KeepsTickets a.store.now st) (sym store) (same_tickets a.store.now))
+      (λ busy h. subst (λ (r : Run). Contains r.held busy) run h) (ap (λ (r : Run). r.tickets) run) unshut

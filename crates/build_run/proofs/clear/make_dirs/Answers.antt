@@ -20,3 +20,11 @@ returns-in_err-make_dir-clause-clears g c = clears_on g.W.Disk.meaning [] _ _ _ 
 
 pub returns-in_err-make_dir-clause-safe : goal.returns-in_err-make_dir-clause-safe
 returns-in_err-make_dir-clause-safe g c = safely_on g.W.Disk.meaning _ _ _ c.make_dir.ensures.stays.goes.passes.told c.loop-target.invariant.safe c.make_dir.ensures.safe
+
+pub loop-target-init : goal.loop-target-init
+loop-target-init g c = record {
+  stays = search rules;
+  same = search rules;
+  safe = safely_here g.W.Disk.meaning g.met.W.Disk.only_now c.args.world.now;
+  clears = search rules;
+}

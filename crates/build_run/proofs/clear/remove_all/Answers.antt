@@ -46,3 +46,13 @@ returns-in_err-remove-clause-clears g c =
 
 pub returns-in_err-remove-clause-safe : goal.returns-in_err-remove-clause-safe
 returns-in_err-remove-clause-safe g c = safely_on g.W.Disk.meaning _ _ _ c.remove.ensures.stays.goes.passes.told c.loop-target.invariant.safe c.remove.ensures.safe
+
+pub loop-target-init : goal.loop-target-init
+loop-target-init g c = record {
+  stays = search rules;
+  same = search rules;
+  gone = search rules;
+  only = search rules;
+  safe = safely_here g.W.Disk.meaning g.met.W.Disk.only_now c.args.world.now;
+  clears = search rules;
+}
