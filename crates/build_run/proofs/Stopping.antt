@@ -114,6 +114,9 @@ are_cleared m s paths old new store after rest fewer busies account was told cle
 pub same_tickets : (store : Store) → KeepsTickets store store
 same_tickets store = record { each = λ rec ticket is. is }
 
+none_shared : (busy : Busy) → ShareNone [] busy.hold.targets
+none_shared busy path among = absurd (omega (arith, among.1))
+
 -- a site over calls on its world
 module _ {W O E : Type 0} (m : Meaning W) where
   pub site_safely_on : (a b c : Site W O E) → Told m b.world.now c.world.now → SiteGoesSafely m a b → SiteGoesSafely m b c → SiteGoesSafely m a c
@@ -141,9 +144,6 @@ module _ {W O E : Type 0} (m : Meaning W) where
               told clears keeps within unshut apart safe.tickets tells sure);
         };
       }
-
-  none_shared : (busy : Busy) → ShareNone [] busy.hold.targets
-  none_shared busy path among = absurd (omega (arith, among.1))
 
   -- no call was made
   pub site_rests : HasOnlyNow m → (a b : Site W O E) → b.world.now ≡ a.world.now → b.store.now ≡ a.store.now → b.run.now.held ≡ a.run.now.held →
@@ -220,7 +220,7 @@ module _ (s : Setting) (job : Job) (counts : Counts) (old new : Around) (store :
   }
 
 -- a job started, or was refused
-module _ {W O E T : Type 0} (m : Meaning W) (a b : Site W O E) (job : Job) where
+module _ {W O E : Type 0} (m : Meaning W) (a b : Site W O E) (job : Job) where
   begun : (s : Setting) → Told m a.world.now b.world.now → (m.tells b.world.now → StartsJob m job a.world.now b.world.now) → b.store.now ≡ a.store.now →
       b.run.now ≡ a.run.now → (b.account.now.is_store_shut ≡ false → a.account.now.is_store_shut ≡ false) →
       ((busy : Busy) → Contains a.run.now.held busy → ShareNone job.targets busy.hold.targets) →
@@ -235,7 +235,7 @@ module _ {W O E T : Type 0} (m : Meaning W) (a b : Site W O E) (job : Job) where
             (apart busy.hold (held_in a.run.now.tickets busy h)).new_id (before.tickets busy h);
       }))
 
-  pub site_begun : (r : Result T ListEnd) → Told m a.world.now b.world.now → GoesSafely m a.world.now b.world.now →
+  pub site_begun : {T : Type 0} (r : Result T ListEnd) → Told m a.world.now b.world.now → GoesSafely m a.world.now b.world.now →
       (m.tells b.world.now → OnOk r (StartsJob m job a.world.now b.world.now)) → OnErr r (ClearsAt m [] a.world.now b.world.now) →
       b.store.now ≡ a.store.now → b.run.now ≡ a.run.now → (b.account.now.is_store_shut ≡ false → a.account.now.is_store_shut ≡ false) →
       ((busy : Busy) → Contains a.run.now.held busy → ShareNone job.targets busy.hold.targets) →
@@ -243,6 +243,6 @@ module _ {W O E T : Type 0} (m : Meaning W) (a b : Site W O E) (job : Job) where
   site_begun (Ok done) told goes starts asks store run unshut beside apart s safe =
       let one = goes s safe.world in
       record { moments = one.moments; now = record { world = one.now; tickets = begun s told starts store run unshut beside apart safe.tickets } }
-  site_begun (Err end) told goes starts asks store run unshut beside apart =
+  site_begun (Err end) told goes starts asks store run unshut beside apart s safe =
       site_looked m a b told goes asks (subst (λ (st : Store). KeepsTickets a.store.now st) (sym store) (same_tickets a.store.now))
-      (λ busy h. subst (λ (r : Run). Contains r.held busy) run h) (ap (λ (r : Run). r.tickets) run) unshut
+      (λ busy h. subst (λ (r : Run). Contains r.held busy) run h) (ap (λ (r : Run). r.tickets) run) unshut s safe

@@ -1,5 +1,5 @@
 use Rattle.build_run.proofs.Safely.{safely_here, safely_on}
-use Rattle.std.proofs.Common.{◌∙◌, []}
+use Rattle.std.proofs.Common.{rules, ◌∙◌, []}
 use Rattle.build_run.proofs.Clearing.{clears_on}
 use Rattle.build_run.proofs.Goings.{stays_on}
 use Rattle.build_run.proofs.clear.make_dirs.Goals as goal

@@ -1,5 +1,5 @@
 use Rattle.build_run.proofs.Safely.{safely_here, safely_on}
-use Rattle.std.proofs.Common.{◌∙◌, Contains, sym, subst, arith}
+use Rattle.std.proofs.Common.{rules, ◌∙◌, Contains, sym, subst, arith}
 use Rattle.build_run.proofs.Clearing.{clears_on, clears_one}
 use Rattle.build_run.proofs.Goings.{stays_on, unused_still, unused_in, gone_still}
 use Rattle.build_run.proofs.Taking.{takes_on, takes_as}

@@ -1,5 +1,5 @@
 use Rattle.build_run.proofs.Safely.{safely_here, safely_on}
-use Rattle.std.proofs.Common.{◌∙◌, ◌<◌, length, Contains, sym, subst, arith}
+use Rattle.std.proofs.Common.{rules, ◌∙◌, ◌<◌, length, Contains, sym, subst, arith}
 use Rattle.deciders.specs.declared.recorded.Rec.{Rec}
 use Rattle.build_run.specs.Takes.{IsTargetOf}
 use Rattle.build_run.proofs.Goings.{goes_on}
