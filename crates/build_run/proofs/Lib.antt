@@ -20,3 +20,4 @@ mod Finishing
 mod Builds
 mod Safely
 mod Stopping
+mod Turning
