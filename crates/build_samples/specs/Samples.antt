@@ -3,7 +3,6 @@ use Rattle.std.specs.Prelude.{◌≡◌, ◌<◌, ℕ, false, List, [], ◌∷�
 use Rattle.scons_base.specs.declared.ids.NodeId.{NodeId}
 use Rattle.rule_graph.specs.Graphs.{RuleGraph}
 use Rattle.sign_store.specs.Tables.{Map}
-use Rattle.build_means.specs.Builds.{Wanted}
 use Rattle.build_run.specs.Outsets.{wanted_of, HasRun, HasSucceeded}
 use Rattle.build_run.specs.declared.building.Options.{Options}
 use Rattle.build_run.specs.declared.end.BuildEnd.{BuildEnd}
@@ -12,9 +11,10 @@ use Rattle.world_mem.specs.InSlots.{file_at}
 use Rattle.world_mem.specs.Means.{world_meaning}
 use Rattle.world_mem.specs.declared.world.MemWorld.{MemWorld}
 
--- a build that reports nothing has succeeded: no premise of the world or of what was requested is left
-abbrev pub SucceedsWell : Wanted → Map → MemWorld → MemWorld → BuildEnd → Type 0
-SucceedsWell w map old new answer = answer.faults ≡ [] → answer.memory ≡ false → HasSucceeded world_meaning w map old new
+-- a build of one node that reports nothing has succeeded: no premise of the world or of what was requested is left
+abbrev pub SucceedsWell : RuleGraph → NodeId → Options → Map → MemWorld → MemWorld → BuildEnd → Type 0
+SucceedsWell g node options map old new answer = answer.faults ≡ [] → answer.memory ≡ false →
+    HasSucceeded world_meaning (wanted_of g (node ∷ []) options) map old new
 
 -- `s` with this content is all that stands there
 abbrev pub HoldsOnly : List ℕ → MemWorld → Type 0
@@ -31,4 +31,4 @@ pub record BuildsFrom (content : List ℕ) (answer : BuildEnd) (new : MemWorld) 
   pub holds : HoldsOnly content old
   pub idle : (around_of old.state).running ≡ []
   pub runs : HasRun world_meaning (wanted_of graph (node ∷ []) options) map old new
-  pub succeeds : SucceedsWell (wanted_of graph (node ∷ []) options) map old new answer
+  pub succeeds : SucceedsWell graph node options map old new answer

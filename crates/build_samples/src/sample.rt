@@ -31,7 +31,7 @@ pub fn build_copy(alloc: Global, content: &[u8]) -> Option<Sample>
     let mut graph = empty_graph(alloc)?;
     let target = declare_copy(alloc, &mut graph)?;
     let mut world = world_with(alloc, content)?;
-    let mut store = Store::begin(alloc, &mut world).ok()?;
+    let mut store = begin_store(alloc, &mut world)?;
     let mut out = MemSink::new(alloc, Vec::new(alloc)).ok()?;
     let mut err = MemSink::new(alloc, Vec::new(alloc)).ok()?;
     let options = Options {
@@ -63,6 +63,15 @@ fn world_with(alloc: Global, content: &[u8]) -> Option<MemWorld>
     MemWorld::new(alloc, files, table, Vec::new(alloc), Vec::new(alloc)).ok()
 }
 
+/// The store of a world, which itself stays as it is.
+fn begin_store(alloc: Global, world: &mut MemWorld) -> Option<Store>
+    ensures around { around_of world.new.state ≡ around_of world.old.state }
+    ensures live { IfSome result (λ store. is_live store ≡ true) }
+    ensures kept { IfSome result (IsKept world_meaning world.new) }
+{
+    Store::begin(alloc, world).ok()
+}
+
 /// Builds one node of a graph.
 fn build_node(
     alloc: Global,
@@ -79,7 +88,7 @@ fn build_node(
     requires live { is_live store.old ≡ true }
     requires kept { IsKept world_meaning world.old store.old }
     ensures runs { HasRun world_meaning (wanted_of graph.old (node ∷ []) options.now) (map_of store.old) world.old world.new }
-    ensures succeeds { SucceedsWell (wanted_of graph.old (node ∷ []) options.now) (map_of store.old) world.old world.new result }
+    ensures succeeds { SucceedsWell graph.old node options.now (map_of store.old) world.old world.new result }
 {
     build(
         alloc,
