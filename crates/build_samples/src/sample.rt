@@ -34,12 +34,7 @@ pub fn build_copy(alloc: Global, content: &[u8]) -> Option<Sample>
     let mut store = begin_store(alloc, &mut world)?;
     let mut out = MemSink::new(alloc, Vec::new(alloc)).ok()?;
     let mut err = MemSink::new(alloc, Vec::new(alloc)).ok()?;
-    let options = Options {
-        jobs: 1,
-        keep: false,
-        hash: Hash::Md5,
-        silent: false,
-    };
+    let options = one_by_one();
     let end = build_node(
         alloc, &mut graph, target, &mut store, &mut world, &mut out, &mut err, &options,
     );
@@ -49,6 +44,16 @@ pub fn build_copy(alloc: Global, content: &[u8]) -> Option<Sample>
         out,
         err,
     })
+}
+
+/// One job runs at a time.
+fn one_by_one() -> Options {
+    Options {
+        jobs: 1,
+        keep: false,
+        hash: Hash::Md5,
+        silent: false,
+    }
 }
 
 /// A world with one file, in which no call fails.
