@@ -1,4 +1,4 @@
-use Rattle.std.proofs.Common.{arith, tt}
+use Rattle.std.proofs.Common.{arith}
 use Rattle.build_samples.proofs.declared.declare_copy.Goals as goal
 
 pub add_rule-requires : goal.add_rule-requires
