@@ -1,2 +1,4 @@
 pub mod Firsts
 pub mod Below
+pub mod Changing
+pub mod Due

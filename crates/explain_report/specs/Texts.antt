@@ -20,12 +20,16 @@ old_dep_at (Some old) place = dep_at old place
 abbrev pub rebuilding : List ℕ → List ℕ → List ℕ
 rebuilding target why = codes "scons: rebuilding `" ++ target ++ codes "' because " ++ why ++ 10 ∷ []
 
+-- a dependency is the reason
+abbrev pub about : List ℕ → List ℕ → List ℕ → List ℕ
+about target dep what = codes "scons: rebuilding `" ++ target ++ codes "' because `" ++ dep ++ codes "' " ++ what ++ 10 ∷ []
+
 abbrev pub reason_text : Reason → Rec → Option Rec → List ℕ
 reason_text (Always x) now old = rebuilding (target_at now x) (codes "AlwaysBuild() is specified")
 reason_text (Absent x) now old = codes "scons: building `" ++ target_at now x ++ codes "' because it doesn't exist\n"
 reason_text (NoRecord x) now old = rebuilding (target_at now x) (codes "it has no record")
 reason_text (Action x) now old = rebuilding (target_at now x) (codes "the build action changed")
-reason_text (Newly x d) now old = rebuilding (target_at now x) (codes "`" ++ dep_at now d ++ codes "' is a new dependency")
-reason_text (Gone x d) now old = rebuilding (target_at now x) (codes "`" ++ old_dep_at old d ++ codes "' is no longer a dependency")
+reason_text (Newly x d) now old = about (target_at now x) (dep_at now d) (codes "is a new dependency")
+reason_text (Gone x d) now old = about (target_at now x) (old_dep_at old d) (codes "is no longer a dependency")
 reason_text (Moved x) now old = rebuilding (target_at now x) (codes "the dependency order changed")
-reason_text (Changed x d) now old = rebuilding (target_at now x) (codes "`" ++ dep_at now d ++ codes "' changed")
+reason_text (Changed x d) now old = about (target_at now x) (dep_at now d) (codes "changed")

@@ -34,6 +34,18 @@ fn same_texts(a: &[Text], b: &[Text]) -> bool
 pub(crate) fn first_changed(
     decider: Decider,
     stamp: Option<u64>,
+    old: &Rec,
+    now: &Rec,
+) -> Option<usize>
+    ensures { MatchOption result (¬ (Somewhere (Differs decider stamp) (zip old.now.deps now.now.deps)))
+        (λ place. First (Differs decider stamp) (zip old.now.deps now.now.deps) place) }
+{
+    first_of_pairs(decider, stamp, old.deps.as_slice(), now.deps.as_slice())
+}
+
+fn first_of_pairs(
+    decider: Decider,
+    stamp: Option<u64>,
     old: &[Dep],
     now: &[Dep],
 ) -> Option<usize>

@@ -4,7 +4,7 @@ ghost use Rattle.std.specs.Option.{option_copied};
 ghost use Rattle.explain_report.specs.Reasons.{IsReason};
 
 use crate::changes::{first_changed, is_same_work};
-use crate::names::{are_same_names, first_new};
+use crate::names::{first_new, have_same_names};
 use crate::reason::Reason;
 use deciders::Rec;
 use world_api::Decider;
@@ -48,17 +48,16 @@ fn reason_beside(
     if !is_same_work(old, now) {
         return Some(Reason::Action(place));
     }
-    let (before, after) = (old.deps.as_slice(), now.deps.as_slice());
-    if let Some(dep) = first_new(before, after) {
+    if let Some(dep) = first_new(old, now) {
         return Some(Reason::Newly(place, dep));
     }
-    if let Some(dep) = first_new(after, before) {
+    if let Some(dep) = first_new(now, old) {
         return Some(Reason::Gone(place, dep));
     }
-    if !are_same_names(after, before) {
+    if !have_same_names(now, old) {
         return Some(Reason::Moved(place));
     }
-    match first_changed(decider, first_stamp, before, after) {
+    match first_changed(decider, first_stamp, old, now) {
         Some(dep) => Some(Reason::Changed(place, dep)),
         None => None,
     }

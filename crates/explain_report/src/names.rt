@@ -4,10 +4,16 @@ ghost use Rattle.deciders.specs.Records.{name_of};
 ghost use Rattle.explain_report.specs.Reasons.{Somewhere, First, IsNew};
 
 use crate::changes::first_of;
-use deciders::Dep;
+use deciders::{Dep, Rec};
 
-/// The place of the first of these dependencies that is new beside the others.
-pub(crate) fn first_new(others: &[Dep], deps: &[Dep]) -> Option<usize>
+/// The place of the first dependency of a record that is new beside the other's.
+pub(crate) fn first_new(other: &Rec, rec: &Rec) -> Option<usize>
+    ensures { MatchOption result (¬ (Somewhere (IsNew other.now.deps) rec.now.deps)) (λ place. First (IsNew other.now.deps) rec.now.deps place) }
+{
+    first_beside(other.deps.as_slice(), rec.deps.as_slice())
+}
+
+fn first_beside(others: &[Dep], deps: &[Dep]) -> Option<usize>
     ensures { MatchOption result (¬ (Somewhere (IsNew others.now) deps.now)) (λ place. First (IsNew others.now) deps.now place) }
 {
     let mut rest = deps;
@@ -56,8 +62,14 @@ fn is_same_name(a: &Dep, b: &Dep) -> bool
     a.name == b.name
 }
 
-/// Whether two lists have the same names in the same order.
-pub(crate) fn are_same_names(a: &[Dep], b: &[Dep]) -> bool
+/// Whether two records have the same names in the same order.
+pub(crate) fn have_same_names(a: &Rec, b: &Rec) -> bool
+    ensures { IsTrue result ↔ (map name_of a.now.deps ≡ map name_of b.now.deps) }
+{
+    are_same_names(a.deps.as_slice(), b.deps.as_slice())
+}
+
+fn are_same_names(a: &[Dep], b: &[Dep]) -> bool
     ensures { IsTrue result ↔ (map name_of a.now ≡ map name_of b.now) }
 {
     let (mut xs, mut ys) = (a, b);

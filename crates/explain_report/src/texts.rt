@@ -1,7 +1,7 @@
 //! The line that tells a reason.
 ghost use Rattle.std.specs.Prelude.{◌≡◌, ◌++◌, ◌∷◌, [], IfOk, string_bytes, codes};
 ghost use Rattle.std.specs.Option.{option_copied};
-ghost use Rattle.explain_report.specs.Texts.{reason_text, target_at, dep_at, old_dep_at, rebuilding};
+ghost use Rattle.explain_report.specs.Texts.{reason_text, target_at, dep_at, old_dep_at, rebuilding, about};
 
 use crate::reason::Reason;
 use deciders::Rec;
@@ -58,8 +58,7 @@ fn rebuilding(alloc: Global, target: &str, why: &str) -> Result<String, Memory>
 }
 
 fn about(alloc: Global, target: &str, dep: &str, what: &str) -> Result<String, Memory>
-    ensures { IfOk result (λ text. string_bytes text
-        ≡ rebuilding target.now (codes "`" ++ dep.now ++ codes "' " ++ what.now)) }
+    ensures { IfOk result (λ text. string_bytes text ≡ about target.now dep.now what.now) }
 {
     Ok(format!(in alloc; "scons: rebuilding `{target}' because `{dep}' {what}\n")?)
 }

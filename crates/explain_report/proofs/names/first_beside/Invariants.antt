@@ -1,6 +1,6 @@
 use Rattle.std.proofs.Common.{◌≡◌, ◌+◌, ◌≤◌, ℕ, length}
 use Rattle.explain_report.specs.Reasons.{Somewhere, FirstFrom, First, IsNew}
-use Rattle.explain_report.proofs.names.first_new.Given as goal
+use Rattle.explain_report.proofs.names.first_beside.Given as goal
 
 abbrev pub invariant-loop-dep : goal.invariant-loop-dep
 invariant-loop-dep l = record {

@@ -1,7 +1,7 @@
 use Rattle.std.proofs.Common.{length, ap, arith}
 use Rattle.explain_report.specs.Reasons.{IsNew}
 use Rattle.explain_report.proofs.Firsts.{goes_on, is_behind}
-use Rattle.explain_report.proofs.names.first_new.Goals as goal
+use Rattle.explain_report.proofs.names.first_beside.Goals as goal
 
 pub loop-dep-preserved : goal.loop-dep-preserved
 loop-dep-preserved c =

@@ -1,7 +1,7 @@
 use Rattle.std.proofs.Common.{◌≡◌, ◌+◌, ℕ, length}
 use Rattle.std.specs.List.{zip}
 use Rattle.explain_report.specs.Reasons.{Somewhere, FirstFrom, First, Differs}
-use Rattle.explain_report.proofs.changes.first_changed.Given as goal
+use Rattle.explain_report.proofs.changes.first_of_pairs.Given as goal
 
 abbrev pub invariant-loop-x : goal.invariant-loop-x
 invariant-loop-x l = record {
