@@ -27,6 +27,9 @@ same_tail : {A : Type 0} {x y : A} {xs ys : List A} → x ∷ xs ≡ y ∷ ys �
 unfolding tail_of
 same_tail e = ap tail_of e
 
+cons_same : {A : Type 0} {x y : A} {xs ys : List A} → x ≡ y → xs ≡ ys → x ∷ xs ≡ y ∷ ys
+cons_same e f = λ i. e i ∷ f i
+
 -- where the names are the same none is new
 same_not_new : (others deps xs : List Dep) → ((n : List ℕ) → Somewhere (λ (x : Dep). n ≡ x.name) xs → Somewhere (λ (x : Dep). n ≡ x.name) others) →
     map name_of deps ≡ map name_of xs → Somewhere (IsNew others) deps → ⊥
@@ -72,7 +75,10 @@ stamps_same stamp [] [] e none k = k refl
 stamps_same stamp [] (y ∷ ys) e none k = cc e
 stamps_same stamp (x ∷ xs) [] e none k = cc e
 stamps_same stamp (x ∷ xs) (y ∷ ys) e none k =
-    stamps_same stamp xs ys (same_tail e) (λ s. none (inr s)) (λ rest. none (inl (λ h. k (λ i. sym h i ∷ rest i))))
+    stamps_same stamp xs ys (same_tail e) (λ s. none (inr s)) (λ rest. none (inl (λ h. k (cons_same (sym h) rest))))
+
+dep_same : (x y : Dep) → y.name ≡ x.name → y.digest ≡ x.digest → y.stamp ≡ x.stamp → y ≡ x
+dep_same x y name digest stamp = λ i. record { name = name i; digest = digest i; stamp = stamp i }
 
 same_deps : (stamp : Option ℕ) (xs ys : List Dep) → map name_of ys ≡ map name_of xs → AllByRecursion (λ (dep : Dep). dep.stamp ≡ None) ys →
     (Somewhere (Differs Content stamp) (zip xs ys) → ⊥) → (ys ≡ xs → ⊥) → ⊥
@@ -81,9 +87,7 @@ same_deps stamp [] (y ∷ ys) e stamps none k = cc e
 same_deps stamp (x ∷ xs) [] e stamps none k = cc e
 same_deps stamp (x ∷ xs) (y ∷ ys) e stamps none k =
     same_deps stamp xs ys (same_tail e) stamps.1 (λ s. none (inr s)) (λ rest. none (inl (inl (λ digest. none (inl (inr (λ old.
-        let digests = sym digest in
-        let times = stamps.0 ∙ sym old in
-        k (λ i. record { name = same_head e i; digest = digests i; stamp = times i } ∷ rest i)))))))
+        k (cons_same (dep_same x y (same_head e) (sym digest) (stamps.0 ∙ sym old)) rest))))))))
 
 module _ (decider : Decider) (stamp : Option ℕ) (old now : Rec) where
   pub by_action : (IsSameAction old now → ⊥) → HasChanged decider old now stamp
