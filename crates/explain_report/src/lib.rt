@@ -11,6 +11,6 @@ mod texts;
 mod laws;
 
 pub use finding::reason_of;
-pub use laws::due_where_a_reason_holds;
+pub use laws::{due_where_a_reason_holds, least_is_reason};
 pub use reason::{Reason, least};
 pub use texts::reason_text;
