@@ -21,3 +21,4 @@ mod Builds
 mod Safely
 mod Stopping
 mod Turning
+mod Ended
