@@ -1,6 +1,7 @@
 -- What tickets are for, over the ending of a job.
-use Rattle.std.proofs.Common.{◌≡◌, ◌∙◌, ◌++◌, ◌∷◌, List, [], Contains, Some, None, false, arith, inl, inr, refl, sym, subst}
+use Rattle.std.proofs.Common.{◌≡◌, ◌∙◌, ◌++◌, ◌∷◌, ◌<◌, ℕ, zero, suc, length, List, [], Contains, Some, None, false, arith, inl, inr, refl, sym, subst}
 use Rattle.std.proofs.lemmas.List.Elements.{Contains-append_right}
+use Rattle.std.specs.List.{remove}
 use Rattle.sign_store.specs.Stores.{KeepsTickets}
 use Rattle.sign_store.specs.declared.store.Store.{Store}
 use Rattle.world_api.specs.Around.{Around, Running, IsRunningTarget}
@@ -145,3 +146,12 @@ are_done m s ended old new store rest busies left busy account told ends fewer a
       ];
       tickets = others.tickets;
     }
+
+-- one is taken out
+pub removed_from : (busies : List Busy) (i : ℕ) (other : Busy) → i < length busies → Contains (remove busies i) other → Contains busies other
+removed_from [] i other lt h = absurd (omega arith)
+removed_from (busy ∷ busies) zero other lt h = further busies busy other h
+removed_from (busy ∷ busies) (suc i) other lt h = elim (in_front (remove busies i) busy other h) [
+  | inl same ↦ subst (Contains (busy ∷ busies)) same (at_front busies busy)
+  | inr more ↦ further busies busy other (removed_from busies i other (omega (arith, lt)) more)
+]

@@ -1,3 +1,4 @@
+use Rattle.build_run.proofs.Ended.{removed_from}
 use Rattle.std.proofs.Common.{◌≡◌, ◌∙◌, ap, List, ◌∷◌, ◌++◌, Contains, sym, subst, position}
 use Rattle.std.specs.List.{remove}
 use Rattle.std.proofs.lemmas.List.Elements.{Contains-get_or}
@@ -29,3 +30,13 @@ returns-clause-outs c = λ store held outs.
     let taken = outs_taken_behind store held busies c.in_ok-place.place c.remove.result lt (subst (λ (all : List Busy). AreOut store (held ++ all)) (sym c.self.view_is) outs) in
     subst (λ (left : List Busy). AreOut store (held ++ c.remove.result ∷ left)) (sym c.remove.ensures.items)
     (subst (λ (busy : Busy). AreOut store (held ++ busy ∷ remove busies c.in_ok-place.place)) (sym c.remove.ensures.value) taken)
+
+pub returns-in_err-place-clause-fewer : goal.returns-in_err-place-clause-fewer
+returns-in_err-place-clause-fewer c = λ busy h. h
+
+pub returns-clause-fewer : goal.returns-clause-fewer
+returns-clause-fewer c = λ other h.
+    let busies = c.self.inside.busy.items in
+    let lt = within c.args.id busies c.in_ok-place.place (ap (λ bs. position (has_id c.args.id) bs) (sym c.as_slice.ensures.value) ∙ (sym c.place_of.ensures ∙ c.in_ok-place.was)) in
+    subst (λ (all : List Busy). Contains all other) c.self.view_is
+    (removed_from busies c.in_ok-place.place other lt (subst (λ (all : List Busy). Contains all other) c.remove.ensures.items h))
