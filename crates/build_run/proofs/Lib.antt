@@ -22,3 +22,4 @@ mod Safely
 mod Stopping
 mod Turning
 mod Ended
+mod Begun
