@@ -90,7 +90,7 @@ moved (first ∷ front) back x y h = elim (in_front (front ++ back) first y h) [
   | inr more ↦ further (front ++ x ∷ back) first y (moved front back x y more)
 ]
 
-mapped : (running : List Running) (run : Running) → Contains running run → Contains (holds_of running) (hold_of run)
+pub mapped : (running : List Running) (run : Running) → Contains running run → Contains (holds_of running) (hold_of run)
 mapped [] run h = absurd (omega (arith, h.1))
 mapped (first ∷ running) run h = elim (in_front running first run h) [
   | inl same ↦ subst (λ (r : Running). Contains (hold_of first ∷ holds_of running) (hold_of r)) same (at_front (holds_of running) (hold_of first))
