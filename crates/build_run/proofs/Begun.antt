@@ -5,8 +5,10 @@ use Rattle.deciders.specs.declared.recorded.Rec.{Rec}
 use Rattle.sign_store.specs.Stores.{IsTicket, KeepsTickets}
 use Rattle.sign_store.specs.declared.store.Store.{Store}
 use Rattle.world_api.specs.Around.{Around, Running, IsRunningTarget, given_of}
+use Rattle.world_api.specs.Calls.{Asks}
 use Rattle.world_api.specs.Counts.{Counts}
 use Rattle.world_api.specs.Laws.{HasOnlyNow}
+use Rattle.world_api.specs.Looks.{Looks}
 use Rattle.world_api.specs.Meaning.{Meaning, Told}
 use Rattle.world_api.specs.declared.job.Job.{Job}
 use Rattle.build_model.specs.Rules.{Path, Bytes, Content, Tree, Setting, Among, here, there}
@@ -17,12 +19,12 @@ use Rattle.turn_means.specs.Laws.{HasMet, IsJobFrom}
 use Rattle.turn_means.specs.Safety.{IsTicketOf}
 use Rattle.build_run.specs.Goings.{Launches}
 use Rattle.build_run.specs.Holds.{Busy}
-use Rattle.build_run.specs.Safe.{GoesSafely, HasOwnRecord, IsOverFiles, SiteGoesSafely}
+use Rattle.build_run.specs.Safe.{GoesSafely, HasOwnRecord, IsOverFiles, SiteGoesSafely, StartsSafely}
 use Rattle.build_run.specs.declared.site.Site.{Site}
 use Rattle.build_run.proofs.Clearing.{clears_around}
 use Rattle.build_run.proofs.Goings.{told_here}
 use Rattle.build_run.proofs.Holding.{at_front, further, in_pushed}
-use Rattle.build_run.proofs.Safely.{safely_here}
+use Rattle.build_run.proofs.Safely.{safe_on, safely_here}
 use Rattle.build_run.proofs.Stopping.{site_looked}
 
 -- the store alone is another, with the same tickets
@@ -81,4 +83,32 @@ own_launched s job counts old new rec store busy launch over ticket work signed 
       digests = ap (map (digested s (record_in rec).hash)) given_same ∙ over.digests;
       each_met = λ x n. subst (λ (met : List Bytes). IsMet met x.1) (sym (launch.starts.met ∙ launch.clears.met))
           (given_met old over.met (map name_of rec.deps) over.still x (subst (λ l. Among x l) given_same n));
+    }
+
+-- a look leaves a record that of what its dependencies hold
+pub over_asked : (s : Setting) (old new : Around) (rec : Rec) → Asks old new → IsOverFiles s old rec → IsOverFiles s new rec
+over_asked s old new rec asks over = record {
+  digests = ap (map (digested s (record_in rec).hash)) (given_on old.tree new.tree (map name_of rec.deps) (λ path h. asks.files path (over.still path h)))
+      ∙ over.digests;
+  met = λ path bytes e free.
+      let was_free = was path free in
+      subst (λ (all : List Bytes). Contains all bytes) (sym asks.met) (over.met path bytes (sym (asks.files path was_free) ∙ e) was_free);
+  still = λ path h target. over.still path h (subst (λ (runs : List Running). IsRunningTarget runs path) asks.running target);
+  apart = over.apart;
+}
+  where
+    was : (path : Path) → (IsRunningTarget new.running path → ⊥) → IsRunningTarget old.running path → ⊥
+    was path free target = free (subst (λ (runs : List Running). IsRunningTarget runs path) (sym asks.running) target)
+
+-- a rule starts behind a look
+pub starts_behind : {W O E : Type 0} (m : Meaning W) (a mid b : Site W O E) (rec : Rec) → Looks m a.world.now mid.world.now →
+    Told m mid.world.now b.world.now → SiteGoesSafely m a mid → StartsSafely m mid b rec → StartsSafely m a b rec
+starts_behind m a mid b rec looks told first then s safe over =
+    let one = first s safe in
+    let two = then s one.now (λ tells sure. over_asked s (m.around a.world.now) (m.around mid.world.now) rec (looks.around tells)
+    (over (looks.told.told tells) (looks.told.sure tells sure))) in
+    record {
+      moments = (safe_on m s a.world.now mid.world.now b.world.now told (record { moments = one.moments; now = one.now.world })
+          (λ now. record { moments = two.moments; now = two.now.world })).moments;
+      now = two.now;
     }
