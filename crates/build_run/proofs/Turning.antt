@@ -6,10 +6,9 @@ use Rattle.world_api.specs.Meaning.{Meaning, Surely, Told}
 use Rattle.sign_store.specs.Stores.{KeepsTickets}
 use Rattle.sign_store.specs.declared.store.Store.{Store}
 use Rattle.build_model.specs.Rules.{Setting}
-use Rattle.turn_means.specs.Standing.{Outset, IsOutset}
-use Rattle.build_run.specs.Along.{IsAlong, StaysAlong}
+use Rattle.build_run.specs.Along.{StaysAlong}
 use Rattle.build_run.specs.Holds.{Busy}
-use Rattle.build_run.specs.Safe.{AreSafeIn, HoldsSafely, IsAlongNow, IsSafeMoment, IsSafeNow, IsSafeSite, SiteGoesSafely, SiteStaysSafe, TurnsSafely}
+use Rattle.build_run.specs.Safe.{AreSafeIn, HoldsSafely, IsAlongSome, IsSafeMoment, IsSafeNow, IsSafeSite, SiteGoesSafely, SiteStaysSafe, TurnsSafely}
 use Rattle.build_run.specs.declared.account.Account.{Account}
 use Rattle.build_run.specs.declared.site.Site.{Site}
 use Rattle.build_run.proofs.Clearing.{clears_asked}
@@ -27,14 +26,16 @@ module _ {W O E : Type 0} (m : Meaning W) where
       (λ busy h. subst (λ (all : List Busy). Contains all busy) held h) same (λ unshut. sym shut ∙ unshut)
 
   pub turn_then : (a b c : Site W O E) → Told m b.world.now c.world.now → TurnsSafely m a b → SiteGoesSafely m b c → TurnsSafely m a c
-  turn_then a b c told first then s o outset along safe =
-      site_safely_on m a b c told (λ u is. first u o outset along is) then s safe
+  turn_then a b c told first then s along safe = site_safely_on m a b c told (λ u is. first u along is) then s safe
 
   pub turns_on : (a b c : Site W O E) → Told m a.world.now b.world.now → Told m b.world.now c.world.now → StaysAlong m a b → TurnsSafely m a b →
       TurnsSafely m b c → TurnsSafely m a c
-  turns_on a b c before after stays first then s o outset along safe =
-      site_safely_on m a b c after (λ u is. first u o outset along is)
-      (λ u is. then u o outset (λ tells sure. stays tells sure o outset (along (before.told tells) (before.sure tells sure))) is) s safe
+  turns_on a b c before after stays first then s along safe =
+      site_safely_on m a b c after (λ u is. first u along is) (λ u is. then u (λ tells sure. still tells sure (along (before.told tells) (before.sure tells sure))) is)
+      s safe
+    where
+      still : m.tells b.world.now → m.sure b.world.now → IsAlongSome m a → IsAlongSome m b
+      still tells sure some = record { o = some.o; outset = some.outset; along = stays tells sure some.o some.outset some.along }
 
   -- a further record is held
   pub held_now : (busy : Busy) → (a b : Site W O E) → b.world.now ≡ a.world.now → b.store.now ≡ a.store.now →

@@ -123,13 +123,19 @@ StartsSafely m old new rec = (s : Setting) → IsSafeSite m s old → IsOverNow 
 
 -- ---- turns
 
--- a build goes along where its world tells and is sure
-abbrev pub IsAlongNow : {W O E : Type 0} → Meaning W → Outset → Site W O E → Type 0
-IsAlongNow m o site = m.tells site.world.now → m.sure site.world.now → IsAlong m o site
+-- a build goes along from some outset
+pub record IsAlongSome {W O E : Type 0} (m : Meaning W) (site : Site W O E) : Type 0 where
+  pub o : Outset
+  pub outset : IsOutset o
+  pub along : IsAlong m o site
+
+-- so it does where its world tells and is sure
+abbrev pub IsAlongNow : {W O E : Type 0} → Meaning W → Site W O E → Type 0
+IsAlongNow m site = m.tells site.world.now → m.sure site.world.now → IsAlongSome m site
 
 -- So turns are safe, whatever the build began with.
 abbrev pub TurnsSafely : {W O E : Type 0} → Meaning W → Site W O E → Site W O E → Type 0
-TurnsSafely m old new = (s : Setting) (o : Outset) → IsOutset o → IsAlongNow m o old → IsSafeSite m s old → SiteStaysSafe m s old new
+TurnsSafely m old new = (s : Setting) → IsAlongNow m old → IsSafeSite m s old → SiteStaysSafe m s old new
 
 -- so is one that is wanted
 abbrev pub TurnsSafelyAs : {W O E : Type 0} → Meaning W → Site W O E → Site W O E → Want → Type 0
@@ -137,10 +143,16 @@ TurnsSafelyAs m old new wanted = IsWantedOf (length old.run.now.tickets) (most_j
 
 -- ---- builds
 
--- So all turns are, where the build has set out.
+-- a build has set out from some outset
+pub record HasOutset {W : Type 0} (m : Meaning W) (g : RuleGraph) (run : Run) (store : Store) (world : W) (account : Account) (options : Options)
+    : Type 0 where
+  pub o : Outset
+  pub ready : IsReadyFor m o g run store world account options
+
+-- So all turns are safe, where the build has set out.
 abbrev pub MakesSafely : {W : Type 0} → Meaning W → RuleGraph → Run → Store → W → Account → Options → W → Type 0
-MakesSafely m g run store world account options new = (s : Setting) (o : Outset) →
-    (m.tells world → m.sure world → IsReadyFor m o g run store world account options) → IsSafeNow m s world → StaysSafe m s world new
+MakesSafely m g run store world account options new = (s : Setting) →
+    (m.tells world → m.sure world → HasOutset m g run store world account options) → IsSafeNow m s world → StaysSafe m s world new
 
 -- whatever a stop leaves now tells the truth
 abbrev pub TellsTruth : {W : Type 0} → Meaning W → Setting → W → Type 0

@@ -41,7 +41,7 @@ loop-turn-init g c = record {
   accounts = search rules;
   sound = search rules;
   along = search rules;
-  safe = λ s o outset along safe.
+  safe = λ s along safe.
       site_rests g.W.Disk.meaning g.met.W.Disk.only_now c.args.self.now c.args.self.now refl refl refl refl (λ unshut. unshut) s safe;
 }
 
