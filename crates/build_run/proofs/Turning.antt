@@ -1,5 +1,5 @@
 -- Turns of a build are safe.
-use Rattle.std.proofs.Common.{◌≡◌, ◌∙◌, ◌++◌, ◌∷◌, List, [], Contains, ap, refl, sym, subst}
+use Rattle.std.proofs.Common.{◌≡◌, ◌∙◌, ◌++◌, ◌∷◌, List, [], Contains, arith, sym, subst}
 use Rattle.world_api.specs.Laws.{HasOnlyNow}
 use Rattle.world_api.specs.Looks.{Looks}
 use Rattle.world_api.specs.Meaning.{Meaning, Surely, Told}
@@ -8,7 +8,7 @@ use Rattle.sign_store.specs.declared.store.Store.{Store}
 use Rattle.build_model.specs.Rules.{Setting}
 use Rattle.build_run.specs.Along.{StaysAlong}
 use Rattle.build_run.specs.Holds.{Busy}
-use Rattle.build_run.specs.Safe.{AreSafeIn, HoldsSafely, IsAlongSome, IsSafeMoment, IsSafeNow, IsSafeSite, SiteGoesSafely, SiteStaysSafe, TurnsSafely}
+use Rattle.build_run.specs.Safe.{AreSafeIn, HoldsSafely, IsAlongSome, IsSafeMoment, IsSafeNow, IsSafeSite, SiteGoesSafely, SiteStaysSafe, StaysSafe, TurnsSafely}
 use Rattle.build_run.specs.declared.account.Account.{Account}
 use Rattle.build_run.specs.declared.site.Site.{Site}
 use Rattle.build_run.proofs.Clearing.{clears_asked}
@@ -61,3 +61,18 @@ module _ {W O E : Type 0} (m : Meaning W) where
         (safe_here m s only a.world.now safe).moments;
     now = held_now busy a b world store held same account s safe tickets;
   }
+
+  -- a site as it begins: nothing runs, and nothing is held
+  pub first_safe : (s : Setting) (site : Site W O E) → site.run.now.held ≡ [] → site.run.now.tickets ≡ [] → IsSafeNow m s site.world.now → IsSafeSite m s site
+  first_safe s site held tickets safe = record {
+    world = safe;
+    tickets = λ tells sure. record {
+      held = λ opened busy h. absurd (omega (arith, (subst (λ (all : List Busy). Contains all busy) held h).1));
+      tickets = λ busy h. absurd (omega (arith, (subst (λ (all : List Busy). Contains all busy) tickets h).1));
+    };
+  }
+
+  -- what a site held in the end is what its lender has
+  pub safe_given : (s : Setting) (last : Site W O E) (old now world : W) → last.world.now ≡ world → last.world.now ≡ now → StaysSafe m s old now →
+      StaysSafe m s old world
+  safe_given s last old now world lent same safe = subst (λ (w : W). StaysSafe m s old w) (sym same ∙ lent) safe
