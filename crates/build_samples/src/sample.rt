@@ -95,14 +95,5 @@ fn build_node(
     ensures runs { HasRun world_meaning (wanted_of graph.old (node ∷ []) options.now) (map_of store.old) world.old world.new }
     ensures succeeds { SucceedsWell graph.old node options.now (map_of store.old) world.old world.new result }
 {
-    build(
-        alloc,
-        graph,
-        &[node],
-        store,
-        world,
-        out,
-        err,
-        options,
-    )
+    build(alloc, graph, &[node], store, world, out, err, options)
 }
