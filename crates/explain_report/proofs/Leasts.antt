@@ -64,9 +64,12 @@ abbrev pub Told : List (Option Reason) → Option Reason → Type 0
 Told answers None = HasNone answers
 Told answers (Some reason) = IsLeastOf answers reason
 
+skipped : (answers : List (Option Reason)) → HasNone answers → HasNone (None ∷ answers)
+skipped answers none zero a e = none_some (some_same e)
+skipped answers none (suc i) a e = none i a e
+
 skips : (answers : List (Option Reason)) (m : Option Reason) → Told answers m → Told (None ∷ answers) m
-skips answers None none zero a e = none_some (some_same e)
-skips answers None none (suc i) a e = none i a e
+skips answers None none = skipped answers none
 skips answers (Some reason) is = record { place = suc is.place; stands = is.stands; first = later }
   where
     later : (i : ℕ) (a : Reason) → slice_get (None ∷ answers) i ≡ Some (Some a) → IsBefore a reason → ⊥
