@@ -87,7 +87,7 @@ same_deps stamp [] (y ∷ ys) e stamps none k = cc e
 same_deps stamp (x ∷ xs) [] e stamps none k = cc e
 same_deps stamp (x ∷ xs) (y ∷ ys) e stamps none k =
     same_deps stamp xs ys (same_tail e) stamps.1 (λ s. none (inr s)) (λ rest. none (inl (inl (λ digest. none (inl (inr (λ old.
-        k (cons_same (dep_same x y (same_head e) (sym digest) (stamps.0 ∙ sym old)) rest))))))))
+    k (cons_same (dep_same x y (same_head e) (sym digest) (stamps.0 ∙ sym old)) rest))))))))
 
 module _ (decider : Decider) (stamp : Option ℕ) (old now : Rec) where
   pub by_action : (IsSameAction old now → ⊥) → HasChanged decider old now stamp

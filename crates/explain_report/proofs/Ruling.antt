@@ -73,8 +73,7 @@ module _ (alike : ChangesAreAlike) (r : Rule) (tree : Tree) (stamps : Stamps) (s
   ends (Some reason) least =
       let target = stands_at r.targets least.place (omega (arith, each.as_many, slice_get_within answers least.place (Some reason) least.stands)) in
       let is = each.each least.place target.0 (Some reason) target.1 least.stands in
-      let holds : HoldsIn r tree stamps stored decider now reason = (target.0, least.place, target.1, is.0) in
-      (
+      let holds : HoldsIn r tree stamps stored decider now reason = (target.0, least.place, target.1, is.0) in (
         is_true due refl (λ e. (due_alike alike r tree stamps stored decider now are).0 e reason holds),
         record { holds = holds; first = λ other h. by other h.0 h.1 h.2 h.3 (answer_at h.1 h.0 h.2) },
       )

@@ -43,12 +43,7 @@ pub(crate) fn first_changed(
     first_of_pairs(decider, stamp, old.deps.as_slice(), now.deps.as_slice())
 }
 
-fn first_of_pairs(
-    decider: Decider,
-    stamp: Option<u64>,
-    old: &[Dep],
-    now: &[Dep],
-) -> Option<usize>
+fn first_of_pairs(decider: Decider, stamp: Option<u64>, old: &[Dep], now: &[Dep]) -> Option<usize>
     ensures { MatchOption result (¬ (Somewhere (Differs decider stamp) (zip old.now now.now)))
         (λ place. First (Differs decider stamp) (zip old.now now.now) place) }
 {

@@ -3,12 +3,12 @@
 //! its line. Contracts see a record as in `deciders`.
 #![tactic(auto)]
 
-mod finding;
-mod names;
 mod changes;
+mod finding;
+mod laws;
+mod names;
 mod reason;
 mod texts;
-mod laws;
 
 pub use finding::reason_of;
 pub use laws::{due_where_a_reason_holds, least_is_reason};

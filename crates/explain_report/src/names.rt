@@ -8,13 +8,15 @@ use deciders::{Dep, Rec};
 
 /// The place of the first dependency of a record that is new beside the other's.
 pub(crate) fn first_new(other: &Rec, rec: &Rec) -> Option<usize>
-    ensures { MatchOption result (¬ (Somewhere (IsNew other.now.deps) rec.now.deps)) (λ place. First (IsNew other.now.deps) rec.now.deps place) }
+    ensures { MatchOption result (¬ (Somewhere (IsNew other.now.deps) rec.now.deps))
+        (λ place. First (IsNew other.now.deps) rec.now.deps place) }
 {
     first_beside(other.deps.as_slice(), rec.deps.as_slice())
 }
 
 fn first_beside(others: &[Dep], deps: &[Dep]) -> Option<usize>
-    ensures { MatchOption result (¬ (Somewhere (IsNew others.now) deps.now)) (λ place. First (IsNew others.now) deps.now place) }
+    ensures { MatchOption result (¬ (Somewhere (IsNew others.now) deps.now))
+        (λ place. First (IsNew others.now) deps.now place) }
 {
     let mut rest = deps;
     let mut place = 0;
@@ -33,7 +35,8 @@ fn first_beside(others: &[Dep], deps: &[Dep]) -> Option<usize>
 
 /// The place of a dependency of this name, first looked for where it is expected.
 fn place_from(dep: &Dep, expected: usize, others: &[Dep]) -> Option<usize>
-    ensures { MatchOption result (IsNew others.now dep.now) (λ place. (¬ (IsNew others.now dep.now)) × (place < length others.now)) }
+    ensures { MatchOption result (IsNew others.now dep.now)
+        (λ place. (¬ (IsNew others.now dep.now)) × (place < length others.now)) }
 {
     match others.get(expected) {
         Some(other) if is_same_name(dep, other) => Some(expected),
@@ -42,7 +45,8 @@ fn place_from(dep: &Dep, expected: usize, others: &[Dep]) -> Option<usize>
 }
 
 fn place_among(dep: &Dep, others: &[Dep]) -> Option<usize>
-    ensures { MatchOption result (IsNew others.now dep.now) (λ place. (¬ (IsNew others.now dep.now)) × (place < length others.now)) }
+    ensures { MatchOption result (IsNew others.now dep.now)
+        (λ place. (¬ (IsNew others.now dep.now)) × (place < length others.now)) }
 {
     let mut rest = others;
     let mut place = 0;

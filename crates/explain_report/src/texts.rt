@@ -27,7 +27,12 @@ pub fn reason_text(
             rebuilding(alloc, target_at(now, target), "the build action changed")
         }
         Reason::Newly(target, dep) => {
-            about(alloc, target_at(now, target), dep_at(now, dep), "is a new dependency")
+            about(
+                alloc,
+                target_at(now, target),
+                dep_at(now, dep),
+                "is a new dependency",
+            )
         }
         Reason::Gone(target, dep) => about(
             alloc,
@@ -36,7 +41,11 @@ pub fn reason_text(
             "is no longer a dependency",
         ),
         Reason::Moved(target) => {
-            rebuilding(alloc, target_at(now, target), "the dependency order changed")
+            rebuilding(
+                alloc,
+                target_at(now, target),
+                "the dependency order changed",
+            )
         }
         Reason::Changed(target, dep) => {
             about(alloc, target_at(now, target), dep_at(now, dep), "changed")
