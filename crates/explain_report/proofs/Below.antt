@@ -1,13 +1,12 @@
 -- No reason holds below a number, where none of those holds that have a smaller one.
-use Rattle.std.proofs.Common.{◌≡◌, ◌≢◌, ℕ, ◌<◌, Bool, true, false, List, map, Option, Some, None, refl, sym, ◌∙◌, arith, zip}
+use Rattle.std.proofs.Common.{◌≡◌, ℕ, Bool, true, false, map, Option, Some, sym, ◌∙◌, arith, zip}
 use Rattle.world_api.specs.declared.decider.Decider.{Decider}
 use Rattle.deciders.specs.declared.recorded.Rec.{Rec}
 use Rattle.deciders.specs.Records.{name_of}
 use Rattle.build_means.proofs.Lists.{true_false, none_some}
 use Rattle.explain_report.specs.declared.reason.Reason.{Reason}
 use Rattle.explain_report.specs.declared.reason.Reason.TheVariants.{Always, Absent, NoRecord, Action, Newly, Gone, Moved, Changed}
-use Rattle.explain_report.specs.Order.{number}
-use Rattle.explain_report.specs.Reasons.{Somewhere, First, IsSameWork, IsNew, Differs, Holds, NoneBelow}
+use Rattle.explain_report.specs.Reasons.{Somewhere, IsSameWork, IsNew, Differs, Holds, NoneBelow}
 use Rattle.explain_report.proofs.Firsts.{first_some}
 
 module _ (decider : Decider) (always : Bool) (now : Rec) (place : ℕ) (present : Bool) (stamp : Option ℕ) (old : Option Rec) where

@@ -1,5 +1,5 @@
 -- A record says that its rule has changed exactly where one of the last five reasons holds.
-use Rattle.std.proofs.Common.{◌≡◌, ◌≢◌, ℕ, suc, Bool, true, false, List, [], ◌∷◌, map, Option, Some, None, refl, sym, ap, ◌∙◌, inl, inr, ◌⊎◌, Any, zip}
+use Rattle.std.proofs.Common.{◌≡◌, ◌≢◌, ℕ, List, [], ◌∷◌, map, Option, None, refl, sym, ap, ◌∙◌, inl, inr, zip}
 use Rattle.std.specs.List.{AllByRecursion}
 use Rattle.world_api.specs.declared.decider.Decider.{Decider}
 use Rattle.world_api.specs.declared.decider.Decider.TheVariants.{Content, Newer, Match, ContentMatch}
@@ -9,7 +9,7 @@ use Rattle.deciders.specs.Records.{name_of}
 use Rattle.deciders.specs.Changes.{HasChanged, IsSameAction, IsAfter, DiffersInBoth, stamp_of}
 use Rattle.explain_report.specs.Reasons.{Somewhere, First, IsSameWork, IsNew, Differs}
 use Rattle.explain_report.specs.Laws.{HasNoStamps}
-use Rattle.explain_report.proofs.Firsts.{first_some, some_first, any_somewhere, somewhere_any}
+use Rattle.explain_report.proofs.Firsts.{first_some, any_somewhere, somewhere_any}
 
 head_or : {A : Type 0} → A → List A → A
 head_or x [] = x

@@ -1,13 +1,13 @@
 -- A rule is found due exactly where a reason holds for one of its targets.
-use Rattle.std.proofs.Common.{◌≡◌, ◌≢◌, ℕ, zero, suc, Bool, true, false, List, [], ◌∷◌, length, map, Option, Some, None, refl, sym, subst, ap, ◌∙◌, inl, inr, ◌⊎◌, zip}
+use Rattle.std.proofs.Common.{◌≡◌, ℕ, Bool, true, false, List, [], ◌∷◌, length, map, Option, Some, None, refl, sym, subst, ap, ◌∙◌, zip}
 use Rattle.std.specs.Prelude.{◌↔◌, slice_get, is_some, ◌&&◌, not, ◌==◌}
 use Rattle.std.specs.Option.{option_map}
 use Rattle.std.specs.List.{list_all}
 use Rattle.world_api.specs.declared.decider.Decider.{Decider}
 use Rattle.deciders.specs.declared.recorded.Rec.{Rec}
-use Rattle.deciders.specs.Records.{IsValid, named_once, name_of, is_by}
+use Rattle.deciders.specs.Records.{named_once, name_of, is_by}
 use Rattle.deciders.specs.Changes as kept
-use Rattle.build_model.specs.Rules.{Path, Tree, Stamps, Rule, Record, Records, Among, Content}
+use Rattle.build_model.specs.Rules.{Path, Tree, Stamps, Rule, Record, Among, Content}
 use Rattle.build_model.specs.Stale.{first_stamp, IsDue, is_always, no_file, no_record, has_changed, HasChanged}
 use Rattle.build_means.specs.Due.{is_due}
 use Rattle.build_means.specs.Laws.{ChangesAreAlike}
@@ -17,8 +17,8 @@ use Rattle.build_means.proofs.Lists.{true_false, none_some, some_same, and_both,
 use Rattle.build_means.proofs.Testing.{due, spared}
 use Rattle.explain_report.specs.declared.reason.Reason.{Reason}
 use Rattle.explain_report.specs.declared.reason.Reason.TheVariants.{Always, Absent, NoRecord, Action, Newly, Gone, Moved, Changed}
-use Rattle.explain_report.specs.Reasons.{Somewhere, IsNew, Differs, Holds}
-use Rattle.explain_report.specs.Laws.{AreRecords, HoldsIn, DueWhereReason}
+use Rattle.explain_report.specs.Reasons.{Differs, Holds}
+use Rattle.explain_report.specs.Laws.{AreRecords, HoldsIn}
 use Rattle.explain_report.proofs.Firsts.{some_first}
 use Rattle.explain_report.proofs.Changing.{by_work, by_newly, by_gone, by_names, by_change, NoneOf, not_changed}
 

@@ -1,5 +1,5 @@
 -- The first item of which something holds, and that there is one.
-use Rattle.std.proofs.Common.{◌≡◌, ℕ, zero, suc, ◌+◌, ◌<◌, List, [], ◌∷◌, Some, refl, sym, subst, ap, ◌∙◌, inl, inr, ◌⊎◌, arith, Any, zip}
+use Rattle.std.proofs.Common.{◌≡◌, ℕ, zero, suc, ◌+◌, List, [], ◌∷◌, Some, refl, sym, subst, ap, ◌∙◌, inl, inr, ◌⊎◌, arith, Any, zip}
 use Rattle.std.specs.Prelude.{slice_get}
 use Rattle.deciders.specs.declared.recorded.Dep.{Dep}
 use Rattle.build_means.proofs.Lists.{none_some, some_same}

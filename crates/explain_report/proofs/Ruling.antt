@@ -1,5 +1,5 @@
 -- The least of the answers for a rule's targets is the reason of the rule.
-use Rattle.std.proofs.Common.{◌≡◌, ℕ, ◌<◌, Bool, true, false, List, [], ◌∷◌, get_or, length, Option, Some, None, refl, sym, subst, ap, ◌∙◌, inl, inr, ◌⊎◌, arith}
+use Rattle.std.proofs.Common.{◌≡◌, ℕ, ◌<◌, Bool, true, false, List, [], ◌∷◌, get_or, length, Option, Some, None, refl, inl, inr, arith}
 use Rattle.std.specs.Prelude.{slice_get, is_some, MatchOption}
 use Rattle.std.proofs.lemmas.Option.{slice_get-get_or, slice_get_within}
 use Rattle.world_api.specs.declared.decider.Decider.{Decider}
@@ -11,7 +11,7 @@ use Rattle.build_means.specs.Laws.{ChangesAreAlike}
 use Rattle.build_means.specs.Records.{record_in, records_in}
 use Rattle.explain_report.specs.declared.reason.Reason.{Reason}
 use Rattle.explain_report.specs.declared.reason.Reason.TheVariants.{Always, Absent, NoRecord, Action, Newly, Gone, Moved, Changed}
-use Rattle.explain_report.specs.Order.{number, place_of}
+use Rattle.explain_report.specs.Order.{place_of}
 use Rattle.explain_report.specs.Reasons.{Holds, IsReason}
 use Rattle.explain_report.specs.Laws.{AreRecords, HoldsIn}
 use Rattle.explain_report.specs.Rules.{IsBefore, IsReasonOfRule, least_of, AreAnswers}
