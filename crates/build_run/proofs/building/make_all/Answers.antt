@@ -40,7 +40,7 @@ returns-clause-makes g c = λ tells sure o ready.
     let lent_account = same.account ∙ passes.account in
     let lent_store = same.store ∙ passes.store in
     let along = first_along m o _ ready c.requires.held c.requires.none in
-    made_given m c.close.new.self o mid.world.now _ _ _ (search rules) (search rules) (search rules) c.close.ensures.world
+    made_given m c.close.new.self o mid.world.now _ _ c.store-1.given.0 (search rules) (search rules) (search rules) c.close.ensures.world
     (λ t s. has_made m o ready.outset mid c.close.new.self.account.now (c.go_on.ensures.on t s o ready.outset along) (c.go_on.ensures.idle t)
     (c.go_on.ensures.still t s o ready.outset along) c.close.ensures.ends c.close.ensures.finishes c.finished_succeed.ensures
     c.go_on.ensures.put c.close.ensures.shut (map_of c.close.new.self.store.now) (ap map_of c.close.ensures.store))
