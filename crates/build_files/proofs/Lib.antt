@@ -5,8 +5,10 @@ mod Growth
 mod Knowing
 pub mod Looking
 pub mod Left
+pub mod Marking
 mod Noting
 mod Places
+pub mod Reading
 mod Presence
 mod RuleAt
 mod Scans

@@ -5,7 +5,9 @@ pub mod Dueness
 pub mod Ends
 pub mod Kept
 pub mod Leftovers
+pub mod Marked
 pub mod Places
 pub mod Presence
+pub mod Reading
 pub mod Searched
 pub mod Seen

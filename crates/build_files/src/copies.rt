@@ -1,6 +1,6 @@
 //! The copy rules of variant directories, added as their paths come up.
 ghost use Rattle.std.specs.List.{list_any};
-ghost use Rattle.std.specs.Prelude.{◌≡◌, ◌<◌, ℕ, List, Some, None, true, length, slice_get, is_some, IfOk, OnOk};
+ghost use Rattle.std.specs.Prelude.{◌≡◌, ◌<◌, ℕ, List, Some, None, true, length, slice_get, is_some, IfOk, OnOk, [], ◌∷◌, ◌++◌, ◌||◌, false, not, filter};
 ghost use Rattle.rule_graph.specs.Rules.{rule_of, IsRule};
 ghost use Rattle.rule_graph.specs.declared.rule.Rule.{Rule as DeclaredRule};
 ghost use Rattle.world_api.specs.Around.{Around};
@@ -8,7 +8,9 @@ ghost use Rattle.build_means.specs.Copies.{copied_from as copied_in};
 ghost use Rattle.build_means.specs.Grown.{Begun};
 ghost use Rattle.build_files.specs.Causes.{HasLookCause, IsQuiet};
 ghost use Rattle.build_files.specs.Copying.{copying};
+ghost use Rattle.build_files.specs.Reading.{ReadsOnly};
 ghost use Rattle.build_files.specs.Kept.{includes_in, past, AreTrue, Gives, IsLeftAlone, IsStill, LooksAt, SameGone, StaysTrue};
+ghost use Rattle.build_files.specs.Marked.{is_among, was_settled, AreAllSought, AreGoneOver, AreGoneOverBut, AreGoneOverFor, AreGoneOverWith, AreNamedSought, IsNamedBy, IsRuleMarked, KeepsMarks, KeepsRules, KeepsSought, Marks, PutsBehind};
 ghost use Rattle.build_files.specs.Searched.{meant, AreNodesOf, GrowsTo};
 ghost use Rattle.world_api.specs.Looks.{Looks};
 
@@ -37,12 +39,14 @@ impl Inputs {
         ensures cause { HasLookCause (W.meaning.counts world.old) (W.meaning.counts world.new) result }
         ensures grows { GrowsTo graph.old graph.new }
         ensures gone { SameGone self.old self.new }
+        ensures only { ReadsOnly (file ∷ []) self.old self.new }
         ensures truth { IsStill graph.old (W.meaning.around world.old) file.0
             → StaysTrue W.meaning graph.old self.old world.old graph.new self.new world.new }
         ensures found { IsStill graph.old (W.meaning.around world.old) file.0 → (x : DeclaredRule) (path : List ℕ)
             → slice_get graph.old.rules rule.0 ≡ Some x → slice_get graph.old.nodes file.0 ≡ Some path
             → Gives W.meaning graph.old self.old world.old world.new result (λ b found. AreNodesOf graph.new
             (meant b x.paths path (includes_in (past self.old.gone.keys (W.meaning.around world.old).tree path))) found) }
+        ensures looked { AreGoneOver graph.old self.old → IfOk result (AreGoneOverFor graph.new self.new rule.0) }
     {
         let found = self.scan(world, graph, rule, file)?;
         self.add_found(world, graph, rule, &found)?;
@@ -62,7 +66,9 @@ impl Inputs {
         ensures cause { HasLookCause (W.meaning.counts world.old) (W.meaning.counts world.new) result }
         ensures grows { GrowsTo graph.old graph.new }
         ensures gone { SameGone self.old self.new }
+        ensures only { ReadsOnly [] self.old self.new }
         ensures truth { StaysTrue W.meaning graph.old self.old world.old graph.new self.new world.new }
+        ensures looked { AreGoneOver graph.old self.old → OnOk result (AreGoneOverFor graph.new self.new rule.0 found.now) }
     {
         if !has_copies(graph) {
             return Ok(());
@@ -83,7 +89,9 @@ impl Inputs {
         ensures cause { HasLookCause (W.meaning.counts world.old) (W.meaning.counts world.new) result }
         ensures grows { GrowsTo graph.old graph.new }
         ensures gone { SameGone self.old self.new }
+        ensures only { ReadsOnly [] self.old self.new }
         ensures truth { StaysTrue W.meaning graph.old self.old world.old graph.new self.new world.new }
+        ensures looked { AreGoneOver graph.old self.old → OnOk result (AreGoneOverWith graph.new self.new nodes.now) }
     {
         if !has_copies(graph) {
             return Ok(());
@@ -105,7 +113,10 @@ impl Inputs {
         ensures cause { HasLookCause (W.meaning.counts world.old) (W.meaning.counts world.new) result }
         ensures grows { GrowsTo graph.old graph.new }
         ensures gone { SameGone self.old self.new }
+        ensures only { ReadsOnly [] self.old self.new }
         ensures truth { StaysTrue W.meaning graph.old self.old world.old graph.new self.new world.new }
+        ensures looked { AreGoneOverBut graph.old self.old rules.old.items → OnOk result (AreGoneOverBut graph.new self.new []) }
+        ensures sought { OnOk result (KeepsSought graph.old self.old graph.new self.new) }
     {
         for place in 0..usize::MAX {
             let Some(rule) = rules.get(place).copied() else {
@@ -129,7 +140,10 @@ impl Inputs {
         ensures cause { HasLookCause (W.meaning.counts world.old) (W.meaning.counts world.new) result }
         ensures grows { GrowsTo graph.old graph.new }
         ensures gone { SameGone self.old self.new }
+        ensures only { ReadsOnly [] self.old self.new }
         ensures truth { StaysTrue W.meaning graph.old self.old world.old graph.new self.new world.new }
+        ensures looked { OnOk result (PutsBehind graph.old self.old graph.new self.new rules.old.items rules.new.items) }
+        ensures named { (of : DeclaredRule) → slice_get graph.old.rules rule.0 ≡ Some of → OnOk result (AreNamedSought graph.new self.new of) }
     {
         let nodes = files_named(self.alloc, rule_at(graph, rule)?)?;
         self.add_each_copy(world, graph, nodes.as_slice(), rules)
@@ -148,7 +162,10 @@ impl Inputs {
         ensures cause { HasLookCause (W.meaning.counts world.old) (W.meaning.counts world.new) result }
         ensures grows { GrowsTo graph.old graph.new }
         ensures gone { SameGone self.old self.new }
+        ensures only { ReadsOnly [] self.old self.new }
         ensures truth { StaysTrue W.meaning graph.old self.old world.old graph.new self.new world.new }
+        ensures looked { OnOk result (PutsBehind graph.old self.old graph.new self.new rules.old.items rules.new.items) }
+        ensures sought { OnOk result (AreAllSought graph.new self.new nodes.now) }
     {
         for node in nodes {
             self.add_copy(world, graph, *node)?;
@@ -164,7 +181,9 @@ impl Inputs {
         node: NodeId,
         rules: &mut Vec<RuleId>,
     ) -> Result<(), Memory>
-        ensures { LooksAt self.old self.new }
+        ensures looks { LooksAt self.old self.new }
+        ensures looked { OnOk result (PutsBehind graph.now self.old graph.now self.new rules.old.items rules.new.items) }
+        ensures marked { OnOk result (IsRuleMarked graph.now self.new node.0) }
     {
         let Some(rule) = graph.rule_of(node) else {
             return Ok(());
@@ -177,7 +196,8 @@ impl Inputs {
 
     /// Notes that a rule was looked at, and says whether it wasn't before.
     fn look_at(&mut self, rule: RuleId) -> Result<bool, Memory>
-        ensures { LooksAt self.old self.new }
+        ensures looks { LooksAt self.old self.new }
+        ensures marks { IfOk result (Marks self.old self.new rule.0) }
     {
         let number = rule.0 as usize;
         for _ in self.looked_at.len()..number.saturating_add(1) {
@@ -204,7 +224,10 @@ impl Inputs {
         ensures cause { HasLookCause (W.meaning.counts world.old) (W.meaning.counts world.new) result }
         ensures grows { GrowsTo graph.old graph.new }
         ensures gone { SameGone self.old self.new }
+        ensures only { ReadsOnly [] self.old self.new }
         ensures truth { StaysTrue W.meaning graph.old self.old world.old graph.new self.new world.new }
+        ensures marks { KeepsMarks graph.old self.old graph.new self.new }
+        ensures settled { OnOk result (rule_of graph.new.rules node.0 ≡ None → was_settled self.new node.0 ≡ true) }
     {
         graph.laws();
         if graph.rule_of(node).is_some() {
@@ -232,6 +255,7 @@ impl Inputs {
             → AreTrue b graph.old self.now (W.meaning.around world.old) → AreTrue b graph.new self.now (W.meaning.around world.new) }
         ensures left { rule_of graph.old.rules node.0 ≡ None
             → Gives W.meaning graph.old self.now world.old world.new result (λ b _. IsLeftAlone b graph.new node.0) }
+        ensures rules { rule_of graph.old.rules node.0 ≡ None → KeepsRules graph.old graph.new node.0 }
     {
         graph.laws();
         match copied_from(world, graph, self.declared, path_of(graph, node)?)? {
@@ -256,6 +280,7 @@ fn add_copy_rule(
         → rule_of graph.old.rules node.0 ≡ None → copied_in b.graph b.tree path ≡ Some source.now
         → AreTrue b graph.old inputs around → AreTrue b graph.new inputs around }
     ensures made { rule_of graph.old.rules node.0 ≡ None → OnOk result (is_some (rule_of graph.new.rules node.0) ≡ true) }
+    ensures rules { rule_of graph.old.rules node.0 ≡ None → KeepsRules graph.old graph.new node.0 }
 {
     graph.laws();
     let source = graph.intern(source)?;
@@ -267,7 +292,10 @@ fn add_copy_rule(
 }
 
 /// The files that a rule doesn't leave out: neither its ignored ones nor its targets.
-fn files_kept(alloc: Global, rule: &Rule, found: &Listing<NodeId>) -> Result<Vec<NodeId>, Memory> {
+fn files_kept(alloc: Global, rule: &Rule, found: &Listing<NodeId>) -> Result<Vec<NodeId>, Memory>
+    ensures { IfOk result (λ kept. (n : NodeId) → is_among found.now n ≡ true → is_among rule.now.ignored n ≡ false
+        → is_among rule.now.targets n ≡ false → is_among kept.items n ≡ true) }
+{
     let mut left_out = IndexSet::new(alloc);
     insert_all(&mut left_out, rule.ignored.as_slice())?;
     insert_all(&mut left_out, rule.targets.as_slice())?;
@@ -277,7 +305,9 @@ fn files_kept(alloc: Global, rule: &Rule, found: &Listing<NodeId>) -> Result<Vec
 }
 
 /// The files that a rule names and that count: all but the ignored ones, and the sources of a copy in any case.
-fn files_named(alloc: Global, rule: &Rule) -> Result<Vec<NodeId>, Memory> {
+fn files_named(alloc: Global, rule: &Rule) -> Result<Vec<NodeId>, Memory>
+    ensures { IfOk result (λ nodes. (n : NodeId) → IsNamedBy rule.now n → is_among nodes.items n ≡ true) }
+{
     let mut nodes = Vec::new(alloc);
     nodes.extend_from_slice(rule.required.as_slice())?;
     let mut ignored = IndexSet::new(alloc);
@@ -291,7 +321,9 @@ fn files_named(alloc: Global, rule: &Rule) -> Result<Vec<NodeId>, Memory> {
     Ok(nodes)
 }
 
-fn insert_all(set: &mut IndexSet<NodeId>, nodes: &[NodeId]) -> Result<(), Memory> {
+fn insert_all(set: &mut IndexSet<NodeId>, nodes: &[NodeId]) -> Result<(), Memory>
+    ensures { OnOk result ((n : NodeId) → is_among set.new.keys n ≡ (is_among set.old.keys n || is_among nodes.now n)) }
+{
     for node in nodes {
         let _ = set.insert(*node)?;
     }
@@ -314,7 +346,9 @@ fn add_kept(
     nodes: &mut Vec<NodeId>,
     named: &Listing<NodeId>,
     ignored: &IndexSet<NodeId>,
-) -> Result<(), Memory> {
+) -> Result<(), Memory>
+    ensures { OnOk result (nodes.new.items ≡ nodes.old.items ++ filter (λ n. not (is_among ignored.now.keys n)) named.now) }
+{
     for node in named.as_slice() {
         if !ignored.contains(node) {
             nodes.push(*node)?;

@@ -1,10 +1,13 @@
 //! The files that a file includes.
-ghost use Rattle.std.specs.Prelude.{◌≡◌, ℕ, List, [], ◌∷◌, ◌++◌, Some, IfOk, IfSome, OnOk, is_some, slice_get, true};
+ghost use Rattle.std.specs.Prelude.{◌≡◌, ℕ, List, [], ◌∷◌, ◌++◌, None, Some, IfOk, IfSome, OnOk, is_some, slice_get, true};
 ghost use Rattle.std.specs.Option.{option_to_list};
+ghost use Rattle.indexmap.specs.IndexMap.{get};
 ghost use Rattle.rule_graph.specs.declared.rule.Rule.{Rule as DeclaredRule};
 ghost use Rattle.rule_graph.specs.Graphs.{RuleGraph};
 ghost use Rattle.build_files.specs.Causes.{HasLookCause, IsQuiet};
-ghost use Rattle.build_files.specs.Kept.{dirs_at, includes_in, past, AreFound, AreTrue, Gives, IsFoundFor, IsStill, SameGone, StaysTrue};
+ghost use Rattle.build_files.specs.Reading.{ReadsOnly};
+ghost use Rattle.build_files.specs.Kept.{dirs_at, includes_in, past, same_scan, AreFound, AreTrue, Gives, IsFoundFor, IsStill, SameGone, StaysTrue};
+ghost use Rattle.build_files.specs.Marked.{KeepsMarks};
 ghost use Rattle.build_files.specs.Places.{ArePlaces};
 ghost use Rattle.build_files.specs.Searched.{first_known, meant, AreDirs, AreNodesOf, HasMore, IsNodeOf};
 ghost use Rattle.build_files.specs.Seen.{seen_at};
@@ -45,7 +48,8 @@ pub(crate) struct Found {
 
 impl Found {
     pub(crate) fn new(alloc: Global) -> Found
-        ensures { (b : Begun) (g : RuleGraph) (gone : List (List ℕ)) (around : Around) → AreFound b g gone around result }
+        ensures truth { (b : Begun) (g : RuleGraph) (gone : List (List ℕ)) (around : Around) → AreFound b g gone around result }
+        ensures unscanned { (scan : Scan) → get same_scan result.files scan ≡ None }
     {
         let lists = IndexSet::new(alloc);
         let files = IndexMap::new(alloc);
@@ -92,12 +96,14 @@ impl Inputs {
         ensures cause { HasLookCause (W.meaning.counts world.old) (W.meaning.counts world.new) result }
         ensures grows { HasMore graph.old graph.new }
         ensures gone { SameGone self.old self.new }
+        ensures only { ReadsOnly (file ∷ []) self.old self.new }
         ensures truth { IsStill graph.old (W.meaning.around world.old) file.0
             → StaysTrue W.meaning graph.old self.old world.old graph.new self.new world.new }
         ensures found { IsStill graph.old (W.meaning.around world.old) file.0 → (x : DeclaredRule) (path : List ℕ)
             → slice_get graph.old.rules rule.0 ≡ Some x → slice_get graph.old.nodes file.0 ≡ Some path
             → Gives W.meaning graph.old self.old world.old world.new result (λ b found. AreNodesOf graph.new
             (meant b x.paths path (includes_in (past self.old.gone.keys (W.meaning.around world.old).tree path))) found) }
+        ensures marks { KeepsMarks graph.old self.old graph.new self.new }
     {
         if let Some(found) = self.found_before(graph, rule, file)? {
             return Ok(found);
@@ -116,11 +122,13 @@ impl Inputs {
     ) -> Result<Option<Listing<NodeId>>, ListEnd>
         ensures quiet { IsQuiet result }
         ensures gone { SameGone self.old self.new }
+        ensures only { ReadsOnly [] self.old self.new }
         ensures truth { (b : Begun) (around : Around) → AreTrue b graph.now self.old around → AreTrue b graph.now self.new around }
         ensures found { (b : Begun) (around : Around) (x : DeclaredRule) (path : List ℕ) → slice_get graph.now.rules rule.0 ≡ Some x
             → slice_get graph.now.nodes file.0 ≡ Some path → AreTrue b graph.now self.old around
             → IfOk result (λ found. IfSome found (AreNodesOf graph.now
             (meant b x.paths path (includes_in (past self.old.gone.keys around.tree path))))) }
+        ensures marks { KeepsMarks graph.now self.old graph.now self.new }
     {
         let dirs = self.found.list_of(rule, rule_at(graph, rule)?)?;
         match self.found.files.get(&Scan { file, dirs }) {
@@ -140,9 +148,11 @@ impl Inputs {
     ) -> Result<Listing<NodeId>, ListEnd>
         ensures quiet { IsQuiet result }
         ensures gone { SameGone self.old self.new }
+        ensures only { ReadsOnly (file ∷ []) self.old self.new }
         ensures truth { (b : Begun) (around : Around) → IsFoundFor b graph.now self.old around rule.0 file.0 found.items
             → AreTrue b graph.now self.old around → AreTrue b graph.now self.new around }
         ensures same { IfOk result (λ kept. kept ≡ found.items) }
+        ensures marks { KeepsMarks graph.now self.old graph.now self.new }
     {
         let copy = Vec::from_slice(self.alloc, found.as_slice())?;
         let dirs = self.found.list_of(rule, rule_at(graph, rule)?)?;
@@ -163,6 +173,7 @@ impl Inputs {
         ensures cause { HasLookCause (W.meaning.counts world.old) (W.meaning.counts world.new) result }
         ensures grows { HasMore graph.old graph.new }
         ensures gone { SameGone self.old self.new }
+        ensures only { ReadsOnly (file ∷ []) self.old self.new }
         ensures truth { IsStill graph.old (W.meaning.around world.old) file.0
             → StaysTrue W.meaning graph.old self.old world.old graph.new self.new world.new }
         ensures found { IsStill graph.old (W.meaning.around world.old) file.0 → (x : DeclaredRule) (path : List ℕ)
@@ -170,6 +181,7 @@ impl Inputs {
             → Gives W.meaning graph.old self.old world.old world.new result (λ b found. AreNodesOf graph.new
             (meant b x.paths path (includes_in (past self.old.gone.keys (W.meaning.around world.old).tree path))) found.items) }
         ensures known { OnOk result (is_some (slice_get graph.old.nodes file.0) ≡ true) }
+        ensures marks { KeepsMarks graph.old self.old graph.new self.new }
     {
         self.read_once(world, graph, file)?;
         let paths = rule_at(graph, rule)?.paths.as_slice();
@@ -193,9 +205,11 @@ impl Inputs {
         ensures looks { Looks W.meaning world.old world.new }
         ensures cause { HasLookCause (W.meaning.counts world.old) (W.meaning.counts world.new) result }
         ensures gone { SameGone self.old self.new }
+        ensures only { ReadsOnly (file ∷ []) self.old self.new }
         ensures truth { IsStill graph.now (W.meaning.around world.old) file.0
             → StaysTrue W.meaning graph.now self.old world.old graph.now self.new world.new }
         ensures kept { OnOk result (is_some (seen_at self.new.files.seen.items file.0).includes ≡ true) }
+        ensures marks { KeepsMarks graph.now self.old graph.now self.new }
     {
         if self.files.has_includes(file) {
             return Ok(());
@@ -217,10 +231,12 @@ impl Inputs {
         ensures cause { HasLookCause (W.meaning.counts world.old) (W.meaning.counts world.new) result }
         ensures grows { HasMore graph.old graph.new }
         ensures gone { SameGone self.old self.new }
+        ensures only { ReadsOnly [] self.old self.new }
         ensures truth { StaysTrue W.meaning graph.old self.old world.old graph.new self.new world.new }
         ensures found { (paths : List (List ℕ)) (file : List ℕ) → AreDirs dirs.now paths file
             → Gives W.meaning graph.old self.old world.old world.new result
             (λ b found. AreNodesOf graph.new (meant b paths file includes.now) found.items) }
+        ensures marks { KeepsMarks graph.old self.old graph.new self.new }
     {
         let mut found = Vec::new(self.alloc);
         for include in includes {
@@ -243,10 +259,12 @@ impl Inputs {
         ensures cause { HasLookCause (W.meaning.counts world.old) (W.meaning.counts world.new) result }
         ensures grows { HasMore graph.old graph.new }
         ensures gone { SameGone self.old self.new }
+        ensures only { ReadsOnly [] self.old self.new }
         ensures truth { StaysTrue W.meaning graph.old self.old world.old graph.new self.new world.new }
         ensures found { (paths : List (List ℕ)) (file : List ℕ) → AreDirs dirs.now paths file
             → Gives W.meaning graph.old self.old world.old world.new result
             (λ b node. IsNodeOf graph.new (found_for b.graph b.tree paths file include.now) node) }
+        ensures marks { KeepsMarks graph.old self.old graph.new self.new }
     {
         let Ok(name) = str::from_utf8(include.name.as_slice()) else {
             return Ok(None);
@@ -273,9 +291,11 @@ impl Inputs {
         ensures cause { HasLookCause (W.meaning.counts world.old) (W.meaning.counts world.new) result }
         ensures grows { HasMore graph.old graph.new }
         ensures gone { SameGone self.old self.new }
+        ensures only { ReadsOnly [] self.old self.new }
         ensures truth { StaysTrue W.meaning graph.old self.old world.old graph.new self.new world.new }
         ensures found { Gives W.meaning graph.old self.old world.old world.new result
             (λ b node. IsNodeOf graph.new (first_known b (places_in b.graph name.now dir.now)) node) }
+        ensures marks { KeepsMarks graph.old self.old graph.new self.new }
     {
         if !graph.variants().as_slice().is_empty() {
             return self.search_places(world, graph, dir, name);
@@ -299,9 +319,11 @@ impl Inputs {
         ensures cause { HasLookCause (W.meaning.counts world.old) (W.meaning.counts world.new) result }
         ensures grows { HasMore graph.old graph.new }
         ensures gone { SameGone self.old self.new }
+        ensures only { ReadsOnly [] self.old self.new }
         ensures truth { StaysTrue W.meaning graph.old self.old world.old graph.new self.new world.new }
         ensures found { Gives W.meaning graph.old self.old world.old world.new result
             (λ b node. IsNodeOf graph.new (first_known b (places_in b.graph name.now dir.now)) node) }
+        ensures marks { KeepsMarks graph.old self.old graph.new self.new }
     {
         let places = places(self.alloc, graph, dir, name)?;
         for path in places.as_slice() {

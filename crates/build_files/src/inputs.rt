@@ -1,14 +1,18 @@
 //! The files of a build.
-ghost use Rattle.std.specs.Prelude.{◌≡◌, ℕ, List, [], Some, IfOk, OnOk, is_some, slice_get, true};
+ghost use Rattle.std.specs.Prelude.{◌≡◌, ℕ, List, [], None, Some, IfOk, OnOk, is_some, slice_get, true, ◌∷◌, false};
 ghost use Rattle.std.specs.List.{list_any};
 ghost use Rattle.std.specs.Option.{option_map};
 ghost use Rattle.std.specs.Str.{bytes_eq};
+ghost use Rattle.indexmap.specs.IndexMap.{get};
 ghost use Rattle.deciders.specs.Digests.{digest_of as digest_for};
 ghost use Rattle.build_files.specs.Beginnings.{Begins};
 ghost use Rattle.build_files.specs.Causes.{HasLookCause};
-ghost use Rattle.build_files.specs.Kept.{past, stamp_past as stamp_for, AreTrue, IsStill, IsUnmade, StaysTrue, SameGone, KeepsContent};
+ghost use Rattle.build_files.specs.Reading.{ReadsOnly};
+ghost use Rattle.build_files.specs.Kept.{past, same_scan, stamp_past as stamp_for, AreTrue, IsStill, IsUnmade, IsUnread, StaysTrue, SameGone, KeepsContent};
 ghost use Rattle.build_files.specs.Leftovers.{stands};
+ghost use Rattle.build_files.specs.Marked.{is_marked, KeepsMarks};
 ghost use Rattle.build_files.specs.Seen.{seen_at};
+ghost use Rattle.build_files.specs.declared.includes.Scan.{Scan};
 ghost use Rattle.build_means.specs.Grown.{Begun};
 ghost use Rattle.world_api.specs.Around.{Around};
 ghost use Rattle.world_api.specs.Looks.{Looks};
@@ -50,6 +54,10 @@ impl Inputs {
     /// The files of a build over a graph in which all rules are declared ones.
     pub fn new(alloc: Global, hash: Hash, graph: &Graph) -> Inputs
         ensures truth { (b : Begun) (around : Around) → Begins b graph.now hash [] around → AreTrue b graph.now result around }
+        ensures unread { (node : ℕ) → IsUnread (seen_at result.files.seen.items node) }
+        ensures unscanned { (scan : Scan) → get same_scan result.found.files scan ≡ None }
+        ensures unmarked { (number : ℕ) → is_marked result number ≡ false }
+        ensures gone { result.gone.keys ≡ [] }
     {
         let gone = IndexSet::new(alloc);
         Inputs::past(alloc, hash, graph, gone)
@@ -58,6 +66,10 @@ impl Inputs {
     /// The files of a build that looks past these.
     pub fn past(alloc: Global, hash: Hash, graph: &Graph, gone: IndexSet<PathText>) -> Inputs
         ensures truth { (b : Begun) (around : Around) → Begins b graph.now hash gone.keys around → AreTrue b graph.now result around }
+        ensures unread { (node : ℕ) → IsUnread (seen_at result.files.seen.items node) }
+        ensures unscanned { (scan : Scan) → get same_scan result.found.files scan ≡ None }
+        ensures unmarked { (number : ℕ) → is_marked result number ≡ false }
+        ensures gone { result.gone.keys ≡ gone.keys }
     {
         let files = SeenFiles::new(alloc);
         let unknown = IndexSet::new(alloc);
@@ -85,10 +97,12 @@ impl Inputs {
         ensures looks { Looks W.meaning world.old world.new }
         ensures cause { HasLookCause (W.meaning.counts world.old) (W.meaning.counts world.new) result }
         ensures gone { SameGone self.old self.new }
+        ensures only { ReadsOnly [] self.old self.new }
         ensures truth { IsUnmade graph.now node.0 → StaysTrue W.meaning graph.now self.old world.old graph.now self.new world.new }
         ensures file { W.meaning.tells world.new → (b : Begun) (path : List ℕ) → slice_get graph.now.nodes node.0 ≡ Some path
             → IsUnmade graph.now node.0 → AreTrue b graph.now self.old (W.meaning.around world.old)
             → IfOk result (λ is. is ≡ is_some (b.tree path)) }
+        ensures marks { KeepsMarks graph.now self.old graph.now self.new }
     {
         if let Some(is_file) = self.files.is_file(node) {
             return Ok(is_file);
@@ -129,11 +143,13 @@ impl Inputs {
         ensures looks { Looks W.meaning world.old world.new }
         ensures cause { HasLookCause (W.meaning.counts world.old) (W.meaning.counts world.new) result }
         ensures gone { SameGone self.old self.new }
+        ensures only { ReadsOnly (node ∷ []) self.old self.new }
         ensures truth { IsStill graph.now (W.meaning.around world.old) node.0
             → StaysTrue W.meaning graph.now self.old world.old graph.now self.new world.new }
         ensures digest { W.meaning.tells world.new → (b : Begun) (path : List ℕ) → slice_get graph.now.nodes node.0 ≡ Some path
             → AreTrue b graph.now self.old (W.meaning.around world.old) → IfOk result
             (λ digest. digest ≡ option_map (digest_for b.hash) (past self.old.gone.keys (W.meaning.around world.new).tree path)) }
+        ensures marks { KeepsMarks graph.now self.old graph.now self.new }
     {
         match self.files.digest(node) {
             Some(digest) => Ok(digest),
@@ -152,11 +168,13 @@ impl Inputs {
         ensures looks { Looks W.meaning world.old world.new }
         ensures cause { HasLookCause (W.meaning.counts world.old) (W.meaning.counts world.new) result }
         ensures gone { SameGone self.old self.new }
+        ensures only { ReadsOnly (node ∷ []) self.old self.new }
         ensures truth { IsStill graph.now (W.meaning.around world.old) node.0
             → StaysTrue W.meaning graph.now self.old world.old graph.now self.new world.new }
         ensures stamp { W.meaning.tells world.new → (b : Begun) (path : List ℕ) → slice_get graph.now.nodes node.0 ≡ Some path
             → AreTrue b graph.now self.old (W.meaning.around world.old) → IfOk result
             (λ time. time ≡ stamp_for self.old.gone.keys (W.meaning.around world.new) path) }
+        ensures marks { KeepsMarks graph.now self.old graph.now self.new }
     {
         if let Some(stamp) = self.files.stamp(node) {
             return Ok(stamp);
@@ -192,11 +210,13 @@ impl Inputs {
         ensures looks { Looks W.meaning world.old world.new }
         ensures cause { HasLookCause (W.meaning.counts world.old) (W.meaning.counts world.new) result }
         ensures gone { SameGone self.old self.new }
+        ensures only { ReadsOnly (node ∷ []) self.old self.new }
         ensures truth { IsStill graph.now (W.meaning.around world.old) node.0
             → StaysTrue W.meaning graph.now self.old world.old graph.now self.new world.new }
         ensures digest { W.meaning.tells world.new → (path : List ℕ) → slice_get graph.now.nodes node.0 ≡ Some path → IfOk result
             (λ digest. digest ≡ option_map (digest_for self.old.hash) (past self.old.gone.keys (W.meaning.around world.new).tree path)) }
         ensures scanned { is_scanned ≡ true → OnOk result (is_some (seen_at self.new.files.seen.items node.0).includes ≡ true) }
+        ensures marks { KeepsMarks graph.now self.old graph.now self.new }
     {
         let path = path_of(graph, node)?;
         let content = self.content(world, path)?;

@@ -1,9 +1,11 @@
 //! Which paths are known: those that a rule makes, and those at which a file stands.
-ghost use Rattle.std.specs.Prelude.{◌≡◌, ℕ, List, Some, None, true, IfOk, IfSome, is_some, slice_get};
+ghost use Rattle.std.specs.Prelude.{◌≡◌, ℕ, List, Some, None, true, IfOk, IfSome, is_some, slice_get, [], ◌∷◌};
 ghost use Rattle.node_tree.specs.Nodes.{number_of};
 ghost use Rattle.world_api.specs.Around.{Around};
 ghost use Rattle.build_files.specs.Causes.{HasLookCause, IsQuiet};
+ghost use Rattle.build_files.specs.Reading.{ReadsOnly};
 ghost use Rattle.build_files.specs.Kept.{AreTrue, IsKnownAs, SameGone, StaysTrue};
+ghost use Rattle.build_files.specs.Marked.{KeepsMarks};
 ghost use Rattle.build_files.specs.Searched.{HasMore};
 ghost use Rattle.build_files.specs.Leftovers.{is_made, is_declared, is_copied, copied_from};
 ghost use Rattle.build_means.specs.Copies.{copied_from as copied_in, is_known};
@@ -30,9 +32,11 @@ impl Inputs {
         ensures cause { HasLookCause (W.meaning.counts world.old) (W.meaning.counts world.new) result }
         ensures grows { HasMore graph.old graph.new }
         ensures gone { SameGone self.old self.new }
+        ensures only { ReadsOnly [] self.old self.new }
         ensures truth { StaysTrue W.meaning graph.old self.old world.old graph.new self.new world.new }
         ensures known { W.meaning.tells world.new → (b : Begun) → AreTrue b graph.old self.old (W.meaning.around world.old)
             → IfOk result (IsKnownAs b graph.new path.now) }
+        ensures marks { KeepsMarks graph.old self.old graph.new self.new }
     {
         let Some(node) = graph.find(path) else {
             return self.newly_known(world, graph, path);
@@ -55,9 +59,11 @@ impl Inputs {
         ensures looks { Looks W.meaning world.old world.new }
         ensures cause { HasLookCause (W.meaning.counts world.old) (W.meaning.counts world.new) result }
         ensures gone { SameGone self.old self.new }
+        ensures only { ReadsOnly [] self.old self.new }
         ensures truth { StaysTrue W.meaning graph.now self.old world.old graph.now self.new world.new }
         ensures known { W.meaning.tells world.new → (b : Begun) (path : List ℕ) → slice_get graph.now.nodes node.0 ≡ Some path
             → AreTrue b graph.now self.old (W.meaning.around world.old) → IfOk result (λ is. is ≡ is_known b.graph b.tree path) }
+        ensures marks { KeepsMarks graph.now self.old graph.now self.new }
     {
         graph.laws();
         if graph.rule_of(node).is_some() {
@@ -81,10 +87,12 @@ impl Inputs {
         ensures cause { HasLookCause (W.meaning.counts world.old) (W.meaning.counts world.new) result }
         ensures grows { HasMore graph.old graph.new }
         ensures gone { SameGone self.old self.new }
+        ensures only { ReadsOnly [] self.old self.new }
         ensures truth { number_of graph.old.nodes path.now ≡ None
             → StaysTrue W.meaning graph.old self.old world.old graph.new self.new world.new }
         ensures known { number_of graph.old.nodes path.now ≡ None → W.meaning.tells world.new → (b : Begun)
             → AreTrue b graph.old self.old (W.meaning.around world.old) → IfOk result (IsKnownAs b graph.new path.now) }
+        ensures marks { KeepsMarks graph.old self.old graph.new self.new }
     {
         if self.unknown.contains(path) {
             return Ok(None);
@@ -128,11 +136,13 @@ impl Inputs {
         ensures quiet { IsQuiet result }
         ensures grows { HasMore graph.old graph.new }
         ensures gone { SameGone self.old self.new }
+        ensures only { ReadsOnly [] self.old self.new }
         ensures truth { (b : Begun) (around : Around) → number_of graph.old.nodes path.now ≡ None → is_file ≡ is_some (b.tree path.now)
             → AreTrue b graph.old self.old around → AreTrue b graph.new self.new around }
         ensures node { number_of graph.old.nodes path.now ≡ None
             → IfOk result (λ node. IfSome node (λ n. slice_get graph.new.nodes n.0 ≡ Some path.now)) }
         ensures some { IfOk result (λ node. is_some node ≡ true) }
+        ensures marks { KeepsMarks graph.old self.old graph.new self.new }
     {
         graph.laws();
         let node = graph.intern(path)?;

@@ -1,5 +1,5 @@
 //! What a rule's record would be now, and whether the rule is stale.
-ghost use Rattle.std.specs.Prelude.{◌≡◌, ℕ, List, Some, IfOk, not, option_copied, slice_get};
+ghost use Rattle.std.specs.Prelude.{◌≡◌, ℕ, List, Some, IfOk, not, option_copied, slice_get, [], ◌∷◌};
 ghost use Rattle.rule_graph.specs.Graphs.{path_of as path_in};
 ghost use Rattle.build_model.specs.Records.{stamp_kept};
 ghost use Rattle.build_model.specs.Rules.{Rule as ModelRule};
@@ -10,7 +10,9 @@ ghost use Rattle.build_means.specs.Present.{IsSeenDep};
 ghost use Rattle.build_means.specs.Rules.{decider_of, paths_of as paths_in};
 ghost use Rattle.build_files.specs.Causes.{HasLookCause};
 ghost use Rattle.build_files.specs.Dueness.{made_by, AreIdle, FindsDue, HaveOwnDigests};
+ghost use Rattle.build_files.specs.Reading.{ReadsOnly};
 ghost use Rattle.build_files.specs.Kept.{past, stamp_past, Gives, IsStill, SameGone, StaysTrue};
+ghost use Rattle.build_files.specs.Marked.{KeepsMarks};
 ghost use Rattle.build_files.specs.Presence.{is_lacking, AreStill, IsPresentFor};
 ghost use Rattle.sign_store.specs.Copies.{AreCopiesOf};
 ghost use Rattle.sign_store.specs.Stores.{map_of, map_of_view};
@@ -86,10 +88,12 @@ impl Inputs {
         ensures looks { Looks W.meaning world.old world.new }
         ensures cause { HasLookCause (W.meaning.counts world.old) (W.meaning.counts world.new) result }
         ensures gone { SameGone self.old self.new }
+        ensures only { ReadsOnly nodes.now self.old self.new }
         ensures truth { AreStill graph.now (W.meaning.around world.old) nodes.now
             → StaysTrue W.meaning graph.now self.old world.old graph.now self.new world.new }
         ensures present { AreStill graph.now (W.meaning.around world.old) nodes.now → Gives W.meaning graph.now self.old world.old world.new result
             (IsPresentFor graph.now rule.0 nodes.now self.old.gone.keys (W.meaning.around world.old)) }
+        ensures marks { KeepsMarks graph.now self.old graph.now self.new }
     {
         graph.laws();
         let mut deps = Vec::with_capacity(self.alloc, nodes.len())?;
@@ -120,6 +124,7 @@ impl Inputs {
         ensures looks { Looks W.meaning world.old world.new }
         ensures cause { HasLookCause (W.meaning.counts world.old) (W.meaning.counts world.new) result }
         ensures gone { SameGone self.old self.new }
+        ensures only { ReadsOnly (node ∷ []) self.old self.new }
         ensures truth { IsStill graph.now (W.meaning.around world.old) node.0
             → StaysTrue W.meaning graph.now self.old world.old graph.now self.new world.new }
         ensures dep { IsStill graph.now (W.meaning.around world.old) node.0
@@ -127,6 +132,7 @@ impl Inputs {
             → r.decider ≡ decider_of decider → IsSeenDep b r (past self.old.gone.keys (W.meaning.around world.old).tree)
             (stamp_past self.old.gone.keys (W.meaning.around world.old)) (path_in graph.now.nodes node) dep) }
         ensures node { IfOk result (λ dep. slice_get graph.now.nodes node.0 ≡ Some dep.name) }
+        ensures marks { KeepsMarks graph.now self.old graph.now self.new }
     {
         let digest = self.digest(world, graph, node)?;
         let stamp = self.stamp_for(world, graph, decider, node)?;
@@ -149,11 +155,13 @@ impl Inputs {
         ensures looks { Looks W.meaning world.old world.new }
         ensures cause { HasLookCause (W.meaning.counts world.old) (W.meaning.counts world.new) result }
         ensures gone { SameGone self.old self.new }
+        ensures only { ReadsOnly (node ∷ []) self.old self.new }
         ensures truth { IsStill graph.now (W.meaning.around world.old) node.0
             → StaysTrue W.meaning graph.now self.old world.old graph.now self.new world.new }
         ensures stamp { (path : List ℕ) → slice_get graph.now.nodes node.0 ≡ Some path
             → Gives W.meaning graph.now self.old world.old world.new result
             (λ b time. time ≡ stamp_kept (decider_of decider) (stamp_past self.old.gone.keys (W.meaning.around world.new) path)) }
+        ensures marks { KeepsMarks graph.now self.old graph.now self.new }
     {
         match decider {
             Decider::Content => Ok(None),

@@ -1,5 +1,5 @@
 -- What follows from the steps of a build over a world.
-use Rattle.std.proofs.Common.{◌≡◌, ℕ, List, ◌∷◌, ◌++◌, sym, subst, inl, inr, ◌⊎◌}
+use Rattle.std.proofs.Common.{◌≡◌, ℕ, List, ◌∷◌, ◌++◌, refl, sym, subst, inl, inr, ◌⊎◌}
 use Rattle.world_api.specs.Around.{Around, Started}
 use Rattle.world_api.specs.declared.job.Job.{Job}
 use Rattle.world_api.specs.Counts.{Counts}
@@ -13,7 +13,7 @@ use Rattle.build_model.specs.Resting.{RestsRightly, KeepsGoing}
 use Rattle.build_model.specs.Waiting.{BusyAtEachEnding}
 use Rattle.build_model.specs.Steps.{Step, Fresh, Began, began, IsRun}
 use Rattle.build_means.specs.Rules.{IsReading}
-use Rattle.build_means.specs.Builds.{Wanted, Kept, Runs, IsByContent, IsJobIn, graph_in, setting_in, build_in}
+use Rattle.build_means.specs.Builds.{Wanted, Kept, Runs, Succeeded, IsByContent, IsJobIn, graph_in, setting_in, build_in}
 use Rattle.build_means.specs.Laws.{SettledSucceed, RunsAreRight, RestsAreRight, RecordsStayTrue, LogsAreInOrder, SucceededHaveJobs, CoursesAreSeen, GoingOnIsRight, EndingsAreBusy}
 use Rattle.build_means.specs.Logs.{AreUnrisen, HasStarted, EndedWell}
 use Rattle.build_means.specs.Records.{records_in}
@@ -38,14 +38,16 @@ module _ (w : Wanted) (kept : Kept) (counts : Counts) (before after : Around) (r
   }
 
 pub succeeds : HoldsForAnyDecider → IncrementalIsClean → SettledSucceed
-succeeds any_decider incremental_is_clean w kept counts before after reading runs settled waits = record {
-  runs = runs;
-  waits = waits;
-  due = any_decider (setting_in w before) (build_in w kept before after) runs.steps (is_build w kept counts before after reading runs)
-      (λ r needed. is_tested w kept counts before after reading runs r) settled;
-  built = λ by. incremental_is_clean (graph_in w before) (build_in w kept before after) runs.steps
-      (by_content w kept counts before after reading runs by) settled;
-}
+succeeds any_decider incremental_is_clean w kept counts before after reading runs settled waits =
+    let succeeded : Succeeded w kept counts before after = record {
+      runs = runs;
+      waits = waits;
+      due = any_decider (setting_in w before) (build_in w kept before after) runs.steps (is_build w kept counts before after reading runs)
+          (λ r needed. is_tested w kept counts before after reading runs r) settled;
+      built = λ by. incremental_is_clean (graph_in w before) (build_in w kept before after) runs.steps
+          (by_content w kept counts before after reading runs by) settled;
+    } in
+    (succeeded, refl)
 
 pub are_right : EachStepIsClean → HighEnough → RunsAreRight
 are_right each_step high_enough w kept counts before after reading runs by =

@@ -65,11 +65,12 @@ CoursesAreSeen = (w : Wanted) (kept : Kept) (before after : Around) (jobs : List
     IsCourse (setting_in w before) (build_in w kept before after) jobs after.tree (stamp_of after) steps →
     IsSeenSo (setting_in w before) (build_in w kept before after) after.tree (stamp_of after) steps
 
--- A build at whose end every rule that makes what is requested is settled, and that waited rightly, succeeded.
+-- A build at whose end every rule that makes what is requested is settled, and that waited rightly, succeeded by what it did.
 abbrev pub SettledSucceed : Type 0
 SettledSucceed = (w : Wanted) (kept : Kept) (counts : Counts) (before after : Around) → IsReading w.graph →
     (runs : Runs w kept counts before after) → AllSettled w kept before after runs.steps →
-    WaitsRightly (setting_in w before) (build_in w kept before after) runs.steps → Succeeded w kept counts before after
+    WaitsRightly (setting_in w before) (build_in w kept before after) runs.steps →
+    (succeeded : Succeeded w kept counts before after) × (succeeded.runs ≡ runs)
 
 -- At any status each step of a build by content is right by the clean build.
 abbrev pub RunsAreRight : Type 0

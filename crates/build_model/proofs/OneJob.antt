@@ -19,10 +19,10 @@ use Rattle.build_model.proofs.Ordering.{path_rule, rule_from, in_order_needs, ne
 use Rattle.build_model.proofs.Alike.{Waits, needs_alike}
 
 -- the rules whose action runs
-record AllRunning (past : List Step) : Type 0 where
-  rules : List Rule
-  counts : length rules ≡ running past
-  all : (r : Rule) → IsRunning past r → Among r rules
+pub record AllRunning (past : List Step) : Type 0 where
+  pub rules : List Rule
+  pub counts : length rules ≡ running past
+  pub all : (r : Rule) → IsRunning past r → Among r rules
 
 same_running : {past : List Step} {step : Step} → AllRunning past → running past ≡ running (step ∷ past) →
     ((r : Rule) → IsRunning (step ∷ past) r → IsRunning past r) → AllRunning (step ∷ past)
@@ -41,7 +41,7 @@ other_than {x} {r} {l = l} out (inl e) = absurd (out (subst (λ y. Among r (y �
 other_than out (inr m) = m
 
 module _ (s : Setting) (b : Build) where
-  all_running : (past : List Step) → IsRun s b past → AllRunning past
+  pub all_running : (past : List Step) → IsRun s b past → AllRunning past
   all_running [] run = record { rules = []; counts = refl; all = λ r h. elim h.began [ ] }
   all_running (Fresh x ∷ past) run =
       same_running (all_running past run.1) refl (λ r h. record { began = h.began; not_done = λ m. h.not_done (there m) })

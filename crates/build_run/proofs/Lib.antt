@@ -1,3 +1,6 @@
+mod Settling
+mod Scanning
+mod Alongs
 mod Clearing
 pub mod Holding
 pub mod Goings
@@ -6,3 +9,12 @@ pub mod Outs
 pub mod Sites
 pub mod Taking
 mod Lending
+mod Telling
+mod EndingOn
+mod Starting
+mod Choosing
+mod Presenting
+mod Leaving
+mod Outsetting
+mod Finishing
+mod Builds

@@ -311,7 +311,7 @@ stored_withdrawn m old new store after held busies rec ticket shut is_open live 
 
 -- ---- the map with the held records
 
-not_among : (paths : List (List ℕ)) (path : List ℕ) → (Contains paths path → ⊥) → is_among paths path ≡ false
+pub not_among : (paths : List (List ℕ)) (path : List ℕ) → (Contains paths path → ⊥) → is_among paths path ≡ false
 not_among paths path not = by (is_among paths path) refl
   where
     by : (b : Bool) → is_among paths path ≡ b → is_among paths path ≡ false

@@ -1,8 +1,10 @@
+pub mod Along
 pub mod Causes
 pub mod Goings
 pub mod Holds
 pub mod Ledgers
 pub mod Outs
+pub mod Outsets
 pub mod Sites
 pub mod Takes
 pub mod Withdrawals

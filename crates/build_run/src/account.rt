@@ -24,11 +24,13 @@ pub(crate) struct Account {
 }
 
 impl Account {
-    ghost use Rattle.std.specs.Prelude.{◌≡◌};
+    ghost use Rattle.std.specs.Prelude.{◌≡◌, true, false};
+    ghost use Rattle.build_run.specs.Along.{is_faulted, IsEnd, KeepsEnds};
     ghost use Rattle.build_run.specs.Ledgers.{ledger_of, blank, wanting, with_fault, with_end, Keeps, Reports};
 
     pub(crate) fn new(alloc: Global) -> Account
-        ensures { ledger_of result ≡ blank }
+        ensures ledger { ledger_of result ≡ blank }
+        ensures ended { result.is_ended ≡ false }
     {
         Account {
             faults: Vec::new(alloc),
@@ -45,7 +47,9 @@ impl Account {
 
     /// Nothing new starts any more.
     pub(crate) fn end<E: Sink>(&mut self, err: &mut E, end: ListEnd)
-        ensures { Reports E.meaning err.old self.old (with_end (ledger_of self.old) end) err.new self.new }
+        ensures reports { Reports E.meaning err.old self.old (with_end (ledger_of self.old) end) err.new self.new }
+        ensures ends { IsEnd self.new }
+        ensures memory { end ≡ ListEnd.Memory → self.new.memory ≡ true }
     {
         self.is_ended = true;
         match end {
@@ -62,7 +66,10 @@ impl Account {
         fault: BuildFault,
         goes_on: bool,
     )
-        ensures { Reports E.meaning err.old self.old (with_fault (ledger_of self.old) fault) err.new self.new }
+        ensures reports { Reports E.meaning err.old self.old (with_fault (ledger_of self.old) fault) err.new self.new }
+        ensures ends { KeepsEnds self.old self.new }
+        ensures faulted { is_faulted self.new ≡ true }
+        ensures goes { self.new.is_ended ≡ false → goes_on ≡ true }
     {
         self.report(err, fault);
         self.note_faulty(rule);
@@ -71,7 +78,9 @@ impl Account {
 
     /// Keeps a fault and prints it.
     pub(crate) fn report<E: Sink>(&mut self, err: &mut E, fault: BuildFault)
-        ensures { Reports E.meaning err.old self.old (with_fault (ledger_of self.old) fault) err.new self.new }
+        ensures reports { Reports E.meaning err.old self.old (with_fault (ledger_of self.old) fault) err.new self.new }
+        ensures ends { KeepsEnds self.old self.new }
+        ensures faulted { is_faulted self.new ≡ true }
     {
         let text = fault_text(self.alloc, &fault);
         self.keep(fault);
@@ -80,7 +89,8 @@ impl Account {
 
     /// Prints a text, unless standard error has refused before. Want of memory for it is noted.
     fn show<E: Sink>(&mut self, err: &mut E, text: Result<String, Memory>)
-        ensures { Reports E.meaning err.old self.old (ledger_of self.old) err.new self.new }
+        ensures reports { Reports E.meaning err.old self.old (ledger_of self.old) err.new self.new }
+        ensures ends { KeepsEnds self.old self.new }
     {
         if self.is_err_shut {
             return;
@@ -93,7 +103,8 @@ impl Account {
 
     /// Prints a text. A sink that refuses is noted.
     fn write<E: Sink>(&mut self, err: &mut E, text: &str)
-        ensures { Reports E.meaning err.old self.old (ledger_of self.old) err.new self.new }
+        ensures reports { Reports E.meaning err.old self.old (ledger_of self.old) err.new self.new }
+        ensures ends { KeepsEnds self.old self.new }
     {
         match print(err, text) {
             Ok(()) => {}
@@ -106,7 +117,9 @@ impl Account {
     }
 
     fn keep(&mut self, fault: BuildFault)
-        ensures { Keeps self.old (with_fault (ledger_of self.old) fault) self.new }
+        ensures keeps { Keeps self.old (with_fault (ledger_of self.old) fault) self.new }
+        ensures ends { KeepsEnds self.old self.new }
+        ensures faulted { is_faulted self.new ≡ true }
     {
         match self.faults.push(fault) {
             Ok(()) => {}
@@ -115,14 +128,17 @@ impl Account {
     }
 
     pub(crate) fn want_memory(&mut self)
-        ensures { ledger_of self.new ≡ wanting (ledger_of self.old) }
+        ensures ledger { ledger_of self.new ≡ wanting (ledger_of self.old) }
+        ensures ends { IsEnd self.new }
+        ensures memory { self.new.memory ≡ true }
     {
         self.memory = true;
         self.is_ended = true;
     }
 
     fn note_faulty(&mut self, rule: RuleId)
-        ensures { Keeps self.old (ledger_of self.old) self.new }
+        ensures keeps { Keeps self.old (ledger_of self.old) self.new }
+        ensures ends { KeepsEnds self.old self.new }
     {
         match self.faulty.push(rule) {
             Ok(()) => {}
@@ -131,7 +147,8 @@ impl Account {
     }
 
     pub(crate) fn note_start(&mut self, rule: RuleId)
-        ensures { Keeps self.old (ledger_of self.old) self.new }
+        ensures keeps { Keeps self.old (ledger_of self.old) self.new }
+        ensures ends { KeepsEnds self.old self.new }
     {
         match self.started.push(rule) {
             Ok(()) => {}

@@ -1,12 +1,16 @@
 //! A build from its first look to its answer.
-ghost use Rattle.std.specs.Prelude.{◌≡◌, [], true, IfOk, IfSome, OnOk};
+ghost use Rattle.std.specs.Prelude.{◌≡◌, [], true, false, IfOk, IfSome, IfNone, OnOk, OnErr};
 ghost use Rattle.world_api.specs.Causes.{Later};
 ghost use Rattle.world_api.specs.Meaning.{Told};
-ghost use Rattle.sign_store.specs.Stores.{IsKept, is_live};
+ghost use Rattle.world_api.specs.Looks.{Looks};
+ghost use Rattle.sign_store.specs.Stores.{IsKept, is_live, map_of};
+ghost use Rattle.task_plan.specs.Cycles.{HasNoCycle};
 ghost use Rattle.build_files.specs.Causes.{HasLookCause, IsQuiet};
+ghost use Rattle.build_run.specs.Along.{is_faulted, KeepsEnds};
 ghost use Rattle.build_run.specs.Causes.{BuildCauses, IsInner};
 ghost use Rattle.build_run.specs.Goings.{Goes, Passes, Stays};
 ghost use Rattle.build_run.specs.Ledgers.{ledger_of, AllAccounts, Reports};
+ghost use Rattle.build_run.specs.Outsets.{wanted_of, BuildRuns, BuildSucceeds, FinishesWell, LeavesCopies, MakesAll, SetsOut, SetsOutBehind};
 ghost use Rattle.build_run.specs.Sites.{IsSame, SiteAccounts, most_jobs};
 ghost use Rattle.build_run.specs.Takes.{HasTakeCause};
 
@@ -24,6 +28,7 @@ use scons_report::cycle_fault;
 use sign_store::Store;
 use std::alloc::Global;
 use task_plan::Plan;
+use turn_means::finished_succeed;
 use world_api::{Hash, Sink, World};
 
 /// How a build is to be done.
@@ -68,7 +73,10 @@ pub fn build<W: World, O: Sink, E: Sink>(
     ensures later { Later (W.meaning.counts world.old) (W.meaning.counts world.new) }
     ensures idle { W.meaning.tells world.new → (W.meaning.around world.new).running ≡ [] }
     ensures causes { BuildCauses W.meaning O.meaning E.meaning world.old out.old err.old world.new out.new err.new result.faults result.memory }
+    ensures runs { BuildRuns W.meaning (wanted_of graph.old requested.now options.now) (map_of store.old) world.old world.new }
+    ensures succeeds { BuildSucceeds W.meaning (wanted_of graph.old requested.now options.now) (map_of store.old) world.old world.new result }
 {
+    graph.laws();
     let mut account = Account::new(alloc);
     match set_out(alloc, options.hash, graph, requested, store, world) {
         Ok(mut run) => {
@@ -109,6 +117,8 @@ fn set_out<W: World>(
     ensures kept { OnOk result (IsKept W.meaning world.new store.new) }
     ensures none { IfOk result (λ run. run.tickets ≡ []) }
     ensures held { IfOk result (λ run. run.held ≡ []) }
+    ensures sets { IfOk result (SetsOutBehind W.meaning graph.old requested.now hash world.old store.old graph.new world.new store.new) }
+    ensures rest { OnErr result (LeavesCopies W.meaning graph.old world.old store.old world.new store.new) }
 {
     take_leftovers(alloc, graph, store, world)?;
     begin(alloc, hash, graph, requested, world)
@@ -125,9 +135,14 @@ fn begin<W: World>(
     ensures cause { HasLookCause (W.meaning.counts world.old) (W.meaning.counts world.new) result }
     ensures none { IfOk result (λ run. run.tickets ≡ []) }
     ensures held { IfOk result (λ run. run.held ≡ []) }
+    ensures looks { Looks W.meaning world.old world.new }
+    ensures sets { IfOk result (λ run. SetsOut W.meaning graph.old requested.now hash world.old graph.new run world.new) }
 {
+    graph.laws();
     let mut inputs = Inputs::new(alloc, hash, graph);
     inputs.add_copies(world, graph, requested)?;
+    graph.laws();
+    let _ = graph.len();
     let plan = Plan::new(alloc, graph, requested)?;
     Ok(Run {
         plan,
@@ -158,7 +173,9 @@ fn make_all<W: World, O: Sink, E: Sink>(
     ensures passes { Passes W.meaning world.old world.new }
     ensures idle { W.meaning.tells world.new → (W.meaning.around world.new).running ≡ [] }
     ensures accounts { AllAccounts W.meaning O.meaning E.meaning world.old out.old err.old account.old world.new out.new err.new account.new }
+    ensures makes { MakesAll W.meaning graph.old run.old store.old world.old account.old options world.new account.new }
 {
+    finished_succeed();
     let mut site = Site {
         graph,
         store,
@@ -179,6 +196,8 @@ impl<W: World, O: Sink, E: Sink> Site<'_, '_, W, O, E> {
         ensures same { IsSame self.old self.new }
         ensures world { self.new.world.now ≡ self.old.world.now }
         ensures accounts { SiteAccounts W.meaning O.meaning E.meaning self.old self.new }
+        ensures ends { KeepsEnds self.old.account.now self.new.account.now }
+        ensures finishes { FinishesWell self.old.graph.now self.old.run.now.plan self.old.account.now self.new.account.now }
     {
         tell_cycle(self.graph, &self.run.plan, self.account, self.err);
         match skipped(self.graph, &self.run.plan, self.account) {
@@ -193,8 +212,11 @@ impl<W: World, O: Sink, E: Sink> Site<'_, '_, W, O, E> {
 
 /// Reports rules that wait for themselves, unless nothing was to start any more.
 fn tell_cycle<E: Sink>(graph: &Graph, plan: &Plan, account: &mut Account, err: &mut E)
-    ensures { Reports E.meaning err.old account.old (ledger_of account.old) err.new account.new }
+    ensures reports { Reports E.meaning err.old account.old (ledger_of account.old) err.new account.new }
+    ensures ends { KeepsEnds account.old account.new }
+    ensures finishes { FinishesWell graph.now plan.now account.old account.new }
 {
+    plan.finishes(graph);
     if account.is_ended {
         return;
     }
@@ -214,6 +236,7 @@ fn find_cycle(
 ) -> Result<Option<BuildFault>, ListEnd>
     ensures inner { IfOk result (λ found. IfSome found IsInner) }
     ensures quiet { IsQuiet result }
+    ensures none { IfOk result (λ found. IfNone found (HasNoCycle plan.now.states plan.now.rules plan.now.origins)) }
 {
     let Some(rules) = plan.cycle()? else {
         return Ok(None);
@@ -251,6 +274,7 @@ fn skipped(
 fn answer(account: Account, skipped: Listing<(PathText, PathText)>) -> BuildEnd
     ensures faults { result.faults ≡ account.faults.items }
     ensures memory { result.memory ≡ account.memory }
+    ensures faulted { result.faults ≡ [] → result.memory ≡ false → is_faulted account ≡ false }
 {
     BuildEnd {
         faults: Listing::new(account.faults),

@@ -1,5 +1,6 @@
 //! Clearing the way of an action: the directories of its targets stand, their records are withdrawn, and they are removed.
 ghost use Rattle.std.specs.Prelude.{◌≡◌, ◌∷◌, [], None, Contains, OnOk};
+ghost use Rattle.build_run.specs.Along.{KeepsKnown, SameEnds};
 ghost use Rattle.build_run.specs.Goings.{ClearsAt, Stays, Leaves, AreGone, AreUnused};
 ghost use Rattle.build_files.specs.Causes.{HasLookCause};
 ghost use Rattle.build_run.specs.Outs.{IsTicketFor, KeepsSome};
@@ -30,6 +31,9 @@ impl<W: World, O: Sink, E: Sink> Site<'_, '_, W, O, E> {
         ensures cleared { OnOk result (IsCleared W.meaning self.new job.now ticket.now) }
         ensures clears { ClearsAt W.meaning job.now.targets self.old.world.now self.new.world.now }
         ensures same { OnOk result (W.meaning.counts self.new.world.now ≡ W.meaning.counts self.old.world.now) }
+        ensures known { KeepsKnown self.old self.new }
+        ensures account { SameEnds self.old.account.now self.new.account.now }
+        ensures well { OnOk result (self.new.account.now ≡ self.old.account.now) }
     {
         let targets = job.targets.as_slice();
         make_dirs(self.account.alloc, self.world, &mut self.run.dirs, targets)?;
@@ -51,6 +55,9 @@ impl<W: World, O: Sink, E: Sink> Site<'_, '_, W, O, E> {
         ensures ticket { OnOk result (IsTicketFor self.new.store.now ticket.now job.now.targets) }
         ensures clears { ClearsAt W.meaning [] self.old.world.now self.new.world.now }
         ensures same { OnOk result (W.meaning.counts self.new.world.now ≡ W.meaning.counts self.old.world.now) }
+        ensures known { KeepsKnown self.old self.new }
+        ensures account { SameEnds self.old.account.now self.new.account.now }
+        ensures well { OnOk result (self.new.account.now ≡ self.old.account.now) }
     {
         if !self.store.has_record(ticket) {
             return Ok(());

@@ -2,7 +2,9 @@
 ghost use Rattle.std.specs.Prelude.{◌≡◌, ◌≤◌, ◌<◌, [], length, IfOk};
 ghost use Rattle.build_files.specs.Causes.{HasLookCause, IsQuiet};
 ghost use Rattle.build_run.specs.Causes.{IsInner};
+ghost use Rattle.build_run.specs.Along.{GoesAlong, MakesAlong, Presents};
 ghost use Rattle.build_run.specs.Goings.{Stays};
+ghost use Rattle.world_api.specs.Looks.{Looks};
 ghost use Rattle.build_run.specs.Sites.{IsSound, KeepsHeld, SiteEnds, SitePasses};
 
 use crate::site::{Run, Site};
@@ -11,7 +13,7 @@ use deciders::Rec;
 use rule_graph::{BuildFault, Graph, What};
 use scons_base::limits::DEP_LIMIT;
 use scons_base::{NodeId, RuleId};
-use task_plan::PlanEvent;
+use task_plan::{PlanEvent, Want};
 use world_api::{Sink, World};
 
 impl<W: World, O: Sink, E: Sink> Site<'_, '_, W, O, E> {
@@ -24,6 +26,7 @@ impl<W: World, O: Sink, E: Sink> Site<'_, '_, W, O, E> {
         ensures sound { IsSound W.meaning self.new }
         ensures few { length self.new.run.now.held ≤ length self.old.run.now.held }
         ensures kept { KeepsHeld self.old self.new }
+        ensures along { GoesAlong W.meaning self.old self.new (Want.Decide rule) result }
     {
         match present(self.run, self.world, self.graph, rule)? {
             Present::Record(now) => self.make(rule, now),
@@ -45,6 +48,7 @@ impl<W: World, O: Sink, E: Sink> Site<'_, '_, W, O, E> {
         ensures sound { IsSound W.meaning self.new }
         ensures few { length self.new.run.now.held ≤ length self.old.run.now.held }
         ensures kept { KeepsHeld self.old self.new }
+        ensures along { MakesAlong W.meaning self.old self.new rule now result }
     {
         if !is_stale(self.world, self.graph, self.store, rule, &now)? {
             return Ok(PlanEvent::Fresh(rule));
@@ -66,6 +70,9 @@ fn present<W: World>(
     ensures cause { HasLookCause (W.meaning.counts world.old) (W.meaning.counts world.new) result }
     ensures tickets { run.new.tickets ≡ run.old.tickets }
     ensures held { run.new.held ≡ run.old.held }
+    ensures looks { Looks W.meaning world.old world.new }
+    ensures rest { run.new ≡ record run.old { inputs = run.new.inputs } }
+    ensures presents { Presents W.meaning graph.now run.old world.old rule run.new world.new result }
 {
     let deps = run.plan.deps(rule);
     if deps.len() > DEP_LIMIT as usize {

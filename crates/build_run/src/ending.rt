@@ -1,5 +1,6 @@
 //! What follows from the ending of an action.
-ghost use Rattle.std.specs.Prelude.{◌≡◌, ◌<◌, ◌+◌, ◌++◌, ◌∷◌, [], List, ℕ, length};
+ghost use Rattle.std.specs.Prelude.{◌≡◌, ◌<◌, ◌+◌, ◌++◌, ◌∷◌, [], List, ℕ, length, true};
+ghost use Rattle.build_run.specs.Along.{is_faulted, EndsAlong, GoesOnAfter, HoldsFewer, KeepsEnds, KeepsKnown, StandsPut, TakesAlong};
 ghost use Rattle.build_run.specs.Goings.{Passes, IsJoined};
 ghost use Rattle.build_run.specs.Holds.{holds_in, without};
 ghost use Rattle.build_run.specs.Ledgers.{ledger_of, with_outcome, Reports};
@@ -32,6 +33,8 @@ impl<W: World, O: Sink, E: Sink> Site<'_, '_, W, O, E> {
         ensures accounts { SiteAccounts W.meaning O.meaning E.meaning self.old self.new }
         ensures sound { IsSound W.meaning self.new }
         ensures takes { TakesEnding W.meaning self.old self.new result }
+        ensures along { EndsAlong W.meaning self.old self.new result }
+        ensures halted { self.new.run.now.plan ≡ self.old.run.now.plan }
     {
         self.put_if_few();
         self.take_ended()
@@ -46,6 +49,9 @@ impl<W: World, O: Sink, E: Sink> Site<'_, '_, W, O, E> {
         ensures kept { KeepsRecords self.old self.new }
         ensures waits { length self.old.run.now.tickets < most_jobs self.old.options → self.new.run.now.held ≡ [] }
         ensures tickets { KeepsTickets self.old.store.now self.new.store.now }
+        ensures known { KeepsKnown self.old self.new }
+        ensures held { HoldsFewer self.old.run.now.held self.new.run.now.held }
+        ensures stands { StandsPut W.meaning self.old self.new }
     {
         if self.run.tickets.len() >= self.options.most_jobs() {
             return;
@@ -63,6 +69,8 @@ impl<W: World, O: Sink, E: Sink> Site<'_, '_, W, O, E> {
         ensures accounts { SiteAccounts W.meaning O.meaning E.meaning self.old self.new }
         ensures sound { IsSound W.meaning self.new }
         ensures takes { TakesEnding W.meaning self.old self.new result }
+        ensures along { TakesAlong W.meaning self.old self.new result }
+        ensures halted { self.new.run.now.plan ≡ self.old.run.now.plan }
     {
         let ended = wait(self.world, self.run, &self.options);
         let Some(busy) = self.run.tickets.take(ended.id) else {
@@ -98,6 +106,9 @@ impl<W: World, O: Sink, E: Sink> Site<'_, '_, W, O, E> {
         ensures accounts { SiteAccounts W.meaning O.meaning E.meaning self.old self.new }
         ensures sound { IsSound W.meaning self.new }
         ensures record { PutsRecord busy.ticket self.old self.new }
+        ensures known { KeepsKnown self.old self.new }
+        ensures held { HoldsFewer (self.old.run.now.held ++ busy ∷ []) self.new.run.now.held }
+        ensures stands { StandsPut W.meaning self.old self.new }
     {
         let Ticketed { hold, ticket } = busy;
         self.run.held.add(hold, ticket);
@@ -116,6 +127,9 @@ impl<W: World, O: Sink, E: Sink> Site<'_, '_, W, O, E> {
         ensures none { self.new.run.now.held ≡ [] }
         ensures kept { KeepsRecords self.old self.new }
         ensures tickets { KeepsTickets self.old.store.now self.new.store.now }
+        ensures known { KeepsKnown self.old self.new }
+        ensures held { HoldsFewer self.old.run.now.held self.new.run.now.held }
+        ensures stands { StandsPut W.meaning self.old self.new }
     {
         if self.account.is_store_shut {
             self.run.held.clear();
@@ -158,7 +172,10 @@ fn not_done<E: Sink>(
     rule: RuleId,
     outcome: Outcome,
 )
-    ensures { (target : List ℕ)
+    ensures ends { KeepsEnds account.old account.new }
+    ensures faulted { is_faulted account.new ≡ true }
+    ensures goes { GoesOnAfter outcome options.now account.new }
+    ensures reports { (target : List ℕ)
         × Reports E.meaning err.old account.old (with_outcome (ledger_of account.old) target outcome) err.new account.new }
 {
     let Ok(target) = first_target(graph, rule) else {

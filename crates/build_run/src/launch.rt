@@ -1,6 +1,7 @@
 //! Starting a job.
 ghost use Rattle.std.specs.Prelude.{◌≡◌, ◌≤◌, ◌++◌, ◌∷◌, [], length, Contains, OnOk, OnErr};
 ghost use Rattle.build_run.specs.Causes.{HasPrintCause, HasStartCause, IsUnstarted};
+ghost use Rattle.build_run.specs.Along.{IsWellStill, KeepsKnown, SameEnds};
 ghost use Rattle.build_run.specs.Goings.{Passes, ClearsAt, LaunchesAt, IsJoined, AreAbsent};
 ghost use Rattle.world_api.specs.Laws.{StartsJob};
 ghost use Rattle.build_run.specs.Ledgers.{ledger_of};
@@ -36,6 +37,9 @@ impl<W: World, O: Sink, E: Sink> Site<'_, '_, W, O, E> {
         ensures err { self.new.err.now ≡ self.old.err.now }
         ensures starts { OnOk result (LaunchesAt W.meaning job self.old.world.now self.new.world.now) }
         ensures clears { OnErr result (ClearsAt W.meaning job.targets self.old.world.now self.new.world.now) }
+        ensures known { KeepsKnown self.old self.new }
+        ensures account { SameEnds self.old.account.now self.new.account.now }
+        ensures well { OnOk result (IsWellStill W.meaning self.old self.new) }
     {
         self.clear(&job, ticket)?;
         show(self.account, self.out, text)?;
@@ -46,6 +50,7 @@ impl<W: World, O: Sink, E: Sink> Site<'_, '_, W, O, E> {
 /// Prints the text of a rule. A sink that refuses is noted.
 fn show<O: Sink>(account: &mut Account, out: &mut O, text: &str) -> Result<(), ListEnd>
     ensures account { ledger_of account.new ≡ ledger_of account.old }
+    ensures ended { account.new.is_ended ≡ account.old.is_ended }
     ensures cause { HasPrintCause (O.meaning.faults out.old) (O.meaning.faults out.new) result }
 {
     match print(out, text) {

@@ -1,8 +1,9 @@
 //! Leftover copies, and how a build takes them away before it looks at anything else.
-ghost use Rattle.std.specs.Prelude.{◌≡◌, [], true, Contains, OnOk};
+ghost use Rattle.std.specs.Prelude.{◌≡◌, ℕ, List, [], true, Contains, OnOk};
 ghost use Rattle.build_files.specs.Causes.{HasLookCause};
-ghost use Rattle.build_run.specs.Goings.{Goes, Stays, AreUnused};
+ghost use Rattle.build_run.specs.Goings.{ClearsAt, Goes, Stays, AreUnused};
 ghost use Rattle.build_run.specs.Outs.{IsTicketFor};
+ghost use Rattle.build_run.specs.Outsets.{Leaves, LeavesCopies};
 ghost use Rattle.build_run.specs.Takes.{HasTakeCause, AreTaken, Takes, IsLeftAt, IsTargetOf};
 ghost use Rattle.build_run.specs.Withdrawals.{AreWithdrawn};
 ghost use Rattle.sign_store.specs.Stores.{IsKept, is_live, map_of};
@@ -35,6 +36,7 @@ pub(crate) fn take_leftovers<W: World>(
     ensures kept { OnOk result (IsKept W.meaning world.new store.new) }
     ensures gone { AreTaken W.meaning world.new (IsLeftAt graph.now (W.meaning.around world.old) (map_of store.old)) result }
     ensures only { Takes W.meaning world.old world.new (IsLeftAt graph.now (W.meaning.around world.old) (map_of store.old)) }
+    ensures rest { LeavesCopies W.meaning graph.now world.old store.old world.new store.new }
 {
     let left = leftover_copies(alloc, world, graph, store)?;
     take_each(alloc, store, world, left.as_slice())
@@ -56,6 +58,7 @@ fn take_each<W: World>(
     ensures kept { OnOk result (IsKept W.meaning world.new store.new) }
     ensures gone { AreTaken W.meaning world.new (IsTargetOf left.now) result }
     ensures only { Takes W.meaning world.old world.new (IsTargetOf left.now) }
+    ensures rest { Leaves W.meaning world.old store.old world.new store.new (IsTargetOf left.now) }
 {
     for rec in left {
         take_away(alloc, store, world, rec.copy()?)?;
@@ -79,6 +82,7 @@ fn take_away<W: World>(
     ensures kept { OnOk result (IsKept W.meaning world.new store.new) }
     ensures gone { AreTaken W.meaning world.new (Contains rec.targets) result }
     ensures only { Takes W.meaning world.old world.new (Contains rec.targets) }
+    ensures rest { Leaves W.meaning world.old store.old world.new store.new (Contains rec.targets) }
 {
     let targets = rec.targets.copy()?;
     let ticket = prepare(alloc, store, rec)?;
@@ -103,6 +107,7 @@ fn withdraw<W: World>(
     ensures kept { OnOk result (IsKept W.meaning world.new store.new) }
     ensures withdrawn { OnOk result (AreWithdrawn W.meaning world.new store.new targets.now) }
     ensures around { W.meaning.tells world.new → W.meaning.around world.new ≡ W.meaning.around world.old }
+    ensures map { (path : List ℕ) → (Contains targets.now path → ⊥) → map_of store.new path ≡ map_of store.old path }
 {
     let none: &[Busy] = &[];
     match store.withdraw(world, none, ticket) {
@@ -123,6 +128,7 @@ fn remove_unrecorded<W: World>(
     ensures cause { HasLookCause (W.meaning.counts world.old) (W.meaning.counts world.new) result }
     ensures gone { AreTaken W.meaning world.new (Contains targets.now) result }
     ensures only { Takes W.meaning world.old world.new (Contains targets.now) }
+    ensures clears { ClearsAt W.meaning targets.now world.old world.new }
 {
     remove_all(world, targets)
 }

@@ -1,6 +1,7 @@
 //! How the action of a stale rule starts.
 ghost use Rattle.std.specs.Prelude.{◌≡◌, ◌<◌, ◌≤◌, [], length, true, IfOk};
 ghost use Rattle.build_files.specs.Causes.{IsQuiet};
+ghost use Rattle.build_run.specs.Along.{StartsAlong};
 ghost use Rattle.build_run.specs.Sites.{IsSound, KeepsHeld, SiteEnds, SitePasses};
 ghost use Rattle.turn_means.specs.Laws.{IsJobFrom};
 ghost use Rattle.sign_store.specs.Stores.{IsOut, IsFresh, KeepsBanks, KeepsOthers, KeepsOut, is_live, map_of};
@@ -32,6 +33,7 @@ impl<W: World, O: Sink, E: Sink> Site<'_, '_, W, O, E> {
         ensures few { length self.new.run.now.held ≤ length self.old.run.now.held }
         ensures kept { KeepsHeld self.old self.new }
         ensures err { self.new.err.now ≡ self.old.err.now }
+        ensures along { StartsAlong W.meaning self.old self.new rule now result }
     {
         if self.account.is_store_shut {
             return Err(ListEnd::Fault(BuildFault::StoreFault));

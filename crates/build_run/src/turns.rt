@@ -1,16 +1,16 @@
 //! The turns of a build: what the plan wants is done, and the plan is told what came of it.
-ghost use Rattle.std.specs.Prelude.{◌≡◌, ◌≤◌, ◌<◌, [], false, length};
-ghost use Rattle.build_files.specs.Causes.{HasLookCause};
-ghost use Rattle.build_run.specs.Goings.{Stays};
-ghost use Rattle.build_run.specs.Ledgers.{ledger_of, with_done, Keeps, Reports};
-ghost use Rattle.build_run.specs.Sites.{IsSound, SiteAccounts, SiteEnds, SitePasses, most_jobs};
+ghost use Rattle.std.specs.Prelude.{◌≡◌, ◌≢◌, ◌⊎◌, ◌≤◌, ◌<◌, [], true, false, length, Err};
+ghost use Rattle.build_run.specs.Along.{ComesOn, GoesAlong, IsReliable, IsSpent, IsWantedOf, RestsAlong, StaysAlong, StepsOr, Tells, TellsAlong};
+ghost use Rattle.build_run.specs.Ledgers.{ledger_of, with_done, Accounts, Keeps, Reports};
+ghost use Rattle.build_run.specs.Sites.{IsSound, SiteAccounts, SiteEnds, SitePasses, most_jobs, outside_of};
 ghost use Rattle.scons_base.specs.declared.ids.RuleId.{RuleId};
 ghost use Rattle.task_plan.specs.Plans.{IsIdle};
+ghost use Rattle.task_plan.specs.Watched.{IsStill};
 
 use crate::account::Account;
 use crate::building::Options;
 use crate::site::{Run, Site};
-use build_files::{Inputs, ListEnd};
+use build_files::ListEnd;
 use rule_graph::Graph;
 use scons_base::{NodeId, RuleId};
 use task_plan::{Plan, PlanEvent, Want};
@@ -24,6 +24,8 @@ impl<W: World, O: Sink, E: Sink> Site<'_, '_, W, O, E> {
         ensures accounts { SiteAccounts W.meaning O.meaning E.meaning self.old self.new }
         ensures put { self.new.run.now.held ≡ [] }
         ensures idle { W.meaning.tells self.new.world.now → (W.meaning.around self.new.world.now).running ≡ [] }
+        ensures on { ComesOn W.meaning self.old self.new }
+        ensures still { RestsAlong W.meaning self.old self.new }
     {
         self.take_turns();
         self.wait_for_all();
@@ -38,6 +40,9 @@ impl<W: World, O: Sink, E: Sink> Site<'_, '_, W, O, E> {
         ensures accounts { SiteAccounts W.meaning O.meaning E.meaning self.old self.new }
         ensures sound { IsSound W.meaning self.new }
         ensures rests { self.new.account.now.memory ≡ false → IsIdle self.new.run.now.plan × (length self.new.run.now.tickets ≡ 0) }
+        ensures along { StaysAlong W.meaning self.old self.new }
+        ensures still { RestsAlong W.meaning self.old self.new }
+        ensures halts { IsSpent self.new }
     {
         for _turn in 0..u64::MAX {
             let wanted = want(self.run, &self.options);
@@ -45,10 +50,9 @@ impl<W: World, O: Sink, E: Sink> Site<'_, '_, W, O, E> {
                 return;
             }
             let done = self.take_turn(wanted);
-            tell(self.graph, &mut self.run.plan, self.account, self.err, done);
-            halt(self.graph, &mut self.run.plan, self.account);
+            self.tell(done);
         }
-        self.account.want_memory();
+        self.tell(Err(ListEnd::Memory));
     }
 
     /// Waits for the jobs that run still.
@@ -58,6 +62,9 @@ impl<W: World, O: Sink, E: Sink> Site<'_, '_, W, O, E> {
         ensures accounts { SiteAccounts W.meaning O.meaning E.meaning self.old self.new }
         ensures sound { IsSound W.meaning self.new }
         ensures idle { W.meaning.tells self.new.world.now → (W.meaning.around self.new.world.now).running ≡ [] }
+        ensures along { IsSpent self.old → StaysAlong W.meaning self.old self.new }
+        ensures none { length self.old.run.now.tickets ≡ 0 → self.new ≡ self.old }
+        ensures halted { self.old.run.now.plan.halted ≡ true → self.new.run.now.plan.halted ≡ true }
     {
         let running = self.run.tickets.len();
         for _turn in 0..running {
@@ -65,15 +72,24 @@ impl<W: World, O: Sink, E: Sink> Site<'_, '_, W, O, E> {
                 break;
             }
             let event = self.take_ending();
-            tell(
-                self.graph,
-                &mut self.run.plan,
-                self.account,
-                self.err,
-                Ok(event),
-            );
-            halt(self.graph, &mut self.run.plan, self.account);
+            self.tell(Ok(event));
         }
+    }
+
+    /// Tells the plan what came of its want, or the account an end. Nothing new is wanted of a plan once an end has come.
+    fn tell(&mut self, done: Result<PlanEvent, ListEnd>)
+        ensures passes { SitePasses W.meaning self.old self.new }
+        ensures accounts { Accounts (outside_of W.meaning O.meaning E.meaning self.old) (with_done (ledger_of self.old.account.now) done)
+            (outside_of W.meaning O.meaning E.meaning self.new) (ledger_of self.new.account.now) }
+        ensures sound { IsSound W.meaning self.old → IsSound W.meaning self.new }
+        ensures tickets { self.new.run.now.tickets ≡ self.old.run.now.tickets }
+        ensures along { TellsAlong W.meaning self.old self.new done }
+        ensures halted { self.old.run.now.plan.halted ≡ true → self.new.run.now.plan.halted ≡ true }
+        ensures memory { done ≡ Err ListEnd.Memory → self.new.account.now.memory ≡ true }
+        ensures halts { done ≡ Err ListEnd.Memory → self.new.run.now.plan.halted ≡ true }
+    {
+        tell(self.graph, &mut self.run.plan, self.account, self.err, done);
+        halt(self.graph, &mut self.run.plan, self.account);
     }
 
     /// Does what is wanted.
@@ -83,32 +99,29 @@ impl<W: World, O: Sink, E: Sink> Site<'_, '_, W, O, E> {
         requires room { (rule : RuleId) → wanted ≡ Want.Decide rule → length self.old.run.now.tickets < 64 }
         ensures passes { SitePasses W.meaning self.old self.new }
         ensures ends { SiteEnds W.meaning O.meaning E.meaning self.old self.new result }
+        ensures along { GoesAlong W.meaning self.old self.new wanted result }
         ensures sound { IsSound W.meaning self.new }
     {
         match wanted {
-            Want::Scan(rule, file) => {
-                scan(self.graph, &mut self.run.inputs, self.world, rule, file)
-            }
+            Want::Scan(rule, file) => self.scan(rule, file),
             Want::Decide(rule) => self.decide(rule),
             Want::Wait => Ok(self.take_ending()),
             Want::Rest => Ok(PlanEvent::Halt),
         }
     }
-}
 
-/// Scans a file for a rule.
-fn scan<W: World>(
-    graph: &mut Graph,
-    inputs: &mut Inputs,
-    world: &mut W,
-    rule: RuleId,
-    file: NodeId,
-) -> Result<PlanEvent, ListEnd>
-    ensures stays { Stays W.meaning world.old world.new }
-    ensures cause { HasLookCause (W.meaning.counts world.old) (W.meaning.counts world.new) result }
-{
-    let found = inputs.scanned(world, graph, rule, file)?;
-    Ok(PlanEvent::Scanned(rule, found))
+    /// Scans a file for a rule.
+    fn scan(&mut self, rule: RuleId, file: NodeId) -> Result<PlanEvent, ListEnd>
+        ensures passes { SitePasses W.meaning self.old self.new }
+        ensures ends { SiteEnds W.meaning O.meaning E.meaning self.old self.new result }
+        ensures sound { IsSound W.meaning self.old → IsSound W.meaning self.new }
+        ensures along { GoesAlong W.meaning self.old self.new (Want.Scan rule file) result }
+    {
+        let found = self.run.inputs.scanned(self.world, self.graph, rule, file)?;
+        self.graph.laws();
+        let _ = self.graph.len();
+        Ok(PlanEvent::Scanned(rule, found))
+    }
 }
 
 /// What is to be done next: where all jobs are taken, to wait.
@@ -117,6 +130,10 @@ fn want(run: &Run, options: &Options) -> Want
     ensures room { (rule : RuleId) → result ≡ Want.Decide rule → length run.now.tickets ≤ 64 → length run.now.tickets < 64 }
     ensures jobs { (rule : RuleId) → result ≡ Want.Decide rule → length run.now.tickets < most_jobs options.now }
     ensures rests { result ≡ Want.Rest → IsIdle run.now.plan × (length run.now.tickets ≡ 0) }
+    ensures wanted { result ≢ Want.Rest → (run.now.plan.halted ≡ false → IsReliable run.now.plan)
+        → IsWantedOf (length run.now.tickets) (most_jobs options.now) run.now.plan result }
+    ensures still { result ≡ Want.Rest → (run.now.plan.halted ≡ false → IsReliable run.now.plan)
+        → run.now.plan.halted ≡ false → IsStill run.now.plan }
 {
     let running = run.tickets.len();
     if running >= options.most_jobs() {
@@ -130,7 +147,11 @@ fn want(run: &Run, options: &Options) -> Want
 }
 
 /// Nothing new is wanted of a plan once an end has come.
-fn halt(graph: &Graph, plan: &mut Plan, account: &Account) {
+fn halt(graph: &Graph, plan: &mut Plan, account: &Account)
+    ensures halts { account.now.is_ended ≡ true → plan.new.halted ≡ true }
+    ensures goes { account.now.is_ended ≡ false → plan.new ≡ plan.old }
+    ensures stays { plan.old.halted ≡ true → plan.new.halted ≡ true }
+{
     if account.is_ended {
         let _ = plan.step(graph, PlanEvent::Halt);
     }
@@ -144,7 +165,10 @@ fn tell<E: Sink>(
     err: &mut E,
     done: Result<PlanEvent, ListEnd>,
 )
-    ensures { Reports E.meaning err.old account.old (with_done (ledger_of account.old) done) err.new account.new }
+    ensures reports { Reports E.meaning err.old account.old (with_done (ledger_of account.old) done) err.new account.new }
+    ensures tells { Tells graph.now plan.old account.old done plan.new account.new }
+    ensures memory { done ≡ Err ListEnd.Memory → account.new.memory ≡ true }
+    ensures stays { plan.old.halted ≡ true → plan.new.halted ≡ true }
 {
     match done {
         Ok(event) => step(graph, plan, account, event),
@@ -153,7 +177,9 @@ fn tell<E: Sink>(
 }
 
 fn step(graph: &Graph, plan: &mut Plan, account: &mut Account, event: PlanEvent)
-    ensures { Keeps account.old (ledger_of account.old) account.new }
+    ensures keeps { Keeps account.old (ledger_of account.old) account.new }
+    ensures steps { StepsOr graph.now plan.old event plan.new account.old account.new }
+    ensures stays { plan.old.halted ≡ true → plan.new.halted ≡ true }
 {
     match plan.step(graph, event) {
         Ok(()) => {}

@@ -40,17 +40,17 @@ use Rattle.turn_means.proofs.Numbers.{lines_are}
 use Rattle.turn_means.specs.Recording.{build_at}
 use Rattle.turn_means.proofs.Running.{MakesIt, lawful, run_so, makes_each, ready_still, unbegun_same, unbegun_stamp}
 
-same_any : {A : Type 0} (f h : A → Bool) (xs : List A) → ((x : A) → Among x xs → f x ≡ h x) → list_any f xs ≡ list_any h xs
+pub same_any : {A : Type 0} (f h : A → Bool) (xs : List A) → ((x : A) → Among x xs → f x ≡ h x) → list_any f xs ≡ list_any h xs
 same_any f h [] e = refl
 same_any f h (x ∷ xs) e = ap (λ b. b || list_any f xs) (e x here) ∙ ap (λ b. h x || b) (same_any f h xs (λ y m. e y (there m)))
 
-first_same : (stamps later : Stamps) (targets : List Path) → ((p : Path) → Among p targets → stamps p ≡ later p) →
+pub first_same : (stamps later : Stamps) (targets : List Path) → ((p : Path) → Among p targets → stamps p ≡ later p) →
     first_stamp stamps targets ≡ first_stamp later targets
 first_same stamps later [] e = refl
 first_same stamps later (p ∷ targets) e = e p here
 
 -- a rule is due by what stands and is recorded at its targets alone
-due_agrees : (r : Rule) (t u : Tree) (stamps later : Stamps) (m n : Records) (now : Record) →
+pub due_agrees : (r : Rule) (t u : Tree) (stamps later : Stamps) (m n : Records) (now : Record) →
     ((p : Path) → Among p r.targets → t p ≡ u p) → ((p : Path) → Among p r.targets → stamps p ≡ later p) →
     ((p : Path) → Among p r.targets → m p ≡ n p) → is_due r t stamps m now ≡ is_due r u later n now
 unfolding is_due

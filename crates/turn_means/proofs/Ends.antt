@@ -1,5 +1,5 @@
 -- What a build did by how it stands, and that it succeeded where its plan is finished.
-use Rattle.std.proofs.Common.{◌≡◌, ◌≢◌, ℕ, Bool, true, false, List, count_by, refl, sym, subst, ◌∙◌}
+use Rattle.std.proofs.Common.{◌≡◌, ◌≢◌, ℕ, Bool, true, false, List, count_by, ap, refl, sym, subst, ◌∙◌}
 use Rattle.task_plan.specs.States.{state_of, is_running}
 use Rattle.task_plan.specs.Watched.{IsNoneReady, IsGoingOn, AreGoingOn, IsFinished}
 use Rattle.task_plan.specs.declared.states.RuleState.{RuleState}
@@ -12,7 +12,7 @@ use Rattle.build_model.specs.Steps.{Step, is_over}
 use Rattle.build_model.specs.Waiting.{WaitsRightly}
 use Rattle.build_model.proofs.Ending.{faulty_over}
 use Rattle.build_model.proofs.Lists.{true_false}
-use Rattle.build_means.specs.Builds.{AllSettled, Succeeded}
+use Rattle.build_means.specs.Builds.{AllSettled, Runs, Succeeded}
 use Rattle.build_means.specs.Laws.{SettledSucceed}
 use Rattle.plan_means.specs.Ties.{IsAt as IsAtState}
 use Rattle.plan_means.proofs.Deciding.{know}
@@ -51,7 +51,7 @@ module _ (o : Outset) (outset : IsOutset o) (jobs : List Given) (s : Standing) (
         none_over (faulty_over (faulty past k.rule
         (subst (λ x. IsAtState past k.rule x) e (known.ties.states number k.rule k.numbered))))
 
-    goes_by : (number : ℕ) (state : RuleState) → state_of s.plan.states number ≡ state →
+    pub goes_by : (number : ℕ) (state : RuleState) → state_of s.plan.states number ≡ state →
         (state_of s.plan.states number ≡ Running → ⊥) → IsGoingOn state
     goes_by number Unneeded e none_runs = tt
     goes_by number Waiting e none_runs = tt
@@ -63,11 +63,13 @@ module _ (o : Outset) (outset : IsOutset o) (jobs : List Given) (s : Standing) (
     pub goes_on : count_by is_running s.plan.states ≡ 0 → AreGoingOn s.plan
     goes_on none = record { each = λ number. goes_by number (state_of s.plan.states number) refl (none_runs s.plan.states number none) }
 
-    pub succeeds : SettledSucceed → IsNoneReady s.plan → IsFinished s.plan → Succeeded o.wanted o.kept o.counts o.before s.around
+    pub succeeds : SettledSucceed → IsNoneReady s.plan → IsFinished s.plan →
+        (succeeded : Succeeded o.wanted o.kept o.counts o.before s.around) × (succeeded.runs.steps ≡ past)
     succeeds settled_succeed none_ready finished =
-        settled_succeed o.wanted o.kept o.counts o.before s.around outset.reading runs.0
-        (subst (λ l. AllSettled o.wanted o.kept o.before s.around l) (sym runs.1) all)
-        (subst (λ l. WaitsRightly (setting_at o) (build_at o s.around) l) (sym runs.1) (at.way.waits (at.well well)))
+        let by = settled_succeed o.wanted o.kept o.counts o.before s.around outset.reading runs.0
+            (subst (λ l. AllSettled o.wanted o.kept o.before s.around l) (sym runs.1) all)
+            (subst (λ l. WaitsRightly (setting_at o) (build_at o s.around) l) (sym runs.1) (at.way.waits (at.well well))) in
+        (by.0, ap (λ (r : Runs o.wanted o.kept o.counts o.before s.around). r.steps) by.1 ∙ runs.1)
       where
         all : AllSettled o.wanted o.kept o.before s.around past
         all p r m e =

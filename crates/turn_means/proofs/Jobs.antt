@@ -26,7 +26,7 @@ use Rattle.plan_means.proofs.Stepping.{events_keep}
 use Rattle.run_means.specs.Clears.{Clears}
 use Rattle.run_means.specs.Laws.{MayWait}
 use Rattle.run_means.specs.Turns.{MayBegin, job_for, EndsFor}
-use Rattle.run_means.specs.Ways.{IsWay}
+use Rattle.run_means.specs.Ways.{IsOwn, IsWay}
 use Rattle.run_means.proofs.Ending.{ended_for}
 use Rattle.run_means.proofs.Keeping.{none_there}
 use Rattle.run_means.proofs.Launching.{launched, refused}
@@ -320,3 +320,8 @@ module _ (o : Outset) (outset : IsOutset o) where
         well = λ e. well_more (is_done ended.outcome) is.failed e (at.well (unfaulted old new is.reports e));
       };
     }
+
+    -- the job that ended was that of the rule of the step
+    pub ended_own : IsOwn o.wanted o.kept o.before old.around jobs past at.way.log.entries ends.which ends_behind.rule
+    unfolding ends_behind
+    ended_own = ending.own

@@ -4,6 +4,8 @@ pub mod Running
 pub mod Deciding
 pub mod Turns
 pub mod Jobs
+pub mod Looked
 pub mod Ends
 pub mod Recording
 pub mod Safety
+pub mod OwnDigests

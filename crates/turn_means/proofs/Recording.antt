@@ -166,6 +166,10 @@ module _ (o : Outset) (outset : IsOutset o) where
       to_have = λ rec is. is ∙ sym (same_kept jobs old new past way r.targets writes unready r is_decided.prepared);
     }
 
+    -- the others that began are to have the same records still
+    pub begun_others : (q : Rule) (rec : Rec) → Among q (began past) → IsRecordOf o old q rec → IsRecordOf o new q rec
+    begun_others q rec m is = is ∙ sym (begun_kept jobs old new past way r.targets writes unready m)
+
   module _ (jobs : List Given) (old new : Around) (past : List Step) (r : Rule) (records : Kept) (way : IsWayTo o jobs old past)
       (runs : IsRunning past r) (writes : Writes [] old new) (are : AreRecorded o old past records) where
     now : (p : Path) → IsRecordAfter (setting_at o) (build_at o new) past (records_in records) p

@@ -248,8 +248,8 @@ abbrev pub WellGoesOn : Type 0
 WellGoesOn = (o : Outset) (jobs : List Given) (s : Standing) (past : List Step) → IsOutset o → IsAt o jobs s past →
     s.faulted ≡ false → count_by is_running s.plan.states ≡ 0 → AreGoingOn s.plan
 
--- And where the plan is finished then, the build succeeded.
+-- And where the plan is finished then, the build succeeded by these steps.
 abbrev pub FinishedSucceed : Type 0
 FinishedSucceed = (o : Outset) (jobs : List Given) (s : Standing) (past : List Step) → IsOutset o → IsAt o jobs s past →
     s.faulted ≡ false → IsNoneReady s.plan → IsFinished s.plan →
-    Succeeded o.wanted o.kept o.counts o.before s.around
+    (succeeded : Succeeded o.wanted o.kept o.counts o.before s.around) × (succeeded.runs.steps ≡ past)

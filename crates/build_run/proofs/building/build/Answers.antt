@@ -1,6 +1,8 @@
 use Rattle.std.proofs.Common.{◌∙◌, ap}
+use Rattle.build_means.specs.Rules.{IsReading}
 use Rattle.build_run.specs.Causes.{outside}
 use Rattle.build_run.specs.Ledgers.{ledger_of, ledger_of_end, blank, with_end}
+use Rattle.build_run.proofs.Builds.{build_ran, build_refused, build_succeeded, is_blank, refused_untold}
 use Rattle.build_run.proofs.Causing.{account_as, at_first, caused, ended, same_counts}
 use Rattle.build_run.proofs.Goings.{passes_on}
 use Rattle.build_run.proofs.Taking.{take_accounted}
@@ -30,7 +32,7 @@ returns-in-Ok-clause-idle g c = c.make_all-skipped.ensures.idle
 pub returns-in-Ok-clause-causes : goal.returns-in-Ok-clause-causes
 returns-in-Ok-clause-causes g c =
     let start = outside (g.W.Disk.meaning.counts c.args.world.now) (g.O.Sink.meaning.faults c.args.out.now) (g.E.Sink.meaning.faults c.args.err.now) in
-    let first = account_as start start blank (ledger_of c.new-account.result) c.new-account.ensures (at_first start) in
+    let first = account_as start start blank (ledger_of c.new-account.result) c.new-account.ensures.ledger (at_first start) in
     let begun = same_counts start (ledger_of c.new-account.result) _ _ _ _ c.in-Ok.ensures.cause first in
     let made = c.make_all-skipped.ensures.accounts start begun in
     caused start _ (ledger_of_end c.answer.result) (ended start _ (ledger_of c.make_all-skipped.new.account) _ _ c.answer.ensures.faults c.answer.ensures.memory made)
@@ -39,5 +41,36 @@ pub returns-in-Err-clause-causes : goal.returns-in-Err-clause-causes
 returns-in-Err-clause-causes g c =
     let start = outside (g.W.Disk.meaning.counts c.args.world.now) (g.O.Sink.meaning.faults c.args.out.now) (g.E.Sink.meaning.faults c.args.err.now) in
     let begun = take_accounted start _ _ _ _ _ c.in-Err.ensures.cause (at_first start) in
-    let owed = account_as start _ (with_end blank c.in-Err.end) (with_end (ledger_of c.new-account.result) c.in-Err.end) (ap (λ l. with_end l c.in-Err.end) c.new-account.ensures) begun in
-    caused start _ (ledger_of_end c.answer-in-Err.result) (ended start _ (ledger_of c.end.new.self) _ _ c.answer-in-Err.ensures.faults c.answer-in-Err.ensures.memory (c.end.ensures.accounts _ _ start owed))
+    let owed = account_as start _ (with_end blank c.in-Err.end) (with_end (ledger_of c.new-account.result) c.in-Err.end) (ap (λ l. with_end l c.in-Err.end) c.new-account.ensures.ledger) begun in
+    caused start _ (ledger_of_end c.answer-in-Err.result) (ended start _ (ledger_of c.end.new.self) _ _ c.answer-in-Err.ensures.faults c.answer-in-Err.ensures.memory (c.end.ensures.reports.accounts _ _ start owed))
+
+pub returns-in-Ok-clause-runs : goal.returns-in-Ok-clause-runs
+returns-in-Ok-clause-runs g c =
+    let read : IsReading c.args.graph.now = record { apart = c.laws.ensures.apart; single = c.laws.ensures.single; named = c.laws.ensures.named } in
+    build_ran g.W.Disk.meaning c.args.graph.now c.args.requested.now c.args.options.now read c.args.world.now c.set_out.new.world
+    c.make_all-skipped.new.world c.args.store.now c.set_out.new.store c.requires.idle c.set_out.new.graph c.in-Ok.run' c.new-account.result
+    c.make_all-skipped.new.account c.set_out.ensures.goes.passes.told.told c.make_all-skipped.ensures.passes.told.told c.in-Ok.ensures.cause
+    c.in-Ok.ensures.sets (is_blank c.new-account.result c.new-account.ensures.ledger c.new-account.ensures.ended)
+    c.make_all-skipped.ensures.makes
+
+pub returns-in-Ok-clause-succeeds : goal.returns-in-Ok-clause-succeeds
+returns-in-Ok-clause-succeeds g c =
+    let read : IsReading c.args.graph.now = record { apart = c.laws.ensures.apart; single = c.laws.ensures.single; named = c.laws.ensures.named } in
+    build_succeeded g.W.Disk.meaning c.args.graph.now c.args.requested.now c.args.options.now read c.args.world.now c.set_out.new.world
+    c.make_all-skipped.new.world c.args.store.now c.set_out.new.store c.requires.idle c.set_out.new.graph c.in-Ok.run' c.new-account.result
+    c.make_all-skipped.new.account c.set_out.ensures.goes.passes.told.told c.make_all-skipped.ensures.passes.told.told c.in-Ok.ensures.cause
+    c.in-Ok.ensures.sets (is_blank c.new-account.result c.new-account.ensures.ledger c.new-account.ensures.ended)
+    c.make_all-skipped.ensures.makes c.answer.result c.answer.ensures.faulted
+
+pub returns-in-Err-clause-runs : goal.returns-in-Err-clause-runs
+returns-in-Err-clause-runs g c =
+    let read : IsReading c.args.graph.now = record { apart = c.laws.ensures.apart; single = c.laws.ensures.single; named = c.laws.ensures.named } in
+    build_refused g.W.Disk.meaning c.args.graph.now c.args.requested.now c.args.options.now read c.args.world.now c.set_out.new.world
+    c.set_out.new.world c.args.store.now c.set_out.new.store c.requires.idle c.set_out.ensures.goes.passes.told.told c.in-Err.ensures.rest
+
+pub returns-in-Err-clause-succeeds : goal.returns-in-Err-clause-succeeds
+returns-in-Err-clause-succeeds g c =
+    let read : IsReading c.args.graph.now = record { apart = c.laws.ensures.apart; single = c.laws.ensures.single; named = c.laws.ensures.named } in
+    refused_untold g.W.Disk.meaning c.args.graph.now c.args.requested.now c.args.options.now read c.args.world.now c.set_out.new.world
+    c.set_out.new.world c.args.store.now c.set_out.new.store c.requires.idle c.end.new.self c.end.ensures.ends.faulted c.answer-in-Err.result
+    c.answer-in-Err.ensures.faulted

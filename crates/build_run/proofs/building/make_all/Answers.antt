@@ -1,4 +1,5 @@
 use Rattle.std.proofs.Common.{◌∙◌, rules}
+use Rattle.build_run.proofs.Finishing.{first_along, has_made, made_given}
 use Rattle.build_run.proofs.Lending.{accounts_given, idle_given, passes_given}
 use Rattle.build_run.proofs.Sites.{sound_first}
 use Rattle.build_run.proofs.building.make_all.Goals as goal
@@ -27,3 +28,17 @@ returns-clause-accounts g c =
     accounts_given g.W.Disk.meaning c.close.new.self g.O.Sink.meaning g.E.Sink.meaning c.args.world.now c.args.out.now c.args.err.now c.args.account.now
     _ _ _ c.account-1.given.0 (search rules) (search rules) (search rules) (search rules)
     (λ start a. c.close.ensures.accounts start (c.go_on.ensures.accounts start a))
+
+pub returns-clause-makes : goal.returns-clause-makes
+returns-clause-makes g c = λ tells sure o ready.
+    let m = g.W.Disk.meaning in
+    let mid = c.go_on.new.self in
+    let same = c.close.ensures.same in
+    let passes = c.go_on.ensures.passes.same in
+    let lent_world = same.world ∙ passes.world in
+    let lent_account = same.account ∙ passes.account in
+    let along = first_along m o _ ready c.requires.held in
+    made_given m c.close.new.self o mid.world.now _ _ (search rules) (search rules) c.close.ensures.world
+    (λ t s. has_made m o ready.outset mid c.close.new.self.account.now (c.go_on.ensures.on t s o ready.outset along) (c.go_on.ensures.idle t)
+    (c.go_on.ensures.still t s o ready.outset along) c.close.ensures.ends c.close.ensures.finishes c.finished_succeed.ensures)
+    tells sure

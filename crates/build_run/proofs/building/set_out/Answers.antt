@@ -1,4 +1,7 @@
+use Rattle.std.proofs.Common.{refl}
+use Rattle.build_run.proofs.Builds.{refused_with, sets_behind}
 use Rattle.build_run.proofs.Goings.{goes_on}
+use Rattle.build_run.proofs.Leaving.{leaves_looked, leaves_on}
 use Rattle.build_run.proofs.Outs.{held_ok}
 use Rattle.build_run.proofs.Taking.{kept_over, take_after, take_exit, take_look}
 use Rattle.build_run.proofs.building.set_out.Goals as goal
@@ -19,3 +22,21 @@ pub returns-clause-kept : goal.returns-clause-kept
 returns-clause-kept g c =
     let stays = c.begin.ensures.stays in
     held_ok c.begin.result (kept_over g.W.Disk.meaning _ _ c.take_leftovers.new.store stays.goes.passes.told.told stays.banks c.in_ok-take_leftovers.ensures.kept)
+
+pub returns-in_err-take_leftovers-clause-rest : goal.returns-in_err-take_leftovers-clause-rest
+returns-in_err-take_leftovers-clause-rest g c = refused_with c.from_residual.result c.take_leftovers.ensures.rest
+
+pub returns-clause-sets : goal.returns-clause-sets
+returns-clause-sets g c =
+    sets_behind g.W.Disk.meaning c.args.graph.now _ _ c.args.world.now c.take_leftovers.new.world c.begin.new.world c.args.store.now
+    c.take_leftovers.new.store c.begin.new.graph c.begin.result c.begin.ensures.stays.goes.passes.told.told c.take_leftovers.ensures.rest
+    c.begin.ensures.sets
+
+pub returns-clause-rest : goal.returns-clause-rest
+returns-clause-rest g c =
+    let m = g.W.Disk.meaning in
+    refused_with c.begin.result
+    (leaves_on m c.args.world.now c.take_leftovers.new.world c.begin.new.world c.args.store.now c.take_leftovers.new.store
+    c.take_leftovers.new.store _ c.begin.ensures.stays.goes.passes.told.told c.take_leftovers.ensures.rest
+    (leaves_looked m c.take_leftovers.new.world c.begin.new.world c.take_leftovers.new.store c.take_leftovers.new.store _
+    c.begin.ensures.looks refl))

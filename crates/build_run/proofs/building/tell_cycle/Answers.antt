@@ -2,16 +2,16 @@ use Rattle.build_run.specs.Ledgers.{ledger_of}
 use Rattle.build_run.proofs.Causing.{inner, inside}
 use Rattle.build_run.proofs.building.tell_cycle.Goals as goal
 
-pub returns-in-Ok-Some : goal.returns-in-Ok-Some
-returns-in-Ok-Some g c =
+pub returns-in-Ok-Some-clause-reports : goal.returns-in-Ok-Some-clause-reports
+returns-in-Ok-Some-clause-reports g c =
     let is = rw c.in-Ok-Some.field-0-is at c.in-Ok-Some.ensures.inner in
     record {
-      shut = c.report.ensures.shut;
-      accounts = λ counts out start a. c.report.ensures.accounts counts out start (inner start (ledger_of c.args.account.now) _ c.in-Ok-Some.fault is a);
+      shut = c.report.ensures.reports.shut;
+      accounts = λ counts out start a. c.report.ensures.reports.accounts counts out start (inner start (ledger_of c.args.account.now) _ c.in-Ok-Some.fault is a);
     }
 
-pub returns-in-Err : goal.returns-in-Err
-returns-in-Err g c = record {
-  shut = c.end.ensures.shut;
-  accounts = λ counts out start a. c.end.ensures.accounts counts out start (inside start (ledger_of c.args.account.now) counts out _ c.in-Err.end c.in-Err.ensures.quiet a);
+pub returns-in-Err-clause-reports : goal.returns-in-Err-clause-reports
+returns-in-Err-clause-reports g c = record {
+  shut = c.end.ensures.reports.shut;
+  accounts = λ counts out start a. c.end.ensures.reports.accounts counts out start (inside start (ledger_of c.args.account.now) counts out _ c.in-Err.end c.in-Err.ensures.quiet a);
 }

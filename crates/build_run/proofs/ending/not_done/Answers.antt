@@ -4,17 +4,17 @@ use Rattle.build_run.specs.Ledgers.{Reports, ledger_of, with_fault}
 use Rattle.build_run.proofs.Causing.{wants_untold}
 use Rattle.build_run.proofs.ending.not_done.Goals as goal
 
-pub returns-in_default : goal.returns-in_default
-returns-in_default g c = ([], wants_untold g.E.Sink.meaning c.args.err.now c.args.account.now [] c.args.outcome c.want_memory.new.self c.want_memory.ensures)
+pub returns-in_default-clause-reports : goal.returns-in_default-clause-reports
+returns-in_default-clause-reports g c = ([], wants_untold g.E.Sink.meaning c.args.err.now c.args.account.now [] c.args.outcome c.want_memory.new.self c.want_memory.ensures.ledger)
 
-pub returns-in-Failed : goal.returns-in-Failed
-returns-in-Failed g c =
+pub returns-in-Failed-clause-reports : goal.returns-in-Failed-clause-reports
+returns-in-Failed-clause-reports g c =
     let fits : SFits w32 c.in-Failed.code = search rules in
     let told = λ (code : ℤ). Reports g.E.Sink.meaning c.args.err.now c.args.account.now (with_fault (ledger_of c.args.account.now) (fault.ActionFailed c.in-Ok.target code)) c.fail.new.err c.fail.new.self in
-    (c.in-Ok.target, rw c.in-Failed.is (subst told (to_z-of_z fits) c.fail.ensures))
+    (c.in-Ok.target, rw c.in-Failed.is (subst told (to_z-of_z fits) c.fail.ensures.reports))
 
-pub returns-in-Broken : goal.returns-in-Broken
-returns-in-Broken g c = (c.in-Ok.target, rw c.in-Broken.is c.end.ensures)
+pub returns-in-Broken-clause-reports : goal.returns-in-Broken-clause-reports
+returns-in-Broken-clause-reports g c = (c.in-Ok.target, rw c.in-Broken.is c.end.ensures.reports)
 
-pub returns-in-NoMemory : goal.returns-in-NoMemory
-returns-in-NoMemory g c = ([], wants_untold g.E.Sink.meaning c.args.err.now c.args.account.now [] c.args.outcome c.want_memory-in-NoMemory.new.self c.want_memory-in-NoMemory.ensures)
+pub returns-in-NoMemory-clause-reports : goal.returns-in-NoMemory-clause-reports
+returns-in-NoMemory-clause-reports g c = ([], wants_untold g.E.Sink.meaning c.args.err.now c.args.account.now [] c.args.outcome c.want_memory-in-NoMemory.new.self c.want_memory-in-NoMemory.ensures.ledger)

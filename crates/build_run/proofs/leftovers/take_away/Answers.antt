@@ -1,8 +1,11 @@
-use Rattle.std.proofs.Common.{◌∙◌, List, ℕ, Contains, refl, sym, subst}
+use Rattle.std.proofs.Common.{◌∙◌, List, ℕ, Contains, refl, sym, subst, ap}
 use Rattle.sign_store.proofs.Keeping.{kept_as}
+use Rattle.sign_store.specs.Tables.{Map}
+use Rattle.build_run.specs.Goings.{ClearsAt}
 use Rattle.build_run.specs.Takes.{AreTaken, Takes}
 use Rattle.build_run.specs.Withdrawals.{AreWithdrawn}
 use Rattle.build_run.proofs.Goings.{goes_on}
+use Rattle.build_run.proofs.Leaving.{leaves_cleared, leaves_on, leaves_still}
 use Rattle.build_run.proofs.Outs.{held_ok}
 use Rattle.build_run.proofs.Taking.{kept_over, take_end, take_inside, take_exit, take_after, take_look, unused_at_rest, withdrawn_as, takes_still, takes_on}
 use Rattle.build_run.proofs.leftovers.take_away.Goals as goal
@@ -70,3 +73,31 @@ returns-clause-only g c =
     let stays = c.remove_unrecorded.ensures.stays.goes in
     let last = subst (λ (paths : List (List ℕ)). Takes m c.withdraw.new.world c.remove_unrecorded.new.world (Contains paths)) (c.as_slice.ensures ∙ c.in_ok-targets.ensures) c.remove_unrecorded.ensures.only in
     takes_on m c.args.world.now c.withdraw.new.world c.remove_unrecorded.new.world _ stays.passes.told.told c.withdraw.ensures.goes.runs (takes_still m _ _ _ c.withdraw.ensures.around) last
+
+pub returns-in_err-ticket-clause-rest : goal.returns-in_err-ticket-clause-rest
+returns-in_err-ticket-clause-rest g c =
+    leaves_still g.W.Disk.meaning c.args.world.now c.args.world.now c.args.store.now c.prepare.new.store _ (λ t. refl)
+    (λ path out. ap (λ (map : Map). map path) c.prepare.ensures.map)
+
+pub returns-in_err-withdraw-clause-rest : goal.returns-in_err-withdraw-clause-rest
+returns-in_err-withdraw-clause-rest g c =
+    leaves_still g.W.Disk.meaning c.args.world.now c.withdraw.new.world c.args.store.now c.withdraw.new.store _ c.withdraw.ensures.around
+    (λ path out. c.withdraw.ensures.map path (λ h. out (subst (λ (paths : List (List ℕ)). Contains paths path) c.in_ok-targets.ensures h))
+    ∙ ap (λ (map : Map). map path) c.prepare.ensures.map)
+
+pub returns-clause-rest : goal.returns-clause-rest
+returns-clause-rest g c =
+    let m = g.W.Disk.meaning in
+    let removed = c.remove_unrecorded in
+    let stays = removed.ensures.stays.goes in
+    let same = c.as_slice.ensures ∙ c.in_ok-targets.ensures in
+    let first = leaves_still m c.args.world.now c.withdraw.new.world c.args.store.now c.withdraw.new.store (Contains c.args.rec.targets)
+    c.withdraw.ensures.around
+    (λ path out. c.withdraw.ensures.map path (λ h. out (subst (λ (paths : List (List ℕ)). Contains paths path) c.in_ok-targets.ensures h))
+    ∙ ap (λ (map : Map). map path) c.prepare.ensures.map) in
+    let last = leaves_cleared m c.withdraw.new.world removed.new.world c.withdraw.new.store c.give_up.new.self c.args.rec.targets
+    (subst (λ (paths : List (List ℕ)). Takes m c.withdraw.new.world removed.new.world (Contains paths)) same removed.ensures.only)
+    (subst (λ (paths : List (List ℕ)). ClearsAt m paths c.withdraw.new.world removed.new.world) same removed.ensures.clears)
+    c.give_up.ensures.map in
+    leaves_on m c.args.world.now c.withdraw.new.world removed.new.world c.args.store.now c.withdraw.new.store c.give_up.new.self _
+    stays.passes.told.told first last

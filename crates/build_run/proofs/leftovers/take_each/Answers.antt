@@ -2,6 +2,7 @@ use Rattle.std.proofs.Common.{◌∙◌, ◌<◌, length, Contains, sym, subst, 
 use Rattle.deciders.specs.declared.recorded.Rec.{Rec}
 use Rattle.build_run.specs.Takes.{IsTargetOf}
 use Rattle.build_run.proofs.Goings.{goes_on}
+use Rattle.build_run.proofs.Leaving.{leaves_as, leaves_on}
 use Rattle.build_run.proofs.Taking.{take_inside, take_exit, take_after, takes_on, takes_as, taken_so_far, all_taken}
 use Rattle.build_run.proofs.leftovers.take_each.Goals as goal
 
@@ -25,6 +26,10 @@ loop-rec-preserved g c =
           taken_so_far c.args.left.now c.loop-rec.rec-index c.rec-item.result (m.around c.loop-rec.world) (m.around c.take_away.new.world) (IsTargetOf c.args.left.now) within c.rec-item.is (one t rest)
           (λ path among. c.in_ok-take_away.ensures.gone t path (subst (λ (rec : Rec). Contains rec.targets path) (sym c.in_ok-copy.ensures) among)) (before.gone told);
       only = takes_on m c.args.world.now c.loop-rec.world c.take_away.new.world _ goes.passes.told.told before.goes.runs before.only one;
+      rest = leaves_on m c.args.world.now c.loop-rec.world c.take_away.new.world c.args.store.now c.loop-rec.store c.take_away.new.store _
+          goes.passes.told.told before.rest
+          (leaves_as m c.loop-rec.world c.take_away.new.world c.loop-rec.store c.take_away.new.store _ (IsTargetOf c.args.left.now)
+          (λ path among. (c.rec-item.result, there, subst (λ (rec : Rec). Contains rec.targets path) c.in_ok-copy.ensures among)) c.take_away.ensures.rest);
     }
 
 pub take_away-requires-clause-idle : goal.take_away-requires-clause-idle
@@ -52,3 +57,12 @@ returns-in_err-take_away-clause-only g c =
 
 pub returns-clause-gone : goal.returns-clause-gone
 returns-clause-gone g c = λ t. all_taken c.args.left.now c.loop-rec.rec-index (g.W.Disk.meaning.around c.loop-rec.world) (omega arith) (c.loop-rec.invariant.gone t)
+
+pub returns-in_err-take_away-clause-rest : goal.returns-in_err-take_away-clause-rest
+returns-in_err-take_away-clause-rest g c =
+    let m = g.W.Disk.meaning in
+    let there : Contains c.args.left.now c.rec-item.result = (c.loop-rec.rec-index, omega (arith, c.loop-rec-test.true), sym c.rec-item.is) in
+    let one = leaves_as m c.loop-rec.world c.take_away.new.world c.loop-rec.store c.take_away.new.store _ (IsTargetOf c.args.left.now)
+    (λ path among. (c.rec-item.result, there, subst (λ (rec : Rec). Contains rec.targets path) c.in_ok-copy.ensures among)) c.take_away.ensures.rest in
+    leaves_on m c.args.world.now c.loop-rec.world c.take_away.new.world c.args.store.now c.loop-rec.store c.take_away.new.store _
+    c.take_away.ensures.goes.passes.told.told c.loop-rec.invariant.rest one

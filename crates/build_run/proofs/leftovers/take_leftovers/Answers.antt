@@ -3,6 +3,7 @@ use Rattle.sign_store.specs.Copies.{IsCopyIn}
 use Rattle.sign_store.specs.Stores.{map_of}
 use Rattle.deciders.specs.declared.recorded.Rec.{Rec}
 use Rattle.build_files.specs.Leftovers.{AreLeftovers}
+use Rattle.build_run.proofs.Leaving.{leaves_left}
 use Rattle.build_run.proofs.Taking.{kept_over, take_end, take_exit, take_after, takes_looked, takes_left, left_taken, done_gone}
 use Rattle.build_run.proofs.leftovers.take_leftovers.Goals as goal
 
@@ -37,3 +38,12 @@ returns-clause-gone g c = λ t.
     let found = subst (λ (left : List Rec). AreLeftovers c.args.graph.now (m.around c.leftover_copies.new.world) (IsCopyIn map) left) (sym c.as_slice.ensures) (c.in_ok-left.ensures.left (told, (looks.around told).running ∙ rest)) in
     done_gone _ _ (m.around c.take_each.new.world) c.take_each.result (c.take_each.ensures.gone t)
     (left_taken m c.args.world.now c.leftover_copies.new.world (m.around c.take_each.new.world) c.args.graph.now map c.as_slice.result.now told rest looks found)
+
+pub returns-clause-rest : goal.returns-clause-rest
+returns-clause-rest g c =
+    let m = g.W.Disk.meaning in
+    let map = map_of c.args.store.now in
+    leaves_left m c.args.world.now c.leftover_copies.new.world c.take_each.new.world c.args.graph.now c.args.store.now c.take_each.new.store
+    c.as_slice.result.now c.take_each.ensures.goes.passes.told.told c.leftover_copies.ensures.looks
+    (λ t rest. subst (λ (left : List Rec). AreLeftovers c.args.graph.now (m.around c.leftover_copies.new.world) (IsCopyIn map) left) (sym c.as_slice.ensures) (c.in_ok-left.ensures.left (t, rest)))
+    c.take_each.ensures.rest

@@ -1,5 +1,8 @@
-use Rattle.std.proofs.Common.{◌∙◌}
+use Rattle.std.proofs.Common.{◌∙◌, ap, subst, ℕ, List, Contains}
+use Rattle.sign_store.specs.Stores.{map_of}
+use Rattle.sign_store.specs.Tables.{Map}
 use Rattle.sign_store.proofs.Keeping.{stands_in}
+use Rattle.build_run.proofs.Leaving.{unset_others}
 use Rattle.build_run.proofs.Outs.{out_alone, withdrawn}
 use Rattle.build_run.proofs.leftovers.withdraw.Goals as goal
 
@@ -17,3 +20,13 @@ returns-in-Ok-clause-withdrawn g c =
     let t = c.requires.ticket in
     let with = out_alone c.args.store.now t.rec c.args.ticket.now t.out in
     withdrawn g.W.Disk.meaning c.withdraw.new.world c.withdraw.new.self _ t.rec c.args.targets.now t.same (c.in-Ok.ensures.map t.rec with) (c.in-Ok.ensures.keeps t.rec with c.requires.kept)
+
+pub returns-in-Ok-clause-map : goal.returns-in-Ok-clause-map
+returns-in-Ok-clause-map g c = λ path out.
+    let t = c.requires.ticket in
+    let with = out_alone c.args.store.now t.rec c.args.ticket.now t.out in
+    unset_others t.rec.targets (map_of c.args.store.now) (map_of c.withdraw.new.self) (c.in-Ok.ensures.map t.rec with) path
+    (λ h. out (subst (λ (paths : List (List ℕ)). Contains paths path) t.same h))
+
+pub returns-in-Err-clause-map : goal.returns-in-Err-clause-map
+returns-in-Err-clause-map g c = λ path out. ap (λ (map : Map). map path) c.in-Err.ensures.same

@@ -1,4 +1,4 @@
-use Rattle.std.proofs.Common.{◌≡◌, ◌∙◌, List, [], ◌∷◌, ◌++◌, sym, subst, ap}
+use Rattle.std.proofs.Common.{◌≡◌, ◌∙◌, List, [], ◌∷◌, ◌++◌, refl, sym, subst, ap}
 use Rattle.scons_base.specs.Parts.{dir_of}
 use Rattle.c_scanner.specs.declared.line.Include.{Include}
 use Rattle.rule_graph.specs.declared.rule.Rule.{Rule}
@@ -9,6 +9,7 @@ use Rattle.build_means.proofs.Lists.{some_same}
 use Rattle.build_files.specs.Kept.{past, includes_in}
 use Rattle.build_files.specs.Searched.{meant, AreDirs, AreNodesOf}
 use Rattle.build_files.proofs.Presence.{same_keys}
+use Rattle.build_files.proofs.Reading.{reads_by, reads_fewer, reads_joined, reads_same, reads_searched}
 use Rattle.build_files.proofs.Searching.{place_more}
 use Rattle.build_files.proofs.Truths.{kept_same, kept_includes, kept_no_includes, included_same}
 use Rattle.build_files.proofs.inputs.Inputs.look_up.Goals as goal
@@ -21,6 +22,25 @@ returns-clause-looks g c = looks_joined _ _ _ _ c.read_once.ensures.looks c.sear
 
 pub returns-in_err-keep_includes-clause-looks : goal.returns-in_err-keep_includes-clause-looks
 returns-in_err-keep_includes-clause-looks g c = looks_joined _ _ _ _ c.read_once.ensures.looks c.search_each.ensures.looks
+
+pub returns-in_err-found-clause-only : goal.returns-in_err-found-clause-only
+returns-in_err-found-clause-only g c =
+    reads_searched c.args.file c.args.self.now c.read_once.new.self c.take_includes.new.self c.search_each.new.self c.read_once.ensures.only c.take_includes.ensures.sees
+    c.search_each.ensures.only
+
+pub returns-in_err-keep_includes-clause-only : goal.returns-in_err-keep_includes-clause-only
+returns-in_err-keep_includes-clause-only g c =
+    let files = c.args.file ∷ [] in
+    reads_joined files c.args.self.now c.search_each.new.self _
+    (reads_searched c.args.file c.args.self.now c.read_once.new.self c.take_includes.new.self c.search_each.new.self c.read_once.ensures.only c.take_includes.ensures.sees
+    c.search_each.ensures.only) (reads_fewer files _ _ (reads_same c.search_each.new.self c.keep_includes.new.self c.in_err-keep_includes.ensures.same))
+
+pub returns-clause-only : goal.returns-clause-only
+returns-clause-only g c =
+    reads_joined (c.args.file ∷ []) c.args.self.now c.search_each.new.self _
+    (reads_searched c.args.file c.args.self.now c.read_once.new.self c.take_includes.new.self c.search_each.new.self c.read_once.ensures.only c.take_includes.ensures.sees
+    c.search_each.ensures.only)
+    (reads_by c.args.file c.search_each.new.self (record c.search_each.new.self { files = c.keep_includes.new.self }) refl c.in_ok-keep_includes.ensures.done.others)
 
 pub returns-in_err-found-clause-truth : goal.returns-in_err-found-clause-truth
 returns-in_err-found-clause-truth g c = λ still told b is.

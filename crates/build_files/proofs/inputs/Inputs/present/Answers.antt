@@ -7,7 +7,9 @@ use Rattle.rule_graph.specs.Graphs.{path_of}
 use Rattle.world_api.proofs.Looking.{looks_same, looks_joined}
 use Rattle.build_means.specs.Rules.{IsReading, paths_of}
 use Rattle.build_files.specs.Kept.{past, stamp_past}
+use Rattle.build_files.proofs.Marking.{marks_none, marks_joined}
 use Rattle.build_files.proofs.Presence.{AreThere, none_there, there_more, first_absent, is_present, among_ids, at_path, still_on, seen_since, ok_same, not_missing, is_missing}
+use Rattle.build_files.proofs.Reading.{reads_next, reads_none}
 use Rattle.build_files.proofs.RuleAt.{of_rule}
 use Rattle.build_files.proofs.inputs.Inputs.present.Goals as goal
 
@@ -19,6 +21,30 @@ returns-in_err-push-clause-looks g c = looks_joined _ _ _ _ c.loop-node.invarian
 
 pub returns-then-is_lacking-clause-looks : goal.returns-then-is_lacking-clause-looks
 returns-then-is_lacking-clause-looks g c = looks_joined _ _ _ _ c.loop-node.invariant.looks c.dep.ensures.looks
+
+pub returns-in_err-dep-clause-only : goal.returns-in_err-dep-clause-only
+returns-in_err-dep-clause-only g c =
+    reads_next c.args.nodes.now c.loop-node.node-index (record { 0 = 0 }) c.args.self.now c.loop-node.self c.dep.new.self (omega (arith, c.loop-node-test.true))
+    c.loop-node.invariant.only c.dep.ensures.only
+
+pub returns-in_err-push-clause-only : goal.returns-in_err-push-clause-only
+returns-in_err-push-clause-only g c =
+    reads_next c.args.nodes.now c.loop-node.node-index (record { 0 = 0 }) c.args.self.now c.loop-node.self c.dep.new.self (omega (arith, c.loop-node-test.true))
+    c.loop-node.invariant.only c.dep.ensures.only
+
+pub returns-then-is_lacking-clause-only : goal.returns-then-is_lacking-clause-only
+returns-then-is_lacking-clause-only g c =
+    reads_next c.args.nodes.now c.loop-node.node-index (record { 0 = 0 }) c.args.self.now c.loop-node.self c.dep.new.self (omega (arith, c.loop-node-test.true))
+    c.loop-node.invariant.only c.dep.ensures.only
+
+pub returns-in_err-dep-clause-marks : goal.returns-in_err-dep-clause-marks
+returns-in_err-dep-clause-marks g c = marks_joined _ _ _ _ _ _ c.loop-node.invariant.marks c.dep.ensures.marks
+
+pub returns-in_err-push-clause-marks : goal.returns-in_err-push-clause-marks
+returns-in_err-push-clause-marks g c = marks_joined _ _ _ _ _ _ c.loop-node.invariant.marks c.dep.ensures.marks
+
+pub returns-then-is_lacking-clause-marks : goal.returns-then-is_lacking-clause-marks
+returns-then-is_lacking-clause-marks g c = marks_joined _ _ _ _ _ _ c.loop-node.invariant.marks c.dep.ensures.marks
 
 pub returns-in_err-dep-clause-truth : goal.returns-in_err-dep-clause-truth
 returns-in_err-dep-clause-truth g c = λ still told b is.
@@ -55,6 +81,8 @@ loop-node-init g c = record {
   looks = looks_same _ _;
   counts = refl;
   gone = refl;
+  only = reads_none c.args.nodes.now c.args.self.now;
+  marks = marks_none _ _;
   truth = λ still told b is. is;
   there = λ still told b is r same.
       subst (λ (deps : List Dep). AreThere b r (past c.args.self.now.gone.keys (g.W.Disk.meaning.around c.args.world.now).tree)
@@ -74,6 +102,8 @@ loop-node-preserved g c =
       looks = looks_joined _ _ _ _ c.loop-node.invariant.looks c.dep.ensures.looks;
       counts = c.in_ok-dep.ensures.cause ∙ c.loop-node.invariant.counts;
       gone = c.dep.ensures.gone ∙ c.loop-node.invariant.gone;
+      only = reads_next c.args.nodes.now c.loop-node.node-index (record { 0 = 0 }) c.args.self.now c.loop-node.self c.dep.new.self within c.loop-node.invariant.only c.dep.ensures.only;
+      marks = marks_joined _ _ _ _ _ _ c.loop-node.invariant.marks c.dep.ensures.marks;
       truth = λ still told b is.
           let before = c.dep.ensures.looks.told.told told in
           c.dep.ensures.truth (still_on graph _ _ node.0 (c.loop-node.invariant.looks.around before) (still node among)) told b (c.loop-node.invariant.truth still before b is);

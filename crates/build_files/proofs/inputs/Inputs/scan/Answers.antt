@@ -1,9 +1,10 @@
-use Rattle.std.proofs.Common.{List, Option, IfSome, ap, subst}
+use Rattle.std.proofs.Common.{List, [], ◌∷◌, Option, IfSome, ap, subst}
 use Rattle.scons_base.specs.declared.ids.NodeId.{NodeId}
 use Rattle.build_model.specs.Rules.{Path}
 use Rattle.build_files.specs.Kept.{includes_in, past}
 use Rattle.build_files.specs.Searched.{meant, AreNodesOf}
 use Rattle.build_files.proofs.Looking.{quiet}
+use Rattle.build_files.proofs.Reading.{reads_fewer, reads_joined}
 use Rattle.build_files.proofs.Scans.{found_for_rule, handed_on, kept_nodes}
 use Rattle.build_files.proofs.inputs.Inputs.scan.Goals as goal
 
@@ -11,6 +12,21 @@ pub returns-in_err-found-clause-cause : goal.returns-in_err-found-clause-cause
 returns-in_err-found-clause-cause g c =
     let counts = g.W.Disk.meaning.counts c.args.world.now in
     handed_on counts counts c.from_residual.result _ c.from_residual.ensures.1 (c.in_err-found.ensures.quiet counts)
+
+pub returns-in_err-found-clause-only : goal.returns-in_err-found-clause-only
+returns-in_err-found-clause-only g c = reads_fewer (c.args.file ∷ []) c.args.self.now c.found_before.new.self c.found_before.ensures.only
+
+pub returns-in_err-found-2-clause-only : goal.returns-in_err-found-2-clause-only
+returns-in_err-found-2-clause-only g c =
+    let files = c.args.file ∷ [] in
+    reads_joined files c.args.self.now c.found_before.new.self c.look_up.new.self (reads_fewer files c.args.self.now c.found_before.new.self c.found_before.ensures.only)
+    c.look_up.ensures.only
+
+pub returns-clause-only : goal.returns-clause-only
+returns-clause-only g c =
+    let files = c.args.file ∷ [] in
+    reads_joined files c.args.self.now c.found_before.new.self c.keep_found.new.self (reads_fewer files c.args.self.now c.found_before.new.self c.found_before.ensures.only)
+    (reads_joined files c.found_before.new.self c.look_up.new.self c.keep_found.new.self c.look_up.ensures.only c.keep_found.ensures.only)
 
 pub returns-in-Some-clause-found : goal.returns-in-Some-clause-found
 returns-in-Some-clause-found g c = λ still x path rule at told b is.

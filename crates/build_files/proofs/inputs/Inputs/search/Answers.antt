@@ -1,11 +1,13 @@
-use Rattle.std.proofs.Common.{◌∙◌, None, refl, sym, subst}
+use Rattle.std.proofs.Common.{◌∙◌, [], None, refl, sym, subst}
 use Rattle.std.specs.Str.{IsUtf8}
 use Rattle.world_api.proofs.Looking.{looks_same, looks_joined}
 use Rattle.build_means.specs.Copies.{is_known}
 use Rattle.build_means.specs.Finds.{places_in}
 use Rattle.build_files.specs.Searched.{first_known}
 use Rattle.build_files.proofs.Candidates.{found_in_dirs, found_nothing}
+use Rattle.build_files.proofs.Marking.{marks_none, marks_joined}
 use Rattle.build_files.proofs.Noting.{more_same, more_joined}
+use Rattle.build_files.proofs.Reading.{reads_joined, reads_none}
 use Rattle.build_files.proofs.Searching.{none_more, none_all, found_here, no_node, node_none}
 use Rattle.build_files.proofs.inputs.Inputs.search.Goals as goal
 
@@ -17,6 +19,9 @@ returns-in_err-node-clause-grows g c = more_joined _ _ _ c.loop-dir.invariant.gr
 
 pub returns-in_err-node-clause-gone : goal.returns-in_err-node-clause-gone
 returns-in_err-node-clause-gone g c = c.search_dir.ensures.gone ∙ c.loop-dir.invariant.gone
+
+pub returns-in_err-node-clause-marks : goal.returns-in_err-node-clause-marks
+returns-in_err-node-clause-marks g c = marks_joined _ _ _ _ _ _ c.loop-dir.invariant.marks c.search_dir.ensures.marks
 
 pub returns-in_err-node-clause-truth : goal.returns-in_err-node-clause-truth
 returns-in_err-node-clause-truth g c =
@@ -32,6 +37,8 @@ loop-dir-init g c = record {
   counts = refl;
   grows = more_same c.args.graph.now;
   gone = refl;
+  only = reads_none [] c.args.self.now;
+  marks = marks_none _ _;
   truth = λ told b is. is;
   passed = λ told b is. refl;
 }
@@ -42,6 +49,8 @@ loop-dir-preserved g c = record {
   counts = c.in_ok-node.ensures.cause ∙ c.loop-dir.invariant.counts;
   grows = more_joined _ _ _ c.loop-dir.invariant.grows c.search_dir.ensures.grows;
   gone = c.search_dir.ensures.gone ∙ c.loop-dir.invariant.gone;
+  only = reads_joined [] _ _ _ c.loop-dir.invariant.only c.search_dir.ensures.only;
+  marks = marks_joined _ _ _ _ _ _ c.loop-dir.invariant.marks c.search_dir.ensures.marks;
   truth = λ told b is. c.search_dir.ensures.truth told b (c.loop-dir.invariant.truth (c.search_dir.ensures.looks.told.told told) b is);
   passed = λ told b is.
       let before = c.search_dir.ensures.looks.told.told told in
@@ -59,6 +68,9 @@ returns-then-is_some-clause-grows g c = more_joined _ _ _ c.loop-dir.invariant.g
 
 pub returns-then-is_some-clause-gone : goal.returns-then-is_some-clause-gone
 returns-then-is_some-clause-gone g c = c.search_dir.ensures.gone ∙ c.loop-dir.invariant.gone
+
+pub returns-then-is_some-clause-marks : goal.returns-then-is_some-clause-marks
+returns-then-is_some-clause-marks g c = marks_joined _ _ _ _ _ _ c.loop-dir.invariant.marks c.search_dir.ensures.marks
 
 pub returns-then-is_some-clause-truth : goal.returns-then-is_some-clause-truth
 returns-then-is_some-clause-truth g c =

@@ -3,7 +3,9 @@ use Rattle.scons_base.specs.declared.ids.NodeId.{NodeId}
 use Rattle.world_api.proofs.Looking.{looks_same, looks_joined}
 use Rattle.build_means.specs.Finds.{found_for}
 use Rattle.build_files.specs.Searched.{AreNodesOf}
+use Rattle.build_files.proofs.Marking.{marks_none, marks_joined}
 use Rattle.build_files.proofs.Noting.{more_same, more_joined}
+use Rattle.build_files.proofs.Reading.{reads_joined, reads_none}
 use Rattle.build_files.proofs.Searching.{meant_more, meant_all}
 use Rattle.build_files.proofs.inputs.Inputs.search_each.Goals as goal
 
@@ -15,6 +17,9 @@ returns-in_err-node-clause-grows g c = more_joined _ _ _ c.loop-include.invarian
 
 pub returns-in_err-node-clause-gone : goal.returns-in_err-node-clause-gone
 returns-in_err-node-clause-gone g c = c.search.ensures.gone ∙ c.loop-include.invariant.gone
+
+pub returns-in_err-node-clause-marks : goal.returns-in_err-node-clause-marks
+returns-in_err-node-clause-marks g c = marks_joined _ _ _ _ _ _ c.loop-include.invariant.marks c.search.ensures.marks
 
 pub returns-in_err-node-clause-truth : goal.returns-in_err-node-clause-truth
 returns-in_err-node-clause-truth g c =
@@ -29,6 +34,9 @@ returns-in_err-push_found-clause-grows g c = more_joined _ _ _ c.loop-include.in
 pub returns-in_err-push_found-clause-gone : goal.returns-in_err-push_found-clause-gone
 returns-in_err-push_found-clause-gone g c = c.search.ensures.gone ∙ c.loop-include.invariant.gone
 
+pub returns-in_err-push_found-clause-marks : goal.returns-in_err-push_found-clause-marks
+returns-in_err-push_found-clause-marks g c = marks_joined _ _ _ _ _ _ c.loop-include.invariant.marks c.search.ensures.marks
+
 pub returns-in_err-push_found-clause-truth : goal.returns-in_err-push_found-clause-truth
 returns-in_err-push_found-clause-truth g c =
     λ told b is. c.search.ensures.truth told b (c.loop-include.invariant.truth (c.search.ensures.looks.told.told told) b is)
@@ -39,6 +47,8 @@ loop-include-init g c = record {
   counts = refl;
   grows = more_same c.args.graph.now;
   gone = refl;
+  only = reads_none [] c.args.self.now;
+  marks = marks_none _ _;
   truth = λ told b is. is;
   found = λ paths file are told b is. subst (λ (nodes : List NodeId). AreNodesOf c.args.graph.now [] nodes) (sym c.new-found.ensures.items) tt;
 }
@@ -49,6 +59,8 @@ loop-include-preserved g c = record {
   counts = c.in_ok-node.ensures.cause ∙ c.loop-include.invariant.counts;
   grows = more_joined _ _ _ c.loop-include.invariant.grows c.search.ensures.grows;
   gone = c.search.ensures.gone ∙ c.loop-include.invariant.gone;
+  only = reads_joined [] _ _ _ c.loop-include.invariant.only c.search.ensures.only;
+  marks = marks_joined _ _ _ _ _ _ c.loop-include.invariant.marks c.search.ensures.marks;
   truth = λ told b is. c.search.ensures.truth told b (c.loop-include.invariant.truth (c.search.ensures.looks.told.told told) b is);
   found = λ paths file are told b is.
       let before = c.search.ensures.looks.told.told told in

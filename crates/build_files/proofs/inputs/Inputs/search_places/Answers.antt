@@ -4,7 +4,9 @@ use Rattle.build_means.specs.Copies.{is_known}
 use Rattle.build_means.specs.Finds.{places_in}
 use Rattle.build_files.specs.Searched.{first_known}
 use Rattle.build_files.proofs.Candidates.{found_in}
+use Rattle.build_files.proofs.Marking.{marks_none, marks_joined}
 use Rattle.build_files.proofs.Noting.{more_same, more_joined}
+use Rattle.build_files.proofs.Reading.{reads_joined, reads_none}
 use Rattle.build_files.proofs.Searching.{none_more, none_all, found_here, no_node, node_none, found_one, places_same}
 use Rattle.build_files.proofs.inputs.Inputs.search_places.Goals as goal
 
@@ -17,6 +19,9 @@ returns-in_err-node-clause-grows g c = more_joined _ _ _ c.loop-path.invariant.g
 pub returns-in_err-node-clause-gone : goal.returns-in_err-node-clause-gone
 returns-in_err-node-clause-gone g c = c.known.ensures.gone ∙ c.loop-path.invariant.gone
 
+pub returns-in_err-node-clause-marks : goal.returns-in_err-node-clause-marks
+returns-in_err-node-clause-marks g c = marks_joined _ _ _ _ _ _ c.loop-path.invariant.marks c.known.ensures.marks
+
 pub returns-in_err-node-clause-truth : goal.returns-in_err-node-clause-truth
 returns-in_err-node-clause-truth g c =
     λ told b is. c.known.ensures.truth told b (c.loop-path.invariant.truth (c.known.ensures.looks.told.told told) b is)
@@ -27,6 +32,8 @@ loop-path-init g c = record {
   counts = refl;
   grows = more_same c.args.graph.now;
   gone = refl;
+  only = reads_none [] c.args.self.now;
+  marks = marks_none _ _;
   truth = λ told b is. is;
   passed = λ told b is. refl;
 }
@@ -37,6 +44,8 @@ loop-path-preserved g c = record {
   counts = c.in_ok-node.ensures.cause ∙ c.loop-path.invariant.counts;
   grows = more_joined _ _ _ c.loop-path.invariant.grows c.known.ensures.grows;
   gone = c.known.ensures.gone ∙ c.loop-path.invariant.gone;
+  only = reads_joined [] _ _ _ c.loop-path.invariant.only c.known.ensures.only;
+  marks = marks_joined _ _ _ _ _ _ c.loop-path.invariant.marks c.known.ensures.marks;
   truth = λ told b is. c.known.ensures.truth told b (c.loop-path.invariant.truth (c.known.ensures.looks.told.told told) b is);
   passed = λ told b is.
       let before = c.known.ensures.looks.told.told told in
@@ -55,6 +64,9 @@ returns-then-is_some-clause-grows g c = more_joined _ _ _ c.loop-path.invariant.
 
 pub returns-then-is_some-clause-gone : goal.returns-then-is_some-clause-gone
 returns-then-is_some-clause-gone g c = c.known.ensures.gone ∙ c.loop-path.invariant.gone
+
+pub returns-then-is_some-clause-marks : goal.returns-then-is_some-clause-marks
+returns-then-is_some-clause-marks g c = marks_joined _ _ _ _ _ _ c.loop-path.invariant.marks c.known.ensures.marks
 
 pub returns-then-is_some-clause-truth : goal.returns-then-is_some-clause-truth
 returns-then-is_some-clause-truth g c =

@@ -1,6 +1,7 @@
-use Rattle.std.proofs.Common.{◌∙◌, sym, subst}
+use Rattle.std.proofs.Common.{◌∙◌, refl, sym, subst}
 use Rattle.world_api.specs.Around.{IsRunningTarget}
 use Rattle.build_files.proofs.Truths.{asked, kept_same, kept_stamp}
+use Rattle.build_files.proofs.Reading.{reads_by}
 use Rattle.build_files.proofs.inputs.Inputs.stamp.Goals as goal
 
 pub returns-in-Some-clause-stamp : goal.returns-in-Some-clause-stamp
@@ -20,3 +21,7 @@ returns-clause-truth g c = λ still told b is.
     kept_stamp b _ _ _ _ _ _ at (asked b _ _ _ _ asks is)
     (λ running. still _ at (subst (λ r. IsRunningTarget r c.in_ok-path_of.field-0.now) asks.running running))
     (c.in_ok-stamp.ensures.stamp told) c.in_ok-keep_stamp.ensures.done
+
+pub returns-clause-only : goal.returns-clause-only
+returns-clause-only g c =
+    reads_by c.args.node c.args.self.now (record c.args.self.now { files = c.keep_stamp.new.self }) refl c.in_ok-keep_stamp.ensures.done.others

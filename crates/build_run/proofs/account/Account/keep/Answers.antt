@@ -4,11 +4,11 @@ use Rattle.build_run.proofs.Causing.{account_as, as_faults, dropped}
 use Rattle.build_run.proofs.account.Account.keep.Goals.{in-Ok, in-Err}
 use Rattle.build_run.proofs.account.Account.keep.Goals as goal
 
-pub returns : goal.returns
-returns c = elim c.match-push.branch [
+pub returns-clause-keeps : goal.returns-clause-keeps
+returns-clause-keeps c = elim c.match-push.branch [
   | in-Ok w ↦ rw w.self-is (record { shut = refl; accounts = λ now start a. as_faults start now _ _ _ _ w.in-Ok.ensures.items a })
   | in-Err w ↦ rw w.self-is (record {
-    shut = ap (λ (l : Ledger). l.shut) w.want_memory.ensures;
-    accounts = λ now start a. account_as start now _ _ w.want_memory.ensures (as_faults start now _ _ _ _ w.in-Err.ensures.items (dropped start (ledger_of c.args.self.now) now c.args.fault a));
+    shut = ap (λ (l : Ledger). l.shut) w.want_memory.ensures.ledger;
+    accounts = λ now start a. account_as start now _ _ w.want_memory.ensures.ledger (as_faults start now _ _ _ _ w.in-Err.ensures.items (dropped start (ledger_of c.args.self.now) now c.args.fault a));
   })
 ]

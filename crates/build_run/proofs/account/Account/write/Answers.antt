@@ -2,8 +2,8 @@ use Rattle.build_run.specs.Ledgers.{ledger_of}
 use Rattle.build_run.proofs.Causing.{err_fault}
 use Rattle.build_run.proofs.account.Account.write.Goals as goal
 
-pub returns-in-Err : goal.returns-in-Err
-returns-in-Err g c = record {
-  shut = c.keep.ensures.shut;
-  accounts = λ counts out start a. c.keep.ensures.accounts _ start (err_fault start (ledger_of c.args.self.now) counts out _ _ c.in-Err.ensures.err.faults a);
+pub returns-in-Err-clause-reports : goal.returns-in-Err-clause-reports
+returns-in-Err-clause-reports g c = record {
+  shut = c.keep.ensures.keeps.shut;
+  accounts = λ counts out start a. c.keep.ensures.keeps.accounts _ start (err_fault start (ledger_of c.args.self.now) counts out _ _ c.in-Err.ensures.err.faults a);
 }

@@ -3,9 +3,9 @@ use Rattle.build_run.proofs.Causing.{wanted, account_as}
 use Rattle.build_run.proofs.site.Site.close.Goals as goal
 
 pub returns-in-Ok-clause-accounts : goal.returns-in-Ok-clause-accounts
-returns-in-Ok-clause-accounts g c = λ start a. c.tell_cycle.ensures.accounts _ _ start a
+returns-in-Ok-clause-accounts g c = λ start a. c.tell_cycle.ensures.reports.accounts _ _ start a
 
 pub returns-in-Err-clause-accounts : goal.returns-in-Err-clause-accounts
 returns-in-Err-clause-accounts g c = λ start a.
     let told = ledger_of c.tell_cycle.new.account in
-    account_as start _ (wanting told) (ledger_of c.want_memory.new.self) c.want_memory.ensures (wanted start told _ (c.tell_cycle.ensures.accounts _ _ start a))
+    account_as start _ (wanting told) (ledger_of c.want_memory.new.self) c.want_memory.ensures.ledger (wanted start told _ (c.tell_cycle.ensures.reports.accounts _ _ start a))

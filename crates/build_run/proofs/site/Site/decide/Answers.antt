@@ -1,9 +1,14 @@
-use Rattle.std.proofs.Common.{◌∙◌, List, Contains, ap, refl, subst, sym}
+use Rattle.std.proofs.Common.{◌∙◌, List, [], Contains, ap, refl, subst, sym}
+use Rattle.std.specs.Prelude.{Ok}
 use Rattle.sign_store.specs.Putting.{map_with}
 use Rattle.build_run.specs.Holds.{Busy}
 use Rattle.build_run.specs.Ledgers.{ledger_of}
 use Rattle.build_run.proofs.Causing.{exit_same, inside, inner, look_end, same_counts}
 use Rattle.build_run.proofs.Sites.{sound_still}
+use Rattle.build_run.specs.declared.site.Run.{Run}
+use Rattle.build_run.proofs.Clearing.{clears_asked}
+use Rattle.build_run.proofs.Presenting.{along_present, due_present, lacks_on}
+use Rattle.build_run.proofs.Starting.{end_of_turn, ended_on}
 use Rattle.build_run.proofs.site.Site.decide.Goals as goal
 
 pub returns-in_err-now-clause-ends : goal.returns-in_err-now-clause-ends
@@ -38,11 +43,11 @@ returns-in_err-missing-in-Lacks-clause-kept g c = λ unshut busy path h made. ap
 pub returns-in_ok-missing-in-Lacks-clause-ends : goal.returns-in_ok-missing-in-Lacks-clause-ends
 returns-in_ok-missing-in-Lacks-clause-ends g c = λ start a.
     let before = ledger_of c.args.self.now.account.now in
-    c.fail.ensures.accounts _ _ start (inner start before _ c.in_ok-missing-in-Lacks.missing c.in_ok-missing-in-Lacks.ensures.inner (same_counts start before _ _ _ _ c.in_ok-now.ensures.cause a))
+    c.fail.ensures.reports.accounts _ _ start (inner start before _ c.in_ok-missing-in-Lacks.missing c.in_ok-missing-in-Lacks.ensures.inner (same_counts start before _ _ _ _ c.in_ok-now.ensures.cause a))
 
 pub returns-in_ok-missing-in-Lacks-clause-sound : goal.returns-in_ok-missing-in-Lacks-clause-sound
 returns-in_ok-missing-in-Lacks-clause-sound g c =
-    sound_still g.W.Disk.meaning c.args.self.now _ c.present.ensures.stays refl c.present.ensures.held c.present.ensures.tickets refl c.fail.ensures.shut c.requires.sound
+    sound_still g.W.Disk.meaning c.args.self.now _ c.present.ensures.stays refl c.present.ensures.held c.present.ensures.tickets refl c.fail.ensures.reports.shut c.requires.sound
 
 pub returns-in_ok-missing-in-Lacks-clause-kept : goal.returns-in_ok-missing-in-Lacks-clause-kept
 returns-in_ok-missing-in-Lacks-clause-kept g c = λ unshut busy path h made. ap (λ (all : List Busy). map_with c.args.self.now.store.now all path) c.present.ensures.held
@@ -51,3 +56,45 @@ pub returns-in-Record-clause-kept : goal.returns-in-Record-clause-kept
 returns-in-Record-clause-kept g c = λ unshut busy path h made.
     c.make.ensures.kept unshut busy path (subst (λ (all : List Busy). Contains all busy) (sym c.present.ensures.held) h) made
     ∙ ap (λ (all : List Busy). map_with c.args.self.now.store.now all path) c.present.ensures.held
+
+pub returns-in_err-now-clause-along : goal.returns-in_err-now-clause-along
+returns-in_err-now-clause-along g c = λ tells sure o outset along wanted.
+    let m = g.W.Disk.meaning in
+    let site = c.args.self.now in
+    let p = c.present.ensures in
+    end_of_turn _ m o _ c.from_residual.result c.from_residual.ensures.1
+    (ended_on m o outset site along c.present.new.world c.present.new.run.held c.present.new.run.plan
+    (clears_asked m [] site.world.now c.present.new.world p.looks.around tells) p.held (ap (λ (r : Run). r.plan) p.rest))
+
+pub returns-in_err-missing-in-Lacks-clause-along : goal.returns-in_err-missing-in-Lacks-clause-along
+returns-in_err-missing-in-Lacks-clause-along g c = λ tells sure o outset along wanted.
+    let m = g.W.Disk.meaning in
+    let site = c.args.self.now in
+    let p = c.present.ensures in
+    let r = c.from_residual-in_err-missing-in-Lacks in
+    end_of_turn _ m o _ r.result r.ensures.1
+    (ended_on m o outset site along c.present.new.world c.present.new.run.held c.present.new.run.plan
+    (clears_asked m [] site.world.now c.present.new.world p.looks.around tells) p.held (ap (λ (r : Run). r.plan) p.rest))
+
+pub returns-in-Record-clause-along : goal.returns-in-Record-clause-along
+returns-in-Record-clause-along g c = λ tells sure o outset along wanted.
+    let m = g.W.Disk.meaning in
+    let site = c.args.self.now in
+    let p = c.present.ensures in
+    let before = c.make.ensures.passes.passes.told.told tells in
+    let asks = p.looks.around before in
+    c.make.ensures.along tells sure o outset
+    (along_present m o outset site _ along c.args.rule wanted.0 asks refl refl refl refl p.rest before (Ok c.in_ok-now.field-0)
+    c.in_ok-now.ensures.presents c.in_ok-now.ensures.cause)
+    (due_present m o outset site _ along c.args.rule wanted.0 asks refl refl refl refl p.rest before (Ok c.in_ok-now.field-0)
+    c.in_ok-now.ensures.presents c.in_ok-now.ensures.cause c.in-Record.now (cc c.in-Record.is)
+    (g.met.W.World.held site.world.now (p.looks.told.told before)) wanted.1)
+
+pub returns-in_ok-missing-in-Lacks-clause-along : goal.returns-in_ok-missing-in-Lacks-clause-along
+returns-in_ok-missing-in-Lacks-clause-along g c = λ tells sure o outset along wanted.
+    let m = g.W.Disk.meaning in
+    let site = c.args.self.now in
+    let p = c.present.ensures in
+    let f = c.fail.ensures in
+    lacks_on m o outset site _ along c.args.rule wanted.0 (p.looks.around tells) refl refl refl p.rest tells (Ok c.in_ok-now.field-0)
+    c.in_ok-now.ensures.presents c.in_ok-now.ensures.cause c.in-Lacks.node (cc c.in-Lacks.is) f.ends f.faulted f.goes f.reports.shut

@@ -1,5 +1,7 @@
 use Rattle.std.proofs.Common.{◌∙◌, ap}
 use Rattle.world_api.specs.Around.{Around}
+use Rattle.build_run.proofs.Alongs.{goes_to_rest, still_at_rest}
+use Rattle.build_run.proofs.EndingOn.{put_ends}
 use Rattle.build_run.proofs.Sites.{site_on, site_puts}
 use Rattle.build_run.proofs.site.Site.go_on.Goals as goal
 
@@ -18,3 +20,16 @@ pub returns-clause-idle : goal.returns-clause-idle
 returns-clause-idle g c = λ t.
     let puts = c.put_held.ensures.puts in
     ap (λ (around : Around). around.running) (puts.around t) ∙ c.wait_for_all.ensures.idle (puts.goes.passes.told.told t)
+
+pub returns-clause-on : goal.returns-clause-on
+returns-clause-on g c =
+    let puts = c.put_held.ensures.puts in
+    goes_to_rest g.W.Disk.meaning _ _ _ _ puts.goes.passes.told c.wait_for_all.ensures.passes.passes.told c.take_turns.ensures.along
+    (c.wait_for_all.ensures.along c.take_turns.ensures.halts) puts.around c.put_held.ensures.known c.put_held.ensures.stands
+    c.put_held.ensures.held c.put_held.ensures.kept
+
+pub returns-clause-still : goal.returns-clause-still
+returns-clause-still g c =
+    let puts = c.put_held.ensures.puts in
+    still_at_rest g.W.Disk.meaning _ _ _ _ puts.goes.passes.told c.take_turns.ensures.still c.take_turns.ensures.halts
+    c.wait_for_all.ensures.none c.wait_for_all.ensures.halted c.put_held.ensures.known (put_ends _ _ _ c.put_held.ensures.stands)

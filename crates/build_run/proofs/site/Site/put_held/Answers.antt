@@ -79,14 +79,14 @@ returns-in-Err-clause-puts g c =
       around = c.put.ensures.around;
       tickets = refl;
       out = refl;
-      shut = λ unshut. absurd (false≢true (sym unshut ∙ c.end.ensures.shut));
+      shut = λ unshut. absurd (false≢true (sym unshut ∙ c.end.ensures.reports.shut));
     }
 
 pub returns-in-Err-clause-accounts : goal.returns-in-Err-clause-accounts
-returns-in-Err-clause-accounts g c = λ start a. c.end.ensures.accounts _ _ start (disk_fault start (ledger_of c.args.self.now.account.now) _ _ _ _ c.in-Err.ensures.rose a)
+returns-in-Err-clause-accounts g c = λ start a. c.end.ensures.reports.accounts _ _ start (disk_fault start (ledger_of c.args.self.now.account.now) _ _ _ _ c.in-Err.ensures.rose a)
 
 pub returns-in-Err-clause-stored : goal.returns-in-Err-clause-stored
-returns-in-Err-clause-stored g c = stored_shut g.W.Disk.meaning _ _ _ _ c.end.ensures.shut
+returns-in-Err-clause-stored g c = stored_shut g.W.Disk.meaning _ _ _ _ c.end.ensures.reports.shut
 
 pub returns-in-Err-clause-kept : goal.returns-in-Err-clause-kept
-returns-in-Err-clause-kept g c = λ unshut. absurd (false≢true (sym unshut ∙ c.end.ensures.shut))
+returns-in-Err-clause-kept g c = λ unshut. absurd (false≢true (sym unshut ∙ c.end.ensures.reports.shut))

@@ -8,8 +8,10 @@ use Rattle.build_run.specs.Ledgers.{ledger_of}
 use Rattle.build_run.specs.Outs.{IsOutFor, IsStored}
 use Rattle.build_run.specs.declared.tickets.Hold.{Hold}
 use Rattle.build_run.proofs.Causing.{exit_same, exit_inside, inside, shut_fault}
+use Rattle.build_run.proofs.Clearing.{clears_here}
 use Rattle.build_run.proofs.Goings.{passes_here}
 use Rattle.build_run.proofs.Outs.{apart_both, held_alike, kept_held, no_more_held, outs_front, own_room, own_still, stored_prepared, stored_beside, stored_added, unheld_still}
+use Rattle.build_run.proofs.Starting.{end_leads, ended_on, held_within, launched_on, refused_on, room_in}
 use Rattle.build_run.proofs.site.Site.start.Goals as goal
 
 pub returns-then-self-clause-ends : goal.returns-then-self-clause-ends
@@ -199,3 +201,77 @@ returns-in_err-ticket-clause-kept g c = λ unshut busy path h made.
     let site = c.args.self.now in
     let outs = outs_front site.store.now site.run.now.held site.run.now.tickets (c.requires.sound.stored.outs c.if-self.false) in
     ap (λ (m : Map). m path) (held_alike site.store.now c.prepare.new.store site.run.now.held p.map (λ one rec h out. (p.outs.each rec one.ticket out).own) outs)
+
+pub returns-then-self-clause-along : goal.returns-then-self-clause-along
+returns-then-self-clause-along g c = λ tells sure o outset along due is_due.
+    let m = g.W.Disk.meaning in
+    let site = c.args.self.now in
+    ended_on m o outset site along site.world.now site.run.now.held site.run.now.plan (clears_here m [] site.world.now tells) refl refl
+
+pub returns-then-not-are_apart-clause-along : goal.returns-then-not-are_apart-clause-along
+returns-then-not-are_apart-clause-along g c = λ tells sure o outset along due is_due.
+    let m = g.W.Disk.meaning in
+    let site = c.args.self.now in
+    ended_on m o outset site along site.world.now site.run.now.held site.run.now.plan (clears_here m [] site.world.now tells) refl refl
+
+pub returns-then-not-make_none_of-clause-along : goal.returns-then-not-make_none_of-clause-along
+returns-then-not-make_none_of-clause-along g c = λ tells sure o outset along due is_due.
+    let m = g.W.Disk.meaning in
+    let site = c.args.self.now in
+    ended_on m o outset site along site.world.now site.run.now.held site.run.now.plan (clears_here m [] site.world.now tells) refl refl
+
+pub returns-in_err-text-clause-along : goal.returns-in_err-text-clause-along
+returns-in_err-text-clause-along g c = λ tells sure o outset along due is_due.
+    let m = g.W.Disk.meaning in
+    let site = c.args.self.now in
+    end_leads _ m o _ _ c.from_residual.result c.from_residual.ensures.1
+    (ended_on m o outset site along site.world.now site.run.now.held site.run.now.plan (clears_here m [] site.world.now tells) refl refl)
+
+pub returns-in_err-job-clause-along : goal.returns-in_err-job-clause-along
+returns-in_err-job-clause-along g c = λ tells sure o outset along due is_due.
+    let m = g.W.Disk.meaning in
+    let site = c.args.self.now in
+    end_leads _ m o _ _ c.from_residual-in_err-job.result c.from_residual-in_err-job.ensures.1
+    (ended_on m o outset site along site.world.now site.run.now.held site.run.now.plan (clears_here m [] site.world.now tells) refl refl)
+
+pub returns-in_err-hold-clause-along : goal.returns-in_err-hold-clause-along
+returns-in_err-hold-clause-along g c = λ tells sure o outset along due is_due.
+    let m = g.W.Disk.meaning in
+    let site = c.args.self.now in
+    end_leads _ m o _ _ c.from_residual-in_err-hold.result c.from_residual-in_err-hold.ensures.1
+    (ended_on m o outset site along site.world.now site.run.now.held site.run.now.plan (clears_here m [] site.world.now tells) refl refl)
+
+pub returns-in_err-ticket-clause-along : goal.returns-in_err-ticket-clause-along
+returns-in_err-ticket-clause-along g c = λ tells sure o outset along due is_due.
+    let m = g.W.Disk.meaning in
+    let site = c.args.self.now in
+    end_leads _ m o _ _ c.from_residual-in_err-ticket.result c.from_residual-in_err-ticket.ensures.1
+    (ended_on m o outset site along site.world.now site.run.now.held site.run.now.plan (clears_here m [] site.world.now tells) refl refl)
+
+pub returns-in-Ok-clause-along : goal.returns-in-Ok-clause-along
+returns-in-Ok-clause-along g c = λ tells sure o outset along due is_due.
+    let m = g.W.Disk.meaning in
+    let p = c.prepare.ensures in
+    let site = c.args.self.now in
+    let now = c.launch.new.self in
+    let known = c.launch.ensures.known in
+    let account = c.launch.ensures.account in
+    let well = c.in-Ok.ensures.well in
+    let unshut = well.unshut ∙ c.if-self.false in
+    let room = room_in m o site c.requires.sound.joined (c.launch.ensures.passes.passes.told.told tells) along.asked due.room in
+    let outs = outs_front site.store.now site.run.now.held site.run.now.tickets (c.requires.sound.stored.outs c.if-self.false) in
+    let before = held_alike site.store.now c.prepare.new.store site.run.now.held p.map (λ one rec h out. (p.outs.each rec one.ticket out).own) outs in
+    launched_on m o outset site along c.args.rule c.args.now due is_due c.in_ok-job.job c.in_ok-job.ensures room _
+    (c.in-Ok.ensures.starts tells) well.counts known.graph known.plan known.inputs account.ended account.faulted unshut
+    (λ path out. c.launch.ensures.kept unshut path out ∙ ap (λ (m : Map). m path) before)
+    (held_within site.run.now.held now.run.now.held c.launch.ensures.held)
+
+pub returns-clause-along : goal.returns-clause-along
+returns-clause-along g c = λ tells sure o outset along due is_due.
+    let m = g.W.Disk.meaning in
+    let site = c.args.self.now in
+    let now = c.launch.new.self in
+    let room = room_in m o site c.requires.sound.joined (c.launch.ensures.passes.passes.told.told tells) along.asked due.room in
+    refused_on m o outset site along c.args.rule c.args.now due is_due c.in_ok-job.job c.in_ok-job.ensures room
+    now.world.now now.run.now.held now.run.now.plan (c.in-Err.ensures.clears tells)
+    (held_within site.run.now.held now.run.now.held c.launch.ensures.held) c.launch.ensures.known.plan

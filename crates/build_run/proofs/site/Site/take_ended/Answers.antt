@@ -1,5 +1,9 @@
 use Rattle.std.proofs.Common.{◌≡◌, ◌≤◌, ◌∙◌, ◌++◌, ◌∷◌, [], Bool, List, ap, length, refl, subst, sym, arith}
-use Rattle.std.proofs.lemmas.List.Elements.{Contains-append_left}
+use Rattle.std.proofs.lemmas.List.Elements.{Contains-append_left, Contains-append_right}
+use Rattle.build_model.proofs.Lists.{true_false}
+use Rattle.world_api.specs.Calls.{Ends}
+use Rattle.sign_store.specs.Tables.{Map}
+use Rattle.build_run.specs.Sites.{records_of}
 use Rattle.build_run.specs.Goings.{IsJoined}
 use Rattle.build_run.specs.Holds.{Busy, holds_in}
 use Rattle.build_run.specs.Outs.{IsStored}
@@ -10,9 +14,10 @@ use Rattle.build_run.specs.Ledgers.{Ledger, ledger_of, wanting}
 use Rattle.scons_base.specs.declared.ids.RuleId.{RuleId}
 use Rattle.build_run.specs.declared.tickets.Hold.{Hold}
 use Rattle.build_run.proofs.Holding.{no_more}
+use Rattle.build_run.proofs.EndingOn.{put_counts, put_ends, put_others, put_unshut, taken_on, told_done, told_failed, unrisen_as, unrisen_done, unrisen_failed, was_done}
 use Rattle.build_run.proofs.Causing.{account_as, settled, untold}
 use Rattle.build_run.proofs.Goings.{passes_on}
-use Rattle.build_run.proofs.Outs.{held_alike, held_count, last_of, outs_front, outs_left, room_beside, rule_of, stored_alike, stored_beside, stored_left, stored_over, stored_taken}
+use Rattle.build_run.proofs.Outs.{held_alike, held_count, last_of, out_in, outs_front, outs_left, room_beside, rule_of, stored_alike, stored_beside, stored_left, stored_over, stored_taken}
 use Rattle.build_run.proofs.site.Site.take_ended.Goals as goal
 
 pub returns-in_default-clause-passes : goal.returns-in_default-clause-passes
@@ -24,7 +29,7 @@ returns-in_default-clause-passes g c = record {
 pub returns-in_default-clause-accounts : goal.returns-in_default-clause-accounts
 returns-in_default-clause-accounts g c = λ start a.
     let before = ledger_of c.args.self.now.account.now in
-    account_as start _ (wanting before) (ledger_of c.want_memory.new.self) c.want_memory.ensures
+    account_as start _ (wanting before) (ledger_of c.want_memory.new.self) c.want_memory.ensures.ledger
     (untold start before _ [] c.wait-ended.result.outcome (settled start before _ _ _ _ [] c.wait-ended.result.outcome c.wait-ended.ensures.cause a))
 
 pub returns-in_default-clause-sound : goal.returns-in_default-clause-sound
@@ -38,7 +43,7 @@ returns-in_default-clause-sound g c =
       unclosed = told.closed ∙ s.unclosed;
       joined = subst (λ (holds : List Hold). IsJoined m world holds) (sym c.take.ensures.left) c.wait-ended.ensures.joined;
       stored =
-          stored_alike m world site.store.now _ _ _ _ (ap (λ (all : List Busy). site.run.now.held ++ all) c.in_default.ensures.none) (ap (λ (l : Ledger). l.shut) c.want_memory.ensures)
+          stored_alike m world site.store.now _ _ _ _ (ap (λ (all : List Busy). site.run.now.held ++ all) c.in_default.ensures.none) (ap (λ (l : Ledger). l.shut) c.want_memory.ensures.ledger)
           (stored_over m site.world.now world site.store.now (site.run.now.held ++ site.run.now.tickets) site.account.now.is_store_shut told.told c.wait-ended.ensures.banks s.stored);
       few = s.few;
       limit = subst (λ (all : List Busy). length all ≤ 64) (sym c.in_default.ensures.none) s.limit;
@@ -55,7 +60,7 @@ returns-in_default-clause-takes g c =
       puts = λ rule e. absurd cc;
       kept = λ other unshut. refl;
       out = refl;
-      shut = λ unshut. sym (ap (λ (l : Ledger). l.shut) c.want_memory.ensures) ∙ unshut;
+      shut = λ unshut. sym (ap (λ (l : Ledger). l.shut) c.want_memory.ensures.ledger) ∙ unshut;
     }
 
 pub hold-requires : goal.hold-requires
@@ -126,7 +131,7 @@ returns-in_default-outcome-clause-passes g c = record {
 
 pub returns-in_default-outcome-clause-accounts : goal.returns-in_default-outcome-clause-accounts
 returns-in_default-outcome-clause-accounts g c = λ start a.
-    let done = c.not_done.ensures in
+    let done = c.not_done.ensures.reports in
     done.1.accounts _ _ start (settled start (ledger_of c.args.self.now.account.now) _ _ _ _ done.0 c.wait-ended.result.outcome c.wait-ended.ensures.cause a)
 
 pub returns-in_default-outcome-clause-sound : goal.returns-in_default-outcome-clause-sound
@@ -147,7 +152,7 @@ returns-in_default-outcome-clause-sound g c =
       unclosed = told.closed ∙ s.unclosed;
       joined = subst (λ (holds : List Hold). IsJoined m world holds) (sym c.take.ensures.left) c.wait-ended.ensures.joined;
       stored =
-          subst (λ (after : Bool). IsStored m world c.give_up.new.store (held ++ left) after) (sym c.not_done.ensures.1.shut)
+          subst (λ (after : Bool). IsStored m world c.give_up.new.store (held ++ left) after) (sym c.not_done.ensures.reports.1.shut)
           (stored_beside m world site.store.now c.give_up.new.store busy.ticket (held ++ left) shut gone.live gone.banks gone.map gone.outs
           (room_beside m world site.store.now held busy left shut taken)
           (stored_left m world site.store.now held busy left shut taken));
@@ -181,10 +186,79 @@ returns-in_default-outcome-clause-takes g c =
       only = λ t rule e. absurd cc;
       puts = λ rule e. absurd cc;
       kept = λ other unshut.
-          let unshut_before = sym c.not_done.ensures.1.shut ∙ unshut in
+          let unshut_before = sym c.not_done.ensures.reports.1.shut ∙ unshut in
           let own = room_beside m world site.store.now held busy left shut taken unshut_before in
           held_alike site.store.now c.give_up.new.store held gone.map (λ one rec h out. (gone.outs.each rec one.ticket (own one (Contains-append_left held left one h)) out).own)
           (outs_front site.store.now held left (outs_left site.store.now held left busy (taken.outs unshut_before)));
       out = refl;
-      shut = λ unshut. sym c.not_done.ensures.1.shut ∙ unshut;
+      shut = λ unshut. sym c.not_done.ensures.reports.1.shut ∙ unshut;
     }
+
+pub returns-in_default-clause-along : goal.returns-in_default-clause-along
+returns-in_default-clause-along g c = λ t sure o outset may.
+    absurd (omega (arith, c.wait-ended.ensures.fewer t, ap length c.take.ensures.left, held_count c.take.new.self, ap length c.in_default.ensures.none))
+
+pub returns-in-Done-clause-along : goal.returns-in-Done-clause-along
+returns-in-Done-clause-along g c = λ t sure o outset may.
+    let m = g.W.Disk.meaning in
+    let site = c.args.self.now in
+    let ended = c.wait-ended.result in
+    let world = c.wait-ended.new.world in
+    let busy = c.in-Some.busy in
+    let hold = c.hold.ensures in
+    let new = c.hold.new.self in
+    let passes = hold.puts.goes.passes.told in
+    let told = passes.told t in
+    let first = c.wait-ended.ensures.passes.told.told told in
+    let ends = c.wait-ended.ensures.ends told in
+    taken_on m o outset site new busy ended _ may
+    (record {
+      known = record { graph = hold.known.graph; plan = hold.known.plan; inputs = hold.known.inputs };
+      ends = put_ends m _ new hold.stands;
+      held = hold.held;
+      among = c.in-Some.ensures.among;
+      is_told = told_done busy.hold.rule ended c.in-Some.ensures.rule c.in-Done.is;
+      goes = refl;
+      no_scan = refl;
+      failed = λ e. true_false (sym (was_done ended.outcome c.in-Done.is) ∙ e);
+      keeps = λ e goes. true_false (sym (was_done ended.outcome c.in-Done.is) ∙ e);
+      counts = λ e are.
+          unrisen_as o.wanted.keep o.counts (m.counts world) (m.counts new.world.now) (put_counts m _ new hold.stands e)
+          (unrisen_done o.wanted.keep o.counts (m.counts site.world.now) (m.counts world) ended.outcome c.in-Done.is c.wait-ended.ensures.cause are);
+      unshut = put_unshut m _ new hold.stands;
+      records = λ unshut path out.
+          let outs = c.requires.sound.stored.outs (hold.puts.shut unshut) in
+          let ticket = (out_in site.store.now (site.run.now.held ++ site.run.now.tickets) busy outs
+          (Contains-append_right site.run.now.held site.run.now.tickets busy c.in-Some.ensures.among)).ticket in
+          put_others site.store.now busy (records_of site) (records_of new) path ticket (hold.record unshut) out;
+    })
+    (c.requires.sound.joined.runs first) (m.sure world) (passes.sure t sure)
+    (subst (λ (a : Around). Ends (m.sure world) ended (m.around site.world.now) a) (sym (hold.puts.around t)) ends)
+
+pub returns-in_default-outcome-clause-along : goal.returns-in_default-outcome-clause-along
+returns-in_default-outcome-clause-along g c = λ t sure o outset may.
+    let m = g.W.Disk.meaning in
+    let site = c.args.self.now in
+    let ended = c.wait-ended.result in
+    let world = c.wait-ended.new.world in
+    let busy = c.in-Some.busy in
+    let done = c.not_done.ensures in
+    taken_on m o outset site _ busy ended _ may
+    (record {
+      known = record { graph = refl; plan = refl; inputs = refl };
+      ends = done.ends;
+      held = λ one h. Contains-append_left site.run.now.held (busy ∷ []) one h;
+      among = c.in-Some.ensures.among;
+      is_told = told_failed busy.hold.rule ended c.in-Some.ensures.rule c.in_default-outcome.not-Done;
+      goes = refl;
+      no_scan = refl;
+      failed = λ e. done.faulted;
+      keeps = λ e goes. (done.goes goes).0;
+      counts = λ e are.
+          unrisen_failed o.wanted.keep o.counts (m.counts site.world.now) (m.counts world) ended.outcome (sym may.asked.keep ∙ (done.goes e).0) (done.goes e).1
+          c.wait-ended.ensures.cause are;
+      unshut = λ e. done.reports.1.shut;
+      records = λ unshut path out.
+          ap (λ (map : Map). map path) ((returns-in_default-outcome-clause-takes g c).kept (λ rule e. absurd cc) unshut);
+    })
+    (c.requires.sound.joined.runs (c.wait-ended.ensures.passes.told.told t)) (m.sure world) sure (c.wait-ended.ensures.ends t)

@@ -5,6 +5,7 @@ use Rattle.sign_store.specs.Tables.{Map, with_each}
 use Rattle.build_run.specs.Holds.{Busy}
 use Rattle.build_run.specs.Sites.{most_jobs}
 use Rattle.build_run.specs.declared.building.Options.{Options}
+use Rattle.build_run.proofs.EndingOn.{may_take}
 use Rattle.build_run.proofs.Sites.{site_on, site_puts}
 use Rattle.build_run.proofs.site.Site.take_ending.Goals as goal
 
@@ -52,3 +53,15 @@ returns-clause-takes g c =
       out = takes.out ∙ puts.out;
       shut = λ unshut. puts.shut (takes.shut unshut);
     }
+
+pub returns-clause-along : goal.returns-clause-along
+returns-clause-along g c = λ t sure o outset along wanted.
+    let m = g.W.Disk.meaning in
+    let site = c.args.self.now in
+    let mid = c.put_if_few.new.self in
+    let put = c.put_if_few.ensures in
+    let told = c.take_ended.ensures.passes.passes.told.told t in
+    let first = put.puts.goes.passes.told.told told in
+    c.take_ended.ensures.along t sure o outset
+    (may_take m o outset site mid along (put.puts.around told) put.puts.same.options put.known put.held put.kept put.stands
+    (c.requires.sound.joined.runs first) wanted)

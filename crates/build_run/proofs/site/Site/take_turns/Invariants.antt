@@ -1,3 +1,4 @@
+use Rattle.build_run.specs.Along.{StaysAlong}
 use Rattle.build_run.specs.Sites.{IsSound, SiteAccounts, SitePasses}
 use Rattle.build_run.proofs.site.Site.take_turns.Given as goal
 
@@ -8,4 +9,5 @@ invariant-loop-turn g l =
       passes : SitePasses m l.fn.self l.self;
       accounts : SiteAccounts m g.O.Sink.meaning g.E.Sink.meaning l.fn.self l.self;
       sound : IsSound m l.self;
+      along : StaysAlong m l.fn.self l.self;
     }

@@ -1,6 +1,10 @@
-use Rattle.std.proofs.Common.{arith, refl}
-use Rattle.build_run.proofs.Goings.{passes_on, stays_here}
-use Rattle.build_run.proofs.Sites.{same_on, sound_still}
+use Rattle.std.proofs.Common.{◌∙◌, List, ap, arith, length}
+use Rattle.std.specs.Prelude.{Ok}
+use Rattle.task_plan.specs.Plans.{Planned}
+use Rattle.task_plan.specs.declared.want.Want.TheVariants as want
+use Rattle.build_run.specs.Holds.{Busy}
+use Rattle.build_run.proofs.Alongs.{along_on, turn_along, waits_halted}
+use Rattle.build_run.proofs.Sites.{site_on}
 use Rattle.build_run.proofs.site.Site.wait_for_all.Goals as goal
 
 pub loop-turn-preserved : goal.loop-turn-preserved
@@ -8,13 +12,22 @@ loop-turn-preserved g c =
     let m = g.W.Disk.meaning in
     let before = c.loop-turn.invariant in
     let ending = c.take_ending-event.ensures in
-    let same = same_on _ _ _ before.passes.same ending.passes.same in
+    let tell = c.tell.ensures in
+    let p = site_on m _ _ _ (site_on m _ _ _ before.passes ending.passes) tell.passes in
+    let told = site_on m _ _ _ ending.passes tell.passes in
     record {
       passes = record {
-        same = record { graph = same.graph; store = same.store; world = same.world; out = same.out; err = same.err; run = same.run; account = same.account; options = same.options };
-        passes = passes_on m _ _ _ before.passes.passes ending.passes.passes;
+        same = record { graph = p.same.graph; store = p.same.store; world = p.same.world; out = p.same.out; err = p.same.err; run = p.same.run; account = p.same.account; options = p.same.options };
+        passes = p.passes;
       };
-      accounts = λ start a. c.tell.ensures.accounts _ _ start (ending.accounts start (before.accounts start a));
-      left = λ t. omega (arith, ending.takes.fewer t, before.left (ending.passes.passes.told.told t));
-      sound = sound_still m c.take_ending-event.new.self _ (stays_here m c.take_ending-event.new.self.world.now) refl refl refl refl c.tell.ensures.shut ending.sound;
+      accounts = λ start a. tell.accounts start (ending.accounts start (before.accounts start a));
+      left = λ t.
+          let told_mid = tell.passes.passes.told.told t in
+          omega (arith, ending.takes.fewer told_mid, before.left (ending.passes.passes.told.told told_mid), ap (λ (busies : List Busy). length busies) tell.tickets);
+      sound = tell.sound ending.sound;
+      same = λ e. absurd (omega (arith, e));
+      halted = λ e. tell.halted (ap (λ (p : Planned). p.halted) ending.halted ∙ before.halted e);
+      along = λ e. along_on m _ _ _ told.passes.told (before.along e)
+          (turn_along m c.loop-turn.self c.take_ending-event.new.self c.tell.new.self (Ok c.take_ending-event.result) tell.passes.passes.told
+          ending.passes.same.options want.Wait (waits_halted c.loop-turn.self (before.halted e)) ending.along tell.along);
     }

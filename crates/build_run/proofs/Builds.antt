@@ -1,0 +1,113 @@
+-- A build, from what it began with: leftover copies went, and from there it took its steps.
+use Rattle.std.proofs.Common.{arith, ◌≡◌, ◌∙◌, ℕ, true, false, ◌||◌, List, [], length, refl, sym, ap}
+use Rattle.std.specs.Prelude.{Result, Ok, Err, IfOk, OnErr, max, min, nat_lt}
+use Rattle.build_model.proofs.Lists.{true_false}
+use Rattle.scons_base.specs.declared.ids.NodeId.{NodeId}
+use Rattle.world_api.specs.Meaning.{Meaning}
+use Rattle.world_api.specs.declared.hash.Hash.{Hash}
+use Rattle.rule_graph.specs.Graphs.{RuleGraph}
+use Rattle.rule_graph.specs.Rules.{are_below}
+use Rattle.sign_store.specs.Stores.{map_of}
+use Rattle.sign_store.specs.declared.store.Store.{Store}
+use Rattle.build_files.specs.declared.end.ListEnd.{ListEnd}
+use Rattle.build_means.specs.Builds.{Wanted, jobs_at_once}
+use Rattle.build_means.specs.Rules.{IsReading}
+use Rattle.run_means.proofs.Keeping.{begin, did}
+use Rattle.turn_means.specs.Standing.{Outset}
+use Rattle.build_run.specs.Along.{is_faulted}
+use Rattle.build_run.specs.Ledgers.{Ledger, ledger_of, blank}
+use Rattle.build_run.specs.Outsets.{wanted_of, BuildRuns, BuildSucceeds, HasMade, HasSetOut, IsBlank, IsReadyFor, Leaves, MakesAll, SetsOut, SetsOutBehind}
+use Rattle.build_run.specs.Takes.{IsLeftAt}
+use Rattle.build_run.specs.declared.account.Account.{Account}
+use Rattle.build_run.specs.declared.building.Options.{Options}
+use Rattle.build_run.specs.declared.end.BuildEnd.{BuildEnd}
+use Rattle.build_run.specs.declared.site.Run.{Run}
+
+-- ---- it sets out behind the leftovers
+
+pub sets_behind : {W : Type 0} (m : Meaning W) (g : RuleGraph) (requested : List NodeId) (hash : Hash) (a b c : W) (store mid : Store)
+    (h : RuleGraph) (r : Result Run ListEnd) → (m.tells c → m.tells b) → Leaves m a store b mid (IsLeftAt g (m.around a) (map_of store)) →
+    IfOk r (λ run. SetsOut m g requested hash b h run c) → IfOk r (SetsOutBehind m g requested hash a store h c mid)
+sets_behind m g requested hash a b c store mid h (Ok run) told leaves sets = λ tells rest below.
+    let left = leaves (told tells) rest in
+    record { left = m.around b; rest = left; sets = λ o by. sets tells (left.running ∙ rest) below o by }
+sets_behind m g requested hash a b c store mid h (Err end) told leaves sets = tt
+
+pub refused_with : {T P : Type 0} (r : Result T ListEnd) → P → OnErr r P
+refused_with (Ok value) p = tt
+refused_with (Err end) p = p
+
+-- ---- and makes all
+
+as_many : (jobs : ℕ) → max (min jobs 64) 1 ≡ jobs_at_once jobs
+as_many jobs = omega arith
+
+pub is_blank : (account : Account) → ledger_of account ≡ blank → account.is_ended ≡ false → IsBlank account
+is_blank account is ended = record {
+  ended = ended;
+  faulted = ap (λ (l : Ledger). l.memory || nat_lt 0 (length l.faults)) is;
+  unshut = ap (λ (l : Ledger). l.shut) is;
+}
+
+module _ {W : Type 0} (m : Meaning W) (g : RuleGraph) (requested : List NodeId) (options : Options) (read : IsReading g) (a b c : W)
+    (store mid : Store) (rest : m.tells a → (m.around a).running ≡ []) where
+  abbrev w : Wanted
+  w = wanted_of g requested options
+
+  module _ (h : RuleGraph) (run : Run) (account after : Account) (back : m.tells b → m.tells a) (told : m.tells c → m.tells b)
+      (same : m.counts b ≡ m.counts a)
+      (sets : SetsOutBehind m g requested options.hash a store h b mid run) (first : IsBlank account)
+      (makes : MakesAll m h run mid b account options c after) where
+    module _ (tells : m.tells c) (sure : m.sure c) (below : are_below (length g.nodes) requested ≡ true) where
+      has : HasSetOut m g requested options.hash a (map_of store) h run b (map_of mid)
+      has = sets (told tells) (rest (back (told tells))) below
+
+      abbrev o : Outset
+      o = record { wanted = w; kept = map_of mid; counts = m.counts a; before = has.left }
+
+      ready : IsReadyFor m o h run mid b account options
+      ready = record {
+        outset = record { reading = read; below = below };
+        sets = has.sets o (record { graph = refl; requested = refl; hash = refl; before = refl });
+        kept = refl;
+        asked = record { keep = refl; jobs = as_many options.jobs };
+        counts = sym same;
+        blank = first;
+      }
+
+      made : HasMade o (m.around c) after
+      made = makes tells sure o ready
+
+    pub build_ran : BuildRuns m w (map_of store) a c
+    build_ran = λ tells sure below. record {
+      left = (has tells sure below).left;
+      kept = map_of mid;
+      rest = (has tells sure below).rest;
+      runs = (made tells sure below).runs;
+    }
+
+    pub build_succeeded : (answer : BuildEnd) → (answer.faults ≡ [] → answer.memory ≡ false → is_faulted after ≡ false) →
+        BuildSucceeds m w (map_of store) a c answer
+    build_succeeded answer faulted = λ none memory tells sure below. record {
+      left = (has tells sure below).left;
+      kept = map_of mid;
+      rest = (has tells sure below).rest;
+      succeeded = (made tells sure below).succeeds (faulted none memory);
+    }
+
+  -- or nothing is made
+  pub build_refused : (m.tells c → m.tells a) → Leaves m a store c mid (IsLeftAt g (m.around a) (map_of store)) →
+      BuildRuns m w (map_of store) a c
+  build_refused back leaves = λ tells sure below.
+      let left = leaves tells (rest (back tells)) in
+      let none = left.running ∙ rest (back tells) in
+      record {
+        left = m.around c;
+        kept = map_of mid;
+        rest = left;
+        runs = (did w (map_of mid) (m.counts a) (m.around c) (m.around c) [] [] read (begin w (map_of mid) (m.counts a) (m.around c) none)).0;
+      }
+
+  pub refused_untold : (after : Account) → is_faulted after ≡ true → (answer : BuildEnd) →
+      (answer.faults ≡ [] → answer.memory ≡ false → is_faulted after ≡ false) → BuildSucceeds m w (map_of store) a c answer
+  refused_untold after faulted answer well = λ none memory. true_false (sym faulted ∙ well none memory)

@@ -1,0 +1,221 @@
+-- How a build comes to its end: where nothing runs no rule of its plan does, and where nothing is to be reported it succeeded.
+use Rattle.std.proofs.Common.{◌≡◌, ◌∙◌, ◌+◌, ℕ, zero, suc, pred, true, false, cond, List, [], ◌∷◌, length, count_by, refl, sym, subst, ap, inl, inr, ◌⊎◌, arith}
+use Rattle.std.proofs.lemmas.List.Sums.{sum_by-cons}
+use Rattle.world_api.specs.Counts.{Counts}
+use Rattle.world_api.specs.Meaning.{Meaning}
+use Rattle.sign_store.specs.Putting.{map_with}
+use Rattle.sign_store.specs.Stores.{map_of}
+use Rattle.sign_store.specs.Tables.{Map}
+use Rattle.task_plan.specs.States.{state_of, is_running}
+use Rattle.task_plan.specs.Watched.{IsFinished, IsStill}
+use Rattle.task_plan.specs.declared.states.RuleState.{RuleState}
+use Rattle.task_plan.specs.declared.states.RuleState.TheVariants.{Unneeded, Waiting, Running, Settled, Failed, Lacking}
+use Rattle.build_model.specs.Rules.{Rule, Setting, Among, here, there}
+use Rattle.build_model.specs.Moments.{Job as Given}
+use Rattle.build_model.specs.Steps.{Step, Fresh, Began, Ended, Lacks, Halts, Build, began, done, running, IsRunning, IsRun}
+use Rattle.build_model.proofs.Lists.{true_false}
+use Rattle.build_model.proofs.Placed.{without}
+use Rattle.build_means.specs.Builds.{Succeeded}
+use Rattle.build_means.specs.Logs.{AreUnrisen}
+use Rattle.plan_means.specs.Deciding.{IsTied}
+use Rattle.plan_means.specs.Ties.{IsAt as IsAtState}
+use Rattle.plan_means.proofs.Deciding.{know}
+use Rattle.turn_means.specs.Laws.{FinishedSucceed}
+use Rattle.turn_means.specs.Recording.{build_at}
+use Rattle.turn_means.specs.Standing.{Outset, IsOutset, begun_at, setting_at, Standing, Knows, IsAt}
+use Rattle.turn_means.proofs.Deciding.{tied}
+use Rattle.turn_means.proofs.Ends.{runs, goes_on}
+use Rattle.turn_means.proofs.Turns.{sets_out}
+use Rattle.build_run.specs.Along.{is_faulted, standing_of, HeldBegan, IsAlong, IsOn, KeepsEnds}
+use Rattle.build_run.specs.Holds.{Busy}
+use Rattle.build_run.specs.Outsets.{FinishesWell, HasMade, IsReadyFor}
+use Rattle.build_run.specs.declared.account.Account.{Account}
+use Rattle.build_run.specs.declared.site.Site.{Site}
+use Rattle.build_run.proofs.EndingOn.{not_before}
+
+-- ---- where no job runs no rule does
+
+-- the rules whose action runs
+record AllRunning (past : List Step) : Type 0 where
+  rules : List Rule
+  counts : length rules ≡ running past
+  all : (r : Rule) → IsRunning past r → Among r rules
+
+same_running : {past : List Step} {step : Step} → AllRunning past → running past ≡ running (step ∷ past) →
+    ((r : Rule) → IsRunning (step ∷ past) r → IsRunning past r) → AllRunning (step ∷ past)
+same_running h e back = record { rules = h.rules; counts = h.counts ∙ e; all = λ r x. h.all r (back r x) }
+
+begin_running : {past : List Step} {x r : Rule} {rules : List Rule} → ((q : Rule) → IsRunning past q → Among q rules) →
+    Among r (x ∷ began past) → (Among r (done past) → ⊥) → Among r (x ∷ rules)
+begin_running h here out = here
+begin_running {r = r} h (there m) out = there (h r (record { began = m; not_done = out }))
+
+one_less : {n m k : ℕ} → n ≡ k → n ≡ suc m → m ≡ pred k
+one_less e h = omega arith
+
+other_than : {x r : Rule} {rules : List Rule} {l : List Rule} → (Among r (x ∷ l) → ⊥) → (r ≡ x) ⊎ Among r rules → Among r rules
+other_than {x} {r} {l = l} out (inl e) = absurd (out (subst (λ y. Among r (y ∷ l)) e here))
+other_than out (inr m) = m
+
+module _ (s : Setting) (b : Build) where
+  all_running : (past : List Step) → IsRun s b past → AllRunning past
+  all_running [] run = record { rules = []; counts = refl; all = λ r h. elim h.began [ ] }
+  all_running (Fresh x ∷ past) run =
+      same_running (all_running past run.1) refl (λ r h. record { began = h.began; not_done = λ m. h.not_done (there m) })
+  all_running (Began x ∷ past) run =
+      let h = all_running past run.1 in
+      record { rules = x ∷ h.rules; counts = ap suc h.counts; all = λ r k. begin_running h.all k.began k.not_done }
+  all_running (Ended x true ∷ past) run =
+      let h = all_running past run.1 in
+      let w = without (h.all x run.0.0) in
+      record {
+        rules = w.rest;
+        counts = one_less h.counts w.counts;
+        all = λ r k. other_than k.not_done (w.others r (h.all r (record { began = k.began; not_done = λ m. k.not_done (there m) })));
+      }
+  all_running (Ended x false ∷ past) run =
+      let h = all_running past run.1 in
+      let w = without (h.all x run.0) in
+      record {
+        rules = w.rest;
+        counts = one_less h.counts w.counts;
+        all = λ r k. other_than k.not_done (w.others r (h.all r (record { began = k.began; not_done = λ m. k.not_done (there m) })));
+      }
+  all_running (Lacks x p ∷ past) run =
+      same_running (all_running past run.1) refl (λ r h. record { began = h.began; not_done = λ m. h.not_done (there m) })
+  all_running (Halts ∷ past) run =
+      same_running (all_running past run.1) refl (λ r h. record { began = h.began; not_done = h.not_done })
+
+  none_in : (rules : List Rule) (r : Rule) → length rules ≡ 0 → Among r rules → ⊥
+  none_in [] r short m = elim m [ ]
+  none_in (x ∷ rules) r short m = absurd (omega arith)
+
+  none_runs : (past : List Step) → IsRun s b past → running past ≡ 0 → (r : Rule) → IsRunning past r → ⊥
+  none_runs past run none r h = let a = all_running past run in none_in a.rules r (a.counts ∙ none) (a.all r h)
+
+none_more : (n : ℕ) → n ≡ 0 → 0 + n ≡ 0
+none_more n e = omega (arith, e)
+
+count_first : (state : RuleState) (n : ℕ) → (state ≡ Running → ⊥) → n ≡ 0 → cond (is_running state) 1 0 + n ≡ 0
+count_first Unneeded n none e = none_more n e
+count_first Waiting n none e = none_more n e
+count_first Running n none e = absurd (none refl)
+count_first Settled n none e = none_more n e
+count_first Failed n none e = none_more n e
+count_first Lacking n none e = none_more n e
+
+count_none : (states : List RuleState) → ((number : ℕ) → state_of states number ≡ Running → ⊥) → count_by is_running states ≡ 0
+count_none [] none = refl
+count_none (state ∷ states) none =
+    sum_by-cons (λ x. cond (is_running x) 1 0) state states
+    ∙ count_first state (count_by is_running states) (none zero) (count_none states (λ number. none (suc number)))
+
+module _ (o : Outset) (outset : IsOutset o) (jobs : List Given) (s : Standing) (past : List Step) (at : IsAt o jobs s past)
+    (not_ended : s.ended ≡ false) (rest : s.around.running ≡ []) where
+  known : Knows o s past
+  known = at.knows not_ended
+
+  its : IsTied (begun_at o) s.graph o.wanted.requested (build_at o s.around) past s.plan
+  its = tied o outset jobs s past at.way known
+
+  not_running : (number : ℕ) → state_of s.plan.states number ≡ Running → ⊥
+  not_running number e =
+      let k = know (begun_at o) s.graph o.wanted.requested (build_at o s.around) past s.plan its number (λ none. cc (sym e ∙ none)) in
+      none_runs (setting_at o) (build_at o s.around) past its.run (at.way.count ∙ ap length rest) k.rule
+      (subst (λ x. IsAtState past k.rule x) e (known.ties.states number k.rule k.numbered))
+
+  count_is_none : count_by is_running s.plan.states ≡ 0
+  count_is_none = count_none s.plan.states not_running
+
+-- ---- what a build did
+
+module _ {W O E : Type 0} (m : Meaning W) (o : Outset) (outset : IsOutset o) (mid : Site W O E) (after : Account)
+    (on : IsOn o mid.run.now.held (standing_of m mid)) (rest : (m.around mid.world.now).running ≡ [])
+    (still : is_faulted mid.account.now ≡ false → mid.run.now.plan.halted ≡ false → IsStill mid.run.now.plan)
+    (ends : KeepsEnds mid.account.now after) (finishes : FinishesWell mid.graph.now mid.run.now.plan mid.account.now after)
+    (law : FinishedSucceed) where
+  abbrev s : Standing
+  s = standing_of m mid
+
+  module _ (well : is_faulted after ≡ false) where
+    unfaulted : is_faulted mid.account.now ≡ false
+    unfaulted = not_before (is_faulted mid.account.now) (is_faulted after) ends.faulted well
+
+    not_ended : mid.account.now.is_ended ≡ false
+    not_ended = not_before mid.account.now.is_ended (is_faulted mid.account.now) on.at.told unfaulted
+
+    no_halt : mid.run.now.plan.halted ≡ false
+    no_halt = not_before mid.run.now.plan.halted mid.account.now.is_ended (λ e. (on.at.halted e).ended) not_ended
+
+    at_last : IsStill mid.run.now.plan
+    at_last = still unfaulted no_halt
+
+    knows_all : Knows o s on.past
+    knows_all = on.at.knows not_ended
+
+    finished : IsFinished mid.run.now.plan
+    finished =
+        let plan = knows_all.ties.plan_for in
+        finishes on.at.told well at_last
+        (goes_on o outset on.jobs s on.past on.at unfaulted (count_is_none o outset on.jobs s on.past on.at not_ended rest))
+        plan.met plan.from plan.fits
+
+    succeeded : Succeeded o.wanted o.kept o.counts o.before (m.around mid.world.now)
+    succeeded = (law o on.jobs s on.past outset on.at unfaulted at_last.scans finished).0
+
+  pub has_made : HasMade o (m.around mid.world.now) after
+  has_made = record {
+    runs = (runs o outset on.jobs s on.past on.at).0;
+    succeeds = succeeded;
+  }
+
+-- ---- as it begins
+
+put_none : {W O E : Type 0} (site : Site W O E) (held : List Busy) → held ≡ [] → map_with site.store.now held ≡ map_of site.store.now
+put_none site held none = ap (λ (busies : List Busy). map_with site.store.now busies) none
+
+none_began : (o : Outset) (held : List Busy) → held ≡ [] → HeldBegan o [] held
+none_began o held none = subst (λ (busies : List Busy). HeldBegan o [] busies) (sym none) (λ busy path h among. absurd (omega (arith, h.1)))
+
+module _ {W O E : Type 0} (m : Meaning W) (o : Outset) (site : Site W O E)
+    (ready : IsReadyFor m o site.graph.now site.run.now site.store.now site.world.now site.account.now site.options)
+    (none : site.run.now.held ≡ []) where
+  first_at : IsAt o [] (standing_of m site) []
+  first_at =
+      let set = ready.sets.set in
+      sets_out o ready.outset (standing_of m site) (record {
+        none_runs = set.none_runs;
+        around = set.around;
+        now = set.now;
+        truth = set.truth;
+        none_gone = set.none_gone;
+        unread = set.unread;
+        unscanned = set.unscanned;
+        below = set.below;
+        looked = set.looked;
+        loaded = set.loaded;
+        records = λ path. ap (λ (map : Map). map path) (put_none site site.run.now.held none ∙ sym ready.kept);
+        goes_on = ready.blank.ended;
+      })
+
+  unrisen : AreUnrisen o.wanted.keep o.counts (m.counts site.world.now)
+  unrisen = subst (λ (counts : Counts). AreUnrisen o.wanted.keep o.counts counts) ready.counts
+      (record { disk = refl; tree = refl; start = refl; action = λ stops. refl })
+
+  pub first_along : IsAlong m o site
+  first_along = record {
+    on = record { jobs = []; past = []; at = first_at; began = none_began o site.run.now.held none };
+    asked = ready.asked;
+    well = λ e. record { unrisen = unrisen; unshut = ready.blank.unshut; looked = ready.sets.looked };
+    halted = λ e. true_false (sym e ∙ ready.blank.ended);
+  }
+
+-- ---- what was lent
+
+module _ {W O E : Type 0} (m : Meaning W) (last : Site W O E) where
+  pub made_given : (o : Outset) (now world : W) (account : Account) → last.world.now ≡ world → last.account.now ≡ account →
+      last.world.now ≡ now → (m.tells now → m.sure now → HasMade o (m.around now) last.account.now) →
+      m.tells world → m.sure world → HasMade o (m.around world) account
+  made_given o now world account lent lent_account same made =
+      subst (λ (w : W). m.tells w → m.sure w → HasMade o (m.around w) account) (sym same ∙ lent)
+      (λ tells sure. subst (λ (a : Account). HasMade o (m.around now) a) lent_account (made tells sure))

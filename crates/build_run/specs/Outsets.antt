@@ -1,0 +1,149 @@
+-- What a build did, from what it began with.
+use Rattle.std.specs.Prelude.{◌≡◌, ℕ, true, false, List, [], length}
+use Rattle.scons_base.specs.declared.ids.NodeId.{NodeId}
+use Rattle.world_api.specs.Around.{Around}
+use Rattle.world_api.specs.Meaning.{Meaning}
+use Rattle.world_api.specs.declared.hash.Hash.{Hash}
+use Rattle.rule_graph.specs.Graphs.{RuleGraph}
+use Rattle.rule_graph.specs.Rules.{are_below}
+use Rattle.sign_store.specs.Stores.{map_of}
+use Rattle.sign_store.specs.Tables.{Map}
+use Rattle.sign_store.specs.declared.store.Store.{Store}
+use Rattle.task_plan.specs.Admits.{Fits}
+use Rattle.task_plan.specs.Met.{AllMet, AreFrom}
+use Rattle.task_plan.specs.Plans.{Planned}
+use Rattle.task_plan.specs.Watched.{IsStill, AreGoingOn, IsFinished}
+use Rattle.build_means.specs.Builds.{Wanted, Runs, Succeeded}
+use Rattle.build_files.specs.Marked.{AreGoneOver}
+use Rattle.turn_means.specs.Standing.{Outset, IsOutset}
+use Rattle.turn_means.specs.Laws.{IsSetOut}
+use Rattle.build_run.specs.Along.{AreAsked, is_faulted}
+use Rattle.build_run.specs.Takes.{IsLeftAt, OnlyGo}
+use Rattle.build_run.specs.declared.account.Account.{Account}
+use Rattle.build_run.specs.declared.building.Options.{Options}
+use Rattle.build_run.specs.declared.end.BuildEnd.{BuildEnd}
+use Rattle.build_run.specs.declared.site.Run.{Run}
+
+-- what a build is asked for
+abbrev pub wanted_of : RuleGraph → List NodeId → Options → Wanted
+wanted_of g requested options =
+    record { graph = g; requested = requested; jobs = options.jobs; keep = options.keep; hash = options.hash }
+
+-- an outset is of this graph, these nodes and this hash, and of what stands around
+pub record IsBegunBy (g : RuleGraph) (nodes : List NodeId) (by : Hash) (around : Around) (o : Outset) : Type 0 where
+  pub graph : o.wanted.graph ≡ g
+  pub requested : o.wanted.requested ≡ nodes
+  pub hash : o.wanted.hash ≡ by
+  pub before : o.before ≡ around
+
+-- A build has set out: nothing was read, its plan is loaded, and all that it names was looked for.
+pub record SetsOutOn (o : Outset) (g : RuleGraph) (run : Run) (around : Around) : Type 0 where
+  pub set : IsSetOut o (record {
+    graph = g;
+    inputs = run.inputs;
+    plan = run.plan;
+    records = o.kept;
+    faulted = false;
+    ended = false;
+    around = around;
+  })
+  pub looked : AreGoneOver g run.inputs
+
+-- So it has where nothing runs, and the requested nodes are the graph's.
+abbrev pub SetsOut : {W : Type 0} → Meaning W → RuleGraph → List NodeId → Hash → W → RuleGraph → Run → W → Type 0
+SetsOut m g requested hash world h run new = m.tells new → (m.around world).running ≡ [] →
+    are_below (length g.nodes) requested ≡ true → (o : Outset) → IsBegunBy g requested hash (m.around world) o →
+    SetsOutOn o h run (m.around new)
+
+-- ---- leftovers
+
+-- Files that `may` go are there or gone, with their records, and all else is as it was.
+pub record LeavesRest (may : List ℕ → Type 0) (old : Around) (map : Map) (new : Around) (left : Map) : Type 0 where
+  pub files : OnlyGo may old new
+  pub stamps : (path : List ℕ) → (may path → ⊥) → new.stamps path ≡ old.stamps path
+  pub running : new.running ≡ old.running
+  pub log : new.log ≡ old.log
+  pub met : new.met ≡ old.met
+  pub law : new.law ≡ old.law
+  pub records : (path : List ℕ) → (may path → ⊥) → left path ≡ map path
+
+-- so it is where nothing runs, and the world tells
+abbrev pub Leaves : {W : Type 0} → Meaning W → W → Store → W → Store → (List ℕ → Type 0) → Type 0
+Leaves m old store new new_store may = m.tells new → (m.around old).running ≡ [] →
+    LeavesRest may (m.around old) (map_of store) (m.around new) (map_of new_store)
+
+-- of leftover copies, as they are before
+abbrev pub LeavesCopies : {W : Type 0} → Meaning W → RuleGraph → W → Store → W → Store → Type 0
+LeavesCopies m g old store new new_store = Leaves m old store new new_store (IsLeftAt g (m.around old) (map_of store))
+
+-- Leftover copies went, and then the build has set out.
+pub record HasSetOut {W : Type 0} (m : Meaning W) (g : RuleGraph) (requested : List NodeId) (hash : Hash) (world : W) (map : Map)
+    (h : RuleGraph) (run : Run) (new : W) (left_map : Map) : Type 0 where
+  pub left : Around
+  pub rest : LeavesRest (IsLeftAt g (m.around world) map) (m.around world) map left left_map
+  pub sets : (o : Outset) → IsBegunBy g requested hash left o → SetsOutOn o h run (m.around new)
+
+abbrev pub SetsOutBehind : {W : Type 0} → Meaning W → RuleGraph → List NodeId → Hash → W → Store → RuleGraph → W → Store → Run → Type 0
+SetsOutBehind m g requested hash world store h new new_store run = m.tells new → (m.around world).running ≡ [] →
+    are_below (length g.nodes) requested ≡ true →
+    HasSetOut m g requested hash world (map_of store) h run new (map_of new_store)
+
+-- ---- what was made
+
+-- nothing is to be reported yet
+pub record IsBlank (account : Account) : Type 0 where
+  pub ended : account.is_ended ≡ false
+  pub faulted : is_faulted account ≡ false
+  pub unshut : account.is_store_shut ≡ false
+
+-- What a build did, and that it succeeded where nothing is to be reported.
+pub record HasMade (o : Outset) (around : Around) (account : Account) : Type 0 where
+  pub runs : Runs o.wanted o.kept o.counts o.before around
+  pub succeeds : is_faulted account ≡ false → Succeeded o.wanted o.kept o.counts o.before around
+
+-- a build has set out from there
+pub record IsReadyFor {W : Type 0} (m : Meaning W) (o : Outset) (g : RuleGraph) (run : Run) (store : Store) (world : W) (account : Account)
+    (options : Options) : Type 0 where
+  pub outset : IsOutset o
+  pub sets : SetsOutOn o g run (m.around world)
+  pub kept : o.kept ≡ map_of store
+  pub asked : AreAsked o options
+  pub counts : o.counts ≡ m.counts world
+  pub blank : IsBlank account
+
+abbrev pub MakesAll : {W : Type 0} → Meaning W → RuleGraph → Run → Store → W → Account → Options → W → Account → Type 0
+MakesAll m g run store world account options new new_account = m.tells new → m.sure new → (o : Outset) →
+    IsReadyFor m o g run store world account options → HasMade o (m.around new) new_account
+
+-- Where no rule waits for itself and none can go on, each needed rule of a plan is settled.
+abbrev pub Finishes : RuleGraph → Planned → Type 0
+Finishes g plan = IsStill plan → AreGoingOn plan → AllMet plan → AreFrom g plan → Fits g plan → IsFinished plan
+
+-- so it is where nothing is to be reported
+abbrev pub FinishesWell : RuleGraph → Planned → Account → Account → Type 0
+FinishesWell g plan old new = (old.is_ended ≡ true → is_faulted old ≡ true) → is_faulted new ≡ false → Finishes g plan
+
+-- ---- builds
+
+-- What a build did: leftover copies went, with their records, and from there it took these steps.
+pub record HasRun {W : Type 0} (m : Meaning W) (w : Wanted) (map : Map) (old new : W) : Type 0 where
+  pub left : Around
+  pub kept : Map
+  pub rest : LeavesRest (IsLeftAt w.graph (m.around old) map) (m.around old) map left kept
+  pub runs : Runs w kept (m.counts old) left (m.around new)
+
+-- What a build did that ended well.
+pub record HasSucceeded {W : Type 0} (m : Meaning W) (w : Wanted) (map : Map) (old new : W) : Type 0 where
+  pub left : Around
+  pub kept : Map
+  pub rest : LeavesRest (IsLeftAt w.graph (m.around old) map) (m.around old) map left kept
+  pub succeeded : Succeeded w kept (m.counts old) left (m.around new)
+
+-- So builds do, in a world that tells and is sure, where the requested nodes are the graph's.
+abbrev pub BuildRuns : {W : Type 0} → Meaning W → Wanted → Map → W → W → Type 0
+BuildRuns m w map old new = m.tells new → m.sure new → are_below (length w.graph.nodes) w.requested ≡ true → HasRun m w map old new
+
+-- and those that report nothing succeed
+abbrev pub BuildSucceeds : {W : Type 0} → Meaning W → Wanted → Map → W → W → BuildEnd → Type 0
+BuildSucceeds m w map old new answer = answer.faults ≡ [] → answer.memory ≡ false → m.tells new → m.sure new →
+    are_below (length w.graph.nodes) w.requested ≡ true → HasSucceeded m w map old new
