@@ -1,5 +1,5 @@
 -- How a build comes to its end: where nothing runs no rule of its plan does, and where nothing is to be reported it succeeded.
-use Rattle.std.proofs.Common.{◌≡◌, ◌∙◌, ◌+◌, ℕ, zero, suc, pred, true, false, cond, List, [], ◌∷◌, length, count_by, refl, sym, subst, ap, inl, inr, ◌⊎◌, arith}
+use Rattle.std.proofs.Common.{◌≡◌, ◌∙◌, ◌+◌, ℕ, zero, suc, pred, Bool, true, false, cond, List, [], ◌∷◌, Contains, length, count_by, refl, sym, subst, ap, inl, inr, ◌⊎◌, arith}
 use Rattle.std.proofs.lemmas.List.Sums.{sum_by-cons}
 use Rattle.world_api.specs.Counts.{Counts}
 use Rattle.world_api.specs.Meaning.{Meaning}
@@ -21,7 +21,10 @@ use Rattle.plan_means.specs.Deciding.{IsTied}
 use Rattle.plan_means.specs.Ties.{IsAt as IsAtState}
 use Rattle.plan_means.proofs.Deciding.{know}
 use Rattle.turn_means.specs.Laws.{FinishedSucceed}
-use Rattle.turn_means.specs.Recording.{build_at}
+use Rattle.turn_means.specs.Recording.{AreRecorded, build_at}
+use Rattle.turn_means.proofs.Recording.{begins}
+use Rattle.sign_store.specs.declared.store.Store.{Store}
+use Rattle.build_run.specs.Books.{book_of}
 use Rattle.turn_means.specs.Standing.{Outset, IsOutset, begun_at, setting_at, Standing, Knows, IsAt}
 use Rattle.turn_means.proofs.Deciding.{tied}
 use Rattle.turn_means.proofs.Ends.{runs, goes_on}
@@ -129,11 +132,16 @@ module _ (o : Outset) (outset : IsOutset o) (jobs : List Given) (s : Standing) (
 
 -- ---- what a build did
 
+-- nothing is held
+put_none : {W O E : Type 0} (site : Site W O E) (held : List Busy) → held ≡ [] → map_with site.store.now held ≡ map_of site.store.now
+put_none site held none = ap (λ (busies : List Busy). map_with site.store.now busies) none
+
 module _ {W O E : Type 0} (m : Meaning W) (o : Outset) (outset : IsOutset o) (mid : Site W O E) (after : Account)
-    (on : IsOn o mid.run.now.held (standing_of m mid)) (rest : (m.around mid.world.now).running ≡ [])
+    (on : IsOn o (book_of mid) (standing_of m mid)) (rest : (m.around mid.world.now).running ≡ [])
     (still : is_faulted mid.account.now ≡ false → mid.run.now.plan.halted ≡ false → IsStill mid.run.now.plan)
     (ends : KeepsEnds mid.account.now after) (finishes : FinishesWell mid.graph.now mid.run.now.plan mid.account.now after)
-    (law : FinishedSucceed) where
+    (law : FinishedSucceed) (none : mid.run.now.held ≡ []) (shut : after.is_store_shut ≡ mid.account.now.is_store_shut) (behind : Map)
+    (same : behind ≡ map_of mid.store.now) where
   abbrev s : Standing
   s = standing_of m mid
 
@@ -163,23 +171,28 @@ module _ {W O E : Type 0} (m : Meaning W) (o : Outset) (outset : IsOutset o) (mi
     succeeded : Succeeded o.wanted o.kept o.counts o.before (m.around mid.world.now)
     succeeded = (law o on.jobs s on.past outset on.at unfaulted at_last.scans finished).0
 
-  pub has_made : HasMade o (m.around mid.world.now) after
+  recorded : after.is_store_shut ≡ false → AreRecorded o (m.around mid.world.now) on.past behind
+  recorded unshut =
+      subst (λ (kept : Map). AreRecorded o (m.around mid.world.now) on.past kept) (put_none mid mid.run.now.held none ∙ sym same)
+      (on.booked (sym shut ∙ unshut)).records
+
+  pub has_made : HasMade o (m.around mid.world.now) after behind
   has_made = record {
     runs = (runs o outset on.jobs s on.past on.at).0;
+    records = λ unshut.
+        subst (λ (steps : List Step). AreRecorded o (m.around mid.world.now) steps behind)
+        (sym (runs o outset on.jobs s on.past on.at).1) (recorded unshut);
     succeeds = succeeded;
   }
 
 -- ---- as it begins
-
-put_none : {W O E : Type 0} (site : Site W O E) (held : List Busy) → held ≡ [] → map_with site.store.now held ≡ map_of site.store.now
-put_none site held none = ap (λ (busies : List Busy). map_with site.store.now busies) none
 
 none_began : (o : Outset) (held : List Busy) → held ≡ [] → HeldBegan o [] held
 none_began o held none = subst (λ (busies : List Busy). HeldBegan o [] busies) (sym none) (λ busy path h among. absurd (omega (arith, h.1)))
 
 module _ {W O E : Type 0} (m : Meaning W) (o : Outset) (site : Site W O E)
     (ready : IsReadyFor m o site.graph.now site.run.now site.store.now site.world.now site.account.now site.options)
-    (none : site.run.now.held ≡ []) where
+    (none : site.run.now.held ≡ []) (idle : site.run.now.tickets ≡ []) where
   first_at : IsAt o [] (standing_of m site) []
   first_at =
       let set = ready.sets.set in
@@ -204,7 +217,17 @@ module _ {W O E : Type 0} (m : Meaning W) (o : Outset) (site : Site W O E)
 
   pub first_along : IsAlong m o site
   first_along = record {
-    on = record { jobs = []; past = []; at = first_at; began = none_began o site.run.now.held none };
+    on = record {
+      jobs = [];
+      past = [];
+      at = first_at;
+      began = none_began o site.run.now.held none;
+      booked = λ e. record {
+        records = subst (λ (kept : Map). AreRecorded o (m.around site.world.now) [] kept)
+            (sym (put_none site site.run.now.held none ∙ sym ready.kept)) (begins o (m.around site.world.now));
+        each = λ busy h. absurd (let inside = subst (λ (all : List Busy). Contains all busy) idle h in omega (arith, inside.1));
+      };
+    };
     asked = ready.asked;
     well = λ e. record { unrisen = unrisen; unshut = ready.blank.unshut; looked = ready.sets.looked };
     halted = λ e. true_false (sym e ∙ ready.blank.ended);
@@ -213,9 +236,12 @@ module _ {W O E : Type 0} (m : Meaning W) (o : Outset) (site : Site W O E)
 -- ---- what was lent
 
 module _ {W O E : Type 0} (m : Meaning W) (last : Site W O E) where
-  pub made_given : (o : Outset) (now world : W) (account : Account) → last.world.now ≡ world → last.account.now ≡ account →
-      last.world.now ≡ now → (m.tells now → m.sure now → HasMade o (m.around now) last.account.now) →
-      m.tells world → m.sure world → HasMade o (m.around world) account
-  made_given o now world account lent lent_account same made =
-      subst (λ (w : W). m.tells w → m.sure w → HasMade o (m.around w) account) (sym same ∙ lent)
-      (λ tells sure. subst (λ (a : Account). HasMade o (m.around now) a) lent_account (made tells sure))
+  pub made_given : (o : Outset) (now world : W) (account : Account) (store : Store) → last.world.now ≡ world →
+      last.account.now ≡ account → last.store.now ≡ store → last.world.now ≡ now →
+      (m.tells now → m.sure now → HasMade o (m.around now) last.account.now (map_of last.store.now)) →
+      m.tells world → m.sure world → HasMade o (m.around world) account (map_of store)
+  made_given o now world account store lent lent_account lent_store same made =
+      subst (λ (w : W). m.tells w → m.sure w → HasMade o (m.around w) account (map_of store)) (sym same ∙ lent)
+      (λ tells sure.
+      subst (λ (kept : Store). HasMade o (m.around now) account (map_of kept)) lent_store
+      (subst (λ (a : Account). HasMade o (m.around now) a (map_of last.store.now)) lent_account (made tells sure)))
