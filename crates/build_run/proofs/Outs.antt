@@ -455,11 +455,16 @@ no_more_held held left some = elim some [
   | inr none ↦ omega (arith, ap (λ (all : List Busy). length all) none)
 ]
 
-pub own_still : (ticket : Ticket) (held left busies : List Busy) → KeepsSome held left → HasOwnRoom ticket (held ++ busies) → HasOwnRoom ticket (left ++ busies)
+own_still : (ticket : Ticket) (held left busies : List Busy) → KeepsSome held left → HasOwnRoom ticket (held ++ busies) → HasOwnRoom ticket (left ++ busies)
 own_still ticket held left busies some own other h = elim some [
   | inl same ↦ own other (subst (λ (all : List Busy). Contains (all ++ busies) other) same h)
   | inr none ↦ own other (Contains-append_right held busies other (subst (λ (all : List Busy). Contains (all ++ busies) other) none h))
 ]
+
+-- a new ticket's room is its own also then
+pub own_after : (old : Store) (ticket : Ticket) (held left busies now : List Busy) → IsFresh old ticket → AreOut old (held ++ busies) → KeepsSome held left → now ≡ busies → HasOwnRoom ticket (left ++ now)
+own_after old ticket held left busies now fresh outs some same =
+    subst (λ (all : List Busy). HasOwnRoom ticket (left ++ all)) (sym same) (own_still ticket held left busies some (own_room old ticket (held ++ busies) fresh outs))
 
 -- what is made by none of both
 pub apart_both : (held busies : List Busy) (targets : List (List ℕ)) (hold : Hold) (path : List ℕ) → ((busy : Busy) → Contains held busy → ShareNone targets busy.hold.targets)
