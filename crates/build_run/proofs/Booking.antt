@@ -11,7 +11,7 @@ use Rattle.world_api.specs.declared.job.Ended.{Ended as Ending}
 use Rattle.world_api.specs.declared.job.Job.{Job}
 use Rattle.deciders.specs.declared.recorded.Rec.{Rec}
 use Rattle.sign_store.specs.Putting.{map_with}
-use Rattle.sign_store.specs.Stores.{IsOut, IsTicket, KeepsTickets, map_of}
+use Rattle.sign_store.specs.Stores.{IsOut, IsTicket, KeepsOthers as LeavesOthers, KeepsTickets, map_of}
 use Rattle.sign_store.specs.Tables.{Map, is_among, with_each}
 use Rattle.sign_store.specs.declared.store.Store.{Store}
 use Rattle.build_model.specs.Rules.{Path, Rule, Among, here, there}
@@ -35,7 +35,7 @@ use Rattle.build_run.specs.Outs.{AreOut}
 use Rattle.build_run.specs.Sites.{KeepsRecords, SitePuts}
 use Rattle.build_run.specs.declared.site.Site.{Site}
 use Rattle.build_run.proofs.Holding.{in_pushed}
-use Rattle.build_run.proofs.Outs.{held_alike, not_among, out_in, outs_front}
+use Rattle.build_run.proofs.Outs.{held_alike, not_among, out_in, outs_front, outs_left, own_beside}
 
 -- nothing that was booked was lost
 pub record KeepsBook (old new : Book) : Type 0 where
@@ -80,7 +80,7 @@ puts_book m old new puts tickets kept = record {
 }
 
 -- where tickets stay out they stay tickets for the same records
-pub tickets_out : (old new : Store) (busies : List Busy) → AreOut old busies → (busy : Busy) (rec : Rec) → Contains busies busy →
+tickets_out : (old new : Store) (busies : List Busy) → AreOut old busies → (busy : Busy) (rec : Rec) → Contains busies busy →
     ((of : Rec) → IsOut old of busy.ticket → IsOut new of busy.ticket) → IsTicket old rec busy.ticket → IsTicket new rec busy.ticket
 tickets_out old new busies outs busy rec h keeps is =
     let t = (out_in old busies busy outs h).ticket in
@@ -99,6 +99,13 @@ store_book old store map outs keeps = record {
       let among = Contains-append_right old.held old.running busy h in
       tickets_out old.store store (old.held ++ old.running) outs busy rec among (λ of out. keeps busy of among out) is;
 }
+
+-- so it is where the ticket of one that was taken out is given up
+pub given_up : (book : Book) (store : Store) (busy : Busy) (left : List Busy) → map_of store ≡ map_of book.store → LeavesOthers busy.ticket book.store store →
+    AreOut book.store (book.held ++ busy ∷ left) → KeepsBook (record book { running = left }) (record book { store = store; running = left })
+given_up book store busy left map leaves_others outs =
+    store_book (record book { running = left }) store map (outs_left book.store book.held left busy outs)
+    (λ one rec h out. leaves_others.each rec one.ticket (own_beside book.store book.held busy left outs one h) out)
 
 -- what is cleared is written
 pub clears_write : (paths : List Path) (old new : Around) → Clears paths old new → Writes paths old new
@@ -303,14 +310,14 @@ module _ (o : Outset) where
           one_on old new past (Ended r well ∷ past) book.store after.store one is is.stands (λ t. tickets one is.rec h t)
           (λ e. (stays o outset jobs old new past way writes).to_have is.rule is.rec is.stands e)
 
-      pub failed_booked : map_with after.store after.held ≡ map_with book.store book.held → AreBooked o new (Ended r false ∷ past) after
+      failed_booked : map_with after.store after.held ≡ map_with book.store book.held → AreBooked o new (Ended r false ∷ past) after
       failed_booked kept = record {
         records = subst (λ (map : Map). AreRecorded o new (Ended r false ∷ past) map) (sym kept)
             (ends_with o outset jobs old new past r (map_with book.store book.held) way runs writes are.records).failed;
         each = others_still false;
       }
 
-      pub done_booked : ((rec : Rec) → IsTicket book.store rec busy.ticket →
+      done_booked : ((rec : Rec) → IsTicket book.store rec busy.ticket →
           map_with after.store after.held ≡ with_each rec.targets (Some rec) (map_with book.store book.held)) →
           AreBooked o new (Ended r true ∷ past) after
       done_booked puts =
@@ -333,3 +340,10 @@ module _ (o : Outset) where
                 (λ h. out (subst (λ (paths : List Path). Contains paths path) own h)));
             each = others_still true;
           }
+
+      pub ended_booked : (well : Bool) → (well ≡ false → map_with after.store after.held ≡ map_with book.store book.held) →
+          (well ≡ true → (rec : Rec) → IsTicket book.store rec busy.ticket →
+          map_with after.store after.held ≡ with_each rec.targets (Some rec) (map_with book.store book.held)) →
+          AreBooked o new (Ended r well ∷ past) after
+      ended_booked true kept puts = done_booked (puts refl)
+      ended_booked false kept puts = failed_booked (kept refl)

@@ -53,7 +53,7 @@ use Rattle.build_run.specs.declared.account.Account.{Account}
 use Rattle.build_run.specs.declared.building.Options.{Options}
 use Rattle.build_run.specs.declared.site.Site.{Site}
 use Rattle.build_run.specs.declared.tickets.Hold.{Hold}
-use Rattle.build_run.proofs.Booking.{StaysBooked, booked_as, done_booked, ends_write, failed_booked, with_others}
+use Rattle.build_run.proofs.Booking.{StaysBooked, booked_as, ended_booked, ends_write, with_others}
 use Rattle.build_run.proofs.Clearing.{clears_same}
 use Rattle.build_run.proofs.Holding.{at_front, further, in_front, in_pushed}
 use Rattle.build_run.proofs.Outs.{held_count, held_in}
@@ -204,17 +204,6 @@ module _ {W O E : Type 0} (m : Meaning W) (o : Outset) (outset : IsOutset o) (ol
         (subst (λ (holds : List Hold). Contains holds (hold_of which)) joined (hold_in (m.around old.world.now).running which there_runs))
         (is.id ∙ id)
 
-    booked_by : (r : Rule) → IsRunning may.on.past r → busy.hold.targets ≡ r.targets → (well : Bool) → is_done ended.outcome ≡ well →
-        new.account.now.is_store_shut ≡ false → AreBooked o s.around (model.Ended r well ∷ may.on.past) (book_of new)
-    booked_by r runs makes_it true e unshut =
-        done_booked o outset may.on.jobs (m.around old.world.now) s.around may.on.past may.on.at.way r runs
-        (ends_write Sure ended (m.around old.world.now) s.around ends_now) (book_of old) (book_of new) (may.on.booked (is.open_before unshut))
-        busy is.among makes_it is.running (is.tickets unshut) (is.puts e unshut)
-    booked_by r runs makes_it false e unshut =
-        failed_booked o outset may.on.jobs (m.around old.world.now) s.around may.on.past may.on.at.way r runs
-        (ends_write Sure ended (m.around old.world.now) s.around ends_now) (book_of old) (book_of new) (may.on.booked (is.open_before unshut))
-        busy is.among makes_it is.running (is.tickets unshut) (is.kept e unshut)
-
     on_behind : IsOn o (book_of new) s
     on_behind =
         let behind = ends_behind o outset may.on.jobs (standing_of m old) s may.on.past ended may.on.at may.wait Sure sure ends_now is_ended in
@@ -225,9 +214,10 @@ module _ {W O E : Type 0} (m : Meaning W) (o : Outset) (outset : IsOutset o) (ol
           began = began_behind;
           booked = λ e.
               let own = ended_own o outset may.on.jobs (standing_of m old) s may.on.past ended may.on.at may.wait Sure sure ends_now is_ended in
-              booked_by behind.rule own.runs
-              (ap (λ (h : Hold). h.targets) (which_hold ends_now.which ends_now.front ends_now.back ends_now.was ends_now.id) ∙ own.job_of.targets)
-              (is_done ended.outcome) refl e;
+              ended_booked o outset may.on.jobs (m.around old.world.now) s.around may.on.past may.on.at.way behind.rule own.runs
+              (ends_write Sure ended (m.around old.world.now) s.around ends_now) (book_of old) (book_of new) (may.on.booked (is.open_before e))
+              busy is.among (ap (λ (h : Hold). h.targets) (which_hold ends_now.which ends_now.front ends_now.back ends_now.was ends_now.id) ∙ own.job_of.targets)
+              is.running (is.tickets e) (is_done ended.outcome) (λ failed. is.kept failed e) (λ well. is.puts well e);
         }
 
   pub taken_on : GoesOn m o new event

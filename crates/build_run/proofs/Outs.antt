@@ -375,15 +375,15 @@ outs_left store (one ∷ held) busies busy outs = (outs.0, (λ other h. outs.1 o
 pub stored_left : {W : Type 0} (m : Meaning W) (world : W) (store : Store) (held : List Busy) (busy : Busy) (busies : List Busy) (shut : Bool) → IsStored m world store (held ++ busy ∷ busies) shut → IsStored m world store (held ++ busies) shut
 stored_left m world store held busy busies shut s = record { live = s.live; kept = s.kept; outs = λ unshut. outs_left store held busies busy (s.outs unshut) }
 
+pub own_beside : (store : Store) (held : List Busy) (busy : Busy) (busies : List Busy) → AreOut store (held ++ busy ∷ busies) → HasOwnRoom busy.ticket (held ++ busies)
+own_beside store [] busy busies outs other h = (outs.1 other h).room
+own_beside store (one ∷ held) busy busies outs other h = elim (in_front (held ++ busies) one other h) [
+  | inl same ↦ (λ e. (outs.1 busy (Contains-append_right held (busy ∷ busies) busy (at_front busies busy))).room (sym e ∙ ap (λ (b : Busy). b.ticket.room) (sym same)))
+  | inr more ↦ own_beside store held busy busies outs.2 other more
+]
+
 pub room_beside : {W : Type 0} (m : Meaning W) (world : W) (store : Store) (held : List Busy) (busy : Busy) (busies : List Busy) (shut : Bool) → IsStored m world store (held ++ busy ∷ busies) shut → shut ≡ false → HasOwnRoom busy.ticket (held ++ busies)
-room_beside m world store held busy busies shut s unshut = own held (s.outs unshut)
-  where
-    own : (held : List Busy) → AreOut store (held ++ busy ∷ busies) → HasOwnRoom busy.ticket (held ++ busies)
-    own [] outs other h = (outs.1 other h).room
-    own (one ∷ held) outs other h = elim (in_front (held ++ busies) one other h) [
-      | inl same ↦ (λ e. (outs.1 busy (Contains-append_right held (busy ∷ busies) busy (at_front busies busy))).room (sym e ∙ ap (λ (b : Busy). b.ticket.room) (sym same)))
-      | inr more ↦ own held outs.2 other more
-    ]
+room_beside m world store held busy busies shut s unshut = own_beside store held busy busies (s.outs unshut)
 
 -- ---- withdrawals
 

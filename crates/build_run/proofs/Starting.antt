@@ -146,8 +146,11 @@ module _ {W O E : Type 0} (m : Meaning W) (o : Outset) (outset : IsOutset o) (ol
   module _ (rule : RuleId) (rec : Rec) (due : IsDue m o old rule rec) (is_due : is_due_now (standing_of m old) due.model rec ≡ true)
       (job : Job) (from : IsJobFrom old.graph.now rule rec job)
       (room : length (m.around old.world.now).running < jobs_at_once o.wanted.jobs) where
+    own_targets : rec.targets ≡ due.model.targets
+    own_targets = ap (λ (x : Record). x.targets) due.weighed.present.is
+
     targets : job.targets ≡ due.model.targets
-    targets = from.targets ∙ ap (λ (x : Record). x.targets) due.weighed.present.is
+    targets = from.targets ∙ own_targets
 
     -- held ones were made by rules that began before
     began_more : (held : List Busy) → ((busy : Busy) → Contains held busy → Contains old.run.now.held busy) →
@@ -159,9 +162,6 @@ module _ {W O E : Type 0} (m : Meaning W) (o : Outset) (outset : IsOutset o) (ol
     has : HasRecord o (standing_of m old) along.on.past due.model rec
     has = weighed_have o outset along.on.jobs (standing_of m old) along.on.past rule due.model rec along.on.at due.weighed.goes_on due.weighed
 
-    own_targets : rec.targets ≡ due.model.targets
-    own_targets = ap (λ (x : Record). x.targets) due.weighed.present.is
-
     unshut : old.account.now.is_store_shut ≡ false
     unshut = (along.well due.weighed.goes_on).unshut
 
@@ -169,22 +169,21 @@ module _ {W O E : Type 0} (m : Meaning W) (o : Outset) (outset : IsOutset o) (ol
     pub refused_on : (world : W) (book : Book) (plan : Planned) → Clears job.targets (m.around old.world.now) (m.around world) →
         HoldsFewer old.run.now.held book.held → plan ≡ old.run.now.plan →
         (book.shut ≡ false → TakesAway job.targets (book_of old) book) → EndsBy m o world book plan
-    refused_on world book plan clears within kept takes s around ended faulted goes = record {
-      jobs = job_for o.wanted o.before (m.around old.world.now) due.model ∷ along.on.jobs;
-      past = model.Ended due.model false ∷ Began due.model ∷ along.on.past;
-      at = refuses o outset along.on.jobs (standing_of m old) along.on.past rule due.model rec along.on.at due.weighed is_due room s
-          (subst (λ (a : Around). Clears due.model.targets (m.around old.world.now) a) (sym around)
-          (subst (λ (paths : List Path). Clears paths (m.around old.world.now) (m.around world)) targets clears))
-          ended faulted (goes ∙ ap (λ (p : Planned). p.halted) kept);
-      began = λ busy path h made. began_more book.held within busy path h made;
-      booked = λ e.
-          refused_booked o outset along.on.jobs (m.around old.world.now) s.around along.on.past along.on.at.way due.model has.decided
-          (clears_write due.model.targets (m.around old.world.now) s.around
-          (subst (λ (a : Around). Clears due.model.targets (m.around old.world.now) a) (sym around)
-          (subst (λ (paths : List Path). Clears paths (m.around old.world.now) (m.around world)) targets clears)))
-          (book_of old) book (along.on.booked unshut)
-          (subst (λ (paths : List Path). TakesAway paths (book_of old) book) targets (takes e));
-    }
+    refused_on world book plan clears within kept takes s around ended faulted goes =
+        let cleared : Clears due.model.targets (m.around old.world.now) s.around =
+        subst (λ (a : Around). Clears due.model.targets (m.around old.world.now) a) (sym around)
+        (subst (λ (paths : List Path). Clears paths (m.around old.world.now) (m.around world)) targets clears) in
+        record {
+          jobs = job_for o.wanted o.before (m.around old.world.now) due.model ∷ along.on.jobs;
+          past = model.Ended due.model false ∷ Began due.model ∷ along.on.past;
+          at = refuses o outset along.on.jobs (standing_of m old) along.on.past rule due.model rec along.on.at due.weighed is_due room s cleared
+              ended faulted (goes ∙ ap (λ (p : Planned). p.halted) kept);
+          began = λ busy path h made. began_more book.held within busy path h made;
+          booked = λ e.
+              refused_booked o outset along.on.jobs (m.around old.world.now) s.around along.on.past along.on.at.way due.model has.decided
+              (clears_write due.model.targets (m.around old.world.now) s.around cleared) (book_of old) book (along.on.booked unshut)
+              (subst (λ (paths : List Path). TakesAway paths (book_of old) book) targets (takes e));
+        }
 
     -- by what is left of the book
     pub left_on : (world : W) (book : Book) (plan : Planned) → Clears job.targets (m.around old.world.now) (m.around world) →
