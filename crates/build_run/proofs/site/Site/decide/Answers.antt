@@ -1,3 +1,4 @@
+use Rattle.build_run.proofs.Turning.{site_saw}
 use Rattle.std.proofs.Common.{◌∙◌, List, [], Contains, ap, refl, subst, sym}
 use Rattle.std.specs.Prelude.{Ok}
 use Rattle.sign_store.specs.Putting.{map_with}
@@ -104,3 +105,18 @@ returns-in_ok-missing-in-Lacks-clause-along g c = λ tells sure o outset along w
     let f = c.fail.ensures in
     lacks_on m o outset site _ along c.args.rule wanted.0 (p.looks.around tells) refl refl refl p.rest tells (Ok c.in_ok-now.field-0)
     c.in_ok-now.ensures.presents c.in_ok-now.ensures.cause c.in-Lacks.node (cc c.in-Lacks.is) f.ends f.faulted f.goes f.reports.shut
+
+pub returns-in_err-now-clause-safe : goal.returns-in_err-now-clause-safe
+returns-in_err-now-clause-safe g c = λ wanted s along safe.
+    let p = c.present.ensures in
+    site_saw g.W.Disk.meaning g.met.W.Disk.only_now c.args.self.now _ p.looks refl p.held p.tickets refl s safe
+
+pub returns-in_err-missing-in-Lacks-clause-safe : goal.returns-in_err-missing-in-Lacks-clause-safe
+returns-in_err-missing-in-Lacks-clause-safe g c = λ wanted s along safe.
+    let p = c.present.ensures in
+    site_saw g.W.Disk.meaning g.met.W.Disk.only_now c.args.self.now _ p.looks refl p.held p.tickets refl s safe
+
+pub returns-in_ok-missing-in-Lacks-clause-safe : goal.returns-in_ok-missing-in-Lacks-clause-safe
+returns-in_ok-missing-in-Lacks-clause-safe g c = λ wanted s along safe.
+    let p = c.present.ensures in
+    site_saw g.W.Disk.meaning g.met.W.Disk.only_now c.args.self.now _ p.looks refl p.held p.tickets c.fail.ensures.reports.shut s safe
