@@ -209,14 +209,25 @@ module _ {W O E : Type 0} (m : Meaning W) (o : Outset) (outset : IsOutset o) (ol
 
 -- ---- at the end
 
+-- a store that is put to refuses with an end
+unshut_on : {W O E : Type 0} (m : Meaning W) (old new : Site W O E) →
+    (old.account.now.is_ended ≡ false → old.account.now.is_store_shut ≡ false) → StandsPut m old new →
+    new.account.now.is_ended ≡ false → new.account.now.is_store_shut ≡ false
+unshut_on m old new unshut (was_put same counts) e =
+    ap (λ (a : Account). a.is_store_shut) same ∙ unshut (sym (ap (λ (a : Account). a.is_ended) same) ∙ e)
+unshut_on m old new unshut (was_refused is) e = true_false (sym is.ended ∙ e)
+
 -- the turns, the waits and what is put behind them
 pub goes_to_rest : {W O E : Type 0} (m : Meaning W) (old mid last new : Site W O E) → Told m last.world.now new.world.now →
     Told m mid.world.now last.world.now → StaysAlong m old mid → StaysAlong m mid last →
     SitePuts m last new → KeepsTickets last.store.now new.store.now → KeepsKnown last new → StandsPut m last new →
     HoldsFewer last.run.now.held new.run.now.held → KeepsRecords last new → ComesOn m old new
 goes_to_rest m old mid last new told before first then puts tickets known stands less kept tells sure o outset along =
-    put_on m o outset last new (along_on m old mid last before first then (told.told tells) (told.sure tells sure) o outset along)
-    (puts.around tells) known stands less kept (puts_book m last new puts tickets kept)
+    let there = along_on m old mid last before first then (told.told tells) (told.sure tells sure) o outset along in
+    record {
+      on = put_on m o outset last new there (puts.around tells) known stands less kept (puts_book m last new puts tickets kept);
+      unshut = unshut_on m last new (λ e. (there.well e).unshut) stands;
+    }
 
 -- where none runs behind the turns nothing changes but what is put
 pub still_at_rest : {W O E : Type 0} (m : Meaning W) (old mid last new : Site W O E) → Told m last.world.now new.world.now →

@@ -96,13 +96,16 @@ module _ {W : Type 0} (m : Meaning W) (g : RuleGraph) (requested : List NodeId) 
     }
 
     pub build_succeeded : (answer : BuildEnd) → (answer.faults ≡ [] → answer.memory ≡ false → is_faulted after ≡ false) →
-        BuildSucceeds m w (map_of store) a c answer
-    build_succeeded answer faulted = λ none memory tells sure below. record {
-      left = (has tells sure below).left;
-      kept = map_of mid;
-      rest = (has tells sure below).rest;
-      succeeded = (made tells sure below).succeeds (faulted none memory);
-    }
+        BuildSucceeds m w (map_of store) a c (map_of last) answer
+    build_succeeded answer faulted = λ none memory tells sure below.
+        let well = (made tells sure below).succeeds (faulted none memory) in
+        record {
+          left = (has tells sure below).left;
+          kept = map_of mid;
+          rest = (has tells sure below).rest;
+          succeeded = well.succeeded;
+          records = well.records;
+        }
 
   -- or nothing is made
   pub build_refused : (m.tells c → m.tells a) → Leaves m a store c mid (IsLeftAt g (m.around a) (map_of store)) →
@@ -122,5 +125,5 @@ module _ {W : Type 0} (m : Meaning W) (g : RuleGraph) (requested : List NodeId) 
       }
 
   pub refused_untold : (after : Account) → is_faulted after ≡ true → (answer : BuildEnd) →
-      (answer.faults ≡ [] → answer.memory ≡ false → is_faulted after ≡ false) → BuildSucceeds m w (map_of store) a c answer
+      (answer.faults ≡ [] → answer.memory ≡ false → is_faulted after ≡ false) → BuildSucceeds m w (map_of store) a c (map_of mid) answer
   refused_untold after faulted answer well = λ none memory. true_false (sym faulted ∙ well none memory)

@@ -149,10 +149,14 @@ GoesAlong m old new wanted result = m.tells new.world.now → m.sure new.world.n
 abbrev pub StaysAlong : {W O E : Type 0} → Meaning W → Site W O E → Site W O E → Type 0
 StaysAlong m old new = m.tells new.world.now → m.sure new.world.now → (o : Outset) → IsOutset o → IsAlong m o old → IsAlong m o new
 
--- at the end it stands at some steps
+-- at the end it stands at some steps, and the store has refused only where an end came
+pub record IsAtEnd {W O E : Type 0} (m : Meaning W) (o : Outset) (site : Site W O E) : Type 0 where
+  pub on : IsOn o (book_of site) (standing_of m site)
+  pub unshut : site.account.now.is_ended ≡ false → site.account.now.is_store_shut ≡ false
+
 abbrev pub ComesOn : {W O E : Type 0} → Meaning W → Site W O E → Site W O E → Type 0
 ComesOn m old new =
-    m.tells new.world.now → m.sure new.world.now → (o : Outset) → IsOutset o → IsAlong m o old → IsOn o (book_of new) (standing_of m new)
+    m.tells new.world.now → m.sure new.world.now → (o : Outset) → IsOutset o → IsAlong m o old → IsAtEnd m o new
 
 -- ---- waits
 
