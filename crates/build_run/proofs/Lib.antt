@@ -25,3 +25,5 @@ mod Stopping
 mod Turning
 mod Ended
 mod Begun
+pub mod Deciding
+mod Stopped
