@@ -1,5 +1,5 @@
 -- A build, from what it began with: leftover copies went, and from there it took its steps.
-use Rattle.std.proofs.Common.{arith, ◌≡◌, ◌∙◌, ℕ, true, false, ◌||◌, List, [], length, refl, sym, ap}
+use Rattle.std.proofs.Common.{arith, ◌≡◌, ◌∙◌, ℕ, Bool, true, false, ◌||◌, List, [], length, refl, subst, sym, ap}
 use Rattle.std.specs.Prelude.{Result, Ok, Err, IfOk, OnErr, max, min, nat_lt}
 use Rattle.build_model.proofs.Lists.{true_false}
 use Rattle.scons_base.specs.declared.ids.NodeId.{NodeId}
@@ -10,7 +10,10 @@ use Rattle.rule_graph.specs.Rules.{are_below}
 use Rattle.sign_store.specs.Stores.{map_of}
 use Rattle.sign_store.specs.declared.store.Store.{Store}
 use Rattle.build_files.specs.declared.end.ListEnd.{ListEnd}
-use Rattle.build_means.specs.Builds.{Wanted, jobs_at_once}
+use Rattle.build_means.specs.Builds.{Wanted, KeepsRecords, jobs_at_once}
+use Rattle.build_model.specs.Steps.{Step}
+use Rattle.scons_base.specs.Rising.{Rose}
+use Rattle.turn_means.proofs.Recording.{begins}
 use Rattle.build_means.specs.Rules.{IsReading}
 use Rattle.run_means.proofs.Keeping.{begin, did}
 use Rattle.turn_means.specs.Standing.{Outset}
@@ -39,6 +42,10 @@ refused_with (Err end) p = p
 
 -- ---- and makes all
 
+not_true : (b : Bool) → (b ≡ true → ⊥) → b ≡ false
+not_true true none = absurd (none refl)
+not_true false none = refl
+
 as_many : (jobs : ℕ) → max (min jobs 64) 1 ≡ jobs_at_once jobs
 as_many jobs = omega arith
 
@@ -57,7 +64,8 @@ module _ {W : Type 0} (m : Meaning W) (g : RuleGraph) (requested : List NodeId) 
   module _ (h : RuleGraph) (run : Run) (account after : Account) (back : m.tells b → m.tells a) (told : m.tells c → m.tells b)
       (same : m.counts b ≡ m.counts a)
       (sets : SetsOutBehind m g requested options.hash a store h b mid run) (first : IsBlank account)
-      (makes : MakesAll m h run mid b account options c after) where
+      (last : Store) (makes : MakesAll m h run mid b account options c after last)
+      (rose : after.is_store_shut ≡ true → Rose (m.counts a).disk_faults (m.counts c).disk_faults) where
     module _ (tells : m.tells c) (sure : m.sure c) (below : are_below (length g.nodes) requested ≡ true) where
       has : HasSetOut m g requested options.hash a (map_of store) h run b (map_of mid)
       has = sets (told tells) (rest (back (told tells))) below
@@ -75,39 +83,47 @@ module _ {W : Type 0} (m : Meaning W) (g : RuleGraph) (requested : List NodeId) 
         blank = first;
       }
 
-      made : HasMade o (m.around c) after
+      made : HasMade o (m.around c) after (map_of last)
       made = makes tells sure o ready
 
-    pub build_ran : BuildRuns m w (map_of store) a c
+    pub build_ran : BuildRuns m w (map_of store) a c (map_of last)
     build_ran = λ tells sure below. record {
       left = (has tells sure below).left;
       kept = map_of mid;
       rest = (has tells sure below).rest;
       runs = (made tells sure below).runs;
+      records = λ calm. (made tells sure below).records (not_true after.is_store_shut (λ e. calm (rose e)));
     }
 
     pub build_succeeded : (answer : BuildEnd) → (answer.faults ≡ [] → answer.memory ≡ false → is_faulted after ≡ false) →
-        BuildSucceeds m w (map_of store) a c answer
-    build_succeeded answer faulted = λ none memory tells sure below. record {
-      left = (has tells sure below).left;
-      kept = map_of mid;
-      rest = (has tells sure below).rest;
-      succeeded = (made tells sure below).succeeds (faulted none memory);
-    }
+        BuildSucceeds m w (map_of store) a c (map_of last) answer
+    build_succeeded answer faulted = λ none memory tells sure below.
+        let well = (made tells sure below).succeeds (faulted none memory) in
+        record {
+          left = (has tells sure below).left;
+          kept = map_of mid;
+          rest = (has tells sure below).rest;
+          succeeded = well.succeeded;
+          records = well.records;
+        }
 
   -- or nothing is made
   pub build_refused : (m.tells c → m.tells a) → Leaves m a store c mid (IsLeftAt g (m.around a) (map_of store)) →
-      BuildRuns m w (map_of store) a c
+      BuildRuns m w (map_of store) a c (map_of mid)
   build_refused back leaves = λ tells sure below.
       let left = leaves tells (rest (back tells)) in
       let none = left.running ∙ rest (back tells) in
+      let ran = did w (map_of mid) (m.counts a) (m.around c) (m.around c) [] [] read (begin w (map_of mid) (m.counts a) (m.around c) none) in
       record {
         left = m.around c;
         kept = map_of mid;
         rest = left;
-        runs = (did w (map_of mid) (m.counts a) (m.around c) (m.around c) [] [] read (begin w (map_of mid) (m.counts a) (m.around c) none)).0;
+        runs = ran.0;
+        records = λ calm.
+            subst (λ (steps : List Step). KeepsRecords w (map_of mid) (m.around c) (m.around c) steps (map_of mid)) (sym ran.1)
+            (begins (record { wanted = w; kept = map_of mid; counts = m.counts a; before = m.around c }) (m.around c));
       }
 
   pub refused_untold : (after : Account) → is_faulted after ≡ true → (answer : BuildEnd) →
-      (answer.faults ≡ [] → answer.memory ≡ false → is_faulted after ≡ false) → BuildSucceeds m w (map_of store) a c answer
+      (answer.faults ≡ [] → answer.memory ≡ false → is_faulted after ≡ false) → BuildSucceeds m w (map_of store) a c (map_of mid) answer
   refused_untold after faulted answer well = λ none memory. true_false (sym faulted ∙ well none memory)

@@ -20,13 +20,13 @@ use Rattle.task_plan.specs.Plans.{Planned, is_halt, is_scan}
 use Rattle.task_plan.specs.Watched.{IsStill}
 use Rattle.task_plan.specs.declared.want.Want.TheVariants as want
 use Rattle.task_plan.specs.declared.want.PlanEvent.{PlanEvent}
-use Rattle.build_model.specs.Rules.{Path, Rule, Among}
+use Rattle.build_model.specs.Rules.{Path, Rule, Among, here, there}
 use Rattle.build_model.specs.Steps as model
 use Rattle.build_model.specs.Moments.{Job as Given}
-use Rattle.build_model.specs.Steps.{Step, began, is_over, running}
+use Rattle.build_model.specs.Steps.{Step, IsRunning, began, is_over, running}
 use Rattle.build_model.specs.Waiting.{IsIdle}
 use Rattle.build_model.proofs.Runs.{running_few}
-use Rattle.build_model.proofs.Lists.{true_false}
+use Rattle.build_model.proofs.Lists.{true_false, among_right, among_same}
 use Rattle.build_means.specs.Builds.{Kept, jobs_at_once}
 use Rattle.build_means.specs.Logs.{AreUnrisen, is_done}
 use Rattle.build_files.specs.Marked.{AreGoneOver}
@@ -39,17 +39,19 @@ use Rattle.turn_means.specs.Standing.{Outset, IsOutset, begun_at, setting_at, St
 use Rattle.turn_means.specs.Recording.{build_at}
 use Rattle.turn_means.specs.Laws.{IsTold, IsToldEnding, IsEnded, told_by, told_of}
 use Rattle.turn_means.proofs.Deciding.{tied}
-use Rattle.turn_means.proofs.Jobs.{ends_behind}
+use Rattle.turn_means.proofs.Jobs.{ended_own, ends_behind}
 use Rattle.turn_means.proofs.Turns.{ends}
 use Rattle.turn_means.proofs.Running.{run_so, runs_for}
 use Rattle.build_run.specs.Along.{is_faulted, standing_of, HeldBegan, IsAlong, IsOn, IsWantedOf, GoesWell, GoesOn, MayTake, HasFailed, HoldsFewer, KeepsEnds, KeepsKnown, StandsPut, was_put, was_refused}
-use Rattle.build_run.specs.Holds.{Busy, hold_of, holds_in, holds_of}
+use Rattle.build_run.specs.Books.{AreBooked, book_of}
+use Rattle.build_run.specs.Holds.{AreApart, Busy, hold_of, holds_in, holds_of}
 use Rattle.build_run.specs.Outs.{IsTicketFor}
-use Rattle.build_run.specs.Sites.{KeepsRecords, most_jobs, records_of}
+use Rattle.build_run.specs.Sites.{KeepsRecords, PutsRecord, most_jobs, records_of}
 use Rattle.build_run.specs.declared.account.Account.{Account}
 use Rattle.build_run.specs.declared.building.Options.{Options}
 use Rattle.build_run.specs.declared.site.Site.{Site}
 use Rattle.build_run.specs.declared.tickets.Hold.{Hold}
+use Rattle.build_run.proofs.Booking.{StaysBooked, booked_as, done_booked, ends_write, failed_booked}
 use Rattle.build_run.proofs.Holding.{at_front, further, in_front, in_pushed}
 use Rattle.build_run.proofs.Outs.{among_in, held_count, held_in}
 
@@ -114,10 +116,38 @@ pub record IsTakenOn {W O E : Type 0} (m : Meaning W) (o : Outset) (old new : Si
   pub unshut : new.account.now.is_ended ≡ false → new.account.now.is_store_shut ≡ old.account.now.is_store_shut
   pub records : new.account.now.is_store_shut ≡ false → (path : Path) → (Contains busy.hold.targets path → ⊥) →
       records_of new path ≡ records_of old path
+  pub id : busy.hold.rule.0 ≡ ended.id
+  pub open_before : new.account.now.is_store_shut ≡ false → old.account.now.is_store_shut ≡ false
+  pub puts : is_done ended.outcome ≡ true → PutsRecord busy.ticket old new
+  pub kept : is_done ended.outcome ≡ false → KeepsRecords old new
+  pub running : (one : Busy) → Contains new.run.now.tickets one → Contains old.run.now.tickets one
+  pub tickets : new.account.now.is_store_shut ≡ false → (one : Busy) (rec : Rec) → Contains new.run.now.tickets one →
+      IsTicket old.store.now rec one.ticket → IsTicket new.store.now rec one.ticket
+
+-- no two of them have one number
+apart_one : (holds : List Hold) (one other : Hold) → AreApart holds → Contains holds one → Contains holds other → one.rule.0 ≡ other.rule.0 →
+    one ≡ other
+apart_one [] one other apart h k e = absurd (omega (arith, h.1))
+apart_one (hold ∷ holds) one other apart h k e = elim (in_front holds hold one h) [
+  | inl same ↦ elim (in_front holds hold other k) [
+    | inl is ↦ sym same ∙ is
+    | inr more ↦ absurd (apart.0 other more (sym e ∙ ap (λ (x : Hold). x.rule.0) (sym same)))
+  ]
+  | inr front ↦ elim (in_front holds hold other k) [
+    | inl is ↦ absurd (apart.0 one front (e ∙ ap (λ (x : Hold). x.rule.0) (sym is)))
+    | inr more ↦ apart_one holds one other apart.1 front more e
+  ]
+]
+
+-- the job that ended is that of its number
+hold_in : (all : List Running) (which : Running) → Among which all → Contains (holds_of all) (hold_of which)
+hold_in [] which m = elim m [ ]
+hold_in (run ∷ all) which here = at_front (holds_of all) (hold_of run)
+hold_in (run ∷ all) which (there m) = further (holds_of all) (hold_of run) (hold_of which) (hold_in all which m)
 
 module _ {W O E : Type 0} (m : Meaning W) (o : Outset) (outset : IsOutset o) (old new : Site W O E) (busy : Busy) (ended : Ended) (event : PlanEvent)
     (may : MayTake m o old) (is : IsTakenOn m o old new busy ended event)
-    (joined : holds_of (m.around old.world.now).running ≡ holds_in old.run.now.tickets)
+    (joined : holds_of (m.around old.world.now).running ≡ holds_in old.run.now.tickets) (apart : AreApart (holds_in old.run.now.tickets))
     (Sure : Type 0) (sure : Sure) (ends : Ends Sure ended (m.around old.world.now) (m.around new.world.now)) where
   makes : (path : Path) → Contains busy.hold.targets path → IsRunningTarget (m.around old.world.now).running path
   makes = makes_there (m.around old.world.now).running old.run.now.tickets busy joined is.among
@@ -133,7 +163,7 @@ module _ {W O E : Type 0} (m : Meaning W) (o : Outset) (outset : IsOutset o) (ol
   began_behind one path h target = by (in_pushed old.run.now.held busy one (is.held one h))
     where
       by : Contains old.run.now.held one ⊎ (busy ≡ one) → (r : Rule) × ((setting_at o).rule_of path ≡ Some r) × Among r (began may.on.past)
-      by (inl there) = may.on.began one path there target
+      by (inl before) = may.on.began one path before target
       by (inr same) =
           let runs = runs_for o outset may.on.jobs (m.around old.world.now) may.on.past may.on.at.way
           (makes path (subst (λ (b : Busy). Contains b.hold.targets path) (sym same) target)) in
@@ -164,7 +194,27 @@ module _ {W O E : Type 0} (m : Meaning W) (o : Outset) (outset : IsOutset o) (ol
     ends_now : Ends Sure ended (m.around old.world.now) s.around
     ends_now = subst (λ (a : Around). Ends Sure ended (m.around old.world.now) a) (sym (ap (λ (t : Standing). t.around) told.rest)) ends
 
-    on_behind : IsOn o new.run.now.held s
+    -- its hold is that of the ticket
+    which_hold : (which : Running) (front back : List Running) → (m.around old.world.now).running ≡ front ++ which ∷ back →
+        ended.id ≡ which.job.id → busy.hold ≡ hold_of which
+    which_hold which front back was id =
+        let there_runs : Among which (m.around old.world.now).running = among_same (sym was) (among_right front here) in
+        apart_one (holds_in old.run.now.tickets) busy.hold (hold_of which) apart (held_in old.run.now.tickets busy is.among)
+        (subst (λ (holds : List Hold). Contains holds (hold_of which)) joined (hold_in (m.around old.world.now).running which there_runs))
+        (is.id ∙ id)
+
+    booked_by : (r : Rule) → IsRunning may.on.past r → busy.hold.targets ≡ r.targets → (well : Bool) → is_done ended.outcome ≡ well →
+        new.account.now.is_store_shut ≡ false → AreBooked o s.around (model.Ended r well ∷ may.on.past) (book_of new)
+    booked_by r runs makes_it true e unshut =
+        done_booked o outset may.on.jobs (m.around old.world.now) s.around may.on.past may.on.at.way r runs
+        (ends_write Sure ended (m.around old.world.now) s.around ends_now) (book_of old) (book_of new) (may.on.booked (is.open_before unshut))
+        busy is.among makes_it is.running (is.tickets unshut) (is.puts e unshut)
+    booked_by r runs makes_it false e unshut =
+        failed_booked o outset may.on.jobs (m.around old.world.now) s.around may.on.past may.on.at.way r runs
+        (ends_write Sure ended (m.around old.world.now) s.around ends_now) (book_of old) (book_of new) (may.on.booked (is.open_before unshut))
+        busy is.among makes_it is.running (is.tickets unshut) (is.kept e unshut)
+
+    on_behind : IsOn o (book_of new) s
     on_behind =
         let behind = ends_behind o outset may.on.jobs (standing_of m old) s may.on.past ended may.on.at may.on.wait Sure sure ends_now is_ended in
         record {
@@ -172,6 +222,11 @@ module _ {W O E : Type 0} (m : Meaning W) (o : Outset) (outset : IsOutset o) (ol
           past = model.Ended behind.rule (is_done ended.outcome) ∷ may.on.past;
           at = behind.stands;
           began = began_behind;
+          booked = λ e.
+              let own = ended_own o outset may.on.jobs (standing_of m old) s may.on.past ended may.on.at may.on.wait Sure sure ends_now is_ended in
+              booked_by behind.rule own.runs
+              (ap (λ (h : Hold). h.targets) (which_hold ends_now.which ends_now.front ends_now.back ends_now.was ends_now.id) ∙ own.job_of.targets)
+              (is_done ended.outcome) refl e;
         }
 
   pub taken_on : GoesOn m o new event
@@ -208,6 +263,12 @@ module _ {W O E : Type 0} (m : Meaning W) (old new : Site W O E) where
 
 pub was_done : (outcome : Outcome) → outcome ≡ Done → is_done outcome ≡ true
 was_done outcome e = ap is_done e
+
+pub done_is : (outcome : Outcome) → is_done outcome ≡ true → outcome ≡ Done
+done_is Done e = refl
+done_is (Failed code) e = true_false (sym e)
+done_is Broken e = true_false (sym e)
+done_is NoMemory e = true_false (sym e)
 
 pub was_not_done : (outcome : Outcome) → (outcome ≡ Done → ⊥) → is_done outcome ≡ false
 was_not_done Done other = absurd (other refl)
@@ -302,7 +363,7 @@ module _ (o : Outset) (outset : IsOutset o) (s : Standing) (on : (jobs : List Gi
 module _ {W O E : Type 0} (m : Meaning W) (o : Outset) (outset : IsOutset o) (old mid : Site W O E) (along : IsAlong m o old)
     (around : m.around mid.world.now ≡ m.around old.world.now) (options : mid.options ≡ old.options)
     (known : KeepsKnown old mid) (held : HoldsFewer old.run.now.held mid.run.now.held)
-    (records : KeepsRecords old mid) (stands : StandsPut m old mid) where
+    (records : KeepsRecords old mid) (stands : StandsPut m old mid) (book : StaysBooked (book_of old) (book_of mid)) where
   -- where the build goes on only the records were put
   same_standing : mid.account.now ≡ old.account.now → records_of mid ≡ records_of old → standing_of m mid ≡ standing_of m old
   same_standing account kept =
@@ -351,6 +412,9 @@ module _ {W O E : Type 0} (m : Meaning W) (o : Outset) (outset : IsOutset o) (ol
       past = along.on.past;
       at = at_by mid.account.now.is_ended refl stands;
       began = λ busy path h. along.on.began busy path (held busy h);
+      booked = λ e.
+          subst (λ (a : Around). AreBooked o a along.on.past (book_of mid)) (sym around)
+          (booked_as o (m.around old.world.now) along.on.past (book_of old) (book_of mid) (book.keeps e) (along.on.booked (book.unshut e)));
       wait =
           subst (λ (a : Around). MayWait o.wanted o.kept o.before a along.on.past) (sym around)
           (may_wait o outset (standing_of m old) (along.on.jobs, along.on.past, along.on.at) old.run.now.tickets (most_jobs old.options)

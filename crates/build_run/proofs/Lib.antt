@@ -1,3 +1,4 @@
+mod Booking
 mod Settling
 mod Scanning
 mod Alongs
@@ -14,6 +15,7 @@ mod EndingOn
 mod Starting
 mod Choosing
 mod Presenting
+mod Launching
 mod Leaving
 mod Outsetting
 mod Finishing

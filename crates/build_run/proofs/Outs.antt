@@ -58,7 +58,7 @@ outs_push store (busy ∷ busies) new outs t beside = (
   outs_push store busies new outs.2 t (λ other h. beside other (further busies busy other h)),
 )
 
-removed_in : (busies : List Busy) (i : ℕ) (other : Busy) → i < length busies → Contains (remove busies i) other → Contains busies other
+pub removed_in : (busies : List Busy) (i : ℕ) (other : Busy) → i < length busies → Contains (remove busies i) other → Contains busies other
 removed_in [] i other lt h = absurd (omega arith)
 removed_in (busy ∷ busies) zero other lt h = further busies busy other h
 removed_in (busy ∷ busies) (suc i) other lt h = elim (in_front (remove busies i) busy other h) [

@@ -31,6 +31,8 @@ use Rattle.build_run.specs.declared.account.Account.{Account}
 use Rattle.build_run.specs.declared.building.Options.{Options}
 use Rattle.build_run.specs.declared.site.Run.{Run}
 use Rattle.build_run.specs.declared.site.Site.{Site}
+use Rattle.build_run.specs.Books.{AreBooked, book_of}
+use Rattle.build_run.proofs.Booking.{book_as, kept_on, lacks_booked}
 use Rattle.build_run.proofs.Choosing.{along_looked, deps_still, goes_before, looked_for, not_ended, numbered_rule, paths_still, told_before, unread_still, weighed_on}
 
 -- the first that is missing is so still behind a look
@@ -137,7 +139,7 @@ module _ {W O E : Type 0} (m : Meaning W) (o : Outset) (outset : IsOutset o) (ol
   pub lacks_told : (node : NodeId) → result ≡ Ok (present.Lacks node) → (faulted ended : Bool) →
       (is_faulted old.account.now ≡ true → faulted ≡ true) → faulted ≡ true → (ended ≡ false → o.wanted.keep ≡ true) →
       (s : Standing) → IsTold (record (standing_of m new) { faulted = faulted; ended = ended }) s (told.Absent rule node) →
-      (ended ≡ true → s.ended ≡ true) → IsOn o new.run.now.held s
+      (ended ≡ true → s.ended ≡ true) → IsOn o (book_of new) s
   lacks_told node ok faulted ended keeps is_so keep s t stays =
       let is = read (present.Lacks node) ok model.0 model.1 in
       let path = path_of old.graph.now.nodes node in
@@ -153,6 +155,10 @@ module _ {W O E : Type 0} (m : Meaning W) (o : Outset) (outset : IsOutset o) (ol
         at = lacks o outset along_present.on.jobs Now s along_present.on.past rule node model.0 path at goes_on chosen.next model.1 absent is_told
             (t.reports.stays is_so) (λ e. keep (goes_with ended s.ended stays e));
         began = along_present.on.began;
+        booked = λ e.
+            subst (λ (a : Around). AreBooked o a (Lacks model.0 path ∷ along_present.on.past) (book_of new))
+            (sym (ap (λ (x : Standing). x.around) t.rest))
+            (lacks_booked o (m.around new.world.now) along_present.on.past (book_of new) model.0 path (along_present.on.booked e));
       }
     where
       goes_with : (ended now : Bool) → (ended ≡ true → now ≡ true) → now ≡ false → ended ≡ false
@@ -178,9 +184,11 @@ module _ {W O E : Type 0} (m : Meaning W) (o : Outset) (outset : IsOutset o) (ol
   pub lacks_on : GoesOn m o last (told.Absent rule node)
   lacks_on = record {
     told = λ s t stays.
-        lacks_told m o outset old (record last { account = old.account }) along rule chosen asks graph store refl options run tells
+        kept_on o (book_of (record last { account = old.account })) (book_of last) s (λ busy h. h)
+        (book_as (book_of (record last { account = old.account })) (book_of last) refl refl refl (λ e. sym shut ∙ e))
+        (lacks_told m o outset old (record last { account = old.account }) along rule chosen asks graph store refl options run tells
         result presents counts node ok (is_faulted last.account.now) last.account.now.is_ended ends.faulted faulted
-        (λ e. sym along.asked.keep ∙ goes e) s t stays;
+        (λ e. sym along.asked.keep ∙ goes e) s t stays);
     ends = λ e. true_false (sym e);
     goes = refl;
     reported = ends.told along.on.at.told;

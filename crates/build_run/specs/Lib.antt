@@ -1,4 +1,5 @@
 pub mod Along
+pub mod Books
 pub mod Causes
 pub mod Goings
 pub mod Holds

@@ -73,8 +73,8 @@ pub fn build<W: World, O: Sink, E: Sink>(
     ensures later { Later (W.meaning.counts world.old) (W.meaning.counts world.new) }
     ensures idle { W.meaning.tells world.new → (W.meaning.around world.new).running ≡ [] }
     ensures causes { BuildCauses W.meaning O.meaning E.meaning world.old out.old err.old world.new out.new err.new result.faults result.memory }
-    ensures runs { BuildRuns W.meaning (wanted_of graph.old requested.now options.now) (map_of store.old) world.old world.new }
-    ensures succeeds { BuildSucceeds W.meaning (wanted_of graph.old requested.now options.now) (map_of store.old) world.old world.new result }
+    ensures runs { BuildRuns W.meaning (wanted_of graph.old requested.now options.now) (map_of store.old) world.old world.new (map_of store.new) }
+    ensures succeeds { BuildSucceeds W.meaning (wanted_of graph.old requested.now options.now) (map_of store.old) world.old world.new (map_of store.new) result }
 {
     graph.laws();
     let mut account = Account::new(alloc);
@@ -173,7 +173,7 @@ fn make_all<W: World, O: Sink, E: Sink>(
     ensures passes { Passes W.meaning world.old world.new }
     ensures idle { W.meaning.tells world.new → (W.meaning.around world.new).running ≡ [] }
     ensures accounts { AllAccounts W.meaning O.meaning E.meaning world.old out.old err.old account.old world.new out.new err.new account.new }
-    ensures makes { MakesAll W.meaning graph.old run.old store.old world.old account.old options world.new account.new }
+    ensures makes { MakesAll W.meaning graph.old run.old store.old world.old account.old options world.new account.new store.new }
 {
     finished_succeed();
     let mut site = Site {
@@ -195,6 +195,8 @@ impl<W: World, O: Sink, E: Sink> Site<'_, '_, W, O, E> {
     fn close(&mut self) -> Listing<(PathText, PathText)>
         ensures same { IsSame self.old self.new }
         ensures world { self.new.world.now ≡ self.old.world.now }
+        ensures store { self.new.store.now ≡ self.old.store.now }
+        ensures shut { self.new.account.now.is_store_shut ≡ self.old.account.now.is_store_shut }
         ensures accounts { SiteAccounts W.meaning O.meaning E.meaning self.old self.new }
         ensures ends { KeepsEnds self.old.account.now self.new.account.now }
         ensures finishes { FinishesWell self.old.graph.now self.old.run.now.plan self.old.account.now self.new.account.now }

@@ -1,12 +1,14 @@
 //! Clearing the way of an action: the directories of its targets stand, their records are withdrawn, and they are removed.
-ghost use Rattle.std.specs.Prelude.{◌≡◌, ◌∷◌, [], None, Contains, OnOk};
+ghost use Rattle.std.specs.Prelude.{◌≡◌, ◌∷◌, [], None, true, Contains, OnOk, OnErr};
 ghost use Rattle.build_run.specs.Along.{KeepsKnown, SameEnds};
+ghost use Rattle.build_run.specs.Books.{RefusesSo};
 ghost use Rattle.build_run.specs.Goings.{ClearsAt, Stays, Leaves, AreGone, AreUnused};
 ghost use Rattle.build_files.specs.Causes.{HasLookCause};
 ghost use Rattle.build_run.specs.Outs.{IsTicketFor, KeepsSome};
 ghost use Rattle.build_run.specs.Sites.{IsSound, IsReady, IsCleared, KeepsRecordsBut, SiteEnds, SiteGoes};
 ghost use Rattle.build_run.specs.Takes.{Takes};
 ghost use Rattle.build_run.specs.Withdrawals.{AreWithdrawn};
+ghost use Rattle.sign_store.specs.Stores.{KeepsTickets};
 ghost use Rattle.world_api.specs.Around.{IsUnused};
 
 use crate::site::Site;
@@ -34,6 +36,8 @@ impl<W: World, O: Sink, E: Sink> Site<'_, '_, W, O, E> {
         ensures known { KeepsKnown self.old self.new }
         ensures account { SameEnds self.old.account.now self.new.account.now }
         ensures well { OnOk result (self.new.account.now ≡ self.old.account.now) }
+        ensures tickets { KeepsTickets self.old.store.now self.new.store.now }
+        ensures refused { RefusesSo W.meaning job.now.targets self.old self.new result }
     {
         let targets = job.targets.as_slice();
         make_dirs(self.account.alloc, self.world, &mut self.run.dirs, targets)?;
@@ -58,6 +62,8 @@ impl<W: World, O: Sink, E: Sink> Site<'_, '_, W, O, E> {
         ensures known { KeepsKnown self.old self.new }
         ensures account { SameEnds self.old.account.now self.new.account.now }
         ensures well { OnOk result (self.new.account.now ≡ self.old.account.now) }
+        ensures tickets { KeepsTickets self.old.store.now self.new.store.now }
+        ensures shut { OnErr result (self.new.account.now.is_store_shut ≡ true) }
     {
         if !self.store.has_record(ticket) {
             return Ok(());

@@ -106,6 +106,7 @@ impl<W: World, O: Sink, E: Sink> Site<'_, '_, W, O, E> {
         ensures accounts { SiteAccounts W.meaning O.meaning E.meaning self.old self.new }
         ensures sound { IsSound W.meaning self.new }
         ensures record { PutsRecord busy.ticket self.old self.new }
+        ensures tickets { KeepsTickets self.old.store.now self.new.store.now }
         ensures known { KeepsKnown self.old self.new }
         ensures held { HoldsFewer (self.old.run.now.held ++ busy ∷ []) self.new.run.now.held }
         ensures stands { StandsPut W.meaning self.old self.new }

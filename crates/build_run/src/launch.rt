@@ -2,6 +2,7 @@
 ghost use Rattle.std.specs.Prelude.{◌≡◌, ◌≤◌, ◌++◌, ◌∷◌, [], length, Contains, OnOk, OnErr};
 ghost use Rattle.build_run.specs.Causes.{HasPrintCause, HasStartCause, IsUnstarted};
 ghost use Rattle.build_run.specs.Along.{IsWellStill, KeepsKnown, SameEnds};
+ghost use Rattle.build_run.specs.Books.{RefusesSo};
 ghost use Rattle.build_run.specs.Goings.{Passes, ClearsAt, LaunchesAt, IsJoined, AreAbsent};
 ghost use Rattle.world_api.specs.Laws.{StartsJob};
 ghost use Rattle.build_run.specs.Ledgers.{ledger_of};
@@ -10,7 +11,7 @@ ghost use Rattle.build_run.specs.Outs.{IsTicketFor, KeepsSome, ShareNone};
 ghost use Rattle.build_run.specs.Sites.{IsReady, IsSound, IsSoundWith, KeepsRecordsBut, SiteEnds, SitePasses, holds_after};
 ghost use Rattle.build_run.specs.declared.tickets.Hold.{Hold};
 ghost use Rattle.build_run.specs.Withdrawals.{AreWithdrawn, HasNone};
-ghost use Rattle.sign_store.specs.Stores.{map_of};
+ghost use Rattle.sign_store.specs.Stores.{KeepsTickets, map_of};
 ghost use Rattle.world_api.specs.Meaning.{BanksKept};
 
 use crate::account::Account;
@@ -40,6 +41,8 @@ impl<W: World, O: Sink, E: Sink> Site<'_, '_, W, O, E> {
         ensures known { KeepsKnown self.old self.new }
         ensures account { SameEnds self.old.account.now self.new.account.now }
         ensures well { OnOk result (IsWellStill W.meaning self.old self.new) }
+        ensures outs { KeepsTickets self.old.store.now self.new.store.now }
+        ensures refused { RefusesSo W.meaning job.targets self.old self.new result }
     {
         self.clear(&job, ticket)?;
         show(self.account, self.out, text)?;

@@ -140,6 +140,7 @@ impl Tickets {
         ensures among { IfSome result (λ busy. Contains self.old busy) }
         ensures outs { StayOut self.old result self.new }
         ensures none { IfNone result (self.new ≡ self.old) }
+        ensures fewer { (busy : Busy) → Contains self.new busy → Contains self.old busy }
     {
         let place = place_of(self.busy.as_slice(), id)?;
         Some(self.busy.remove(place))

@@ -46,21 +46,27 @@ returns-in-Err-clause-causes g c =
 
 pub returns-in-Ok-clause-runs : goal.returns-in-Ok-clause-runs
 returns-in-Ok-clause-runs g c =
+    let start = outside (g.W.Disk.meaning.counts c.args.world.now) (g.O.Sink.meaning.faults c.args.out.now) (g.E.Sink.meaning.faults c.args.err.now) in
+    let first = account_as start start blank (ledger_of c.new-account.result) c.new-account.ensures.ledger (at_first start) in
+    let made = c.make_all-skipped.ensures.accounts start (same_counts start (ledger_of c.new-account.result) _ _ _ _ c.in-Ok.ensures.cause first) in
     let read : IsReading c.args.graph.now = record { apart = c.laws.ensures.apart; single = c.laws.ensures.single; named = c.laws.ensures.named } in
     build_ran g.W.Disk.meaning c.args.graph.now c.args.requested.now c.args.options.now read c.args.world.now c.set_out.new.world
     c.make_all-skipped.new.world c.args.store.now c.set_out.new.store c.requires.idle c.set_out.new.graph c.in-Ok.run' c.new-account.result
     c.make_all-skipped.new.account c.set_out.ensures.goes.passes.told.told c.make_all-skipped.ensures.passes.told.told c.in-Ok.ensures.cause
     c.in-Ok.ensures.sets (is_blank c.new-account.result c.new-account.ensures.ledger c.new-account.ensures.ended)
-    c.make_all-skipped.ensures.makes
+    c.make_all-skipped.new.store c.make_all-skipped.ensures.makes made.shut
 
 pub returns-in-Ok-clause-succeeds : goal.returns-in-Ok-clause-succeeds
 returns-in-Ok-clause-succeeds g c =
+    let start = outside (g.W.Disk.meaning.counts c.args.world.now) (g.O.Sink.meaning.faults c.args.out.now) (g.E.Sink.meaning.faults c.args.err.now) in
+    let first = account_as start start blank (ledger_of c.new-account.result) c.new-account.ensures.ledger (at_first start) in
+    let made = c.make_all-skipped.ensures.accounts start (same_counts start (ledger_of c.new-account.result) _ _ _ _ c.in-Ok.ensures.cause first) in
     let read : IsReading c.args.graph.now = record { apart = c.laws.ensures.apart; single = c.laws.ensures.single; named = c.laws.ensures.named } in
     build_succeeded g.W.Disk.meaning c.args.graph.now c.args.requested.now c.args.options.now read c.args.world.now c.set_out.new.world
     c.make_all-skipped.new.world c.args.store.now c.set_out.new.store c.requires.idle c.set_out.new.graph c.in-Ok.run' c.new-account.result
     c.make_all-skipped.new.account c.set_out.ensures.goes.passes.told.told c.make_all-skipped.ensures.passes.told.told c.in-Ok.ensures.cause
     c.in-Ok.ensures.sets (is_blank c.new-account.result c.new-account.ensures.ledger c.new-account.ensures.ended)
-    c.make_all-skipped.ensures.makes c.answer.result c.answer.ensures.faulted
+    c.make_all-skipped.new.store c.make_all-skipped.ensures.makes made.shut c.answer.result c.answer.ensures.faulted
 
 pub returns-in-Err-clause-runs : goal.returns-in-Err-clause-runs
 returns-in-Err-clause-runs g c =

@@ -25,7 +25,7 @@ pub returns-clause-on : goal.returns-clause-on
 returns-clause-on g c =
     let puts = c.put_held.ensures.puts in
     goes_to_rest g.W.Disk.meaning _ _ _ _ puts.goes.passes.told c.wait_for_all.ensures.passes.passes.told c.take_turns.ensures.along
-    (c.wait_for_all.ensures.along c.take_turns.ensures.halts) puts.around c.put_held.ensures.known c.put_held.ensures.stands
+    (c.wait_for_all.ensures.along c.take_turns.ensures.halts) puts c.put_held.ensures.tickets c.put_held.ensures.known c.put_held.ensures.stands
     c.put_held.ensures.held c.put_held.ensures.kept
 
 pub returns-clause-still : goal.returns-clause-still

@@ -53,3 +53,6 @@ returns-clause-record g c = λ unshut rec is.
     let site = c.args.self.now in
     c.put_held.ensures.kept unshut
     ∙ (ap (λ (all : List Busy). map_with site.store.now all) c.add.ensures ∙ held_more site.store.now site.run.now.held c.args.busy rec is)
+
+pub returns-then-len-most_jobs-clause-tickets : goal.returns-then-len-most_jobs-clause-tickets
+returns-then-len-most_jobs-clause-tickets g c = record { each = λ rec ticket is. is }

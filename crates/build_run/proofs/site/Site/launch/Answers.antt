@@ -2,6 +2,7 @@ use Rattle.std.proofs.Common.{◌++◌, ◌∙◌, List, Contains, ap, refl, sub
 use Rattle.build_run.specs.Holds.{Busy, holds_in}
 use Rattle.build_run.specs.Ledgers.{Ledger, ledger_of}
 use Rattle.build_run.proofs.Causing.{account_as, begun, exit_same, print_end, same_out}
+use Rattle.build_run.specs.Books.{withdrawn}
 use Rattle.build_run.proofs.Clearing.{held_err, launched, refused}
 use Rattle.build_run.proofs.Goings.{passes_on}
 use Rattle.build_run.proofs.Outs.{held_ok, stored_alike, stored_over, unheld_still}
@@ -112,3 +113,12 @@ pub returns-clause-clears : goal.returns-clause-clears
 returns-clause-clears g c =
     refused g.W.Disk.meaning c.args.job c.args.self.now.world.now c.clear.new.self.world.now c.begin.new.world c.begin.result
     c.begin.ensures.passes.told c.clear.ensures.clears c.begin.ensures.asks
+
+pub returns-in_err-clear-clause-refused : goal.returns-in_err-clear-clause-refused
+returns-in_err-clear-clause-refused g c = held_err c.from_residual.result c.in_err-clear.ensures.refused
+
+pub returns-in_err-show-clause-refused : goal.returns-in_err-show-clause-refused
+returns-in_err-show-clause-refused g c = held_err c.from_residual-in_err-show.result (withdrawn c.in_ok-clear.ensures.cleared.withdrawn.map)
+
+pub returns-clause-refused : goal.returns-clause-refused
+returns-clause-refused g c = held_err c.begin.result (withdrawn c.in_ok-clear.ensures.cleared.withdrawn.map)

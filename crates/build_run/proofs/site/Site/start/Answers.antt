@@ -1,6 +1,6 @@
 use Rattle.std.proofs.Common.{◌≢◌, ◌∙◌, ◌++◌, ◌∷◌, List, [], Contains, ap, append_assoc, arith, length, length-append, refl, subst, sym}
 use Rattle.std.proofs.lemmas.List.{map-append}
-use Rattle.std.proofs.lemmas.List.Elements.{Contains-append_left}
+use Rattle.std.proofs.lemmas.List.Elements.{Contains-append_left, Contains-append_right}
 use Rattle.sign_store.specs.Tables.{Map}
 use Rattle.build_run.specs.Holds.{Busy, holds_in, hold_for}
 use Rattle.build_run.specs.Goings.{IsJoined}
@@ -11,7 +11,10 @@ use Rattle.build_run.proofs.Causing.{exit_same, exit_inside, inside, shut_fault}
 use Rattle.build_run.proofs.Clearing.{clears_here}
 use Rattle.build_run.proofs.Goings.{passes_here}
 use Rattle.build_run.proofs.Outs.{apart_both, held_alike, kept_held, no_more_held, outs_front, own_room, own_still, stored_prepared, stored_beside, stored_added, unheld_still}
-use Rattle.build_run.proofs.Starting.{end_leads, ended_on, held_within, launched_on, refused_on, room_in}
+use Rattle.build_run.specs.Books.{book_of}
+use Rattle.build_run.proofs.Booking.{same_book, tickets_out}
+use Rattle.build_run.proofs.Launching.{left_by, takes_away}
+use Rattle.build_run.proofs.Starting.{end_leads, ended_on, ends_as, held_within, launched_on, left_on, room_in}
 use Rattle.build_run.proofs.site.Site.start.Goals as goal
 
 pub returns-then-self-clause-ends : goal.returns-then-self-clause-ends
@@ -206,47 +209,61 @@ pub returns-then-self-clause-along : goal.returns-then-self-clause-along
 returns-then-self-clause-along g c = λ tells sure o outset along due is_due.
     let m = g.W.Disk.meaning in
     let site = c.args.self.now in
-    ended_on m o outset site along site.world.now site.run.now.held site.run.now.plan (clears_here m [] site.world.now tells) refl refl
+    ended_on m o outset site along site.world.now (book_of site) site.run.now.plan (clears_here m [] site.world.now tells) (λ busy h. h) (same_book (book_of site)) refl
 
 pub returns-then-not-are_apart-clause-along : goal.returns-then-not-are_apart-clause-along
 returns-then-not-are_apart-clause-along g c = λ tells sure o outset along due is_due.
     let m = g.W.Disk.meaning in
     let site = c.args.self.now in
-    ended_on m o outset site along site.world.now site.run.now.held site.run.now.plan (clears_here m [] site.world.now tells) refl refl
+    ended_on m o outset site along site.world.now (book_of site) site.run.now.plan (clears_here m [] site.world.now tells) (λ busy h. h) (same_book (book_of site)) refl
 
 pub returns-then-not-make_none_of-clause-along : goal.returns-then-not-make_none_of-clause-along
 returns-then-not-make_none_of-clause-along g c = λ tells sure o outset along due is_due.
     let m = g.W.Disk.meaning in
     let site = c.args.self.now in
-    ended_on m o outset site along site.world.now site.run.now.held site.run.now.plan (clears_here m [] site.world.now tells) refl refl
+    ended_on m o outset site along site.world.now (book_of site) site.run.now.plan (clears_here m [] site.world.now tells) (λ busy h. h) (same_book (book_of site)) refl
 
 pub returns-in_err-text-clause-along : goal.returns-in_err-text-clause-along
 returns-in_err-text-clause-along g c = λ tells sure o outset along due is_due.
     let m = g.W.Disk.meaning in
     let site = c.args.self.now in
     end_leads _ m o _ _ c.from_residual.result c.from_residual.ensures.1
-    (ended_on m o outset site along site.world.now site.run.now.held site.run.now.plan (clears_here m [] site.world.now tells) refl refl)
+    (ended_on m o outset site along site.world.now (book_of site) site.run.now.plan (clears_here m [] site.world.now tells) (λ busy h. h) (same_book (book_of site)) refl)
 
 pub returns-in_err-job-clause-along : goal.returns-in_err-job-clause-along
 returns-in_err-job-clause-along g c = λ tells sure o outset along due is_due.
     let m = g.W.Disk.meaning in
     let site = c.args.self.now in
     end_leads _ m o _ _ c.from_residual-in_err-job.result c.from_residual-in_err-job.ensures.1
-    (ended_on m o outset site along site.world.now site.run.now.held site.run.now.plan (clears_here m [] site.world.now tells) refl refl)
+    (ended_on m o outset site along site.world.now (book_of site) site.run.now.plan (clears_here m [] site.world.now tells) (λ busy h. h) (same_book (book_of site)) refl)
 
 pub returns-in_err-hold-clause-along : goal.returns-in_err-hold-clause-along
 returns-in_err-hold-clause-along g c = λ tells sure o outset along due is_due.
     let m = g.W.Disk.meaning in
     let site = c.args.self.now in
     end_leads _ m o _ _ c.from_residual-in_err-hold.result c.from_residual-in_err-hold.ensures.1
-    (ended_on m o outset site along site.world.now site.run.now.held site.run.now.plan (clears_here m [] site.world.now tells) refl refl)
+    (ended_on m o outset site along site.world.now (book_of site) site.run.now.plan (clears_here m [] site.world.now tells) (λ busy h. h) (same_book (book_of site)) refl)
 
 pub returns-in_err-ticket-clause-along : goal.returns-in_err-ticket-clause-along
 returns-in_err-ticket-clause-along g c = λ tells sure o outset along due is_due.
     let m = g.W.Disk.meaning in
+    let p = c.prepare.ensures in
     let site = c.args.self.now in
+    let outs = c.requires.sound.stored.outs c.if-self.false in
     end_leads _ m o _ _ c.from_residual-in_err-ticket.result c.from_residual-in_err-ticket.ensures.1
-    (ended_on m o outset site along site.world.now site.run.now.held site.run.now.plan (clears_here m [] site.world.now tells) refl refl)
+    (ended_on m o outset site along site.world.now (record (book_of site) { store = c.prepare.new.store }) site.run.now.plan (clears_here m [] site.world.now tells) (λ busy h. h)
+    (record {
+      unshut = λ e. e;
+      keeps = λ e. record {
+        records = held_alike site.store.now c.prepare.new.store site.run.now.held p.map (λ one rec h out. (p.outs.each rec one.ticket out).own)
+            (outs_front site.store.now site.run.now.held site.run.now.tickets outs);
+        running = λ busy h. h;
+        tickets = λ busy rec h is.
+            tickets_out site.store.now c.prepare.new.store (site.run.now.held ++ site.run.now.tickets) outs busy rec
+            (Contains-append_right site.run.now.held site.run.now.tickets busy h) (λ of out. p.outs.each of busy.ticket out) is;
+      };
+    })
+    refl)
 
 pub returns-in-Ok-clause-along : goal.returns-in-Ok-clause-along
 returns-in-Ok-clause-along g c = λ tells sure o outset along due is_due.
@@ -265,13 +282,44 @@ returns-in-Ok-clause-along g c = λ tells sure o outset along due is_due.
     (c.in-Ok.ensures.starts tells) well.counts known.graph known.plan known.inputs account.ended account.faulted unshut
     (λ path out. c.launch.ensures.kept unshut path out ∙ ap (λ (m : Map). m path) before)
     (held_within site.run.now.held now.run.now.held c.launch.ensures.held)
+    (book_of now)
+    (takes_away m site now c.prepare.new.store c.in_ok-job.job.targets (c.requires.sound.stored.outs c.if-self.false) p.map p.outs c.launch.ensures.tickets c.launch.ensures.held
+    (c.make_none_of.ensures c.if-not-make_none_of.false) c.launch.ensures.outs c.launch.ensures.kept c.launch.ensures.sound.stored.outs unshut c.in-Ok.ensures.none)
+    (record { hold = c.in_ok-hold.hold; ticket = c.in_ok-ticket.ticket })
+    (ap (λ (h : Hold). h.targets) c.in_ok-hold.ensures) (c.launch.ensures.outs.each c.args.now c.in_ok-ticket.ticket c.in_ok-ticket.ensures.out.own)
+    refl refl c.add.ensures
 
 pub returns-clause-along : goal.returns-clause-along
 returns-clause-along g c = λ tells sure o outset along due is_due.
     let m = g.W.Disk.meaning in
     let site = c.args.self.now in
     let now = c.launch.new.self in
+    let p = c.prepare.ensures in
+    let outs = c.requires.sound.stored.outs c.if-self.false in
+    let ticket = c.in_ok-ticket.ticket in
+    let fresh = own_room site.store.now ticket (site.run.now.held ++ site.run.now.tickets) c.in_ok-ticket.ensures.fresh outs in
+    let own = subst (λ (all : List Busy). (busy : Busy) → Contains (now.run.now.held ++ all) busy → busy.ticket.room ≢ ticket.room)
+    (sym c.launch.ensures.tickets) (own_still ticket site.run.now.held now.run.now.held site.run.now.tickets c.launch.ensures.held fresh) in
     let room = room_in m o site c.requires.sound.joined (c.launch.ensures.passes.passes.told.told tells) along.asked due.room in
-    refused_on m o outset site along c.args.rule c.args.now due is_due c.in_ok-job.job c.in_ok-job.ensures room
-    now.world.now now.run.now.held now.run.now.plan (c.in-Err.ensures.clears tells)
+    ends_as m o now.world.now (book_of now) (record (book_of now) { store = c.give_up.new.store }) now.run.now.plan (λ busy h. h)
+    (record {
+      unshut = λ e. e;
+      keeps = λ e.
+          let outs = c.launch.ensures.sound.stored.outs e in
+          record {
+            records = held_alike now.store.now c.give_up.new.store now.run.now.held c.give_up.ensures.map
+                (λ one rec k out. (c.give_up.ensures.outs.each rec one.ticket (own one (Contains-append_left now.run.now.held now.run.now.tickets one k)) out).own)
+                (outs_front now.store.now now.run.now.held now.run.now.tickets outs);
+            running = λ busy h. h;
+            tickets = λ busy rec h is.
+                let among = Contains-append_right now.run.now.held now.run.now.tickets busy h in
+                tickets_out now.store.now c.give_up.new.store (now.run.now.held ++ now.run.now.tickets) outs busy rec among
+                (λ of out. c.give_up.ensures.outs.each of busy.ticket (own busy among) out) is;
+          };
+    })
+    (left_on m o outset site along c.args.rule c.args.now due is_due c.in_ok-job.job c.in_ok-job.ensures room
+    now.world.now (book_of now) now.run.now.plan (c.in-Err.ensures.clears tells)
     (held_within site.run.now.held now.run.now.held c.launch.ensures.held) c.launch.ensures.known.plan
+    (left_by m site now c.prepare.new.store c.in_ok-job.job.targets outs p.map p.outs c.launch.ensures.tickets c.launch.ensures.held
+    (c.make_none_of.ensures c.if-not-make_none_of.false) c.launch.ensures.outs c.launch.ensures.kept c.launch.ensures.sound.stored.outs
+    _ tells c.in-Err.ensures.refused refl refl))

@@ -1,4 +1,4 @@
-use Rattle.std.proofs.Common.{◌≡◌, ◌≤◌, ◌∙◌, ◌++◌, ◌∷◌, [], Bool, List, ap, length, refl, subst, sym, arith}
+use Rattle.std.proofs.Common.{◌≡◌, ◌≤◌, ◌∙◌, ◌++◌, ◌∷◌, [], Bool, List, Contains, ap, length, refl, subst, sym, arith}
 use Rattle.std.proofs.lemmas.List.Elements.{Contains-append_left, Contains-append_right}
 use Rattle.build_model.proofs.Lists.{true_false}
 use Rattle.world_api.specs.Calls.{Ends}
@@ -14,7 +14,8 @@ use Rattle.build_run.specs.Ledgers.{Ledger, ledger_of, wanting}
 use Rattle.scons_base.specs.declared.ids.RuleId.{RuleId}
 use Rattle.build_run.specs.declared.tickets.Hold.{Hold}
 use Rattle.build_run.proofs.Holding.{no_more}
-use Rattle.build_run.proofs.EndingOn.{put_counts, put_ends, put_others, put_unshut, taken_on, told_done, told_failed, unrisen_as, unrisen_done, unrisen_failed, was_done}
+use Rattle.build_run.proofs.Booking.{tickets_out}
+use Rattle.build_run.proofs.EndingOn.{done_is, put_counts, put_ends, put_others, put_unshut, taken_on, told_done, told_failed, unrisen_as, unrisen_done, unrisen_failed, was_done}
 use Rattle.build_run.proofs.Causing.{account_as, settled, untold}
 use Rattle.build_run.proofs.Goings.{passes_on}
 use Rattle.build_run.proofs.Outs.{held_alike, held_count, last_of, out_in, outs_front, outs_left, room_beside, rule_of, stored_alike, stored_beside, stored_left, stored_over, stored_taken}
@@ -231,8 +232,14 @@ returns-in-Done-clause-along g c = λ t sure o outset may.
           let ticket = (out_in site.store.now (site.run.now.held ++ site.run.now.tickets) busy outs
           (Contains-append_right site.run.now.held site.run.now.tickets busy c.in-Some.ensures.among)).ticket in
           put_others site.store.now busy (records_of site) (records_of new) path ticket (hold.record unshut) out;
+      id = c.in-Some.ensures.rule;
+      open_before = hold.puts.shut;
+      puts = λ e. hold.record;
+      kept = λ e. true_false (sym (was_done ended.outcome c.in-Done.is) ∙ e);
+      running = λ one h. c.take.ensures.fewer one (subst (λ (all : List Busy). Contains all one) hold.puts.tickets h);
+      tickets = λ unshut one rec h is. hold.tickets.each rec one.ticket is;
     })
-    (c.requires.sound.joined.runs first) (m.sure world) (passes.sure t sure)
+    (c.requires.sound.joined.runs first) c.requires.sound.joined.apart (m.sure world) (passes.sure t sure)
     (subst (λ (a : Around). Ends (m.sure world) ended (m.around site.world.now) a) (sym (hold.puts.around t)) ends)
 
 pub returns-in_default-outcome-clause-along : goal.returns-in_default-outcome-clause-along
@@ -260,5 +267,20 @@ returns-in_default-outcome-clause-along g c = λ t sure o outset may.
       unshut = λ e. done.reports.1.shut;
       records = λ unshut path out.
           ap (λ (map : Map). map path) ((returns-in_default-outcome-clause-takes g c).kept (λ rule e. absurd cc) unshut);
+      id = c.in-Some.ensures.rule;
+      open_before = λ unshut. sym done.reports.1.shut ∙ unshut;
+      puts = λ e. absurd (c.in_default-outcome.not-Done (done_is ended.outcome e));
+      kept = λ e. (returns-in_default-outcome-clause-takes g c).kept (λ rule e. absurd cc);
+      running = λ one h. c.take.ensures.fewer one h;
+      tickets = λ unshut one rec h is.
+          let held = site.run.now.held in
+          let left = c.take.new.self in
+          let before = sym done.reports.1.shut ∙ unshut in
+          let taken = stored_taken m world site.store.now (held ++ site.run.now.tickets) (held ++ busy ∷ left) site.account.now.is_store_shut (c.in-Some.ensures.outs site.store.now held)
+          (stored_over m site.world.now world site.store.now (held ++ site.run.now.tickets) site.account.now.is_store_shut c.wait-ended.ensures.passes.told.told c.wait-ended.ensures.banks c.requires.sound.stored) in
+          let own = room_beside m world site.store.now held busy left site.account.now.is_store_shut taken before in
+          let among = Contains-append_right held left one h in
+          tickets_out site.store.now c.give_up.new.store (held ++ left) (outs_left site.store.now held left busy (taken.outs before)) one rec among
+          (λ of out. c.give_up.ensures.outs.each of one.ticket (own one among) out) is;
     })
-    (c.requires.sound.joined.runs (c.wait-ended.ensures.passes.told.told t)) (m.sure world) sure (c.wait-ended.ensures.ends t)
+    (c.requires.sound.joined.runs (c.wait-ended.ensures.passes.told.told t)) c.requires.sound.joined.apart (m.sure world) sure (c.wait-ended.ensures.ends t)

@@ -7,6 +7,7 @@ use Rattle.build_run.specs.Sites.{most_jobs}
 use Rattle.build_run.specs.declared.building.Options.{Options}
 use Rattle.build_run.proofs.EndingOn.{may_take}
 use Rattle.build_run.proofs.Sites.{site_on, site_puts}
+use Rattle.build_run.proofs.Booking.{puts_book}
 use Rattle.build_run.proofs.site.Site.take_ending.Goals as goal
 
 pub take_ended-requires-clause-some : goal.take_ended-requires-clause-some
@@ -64,4 +65,5 @@ returns-clause-along g c = λ t sure o outset along wanted.
     let first = put.puts.goes.passes.told.told told in
     c.take_ended.ensures.along t sure o outset
     (may_take m o outset site mid along (put.puts.around told) put.puts.same.options put.known put.held put.kept put.stands
+    (puts_book m site mid put.puts put.tickets put.kept)
     (c.requires.sound.joined.runs first) wanted)

@@ -152,3 +152,6 @@ returns-in-Ok-clause-clears g c = clears_around g.W.Disk.meaning [] c.args.self.
 
 pub returns-in-Err-clause-clears : goal.returns-in-Err-clause-clears
 returns-in-Err-clause-clears g c = clears_around g.W.Disk.meaning [] c.args.self.now.world.now c.withdraw.new.world c.withdraw.ensures.around
+
+pub returns-then-not-has_record-clause-tickets : goal.returns-then-not-has_record-clause-tickets
+returns-then-not-has_record-clause-tickets g c = record { each = λ rec ticket is. is }
