@@ -153,13 +153,12 @@ memory_along m old new tells_along tells sure o outset along = tells_along o out
 pub rests_by : {W O E : Type 0} (m : Meaning W) (start site : Site W O E) → StaysAlong m start site →
     ((site.run.now.plan.halted ≡ false → IsReliable site.run.now.plan) → site.run.now.plan.halted ≡ false → IsStill site.run.now.plan) →
     RestsAlong m start site
-rests_by m start site along still tells sure o outset began none halted =
-    still (is_reliable m o site (along tells sure o outset began)) halted
+rests_by m start site along still tells sure o outset began goes =
+    still (is_reliable m o site (along tells sure o outset began)) goes
 
--- memory is wanting, so nothing is said of rest
-pub rests_wanting : {W O E : Type 0} (m : Meaning W) (start site : Site W O E) → site.account.now.memory ≡ true → RestsAlong m start site
-rests_wanting m start site wanting tells sure o outset began none halted =
-    true_false (sym (ap (λ b. b || nat_lt 0 (length site.account.now.faults.items)) wanting) ∙ none)
+-- nothing is said of the rest of a plan that has halted
+pub rests_halted : {W O E : Type 0} (m : Meaning W) (start site : Site W O E) → site.run.now.plan.halted ≡ true → RestsAlong m start site
+rests_halted m start site halted tells sure o outset began goes = true_false (sym halted ∙ goes)
 
 -- a build whose plan has halted may wait
 pub waits_halted : {W O E : Type 0} (site : Site W O E) → site.run.now.plan.halted ≡ true →
@@ -233,15 +232,13 @@ goes_to_rest m old mid last new told before first then puts tickets known stands
 pub still_at_rest : {W O E : Type 0} (m : Meaning W) (old mid last new : Site W O E) → Told m last.world.now new.world.now →
     RestsAlong m old mid → (length mid.run.now.tickets ≡ 0) ⊎ (mid.run.now.plan.halted ≡ true) →
     (length mid.run.now.tickets ≡ 0 → last ≡ mid) → (mid.run.now.plan.halted ≡ true → last.run.now.plan.halted ≡ true) →
-    KeepsKnown last new → KeepsEnds last.account.now new.account.now → RestsAlong m old new
-still_at_rest {W} {O} {E} m old mid last new told rests (inl zero) same halting known keeps tells sure o outset along none goes =
+    KeepsKnown last new → RestsAlong m old new
+still_at_rest {W} {O} {E} m old mid last new told rests (inl zero) same halting known tells sure o outset along goes =
     let is = same zero in
-    let unfaulted : is_faulted last.account.now ≡ false = not_before (is_faulted last.account.now) (is_faulted new.account.now) keeps.faulted none in
     subst IsStill (sym (known.plan ∙ ap (λ (s : Site W O E). s.run.now.plan) is))
     (rests
     (subst (λ (s : Site W O E). m.tells s.world.now) is (told.told tells))
     (subst (λ (s : Site W O E). m.sure s.world.now) is (told.sure tells sure)) o outset along
-    (ap (λ (s : Site W O E). is_faulted s.account.now) (sym is) ∙ unfaulted)
     (ap (λ (s : Site W O E). s.run.now.plan.halted) (sym is) ∙ ap (λ (p : Planned). p.halted) (sym known.plan) ∙ goes))
-still_at_rest m old mid last new told rests (inr halted) same halting known keeps tells sure o outset along none goes =
+still_at_rest m old mid last new told rests (inr halted) same halting known tells sure o outset along goes =
     true_false (sym (ap (λ (p : Planned). p.halted) known.plan ∙ halting halted) ∙ goes)

@@ -86,13 +86,14 @@ module _ {W : Type 0} (m : Meaning W) (g : RuleGraph) (requested : List NodeId) 
       made : HasMade o (m.around c) after (map_of last)
       made = makes tells sure o ready
 
-    pub build_ran : BuildRuns m w (map_of store) a c (map_of last)
-    build_ran = λ tells sure below. record {
+    pub build_ran : (answer : BuildEnd) → answer.is_ended ≡ after.is_ended → BuildRuns m w (map_of store) a c (map_of last) answer
+    build_ran answer same = λ tells sure below. record {
       left = (has tells sure below).left;
       kept = map_of mid;
       rest = (has tells sure below).rest;
       runs = (made tells sure below).runs;
       records = λ calm. (made tells sure below).records (not_true after.is_store_shut (λ e. calm (rose e)));
+      rests = λ open. (made tells sure below).rests (sym same ∙ open);
     }
 
     pub build_succeeded : (answer : BuildEnd) → (answer.faults ≡ [] → answer.memory ≡ false → is_faulted after ≡ false) →
@@ -108,9 +109,9 @@ module _ {W : Type 0} (m : Meaning W) (g : RuleGraph) (requested : List NodeId) 
         }
 
   -- or nothing is made
-  pub build_refused : (m.tells c → m.tells a) → Leaves m a store c mid (IsLeftAt g (m.around a) (map_of store)) →
-      BuildRuns m w (map_of store) a c (map_of mid)
-  build_refused back leaves = λ tells sure below.
+  pub build_refused : (m.tells c → m.tells a) → Leaves m a store c mid (IsLeftAt g (m.around a) (map_of store)) → (answer : BuildEnd) →
+      answer.is_ended ≡ true → BuildRuns m w (map_of store) a c (map_of mid) answer
+  build_refused back leaves answer ended = λ tells sure below.
       let left = leaves tells (rest (back tells)) in
       let none = left.running ∙ rest (back tells) in
       let ran = did w (map_of mid) (m.counts a) (m.around c) (m.around c) [] [] read (begin w (map_of mid) (m.counts a) (m.around c) none) in
@@ -122,6 +123,7 @@ module _ {W : Type 0} (m : Meaning W) (g : RuleGraph) (requested : List NodeId) 
         records = λ calm.
             subst (λ (steps : List Step). KeepsRecords w (map_of mid) (m.around c) (m.around c) steps (map_of mid)) (sym ran.1)
             (begins (record { wanted = w; kept = map_of mid; counts = m.counts a; before = m.around c }) (m.around c));
+        rests = λ open. true_false (sym ended ∙ open);
       }
 
   pub refused_untold : (after : Account) → is_faulted after ≡ true → (answer : BuildEnd) →

@@ -12,14 +12,16 @@ use Rattle.task_plan.specs.declared.states.RuleState.{RuleState}
 use Rattle.task_plan.specs.declared.states.RuleState.TheVariants.{Unneeded, Waiting, Running, Settled, Failed, Lacking}
 use Rattle.build_model.specs.Rules.{Rule, Setting, Among, here, there}
 use Rattle.build_model.specs.Moments.{Job as Given}
+use Rattle.build_model.specs.Resting.{whole_found}
 use Rattle.build_model.specs.Steps.{Step, Fresh, Began, Ended, Lacks, Halts, Build, began, done, running, IsRunning, IsRun}
 use Rattle.build_model.proofs.Lists.{true_false}
 use Rattle.build_model.proofs.Placed.{without}
-use Rattle.build_means.specs.Builds.{Succeeded}
+use Rattle.build_means.specs.Builds.{Rests, Succeeded}
 use Rattle.build_means.specs.Logs.{AreUnrisen}
 use Rattle.plan_means.specs.Deciding.{IsTied}
 use Rattle.plan_means.specs.Ties.{IsAt as IsAtState}
 use Rattle.plan_means.proofs.Deciding.{know}
+use Rattle.plan_means.proofs.Resting.{is_at_rest}
 use Rattle.turn_means.specs.Laws.{FinishedSucceed}
 use Rattle.turn_means.specs.Recording.{AreRecorded, build_at}
 use Rattle.turn_means.proofs.Recording.{begins}
@@ -89,7 +91,7 @@ put_none site held none = ap (λ (busies : List Busy). map_with site.store.now b
 
 module _ {W O E : Type 0} (m : Meaning W) (o : Outset) (outset : IsOutset o) (mid : Site W O E) (after : Account)
     (there : IsAtEnd m o mid) (rest : (m.around mid.world.now).running ≡ [])
-    (still : is_faulted mid.account.now ≡ false → mid.run.now.plan.halted ≡ false → IsStill mid.run.now.plan)
+    (still : mid.run.now.plan.halted ≡ false → IsStill mid.run.now.plan)
     (ends : KeepsEnds mid.account.now after) (finishes : FinishesWell mid.graph.now mid.run.now.plan mid.account.now after)
     (law : FinishedSucceed) (none : mid.run.now.held ≡ []) (shut : after.is_store_shut ≡ mid.account.now.is_store_shut) (behind : Map)
     (same : behind ≡ map_of mid.store.now) where
@@ -108,38 +110,49 @@ module _ {W O E : Type 0} (m : Meaning W) (o : Outset) (outset : IsOutset o) (mi
   recorded_by steps are unshut =
       subst (λ (l : List Step). AreRecorded o (m.around mid.world.now) l behind) (sym are) (recorded unshut)
 
-  module _ (well : is_faulted after ≡ false) where
-    unfaulted : is_faulted mid.account.now ≡ false
-    unfaulted = not_before (is_faulted mid.account.now) (is_faulted after) ends.faulted well
-
-    not_ended : mid.account.now.is_ended ≡ false
-    not_ended = not_before mid.account.now.is_ended (is_faulted mid.account.now) on.at.told unfaulted
-
+  module _ (not_ended : mid.account.now.is_ended ≡ false) where
     no_halt : mid.run.now.plan.halted ≡ false
     no_halt = not_before mid.run.now.plan.halted mid.account.now.is_ended (λ e. (on.at.halted e).ended) not_ended
 
     at_last : IsStill mid.run.now.plan
-    at_last = still unfaulted no_halt
+    at_last = still no_halt
 
-    knows_all : Knows o s on.past
-    knows_all = on.at.knows not_ended
+    none_counts : count_by is_running mid.run.now.plan.states ≡ 0
+    none_counts = count_is_none o outset on.jobs s on.past on.at not_ended rest
+
+    comes_to_rest : Rests o.wanted o.kept o.before s.around on.past
+    comes_to_rest =
+        record {
+          found = whole_found (setting_at o) (build_at o s.around) on.past;
+          at_rest = is_at_rest (begun_at o) s.graph o.wanted.requested (build_at o s.around) on.past s.plan
+              (its o outset on.jobs s on.past on.at not_ended rest) at_last none_counts;
+        }
+
+  module _ (well : is_faulted after ≡ false) where
+    unfaulted : is_faulted mid.account.now ≡ false
+    unfaulted = not_before (is_faulted mid.account.now) (is_faulted after) ends.faulted well
+
+    open : mid.account.now.is_ended ≡ false
+    open = not_before mid.account.now.is_ended (is_faulted mid.account.now) on.at.told unfaulted
 
     finished : IsFinished mid.run.now.plan
     finished =
-        let plan = knows_all.ties.plan_for in
-        finishes on.at.told well at_last
-        (goes_on o outset on.jobs s on.past on.at unfaulted (count_is_none o outset on.jobs s on.past on.at not_ended rest))
-        plan.met plan.from plan.fits
+        let plan = (on.at.knows open).ties.plan_for in
+        finishes on.at.told well (at_last open)
+        (goes_on o outset on.jobs s on.past on.at unfaulted (none_counts open)) plan.met plan.from plan.fits
 
     ended_well : HasEndedWell o (m.around mid.world.now) behind
     ended_well =
-        let by = law o on.jobs s on.past outset on.at unfaulted at_last.scans finished in
-        record { succeeded = by.0; records = recorded_by by.0.runs.steps by.1 (shut ∙ there.unshut not_ended) }
+        let by = law o on.jobs s on.past outset on.at unfaulted (at_last open).scans finished in
+        record { succeeded = by.0; records = recorded_by by.0.runs.steps by.1 (shut ∙ there.unshut open) }
 
   pub has_made : HasMade o (m.around mid.world.now) after behind
   has_made = record {
     runs = (runs o outset on.jobs s on.past on.at).0;
     records = λ unshut. recorded_by (runs o outset on.jobs s on.past on.at).0.steps (runs o outset on.jobs s on.past on.at).1 unshut;
+    rests = λ e.
+        subst (λ (l : List Step). Rests o.wanted o.kept o.before s.around l) (sym (runs o outset on.jobs s on.past on.at).1)
+        (comes_to_rest (not_before mid.account.now.is_ended after.is_ended ends.ended e));
     succeeds = ended_well;
   }
 

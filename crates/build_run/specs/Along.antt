@@ -268,7 +268,7 @@ TellsAlong m old new done = (o : Outset) → IsOutset o → AreAsked o old.optio
 abbrev pub IsSpent : {W O E : Type 0} → Site W O E → Type 0
 IsSpent site = (length site.run.now.tickets ≡ 0) ⊎ (site.run.now.plan.halted ≡ true)
 
--- At rest nothing can be scanned and decided, where nothing is to be reported.
+-- At rest nothing can be scanned and decided, unless the plan has halted.
 abbrev pub RestsAlong : {W O E : Type 0} → Meaning W → Site W O E → Site W O E → Type 0
 RestsAlong m old new = m.tells new.world.now → m.sure new.world.now → (o : Outset) → IsOutset o → IsAlong m o old →
-    is_faulted new.account.now ≡ false → new.run.now.plan.halted ≡ false → IsStill new.run.now.plan
+    new.run.now.plan.halted ≡ false → IsStill new.run.now.plan

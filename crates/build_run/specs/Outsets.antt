@@ -14,7 +14,7 @@ use Rattle.task_plan.specs.Admits.{Fits}
 use Rattle.task_plan.specs.Met.{AllMet, AreFrom}
 use Rattle.task_plan.specs.Plans.{Planned}
 use Rattle.task_plan.specs.Watched.{IsStill, AreGoingOn, IsFinished}
-use Rattle.build_means.specs.Builds.{Wanted, KeepsRecords, Runs, Succeeded}
+use Rattle.build_means.specs.Builds.{Wanted, KeepsRecords, Rests, Runs, Succeeded}
 use Rattle.build_files.specs.Marked.{AreGoneOver}
 use Rattle.turn_means.specs.Standing.{Outset, IsOutset}
 use Rattle.turn_means.specs.Laws.{IsSetOut}
@@ -102,11 +102,12 @@ pub record HasEndedWell (o : Outset) (around : Around) (behind : Map) : Type 0 w
   pub succeeded : Succeeded o.wanted o.kept o.counts o.before around
   pub records : KeepsRecords o.wanted o.kept o.before around succeeded.runs.steps behind
 
--- What a build did, which records its steps left unless the store has refused, and that it ended well where nothing is to be
--- reported.
+-- What a build did, which records its steps left unless the store has refused, that it came to rest unless an end came, and
+-- that it ended well where nothing is to be reported.
 pub record HasMade (o : Outset) (around : Around) (account : Account) (behind : Map) : Type 0 where
   pub runs : Runs o.wanted o.kept o.counts o.before around
   pub records : account.is_store_shut ≡ false → KeepsRecords o.wanted o.kept o.before around runs.steps behind
+  pub rests : account.is_ended ≡ false → Rests o.wanted o.kept o.before around runs.steps
   pub succeeds : is_faulted account ≡ false → HasEndedWell o around behind
 
 -- a build has set out from there
@@ -134,7 +135,7 @@ FinishesWell g plan old new = (old.is_ended ≡ true → is_faulted old ≡ true
 -- ---- builds
 
 -- What a build did: leftover copies went, with their records, and from there it took these steps.
-pub record HasRun {W : Type 0} (m : Meaning W) (w : Wanted) (map : Map) (old new : W) (behind : Map) : Type 0 where
+pub record HasRun {W : Type 0} (m : Meaning W) (w : Wanted) (map : Map) (old new : W) (behind : Map) (answer : BuildEnd) : Type 0 where
   pub left : Around
   pub kept : Map
   pub rest : LeavesRest (IsLeftAt w.graph (m.around old) map) (m.around old) map left kept
@@ -142,6 +143,8 @@ pub record HasRun {W : Type 0} (m : Meaning W) (w : Wanted) (map : Map) (old new
   -- unless the signature file's disk was at fault
   pub records : (Rose (m.counts old).disk_faults (m.counts new).disk_faults → ⊥) →
       KeepsRecords w kept left (m.around new) runs.steps behind
+  -- for none of the needed rules anything is left to do, unless a fault came after which nothing new starts
+  pub rests : answer.is_ended ≡ false → Rests w kept left (m.around new) runs.steps
 
 -- What a build did that ended well, and that its steps left these records.
 pub record HasSucceeded {W : Type 0} (m : Meaning W) (w : Wanted) (map : Map) (old new : W) (behind : Map) : Type 0 where
@@ -152,9 +155,9 @@ pub record HasSucceeded {W : Type 0} (m : Meaning W) (w : Wanted) (map : Map) (o
   pub records : KeepsRecords w kept left (m.around new) succeeded.runs.steps behind
 
 -- So builds do, in a world that tells and is sure, where the requested nodes are the graph's.
-abbrev pub BuildRuns : {W : Type 0} → Meaning W → Wanted → Map → W → W → Map → Type 0
-BuildRuns m w map old new behind =
-    m.tells new → m.sure new → are_below (length w.graph.nodes) w.requested ≡ true → HasRun m w map old new behind
+abbrev pub BuildRuns : {W : Type 0} → Meaning W → Wanted → Map → W → W → Map → BuildEnd → Type 0
+BuildRuns m w map old new behind answer =
+    m.tells new → m.sure new → are_below (length w.graph.nodes) w.requested ≡ true → HasRun m w map old new behind answer
 
 -- and those that report nothing succeed
 abbrev pub BuildSucceeds : {W : Type 0} → Meaning W → Wanted → Map → W → W → Map → BuildEnd → Type 0

@@ -73,7 +73,7 @@ pub fn build<W: World, O: Sink, E: Sink>(
     ensures later { Later (W.meaning.counts world.old) (W.meaning.counts world.new) }
     ensures idle { W.meaning.tells world.new → (W.meaning.around world.new).running ≡ [] }
     ensures causes { BuildCauses W.meaning O.meaning E.meaning world.old out.old err.old world.new out.new err.new result.faults result.memory }
-    ensures runs { BuildRuns W.meaning (wanted_of graph.old requested.now options.now) (map_of store.old) world.old world.new (map_of store.new) }
+    ensures runs { BuildRuns W.meaning (wanted_of graph.old requested.now options.now) (map_of store.old) world.old world.new (map_of store.new) result }
     ensures succeeds { BuildSucceeds W.meaning (wanted_of graph.old requested.now options.now) (map_of store.old) world.old world.new (map_of store.new) result }
 {
     graph.laws();
@@ -276,12 +276,14 @@ fn skipped(
 fn answer(account: Account, skipped: Listing<(PathText, PathText)>) -> BuildEnd
     ensures faults { result.faults ≡ account.faults.items }
     ensures memory { result.memory ≡ account.memory }
+    ensures ended { result.is_ended ≡ account.is_ended }
     ensures faulted { result.faults ≡ [] → result.memory ≡ false → is_faulted account ≡ false }
 {
     BuildEnd {
         faults: Listing::new(account.faults),
         skipped,
         started: Listing::new(account.started),
+        is_ended: account.is_ended,
         is_out_shut: account.is_out_shut,
         memory: account.memory,
     }

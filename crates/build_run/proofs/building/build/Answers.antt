@@ -54,7 +54,7 @@ returns-in-Ok-clause-runs g c =
     c.make_all-skipped.new.world c.args.store.now c.set_out.new.store c.requires.idle c.set_out.new.graph c.in-Ok.run' c.new-account.result
     c.make_all-skipped.new.account c.set_out.ensures.goes.passes.told.told c.make_all-skipped.ensures.passes.told.told c.in-Ok.ensures.cause
     c.in-Ok.ensures.sets (is_blank c.new-account.result c.new-account.ensures.ledger c.new-account.ensures.ended)
-    c.make_all-skipped.new.store c.make_all-skipped.ensures.makes made.shut
+    c.make_all-skipped.new.store c.make_all-skipped.ensures.makes made.shut c.answer.result c.answer.ensures.ended
 
 pub returns-in-Ok-clause-succeeds : goal.returns-in-Ok-clause-succeeds
 returns-in-Ok-clause-succeeds g c =
@@ -73,6 +73,7 @@ returns-in-Err-clause-runs g c =
     let read : IsReading c.args.graph.now = record { apart = c.laws.ensures.apart; single = c.laws.ensures.single; named = c.laws.ensures.named } in
     build_refused g.W.Disk.meaning c.args.graph.now c.args.requested.now c.args.options.now read c.args.world.now c.set_out.new.world
     c.set_out.new.world c.args.store.now c.set_out.new.store c.requires.idle c.set_out.ensures.goes.passes.told.told c.in-Err.ensures.rest
+    c.answer-in-Err.result (c.answer-in-Err.ensures.ended ∙ c.end.ensures.ends.ended)
 
 pub returns-in-Err-clause-succeeds : goal.returns-in-Err-clause-succeeds
 returns-in-Err-clause-succeeds g c =

@@ -1,7 +1,6 @@
 use Rattle.std.proofs.Common.{◌∙◌, ap}
 use Rattle.world_api.specs.Around.{Around}
 use Rattle.build_run.proofs.Alongs.{goes_to_rest, still_at_rest}
-use Rattle.build_run.proofs.EndingOn.{put_ends}
 use Rattle.build_run.proofs.Sites.{site_on, site_puts}
 use Rattle.build_run.proofs.site.Site.go_on.Goals as goal
 
@@ -32,4 +31,4 @@ pub returns-clause-still : goal.returns-clause-still
 returns-clause-still g c =
     let puts = c.put_held.ensures.puts in
     still_at_rest g.W.Disk.meaning _ _ _ _ puts.goes.passes.told c.take_turns.ensures.still c.take_turns.ensures.halts
-    c.wait_for_all.ensures.none c.wait_for_all.ensures.halted c.put_held.ensures.known (put_ends _ _ _ c.put_held.ensures.stands)
+    c.wait_for_all.ensures.none c.wait_for_all.ensures.halted c.put_held.ensures.known

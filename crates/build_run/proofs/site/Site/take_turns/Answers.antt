@@ -1,5 +1,5 @@
-use Rattle.std.proofs.Common.{rules}
-use Rattle.build_run.proofs.Alongs.{along_on, memory_along, rests_by, turn_along}
+use Rattle.std.proofs.Common.{refl, rules}
+use Rattle.build_run.proofs.Alongs.{along_on, memory_along, rests_by, rests_halted, turn_along}
 use Rattle.build_run.proofs.Sites.{site_on}
 use Rattle.build_run.proofs.site.Site.take_turns.Goals as goal
 
@@ -25,6 +25,9 @@ loop-turn-preserved g c =
 pub returns-then-eq-clause-still : goal.returns-then-eq-clause-still
 returns-then-eq-clause-still g c =
     rests_by g.W.Disk.meaning c.args.self.now c.loop-turn.self c.loop-turn.invariant.along (c.want-wanted.ensures.still (search rules))
+
+pub returns-clause-still : goal.returns-clause-still
+returns-clause-still g c = rests_halted g.W.Disk.meaning c.args.self.now c.tell-2.new.self (c.tell-2.ensures.halts refl)
 
 pub returns-clause-along : goal.returns-clause-along
 returns-clause-along g c =
