@@ -11,7 +11,10 @@ use Rattle.py_lex.specs.Bytes.{is_blank, is_comment_byte, after_line_end}
 use Rattle.scons_base.specs.Runs.{is_name_byte}
 use Rattle.py_lex.specs.Numbers.{number_of}
 use Rattle.py_lex.specs.Texts.{closed, Spells, opening}
-use Rattle.py_lex.specs.Tokens.{is_r}
+use Rattle.py_lex.specs.declared.piece.Style.{Style}
+use Rattle.py_lex.specs.Parts.{ends, Parts}
+use Rattle.py_lex.specs.declared.token.Lead.TheVariants as lead
+use Rattle.py_lex.specs.Tokens.{is_r, lead_of}
 use Rattle.py_lex.specs.Steps.{token_at}
 
 -- a line end alone (2.1.2)
@@ -42,6 +45,32 @@ pub record IsLiteral (value bytes : List ℕ) : Type 0 where
   pub quotes : (quote == 39 || quote == 34) ≡ true
   pub stands_for : Spells (opening raw quote inside).0 (opening raw quote inside).1 (closed value lines [])
 
+-- in front of the quotes of an f-text stands its `f`, with the `r` of a raw one in front of it or behind it
+abbrev pub IsFormatPrefix : List ℕ → Type 0
+IsFormatPrefix bytes = (lead_of bytes ≡ lead.Format) ⊎ (lead_of bytes ≡ lead.RawFormat)
+
+-- one quote, or three of them
+abbrev pub AreQuotes : List ℕ → Type 0
+AreQuotes bytes =
+    (quote : ℕ) × ((quote == 39 || quote == 34) ≡ true) ×
+    ((bytes ≡ quote ∷ []) ⊎ (bytes ≡ quote ∷ quote ∷ quote ∷ []))
+
+-- how an f-text begins (2.4.3)
+pub record IsStart (bytes : List ℕ) : Type 0 where
+  pub front : List ℕ
+  pub quotes : List ℕ
+  pub parts : bytes ≡ front ++ quotes
+  pub prefixed : IsFormatPrefix front
+  pub quoted : AreQuotes quotes
+
+-- a part of an f-text, up to the brace of a field or the quotes that end it
+pub record IsPart (value bytes : List ℕ) : Type 0 where
+  pub style : Style
+  pub field : Bool
+  pub behind : List ℕ
+  pub lines : ℕ
+  pub stands_for : Parts style (bytes ++ behind) (ends field value lines [])
+
 -- letters, digits and underscores (2.3, 2.4.5)
 abbrev pub IsWord : List ℕ → Type 0
 IsWord bytes = list_all is_name_byte bytes ≡ true
@@ -54,6 +83,9 @@ IsSpelling (token.Integer value) bytes = IsWord bytes × (number_of bytes ≡ So
 IsSpelling (token.Text value) bytes = IsLiteral value bytes
 IsSpelling (token.Word keyword) bytes = bytes ≡ word_of keyword
 IsSpelling (token.Mark mark) bytes = bytes ≡ mark_text mark
+IsSpelling token.FStart bytes = IsStart bytes
+IsSpelling (token.FPart value) bytes = IsPart value bytes
+IsSpelling token.FEnd bytes = AreQuotes bytes
 IsSpelling token.Newline bytes = IsLineEnd bytes ⊎ (bytes ≡ [])
 IsSpelling token.Indent bytes = bytes ≡ []
 IsSpelling token.Dedent bytes = bytes ≡ []
