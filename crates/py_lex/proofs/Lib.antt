@@ -3,6 +3,7 @@ pub mod OpenLevels
 pub mod Runs
 pub mod Signs
 pub mod Spelling
+pub mod PartSpelling
 pub mod TextTokens
 pub mod TokenLists
 pub mod One
@@ -10,6 +11,7 @@ pub mod Reading
 pub mod Whole
 pub mod Clean
 pub mod TextUtf8
+pub mod PartUtf8
 pub mod StepUtf8
 pub mod Pieces
 pub mod Writing

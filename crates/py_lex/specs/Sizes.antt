@@ -58,7 +58,7 @@ pub record FitsToken (depth : ℕ) (bytes : List ℕ) (lines after : ℕ) (rest 
 
 abbrev pub FitsTurn : ℕ → List ℕ → Turn → Type 0
 FitsTurn depth bytes (Takes kind lines after rest) = FitsToken depth bytes lines after rest.now
-FitsTurn depth bytes (Begins style rest) = length rest.now < length bytes
+FitsTurn depth bytes (Begins style rest) = (length rest.now < length bytes) × (style.quote < 128)
 FitsTurn depth bytes (Refuses kind lines) = lines ≤ length bytes
 
 -- the same behind a byte that belongs to the token
@@ -68,7 +68,7 @@ pub record FitsBehindByte (depth : ℕ) (bytes : List ℕ) (lines after : ℕ) (
 
 abbrev pub FitsBehind : ℕ → List ℕ → Turn → Type 0
 FitsBehind depth bytes (Takes kind lines after rest) = FitsBehindByte depth bytes lines after rest.now
-FitsBehind depth bytes (Begins style rest) = length rest.now ≤ length bytes
+FitsBehind depth bytes (Begins style rest) = (length rest.now ≤ length bytes) × (style.quote < 128)
 FitsBehind depth bytes (Refuses kind lines) = lines ≤ length bytes
 
 abbrev pub depth_of : Place → ℕ
@@ -78,6 +78,12 @@ depth_of (Inside depth) = depth
 abbrev pub rank_of : Place → ℕ
 rank_of LineStart = 1
 rank_of (Inside depth) = 0
+
+-- the quote of the f-text that is open, if there is one
+abbrev pub quote_of : Mode → ℕ
+quote_of Line = 0
+quote_of (InPart text) = text.style.quote
+quote_of (Field text inner) = text.style.quote
 
 -- the brackets that are open in a field
 abbrev pub inner_of : Mode → ℕ
@@ -90,6 +96,7 @@ pub record Fits (s : State) : Type 0 where
   pub lines : s.line + length s.rest < 2 ^ 31
   pub brackets : depth_of s.place + length s.rest < 2 ^ 31
   pub inner : inner_of s.mode + length s.rest < 2 ^ 31
+  pub quote : quote_of s.mode < 128
 
 -- a step takes a byte, or begins a line's tokens
 pub record FitsNext (s t : State) : Type 0 where

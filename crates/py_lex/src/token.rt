@@ -197,6 +197,7 @@ fn name_token<'a>(alloc: Global, depth: u32, bytes: &'a [u8]) -> Result<Turn<'a>
 
 /// The f-text whose first quote this is.
 fn text_begun(raw: bool, quote: u8, rest: &[u8]) -> Turn<'_>
+    requires { quote < 128 }
     ensures turn { turn_of result ≡ begun_read raw quote rest.now }
     ensures fits { (depth : ℕ) → FitsBehind depth rest.now result }
 {
