@@ -14,5 +14,6 @@ pub mod TextUtf8
 pub mod PartUtf8
 pub mod StepUtf8
 pub mod Pieces
+pub mod PartPieces
 pub mod Writing
 pub mod Unmarked

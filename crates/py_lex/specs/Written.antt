@@ -15,7 +15,7 @@ use Rattle.py_lex.specs.declared.piece.Style.{Style}
 use Rattle.py_lex.specs.Parts.{ends, Parts}
 use Rattle.py_lex.specs.declared.token.Lead.TheVariants as lead
 use Rattle.py_lex.specs.Tokens.{is_r, lead_of}
-use Rattle.py_lex.specs.Steps.{token_at}
+use Rattle.py_lex.specs.Steps.{token_at, part_tokens, end_of_part}
 
 -- a line end alone (2.1.2)
 abbrev pub IsLineEnd : List ℕ → Type 0
@@ -63,20 +63,19 @@ pub record IsStart (bytes : List ℕ) : Type 0 where
   pub prefixed : IsFormatPrefix front
   pub quoted : AreQuotes quotes
 
--- a part of an f-text, up to the brace of a field or the quotes that end it
-pub record IsPart (value bytes : List ℕ) : Type 0 where
+-- a part of an f-text with what stands behind it: the brace of a field, or the quotes that end the f-text
+pub record IsPart (field : Bool) (value bytes : List ℕ) : Type 0 where
   pub style : Style
-  pub field : Bool
-  pub behind : List ℕ
   pub lines : ℕ
-  pub stands_for : Parts style (bytes ++ behind) (ends field value lines [])
+  pub quotes : (style.quote == 39 || style.quote == 34) ≡ true
+  pub stands_for : Parts style bytes (ends field value lines [])
 
 -- letters, digits and underscores (2.3, 2.4.5)
 abbrev pub IsWord : List ℕ → Type 0
 IsWord bytes = list_all is_name_byte bytes ≡ true
 
 -- how a token is written. The end of a line is written as a line end, and as nothing where the script ends; where a block
--- begins or ends nothing is written (2.1.8).
+-- begins or ends nothing is written (2.1.8). A part of an f-text is written with what stands behind it.
 abbrev pub IsSpelling : TokenKind → List ℕ → Type 0
 IsSpelling (token.Name name) bytes = IsWord bytes × (bytes ≡ name)
 IsSpelling (token.Integer value) bytes = IsWord bytes × (number_of bytes ≡ Some value)
@@ -84,16 +83,17 @@ IsSpelling (token.Text value) bytes = IsLiteral value bytes
 IsSpelling (token.Word keyword) bytes = bytes ≡ word_of keyword
 IsSpelling (token.Mark mark) bytes = bytes ≡ mark_text mark
 IsSpelling token.FStart bytes = IsStart bytes
-IsSpelling (token.FPart value) bytes = IsPart value bytes
-IsSpelling token.FEnd bytes = AreQuotes bytes
+IsSpelling (token.FPart value) bytes = ⊥
+IsSpelling token.FEnd bytes = ⊥
 IsSpelling token.Newline bytes = IsLineEnd bytes ⊎ (bytes ≡ [])
 IsSpelling token.Indent bytes = bytes ≡ []
 IsSpelling token.Dedent bytes = bytes ≡ []
 
 -- the tokens are written so: gaps and spellings, one after another; literals with no other token between them are one
--- text (2.4.2)
+-- text (2.4.2), and a part that stands for no characters is no token
 pub data Written : List Token → List ℕ → Type 0 where
   nothing : Written [] []
   gap : (tokens : List Token) (bytes between : List ℕ) → IsGap between → Written tokens bytes → Written tokens (bytes ++ between)
   spelled : (tokens : List Token) (t : Token) (bytes spelling : List ℕ) → IsSpelling t.kind spelling → Written tokens bytes → Written (tokens ++ t ∷ []) (bytes ++ spelling)
   joined_text : (tokens : List Token) (line : ℕ) (front value bytes spelling : List ℕ) → IsLiteral value spelling → Written (tokens ++ token_at line (token.Text front) ∷ []) bytes → Written (tokens ++ token_at line (token.Text (front ++ value)) ∷ []) (bytes ++ spelling)
+  part_of_text : (tokens : List Token) (line after : ℕ) (field : Bool) (value bytes spelling : List ℕ) → IsPart field value spelling → Written tokens bytes → Written (tokens ++ part_tokens line value ++ token_at after (end_of_part field) ∷ []) (bytes ++ spelling)
