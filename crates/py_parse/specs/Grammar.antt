@@ -63,7 +63,6 @@ pub data Part : Type 0 where
   some_pieces : Part
   more_pieces : Part
   parts : Part
-  one_field : Part
   field_body : ℕ → Part
   grouped : ℕ → Part
   listed : ℕ → Part
@@ -211,6 +210,10 @@ display_of x = display_at x.line x.kind
 -- The characters that a text or a part of an f-text holds, as a piece.
 abbrev pub piece_of : Token → Tree
 piece_of x = text x.line (text_in x.kind)
+
+-- A field of an f-text, with its braces.
+abbrev pub one_field : Body
+one_field = opens (mark mark'.OpenBrace) (λ x. deeper (field_body x.line) gives)
 
 -- The rest of a comprehension behind its `for`. What it goes over and its tests are no conditional expressions.
 abbrev pub comprehended : ℕ → Tree → Body
@@ -390,9 +393,8 @@ productions some_pieces =
 productions more_pieces = reads some_pieces gives ∷ gives nil ∷ []
 productions parts =
     takes (one terminal'.FPart) (λ x. reads parts (λ u. gives (cons (piece_of x) u))) ∷
-    reads one_field (λ t. reads parts (λ u. gives (cons t u))) ∷
+    opens (mark mark'.OpenBrace) (λ x. deeper (field_body x.line) (λ t. reads parts (λ u. gives (cons t u)))) ∷
     takes (one terminal'.FEnd) (λ _. reads more_pieces gives) ∷ []
-productions one_field = opens (mark mark'.OpenBrace) (λ x. deeper (field_body x.line) gives) ∷ []
 productions (field_body l) = reads expr (λ t. takes (mark mark'.CloseBrace) (λ _. gives (field l t))) ∷ []
 productions (grouped l) =
     takes (mark mark'.CloseParen) (λ _. gives (group l (tuple l nil false))) ∷

@@ -20,7 +20,7 @@ use Rattle.py_parse.specs.declared.terminal.Terminal.TheVariants as terminal'
 use Rattle.py_parse.specs.Terminals.{Want, one, heads}
 use Rattle.py_parse.specs.declared.stop.Stop.{Stop}
 use Rattle.py_parse.specs.Grammar.{Part, Body, gives, takes, reads, mark, expr, plain, exprs_rest, items_rest, listed_rest, tests}
-use Rattle.py_parse.specs.Grammar.{parts, more_pieces, one_field, pairs_rest, args_rest, named_args, named_rest, subscript_rest, closed, trails}
+use Rattle.py_parse.specs.Grammar.{parts, more_pieces, field_body, opens, deeper, pairs_rest, args_rest, named_args, named_rest, subscript_rest, closed, trails}
 use Rattle.py_parse.specs.Reading.{Outcome, ok, Reads}
 use Rattle.py_parse.specs.Agrees.{AgreesOnStop, Taken, onto, optional_box}
 
@@ -115,7 +115,8 @@ pieces_from false l found = reads more_pieces (λ u. gives (joined l (onto found
 
 -- what is read from a field on
 abbrev pub field_from : ℕ → List Tree → Body
-field_from l found = reads one_field (λ t. pieces_from true l (found ++ t ∷ []))
+field_from l found =
+    opens (mark mark'.OpenBrace) (λ x. deeper (field_body x.line) (λ t. pieces_from true l (found ++ t ∷ [])))
 
 -- a field stands at these tokens; or the texts ended
 abbrev pub PiecesGoOn : ℕ → Body → List Token → NextPiece → Type 0

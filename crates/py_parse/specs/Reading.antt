@@ -2,20 +2,17 @@
 -- grammar is in `Grammar` and `Parses`.
 use Rattle.std.specs.Prelude.{◌≡◌, ℕ, zero, suc, List, [], ◌∷◌, Bool, true, false, cond}
 use Rattle.py_token.specs.declared.token.Token.{Token}
-use Rattle.py_token.specs.declared.mark.Mark.TheVariants as mark'
 use Rattle.py_tree.specs.Tree.{Tree}
 use Rattle.py_parse.specs.declared.terminal.Terminal.{Terminal}
 use Rattle.py_parse.specs.declared.terminal.Terminal.TheVariants as terminal'
 use Rattle.py_parse.specs.Terminals.{Want, one, fits, heads}
-use Rattle.py_parse.specs.Grammar.{Part, Body, gives, takes, opens, reads, deeper, line, one_link, some_pieces, one_field, productions}
+use Rattle.py_parse.specs.Grammar.{Part, Body, gives, takes, opens, reads, deeper, line, one_link, some_pieces, productions}
 
--- how a part begins that is one of several: a line by any token, what stands behind an atom, texts, a field, else an
--- expression
+-- how a part begins that is one of several: a line by any token, what stands behind an atom, texts, else an expression
 unfoldable pub beginning : Part → Terminal
 beginning (line s) = terminal'.Any
 beginning one_link = terminal'.Link
 beginning some_pieces = terminal'.Piece
-beginning one_field = terminal'.Mark mark'.OpenBrace
 beginning _ = terminal'.Expression
 
 -- the next token may begin the body

@@ -319,7 +319,7 @@ fn parse_field<'a>(
     tokens: &'a [Token],
 ) -> Result<(Piece, &'a [Token]), Stop<'a>>
     ensures found { Agrees (λ p. ok (piece_tree p.0) p.1.now) result
-        (Reads depth (pick grammar.one_field tokens.now) tokens.now) }
+        (Reads depth grammar.one_field tokens.now) }
     ensures shorter { IfOk result (λ p. length p.1.now < length tokens.now) }
 {
     let Some((brace, rest)) = strip(Terminal::Mark(Mark::OpenBrace), tokens) else {
