@@ -1,34 +1,44 @@
--- What a build over a world in memory did, in which nothing is left open.
-use Rattle.std.specs.Prelude.{◌≡◌, ◌<◌, ℕ, false, List, [], ◌∷◌, codes, length}
-use Rattle.scons_base.specs.declared.ids.NodeId.{NodeId}
-use Rattle.rule_graph.specs.Graphs.{RuleGraph}
-use Rattle.sign_store.specs.Tables.{Map}
+-- A call of `build` that meets all that its clauses ask for: what it began with, and what it did.
+use Rattle.std.specs.Prelude.{◌≡◌, ℕ, true, false, List, [], ◌∷◌, codes}
+use Rattle.world_api.specs.declared.hash.Hash.TheVariants.{Md5}
+use Rattle.sign_store.specs.Stores.{IsKept, is_live, map_of}
+use Rattle.sign_store.specs.Tables.{nothing}
+use Rattle.sign_store.specs.declared.store.Store.{Store}
+use Rattle.build_means.specs.Builds.{Wanted}
 use Rattle.build_run.specs.Outsets.{wanted_of, HasRun, HasSucceeded}
 use Rattle.build_run.specs.declared.building.Options.{Options}
-use Rattle.build_run.specs.declared.end.BuildEnd.{BuildEnd}
 use Rattle.world_mem.specs.AsAround.{around_of}
 use Rattle.world_mem.specs.InSlots.{file_at}
 use Rattle.world_mem.specs.Means.{world_meaning}
 use Rattle.world_mem.specs.declared.world.MemWorld.{MemWorld}
+use Rattle.build_samples.specs.Copies.{copy_graph, target_node}
+use Rattle.build_samples.specs.declared.sample.Sample.{Sample}
 
--- a build of one node that reports nothing has succeeded: no premise of the world or of what was requested is left
-abbrev pub SucceedsWell : RuleGraph → NodeId → Options → Map → MemWorld → MemWorld → BuildEnd → Type 0
-SucceedsWell g node options map old new answer = answer.faults ≡ [] → answer.memory ≡ false →
-    HasSucceeded world_meaning (wanted_of g (node ∷ []) options) map old new
-
--- `s` with this content is all that stands there
+-- `s` with this content is all that stands
 abbrev pub HoldsOnly : List ℕ → MemWorld → Type 0
 HoldsOnly content world = (path : List ℕ) → (around_of world.state).tree path ≡ file_at ((codes "s", content) ∷ []) path
 
--- A build of one node of a graph, from a world in which `s` is all that there is, ran and ended so.
-pub record BuildsFrom (content : List ℕ) (answer : BuildEnd) (new : MemWorld) : Type 0 where
-  pub graph : RuleGraph
-  pub node : NodeId
-  pub options : Options
-  pub map : Map
+-- What the build began with: nothing ran, and the store was live, had no record, and stood for all that a stop might have left.
+pub record IsOutset (content : List ℕ) (world : MemWorld) (store : Store) : Type 0 where
+  pub holds : HoldsOnly content world
+  pub idle : (around_of world.state).running ≡ []
+  pub live : is_live store ≡ true
+  pub kept : IsKept world_meaning world store
+  pub empty : map_of store ≡ nothing
+
+abbrev pub options : Options
+options = record { jobs = 1; keep = false; hash = Md5; silent = false }
+
+-- `t` was requested, of the graph in which it is a copy of `s`
+abbrev pub wanted : Wanted
+wanted = wanted_of copy_graph (target_node ∷ []) options
+
+-- The build took these steps from there, and where it reports nothing it succeeded. Nothing is left to ask of the world, which tells
+-- and is sure, nor of what was requested.
+pub record HasBuilt (content : List ℕ) (sample : Sample) : Type 0 where
   pub old : MemWorld
-  pub below : node.0 < length graph.nodes
-  pub holds : HoldsOnly content old
-  pub idle : (around_of old.state).running ≡ []
-  pub runs : HasRun world_meaning (wanted_of graph (node ∷ []) options) map old new
-  pub succeeds : SucceedsWell graph node options map old new answer
+  pub store : Store
+  pub outset : IsOutset content old store
+  pub runs : HasRun world_meaning wanted (map_of store) old sample.world (map_of sample.store)
+  pub succeeds : sample.end.faults ≡ [] → sample.end.memory ≡ false →
+      HasSucceeded world_meaning wanted (map_of store) old sample.world (map_of sample.store)

@@ -1,48 +1,51 @@
-//! The graph of one copy.
-ghost use Rattle.std.specs.Prelude.{◌≡◌, ◌<◌, ◌≤◌, ◌∷◌, [], ℕ, length, IfSome};
-ghost use Rattle.rule_graph.specs.Rules.{IsRule};
+//! What is declared for the build: `t` is a copy of `s`.
+ghost use Rattle.std.specs.Prelude.{◌≡◌, ◌∷◌, [], codes, length, IfSome};
+ghost use Rattle.node_tree.specs.Nodes.{Interns};
+ghost use Rattle.rule_graph.specs.Graphs.{empty_graph};
+ghost use Rattle.build_samples.specs.Copies.{copy_graph, copy_rule, target_node};
 
 use rule_graph::{Graph, Rule};
 use scons_base::{Listing, NodeId, PathText, Paths, Text, Texts};
 use std::alloc::Global;
 use world_api::{Decider, Work};
 
+/// The graph of the copy, with the node of `t`.
+pub(crate) fn declare_copy(alloc: Global) -> Option<(Graph, NodeId)>
+    ensures { IfSome result (λ declared. declared ≡ (copy_graph, target_node)) }
+{
+    let mut graph = empty_graph(alloc)?;
+    let target = node_of(alloc, &mut graph, "t")?;
+    let source = node_of(alloc, &mut graph, "s")?;
+    let rule = copy_rule(alloc, target, source)?;
+    graph.add_rule(rule).ok()?;
+    Some((graph, target))
+}
+
 /// A graph in which nothing is declared.
-pub(crate) fn empty_graph(alloc: Global) -> Option<Graph> {
+fn empty_graph(alloc: Global) -> Option<Graph>
+    ensures { IfSome result (λ graph. graph ≡ empty_graph (codes "/top")) }
+{
     let top = PathText::read(alloc, "/top").ok()?;
     Graph::new(alloc, top).ok()
 }
 
-/// Declares that `t` is a copy of `s`, and gives the node of `t`.
-pub(crate) fn declare_copy(alloc: Global, graph: &mut Graph) -> Option<NodeId>
-    ensures { IfSome result (λ node. node.0 < length graph.new.nodes) }
-{
-    let target = node_of(alloc, graph, "t")?;
-    let source = node_of(alloc, graph, "s")?;
-    let rule = copy_rule(alloc, target, source)?;
-    graph.add_rule(rule).ok()?;
-    Some(target)
-}
-
 /// The node of a path.
-fn node_of(alloc: Global, graph: &mut Graph, name: &str) -> Option<NodeId>
-    ensures below { IfSome result (λ node. node.0 < length graph.new.nodes) }
-    ensures grows { length graph.old.nodes ≤ length graph.new.nodes }
+fn node_of(alloc: Global, graph: &mut Graph, path: &str) -> Option<NodeId>
+    ensures node { IfSome result (λ node. Interns graph.old.nodes path.now node.0 graph.new.nodes) }
+    ensures rest { graph.new ≡ record graph.old { nodes = graph.new.nodes } }
 {
-    let path = PathText::read(alloc, name).ok()?;
+    let path = PathText::read(alloc, path).ok()?;
     graph.intern(&path).ok()
 }
 
 /// The rule that makes a target as a copy of a source.
 fn copy_rule(alloc: Global, target: NodeId, source: NodeId) -> Option<Rule>
-    ensures { (count : ℕ) → target.0 < count → source.0 < count → IfSome result (IsRule count) }
+    ensures { IfSome result (λ rule. rule ≡ copy_rule target source) }
 {
-    let targets = only(alloc, target)?;
-    let sources = only(alloc, source)?;
     Some(Rule {
         work: Work::Copy,
-        targets,
-        sources,
+        targets: only(alloc, target)?,
+        sources: only(alloc, source)?,
         libs: Listing::empty(alloc),
         depends: Listing::empty(alloc),
         required: Listing::empty(alloc),
@@ -57,12 +60,10 @@ fn copy_rule(alloc: Global, target: NodeId, source: NodeId) -> Option<Rule>
     })
 }
 
-/// A list of one node.
+/// The list of one node.
 fn only(alloc: Global, node: NodeId) -> Option<Listing<NodeId>>
     ensures { IfSome result (λ nodes. nodes ≡ node ∷ []) }
 {
-    match vec![in alloc; node] {
-        Ok(nodes) => Some(Listing::new(nodes)),
-        Err(_) => None,
-    }
+    let nodes = vec![in alloc; node].ok()?;
+    Some(Listing::new(nodes))
 }
