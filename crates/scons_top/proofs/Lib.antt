@@ -2,3 +2,5 @@ mod Watching
 mod Early
 mod Causing
 mod Reporting
+mod Requesting
+mod Building

@@ -1,5 +1,7 @@
+pub mod Builds
 pub mod Causes
 pub mod Endings
 pub mod Faults
+pub mod Requested
 pub mod Stops
 pub mod Watching
