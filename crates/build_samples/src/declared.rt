@@ -11,14 +11,16 @@ use world_api::{Decider, Work};
 
 /// The graph of the copy, with the node of `t`.
 pub(crate) fn declare_copy(alloc: Global) -> Option<(Graph, NodeId)>
-    ensures { IfSome result (λ declared. declared ≡ (copy_graph, target_node)) }
+    ensures { IfSome result (λ declared. (declared.0 ≡ copy_graph) × (declared.1 ≡ target_node)) }
 {
     let mut graph = empty_graph(alloc)?;
     let target = node_of(alloc, &mut graph, "t")?;
     let source = node_of(alloc, &mut graph, "s")?;
     let rule = copy_rule(alloc, target, source)?;
-    graph.add_rule(rule).ok()?;
-    Some((graph, target))
+    match graph.add_rule(rule) {
+        Ok(_) => Some((graph, target)),
+        Err(_) => None,
+    }
 }
 
 /// A graph in which nothing is declared.

@@ -1,9 +1,6 @@
 //! The build of the copy, over a world in memory.
-ghost use Rattle.std.specs.Prelude.{◌≡◌, [], IfSome};
-ghost use Rattle.world_api.specs.declared.disk.Bank.{Bank};
-ghost use Rattle.world_mem.specs.AsAround.{around_of};
-ghost use Rattle.world_mem.specs.Means.{seen_in};
-ghost use Rattle.build_samples.specs.Samples.{HasBuilt, HoldsOnly, IsOutset};
+ghost use Rattle.std.specs.Prelude.{◌≡◌, ◌∷◌, [], codes, IfSome};
+ghost use Rattle.build_samples.specs.Samples.{HasBuilt, IsOutset};
 
 use crate::declared::declare_copy;
 use build_run::{BuildEnd, Options, build};
@@ -56,24 +53,26 @@ pub fn build_copy(alloc: Global, content: &[u8]) -> Option<Sample>
     })
 }
 
-/// What the build begins with: a world, and the store of its banks.
+/// What the build begins with: a world in which `s` is the only file and no call fails, and its store.
 fn outset(alloc: Global, content: &[u8]) -> Option<(MemWorld, Store)>
     ensures { IfSome result (λ begun. IsOutset content.now begun.0 begun.1) }
 {
-    let mut world = world_with(alloc, content)?;
-    let store = Store::begin(alloc, &mut world).ok()?;
+    let files = only_file(alloc, content)?;
+    let table = ActTable::new(Vec::new(alloc));
+    let Ok(mut world) = MemWorld::new(alloc, files, table, Vec::new(alloc), Vec::new(alloc)) else {
+        return None;
+    };
+    let Ok(store) = Store::begin(alloc, &mut world) else {
+        return None;
+    };
     Some((world, store))
 }
 
-/// A world in which `s` is the only file, and no call fails.
-fn world_with(alloc: Global, content: &[u8]) -> Option<MemWorld>
-    ensures holds { IfSome result (HoldsOnly content.now) }
-    ensures idle { IfSome result (λ world. (around_of world.state).running ≡ []) }
-    ensures blank { IfSome result (λ world. (bank : Bank) → seen_in world bank ≡ []) }
+/// The file `s` with this content.
+fn only_file(alloc: Global, content: &[u8]) -> Option<Vec<(PathText, Blob)>>
+    ensures { IfSome result (λ files. files.items ≡ (codes "s", content.now) ∷ []) }
 {
     let path = PathText::read(alloc, "s").ok()?;
     let bytes = Blob::of(alloc, content).ok()?;
-    let files = vec![in alloc; (path, bytes)].ok()?;
-    let table = ActTable::new(Vec::new(alloc));
-    MemWorld::new(alloc, files, table, Vec::new(alloc), Vec::new(alloc)).ok()
+    vec![in alloc; (path, bytes)].ok()
 }

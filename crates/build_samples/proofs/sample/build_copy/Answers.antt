@@ -1,0 +1,19 @@
+use Rattle.std.proofs.Common.{◌≡◌, ◌∙◌, subst, refl, ap, [], ◌∷◌}
+use Rattle.scons_base.specs.declared.ids.NodeId.{NodeId}
+use Rattle.rule_graph.specs.Graphs.{RuleGraph}
+use Rattle.sign_store.specs.Stores.{map_of}
+use Rattle.build_means.specs.Builds.{Wanted}
+use Rattle.build_run.specs.Outsets.{wanted_of, BuildRuns, BuildSucceeds}
+use Rattle.world_mem.specs.Means.{world_meaning}
+use Rattle.build_samples.specs.Copies.{copy_graph, target_node}
+use Rattle.build_samples.specs.Samples.{options, wanted}
+use Rattle.build_samples.proofs.sample.build_copy.Goals as goal
+
+asked : (g : RuleGraph) (node : NodeId) → g ≡ copy_graph → node ≡ target_node → wanted_of g (node ∷ []) options ≡ wanted
+asked g node graph target =
+    ap (λ (g : RuleGraph). wanted_of g (node ∷ []) options) graph ∙ ap (λ (n : NodeId). wanted_of copy_graph (n ∷ []) options) target
+
+pub build-end-requires : goal.build-end-requires
+build-end-requires c =
+    let outset = c.in_ok-outset.ensures in
+    record { unclosed = refl; idle = λ told. outset.idle; live = outset.live; kept = outset.kept }
