@@ -230,10 +230,12 @@ fn take_part(alloc: Global, text: OpenText, reader: Reader<'_>) -> Result<Step<'
             rest,
         } => {
             let mut reader = reader;
-            push_part(&mut reader.tokens, reader.line, value)?;
-            reader.line += lines;
-            push_token(&mut reader.tokens, reader.line, end_of_part(field))?;
+            let line = reader.line;
+            push_part(&mut reader.tokens, line, value)?;
+            let line = line + lines;
+            push_token(&mut reader.tokens, line, end_of_part(field))?;
             reader.mode = mode_behind(text, field);
+            reader.line = line;
             reader.rest = rest;
             Ok(Step::Goes(reader))
         }
@@ -297,6 +299,7 @@ fn step_in_field<'a>(
     ensures fits { IfOk result (λ s. FitsStep (state_of reader.entry) (step_of s)) }
 {
     let mut reader = reader;
+    let line = reader.line;
     let Some((byte, after)) = reader.rest.split_first() else {
         return Ok(Step::Stops {
             line: text.line,
@@ -308,7 +311,7 @@ fn step_in_field<'a>(
         return Ok(Step::Goes(reader));
     }
     if *byte == b'}' && inner == 0 {
-        push_token(&mut reader.tokens, reader.line, TokenKind::Mark(Mark::CloseBrace))?;
+        push_token(&mut reader.tokens, line, TokenKind::Mark(Mark::CloseBrace))?;
         reader.mode = Mode::Part(text);
         reader.rest = after;
         return Ok(Step::Goes(reader));
@@ -331,6 +334,7 @@ fn take_in_field<'a>(
     ensures fits { IfOk result (λ s. FitsStep (state_of reader.entry) (step_of s)) }
 {
     let mut reader = reader;
+    let line = reader.line;
     match field_token(alloc, inner, reader.rest)? {
         Turn::Takes {
             kind,
@@ -338,18 +342,18 @@ fn take_in_field<'a>(
             depth,
             rest,
         } => {
-            push_token(&mut reader.tokens, reader.line, kind)?;
+            push_token(&mut reader.tokens, line, kind)?;
             reader.mode = Mode::Field(text, depth);
-            reader.line += lines;
+            reader.line = line + lines;
             reader.rest = rest;
             Ok(Step::Goes(reader))
         }
         Turn::Begins { .. } => Ok(Step::Stops {
-            line: reader.line,
+            line,
             kind: LexKind::BadField,
         }),
         Turn::Refuses { kind, lines } => Ok(Step::Stops {
-            line: reader.line + lines,
+            line: line + lines,
             kind,
         }),
     }
