@@ -248,16 +248,15 @@ pub seen_one : (none seen : List (List ℕ)) (n m : List ℕ) → none ≡ [] �
 seen_one none seen n m e f p = f ∙ ap (λ l. l ++ m ∷ []) e ∙ ap (λ k. k ∷ []) p
 
 rest_of_leaves : (l : ℕ) (k : TokenKind) → ((n : List ℕ) → k ≡ kind'.Name n → ⊥) → ((n : ℕ) → k ≡ kind'.Integer n → ⊥) →
-    ((t : List ℕ) → k ≡ kind'.Text t → ⊥) → constant l (constant_in k) ≡ leaf_at l k
-rest_of_leaves l (kind'.Name n) a b c = absurd (a n refl)
-rest_of_leaves l (kind'.Integer n) a b c = absurd (b n refl)
-rest_of_leaves l (kind'.Text t) a b c = absurd (c t refl)
-rest_of_leaves l _ a b c = refl
+    constant l (constant_in k) ≡ leaf_at l k
+rest_of_leaves l (kind'.Name n) a b = absurd (a n refl)
+rest_of_leaves l (kind'.Integer n) a b = absurd (b n refl)
+rest_of_leaves l _ a b = refl
 
--- a token that is no name, number and text stands for a constant
+-- a token that is no name and no number stands for a constant
 pub leaf_rest : (l : ℕ) (k : TokenKind) (v : Constant) (t : Tree) → ((n : List ℕ) → k ≡ kind'.Name n → ⊥) → ((n : ℕ) → k ≡ kind'.Integer n → ⊥) →
-    ((t : List ℕ) → k ≡ kind'.Text t → ⊥) → t ≡ constant l v → v ≡ constant_in k → t ≡ leaf_at l k
-leaf_rest l k v t a b c e f = e ∙ ap (constant l) f ∙ rest_of_leaves l k a b c
+    t ≡ constant l v → v ≡ constant_in k → t ≡ leaf_at l k
+leaf_rest l k v t a b e f = e ∙ ap (constant l) f ∙ rest_of_leaves l k a b
 
 -- a call's stop is the whole's
 pub stops_here : (b : Body) (ts : List Token) (r : Result NextDisplay Stop) (P : Outcome → Type 0) (s : Stop) → IsErrAnd r (λ e. e ≡ s) →
