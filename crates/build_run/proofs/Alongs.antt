@@ -1,6 +1,7 @@
 -- How a build goes along when it is told what came of a turn, and from turn to turn.
 use Rattle.std.proofs.Common.{◌≡◌, ◌⊎◌, inl, inr, Bool, true, false, ◌||◌, List, [], ◌∷◌, Contains, length, ap, refl, sym, subst, ◌∙◌}
 use Rattle.std.specs.Prelude.{Result, Ok, Err, nat_lt}
+use Rattle.world_api.specs.Around.{Around}
 use Rattle.world_api.specs.Meaning.{Meaning, Told}
 use Rattle.task_plan.specs.Plans.{Planned, is_halt}
 use Rattle.task_plan.specs.Watched.{IsStill}

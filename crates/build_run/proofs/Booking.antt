@@ -1,5 +1,6 @@
 -- What a build has booked, from call to call.
-use Rattle.std.proofs.Common.{◌≡◌, ◌⊎◌, inl, inr, ◌++◌, ◌∷◌, arith, Bool, true, false, cond, ◌||◌, List, [], Contains, Option, Some, None, ap, refl, subst, sym, ◌∙◌}
+use Rattle.std.proofs.Common.{◌≡◌, ◌⊎◌, inl, inr, ◌++◌, ◌∷◌, Bool, true, false, cond, List, [], Contains, Option, Some, ap, refl, subst, sym, ◌∙◌}
+use Rattle.std.proofs.lemmas.List.Elements.{Contains-append_left, Contains-append_right}
 use Rattle.std.specs.Str.{bytes_eq}
 use Rattle.std.proofs.lemmas.Slice.Eq.{bytes_eq-Decides}
 use Rattle.world_api.specs.Around.{Around, IsRunningTarget, given_of}
@@ -10,29 +11,31 @@ use Rattle.world_api.specs.declared.job.Ended.{Ended as Ending}
 use Rattle.world_api.specs.declared.job.Job.{Job}
 use Rattle.deciders.specs.declared.recorded.Rec.{Rec}
 use Rattle.sign_store.specs.Putting.{map_with}
-use Rattle.sign_store.specs.Stores.{IsOut, IsTicket, KeepsTickets}
+use Rattle.sign_store.specs.Stores.{IsOut, IsTicket, KeepsOthers as LeavesOthers, KeepsTickets, map_of}
 use Rattle.sign_store.specs.Tables.{Map, is_among, with_each}
 use Rattle.sign_store.specs.declared.store.Store.{Store}
 use Rattle.build_model.specs.Rules.{Path, Rule, Among, here, there}
 use Rattle.build_model.specs.Moments.{Job as Given}
+use Rattle.build_model.proofs.Lists.{some_same}
+use Rattle.build_means.proofs.Lists.{there_any}
+use Rattle.run_means.proofs.Lists.{contains_among}
 use Rattle.build_model.specs.Steps.{Step, Fresh, Began, Ended, Lacks, Halts, began, IsDecided, IsRunning}
 use Rattle.run_means.specs.Clears.{Clears}
 use Rattle.run_means.proofs.Clearing.{calls_clear}
-use Rattle.turn_means.specs.Standing.{Outset, IsOutset, setting_at}
+use Rattle.turn_means.specs.Standing.{Outset, IsOutset, Standing, setting_at}
 use Rattle.turn_means.specs.Recording.{IsWayTo, AreRecorded, IsRecordOf, KeepsOthers, HaveRecord, HaveNone, HasRecord, build_at}
 use Rattle.turn_means.specs.Writing.{Writes}
 use Rattle.turn_means.proofs.Recording.{begins_without, begun_others, ends_with, leaves, stays}
 use Rattle.turn_means.proofs.Jobs.{run_before, run_either}
 use Rattle.turn_means.proofs.Running.{begun_place, lawful, makes_each, one_rule}
 use Rattle.build_run.specs.Along.{HoldsFewer, IsOn}
-use Rattle.turn_means.specs.Standing.{Standing}
 use Rattle.build_run.specs.Books.{Book, AreBooked, IsBooked, book_of}
 use Rattle.build_run.specs.Holds.{Busy}
 use Rattle.build_run.specs.Outs.{AreOut}
 use Rattle.build_run.specs.Sites.{KeepsRecords, SitePuts}
 use Rattle.build_run.specs.declared.site.Site.{Site}
-use Rattle.build_run.proofs.Holding.{in_front, in_pushed}
-use Rattle.build_run.proofs.Outs.{among_in, out_in}
+use Rattle.build_run.proofs.Holding.{in_pushed}
+use Rattle.build_run.proofs.Outs.{held_alike, not_among, out_in, outs_front, outs_left, own_beside}
 
 -- nothing that was booked was lost
 pub record KeepsBook (old new : Book) : Type 0 where
@@ -76,16 +79,33 @@ puts_book m old new puts tickets kept = record {
   };
 }
 
-some_same : (a b : Rec) → Some a ≡ Some b → a ≡ b
-some_same a b e = cc
-
 -- where tickets stay out they stay tickets for the same records
-pub tickets_out : (old new : Store) (busies : List Busy) → AreOut old busies → (busy : Busy) (rec : Rec) → Contains busies busy →
+tickets_out : (old new : Store) (busies : List Busy) → AreOut old busies → (busy : Busy) (rec : Rec) → Contains busies busy →
     ((of : Rec) → IsOut old of busy.ticket → IsOut new of busy.ticket) → IsTicket old rec busy.ticket → IsTicket new rec busy.ticket
 tickets_out old new busies outs busy rec h keeps is =
     let t = (out_in old busies busy outs h).ticket in
-    subst (λ (r : Rec). IsTicket new r busy.ticket) (some_same t.rec rec (sym t.out.own.held.record_at ∙ is.held.record_at))
+    subst (λ (r : Rec). IsTicket new r busy.ticket) (some_same (sym t.out.own.held.record_at ∙ is.held.record_at))
     (keeps t.rec t.out).own
+
+-- nothing that was booked is lost where a store keeps these tickets and its map
+pub store_book : (old : Book) (store : Store) → map_of store ≡ map_of old.store → AreOut old.store (old.held ++ old.running) →
+    ((busy : Busy) (rec : Rec) → Contains (old.held ++ old.running) busy → IsOut old.store rec busy.ticket → IsOut store rec busy.ticket) →
+    KeepsBook old (record old { store = store })
+store_book old store map outs keeps = record {
+  records = held_alike old.store store old.held map (λ busy rec h out. (keeps busy rec (Contains-append_left old.held old.running busy h) out).own)
+      (outs_front old.store old.held old.running outs);
+  running = λ busy h. h;
+  tickets = λ busy rec h is.
+      let among = Contains-append_right old.held old.running busy h in
+      tickets_out old.store store (old.held ++ old.running) outs busy rec among (λ of out. keeps busy of among out) is;
+}
+
+-- so it is where the ticket of one that was taken out is given up
+pub given_up : (book : Book) (store : Store) (busy : Busy) (left : List Busy) → map_of store ≡ map_of book.store → LeavesOthers busy.ticket book.store store →
+    AreOut book.store (book.held ++ busy ∷ left) → KeepsBook (record book { running = left }) (record book { store = store; running = left })
+given_up book store busy left map leaves_others outs =
+    store_book (record book { running = left }) store map (outs_left book.store book.held left busy outs)
+    (λ one rec h out. leaves_others.each rec one.ticket (own_beside book.store book.held busy left outs one h) out)
 
 -- what is cleared is written
 pub clears_write : (paths : List Path) (old new : Around) → Clears paths old new → Writes paths old new
@@ -129,27 +149,15 @@ ends_write Sure ended old new ends = record {
       (run_before ends.front ends.which ends.back path (subst (λ runs. IsRunningTarget runs path) ends.running target)));
 }
 
-or_true : (b c : Bool) → c ≡ true → (b || c) ≡ true
-or_true true c e = refl
-or_true false c e = e
-
 pub in_among : (paths : List Path) (path : Path) → Contains paths path → is_among paths path ≡ true
-in_among [] path h = absurd (omega (arith, h.1))
-in_among (first ∷ paths) path h = elim (in_front paths first path h) [
-  | inl same ↦ ap (λ (b : Bool). b || is_among paths path) ((bytes_eq-Decides first path).1 same)
-  | inr more ↦ or_true (bytes_eq first path) (is_among paths path) (in_among paths path more)
-]
+in_among paths path h = there_any (λ other. bytes_eq other path) (contains_among paths h) ((bytes_eq-Decides path path).1 refl)
 
 -- what is among the paths has the record, and the rest has what it had
 with_own : (paths : List Path) (rec : Rec) (map : Map) (path : Path) → Contains paths path → with_each paths (Some rec) map path ≡ Some rec
 with_own paths rec map path h = ap (λ b. cond b (Some rec) (map path)) (in_among paths path h)
 
-with_others : (paths : List Path) (rec : Option Rec) (map : Map) (path : Path) → (Contains paths path → ⊥) → with_each paths rec map path ≡ map path
-with_others paths rec map path out = by (is_among paths path) refl
-  where
-    by : (b : Bool) → is_among paths path ≡ b → with_each paths rec map path ≡ map path
-    by true e = absurd (out (among_in paths path e))
-    by false e = ap (λ b. cond b rec (map path)) e
+pub with_others : (paths : List Path) (rec : Option Rec) (map : Map) (path : Path) → (Contains paths path → ⊥) → with_each paths rec map path ≡ map path
+with_others paths rec map path out = ap (λ b. cond b rec (map path)) (not_among paths path out)
 
 module _ (o : Outset) where
   -- a rule that is to have a record is so still
@@ -302,14 +310,14 @@ module _ (o : Outset) where
           one_on old new past (Ended r well ∷ past) book.store after.store one is is.stands (λ t. tickets one is.rec h t)
           (λ e. (stays o outset jobs old new past way writes).to_have is.rule is.rec is.stands e)
 
-      pub failed_booked : map_with after.store after.held ≡ map_with book.store book.held → AreBooked o new (Ended r false ∷ past) after
+      failed_booked : map_with after.store after.held ≡ map_with book.store book.held → AreBooked o new (Ended r false ∷ past) after
       failed_booked kept = record {
         records = subst (λ (map : Map). AreRecorded o new (Ended r false ∷ past) map) (sym kept)
             (ends_with o outset jobs old new past r (map_with book.store book.held) way runs writes are.records).failed;
         each = others_still false;
       }
 
-      pub done_booked : ((rec : Rec) → IsTicket book.store rec busy.ticket →
+      done_booked : ((rec : Rec) → IsTicket book.store rec busy.ticket →
           map_with after.store after.held ≡ with_each rec.targets (Some rec) (map_with book.store book.held)) →
           AreBooked o new (Ended r true ∷ past) after
       done_booked puts =
@@ -332,3 +340,10 @@ module _ (o : Outset) where
                 (λ h. out (subst (λ (paths : List Path). Contains paths path) own h)));
             each = others_still true;
           }
+
+      pub ended_booked : (well : Bool) → (well ≡ false → map_with after.store after.held ≡ map_with book.store book.held) →
+          (well ≡ true → (rec : Rec) → IsTicket book.store rec busy.ticket →
+          map_with after.store after.held ≡ with_each rec.targets (Some rec) (map_with book.store book.held)) →
+          AreBooked o new (Ended r well ∷ past) after
+      ended_booked true kept puts = done_booked (puts refl)
+      ended_booked false kept puts = failed_booked (kept refl)

@@ -28,6 +28,8 @@ use Rattle.build_model.specs.Waiting.{IsIdle}
 use Rattle.build_model.proofs.Runs.{running_few}
 use Rattle.build_model.proofs.Lists.{true_false, among_right, among_same}
 use Rattle.build_means.specs.Builds.{Kept, jobs_at_once}
+use Rattle.build_means.proofs.Lists.{map_among}
+use Rattle.run_means.proofs.Lists.{among_contains}
 use Rattle.build_means.specs.Logs.{AreUnrisen, is_done}
 use Rattle.build_files.specs.Marked.{AreGoneOver}
 use Rattle.build_files.specs.declared.inputs.Inputs.{Inputs}
@@ -51,9 +53,10 @@ use Rattle.build_run.specs.declared.account.Account.{Account}
 use Rattle.build_run.specs.declared.building.Options.{Options}
 use Rattle.build_run.specs.declared.site.Site.{Site}
 use Rattle.build_run.specs.declared.tickets.Hold.{Hold}
-use Rattle.build_run.proofs.Booking.{StaysBooked, booked_as, done_booked, ends_write, failed_booked}
+use Rattle.build_run.proofs.Booking.{StaysBooked, booked_as, ended_booked, ends_write, with_others}
+use Rattle.build_run.proofs.Clearing.{clears_same}
 use Rattle.build_run.proofs.Holding.{at_front, further, in_front, in_pushed}
-use Rattle.build_run.proofs.Outs.{among_in, held_count, held_in}
+use Rattle.build_run.proofs.Outs.{held_count, held_in}
 
 -- what isn't so now wasn't before
 pub not_before : (old new : Bool) → (old ≡ true → new ≡ true) → new ≡ false → old ≡ false
@@ -141,9 +144,7 @@ apart_one (hold ∷ holds) one other apart h k e = elim (in_front holds hold one
 
 -- the job that ended is that of its number
 hold_in : (all : List Running) (which : Running) → Among which all → Contains (holds_of all) (hold_of which)
-hold_in [] which m = elim m [ ]
-hold_in (run ∷ all) which here = at_front (holds_of all) (hold_of run)
-hold_in (run ∷ all) which (there m) = further (holds_of all) (hold_of run) (hold_of which) (hold_in all which m)
+hold_in all which m = among_contains (map_among hold_of m)
 
 module _ {W O E : Type 0} (m : Meaning W) (o : Outset) (outset : IsOutset o) (old new : Site W O E) (busy : Busy) (ended : Ended) (event : PlanEvent)
     (may : MayTake m o old) (is : IsTakenOn m o old new busy ended event)
@@ -203,30 +204,20 @@ module _ {W O E : Type 0} (m : Meaning W) (o : Outset) (outset : IsOutset o) (ol
         (subst (λ (holds : List Hold). Contains holds (hold_of which)) joined (hold_in (m.around old.world.now).running which there_runs))
         (is.id ∙ id)
 
-    booked_by : (r : Rule) → IsRunning may.on.past r → busy.hold.targets ≡ r.targets → (well : Bool) → is_done ended.outcome ≡ well →
-        new.account.now.is_store_shut ≡ false → AreBooked o s.around (model.Ended r well ∷ may.on.past) (book_of new)
-    booked_by r runs makes_it true e unshut =
-        done_booked o outset may.on.jobs (m.around old.world.now) s.around may.on.past may.on.at.way r runs
-        (ends_write Sure ended (m.around old.world.now) s.around ends_now) (book_of old) (book_of new) (may.on.booked (is.open_before unshut))
-        busy is.among makes_it is.running (is.tickets unshut) (is.puts e unshut)
-    booked_by r runs makes_it false e unshut =
-        failed_booked o outset may.on.jobs (m.around old.world.now) s.around may.on.past may.on.at.way r runs
-        (ends_write Sure ended (m.around old.world.now) s.around ends_now) (book_of old) (book_of new) (may.on.booked (is.open_before unshut))
-        busy is.among makes_it is.running (is.tickets unshut) (is.kept e unshut)
-
     on_behind : IsOn o (book_of new) s
     on_behind =
-        let behind = ends_behind o outset may.on.jobs (standing_of m old) s may.on.past ended may.on.at may.on.wait Sure sure ends_now is_ended in
+        let behind = ends_behind o outset may.on.jobs (standing_of m old) s may.on.past ended may.on.at may.wait Sure sure ends_now is_ended in
         record {
           jobs = may.on.jobs;
           past = model.Ended behind.rule (is_done ended.outcome) ∷ may.on.past;
           at = behind.stands;
           began = began_behind;
           booked = λ e.
-              let own = ended_own o outset may.on.jobs (standing_of m old) s may.on.past ended may.on.at may.on.wait Sure sure ends_now is_ended in
-              booked_by behind.rule own.runs
-              (ap (λ (h : Hold). h.targets) (which_hold ends_now.which ends_now.front ends_now.back ends_now.was ends_now.id) ∙ own.job_of.targets)
-              (is_done ended.outcome) refl e;
+              let own = ended_own o outset may.on.jobs (standing_of m old) s may.on.past ended may.on.at may.wait Sure sure ends_now is_ended in
+              ended_booked o outset may.on.jobs (m.around old.world.now) s.around may.on.past may.on.at.way behind.rule own.runs
+              (ends_write Sure ended (m.around old.world.now) s.around ends_now) (book_of old) (book_of new) (may.on.booked (is.open_before e))
+              busy is.among (ap (λ (h : Hold). h.targets) (which_hold ends_now.which ends_now.front ends_now.back ends_now.was ends_now.id) ∙ own.job_of.targets)
+              is.running (is.tickets e) (is_done ended.outcome) (λ failed. is.kept failed e) (λ well. is.puts well e);
         }
 
   pub taken_on : GoesOn m o new event
@@ -305,14 +296,6 @@ unrisen_failed keep start old new (Failed code) keeps failed cause are = record 
 unrisen_failed keep start old new Broken keeps failed cause are = absurd failed
 unrisen_failed keep start old new NoMemory keeps failed cause are = absurd failed
 
--- what isn't among the paths has what it had
-pub with_others : (paths : List (List ℕ)) (rec : Option Rec) (map : Map) (path : List ℕ) → (Contains paths path → ⊥) → with_each paths rec map path ≡ map path
-with_others paths rec map path out = by (is_among paths path) refl
-  where
-    by : (b : Bool) → is_among paths path ≡ b → with_each paths rec map path ≡ map path
-    by true e = absurd (out (among_in paths path e))
-    by false e = ap (λ b. cond b rec (map path)) e
-
 -- a record that was put is that of what its rule makes
 pub put_others : (store : Store) (busy : Busy) (old new : Map) (path : List ℕ) → IsTicketFor store busy.ticket busy.hold.targets →
     ((rec : Rec) → IsTicket store rec busy.ticket → new ≡ with_each rec.targets (Some rec) old) → (Contains busy.hold.targets path → ⊥) → new path ≡ old path
@@ -379,8 +362,7 @@ module _ {W O E : Type 0} (m : Meaning W) (o : Outset) (outset : IsOutset o) (ol
           record { graph = g; inputs = i; plan = p; records = r; faulted = is_faulted a; ended = a.is_ended; around = x }
 
   none_cleared : Clears [] (m.around old.world.now) (m.around mid.world.now)
-  none_cleared = subst (λ (a : Around). Clears [] (m.around old.world.now) a) (sym around)
-      (record { files = λ path free out. refl; stamps = λ path free out. refl; running = refl; log = refl; met = refl; law = refl })
+  none_cleared = clears_same [] (m.around old.world.now) (m.around mid.world.now) around
 
   ended_there : mid.account.now.is_ended ≡ true → IsAt o along.on.jobs (standing_of m mid) along.on.past
   ended_there e =
@@ -415,11 +397,11 @@ module _ {W O E : Type 0} (m : Meaning W) (o : Outset) (outset : IsOutset o) (ol
       booked = λ e.
           subst (λ (a : Around). AreBooked o a along.on.past (book_of mid)) (sym around)
           (booked_as o (m.around old.world.now) along.on.past (book_of old) (book_of mid) (book.keeps e) (along.on.booked (book.unshut e)));
-      wait =
-          subst (λ (a : Around). MayWait o.wanted o.kept o.before a along.on.past) (sym around)
-          (may_wait o outset (standing_of m old) (along.on.jobs, along.on.past, along.on.at) old.run.now.tickets (most_jobs old.options)
-          along.asked.jobs joined along.halted wanted);
     };
+    wait =
+        subst (λ (a : Around). MayWait o.wanted o.kept o.before a along.on.past) (sym around)
+        (may_wait o outset (standing_of m old) (along.on.jobs, along.on.past, along.on.at) old.run.now.tickets (most_jobs old.options)
+        along.asked.jobs joined along.halted wanted);
     asked = record {
       keep = ap (λ (x : Options). x.keep) options ∙ along.asked.keep;
       jobs = ap most_jobs options ∙ along.asked.jobs;

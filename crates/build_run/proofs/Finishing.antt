@@ -10,13 +10,14 @@ use Rattle.task_plan.specs.States.{state_of, is_running}
 use Rattle.task_plan.specs.Watched.{IsFinished, IsStill}
 use Rattle.task_plan.specs.declared.states.RuleState.{RuleState}
 use Rattle.task_plan.specs.declared.states.RuleState.TheVariants.{Unneeded, Waiting, Running, Settled, Failed, Lacking}
-use Rattle.build_model.specs.Rules.{Rule, Setting, Among, here, there}
+use Rattle.build_model.specs.Rules.{Rule, Setting, Among}
 use Rattle.build_model.specs.Moments.{Job as Given}
 use Rattle.build_model.specs.Resting.{whole_found}
 use Rattle.build_model.specs.Steps.{Step, Fresh, Began, Ended, Lacks, Halts, Build, began, done, running, IsRunning, IsRun}
 use Rattle.build_model.proofs.Lists.{true_false}
 use Rattle.build_model.proofs.Placed.{without}
-use Rattle.build_means.specs.Builds.{Rests, Succeeded}
+use Rattle.build_means.specs.Builds.{Rests}
+use Rattle.run_means.proofs.Keeping.{none_there}
 use Rattle.build_means.specs.Logs.{AreUnrisen}
 use Rattle.plan_means.specs.Deciding.{IsTied}
 use Rattle.plan_means.specs.Ties.{IsAt as IsAtState}
@@ -101,14 +102,12 @@ module _ {W O E : Type 0} (m : Meaning W) (o : Outset) (outset : IsOutset o) (mi
   abbrev on : IsOn o (book_of mid) s
   on = there.on
 
-  recorded : after.is_store_shut ≡ false → AreRecorded o (m.around mid.world.now) on.past behind
-  recorded unshut =
-      subst (λ (kept : Map). AreRecorded o (m.around mid.world.now) on.past kept) (put_none mid mid.run.now.held none ∙ sym same)
-      (on.booked (sym shut ∙ unshut)).records
-
-  recorded_by : (steps : List Step) → steps ≡ on.past → after.is_store_shut ≡ false → AreRecorded o (m.around mid.world.now) steps behind
-  recorded_by steps are unshut =
-      subst (λ (l : List Step). AreRecorded o (m.around mid.world.now) l behind) (sym are) (recorded unshut)
+  -- by these steps
+  recorded : (steps : List Step) → steps ≡ on.past → after.is_store_shut ≡ false → AreRecorded o (m.around mid.world.now) steps behind
+  recorded steps are unshut =
+      subst (λ (l : List Step). AreRecorded o (m.around mid.world.now) l behind) (sym are)
+      (subst (λ (kept : Map). AreRecorded o (m.around mid.world.now) on.past kept) (put_none mid mid.run.now.held none ∙ sym same)
+      (on.booked (sym shut ∙ unshut)).records)
 
   module _ (not_ended : mid.account.now.is_ended ≡ false) where
     no_halt : mid.run.now.plan.halted ≡ false
@@ -144,22 +143,24 @@ module _ {W O E : Type 0} (m : Meaning W) (o : Outset) (outset : IsOutset o) (mi
     ended_well : HasEndedWell o (m.around mid.world.now) behind
     ended_well =
         let by = law o on.jobs s on.past outset on.at unfaulted (at_last open).scans finished in
-        record { succeeded = by.0; records = recorded_by by.0.runs.steps by.1 (shut ∙ there.unshut open) }
+        record { succeeded = by.0; records = recorded by.0.runs.steps by.1 (shut ∙ there.unshut open) }
 
   pub has_made : HasMade o (m.around mid.world.now) after behind
-  has_made = record {
-    runs = (runs o outset on.jobs s on.past on.at).0;
-    records = λ unshut. recorded_by (runs o outset on.jobs s on.past on.at).0.steps (runs o outset on.jobs s on.past on.at).1 unshut;
-    rests = λ e.
-        subst (λ (l : List Step). Rests o.wanted o.kept o.before s.around l) (sym (runs o outset on.jobs s on.past on.at).1)
-        (comes_to_rest (not_before mid.account.now.is_ended after.is_ended ends.ended e));
-    succeeds = ended_well;
-  }
+  has_made =
+      let ran = runs o outset on.jobs s on.past on.at in
+      record {
+        runs = ran.0;
+        records = recorded ran.0.steps ran.1;
+        rests = λ e.
+            subst (λ (l : List Step). Rests o.wanted o.kept o.before s.around l) (sym ran.1)
+            (comes_to_rest (not_before mid.account.now.is_ended after.is_ended ends.ended e));
+        succeeds = ended_well;
+      }
 
 -- ---- as it begins
 
 none_began : (o : Outset) (held : List Busy) → held ≡ [] → HeldBegan o [] held
-none_began o held none = subst (λ (busies : List Busy). HeldBegan o [] busies) (sym none) (λ busy path h among. absurd (omega (arith, h.1)))
+none_began o held none = subst (λ (busies : List Busy). HeldBegan o [] busies) (sym none) (λ busy path h among. none_there h)
 
 module _ {W O E : Type 0} (m : Meaning W) (o : Outset) (site : Site W O E)
     (ready : IsReadyFor m o site.graph.now site.run.now site.store.now site.world.now site.account.now site.options)
@@ -196,7 +197,7 @@ module _ {W O E : Type 0} (m : Meaning W) (o : Outset) (site : Site W O E)
       booked = λ e. record {
         records = subst (λ (kept : Map). AreRecorded o (m.around site.world.now) [] kept)
             (sym (put_none site site.run.now.held none ∙ sym ready.kept)) (begins o (m.around site.world.now));
-        each = λ busy h. absurd (let inside = subst (λ (all : List Busy). Contains all busy) idle h in omega (arith, inside.1));
+        each = λ busy h. none_there (subst (λ (all : List Busy). Contains all busy) idle h);
       };
     };
     asked = ready.asked;

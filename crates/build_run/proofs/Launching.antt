@@ -1,6 +1,5 @@
 -- What is left of the book where a job starts, or is refused.
 use Rattle.std.proofs.Common.{◌≡◌, ◌∙◌, ◌++◌, Bool, true, false, List, [], Contains, ap, refl, sym, subst}
-use Rattle.std.proofs.lemmas.List.Elements.{Contains-append_right}
 use Rattle.world_api.specs.Around.{Around}
 use Rattle.world_api.specs.Meaning.{Meaning}
 use Rattle.deciders.specs.declared.recorded.Rec.{Rec}
@@ -16,9 +15,9 @@ use Rattle.build_run.specs.Outs.{AreOut, KeepsSome, ShareNone}
 use Rattle.build_run.specs.Sites.{records_of}
 use Rattle.build_run.specs.Withdrawals.{HasNone}
 use Rattle.build_run.specs.declared.site.Site.{Site}
-use Rattle.build_run.proofs.Booking.{TakesAway, in_among, tickets_out}
+use Rattle.build_run.proofs.Booking.{KeepsBook, TakesAway, in_among, store_book}
 use Rattle.build_run.proofs.Choosing.{map_beside}
-use Rattle.build_run.proofs.Outs.{held_alike, outs_front, unheld_still}
+use Rattle.build_run.proofs.Outs.{outs_front, unheld_still}
 use Rattle.build_run.proofs.Starting.{IsLeftSo, all_left, none_left, store_shut}
 
 module _ {W O E : Type 0} (m : Meaning W) (old now : Site W O E) (store : Store) (targets : List Path)
@@ -30,20 +29,15 @@ module _ {W O E : Type 0} (m : Meaning W) (old now : Site W O E) (store : Store)
     (kept : now.account.now.is_store_shut ≡ false → (path : Path) → (Contains targets path → ⊥) → records_of now path ≡ map_with store old.run.now.held path)
     (after : now.account.now.is_store_shut ≡ false → AreOut now.store.now (now.run.now.held ++ now.run.now.tickets)) where
   -- a ticket was given out
-  mid_records : map_with store old.run.now.held ≡ records_of old
-  mid_records =
-      held_alike old.store.now store old.run.now.held map (λ one rec h out. (keeps.each rec one.ticket out).own)
-      (outs_front old.store.now old.run.now.held old.run.now.tickets outs)
+  given_out : KeepsBook (book_of old) (record (book_of old) { store = store })
+  given_out = store_book (book_of old) store map outs (λ busy rec h out. keeps.each rec busy.ticket out)
 
   runs_still : (busy : Busy) → Contains now.run.now.tickets busy → Contains old.run.now.tickets busy
   runs_still busy h = subst (λ (all : List Busy). Contains all busy) tickets h
 
   ticket_still : (busy : Busy) (rec : Rec) → Contains now.run.now.tickets busy → IsTicket old.store.now rec busy.ticket →
       IsTicket now.store.now rec busy.ticket
-  ticket_still busy rec h is =
-      still.each rec busy.ticket
-      (tickets_out old.store.now store (old.run.now.held ++ old.run.now.tickets) outs busy rec
-      (Contains-append_right old.run.now.held old.run.now.tickets busy (runs_still busy h)) (λ of out. keeps.each of busy.ticket out) is)
+  ticket_still busy rec h is = still.each rec busy.ticket (given_out.tickets busy rec (runs_still busy h) is)
 
   -- none of its targets has a record any more
   pub takes_away : now.account.now.is_store_shut ≡ false → HasNone (map_of now.store.now) targets →
@@ -53,7 +47,7 @@ module _ {W O E : Type 0} (m : Meaning W) (old now : Site W O E) (store : Store)
         map_beside now.store.now now.run.now.held path (outs_front now.store.now now.run.now.held now.run.now.tickets (after unshut))
         (λ busy k made. unheld_still old.run.now.held now.run.now.held targets held apart busy k path h made)
         ∙ none path (in_among targets path h);
-    others = λ path out. kept unshut path out ∙ ap (λ (kept : Map). kept path) mid_records;
+    others = λ path out. kept unshut path out ∙ ap (λ (kept : Map). kept path) given_out.records;
     running = runs_still;
     tickets = ticket_still;
   }
@@ -62,7 +56,7 @@ module _ {W O E : Type 0} (m : Meaning W) (old now : Site W O E) (store : Store)
       records_of mid ≡ map_with store old.run.now.held → IsLeftSo targets (Clears [] (m.around old.world.now) (m.around now.world.now)) (book_of old) (book_of now)
   left_by mid tells (untouched clears same) same_world before =
       all_left (subst (λ (w : W). Clears [] (m.around w) (m.around now.world.now)) same_world (clears tells))
-      (record { records = same ∙ before ∙ mid_records; running = runs_still; tickets = ticket_still })
+      (record { records = same ∙ before ∙ given_out.records; running = runs_still; tickets = ticket_still })
   left_by mid tells (withdrawn none) same_world before = by now.account.now.is_store_shut refl
     where
       by : (b : Bool) → now.account.now.is_store_shut ≡ b →

@@ -375,15 +375,15 @@ outs_left store (one ∷ held) busies busy outs = (outs.0, (λ other h. outs.1 o
 pub stored_left : {W : Type 0} (m : Meaning W) (world : W) (store : Store) (held : List Busy) (busy : Busy) (busies : List Busy) (shut : Bool) → IsStored m world store (held ++ busy ∷ busies) shut → IsStored m world store (held ++ busies) shut
 stored_left m world store held busy busies shut s = record { live = s.live; kept = s.kept; outs = λ unshut. outs_left store held busies busy (s.outs unshut) }
 
+pub own_beside : (store : Store) (held : List Busy) (busy : Busy) (busies : List Busy) → AreOut store (held ++ busy ∷ busies) → HasOwnRoom busy.ticket (held ++ busies)
+own_beside store [] busy busies outs other h = (outs.1 other h).room
+own_beside store (one ∷ held) busy busies outs other h = elim (in_front (held ++ busies) one other h) [
+  | inl same ↦ (λ e. (outs.1 busy (Contains-append_right held (busy ∷ busies) busy (at_front busies busy))).room (sym e ∙ ap (λ (b : Busy). b.ticket.room) (sym same)))
+  | inr more ↦ own_beside store held busy busies outs.2 other more
+]
+
 pub room_beside : {W : Type 0} (m : Meaning W) (world : W) (store : Store) (held : List Busy) (busy : Busy) (busies : List Busy) (shut : Bool) → IsStored m world store (held ++ busy ∷ busies) shut → shut ≡ false → HasOwnRoom busy.ticket (held ++ busies)
-room_beside m world store held busy busies shut s unshut = own held (s.outs unshut)
-  where
-    own : (held : List Busy) → AreOut store (held ++ busy ∷ busies) → HasOwnRoom busy.ticket (held ++ busies)
-    own [] outs other h = (outs.1 other h).room
-    own (one ∷ held) outs other h = elim (in_front (held ++ busies) one other h) [
-      | inl same ↦ (λ e. (outs.1 busy (Contains-append_right held (busy ∷ busies) busy (at_front busies busy))).room (sym e ∙ ap (λ (b : Busy). b.ticket.room) (sym same)))
-      | inr more ↦ own held outs.2 other more
-    ]
+room_beside m world store held busy busies shut s unshut = own_beside store held busy busies (s.outs unshut)
 
 -- ---- withdrawals
 
@@ -455,11 +455,16 @@ no_more_held held left some = elim some [
   | inr none ↦ omega (arith, ap (λ (all : List Busy). length all) none)
 ]
 
-pub own_still : (ticket : Ticket) (held left busies : List Busy) → KeepsSome held left → HasOwnRoom ticket (held ++ busies) → HasOwnRoom ticket (left ++ busies)
+own_still : (ticket : Ticket) (held left busies : List Busy) → KeepsSome held left → HasOwnRoom ticket (held ++ busies) → HasOwnRoom ticket (left ++ busies)
 own_still ticket held left busies some own other h = elim some [
   | inl same ↦ own other (subst (λ (all : List Busy). Contains (all ++ busies) other) same h)
   | inr none ↦ own other (Contains-append_right held busies other (subst (λ (all : List Busy). Contains (all ++ busies) other) none h))
 ]
+
+-- a new ticket's room is its own also then
+pub own_after : (old : Store) (ticket : Ticket) (held left busies now : List Busy) → IsFresh old ticket → AreOut old (held ++ busies) → KeepsSome held left → now ≡ busies → HasOwnRoom ticket (left ++ now)
+own_after old ticket held left busies now fresh outs some same =
+    subst (λ (all : List Busy). HasOwnRoom ticket (left ++ all)) (sym same) (own_still ticket held left busies some (own_room old ticket (held ++ busies) fresh outs))
 
 -- what is made by none of both
 pub apart_both : (held busies : List Busy) (targets : List (List ℕ)) (hold : Hold) (path : List ℕ) → ((busy : Busy) → Contains held busy → ShareNone targets busy.hold.targets)

@@ -4,7 +4,7 @@ use Rattle.std.specs.Prelude.{Result, Ok, Err, IsErrAnd}
 use Rattle.scons_base.specs.declared.ids.NodeId.{NodeId}
 use Rattle.scons_base.specs.declared.ids.RuleId.{RuleId}
 use Rattle.world_api.specs.Around.{Around, Running}
-use Rattle.world_api.specs.Calls.{Starts}
+use Rattle.world_api.specs.Calls.{Asks, Starts}
 use Rattle.world_api.specs.Counts.{Counts}
 use Rattle.world_api.specs.Meaning.{Meaning}
 use Rattle.world_api.specs.declared.job.Job.{Job}
@@ -30,14 +30,17 @@ use Rattle.build_files.specs.declared.record.Present.{Present}
 use Rattle.plan_means.specs.Planning.{IsStep}
 use Rattle.run_means.specs.Clears.{Clears}
 use Rattle.run_means.specs.Turns.{job_for}
+use Rattle.run_means.proofs.Keeping.{none_there}
 use Rattle.turn_means.specs.Standing.{Outset, IsOutset, Standing}
 use Rattle.turn_means.specs.Laws.{IsJobFrom, IsTold, is_due_now}
 use Rattle.turn_means.specs.Recording.{HasRecord}
 use Rattle.turn_means.specs.Writing.{Writes}
+use Rattle.sign_store.specs.Putting.{map_with}
 use Rattle.sign_store.specs.Stores.{IsTicket}
+use Rattle.sign_store.specs.declared.store.Store.{Store}
 use Rattle.turn_means.proofs.Jobs.{launches, refuses}
 use Rattle.turn_means.proofs.Recording.{weighed_have}
-use Rattle.turn_means.proofs.Turns.{ends}
+use Rattle.run_means.proofs.Clearing.{calls_clear}
 use Rattle.build_run.specs.Along.{AreAsked, EndsOn, GoesOn, GoesWell, HeldBegan, HoldsFewer, IsAlong, IsDue, IsOn, Leads, LeadsTo, Presents, is_faulted, standing_of}
 use Rattle.build_run.specs.Books.{Book, book_of}
 use Rattle.build_run.specs.Goings.{IsJoined, Launches}
@@ -47,7 +50,8 @@ use Rattle.build_run.specs.Sites.{most_jobs, records_of}
 use Rattle.build_run.specs.declared.site.Run.{Run}
 use Rattle.build_run.specs.declared.site.Site.{Site}
 use Rattle.build_run.specs.declared.tickets.Hold.{Hold}
-use Rattle.build_run.proofs.Booking.{KeepsBook, StaysBooked, TakesAway, began_booked, booked_as, clears_booked, clears_write, kept_on, refused_booked, starts_write}
+use Rattle.build_run.proofs.Alongs.{ended_on as ends_on}
+use Rattle.build_run.proofs.Booking.{KeepsBook, StaysBooked, TakesAway, began_booked, book_as, clears_write, kept_on, refused_booked, starts_write}
 use Rattle.build_run.proofs.Outs.{held_count}
 
 -- ---- what is present
@@ -85,7 +89,7 @@ end_of_turn P m o site (Err end) is so = so
 pub held_within : (held left : List Busy) → KeepsSome held left → (busy : Busy) → Contains left busy → Contains held busy
 held_within held left some busy h = elim some [
   | inl same ↦ subst (λ (all : List Busy). Contains all busy) same h
-  | inr none ↦ absurd (let inside = subst (λ (all : List Busy). Contains all busy) none h in omega (arith, inside.1))
+  | inr none ↦ none_there (subst (λ (all : List Busy). Contains all busy) none h)
 ]
 
 running_count : (running : List Running) → length (holds_of running) ≡ length running
@@ -121,32 +125,32 @@ pub data IsLeftSo (targets : List Path) (touched : Type 0) (old new : Book) : Ty
   store_shut : new.shut ≡ true → IsLeftSo targets touched old new
 
 module _ {W O E : Type 0} (m : Meaning W) (o : Outset) (outset : IsOutset o) (old : Site W O E) (along : IsAlong m o old) where
-  abbrev Was : Standing
-  Was = standing_of m old
-
-  abbrev Here : Around
-  Here = m.around old.world.now
-
   -- an end comes
   pub ended_on : (world : W) (book : Book) (plan : Planned) → Clears [] (m.around old.world.now) (m.around world) →
       HoldsFewer old.run.now.held book.held → StaysBooked (book_of old) book → plan ≡ old.run.now.plan → EndsBy m o world book plan
-  ended_on world book plan clears less stays kept s around ended faulted goes = record {
-    jobs = along.on.jobs;
-    past = along.on.past;
-    at = ends o outset along.on.jobs (standing_of m old) s along.on.past along.on.at
-        (subst (λ (a : Around). Clears [] (m.around old.world.now) a) (sym around) clears) ended faulted (goes ∙ ap (λ (p : Planned). p.halted) kept);
-    began = λ busy path h made. along.on.began busy path (less busy h) made;
-    booked = λ e.
-        booked_as o s.around along.on.past (book_of old) book (stays.keeps e)
-        (clears_booked o outset along.on.jobs (m.around old.world.now) s.around along.on.past along.on.at.way (book_of old)
-        (subst (λ (a : Around). Clears [] (m.around old.world.now) a) (sym around) clears) (along.on.booked (stays.unshut e)));
-  }
+  ended_on world book plan clears less stays kept s around ended faulted goes =
+      kept_on o (book_of old) book s less stays
+      (ends_on o outset (book_of old) (standing_of m old) s along.on
+      (subst (λ (a : Around). Clears [] (m.around old.world.now) a) (sym around) clears) ended faulted (goes ∙ ap (λ (p : Planned). p.halted) kept))
+
+  -- the same behind a look at what a rule reads
+  pub ended_looked : (world : W) (run : Run) → run ≡ record old.run.now { inputs = run.inputs } → Asks (m.around old.world.now) (m.around world) →
+      EndsBy m o world (record (book_of old) { held = run.held; running = run.tickets }) run.plan
+  ended_looked world run rest asks =
+      ended_on world (record (book_of old) { held = run.held; running = run.tickets }) run.plan
+      ((calls_clear []).looks (m.around old.world.now) (m.around world) asks) (λ busy h. subst (λ (r : Run). Contains r.held busy) rest h)
+      (book_as (book_of old) (record (book_of old) { held = run.held; running = run.tickets }) refl (ap (λ (r : Run). r.held) rest)
+      (ap (λ (r : Run). r.tickets) rest) (λ e. e))
+      (ap (λ (r : Run). r.plan) rest)
 
   module _ (rule : RuleId) (rec : Rec) (due : IsDue m o old rule rec) (is_due : is_due_now (standing_of m old) due.model rec ≡ true)
       (job : Job) (from : IsJobFrom old.graph.now rule rec job)
       (room : length (m.around old.world.now).running < jobs_at_once o.wanted.jobs) where
+    own_targets : rec.targets ≡ due.model.targets
+    own_targets = ap (λ (x : Record). x.targets) due.weighed.present.is
+
     targets : job.targets ≡ due.model.targets
-    targets = from.targets ∙ ap (λ (x : Record). x.targets) due.weighed.present.is
+    targets = from.targets ∙ own_targets
 
     -- held ones were made by rules that began before
     began_more : (held : List Busy) → ((busy : Busy) → Contains held busy → Contains old.run.now.held busy) →
@@ -158,9 +162,6 @@ module _ {W O E : Type 0} (m : Meaning W) (o : Outset) (outset : IsOutset o) (ol
     has : HasRecord o (standing_of m old) along.on.past due.model rec
     has = weighed_have o outset along.on.jobs (standing_of m old) along.on.past rule due.model rec along.on.at due.weighed.goes_on due.weighed
 
-    own_targets : rec.targets ≡ due.model.targets
-    own_targets = ap (λ (x : Record). x.targets) due.weighed.present.is
-
     unshut : old.account.now.is_store_shut ≡ false
     unshut = (along.well due.weighed.goes_on).unshut
 
@@ -168,22 +169,21 @@ module _ {W O E : Type 0} (m : Meaning W) (o : Outset) (outset : IsOutset o) (ol
     pub refused_on : (world : W) (book : Book) (plan : Planned) → Clears job.targets (m.around old.world.now) (m.around world) →
         HoldsFewer old.run.now.held book.held → plan ≡ old.run.now.plan →
         (book.shut ≡ false → TakesAway job.targets (book_of old) book) → EndsBy m o world book plan
-    refused_on world book plan clears within kept takes s around ended faulted goes = record {
-      jobs = job_for o.wanted o.before (m.around old.world.now) due.model ∷ along.on.jobs;
-      past = model.Ended due.model false ∷ Began due.model ∷ along.on.past;
-      at = refuses o outset along.on.jobs (standing_of m old) along.on.past rule due.model rec along.on.at due.weighed is_due room s
-          (subst (λ (a : Around). Clears due.model.targets (m.around old.world.now) a) (sym around)
-          (subst (λ (paths : List Path). Clears paths (m.around old.world.now) (m.around world)) targets clears))
-          ended faulted (goes ∙ ap (λ (p : Planned). p.halted) kept);
-      began = λ busy path h made. began_more book.held within busy path h made;
-      booked = λ e.
-          refused_booked o outset along.on.jobs (m.around old.world.now) s.around along.on.past along.on.at.way due.model has.decided
-          (clears_write due.model.targets (m.around old.world.now) s.around
-          (subst (λ (a : Around). Clears due.model.targets (m.around old.world.now) a) (sym around)
-          (subst (λ (paths : List Path). Clears paths (m.around old.world.now) (m.around world)) targets clears)))
-          (book_of old) book (along.on.booked unshut)
-          (subst (λ (paths : List Path). TakesAway paths (book_of old) book) targets (takes e));
-    }
+    refused_on world book plan clears within kept takes s around ended faulted goes =
+        let cleared : Clears due.model.targets (m.around old.world.now) s.around =
+        subst (λ (a : Around). Clears due.model.targets (m.around old.world.now) a) (sym around)
+        (subst (λ (paths : List Path). Clears paths (m.around old.world.now) (m.around world)) targets clears) in
+        record {
+          jobs = job_for o.wanted o.before (m.around old.world.now) due.model ∷ along.on.jobs;
+          past = model.Ended due.model false ∷ Began due.model ∷ along.on.past;
+          at = refuses o outset along.on.jobs (standing_of m old) along.on.past rule due.model rec along.on.at due.weighed is_due room s cleared
+              ended faulted (goes ∙ ap (λ (p : Planned). p.halted) kept);
+          began = λ busy path h made. began_more book.held within busy path h made;
+          booked = λ e.
+              refused_booked o outset along.on.jobs (m.around old.world.now) s.around along.on.past along.on.at.way due.model has.decided
+              (clears_write due.model.targets (m.around old.world.now) s.around cleared) (book_of old) book (along.on.booked unshut)
+              (subst (λ (paths : List Path). TakesAway paths (book_of old) book) targets (takes e));
+        }
 
     -- by what is left of the book
     pub left_on : (world : W) (book : Book) (plan : Planned) → Clears job.targets (m.around old.world.now) (m.around world) →
@@ -200,11 +200,15 @@ module _ {W O E : Type 0} (m : Meaning W) (o : Outset) (outset : IsOutset o) (ol
         (counts : m.counts new.world.now ≡ m.counts old.world.now) (graph : new.graph.now ≡ old.graph.now) (plan : new.run.now.plan ≡ old.run.now.plan)
         (inputs : new.run.now.inputs ≡ old.run.now.inputs) (ended : new.account.now.is_ended ≡ old.account.now.is_ended)
         (faulted : is_faulted new.account.now ≡ is_faulted old.account.now) (unshut_now : new.account.now.is_store_shut ≡ false)
-        (records : (path : Path) → (Contains job.targets path → ⊥) → records_of new path ≡ records_of old path)
         (within : (busy : Busy) → Contains new.run.now.held busy → Contains old.run.now.held busy)
         (after : Book) (takes : TakesAway job.targets (book_of old) after) (busy : Busy) (makes : busy.hold.targets ≡ job.targets)
         (ticket : IsTicket after.store rec busy.ticket) (same_store : new.store.now ≡ after.store) (same_held : new.run.now.held ≡ after.held)
         (added : new.run.now.tickets ≡ after.running ++ busy ∷ []) where
+      records : (path : Path) → (Contains job.targets path → ⊥) → records_of new path ≡ records_of old path
+      records path out =
+          ap (λ (store : Store). map_with store new.run.now.held path) same_store ∙ ap (λ (all : List Busy). map_with after.store all path) same_held
+          ∙ takes.others path out
+
       rest_now : (s : Standing) → IsTold (standing_of m new) s (Started rule) →
           s ≡ record (standing_of m old) { plan = s.plan; records = s.records; faulted = s.faulted; ended = s.ended; around = s.around }
       rest_now s told =

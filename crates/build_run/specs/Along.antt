@@ -160,18 +160,10 @@ ComesOn m old new =
 
 -- ---- waits
 
--- a build stands so at some steps, and may wait for an ending
-pub record WaitsOn (o : Outset) (book : Book) (s : Standing) : Type 0 where
-  pub jobs : List Given
-  pub past : List Step
-  pub at : IsAt o jobs s past
-  pub began : HeldBegan o past book.held
-  pub booked : book.shut ≡ false → AreBooked o s.around past book
-  pub wait : MayWait o.wanted o.kept o.before s.around past
-
--- a build may wait, whatever was put before
+-- a build stands at some steps and may wait for an ending, whatever was put before
 pub record MayTake {W O E : Type 0} (m : Meaning W) (o : Outset) (site : Site W O E) : Type 0 where
-  pub on : WaitsOn o (book_of site) (standing_of m site)
+  pub on : IsOn o (book_of site) (standing_of m site)
+  pub wait : MayWait o.wanted o.kept o.before (m.around site.world.now) on.past
   pub asked : AreAsked o site.options
   pub well : site.account.now.is_ended ≡ false → GoesWell m o site
 

@@ -5,12 +5,8 @@ use Rattle.build_run.specs.Holds.{Busy}
 use Rattle.build_run.specs.Ledgers.{ledger_of}
 use Rattle.build_run.proofs.Causing.{exit_same, inside, inner, look_end, same_counts}
 use Rattle.build_run.proofs.Sites.{sound_still}
-use Rattle.build_run.specs.declared.site.Run.{Run}
-use Rattle.build_run.proofs.Clearing.{clears_asked}
 use Rattle.build_run.proofs.Presenting.{along_present, due_present, lacks_on}
-use Rattle.build_run.proofs.Starting.{end_of_turn, ended_on}
-use Rattle.build_run.specs.Books.{book_of}
-use Rattle.build_run.proofs.Booking.{book_as}
+use Rattle.build_run.proofs.Starting.{end_of_turn, ended_looked}
 use Rattle.build_run.proofs.site.Site.decide.Goals as goal
 
 pub returns-in_err-now-clause-ends : goal.returns-in_err-now-clause-ends
@@ -62,25 +58,18 @@ returns-in-Record-clause-kept g c = λ unshut busy path h made.
 pub returns-in_err-now-clause-along : goal.returns-in_err-now-clause-along
 returns-in_err-now-clause-along g c = λ tells sure o outset along wanted.
     let m = g.W.Disk.meaning in
-    let site = c.args.self.now in
     let p = c.present.ensures in
-    end_of_turn _ m o _ c.from_residual.result c.from_residual.ensures.1
-    (ended_on m o outset site along c.present.new.world (record (book_of site) { held = c.present.new.run.held; running = c.present.new.run.tickets }) c.present.new.run.plan
-    (clears_asked m [] site.world.now c.present.new.world p.looks.around tells) (λ busy h. subst (λ (all : List Busy). Contains all busy) p.held h)
-    (book_as (book_of site) (record (book_of site) { held = c.present.new.run.held; running = c.present.new.run.tickets }) refl p.held p.tickets (λ e. e))
-    (ap (λ (r : Run). r.plan) p.rest))
+    let r = c.from_residual in
+    end_of_turn _ m o _ r.result r.ensures.1
+    (ended_looked m o outset c.args.self.now along c.present.new.world c.present.new.run p.rest (p.looks.around tells))
 
 pub returns-in_err-missing-in-Lacks-clause-along : goal.returns-in_err-missing-in-Lacks-clause-along
 returns-in_err-missing-in-Lacks-clause-along g c = λ tells sure o outset along wanted.
     let m = g.W.Disk.meaning in
-    let site = c.args.self.now in
     let p = c.present.ensures in
     let r = c.from_residual-in_err-missing-in-Lacks in
     end_of_turn _ m o _ r.result r.ensures.1
-    (ended_on m o outset site along c.present.new.world (record (book_of site) { held = c.present.new.run.held; running = c.present.new.run.tickets }) c.present.new.run.plan
-    (clears_asked m [] site.world.now c.present.new.world p.looks.around tells) (λ busy h. subst (λ (all : List Busy). Contains all busy) p.held h)
-    (book_as (book_of site) (record (book_of site) { held = c.present.new.run.held; running = c.present.new.run.tickets }) refl p.held p.tickets (λ e. e))
-    (ap (λ (r : Run). r.plan) p.rest))
+    (ended_looked m o outset c.args.self.now along c.present.new.world c.present.new.run p.rest (p.looks.around tells))
 
 pub returns-in-Record-clause-along : goal.returns-in-Record-clause-along
 returns-in-Record-clause-along g c = λ tells sure o outset along wanted.

@@ -8,13 +8,13 @@ use Rattle.build_run.specs.Ledgers.{ledger_of}
 use Rattle.build_run.specs.Outs.{IsOutFor, IsStored}
 use Rattle.build_run.specs.declared.tickets.Hold.{Hold}
 use Rattle.build_run.proofs.Causing.{exit_same, exit_inside, inside, shut_fault}
-use Rattle.build_run.proofs.Clearing.{clears_here}
 use Rattle.build_run.proofs.Goings.{passes_here}
-use Rattle.build_run.proofs.Outs.{apart_both, held_alike, kept_held, no_more_held, outs_front, own_room, own_still, stored_prepared, stored_beside, stored_added, unheld_still}
+use Rattle.build_run.proofs.Outs.{apart_both, held_alike, kept_held, no_more_held, outs_front, own_after, own_room, stored_prepared, stored_beside, stored_added, unheld_still}
 use Rattle.build_run.specs.Books.{book_of}
-use Rattle.build_run.proofs.Booking.{same_book, tickets_out}
+use Rattle.build_run.proofs.Alongs.{along_ends}
+use Rattle.build_run.proofs.Booking.{store_book}
 use Rattle.build_run.proofs.Launching.{left_by, takes_away}
-use Rattle.build_run.proofs.Starting.{end_leads, ended_on, ends_as, held_within, launched_on, left_on, room_in}
+use Rattle.build_run.proofs.Starting.{end_leads, ends_as, held_within, launched_on, left_on, room_in}
 use Rattle.build_run.proofs.site.Site.start.Goals as goal
 
 pub returns-then-self-clause-ends : goal.returns-then-self-clause-ends
@@ -97,8 +97,7 @@ returns-in-Ok-clause-sound g c =
     let job = c.in_ok-job.job in
     let new : Busy = record { hold = c.in_ok-hold.hold; ticket = c.in_ok-ticket.ticket } in
     let apart = c.are_apart.ensures c.if-not-are_apart.false in
-    let room = own_room site.store.now new.ticket (site.run.now.held ++ site.run.now.tickets) c.in_ok-ticket.ensures.fresh (c.requires.sound.stored.outs c.if-self.false) in
-    let own = subst (λ (all : List Busy). (busy : Busy) → Contains (held ++ all) busy → busy.ticket.room ≢ new.ticket.room) (sym same) (own_still new.ticket site.run.now.held held site.run.now.tickets c.launch.ensures.held room) in
+    let own = own_after site.store.now new.ticket site.run.now.held held site.run.now.tickets busies c.in_ok-ticket.ensures.fresh (c.requires.sound.stored.outs c.if-self.false) c.launch.ensures.held same in
     let added = ap holds_in c.add.ensures ∙ (map-append (λ (b : Busy). b.hold) busies (new ∷ []) ∙ (ap (λ (h : Hold). holds_in busies ++ h ∷ []) c.in_ok-hold.ensures ∙ ap (λ (all : List Busy). holds_in all ++ hold_for job ∷ []) same)) in
     record {
       unclosed = c.launch.ensures.sound.unclosed;
@@ -125,10 +124,9 @@ returns-in-Ok-clause-kept g c = λ unshut busy path h made.
     let p = c.prepare.ensures in
     let site = c.args.self.now in
     let now = c.launch.new.self in
-    let outs = outs_front site.store.now site.run.now.held site.run.now.tickets (c.requires.sound.stored.outs c.if-self.false) in
-    let before = held_alike site.store.now c.prepare.new.store site.run.now.held p.map (λ one rec h out. (p.outs.each rec one.ticket out).own) outs in
+    let before = store_book (book_of site) c.prepare.new.store p.map (c.requires.sound.stored.outs c.if-self.false) (λ busy rec h out. p.outs.each rec busy.ticket out) in
     let apart = c.make_none_of.ensures c.if-not-make_none_of.false in
-    kept_held c.prepare.new.store site.run.now.held now.store.now now.run.now.held c.in_ok-job.job.targets apart (c.launch.ensures.kept unshut) busy path h made ∙ ap (λ (m : Map). m path) before
+    kept_held c.prepare.new.store site.run.now.held now.store.now now.run.now.held c.in_ok-job.job.targets apart (c.launch.ensures.kept unshut) busy path h made ∙ ap (λ (m : Map). m path) before.records
 
 pub returns-clause-passes : goal.returns-clause-passes
 returns-clause-passes g c =
@@ -147,8 +145,7 @@ returns-clause-sound g c =
     let held = now.run.now.held in
     let same = c.launch.ensures.tickets in
     let ticket = c.in_ok-ticket.ticket in
-    let room = own_room site.store.now ticket (site.run.now.held ++ site.run.now.tickets) c.in_ok-ticket.ensures.fresh (c.requires.sound.stored.outs c.if-self.false) in
-    let own = subst (λ (all : List Busy). (busy : Busy) → Contains (held ++ all) busy → busy.ticket.room ≢ ticket.room) (sym same) (own_still ticket site.run.now.held held site.run.now.tickets c.launch.ensures.held room) in
+    let own = own_after site.store.now ticket site.run.now.held held site.run.now.tickets busies c.in_ok-ticket.ensures.fresh (c.requires.sound.stored.outs c.if-self.false) c.launch.ensures.held same in
     record {
       unclosed = c.launch.ensures.sound.unclosed;
       joined = subst (λ (all : List Busy). IsJoined m now.world.now (holds_in all)) (sym same) c.in-Err.ensures.sound.joined;
@@ -169,16 +166,13 @@ returns-clause-kept g c = λ unshut busy path h made.
     let held = now.run.now.held in
     let same = c.launch.ensures.tickets in
     let ticket = c.in_ok-ticket.ticket in
-    let outs = outs_front site.store.now site.run.now.held site.run.now.tickets (c.requires.sound.stored.outs c.if-self.false) in
-    let before = held_alike site.store.now c.prepare.new.store site.run.now.held p.map (λ one rec h out. (p.outs.each rec one.ticket out).own) outs in
+    let before = store_book (book_of site) c.prepare.new.store p.map (c.requires.sound.stored.outs c.if-self.false) (λ busy rec h out. p.outs.each rec busy.ticket out) in
     let apart = c.make_none_of.ensures c.if-not-make_none_of.false in
     let after = kept_held c.prepare.new.store site.run.now.held now.store.now held c.in_ok-job.job.targets apart (c.launch.ensures.kept unshut) busy path h made in
-    let room = own_room site.store.now ticket (site.run.now.held ++ site.run.now.tickets) c.in_ok-ticket.ensures.fresh (c.requires.sound.stored.outs c.if-self.false) in
-    let own = subst (λ (all : List Busy). (busy : Busy) → Contains (held ++ all) busy → busy.ticket.room ≢ ticket.room) (sym same) (own_still ticket site.run.now.held held site.run.now.tickets c.launch.ensures.held room) in
-    let given = held_alike now.store.now c.give_up.new.store held c.give_up.ensures.map
-    (λ one rec k out. (c.give_up.ensures.outs.each rec one.ticket (own one (Contains-append_left held busies one k)) out).own)
-    (outs_front now.store.now held busies (c.launch.ensures.sound.stored.outs unshut)) in
-    ap (λ (m : Map). m path) given ∙ (after ∙ ap (λ (m : Map). m path) before)
+    let own = own_after site.store.now ticket site.run.now.held held site.run.now.tickets busies c.in_ok-ticket.ensures.fresh (c.requires.sound.stored.outs c.if-self.false) c.launch.ensures.held same in
+    let given = store_book (book_of now) c.give_up.new.store c.give_up.ensures.map (c.launch.ensures.sound.stored.outs unshut)
+    (λ busy rec k out. c.give_up.ensures.outs.each rec busy.ticket (own busy k) out) in
+    ap (λ (m : Map). m path) given.records ∙ (after ∙ ap (λ (m : Map). m path) before.records)
 
 pub returns-then-self-clause-kept : goal.returns-then-self-clause-kept
 returns-then-self-clause-kept g c = λ unshut busy path h made. refl
@@ -202,68 +196,46 @@ pub returns-in_err-ticket-clause-kept : goal.returns-in_err-ticket-clause-kept
 returns-in_err-ticket-clause-kept g c = λ unshut busy path h made.
     let p = c.prepare.ensures in
     let site = c.args.self.now in
-    let outs = outs_front site.store.now site.run.now.held site.run.now.tickets (c.requires.sound.stored.outs c.if-self.false) in
-    ap (λ (m : Map). m path) (held_alike site.store.now c.prepare.new.store site.run.now.held p.map (λ one rec h out. (p.outs.each rec one.ticket out).own) outs)
+    let before = store_book (book_of site) c.prepare.new.store p.map (c.requires.sound.stored.outs c.if-self.false) (λ busy rec h out. p.outs.each rec busy.ticket out) in
+    ap (λ (m : Map). m path) before.records
 
 pub returns-then-self-clause-along : goal.returns-then-self-clause-along
-returns-then-self-clause-along g c = λ tells sure o outset along due is_due.
-    let m = g.W.Disk.meaning in
-    let site = c.args.self.now in
-    ended_on m o outset site along site.world.now (book_of site) site.run.now.plan (clears_here m [] site.world.now tells) (λ busy h. h) (same_book (book_of site)) refl
+returns-then-self-clause-along g c = λ tells sure o outset along due is_due. along_ends g.W.Disk.meaning o outset c.args.self.now along
 
 pub returns-then-not-are_apart-clause-along : goal.returns-then-not-are_apart-clause-along
-returns-then-not-are_apart-clause-along g c = λ tells sure o outset along due is_due.
-    let m = g.W.Disk.meaning in
-    let site = c.args.self.now in
-    ended_on m o outset site along site.world.now (book_of site) site.run.now.plan (clears_here m [] site.world.now tells) (λ busy h. h) (same_book (book_of site)) refl
+returns-then-not-are_apart-clause-along g c = λ tells sure o outset along due is_due. along_ends g.W.Disk.meaning o outset c.args.self.now along
 
 pub returns-then-not-make_none_of-clause-along : goal.returns-then-not-make_none_of-clause-along
-returns-then-not-make_none_of-clause-along g c = λ tells sure o outset along due is_due.
-    let m = g.W.Disk.meaning in
-    let site = c.args.self.now in
-    ended_on m o outset site along site.world.now (book_of site) site.run.now.plan (clears_here m [] site.world.now tells) (λ busy h. h) (same_book (book_of site)) refl
+returns-then-not-make_none_of-clause-along g c = λ tells sure o outset along due is_due. along_ends g.W.Disk.meaning o outset c.args.self.now along
 
 pub returns-in_err-text-clause-along : goal.returns-in_err-text-clause-along
 returns-in_err-text-clause-along g c = λ tells sure o outset along due is_due.
     let m = g.W.Disk.meaning in
-    let site = c.args.self.now in
-    end_leads _ m o _ _ c.from_residual.result c.from_residual.ensures.1
-    (ended_on m o outset site along site.world.now (book_of site) site.run.now.plan (clears_here m [] site.world.now tells) (λ busy h. h) (same_book (book_of site)) refl)
+    end_leads _ m o _ _ c.from_residual.result c.from_residual.ensures.1 (along_ends m o outset c.args.self.now along)
 
 pub returns-in_err-job-clause-along : goal.returns-in_err-job-clause-along
 returns-in_err-job-clause-along g c = λ tells sure o outset along due is_due.
     let m = g.W.Disk.meaning in
-    let site = c.args.self.now in
-    end_leads _ m o _ _ c.from_residual-in_err-job.result c.from_residual-in_err-job.ensures.1
-    (ended_on m o outset site along site.world.now (book_of site) site.run.now.plan (clears_here m [] site.world.now tells) (λ busy h. h) (same_book (book_of site)) refl)
+    end_leads _ m o _ _ c.from_residual-in_err-job.result c.from_residual-in_err-job.ensures.1 (along_ends m o outset c.args.self.now along)
 
 pub returns-in_err-hold-clause-along : goal.returns-in_err-hold-clause-along
 returns-in_err-hold-clause-along g c = λ tells sure o outset along due is_due.
     let m = g.W.Disk.meaning in
-    let site = c.args.self.now in
-    end_leads _ m o _ _ c.from_residual-in_err-hold.result c.from_residual-in_err-hold.ensures.1
-    (ended_on m o outset site along site.world.now (book_of site) site.run.now.plan (clears_here m [] site.world.now tells) (λ busy h. h) (same_book (book_of site)) refl)
+    end_leads _ m o _ _ c.from_residual-in_err-hold.result c.from_residual-in_err-hold.ensures.1 (along_ends m o outset c.args.self.now along)
 
 pub returns-in_err-ticket-clause-along : goal.returns-in_err-ticket-clause-along
 returns-in_err-ticket-clause-along g c = λ tells sure o outset along due is_due.
     let m = g.W.Disk.meaning in
     let p = c.prepare.ensures in
     let site = c.args.self.now in
-    let outs = c.requires.sound.stored.outs c.if-self.false in
+    let book = book_of site in
     end_leads _ m o _ _ c.from_residual-in_err-ticket.result c.from_residual-in_err-ticket.ensures.1
-    (ended_on m o outset site along site.world.now (record (book_of site) { store = c.prepare.new.store }) site.run.now.plan (clears_here m [] site.world.now tells) (λ busy h. h)
+    (ends_as m o site.world.now book (record book { store = c.prepare.new.store }) site.run.now.plan (λ busy h. h)
     (record {
       unshut = λ e. e;
-      keeps = λ e. record {
-        records = held_alike site.store.now c.prepare.new.store site.run.now.held p.map (λ one rec h out. (p.outs.each rec one.ticket out).own)
-            (outs_front site.store.now site.run.now.held site.run.now.tickets outs);
-        running = λ busy h. h;
-        tickets = λ busy rec h is.
-            tickets_out site.store.now c.prepare.new.store (site.run.now.held ++ site.run.now.tickets) outs busy rec
-            (Contains-append_right site.run.now.held site.run.now.tickets busy h) (λ of out. p.outs.each of busy.ticket out) is;
-      };
+      keeps = λ e. store_book book c.prepare.new.store p.map (c.requires.sound.stored.outs e) (λ busy rec h out. p.outs.each rec busy.ticket out);
     })
-    refl)
+    (along_ends m o outset site along))
 
 pub returns-in-Ok-clause-along : goal.returns-in-Ok-clause-along
 returns-in-Ok-clause-along g c = λ tells sure o outset along due is_due.
@@ -276,11 +248,8 @@ returns-in-Ok-clause-along g c = λ tells sure o outset along due is_due.
     let well = c.in-Ok.ensures.well in
     let unshut = well.unshut ∙ c.if-self.false in
     let room = room_in m o site c.requires.sound.joined (c.launch.ensures.passes.passes.told.told tells) along.asked due.room in
-    let outs = outs_front site.store.now site.run.now.held site.run.now.tickets (c.requires.sound.stored.outs c.if-self.false) in
-    let before = held_alike site.store.now c.prepare.new.store site.run.now.held p.map (λ one rec h out. (p.outs.each rec one.ticket out).own) outs in
     launched_on m o outset site along c.args.rule c.args.now due is_due c.in_ok-job.job c.in_ok-job.ensures room _
     (c.in-Ok.ensures.starts tells) well.counts known.graph known.plan known.inputs account.ended account.faulted unshut
-    (λ path out. c.launch.ensures.kept unshut path out ∙ ap (λ (m : Map). m path) before)
     (held_within site.run.now.held now.run.now.held c.launch.ensures.held)
     (book_of now)
     (takes_away m site now c.prepare.new.store c.in_ok-job.job.targets (c.requires.sound.stored.outs c.if-self.false) p.map p.outs c.launch.ensures.tickets c.launch.ensures.held
@@ -296,26 +265,15 @@ returns-clause-along g c = λ tells sure o outset along due is_due.
     let now = c.launch.new.self in
     let p = c.prepare.ensures in
     let outs = c.requires.sound.stored.outs c.if-self.false in
-    let ticket = c.in_ok-ticket.ticket in
-    let fresh = own_room site.store.now ticket (site.run.now.held ++ site.run.now.tickets) c.in_ok-ticket.ensures.fresh outs in
-    let own = subst (λ (all : List Busy). (busy : Busy) → Contains (now.run.now.held ++ all) busy → busy.ticket.room ≢ ticket.room)
-    (sym c.launch.ensures.tickets) (own_still ticket site.run.now.held now.run.now.held site.run.now.tickets c.launch.ensures.held fresh) in
+    let own = own_after site.store.now c.in_ok-ticket.ticket site.run.now.held now.run.now.held site.run.now.tickets now.run.now.tickets
+    c.in_ok-ticket.ensures.fresh outs c.launch.ensures.held c.launch.ensures.tickets in
     let room = room_in m o site c.requires.sound.joined (c.launch.ensures.passes.passes.told.told tells) along.asked due.room in
     ends_as m o now.world.now (book_of now) (record (book_of now) { store = c.give_up.new.store }) now.run.now.plan (λ busy h. h)
     (record {
       unshut = λ e. e;
       keeps = λ e.
-          let outs = c.launch.ensures.sound.stored.outs e in
-          record {
-            records = held_alike now.store.now c.give_up.new.store now.run.now.held c.give_up.ensures.map
-                (λ one rec k out. (c.give_up.ensures.outs.each rec one.ticket (own one (Contains-append_left now.run.now.held now.run.now.tickets one k)) out).own)
-                (outs_front now.store.now now.run.now.held now.run.now.tickets outs);
-            running = λ busy h. h;
-            tickets = λ busy rec h is.
-                let among = Contains-append_right now.run.now.held now.run.now.tickets busy h in
-                tickets_out now.store.now c.give_up.new.store (now.run.now.held ++ now.run.now.tickets) outs busy rec among
-                (λ of out. c.give_up.ensures.outs.each of busy.ticket (own busy among) out) is;
-          };
+          store_book (book_of now) c.give_up.new.store c.give_up.ensures.map (c.launch.ensures.sound.stored.outs e)
+          (λ busy rec h out. c.give_up.ensures.outs.each rec busy.ticket (own busy h) out);
     })
     (left_on m o outset site along c.args.rule c.args.now due is_due c.in_ok-job.job c.in_ok-job.ensures room
     now.world.now (book_of now) now.run.now.plan (c.in-Err.ensures.clears tells)

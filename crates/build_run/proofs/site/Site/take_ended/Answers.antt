@@ -14,7 +14,8 @@ use Rattle.build_run.specs.Ledgers.{Ledger, ledger_of, wanting}
 use Rattle.scons_base.specs.declared.ids.RuleId.{RuleId}
 use Rattle.build_run.specs.declared.tickets.Hold.{Hold}
 use Rattle.build_run.proofs.Holding.{no_more}
-use Rattle.build_run.proofs.Booking.{tickets_out}
+use Rattle.build_run.specs.Books.{book_of}
+use Rattle.build_run.proofs.Booking.{given_up}
 use Rattle.build_run.proofs.EndingOn.{done_is, put_counts, put_ends, put_others, put_unshut, taken_on, told_done, told_failed, unrisen_as, unrisen_done, unrisen_failed, was_done}
 use Rattle.build_run.proofs.Causing.{account_as, settled, untold}
 use Rattle.build_run.proofs.Goings.{passes_on}
@@ -169,12 +170,6 @@ returns-in_default-outcome-clause-takes g c =
     let left = c.take.new.self in
     let busy = c.in-Some.busy in
     let ended = c.wait-ended.result in
-    let world = c.wait-ended.new.world in
-    let told = c.wait-ended.ensures.passes.told in
-    let shut = site.account.now.is_store_shut in
-    let gone = c.give_up.ensures in
-    let taken = stored_taken m world site.store.now (held ++ site.run.now.tickets) (held ++ busy ∷ left) shut (c.in-Some.ensures.outs site.store.now held)
-    (stored_over m site.world.now world site.store.now (held ++ site.run.now.tickets) shut told.told c.wait-ended.ensures.banks c.requires.sound.stored) in
     let before = (m.around site.world.now).log in
     record {
       fewer = λ t. omega (arith, c.wait-ended.ensures.fewer t, ap length c.take.ensures.left, held_count left);
@@ -187,10 +182,8 @@ returns-in_default-outcome-clause-takes g c =
       only = λ t rule e. absurd cc;
       puts = λ rule e. absurd cc;
       kept = λ other unshut.
-          let unshut_before = sym c.not_done.ensures.reports.1.shut ∙ unshut in
-          let own = room_beside m world site.store.now held busy left shut taken unshut_before in
-          held_alike site.store.now c.give_up.new.store held gone.map (λ one rec h out. (gone.outs.each rec one.ticket (own one (Contains-append_left held left one h)) out).own)
-          (outs_front site.store.now held left (outs_left site.store.now held left busy (taken.outs unshut_before)));
+          let outs = c.requires.sound.stored.outs (sym c.not_done.ensures.reports.1.shut ∙ unshut) in
+          (given_up (book_of site) c.give_up.new.store busy left c.give_up.ensures.map c.give_up.ensures.outs (c.in-Some.ensures.outs site.store.now held outs)).records;
       out = refl;
       shut = λ unshut. sym c.not_done.ensures.reports.1.shut ∙ unshut;
     }
@@ -273,14 +266,7 @@ returns-in_default-outcome-clause-along g c = λ t sure o outset may.
       kept = λ e. (returns-in_default-outcome-clause-takes g c).kept (λ rule e. absurd cc);
       running = λ one h. c.take.ensures.fewer one h;
       tickets = λ unshut one rec h is.
-          let held = site.run.now.held in
-          let left = c.take.new.self in
-          let before = sym done.reports.1.shut ∙ unshut in
-          let taken = stored_taken m world site.store.now (held ++ site.run.now.tickets) (held ++ busy ∷ left) site.account.now.is_store_shut (c.in-Some.ensures.outs site.store.now held)
-          (stored_over m site.world.now world site.store.now (held ++ site.run.now.tickets) site.account.now.is_store_shut c.wait-ended.ensures.passes.told.told c.wait-ended.ensures.banks c.requires.sound.stored) in
-          let own = room_beside m world site.store.now held busy left site.account.now.is_store_shut taken before in
-          let among = Contains-append_right held left one h in
-          tickets_out site.store.now c.give_up.new.store (held ++ left) (outs_left site.store.now held left busy (taken.outs before)) one rec among
-          (λ of out. c.give_up.ensures.outs.each of one.ticket (own one among) out) is;
+          let outs = c.in-Some.ensures.outs site.store.now site.run.now.held (c.requires.sound.stored.outs (sym done.reports.1.shut ∙ unshut)) in
+          (given_up (book_of site) c.give_up.new.store busy c.take.new.self c.give_up.ensures.map c.give_up.ensures.outs outs).tickets one rec h is;
     })
     (c.requires.sound.joined.runs (c.wait-ended.ensures.passes.told.told t)) c.requires.sound.joined.apart (m.sure world) sure (c.wait-ended.ensures.ends t)
