@@ -67,8 +67,8 @@ module _ (o : Outset) (outset : IsOutset o) (jobs : List Given) (s : Standing) (
         (succeeded : Succeeded o.wanted o.kept o.counts o.before s.around) × (succeeded.runs.steps ≡ past)
     succeeds settled_succeed none_ready finished =
         let by = settled_succeed o.wanted o.kept o.counts o.before s.around outset.reading runs.0
-            (subst (λ l. AllSettled o.wanted o.kept o.before s.around l) (sym runs.1) all)
-            (subst (λ l. WaitsRightly (setting_at o) (build_at o s.around) l) (sym runs.1) (at.way.waits (at.well well))) in
+        (subst (λ l. AllSettled o.wanted o.kept o.before s.around l) (sym runs.1) all)
+        (subst (λ l. WaitsRightly (setting_at o) (build_at o s.around) l) (sym runs.1) (at.way.waits (at.well well))) in
         (by.0, ap (λ (r : Runs o.wanted o.kept o.counts o.before s.around). r.steps) by.1 ∙ runs.1)
       where
         all : AllSettled o.wanted o.kept o.before s.around past
