@@ -93,7 +93,7 @@ module _ {W : Type 0} (m : Meaning W) (g : RuleGraph) (requested : List NodeId) 
       rest = (has tells sure below).rest;
       runs = (made tells sure below).runs;
       records = λ calm. (made tells sure below).records (not_true after.is_store_shut (λ e. calm (rose e)));
-      rests = λ open. (made tells sure below).rests (sym same ∙ open);
+      rests = λ e. (made tells sure below).rests (sym same ∙ e);
     }
 
     pub build_succeeded : (answer : BuildEnd) → (answer.faults ≡ [] → answer.memory ≡ false → is_faulted after ≡ false) →
@@ -123,7 +123,7 @@ module _ {W : Type 0} (m : Meaning W) (g : RuleGraph) (requested : List NodeId) 
         records = λ calm.
             subst (λ (steps : List Step). KeepsRecords w (map_of mid) (m.around c) (m.around c) steps (map_of mid)) (sym ran.1)
             (begins (record { wanted = w; kept = map_of mid; counts = m.counts a; before = m.around c }) (m.around c));
-        rests = λ open. true_false (sym ended ∙ open);
+        rests = λ e. true_false (sym ended ∙ e);
       }
 
   pub refused_untold : (after : Account) → is_faulted after ≡ true → (answer : BuildEnd) →

@@ -131,19 +131,19 @@ module _ {W O E : Type 0} (m : Meaning W) (o : Outset) (outset : IsOutset o) (mi
     unfaulted : is_faulted mid.account.now ≡ false
     unfaulted = not_before (is_faulted mid.account.now) (is_faulted after) ends.faulted well
 
-    open : mid.account.now.is_ended ≡ false
-    open = not_before mid.account.now.is_ended (is_faulted mid.account.now) on.at.told unfaulted
+    goes : mid.account.now.is_ended ≡ false
+    goes = not_before mid.account.now.is_ended (is_faulted mid.account.now) on.at.told unfaulted
 
     finished : IsFinished mid.run.now.plan
     finished =
-        let plan = (on.at.knows open).ties.plan_for in
-        finishes on.at.told well (at_last open)
-        (goes_on o outset on.jobs s on.past on.at unfaulted (none_counts open)) plan.met plan.from plan.fits
+        let plan = (on.at.knows goes).ties.plan_for in
+        finishes on.at.told well (at_last goes)
+        (goes_on o outset on.jobs s on.past on.at unfaulted (none_counts goes)) plan.met plan.from plan.fits
 
     ended_well : HasEndedWell o (m.around mid.world.now) behind
     ended_well =
-        let by = law o on.jobs s on.past outset on.at unfaulted (at_last open).scans finished in
-        record { succeeded = by.0; records = recorded by.0.runs.steps by.1 (shut ∙ there.unshut open) }
+        let by = law o on.jobs s on.past outset on.at unfaulted (at_last goes).scans finished in
+        record { succeeded = by.0; records = recorded by.0.runs.steps by.1 (shut ∙ there.unshut goes) }
 
   pub has_made : HasMade o (m.around mid.world.now) after behind
   has_made =
