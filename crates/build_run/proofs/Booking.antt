@@ -23,7 +23,7 @@ use Rattle.build_model.specs.Steps.{Step, Fresh, Began, Ended, Lacks, Halts, beg
 use Rattle.run_means.specs.Clears.{Clears}
 use Rattle.run_means.proofs.Clearing.{calls_clear}
 use Rattle.turn_means.specs.Standing.{Outset, IsOutset, Standing, setting_at}
-use Rattle.turn_means.specs.Recording.{IsWayTo, AreRecorded, IsRecordOf, KeepsOthers, HaveNone, build_at}
+use Rattle.turn_means.specs.Recording.{Begin, End, IsWayTo, AreRecorded, IsRecordOf, KeepsOthers, HaveNone, build_at}
 use Rattle.turn_means.specs.Writing.{Writes}
 use Rattle.turn_means.proofs.Recording.{begins_without, begun_others, ends_with, leaves, stays}
 use Rattle.turn_means.proofs.Jobs.{run_before, run_either}
@@ -49,13 +49,7 @@ pub record StaysBooked (old new : Book) : Type 0 where
   pub unshut : new.shut ≡ false → old.shut ≡ false
   pub keeps : new.shut ≡ false → KeepsBook old new
 
-pub same_book : (book : Book) → StaysBooked book book
-same_book book = record {
-  unshut = λ e. e;
-  keeps = λ e. record { records = refl; running = λ busy h. h; tickets = λ busy rec h is. is };
-}
-
--- the same by parts
+-- by parts
 pub book_as : (old new : Book) → new.store ≡ old.store → new.held ≡ old.held → new.running ≡ old.running →
     (new.shut ≡ false → old.shut ≡ false) → StaysBooked old new
 book_as old new store held running unshut = record {
@@ -193,6 +187,10 @@ module _ (o : Outset) where
     booked = λ e. booked_as s.around on.past old new (kept.keeps e) (on.booked (kept.unshut e));
   }
 
+  -- and where the account alone is another
+  pub shut_on : (book : Book) (shut : Bool) (s : Standing) → shut ≡ book.shut → IsOn o book s → IsOn o (record book { shut = shut }) s
+  shut_on book shut s same on = subst (λ (b : Bool). IsOn o (record book { shut = b }) s) (sym same) on
+
   -- steps that start nothing leave it as it is
   step_booked : (around : Around) (past more : List Step) (book : Book) → ((r : Rule) → Among r (began past) → Among r (began more)) →
       AreRecorded o around more (map_with book.store book.held) → AreBooked o around past book → AreBooked o around more book
@@ -247,6 +245,9 @@ module _ (o : Outset) where
       abbrev Now : Map
       Now = map_with after.store after.held
 
+      begin : Begin o old new past r Now
+      begin = begins_without o outset jobs old new past r Was Now way decided writes are.records takes.none takes.others
+
       -- the others that run are to have theirs still
       others_booked : (more : List Step) → ((q : Rule) → Among q (began past) → Among q (began more)) → (busy : Busy) →
           Contains after.running busy → IsBooked o new more after.store busy
@@ -258,23 +259,15 @@ module _ (o : Outset) where
       -- no job started
       pub refused_booked : AreBooked o new (Ended r false ∷ Began r ∷ past) after
       refused_booked = record {
-        records = (begins_without o outset jobs old new past r Was Now way decided writes are.records takes.none takes.others).refused;
+        records = begin.refused;
         each = others_booked (Ended r false ∷ Began r ∷ past) (λ q m. there m);
       }
 
       -- or one did
       pub began_booked : (busy : Busy) (rec : Rec) → busy.hold.targets ≡ r.targets → rec.targets ≡ r.targets → IsTicket after.store rec busy.ticket →
-          IsRecordOf o old r rec → (last : Book) → last.store ≡ after.store → last.held ≡ after.held → last.running ≡ after.running ++ busy ∷ [] →
-          AreBooked o new (Began r ∷ past) last
-      began_booked busy rec makes same ticket to_have last store held running =
-          let begin = begins_without o outset jobs old new past r Was Now way decided writes are.records takes.none takes.others in
-          record {
-            records = subst (λ (kept : Map). AreRecorded o new (Began r ∷ past) kept)
-                (sym (ap (λ (s : Store). map_with s last.held) store ∙ ap (λ (all : List Busy). map_with after.store all) held)) begin.started;
-            each = λ one h.
-                subst (λ (s : Store). IsBooked o new (Began r ∷ past) s one) (sym store)
-                (by one (in_pushed after.running busy one (subst (λ (all : List Busy). Contains all one) running h)));
-          }
+          IsRecordOf o old r rec → AreBooked o new (Began r ∷ past) (record after { running = after.running ++ busy ∷ [] })
+      began_booked busy rec makes same ticket to_have =
+          record { records = begin.started; each = λ one h. by one (in_pushed after.running busy one h) }
         where
           by : (one : Busy) → Contains after.running one ⊎ (busy ≡ one) → IsBooked o new (Began r ∷ past) after.store one
           by one (inl before) = others_booked (Began r ∷ past) (λ q m. there m) one before
@@ -285,7 +278,7 @@ module _ (o : Outset) where
             rec = rec;
             ticket = ticket;
             same = same;
-            to_have = (begins_without o outset jobs old new past r Was Now way decided writes are.records takes.none takes.others).to_have rec to_have;
+            to_have = begin.to_have rec to_have;
           })
 
     -- ---- endings
@@ -304,6 +297,9 @@ module _ (o : Outset) where
         (running : (one : Busy) → Contains after.running one → Contains book.running one)
         (tickets : (one : Busy) (rec : Rec) → Contains after.running one → IsTicket book.store rec one.ticket → IsTicket after.store rec one.ticket)
         where
+      end : End o old new past r (map_with book.store book.held)
+      end = ends_with o outset jobs old new past r (map_with book.store book.held) way runs writes are.records
+
       others_still : (well : Bool) → (one : Busy) → Contains after.running one → IsBooked o new (Ended r well ∷ past) after.store one
       others_still well one h =
           let is = are.each one (running one h) in
@@ -312,8 +308,7 @@ module _ (o : Outset) where
 
       failed_booked : map_with after.store after.held ≡ map_with book.store book.held → AreBooked o new (Ended r false ∷ past) after
       failed_booked kept = record {
-        records = subst (λ (map : Map). AreRecorded o new (Ended r false ∷ past) map) (sym kept)
-            (ends_with o outset jobs old new past r (map_with book.store book.held) way runs writes are.records).failed;
+        records = subst (λ (map : Map). AreRecorded o new (Ended r false ∷ past) map) (sym kept) end.failed;
         each = others_still false;
       }
 
@@ -327,8 +322,7 @@ module _ (o : Outset) where
           let now = puts is.rec is.ticket in
           record {
             records =
-                (ends_with o outset jobs old new past r (map_with book.store book.held) way runs writes are.records).well is.rec
-                (map_with after.store after.held)
+                end.well is.rec (map_with after.store after.held)
                 (subst (λ (x : Rule). IsRecordOf o old x is.rec) same is.to_have)
                 (λ path m.
                 ap (λ (map : Map). map path) now

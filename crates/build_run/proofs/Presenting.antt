@@ -32,7 +32,7 @@ use Rattle.build_run.specs.declared.building.Options.{Options}
 use Rattle.build_run.specs.declared.site.Run.{Run}
 use Rattle.build_run.specs.declared.site.Site.{Site}
 use Rattle.build_run.specs.Books.{AreBooked, book_of}
-use Rattle.build_run.proofs.Booking.{book_as, kept_on, lacks_booked}
+use Rattle.build_run.proofs.Booking.{lacks_booked, shut_on}
 use Rattle.build_run.proofs.Choosing.{along_looked, deps_still, goes_before, looked_for, not_ended, numbered_rule, paths_still, told_before, unread_still, weighed_on}
 
 -- the first that is missing is so still behind a look
@@ -184,8 +184,7 @@ module _ {W O E : Type 0} (m : Meaning W) (o : Outset) (outset : IsOutset o) (ol
   pub lacks_on : GoesOn m o last (told.Absent rule node)
   lacks_on = record {
     told = λ s t stays.
-        kept_on o (book_of (record last { account = old.account })) (book_of last) s (λ busy h. h)
-        (book_as (book_of (record last { account = old.account })) (book_of last) refl refl refl (λ e. sym shut ∙ e))
+        shut_on o (book_of (record last { account = old.account })) last.account.now.is_store_shut s shut
         (lacks_told m o outset old (record last { account = old.account }) along rule chosen asks graph store refl options run tells
         result presents counts node ok (is_faulted last.account.now) last.account.now.is_ended ends.faulted faulted
         (λ e. sym along.asked.keep ∙ goes e) s t stays);
