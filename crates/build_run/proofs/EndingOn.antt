@@ -35,7 +35,6 @@ use Rattle.build_files.specs.Marked.{AreGoneOver}
 use Rattle.build_files.specs.declared.inputs.Inputs.{Inputs}
 use Rattle.plan_means.specs.Planning.{IsStep}
 use Rattle.plan_means.proofs.Resting.{is_idle}
-use Rattle.run_means.specs.Clears.{Clears}
 use Rattle.run_means.specs.Laws.{MayWait}
 use Rattle.turn_means.specs.Standing.{Outset, IsOutset, begun_at, setting_at, Standing, IsAt}
 use Rattle.turn_means.specs.Recording.{build_at}
@@ -396,6 +395,7 @@ module _ {W O E : Type 0} (m : Meaning W) (o : Outset) (outset : IsOutset o) (ol
 
   pub may_take : holds_of (m.around old.world.now).running ≡ holds_in old.run.now.tickets →
       IsWantedOf (length old.run.now.tickets) (most_jobs old.options) old.run.now.plan want.Wait → MayTake m o mid
+  unfolding put_on
   may_take joined wanted = record {
     on = put_on;
     wait =

@@ -44,7 +44,7 @@ use Rattle.build_run.specs.Books.{AreBooked, Book, book_of}
 use Rattle.build_run.specs.Goings.{IsJoined, Launches}
 use Rattle.build_run.specs.Holds.{Busy, holds_in, holds_of}
 use Rattle.build_run.specs.Outs.{KeepsSome}
-use Rattle.build_run.specs.Sites.{most_jobs, records_of}
+use Rattle.build_run.specs.Sites.{most_jobs}
 use Rattle.build_run.specs.declared.site.Run.{Run}
 use Rattle.build_run.specs.declared.site.Site.{Site}
 use Rattle.build_run.specs.declared.tickets.Hold.{Hold}

@@ -1,4 +1,4 @@
-use Rattle.std.proofs.Common.{◌∙◌, [], refl, sym}
+use Rattle.std.proofs.Common.{◌∙◌, refl, sym}
 use Rattle.build_model.proofs.Lists.{true_false}
 use Rattle.build_files.proofs.Truths.{asked}
 use Rattle.turn_means.specs.Standing.{begun_at}
@@ -6,7 +6,6 @@ use Rattle.build_run.specs.Along.{is_faulted, standing_of}
 use Rattle.build_run.specs.Ledgers.{ledger_of}
 use Rattle.build_run.proofs.Causing.{exit_same, look_end}
 use Rattle.build_run.proofs.Choosing.{along_looked, found_now, fresh_on, goes_before, marks_here, told_before, weighed_now}
-use Rattle.build_run.proofs.Clearing.{clears_asked}
 use Rattle.build_run.proofs.Sites.{looked_at, sound_still}
 use Rattle.build_run.proofs.Starting.{end_of_turn, ended_looked}
 use Rattle.build_run.specs.Books.{book_of}

@@ -1,4 +1,4 @@
-use Rattle.std.proofs.Common.{◌∙◌, refl, sym}
+use Rattle.std.proofs.Common.{◌∙◌}
 use Rattle.build_run.specs.Books.{book_of}
 use Rattle.build_run.proofs.Alongs.{told_to}
 use Rattle.build_run.proofs.Booking.{shut_on}
