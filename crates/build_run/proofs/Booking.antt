@@ -37,6 +37,8 @@ use Rattle.build_run.specs.declared.site.Site.{Site}
 use Rattle.build_run.proofs.Holding.{in_pushed}
 use Rattle.build_run.proofs.Outs.{held_alike, not_among, out_in, outs_front, outs_left, own_beside}
 
+-- ---- what is kept of the book
+
 -- nothing that was booked was lost
 pub record KeepsBook (old new : Book) : Type 0 where
   pub records : map_with new.store new.held ≡ map_with old.store old.held
@@ -49,7 +51,7 @@ pub record StaysBooked (old new : Book) : Type 0 where
   pub unshut : new.shut ≡ false → old.shut ≡ false
   pub keeps : new.shut ≡ false → KeepsBook old new
 
--- by parts
+-- so it is where its parts are the same
 pub book_as : (old new : Book) → new.store ≡ old.store → new.held ≡ old.held → new.running ≡ old.running →
     (new.shut ≡ false → old.shut ≡ false) → StaysBooked old new
 book_as old new store held running unshut = record {
@@ -61,7 +63,7 @@ book_as old new store held running unshut = record {
   };
 }
 
--- nothing that was booked is lost
+-- or the held ones were put
 pub puts_book : {W O E : Type 0} (m : Meaning W) (old new : Site W O E) → SitePuts m old new → KeepsTickets old.store.now new.store.now →
     KeepsRecords old new → StaysBooked (book_of old) (book_of new)
 puts_book m old new puts tickets kept = record {
@@ -101,14 +103,6 @@ given_up book store busy left map leaves_others outs =
     store_book (record book { running = left }) store map (outs_left book.store book.held left busy outs)
     (λ one rec h out. leaves_others.each rec one.ticket (own_beside book.store book.held busy left outs one h) out)
 
--- what is cleared is written
-pub clears_write : (paths : List Path) (old new : Around) → Clears paths old new → Writes paths old new
-clears_write paths old new clears = record {
-  files = λ path free out. clears.files path free out;
-  stamps = λ path free out. clears.stamps path free out;
-  running = λ path target. inl (subst (λ runs. IsRunningTarget runs path) clears.running target);
-}
-
 -- none of these paths has a record any more, and else nothing that was booked was lost
 pub record TakesAway (targets : List Path) (old new : Book) : Type 0 where
   pub none : HaveNone targets (map_with new.store new.held)
@@ -116,6 +110,16 @@ pub record TakesAway (targets : List Path) (old new : Book) : Type 0 where
   pub running : (busy : Busy) → Contains new.running busy → Contains old.running busy
   pub tickets : (busy : Busy) (rec : Rec) → Contains new.running busy → IsTicket old.store rec busy.ticket →
       IsTicket new.store rec busy.ticket
+
+-- ---- what calls write
+
+-- what is cleared
+pub clears_write : (paths : List Path) (old new : Around) → Clears paths old new → Writes paths old new
+clears_write paths old new clears = record {
+  files = clears.files;
+  stamps = clears.stamps;
+  running = λ path target. inl (subst (λ runs. IsRunningTarget runs path) clears.running target);
+}
 
 -- what a start writes
 pub starts_write : (job : Job) (counts : Counts) (old mid new : Around) → Clears job.targets old mid → Starts job counts mid new →
@@ -143,6 +147,8 @@ ends_write Sure ended old new ends = record {
       (run_before ends.front ends.which ends.back path (subst (λ runs. IsRunningTarget runs path) ends.running target)));
 }
 
+-- ---- records of paths
+
 pub in_among : (paths : List Path) (path : Path) → Contains paths path → is_among paths path ≡ true
 in_among paths path h = there_any (λ other. bytes_eq other path) (contains_among paths h) ((bytes_eq-Decides path path).1 refl)
 
@@ -153,9 +159,11 @@ with_own paths rec map path h = ap (λ b. cond b (Some rec) (map path)) (in_amon
 pub with_others : (paths : List Path) (rec : Option Rec) (map : Map) (path : Path) → (Contains paths path → ⊥) → with_each paths rec map path ≡ map path
 with_others paths rec map path out = ap (λ b. cond b rec (map path)) (not_among paths path out)
 
+-- ---- from step to step
+
 module _ (o : Outset) where
   -- a rule that is to have a record is so still
-  pub one_on : (old new : Around) (past more : List Step) (store after : Store) (busy : Busy) (is : IsBooked o old past store busy) →
+  one_on : (old new : Around) (past more : List Step) (store after : Store) (busy : Busy) (is : IsBooked o old past store busy) →
       Among is.rule (began more) → (IsTicket store is.rec busy.ticket → IsTicket after is.rec busy.ticket) →
       (IsRecordOf o old is.rule is.rec → IsRecordOf o new is.rule is.rec) → IsBooked o new more after busy
   one_on old new past more store after busy is stands ticket has = record {
@@ -296,48 +304,48 @@ module _ (o : Outset) where
         (busy : Busy) (among : Contains book.running busy) (makes : busy.hold.targets ≡ r.targets)
         (running : (one : Busy) → Contains after.running one → Contains book.running one)
         (tickets : (one : Busy) (rec : Rec) → Contains after.running one → IsTicket book.store rec one.ticket → IsTicket after.store rec one.ticket)
-        where
-      end : End o old new past r (map_with book.store book.held)
-      end = ends_with o outset jobs old new past r (map_with book.store book.held) way runs writes are.records
+      where
+        end : End o old new past r (map_with book.store book.held)
+        end = ends_with o outset jobs old new past r (map_with book.store book.held) way runs writes are.records
 
-      others_still : (well : Bool) → (one : Busy) → Contains after.running one → IsBooked o new (Ended r well ∷ past) after.store one
-      others_still well one h =
-          let is = are.each one (running one h) in
-          one_on old new past (Ended r well ∷ past) book.store after.store one is is.stands (λ t. tickets one is.rec h t)
-          (λ e. (stays o outset jobs old new past way writes).to_have is.rule is.rec is.stands e)
+        others_still : (well : Bool) → (one : Busy) → Contains after.running one → IsBooked o new (Ended r well ∷ past) after.store one
+        others_still well one h =
+            let is = are.each one (running one h) in
+            one_on old new past (Ended r well ∷ past) book.store after.store one is is.stands (λ t. tickets one is.rec h t)
+            (λ e. (stays o outset jobs old new past way writes).to_have is.rule is.rec is.stands e)
 
-      failed_booked : map_with after.store after.held ≡ map_with book.store book.held → AreBooked o new (Ended r false ∷ past) after
-      failed_booked kept = record {
-        records = subst (λ (map : Map). AreRecorded o new (Ended r false ∷ past) map) (sym kept) end.failed;
-        each = others_still false;
-      }
+        failed_booked : map_with after.store after.held ≡ map_with book.store book.held → AreBooked o new (Ended r false ∷ past) after
+        failed_booked kept = record {
+          records = subst (λ (map : Map). AreRecorded o new (Ended r false ∷ past) map) (sym kept) end.failed;
+          each = others_still false;
+        }
 
-      done_booked : ((rec : Rec) → IsTicket book.store rec busy.ticket →
-          map_with after.store after.held ≡ with_each rec.targets (Some rec) (map_with book.store book.held)) →
-          AreBooked o new (Ended r true ∷ past) after
-      done_booked puts =
-          let is = are.each busy among in
-          let same : is.rule ≡ r = same_rule is.rule r is.stands runs.began (sym is.makes ∙ makes) in
-          let own : is.rec.targets ≡ r.targets = is.same ∙ ap (λ (x : Rule). x.targets) same in
-          let now = puts is.rec is.ticket in
-          record {
-            records =
-                end.well is.rec (map_with after.store after.held)
-                (subst (λ (x : Rule). IsRecordOf o old x is.rec) same is.to_have)
-                (λ path m.
-                ap (λ (map : Map). map path) now
-                ∙ with_own is.rec.targets is.rec (map_with book.store book.held) path
-                (subst (λ (paths : List Path). Contains paths path) (sym own) m))
-                (λ path out.
-                ap (λ (map : Map). map path) now
-                ∙ with_others is.rec.targets (Some is.rec) (map_with book.store book.held) path
-                (λ h. out (subst (λ (paths : List Path). Contains paths path) own h)));
-            each = others_still true;
-          }
+        done_booked : ((rec : Rec) → IsTicket book.store rec busy.ticket →
+            map_with after.store after.held ≡ with_each rec.targets (Some rec) (map_with book.store book.held)) →
+            AreBooked o new (Ended r true ∷ past) after
+        done_booked puts =
+            let is = are.each busy among in
+            let same : is.rule ≡ r = same_rule is.rule r is.stands runs.began (sym is.makes ∙ makes) in
+            let own : is.rec.targets ≡ r.targets = is.same ∙ ap (λ (x : Rule). x.targets) same in
+            let now = puts is.rec is.ticket in
+            record {
+              records =
+                  end.well is.rec (map_with after.store after.held)
+                  (subst (λ (x : Rule). IsRecordOf o old x is.rec) same is.to_have)
+                  (λ path m.
+                  ap (λ (map : Map). map path) now
+                  ∙ with_own is.rec.targets is.rec (map_with book.store book.held) path
+                  (subst (λ (paths : List Path). Contains paths path) (sym own) m))
+                  (λ path out.
+                  ap (λ (map : Map). map path) now
+                  ∙ with_others is.rec.targets (Some is.rec) (map_with book.store book.held) path
+                  (λ h. out (subst (λ (paths : List Path). Contains paths path) own h)));
+              each = others_still true;
+            }
 
-      pub ended_booked : (well : Bool) → (well ≡ false → map_with after.store after.held ≡ map_with book.store book.held) →
-          (well ≡ true → (rec : Rec) → IsTicket book.store rec busy.ticket →
-          map_with after.store after.held ≡ with_each rec.targets (Some rec) (map_with book.store book.held)) →
-          AreBooked o new (Ended r well ∷ past) after
-      ended_booked true kept puts = done_booked (puts refl)
-      ended_booked false kept puts = failed_booked (kept refl)
+        pub ended_booked : (well : Bool) → (well ≡ false → map_with after.store after.held ≡ map_with book.store book.held) →
+            (well ≡ true → (rec : Rec) → IsTicket book.store rec busy.ticket →
+            map_with after.store after.held ≡ with_each rec.targets (Some rec) (map_with book.store book.held)) →
+            AreBooked o new (Ended r well ∷ past) after
+        ended_booked true kept puts = done_booked (puts refl)
+        ended_booked false kept puts = failed_booked (kept refl)

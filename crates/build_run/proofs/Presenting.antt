@@ -8,8 +8,7 @@ use Rattle.world_api.specs.Calls.{Asks}
 use Rattle.world_api.specs.Meaning.{Meaning}
 use Rattle.deciders.specs.declared.recorded.Rec.{Rec}
 use Rattle.sign_store.specs.Putting.{map_with}
-use Rattle.sign_store.specs.declared.store.Store.{Store}
-use Rattle.rule_graph.specs.Graphs.{RuleGraph, path_of}
+use Rattle.rule_graph.specs.Graphs.{path_of}
 use Rattle.task_plan.specs.Settled.{deps_of}
 use Rattle.task_plan.specs.declared.want.PlanEvent.TheVariants as told
 use Rattle.build_model.specs.Rules.{Path, Rule, Among, here}
@@ -27,7 +26,6 @@ use Rattle.turn_means.specs.Laws.{HasMet, IsChosen, IsTold, IsWeighed}
 use Rattle.turn_means.proofs.Turns.{lacks}
 use Rattle.build_run.specs.Along.{GoesOn, IsAlong, IsDue, IsOn, KeepsEnds, Presents, is_faulted, standing_of}
 use Rattle.build_run.specs.Sites.{most_jobs}
-use Rattle.build_run.specs.declared.account.Account.{Account}
 use Rattle.build_run.specs.declared.building.Options.{Options}
 use Rattle.build_run.specs.declared.site.Run.{Run}
 use Rattle.build_run.specs.declared.site.Site.{Site}
@@ -86,26 +84,19 @@ module _ {W O E : Type 0} (m : Meaning W) (o : Outset) (outset : IsOutset o) (ol
       old.run.now.inputs new.run.now.inputs presents.only unread)
       presents.marks
 
-  abbrev stand : RuleGraph → Store → Account → Run → Standing
-  stand g kept a r = record {
-    graph = g;
-    inputs = new.run.now.inputs;
-    plan = r.plan;
-    records = map_with kept r.held;
-    faulted = is_faulted a;
-    ended = a.is_ended;
-    around = m.around new.world.now;
-  }
-
   abbrev Now : Standing
   Now = record (standing_of m old) { inputs = new.run.now.inputs; around = m.around new.world.now }
 
-  same_standing : standing_of m new ≡ record (standing_of m old) { inputs = new.run.now.inputs; around = m.around new.world.now }
-  same_standing =
-      ap (λ (g : RuleGraph). stand g new.store.now new.account.now new.run.now) graph
-      ∙ (ap (λ (kept : Store). stand old.graph.now kept new.account.now new.run.now) store
-      ∙ (ap (λ (a : Account). stand old.graph.now old.store.now a new.run.now) account
-      ∙ ap (λ (r : Run). stand old.graph.now old.store.now old.account.now r) run))
+  same_standing : standing_of m new ≡ Now
+  same_standing = (λ i. record {
+    graph = graph i;
+    inputs = new.run.now.inputs;
+    plan = (run i).plan;
+    records = map_with (store i) ((run i).held);
+    faulted = is_faulted (account i);
+    ended = (account i).is_ended;
+    around = m.around new.world.now;
+  })
 
   -- what is read, where nothing is looked past
   read : (present : Present) → result ≡ Ok present →
