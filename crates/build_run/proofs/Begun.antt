@@ -1,5 +1,5 @@
 -- A job that starts is to have the record of its ticket.
-use Rattle.std.proofs.Common.{◌≡◌, ◌≢◌, ◌∙◌, ◌++◌, ◌∷◌, List, [], Contains, Some, None, map, ap, arith, false, inl, inr, refl, sym, subst}
+use Rattle.std.proofs.Common.{◌≡◌, ◌≢◌, ◌∙◌, ◌∷◌, List, [], Contains, Some, None, map, ap, false, inl, inr, refl, sym, subst}
 use Rattle.deciders.specs.Records.{name_of}
 use Rattle.deciders.specs.declared.recorded.Rec.{Rec}
 use Rattle.sign_store.specs.Stores.{IsTicket, KeepsTickets}
@@ -15,7 +15,7 @@ use Rattle.build_model.specs.Rules.{Path, Bytes, Content, Tree, Setting, Among, 
 use Rattle.build_model.specs.Records.{IsMet, digested}
 use Rattle.build_means.specs.Records.{record_in}
 use Rattle.run_means.proofs.Lists.{contains_among}
-use Rattle.turn_means.specs.Laws.{HasMet, IsJobFrom}
+use Rattle.turn_means.specs.Laws.{HasMet}
 use Rattle.turn_means.specs.Safety.{IsTicketOf}
 use Rattle.build_run.specs.Goings.{Launches}
 use Rattle.build_run.specs.Holds.{Busy}
@@ -49,6 +49,7 @@ met_at around met path still (Some bytes) e = contains_among around.met (met pat
 
 given_met : (around : Around) → HasMet around → (paths : List Path) → ((path : Path) → Contains paths path → IsRunningTarget around.running path → ⊥) →
     (x : Path × Content) → Among x (given_of around.tree paths) → IsMet around.met x.1
+given_met around met [] still x h = elim h [ ]
 given_met around met (p ∷ paths) still x here = met_at around met p (still p (at_front paths p)) (around.tree p) refl
 given_met around met (p ∷ paths) still x (there h) = given_met around met paths (λ q k. still q (further paths p q k)) x h
 
