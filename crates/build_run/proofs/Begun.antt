@@ -49,6 +49,7 @@ met_at around met path still (Some bytes) e = contains_among around.met (met pat
 
 given_met : (around : Around) → HasMet around → (paths : List Path) → ((path : Path) → Contains paths path → IsRunningTarget around.running path → ⊥) →
     (x : Path × Content) → Among x (given_of around.tree paths) → IsMet around.met x.1
+given_met around met [] still x h = elim h [ ]
 given_met around met (p ∷ paths) still x here = met_at around met p (still p (at_front paths p)) (around.tree p) refl
 given_met around met (p ∷ paths) still x (there h) = given_met around met paths (λ q k. still q (further paths p q k)) x h
 

@@ -90,8 +90,10 @@ pub returns-in-Ok-clause-safe : goal.returns-in-Ok-clause-safe
 returns-in-Ok-clause-safe g c =
     let m = g.W.Disk.meaning in
     let mid = c.set_out.new.world in
-    let read : IsReading c.args.graph.now = record { apart = c.laws.ensures.apart; single = c.laws.ensures.single; named = c.laws.ensures.named } in
-    builds_safely m (wanted_of c.args.graph.now c.args.requested.now c.args.options.now) c.args.world.now c.make_all-skipped.new.world c.requires.idle
+    let read : IsReading c.args.graph.now =
+    record { apart = c.laws.ensures.apart; single = c.laws.ensures.single; named = c.laws.ensures.named } in
+    builds_safely m (wanted_of c.args.graph.now c.args.requested.now c.args.options.now) c.args.world.now c.make_all-skipped.new.world
+    c.requires.idle
     (λ s below safe.
     safe_on m s c.args.world.now mid c.make_all-skipped.new.world c.make_all-skipped.ensures.passes.told (c.set_out.ensures.safe s safe)
     (c.make_all-skipped.ensures.safe s (λ tells sure.
@@ -102,5 +104,5 @@ returns-in-Ok-clause-safe g c =
 
 pub returns-in-Err-clause-safe : goal.returns-in-Err-clause-safe
 returns-in-Err-clause-safe g c =
-    builds_safely g.W.Disk.meaning (wanted_of c.args.graph.now c.args.requested.now c.args.options.now) c.args.world.now c.set_out.new.world c.requires.idle
-    (λ s below safe. c.set_out.ensures.safe s safe)
+    builds_safely g.W.Disk.meaning (wanted_of c.args.graph.now c.args.requested.now c.args.options.now) c.args.world.now c.set_out.new.world
+    c.requires.idle (λ s below safe. c.set_out.ensures.safe s safe)

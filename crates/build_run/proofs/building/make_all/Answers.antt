@@ -56,4 +56,5 @@ returns-clause-safe g c = λ s outset safe.
     let on = c.go_on.ensures.safe s
     (λ tells sure. along_first m _ c.requires.held c.requires.none (outset tells sure))
     (first_safe m s _ c.requires.held c.requires.none safe) in
-    safe_given m s c.close.new.self c.args.world.now mid.world.now _ (search rules) c.close.ensures.world (record { moments = on.moments; now = on.now.world })
+    safe_given m s c.close.new.self c.args.world.now mid.world.now _ (search rules) c.close.ensures.world
+    (record { moments = on.moments; now = on.now.world })

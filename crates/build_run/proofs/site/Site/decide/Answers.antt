@@ -1,5 +1,4 @@
-use Rattle.build_run.proofs.Deciding.{over_due}
-use Rattle.build_run.proofs.Stopping.{site_safely_on}
+use Rattle.build_run.proofs.Deciding.{found_behind}
 use Rattle.build_run.proofs.Turning.{site_saw}
 use Rattle.std.proofs.Common.{◌∙◌, List, [], Contains, ap, refl, subst, sym}
 use Rattle.std.specs.Prelude.{Ok}
@@ -124,22 +123,16 @@ returns-in_ok-missing-in-Lacks-clause-safe g c = λ wanted s along safe.
     site_saw g.W.Disk.meaning g.met.W.Disk.only_now c.args.self.now _ p.looks refl p.held p.tickets c.fail.ensures.reports.shut s safe
 
 pub returns-in-Record-clause-safe : goal.returns-in-Record-clause-safe
-returns-in-Record-clause-safe g c = λ wanted s along safe.
+returns-in-Record-clause-safe g c =
     let m = g.W.Disk.meaning in
     let site = c.args.self.now in
     let p = c.present.ensures in
-    site_safely_on m site _ c.make.new.self c.make.ensures.passes.passes.told
-    (site_saw m g.met.W.Disk.only_now site _ p.looks refl p.held p.tickets refl)
-    (λ t is. c.make.ensures.safe t is (λ tells sure.
-    let before = p.looks.told.told tells in
-    let some = along before (p.looks.told.sure tells sure) in
+    found_behind m site _ c.make.new.self c.args.rule c.in-Record.now p.looks c.make.ensures.passes.passes.told
+    (site_saw m g.met.W.Disk.only_now site _ p.looks refl p.held p.tickets refl) c.make.ensures.safe
+    (λ tells o outset along chosen room.
     let asks = p.looks.around tells in
-    over_due m some.o some.outset _
-    (along_present m some.o some.outset site _ some.along c.args.rule wanted.0 asks refl refl refl refl p.rest tells (Ok c.in_ok-now.field-0)
-    c.in_ok-now.ensures.presents c.in_ok-now.ensures.cause)
-    c.args.rule c.in-Record.now
-    (due_present m some.o some.outset site _ some.along c.args.rule wanted.0 asks refl refl refl refl p.rest tells (Ok c.in_ok-now.field-0)
+    (along_present m o outset site _ along c.args.rule chosen asks refl refl refl refl p.rest tells (Ok c.in_ok-now.field-0)
+    c.in_ok-now.ensures.presents c.in_ok-now.ensures.cause,
+    due_present m o outset site _ along c.args.rule chosen asks refl refl refl refl p.rest tells (Ok c.in_ok-now.field-0)
     c.in_ok-now.ensures.presents c.in_ok-now.ensures.cause c.in-Record.now (cc c.in-Record.is)
-    (g.met.W.World.held site.world.now before) wanted.1)
-    t (is.world tells sure).of))
-    s safe
+    (g.met.W.World.held site.world.now (p.looks.told.told tells)) room))
