@@ -1,5 +1,5 @@
 -- What a build has booked, from call to call.
-use Rattle.std.proofs.Common.{◌≡◌, ◌⊎◌, inl, inr, ◌++◌, ◌∷◌, arith, Bool, true, false, cond, ◌||◌, List, [], Contains, Option, Some, None, ap, refl, subst, sym, ◌∙◌}
+use Rattle.std.proofs.Common.{◌≡◌, ◌⊎◌, inl, inr, ◌++◌, ◌∷◌, arith, Bool, true, false, cond, ◌||◌, List, [], Contains, Option, Some, ap, refl, subst, sym, ◌∙◌}
 use Rattle.std.specs.Str.{bytes_eq}
 use Rattle.std.proofs.lemmas.Slice.Eq.{bytes_eq-Decides}
 use Rattle.world_api.specs.Around.{Around, IsRunningTarget, given_of}
@@ -19,7 +19,7 @@ use Rattle.build_model.specs.Steps.{Step, Fresh, Began, Ended, Lacks, Halts, beg
 use Rattle.run_means.specs.Clears.{Clears}
 use Rattle.run_means.proofs.Clearing.{calls_clear}
 use Rattle.turn_means.specs.Standing.{Outset, IsOutset, setting_at}
-use Rattle.turn_means.specs.Recording.{IsWayTo, AreRecorded, IsRecordOf, KeepsOthers, HaveRecord, HaveNone, HasRecord, build_at}
+use Rattle.turn_means.specs.Recording.{IsWayTo, AreRecorded, IsRecordOf, KeepsOthers, HaveNone, build_at}
 use Rattle.turn_means.specs.Writing.{Writes}
 use Rattle.turn_means.proofs.Recording.{begins_without, begun_others, ends_with, leaves, stays}
 use Rattle.turn_means.proofs.Jobs.{run_before, run_either}
