@@ -179,14 +179,14 @@ first_of : (style : Style) (piece : PartPiece) (used : List ℕ) → IsSome piec
 first_of style piece [] some e = let same : Plain Unclosed ≡ piece = ap (λ p. p.0) e in absurd (subst (λ p. IsSome p) (sym same) some)
 first_of style piece (x ∷ xs) some e = (x, xs, refl)
 
-part_ends : (style : Style) (bytes rest : List ℕ) (field : Bool) (piece : PartPiece) → IsSome piece → ({bs : List ℕ} → part_piece_at style bs ≡ (piece, []) → Parts style bs (ends field [] 0 [])) → PartEnds (part_piece_at style) bytes rest piece → TakesPartWhole style bytes field [] 0 rest
+part_ends : (style : Style) (bytes rest : List ℕ) (field : Bool) (piece : PartPiece) → IsSome piece → ((bs : List ℕ) → part_piece_at style bs ≡ (piece, []) → Parts style bs (ends field [] 0 [])) → PartEnds (part_piece_at style) bytes rest piece → TakesPartWhole style bytes field [] 0 rest
 part_ends style bytes rest field piece some reads c =
     let f = first_of style piece c.used some c.alone in
     record {
       first = f.0;
       more = f.1;
       parts = c.parts ∙ ap (λ u. u ++ rest) f.2;
-      reads = subst (λ u. Parts style u (ends field [] 0 [])) f.2 (reads c.alone);
+      reads = subst (λ u. Parts style u (ends field [] 0 [])) f.2 (reads c.used c.alone);
     }
 
 -- one more piece in front of a part
@@ -222,8 +222,8 @@ ends_before style bytes rest c unclosed k t = tt
 ends_before style bytes rest c (refused kind lines) k t = tt
 
 takes_spelling : {style : Style} {bytes : List ℕ} {s : PartSpelling} → Parts style bytes s → TakesSpelling style bytes s
-takes_spelling {style = style} {bytes = bytes} (opens_field rest e) = part_ends style bytes rest true Opens tt (λ f. opens_field [] f) (part_cuts_at style bytes Opens rest e)
-takes_spelling {style = style} {bytes = bytes} (closes_text rest e) = part_ends style bytes rest false (Plain Closes) tt (λ f. closes_text [] f) (part_cuts_at style bytes (Plain Closes) rest e)
+takes_spelling {style = style} {bytes = bytes} (opens_field rest e) = part_ends style bytes rest true Opens tt (λ bs f. opens_field [] f) (part_cuts_at style bytes Opens rest e)
+takes_spelling {style = style} {bytes = bytes} (closes_text rest e) = part_ends style bytes rest false (Plain Closes) tt (λ bs f. closes_text [] f) (part_cuts_at style bytes (Plain Closes) rest e)
 takes_spelling (part_has_no_end rest e) = tt
 takes_spelling (has_lone_brace rest e) = tt
 takes_spelling (part_has_bad_escape rest e) = tt

@@ -308,15 +308,15 @@ no_end p rest b e = subst (λ x. IsBrace x.0) e b.is
 
 plain_ends : (p : Piece × List ℕ) (rest : List ℕ) → plain_piece p ≡ (Plain Closes, rest) → p ≡ (Closes, rest)
 plain_ends (Closes, r) rest e = let same : r ≡ rest = ap (λ p. p.1) e in ap (λ x. (Closes, x)) same
-plain_ends (Unclosed, r) rest e = absurd (cc)
-plain_ends (BadEscape, r) rest e = absurd (cc)
-plain_ends (NotUtf8, r) rest e = absurd (cc)
-plain_ends (Stands c, r) rest e = absurd (cc)
-plain_ends (EndsLine c, r) rest e = absurd (cc)
+plain_ends (Unclosed, r) rest e = let k : Plain Unclosed ≡ Plain Closes = ap (λ p. p.0) e in absurd cc
+plain_ends (BadEscape, r) rest e = let k : Plain BadEscape ≡ Plain Closes = ap (λ p. p.0) e in absurd cc
+plain_ends (NotUtf8, r) rest e = let k : Plain NotUtf8 ≡ Plain Closes = ap (λ p. p.0) e in absurd cc
+plain_ends (Stands c, r) rest e = let k : Plain (Stands c) ≡ Plain Closes = ap (λ p. p.0) e in absurd cc
+plain_ends (EndsLine c, r) rest e = let k : Plain (EndsLine c) ≡ Plain Closes = ap (λ p. p.0) e in absurd cc
 
 module _ (style : Style) where
   part_closes : (bytes rest : List ℕ) → part_piece_at style bytes ≡ (Plain Closes, rest) → piece_at style bytes ≡ (Closes, rest)
-  part_closes [] rest e = absurd (cc)
+  part_closes [] rest e = let k : Plain Unclosed ≡ Plain Closes = ap (λ p. p.0) e in absurd cc
   part_closes (b ∷ more) rest e = by_tests (b == 123) (b == 125) (b == 92 && (style.raw && begins_with_brace more)) e
     where
       by_tests : (s t u : Bool) → (if s then opening_brace more else (if t then closing_brace (b ∷ more) more else (if u then (Plain (Stands (Byte 92)), more) else plain_piece (piece_at style (b ∷ more))))) ≡ (Plain Closes, rest) → piece_at style (b ∷ more) ≡ (Closes, rest)
@@ -327,7 +327,7 @@ module _ (style : Style) where
 
   -- the brace of a field
   field_opens : (bytes : List ℕ) → part_piece_at style bytes ≡ (Opens, []) → Is bytes
-  field_opens [] e = absurd (cc)
+  field_opens [] e = let k : Plain Unclosed ≡ Opens = ap (λ p. p.0) e in absurd cc
   field_opens (b ∷ more) e = by_tests (b == 123) (b == 125) (b == 92 && (style.raw && begins_with_brace more)) refl e
     where
       alone : (rest : List ℕ) → opening_brace rest ≡ (Opens, []) → rest ≡ []
@@ -335,7 +335,7 @@ module _ (style : Style) where
       alone (c ∷ rest) e = by_test (c == 123) e
         where
           by_test : (t : Bool) → (if t then (Plain (Stands (Byte 123)), rest) else (Opens, c ∷ rest)) ≡ (Opens, []) → c ∷ rest ≡ []
-          by_test true e = absurd (cc)
+          by_test true e = let k : Plain (Stands (Byte 123)) ≡ Opens = ap (λ p. p.0) e in absurd cc
           by_test false e = ap (λ p. p.1) e
 
       by_tests : (s t u : Bool) → (b == 123) ≡ s → (if s then opening_brace more else (if t then closing_brace (b ∷ more) more else (if u then (Plain (Stands (Byte 92)), more) else plain_piece (piece_at style (b ∷ more))))) ≡ (Opens, []) → Is (b ∷ more)
@@ -343,14 +343,14 @@ module _ (style : Style) where
       by_tests false true u f e = absurd (never_lone more e)
         where
           never_lone : (rest : List ℕ) → closing_brace (b ∷ more) rest ≡ (Opens, []) → ⊥
-          never_lone [] e = cc
+          never_lone [] e = let k : Lone ≡ Opens = ap (λ p. p.0) e in absurd cc
           never_lone (c ∷ rest) e = by_test (c == 125) e
             where
               by_test : (t : Bool) → (if t then (Plain (Stands (Byte 125)), rest) else (Lone, b ∷ more)) ≡ (Opens, []) → ⊥
-              by_test true e = cc
-              by_test false e = cc
-      by_tests false false true f e = absurd (cc)
-      by_tests false false false f e = absurd (let k : Plain (piece_at style (b ∷ more)).0 ≡ Opens = ap (λ p. p.0) e in cc)
+              by_test true e = let k : Plain (Stands (Byte 125)) ≡ Opens = ap (λ p. p.0) e in absurd cc
+              by_test false e = let k : Lone ≡ Opens = ap (λ p. p.0) e in absurd cc
+      by_tests false false true f e = let k : Plain (Stands (Byte 92)) ≡ Opens = ap (λ p. p.0) e in absurd cc
+      by_tests false false false f e = let k : Plain (piece_at style (b ∷ more)).0 ≡ Opens = ap (λ p. p.0) e in absurd cc
 
 field_at : (style : Style) (bytes rest : List ℕ) → part_piece_at style bytes ≡ (Opens, rest) → PartIs (parts.ends true [] 0 rest) bytes
 field_at style bytes [] e = field_opens style bytes e

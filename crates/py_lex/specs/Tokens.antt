@@ -101,6 +101,10 @@ word_or name None = token.Name name
 abbrev pub named : List ℕ → TokenKind
 named name = word_or name (keyword_of name)
 
+-- an f-text is read behind its opening quotes
+abbrev pub begun_read : Bool → ℕ → List ℕ → Read
+begun_read raw quote inside = begins (opening raw quote inside).0 (opening raw quote inside).1
+
 abbrev pub LeadAt : Lead → ℕ → ℕ → List ℕ → List ℕ → List ℕ → Read → Type 0
 LeadAt lead.Raw depth quote inside name rest t = TextAt true quote depth inside t
 LeadAt lead.Format depth quote inside name rest t = t ≡ begun_read false quote inside

@@ -123,7 +123,7 @@ pub fn next_part(alloc: Global, style: Style, bytes: &[u8]) -> Result<Part<'_>, 
 }
 
 fn ended<'a>(field: bool, value: Vec<u8>, lines: u32, rest: &'a [u8]) -> Part<'a>
-    ensures { result ≡ Part.Ends field value lines rest }
+    ensures { result ≡ Part.Ends field value lines rest.entry }
 {
     Part::Ends {
         field,

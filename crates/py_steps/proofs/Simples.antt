@@ -97,11 +97,13 @@ imports_goes l d s = same refl
 left_breaks : (ts : List Task) (vs : List Value) (s : State) → left ts vs (breaks s) ≡ left (past_loop ts) vs (goes_on s)
 left_breaks [] vs s = refl
 left_breaks (task.Turns t walk ∷ ts) vs s = refl
+left_breaks (task.Rounds r ∷ ts) vs s = refl
 left_breaks (t ∷ ts) vs s = left_breaks ts vs s
 
 left_continues : (ts : List Task) (vs : List Value) (s : State) → left ts vs (continues s) ≡ left (in_loop ts) vs (goes_on s)
 left_continues [] vs s = refl
 left_continues (task.Turns t walk ∷ ts) vs s = refl
+left_continues (task.Rounds r ∷ ts) vs s = refl
 left_continues (t ∷ ts) vs s = left_continues ts vs s
 
 pub break_goes : (l : ℕ) (d d' : Desk) (s : State) → stacks_of d' ≡ record { tasks = past_loop (tasks_of d); values = values_of d } → Unfolds (plan_at (statement (break l) s) d) (left (tasks_of d') (values_of d') (goes_on s))
