@@ -9,13 +9,16 @@ pub mod Displays
 pub mod Faults
 pub mod Going
 pub mod Items
+pub mod Joining
 pub mod Leaving
 pub mod Lines
 pub mod Linking
 pub mod Naming
 pub mod Operating
+pub mod Picking
 pub mod Places
 pub mod Rests
+pub mod Rounds
 pub mod Several
 pub mod Simples
 pub mod Slicing

@@ -43,7 +43,7 @@ rest_at x vs k (returns y s) = refl
 rest_at x vs k (ends s) = refl
 rest_at x vs k (exits y s) = refl
 
-rest_on : (x : Value) (vs : List Value) (k : Rest) (us : Tree) (s : State) → bind (after_all us s (λ xs s1. comes_to (all_give (x ∷ xs) s1))) (all_on vs k) ≡ first (eval_all us) s (all_on (x ∷ vs) k)
+pub rest_on : (x : Value) (vs : List Value) (k : Rest) (us : Tree) (s : State) → bind (after_all us s (λ xs s1. comes_to (all_give (x ∷ xs) s1))) (all_on vs k) ≡ first (eval_all us) s (all_on (x ∷ vs) k)
 unfolding bind
 rest_on x vs k us s = ap (λ (on : Out → Plan). first (eval_all us) s on) (fun_ext (rest_at x vs k))
 

@@ -158,12 +158,10 @@ pub fn pick<'a>(
         (left_at desk.new machine.now f) }
 {
     let test = desk.take();
-    let picked = if truth(&machine.heap, test) {
-        value
-    } else {
-        other
-    };
-    desk.push(Task::Evaluate(picked))?;
+    if truth(&machine.heap, test) {
+        return Ok(desk.push(Task::Evaluate(value))?);
+    }
+    desk.push(Task::Evaluate(other))?;
     Ok(())
 }
 

@@ -21,10 +21,13 @@ pub fn evaluate_fields<'a>(desk: &mut Desk<'a>, pieces: &'a [Piece]) -> Result<(
         return Ok(());
     };
     desk.push(Task::Fields(rest))?;
-    if let Piece::Field { line, value } = first {
-        desk.evaluate(value, Task::Show { line: *line })?;
+    match first {
+        Piece::Field { line, value } => {
+            desk.evaluate(value, Task::Show { line: *line })?;
+            Ok(())
+        }
+        Piece::Part { .. } => Ok(()),
     }
-    Ok(())
 }
 
 /// The text of a field whose value is there.
