@@ -1,8 +1,10 @@
 //! Texts behind one another: f-texts and their fields.
 ghost use Rattle.std.specs.Prelude.{◌≡◌, ◌≢◌, ◌++◌, Ok, Err, IfOk, IfErr, OnOk, map};
 ghost use Rattle.py_tree.specs.Tree.{trees, piece_tree};
-ghost use Rattle.py_compare.specs.Growing.{grown};
-ghost use Rattle.py_meaning.specs.Joined.{shown_field, joined_text, characters_in, text_of};
+ghost use Rattle.py_tree.specs.Tree.{Tree, cons};
+ghost use Rattle.py_compare.specs.Growing.{Growth, grown};
+ghost use Rattle.py_meaning.specs.Joined.{shown_field, joined_text, text_of};
+ghost use Rattle.py_steps.specs.Growths.{put_pieces};
 ghost use Rattle.py_steps.specs.Leads.{Steps, left_with, left_at, DoesTask};
 
 use crate::desk::Desk;
@@ -113,7 +115,7 @@ fn put_pieces(
     values: &[Value],
 ) -> Result<(), Memory>
     ensures { OnOk result (whole.new
-        ≡ grown whole.old (characters_in heap.now (trees (map piece_tree pieces.now)) values.now)) }
+        ≡ put_pieces heap.now whole.old (trees (map piece_tree pieces.now)) values.now) }
 {
     let mut left = values;
     'pieces: for piece in pieces {
@@ -129,7 +131,10 @@ fn characters_of<'a>(
     heap: &'a Heap,
     piece: &'a Piece,
     values: &'a [Value],
-) -> (&'a str, &'a [Value]) {
+) -> (&'a str, &'a [Value])
+    ensures { (g : Growth) (ps : Tree) → put_pieces heap.now g (cons (piece_tree piece.now) ps) values.now
+        ≡ put_pieces heap.now (grown g result.0.now) ps result.1.now }
+{
     match piece {
         Piece::Part { text, .. } => (text.as_str(), values),
         Piece::Field { .. } => match values.split_first() {
