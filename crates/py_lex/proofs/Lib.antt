@@ -15,5 +15,6 @@ pub mod PartUtf8
 pub mod StepUtf8
 pub mod Pieces
 pub mod PartPieces
+pub mod PartFits
 pub mod Writing
 pub mod Unmarked

@@ -334,7 +334,7 @@ module _ (style : Style) where
       alone [] e = refl
       alone (c ∷ rest) e = by_test (c == 123) e
         where
-          by_test : (t : Bool) → (if t then (Plain (Stands (Byte 123)), rest) else (Opens, c ∷ rest)) ≡ (Opens, []) → c ∷ rest ≡ []
+          by_test : (t : Bool) → ◌≡◌ {A = PartPiece × List ℕ} (if t then (Plain (Stands (Byte 123)), rest) else (Opens, c ∷ rest)) (Opens, []) → c ∷ rest ≡ []
           by_test true e = let k : Plain (Stands (Byte 123)) ≡ Opens = ap (λ p. p.0) e in absurd cc
           by_test false e = ap (λ p. p.1) e
 
@@ -346,7 +346,7 @@ module _ (style : Style) where
           never_lone [] e = let k : Lone ≡ Opens = ap (λ p. p.0) e in absurd cc
           never_lone (c ∷ rest) e = by_test (c == 125) e
             where
-              by_test : (t : Bool) → (if t then (Plain (Stands (Byte 125)), rest) else (Lone, b ∷ more)) ≡ (Opens, []) → ⊥
+              by_test : (t : Bool) → ◌≡◌ {A = PartPiece × List ℕ} (if t then (Plain (Stands (Byte 125)), rest) else (Lone, b ∷ more)) (Opens, []) → ⊥
               by_test true e = let k : Plain (Stands (Byte 125)) ≡ Opens = ap (λ p. p.0) e in absurd cc
               by_test false e = let k : Lone ≡ Opens = ap (λ p. p.0) e in absurd cc
       by_tests false false true f e = let k : Plain (Stands (Byte 92)) ≡ Opens = ap (λ p. p.0) e in absurd cc

@@ -219,6 +219,7 @@ fn take_token(alloc: Global, depth: u32, reader: Reader<'_>) -> Result<Step<'_>,
 fn take_part(alloc: Global, text: OpenText, reader: Reader<'_>) -> Result<Step<'_>, Memory>
     requires fits { Fits (state_of reader) }
     requires clean { IsClean reader.rest.now }
+    requires part { reader.mode ≡ Mode.Part text }
     ensures steps { IfOk result (λ s. TakesPart text (state_of reader.entry) (step_of s)) }
     ensures fits { IfOk result (λ s. FitsStep (state_of reader.entry) (step_of s)) }
 {
