@@ -1,9 +1,9 @@
 -- A walk over a tree writes the tree's lines.
-use Rattle.std.proofs.Common.{◌≡◌, ◌∙◌, ◌<◌, ◌≤◌, ℕ, zero, suc, ◌+◌, ◌-◌, Bool, true, false, not, List, [], ◌∷◌, ◌++◌, length, get_or, map, set, replicate, Some, None, Option, refl, sym, ap, subst, append_assoc, append-nil, arith, length-append}
+use Rattle.std.proofs.Common.{◌≡◌, ◌∙◌, ◌<◌, ◌≤◌, ℕ, zero, suc, ◌+◌, ◌-◌, Bool, true, false, cond, not, List, [], ◌∷◌, ◌++◌, length, get_or, map, set, replicate, Some, None, Option, refl, sym, ap, subst, append_assoc, append-nil, arith, length-append}
 use Rattle.std.specs.Prelude.{slice_get, slice_set}
 use Rattle.std.specs.List.{count_by, sum_by}
 use Rattle.std.proofs.Math.Nat.{sub-zero}
-use Rattle.std.proofs.lemmas.List.{length-set}
+use Rattle.std.proofs.lemmas.List.{length-set, map-append}
 use Rattle.std.proofs.lemmas.List.Sums.{sum_by-set}
 use Rattle.std.proofs.lemmas.List.Folds.{sum_by-replicate}
 use Rattle.std.proofs.lemmas.Grind.{flat_map-append}
@@ -12,10 +12,11 @@ use Rattle.rule_graph.specs.Graphs.{path_of}
 use Rattle.report_texts.specs.Texts.{line_text}
 use Rattle.scons_report.specs.declared.tree.Form.{Form}
 use Rattle.scons_report.specs.declared.tree.Form.TheVariants.{Leaf, Open, Pruned}
+use Rattle.scons_report.specs.declared.tree.Level.{Level}
 use Rattle.scons_report.specs.declared.tree.Next.{Next}
 use Rattle.scons_report.specs.declared.tree.Walk.{Walk}
 use Rattle.scons_report.specs.Trees.{Shown, Written, Writer, followed, nothing, one_line, piece, row, row_by, row_text, name_text, form_of, rows, below, is_last, text_of, tree_lines, tree_text}
-use Rattle.scons_report.specs.Walks.{Side, side, sides_of, margin_of, over, remaining, text_left, with_next, Takes, IsOver, IsWithin, IsBegun, GoesBelow}
+use Rattle.scons_report.specs.Walks.{Side, side, side_of, sides_of, margin_of, over, remaining, text_left, with_next, Takes, IsOver, IsWithin, IsBegun, GoesBelow}
 
 same_lines : (a b : Written) → a.lines ≡ b.lines → a.open_nodes ≡ b.open_nodes → a ≡ b
 same_lines a b p q = cc
@@ -85,8 +86,192 @@ pub record Leads (line whole : List ℕ) : Type 0 where
   pub more : List ℕ
   pub parts : whole ≡ line ++ more
 
-text_both : (a : Written) (f : List Bool → Written) → text_of (followed a f).lines ≡ text_of a.lines ++ text_of (f a.open_nodes).lines
-text_both a f = flat_map-append line_text a.lines (f a.open_nodes).lines
+-- a node's line stands first, whatever stands below it and behind it
+row_leads : (form : Form) (shown : Shown) (writer : Writer) (margin : List ℕ) (last : Bool) (n : NodeId) (marks : List Bool) (rest : List Bool → Written) →
+    Leads (line_text (row_text margin (name_text form (path_of shown.nodes n)))) (text_of (followed (row_by form shown writer margin last n marks) rest).lines)
+row_leads Leaf shown writer margin last n marks rest = record { more = text_of (rest marks).lines; parts = refl }
+row_leads Pruned shown writer margin last n marks rest = record { more = text_of (rest marks).lines; parts = refl }
+row_leads Open shown writer margin last n marks rest =
+    let under = writer (margin ++ piece last) (slice_set marks n.0 true) (shown.children n) in
+    record { more = text_of (under.lines ++ (rest under.open_nodes).lines); parts = refl }
 
-text_one : (line : List ℕ) (marks : List Bool) → text_of (one_line line marks).lines ≡ line_text line
-text_one line marks = append-nil (line_text line)
+-- a node that stands with its children didn't before
+open_new : (children : List NodeId) (was_open : Bool) → form_of children was_open ≡ Open → was_open ≡ false
+open_new [] was_open e = cc
+open_new (n ∷ children) true e = cc
+open_new (n ∷ children) false e = refl
+
+-- one node less doesn't stand with its children
+count_open : (marks : List Bool) (n : ℕ) → n < length marks → get_or marks n false ≡ false → count_by not (slice_set marks n true) + 1 ≡ count_by not marks
+count_open marks n lt e =
+    let f : Bool → ℕ = λ x. cond (not x) 1 0 in
+    let h = sum_by-set f marks n true false lt in
+    let one : f (get_or marks n false) ≡ 1 = ap f e in
+    omega (arith, h, one)
+
+count_none : (n : ℕ) → count_by not (replicate n false) ≡ n
+count_none n = omega (arith, sum_by-replicate (λ x. cond (not x) 1 0) n false)
+
+within_new : (nodes : ℕ) (old new : Walk) → IsWithin nodes old → sides_of new ≡ sides_of old → new.is_open ≡ old.is_open → IsWithin nodes new
+within_new nodes old new w s m = record {
+  marks = rw m w.marks;
+  deep = rw (s, m) w.deep;
+}
+
+-- what is left is the same
+left_new : (shown : Shown) (nodes : ℕ) (old new : Walk) → sides_of new ≡ sides_of old → new.is_open ≡ old.is_open → remaining shown nodes new ≡ remaining shown nodes old
+left_new shown nodes old new s m = rw (s, m) refl
+
+module _ (shown : Shown) (nodes : ℕ) (old new : Walk) (next : Next) (w : IsWithin nodes old) (lt : next.node.0 < nodes) where
+  abbrev line : Form → List ℕ
+  line form = line_text (row_text (margin_of [] (sides_of old)) (name_text form (path_of shown.nodes next.node)))
+
+  -- what is next and behind it, where the node stands so
+  abbrev as_form : Form → Written
+  as_form form =
+      followed (row_by form shown (below shown (nodes + 1 - length (sides_of old))) (margin_of [] (sides_of old)) next.is_last next.node old.is_open.items)
+      (λ opened. over shown nodes [] (sides_of old) opened)
+
+  still_by : (form : Form) → form ≡ form_of (shown.children next.node) (get_or old.is_open.items next.node.0 false)
+      → GoesBelow form old new next (shown.children next.node) → IsWithin nodes new
+  still_by Leaf is g = within_new nodes old new w g.0 g.1
+  still_by Pruned is g = within_new nodes old new w g.0 g.1
+  still_by Open is g =
+      let marks = old.is_open.items in
+      let n = next.node.0 in
+      let here : n < length marks = rw w.marks lt in
+      let closed : get_or marks n false ≡ false = open_new (shown.children next.node) (get_or marks n false) (sym is) in
+      let count = count_open marks n here closed in
+      let longer : length (sides_of new) ≡ suc (length (sides_of old)) = ap length g.0 ∙ length_push (sides_of old) (side (shown.children next.node) next.is_last) in
+      let fewer : count_by not new.is_open.items ≡ count_by not (slice_set marks n true) = ap (λ (m : List Bool). count_by not m) g.1 in
+      let deep = w.deep in
+      let long : length new.is_open.items ≡ length marks = ap length g.1 ∙ length-set marks n true in
+      record { marks = long ∙ w.marks; deep = omega (arith, count, longer, fewer, deep) }
+
+  goes_by : (form : Form) → form ≡ form_of (shown.children next.node) (get_or old.is_open.items next.node.0 false)
+      → GoesBelow form old new next (shown.children next.node) → text_of (as_form form).lines ≡ line form ++ text_left shown nodes new
+  goes_by Leaf is g = ap (λ (x : Written). line Leaf ++ text_of x.lines) (sym (left_new shown nodes old new g.0 g.1))
+  goes_by Pruned is g = ap (λ (x : Written). line Pruned ++ text_of x.lines) (sym (left_new shown nodes old new g.0 g.1))
+  goes_by Open is g =
+      let marks = old.is_open.items in
+      let n = next.node.0 in
+      let sides = sides_of old in
+      let opened = slice_set marks n true in
+      let children = shown.children next.node in
+      let here : n < length marks = rw w.marks lt in
+      let closed : get_or marks n false ≡ false = open_new children (get_or marks n false) (sym is) in
+      let count = count_open marks n here closed in
+      let deep = w.deep in
+      let room : nodes + 1 - length sides ≡ suc (nodes - length sides) = omega (arith, count, deep) in
+      let margin = margin_of [] sides ++ piece next.is_last in
+      let tail : List Bool → Written = λ m. over shown nodes [] sides m in
+      let first : below shown (nodes + 1 - length sides) margin opened children ≡ rows shown (below shown (nodes - length sides)) margin opened children =
+          ap (λ (d : ℕ). below shown d margin opened children) room in
+      let pushed : remaining shown nodes new ≡ followed (rows shown (below shown (nodes - length sides)) margin opened children) tail =
+          ap (λ (s : List Side). over shown nodes [] s new.is_open.items) g.0
+          ∙ (ap (λ (m : List Bool). over shown nodes [] (sides ++ side children next.is_last ∷ []) m) g.1
+          ∙ (over_push shown nodes [] sides (side children next.is_last) opened
+          ∙ ap (λ (m : List ℕ). followed (rows shown (below shown (nodes - length sides)) m opened children) tail) (margin_push [] sides (side children next.is_last)))) in
+      ap (λ (x : Written). line Open ++ text_of (followed x tail).lines) first ∙ ap (λ (x : Written). line Open ++ text_of x.lines) (sym pushed)
+
+-- What is next and behind it is its line, and what is left once its children are next.
+module _ (shown : Shown) (nodes : ℕ) (old new : Walk) (next : Next) (form : Form)
+    (is : form ≡ form_of (shown.children next.node) (get_or old.is_open.items next.node.0 false)) (w : IsWithin nodes old) (lt : next.node.0 < nodes) where
+  pub leads : Leads (line_text (row_text (margin_of [] (sides_of old)) (name_text form (path_of shown.nodes next.node)))) (text_of (with_next shown nodes next old).lines)
+  leads =
+      let first = row_leads form shown (below shown (nodes + 1 - length (sides_of old))) (margin_of [] (sides_of old)) next.is_last next.node old.is_open.items (λ opened. over shown nodes [] (sides_of old) opened) in
+      subst (λ (f : Form). Leads (line_text (row_text (margin_of [] (sides_of old)) (name_text form (path_of shown.nodes next.node)))) (text_of (as_form shown nodes old new next w lt f).lines)) is first
+
+  pub goes : GoesBelow form old new next (shown.children next.node) →
+      text_of (with_next shown nodes next old).lines
+      ≡ line_text (row_text (margin_of [] (sides_of old)) (name_text form (path_of shown.nodes next.node))) ++ text_left shown nodes new
+  goes g = sym (ap (λ (f : Form). text_of (as_form shown nodes old new next w lt f).lines) is) ∙ goes_by shown nodes old new next w lt form is g
+
+  pub still : GoesBelow form old new next (shown.children next.node) → IsWithin nodes new
+  still g = still_by shown nodes old new next w lt form is g
+
+-- as a walk begins it has room, and all that stands below the word is left
+pub begun_within : (nodes : ℕ) (children : List NodeId) (walk : Walk) → IsBegun nodes children walk → IsWithin nodes walk
+begun_within nodes children walk b = record {
+  marks = rw b.marks (length_none nodes);
+  deep =
+      let one : length (sides_of walk) ≡ 1 = ap length b.sides in
+      let all : count_by not walk.is_open.items ≡ nodes = ap (λ (m : List Bool). count_by not m) b.marks ∙ count_none nodes in
+      omega (arith, one, all);
+}
+  where
+    length_none : (n : ℕ) → length (replicate n false) ≡ n
+    length_none zero = refl
+    length_none (suc n) = ap suc (length_none n)
+
+pub begun_left : (shown : Shown) (word : List ℕ) (children : List NodeId) (walk : Walk) → IsBegun (length shown.nodes) children walk →
+    tree_text shown word children ≡ line_text (row_text [] word) ++ text_left shown (length shown.nodes) walk
+begun_left shown word children walk b =
+    let nodes = length shown.nodes in
+    let left : remaining shown nodes walk ≡ rows shown (below shown nodes) (piece true) (replicate nodes false) children =
+        ap (λ (s : List Side). over shown nodes [] s walk.is_open.items) b.sides
+        ∙ ap (λ (m : List Bool). over shown nodes [] (side children true ∷ []) m) b.marks in
+    ap (λ (x : Written). line_text (row_text [] word) ++ text_of x.lines) (sym left)
+
+-- nothing is left
+pub over_left : (shown : Shown) (nodes : ℕ) (walk : Walk) → IsOver walk → text_left shown nodes walk ≡ []
+over_left shown nodes walk o = ap (λ (x : Written). text_of x.lines) (o.nothing_left shown nodes [] walk.is_open.items)
+
+-- ---- the next node
+
+module _ (old new : List Level) (level : Level) (is : old ≡ new ++ level ∷ []) where
+  sides_push : map side_of old ≡ map side_of new ++ side_of level ∷ []
+  sides_push = ap (λ (ls : List Level). map side_of ls) is ∙ map-append side_of new (level ∷ [])
+
+-- a level with nothing left is nothing
+pub dropped : (old new : List Level) (level : Level) → old ≡ new ++ level ∷ [] → level.left.now ≡ [] →
+    (shown : Shown) (depth : ℕ) (margin : List ℕ) (marks : List Bool) → over shown depth margin (map side_of old) marks ≡ over shown depth margin (map side_of new) marks
+dropped old new level is empty shown depth margin marks =
+    let sides = map side_of new in
+    ap (λ (s : List Side). over shown depth margin s marks) (sides_push old new level is)
+    ∙ (over_push shown depth margin sides (side_of level) marks
+    ∙ ap (λ (left : List NodeId). followed (rows shown (below shown (depth - length sides)) (margin_of margin (sides ++ side_of level ∷ [])) marks left) (λ opened. over shown depth margin sides opened)) empty)
+
+pub fewer_dropped : (old new : List Level) (level : Level) → old ≡ new ++ level ∷ [] → length (map side_of new) ≤ length (map side_of old)
+fewer_dropped old new level is =
+    let more = ap length (sides_push old new level is) ∙ length_push (map side_of new) (side_of level) in
+    omega (arith, more)
+
+-- a node is taken off the innermost level
+pub takes : (first old new : Walk) (mid : List Level) (level last : Level) (n : NodeId) (rest : List NodeId) (next : Next) →
+    ((shown : Shown) (depth : ℕ) (margin : List ℕ) (marks : List Bool) → over shown depth margin (sides_of first) marks ≡ over shown depth margin (sides_of old) marks) →
+    length (sides_of old) ≤ length (sides_of first) → old.is_open ≡ first.is_open →
+    old.levels.items ≡ mid ++ level ∷ [] → level.left.now ≡ n ∷ rest → new.levels.items ≡ mid ++ last ∷ [] →
+    last.left.now ≡ rest → last.is_under_last ≡ level.is_under_last → next.node ≡ n → next.is_last ≡ is_last rest → new.is_open ≡ old.is_open → Takes first new next
+takes first old new mid level last n rest next same fewer marks popped left pushed left2 under node lasts marks2 =
+    let sides = map side_of mid in
+    let side_new : side_of last ≡ side rest level.is_under_last = rw (left2, under) refl in
+    let side_old : side_of level ≡ side (next.node ∷ rest) level.is_under_last = rw (left, node) refl in
+    let after = sides_push new.levels.items mid last pushed ∙ ap (λ (s : Side). sides ++ s ∷ []) side_new in
+    let here = sides_push old.levels.items mid level popped ∙ ap (λ (s : Side). sides ++ s ∷ []) side_old in
+    let count_new = ap length after ∙ length_push sides (side rest level.is_under_last) in
+    let count_old = ap length here ∙ length_push sides (side (next.node ∷ rest) level.is_under_last) in
+    record {
+      front = sides;
+      rest = rest;
+      under_last = level.is_under_last;
+      after = after;
+      before = λ shown depth margin m. same shown depth margin m ∙ ap (λ (s : List Side). over shown depth margin s m) here;
+      last = lasts;
+      fewer = omega (arith, count_new, count_old, fewer);
+      marks = marks2 ∙ marks;
+    }
+
+pub take_within : (nodes : ℕ) (old new : Walk) (next : Next) → Takes old new next → IsWithin nodes old → IsWithin nodes new
+take_within nodes old new next t w =
+    let fewer = t.fewer in
+    let deep = w.deep in
+    record {
+      marks = rw t.marks w.marks;
+      deep = let same : count_by not new.is_open.items ≡ count_by not old.is_open.items = rw t.marks refl in omega (arith, fewer, deep, same);
+    }
+
+pub take_inner : (old new : Walk) (next : Next) → Takes old new next → 0 < length (sides_of new)
+take_inner old new next t =
+    let count = ap length t.after ∙ length_push t.front (side t.rest t.under_last) in
+    omega (arith, count)

@@ -29,7 +29,7 @@ pub record TreeOf {O T : Type 0} (m : SinkMeaning O) (g : RuleGraph) (word : Lis
 -- where the files weren't looked at to their end, nothing was
 abbrev pub TreesOf : {O T : Type 0} → SinkMeaning O → RuleGraph → List ℕ → List NodeId → Bool → O → O → Result T TreeEnd → Type 0
 TreesOf m g word nodes is_node old new (Ok value) = TreeOf m g word nodes is_node old new (Ok value)
-TreesOf {O} {T} m g word nodes is_node old new (Err e) = TreeOf {O} {T} m g word nodes is_node old new (Err e) ⊎ (new ≡ old)
+TreesOf {T = T} m g word nodes is_node old new (Err e) = TreeOf {T = T} m g word nodes is_node old new (Err e) ⊎ (new ≡ old)
 
 -- a fault of the sink comes only where its count rose, one of the files only where that of the tree did
 abbrev pub HasTreeCause : {T : Type 0} → Counts → Counts → ℕ → ℕ → Result T TreeEnd → Type 0

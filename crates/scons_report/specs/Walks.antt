@@ -103,7 +103,7 @@ pub record WritesLine {O : Type 0} (m : SinkMeaning O) (whole : List ℕ) (old n
 
 abbrev WritesBy : {O T : Type 0} → SinkMeaning O → List ℕ → List ℕ → O → O → Result T TreeEnd → Type 0
 WritesBy m whole left old new (Ok value) = WritesLine m whole old new left
-WritesBy m whole left old new (Err e) = PrintsTree m whole old new (Err e)
+WritesBy {T = T} m whole left old new (Err e) = PrintsTree {T = T} m whole old new (Err e)
 
 -- So it is of a walk over a tree that is so deep at most, unless it ends there.
 abbrev pub Writes : {O T : Type 0} → SinkMeaning O → Shown → ℕ → Next → Walk → Walk → O → O → Result T TreeEnd → Type 0

@@ -1,5 +1,5 @@
 //! The tree of a request, over the files as they are.
-ghost use Rattle.std.specs.Prelude.{IfOk};
+ghost use Rattle.std.specs.Prelude.{◌≡◌, IfOk};
 ghost use Rattle.scons_report.specs.Asked.{children_asked, HasTreeCause, TreesOf};
 ghost use Rattle.scons_report.specs.Causes.{HasListCause};
 ghost use Rattle.task_plan.specs.Plans.{IsIdle};

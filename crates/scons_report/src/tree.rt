@@ -83,7 +83,7 @@ fn print_rows<'a, O: Sink>(
     mut walk: Walk<'a>,
     out: &mut O,
 ) -> Result<(), TreeEnd>
-    requires { IsWithin (length graph.now.nodes) walk.entry }
+    requires { IsWithin (length graph.now.nodes) walk }
     ensures { PrintsTree O.meaning (text_left (shown_in graph.now plan.now) (length graph.now.nodes) walk.entry) out.old out.new result }
 {
     for _row in 0..u64::MAX {

@@ -2,3 +2,4 @@ mod Watching
 mod Early
 mod Causing
 mod Reporting
+mod Shown

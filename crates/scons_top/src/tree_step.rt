@@ -3,7 +3,7 @@ ghost use Rattle.std.specs.Prelude.{◌≡◌, IfErr, IfOk};
 ghost use Rattle.scons_top.specs.Faults.{IsLateStop, EarlyOnlyIf};
 ghost use Rattle.scons_top.specs.Stops.{Reports};
 ghost use Rattle.scons_top.specs.Trees.{AreTreesCaused};
-ghost use Rattle.world_api.specs.Looks.{Looks};
+ghost use Rattle.scons_top.specs.Watching.{Watches};
 ghost use Rattle.world_api.specs.Statuses.{HasStatus};
 
 use crate::dry_step::end_with;
@@ -32,7 +32,7 @@ pub(crate) fn tell_trees<W: World, O: Sink, E: Sink>(
     out: &mut O,
     err: &mut E,
 ) -> Result<Report, Stop>
-    ensures looks { Looks W.meaning world.old world.new }
+    ensures watches { Watches W.meaning world.old world.new }
     ensures reports { Reports W.meaning O.meaning E.meaning world.old out.old err.old world.new out.new err.new result }
     ensures late { IfErr result IsLateStop }
     ensures faults { IfOk result (λ report. EarlyOnlyIf ⊥ report.faults) }
@@ -59,22 +59,36 @@ fn print_trees<W: World, O: Sink>(
     world: &mut W,
     out: &mut O,
 ) -> Result<(), TreeEnd>
-    ensures looks { Looks W.meaning world.old world.new }
+    ensures watches { Watches W.meaning world.old world.new }
     ensures cause { AreTreesCaused W.meaning O.meaning world.old out.old world.new out.new result }
 {
     for request in requests {
-        let word = request.word.as_str();
-        let nodes = request.nodes.as_slice();
-        tree_text(
-            alloc,
-            graph,
-            declared,
-            word,
-            nodes,
-            request.is_node,
-            world,
-            out,
-        )?;
+        print_tree(alloc, graph, declared, request, world, out)?;
     }
     Ok(())
+}
+
+fn print_tree<W: World, O: Sink>(
+    alloc: Global,
+    graph: &mut Graph,
+    declared: u32,
+    request: &Request,
+    world: &mut W,
+    out: &mut O,
+) -> Result<(), TreeEnd>
+    ensures watches { Watches W.meaning world.old world.new }
+    ensures cause { AreTreesCaused W.meaning O.meaning world.old out.old world.new out.new result }
+{
+    let word = request.word.as_str();
+    let nodes = request.nodes.as_slice();
+    tree_text(
+        alloc,
+        graph,
+        declared,
+        word,
+        nodes,
+        request.is_node,
+        world,
+        out,
+    )
 }
