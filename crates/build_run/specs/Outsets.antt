@@ -1,5 +1,5 @@
 -- What a build did, from what it began with.
-use Rattle.std.specs.Prelude.{◌≡◌, ℕ, true, false, List, [], length}
+use Rattle.std.specs.Prelude.{◌≡◌, ℕ, Bool, true, false, List, [], length}
 use Rattle.scons_base.specs.Rising.{Rose}
 use Rattle.scons_base.specs.declared.ids.NodeId.{NodeId}
 use Rattle.world_api.specs.Around.{Around}
@@ -135,7 +135,7 @@ FinishesWell g plan old new = (old.is_ended ≡ true → is_faulted old ≡ true
 -- ---- builds
 
 -- What a build did: leftover copies went, with their records, and from there it took these steps.
-pub record HasRun {W : Type 0} (m : Meaning W) (w : Wanted) (map : Map) (old new : W) (behind : Map) (answer : BuildEnd) : Type 0 where
+pub record HasRun {W : Type 0} (m : Meaning W) (w : Wanted) (map : Map) (old new : W) (behind : Map) (ended : Bool) : Type 0 where
   pub left : Around
   pub kept : Map
   pub rest : LeavesRest (IsLeftAt w.graph (m.around old) map) (m.around old) map left kept
@@ -144,7 +144,7 @@ pub record HasRun {W : Type 0} (m : Meaning W) (w : Wanted) (map : Map) (old new
   pub records : (Rose (m.counts old).disk_faults (m.counts new).disk_faults → ⊥) →
       KeepsRecords w kept left (m.around new) runs.steps behind
   -- for none of the needed rules anything is left to do, unless a fault came after which nothing new starts
-  pub rests : answer.is_ended ≡ false → Rests w kept left (m.around new) runs.steps
+  pub rests : ended ≡ false → Rests w kept left (m.around new) runs.steps
 
 -- What a build did that ended well, and that its steps left these records.
 pub record HasSucceeded {W : Type 0} (m : Meaning W) (w : Wanted) (map : Map) (old new : W) (behind : Map) : Type 0 where
@@ -157,7 +157,7 @@ pub record HasSucceeded {W : Type 0} (m : Meaning W) (w : Wanted) (map : Map) (o
 -- So builds do, in a world that tells and is sure, where the requested nodes are the graph's.
 abbrev pub BuildRuns : {W : Type 0} → Meaning W → Wanted → Map → W → W → Map → BuildEnd → Type 0
 BuildRuns m w map old new behind answer =
-    m.tells new → m.sure new → are_below (length w.graph.nodes) w.requested ≡ true → HasRun m w map old new behind answer
+    m.tells new → m.sure new → are_below (length w.graph.nodes) w.requested ≡ true → HasRun m w map old new behind answer.is_ended
 
 -- and those that report nothing succeed
 abbrev pub BuildSucceeds : {W : Type 0} → Meaning W → Wanted → Map → W → W → Map → BuildEnd → Type 0
