@@ -303,47 +303,47 @@ module _ (o : Outset) where
         (busy : Busy) (among : Contains book.running busy) (makes : busy.hold.targets ≡ r.targets)
         (running : (one : Busy) → Contains after.running one → Contains book.running one)
         (tickets : (one : Busy) (rec : Rec) → Contains after.running one → IsTicket book.store rec one.ticket → IsTicket after.store rec one.ticket)
-        where
-      others_still : (well : Bool) → (one : Busy) → Contains after.running one → IsBooked o new (Ended r well ∷ past) after.store one
-      others_still well one h =
-          let is = are.each one (running one h) in
-          one_on old new past (Ended r well ∷ past) book.store after.store one is is.stands (λ t. tickets one is.rec h t)
-          (λ e. (stays o outset jobs old new past way writes).to_have is.rule is.rec is.stands e)
+      where
+        others_still : (well : Bool) → (one : Busy) → Contains after.running one → IsBooked o new (Ended r well ∷ past) after.store one
+        others_still well one h =
+            let is = are.each one (running one h) in
+            one_on old new past (Ended r well ∷ past) book.store after.store one is is.stands (λ t. tickets one is.rec h t)
+            (λ e. (stays o outset jobs old new past way writes).to_have is.rule is.rec is.stands e)
 
-      failed_booked : map_with after.store after.held ≡ map_with book.store book.held → AreBooked o new (Ended r false ∷ past) after
-      failed_booked kept = record {
-        records = subst (λ (map : Map). AreRecorded o new (Ended r false ∷ past) map) (sym kept)
-            (ends_with o outset jobs old new past r (map_with book.store book.held) way runs writes are.records).failed;
-        each = others_still false;
-      }
+        failed_booked : map_with after.store after.held ≡ map_with book.store book.held → AreBooked o new (Ended r false ∷ past) after
+        failed_booked kept = record {
+          records = subst (λ (map : Map). AreRecorded o new (Ended r false ∷ past) map) (sym kept)
+              (ends_with o outset jobs old new past r (map_with book.store book.held) way runs writes are.records).failed;
+          each = others_still false;
+        }
 
-      done_booked : ((rec : Rec) → IsTicket book.store rec busy.ticket →
-          map_with after.store after.held ≡ with_each rec.targets (Some rec) (map_with book.store book.held)) →
-          AreBooked o new (Ended r true ∷ past) after
-      done_booked puts =
-          let is = are.each busy among in
-          let same : is.rule ≡ r = same_rule is.rule r is.stands runs.began (sym is.makes ∙ makes) in
-          let own : is.rec.targets ≡ r.targets = is.same ∙ ap (λ (x : Rule). x.targets) same in
-          let now = puts is.rec is.ticket in
-          record {
-            records =
-                (ends_with o outset jobs old new past r (map_with book.store book.held) way runs writes are.records).well is.rec
-                (map_with after.store after.held)
-                (subst (λ (x : Rule). IsRecordOf o old x is.rec) same is.to_have)
-                (λ path m.
-                ap (λ (map : Map). map path) now
-                ∙ with_own is.rec.targets is.rec (map_with book.store book.held) path
-                (subst (λ (paths : List Path). Contains paths path) (sym own) m))
-                (λ path out.
-                ap (λ (map : Map). map path) now
-                ∙ with_others is.rec.targets (Some is.rec) (map_with book.store book.held) path
-                (λ h. out (subst (λ (paths : List Path). Contains paths path) own h)));
-            each = others_still true;
-          }
+        done_booked : ((rec : Rec) → IsTicket book.store rec busy.ticket →
+            map_with after.store after.held ≡ with_each rec.targets (Some rec) (map_with book.store book.held)) →
+            AreBooked o new (Ended r true ∷ past) after
+        done_booked puts =
+            let is = are.each busy among in
+            let same : is.rule ≡ r = same_rule is.rule r is.stands runs.began (sym is.makes ∙ makes) in
+            let own : is.rec.targets ≡ r.targets = is.same ∙ ap (λ (x : Rule). x.targets) same in
+            let now = puts is.rec is.ticket in
+            record {
+              records =
+                  (ends_with o outset jobs old new past r (map_with book.store book.held) way runs writes are.records).well is.rec
+                  (map_with after.store after.held)
+                  (subst (λ (x : Rule). IsRecordOf o old x is.rec) same is.to_have)
+                  (λ path m.
+                  ap (λ (map : Map). map path) now
+                  ∙ with_own is.rec.targets is.rec (map_with book.store book.held) path
+                  (subst (λ (paths : List Path). Contains paths path) (sym own) m))
+                  (λ path out.
+                  ap (λ (map : Map). map path) now
+                  ∙ with_others is.rec.targets (Some is.rec) (map_with book.store book.held) path
+                  (λ h. out (subst (λ (paths : List Path). Contains paths path) own h)));
+              each = others_still true;
+            }
 
-      pub ended_booked : (well : Bool) → (well ≡ false → map_with after.store after.held ≡ map_with book.store book.held) →
-          (well ≡ true → (rec : Rec) → IsTicket book.store rec busy.ticket →
-          map_with after.store after.held ≡ with_each rec.targets (Some rec) (map_with book.store book.held)) →
-          AreBooked o new (Ended r well ∷ past) after
-      ended_booked true kept puts = done_booked (puts refl)
-      ended_booked false kept puts = failed_booked (kept refl)
+        pub ended_booked : (well : Bool) → (well ≡ false → map_with after.store after.held ≡ map_with book.store book.held) →
+            (well ≡ true → (rec : Rec) → IsTicket book.store rec busy.ticket →
+            map_with after.store after.held ≡ with_each rec.targets (Some rec) (map_with book.store book.held)) →
+            AreBooked o new (Ended r well ∷ past) after
+        ended_booked true kept puts = done_booked (puts refl)
+        ended_booked false kept puts = failed_booked (kept refl)
