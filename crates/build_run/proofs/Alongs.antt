@@ -1,5 +1,5 @@
 -- How a build goes along when it is told what came of a turn, and from turn to turn.
-use Rattle.std.proofs.Common.{◌≡◌, ◌⊎◌, inl, inr, Bool, true, false, ◌||◌, List, [], ◌∷◌, Contains, length, ap, refl, sym, subst, ◌∙◌}
+use Rattle.std.proofs.Common.{◌≡◌, ◌⊎◌, inl, inr, Bool, true, false, ◌||◌, [], ◌∷◌, length, ap, refl, sym, subst, ◌∙◌}
 use Rattle.std.specs.Prelude.{Result, Ok, Err, nat_lt}
 use Rattle.world_api.specs.Around.{Around}
 use Rattle.world_api.specs.Meaning.{Meaning, Told}
@@ -19,7 +19,6 @@ use Rattle.turn_means.proofs.Turns.{ends, halts}
 use Rattle.build_run.specs.Along.{ComesOn, EndsOn, HoldsFewer, KeepsEnds, KeepsKnown, StandsPut, was_put, was_refused, GoesAlong, GoesOn, GoesWell, IsAlong, IsEnd, IsOn, IsReliable, IsWantedOf, Leads, RestsAlong, StaysAlong, StepsOr, Tells, TellsAlong, is_faulted, standing_of, stepped, wanted}
 use Rattle.sign_store.specs.Stores.{KeepsTickets}
 use Rattle.build_run.specs.Books.{Book, AreBooked, book_of}
-use Rattle.build_run.specs.Holds.{Busy}
 use Rattle.build_run.specs.Sites.{KeepsRecords, SitePuts, most_jobs, records_of}
 use Rattle.build_run.specs.declared.building.Options.{Options}
 use Rattle.build_run.specs.declared.account.Account.{Account}

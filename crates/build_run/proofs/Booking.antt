@@ -23,7 +23,7 @@ use Rattle.build_model.specs.Steps.{Step, Fresh, Began, Ended, Lacks, Halts, beg
 use Rattle.run_means.specs.Clears.{Clears}
 use Rattle.run_means.proofs.Clearing.{calls_clear}
 use Rattle.turn_means.specs.Standing.{Outset, IsOutset, Standing, setting_at}
-use Rattle.turn_means.specs.Recording.{IsWayTo, AreRecorded, IsRecordOf, KeepsOthers, HaveRecord, HaveNone, HasRecord, build_at}
+use Rattle.turn_means.specs.Recording.{IsWayTo, AreRecorded, IsRecordOf, KeepsOthers, HaveNone, build_at}
 use Rattle.turn_means.specs.Writing.{Writes}
 use Rattle.turn_means.proofs.Recording.{begins_without, begun_others, ends_with, leaves, stays}
 use Rattle.turn_means.proofs.Jobs.{run_before, run_either}

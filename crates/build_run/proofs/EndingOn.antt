@@ -1,5 +1,5 @@
 -- How a build goes along behind an ending.
-use Rattle.std.proofs.Common.{◌≡◌, ◌∙◌, ◌⊎◌, ◌++◌, ◌∷◌, [], ℕ, Bool, true, false, List, Option, Some, Contains, length, ◌≤◌, ap, cond, inl, inr, refl, subst, sym, arith}
+use Rattle.std.proofs.Common.{◌≡◌, ◌∙◌, ◌⊎◌, ◌++◌, ◌∷◌, [], ℕ, Bool, true, false, List, Some, Contains, length, ◌≤◌, ap, inl, inr, refl, subst, sym, arith}
 use Rattle.std.proofs.lemmas.List.{length-map}
 use Rattle.world_api.specs.Around.{Around, Running, IsRunningTarget}
 use Rattle.world_api.specs.Calls.{Ends}
@@ -12,7 +12,7 @@ use Rattle.world_api.specs.declared.job.Outcome.TheVariants.{Done, Failed, Broke
 use Rattle.scons_base.specs.declared.ids.RuleId.{RuleId}
 use Rattle.deciders.specs.declared.recorded.Rec.{Rec}
 use Rattle.sign_store.specs.Stores.{IsTicket}
-use Rattle.sign_store.specs.Tables.{Map, is_among, with_each}
+use Rattle.sign_store.specs.Tables.{Map, with_each}
 use Rattle.sign_store.specs.declared.store.Store.{Store}
 use Rattle.task_plan.specs.declared.want.PlanEvent.TheVariants as told
 use Rattle.rule_graph.specs.Graphs.{RuleGraph}
@@ -20,7 +20,7 @@ use Rattle.task_plan.specs.Plans.{Planned, is_halt, is_scan}
 use Rattle.task_plan.specs.Watched.{IsStill}
 use Rattle.task_plan.specs.declared.want.Want.TheVariants as want
 use Rattle.task_plan.specs.declared.want.PlanEvent.{PlanEvent}
-use Rattle.build_model.specs.Rules.{Path, Rule, Among, here, there}
+use Rattle.build_model.specs.Rules.{Path, Rule, Among, here}
 use Rattle.build_model.specs.Steps as model
 use Rattle.build_model.specs.Moments.{Job as Given}
 use Rattle.build_model.specs.Steps.{Step, IsRunning, began, is_over, running}

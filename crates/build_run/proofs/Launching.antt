@@ -1,6 +1,5 @@
 -- What is left of the book where a job starts, or is refused.
-use Rattle.std.proofs.Common.{◌≡◌, ◌∙◌, ◌++◌, Bool, true, false, List, [], Contains, ap, refl, sym, subst}
-use Rattle.world_api.specs.Around.{Around}
+use Rattle.std.proofs.Common.{◌≡◌, ◌∙◌, ◌++◌, Bool, true, false, List, [], Contains, ap, refl, subst}
 use Rattle.world_api.specs.Meaning.{Meaning}
 use Rattle.deciders.specs.declared.recorded.Rec.{Rec}
 use Rattle.sign_store.specs.Putting.{map_with}

@@ -1,6 +1,5 @@
-use Rattle.std.proofs.Common.{◌≢◌, ◌∙◌, ◌++◌, ◌∷◌, List, [], Contains, ap, append_assoc, arith, length, length-append, refl, subst, sym}
+use Rattle.std.proofs.Common.{◌∙◌, ◌++◌, ◌∷◌, List, [], Contains, ap, append_assoc, arith, length, length-append, refl, subst, sym}
 use Rattle.std.proofs.lemmas.List.{map-append}
-use Rattle.std.proofs.lemmas.List.Elements.{Contains-append_left, Contains-append_right}
 use Rattle.sign_store.specs.Tables.{Map}
 use Rattle.build_run.specs.Holds.{Busy, holds_in, hold_for}
 use Rattle.build_run.specs.Goings.{IsJoined}
@@ -9,7 +8,7 @@ use Rattle.build_run.specs.Outs.{IsOutFor, IsStored}
 use Rattle.build_run.specs.declared.tickets.Hold.{Hold}
 use Rattle.build_run.proofs.Causing.{exit_same, exit_inside, inside, shut_fault}
 use Rattle.build_run.proofs.Goings.{passes_here}
-use Rattle.build_run.proofs.Outs.{apart_both, held_alike, kept_held, no_more_held, outs_front, own_after, own_room, stored_prepared, stored_beside, stored_added, unheld_still}
+use Rattle.build_run.proofs.Outs.{apart_both, kept_held, no_more_held, own_after, own_room, stored_prepared, stored_beside, stored_added, unheld_still}
 use Rattle.build_run.specs.Books.{book_of}
 use Rattle.build_run.proofs.Alongs.{along_ends}
 use Rattle.build_run.proofs.Booking.{store_book}
