@@ -20,6 +20,7 @@ use Rattle.turn_means.specs.Standing.{Outset}
 use Rattle.build_run.specs.Along.{is_faulted}
 use Rattle.build_run.specs.Ledgers.{Ledger, ledger_of, blank}
 use Rattle.build_run.specs.Outsets.{wanted_of, BuildRuns, BuildSucceeds, HasMade, HasSetOut, IsBlank, IsReadyFor, Leaves, MakesAll, SetsOut, SetsOutBehind}
+use Rattle.build_run.specs.Safe.{HasOutset}
 use Rattle.build_run.specs.Takes.{IsLeftAt}
 use Rattle.build_run.specs.declared.account.Account.{Account}
 use Rattle.build_run.specs.declared.building.Options.{Options}
@@ -61,14 +62,11 @@ module _ {W : Type 0} (m : Meaning W) (g : RuleGraph) (requested : List NodeId) 
   abbrev w : Wanted
   w = wanted_of g requested options
 
-  module _ (h : RuleGraph) (run : Run) (account after : Account) (back : m.tells b → m.tells a) (told : m.tells c → m.tells b)
-      (same : m.counts b ≡ m.counts a)
-      (sets : SetsOutBehind m g requested options.hash a store h b mid run) (first : IsBlank account)
-      (last : Store) (makes : MakesAll m h run mid b account options c after last)
-      (rose : after.is_store_shut ≡ true → Rose (m.counts a).disk_faults (m.counts c).disk_faults) where
-    module _ (tells : m.tells c) (sure : m.sure c) (below : are_below (length g.nodes) requested ≡ true) where
+  module _ (h : RuleGraph) (run : Run) (account : Account) (back : m.tells b → m.tells a) (same : m.counts b ≡ m.counts a)
+      (sets : SetsOutBehind m g requested options.hash a store h b mid run) (first : IsBlank account) where
+    module _ (tells : m.tells b) (below : are_below (length g.nodes) requested ≡ true) where
       has : HasSetOut m g requested options.hash a (map_of store) h run b (map_of mid)
-      has = sets (told tells) (rest (back (told tells))) below
+      has = sets tells (rest (back tells)) below
 
       abbrev o : Outset
       o = record { wanted = w; kept = map_of mid; counts = m.counts a; before = has.left }
@@ -83,30 +81,36 @@ module _ {W : Type 0} (m : Meaning W) (g : RuleGraph) (requested : List NodeId) 
         blank = first;
       }
 
-      made : HasMade o (m.around c) after (map_of last)
-      made = makes tells sure o ready
+      pub has_outset : HasOutset m h run mid b account options
+      has_outset = record { o = o; ready = ready }
 
-    pub build_ran : (answer : BuildEnd) → answer.is_ended ≡ after.is_ended → BuildRuns m w (map_of store) a c (map_of last) answer
-    build_ran answer same = λ tells sure below. record {
-      left = (has tells sure below).left;
-      kept = map_of mid;
-      rest = (has tells sure below).rest;
-      runs = (made tells sure below).runs;
-      records = λ calm. (made tells sure below).records (not_true after.is_store_shut (λ e. calm (rose e)));
-      rests = λ e. (made tells sure below).rests (sym same ∙ e);
-    }
+    module _ (after : Account) (told : m.tells c → m.tells b) (last : Store) (makes : MakesAll m h run mid b account options c after last)
+        (rose : after.is_store_shut ≡ true → Rose (m.counts a).disk_faults (m.counts c).disk_faults) where
+      made : (tells : m.tells c) → m.sure c → (below : are_below (length g.nodes) requested ≡ true) →
+          HasMade (o (told tells) below) (m.around c) after (map_of last)
+      made tells sure below = makes tells sure (o (told tells) below) (ready (told tells) below)
 
-    pub build_succeeded : (answer : BuildEnd) → (answer.faults ≡ [] → answer.memory ≡ false → is_faulted after ≡ false) →
-        BuildSucceeds m w (map_of store) a c (map_of last) answer
-    build_succeeded answer faulted = λ none memory tells sure below.
-        let well = (made tells sure below).succeeds (faulted none memory) in
-        record {
-          left = (has tells sure below).left;
-          kept = map_of mid;
-          rest = (has tells sure below).rest;
-          succeeded = well.succeeded;
-          records = well.records;
-        }
+      pub build_ran : (answer : BuildEnd) → answer.is_ended ≡ after.is_ended → BuildRuns m w (map_of store) a c (map_of last) answer
+      build_ran answer same = λ tells sure below. record {
+        left = (has (told tells) below).left;
+        kept = map_of mid;
+        rest = (has (told tells) below).rest;
+        runs = (made tells sure below).runs;
+        records = λ calm. (made tells sure below).records (not_true after.is_store_shut (λ e. calm (rose e)));
+        rests = λ e. (made tells sure below).rests (sym same ∙ e);
+      }
+
+      pub build_succeeded : (answer : BuildEnd) → (answer.faults ≡ [] → answer.memory ≡ false → is_faulted after ≡ false) →
+          BuildSucceeds m w (map_of store) a c (map_of last) answer
+      build_succeeded answer faulted = λ none memory tells sure below.
+          let well = (made tells sure below).succeeds (faulted none memory) in
+          record {
+            left = (has (told tells) below).left;
+            kept = map_of mid;
+            rest = (has (told tells) below).rest;
+            succeeded = well.succeeded;
+            records = well.records;
+          }
 
   -- or nothing is made
   pub build_refused : (m.tells c → m.tells a) → Leaves m a store c mid (IsLeftAt g (m.around a) (map_of store)) → (answer : BuildEnd) →

@@ -20,3 +20,10 @@ mod Leaving
 mod Outsetting
 mod Finishing
 mod Builds
+mod Safely
+mod Stopping
+mod Turning
+mod Ended
+mod Begun
+pub mod Deciding
+mod Stopped

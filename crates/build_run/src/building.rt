@@ -11,6 +11,7 @@ ghost use Rattle.build_run.specs.Causes.{BuildCauses, IsInner};
 ghost use Rattle.build_run.specs.Goings.{Goes, Passes, Stays};
 ghost use Rattle.build_run.specs.Ledgers.{ledger_of, AllAccounts, Reports};
 ghost use Rattle.build_run.specs.Outsets.{wanted_of, BuildRuns, BuildSucceeds, FinishesWell, LeavesCopies, MakesAll, SetsOut, SetsOutBehind};
+ghost use Rattle.build_run.specs.Safe.{BuildsSafely, GoesSafely, MakesSafely};
 ghost use Rattle.build_run.specs.Sites.{IsSame, SiteAccounts, most_jobs};
 ghost use Rattle.build_run.specs.Takes.{HasTakeCause};
 
@@ -75,6 +76,7 @@ pub fn build<W: World, O: Sink, E: Sink>(
     ensures causes { BuildCauses W.meaning O.meaning E.meaning world.old out.old err.old world.new out.new err.new result.faults result.memory }
     ensures runs { BuildRuns W.meaning (wanted_of graph.old requested.now options.now) (map_of store.old) world.old world.new (map_of store.new) result }
     ensures succeeds { BuildSucceeds W.meaning (wanted_of graph.old requested.now options.now) (map_of store.old) world.old world.new (map_of store.new) result }
+    ensures safe { BuildsSafely W.meaning (wanted_of graph.old requested.now options.now) world.old world.new }
 {
     graph.laws();
     let mut account = Account::new(alloc);
@@ -119,6 +121,7 @@ fn set_out<W: World>(
     ensures held { IfOk result (λ run. run.held ≡ []) }
     ensures sets { IfOk result (SetsOutBehind W.meaning graph.old requested.now hash world.old store.old graph.new world.new store.new) }
     ensures rest { OnErr result (LeavesCopies W.meaning graph.old world.old store.old world.new store.new) }
+    ensures safe { GoesSafely W.meaning world.old world.new }
 {
     take_leftovers(alloc, graph, store, world)?;
     begin(alloc, hash, graph, requested, world)
@@ -174,6 +177,7 @@ fn make_all<W: World, O: Sink, E: Sink>(
     ensures idle { W.meaning.tells world.new → (W.meaning.around world.new).running ≡ [] }
     ensures accounts { AllAccounts W.meaning O.meaning E.meaning world.old out.old err.old account.old world.new out.new err.new account.new }
     ensures makes { MakesAll W.meaning graph.old run.old store.old world.old account.old options world.new account.new store.new }
+    ensures safe { MakesSafely W.meaning graph.old run.old store.old world.old account.old options world.new }
 {
     finished_succeed();
     let mut site = Site {

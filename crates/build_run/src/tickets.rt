@@ -3,6 +3,7 @@ ghost use Rattle.std.specs.Prelude.{◌≡◌, ◌==◌, position, ◌++◌, ◌
 ghost use Rattle.build_run.specs.declared.tickets.Hold.{Hold};
 ghost use Rattle.build_run.specs.Holds.{Busy, hold_for, holds_in, without, KeepsApart};
 ghost use Rattle.build_run.specs.Outs.{ShareNone, StayOut};
+ghost use Rattle.build_run.specs.Along.{HoldsFewer};
 
 use scons_base::limits::JOB_LIMIT;
 use scons_base::{Memory, PathText, Paths, RuleId};
@@ -139,8 +140,8 @@ impl Tickets {
         ensures rule { IfSome result (λ busy. busy.hold.rule.0 ≡ id) }
         ensures among { IfSome result (λ busy. Contains self.old busy) }
         ensures outs { StayOut self.old result self.new }
+        ensures fewer { HoldsFewer self.old self.new }
         ensures none { IfNone result (self.new ≡ self.old) }
-        ensures fewer { (busy : Busy) → Contains self.new busy → Contains self.old busy }
     {
         let place = place_of(self.busy.as_slice(), id)?;
         Some(self.busy.remove(place))

@@ -1,3 +1,5 @@
+use Rattle.build_run.proofs.Outs.{unheld_still}
+use Rattle.build_run.proofs.Stopping.{same_tickets, site_called, site_looked, site_safely_on}
 use Rattle.std.proofs.Common.{ℕ, List, [], Contains, inl, refl, subst}
 use Rattle.build_run.specs.Goings.{ClearsAt}
 use Rattle.build_run.specs.Holds.{Busy, holds_in}
@@ -121,3 +123,30 @@ returns-in_err-withdraw-clause-refused g c = held_err c.from_residual-in_err-wit
 
 pub returns-clause-refused : goal.returns-clause-refused
 returns-clause-refused g c = held_err c.remove_all.result (withdrawn c.in_ok-withdraw.ensures.withdrawn.map)
+
+pub returns-in_err-make_dirs-clause-safe : goal.returns-in_err-make_dirs-clause-safe
+returns-in_err-make_dirs-clause-safe g c =
+    site_looked g.W.Disk.meaning c.args.self.now _ c.make_dirs.ensures.stays.goes.passes.told c.make_dirs.ensures.safe c.make_dirs.ensures.clears
+    (same_tickets c.args.self.now.store.now) (λ busy h. h) refl (λ unshut. unshut)
+
+pub returns-in_err-withdraw-clause-safe : goal.returns-in_err-withdraw-clause-safe
+returns-in_err-withdraw-clause-safe g c =
+    let m = g.W.Disk.meaning in
+    site_safely_on m c.args.self.now _ _ c.withdraw.ensures.goes.goes.passes.told
+    (site_looked m c.args.self.now _ c.make_dirs.ensures.stays.goes.passes.told c.make_dirs.ensures.safe c.make_dirs.ensures.clears
+    (same_tickets c.args.self.now.store.now) (λ busy h. h) refl (λ unshut. unshut))
+    c.withdraw.ensures.safe
+
+pub returns-clause-safe : goal.returns-clause-safe
+returns-clause-safe g c =
+    let m = g.W.Disk.meaning in
+    let told = c.remove_all.ensures.stays.goes.passes.told in
+    site_safely_on m c.args.self.now c.withdraw.new.self _ told
+    (site_safely_on m c.args.self.now _ _ c.withdraw.ensures.goes.goes.passes.told
+    (site_looked m c.args.self.now _ c.make_dirs.ensures.stays.goes.passes.told c.make_dirs.ensures.safe c.make_dirs.ensures.clears
+    (same_tickets c.args.self.now.store.now) (λ busy h. h) refl (λ unshut. unshut))
+    c.withdraw.ensures.safe)
+    (site_called m c.args.job.now.targets c.withdraw.new.self _ told c.remove_all.ensures.safe
+    (subst (λ (paths : List (List ℕ)). ClearsAt m paths c.withdraw.new.self.world.now c.remove_all.new.world) c.as_slice-targets.ensures c.remove_all.ensures.clears)
+    (same_tickets c.withdraw.new.self.store.now) (λ busy h. h) refl (λ unshut. unshut)
+    (unheld_still c.args.self.now.run.now.held c.withdraw.new.self.run.now.held c.args.job.now.targets c.withdraw.ensures.held c.requires.ready.beside))

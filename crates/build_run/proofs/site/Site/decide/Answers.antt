@@ -1,4 +1,6 @@
-use Rattle.std.proofs.Common.{◌∙◌, List, Contains, ap, refl, subst, sym}
+use Rattle.build_run.proofs.Deciding.{found_behind}
+use Rattle.build_run.proofs.Turning.{site_saw}
+use Rattle.std.proofs.Common.{◌∙◌, List, [], Contains, ap, refl, subst, sym}
 use Rattle.std.specs.Prelude.{Ok}
 use Rattle.sign_store.specs.Putting.{map_with}
 use Rattle.build_run.specs.Holds.{Busy}
@@ -93,3 +95,33 @@ returns-in_ok-missing-in-Lacks-clause-along g c = λ tells sure o outset along w
     let f = c.fail.ensures in
     lacks_on m o outset site _ along c.args.rule wanted.0 (p.looks.around tells) refl refl refl p.rest tells (Ok c.in_ok-now.field-0)
     c.in_ok-now.ensures.presents c.in_ok-now.ensures.cause c.in-Lacks.node (cc c.in-Lacks.is) f.ends f.faulted f.goes f.reports.shut
+
+pub returns-in_err-now-clause-safe : goal.returns-in_err-now-clause-safe
+returns-in_err-now-clause-safe g c = λ wanted s along safe.
+    let p = c.present.ensures in
+    site_saw g.W.Disk.meaning g.met.W.Disk.only_now c.args.self.now _ p.looks refl p.held p.tickets refl s safe
+
+pub returns-in_err-missing-in-Lacks-clause-safe : goal.returns-in_err-missing-in-Lacks-clause-safe
+returns-in_err-missing-in-Lacks-clause-safe g c = λ wanted s along safe.
+    let p = c.present.ensures in
+    site_saw g.W.Disk.meaning g.met.W.Disk.only_now c.args.self.now _ p.looks refl p.held p.tickets refl s safe
+
+pub returns-in_ok-missing-in-Lacks-clause-safe : goal.returns-in_ok-missing-in-Lacks-clause-safe
+returns-in_ok-missing-in-Lacks-clause-safe g c = λ wanted s along safe.
+    let p = c.present.ensures in
+    site_saw g.W.Disk.meaning g.met.W.Disk.only_now c.args.self.now _ p.looks refl p.held p.tickets c.fail.ensures.reports.shut s safe
+
+pub returns-in-Record-clause-safe : goal.returns-in-Record-clause-safe
+returns-in-Record-clause-safe g c =
+    let m = g.W.Disk.meaning in
+    let site = c.args.self.now in
+    let p = c.present.ensures in
+    found_behind m site _ c.make.new.self c.args.rule c.in-Record.now p.looks c.make.ensures.passes.passes.told
+    (site_saw m g.met.W.Disk.only_now site _ p.looks refl p.held p.tickets refl) c.make.ensures.safe
+    (λ tells o outset along chosen room.
+    let asks = p.looks.around tells in
+    (along_present m o outset site _ along c.args.rule chosen asks refl refl refl refl p.rest tells (Ok c.in_ok-now.field-0)
+    c.in_ok-now.ensures.presents c.in_ok-now.ensures.cause,
+    due_present m o outset site _ along c.args.rule chosen asks refl refl refl refl p.rest tells (Ok c.in_ok-now.field-0)
+    c.in_ok-now.ensures.presents c.in_ok-now.ensures.cause c.in-Record.now (cc c.in-Record.is)
+    (g.met.W.World.held site.world.now (p.looks.told.told tells)) room))

@@ -1,3 +1,4 @@
+use Rattle.build_run.proofs.Turning.{turn_then}
 use Rattle.std.proofs.Common.{◌∙◌, ap}
 use Rattle.world_api.specs.Around.{Around}
 use Rattle.build_run.proofs.Alongs.{goes_to_rest, still_at_rest}
@@ -32,3 +33,11 @@ returns-clause-still g c =
     let puts = c.put_held.ensures.puts in
     still_at_rest g.W.Disk.meaning _ _ _ _ puts.goes.passes.told c.take_turns.ensures.still c.take_turns.ensures.halts
     c.wait_for_all.ensures.none c.wait_for_all.ensures.halted c.put_held.ensures.known
+
+pub returns-clause-safe : goal.returns-clause-safe
+returns-clause-safe g c =
+    let m = g.W.Disk.meaning in
+    turn_then m c.args.self.now c.wait_for_all.new.self _ c.put_held.ensures.puts.goes.passes.told
+    (turn_then m c.args.self.now c.take_turns.new.self c.wait_for_all.new.self c.wait_for_all.ensures.passes.passes.told c.take_turns.ensures.safe
+    c.wait_for_all.ensures.safe)
+    c.put_held.ensures.safe

@@ -1,3 +1,6 @@
+use Rattle.build_run.proofs.Begun.{starts_behind}
+use Rattle.build_run.proofs.Stopping.{site_rests}
+use Rattle.build_run.proofs.Turning.{site_saw}
 use Rattle.std.proofs.Common.{◌∙◌, [], refl, sym}
 use Rattle.build_model.proofs.Lists.{true_false}
 use Rattle.build_files.proofs.Truths.{asked}
@@ -123,4 +126,29 @@ returns-clause-along g c = λ tells sure o outset along due.
       well = λ e.
           let well = goes.well (goes_before c.start.new.self.account.now noted ends e) in
           record { unrisen = well.unrisen; unshut = c.note_start.ensures.keeps.shut ∙ well.unshut; looked = well.looked };
+    }
+
+pub returns-in_err-is_stale-clause-safe : goal.returns-in_err-is_stale-clause-safe
+returns-in_err-is_stale-clause-safe g c = λ s safe over.
+    site_saw g.W.Disk.meaning g.met.W.Disk.only_now c.args.self.now _ c.is_stale.ensures.looks refl refl refl refl s safe
+
+pub returns-then-not-branch-clause-safe : goal.returns-then-not-branch-clause-safe
+returns-then-not-branch-clause-safe g c = λ s safe over.
+    site_saw g.W.Disk.meaning g.met.W.Disk.only_now c.args.self.now _ c.is_stale.ensures.looks refl refl refl refl s safe
+
+pub returns-in_err-start-clause-safe : goal.returns-in_err-start-clause-safe
+returns-in_err-start-clause-safe g c =
+    let m = g.W.Disk.meaning in
+    starts_behind m c.args.self.now _ c.start.new.self c.args.now c.is_stale.ensures.looks c.start.ensures.passes.passes.told
+    (site_saw m g.met.W.Disk.only_now c.args.self.now _ c.is_stale.ensures.looks refl refl refl refl) c.start.ensures.safe
+
+pub returns-clause-safe : goal.returns-clause-safe
+returns-clause-safe g c = λ s safe over.
+    let m = g.W.Disk.meaning in
+    let now = c.start.new.self in
+    let one = starts_behind m c.args.self.now _ now c.args.now c.is_stale.ensures.looks c.start.ensures.passes.passes.told
+    (site_saw m g.met.W.Disk.only_now c.args.self.now _ c.is_stale.ensures.looks refl refl refl refl) c.start.ensures.safe s safe over in
+    record {
+      moments = one.moments;
+      now = (site_rests m g.met.W.Disk.only_now now _ refl refl refl refl (λ unshut. sym c.note_start.ensures.keeps.shut ∙ unshut) s one.now).now;
     }

@@ -1,4 +1,11 @@
-use Rattle.std.proofs.Common.{◌∙◌, ◌++◌, ◌∷◌, List, [], Contains, ap, append_assoc, arith, length, length-append, refl, subst, sym}
+use Rattle.build_run.proofs.Begun.{own_launched, site_kept}
+use Rattle.build_run.proofs.Ended.{mapped}
+use Rattle.build_run.proofs.Goings.{told_here}
+use Rattle.build_run.proofs.Holding.{in_pushed}
+use Rattle.build_run.proofs.Stopping.{site_rests, site_safely_on}
+use Rattle.build_run.specs.Holds.{hold_of}
+use Rattle.build_run.specs.Safe.{AreSafeIn, HasOwnRecord}
+use Rattle.std.proofs.Common.{◌≢◌, ◌∙◌, ◌++◌, ◌∷◌, List, [], Contains, inl, inr, ap, append_assoc, arith, length, length-append, refl, subst, sym}
 use Rattle.std.proofs.lemmas.List.{map-append}
 use Rattle.sign_store.specs.Tables.{Map}
 use Rattle.build_run.specs.Holds.{Busy, holds_in, hold_for}
@@ -280,3 +287,77 @@ returns-clause-along g c = λ tells sure o outset along due is_due.
     (left_by m site now c.prepare.new.store c.in_ok-job.job.targets outs p.map p.outs c.launch.ensures.tickets c.launch.ensures.held
     (c.make_none_of.ensures c.if-not-make_none_of.false) c.launch.ensures.outs c.launch.ensures.kept c.launch.ensures.sound.stored.outs
     _ tells c.in-Err.ensures.refused refl refl))
+
+pub returns-then-self-clause-safe : goal.returns-then-self-clause-safe
+returns-then-self-clause-safe g c = λ s safe over.
+    site_rests g.W.Disk.meaning g.met.W.Disk.only_now c.args.self.now _ refl refl refl refl (λ unshut. unshut) s safe
+
+pub returns-in_err-text-clause-safe : goal.returns-in_err-text-clause-safe
+returns-in_err-text-clause-safe g c = λ s safe over.
+    site_rests g.W.Disk.meaning g.met.W.Disk.only_now c.args.self.now _ refl refl refl refl (λ unshut. unshut) s safe
+
+pub returns-in_err-job-clause-safe : goal.returns-in_err-job-clause-safe
+returns-in_err-job-clause-safe g c = λ s safe over.
+    site_rests g.W.Disk.meaning g.met.W.Disk.only_now c.args.self.now _ refl refl refl refl (λ unshut. unshut) s safe
+
+pub returns-in_err-hold-clause-safe : goal.returns-in_err-hold-clause-safe
+returns-in_err-hold-clause-safe g c = λ s safe over.
+    site_rests g.W.Disk.meaning g.met.W.Disk.only_now c.args.self.now _ refl refl refl refl (λ unshut. unshut) s safe
+
+pub returns-then-not-are_apart-clause-safe : goal.returns-then-not-are_apart-clause-safe
+returns-then-not-are_apart-clause-safe g c = λ s safe over.
+    site_rests g.W.Disk.meaning g.met.W.Disk.only_now c.args.self.now _ refl refl refl refl (λ unshut. unshut) s safe
+
+pub returns-then-not-make_none_of-clause-safe : goal.returns-then-not-make_none_of-clause-safe
+returns-then-not-make_none_of-clause-safe g c = λ s safe over.
+    site_rests g.W.Disk.meaning g.met.W.Disk.only_now c.args.self.now _ refl refl refl refl (λ unshut. unshut) s safe
+
+pub returns-in_err-ticket-clause-safe : goal.returns-in_err-ticket-clause-safe
+returns-in_err-ticket-clause-safe g c = λ s safe over.
+    site_kept g.W.Disk.meaning g.met.W.Disk.only_now c.args.self.now _ refl c.prepare.ensures.tickets refl refl (λ unshut. unshut) s safe
+
+pub returns-clause-safe : goal.returns-clause-safe
+returns-clause-safe g c = λ s safe over.
+    let m = g.W.Disk.meaning in
+    let now = c.launch.new.self in
+    site_safely_on m c.args.self.now now _ (told_here m now.world.now)
+    (site_safely_on m c.args.self.now _ now c.launch.ensures.passes.passes.told
+    (site_kept m g.met.W.Disk.only_now c.args.self.now _ refl c.prepare.ensures.tickets refl refl (λ unshut. unshut)) c.launch.ensures.safe)
+    (site_kept m g.met.W.Disk.only_now now _ refl c.give_up.ensures.tickets refl refl (λ unshut. unshut)) s safe
+
+pub returns-in-Ok-clause-safe : goal.returns-in-Ok-clause-safe
+returns-in-Ok-clause-safe g c = λ s safe over.
+    let m = g.W.Disk.meaning in
+    let site = c.args.self.now in
+    let now = c.launch.new.self in
+    let job = c.in_ok-job.job in
+    let from = c.in_ok-job.ensures in
+    let told = c.launch.ensures.passes.passes.told in
+    let new : Busy = record { hold = c.in_ok-hold.hold; ticket = c.in_ok-ticket.ticket } in
+    let apart = c.are_apart.ensures c.if-not-are_apart.false in
+    let chain = site_safely_on m site _ now told
+    (site_kept m g.met.W.Disk.only_now site _ refl c.prepare.ensures.tickets refl refl (λ unshut. unshut)) c.launch.ensures.safe s safe in
+    record {
+      moments = chain.moments;
+      now = record {
+        world = chain.now.world;
+        tickets = λ tells sure.
+            let t = chain.now.tickets tells sure in
+            let before = told.told tells in
+            subst (λ (all : List Busy). AreSafeIn m s now.world.now now.store.now now.run.now.held all now.account.now) (sym c.add.ensures) (record {
+              held = t.held;
+              tickets = λ busy h. elim (in_pushed now.run.now.tickets new busy h) [
+                | inl more ↦ t.tickets busy more
+                | inr same ↦ subst (λ (b : Busy). HasOwnRecord s now.store.now (m.around now.world.now) b) same
+                    (own_launched s job (m.counts site.world.now) (m.around site.world.now) (m.around now.world.now) c.args.now now.store.now new
+                    (c.in-Ok.ensures.starts tells) (over before (told.sure tells sure))
+                    (c.launch.ensures.outs.each c.args.now new.ticket c.in_ok-ticket.ensures.out.own)
+                    from.work from.signed from.targets from.deps
+                    (sym from.targets ∙ ap (λ (hold : Hold). hold.targets) (sym c.in_ok-hold.ensures))
+                    (ap (λ (hold : Hold). hold.rule.0) (sym c.in_ok-hold.ensures))
+                    (λ run there. (apart (hold_of run) (subst (λ (holds : List Hold). Contains holds (hold_of run)) (c.requires.sound.joined.runs before)
+                    (mapped (m.around site.world.now).running run there))).new_id))
+              ];
+            });
+      };
+    }

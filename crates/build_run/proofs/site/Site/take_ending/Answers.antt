@@ -1,3 +1,4 @@
+use Rattle.build_run.proofs.Stopping.{site_safely_on}
 use Rattle.std.proofs.Common.{◌≡◌, ◌<◌, ◌≤◌, ◌∙◌, ◌++◌, ◌∷◌, [], ℕ, List, Some, Contains, ap, false, length, subst, sym}
 use Rattle.world_api.specs.Around.{Around, Finished}
 use Rattle.world_api.specs.declared.job.Outcome.TheVariants.{Done}
@@ -67,3 +68,8 @@ returns-clause-along g c = λ t sure o outset along wanted.
     (may_take m o outset site mid along (put.puts.around told) put.puts.same.options put.known put.held put.kept put.stands
     (puts_book m site mid put.puts put.tickets put.kept)
     (c.requires.sound.joined.runs first) wanted)
+
+pub returns-clause-safe : goal.returns-clause-safe
+returns-clause-safe g c =
+    site_safely_on g.W.Disk.meaning c.args.self.now c.put_if_few.new.self _ c.take_ended.ensures.passes.passes.told c.put_if_few.ensures.safe
+    c.take_ended.ensures.safe

@@ -1,5 +1,6 @@
 use Rattle.std.proofs.Common.{◌∙◌, refl, sym}
 use Rattle.build_run.specs.Books.{book_of}
+use Rattle.build_run.proofs.Stopping.{site_rests}
 use Rattle.build_run.proofs.Alongs.{told_to}
 use Rattle.build_run.proofs.Booking.{book_as, kept_on}
 use Rattle.build_run.proofs.site.Site.tell.Goals as goal
@@ -15,3 +16,7 @@ returns-clause-along g c = λ o outset asked leads.
       well = λ e. let w = t.well e in record { unrisen = w.unrisen; unshut = c.tell.ensures.reports.shut ∙ w.unshut; looked = w.looked };
       halted = c.halt.ensures.halts;
     }
+
+pub returns-clause-safe : goal.returns-clause-safe
+returns-clause-safe g c =
+    site_rests g.W.Disk.meaning g.met.W.Disk.only_now c.args.self.now _ refl refl refl refl (λ unshut. sym c.tell.ensures.reports.shut ∙ unshut)

@@ -36,3 +36,6 @@ returns-clause-fewer c = λ busy h.
     let lt = within c.args.id busies c.in_ok-place.place (ap (λ bs. position (has_id c.args.id) bs) (sym c.as_slice.ensures.value) ∙ (sym c.place_of.ensures ∙ c.in_ok-place.was)) in
     subst (λ bs. Contains bs busy) c.self.view_is
     (removed_in busies c.in_ok-place.place busy lt (subst (λ (left : List Busy). Contains left busy) c.remove.ensures.items h))
+
+pub returns-in_err-place-clause-fewer : goal.returns-in_err-place-clause-fewer
+returns-in_err-place-clause-fewer c = λ busy h. h
