@@ -1,6 +1,6 @@
 -- How a build goes along when it is told what came of a turn, and from turn to turn.
 use Rattle.std.proofs.Common.{◌≡◌, ◌⊎◌, inl, inr, Bool, true, false, ◌||◌, [], ◌∷◌, length, ap, refl, sym, subst, ◌∙◌}
-use Rattle.std.specs.Prelude.{Result, Ok, Err, nat_lt}
+use Rattle.std.specs.Prelude.{Result, Ok, Err}
 use Rattle.world_api.specs.Around.{Around}
 use Rattle.world_api.specs.Meaning.{Meaning, Told}
 use Rattle.task_plan.specs.Plans.{Planned, is_halt}
@@ -16,7 +16,7 @@ use Rattle.build_model.proofs.Lists.{true_false}
 use Rattle.run_means.specs.Clears.{Clears}
 use Rattle.turn_means.specs.Standing.{Outset, IsOutset, Standing}
 use Rattle.turn_means.proofs.Turns.{ends, halts}
-use Rattle.build_run.specs.Along.{ComesOn, EndsOn, HoldsFewer, KeepsEnds, KeepsKnown, StandsPut, was_put, was_refused, GoesAlong, GoesOn, GoesWell, IsAlong, IsEnd, IsOn, IsReliable, IsWantedOf, Leads, RestsAlong, StaysAlong, StepsOr, Tells, TellsAlong, is_faulted, standing_of, stepped, wanted}
+use Rattle.build_run.specs.Along.{ComesOn, EndsOn, HoldsFewer, KeepsKnown, StandsPut, was_put, was_refused, GoesAlong, GoesOn, GoesWell, IsAlong, IsEnd, IsOn, IsReliable, IsWantedOf, Leads, RestsAlong, StaysAlong, StepsOr, Tells, TellsAlong, is_faulted, standing_of, stepped, wanted}
 use Rattle.sign_store.specs.Stores.{KeepsTickets}
 use Rattle.build_run.specs.Books.{Book, AreBooked, book_of}
 use Rattle.build_run.specs.Sites.{KeepsRecords, SitePuts, most_jobs, records_of}
@@ -25,7 +25,6 @@ use Rattle.build_run.specs.declared.account.Account.{Account}
 use Rattle.build_run.specs.declared.site.Site.{Site}
 use Rattle.build_run.proofs.Clearing.{clears_same}
 use Rattle.build_run.proofs.Booking.{StaysBooked, clears_booked, halts_booked, kept_on, puts_book}
-use Rattle.build_run.proofs.EndingOn.{not_before}
 
 -- What came of a turn was told to this plan and this account.
 pub record ToldTo {W O E : Type 0} (m : Meaning W) (o : Outset) (old : Site W O E) (plan : Planned) (account : Account) : Type 0 where

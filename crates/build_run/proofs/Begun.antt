@@ -1,5 +1,5 @@
 -- A job that starts is to have the record of its ticket.
-use Rattle.std.proofs.Common.{◌≡◌, ◌≢◌, ◌∙◌, ◌++◌, ◌∷◌, List, [], Contains, Some, None, map, ap, arith, false, inl, inr, refl, sym, subst}
+use Rattle.std.proofs.Common.{◌≡◌, ◌≢◌, ◌∙◌, ◌∷◌, List, [], Contains, Some, None, map, ap, false, inl, inr, refl, sym, subst}
 use Rattle.deciders.specs.Records.{name_of}
 use Rattle.deciders.specs.declared.recorded.Rec.{Rec}
 use Rattle.sign_store.specs.Stores.{IsTicket, KeepsTickets}
@@ -15,7 +15,7 @@ use Rattle.build_model.specs.Rules.{Path, Bytes, Content, Tree, Setting, Among, 
 use Rattle.build_model.specs.Records.{IsMet, digested}
 use Rattle.build_means.specs.Records.{record_in}
 use Rattle.run_means.proofs.Lists.{contains_among}
-use Rattle.turn_means.specs.Laws.{HasMet, IsJobFrom}
+use Rattle.turn_means.specs.Laws.{HasMet}
 use Rattle.turn_means.specs.Safety.{IsTicketOf}
 use Rattle.build_run.specs.Goings.{Launches}
 use Rattle.build_run.specs.Holds.{Busy}

@@ -1,7 +1,6 @@
 -- What tickets are for, over the ending of a job.
-use Rattle.std.proofs.Common.{◌≡◌, ◌∙◌, ◌++◌, ◌∷◌, ◌<◌, ℕ, zero, suc, length, List, [], Contains, Some, None, false, arith, inl, inr, refl, sym, subst}
+use Rattle.std.proofs.Common.{◌≡◌, ◌∙◌, ◌++◌, ◌∷◌, List, [], Contains, Some, None, false, arith, inl, inr, sym, subst}
 use Rattle.std.proofs.lemmas.List.Elements.{Contains-append_right}
-use Rattle.std.specs.List.{remove}
 use Rattle.sign_store.specs.Stores.{KeepsTickets}
 use Rattle.sign_store.specs.declared.store.Store.{Store}
 use Rattle.world_api.specs.Around.{Around, Running, IsRunningTarget}
@@ -13,7 +12,7 @@ use Rattle.world_api.specs.declared.job.Outcome.TheVariants.{Done}
 use Rattle.build_model.specs.Rules.{Path, Content, Setting}
 use Rattle.build_model.specs.Records.{IsMet}
 use Rattle.run_means.proofs.Lists.{among_contains, contains_among}
-use Rattle.turn_means.specs.Safety.{ActsAs, IsTicketOf}
+use Rattle.turn_means.specs.Safety.{ActsAs}
 use Rattle.turn_means.proofs.Jobs.{run_before}
 use Rattle.turn_means.proofs.Safety.{done_true, true_stays}
 use Rattle.build_run.specs.Along.{HoldsFewer}

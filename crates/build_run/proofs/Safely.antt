@@ -1,27 +1,24 @@
 -- Safe from call to call of a world.
-use Rattle.std.proofs.Common.{◌≡◌, ◌⊎◌, ◌∙◌, List, [], inl, inr, ap, refl, sym, subst}
-use Rattle.std.specs.Prelude.{Contains}
+use Rattle.std.proofs.Common.{◌≡◌, ◌⊎◌, inl, inr, ap, sym, subst}
 use Rattle.sign_store.specs.Ends.{IsEither, image_in}
 use Rattle.sign_store.specs.Stores.{IsKept, map_of}
 use Rattle.sign_store.specs.Tables.{Map}
 use Rattle.sign_store.specs.declared.store.Store.{Store}
 use Rattle.world_api.specs.Around.{Around}
 use Rattle.world_api.specs.Banks.{Banks}
-use Rattle.world_api.specs.Calls.{Asks, MakesDir, Removes, Starts, Ends}
+use Rattle.world_api.specs.Calls.{Asks, MakesDir, Removes, Ends}
 use Rattle.world_api.specs.Laws.{EndsJob, StartsJob, HasOnlyNow}
 use Rattle.world_api.specs.Looks.{IsSince, Looks}
-use Rattle.world_api.specs.Meaning.{Meaning, IsImage, Told, BanksKept, Throughout, Surely, Meanwhile}
+use Rattle.world_api.specs.Meaning.{Meaning, IsImage, Told, BanksKept, Throughout, Meanwhile}
 use Rattle.world_api.specs.declared.job.Ended.{Ended}
 use Rattle.world_api.specs.declared.job.Job.{Job}
 use Rattle.world_api.proofs.Moments.{begins, sure_chains, surely, weakens, world_call}
-use Rattle.build_model.specs.Rules.{Path, Tree, Setting}
+use Rattle.build_model.specs.Rules.{Path, Setting}
 use Rattle.build_means.specs.Graphs.{act_by}
-use Rattle.run_means.specs.Clears.{Clears}
 use Rattle.turn_means.specs.Recording.{HaveNone}
-use Rattle.turn_means.specs.Safety.{IsLeft, IsSafe}
+use Rattle.turn_means.specs.Safety.{IsSafe}
 use Rattle.turn_means.proofs.Safety.{calls, stop}
-use Rattle.build_run.specs.Goings.{ClearsAt, Stays}
-use Rattle.build_run.specs.Safe.{GoesSafely, IsOfLaw, IsSafeMoment, IsSafeNow, IsSafeWorld, StaysSafe}
+use Rattle.build_run.specs.Safe.{GoesSafely, IsOfLaw, IsSafeMoment, IsSafeNow, StaysSafe}
 
 -- what is safe is so wherever it is stopped
 pub moment : (s : Setting) (around : Around) (banks : Banks) → IsSafe s around (image_in banks) → IsSafeMoment s around banks

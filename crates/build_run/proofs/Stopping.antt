@@ -1,9 +1,8 @@
 -- What is kept in the banks and what tickets are for, from call to call, wherever a build is stopped.
-use Rattle.std.proofs.Common.{◌≡◌, ◌≢◌, ◌⊎◌, ◌∙◌, ◌++◌, ◌||◌, ℕ, List, [], ◌∷◌, Bool, true, false, cond, Some, None, Contains, inl, inr, ap, arith, refl, sym, subst}
+use Rattle.std.proofs.Common.{◌≡◌, ◌≢◌, ◌⊎◌, ◌∙◌, ◌||◌, ℕ, List, [], ◌∷◌, Bool, true, false, cond, None, Contains, inl, inr, ap, arith, refl, sym, subst}
 use Rattle.std.specs.Prelude.{Result, Ok, Err, OnOk, OnErr}
 use Rattle.std.specs.Str.{bytes_eq}
 use Rattle.std.proofs.lemmas.Slice.Eq.{bytes_eq-Decides}
-use Rattle.deciders.specs.declared.recorded.Rec.{Rec}
 use Rattle.sign_store.specs.Putting.{put_over, with_put}
 use Rattle.sign_store.specs.Ends.{IsEither}
 use Rattle.sign_store.specs.Stores.{IsKept, KeepsTickets, map_of}
@@ -26,7 +25,7 @@ use Rattle.build_run.specs.Along.{HoldsFewer}
 use Rattle.build_run.specs.Goings.{ClearsAt}
 use Rattle.build_run.specs.Holds.{Busy, KeepsApart, holds_in}
 use Rattle.build_run.specs.Outs.{ShareNone}
-use Rattle.build_run.specs.Safe.{AreSafe, AreSafeIn, GoesSafely, HasOwnRecord, HasTrueRecord, IsSafeSite, SiteGoesSafely, SiteStaysSafe}
+use Rattle.build_run.specs.Safe.{AreSafe, AreSafeIn, GoesSafely, HasOwnRecord, HasTrueRecord, SiteGoesSafely}
 use Rattle.build_run.specs.Withdrawals.{HasNone}
 use Rattle.build_run.specs.declared.account.Account.{Account}
 use Rattle.build_run.specs.declared.site.Run.{Run}

@@ -1,6 +1,6 @@
 use Rattle.build_run.proofs.Deciding.{found_behind}
 use Rattle.build_run.proofs.Turning.{site_saw}
-use Rattle.std.proofs.Common.{◌∙◌, List, [], Contains, ap, refl, subst, sym}
+use Rattle.std.proofs.Common.{◌∙◌, List, Contains, ap, refl, subst, sym}
 use Rattle.std.specs.Prelude.{Ok}
 use Rattle.sign_store.specs.Putting.{map_with}
 use Rattle.build_run.specs.Holds.{Busy}

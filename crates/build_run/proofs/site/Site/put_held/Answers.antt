@@ -1,7 +1,7 @@
-use Rattle.build_run.proofs.Stopping.{none_fewer, put_safe, site_rests, site_stored}
+use Rattle.build_run.proofs.Stopping.{none_fewer, put_safe, site_stored}
 use Rattle.sign_store.specs.Putting.{PutsThroughout}
 use Rattle.sign_store.specs.Stores.{map_of}
-use Rattle.build_run.proofs.Stopping.{same_tickets, site_called, site_looked}
+use Rattle.build_run.proofs.Stopping.{same_tickets, site_looked}
 use Rattle.build_run.proofs.Safely.{safely_here}
 use Rattle.build_run.proofs.Clearing.{clears_here}
 use Rattle.build_run.proofs.Goings.{told_here}

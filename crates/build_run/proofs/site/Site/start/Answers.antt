@@ -5,7 +5,7 @@ use Rattle.build_run.proofs.Holding.{in_pushed}
 use Rattle.build_run.proofs.Stopping.{site_rests, site_safely_on}
 use Rattle.build_run.specs.Holds.{hold_of}
 use Rattle.build_run.specs.Safe.{AreSafeIn, HasOwnRecord}
-use Rattle.std.proofs.Common.{◌≢◌, ◌∙◌, ◌++◌, ◌∷◌, List, [], Contains, inl, inr, ap, append_assoc, arith, length, length-append, refl, subst, sym}
+use Rattle.std.proofs.Common.{◌∙◌, ◌++◌, ◌∷◌, List, [], Contains, inl, inr, ap, append_assoc, arith, length, length-append, refl, subst, sym}
 use Rattle.std.proofs.lemmas.List.{map-append}
 use Rattle.sign_store.specs.Tables.{Map}
 use Rattle.build_run.specs.Holds.{Busy, holds_in, hold_for}

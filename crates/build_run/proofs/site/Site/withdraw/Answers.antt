@@ -1,6 +1,6 @@
 use Rattle.std.proofs.lemmas.Bool.{false≢true}
 use Rattle.sign_store.specs.Putting.{WithdrawsThroughout}
-use Rattle.build_run.proofs.Stopping.{none_fewer, put_safe, same_tickets, site_rests, site_stored, unset_safe}
+use Rattle.build_run.proofs.Stopping.{none_fewer, put_safe, site_rests, site_stored, unset_safe}
 use Rattle.std.proofs.Common.{◌≡◌, ◌∙◌, ◌++◌, [], List, ap, arith, inl, inr, length, refl, sym, subst, true}
 use Rattle.sign_store.specs.Putting.{AreOutWith, IsApartFrom, map_with, map_without}
 use Rattle.sign_store.specs.Stores.{map_of}
