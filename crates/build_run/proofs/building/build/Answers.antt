@@ -105,5 +105,5 @@ returns-in-Ok-clause-safe g c =
 
 pub returns-in-Err-clause-safe : goal.returns-in-Err-clause-safe
 returns-in-Err-clause-safe g c =
-    builds_safely g.W.Disk.meaning (wanted_of c.args.graph.now c.args.requested.now c.args.options.now) c.args.world.now c.set_out.new.world
-    c.requires.idle (λ s below safe. c.set_out.ensures.safe s safe)
+    builds_safely g.W.Disk.meaning (wanted_of c.args.graph.now c.args.requested.now c.args.options.now) c.args.world.now
+    c.set_out.new.world c.requires.idle (λ s below safe. c.set_out.ensures.safe s safe)

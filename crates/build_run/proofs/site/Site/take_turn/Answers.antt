@@ -9,7 +9,8 @@ returns-in-Scan-clause-safe g c = λ wanted s along safe. c.scan.ensures.safe s 
 
 pub returns-in-Decide-clause-safe : goal.returns-in-Decide-clause-safe
 returns-in-Decide-clause-safe g c =
-    subst (λ (wanted : Want). TurnsSafelyAs g.W.Disk.meaning c.args.self.now c.decide.new.self wanted) (sym c.in-Decide.is) c.decide.ensures.safe
+    subst (λ (wanted : Want). TurnsSafelyAs g.W.Disk.meaning c.args.self.now c.decide.new.self wanted) (sym c.in-Decide.is)
+    c.decide.ensures.safe
 
 pub returns-in-Wait-clause-safe : goal.returns-in-Wait-clause-safe
 returns-in-Wait-clause-safe g c = λ wanted s along safe. c.take_ending.ensures.safe s safe
