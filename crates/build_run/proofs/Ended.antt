@@ -78,8 +78,21 @@ module _ (s : Setting) (ended : Ended) (old new : Around) (store after : Store) 
 
 ends_surely : {sure : Type 0} (ended : Ended) (old new : Around) → sure → Ends sure ended old new → Ends (Unit {0}) ended old new
 ends_surely ended old new is e = record {
-  front = e.front; which = e.which; back = e.back; was = e.was; running = e.running; id = e.id; files = e.files; stamps = e.stamps;
-  dirs = e.dirs; made = λ x. e.made is; log = e.log; met = e.met; met_only = e.met_only; law = e.law; top = e.top;
+  front = e.front;
+  which = e.which;
+  back = e.back;
+  was = e.was;
+  running = e.running;
+  id = e.id;
+  files = e.files;
+  stamps = e.stamps;
+  dirs = e.dirs;
+  made = λ x. e.made is;
+  log = e.log;
+  met = e.met;
+  met_only = e.met_only;
+  law = e.law;
+  top = e.top;
 }
 
 moved : (front back : List Running) (x y : Running) → Contains (front ++ back) y → Contains (front ++ x ∷ back) y
@@ -145,4 +158,3 @@ are_done m s ended old new store rest busies left busy account told ends fewer a
       ];
       tickets = others.tickets;
     }
-

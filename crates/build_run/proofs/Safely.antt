@@ -96,8 +96,21 @@ module _ {W : Type 0} (m : Meaning W) (s : Setting) where
         surely_ended t sure =
             let e = ends t in
             record {
-              front = e.front; which = e.which; back = e.back; was = e.was; running = e.running; id = e.id; files = e.files; stamps = e.stamps;
-              dirs = e.dirs; made = λ x. e.made sure; log = e.log; met = e.met; met_only = e.met_only; law = e.law; top = e.top;
+              front = e.front;
+              which = e.which;
+              back = e.back;
+              was = e.was;
+              running = e.running;
+              id = e.id;
+              files = e.files;
+              stamps = e.stamps;
+              dirs = e.dirs;
+              made = λ x. e.made sure;
+              log = e.log;
+              met = e.met;
+              met_only = e.met_only;
+              law = e.law;
+              top = e.top;
             }
 
   -- looks, many or none

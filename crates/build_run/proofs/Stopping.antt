@@ -213,9 +213,9 @@ module _ (s : Setting) (job : Job) (counts : Counts) (old new : Around) (store :
     targets = t.targets;
     each = λ run h id. elim (in_pushed old.running (record { job = job; given = given_of old.tree job.deps }) run
         (subst (λ (runs : List Running). Contains runs run) starts.running h)) [
-      | inl before ↦ subst (λ (met : List (List ℕ)). IsTicketOf s met run t.rec) (sym starts.met) (t.each run before id)
-      | inr same ↦ absurd (other (sym id ∙ ap (λ (r : Running). r.job.id) (sym same)))
-    ];
+          | inl before ↦ subst (λ (met : List (List ℕ)). IsTicketOf s met run t.rec) (sym starts.met) (t.each run before id)
+          | inr same ↦ absurd (other (sym id ∙ ap (λ (r : Running). r.job.id) (sym same)))
+        ];
   }
 
 -- a job started, or was refused

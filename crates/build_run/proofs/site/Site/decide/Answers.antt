@@ -119,9 +119,10 @@ returns-in-Record-clause-safe g c =
     found_behind m site _ c.make.new.self c.args.rule c.in-Record.now p.looks c.make.ensures.passes.passes.told
     (site_saw m g.met.W.Disk.only_now site _ p.looks refl p.held p.tickets refl) c.make.ensures.safe
     (λ tells o outset along chosen room.
-    let asks = p.looks.around tells in
-    (along_present m o outset site _ along c.args.rule chosen asks refl refl refl refl p.rest tells (Ok c.in_ok-now.field-0)
-    c.in_ok-now.ensures.presents c.in_ok-now.ensures.cause,
-    due_present m o outset site _ along c.args.rule chosen asks refl refl refl refl p.rest tells (Ok c.in_ok-now.field-0)
-    c.in_ok-now.ensures.presents c.in_ok-now.ensures.cause c.in-Record.now (cc c.in-Record.is)
-    (g.met.W.World.held site.world.now (p.looks.told.told tells)) room))
+    let asks = p.looks.around tells in (
+      along_present m o outset site _ along c.args.rule chosen asks refl refl refl refl p.rest tells (Ok c.in_ok-now.field-0)
+          c.in_ok-now.ensures.presents c.in_ok-now.ensures.cause,
+      due_present m o outset site _ along c.args.rule chosen asks refl refl refl refl p.rest tells (Ok c.in_ok-now.field-0)
+          c.in_ok-now.ensures.presents c.in_ok-now.ensures.cause c.in-Record.now (cc c.in-Record.is)
+          (g.met.W.World.held site.world.now (p.looks.told.told tells)) room,
+    ))
