@@ -1,6 +1,7 @@
 -- How a build goes along when it is told what came of a turn, and from turn to turn.
-use Rattle.std.proofs.Common.{◌≡◌, ◌⊎◌, inl, inr, Bool, true, false, ◌||◌, List, [], ◌∷◌, length, ap, refl, sym, subst, ◌∙◌}
-use Rattle.std.specs.Prelude.{Result, Ok, Err, nat_lt}
+use Rattle.std.proofs.Common.{◌≡◌, ◌⊎◌, inl, inr, Bool, true, false, ◌||◌, [], ◌∷◌, length, ap, refl, sym, subst, ◌∙◌}
+use Rattle.std.specs.Prelude.{Result, Ok, Err}
+use Rattle.world_api.specs.Around.{Around}
 use Rattle.world_api.specs.Meaning.{Meaning, Told}
 use Rattle.task_plan.specs.Plans.{Planned, is_halt}
 use Rattle.task_plan.specs.Watched.{IsStill}
@@ -15,18 +16,20 @@ use Rattle.build_model.proofs.Lists.{true_false}
 use Rattle.run_means.specs.Clears.{Clears}
 use Rattle.turn_means.specs.Standing.{Outset, IsOutset, Standing}
 use Rattle.turn_means.proofs.Turns.{ends, halts}
-use Rattle.build_run.specs.Along.{ComesOn, EndsOn, HoldsFewer, KeepsEnds, KeepsKnown, StandsPut, was_put, was_refused, GoesAlong, GoesOn, GoesWell, IsAlong, IsEnd, IsOn, IsReliable, IsWantedOf, Leads, RestsAlong, StaysAlong, StepsOr, Tells, TellsAlong, is_faulted, standing_of, stepped, wanted}
-use Rattle.build_run.specs.Holds.{Busy}
-use Rattle.build_run.specs.Sites.{KeepsRecords, most_jobs, records_of}
+use Rattle.build_run.specs.Along.{ComesOn, EndsOn, HoldsFewer, KeepsKnown, StandsPut, GoesAlong, GoesOn, GoesWell, IsAlong, IsEnd, IsOn, IsReliable, IsWantedOf, Leads, RestsAlong, StaysAlong, StepsOr, Tells, TellsAlong, is_faulted, standing_of, stepped, wanted}
+use Rattle.sign_store.specs.Stores.{KeepsTickets}
+use Rattle.build_run.specs.Books.{Book, AreBooked, book_of}
+use Rattle.build_run.specs.Sites.{KeepsRecords, SitePuts, most_jobs}
 use Rattle.build_run.specs.declared.building.Options.{Options}
 use Rattle.build_run.specs.declared.account.Account.{Account}
 use Rattle.build_run.specs.declared.site.Site.{Site}
 use Rattle.build_run.proofs.Clearing.{clears_same}
-use Rattle.build_run.proofs.EndingOn.{not_before}
+use Rattle.build_run.proofs.Booking.{clears_booked, halts_booked, puts_book}
+use Rattle.build_run.proofs.EndingOn.{put_on, put_well}
 
 -- What came of a turn was told to this plan and this account.
 pub record ToldTo {W O E : Type 0} (m : Meaning W) (o : Outset) (old : Site W O E) (plan : Planned) (account : Account) : Type 0 where
-  pub on : IsOn o old.run.now.held (record (standing_of m old) { plan = plan; faulted = is_faulted account; ended = account.is_ended })
+  pub on : IsOn o (book_of old) (record (standing_of m old) { plan = plan; faulted = is_faulted account; ended = account.is_ended })
   pub well : account.is_ended ≡ false → GoesWell m o old
 
 or_false : (b c : Bool) → c ≡ false → (b || c) ≡ b
@@ -35,23 +38,26 @@ or_false false c e = e
 
 module _ (o : Outset) (outset : IsOutset o) where
   -- the plan is halted behind an end
-  pub halted_on : (held : List Busy) (s new : Standing) → IsOn o held s → new.around ≡ s.around → new.ended ≡ true → new.faulted ≡ true →
-      IsOn o held new
-  halted_on held s new on around ended faulted = record {
+  pub halted_on : (book : Book) (s new : Standing) → IsOn o book s → new.around ≡ s.around → new.ended ≡ true → new.faulted ≡ true →
+      IsOn o book new
+  halted_on book s new on around ended faulted = record {
     jobs = on.jobs;
     past = Halts ∷ on.past;
     at = halts o outset on.jobs s new on.past on.at around ended faulted;
     began = on.began;
+    booked = λ e.
+        subst (λ (a : Around). AreBooked o a (Halts ∷ on.past) book) (sym around) (halts_booked o s.around on.past book (on.booked e));
   }
 
   -- an end is told of
-  pub ended_on : (held : List Busy) (s new : Standing) → IsOn o held s → Clears [] s.around new.around → new.ended ≡ true →
-      new.faulted ≡ true → new.plan.halted ≡ s.plan.halted → IsOn o held new
-  ended_on held s new on clears ended faulted goes = record {
+  pub ended_on : (book : Book) (s new : Standing) → IsOn o book s → Clears [] s.around new.around → new.ended ≡ true →
+      new.faulted ≡ true → new.plan.halted ≡ s.plan.halted → IsOn o book new
+  ended_on book s new on clears ended faulted goes = record {
     jobs = on.jobs;
     past = on.past;
     at = ends o outset on.jobs s new on.past on.at clears ended faulted goes;
     began = on.began;
+    booked = λ e. clears_booked o outset on.jobs s.around new.around on.past on.at.way book clears (on.booked e);
   }
 
   module _ {W O E : Type 0} (m : Meaning W) (old : Site W O E) where
@@ -61,7 +67,7 @@ module _ (o : Outset) (outset : IsOutset o) where
     -- an end was noted, and the plan is halted
     ended_told : (plan : Planned) (account : Account) → EndsOn m o old → IsEnd account → ToldTo m o old plan account
     ended_told plan account ends_on is = record {
-      on = halted_on old.run.now.held (record (standing_of m old) { faulted = true; ended = true }) (Told_standing plan account)
+      on = halted_on (book_of old) (record (standing_of m old) { faulted = true; ended = true }) (Told_standing plan account)
           (ends_on (record (standing_of m old) { faulted = true; ended = true }) refl refl refl refl) refl is.ended is.faulted;
       well = λ e. true_false (sym is.ended ∙ e);
     }
@@ -69,7 +75,7 @@ module _ (o : Outset) (outset : IsOutset o) where
     module _ (event : PlanEvent) (goes : GoesOn m o old event) (mid plan : Planned) (account : Account)
         (step : IsStep old.graph.now old.run.now.plan event mid) (halted : mid.halted ≡ (old.run.now.plan.halted || is_halt event))
         (same : account ≡ old.account.now) (stays : account.is_ended ≡ false → plan ≡ mid) where
-      on_mid : IsOn o old.run.now.held (Told_standing mid account)
+      on_mid : IsOn o (book_of old) (Told_standing mid account)
       on_mid = goes.told (Told_standing mid account) (record {
         step = step;
         goes = halted ∙ or_false old.run.now.plan.halted (is_halt event) goes.goes;
@@ -80,10 +86,10 @@ module _ (o : Outset) (outset : IsOutset o) where
         };
       }) (λ e. ap (λ (a : Account). a.is_ended) same ∙ e)
 
-      on_by : (b : Bool) → account.is_ended ≡ b → IsOn o old.run.now.held (Told_standing plan account)
-      on_by true e = halted_on old.run.now.held (Told_standing mid account) (Told_standing plan account) on_mid refl e
+      on_by : (b : Bool) → account.is_ended ≡ b → IsOn o (book_of old) (Told_standing plan account)
+      on_by true e = halted_on (book_of old) (Told_standing mid account) (Told_standing plan account) on_mid refl e
           (ap is_faulted same ∙ goes.reported (sym (ap (λ (a : Account). a.is_ended) same) ∙ e))
-      on_by false e = subst (λ p. IsOn o old.run.now.held (Told_standing p account)) (sym (stays e)) on_mid
+      on_by false e = subst (λ p. IsOn o (book_of old) (Told_standing p account)) (sym (stays e)) on_mid
 
       stepped_told : ToldTo m o old plan account
       stepped_told = record {
@@ -109,7 +115,7 @@ module _ (o : Outset) (outset : IsOutset o) where
 -- where it goes along an end may come
 pub along_ends : {W O E : Type 0} (m : Meaning W) (o : Outset) → IsOutset o → (site : Site W O E) → IsAlong m o site → EndsOn m o site
 along_ends m o outset site along s around ended faulted goes =
-    ended_on o outset site.run.now.held (standing_of m site) s along.on
+    ended_on o outset (book_of site) (standing_of m site) s along.on
     (clears_same [] (m.around site.world.now) s.around around) ended faulted goes
 
 -- turns one behind the other
@@ -147,13 +153,12 @@ memory_along m old new tells_along tells sure o outset along = tells_along o out
 pub rests_by : {W O E : Type 0} (m : Meaning W) (start site : Site W O E) → StaysAlong m start site →
     ((site.run.now.plan.halted ≡ false → IsReliable site.run.now.plan) → site.run.now.plan.halted ≡ false → IsStill site.run.now.plan) →
     RestsAlong m start site
-rests_by m start site along still tells sure o outset began none halted =
-    still (is_reliable m o site (along tells sure o outset began)) halted
+rests_by m start site along still tells sure o outset began goes =
+    still (is_reliable m o site (along tells sure o outset began)) goes
 
--- memory is wanting, so nothing is said of rest
-pub rests_wanting : {W O E : Type 0} (m : Meaning W) (start site : Site W O E) → site.account.now.memory ≡ true → RestsAlong m start site
-rests_wanting m start site wanting tells sure o outset began none halted =
-    true_false (sym (ap (λ b. b || nat_lt 0 (length site.account.now.faults.items)) wanting) ∙ none)
+-- nothing is said of the rest of a plan that has halted
+pub rests_halted : {W O E : Type 0} (m : Meaning W) (start site : Site W O E) → site.run.now.plan.halted ≡ true → RestsAlong m start site
+rests_halted m start site halted tells sure o outset began goes = true_false (sym halted ∙ goes)
 
 -- a build whose plan has halted may wait
 pub waits_halted : {W O E : Type 0} (site : Site W O E) → site.run.now.plan.halted ≡ true →
@@ -161,78 +166,32 @@ pub waits_halted : {W O E : Type 0} (site : Site W O E) → site.run.now.plan.ha
     IsWantedOf (length site.run.now.tickets) (most_jobs site.options) site.run.now.plan want.Wait
 waits_halted site halted reliable = inr (λ e. true_false (sym halted ∙ e))
 
--- ---- records are put
-
--- fewer are held
-pub fewer_on : (o : Outset) (held fewer : List Busy) (s : Standing) → HoldsFewer held fewer → IsOn o held s → IsOn o fewer s
-fewer_on o held fewer s less on = record {
-  jobs = on.jobs;
-  past = on.past;
-  at = on.at;
-  began = λ busy path h made. on.began busy path (less busy h) made;
-}
-
-module _ {W O E : Type 0} (m : Meaning W) (o : Outset) (outset : IsOutset o) (old new : Site W O E) (along : IsAlong m o old)
-    (around : m.around new.world.now ≡ m.around old.world.now) (known : KeepsKnown old new) (stands : StandsPut m old new)
-    (less : HoldsFewer old.run.now.held new.run.now.held) (kept : KeepsRecords old new) where
-  end_put : IsEnd new.account.now → IsOn o new.run.now.held (standing_of m new)
-  end_put is =
-      fewer_on o old.run.now.held new.run.now.held (standing_of m new) less
-      (ended_on o outset old.run.now.held (standing_of m old) (standing_of m new) along.on (clears_same [] (m.around old.world.now) (m.around new.world.now) around) is.ended is.faulted
-      (ap (λ (p : Planned). p.halted) known.plan))
-
-  same_put : new.account.now ≡ old.account.now → old.account.now.is_ended ≡ false → IsOn o new.run.now.held (standing_of m new)
-  same_put same e =
-      let records : records_of new ≡ records_of old = kept (ap (λ (a : Account). a.is_store_shut) same ∙ (along.well e).unshut) in
-      let standing : standing_of m new ≡ standing_of m old = (λ i. record {
-        graph = known.graph i;
-        inputs = known.inputs i;
-        plan = known.plan i;
-        records = records i;
-        faulted = is_faulted (same i);
-        ended = (same i).is_ended;
-        around = around i;
-      }) in
-      subst (λ s. IsOn o new.run.now.held s) (sym standing)
-      (fewer_on o old.run.now.held new.run.now.held (standing_of m old) less along.on)
-
-  put_by : (b : Bool) → old.account.now.is_ended ≡ b → StandsPut m old new → IsOn o new.run.now.held (standing_of m new)
-  put_by true e (was_put same counts) =
-      end_put (record {
-        ended = ap (λ (a : Account). a.is_ended) same ∙ e;
-        faulted = ap is_faulted same ∙ along.on.at.told e;
-      })
-  put_by false e (was_put same counts) = same_put same e
-  put_by b e (was_refused is) = end_put is
-
-  -- the build stands where it stood
-  pub put_on : IsOn o new.run.now.held (standing_of m new)
-  put_on = put_by old.account.now.is_ended refl stands
-
 -- ---- at the end
 
 -- the turns, the waits and what is put behind them
 pub goes_to_rest : {W O E : Type 0} (m : Meaning W) (old mid last new : Site W O E) → Told m last.world.now new.world.now →
     Told m mid.world.now last.world.now → StaysAlong m old mid → StaysAlong m mid last →
-    (m.tells new.world.now → m.around new.world.now ≡ m.around last.world.now) → KeepsKnown last new → StandsPut m last new →
+    SitePuts m last new → KeepsTickets last.store.now new.store.now → KeepsKnown last new → StandsPut m last new →
     HoldsFewer last.run.now.held new.run.now.held → KeepsRecords last new → ComesOn m old new
-goes_to_rest m old mid last new told before first then around known stands less kept tells sure o outset along =
-    put_on m o outset last new (along_on m old mid last before first then (told.told tells) (told.sure tells sure) o outset along)
-    (around tells) known stands less kept
+goes_to_rest m old mid last new told before first then puts tickets known stands less kept tells sure o outset along =
+    let there = along_on m old mid last before first then (told.told tells) (told.sure tells sure) o outset along in
+    let book = puts_book m last new puts tickets kept in
+    record {
+      on = put_on m o outset last new there (puts.around tells) puts.same.options known less kept stands book;
+      unshut = λ e. (put_well m o outset last new there (puts.around tells) puts.same.options known less kept stands book e).unshut;
+    }
 
 -- where none runs behind the turns nothing changes but what is put
 pub still_at_rest : {W O E : Type 0} (m : Meaning W) (old mid last new : Site W O E) → Told m last.world.now new.world.now →
     RestsAlong m old mid → (length mid.run.now.tickets ≡ 0) ⊎ (mid.run.now.plan.halted ≡ true) →
     (length mid.run.now.tickets ≡ 0 → last ≡ mid) → (mid.run.now.plan.halted ≡ true → last.run.now.plan.halted ≡ true) →
-    KeepsKnown last new → KeepsEnds last.account.now new.account.now → RestsAlong m old new
-still_at_rest {W} {O} {E} m old mid last new told rests (inl zero) same halting known keeps tells sure o outset along none goes =
+    KeepsKnown last new → RestsAlong m old new
+still_at_rest {W} {O} {E} m old mid last new told rests (inl zero) same halting known tells sure o outset along goes =
     let is = same zero in
-    let unfaulted : is_faulted last.account.now ≡ false = not_before (is_faulted last.account.now) (is_faulted new.account.now) keeps.faulted none in
     subst IsStill (sym (known.plan ∙ ap (λ (s : Site W O E). s.run.now.plan) is))
     (rests
     (subst (λ (s : Site W O E). m.tells s.world.now) is (told.told tells))
     (subst (λ (s : Site W O E). m.sure s.world.now) is (told.sure tells sure)) o outset along
-    (ap (λ (s : Site W O E). is_faulted s.account.now) (sym is) ∙ unfaulted)
     (ap (λ (s : Site W O E). s.run.now.plan.halted) (sym is) ∙ ap (λ (p : Planned). p.halted) (sym known.plan) ∙ goes))
-still_at_rest m old mid last new told rests (inr halted) same halting known keeps tells sure o outset along none goes =
+still_at_rest m old mid last new told rests (inr halted) same halting known tells sure o outset along goes =
     true_false (sym (ap (λ (p : Planned). p.halted) known.plan ∙ halting halted) ∙ goes)

@@ -1,5 +1,5 @@
 -- A build, from what it began with: leftover copies went, and from there it took its steps.
-use Rattle.std.proofs.Common.{arith, ◌≡◌, ◌∙◌, ℕ, true, false, ◌||◌, List, [], length, refl, sym, ap}
+use Rattle.std.proofs.Common.{arith, ◌≡◌, ◌∙◌, ℕ, Bool, true, false, ◌||◌, List, [], length, refl, subst, sym, ap}
 use Rattle.std.specs.Prelude.{Result, Ok, Err, IfOk, OnErr, max, min, nat_lt}
 use Rattle.build_model.proofs.Lists.{true_false}
 use Rattle.scons_base.specs.declared.ids.NodeId.{NodeId}
@@ -10,13 +10,17 @@ use Rattle.rule_graph.specs.Rules.{are_below}
 use Rattle.sign_store.specs.Stores.{map_of}
 use Rattle.sign_store.specs.declared.store.Store.{Store}
 use Rattle.build_files.specs.declared.end.ListEnd.{ListEnd}
-use Rattle.build_means.specs.Builds.{Wanted, jobs_at_once}
+use Rattle.build_means.specs.Builds.{Wanted, KeepsRecords, jobs_at_once}
+use Rattle.build_model.specs.Steps.{Step}
+use Rattle.scons_base.specs.Rising.{Rose}
+use Rattle.turn_means.proofs.Recording.{begins}
 use Rattle.build_means.specs.Rules.{IsReading}
 use Rattle.run_means.proofs.Keeping.{begin, did}
 use Rattle.turn_means.specs.Standing.{Outset}
 use Rattle.build_run.specs.Along.{is_faulted}
 use Rattle.build_run.specs.Ledgers.{Ledger, ledger_of, blank}
 use Rattle.build_run.specs.Outsets.{wanted_of, BuildRuns, BuildSucceeds, HasMade, HasSetOut, IsBlank, IsReadyFor, Leaves, MakesAll, SetsOut, SetsOutBehind}
+use Rattle.build_run.specs.Safe.{HasOutset}
 use Rattle.build_run.specs.Takes.{IsLeftAt}
 use Rattle.build_run.specs.declared.account.Account.{Account}
 use Rattle.build_run.specs.declared.building.Options.{Options}
@@ -39,6 +43,10 @@ refused_with (Err end) p = p
 
 -- ---- and makes all
 
+not_true : (b : Bool) → (b ≡ true → ⊥) → b ≡ false
+not_true true none = absurd (none refl)
+not_true false none = refl
+
 as_many : (jobs : ℕ) → max (min jobs 64) 1 ≡ jobs_at_once jobs
 as_many jobs = omega arith
 
@@ -54,13 +62,11 @@ module _ {W : Type 0} (m : Meaning W) (g : RuleGraph) (requested : List NodeId) 
   abbrev w : Wanted
   w = wanted_of g requested options
 
-  module _ (h : RuleGraph) (run : Run) (account after : Account) (back : m.tells b → m.tells a) (told : m.tells c → m.tells b)
-      (same : m.counts b ≡ m.counts a)
-      (sets : SetsOutBehind m g requested options.hash a store h b mid run) (first : IsBlank account)
-      (makes : MakesAll m h run mid b account options c after) where
-    module _ (tells : m.tells c) (sure : m.sure c) (below : are_below (length g.nodes) requested ≡ true) where
+  module _ (h : RuleGraph) (run : Run) (account : Account) (back : m.tells b → m.tells a) (same : m.counts b ≡ m.counts a)
+      (sets : SetsOutBehind m g requested options.hash a store h b mid run) (first : IsBlank account) where
+    module _ (tells : m.tells b) (below : are_below (length g.nodes) requested ≡ true) where
       has : HasSetOut m g requested options.hash a (map_of store) h run b (map_of mid)
-      has = sets (told tells) (rest (back (told tells))) below
+      has = sets tells (rest (back tells)) below
 
       abbrev o : Outset
       o = record { wanted = w; kept = map_of mid; counts = m.counts a; before = has.left }
@@ -75,39 +81,55 @@ module _ {W : Type 0} (m : Meaning W) (g : RuleGraph) (requested : List NodeId) 
         blank = first;
       }
 
-      made : HasMade o (m.around c) after
-      made = makes tells sure o ready
+      pub has_outset : HasOutset m h run mid b account options
+      has_outset = record { o = o; ready = ready }
 
-    pub build_ran : BuildRuns m w (map_of store) a c
-    build_ran = λ tells sure below. record {
-      left = (has tells sure below).left;
-      kept = map_of mid;
-      rest = (has tells sure below).rest;
-      runs = (made tells sure below).runs;
-    }
+    module _ (after : Account) (told : m.tells c → m.tells b) (last : Store) (makes : MakesAll m h run mid b account options c after last)
+        (rose : after.is_store_shut ≡ true → Rose (m.counts a).disk_faults (m.counts c).disk_faults) where
+      made : (tells : m.tells c) → m.sure c → (below : are_below (length g.nodes) requested ≡ true) →
+          HasMade (o (told tells) below) (m.around c) after (map_of last)
+      made tells sure below = makes tells sure (o (told tells) below) (ready (told tells) below)
 
-    pub build_succeeded : (answer : BuildEnd) → (answer.faults ≡ [] → answer.memory ≡ false → is_faulted after ≡ false) →
-        BuildSucceeds m w (map_of store) a c answer
-    build_succeeded answer faulted = λ none memory tells sure below. record {
-      left = (has tells sure below).left;
-      kept = map_of mid;
-      rest = (has tells sure below).rest;
-      succeeded = (made tells sure below).succeeds (faulted none memory);
-    }
+      pub build_ran : (answer : BuildEnd) → answer.is_ended ≡ after.is_ended → BuildRuns m w (map_of store) a c (map_of last) answer
+      build_ran answer same = λ tells sure below. record {
+        left = (has (told tells) below).left;
+        kept = map_of mid;
+        rest = (has (told tells) below).rest;
+        runs = (made tells sure below).runs;
+        records = λ calm. (made tells sure below).records (not_true after.is_store_shut (λ e. calm (rose e)));
+        rests = λ e. (made tells sure below).rests (sym same ∙ e);
+      }
+
+      pub build_succeeded : (answer : BuildEnd) → (answer.faults ≡ [] → answer.memory ≡ false → is_faulted after ≡ false) →
+          BuildSucceeds m w (map_of store) a c (map_of last) answer
+      build_succeeded answer faulted = λ none memory tells sure below.
+          let well = (made tells sure below).succeeds (faulted none memory) in
+          record {
+            left = (has (told tells) below).left;
+            kept = map_of mid;
+            rest = (has (told tells) below).rest;
+            succeeded = well.succeeded;
+            records = well.records;
+          }
 
   -- or nothing is made
-  pub build_refused : (m.tells c → m.tells a) → Leaves m a store c mid (IsLeftAt g (m.around a) (map_of store)) →
-      BuildRuns m w (map_of store) a c
-  build_refused back leaves = λ tells sure below.
+  pub build_refused : (m.tells c → m.tells a) → Leaves m a store c mid (IsLeftAt g (m.around a) (map_of store)) → (answer : BuildEnd) →
+      answer.is_ended ≡ true → BuildRuns m w (map_of store) a c (map_of mid) answer
+  build_refused back leaves answer ended = λ tells sure below.
       let left = leaves tells (rest (back tells)) in
       let none = left.running ∙ rest (back tells) in
+      let ran = did w (map_of mid) (m.counts a) (m.around c) (m.around c) [] [] read (begin w (map_of mid) (m.counts a) (m.around c) none) in
       record {
         left = m.around c;
         kept = map_of mid;
         rest = left;
-        runs = (did w (map_of mid) (m.counts a) (m.around c) (m.around c) [] [] read (begin w (map_of mid) (m.counts a) (m.around c) none)).0;
+        runs = ran.0;
+        records = λ calm.
+            subst (λ (steps : List Step). KeepsRecords w (map_of mid) (m.around c) (m.around c) steps (map_of mid)) (sym ran.1)
+            (begins (record { wanted = w; kept = map_of mid; counts = m.counts a; before = m.around c }) (m.around c));
+        rests = λ e. true_false (sym ended ∙ e);
       }
 
   pub refused_untold : (after : Account) → is_faulted after ≡ true → (answer : BuildEnd) →
-      (answer.faults ≡ [] → answer.memory ≡ false → is_faulted after ≡ false) → BuildSucceeds m w (map_of store) a c answer
+      (answer.faults ≡ [] → answer.memory ≡ false → is_faulted after ≡ false) → BuildSucceeds m w (map_of store) a c (map_of mid) answer
   refused_untold after faulted answer well = λ none memory. true_false (sym faulted ∙ well none memory)

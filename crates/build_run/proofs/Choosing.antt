@@ -63,6 +63,8 @@ use Rattle.build_run.specs.declared.account.Account.{Account}
 use Rattle.build_run.specs.declared.building.Options.{Options}
 use Rattle.build_run.specs.declared.site.Run.{Run}
 use Rattle.build_run.specs.declared.site.Site.{Site}
+use Rattle.build_run.specs.Books.{AreBooked, book_of}
+use Rattle.build_run.proofs.Booking.{StaysBooked, asks_booked, book_as, booked_as, fresh_booked}
 use Rattle.build_run.proofs.Holding.{at_front, further}
 use Rattle.build_run.proofs.EndingOn.{not_before}
 use Rattle.build_run.proofs.Outs.{outs_front, not_among}
@@ -237,7 +239,7 @@ module _ (o : Outset) (outset : IsOutset o) (jobs : List Given) (s : Standing) (
 -- ---- whether a rule is due
 
 -- the held records leave what is recorded of other paths
-map_beside : (store : Store) (held : List Busy) (path : List ℕ) → AreOut store held →
+pub map_beside : (store : Store) (held : List Busy) (path : List ℕ) → AreOut store held →
     ((busy : Busy) → Contains held busy → Contains busy.hold.targets path → ⊥) → map_with store held path ≡ map_of store path
 map_beside store held path outs apart = by held (map_of store) outs apart
   where
@@ -267,6 +269,10 @@ module _ {W O E : Type 0} (m : Meaning W) (o : Outset) (outset : IsOutset o) (ol
   same_held : new.run.now.held ≡ old.run.now.held
   same_held = ap (λ (r : Run). r.held) run
 
+  book_on : StaysBooked (book_of old) (book_of new)
+  book_on = book_as (book_of old) (book_of new) store same_held (ap (λ (r : Run). r.tickets) run)
+      (λ e. sym (ap (λ (a : Account). a.is_store_shut) account) ∙ e)
+
   looks_on : LooksOn o along.on.past (standing_of m old) (standing_of m new)
   looks_on = record {
     plan = same_plan;
@@ -293,6 +299,10 @@ module _ {W O E : Type 0} (m : Meaning W) (o : Outset) (outset : IsOutset o) (ol
       past = along.on.past;
       at = looked o outset along.on.jobs (standing_of m old) (standing_of m new) along.on.past along.on.at looks_on;
       began = λ busy path h made. along.on.began busy path (subst (λ (all : List Busy). Contains all busy) same_held h) made;
+      booked = λ e.
+          booked_as o (m.around new.world.now) along.on.past (book_of old) (book_of new) (book_on.keeps e)
+          (asks_booked o outset along.on.jobs (m.around old.world.now) (m.around new.world.now) along.on.past along.on.at.way (book_of old) asks
+          (along.on.booked (book_on.unshut e)));
     };
     asked = subst (λ (x : Options). AreAsked o x) (sym options) along.asked;
     well = λ e.
@@ -365,6 +375,11 @@ module _ {W O E : Type 0} (m : Meaning W) (o : Outset) (outset : IsOutset o) (si
       past = Fresh due.model ∷ along.on.past;
       at = found_fresh o outset along.on.jobs (standing_of m site) s along.on.past rule due.model rec along.on.at due.weighed not_due t;
       began = along.on.began;
+      booked = λ e.
+          subst (λ (a : Around). AreBooked o a (Fresh due.model ∷ along.on.past) (book_of site)) (sym (ap (λ (x : Standing). x.around) t.rest))
+          (fresh_booked o (m.around site.world.now) along.on.past (book_of site) due.model
+          (decided o outset along.on.jobs (standing_of m site) along.on.past along.on.at.way (along.on.at.knows due.weighed.goes_on) rule due.model
+          rec due.weighed).not_began (along.on.booked e));
     };
     ends = λ e. true_false (sym e);
     goes = refl;

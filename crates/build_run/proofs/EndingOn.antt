@@ -1,5 +1,5 @@
 -- How a build goes along behind an ending.
-use Rattle.std.proofs.Common.{◌≡◌, ◌∙◌, ◌⊎◌, ◌++◌, ◌∷◌, [], ℕ, Bool, true, false, List, Option, Some, Contains, length, ◌≤◌, ap, cond, inl, inr, refl, subst, sym, arith}
+use Rattle.std.proofs.Common.{◌≡◌, ◌∙◌, ◌⊎◌, ◌++◌, ◌∷◌, [], ℕ, Bool, true, false, List, Some, Contains, length, ◌≤◌, ap, inl, inr, refl, subst, sym, arith}
 use Rattle.std.proofs.lemmas.List.{length-map}
 use Rattle.world_api.specs.Around.{Around, Running, IsRunningTarget}
 use Rattle.world_api.specs.Calls.{Ends}
@@ -12,7 +12,7 @@ use Rattle.world_api.specs.declared.job.Outcome.TheVariants.{Done, Failed, Broke
 use Rattle.scons_base.specs.declared.ids.RuleId.{RuleId}
 use Rattle.deciders.specs.declared.recorded.Rec.{Rec}
 use Rattle.sign_store.specs.Stores.{IsTicket}
-use Rattle.sign_store.specs.Tables.{Map, is_among, with_each}
+use Rattle.sign_store.specs.Tables.{Map, with_each}
 use Rattle.sign_store.specs.declared.store.Store.{Store}
 use Rattle.task_plan.specs.declared.want.PlanEvent.TheVariants as told
 use Rattle.rule_graph.specs.Graphs.{RuleGraph}
@@ -20,38 +20,42 @@ use Rattle.task_plan.specs.Plans.{Planned, is_halt, is_scan}
 use Rattle.task_plan.specs.Watched.{IsStill}
 use Rattle.task_plan.specs.declared.want.Want.TheVariants as want
 use Rattle.task_plan.specs.declared.want.PlanEvent.{PlanEvent}
-use Rattle.build_model.specs.Rules.{Path, Rule, Among}
+use Rattle.build_model.specs.Rules.{Path, Rule, Among, here}
 use Rattle.build_model.specs.Steps as model
 use Rattle.build_model.specs.Moments.{Job as Given}
-use Rattle.build_model.specs.Steps.{Step, began, is_over, running}
+use Rattle.build_model.specs.Steps.{Step, IsRunning, began, is_over, running}
 use Rattle.build_model.specs.Waiting.{IsIdle}
 use Rattle.build_model.proofs.Runs.{running_few}
-use Rattle.build_model.proofs.Lists.{true_false}
+use Rattle.build_model.proofs.Lists.{true_false, among_right, among_same}
 use Rattle.build_means.specs.Builds.{Kept, jobs_at_once}
+use Rattle.build_means.proofs.Lists.{map_among}
+use Rattle.run_means.proofs.Lists.{among_contains}
 use Rattle.build_means.specs.Logs.{AreUnrisen, is_done}
 use Rattle.build_files.specs.Marked.{AreGoneOver}
 use Rattle.build_files.specs.declared.inputs.Inputs.{Inputs}
 use Rattle.plan_means.specs.Planning.{IsStep}
 use Rattle.plan_means.proofs.Resting.{is_idle}
-use Rattle.run_means.specs.Clears.{Clears}
 use Rattle.run_means.specs.Laws.{MayWait}
 use Rattle.turn_means.specs.Standing.{Outset, IsOutset, begun_at, setting_at, Standing, IsAt}
 use Rattle.turn_means.specs.Recording.{build_at}
 use Rattle.turn_means.specs.Laws.{IsTold, IsToldEnding, IsEnded, told_by, told_of}
 use Rattle.turn_means.proofs.Deciding.{tied}
-use Rattle.turn_means.proofs.Jobs.{ends_behind}
+use Rattle.turn_means.proofs.Jobs.{ended_own, ends_behind}
 use Rattle.turn_means.proofs.Turns.{ends}
 use Rattle.turn_means.proofs.Running.{run_so, runs_for}
 use Rattle.build_run.specs.Along.{is_faulted, standing_of, HeldBegan, IsAlong, IsOn, IsWantedOf, GoesWell, GoesOn, MayTake, HasFailed, HoldsFewer, KeepsEnds, KeepsKnown, StandsPut, was_put, was_refused}
-use Rattle.build_run.specs.Holds.{Busy, hold_of, holds_in, holds_of}
+use Rattle.build_run.specs.Books.{AreBooked, book_of}
+use Rattle.build_run.specs.Holds.{AreApart, Busy, hold_of, holds_in, holds_of}
 use Rattle.build_run.specs.Outs.{IsTicketFor}
-use Rattle.build_run.specs.Sites.{KeepsRecords, most_jobs, records_of}
+use Rattle.build_run.specs.Sites.{KeepsRecords, PutsRecord, most_jobs, records_of}
 use Rattle.build_run.specs.declared.account.Account.{Account}
 use Rattle.build_run.specs.declared.building.Options.{Options}
 use Rattle.build_run.specs.declared.site.Site.{Site}
 use Rattle.build_run.specs.declared.tickets.Hold.{Hold}
+use Rattle.build_run.proofs.Booking.{StaysBooked, booked_as, ended_booked, ends_write, with_others}
+use Rattle.build_run.proofs.Clearing.{clears_same}
 use Rattle.build_run.proofs.Holding.{at_front, further, in_front, in_pushed}
-use Rattle.build_run.proofs.Outs.{among_in, held_count, held_in}
+use Rattle.build_run.proofs.Outs.{held_count, held_in}
 
 -- what isn't so now wasn't before
 pub not_before : (old new : Bool) → (old ≡ true → new ≡ true) → new ≡ false → old ≡ false
@@ -114,10 +118,36 @@ pub record IsTakenOn {W O E : Type 0} (m : Meaning W) (o : Outset) (old new : Si
   pub unshut : new.account.now.is_ended ≡ false → new.account.now.is_store_shut ≡ old.account.now.is_store_shut
   pub records : new.account.now.is_store_shut ≡ false → (path : Path) → (Contains busy.hold.targets path → ⊥) →
       records_of new path ≡ records_of old path
+  pub id : busy.hold.rule.0 ≡ ended.id
+  pub open_before : new.account.now.is_store_shut ≡ false → old.account.now.is_store_shut ≡ false
+  pub puts : is_done ended.outcome ≡ true → PutsRecord busy.ticket old new
+  pub kept : is_done ended.outcome ≡ false → KeepsRecords old new
+  pub running : (one : Busy) → Contains new.run.now.tickets one → Contains old.run.now.tickets one
+  pub tickets : new.account.now.is_store_shut ≡ false → (one : Busy) (rec : Rec) → Contains new.run.now.tickets one →
+      IsTicket old.store.now rec one.ticket → IsTicket new.store.now rec one.ticket
+
+-- no two of them have one number
+apart_one : (holds : List Hold) (one other : Hold) → AreApart holds → Contains holds one → Contains holds other → one.rule.0 ≡ other.rule.0 →
+    one ≡ other
+apart_one [] one other apart h k e = absurd (omega (arith, h.1))
+apart_one (hold ∷ holds) one other apart h k e = elim (in_front holds hold one h) [
+  | inl same ↦ elim (in_front holds hold other k) [
+    | inl is ↦ sym same ∙ is
+    | inr more ↦ absurd (apart.0 other more (sym e ∙ ap (λ (x : Hold). x.rule.0) (sym same)))
+  ]
+  | inr front ↦ elim (in_front holds hold other k) [
+    | inl is ↦ absurd (apart.0 one front (e ∙ ap (λ (x : Hold). x.rule.0) (sym is)))
+    | inr more ↦ apart_one holds one other apart.1 front more e
+  ]
+]
+
+-- the job that ended is that of its number
+hold_in : (all : List Running) (which : Running) → Among which all → Contains (holds_of all) (hold_of which)
+hold_in all which m = among_contains (map_among hold_of m)
 
 module _ {W O E : Type 0} (m : Meaning W) (o : Outset) (outset : IsOutset o) (old new : Site W O E) (busy : Busy) (ended : Ended) (event : PlanEvent)
     (may : MayTake m o old) (is : IsTakenOn m o old new busy ended event)
-    (joined : holds_of (m.around old.world.now).running ≡ holds_in old.run.now.tickets)
+    (joined : holds_of (m.around old.world.now).running ≡ holds_in old.run.now.tickets) (apart : AreApart (holds_in old.run.now.tickets))
     (Sure : Type 0) (sure : Sure) (ends : Ends Sure ended (m.around old.world.now) (m.around new.world.now)) where
   makes : (path : Path) → Contains busy.hold.targets path → IsRunningTarget (m.around old.world.now).running path
   makes = makes_there (m.around old.world.now).running old.run.now.tickets busy joined is.among
@@ -133,7 +163,7 @@ module _ {W O E : Type 0} (m : Meaning W) (o : Outset) (outset : IsOutset o) (ol
   began_behind one path h target = by (in_pushed old.run.now.held busy one (is.held one h))
     where
       by : Contains old.run.now.held one ⊎ (busy ≡ one) → (r : Rule) × ((setting_at o).rule_of path ≡ Some r) × Among r (began may.on.past)
-      by (inl there) = may.on.began one path there target
+      by (inl before) = may.on.began one path before target
       by (inr same) =
           let runs = runs_for o outset may.on.jobs (m.around old.world.now) may.on.past may.on.at.way
           (makes path (subst (λ (b : Busy). Contains b.hold.targets path) (sym same) target)) in
@@ -164,14 +194,29 @@ module _ {W O E : Type 0} (m : Meaning W) (o : Outset) (outset : IsOutset o) (ol
     ends_now : Ends Sure ended (m.around old.world.now) s.around
     ends_now = subst (λ (a : Around). Ends Sure ended (m.around old.world.now) a) (sym (ap (λ (t : Standing). t.around) told.rest)) ends
 
-    on_behind : IsOn o new.run.now.held s
+    -- its hold is that of the ticket
+    which_hold : (which : Running) (front back : List Running) → (m.around old.world.now).running ≡ front ++ which ∷ back →
+        ended.id ≡ which.job.id → busy.hold ≡ hold_of which
+    which_hold which front back was id =
+        let there_runs : Among which (m.around old.world.now).running = among_same (sym was) (among_right front here) in
+        apart_one (holds_in old.run.now.tickets) busy.hold (hold_of which) apart (held_in old.run.now.tickets busy is.among)
+        (subst (λ (holds : List Hold). Contains holds (hold_of which)) joined (hold_in (m.around old.world.now).running which there_runs))
+        (is.id ∙ id)
+
+    on_behind : IsOn o (book_of new) s
     on_behind =
-        let behind = ends_behind o outset may.on.jobs (standing_of m old) s may.on.past ended may.on.at may.on.wait Sure sure ends_now is_ended in
+        let behind = ends_behind o outset may.on.jobs (standing_of m old) s may.on.past ended may.on.at may.wait Sure sure ends_now is_ended in
         record {
           jobs = may.on.jobs;
           past = model.Ended behind.rule (is_done ended.outcome) ∷ may.on.past;
           at = behind.stands;
           began = began_behind;
+          booked = λ e.
+              let own = ended_own o outset may.on.jobs (standing_of m old) s may.on.past ended may.on.at may.wait Sure sure ends_now is_ended in
+              ended_booked o outset may.on.jobs (m.around old.world.now) s.around may.on.past may.on.at.way behind.rule own.runs
+              (ends_write Sure ended (m.around old.world.now) s.around ends_now) (book_of old) (book_of new) (may.on.booked (is.open_before e))
+              busy is.among (ap (λ (h : Hold). h.targets) (which_hold ends_now.which ends_now.front ends_now.back ends_now.was ends_now.id) ∙ own.job_of.targets)
+              is.running (is.tickets e) (is_done ended.outcome) (λ failed. is.kept failed e) (λ well. is.puts well e);
         }
 
   pub taken_on : GoesOn m o new event
@@ -209,6 +254,12 @@ module _ {W O E : Type 0} (m : Meaning W) (old new : Site W O E) where
 pub was_done : (outcome : Outcome) → outcome ≡ Done → is_done outcome ≡ true
 was_done outcome e = ap is_done e
 
+pub done_is : (outcome : Outcome) → is_done outcome ≡ true → outcome ≡ Done
+done_is Done e = refl
+done_is (Failed code) e = true_false (sym e)
+done_is Broken e = true_false (sym e)
+done_is NoMemory e = true_false (sym e)
+
 pub was_not_done : (outcome : Outcome) → (outcome ≡ Done → ⊥) → is_done outcome ≡ false
 was_not_done Done other = absurd (other refl)
 was_not_done (Failed code) other = refl
@@ -243,14 +294,6 @@ unrisen_failed keep start old new (Failed code) keeps failed cause are = record 
 }
 unrisen_failed keep start old new Broken keeps failed cause are = absurd failed
 unrisen_failed keep start old new NoMemory keeps failed cause are = absurd failed
-
--- what isn't among the paths has what it had
-pub with_others : (paths : List (List ℕ)) (rec : Option Rec) (map : Map) (path : List ℕ) → (Contains paths path → ⊥) → with_each paths rec map path ≡ map path
-with_others paths rec map path out = by (is_among paths path) refl
-  where
-    by : (b : Bool) → is_among paths path ≡ b → with_each paths rec map path ≡ map path
-    by true e = absurd (out (among_in paths path e))
-    by false e = ap (λ b. cond b rec (map path)) e
 
 -- a record that was put is that of what its rule makes
 pub put_others : (store : Store) (busy : Busy) (old new : Map) (path : List ℕ) → IsTicketFor store busy.ticket busy.hold.targets →
@@ -302,28 +345,23 @@ module _ (o : Outset) (outset : IsOutset o) (s : Standing) (on : (jobs : List Gi
 module _ {W O E : Type 0} (m : Meaning W) (o : Outset) (outset : IsOutset o) (old mid : Site W O E) (along : IsAlong m o old)
     (around : m.around mid.world.now ≡ m.around old.world.now) (options : mid.options ≡ old.options)
     (known : KeepsKnown old mid) (held : HoldsFewer old.run.now.held mid.run.now.held)
-    (records : KeepsRecords old mid) (stands : StandsPut m old mid) where
+    (records : KeepsRecords old mid) (stands : StandsPut m old mid) (book : StaysBooked (book_of old) (book_of mid)) where
   -- where the build goes on only the records were put
   same_standing : mid.account.now ≡ old.account.now → records_of mid ≡ records_of old → standing_of m mid ≡ standing_of m old
-  same_standing account kept =
-      ap (λ (x : RuleGraph). standing x mid.run.now.inputs mid.run.now.plan (records_of mid) mid.account.now (m.around mid.world.now)) known.graph
-      ∙ ap (λ (x : Inputs). standing old.graph.now x mid.run.now.plan (records_of mid) mid.account.now (m.around mid.world.now)) known.inputs
-      ∙ ap (λ (x : Planned). standing old.graph.now old.run.now.inputs x (records_of mid) mid.account.now (m.around mid.world.now)) known.plan
-      ∙ ap (λ (x : Kept). standing old.graph.now old.run.now.inputs old.run.now.plan x mid.account.now (m.around mid.world.now)) kept
-      ∙ ap (λ (x : Account). standing old.graph.now old.run.now.inputs old.run.now.plan (records_of old) x (m.around mid.world.now)) account
-      ∙ ap (λ (x : Around). standing old.graph.now old.run.now.inputs old.run.now.plan (records_of old) old.account.now x) around
-    where
-      standing : RuleGraph → Inputs → Planned → Kept → Account → Around → Standing
-      standing g i p r a x =
-          record { graph = g; inputs = i; plan = p; records = r; faulted = is_faulted a; ended = a.is_ended; around = x }
-
-  none_cleared : Clears [] (m.around old.world.now) (m.around mid.world.now)
-  none_cleared = subst (λ (a : Around). Clears [] (m.around old.world.now) a) (sym around)
-      (record { files = λ path free out. refl; stamps = λ path free out. refl; running = refl; log = refl; met = refl; law = refl })
+  same_standing account kept = (λ i. record {
+    graph = known.graph i;
+    inputs = known.inputs i;
+    plan = known.plan i;
+    records = kept i;
+    faulted = is_faulted (account i);
+    ended = (account i).is_ended;
+    around = around i;
+  })
 
   ended_there : mid.account.now.is_ended ≡ true → IsAt o along.on.jobs (standing_of m mid) along.on.past
   ended_there e =
-      ends o outset along.on.jobs (standing_of m old) (standing_of m mid) along.on.past along.on.at none_cleared e
+      ends o outset along.on.jobs (standing_of m old) (standing_of m mid) along.on.past along.on.at
+      (clears_same [] (m.around old.world.now) (m.around mid.world.now) around) e
       ((put_ends m old mid stands).told along.on.at.told e) (ap (λ (p : Planned). p.halted) known.plan)
 
   at_by : (ended : Bool) → mid.account.now.is_ended ≡ ended → StandsPut m old mid → IsAt o along.on.jobs (standing_of m mid) along.on.past
@@ -334,8 +372,20 @@ module _ {W O E : Type 0} (m : Meaning W) (o : Outset) (outset : IsOutset o) (ol
       let unshut = ap (λ (a : Account). a.is_store_shut) account ∙ (along.well goes).unshut in
       subst (λ (s : Standing). IsAt o along.on.jobs s along.on.past) (sym (same_standing account (records unshut))) along.on.at
 
-  well_put : mid.account.now.is_ended ≡ false → GoesWell m o mid
-  well_put e =
+  -- the build stands where it stood
+  pub put_on : IsOn o (book_of mid) (standing_of m mid)
+  put_on = record {
+    jobs = along.on.jobs;
+    past = along.on.past;
+    at = at_by mid.account.now.is_ended refl stands;
+    began = λ busy path h. along.on.began busy path (held busy h);
+    booked = λ e.
+        subst (λ (a : Around). AreBooked o a along.on.past (book_of mid)) (sym around)
+        (booked_as o (m.around old.world.now) along.on.past (book_of old) (book_of mid) (book.keeps e) (along.on.booked (book.unshut e)));
+  }
+
+  pub put_well : mid.account.now.is_ended ≡ false → GoesWell m o mid
+  put_well e =
       let was = along.well (not_before old.account.now.is_ended mid.account.now.is_ended (put_ends m old mid stands).ended e) in
       record {
         unrisen = unrisen_as o.wanted.keep o.counts (m.counts old.world.now) (m.counts mid.world.now) (put_counts m old mid stands e) was.unrisen;
@@ -345,20 +395,16 @@ module _ {W O E : Type 0} (m : Meaning W) (o : Outset) (outset : IsOutset o) (ol
 
   pub may_take : holds_of (m.around old.world.now).running ≡ holds_in old.run.now.tickets →
       IsWantedOf (length old.run.now.tickets) (most_jobs old.options) old.run.now.plan want.Wait → MayTake m o mid
+  unfolding put_on
   may_take joined wanted = record {
-    on = record {
-      jobs = along.on.jobs;
-      past = along.on.past;
-      at = at_by mid.account.now.is_ended refl stands;
-      began = λ busy path h. along.on.began busy path (held busy h);
-      wait =
-          subst (λ (a : Around). MayWait o.wanted o.kept o.before a along.on.past) (sym around)
-          (may_wait o outset (standing_of m old) (along.on.jobs, along.on.past, along.on.at) old.run.now.tickets (most_jobs old.options)
-          along.asked.jobs joined along.halted wanted);
-    };
+    on = put_on;
+    wait =
+        subst (λ (a : Around). MayWait o.wanted o.kept o.before a along.on.past) (sym around)
+        (may_wait o outset (standing_of m old) (along.on.jobs, along.on.past, along.on.at) old.run.now.tickets (most_jobs old.options)
+        along.asked.jobs joined along.halted wanted);
     asked = record {
       keep = ap (λ (x : Options). x.keep) options ∙ along.asked.keep;
       jobs = ap most_jobs options ∙ along.asked.jobs;
     };
-    well = well_put;
+    well = put_well;
   }

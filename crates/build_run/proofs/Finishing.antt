@@ -1,5 +1,5 @@
 -- How a build comes to its end: where nothing runs no rule of its plan does, and where nothing is to be reported it succeeded.
-use Rattle.std.proofs.Common.{◌≡◌, ◌∙◌, ◌+◌, ℕ, zero, suc, pred, true, false, cond, List, [], ◌∷◌, length, count_by, refl, sym, subst, ap, inl, inr, ◌⊎◌, arith}
+use Rattle.std.proofs.Common.{◌≡◌, ◌∙◌, ◌+◌, ℕ, zero, suc, false, cond, List, [], ◌∷◌, Contains, length, count_by, refl, sym, subst, ap, arith}
 use Rattle.std.proofs.lemmas.List.Sums.{sum_by-cons}
 use Rattle.world_api.specs.Counts.{Counts}
 use Rattle.world_api.specs.Meaning.{Meaning}
@@ -10,88 +10,44 @@ use Rattle.task_plan.specs.States.{state_of, is_running}
 use Rattle.task_plan.specs.Watched.{IsFinished, IsStill}
 use Rattle.task_plan.specs.declared.states.RuleState.{RuleState}
 use Rattle.task_plan.specs.declared.states.RuleState.TheVariants.{Unneeded, Waiting, Running, Settled, Failed, Lacking}
-use Rattle.build_model.specs.Rules.{Rule, Setting, Among, here, there}
+use Rattle.build_model.specs.Rules.{Rule, Setting, Among}
 use Rattle.build_model.specs.Moments.{Job as Given}
-use Rattle.build_model.specs.Steps.{Step, Fresh, Began, Ended, Lacks, Halts, Build, began, done, running, IsRunning, IsRun}
+use Rattle.build_model.specs.Resting.{whole_found}
+use Rattle.build_model.specs.Steps.{Step, Build, running, IsRunning, IsRun}
 use Rattle.build_model.proofs.Lists.{true_false}
-use Rattle.build_model.proofs.Placed.{without}
-use Rattle.build_means.specs.Builds.{Succeeded}
+use Rattle.build_means.specs.Builds.{Rests}
+use Rattle.run_means.proofs.Keeping.{none_there}
 use Rattle.build_means.specs.Logs.{AreUnrisen}
 use Rattle.plan_means.specs.Deciding.{IsTied}
 use Rattle.plan_means.specs.Ties.{IsAt as IsAtState}
 use Rattle.plan_means.proofs.Deciding.{know}
+use Rattle.plan_means.proofs.Resting.{is_at_rest}
 use Rattle.turn_means.specs.Laws.{FinishedSucceed}
-use Rattle.turn_means.specs.Recording.{build_at}
+use Rattle.turn_means.specs.Recording.{AreRecorded, build_at}
+use Rattle.turn_means.proofs.Recording.{begins}
+use Rattle.sign_store.specs.declared.store.Store.{Store}
+use Rattle.build_run.specs.Books.{book_of}
 use Rattle.turn_means.specs.Standing.{Outset, IsOutset, begun_at, setting_at, Standing, Knows, IsAt}
 use Rattle.turn_means.proofs.Deciding.{tied}
+use Rattle.build_model.proofs.OneJob.{all_running}
 use Rattle.turn_means.proofs.Ends.{runs, goes_on}
 use Rattle.turn_means.proofs.Turns.{sets_out}
-use Rattle.build_run.specs.Along.{is_faulted, standing_of, HeldBegan, IsAlong, IsOn, KeepsEnds}
+use Rattle.build_run.specs.Along.{is_faulted, standing_of, HeldBegan, IsAlong, IsAtEnd, IsOn, KeepsEnds}
 use Rattle.build_run.specs.Holds.{Busy}
-use Rattle.build_run.specs.Outsets.{FinishesWell, HasMade, IsReadyFor}
+use Rattle.build_run.specs.Outsets.{FinishesWell, HasEndedWell, HasMade, IsReadyFor}
 use Rattle.build_run.specs.declared.account.Account.{Account}
 use Rattle.build_run.specs.declared.site.Site.{Site}
 use Rattle.build_run.proofs.EndingOn.{not_before}
 
 -- ---- where no job runs no rule does
 
--- the rules whose action runs
-record AllRunning (past : List Step) : Type 0 where
-  rules : List Rule
-  counts : length rules ≡ running past
-  all : (r : Rule) → IsRunning past r → Among r rules
-
-same_running : {past : List Step} {step : Step} → AllRunning past → running past ≡ running (step ∷ past) →
-    ((r : Rule) → IsRunning (step ∷ past) r → IsRunning past r) → AllRunning (step ∷ past)
-same_running h e back = record { rules = h.rules; counts = h.counts ∙ e; all = λ r x. h.all r (back r x) }
-
-begin_running : {past : List Step} {x r : Rule} {rules : List Rule} → ((q : Rule) → IsRunning past q → Among q rules) →
-    Among r (x ∷ began past) → (Among r (done past) → ⊥) → Among r (x ∷ rules)
-begin_running h here out = here
-begin_running {r = r} h (there m) out = there (h r (record { began = m; not_done = out }))
-
-one_less : {n m k : ℕ} → n ≡ k → n ≡ suc m → m ≡ pred k
-one_less e h = omega arith
-
-other_than : {x r : Rule} {rules : List Rule} {l : List Rule} → (Among r (x ∷ l) → ⊥) → (r ≡ x) ⊎ Among r rules → Among r rules
-other_than {x} {r} {l = l} out (inl e) = absurd (out (subst (λ y. Among r (y ∷ l)) e here))
-other_than out (inr m) = m
+none_in : (rules : List Rule) (r : Rule) → length rules ≡ 0 → Among r rules → ⊥
+none_in [] r short m = elim m [ ]
+none_in (x ∷ rules) r short m = absurd (omega arith)
 
 module _ (s : Setting) (b : Build) where
-  all_running : (past : List Step) → IsRun s b past → AllRunning past
-  all_running [] run = record { rules = []; counts = refl; all = λ r h. elim h.began [ ] }
-  all_running (Fresh x ∷ past) run =
-      same_running (all_running past run.1) refl (λ r h. record { began = h.began; not_done = λ m. h.not_done (there m) })
-  all_running (Began x ∷ past) run =
-      let h = all_running past run.1 in
-      record { rules = x ∷ h.rules; counts = ap suc h.counts; all = λ r k. begin_running h.all k.began k.not_done }
-  all_running (Ended x true ∷ past) run =
-      let h = all_running past run.1 in
-      let w = without (h.all x run.0.0) in
-      record {
-        rules = w.rest;
-        counts = one_less h.counts w.counts;
-        all = λ r k. other_than k.not_done (w.others r (h.all r (record { began = k.began; not_done = λ m. k.not_done (there m) })));
-      }
-  all_running (Ended x false ∷ past) run =
-      let h = all_running past run.1 in
-      let w = without (h.all x run.0) in
-      record {
-        rules = w.rest;
-        counts = one_less h.counts w.counts;
-        all = λ r k. other_than k.not_done (w.others r (h.all r (record { began = k.began; not_done = λ m. k.not_done (there m) })));
-      }
-  all_running (Lacks x p ∷ past) run =
-      same_running (all_running past run.1) refl (λ r h. record { began = h.began; not_done = λ m. h.not_done (there m) })
-  all_running (Halts ∷ past) run =
-      same_running (all_running past run.1) refl (λ r h. record { began = h.began; not_done = h.not_done })
-
-  none_in : (rules : List Rule) (r : Rule) → length rules ≡ 0 → Among r rules → ⊥
-  none_in [] r short m = elim m [ ]
-  none_in (x ∷ rules) r short m = absurd (omega arith)
-
   none_runs : (past : List Step) → IsRun s b past → running past ≡ 0 → (r : Rule) → IsRunning past r → ⊥
-  none_runs past run none r h = let a = all_running past run in none_in a.rules r (a.counts ∙ none) (a.all r h)
+  none_runs past run none r h = let a = all_running s b past run in none_in a.rules r (a.counts ∙ none) (a.all r h)
 
 none_more : (n : ℕ) → n ≡ 0 → 0 + n ≡ 0
 none_more n e = omega (arith, e)
@@ -129,57 +85,85 @@ module _ (o : Outset) (outset : IsOutset o) (jobs : List Given) (s : Standing) (
 
 -- ---- what a build did
 
+-- nothing is held
+put_none : {W O E : Type 0} (site : Site W O E) (held : List Busy) → held ≡ [] → map_with site.store.now held ≡ map_of site.store.now
+put_none site held none = ap (λ (busies : List Busy). map_with site.store.now busies) none
+
 module _ {W O E : Type 0} (m : Meaning W) (o : Outset) (outset : IsOutset o) (mid : Site W O E) (after : Account)
-    (on : IsOn o mid.run.now.held (standing_of m mid)) (rest : (m.around mid.world.now).running ≡ [])
-    (still : is_faulted mid.account.now ≡ false → mid.run.now.plan.halted ≡ false → IsStill mid.run.now.plan)
+    (there : IsAtEnd m o mid) (rest : (m.around mid.world.now).running ≡ [])
+    (still : mid.run.now.plan.halted ≡ false → IsStill mid.run.now.plan)
     (ends : KeepsEnds mid.account.now after) (finishes : FinishesWell mid.graph.now mid.run.now.plan mid.account.now after)
-    (law : FinishedSucceed) where
+    (law : FinishedSucceed) (none : mid.run.now.held ≡ []) (shut : after.is_store_shut ≡ mid.account.now.is_store_shut) (behind : Map)
+    (same : behind ≡ map_of mid.store.now) where
   abbrev s : Standing
   s = standing_of m mid
+
+  abbrev on : IsOn o (book_of mid) s
+  on = there.on
+
+  -- by these steps
+  recorded : (steps : List Step) → steps ≡ on.past → after.is_store_shut ≡ false → AreRecorded o (m.around mid.world.now) steps behind
+  recorded steps are unshut =
+      subst (λ (l : List Step). AreRecorded o (m.around mid.world.now) l behind) (sym are)
+      (subst (λ (kept : Map). AreRecorded o (m.around mid.world.now) on.past kept) (put_none mid mid.run.now.held none ∙ sym same)
+      (on.booked (sym shut ∙ unshut)).records)
+
+  module _ (not_ended : mid.account.now.is_ended ≡ false) where
+    no_halt : mid.run.now.plan.halted ≡ false
+    no_halt = not_before mid.run.now.plan.halted mid.account.now.is_ended (λ e. (on.at.halted e).ended) not_ended
+
+    at_last : IsStill mid.run.now.plan
+    at_last = still no_halt
+
+    none_counts : count_by is_running mid.run.now.plan.states ≡ 0
+    none_counts = count_is_none o outset on.jobs s on.past on.at not_ended rest
+
+    comes_to_rest : Rests o.wanted o.kept o.before s.around on.past
+    comes_to_rest =
+        record {
+          found = whole_found (setting_at o) (build_at o s.around) on.past;
+          at_rest = is_at_rest (begun_at o) s.graph o.wanted.requested (build_at o s.around) on.past s.plan
+              (its o outset on.jobs s on.past on.at not_ended rest) at_last none_counts;
+        }
 
   module _ (well : is_faulted after ≡ false) where
     unfaulted : is_faulted mid.account.now ≡ false
     unfaulted = not_before (is_faulted mid.account.now) (is_faulted after) ends.faulted well
 
-    not_ended : mid.account.now.is_ended ≡ false
-    not_ended = not_before mid.account.now.is_ended (is_faulted mid.account.now) on.at.told unfaulted
-
-    no_halt : mid.run.now.plan.halted ≡ false
-    no_halt = not_before mid.run.now.plan.halted mid.account.now.is_ended (λ e. (on.at.halted e).ended) not_ended
-
-    at_last : IsStill mid.run.now.plan
-    at_last = still unfaulted no_halt
-
-    knows_all : Knows o s on.past
-    knows_all = on.at.knows not_ended
+    goes : mid.account.now.is_ended ≡ false
+    goes = not_before mid.account.now.is_ended (is_faulted mid.account.now) on.at.told unfaulted
 
     finished : IsFinished mid.run.now.plan
     finished =
-        let plan = knows_all.ties.plan_for in
-        finishes on.at.told well at_last
-        (goes_on o outset on.jobs s on.past on.at unfaulted (count_is_none o outset on.jobs s on.past on.at not_ended rest))
-        plan.met plan.from plan.fits
+        let plan = (on.at.knows goes).ties.plan_for in
+        finishes on.at.told well (at_last goes)
+        (goes_on o outset on.jobs s on.past on.at unfaulted (none_counts goes)) plan.met plan.from plan.fits
 
-    succeeded : Succeeded o.wanted o.kept o.counts o.before (m.around mid.world.now)
-    succeeded = (law o on.jobs s on.past outset on.at unfaulted at_last.scans finished).0
+    ended_well : HasEndedWell o (m.around mid.world.now) behind
+    ended_well =
+        let by = law o on.jobs s on.past outset on.at unfaulted (at_last goes).scans finished in
+        record { succeeded = by.0; records = recorded by.0.runs.steps by.1 (shut ∙ there.unshut goes) }
 
-  pub has_made : HasMade o (m.around mid.world.now) after
-  has_made = record {
-    runs = (runs o outset on.jobs s on.past on.at).0;
-    succeeds = succeeded;
-  }
+  pub has_made : HasMade o (m.around mid.world.now) after behind
+  has_made =
+      let ran = runs o outset on.jobs s on.past on.at in
+      record {
+        runs = ran.0;
+        records = recorded ran.0.steps ran.1;
+        rests = λ e.
+            subst (λ (l : List Step). Rests o.wanted o.kept o.before s.around l) (sym ran.1)
+            (comes_to_rest (not_before mid.account.now.is_ended after.is_ended ends.ended e));
+        succeeds = ended_well;
+      }
 
 -- ---- as it begins
 
-put_none : {W O E : Type 0} (site : Site W O E) (held : List Busy) → held ≡ [] → map_with site.store.now held ≡ map_of site.store.now
-put_none site held none = ap (λ (busies : List Busy). map_with site.store.now busies) none
-
 none_began : (o : Outset) (held : List Busy) → held ≡ [] → HeldBegan o [] held
-none_began o held none = subst (λ (busies : List Busy). HeldBegan o [] busies) (sym none) (λ busy path h among. absurd (omega (arith, h.1)))
+none_began o held none = subst (λ (busies : List Busy). HeldBegan o [] busies) (sym none) (λ busy path h among. none_there h)
 
 module _ {W O E : Type 0} (m : Meaning W) (o : Outset) (site : Site W O E)
     (ready : IsReadyFor m o site.graph.now site.run.now site.store.now site.world.now site.account.now site.options)
-    (none : site.run.now.held ≡ []) where
+    (none : site.run.now.held ≡ []) (idle : site.run.now.tickets ≡ []) where
   first_at : IsAt o [] (standing_of m site) []
   first_at =
       let set = ready.sets.set in
@@ -204,7 +188,17 @@ module _ {W O E : Type 0} (m : Meaning W) (o : Outset) (site : Site W O E)
 
   pub first_along : IsAlong m o site
   first_along = record {
-    on = record { jobs = []; past = []; at = first_at; began = none_began o site.run.now.held none };
+    on = record {
+      jobs = [];
+      past = [];
+      at = first_at;
+      began = none_began o site.run.now.held none;
+      booked = λ e. record {
+        records = subst (λ (kept : Map). AreRecorded o (m.around site.world.now) [] kept)
+            (sym (put_none site site.run.now.held none ∙ sym ready.kept)) (begins o (m.around site.world.now));
+        each = λ busy h. none_there (subst (λ (all : List Busy). Contains all busy) idle h);
+      };
+    };
     asked = ready.asked;
     well = λ e. record { unrisen = unrisen; unshut = ready.blank.unshut; looked = ready.sets.looked };
     halted = λ e. true_false (sym e ∙ ready.blank.ended);
@@ -213,9 +207,12 @@ module _ {W O E : Type 0} (m : Meaning W) (o : Outset) (site : Site W O E)
 -- ---- what was lent
 
 module _ {W O E : Type 0} (m : Meaning W) (last : Site W O E) where
-  pub made_given : (o : Outset) (now world : W) (account : Account) → last.world.now ≡ world → last.account.now ≡ account →
-      last.world.now ≡ now → (m.tells now → m.sure now → HasMade o (m.around now) last.account.now) →
-      m.tells world → m.sure world → HasMade o (m.around world) account
-  made_given o now world account lent lent_account same made =
-      subst (λ (w : W). m.tells w → m.sure w → HasMade o (m.around w) account) (sym same ∙ lent)
-      (λ tells sure. subst (λ (a : Account). HasMade o (m.around now) a) lent_account (made tells sure))
+  pub made_given : (o : Outset) (now world : W) (account : Account) (store : Store) → last.world.now ≡ world →
+      last.account.now ≡ account → last.store.now ≡ store → last.world.now ≡ now →
+      (m.tells now → m.sure now → HasMade o (m.around now) last.account.now (map_of last.store.now)) →
+      m.tells world → m.sure world → HasMade o (m.around world) account (map_of store)
+  made_given o now world account store lent lent_account lent_store same made =
+      subst (λ (w : W). m.tells w → m.sure w → HasMade o (m.around w) account (map_of store)) (sym same ∙ lent)
+      (λ tells sure.
+      subst (λ (kept : Store). HasMade o (m.around now) account (map_of kept)) lent_store
+      (subst (λ (a : Account). HasMade o (m.around now) a (map_of last.store.now)) lent_account (made tells sure)))

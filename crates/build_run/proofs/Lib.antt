@@ -1,3 +1,4 @@
+mod Booking
 mod Settling
 mod Scanning
 mod Alongs
@@ -14,7 +15,15 @@ mod EndingOn
 mod Starting
 mod Choosing
 mod Presenting
+mod Launching
 mod Leaving
 mod Outsetting
 mod Finishing
 mod Builds
+mod Safely
+mod Stopping
+mod Turning
+mod Ended
+mod Begun
+pub mod Deciding
+mod Stopped

@@ -8,8 +8,7 @@ use Rattle.world_api.specs.Calls.{Asks}
 use Rattle.world_api.specs.Meaning.{Meaning}
 use Rattle.deciders.specs.declared.recorded.Rec.{Rec}
 use Rattle.sign_store.specs.Putting.{map_with}
-use Rattle.sign_store.specs.declared.store.Store.{Store}
-use Rattle.rule_graph.specs.Graphs.{RuleGraph, path_of}
+use Rattle.rule_graph.specs.Graphs.{path_of}
 use Rattle.task_plan.specs.Settled.{deps_of}
 use Rattle.task_plan.specs.declared.want.PlanEvent.TheVariants as told
 use Rattle.build_model.specs.Rules.{Path, Rule, Among, here}
@@ -27,10 +26,11 @@ use Rattle.turn_means.specs.Laws.{HasMet, IsChosen, IsTold, IsWeighed}
 use Rattle.turn_means.proofs.Turns.{lacks}
 use Rattle.build_run.specs.Along.{GoesOn, IsAlong, IsDue, IsOn, KeepsEnds, Presents, is_faulted, standing_of}
 use Rattle.build_run.specs.Sites.{most_jobs}
-use Rattle.build_run.specs.declared.account.Account.{Account}
 use Rattle.build_run.specs.declared.building.Options.{Options}
 use Rattle.build_run.specs.declared.site.Run.{Run}
 use Rattle.build_run.specs.declared.site.Site.{Site}
+use Rattle.build_run.specs.Books.{AreBooked, book_of}
+use Rattle.build_run.proofs.Booking.{lacks_booked, shut_on}
 use Rattle.build_run.proofs.Choosing.{along_looked, deps_still, goes_before, looked_for, not_ended, numbered_rule, paths_still, told_before, unread_still, weighed_on}
 
 -- the first that is missing is so still behind a look
@@ -84,26 +84,19 @@ module _ {W O E : Type 0} (m : Meaning W) (o : Outset) (outset : IsOutset o) (ol
       old.run.now.inputs new.run.now.inputs presents.only unread)
       presents.marks
 
-  abbrev stand : RuleGraph → Store → Account → Run → Standing
-  stand g kept a r = record {
-    graph = g;
-    inputs = new.run.now.inputs;
-    plan = r.plan;
-    records = map_with kept r.held;
-    faulted = is_faulted a;
-    ended = a.is_ended;
-    around = m.around new.world.now;
-  }
-
   abbrev Now : Standing
   Now = record (standing_of m old) { inputs = new.run.now.inputs; around = m.around new.world.now }
 
-  same_standing : standing_of m new ≡ record (standing_of m old) { inputs = new.run.now.inputs; around = m.around new.world.now }
-  same_standing =
-      ap (λ (g : RuleGraph). stand g new.store.now new.account.now new.run.now) graph
-      ∙ (ap (λ (kept : Store). stand old.graph.now kept new.account.now new.run.now) store
-      ∙ (ap (λ (a : Account). stand old.graph.now old.store.now a new.run.now) account
-      ∙ ap (λ (r : Run). stand old.graph.now old.store.now old.account.now r) run))
+  same_standing : standing_of m new ≡ Now
+  same_standing = (λ i. record {
+    graph = graph i;
+    inputs = new.run.now.inputs;
+    plan = (run i).plan;
+    records = map_with (store i) ((run i).held);
+    faulted = is_faulted (account i);
+    ended = (account i).is_ended;
+    around = m.around new.world.now;
+  })
 
   -- what is read, where nothing is looked past
   read : (present : Present) → result ≡ Ok present →
@@ -137,7 +130,7 @@ module _ {W O E : Type 0} (m : Meaning W) (o : Outset) (outset : IsOutset o) (ol
   pub lacks_told : (node : NodeId) → result ≡ Ok (present.Lacks node) → (faulted ended : Bool) →
       (is_faulted old.account.now ≡ true → faulted ≡ true) → faulted ≡ true → (ended ≡ false → o.wanted.keep ≡ true) →
       (s : Standing) → IsTold (record (standing_of m new) { faulted = faulted; ended = ended }) s (told.Absent rule node) →
-      (ended ≡ true → s.ended ≡ true) → IsOn o new.run.now.held s
+      (ended ≡ true → s.ended ≡ true) → IsOn o (book_of new) s
   lacks_told node ok faulted ended keeps is_so keep s t stays =
       let is = read (present.Lacks node) ok model.0 model.1 in
       let path = path_of old.graph.now.nodes node in
@@ -153,6 +146,10 @@ module _ {W O E : Type 0} (m : Meaning W) (o : Outset) (outset : IsOutset o) (ol
         at = lacks o outset along_present.on.jobs Now s along_present.on.past rule node model.0 path at goes_on chosen.next model.1 absent is_told
             (t.reports.stays is_so) (λ e. keep (goes_with ended s.ended stays e));
         began = along_present.on.began;
+        booked = λ e.
+            subst (λ (a : Around). AreBooked o a (Lacks model.0 path ∷ along_present.on.past) (book_of new))
+            (sym (ap (λ (x : Standing). x.around) t.rest))
+            (lacks_booked o (m.around new.world.now) along_present.on.past (book_of new) model.0 path (along_present.on.booked e));
       }
     where
       goes_with : (ended now : Bool) → (ended ≡ true → now ≡ true) → now ≡ false → ended ≡ false
@@ -178,9 +175,10 @@ module _ {W O E : Type 0} (m : Meaning W) (o : Outset) (outset : IsOutset o) (ol
   pub lacks_on : GoesOn m o last (told.Absent rule node)
   lacks_on = record {
     told = λ s t stays.
-        lacks_told m o outset old (record last { account = old.account }) along rule chosen asks graph store refl options run tells
+        shut_on o (book_of (record last { account = old.account })) last.account.now.is_store_shut s shut
+        (lacks_told m o outset old (record last { account = old.account }) along rule chosen asks graph store refl options run tells
         result presents counts node ok (is_faulted last.account.now) last.account.now.is_ended ends.faulted faulted
-        (λ e. sym along.asked.keep ∙ goes e) s t stays;
+        (λ e. sym along.asked.keep ∙ goes e) s t stays);
     ends = λ e. true_false (sym e);
     goes = refl;
     reported = ends.told along.on.at.told;

@@ -48,7 +48,9 @@ use Rattle.turn_means.proofs.Running.{ready_still, source_still}
 use Rattle.turn_means.proofs.Turns.{looked, scanned}
 use Rattle.build_run.specs.Along.{IsAlong, IsOn, standing_of}
 use Rattle.build_run.specs.declared.site.Site.{Site}
+use Rattle.build_run.specs.Books.{AreBooked, book_of}
 use Rattle.build_run.proofs.Alongs.{ended_on}
+use Rattle.build_run.proofs.Booking.{asks_booked}
 use Rattle.build_run.proofs.Settling.{IsReadable, unread_still}
 
 path_at : (g : RuleGraph) (node : NodeId) (path : Path) → slice_get g.nodes node.0 ≡ Some path → path_of g.nodes node ≡ path
@@ -190,9 +192,9 @@ module _ {W O E : Type 0} (m : Meaning W) (o : Outset) (outset : IsOutset o) (ol
 
   -- an end may come behind a look
   pub scan_ends : (after : Around) → Asks A after → (s : Standing) → s.around ≡ after → s.ended ≡ true → s.faulted ≡ true →
-      s.plan.halted ≡ old.run.now.plan.halted → IsOn o old.run.now.held s
+      s.plan.halted ≡ old.run.now.plan.halted → IsOn o (book_of old) s
   scan_ends after asks s same ended faulted halted =
-      ended_on o outset old.run.now.held (standing_of m old) s along.on
+      ended_on o outset (book_of old) (standing_of m old) s along.on
       (subst (λ a. Clears [] A a) (sym same) ((calls_clear []).looks A after asks)) ended faulted halted
 
   module _ (h : RuleGraph) (inputs : Inputs) (after : Around) (found : List NodeId) (asks : Asks A after) (grows : GrowsTo G h)
@@ -276,10 +278,13 @@ module _ {W O E : Type 0} (m : Meaning W) (o : Outset) (outset : IsOutset o) (ol
     }
 
     -- The build goes along where the plan is told.
-    pub scan_told : (s : Standing) → IsTold Mid s (told.Scanned rule found) → IsOn o old.run.now.held s
+    pub scan_told : (s : Standing) → IsTold Mid s (told.Scanned rule found) → IsOn o (book_of old) s
     scan_told s is = record {
       jobs = along.on.jobs;
       past = Past;
       at = scanned o outset along.on.jobs Mid s Past rule file found at_mid goes_on next is_found is;
       began = along.on.began;
+      booked = λ e.
+          subst (λ (a : Around). AreBooked o a Past (book_of old)) (sym (ap (λ (x : Standing). x.around) is.rest))
+          (asks_booked o outset along.on.jobs A after Past along.on.at.way (book_of old) asks (along.on.booked e));
     }

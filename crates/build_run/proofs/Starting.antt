@@ -1,10 +1,11 @@
 -- How a build stands behind a start, and behind one that was refused.
-use Rattle.std.proofs.Common.{◌≡◌, ◌∙◌, ◌<◌, true, false, List, [], ◌∷◌, Contains, length, inl, inr, refl, sym, subst, ap, arith}
+use Rattle.std.proofs.Common.{◌≡◌, ◌∙◌, ◌<◌, true, false, List, [], ◌∷◌, ◌++◌, Contains, length, inl, inr, refl, sym, subst, ap}
+use Rattle.std.proofs.lemmas.List.{length-map}
 use Rattle.std.specs.Prelude.{Result, Ok, Err, IsErrAnd}
 use Rattle.scons_base.specs.declared.ids.NodeId.{NodeId}
 use Rattle.scons_base.specs.declared.ids.RuleId.{RuleId}
-use Rattle.world_api.specs.Around.{Around, Running}
-use Rattle.world_api.specs.Calls.{Starts}
+use Rattle.world_api.specs.Around.{Around}
+use Rattle.world_api.specs.Calls.{Asks, Starts}
 use Rattle.world_api.specs.Counts.{Counts}
 use Rattle.world_api.specs.Meaning.{Meaning}
 use Rattle.world_api.specs.declared.job.Job.{Job}
@@ -30,18 +31,26 @@ use Rattle.build_files.specs.declared.record.Present.{Present}
 use Rattle.plan_means.specs.Planning.{IsStep}
 use Rattle.run_means.specs.Clears.{Clears}
 use Rattle.run_means.specs.Turns.{job_for}
+use Rattle.run_means.proofs.Keeping.{none_there}
 use Rattle.turn_means.specs.Standing.{Outset, IsOutset, Standing}
 use Rattle.turn_means.specs.Laws.{IsJobFrom, IsTold, is_due_now}
+use Rattle.turn_means.specs.Recording.{HasRecord}
+use Rattle.turn_means.specs.Writing.{Writes}
+use Rattle.sign_store.specs.Stores.{IsTicket}
 use Rattle.turn_means.proofs.Jobs.{launches, refuses}
-use Rattle.turn_means.proofs.Turns.{ends}
-use Rattle.build_run.specs.Along.{AreAsked, EndsOn, GoesOn, GoesWell, HeldBegan, IsAlong, IsDue, IsOn, Leads, LeadsTo, Presents, is_faulted, standing_of}
+use Rattle.turn_means.proofs.Recording.{weighed_have}
+use Rattle.run_means.proofs.Clearing.{calls_clear}
+use Rattle.build_run.specs.Along.{AreAsked, EndsOn, GoesOn, GoesWell, HeldBegan, HoldsFewer, IsAlong, IsDue, IsOn, Leads, LeadsTo, Presents, is_faulted, standing_of}
+use Rattle.build_run.specs.Books.{AreBooked, Book, book_of}
 use Rattle.build_run.specs.Goings.{IsJoined, Launches}
-use Rattle.build_run.specs.Holds.{Busy, holds_in, holds_of}
+use Rattle.build_run.specs.Holds.{Busy, hold_of, holds_in}
 use Rattle.build_run.specs.Outs.{KeepsSome}
-use Rattle.build_run.specs.Sites.{most_jobs, records_of}
+use Rattle.build_run.specs.Sites.{most_jobs}
 use Rattle.build_run.specs.declared.site.Run.{Run}
 use Rattle.build_run.specs.declared.site.Site.{Site}
 use Rattle.build_run.specs.declared.tickets.Hold.{Hold}
+use Rattle.build_run.proofs.Alongs.{ended_on as ends_on}
+use Rattle.build_run.proofs.Booking.{KeepsBook, StaysBooked, TakesAway, began_booked, book_as, clears_write, kept_on, refused_booked, starts_write}
 use Rattle.build_run.proofs.Outs.{held_count}
 
 -- ---- what is present
@@ -79,12 +88,8 @@ end_of_turn P m o site (Err end) is so = so
 pub held_within : (held left : List Busy) → KeepsSome held left → (busy : Busy) → Contains left busy → Contains held busy
 held_within held left some busy h = elim some [
   | inl same ↦ subst (λ (all : List Busy). Contains all busy) same h
-  | inr none ↦ absurd (let inside = subst (λ (all : List Busy). Contains all busy) none h in omega (arith, inside.1))
+  | inr none ↦ none_there (subst (λ (all : List Busy). Contains all busy) none h)
 ]
-
-running_count : (running : List Running) → length (holds_of running) ≡ length running
-running_count [] = refl
-running_count (run ∷ running) = let rest = running_count running in omega (arith, rest)
 
 -- fewer actions run than may
 pub room_in : {W O E : Type 0} (m : Meaning W) (o : Outset) (site : Site W O E) → IsJoined m site.world.now (holds_in site.run.now.tickets) →
@@ -92,39 +97,55 @@ pub room_in : {W O E : Type 0} (m : Meaning W) (o : Outset) (site : Site W O E) 
     length (m.around site.world.now).running < jobs_at_once o.wanted.jobs
 room_in m o site joined tells asked room =
     let same : length site.run.now.tickets ≡ length (m.around site.world.now).running =
-    sym (held_count site.run.now.tickets) ∙ (ap (λ (holds : List Hold). length holds) (sym (joined.runs tells)) ∙ running_count (m.around site.world.now).running) in
+    sym (held_count site.run.now.tickets) ∙ (ap (λ (holds : List Hold). length holds) (sym (joined.runs tells)) ∙ length-map (m.around site.world.now).running hold_of) in
     subst (λ n. length (m.around site.world.now).running < n) asked.jobs (subst (λ n. n < most_jobs site.options) same room)
 
 -- ---- how the build stands
 
 -- as EndsOn, of the parts of a site
-abbrev pub EndsBy : {W : Type 0} → Meaning W → Outset → W → List Busy → Planned → Type 0
-EndsBy m o world held plan = (s : Standing) → s.around ≡ m.around world → s.ended ≡ true → s.faulted ≡ true →
-    s.plan.halted ≡ plan.halted → IsOn o held s
+abbrev pub EndsBy : {W : Type 0} → Meaning W → Outset → W → Book → Planned → Type 0
+EndsBy m o world book plan = (s : Standing) → s.around ≡ m.around world → s.ended ≡ true → s.faulted ≡ true →
+    s.plan.halted ≡ plan.halted → IsOn o book s
+
+-- the same where nothing more is held and nothing that was booked was lost
+pub ends_as : {W : Type 0} (m : Meaning W) (o : Outset) (world : W) (old new : Book) (plan : Planned) → HoldsFewer old.held new.held →
+    StaysBooked old new → EndsBy m o world old plan → EndsBy m o world new plan
+ends_as m o world old new plan less kept ends s around ended faulted goes =
+    kept_on o old new s less kept (ends s around ended faulted goes)
+
+-- what a job that was refused left of the book: all, or none of what it makes; or the store has refused
+pub data IsLeftSo (targets : List Path) (touched : Type 0) (old new : Book) : Type 0 where
+  all_left : touched → KeepsBook old new → IsLeftSo targets touched old new
+  none_left : TakesAway targets old new → IsLeftSo targets touched old new
+  store_shut : new.shut ≡ true → IsLeftSo targets touched old new
 
 module _ {W O E : Type 0} (m : Meaning W) (o : Outset) (outset : IsOutset o) (old : Site W O E) (along : IsAlong m o old) where
-  abbrev Was : Standing
-  Was = standing_of m old
-
-  abbrev Here : Around
-  Here = m.around old.world.now
-
   -- an end comes
-  pub ended_on : (world : W) (held : List Busy) (plan : Planned) → Clears [] (m.around old.world.now) (m.around world) →
-      held ≡ old.run.now.held → plan ≡ old.run.now.plan → EndsBy m o world held plan
-  ended_on world held plan clears same kept s around ended faulted goes = record {
-    jobs = along.on.jobs;
-    past = along.on.past;
-    at = ends o outset along.on.jobs (standing_of m old) s along.on.past along.on.at
-        (subst (λ (a : Around). Clears [] (m.around old.world.now) a) (sym around) clears) ended faulted (goes ∙ ap (λ (p : Planned). p.halted) kept);
-    began = λ busy path h made. along.on.began busy path (subst (λ (all : List Busy). Contains all busy) same h) made;
-  }
+  pub ended_on : (world : W) (book : Book) (plan : Planned) → Clears [] (m.around old.world.now) (m.around world) →
+      HoldsFewer old.run.now.held book.held → StaysBooked (book_of old) book → plan ≡ old.run.now.plan → EndsBy m o world book plan
+  ended_on world book plan clears less stays kept s around ended faulted goes =
+      kept_on o (book_of old) book s less stays
+      (ends_on o outset (book_of old) (standing_of m old) s along.on
+      (subst (λ (a : Around). Clears [] (m.around old.world.now) a) (sym around) clears) ended faulted (goes ∙ ap (λ (p : Planned). p.halted) kept))
+
+  -- the same behind a look at what a rule reads
+  pub ended_looked : (world : W) (run : Run) → run ≡ record old.run.now { inputs = run.inputs } → Asks (m.around old.world.now) (m.around world) →
+      EndsBy m o world (record (book_of old) { held = run.held; running = run.tickets }) run.plan
+  ended_looked world run rest asks =
+      ended_on world (record (book_of old) { held = run.held; running = run.tickets }) run.plan
+      ((calls_clear []).looks (m.around old.world.now) (m.around world) asks) (λ busy h. subst (λ (r : Run). Contains r.held busy) rest h)
+      (book_as (book_of old) (record (book_of old) { held = run.held; running = run.tickets }) refl (ap (λ (r : Run). r.held) rest)
+      (ap (λ (r : Run). r.tickets) rest) (λ e. e))
+      (ap (λ (r : Run). r.plan) rest)
 
   module _ (rule : RuleId) (rec : Rec) (due : IsDue m o old rule rec) (is_due : is_due_now (standing_of m old) due.model rec ≡ true)
       (job : Job) (from : IsJobFrom old.graph.now rule rec job)
       (room : length (m.around old.world.now).running < jobs_at_once o.wanted.jobs) where
+    own_targets : rec.targets ≡ due.model.targets
+    own_targets = ap (λ (x : Record). x.targets) due.weighed.present.is
+
     targets : job.targets ≡ due.model.targets
-    targets = from.targets ∙ ap (λ (x : Record). x.targets) due.weighed.present.is
+    targets = from.targets ∙ own_targets
 
     -- held ones were made by rules that began before
     began_more : (held : List Busy) → ((busy : Busy) → Contains held busy → Contains old.run.now.held busy) →
@@ -133,26 +154,51 @@ module _ {W O E : Type 0} (m : Meaning W) (o : Outset) (outset : IsOutset o) (ol
         let one = along.on.began busy path (within busy h) made in
         (one.0, one.1, there one.2)
 
+    has : HasRecord o (standing_of m old) along.on.past due.model rec
+    has = weighed_have o outset along.on.jobs (standing_of m old) along.on.past rule due.model rec along.on.at due.weighed.goes_on due.weighed
+
+    unshut : old.account.now.is_store_shut ≡ false
+    unshut = (along.well due.weighed.goes_on).unshut
+
     -- no job starts, and that is an end
-    pub refused_on : (world : W) (held : List Busy) (plan : Planned) → Clears job.targets (m.around old.world.now) (m.around world) →
-        ((busy : Busy) → Contains held busy → Contains old.run.now.held busy) → plan ≡ old.run.now.plan → EndsBy m o world held plan
-    refused_on world held plan clears within kept s around ended faulted goes = record {
-      jobs = job_for o.wanted o.before (m.around old.world.now) due.model ∷ along.on.jobs;
-      past = model.Ended due.model false ∷ Began due.model ∷ along.on.past;
-      at = refuses o outset along.on.jobs (standing_of m old) along.on.past rule due.model rec along.on.at due.weighed is_due room s
-          (subst (λ (a : Around). Clears due.model.targets (m.around old.world.now) a) (sym around)
-          (subst (λ (paths : List Path). Clears paths (m.around old.world.now) (m.around world)) targets clears))
-          ended faulted (goes ∙ ap (λ (p : Planned). p.halted) kept);
-      began = λ busy path h made. began_more held within busy path h made;
-    }
+    pub refused_on : (world : W) (book : Book) (plan : Planned) → Clears job.targets (m.around old.world.now) (m.around world) →
+        HoldsFewer old.run.now.held book.held → plan ≡ old.run.now.plan →
+        (book.shut ≡ false → TakesAway job.targets (book_of old) book) → EndsBy m o world book plan
+    refused_on world book plan clears within kept takes s around ended faulted goes =
+        let cleared : Clears due.model.targets (m.around old.world.now) s.around =
+        subst (λ (a : Around). Clears due.model.targets (m.around old.world.now) a) (sym around)
+        (subst (λ (paths : List Path). Clears paths (m.around old.world.now) (m.around world)) targets clears) in
+        record {
+          jobs = job_for o.wanted o.before (m.around old.world.now) due.model ∷ along.on.jobs;
+          past = model.Ended due.model false ∷ Began due.model ∷ along.on.past;
+          at = refuses o outset along.on.jobs (standing_of m old) along.on.past rule due.model rec along.on.at due.weighed is_due room s cleared
+              ended faulted (goes ∙ ap (λ (p : Planned). p.halted) kept);
+          began = λ busy path h made. began_more book.held within busy path h made;
+          booked = λ e.
+              refused_booked o outset along.on.jobs (m.around old.world.now) s.around along.on.past along.on.at.way due.model has.decided
+              (clears_write due.model.targets (m.around old.world.now) s.around cleared) (book_of old) book (along.on.booked unshut)
+              (subst (λ (paths : List Path). TakesAway paths (book_of old) book) targets (takes e));
+        }
+
+    -- by what is left of the book
+    pub left_on : (world : W) (book : Book) (plan : Planned) → Clears job.targets (m.around old.world.now) (m.around world) →
+        HoldsFewer old.run.now.held book.held → plan ≡ old.run.now.plan →
+        IsLeftSo job.targets (Clears [] (m.around old.world.now) (m.around world)) (book_of old) book → EndsBy m o world book plan
+    left_on world book plan clears within kept (all_left none keeps) =
+        ended_on world book plan none within (record { unshut = λ e. unshut; keeps = λ e. keeps }) kept
+    left_on world book plan clears within kept (none_left takes) = refused_on world book plan clears within kept (λ e. takes)
+    left_on world book plan clears within kept (store_shut shut) =
+        refused_on world book plan clears within kept (λ e. true_false (sym shut ∙ e))
 
     -- or it starts
     module _ (new : Site W O E) (is : Launches job (m.counts old.world.now) (m.around old.world.now) (m.around new.world.now))
         (counts : m.counts new.world.now ≡ m.counts old.world.now) (graph : new.graph.now ≡ old.graph.now) (plan : new.run.now.plan ≡ old.run.now.plan)
         (inputs : new.run.now.inputs ≡ old.run.now.inputs) (ended : new.account.now.is_ended ≡ old.account.now.is_ended)
-        (faulted : is_faulted new.account.now ≡ is_faulted old.account.now) (unshut : new.account.now.is_store_shut ≡ false)
-        (records : (path : Path) → (Contains job.targets path → ⊥) → records_of new path ≡ records_of old path)
-        (within : (busy : Busy) → Contains new.run.now.held busy → Contains old.run.now.held busy) where
+        (faulted : is_faulted new.account.now ≡ is_faulted old.account.now) (unshut_now : new.account.now.is_store_shut ≡ false)
+        (within : (busy : Busy) → Contains new.run.now.held busy → Contains old.run.now.held busy)
+        (left : List Busy) (takes : TakesAway job.targets (book_of old) (record (book_of new) { running = left }))
+        (busy : Busy) (makes : busy.hold.targets ≡ job.targets) (ticket : IsTicket new.store.now rec busy.ticket)
+        (added : new.run.now.tickets ≡ left ++ busy ∷ []) where
       rest_now : (s : Standing) → IsTold (standing_of m new) s (Started rule) →
           s ≡ record (standing_of m old) { plan = s.plan; records = s.records; faulted = s.faulted; ended = s.ended; around = s.around }
       rest_now s told =
@@ -161,7 +207,7 @@ module _ {W O E : Type 0} (m : Meaning W) (o : Outset) (outset : IsOutset o) (ol
           subst (λ (i : Inputs). s ≡ record s { graph = old.graph.now; inputs = i }) same_inputs
           (subst (λ (g : RuleGraph). s ≡ record s { graph = g }) same_graph refl)
 
-      on_now : (s : Standing) → IsTold (standing_of m new) s (Started rule) → IsOn o new.run.now.held s
+      on_now : (s : Standing) → IsTold (standing_of m new) s (Started rule) → IsOn o (book_of new) s
       on_now s told = record {
         jobs = job_for o.wanted o.before (m.around old.world.now) due.model ∷ along.on.jobs;
         past = Began due.model ∷ along.on.past;
@@ -181,9 +227,18 @@ module _ {W O E : Type 0} (m : Meaning W) (o : Outset) (outset : IsOutset o) (ol
               reports = record { stays = λ e. told.reports.stays (faulted ∙ e); told = told.reports.told };
               records = λ path out.
                   ap (λ (x : Standing). x.records path) told.rest
-                  ∙ records path (λ h. out (subst (λ (paths : List Path). Contains paths path) targets h));
+                  ∙ takes.others path (λ h. out (subst (λ (paths : List Path). Contains paths path) targets h));
             });
         began = λ busy path h made. began_more new.run.now.held within busy path h made;
+        booked = λ e.
+            subst (λ (all : List Busy). AreBooked o s.around (Began due.model ∷ along.on.past) (record (book_of new) { running = all })) (sym added)
+            (began_booked o outset along.on.jobs (m.around old.world.now) s.around along.on.past along.on.at.way due.model has.decided
+            (subst (λ (a : Around). Writes due.model.targets (m.around old.world.now) a) (sym (ap (λ (x : Standing). x.around) told.rest))
+            (subst (λ (paths : List Path). Writes paths (m.around old.world.now) (m.around new.world.now)) targets
+            (starts_write job (m.counts old.world.now) (m.around old.world.now) is.mid (m.around new.world.now) is.clears is.starts)))
+            (book_of old) (record (book_of new) { running = left }) (along.on.booked unshut)
+            (subst (λ (paths : List Path). TakesAway paths (book_of old) (record (book_of new) { running = left })) targets takes)
+            busy rec (makes ∙ targets) own_targets ticket has.is);
       }
 
       well_now : new.account.now.is_ended ≡ false → GoesWell m o new
@@ -191,7 +246,7 @@ module _ {W O E : Type 0} (m : Meaning W) (o : Outset) (outset : IsOutset o) (ol
           let well = along.well (sym ended ∙ e) in
           record {
             unrisen = subst (λ (c : Counts). AreUnrisen o.wanted.keep o.counts c) (sym counts) well.unrisen;
-            unshut = unshut;
+            unshut = unshut_now;
             looked =
                 subst (λ (i : Inputs). AreGoneOver new.graph.now i) (sym inputs)
                 (subst (λ (g : RuleGraph). AreGoneOver g old.run.now.inputs) (sym graph) well.looked);

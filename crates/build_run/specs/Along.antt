@@ -30,6 +30,7 @@ use Rattle.run_means.specs.Laws.{MayWait}
 use Rattle.build_means.specs.Records.{HasOwnDigests}
 use Rattle.deciders.specs.declared.recorded.Rec.{Rec}
 use Rattle.turn_means.specs.Laws.{IsChosen, IsTold, IsWeighed, is_due_now}
+use Rattle.build_run.specs.Books.{Book, AreBooked, book_of}
 use Rattle.build_run.specs.Holds.{Busy}
 use Rattle.build_run.specs.Sites.{most_jobs, records_of}
 use Rattle.build_run.specs.declared.account.Account.{Account}
@@ -60,12 +61,13 @@ abbrev pub HeldBegan : Outset → List Step → List Busy → Type 0
 HeldBegan o past held = (busy : Busy) (path : Path) → Contains held busy → Contains busy.hold.targets path →
     (r : Rule) × ((setting_at o).rule_of path ≡ Some r) × Among r (began past)
 
--- a build stands so at some steps
-pub record IsOn (o : Outset) (held : List Busy) (s : Standing) : Type 0 where
+-- a build stands so at some steps, and until the store refuses the records are as they leave them
+pub record IsOn (o : Outset) (book : Book) (s : Standing) : Type 0 where
   pub jobs : List Given
   pub past : List Step
   pub at : IsAt o jobs s past
-  pub began : HeldBegan o past held
+  pub began : HeldBegan o past book.held
+  pub booked : book.shut ≡ false → AreBooked o s.around past book
 
 -- it is to be done as was asked
 pub record AreAsked (o : Outset) (options : Options) : Type 0 where
@@ -81,7 +83,7 @@ pub record GoesWell {W O E : Type 0} (m : Meaning W) (o : Outset) (site : Site W
 
 -- a build goes along: it stands at some steps, and behind an end its plan is halted
 pub record IsAlong {W O E : Type 0} (m : Meaning W) (o : Outset) (site : Site W O E) : Type 0 where
-  pub on : IsOn o site.run.now.held (standing_of m site)
+  pub on : IsOn o (book_of site) (standing_of m site)
   pub asked : AreAsked o site.options
   pub well : site.account.now.is_ended ≡ false → GoesWell m o site
   pub halted : site.account.now.is_ended ≡ true → site.run.now.plan.halted ≡ true
@@ -122,12 +124,12 @@ IsWantedOf running most plan want.Rest = ⊥
 -- where an end is told of it the build stands at some steps still
 abbrev pub EndsOn : {W O E : Type 0} → Meaning W → Outset → Site W O E → Type 0
 EndsOn m o site = (s : Standing) → s.around ≡ m.around site.world.now → s.ended ≡ true → s.faulted ≡ true →
-    s.plan.halted ≡ site.run.now.plan.halted → IsOn o site.run.now.held s
+    s.plan.halted ≡ site.run.now.plan.halted → IsOn o (book_of site) s
 
 -- What came of a turn is told, and by its event the build stands at some steps.
 pub record GoesOn {W O E : Type 0} (m : Meaning W) (o : Outset) (site : Site W O E) (event : PlanEvent) : Type 0 where
   pub told : (s : Standing) → IsTold (standing_of m site) s event → (site.account.now.is_ended ≡ true → s.ended ≡ true) →
-      IsOn o site.run.now.held s
+      IsOn o (book_of site) s
   -- where memory is wanting for what a scan found that is an end
   pub ends : is_scan event ≡ true → EndsOn m o site
   pub goes : is_halt event ≡ false
@@ -147,24 +149,21 @@ GoesAlong m old new wanted result = m.tells new.world.now → m.sure new.world.n
 abbrev pub StaysAlong : {W O E : Type 0} → Meaning W → Site W O E → Site W O E → Type 0
 StaysAlong m old new = m.tells new.world.now → m.sure new.world.now → (o : Outset) → IsOutset o → IsAlong m o old → IsAlong m o new
 
--- at the end it stands at some steps
+-- at the end it stands at some steps, and the store has refused only where an end came
+pub record IsAtEnd {W O E : Type 0} (m : Meaning W) (o : Outset) (site : Site W O E) : Type 0 where
+  pub on : IsOn o (book_of site) (standing_of m site)
+  pub unshut : site.account.now.is_ended ≡ false → site.account.now.is_store_shut ≡ false
+
 abbrev pub ComesOn : {W O E : Type 0} → Meaning W → Site W O E → Site W O E → Type 0
 ComesOn m old new =
-    m.tells new.world.now → m.sure new.world.now → (o : Outset) → IsOutset o → IsAlong m o old → IsOn o new.run.now.held (standing_of m new)
+    m.tells new.world.now → m.sure new.world.now → (o : Outset) → IsOutset o → IsAlong m o old → IsAtEnd m o new
 
 -- ---- waits
 
--- a build stands so at some steps, and may wait for an ending
-pub record WaitsOn (o : Outset) (held : List Busy) (s : Standing) : Type 0 where
-  pub jobs : List Given
-  pub past : List Step
-  pub at : IsAt o jobs s past
-  pub began : HeldBegan o past held
-  pub wait : MayWait o.wanted o.kept o.before s.around past
-
--- a build may wait, whatever was put before
+-- a build stands at some steps and may wait for an ending, whatever was put before
 pub record MayTake {W O E : Type 0} (m : Meaning W) (o : Outset) (site : Site W O E) : Type 0 where
-  pub on : WaitsOn o site.run.now.held (standing_of m site)
+  pub on : IsOn o (book_of site) (standing_of m site)
+  pub wait : MayWait o.wanted o.kept o.before (m.around site.world.now) on.past
   pub asked : AreAsked o site.options
   pub well : site.account.now.is_ended ≡ false → GoesWell m o site
 
@@ -261,7 +260,7 @@ TellsAlong m old new done = (o : Outset) → IsOutset o → AreAsked o old.optio
 abbrev pub IsSpent : {W O E : Type 0} → Site W O E → Type 0
 IsSpent site = (length site.run.now.tickets ≡ 0) ⊎ (site.run.now.plan.halted ≡ true)
 
--- At rest nothing can be scanned and decided, where nothing is to be reported.
+-- At rest nothing can be scanned and decided, unless the plan has halted.
 abbrev pub RestsAlong : {W O E : Type 0} → Meaning W → Site W O E → Site W O E → Type 0
 RestsAlong m old new = m.tells new.world.now → m.sure new.world.now → (o : Outset) → IsOutset o → IsAlong m o old →
-    is_faulted new.account.now ≡ false → new.run.now.plan.halted ≡ false → IsStill new.run.now.plan
+    new.run.now.plan.halted ≡ false → IsStill new.run.now.plan

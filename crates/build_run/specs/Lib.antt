@@ -1,10 +1,12 @@
 pub mod Along
+pub mod Books
 pub mod Causes
 pub mod Goings
 pub mod Holds
 pub mod Ledgers
 pub mod Outs
 pub mod Outsets
+pub mod Safe
 pub mod Sites
 pub mod Takes
 pub mod Withdrawals

@@ -1,5 +1,6 @@
 -- What a build did, from what it began with.
-use Rattle.std.specs.Prelude.{◌≡◌, ℕ, true, false, List, [], length}
+use Rattle.std.specs.Prelude.{◌≡◌, ℕ, Bool, true, false, List, [], length}
+use Rattle.scons_base.specs.Rising.{Rose}
 use Rattle.scons_base.specs.declared.ids.NodeId.{NodeId}
 use Rattle.world_api.specs.Around.{Around}
 use Rattle.world_api.specs.Meaning.{Meaning}
@@ -13,7 +14,7 @@ use Rattle.task_plan.specs.Admits.{Fits}
 use Rattle.task_plan.specs.Met.{AllMet, AreFrom}
 use Rattle.task_plan.specs.Plans.{Planned}
 use Rattle.task_plan.specs.Watched.{IsStill, AreGoingOn, IsFinished}
-use Rattle.build_means.specs.Builds.{Wanted, Runs, Succeeded}
+use Rattle.build_means.specs.Builds.{Wanted, KeepsRecords, Rests, Runs, Succeeded}
 use Rattle.build_files.specs.Marked.{AreGoneOver}
 use Rattle.turn_means.specs.Standing.{Outset, IsOutset}
 use Rattle.turn_means.specs.Laws.{IsSetOut}
@@ -96,10 +97,18 @@ pub record IsBlank (account : Account) : Type 0 where
   pub faulted : is_faulted account ≡ false
   pub unshut : account.is_store_shut ≡ false
 
--- What a build did, and that it succeeded where nothing is to be reported.
-pub record HasMade (o : Outset) (around : Around) (account : Account) : Type 0 where
+-- What a build did that ended well, and that its steps left these records.
+pub record HasEndedWell (o : Outset) (around : Around) (behind : Map) : Type 0 where
+  pub succeeded : Succeeded o.wanted o.kept o.counts o.before around
+  pub records : KeepsRecords o.wanted o.kept o.before around succeeded.runs.steps behind
+
+-- What a build did, which records its steps left unless the store has refused, that it came to rest unless an end came, and
+-- that it ended well where nothing is to be reported.
+pub record HasMade (o : Outset) (around : Around) (account : Account) (behind : Map) : Type 0 where
   pub runs : Runs o.wanted o.kept o.counts o.before around
-  pub succeeds : is_faulted account ≡ false → Succeeded o.wanted o.kept o.counts o.before around
+  pub records : account.is_store_shut ≡ false → KeepsRecords o.wanted o.kept o.before around runs.steps behind
+  pub rests : account.is_ended ≡ false → Rests o.wanted o.kept o.before around runs.steps
+  pub succeeds : is_faulted account ≡ false → HasEndedWell o around behind
 
 -- a build has set out from there
 pub record IsReadyFor {W : Type 0} (m : Meaning W) (o : Outset) (g : RuleGraph) (run : Run) (store : Store) (world : W) (account : Account)
@@ -111,9 +120,9 @@ pub record IsReadyFor {W : Type 0} (m : Meaning W) (o : Outset) (g : RuleGraph) 
   pub counts : o.counts ≡ m.counts world
   pub blank : IsBlank account
 
-abbrev pub MakesAll : {W : Type 0} → Meaning W → RuleGraph → Run → Store → W → Account → Options → W → Account → Type 0
-MakesAll m g run store world account options new new_account = m.tells new → m.sure new → (o : Outset) →
-    IsReadyFor m o g run store world account options → HasMade o (m.around new) new_account
+abbrev pub MakesAll : {W : Type 0} → Meaning W → RuleGraph → Run → Store → W → Account → Options → W → Account → Store → Type 0
+MakesAll m g run store world account options new new_account new_store = m.tells new → m.sure new → (o : Outset) →
+    IsReadyFor m o g run store world account options → HasMade o (m.around new) new_account (map_of new_store)
 
 -- Where no rule waits for itself and none can go on, each needed rule of a plan is settled.
 abbrev pub Finishes : RuleGraph → Planned → Type 0
@@ -126,24 +135,31 @@ FinishesWell g plan old new = (old.is_ended ≡ true → is_faulted old ≡ true
 -- ---- builds
 
 -- What a build did: leftover copies went, with their records, and from there it took these steps.
-pub record HasRun {W : Type 0} (m : Meaning W) (w : Wanted) (map : Map) (old new : W) : Type 0 where
+pub record HasRun {W : Type 0} (m : Meaning W) (w : Wanted) (map : Map) (old new : W) (behind : Map) (ended : Bool) : Type 0 where
   pub left : Around
   pub kept : Map
   pub rest : LeavesRest (IsLeftAt w.graph (m.around old) map) (m.around old) map left kept
   pub runs : Runs w kept (m.counts old) left (m.around new)
+  -- unless the signature file's disk was at fault
+  pub records : (Rose (m.counts old).disk_faults (m.counts new).disk_faults → ⊥) →
+      KeepsRecords w kept left (m.around new) runs.steps behind
+  -- for none of the needed rules anything is left to do, unless a fault came after which nothing new starts
+  pub rests : ended ≡ false → Rests w kept left (m.around new) runs.steps
 
--- What a build did that ended well.
-pub record HasSucceeded {W : Type 0} (m : Meaning W) (w : Wanted) (map : Map) (old new : W) : Type 0 where
+-- What a build did that ended well, and that its steps left these records.
+pub record HasSucceeded {W : Type 0} (m : Meaning W) (w : Wanted) (map : Map) (old new : W) (behind : Map) : Type 0 where
   pub left : Around
   pub kept : Map
   pub rest : LeavesRest (IsLeftAt w.graph (m.around old) map) (m.around old) map left kept
   pub succeeded : Succeeded w kept (m.counts old) left (m.around new)
+  pub records : KeepsRecords w kept left (m.around new) succeeded.runs.steps behind
 
 -- So builds do, in a world that tells and is sure, where the requested nodes are the graph's.
-abbrev pub BuildRuns : {W : Type 0} → Meaning W → Wanted → Map → W → W → Type 0
-BuildRuns m w map old new = m.tells new → m.sure new → are_below (length w.graph.nodes) w.requested ≡ true → HasRun m w map old new
+abbrev pub BuildRuns : {W : Type 0} → Meaning W → Wanted → Map → W → W → Map → BuildEnd → Type 0
+BuildRuns m w map old new behind answer =
+    m.tells new → m.sure new → are_below (length w.graph.nodes) w.requested ≡ true → HasRun m w map old new behind answer.is_ended
 
 -- and those that report nothing succeed
-abbrev pub BuildSucceeds : {W : Type 0} → Meaning W → Wanted → Map → W → W → BuildEnd → Type 0
-BuildSucceeds m w map old new answer = answer.faults ≡ [] → answer.memory ≡ false → m.tells new → m.sure new →
-    are_below (length w.graph.nodes) w.requested ≡ true → HasSucceeded m w map old new
+abbrev pub BuildSucceeds : {W : Type 0} → Meaning W → Wanted → Map → W → W → Map → BuildEnd → Type 0
+BuildSucceeds m w map old new behind answer = answer.faults ≡ [] → answer.memory ≡ false → m.tells new → m.sure new →
+    are_below (length w.graph.nodes) w.requested ≡ true → HasSucceeded m w map old new behind

@@ -11,6 +11,7 @@ ghost use Rattle.build_run.specs.Causes.{BuildCauses, IsInner};
 ghost use Rattle.build_run.specs.Goings.{Goes, Passes, Stays};
 ghost use Rattle.build_run.specs.Ledgers.{ledger_of, AllAccounts, Reports};
 ghost use Rattle.build_run.specs.Outsets.{wanted_of, BuildRuns, BuildSucceeds, FinishesWell, LeavesCopies, MakesAll, SetsOut, SetsOutBehind};
+ghost use Rattle.build_run.specs.Safe.{BuildsSafely, GoesSafely, MakesSafely};
 ghost use Rattle.build_run.specs.Sites.{IsSame, SiteAccounts, most_jobs};
 ghost use Rattle.build_run.specs.Takes.{HasTakeCause};
 
@@ -73,8 +74,9 @@ pub fn build<W: World, O: Sink, E: Sink>(
     ensures later { Later (W.meaning.counts world.old) (W.meaning.counts world.new) }
     ensures idle { W.meaning.tells world.new → (W.meaning.around world.new).running ≡ [] }
     ensures causes { BuildCauses W.meaning O.meaning E.meaning world.old out.old err.old world.new out.new err.new result.faults result.memory }
-    ensures runs { BuildRuns W.meaning (wanted_of graph.old requested.now options.now) (map_of store.old) world.old world.new }
-    ensures succeeds { BuildSucceeds W.meaning (wanted_of graph.old requested.now options.now) (map_of store.old) world.old world.new result }
+    ensures runs { BuildRuns W.meaning (wanted_of graph.old requested.now options.now) (map_of store.old) world.old world.new (map_of store.new) result }
+    ensures succeeds { BuildSucceeds W.meaning (wanted_of graph.old requested.now options.now) (map_of store.old) world.old world.new (map_of store.new) result }
+    ensures safe { BuildsSafely W.meaning (wanted_of graph.old requested.now options.now) world.old world.new }
 {
     graph.laws();
     let mut account = Account::new(alloc);
@@ -119,6 +121,7 @@ fn set_out<W: World>(
     ensures held { IfOk result (λ run. run.held ≡ []) }
     ensures sets { IfOk result (SetsOutBehind W.meaning graph.old requested.now hash world.old store.old graph.new world.new store.new) }
     ensures rest { OnErr result (LeavesCopies W.meaning graph.old world.old store.old world.new store.new) }
+    ensures safe { GoesSafely W.meaning world.old world.new }
 {
     take_leftovers(alloc, graph, store, world)?;
     begin(alloc, hash, graph, requested, world)
@@ -173,7 +176,8 @@ fn make_all<W: World, O: Sink, E: Sink>(
     ensures passes { Passes W.meaning world.old world.new }
     ensures idle { W.meaning.tells world.new → (W.meaning.around world.new).running ≡ [] }
     ensures accounts { AllAccounts W.meaning O.meaning E.meaning world.old out.old err.old account.old world.new out.new err.new account.new }
-    ensures makes { MakesAll W.meaning graph.old run.old store.old world.old account.old options world.new account.new }
+    ensures makes { MakesAll W.meaning graph.old run.old store.old world.old account.old options world.new account.new store.new }
+    ensures safe { MakesSafely W.meaning graph.old run.old store.old world.old account.old options world.new }
 {
     finished_succeed();
     let mut site = Site {
@@ -195,6 +199,8 @@ impl<W: World, O: Sink, E: Sink> Site<'_, '_, W, O, E> {
     fn close(&mut self) -> Listing<(PathText, PathText)>
         ensures same { IsSame self.old self.new }
         ensures world { self.new.world.now ≡ self.old.world.now }
+        ensures store { self.new.store.now ≡ self.old.store.now }
+        ensures shut { self.new.account.now.is_store_shut ≡ self.old.account.now.is_store_shut }
         ensures accounts { SiteAccounts W.meaning O.meaning E.meaning self.old self.new }
         ensures ends { KeepsEnds self.old.account.now self.new.account.now }
         ensures finishes { FinishesWell self.old.graph.now self.old.run.now.plan self.old.account.now self.new.account.now }
@@ -274,12 +280,14 @@ fn skipped(
 fn answer(account: Account, skipped: Listing<(PathText, PathText)>) -> BuildEnd
     ensures faults { result.faults ≡ account.faults.items }
     ensures memory { result.memory ≡ account.memory }
+    ensures ended { result.is_ended ≡ account.is_ended }
     ensures faulted { result.faults ≡ [] → result.memory ≡ false → is_faulted account ≡ false }
 {
     BuildEnd {
         faults: Listing::new(account.faults),
         skipped,
         started: Listing::new(account.started),
+        is_ended: account.is_ended,
         is_out_shut: account.is_out_shut,
         memory: account.memory,
     }

@@ -1,12 +1,15 @@
 //! Clearing the way of an action: the directories of its targets stand, their records are withdrawn, and they are removed.
-ghost use Rattle.std.specs.Prelude.{◌≡◌, ◌∷◌, [], None, Contains, OnOk};
+ghost use Rattle.std.specs.Prelude.{◌≡◌, ◌∷◌, [], None, true, Contains, OnOk, OnErr};
 ghost use Rattle.build_run.specs.Along.{KeepsKnown, SameEnds};
+ghost use Rattle.build_run.specs.Books.{RefusesSo};
 ghost use Rattle.build_run.specs.Goings.{ClearsAt, Stays, Leaves, AreGone, AreUnused};
 ghost use Rattle.build_files.specs.Causes.{HasLookCause};
 ghost use Rattle.build_run.specs.Outs.{IsTicketFor, KeepsSome};
+ghost use Rattle.build_run.specs.Safe.{GoesSafely, SiteGoesSafely};
 ghost use Rattle.build_run.specs.Sites.{IsSound, IsReady, IsCleared, KeepsRecordsBut, SiteEnds, SiteGoes};
 ghost use Rattle.build_run.specs.Takes.{Takes};
 ghost use Rattle.build_run.specs.Withdrawals.{AreWithdrawn};
+ghost use Rattle.sign_store.specs.Stores.{KeepsTickets};
 ghost use Rattle.world_api.specs.Around.{IsUnused};
 
 use crate::site::Site;
@@ -34,6 +37,9 @@ impl<W: World, O: Sink, E: Sink> Site<'_, '_, W, O, E> {
         ensures known { KeepsKnown self.old self.new }
         ensures account { SameEnds self.old.account.now self.new.account.now }
         ensures well { OnOk result (self.new.account.now ≡ self.old.account.now) }
+        ensures tickets { KeepsTickets self.old.store.now self.new.store.now }
+        ensures refused { RefusesSo W.meaning job.now.targets self.old self.new result }
+        ensures safe { SiteGoesSafely W.meaning self.old self.new }
     {
         let targets = job.targets.as_slice();
         make_dirs(self.account.alloc, self.world, &mut self.run.dirs, targets)?;
@@ -58,6 +64,9 @@ impl<W: World, O: Sink, E: Sink> Site<'_, '_, W, O, E> {
         ensures known { KeepsKnown self.old self.new }
         ensures account { SameEnds self.old.account.now self.new.account.now }
         ensures well { OnOk result (self.new.account.now ≡ self.old.account.now) }
+        ensures tickets { KeepsTickets self.old.store.now self.new.store.now }
+        ensures shut { OnErr result (self.new.account.now.is_store_shut ≡ true) }
+        ensures safe { SiteGoesSafely W.meaning self.old self.new }
     {
         if !self.store.has_record(ticket) {
             return Ok(());
@@ -86,6 +95,7 @@ pub(crate) fn remove_all<W: World>(world: &mut W, targets: &[PathText]) -> Resul
     ensures gone { AreGone W.meaning world.new targets.now result }
     ensures only { Takes W.meaning world.old world.new (Contains targets.now) }
     ensures clears { ClearsAt W.meaning targets.now world.old world.new }
+    ensures safe { GoesSafely W.meaning world.old world.new }
 {
     for target in targets {
         remove(world, target)?;
@@ -101,6 +111,7 @@ fn remove<W: World>(world: &mut W, target: &PathText) -> Result<(), ListEnd>
     ensures others { W.meaning.tells world.new → Leaves target.now (W.meaning.around world.old) (W.meaning.around world.new) }
     ensures only { Takes W.meaning world.old world.new (λ path. path ≡ target.now) }
     ensures clears { ClearsAt W.meaning (target.now ∷ []) world.old world.new }
+    ensures safe { GoesSafely W.meaning world.old world.new }
 {
     match world.remove(target) {
         Ok(()) => Ok(()),
@@ -119,6 +130,7 @@ fn make_dirs<W: World>(
     ensures stays { Stays W.meaning world.old world.new }
     ensures cause { HasLookCause (W.meaning.counts world.old) (W.meaning.counts world.new) result }
     ensures clears { ClearsAt W.meaning [] world.old world.new }
+    ensures safe { GoesSafely W.meaning world.old world.new }
 {
     for target in targets {
         make_dir(alloc, world, dirs, target)?;
@@ -137,6 +149,7 @@ fn make_dir<W: World>(
     ensures stays { Stays W.meaning world.old world.new }
     ensures cause { HasLookCause (W.meaning.counts world.old) (W.meaning.counts world.new) result }
     ensures clears { ClearsAt W.meaning [] world.old world.new }
+    ensures safe { GoesSafely W.meaning world.old world.new }
 {
     let Ok(dir) = PathText::read(alloc, target.dir()) else {
         return Err(ListEnd::Memory);
@@ -154,6 +167,7 @@ fn raise_dir<W: World>(world: &mut W, dir: &PathText) -> Result<(), ListEnd>
     ensures stays { Stays W.meaning world.old world.new }
     ensures cause { HasLookCause (W.meaning.counts world.old) (W.meaning.counts world.new) result }
     ensures clears { ClearsAt W.meaning [] world.old world.new }
+    ensures safe { GoesSafely W.meaning world.old world.new }
 {
     match world.make_dir(dir) {
         Ok(()) => Ok(()),

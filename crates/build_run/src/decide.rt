@@ -5,6 +5,7 @@ ghost use Rattle.build_run.specs.Causes.{IsInner};
 ghost use Rattle.build_run.specs.Along.{GoesAlong, MakesAlong, Presents};
 ghost use Rattle.build_run.specs.Goings.{Stays};
 ghost use Rattle.world_api.specs.Looks.{Looks};
+ghost use Rattle.build_run.specs.Safe.{StartsSafely, TurnsSafelyAs};
 ghost use Rattle.build_run.specs.Sites.{IsSound, KeepsHeld, SiteEnds, SitePasses};
 
 use crate::site::{Run, Site};
@@ -27,6 +28,7 @@ impl<W: World, O: Sink, E: Sink> Site<'_, '_, W, O, E> {
         ensures few { length self.new.run.now.held ≤ length self.old.run.now.held }
         ensures kept { KeepsHeld self.old self.new }
         ensures along { GoesAlong W.meaning self.old self.new (Want.Decide rule) result }
+        ensures safe { TurnsSafelyAs W.meaning self.old self.new (Want.Decide rule) }
     {
         match present(self.run, self.world, self.graph, rule)? {
             Present::Record(now) => self.make(rule, now),
@@ -49,6 +51,7 @@ impl<W: World, O: Sink, E: Sink> Site<'_, '_, W, O, E> {
         ensures few { length self.new.run.now.held ≤ length self.old.run.now.held }
         ensures kept { KeepsHeld self.old self.new }
         ensures along { MakesAlong W.meaning self.old self.new rule now result }
+        ensures safe { StartsSafely W.meaning self.old self.new now }
     {
         if !is_stale(self.world, self.graph, self.store, rule, &now)? {
             return Ok(PlanEvent::Fresh(rule));

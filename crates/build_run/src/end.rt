@@ -12,6 +12,8 @@ pub struct BuildEnd {
     pub skipped: Listing<(PathText, PathText)>,
     /// The rules that were started, in order.
     pub started: Listing<RuleId>,
+    /// Whether a fault came after which nothing new starts: rules may be left then that could have gone on.
+    pub is_ended: bool,
     /// Whether standard output refused.
     pub is_out_shut: bool,
     /// Whether memory was wanting.

@@ -5,6 +5,7 @@ ghost use Rattle.build_run.specs.Goings.{Passes, IsJoined};
 ghost use Rattle.build_run.specs.Holds.{holds_in, without};
 ghost use Rattle.build_run.specs.Ledgers.{ledger_of, with_outcome, Reports};
 ghost use Rattle.build_run.specs.Outs.{LogsEnding};
+ghost use Rattle.build_run.specs.Safe.{GoesSafely, HoldsSafely, SiteGoesSafely};
 ghost use Rattle.build_run.specs.Sites.{IsSound, IsSoundWith, IsStoredFor, KeepsRecords, PutsRecord, SiteAccounts, SitePasses, SitePuts, TakesEnding, most_jobs};
 ghost use Rattle.sign_store.specs.Stores.{KeepsTickets};
 ghost use Rattle.world_api.specs.Causes.{HasOutcomeCause};
@@ -35,6 +36,7 @@ impl<W: World, O: Sink, E: Sink> Site<'_, '_, W, O, E> {
         ensures takes { TakesEnding W.meaning self.old self.new result }
         ensures along { EndsAlong W.meaning self.old self.new result }
         ensures halted { self.new.run.now.plan ≡ self.old.run.now.plan }
+        ensures safe { SiteGoesSafely W.meaning self.old self.new }
     {
         self.put_if_few();
         self.take_ended()
@@ -52,6 +54,7 @@ impl<W: World, O: Sink, E: Sink> Site<'_, '_, W, O, E> {
         ensures known { KeepsKnown self.old self.new }
         ensures held { HoldsFewer self.old.run.now.held self.new.run.now.held }
         ensures stands { StandsPut W.meaning self.old self.new }
+        ensures safe { SiteGoesSafely W.meaning self.old self.new }
     {
         if self.run.tickets.len() >= self.options.most_jobs() {
             return;
@@ -71,6 +74,7 @@ impl<W: World, O: Sink, E: Sink> Site<'_, '_, W, O, E> {
         ensures takes { TakesEnding W.meaning self.old self.new result }
         ensures along { TakesAlong W.meaning self.old self.new result }
         ensures halted { self.new.run.now.plan ≡ self.old.run.now.plan }
+        ensures safe { SiteGoesSafely W.meaning self.old self.new }
     {
         let ended = wait(self.world, self.run, &self.options);
         let Some(busy) = self.run.tickets.take(ended.id) else {
@@ -106,9 +110,11 @@ impl<W: World, O: Sink, E: Sink> Site<'_, '_, W, O, E> {
         ensures accounts { SiteAccounts W.meaning O.meaning E.meaning self.old self.new }
         ensures sound { IsSound W.meaning self.new }
         ensures record { PutsRecord busy.ticket self.old self.new }
+        ensures tickets { KeepsTickets self.old.store.now self.new.store.now }
         ensures known { KeepsKnown self.old self.new }
         ensures held { HoldsFewer (self.old.run.now.held ++ busy ∷ []) self.new.run.now.held }
         ensures stands { StandsPut W.meaning self.old self.new }
+        ensures safe { HoldsSafely W.meaning busy self.old self.new }
     {
         let Ticketed { hold, ticket } = busy;
         self.run.held.add(hold, ticket);
@@ -130,6 +136,7 @@ impl<W: World, O: Sink, E: Sink> Site<'_, '_, W, O, E> {
         ensures known { KeepsKnown self.old self.new }
         ensures held { HoldsFewer self.old.run.now.held self.new.run.now.held }
         ensures stands { StandsPut W.meaning self.old self.new }
+        ensures safe { SiteGoesSafely W.meaning self.old self.new }
     {
         if self.account.is_store_shut {
             self.run.held.clear();
@@ -159,6 +166,7 @@ fn wait<W: World>(world: &mut W, run: &Run, options: &Options) -> Ended
     ensures cause { HasOutcomeCause result.outcome (W.meaning.counts world.old) (W.meaning.counts world.new) }
     ensures banks { W.meaning.tells world.new → BanksKept W.meaning world.old world.new }
     ensures ends { W.meaning.tells world.new → EndsJob W.meaning result world.old world.new }
+    ensures safe { GoesSafely W.meaning world.old world.new }
 {
     world.wait()
 }

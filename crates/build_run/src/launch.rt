@@ -2,15 +2,17 @@
 ghost use Rattle.std.specs.Prelude.{◌≡◌, ◌≤◌, ◌++◌, ◌∷◌, [], length, Contains, OnOk, OnErr};
 ghost use Rattle.build_run.specs.Causes.{HasPrintCause, HasStartCause, IsUnstarted};
 ghost use Rattle.build_run.specs.Along.{IsWellStill, KeepsKnown, SameEnds};
+ghost use Rattle.build_run.specs.Books.{RefusesSo};
 ghost use Rattle.build_run.specs.Goings.{Passes, ClearsAt, LaunchesAt, IsJoined, AreAbsent};
 ghost use Rattle.world_api.specs.Laws.{StartsJob};
 ghost use Rattle.build_run.specs.Ledgers.{ledger_of};
 ghost use Rattle.build_run.specs.Holds.{Busy, hold_for, holds_in, KeepsApart};
 ghost use Rattle.build_run.specs.Outs.{IsTicketFor, KeepsSome, ShareNone};
+ghost use Rattle.build_run.specs.Safe.{GoesSafely, SiteGoesSafely};
 ghost use Rattle.build_run.specs.Sites.{IsReady, IsSound, IsSoundWith, KeepsRecordsBut, SiteEnds, SitePasses, holds_after};
 ghost use Rattle.build_run.specs.declared.tickets.Hold.{Hold};
 ghost use Rattle.build_run.specs.Withdrawals.{AreWithdrawn, HasNone};
-ghost use Rattle.sign_store.specs.Stores.{map_of};
+ghost use Rattle.sign_store.specs.Stores.{KeepsTickets, map_of};
 ghost use Rattle.world_api.specs.Meaning.{BanksKept};
 
 use crate::account::Account;
@@ -40,6 +42,9 @@ impl<W: World, O: Sink, E: Sink> Site<'_, '_, W, O, E> {
         ensures known { KeepsKnown self.old self.new }
         ensures account { SameEnds self.old.account.now self.new.account.now }
         ensures well { OnOk result (IsWellStill W.meaning self.old self.new) }
+        ensures outs { KeepsTickets self.old.store.now self.new.store.now }
+        ensures refused { RefusesSo W.meaning job.targets self.old self.new result }
+        ensures safe { SiteGoesSafely W.meaning self.old self.new }
     {
         self.clear(&job, ticket)?;
         show(self.account, self.out, text)?;
@@ -84,6 +89,7 @@ fn begin<W: World>(
     ensures refused { OnErr result (IsJoined W.meaning world.new (holds_in run.now.tickets)) }
     ensures starts { W.meaning.tells world.new → OnOk result (StartsJob W.meaning job world.old world.new) }
     ensures asks { OnErr result (ClearsAt W.meaning [] world.old world.new) }
+    ensures safe { GoesSafely W.meaning world.old world.new }
 {
     let rule = RuleId(job.id);
     match world.start(job) {

@@ -2,9 +2,10 @@
 ghost use Rattle.std.specs.Prelude.{◌≡◌, ◌<◌, ◌≤◌, [], length, true, IfOk};
 ghost use Rattle.build_files.specs.Causes.{IsQuiet};
 ghost use Rattle.build_run.specs.Along.{StartsAlong};
+ghost use Rattle.build_run.specs.Safe.{StartsSafely};
 ghost use Rattle.build_run.specs.Sites.{IsSound, KeepsHeld, SiteEnds, SitePasses};
 ghost use Rattle.turn_means.specs.Laws.{IsJobFrom};
-ghost use Rattle.sign_store.specs.Stores.{IsOut, IsFresh, KeepsBanks, KeepsOthers, KeepsOut, is_live, map_of};
+ghost use Rattle.sign_store.specs.Stores.{IsOut, IsFresh, KeepsBanks, KeepsOthers, KeepsOut, KeepsTickets, is_live, map_of};
 
 use crate::building::Options;
 use crate::site::Site;
@@ -34,6 +35,7 @@ impl<W: World, O: Sink, E: Sink> Site<'_, '_, W, O, E> {
         ensures kept { KeepsHeld self.old self.new }
         ensures err { self.new.err.now ≡ self.old.err.now }
         ensures along { StartsAlong W.meaning self.old self.new rule now result }
+        ensures safe { StartsSafely W.meaning self.old self.new now }
     {
         if self.account.is_store_shut {
             return Err(ListEnd::Fault(BuildFault::StoreFault));
@@ -84,6 +86,7 @@ pub(crate) fn give_up(is_store_shut: bool, store: &mut Store, ticket: Ticket)
     ensures banks { KeepsBanks store.old store.new }
     ensures live { is_live store.new ≡ is_live store.old }
     ensures outs { KeepsOthers ticket store.old store.new }
+    ensures tickets { KeepsTickets store.old store.new }
 {
     if !is_store_shut {
         store.give_up(ticket);
@@ -97,6 +100,7 @@ pub(crate) fn prepare(alloc: Global, store: &mut Store, now: Rec) -> Result<Tick
     ensures out { IfOk result (IsOut store.new now) }
     ensures fresh { IfOk result (IsFresh store.old) }
     ensures outs { KeepsOut store.old store.new }
+    ensures tickets { KeepsTickets store.old store.new }
     ensures map { map_of store.new ≡ map_of store.old }
     ensures banks { KeepsBanks store.old store.new }
     ensures live { is_live store.new ≡ is_live store.old }

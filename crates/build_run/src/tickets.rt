@@ -3,6 +3,7 @@ ghost use Rattle.std.specs.Prelude.{◌≡◌, ◌==◌, position, ◌++◌, ◌
 ghost use Rattle.build_run.specs.declared.tickets.Hold.{Hold};
 ghost use Rattle.build_run.specs.Holds.{Busy, hold_for, holds_in, without, KeepsApart};
 ghost use Rattle.build_run.specs.Outs.{ShareNone, StayOut};
+ghost use Rattle.build_run.specs.Along.{HoldsFewer};
 
 use scons_base::limits::JOB_LIMIT;
 use scons_base::{Memory, PathText, Paths, RuleId};
@@ -139,6 +140,7 @@ impl Tickets {
         ensures rule { IfSome result (λ busy. busy.hold.rule.0 ≡ id) }
         ensures among { IfSome result (λ busy. Contains self.old busy) }
         ensures outs { StayOut self.old result self.new }
+        ensures fewer { HoldsFewer self.old self.new }
         ensures none { IfNone result (self.new ≡ self.old) }
     {
         let place = place_of(self.busy.as_slice(), id)?;

@@ -2,6 +2,7 @@
 ghost use Rattle.std.specs.Prelude.{◌≡◌, ◌≢◌, ◌⊎◌, ◌≤◌, ◌<◌, [], true, false, length, Err};
 ghost use Rattle.build_run.specs.Along.{ComesOn, GoesAlong, IsReliable, IsSpent, IsWantedOf, RestsAlong, StaysAlong, StepsOr, Tells, TellsAlong};
 ghost use Rattle.build_run.specs.Ledgers.{ledger_of, with_done, Accounts, Keeps, Reports};
+ghost use Rattle.build_run.specs.Safe.{SiteGoesSafely, TurnsSafely, TurnsSafelyAs};
 ghost use Rattle.build_run.specs.Sites.{IsSound, SiteAccounts, SiteEnds, SitePasses, most_jobs, outside_of};
 ghost use Rattle.scons_base.specs.declared.ids.RuleId.{RuleId};
 ghost use Rattle.task_plan.specs.Plans.{IsIdle};
@@ -26,6 +27,7 @@ impl<W: World, O: Sink, E: Sink> Site<'_, '_, W, O, E> {
         ensures idle { W.meaning.tells self.new.world.now → (W.meaning.around self.new.world.now).running ≡ [] }
         ensures on { ComesOn W.meaning self.old self.new }
         ensures still { RestsAlong W.meaning self.old self.new }
+        ensures safe { TurnsSafely W.meaning self.old self.new }
     {
         self.take_turns();
         self.wait_for_all();
@@ -43,6 +45,7 @@ impl<W: World, O: Sink, E: Sink> Site<'_, '_, W, O, E> {
         ensures along { StaysAlong W.meaning self.old self.new }
         ensures still { RestsAlong W.meaning self.old self.new }
         ensures halts { IsSpent self.new }
+        ensures safe { TurnsSafely W.meaning self.old self.new }
     {
         for _turn in 0..u64::MAX {
             let wanted = want(self.run, &self.options);
@@ -65,6 +68,7 @@ impl<W: World, O: Sink, E: Sink> Site<'_, '_, W, O, E> {
         ensures along { IsSpent self.old → StaysAlong W.meaning self.old self.new }
         ensures none { length self.old.run.now.tickets ≡ 0 → self.new ≡ self.old }
         ensures halted { self.old.run.now.plan.halted ≡ true → self.new.run.now.plan.halted ≡ true }
+        ensures safe { SiteGoesSafely W.meaning self.old self.new }
     {
         let running = self.run.tickets.len();
         for _turn in 0..running {
@@ -87,6 +91,7 @@ impl<W: World, O: Sink, E: Sink> Site<'_, '_, W, O, E> {
         ensures halted { self.old.run.now.plan.halted ≡ true → self.new.run.now.plan.halted ≡ true }
         ensures memory { done ≡ Err ListEnd.Memory → self.new.account.now.memory ≡ true }
         ensures halts { done ≡ Err ListEnd.Memory → self.new.run.now.plan.halted ≡ true }
+        ensures safe { SiteGoesSafely W.meaning self.old self.new }
     {
         tell(self.graph, &mut self.run.plan, self.account, self.err, done);
         halt(self.graph, &mut self.run.plan, self.account);
@@ -100,6 +105,7 @@ impl<W: World, O: Sink, E: Sink> Site<'_, '_, W, O, E> {
         ensures passes { SitePasses W.meaning self.old self.new }
         ensures ends { SiteEnds W.meaning O.meaning E.meaning self.old self.new result }
         ensures along { GoesAlong W.meaning self.old self.new wanted result }
+        ensures safe { TurnsSafelyAs W.meaning self.old self.new wanted }
         ensures sound { IsSound W.meaning self.new }
     {
         match wanted {
@@ -116,6 +122,7 @@ impl<W: World, O: Sink, E: Sink> Site<'_, '_, W, O, E> {
         ensures ends { SiteEnds W.meaning O.meaning E.meaning self.old self.new result }
         ensures sound { IsSound W.meaning self.old → IsSound W.meaning self.new }
         ensures along { GoesAlong W.meaning self.old self.new (Want.Scan rule file) result }
+        ensures safe { SiteGoesSafely W.meaning self.old self.new }
     {
         let found = self.run.inputs.scanned(self.world, self.graph, rule, file)?;
         self.graph.laws();

@@ -2,9 +2,12 @@ use Rattle.std.proofs.Common.{◌∙◌, ap}
 use Rattle.build_means.specs.Rules.{IsReading}
 use Rattle.build_run.specs.Causes.{outside}
 use Rattle.build_run.specs.Ledgers.{ledger_of, ledger_of_end, blank, with_end}
-use Rattle.build_run.proofs.Builds.{build_ran, build_refused, build_succeeded, is_blank, refused_untold}
+use Rattle.build_run.specs.Outsets.{wanted_of}
+use Rattle.build_run.proofs.Builds.{build_ran, build_refused, build_succeeded, has_outset, is_blank, refused_untold}
 use Rattle.build_run.proofs.Causing.{account_as, at_first, caused, ended, same_counts}
 use Rattle.build_run.proofs.Goings.{passes_on}
+use Rattle.build_run.proofs.Safely.{safe_on}
+use Rattle.build_run.proofs.Stopped.{builds_safely}
 use Rattle.build_run.proofs.Taking.{take_accounted}
 use Rattle.build_run.proofs.building.build.Goals as goal
 
@@ -46,27 +49,36 @@ returns-in-Err-clause-causes g c =
 
 pub returns-in-Ok-clause-runs : goal.returns-in-Ok-clause-runs
 returns-in-Ok-clause-runs g c =
+    let start = outside (g.W.Disk.meaning.counts c.args.world.now) (g.O.Sink.meaning.faults c.args.out.now) (g.E.Sink.meaning.faults c.args.err.now) in
+    let first = account_as start start blank (ledger_of c.new-account.result) c.new-account.ensures.ledger (at_first start) in
+    let made = c.make_all-skipped.ensures.accounts start (same_counts start (ledger_of c.new-account.result) _ _ _ _ c.in-Ok.ensures.cause first) in
     let read : IsReading c.args.graph.now = record { apart = c.laws.ensures.apart; single = c.laws.ensures.single; named = c.laws.ensures.named } in
     build_ran g.W.Disk.meaning c.args.graph.now c.args.requested.now c.args.options.now read c.args.world.now c.set_out.new.world
     c.make_all-skipped.new.world c.args.store.now c.set_out.new.store c.requires.idle c.set_out.new.graph c.in-Ok.run' c.new-account.result
-    c.make_all-skipped.new.account c.set_out.ensures.goes.passes.told.told c.make_all-skipped.ensures.passes.told.told c.in-Ok.ensures.cause
+    c.set_out.ensures.goes.passes.told.told c.in-Ok.ensures.cause
     c.in-Ok.ensures.sets (is_blank c.new-account.result c.new-account.ensures.ledger c.new-account.ensures.ended)
-    c.make_all-skipped.ensures.makes
+    c.make_all-skipped.new.account c.make_all-skipped.ensures.passes.told.told
+    c.make_all-skipped.new.store c.make_all-skipped.ensures.makes made.shut c.answer.result c.answer.ensures.ended
 
 pub returns-in-Ok-clause-succeeds : goal.returns-in-Ok-clause-succeeds
 returns-in-Ok-clause-succeeds g c =
+    let start = outside (g.W.Disk.meaning.counts c.args.world.now) (g.O.Sink.meaning.faults c.args.out.now) (g.E.Sink.meaning.faults c.args.err.now) in
+    let first = account_as start start blank (ledger_of c.new-account.result) c.new-account.ensures.ledger (at_first start) in
+    let made = c.make_all-skipped.ensures.accounts start (same_counts start (ledger_of c.new-account.result) _ _ _ _ c.in-Ok.ensures.cause first) in
     let read : IsReading c.args.graph.now = record { apart = c.laws.ensures.apart; single = c.laws.ensures.single; named = c.laws.ensures.named } in
     build_succeeded g.W.Disk.meaning c.args.graph.now c.args.requested.now c.args.options.now read c.args.world.now c.set_out.new.world
     c.make_all-skipped.new.world c.args.store.now c.set_out.new.store c.requires.idle c.set_out.new.graph c.in-Ok.run' c.new-account.result
-    c.make_all-skipped.new.account c.set_out.ensures.goes.passes.told.told c.make_all-skipped.ensures.passes.told.told c.in-Ok.ensures.cause
+    c.set_out.ensures.goes.passes.told.told c.in-Ok.ensures.cause
     c.in-Ok.ensures.sets (is_blank c.new-account.result c.new-account.ensures.ledger c.new-account.ensures.ended)
-    c.make_all-skipped.ensures.makes c.answer.result c.answer.ensures.faulted
+    c.make_all-skipped.new.account c.make_all-skipped.ensures.passes.told.told
+    c.make_all-skipped.new.store c.make_all-skipped.ensures.makes made.shut c.answer.result c.answer.ensures.faulted
 
 pub returns-in-Err-clause-runs : goal.returns-in-Err-clause-runs
 returns-in-Err-clause-runs g c =
     let read : IsReading c.args.graph.now = record { apart = c.laws.ensures.apart; single = c.laws.ensures.single; named = c.laws.ensures.named } in
     build_refused g.W.Disk.meaning c.args.graph.now c.args.requested.now c.args.options.now read c.args.world.now c.set_out.new.world
     c.set_out.new.world c.args.store.now c.set_out.new.store c.requires.idle c.set_out.ensures.goes.passes.told.told c.in-Err.ensures.rest
+    c.answer-in-Err.result (c.answer-in-Err.ensures.ended ∙ c.end.ensures.ends.ended)
 
 pub returns-in-Err-clause-succeeds : goal.returns-in-Err-clause-succeeds
 returns-in-Err-clause-succeeds g c =
@@ -74,3 +86,24 @@ returns-in-Err-clause-succeeds g c =
     refused_untold g.W.Disk.meaning c.args.graph.now c.args.requested.now c.args.options.now read c.args.world.now c.set_out.new.world
     c.set_out.new.world c.args.store.now c.set_out.new.store c.requires.idle c.end.new.self c.end.ensures.ends.faulted c.answer-in-Err.result
     c.answer-in-Err.ensures.faulted
+
+pub returns-in-Ok-clause-safe : goal.returns-in-Ok-clause-safe
+returns-in-Ok-clause-safe g c =
+    let m = g.W.Disk.meaning in
+    let mid = c.set_out.new.world in
+    let read : IsReading c.args.graph.now =
+    record { apart = c.laws.ensures.apart; single = c.laws.ensures.single; named = c.laws.ensures.named } in
+    builds_safely m (wanted_of c.args.graph.now c.args.requested.now c.args.options.now) c.args.world.now c.make_all-skipped.new.world
+    c.requires.idle
+    (λ s below safe.
+    safe_on m s c.args.world.now mid c.make_all-skipped.new.world c.make_all-skipped.ensures.passes.told (c.set_out.ensures.safe s safe)
+    (c.make_all-skipped.ensures.safe s (λ tells sure.
+    has_outset m c.args.graph.now c.args.requested.now c.args.options.now read c.args.world.now mid
+    c.make_all-skipped.new.world c.args.store.now c.set_out.new.store c.requires.idle c.set_out.new.graph c.in-Ok.run' c.new-account.result
+    c.set_out.ensures.goes.passes.told.told c.in-Ok.ensures.cause
+    c.in-Ok.ensures.sets (is_blank c.new-account.result c.new-account.ensures.ledger c.new-account.ensures.ended) tells below)))
+
+pub returns-in-Err-clause-safe : goal.returns-in-Err-clause-safe
+returns-in-Err-clause-safe g c =
+    builds_safely g.W.Disk.meaning (wanted_of c.args.graph.now c.args.requested.now c.args.options.now) c.args.world.now
+    c.set_out.new.world c.requires.idle (λ s below safe. c.set_out.ensures.safe s safe)

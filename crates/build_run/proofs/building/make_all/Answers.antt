@@ -1,7 +1,10 @@
-use Rattle.std.proofs.Common.{◌∙◌, rules}
+use Rattle.std.proofs.Common.{◌∙◌, ap, rules}
+use Rattle.sign_store.specs.Stores.{map_of}
 use Rattle.build_run.proofs.Finishing.{first_along, has_made, made_given}
 use Rattle.build_run.proofs.Lending.{accounts_given, idle_given, passes_given}
 use Rattle.build_run.proofs.Sites.{sound_first}
+use Rattle.build_run.proofs.Stopped.{along_first}
+use Rattle.build_run.proofs.Turning.{first_safe, safe_given}
 use Rattle.build_run.proofs.building.make_all.Goals as goal
 
 pub go_on-requires : goal.go_on-requires
@@ -37,8 +40,21 @@ returns-clause-makes g c = λ tells sure o ready.
     let passes = c.go_on.ensures.passes.same in
     let lent_world = same.world ∙ passes.world in
     let lent_account = same.account ∙ passes.account in
-    let along = first_along m o _ ready c.requires.held in
-    made_given m c.close.new.self o mid.world.now _ _ (search rules) (search rules) c.close.ensures.world
+    let lent_store = same.store ∙ passes.store in
+    let along = first_along m o _ ready c.requires.held c.requires.none in
+    made_given m c.close.new.self o mid.world.now _ _ c.store-1.given.0 (search rules) (search rules) (search rules) c.close.ensures.world
     (λ t s. has_made m o ready.outset mid c.close.new.self.account.now (c.go_on.ensures.on t s o ready.outset along) (c.go_on.ensures.idle t)
-    (c.go_on.ensures.still t s o ready.outset along) c.close.ensures.ends c.close.ensures.finishes c.finished_succeed.ensures)
+    (c.go_on.ensures.still t s o ready.outset along) c.close.ensures.ends c.close.ensures.finishes c.finished_succeed.ensures
+    c.go_on.ensures.put c.close.ensures.shut (map_of c.close.new.self.store.now) (ap map_of c.close.ensures.store))
     tells sure
+
+pub returns-clause-safe : goal.returns-clause-safe
+returns-clause-safe g c = λ s outset safe.
+    let m = g.W.Disk.meaning in
+    let mid = c.go_on.new.self in
+    let lent = c.close.ensures.same.world ∙ c.go_on.ensures.passes.same.world in
+    let on = c.go_on.ensures.safe s
+    (λ tells sure. along_first m _ c.requires.held c.requires.none (outset tells sure))
+    (first_safe m s _ c.requires.held c.requires.none safe) in
+    safe_given m s c.close.new.self c.args.world.now mid.world.now _ (search rules) c.close.ensures.world
+    (record { moments = on.moments; now = on.now.world })

@@ -1,3 +1,4 @@
+use Rattle.build_run.proofs.Safely.{safe_looked, safely_on}
 use Rattle.std.proofs.Common.{refl}
 use Rattle.build_run.proofs.Builds.{refused_with, sets_behind}
 use Rattle.build_run.proofs.Goings.{goes_on}
@@ -40,3 +41,9 @@ returns-clause-rest g c =
     c.take_leftovers.new.store _ c.begin.ensures.stays.goes.passes.told.told c.take_leftovers.ensures.rest
     (leaves_looked m c.take_leftovers.new.world c.begin.new.world c.take_leftovers.new.store c.take_leftovers.new.store _
     c.begin.ensures.looks refl))
+
+pub returns-clause-safe : goal.returns-clause-safe
+returns-clause-safe g c =
+    let m = g.W.Disk.meaning in
+    safely_on m _ _ _ c.begin.ensures.stays.goes.passes.told c.take_leftovers.ensures.safe
+    (λ s safe. safe_looked m s g.met.W.Disk.only_now c.take_leftovers.new.world c.begin.new.world c.begin.ensures.looks safe)

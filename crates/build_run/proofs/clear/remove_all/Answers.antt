@@ -1,4 +1,5 @@
-use Rattle.std.proofs.Common.{◌∙◌, Contains, sym, subst, arith}
+use Rattle.build_run.proofs.Safely.{safely_here, safely_on}
+use Rattle.std.proofs.Common.{rules, ◌∙◌, Contains, sym, subst, arith}
 use Rattle.build_run.proofs.Clearing.{clears_on, clears_one}
 use Rattle.build_run.proofs.Goings.{stays_on, unused_still, unused_in, gone_still}
 use Rattle.build_run.proofs.Taking.{takes_on, takes_as}
@@ -26,6 +27,7 @@ loop-target-preserved g c =
       only =
           let one = takes_as m c.loop-target.world c.remove.new.world _ _ (λ path same. subst (Contains c.args.targets.now) (sym same) (c.loop-target.target-index, omega (arith, c.loop-target-test.true), sym c.target-item.is)) c.remove.ensures.only in
           takes_on m c.args.world.now c.loop-target.world c.remove.new.world _ q.told.told p.runs c.loop-target.invariant.only one;
+      safe = safely_on g.W.Disk.meaning _ _ _ c.remove.ensures.stays.goes.passes.told c.loop-target.invariant.safe c.remove.ensures.safe;
       clears = clears_on m c.args.targets.now _ _ _ q.told c.loop-target.invariant.clears
           (clears_one m c.args.targets.now _ _ _ (c.loop-target.target-index, omega (arith, c.loop-target-test.true), sym c.target-item.is) c.remove.ensures.clears);
     }
@@ -41,3 +43,16 @@ returns-in_err-remove-clause-clears g c =
     let m = g.W.Disk.meaning in
     clears_on m c.args.targets.now _ _ _ c.remove.ensures.stays.goes.passes.told c.loop-target.invariant.clears
     (clears_one m c.args.targets.now _ _ _ (c.loop-target.target-index, omega (arith, c.loop-target-test.true), sym c.target-item.is) c.remove.ensures.clears)
+
+pub returns-in_err-remove-clause-safe : goal.returns-in_err-remove-clause-safe
+returns-in_err-remove-clause-safe g c = safely_on g.W.Disk.meaning _ _ _ c.remove.ensures.stays.goes.passes.told c.loop-target.invariant.safe c.remove.ensures.safe
+
+pub loop-target-init : goal.loop-target-init
+loop-target-init g c = record {
+  stays = search rules;
+  same = search rules;
+  gone = search rules;
+  only = search rules;
+  safe = safely_here g.W.Disk.meaning g.met.W.Disk.only_now c.args.world.now;
+  clears = search rules;
+}

@@ -1,3 +1,4 @@
+use Rattle.build_run.proofs.Safely.{safe_ended}
 use Rattle.std.proofs.Common.{◌<◌, arith, length}
 use Rattle.build_run.specs.Holds.{holds_in}
 use Rattle.build_run.proofs.Goings.{joined_ended, fewer, some_runs}
@@ -16,3 +17,8 @@ pub returns-clause-fewer : goal.returns-clause-fewer
 returns-clause-fewer g c = λ told.
     let left = fewer g.W.Disk.meaning c.args.world.now c.wait.new.self (holds_in c.args.run.now.tickets) c.wait.result c.wait.ensures.told.told c.wait.ensures.around c.requires.joined told in
     omega (arith, left, held_count c.args.run.now.tickets)
+
+pub returns-clause-safe : goal.returns-clause-safe
+returns-clause-safe g c = λ s safe.
+    let is = c.wait.ensures in
+    safe_ended g.W.Disk.meaning s c.args.world.now c.wait.new.self is.told is.banks is.time safe c.wait.result is.around

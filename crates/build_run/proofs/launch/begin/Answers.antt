@@ -1,3 +1,5 @@
+use Rattle.build_run.proofs.Safely.{safe_asked, safe_started}
+use Rattle.build_run.proofs.Stopping.{none_kept}
 use Rattle.std.proofs.Common.{[]}
 use Rattle.build_run.specs.Holds.{holds_in}
 use Rattle.build_run.proofs.Causing.{refused_start}
@@ -19,3 +21,19 @@ returns-in-Err-Fault-clause-asks g c = clears_asked g.W.Disk.meaning [] c.args.w
 
 pub returns-in-Err-Memory-clause-asks : goal.returns-in-Err-Memory-clause-asks
 returns-in-Err-Memory-clause-asks g c = clears_asked g.W.Disk.meaning [] c.args.world.now c.start.new.self (λ t. c.in-Err-Memory.ensures.refused t)
+
+pub returns-in-Ok-clause-safe : goal.returns-in-Ok-clause-safe
+returns-in-Ok-clause-safe g c = λ s safe.
+    let is = c.start.ensures in
+    safe_started g.W.Disk.meaning s c.args.world.now c.start.new.self is.told is.banks is.time safe c.args.job (λ t. c.in-Ok.ensures.started t)
+    (λ t banks image. none_kept c.args.job.targets _ (c.requires.withdrawn.images (is.told.told t) banks image))
+
+pub returns-in-Err-Fault-clause-safe : goal.returns-in-Err-Fault-clause-safe
+returns-in-Err-Fault-clause-safe g c = λ s safe.
+    let is = c.start.ensures in
+    safe_asked g.W.Disk.meaning s c.args.world.now c.start.new.self is.told is.banks is.time safe (λ t. c.in-Err-Fault.ensures.refused t)
+
+pub returns-in-Err-Memory-clause-safe : goal.returns-in-Err-Memory-clause-safe
+returns-in-Err-Memory-clause-safe g c = λ s safe.
+    let is = c.start.ensures in
+    safe_asked g.W.Disk.meaning s c.args.world.now c.start.new.self is.told is.banks is.time safe (λ t. c.in-Err-Memory.ensures.refused t)

@@ -1,3 +1,4 @@
+use Rattle.build_run.proofs.Safely.{safely_here, safely_on}
 use Rattle.std.proofs.Common.{◌∙◌, List, ℕ, Contains, refl, sym, subst, ap}
 use Rattle.sign_store.proofs.Keeping.{kept_as}
 use Rattle.sign_store.specs.Tables.{Map}
@@ -101,3 +102,13 @@ returns-clause-rest g c =
     c.give_up.ensures.map in
     leaves_on m c.args.world.now c.withdraw.new.world removed.new.world c.args.store.now c.withdraw.new.store c.give_up.new.self _
     stays.passes.told.told first last
+
+pub returns-in_err-targets-clause-safe : goal.returns-in_err-targets-clause-safe
+returns-in_err-targets-clause-safe g c = safely_here g.W.Disk.meaning g.met.W.Disk.only_now c.args.world.now
+
+pub returns-in_err-ticket-clause-safe : goal.returns-in_err-ticket-clause-safe
+returns-in_err-ticket-clause-safe g c = safely_here g.W.Disk.meaning g.met.W.Disk.only_now c.args.world.now
+
+pub returns-clause-safe : goal.returns-clause-safe
+returns-clause-safe g c =
+    safely_on g.W.Disk.meaning _ _ _ c.remove_unrecorded.ensures.stays.goes.passes.told c.withdraw.ensures.safe c.remove_unrecorded.ensures.safe

@@ -1,4 +1,5 @@
-use Rattle.std.proofs.Common.{◌∙◌, ◌<◌, length, Contains, sym, subst, arith}
+use Rattle.build_run.proofs.Safely.{safely_here, safely_on}
+use Rattle.std.proofs.Common.{rules, ◌∙◌, ◌<◌, length, Contains, sym, subst, arith}
 use Rattle.deciders.specs.declared.recorded.Rec.{Rec}
 use Rattle.build_run.specs.Takes.{IsTargetOf}
 use Rattle.build_run.proofs.Goings.{goes_on}
@@ -20,6 +21,7 @@ loop-rec-preserved g c =
       same = c.in_ok-take_away.ensures.cause ∙ before.same;
       live = c.in_ok-take_away.ensures.live;
       kept = c.in_ok-take_away.ensures.kept;
+      safe = safely_on m _ _ _ goes.passes.told before.safe c.take_away.ensures.safe;
       gone = λ t.
           let told = goes.passes.told.told t in
           let rest = before.goes.runs told ∙ c.requires.idle (before.goes.passes.told.told told) in
@@ -66,3 +68,19 @@ returns-in_err-take_away-clause-rest g c =
     (λ path among. (c.rec-item.result, there, subst (λ (rec : Rec). Contains rec.targets path) c.in_ok-copy.ensures among)) c.take_away.ensures.rest in
     leaves_on m c.args.world.now c.loop-rec.world c.take_away.new.world c.args.store.now c.loop-rec.store c.take_away.new.store _
     c.take_away.ensures.goes.passes.told.told c.loop-rec.invariant.rest one
+
+pub loop-rec-init : goal.loop-rec-init
+loop-rec-init g c = record {
+  goes = search rules;
+  same = search rules;
+  live = search rules;
+  kept = search rules;
+  gone = search rules;
+  only = search rules;
+  safe = safely_here g.W.Disk.meaning g.met.W.Disk.only_now c.args.world.now;
+  rest = search rules;
+}
+
+pub returns-in_err-take_away-clause-safe : goal.returns-in_err-take_away-clause-safe
+returns-in_err-take_away-clause-safe g c =
+    safely_on g.W.Disk.meaning _ _ _ c.take_away.ensures.goes.passes.told c.loop-rec.invariant.safe c.take_away.ensures.safe

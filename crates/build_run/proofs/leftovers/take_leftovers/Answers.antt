@@ -1,3 +1,4 @@
+use Rattle.build_run.proofs.Safely.{safe_looked, safely_on}
 use Rattle.std.proofs.Common.{◌∙◌, List, sym, subst}
 use Rattle.sign_store.specs.Copies.{IsCopyIn}
 use Rattle.sign_store.specs.Stores.{map_of}
@@ -47,3 +48,14 @@ returns-clause-rest g c =
     c.as_slice.result.now c.take_each.ensures.goes.passes.told.told c.leftover_copies.ensures.looks
     (λ t rest. subst (λ (left : List Rec). AreLeftovers c.args.graph.now (m.around c.leftover_copies.new.world) (IsCopyIn map) left) (sym c.as_slice.ensures) (c.in_ok-left.ensures.left (t, rest)))
     c.take_each.ensures.rest
+
+pub returns-in_err-left-clause-safe : goal.returns-in_err-left-clause-safe
+returns-in_err-left-clause-safe g c = λ s safe.
+    safe_looked g.W.Disk.meaning s g.met.W.Disk.only_now c.args.world.now c.leftover_copies.new.world c.leftover_copies.ensures.looks safe
+
+pub returns-clause-safe : goal.returns-clause-safe
+returns-clause-safe g c =
+    let m = g.W.Disk.meaning in
+    safely_on m _ _ _ c.take_each.ensures.goes.passes.told
+    (λ s safe. safe_looked m s g.met.W.Disk.only_now c.args.world.now c.leftover_copies.new.world c.leftover_copies.ensures.looks safe)
+    c.take_each.ensures.safe

@@ -1,8 +1,11 @@
+use Rattle.build_run.proofs.Outs.{unheld_still}
+use Rattle.build_run.proofs.Stopping.{same_tickets, site_called, site_looked, site_safely_on}
 use Rattle.std.proofs.Common.{ℕ, List, [], Contains, inl, refl, subst}
 use Rattle.build_run.specs.Goings.{ClearsAt}
 use Rattle.build_run.specs.Holds.{Busy, holds_in}
 use Rattle.build_run.specs.Ledgers.{ledger_of}
-use Rattle.build_run.proofs.Clearing.{clears_none, clears_on}
+use Rattle.build_run.specs.Books.{shut, untouched, withdrawn}
+use Rattle.build_run.proofs.Clearing.{clears_none, clears_on, held_err}
 use Rattle.build_run.proofs.Goings.{goes_on, are_unused}
 use Rattle.build_run.proofs.Outs.{withdrawn_on}
 use Rattle.build_run.proofs.Sites.{cleared_by, sound_still}
@@ -108,3 +111,42 @@ returns-clause-clears g c =
     (clears_on m [] _ _ _ c.withdraw.ensures.goes.goes.passes.told c.make_dirs.ensures.clears c.withdraw.ensures.clears) in
     clears_on m c.args.job.now.targets _ _ _ c.remove_all.ensures.stays.goes.passes.told first
     (subst (λ (paths : List (List ℕ)). ClearsAt m paths c.withdraw.new.self.world.now c.remove_all.new.world) c.as_slice-targets.ensures c.remove_all.ensures.clears)
+
+pub returns-in_err-make_dirs-clause-tickets : goal.returns-in_err-make_dirs-clause-tickets
+returns-in_err-make_dirs-clause-tickets g c = record { each = λ rec ticket is. is }
+
+pub returns-in_err-make_dirs-clause-refused : goal.returns-in_err-make_dirs-clause-refused
+returns-in_err-make_dirs-clause-refused g c = held_err c.from_residual.result (untouched c.make_dirs.ensures.clears refl)
+
+pub returns-in_err-withdraw-clause-refused : goal.returns-in_err-withdraw-clause-refused
+returns-in_err-withdraw-clause-refused g c = held_err c.from_residual-in_err-withdraw.result (shut c.in_err-withdraw.ensures.shut)
+
+pub returns-clause-refused : goal.returns-clause-refused
+returns-clause-refused g c = held_err c.remove_all.result (withdrawn c.in_ok-withdraw.ensures.withdrawn.map)
+
+pub returns-in_err-make_dirs-clause-safe : goal.returns-in_err-make_dirs-clause-safe
+returns-in_err-make_dirs-clause-safe g c =
+    site_looked g.W.Disk.meaning c.args.self.now _ c.make_dirs.ensures.stays.goes.passes.told c.make_dirs.ensures.safe c.make_dirs.ensures.clears
+    (same_tickets c.args.self.now.store.now) (λ busy h. h) refl (λ unshut. unshut)
+
+pub returns-in_err-withdraw-clause-safe : goal.returns-in_err-withdraw-clause-safe
+returns-in_err-withdraw-clause-safe g c =
+    let m = g.W.Disk.meaning in
+    site_safely_on m c.args.self.now _ _ c.withdraw.ensures.goes.goes.passes.told
+    (site_looked m c.args.self.now _ c.make_dirs.ensures.stays.goes.passes.told c.make_dirs.ensures.safe c.make_dirs.ensures.clears
+    (same_tickets c.args.self.now.store.now) (λ busy h. h) refl (λ unshut. unshut))
+    c.withdraw.ensures.safe
+
+pub returns-clause-safe : goal.returns-clause-safe
+returns-clause-safe g c =
+    let m = g.W.Disk.meaning in
+    let told = c.remove_all.ensures.stays.goes.passes.told in
+    site_safely_on m c.args.self.now c.withdraw.new.self _ told
+    (site_safely_on m c.args.self.now _ _ c.withdraw.ensures.goes.goes.passes.told
+    (site_looked m c.args.self.now _ c.make_dirs.ensures.stays.goes.passes.told c.make_dirs.ensures.safe c.make_dirs.ensures.clears
+    (same_tickets c.args.self.now.store.now) (λ busy h. h) refl (λ unshut. unshut))
+    c.withdraw.ensures.safe)
+    (site_called m c.args.job.now.targets c.withdraw.new.self _ told c.remove_all.ensures.safe
+    (subst (λ (paths : List (List ℕ)). ClearsAt m paths c.withdraw.new.self.world.now c.remove_all.new.world) c.as_slice-targets.ensures c.remove_all.ensures.clears)
+    (same_tickets c.withdraw.new.self.store.now) (λ busy h. h) refl (λ unshut. unshut)
+    (unheld_still c.args.self.now.run.now.held c.withdraw.new.self.run.now.held c.args.job.now.targets c.withdraw.ensures.held c.requires.ready.beside))

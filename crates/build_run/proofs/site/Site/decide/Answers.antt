@@ -1,14 +1,14 @@
-use Rattle.std.proofs.Common.{◌∙◌, List, [], Contains, ap, refl, subst, sym}
+use Rattle.build_run.proofs.Deciding.{found_behind}
+use Rattle.build_run.proofs.Turning.{site_saw}
+use Rattle.std.proofs.Common.{◌∙◌, List, Contains, ap, refl, subst, sym}
 use Rattle.std.specs.Prelude.{Ok}
 use Rattle.sign_store.specs.Putting.{map_with}
 use Rattle.build_run.specs.Holds.{Busy}
 use Rattle.build_run.specs.Ledgers.{ledger_of}
 use Rattle.build_run.proofs.Causing.{exit_same, inside, inner, look_end, same_counts}
 use Rattle.build_run.proofs.Sites.{sound_still}
-use Rattle.build_run.specs.declared.site.Run.{Run}
-use Rattle.build_run.proofs.Clearing.{clears_asked}
 use Rattle.build_run.proofs.Presenting.{along_present, due_present, lacks_on}
-use Rattle.build_run.proofs.Starting.{end_of_turn, ended_on}
+use Rattle.build_run.proofs.Starting.{end_of_turn, ended_looked}
 use Rattle.build_run.proofs.site.Site.decide.Goals as goal
 
 pub returns-in_err-now-clause-ends : goal.returns-in_err-now-clause-ends
@@ -60,21 +60,18 @@ returns-in-Record-clause-kept g c = λ unshut busy path h made.
 pub returns-in_err-now-clause-along : goal.returns-in_err-now-clause-along
 returns-in_err-now-clause-along g c = λ tells sure o outset along wanted.
     let m = g.W.Disk.meaning in
-    let site = c.args.self.now in
     let p = c.present.ensures in
-    end_of_turn _ m o _ c.from_residual.result c.from_residual.ensures.1
-    (ended_on m o outset site along c.present.new.world c.present.new.run.held c.present.new.run.plan
-    (clears_asked m [] site.world.now c.present.new.world p.looks.around tells) p.held (ap (λ (r : Run). r.plan) p.rest))
+    let r = c.from_residual in
+    end_of_turn _ m o _ r.result r.ensures.1
+    (ended_looked m o outset c.args.self.now along c.present.new.world c.present.new.run p.rest (p.looks.around tells))
 
 pub returns-in_err-missing-in-Lacks-clause-along : goal.returns-in_err-missing-in-Lacks-clause-along
 returns-in_err-missing-in-Lacks-clause-along g c = λ tells sure o outset along wanted.
     let m = g.W.Disk.meaning in
-    let site = c.args.self.now in
     let p = c.present.ensures in
     let r = c.from_residual-in_err-missing-in-Lacks in
     end_of_turn _ m o _ r.result r.ensures.1
-    (ended_on m o outset site along c.present.new.world c.present.new.run.held c.present.new.run.plan
-    (clears_asked m [] site.world.now c.present.new.world p.looks.around tells) p.held (ap (λ (r : Run). r.plan) p.rest))
+    (ended_looked m o outset c.args.self.now along c.present.new.world c.present.new.run p.rest (p.looks.around tells))
 
 pub returns-in-Record-clause-along : goal.returns-in-Record-clause-along
 returns-in-Record-clause-along g c = λ tells sure o outset along wanted.
@@ -98,3 +95,34 @@ returns-in_ok-missing-in-Lacks-clause-along g c = λ tells sure o outset along w
     let f = c.fail.ensures in
     lacks_on m o outset site _ along c.args.rule wanted.0 (p.looks.around tells) refl refl refl p.rest tells (Ok c.in_ok-now.field-0)
     c.in_ok-now.ensures.presents c.in_ok-now.ensures.cause c.in-Lacks.node (cc c.in-Lacks.is) f.ends f.faulted f.goes f.reports.shut
+
+pub returns-in_err-now-clause-safe : goal.returns-in_err-now-clause-safe
+returns-in_err-now-clause-safe g c = λ wanted s along safe.
+    let p = c.present.ensures in
+    site_saw g.W.Disk.meaning g.met.W.Disk.only_now c.args.self.now _ p.looks refl p.held p.tickets refl s safe
+
+pub returns-in_err-missing-in-Lacks-clause-safe : goal.returns-in_err-missing-in-Lacks-clause-safe
+returns-in_err-missing-in-Lacks-clause-safe g c = λ wanted s along safe.
+    let p = c.present.ensures in
+    site_saw g.W.Disk.meaning g.met.W.Disk.only_now c.args.self.now _ p.looks refl p.held p.tickets refl s safe
+
+pub returns-in_ok-missing-in-Lacks-clause-safe : goal.returns-in_ok-missing-in-Lacks-clause-safe
+returns-in_ok-missing-in-Lacks-clause-safe g c = λ wanted s along safe.
+    let p = c.present.ensures in
+    site_saw g.W.Disk.meaning g.met.W.Disk.only_now c.args.self.now _ p.looks refl p.held p.tickets c.fail.ensures.reports.shut s safe
+
+pub returns-in-Record-clause-safe : goal.returns-in-Record-clause-safe
+returns-in-Record-clause-safe g c =
+    let m = g.W.Disk.meaning in
+    let site = c.args.self.now in
+    let p = c.present.ensures in
+    found_behind m site _ c.make.new.self c.args.rule c.in-Record.now p.looks c.make.ensures.passes.passes.told
+    (site_saw m g.met.W.Disk.only_now site _ p.looks refl p.held p.tickets refl) c.make.ensures.safe
+    (λ tells o outset along chosen room.
+    let asks = p.looks.around tells in (
+      along_present m o outset site _ along c.args.rule chosen asks refl refl refl refl p.rest tells (Ok c.in_ok-now.field-0)
+          c.in_ok-now.ensures.presents c.in_ok-now.ensures.cause,
+      due_present m o outset site _ along c.args.rule chosen asks refl refl refl refl p.rest tells (Ok c.in_ok-now.field-0)
+          c.in_ok-now.ensures.presents c.in_ok-now.ensures.cause c.in-Record.now (cc c.in-Record.is)
+          (g.met.W.World.held site.world.now (p.looks.told.told tells)) room,
+    ))

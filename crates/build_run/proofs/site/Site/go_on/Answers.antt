@@ -1,7 +1,7 @@
+use Rattle.build_run.proofs.Turning.{turn_then}
 use Rattle.std.proofs.Common.{◌∙◌, ap}
 use Rattle.world_api.specs.Around.{Around}
 use Rattle.build_run.proofs.Alongs.{goes_to_rest, still_at_rest}
-use Rattle.build_run.proofs.EndingOn.{put_ends}
 use Rattle.build_run.proofs.Sites.{site_on, site_puts}
 use Rattle.build_run.proofs.site.Site.go_on.Goals as goal
 
@@ -25,11 +25,19 @@ pub returns-clause-on : goal.returns-clause-on
 returns-clause-on g c =
     let puts = c.put_held.ensures.puts in
     goes_to_rest g.W.Disk.meaning _ _ _ _ puts.goes.passes.told c.wait_for_all.ensures.passes.passes.told c.take_turns.ensures.along
-    (c.wait_for_all.ensures.along c.take_turns.ensures.halts) puts.around c.put_held.ensures.known c.put_held.ensures.stands
+    (c.wait_for_all.ensures.along c.take_turns.ensures.halts) puts c.put_held.ensures.tickets c.put_held.ensures.known c.put_held.ensures.stands
     c.put_held.ensures.held c.put_held.ensures.kept
 
 pub returns-clause-still : goal.returns-clause-still
 returns-clause-still g c =
     let puts = c.put_held.ensures.puts in
     still_at_rest g.W.Disk.meaning _ _ _ _ puts.goes.passes.told c.take_turns.ensures.still c.take_turns.ensures.halts
-    c.wait_for_all.ensures.none c.wait_for_all.ensures.halted c.put_held.ensures.known (put_ends _ _ _ c.put_held.ensures.stands)
+    c.wait_for_all.ensures.none c.wait_for_all.ensures.halted c.put_held.ensures.known
+
+pub returns-clause-safe : goal.returns-clause-safe
+returns-clause-safe g c =
+    let m = g.W.Disk.meaning in
+    turn_then m c.args.self.now c.wait_for_all.new.self _ c.put_held.ensures.puts.goes.passes.told
+    (turn_then m c.args.self.now c.take_turns.new.self c.wait_for_all.new.self c.wait_for_all.ensures.passes.passes.told c.take_turns.ensures.safe
+    c.wait_for_all.ensures.safe)
+    c.put_held.ensures.safe

@@ -1,3 +1,4 @@
+use Rattle.build_run.proofs.Turning.{held_now, holds_now}
 use Rattle.std.proofs.Common.{◌∙◌, ◌++◌, ◌∷◌, [], List, append_assoc, ap, refl, sym, subst, arith}
 use Rattle.sign_store.specs.Putting.{map_with}
 use Rattle.build_run.specs.Holds.{Busy}
@@ -53,3 +54,15 @@ returns-clause-record g c = λ unshut rec is.
     let site = c.args.self.now in
     c.put_held.ensures.kept unshut
     ∙ (ap (λ (all : List Busy). map_with site.store.now all) c.add.ensures ∙ held_more site.store.now site.run.now.held c.args.busy rec is)
+
+pub returns-then-len-most_jobs-clause-tickets : goal.returns-then-len-most_jobs-clause-tickets
+returns-then-len-most_jobs-clause-tickets g c = record { each = λ rec ticket is. is }
+
+pub returns-then-len-most_jobs-clause-safe : goal.returns-then-len-most_jobs-clause-safe
+returns-then-len-most_jobs-clause-safe g c =
+    holds_now g.W.Disk.meaning g.met.W.Disk.only_now c.args.busy c.args.self.now _ refl refl c.add.ensures refl refl
+
+pub returns-clause-safe : goal.returns-clause-safe
+returns-clause-safe g c = λ s safe tickets.
+    let put = c.put_held.ensures.safe s (held_now g.W.Disk.meaning c.args.busy c.args.self.now _ refl refl c.add.ensures refl refl s safe tickets) in
+    record { moments = put.moments; now = put.now }

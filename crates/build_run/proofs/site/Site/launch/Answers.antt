@@ -1,12 +1,14 @@
+use Rattle.build_run.proofs.Stopping.{site_begun, site_rests, site_safely_on}
+use Rattle.world_api.proofs.Looking.{told_same}
 use Rattle.std.proofs.Common.{◌++◌, ◌∙◌, List, Contains, ap, refl, subst, sym}
 use Rattle.build_run.specs.Holds.{Busy, holds_in}
 use Rattle.build_run.specs.Ledgers.{Ledger, ledger_of}
 use Rattle.build_run.proofs.Causing.{account_as, begun, exit_same, print_end, same_out}
+use Rattle.build_run.specs.Books.{withdrawn}
 use Rattle.build_run.proofs.Clearing.{held_err, launched, refused}
-use Rattle.build_run.proofs.Goings.{passes_on}
+use Rattle.build_run.proofs.Goings.{passes_on, stays_here}
 use Rattle.build_run.proofs.Outs.{held_ok, stored_alike, stored_over, unheld_still}
 use Rattle.build_run.proofs.Sites.{joined_after, site_goes, sound_refused, sound_still}
-use Rattle.build_run.proofs.Goings.{stays_here}
 use Rattle.build_run.proofs.site.Site.launch.Goals as goal
 
 pub begin-requires-clause-apart : goal.begin-requires-clause-apart
@@ -112,3 +114,29 @@ pub returns-clause-clears : goal.returns-clause-clears
 returns-clause-clears g c =
     refused g.W.Disk.meaning c.args.job c.args.self.now.world.now c.clear.new.self.world.now c.begin.new.world c.begin.result
     c.begin.ensures.passes.told c.clear.ensures.clears c.begin.ensures.asks
+
+pub returns-in_err-clear-clause-refused : goal.returns-in_err-clear-clause-refused
+returns-in_err-clear-clause-refused g c = held_err c.from_residual.result c.in_err-clear.ensures.refused
+
+pub returns-in_err-show-clause-refused : goal.returns-in_err-show-clause-refused
+returns-in_err-show-clause-refused g c = held_err c.from_residual-in_err-show.result (withdrawn c.in_ok-clear.ensures.cleared.withdrawn.map)
+
+pub returns-clause-refused : goal.returns-clause-refused
+returns-clause-refused g c = held_err c.begin.result (withdrawn c.in_ok-clear.ensures.cleared.withdrawn.map)
+
+pub returns-in_err-show-clause-safe : goal.returns-in_err-show-clause-safe
+returns-in_err-show-clause-safe g c =
+    let m = g.W.Disk.meaning in
+    let cleared = c.clear.new.self in
+    site_safely_on m c.args.self.now cleared _ (told_same m cleared.world.now) c.clear.ensures.safe
+    (site_rests m g.met.W.Disk.only_now cleared _ refl refl refl refl (λ unshut. sym (ap (λ (l : Ledger). l.shut) c.show.ensures.account) ∙ unshut))
+
+pub returns-clause-safe : goal.returns-clause-safe
+returns-clause-safe g c =
+    let m = g.W.Disk.meaning in
+    let cleared = c.clear.new.self in
+    site_safely_on m c.args.self.now cleared _ c.begin.ensures.passes.told c.clear.ensures.safe
+    (site_begun m cleared _ c.args.job c.begin.result c.begin.ensures.passes.told c.begin.ensures.safe c.begin.ensures.starts c.begin.ensures.asks refl refl
+    (λ unshut. sym (ap (λ (l : Ledger). l.shut) c.show.ensures.account) ∙ unshut)
+    (unheld_still c.args.self.now.run.now.held cleared.run.now.held c.args.job.targets c.clear.ensures.held c.requires.ready.beside)
+    (λ hold there. c.requires.ready.apart hold (subst (λ (busies : List Busy). Contains (holds_in busies) hold) c.clear.ensures.goes.tickets there)))

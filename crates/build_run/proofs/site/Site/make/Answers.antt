@@ -1,4 +1,7 @@
-use Rattle.std.proofs.Common.{◌∙◌, [], refl, sym}
+use Rattle.build_run.proofs.Begun.{starts_behind}
+use Rattle.build_run.proofs.Stopping.{site_rests}
+use Rattle.build_run.proofs.Turning.{site_saw}
+use Rattle.std.proofs.Common.{◌∙◌, refl, sym}
 use Rattle.build_model.proofs.Lists.{true_false}
 use Rattle.build_files.proofs.Truths.{asked}
 use Rattle.turn_means.specs.Standing.{begun_at}
@@ -6,9 +9,10 @@ use Rattle.build_run.specs.Along.{is_faulted, standing_of}
 use Rattle.build_run.specs.Ledgers.{ledger_of}
 use Rattle.build_run.proofs.Causing.{exit_same, look_end}
 use Rattle.build_run.proofs.Choosing.{along_looked, found_now, fresh_on, goes_before, marks_here, told_before, weighed_now}
-use Rattle.build_run.proofs.Clearing.{clears_asked}
 use Rattle.build_run.proofs.Sites.{looked_at, sound_still}
-use Rattle.build_run.proofs.Starting.{end_of_turn, ended_on}
+use Rattle.build_run.proofs.Starting.{end_of_turn, ended_looked}
+use Rattle.build_run.specs.Books.{book_of}
+use Rattle.build_run.proofs.Booking.{shut_on}
 use Rattle.build_run.proofs.site.Site.make.Goals as goal
 
 pub returns-in_err-is_stale-clause-ends : goal.returns-in_err-is_stale-clause-ends
@@ -45,8 +49,7 @@ returns-in_err-is_stale-clause-along g c = λ tells sure o outset along due.
     let m = g.W.Disk.meaning in
     let site = c.args.self.now in
     end_of_turn _ m o _ c.from_residual.result c.from_residual.ensures.1
-    (ended_on m o outset site along c.is_stale.new.world site.run.now.held site.run.now.plan
-    (clears_asked m [] site.world.now c.is_stale.new.world c.is_stale.ensures.looks.around tells) refl refl)
+    (ended_looked m o outset site along c.is_stale.new.world site.run.now refl (c.is_stale.ensures.looks.around tells))
 
 pub returns-then-not-branch-clause-along : goal.returns-then-not-branch-clause-along
 returns-then-not-branch-clause-along g c = λ tells sure o outset along due.
@@ -111,11 +114,38 @@ returns-clause-along g c = λ tells sure o outset along due.
     let noted = c.note_start.new.self in
     let ends = c.note_start.ensures.ends in
     record {
-      told = λ now t stays. goes.told now (told_before (standing_of m c.start.new.self) (is_faulted noted) noted.is_ended now _ ends.faulted t) (λ e. stays (ends.ended e));
+      told = λ now t stays.
+          shut_on o (book_of c.start.new.self) _ now c.note_start.ensures.keeps.shut
+          (goes.told now (told_before (standing_of m c.start.new.self) (is_faulted noted) noted.is_ended now _ ends.faulted t) (λ e. stays (ends.ended e)));
       ends = λ e. true_false (sym e);
       goes = refl;
       reported = ends.told goes.reported;
       well = λ e.
           let well = goes.well (goes_before c.start.new.self.account.now noted ends e) in
           record { unrisen = well.unrisen; unshut = c.note_start.ensures.keeps.shut ∙ well.unshut; looked = well.looked };
+    }
+
+pub returns-in_err-is_stale-clause-safe : goal.returns-in_err-is_stale-clause-safe
+returns-in_err-is_stale-clause-safe g c = λ s safe over.
+    site_saw g.W.Disk.meaning g.met.W.Disk.only_now c.args.self.now _ c.is_stale.ensures.looks refl refl refl refl s safe
+
+pub returns-then-not-branch-clause-safe : goal.returns-then-not-branch-clause-safe
+returns-then-not-branch-clause-safe g c = λ s safe over.
+    site_saw g.W.Disk.meaning g.met.W.Disk.only_now c.args.self.now _ c.is_stale.ensures.looks refl refl refl refl s safe
+
+pub returns-in_err-start-clause-safe : goal.returns-in_err-start-clause-safe
+returns-in_err-start-clause-safe g c =
+    let m = g.W.Disk.meaning in
+    starts_behind m c.args.self.now _ c.start.new.self c.args.now c.is_stale.ensures.looks c.start.ensures.passes.passes.told
+    (site_saw m g.met.W.Disk.only_now c.args.self.now _ c.is_stale.ensures.looks refl refl refl refl) c.start.ensures.safe
+
+pub returns-clause-safe : goal.returns-clause-safe
+returns-clause-safe g c = λ s safe over.
+    let m = g.W.Disk.meaning in
+    let now = c.start.new.self in
+    let one = starts_behind m c.args.self.now _ now c.args.now c.is_stale.ensures.looks c.start.ensures.passes.passes.told
+    (site_saw m g.met.W.Disk.only_now c.args.self.now _ c.is_stale.ensures.looks refl refl refl refl) c.start.ensures.safe s safe over in
+    record {
+      moments = one.moments;
+      now = (site_rests m g.met.W.Disk.only_now now _ refl refl refl refl (λ unshut. sym c.note_start.ensures.keeps.shut ∙ unshut) s one.now).now;
     }

@@ -1,3 +1,4 @@
+use Rattle.build_run.proofs.Stopping.{site_rests}
 use Rattle.std.proofs.Common.{refl}
 use Rattle.build_run.proofs.Goings.{goes_here}
 use Rattle.build_run.proofs.Sites.{sound_put}
@@ -26,3 +27,7 @@ pub returns-clause-sound : goal.returns-clause-sound
 returns-clause-sound g c =
     let put = c.put_held.ensures in
     sound_put g.W.Disk.meaning c.args.self.now c.put_held.new.self put.puts put.stored put.none c.requires.unclosed c.requires.joined c.requires.limit
+
+pub returns-then-len-most_jobs-clause-safe : goal.returns-then-len-most_jobs-clause-safe
+returns-then-len-most_jobs-clause-safe g c =
+    site_rests g.W.Disk.meaning g.met.W.Disk.only_now c.args.self.now _ refl refl refl refl (λ unshut. unshut)

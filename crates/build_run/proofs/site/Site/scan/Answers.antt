@@ -1,3 +1,4 @@
+use Rattle.build_run.proofs.Turning.{site_saw}
 use Rattle.std.proofs.Common.{refl, subst, sym}
 use Rattle.world_api.specs.Counts.{Counts}
 use Rattle.build_means.specs.Logs.{AreUnrisen}
@@ -62,3 +63,9 @@ pub returns-clause-sound : goal.returns-clause-sound
 returns-clause-sound g c =
     let stays = looked_at g.W.Disk.meaning _ _ c.scanned.result c.scanned.ensures.looks c.scanned.ensures.cause in
     sound_still g.W.Disk.meaning c.args.self.now _ stays refl refl refl refl refl
+
+pub returns-in_err-found-clause-safe : goal.returns-in_err-found-clause-safe
+returns-in_err-found-clause-safe g c = site_saw g.W.Disk.meaning g.met.W.Disk.only_now c.args.self.now _ c.scanned.ensures.looks refl refl refl refl
+
+pub returns-clause-safe : goal.returns-clause-safe
+returns-clause-safe g c = site_saw g.W.Disk.meaning g.met.W.Disk.only_now c.args.self.now _ c.scanned.ensures.looks refl refl refl refl

@@ -1,4 +1,8 @@
-use Rattle.std.proofs.Common.{◌≡◌, ◌≤◌, ◌∙◌, ◌++◌, ◌∷◌, [], Bool, List, ap, length, refl, subst, sym, arith}
+use Rattle.std.proofs.Common.{◌≡◌, ◌≤◌, ◌∙◌, ◌++◌, ◌∷◌, [], Bool, List, Contains, ap, length, refl, subst, sym, arith}
+use Rattle.build_run.proofs.Ended.{are_done, are_ended}
+use Rattle.build_run.proofs.Outs.{outs_back}
+use Rattle.build_run.proofs.Safely.{safe_on}
+use Rattle.build_run.proofs.Stopping.{same_tickets}
 use Rattle.std.proofs.lemmas.List.Elements.{Contains-append_left, Contains-append_right}
 use Rattle.build_model.proofs.Lists.{true_false}
 use Rattle.world_api.specs.Calls.{Ends}
@@ -14,10 +18,12 @@ use Rattle.build_run.specs.Ledgers.{Ledger, ledger_of, wanting}
 use Rattle.scons_base.specs.declared.ids.RuleId.{RuleId}
 use Rattle.build_run.specs.declared.tickets.Hold.{Hold}
 use Rattle.build_run.proofs.Holding.{no_more}
-use Rattle.build_run.proofs.EndingOn.{put_counts, put_ends, put_others, put_unshut, taken_on, told_done, told_failed, unrisen_as, unrisen_done, unrisen_failed, was_done}
+use Rattle.build_run.specs.Books.{book_of}
+use Rattle.build_run.proofs.Booking.{given_up}
+use Rattle.build_run.proofs.EndingOn.{done_is, put_counts, put_ends, put_others, put_unshut, taken_on, told_done, told_failed, unrisen_as, unrisen_done, unrisen_failed, was_done}
 use Rattle.build_run.proofs.Causing.{account_as, settled, untold}
 use Rattle.build_run.proofs.Goings.{passes_on}
-use Rattle.build_run.proofs.Outs.{held_alike, held_count, last_of, out_in, outs_front, outs_left, room_beside, rule_of, stored_alike, stored_beside, stored_left, stored_over, stored_taken}
+use Rattle.build_run.proofs.Outs.{held_count, last_of, out_in, room_beside, rule_of, stored_alike, stored_beside, stored_left, stored_over, stored_taken}
 use Rattle.build_run.proofs.site.Site.take_ended.Goals as goal
 
 pub returns-in_default-clause-passes : goal.returns-in_default-clause-passes
@@ -168,12 +174,6 @@ returns-in_default-outcome-clause-takes g c =
     let left = c.take.new.self in
     let busy = c.in-Some.busy in
     let ended = c.wait-ended.result in
-    let world = c.wait-ended.new.world in
-    let told = c.wait-ended.ensures.passes.told in
-    let shut = site.account.now.is_store_shut in
-    let gone = c.give_up.ensures in
-    let taken = stored_taken m world site.store.now (held ++ site.run.now.tickets) (held ++ busy ∷ left) shut (c.in-Some.ensures.outs site.store.now held)
-    (stored_over m site.world.now world site.store.now (held ++ site.run.now.tickets) shut told.told c.wait-ended.ensures.banks c.requires.sound.stored) in
     let before = (m.around site.world.now).log in
     record {
       fewer = λ t. omega (arith, c.wait-ended.ensures.fewer t, ap length c.take.ensures.left, held_count left);
@@ -186,10 +186,8 @@ returns-in_default-outcome-clause-takes g c =
       only = λ t rule e. absurd cc;
       puts = λ rule e. absurd cc;
       kept = λ other unshut.
-          let unshut_before = sym c.not_done.ensures.reports.1.shut ∙ unshut in
-          let own = room_beside m world site.store.now held busy left shut taken unshut_before in
-          held_alike site.store.now c.give_up.new.store held gone.map (λ one rec h out. (gone.outs.each rec one.ticket (own one (Contains-append_left held left one h)) out).own)
-          (outs_front site.store.now held left (outs_left site.store.now held left busy (taken.outs unshut_before)));
+          let outs = c.requires.sound.stored.outs (sym c.not_done.ensures.reports.1.shut ∙ unshut) in
+          (given_up (book_of site) c.give_up.new.store busy left c.give_up.ensures.map c.give_up.ensures.outs (c.in-Some.ensures.outs site.store.now held outs)).records;
       out = refl;
       shut = λ unshut. sym c.not_done.ensures.reports.1.shut ∙ unshut;
     }
@@ -231,8 +229,14 @@ returns-in-Done-clause-along g c = λ t sure o outset may.
           let ticket = (out_in site.store.now (site.run.now.held ++ site.run.now.tickets) busy outs
           (Contains-append_right site.run.now.held site.run.now.tickets busy c.in-Some.ensures.among)).ticket in
           put_others site.store.now busy (records_of site) (records_of new) path ticket (hold.record unshut) out;
+      id = c.in-Some.ensures.rule;
+      open_before = hold.puts.shut;
+      puts = λ e. hold.record;
+      kept = λ e. true_false (sym (was_done ended.outcome c.in-Done.is) ∙ e);
+      running = λ one h. c.take.ensures.fewer one (subst (λ (all : List Busy). Contains all one) hold.puts.tickets h);
+      tickets = λ unshut one rec h is. hold.tickets.each rec one.ticket is;
     })
-    (c.requires.sound.joined.runs first) (m.sure world) (passes.sure t sure)
+    (c.requires.sound.joined.runs first) c.requires.sound.joined.apart (m.sure world) (passes.sure t sure)
     (subst (λ (a : Around). Ends (m.sure world) ended (m.around site.world.now) a) (sym (hold.puts.around t)) ends)
 
 pub returns-in_default-outcome-clause-along : goal.returns-in_default-outcome-clause-along
@@ -260,5 +264,64 @@ returns-in_default-outcome-clause-along g c = λ t sure o outset may.
       unshut = λ e. done.reports.1.shut;
       records = λ unshut path out.
           ap (λ (map : Map). map path) ((returns-in_default-outcome-clause-takes g c).kept (λ rule e. absurd cc) unshut);
+      id = c.in-Some.ensures.rule;
+      open_before = λ unshut. sym done.reports.1.shut ∙ unshut;
+      puts = λ e. absurd (c.in_default-outcome.not-Done (done_is ended.outcome e));
+      kept = λ e. (returns-in_default-outcome-clause-takes g c).kept (λ rule e. absurd cc);
+      running = λ one h. c.take.ensures.fewer one h;
+      tickets = λ unshut one rec h is.
+          let outs = c.in-Some.ensures.outs site.store.now site.run.now.held (c.requires.sound.stored.outs (sym done.reports.1.shut ∙ unshut)) in
+          (given_up (book_of site) c.give_up.new.store busy c.take.new.self c.give_up.ensures.map c.give_up.ensures.outs outs).tickets one rec h is;
     })
-    (c.requires.sound.joined.runs (c.wait-ended.ensures.passes.told.told t)) (m.sure world) sure (c.wait-ended.ensures.ends t)
+    (c.requires.sound.joined.runs (c.wait-ended.ensures.passes.told.told t)) c.requires.sound.joined.apart (m.sure world) sure (c.wait-ended.ensures.ends t)
+
+pub returns-in_default-clause-safe : goal.returns-in_default-clause-safe
+returns-in_default-clause-safe g c = λ s safe.
+    let m = g.W.Disk.meaning in
+    let site = c.args.self.now in
+    let one = c.wait-ended.ensures.safe s safe.world in
+    record {
+      moments = one.moments;
+      now = record {
+        world = one.now;
+        tickets = are_ended m s c.wait-ended.result site.world.now c.wait-ended.new.world site.store.now site.store.now site.run.now.held
+            site.run.now.tickets c.take.new.self site.account.now c.want_memory.new.self c.wait-ended.ensures.passes.told c.wait-ended.ensures.ends
+            (same_tickets site.store.now) c.take.ensures.fewer (λ unshut. sym (ap (λ (l : Ledger). l.shut) c.want_memory.ensures.ledger) ∙ unshut) safe.tickets;
+      };
+    }
+
+pub returns-in_default-outcome-clause-safe : goal.returns-in_default-outcome-clause-safe
+returns-in_default-outcome-clause-safe g c = λ s safe.
+    let m = g.W.Disk.meaning in
+    let site = c.args.self.now in
+    let one = c.wait-ended.ensures.safe s safe.world in
+    record {
+      moments = one.moments;
+      now = record {
+        world = one.now;
+        tickets = are_ended m s c.wait-ended.result site.world.now c.wait-ended.new.world site.store.now c.give_up.new.store site.run.now.held
+            site.run.now.tickets c.take.new.self site.account.now c.not_done.new.account c.wait-ended.ensures.passes.told c.wait-ended.ensures.ends
+            c.give_up.ensures.tickets c.take.ensures.fewer (λ unshut. sym c.not_done.ensures.reports.1.shut ∙ unshut) safe.tickets;
+      };
+    }
+
+pub returns-in-Done-clause-safe : goal.returns-in-Done-clause-safe
+returns-in-Done-clause-safe g c = λ s safe.
+    let m = g.W.Disk.meaning in
+    let site = c.args.self.now in
+    let store = site.store.now in
+    let held = site.run.now.held in
+    let left = c.take.new.self in
+    let busy = c.in-Some.busy in
+    let world = c.wait-ended.new.world in
+    let one = c.wait-ended.ensures.safe s safe.world in
+    let two = c.hold.ensures.safe s one.now
+    (are_done m s c.wait-ended.result site.world.now world store held site.run.now.tickets left busy site.account.now c.wait-ended.ensures.passes.told
+    c.wait-ended.ensures.ends c.take.ensures.fewer c.in-Some.ensures.among c.in-Done.is (sym c.in-Some.ensures.rule) safe.world
+    (λ t. c.wait-ended.ensures.joined.runs t ∙ sym c.take.ensures.left)
+    (λ unshut. (outs_back store held (busy ∷ left) (c.in-Some.ensures.outs store held (c.requires.sound.stored.outs unshut))).1) safe.tickets) in
+    record {
+      moments = (safe_on m s site.world.now world c.hold.new.self.world.now c.hold.ensures.puts.goes.passes.told one
+          (λ now. record { moments = two.moments; now = two.now.world })).moments;
+      now = two.now;
+    }

@@ -1,3 +1,4 @@
+use Rattle.build_run.proofs.Stopping.{site_safely_on}
 use Rattle.std.proofs.Common.{◌≡◌, ◌<◌, ◌≤◌, ◌∙◌, ◌++◌, ◌∷◌, [], ℕ, List, Some, Contains, ap, false, length, subst, sym}
 use Rattle.world_api.specs.Around.{Around, Finished}
 use Rattle.world_api.specs.declared.job.Outcome.TheVariants.{Done}
@@ -7,6 +8,7 @@ use Rattle.build_run.specs.Sites.{most_jobs}
 use Rattle.build_run.specs.declared.building.Options.{Options}
 use Rattle.build_run.proofs.EndingOn.{may_take}
 use Rattle.build_run.proofs.Sites.{site_on, site_puts}
+use Rattle.build_run.proofs.Booking.{puts_book}
 use Rattle.build_run.proofs.site.Site.take_ending.Goals as goal
 
 pub take_ended-requires-clause-some : goal.take_ended-requires-clause-some
@@ -64,4 +66,10 @@ returns-clause-along g c = λ t sure o outset along wanted.
     let first = put.puts.goes.passes.told.told told in
     c.take_ended.ensures.along t sure o outset
     (may_take m o outset site mid along (put.puts.around told) put.puts.same.options put.known put.held put.kept put.stands
+    (puts_book m site mid put.puts put.tickets put.kept)
     (c.requires.sound.joined.runs first) wanted)
+
+pub returns-clause-safe : goal.returns-clause-safe
+returns-clause-safe g c =
+    site_safely_on g.W.Disk.meaning c.args.self.now c.put_if_few.new.self _ c.take_ended.ensures.passes.passes.told c.put_if_few.ensures.safe
+    c.take_ended.ensures.safe

@@ -1,5 +1,7 @@
-use Rattle.std.proofs.Common.{rules}
-use Rattle.build_run.proofs.Alongs.{along_on, memory_along, rests_by, turn_along}
+use Rattle.std.proofs.Common.{refl, rules}
+use Rattle.build_run.proofs.Stopping.{site_rests}
+use Rattle.build_run.proofs.Turning.{turn_then, turns_on}
+use Rattle.build_run.proofs.Alongs.{along_on, memory_along, rests_by, rests_halted, turn_along}
 use Rattle.build_run.proofs.Sites.{site_on}
 use Rattle.build_run.proofs.site.Site.take_turns.Goals as goal
 
@@ -20,13 +22,33 @@ loop-turn-preserved g c =
       sound = tell.sound turn.sound;
       along = along_on m _ _ _ told.passes.told before.along
           (turn_along m _ _ _ _ tell.passes.passes.told turn.passes.same.options _ (c.want-wanted.ensures.wanted (search rules)) turn.along tell.along);
+      safe = turns_on m _ _ _ before.passes.passes.told told.passes.told before.along before.safe
+          (turn_then m _ _ _ tell.passes.passes.told (turn.safe (c.want-wanted.ensures.wanted (search rules))) tell.safe);
     }
 
 pub returns-then-eq-clause-still : goal.returns-then-eq-clause-still
 returns-then-eq-clause-still g c =
     rests_by g.W.Disk.meaning c.args.self.now c.loop-turn.self c.loop-turn.invariant.along (c.want-wanted.ensures.still (search rules))
 
+pub returns-clause-still : goal.returns-clause-still
+returns-clause-still g c = rests_halted g.W.Disk.meaning c.args.self.now c.tell-2.new.self (c.tell-2.ensures.halts refl)
+
 pub returns-clause-along : goal.returns-clause-along
 returns-clause-along g c =
     along_on g.W.Disk.meaning c.args.self.now c.loop-turn.self c.tell-2.new.self c.tell-2.ensures.passes.passes.told c.loop-turn.invariant.along
     (memory_along g.W.Disk.meaning c.loop-turn.self c.tell-2.new.self c.tell-2.ensures.along)
+
+pub loop-turn-init : goal.loop-turn-init
+loop-turn-init g c = record {
+  passes = search rules;
+  accounts = search rules;
+  sound = search rules;
+  along = search rules;
+  safe = λ s along safe.
+      site_rests g.W.Disk.meaning g.met.W.Disk.only_now c.args.self.now c.args.self.now refl refl refl refl (λ unshut. unshut) s safe;
+}
+
+pub returns-clause-safe : goal.returns-clause-safe
+returns-clause-safe g c =
+    turn_then g.W.Disk.meaning c.args.self.now c.loop-turn.self c.tell-2.new.self c.tell-2.ensures.passes.passes.told c.loop-turn.invariant.safe
+    c.tell-2.ensures.safe

@@ -1,4 +1,5 @@
 use Rattle.build_run.specs.Along.{StaysAlong}
+use Rattle.build_run.specs.Safe.{TurnsSafely}
 use Rattle.build_run.specs.Sites.{IsSound, SiteAccounts, SitePasses}
 use Rattle.build_run.proofs.site.Site.take_turns.Given as goal
 
@@ -10,4 +11,5 @@ invariant-loop-turn g l =
       accounts : SiteAccounts m g.O.Sink.meaning g.E.Sink.meaning l.fn.self l.self;
       sound : IsSound m l.self;
       along : StaysAlong m l.fn.self l.self;
+      safe : TurnsSafely m l.fn.self l.self;
     }

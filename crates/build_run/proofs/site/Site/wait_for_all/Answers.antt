@@ -1,10 +1,11 @@
-use Rattle.std.proofs.Common.{◌∙◌, List, ap, arith, length}
+use Rattle.std.proofs.Common.{◌∙◌, List, ap, arith, length, refl, rules}
 use Rattle.std.specs.Prelude.{Ok}
 use Rattle.task_plan.specs.Plans.{Planned}
 use Rattle.task_plan.specs.declared.want.Want.TheVariants as want
 use Rattle.build_run.specs.Holds.{Busy}
 use Rattle.build_run.proofs.Alongs.{along_on, turn_along, waits_halted}
 use Rattle.build_run.proofs.Sites.{site_on}
+use Rattle.build_run.proofs.Stopping.{site_rests, site_safely_on}
 use Rattle.build_run.proofs.site.Site.wait_for_all.Goals as goal
 
 pub loop-turn-preserved : goal.loop-turn-preserved
@@ -25,9 +26,22 @@ loop-turn-preserved g c =
           let told_mid = tell.passes.passes.told.told t in
           omega (arith, ending.takes.fewer told_mid, before.left (ending.passes.passes.told.told told_mid), ap (λ (busies : List Busy). length busies) tell.tickets);
       sound = tell.sound ending.sound;
+      safe = site_safely_on m _ _ _ tell.passes.passes.told (site_safely_on m _ _ _ ending.passes.passes.told before.safe ending.safe) tell.safe;
       same = λ e. absurd (omega (arith, e));
       halted = λ e. tell.halted (ap (λ (p : Planned). p.halted) ending.halted ∙ before.halted e);
       along = λ e. along_on m _ _ _ told.passes.told (before.along e)
           (turn_along m c.loop-turn.self c.take_ending-event.new.self c.tell.new.self (Ok c.take_ending-event.result) tell.passes.passes.told
           ending.passes.same.options want.Wait (waits_halted c.loop-turn.self (before.halted e)) ending.along tell.along);
     }
+
+pub loop-turn-init : goal.loop-turn-init
+loop-turn-init g c = record {
+  passes = search rules;
+  accounts = search rules;
+  left = search rules;
+  sound = search rules;
+  safe = site_rests g.W.Disk.meaning g.met.W.Disk.only_now c.args.self.now c.args.self.now refl refl refl refl (λ unshut. unshut);
+  same = search rules;
+  halted = search rules;
+  along = search rules;
+}

@@ -1,3 +1,6 @@
+use Rattle.std.proofs.lemmas.Bool.{false≢true}
+use Rattle.sign_store.specs.Putting.{WithdrawsThroughout}
+use Rattle.build_run.proofs.Stopping.{none_fewer, put_safe, site_rests, site_stored, unset_safe}
 use Rattle.std.proofs.Common.{◌≡◌, ◌∙◌, ◌++◌, [], List, ap, arith, inl, inr, length, refl, sym, subst, true}
 use Rattle.sign_store.specs.Putting.{AreOutWith, IsApartFrom, map_with, map_without}
 use Rattle.sign_store.specs.Stores.{map_of}
@@ -152,3 +155,44 @@ returns-in-Ok-clause-clears g c = clears_around g.W.Disk.meaning [] c.args.self.
 
 pub returns-in-Err-clause-clears : goal.returns-in-Err-clause-clears
 returns-in-Err-clause-clears g c = clears_around g.W.Disk.meaning [] c.args.self.now.world.now c.withdraw.new.world c.withdraw.ensures.around
+
+pub returns-then-not-has_record-clause-tickets : goal.returns-then-not-has_record-clause-tickets
+returns-then-not-has_record-clause-tickets g c = record { each = λ rec ticket is. is }
+
+pub returns-then-not-has_record-clause-safe : goal.returns-then-not-has_record-clause-safe
+returns-then-not-has_record-clause-safe g c =
+    site_rests g.W.Disk.meaning g.met.W.Disk.only_now c.args.self.now _ refl refl refl refl (λ unshut. unshut)
+
+pub returns-in-Ok-clause-safe : goal.returns-in-Ok-clause-safe
+returns-in-Ok-clause-safe g c =
+    let m = g.W.Disk.meaning in
+    let site = c.args.self.now in
+    let store = site.store.now in
+    let held = site.run.now.held in
+    let ready = c.requires.ready in
+    let t = ready.out in
+    let kept = c.requires.sound.stored.kept ready.unshut in
+    let with = out_with store held site.run.now.tickets c.args.ticket.now c.args.job.now.targets t (c.requires.sound.stored.outs ready.unshut) ready.room ready.beside in
+    site_stored m g.met.W.Disk.only_now g.met.W.Disk.reads_as site _ (map_without store held t.rec) c.withdraw.ensures.told c.withdraw.ensures.around kept
+    (subst (λ (all : List Busy). WithdrawsThroughout m site.world.now c.withdraw.new.world store all c.args.ticket.now) c.as_slice.ensures
+    c.withdraw.ensures.moments t.rec with kept)
+    (λ s tickets was. unset_safe s (m.around site.world.now) t.rec.targets (map_with store held)
+    (put_safe s (m.around site.world.now) store held (map_of store) (tickets.held ready.unshut) was))
+    c.withdraw.ensures.tickets (none_fewer held _ c.clear.ensures) refl (λ unshut. unshut)
+
+pub returns-in-Err-clause-safe : goal.returns-in-Err-clause-safe
+returns-in-Err-clause-safe g c =
+    let m = g.W.Disk.meaning in
+    let site = c.args.self.now in
+    let store = site.store.now in
+    let held = site.run.now.held in
+    let ready = c.requires.ready in
+    let t = ready.out in
+    let kept = c.requires.sound.stored.kept ready.unshut in
+    let with = out_with store held site.run.now.tickets c.args.ticket.now c.args.job.now.targets t (c.requires.sound.stored.outs ready.unshut) ready.room ready.beside in
+    site_stored m g.met.W.Disk.only_now g.met.W.Disk.reads_as site _ (map_without store held t.rec) c.withdraw.ensures.told c.withdraw.ensures.around kept
+    (subst (λ (all : List Busy). WithdrawsThroughout m site.world.now c.withdraw.new.world store all c.args.ticket.now) c.as_slice.ensures
+    c.withdraw.ensures.moments t.rec with kept)
+    (λ s tickets was. unset_safe s (m.around site.world.now) t.rec.targets (map_with store held)
+    (put_safe s (m.around site.world.now) store held (map_of store) (tickets.held ready.unshut) was))
+    c.withdraw.ensures.tickets (λ busy h. h) refl (λ unshut. absurd (false≢true (sym unshut)))
