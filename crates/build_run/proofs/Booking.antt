@@ -1,8 +1,6 @@
 -- What a build has booked, from call to call.
 use Rattle.std.proofs.Common.{◌≡◌, ◌⊎◌, inl, inr, ◌++◌, ◌∷◌, Bool, true, false, cond, List, [], Contains, Option, Some, ap, refl, subst, sym, ◌∙◌}
 use Rattle.std.proofs.lemmas.List.Elements.{Contains-append_left, Contains-append_right}
-use Rattle.std.specs.Str.{bytes_eq}
-use Rattle.std.proofs.lemmas.Slice.Eq.{bytes_eq-Decides}
 use Rattle.world_api.specs.Around.{Around, IsRunningTarget, given_of}
 use Rattle.world_api.specs.Calls.{Asks, Ends, Starts}
 use Rattle.world_api.specs.Meaning.{Meaning}
@@ -12,13 +10,11 @@ use Rattle.world_api.specs.declared.job.Job.{Job}
 use Rattle.deciders.specs.declared.recorded.Rec.{Rec}
 use Rattle.sign_store.specs.Putting.{map_with}
 use Rattle.sign_store.specs.Stores.{IsOut, IsTicket, KeepsOthers as LeavesOthers, KeepsTickets, map_of}
-use Rattle.sign_store.specs.Tables.{Map, is_among, with_each}
+use Rattle.sign_store.specs.Tables.{Map, with_each}
 use Rattle.sign_store.specs.declared.store.Store.{Store}
 use Rattle.build_model.specs.Rules.{Path, Rule, Among, here, there}
 use Rattle.build_model.specs.Moments.{Job as Given}
 use Rattle.build_model.proofs.Lists.{some_same}
-use Rattle.build_means.proofs.Lists.{there_any}
-use Rattle.run_means.proofs.Lists.{contains_among}
 use Rattle.build_model.specs.Steps.{Step, Fresh, Began, Ended, Lacks, Halts, began, IsDecided, IsRunning}
 use Rattle.run_means.specs.Clears.{Clears}
 use Rattle.run_means.proofs.Clearing.{calls_clear}
@@ -35,7 +31,7 @@ use Rattle.build_run.specs.Outs.{AreOut}
 use Rattle.build_run.specs.Sites.{KeepsRecords, SitePuts}
 use Rattle.build_run.specs.declared.site.Site.{Site}
 use Rattle.build_run.proofs.Holding.{in_pushed}
-use Rattle.build_run.proofs.Outs.{held_alike, not_among, out_in, outs_front, outs_left, own_beside}
+use Rattle.build_run.proofs.Outs.{held_alike, in_among, not_among, out_in, outs_front, outs_left, own_beside}
 
 -- ---- what is kept of the book
 
@@ -148,9 +144,6 @@ ends_write Sure ended old new ends = record {
 }
 
 -- ---- records of paths
-
-pub in_among : (paths : List Path) (path : Path) → Contains paths path → is_among paths path ≡ true
-in_among paths path h = there_any (λ other. bytes_eq other path) (contains_among paths h) ((bytes_eq-Decides path path).1 refl)
 
 -- what is among the paths has the record, and the rest has what it had
 with_own : (paths : List Path) (rec : Rec) (map : Map) (path : Path) → Contains paths path → with_each paths (Some rec) map path ≡ Some rec

@@ -1,9 +1,10 @@
 -- How a build stands behind a start, and behind one that was refused.
-use Rattle.std.proofs.Common.{◌≡◌, ◌∙◌, ◌<◌, true, false, List, [], ◌∷◌, ◌++◌, Contains, length, inl, inr, refl, sym, subst, ap, arith}
+use Rattle.std.proofs.Common.{◌≡◌, ◌∙◌, ◌<◌, true, false, List, [], ◌∷◌, ◌++◌, Contains, length, inl, inr, refl, sym, subst, ap}
+use Rattle.std.proofs.lemmas.List.{length-map}
 use Rattle.std.specs.Prelude.{Result, Ok, Err, IsErrAnd}
 use Rattle.scons_base.specs.declared.ids.NodeId.{NodeId}
 use Rattle.scons_base.specs.declared.ids.RuleId.{RuleId}
-use Rattle.world_api.specs.Around.{Around, Running}
+use Rattle.world_api.specs.Around.{Around}
 use Rattle.world_api.specs.Calls.{Asks, Starts}
 use Rattle.world_api.specs.Counts.{Counts}
 use Rattle.world_api.specs.Meaning.{Meaning}
@@ -42,7 +43,7 @@ use Rattle.run_means.proofs.Clearing.{calls_clear}
 use Rattle.build_run.specs.Along.{AreAsked, EndsOn, GoesOn, GoesWell, HeldBegan, HoldsFewer, IsAlong, IsDue, IsOn, Leads, LeadsTo, Presents, is_faulted, standing_of}
 use Rattle.build_run.specs.Books.{AreBooked, Book, book_of}
 use Rattle.build_run.specs.Goings.{IsJoined, Launches}
-use Rattle.build_run.specs.Holds.{Busy, holds_in, holds_of}
+use Rattle.build_run.specs.Holds.{Busy, hold_of, holds_in}
 use Rattle.build_run.specs.Outs.{KeepsSome}
 use Rattle.build_run.specs.Sites.{most_jobs}
 use Rattle.build_run.specs.declared.site.Run.{Run}
@@ -90,17 +91,13 @@ held_within held left some busy h = elim some [
   | inr none ↦ none_there (subst (λ (all : List Busy). Contains all busy) none h)
 ]
 
-running_count : (running : List Running) → length (holds_of running) ≡ length running
-running_count [] = refl
-running_count (run ∷ running) = let rest = running_count running in omega (arith, rest)
-
 -- fewer actions run than may
 pub room_in : {W O E : Type 0} (m : Meaning W) (o : Outset) (site : Site W O E) → IsJoined m site.world.now (holds_in site.run.now.tickets) →
     m.tells site.world.now → AreAsked o site.options → length site.run.now.tickets < most_jobs site.options →
     length (m.around site.world.now).running < jobs_at_once o.wanted.jobs
 room_in m o site joined tells asked room =
     let same : length site.run.now.tickets ≡ length (m.around site.world.now).running =
-    sym (held_count site.run.now.tickets) ∙ (ap (λ (holds : List Hold). length holds) (sym (joined.runs tells)) ∙ running_count (m.around site.world.now).running) in
+    sym (held_count site.run.now.tickets) ∙ (ap (λ (holds : List Hold). length holds) (sym (joined.runs tells)) ∙ length-map (m.around site.world.now).running hold_of) in
     subst (λ n. length (m.around site.world.now).running < n) asked.jobs (subst (λ n. n < most_jobs site.options) same room)
 
 -- ---- how the build stands
