@@ -19,7 +19,7 @@ use Rattle.build_means.specs.Records.{record_in, records_in}
 use Rattle.turn_means.specs.Laws.{HasMet}
 use Rattle.turn_means.specs.Safety.{ActsAs, IsLeft, IsSafe, IsTicketOf, IsTrue}
 use Rattle.turn_means.specs.Standing.{Outset, IsOutset}
-use Rattle.build_run.specs.Along.{IsAlong, IsWantedOf}
+use Rattle.build_run.specs.Along.{IsAlong, IsReliable, IsWantedOf}
 use Rattle.build_run.specs.Holds.{Busy}
 use Rattle.build_run.specs.Outs.{ShareNone}
 use Rattle.build_run.specs.Outsets.{IsReadyFor}
@@ -137,9 +137,11 @@ IsAlongNow m site = m.tells site.world.now → m.sure site.world.now → IsAlong
 abbrev pub TurnsSafely : {W O E : Type 0} → Meaning W → Site W O E → Site W O E → Type 0
 TurnsSafely m old new = (s : Setting) → IsAlongNow m old → IsSafeSite m s old → SiteStaysSafe m s old new
 
--- so is one that is wanted
+-- so is one that is wanted, where its plan is reliable unless it has halted
 abbrev pub TurnsSafelyAs : {W O E : Type 0} → Meaning W → Site W O E → Site W O E → Want → Type 0
-TurnsSafelyAs m old new wanted = IsWantedOf (length old.run.now.tickets) (most_jobs old.options) old.run.now.plan wanted → TurnsSafely m old new
+TurnsSafelyAs m old new wanted =
+    ((old.run.now.plan.halted ≡ false → IsReliable old.run.now.plan) →
+    IsWantedOf (length old.run.now.tickets) (most_jobs old.options) old.run.now.plan wanted) → TurnsSafely m old new
 
 -- ---- builds
 
