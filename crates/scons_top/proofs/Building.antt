@@ -1,5 +1,5 @@
 -- What a run built, told of the world as the run found it.
-use Rattle.std.proofs.Common.{◌≡◌, ◌≢◌, ◌∙◌, ◌⊎◌, ◌++◌, ◌∷◌, inl, inr, refl, sym, subst, ap, ℕ, List, [], length, Bool, true, false, Some, map, arith}
+use Rattle.std.proofs.Common.{◌≡◌, ◌∙◌, inl, inr, sym, subst, ap, ℕ, List, [], length, true, false, Some}
 use Rattle.std.specs.Prelude.{Result, Ok, Err, IsErrAnd}
 use Rattle.std.proofs.lemmas.Bool.{false≢true}
 use Rattle.scons_base.specs.Rising.{Rose}
@@ -10,28 +10,22 @@ use Rattle.world_api.specs.Calls.{Asks}
 use Rattle.world_api.specs.Counts.{Counts}
 use Rattle.world_api.specs.Looks.{Looks}
 use Rattle.world_api.specs.Meaning.{Meaning, BanksKept}
-use Rattle.world_api.specs.Statuses.{HasStatus}
 use Rattle.world_api.proofs.Looking.{looks_joined, looks_same}
 use Rattle.rule_graph.specs.Graphs.{RuleGraph}
 use Rattle.rule_graph.specs.Rules.{are_below}
-use Rattle.rule_graph.specs.declared.build_fault.BuildFault.{BuildFault}
 use Rattle.sign_store.specs.Ends.{image_in}
 use Rattle.sign_store.specs.Images.{image_of}
 use Rattle.sign_store.specs.Tables.{Map}
-use Rattle.world_mem.proofs.Backs.{same_around}
 use Rattle.build_means.specs.Builds.{Wanted, KeepsRecords, Runs, Succeeded}
 use Rattle.build_files.proofs.Left.{none_runs}
 use Rattle.build_run.specs.Outsets.{HasRun, HasSucceeded, LeavesRest, BuildRuns, BuildSucceeds}
 use Rattle.build_run.specs.Takes.{IsLeftAt}
 use Rattle.build_run.specs.declared.end.BuildEnd.{BuildEnd}
+use Rattle.world_mem.proofs.Backs.{same_around}
 use Rattle.scons_words.specs.declared.words.Words.{Words}
 use Rattle.scons_top.specs.Builds.{AskForBuild, BeginsStore, EndsBefore, wanted_by, HasBuilt, BuildsOrStops, RunBuilds}
-use Rattle.scons_top.specs.Endings.{AddsUnwritten}
-use Rattle.scons_top.specs.Stops.{top_of}
 use Rattle.scons_top.specs.declared.report.Report.{Report}
-use Rattle.scons_top.specs.declared.report.Top.{Top}
 use Rattle.scons_top.specs.declared.stop.Stop.{Stop}
-use Rattle.scons_top.specs.declared.stop.Stop.TheVariants as stop
 
 -- looks
 
@@ -160,42 +154,3 @@ no_load said rules is ask = let no = sym is ∙ ask.load in absurd (cc)
 -- the words that were read
 pub words_said : {E : Type 0} (read : Result Words E) (words said : Words) → read ≡ Ok words → read ≡ Ok said → words ≡ said
 words_said read words said one other = let same = sym one ∙ other in cc
-
--- the report of a run
-
-pub pushed_some : (old new : List Top) (fault : Top) → new ≡ old ++ fault ∷ [] → new ≢ []
-pushed_some [] new fault is = λ none. let no = sym is ∙ none in cc
-pushed_some (first ∷ old) new fault is = λ none. let no = sym is ∙ none in cc
-
-pub some_fails : (report : Report) → HasStatus report.status report.faults → report.faults ≢ [] → report.status ≢ 0
-some_fails report (inl well) some = λ zero. some well.1
-some_fails report (inr (inl two)) some = λ zero. absurd (omega (arith, two.0))
-some_fails report (inr (inr three)) some = λ zero. absurd (omega arith)
-
-pub wanting_fails : (report : Report) → (report.status ≢ 3 → true ≡ false) → report.status ≢ 0
-wanting_fails report said = λ zero. false≢true (sym (said (λ three. absurd (omega arith))))
-
-none_told : (report : Report) → HasStatus report.status report.faults → report.status ≡ 0 → report.faults ≡ []
-none_told report (inl well) zero = well.1
-none_told report (inr (inl two)) zero = absurd (omega (arith, two.0))
-none_told report (inr (inr three)) zero = absurd (omega arith)
-
-none_mapped : (found : List BuildFault) → map top_of found ≡ [] → found ≡ []
-none_mapped [] none = refl
-none_mapped (fault ∷ found) none = absurd (cc none)
-
-none_before : (written : Result (Unit {0}) Stop) (first last : List Top) (lost : Bool) → AddsUnwritten written first last lost → lost ≡ false → last ≡ [] → first ≡ []
-none_before (Ok value) first last lost adds kept none = sym adds.0 ∙ none
-none_before (Err (stop.Fault fault)) first last lost adds kept none = absurd (pushed_some first last _ (adds.0 kept) none)
-none_before (Err (stop.Build fault)) first last lost adds kept none = absurd (pushed_some first last _ (adds.0 kept) none)
-none_before (Err stop.Memory) first last lost adds kept none = absurd (false≢true (sym kept ∙ adds.1))
-
--- with status 0 a build has told no fault
-pub closes_well : (found : List BuildFault) (none first last : List Top) (memory lacks lost : Bool) (written : Result (Unit {0}) Stop) (report : Report)
-    → none ≡ [] → (lacks ≡ false → first ≡ none ++ map top_of found) → AddsUnwritten written first last lost → report.faults ≡ last
-    → HasStatus report.status report.faults → (report.status ≢ 3 → (memory ≡ false) × (lacks ≡ false) × (lost ≡ false))
-    → report.status ≡ 0 → (found ≡ []) × (memory ≡ false)
-closes_well found none first last memory lacks lost written report empty added adds same status said zero =
-    let kept = said (λ three. absurd (omega arith)) in
-    let first_none = none_before written first last lost adds kept.2 (sym same ∙ none_told report status zero) in
-    (none_mapped found (sym (added kept.1 ∙ ap (λ (faults : List Top). faults ++ map top_of found) empty) ∙ first_none), kept.0)

@@ -1,5 +1,10 @@
-use Rattle.std.proofs.Common.{◌∙◌, refl}
+use Rattle.std.proofs.Common.{◌∙◌, inl, refl, subst, sym}
 use Rattle.scons_top.proofs.Causing.{same_world, same_out, exit_report, report_memory, world_stop, sink_stop, stop_back, caused_back, build_found}
+use Rattle.world_api.proofs.Looking.{looks_same}
+use Rattle.sign_store.specs.Stores.{map_of}
+use Rattle.scons_top.specs.Requested.{AreNodes}
+use Rattle.scons_top.proofs.Building.{build_done, stops, stops_begun}
+use Rattle.scons_top.proofs.Requesting.{are_below_all}
 use Rattle.scons_top.proofs.build_step.build_requests.Goals as goal
 
 pub returns-in_err-nodes-clause-reports : goal.returns-in_err-nodes-clause-reports
@@ -19,3 +24,28 @@ pub returns-clause-reports : goal.returns-clause-reports
 returns-clause-reports g c =
     let same = same_out _ _ _ _ c.in_ok-say.ensures.step ∙ same_world _ _ _ _ c.in_ok-store.ensures.step in
     caused_back _ _ _ c.closed.result same (c.closed.ensures.causes _ _ _ _ _ (build_found _ _ _ _ c.build-end.ensures.causes) c.tell_end-written.ensures)
+
+pub returns-in_err-nodes-clause-builds : goal.returns-in_err-nodes-clause-builds
+returns-in_err-nodes-clause-builds g c = λ asks.
+    let m = g.W.Disk.meaning in
+    stops m c.args.words.now c.args.world.now _ c.from_residual.result _ c.from_residual.ensures.1 (inl (looks_same m c.args.world.now))
+
+pub returns-in_err-store-clause-builds : goal.returns-in_err-store-clause-builds
+returns-in_err-store-clause-builds g c = λ asks.
+    let r = c.from_residual-in_err-store in
+    stops_begun g.W.Disk.meaning c.args.words.now c.args.world.now _ r.result _ r.ensures.1 c.begin_store.ensures.begins
+
+pub returns-in_err-say-clause-builds : goal.returns-in_err-say-clause-builds
+returns-in_err-say-clause-builds g c = λ asks.
+    let r = c.from_residual-in_err-say in
+    stops_begun g.W.Disk.meaning c.args.words.now c.args.world.now _ r.result _ r.ensures.1 c.begin_store.ensures.begins
+
+pub returns-clause-builds : goal.returns-clause-builds
+returns-clause-builds g c = λ asks ask tells sure.
+    let graph = c.args.graph.now in
+    let requested = c.as_slice.result.now in
+    let told = c.build-end.ensures.told.told tells in
+    let nodes = subst (AreNodes graph) (sym c.as_slice.ensures.value) (c.in_ok-nodes.ensures graph asks) in
+    build_done g.W.Disk.meaning c.args.words.now graph requested (map_of c.in_ok-store.store) c.args.world.now c.begin_store.new.world c.build-end.new.world
+    (map_of c.build-end.new.store) c.build-end.result c.closed.result.status c.begin_store.ensures.begins told c.in_ok-store.ensures.step
+    (c.in_ok-store.ensures.map told) (are_below_all graph requested nodes) c.closed.ensures.well tells sure c.build-end.ensures.runs c.build-end.ensures.succeeds
