@@ -32,23 +32,27 @@ use Rattle.scons_top.specs.declared.stop.Stop.{Stop}
 -- where nothing runs, what stands around is the same after looks
 pub around_asked : (a b : Around) → a.running ≡ [] → Asks a b → b ≡ a
 around_asked a b idle asks =
-    same_around b a (λ path. asks.files path (none_runs a.running path idle)) asks.dirs (λ path. asks.stamps path (none_runs a.running path idle))
+    let none = λ (path : List ℕ). none_runs a.running path idle in
+    same_around b a (λ path. asks.files path (none path)) asks.dirs (λ path. asks.stamps path (none path))
     asks.running asks.log asks.met asks.law asks.top
 
 -- and so are the records of the banks
 pub records_kept : {W : Type 0} (m : Meaning W) (a b : W) → BanksKept m a b → image_in (m.seen b) ≡ image_in (m.seen a)
-records_kept m a b kept = ap (λ bytes. image_of bytes (m.seen b B)) (kept A).same ∙ ap (λ bytes. image_of (m.seen a A) bytes) (kept B).same
+records_kept m a b kept =
+    ap (λ bytes. image_of bytes (m.seen b B)) (kept A).same ∙ ap (λ bytes. image_of (m.seen a A) bytes) (kept B).same
 
 -- what was done, from what was around, the counts and the records
 
-record RanFrom {W : Type 0} (m : Meaning W) (w : Wanted) (map : Map) (start : Around) (counts : Counts) (new : W) (behind : Map) : Type 0 where
+record RanFrom {W : Type 0} (m : Meaning W) (w : Wanted) (map : Map) (start : Around) (counts : Counts) (new : W)
+    (behind : Map) : Type 0 where
   left : Around
   kept : Map
   rest : LeavesRest (IsLeftAt w.graph start map) start map left kept
   runs : Runs w kept counts left (m.around new)
   records : (Rose counts.disk_faults (m.counts new).disk_faults → ⊥) → KeepsRecords w kept left (m.around new) runs.steps behind
 
-record SucceededFrom {W : Type 0} (m : Meaning W) (w : Wanted) (map : Map) (start : Around) (counts : Counts) (new : W) (behind : Map) : Type 0 where
+record SucceededFrom {W : Type 0} (m : Meaning W) (w : Wanted) (map : Map) (start : Around) (counts : Counts) (new : W)
+    (behind : Map) : Type 0 where
   left : Around
   kept : Map
   rest : LeavesRest (IsLeftAt w.graph start map) start map left kept
@@ -60,7 +64,7 @@ module _ {W : Type 0} (m : Meaning W) (w : Wanted) (before after : Map) (a b new
   pub run_back : HasRun m w after b new behind → HasRun m w before a new behind
   run_back h =
       let r : RanFrom m w after (m.around b) (m.counts b) new behind =
-        record { left = h.left; kept = h.kept; rest = h.rest; runs = h.runs; records = h.records } in
+      record { left = h.left; kept = h.kept; rest = h.rest; runs = h.runs; records = h.records } in
       let one = subst (λ x. RanFrom m w after x (m.counts b) new behind) around r in
       let two = subst (λ c. RanFrom m w after (m.around a) c new behind) counts one in
       let back = subst (λ (map : Map). RanFrom m w map (m.around a) (m.counts a) new behind) records two in
@@ -69,7 +73,7 @@ module _ {W : Type 0} (m : Meaning W) (w : Wanted) (before after : Map) (a b new
   pub success_back : HasSucceeded m w after b new behind → HasSucceeded m w before a new behind
   success_back h =
       let r : SucceededFrom m w after (m.around b) (m.counts b) new behind =
-        record { left = h.left; kept = h.kept; rest = h.rest; succeeded = h.succeeded; records = h.records } in
+      record { left = h.left; kept = h.kept; rest = h.rest; succeeded = h.succeeded; records = h.records } in
       let one = subst (λ x. SucceededFrom m w after x (m.counts b) new behind) around r in
       let two = subst (λ c. SucceededFrom m w after (m.around a) c new behind) counts one in
       let back = subst (λ (map : Map). SucceededFrom m w map (m.around a) (m.counts a) new behind) records two in
@@ -91,12 +95,14 @@ built_back m said a b new status around counts records h =
     }
 
 -- a build behind the beginning of its store
-pub build_done : {W : Type 0} (m : Meaning W) (said : Words) (g : RuleGraph) (requested : List NodeId) (store : Map) (old begun new : W) (behind : Map)
-    (answer : BuildEnd) (status : ℕ) → BeginsStore m old begun → m.tells begun → m.counts begun ≡ m.counts old → store ≡ image_in (m.seen old)
-    → are_below (length g.nodes) requested ≡ true → (status ≡ 0 → (answer.faults ≡ []) × (answer.memory ≡ false)) → m.tells new → m.sure new
-    → BuildRuns m (wanted_by said g requested) store begun new behind → BuildSucceeds m (wanted_by said g requested) store begun new behind answer
-    → HasBuilt m said old new status
-build_done m said g requested store old begun new behind answer status begins told counts records nodes well tells sure runs succeeds =
+pub build_done : {W : Type 0} (m : Meaning W) (said : Words) (g : RuleGraph) (requested : List NodeId) (store : Map)
+    (old begun new : W) (behind : Map) (answer : BuildEnd) (status : ℕ)
+    → BeginsStore m old begun → m.tells begun → m.counts begun ≡ m.counts old → store ≡ image_in (m.seen old)
+    → are_below (length g.nodes) requested ≡ true → (status ≡ 0 → (answer.faults ≡ []) × (answer.memory ≡ false))
+    → m.tells new → m.sure new → BuildRuns m (wanted_by said g requested) store begun new behind
+    → BuildSucceeds m (wanted_by said g requested) store begun new behind answer → HasBuilt m said old new status
+build_done m said g requested store old begun new behind answer status begins told counts records nodes well tells sure runs
+    succeeds =
     let w = wanted_by said g requested in
     let before = image_in (m.seen old) in
     let around = begins.around told in
@@ -107,7 +113,7 @@ build_done m said g requested store old begun new behind answer status begins to
       kept = behind;
       runs = run_back m w before store old begun new behind around counts records (runs tells sure nodes);
       succeeds = λ zero. success_back m w before store old begun new behind around counts records
-        (succeeds (well zero).0 (well zero).1 tells sure nodes);
+          (succeeds (well zero).0 (well zero).1 tells sure nodes);
     }
 
 -- a run that had looked before
@@ -117,26 +123,30 @@ ends_looked m a b new looks (inl more) = inl (looks_joined m a b new looks more)
 ends_looked m a b new looks (inr begun) =
     inr (record { looked = begun.looked; looks = looks_joined m a b begun.looked looks begun.looks; begins = begun.begins })
 
-steps_looked : {W : Type 0} (m : Meaning W) (said : Words) (a b new : W) (r : Result Report Stop) → Looks m a b → m.tells b → (m.around a).running ≡ []
-    → m.counts b ≡ m.counts a → BuildsOrStops m said b new r → BuildsOrStops m said a new r
+steps_looked : {W : Type 0} (m : Meaning W) (said : Words) (a b new : W) (r : Result Report Stop) → Looks m a b → m.tells b
+    → (m.around a).running ≡ [] → m.counts b ≡ m.counts a → BuildsOrStops m said b new r → BuildsOrStops m said a new r
 steps_looked m said a b new (Ok report) looks told idle counts built =
-    built_back m said a b new report.status (around_asked (m.around a) (m.around b) idle (looks.around told)) counts (records_kept m a b (looks.banks told)) built
+    built_back m said a b new report.status (around_asked (m.around a) (m.around b) idle (looks.around told)) counts
+    (records_kept m a b (looks.banks told)) built
 steps_looked m said a b new (Err stop) looks told idle counts ends = ends_looked m a b new looks ends
 
-pub builds_looked : {W : Type 0} (m : Meaning W) (said : Words) (a b new : W) (r : Result Report Stop) → Looks m a b → (m.tells new → m.tells b)
-    → (m.tells a → (m.around a).running ≡ []) → m.counts b ≡ m.counts a → RunBuilds m said b new r → RunBuilds m said a new r
+pub builds_looked : {W : Type 0} (m : Meaning W) (said : Words) (a b new : W) (r : Result Report Stop) → Looks m a b
+    → (m.tells new → m.tells b) → (m.tells a → (m.around a).running ≡ []) → m.counts b ≡ m.counts a
+    → RunBuilds m said b new r → RunBuilds m said a new r
 builds_looked m said a b new r looks told idle counts builds = λ ask tells sure.
-    steps_looked m said a b new r looks (told tells) (idle (looks.told.told (told tells))) counts (builds ask tells sure)
+    let here = told tells in
+    steps_looked m said a b new r looks here (idle (looks.told.told here)) counts (builds ask tells sure)
 
 -- a run that stops
-pub stops : {W : Type 0} (m : Meaning W) (said : Words) (old new : W) (r : Result Report Stop) (P : Stop → Type 0) → IsErrAnd r P → EndsBefore m old new
-    → RunBuilds m said old new r
+pub stops : {W : Type 0} (m : Meaning W) (said : Words) (old new : W) (r : Result Report Stop) (P : Stop → Type 0) → IsErrAnd r P
+    → EndsBefore m old new → RunBuilds m said old new r
 stops m said old new (Ok report) P is ends = absurd is
 stops m said old new (Err stop) P is ends = λ ask tells sure. ends
 
-pub stops_begun : {W : Type 0} (m : Meaning W) (said : Words) (old new : W) (r : Result Report Stop) (P : Stop → Type 0) → IsErrAnd r P → BeginsStore m old new
-    → RunBuilds m said old new r
-stops_begun m said old new r P is begins = stops m said old new r P is (inr (record { looked = old; looks = looks_same m old; begins = begins }))
+pub stops_begun : {W : Type 0} (m : Meaning W) (said : Words) (old new : W) (r : Result Report Stop) (P : Stop → Type 0) → IsErrAnd r P
+    → BeginsStore m old new → RunBuilds m said old new r
+stops_begun m said old new r P is begins =
+    stops m said old new r P is (inr (record { looked = old; looks = looks_same m old; begins = begins }))
 
 -- a run that builds isn't asked to do these
 pub no_help : {P : Type 0} (said : Words) → said.help ≡ true → AskForBuild said → P

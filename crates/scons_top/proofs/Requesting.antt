@@ -13,15 +13,16 @@ use Rattle.scons_top.specs.declared.requests.Request.{Request}
 
 nodes_more : (g h : RuleGraph) (nodes : List NodeId) → HasMore g h → AreNodes g nodes → AreNodes h nodes
 nodes_more g h nodes more all =
-    All-weaker (λ (node : NodeId). node.0 < length g.nodes) (λ (node : NodeId). node.0 < length h.nodes) (λ node below. omega arith) nodes all
+    let is_node = λ (k : RuleGraph) (node : NodeId). node.0 < length k.nodes in
+    All-weaker (is_node g) (is_node h) (λ node below. omega arith) nodes all
 
 asks_more : (g h : RuleGraph) (requests : List Request) → HasMore g h → AskForNodes g requests → AskForNodes h requests
 asks_more g h requests more all =
     All-weaker (AsksForNodes g) (AsksForNodes h) (λ (request : Request) asks. nodes_more g h request.nodes.items more asks) requests all
 
 -- one request more
-pub asks_pushed : (g h : RuleGraph) (old new : List Request) (request : Request) → HasMore g h → new ≡ old ++ request ∷ [] → AskForNodes g old
-    → AsksForNodes h request → AskForNodes h new
+pub asks_pushed : (g h : RuleGraph) (old new : List Request) (request : Request) → HasMore g h → new ≡ old ++ request ∷ []
+    → AskForNodes g old → AsksForNodes h request → AskForNodes h new
 asks_pushed g h old new request more same all one =
     subst (AskForNodes h) (sym same) (All-push (AsksForNodes h) old request (asks_more g h old more all) one)
 
@@ -34,5 +35,5 @@ pub are_below_all : (g : RuleGraph) (nodes : List NodeId) → AreNodes g nodes �
 are_below_all g [] all = refl
 are_below_all g (node ∷ nodes) all =
     let P = λ (n : NodeId). n.0 < length g.nodes in
-    both (nat_lt node.0 (length g.nodes)) (are_below (length g.nodes) nodes) (lt-ltb node.0 (length g.nodes) (All-head P node nodes all))
-    (are_below_all g nodes (All-tail P node nodes all))
+    both (nat_lt node.0 (length g.nodes)) (are_below (length g.nodes) nodes)
+    (lt-ltb node.0 (length g.nodes) (All-head P node nodes all)) (are_below_all g nodes (All-tail P node nodes all))

@@ -21,45 +21,45 @@ pub record AskForBuild (said : Words) : Type 0 where
   pub clean : said.clean ≡ false
   pub dry : said.dry ≡ false
 
--- The store was begun, or that was refused: no file was changed, and the banks read as they did, also where a stop came
+-- What they want made: these nodes of a graph, by as many jobs, going on or not after a fault, and with the digests that they say.
+abbrev pub wanted_by : Words → RuleGraph → List NodeId → Wanted
+wanted_by said g requested =
+    record { graph = g; requested = requested; jobs = said.jobs; keep = said.keep; hash = said.hash }
+
+-- The store was begun, or the signature file refused: no file was changed, and the banks read as before, also where a stop came
 -- meanwhile.
 pub record BeginsStore {W : Type 0} (m : Meaning W) (old new : W) : Type 0 where
   pub around : m.tells new → m.around new ≡ m.around old
   pub reads : m.tells new → ReadsAsBefore m old new
   pub moments : BeginsThroughout m old new
 
--- The run looked at the world, and then began the store.
+-- A run looked at the world, and then began the store.
 pub record LooksAndBegins {W : Type 0} (m : Meaning W) (old new : W) : Type 0 where
   pub looked : W
   pub looks : Looks m old looked
   pub begins : BeginsStore m looked new
 
--- It ended before it built: it only looked, or began the store too.
+-- A run ended before it built: it only looked, or it began the store too.
 abbrev pub EndsBefore : {W : Type 0} → Meaning W → W → W → Type 0
 EndsBefore m old new = Looks m old new ⊎ LooksAndBegins m old new
 
--- The words' build of these nodes of a graph.
-abbrev pub wanted_by : Words → RuleGraph → List NodeId → Wanted
-wanted_by said g requested =
-    record { graph = g; requested = requested; jobs = said.jobs; keep = said.keep; hash = said.hash }
-
--- It built nodes of a graph, that of the scripts, from what it found around and the records of the banks; and with status 0
--- that succeeded.
+-- A run built nodes of a graph, from the world as the run found it and the records that its banks held then; and where it answers
+-- status 0, the build succeeded.
 pub record HasBuilt {W : Type 0} (m : Meaning W) (said : Words) (old new : W) (status : ℕ) : Type 0 where
   pub graph : RuleGraph
   pub requested : List NodeId
   pub are_nodes : are_below (length graph.nodes) requested ≡ true
-  -- the records that it left
+  -- the records of the store when it was done
   pub kept : Map
   pub runs : HasRun m (wanted_by said graph requested) (image_in (m.seen old)) old new kept
   pub succeeds : status ≡ 0 → HasSucceeded m (wanted_by said graph requested) (image_in (m.seen old)) old new kept
 
--- In a world that tells and is sure a run built, or it ended before and says so by its status.
+-- A run that is asked for a build, in a world that tells and is sure, builds, or it ends before and its status says so.
 abbrev pub Builds : {W : Type 0} → Meaning W → Words → W → W → Report → Type 0
 Builds m said old new report = AskForBuild said → m.tells new → m.sure new →
     HasBuilt m said old new report.status ⊎ ((report.status ≢ 0) × EndsBefore m old new)
 
--- the same of a step that stops where there is no report yet
+-- The same of its steps: where one stops, there is no report yet.
 abbrev pub BuildsOrStops : {W : Type 0} → Meaning W → Words → W → W → Result Report Stop → Type 0
 BuildsOrStops m said old new (Ok report) = HasBuilt m said old new report.status
 BuildsOrStops m said old new (Err stop) = EndsBefore m old new

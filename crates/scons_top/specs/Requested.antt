@@ -13,6 +13,10 @@ AreNodes g nodes = All (λ node. node.0 < length g.nodes) nodes
 abbrev pub GivesNodes : {A E : Type 0} → RuleGraph → Result (Vec NodeId A) E → Type 0
 GivesNodes g result = IfOk result (λ found. AreNodes g found.items)
 
+-- where there were no others before, there are none with those that were added
+abbrev pub AddsNodes : {A : Type 0} → RuleGraph → Vec NodeId A → Vec NodeId A → Type 0
+AddsNodes g old new = AreNodes g old.items → AreNodes g new.items
+
 -- paths with the numbers of nodes
 abbrev pub HaveNodes : RuleGraph → List (List ℕ × NodeId) → Type 0
 HaveNodes g targets = All (λ target. target.1.0 < length g.nodes) targets

@@ -1,7 +1,7 @@
 //! The targets below directories.
 ghost use Rattle.std.specs.Prelude.{◌≤◌, length, IfOk};
 ghost use Rattle.rule_graph.specs.Graphs.{RuleGraph};
-ghost use Rattle.scons_top.specs.Requested.{AreNodes, GivesNodes, HaveNodes, KnowsNodes};
+ghost use Rattle.scons_top.specs.Requested.{AddsNodes, GivesNodes, HaveNodes, KnowsNodes};
 
 use build_files::{path_of, rule_at};
 use indexmap::IndexSet;
@@ -52,7 +52,7 @@ impl Below {
         nodes: &mut Vec<NodeId>,
     ) -> Result<(), Memory>
         ensures knows { KnowsNodes graph.now self.old → KnowsNodes graph.now self.new }
-        ensures nodes { KnowsNodes graph.now self.old → AreNodes graph.now nodes.old.items → AreNodes graph.now nodes.new.items }
+        ensures nodes { KnowsNodes graph.now self.old → AddsNodes graph.now nodes.old nodes.new }
     {
         if graph.rule_of(member).is_some() {
             nodes.push(member)?;

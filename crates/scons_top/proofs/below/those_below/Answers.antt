@@ -8,14 +8,16 @@ use Rattle.scons_top.proofs.below.those_below.Goals.{then-is_below+in_ok-push, e
 pub loop-path-preserved : goal.loop-path-preserved
 loop-path-preserved c = λ graph known.
     let P = λ (target : List ℕ × NodeId). target.1.0 < length graph.nodes in
+    let are = λ (nodes : Vec NodeId Global). AreNodes graph nodes.items in
+    let targets = c.args.targets.now in
+    let first = c.in_ok-first.first in
+    let item = c.loop-path-item in
     let before = c.loop-path.invariant graph known in
     elim c.if-is_below.branch [
       | then-is_below+in_ok-push w ↦
-          let item = c.loop-path-item in
-          let first = c.in_ok-first.first in
-          let rest = All-take P (length c.args.targets.now - first) (drop first c.args.targets.now) (All-drop P first c.args.targets.now known) in
+          let rest = All-take P (length targets - first) (drop first targets) (All-drop P first targets known) in
           let one : P item.result = subst P (sym item.is) (All-get_or P _ c.loop-path.path-index item.result c.loop-path-test.true rest) in
-          subst (λ (nodes : Vec NodeId Global). AreNodes graph nodes.items) (sym w.nodes-is)
-          (subst (AreNodes graph) (sym w.in_ok-push.ensures.items) (All-push (λ (node : NodeId). node.0 < length graph.nodes) _ _ before one))
-      | else-is_below+else-not-is_top w ↦ subst (λ (nodes : Vec NodeId Global). AreNodes graph nodes.items) (sym w.nodes-is) before
+          let all = All-push (λ (node : NodeId). node.0 < length graph.nodes) c.loop-path.nodes.items item.result.1 before one in
+          subst are (sym w.nodes-is) (subst (AreNodes graph) (sym w.in_ok-push.ensures.items) all)
+      | else-is_below+else-not-is_top w ↦ subst are (sym w.nodes-is) before
     ]

@@ -44,8 +44,10 @@ pub returns-clause-builds : goal.returns-clause-builds
 returns-clause-builds g c = λ asks ask tells sure.
     let graph = c.args.graph.now in
     let requested = c.as_slice.result.now in
-    let told = c.build-end.ensures.told.told tells in
     let nodes = subst (AreNodes graph) (sym c.as_slice.ensures.value) (c.in_ok-nodes.ensures graph asks) in
-    build_done g.W.Disk.meaning c.args.words.now graph requested (map_of c.in_ok-store.store) c.args.world.now c.begin_store.new.world c.build-end.new.world
-    (map_of c.build-end.new.store) c.build-end.result c.closed.result.status c.begin_store.ensures.begins told c.in_ok-store.ensures.step
-    (c.in_ok-store.ensures.map told) (are_below_all graph requested nodes) c.closed.ensures.well tells sure c.build-end.ensures.runs c.build-end.ensures.succeeds
+    let store = c.in_ok-store in
+    let end = c.build-end in
+    let told = end.ensures.told.told tells in
+    build_done g.W.Disk.meaning c.args.words.now graph requested (map_of store.store) c.args.world.now c.begin_store.new.world end.new.world
+    (map_of end.new.store) end.result c.closed.result.status store.ensures.begins told store.ensures.step (store.ensures.map told)
+    (are_below_all graph requested nodes) c.closed.ensures.well tells sure end.ensures.runs end.ensures.succeeds

@@ -22,8 +22,8 @@ pub returns-in-Some-clause-builds : goal.returns-in-Some-clause-builds
 returns-in-Some-clause-builds g c = λ said is.
     let words = c.in_ok-words.words in
     let world = c.args.world.now in
-    subst (λ (s : Words). RunBuilds g.W.Disk.meaning s world world c.load.result) (words_said (read c.args.words.now) words said c.in_ok-words.ensures.ok is)
-    (no_load words c.in-Some.rules c.in-Some.is)
+    subst (λ (s : Words). RunBuilds g.W.Disk.meaning s world world c.load.result)
+    (words_said (read c.args.words.now) words said c.in_ok-words.ensures.ok is) (no_load words c.in-Some.rules c.in-Some.is)
 
 pub returns-clause-builds : goal.returns-clause-builds
 returns-clause-builds g c = λ said is.
