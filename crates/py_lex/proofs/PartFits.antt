@@ -1,5 +1,5 @@
 -- How much of a script an f-text takes.
-use Rattle.std.proofs.Common.{arith, ◌≡◌, ◌<◌, ◌+◌, ◌*◌, ◌^◌, ℕ, List, Bool, true, false, length, refl, subst, sym, ap, ◌∙◌}
+use Rattle.std.proofs.Common.{arith, ◌≡◌, ◌<◌, ◌+◌, ℕ, List, Bool, true, false, length, refl, subst, sym, ap, ◌∙◌}
 use Rattle.std.specs.Borrow.{Bor}
 use Rattle.std.specs.declared.vec.Vec.{Vec}
 use Rattle.std.specs.declared.alloc.Global.{Global}
@@ -18,8 +18,8 @@ use Rattle.py_lex.specs.Steps.{State, mode_behind}
 use Rattle.py_lex.specs.Views.{part_of}
 
 module _ {p : Part} {field : Bool} {value : Vec ℕ Global} {lines : ℕ} {rest : Bor (List ℕ)} (e : p ≡ part.Ends field value lines rest) where
-  pub part_fits : {bytes : List ℕ} → FitsInPart bytes p → lines + length rest.now < length bytes
-  part_fits {bytes = bytes} f = let g : FitsInPart bytes (part.Ends field value lines rest) = subst (λ q. FitsInPart bytes q) e f in g
+  pub part_fits : (bytes : List ℕ) → FitsInPart bytes p → lines + length rest.now < length bytes
+  part_fits bytes f = let g : FitsInPart bytes (part.Ends field value lines rest) = subst (λ q. FitsInPart bytes q) e f in g
 
   pub part_read : {style : Style} {bytes : List ℕ} → Parts style bytes (part_of p) → Parts style bytes (parts.ends field value.items lines rest.now)
   part_read {style = style} {bytes = bytes} r = subst (λ q. Parts style bytes (part_of q)) e r

@@ -1,5 +1,5 @@
 -- A piece of an f-text is read alike where the f-text is cut off behind its end, or behind the brace of a field.
-use Rattle.std.proofs.Common.{◌≡◌, ℕ, ◌+◌, Bool, true, false, ◌&&◌, ◌||◌, ◌==◌, List, [], ◌∷◌, ◌++◌, refl, sym, ap, ◌∙◌, subst, append_assoc}
+use Rattle.std.proofs.Common.{◌≡◌, ℕ, ◌+◌, Bool, true, false, ◌&&◌, ◌==◌, List, [], ◌∷◌, ◌++◌, refl, sym, ap, ◌∙◌, subst, append_assoc}
 use Rattle.std.specs.Prelude.{if◌then◌else◌}
 use Rattle.py_lex.specs.declared.piece.Style.{Style}
 use Rattle.py_lex.specs.declared.piece.Chars.{Chars}
@@ -10,7 +10,7 @@ use Rattle.py_lex.specs.declared.part.PartPiece.{PartPiece}
 use Rattle.py_lex.specs.declared.part.PartPiece.TheVariants.{Opens, Lone, Plain}
 use Rattle.py_lex.specs.Texts.{piece_at, bytes_of}
 use Rattle.py_lex.specs.Parts.{PartSpelling, ends, unclosed, refused, part_behind, opening_brace, closing_brace, begins_with_brace, plain_piece, part_piece_at, Parts, opens_field, closes_text, part_has_no_end, has_lone_brace, part_has_bad_escape, part_is_not_utf8, part_stands, part_ends_line}
-use Rattle.py_lex.proofs.Pieces.{Takes, TakesEnd, TakesPiece, Cuts, behind_first_cuts}
+use Rattle.py_lex.proofs.Pieces.{Takes, Cuts, behind_first_cuts}
 
 abbrev PartReader : Type 0
 PartReader = List ℕ → PartPiece × List ℕ

@@ -1,20 +1,20 @@
 -- What a part of an f-text stands for is UTF-8.
-use Rattle.std.proofs.Common.{◌≡◌, ℕ, ◌<◌, Bool, true, false, ◌&&◌, ◌==◌, List, [], ◌∷◌, refl, sym, ap, subst, arith}
+use Rattle.std.proofs.Common.{◌≡◌, ℕ, ◌<◌, Bool, true, false, ◌&&◌, ◌==◌, List, [], ◌∷◌, refl, sym, subst, arith}
 use Rattle.std.specs.Prelude.{if◌then◌else◌}
 use Rattle.std.specs.Str.{IsUtf8}
 use Rattle.std.proofs.lemmas.Bool.{eqb-true}
 use Rattle.std.proofs.lemmas.Str.{IsUtf8-nil}
 use Rattle.py_lex.specs.declared.piece.Style.{Style}
 use Rattle.py_lex.specs.declared.piece.Chars.TheVariants.{Byte}
-use Rattle.py_lex.specs.declared.piece.Piece.TheVariants.{Closes, Unclosed, BadEscape, NotUtf8, Stands, EndsLine}
+use Rattle.py_lex.specs.declared.piece.Piece.TheVariants.{Closes, Stands, EndsLine}
 use Rattle.py_lex.specs.declared.part.PartPiece.{PartPiece}
 use Rattle.py_lex.specs.declared.part.PartPiece.TheVariants.{Opens, Lone, Plain}
 use Rattle.py_lex.specs.Texts.{bytes_of, piece_at, Spelling, closed, behind}
 use Rattle.py_lex.specs.Texts as texts
-use Rattle.py_lex.specs.Parts.{PartSpelling, ends, unclosed, refused, part_behind, opening_brace, closing_brace, begins_with_brace, plain_piece, part_piece_at, Parts, opens_field, closes_text, part_has_no_end, has_lone_brace, part_has_bad_escape, part_is_not_utf8, part_stands, part_ends_line}
+use Rattle.py_lex.specs.Parts.{PartSpelling, ends, unclosed, refused, part_behind, opening_brace, closing_brace, begins_with_brace, part_piece_at, Parts, opens_field, closes_text, part_has_no_end, has_lone_brace, part_has_bad_escape, part_is_not_utf8, part_stands, part_ends_line}
 use Rattle.py_lex.specs.Utf8.{IsClean}
 use Rattle.py_lex.proofs.Clean.{clean_next, ascii_byte}
-use Rattle.py_lex.proofs.TextUtf8.{CoversEnd, PieceCovers, PieceIs, own_byte, put, piece_covers, Rest, covered, ended, either}
+use Rattle.py_lex.proofs.TextUtf8.{CoversEnd, PieceCovers, own_byte, put, piece_covers, Rest, covered, ended, either}
 
 -- a piece stands for its own bytes, or for other text; a brace that opens a field is one byte
 abbrev PartCovers : PartPiece → List ℕ → List ℕ → Type 0

@@ -13,21 +13,21 @@ returns-in-Opens-clause-parts c =
 pub returns-in-Plain-Closes-clause-parts : goal.returns-in-Plain-Closes-clause-parts
 returns-in-Plain-Closes-clause-parts c =
     subst (λ p. Parts c.args.style c.args.bytes.now (part_of p)) (sym c.ended-in-Plain-Closes.ensures)
-    (closed_at c.part.invariant c.next_part_piece-piece.ensures.piece c.next_part_piece-piece.ensures.rest (c.in-Plain-Closes.is ∙ ap Plain c.in-Plain-Closes.field-0-is))
+    (closed_at c.part.invariant c.next_part_piece-piece.ensures.piece c.next_part_piece-piece.ensures.rest (c.in-Plain-Closes.is ∙ ap Plain (rw c.in-Plain-Closes.is at c.in-Plain-Closes.field-0-is)))
 
 pub returns-in-Plain-Unclosed-clause-parts : goal.returns-in-Plain-Unclosed-clause-parts
 returns-in-Plain-Unclosed-clause-parts c =
-    unclosed_at c.part.invariant c.next_part_piece-piece.ensures.piece c.next_part_piece-piece.ensures.rest (c.in-Plain-Unclosed.is ∙ ap Plain c.in-Plain-Unclosed.field-0-is)
+    unclosed_at c.part.invariant c.next_part_piece-piece.ensures.piece c.next_part_piece-piece.ensures.rest (c.in-Plain-Unclosed.is ∙ ap Plain (rw c.in-Plain-Unclosed.is at c.in-Plain-Unclosed.field-0-is))
 
 pub returns-in-Plain-BadEscape-clause-parts : goal.returns-in-Plain-BadEscape-clause-parts
 returns-in-Plain-BadEscape-clause-parts c =
     subst (λ p. Parts c.args.style c.args.bytes.now (part_of p)) (sym c.refused.ensures)
-    (bad_escape_at c.part.invariant c.next_part_piece-piece.ensures.piece c.next_part_piece-piece.ensures.rest (c.in-Plain-BadEscape.is ∙ ap Plain c.in-Plain-BadEscape.field-0-is))
+    (bad_escape_at c.part.invariant c.next_part_piece-piece.ensures.piece c.next_part_piece-piece.ensures.rest (c.in-Plain-BadEscape.is ∙ ap Plain (rw c.in-Plain-BadEscape.is at c.in-Plain-BadEscape.field-0-is)))
 
 pub returns-in-Plain-NotUtf8-clause-parts : goal.returns-in-Plain-NotUtf8-clause-parts
 returns-in-Plain-NotUtf8-clause-parts c =
     subst (λ p. Parts c.args.style c.args.bytes.now (part_of p)) (sym c.refused-in-Plain-NotUtf8.ensures)
-    (not_utf8_at c.part.invariant c.next_part_piece-piece.ensures.piece c.next_part_piece-piece.ensures.rest (c.in-Plain-NotUtf8.is ∙ ap Plain c.in-Plain-NotUtf8.field-0-is))
+    (not_utf8_at c.part.invariant c.next_part_piece-piece.ensures.piece c.next_part_piece-piece.ensures.rest (c.in-Plain-NotUtf8.is ∙ ap Plain (rw c.in-Plain-NotUtf8.is at c.in-Plain-NotUtf8.field-0-is)))
 
 pub returns-in-Lone-clause-parts : goal.returns-in-Lone-clause-parts
 returns-in-Lone-clause-parts c =
@@ -36,8 +36,8 @@ returns-in-Lone-clause-parts c =
 
 pub part-preserved-in_ok-push_chars-in-Plain-Stands : goal.part-preserved-in_ok-push_chars-in-Plain-Stands
 part-preserved-in_ok-push_chars-in-Plain-Stands c =
-    leads_on c.part.invariant c.next_part_piece-piece.ensures.piece c.next_part_piece-piece.ensures.rest _ _ (c.in-Plain-Stands.is ∙ ap Plain c.in-Plain-Stands.field-0-is) c.in_ok-push_chars-in-Plain-Stands.ensures (c.next_part_piece-piece.ensures.shorter (search rules))
+    leads_on c.part.invariant c.next_part_piece-piece.ensures.piece c.next_part_piece-piece.ensures.rest _ _ (c.in-Plain-Stands.is ∙ ap Plain (rw c.in-Plain-Stands.is at c.in-Plain-Stands.field-0-is)) c.in_ok-push_chars-in-Plain-Stands.ensures (c.next_part_piece-piece.ensures.shorter (search rules))
 
 pub part-preserved : goal.part-preserved
 part-preserved c =
-    leads_on_line c.part.invariant c.next_part_piece-piece.ensures.piece c.next_part_piece-piece.ensures.rest _ _ (c.in-Plain-EndsLine.is ∙ ap Plain c.in-Plain-EndsLine.field-0-is) c.in_ok-push_chars-in-Plain-EndsLine.ensures (c.next_part_piece-piece.ensures.shorter (search rules))
+    leads_on_line c.part.invariant c.next_part_piece-piece.ensures.piece c.next_part_piece-piece.ensures.rest _ _ (c.in-Plain-EndsLine.is ∙ ap Plain (rw c.in-Plain-EndsLine.is at c.in-Plain-EndsLine.field-0-is)) c.in_ok-push_chars-in-Plain-EndsLine.ensures (c.next_part_piece-piece.ensures.shorter (search rules))
