@@ -14,9 +14,9 @@ use Rattle.build_run.specs.Outs.{AreOut, KeepsSome, ShareNone}
 use Rattle.build_run.specs.Sites.{records_of}
 use Rattle.build_run.specs.Withdrawals.{HasNone}
 use Rattle.build_run.specs.declared.site.Site.{Site}
-use Rattle.build_run.proofs.Booking.{KeepsBook, TakesAway, in_among, store_book}
+use Rattle.build_run.proofs.Booking.{KeepsBook, TakesAway, store_book}
 use Rattle.build_run.proofs.Choosing.{map_beside}
-use Rattle.build_run.proofs.Outs.{outs_front, unheld_still}
+use Rattle.build_run.proofs.Outs.{in_among, outs_front, unheld_still}
 use Rattle.build_run.proofs.Starting.{IsLeftSo, all_left, none_left, store_shut}
 
 module _ {W O E : Type 0} (m : Meaning W) (old now : Site W O E) (store : Store) (targets : List Path)
