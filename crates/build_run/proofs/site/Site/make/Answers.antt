@@ -1,7 +1,7 @@
 use Rattle.build_run.proofs.Begun.{starts_behind}
 use Rattle.build_run.proofs.Stopping.{site_rests}
 use Rattle.build_run.proofs.Turning.{site_saw}
-use Rattle.std.proofs.Common.{◌∙◌, [], refl, sym}
+use Rattle.std.proofs.Common.{◌∙◌, refl, sym}
 use Rattle.build_model.proofs.Lists.{true_false}
 use Rattle.build_files.proofs.Truths.{asked}
 use Rattle.turn_means.specs.Standing.{begun_at}
