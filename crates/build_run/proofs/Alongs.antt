@@ -16,7 +16,7 @@ use Rattle.build_model.proofs.Lists.{true_false}
 use Rattle.run_means.specs.Clears.{Clears}
 use Rattle.turn_means.specs.Standing.{Outset, IsOutset, Standing}
 use Rattle.turn_means.proofs.Turns.{ends, halts}
-use Rattle.build_run.specs.Along.{ComesOn, EndsOn, HoldsFewer, KeepsKnown, StandsPut, was_put, was_refused, GoesAlong, GoesOn, GoesWell, IsAlong, IsEnd, IsOn, IsReliable, IsWantedOf, Leads, RestsAlong, StaysAlong, StepsOr, Tells, TellsAlong, is_faulted, standing_of, stepped, wanted}
+use Rattle.build_run.specs.Along.{ComesOn, EndsOn, HoldsFewer, KeepsKnown, StandsPut, GoesAlong, GoesOn, GoesWell, IsAlong, IsEnd, IsOn, IsReliable, IsWantedOf, Leads, RestsAlong, StaysAlong, StepsOr, Tells, TellsAlong, is_faulted, standing_of, stepped, wanted}
 use Rattle.sign_store.specs.Stores.{KeepsTickets}
 use Rattle.build_run.specs.Books.{Book, AreBooked, book_of}
 use Rattle.build_run.specs.Sites.{KeepsRecords, SitePuts, most_jobs}
@@ -25,7 +25,7 @@ use Rattle.build_run.specs.declared.account.Account.{Account}
 use Rattle.build_run.specs.declared.site.Site.{Site}
 use Rattle.build_run.proofs.Clearing.{clears_same}
 use Rattle.build_run.proofs.Booking.{clears_booked, halts_booked, puts_book}
-use Rattle.build_run.proofs.EndingOn.{not_before, put_on, put_well}
+use Rattle.build_run.proofs.EndingOn.{put_on, put_well}
 
 -- What came of a turn was told to this plan and this account.
 pub record ToldTo {W O E : Type 0} (m : Meaning W) (o : Outset) (old : Site W O E) (plan : Planned) (account : Account) : Type 0 where
