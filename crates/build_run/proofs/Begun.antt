@@ -28,7 +28,8 @@ use Rattle.build_run.proofs.Safely.{safe_on, safely_here}
 use Rattle.build_run.proofs.Stopping.{site_looked}
 
 -- the store alone is another, with the same tickets
-pub site_kept : {W O E : Type 0} (m : Meaning W) → HasOnlyNow m → (a b : Site W O E) → b.world.now ≡ a.world.now → KeepsTickets a.store.now b.store.now →
+pub site_kept : {W O E : Type 0} (m : Meaning W) → HasOnlyNow m → (a b : Site W O E) → b.world.now ≡ a.world.now →
+    KeepsTickets a.store.now b.store.now →
     b.run.now.held ≡ a.run.now.held → b.run.now.tickets ≡ a.run.now.tickets →
     (b.account.now.is_store_shut ≡ false → a.account.now.is_store_shut ≡ false) → SiteGoesSafely m a b
 site_kept {W} m only a b world keeps held same unshut =
@@ -37,23 +38,27 @@ site_kept {W} m only a b world keeps held same unshut =
     (clears_around m [] a.world.now b.world.now (λ t. ap (λ (w : W). m.around w) world)) keeps
     (λ busy h. subst (λ (all : List Busy). Contains all busy) held h) same unshut
 
-given_on : (old new : Tree) (paths : List Path) → ((path : Path) → Contains paths path → new path ≡ old path) → given_of new paths ≡ given_of old paths
+given_on : (old new : Tree) (paths : List Path) → ((path : Path) → Contains paths path → new path ≡ old path) →
+    given_of new paths ≡ given_of old paths
 given_on old new [] same = refl
 given_on old new (p ∷ paths) same =
     ap (λ (c : Content). (p, c) ∷ given_of new paths) (same p (at_front paths p))
     ∙ ap (λ l. (p, old p) ∷ l) (given_on old new paths (λ q h. same q (further paths p q h)))
 
-met_at : (around : Around) → HasMet around → (path : Path) → (IsRunningTarget around.running path → ⊥) → (c : Content) → around.tree path ≡ c → IsMet around.met c
+met_at : (around : Around) → HasMet around → (path : Path) → (IsRunningTarget around.running path → ⊥) → (c : Content) →
+    around.tree path ≡ c → IsMet around.met c
 met_at around met path still None e = tt
 met_at around met path still (Some bytes) e = contains_among around.met (met path bytes e still)
 
-given_met : (around : Around) → HasMet around → (paths : List Path) → ((path : Path) → Contains paths path → IsRunningTarget around.running path → ⊥) →
+given_met : (around : Around) → HasMet around → (paths : List Path) →
+    ((path : Path) → Contains paths path → IsRunningTarget around.running path → ⊥) →
     (x : Path × Content) → Among x (given_of around.tree paths) → IsMet around.met x.1
 given_met around met [] still x h = elim h [ ]
 given_met around met (p ∷ paths) still x here = met_at around met p (still p (at_front paths p)) (around.tree p) refl
 given_met around met (p ∷ paths) still x (there h) = given_met around met paths (λ q k. still q (further paths p q k)) x h
 
-pub own_launched : (s : Setting) (job : Job) (counts : Counts) (old new : Around) (rec : Rec) (store : Store) (busy : Busy) → Launches job counts old new →
+pub own_launched : (s : Setting) (job : Job) (counts : Counts) (old new : Around) (rec : Rec) (store : Store) (busy : Busy) →
+    Launches job counts old new →
     IsOverFiles s old rec → IsTicket store rec busy.ticket → job.work ≡ rec.work → job.signed ≡ rec.signed → job.targets ≡ rec.targets →
     job.deps ≡ map name_of rec.deps → rec.targets ≡ busy.hold.targets → job.id ≡ busy.hold.rule.0 →
     ((run : Running) → Contains old.running run → run.job.id ≢ job.id) → HasOwnRecord s store new busy
@@ -61,10 +66,11 @@ own_launched s job counts old new rec store busy launch over ticket work signed 
   rec = rec;
   is = ticket;
   targets = made;
-  each = λ run h own. elim (in_pushed launch.mid.running started run (subst (λ (runs : List Running). Contains runs run) launch.starts.running h)) [
-    | inl before ↦ absurd (other run (subst (λ (runs : List Running). Contains runs run) launch.clears.running before) (own ∙ sym id))
-    | inr same ↦ subst (λ (r : Running). IsTicketOf s new.met r rec) same ticket_of
-  ];
+  each = λ run h own. elim (in_pushed launch.mid.running started run
+      (subst (λ (runs : List Running). Contains runs run) launch.starts.running h)) [
+        | inl before ↦ absurd (other run (subst (λ (runs : List Running). Contains runs run) launch.clears.running before) (own ∙ sym id))
+        | inr same ↦ subst (λ (r : Running). IsTicketOf s new.met r rec) same ticket_of
+      ];
 }
   where
     started : Running
@@ -74,7 +80,8 @@ own_launched s job counts old new rec store busy launch over ticket work signed 
     given_same =
         ap (given_of launch.mid.tree) deps
         ∙ given_on old.tree launch.mid.tree (map name_of rec.deps)
-        (λ path h. launch.clears.files path (over.still path h) (λ t. over.apart path (subst (λ (all : List Path). Contains all path) targets t) h))
+        (λ path h. launch.clears.files path (over.still path h)
+        (λ t. over.apart path (subst (λ (all : List Path). Contains all path) targets t) h))
 
     ticket_of : IsTicketOf s new.met (record { job = job; given = given_of launch.mid.tree job.deps }) rec
     ticket_of = record {
@@ -89,7 +96,8 @@ own_launched s job counts old new rec store busy launch over ticket work signed 
 -- a look leaves a record that of what its dependencies hold
 pub over_asked : (s : Setting) (old new : Around) (rec : Rec) → Asks old new → IsOverFiles s old rec → IsOverFiles s new rec
 over_asked s old new rec asks over = record {
-  digests = ap (map (digested s (record_in rec).hash)) (given_on old.tree new.tree (map name_of rec.deps) (λ path h. asks.files path (over.still path h)))
+  digests = ap (map (digested s (record_in rec).hash))
+      (given_on old.tree new.tree (map name_of rec.deps) (λ path h. asks.files path (over.still path h)))
       ∙ over.digests;
   met = λ path bytes e free.
       let was_free = was path free in

@@ -22,6 +22,7 @@ use Rattle.build_run.specs.Safe.{AreSafeIn, HasOwnRecord, HasTrueRecord, IsSafeN
 use Rattle.build_run.specs.declared.account.Account.{Account}
 use Rattle.build_run.specs.declared.tickets.Hold.{Hold}
 use Rattle.build_run.proofs.Holding.{at_front, further, in_front, in_pushed}
+use Rattle.build_run.proofs.Safely.{ends_surely}
 use Rattle.build_run.proofs.Stopping.{same_tickets}
 
 module _ (s : Setting) (ended : Ended) (old new : Around) (store after : Store) (keeps : KeepsTickets store after)
@@ -44,7 +45,8 @@ module _ (s : Setting) (ended : Ended) (old new : Around) (store after : Store) 
         (λ path h target. t.true_now.still path h (ran_before path target));
   }
 
-  pub own_ended : ((run : Running) → Contains new.running run → Contains old.running run) → HasOwnRecord s store old busy → HasOwnRecord s after new busy
+  pub own_ended : ((run : Running) → Contains new.running run → Contains old.running run) → HasOwnRecord s store old busy →
+      HasOwnRecord s after new busy
   own_ended within t = record {
     rec = t.rec;
     is = keeps.each t.rec busy.ticket t.is;
@@ -76,12 +78,6 @@ module _ (s : Setting) (ended : Ended) (old new : Around) (store after : Store) 
       which_ran = subst (λ (runs : List Running). Contains runs ends.which) (sym ends.was)
           (Contains-append_right ends.front (ends.which ∷ ends.back) ends.which (at_front ends.back ends.which))
 
-ends_surely : {sure : Type 0} (ended : Ended) (old new : Around) → sure → Ends sure ended old new → Ends (Unit {0}) ended old new
-ends_surely ended old new is e = record {
-  front = e.front; which = e.which; back = e.back; was = e.was; running = e.running; id = e.id; files = e.files; stamps = e.stamps;
-  dirs = e.dirs; made = λ x. e.made is; log = e.log; met = e.met; met_only = e.met_only; law = e.law; top = e.top;
-}
-
 moved : (front back : List Running) (x y : Running) → Contains (front ++ back) y → Contains (front ++ x ∷ back) y
 moved [] back x y h = further back x y h
 moved (first ∷ front) back x y h = elim (in_front (front ++ back) first y h) [
@@ -92,11 +88,13 @@ moved (first ∷ front) back x y h = elim (in_front (front ++ back) first y h) [
 pub mapped : (running : List Running) (run : Running) → Contains running run → Contains (holds_of running) (hold_of run)
 mapped [] run h = absurd (omega (arith, h.1))
 mapped (first ∷ running) run h = elim (in_front running first run h) [
-  | inl same ↦ subst (λ (r : Running). Contains (hold_of first ∷ holds_of running) (hold_of r)) same (at_front (holds_of running) (hold_of first))
+  | inl same ↦ subst (λ (r : Running). Contains (hold_of first ∷ holds_of running) (hold_of r)) same
+      (at_front (holds_of running) (hold_of first))
   | inr more ↦ further (holds_of running) (hold_of first) (hold_of run) (mapped running run more)
 ]
 
-held_back : (busies : List Busy) (hold : Hold) → Contains (holds_in busies) hold → (busy : Busy) × Contains busies busy × (busy.hold ≡ hold)
+held_back : (busies : List Busy) (hold : Hold) → Contains (holds_in busies) hold →
+    (busy : Busy) × Contains busies busy × (busy.hold ≡ hold)
 held_back [] hold h = absurd (omega (arith, h.1))
 held_back (first ∷ busies) hold h = elim (in_front (holds_in busies) first.hold hold h) [
   | inl same ↦ (first, at_front busies first, same)
@@ -105,20 +103,26 @@ held_back (first ∷ busies) hold h = elim (in_front (holds_in busies) first.hol
 
 -- no job that runs still writes what that one has made
 pub free_now : (running : List Running) (left : List Busy) (busy : Busy) → holds_of running ≡ holds_in left →
-    ((other : Busy) → Contains left other → IsBeside busy other) → (path : Path) → Contains busy.hold.targets path → IsRunningTarget running path → ⊥
+    ((other : Busy) → Contains left other → IsBeside busy other) → (path : Path) → Contains busy.hold.targets path →
+    IsRunningTarget running path → ⊥
 free_now running left busy same beside path h target =
-    let b = held_back left (hold_of target.0) (subst (λ (all : List Hold). Contains all (hold_of target.0)) same (mapped running target.0 target.1)) in
+    let b = held_back left (hold_of target.0)
+    (subst (λ (all : List Hold). Contains all (hold_of target.0)) same (mapped running target.0 target.1)) in
     (beside b.0 b.1).targets path h (subst (λ (hold : Hold). Contains hold.targets path) (sym b.2) target.2)
 
-pub are_ended : {W : Type 0} (m : Meaning W) (s : Setting) (ended : Ended) (old new : W) (store after : Store) (rest busies left : List Busy)
-    (was account : Account) → Told m old new → (m.tells new → EndsJob m ended old new) → KeepsTickets store after → HoldsFewer busies left →
+pub are_ended : {W : Type 0} (m : Meaning W) (s : Setting) (ended : Ended) (old new : W) (store after : Store)
+    (rest busies left : List Busy)
+    (was account : Account) → Told m old new → (m.tells new → EndsJob m ended old new) → KeepsTickets store after →
+    HoldsFewer busies left →
     (account.is_store_shut ≡ false → was.is_store_shut ≡ false) →
-    (m.tells old → m.sure old → AreSafeIn m s old store rest busies was) → m.tells new → m.sure new → AreSafeIn m s new after rest left account
+    (m.tells old → m.sure old → AreSafeIn m s old store rest busies was) → m.tells new → m.sure new →
+    AreSafeIn m s new after rest left account
 are_ended m s ended old new store after rest busies left was account told ends keeps fewer unshut safe tells sure =
     let before = safe (told.told tells) (told.sure tells sure) in
     let e = ends_surely ended (m.around old) (m.around new) sure (ends tells) in
     record {
-      held = λ opened busy h. true_ended s ended (m.around old) (m.around new) store after keeps e busy (before.held (unshut opened) busy h);
+      held = λ opened busy h. true_ended s ended (m.around old) (m.around new) store after keeps e busy
+          (before.held (unshut opened) busy h);
       tickets = λ busy h. own_ended s ended (m.around old) (m.around new) store after keeps e busy
           (λ run there. subst (λ (runs : List Running). Contains runs run) (sym e.was)
           (moved e.front e.back e.which run (subst (λ (runs : List Running). Contains runs run) e.running there)))
@@ -126,23 +130,26 @@ are_ended m s ended old new store after rest busies left was account told ends k
     }
 
 -- and where it was done its record is held
-pub are_done : {W : Type 0} (m : Meaning W) (s : Setting) (ended : Ended) (old new : W) (store : Store) (rest busies left : List Busy) (busy : Busy)
+pub are_done : {W : Type 0} (m : Meaning W) (s : Setting) (ended : Ended) (old new : W) (store : Store) (rest busies left : List Busy)
+    (busy : Busy)
     (account : Account) → Told m old new → (m.tells new → EndsJob m ended old new) → HoldsFewer busies left → Contains busies busy →
-    ended.outcome ≡ Done → ended.id ≡ busy.hold.rule.0 → IsSafeNow m s old → (m.tells new → holds_of (m.around new).running ≡ holds_in left) →
+    ended.outcome ≡ Done → ended.id ≡ busy.hold.rule.0 → IsSafeNow m s old →
+    (m.tells new → holds_of (m.around new).running ≡ holds_in left) →
     (account.is_store_shut ≡ false → (other : Busy) → Contains left other → IsBeside busy other) →
     (m.tells old → m.sure old → AreSafeIn m s old store rest busies account) → m.tells new → m.sure new →
     AreSafeIn m s new store (rest ++ busy ∷ []) left account
 are_done m s ended old new store rest busies left busy account told ends fewer among done id world runs beside safe tells sure =
     let before = safe (told.told tells) (told.sure tells sure) in
     let e = ends_surely ended (m.around old) (m.around new) sure (ends tells) in
-    let others = are_ended m s ended old new store store rest busies left account account told ends (same_tickets store) fewer (λ unshut. unshut) safe tells sure in
+    let others = are_ended m s ended old new store store rest busies left account account told ends (same_tickets store) fewer
+    (λ unshut. unshut) safe tells sure in
     record {
       held = λ opened other h. elim (in_pushed rest busy other h) [
         | inl more ↦ others.held opened other more
         | inr same ↦ subst (λ (b : Busy). HasTrueRecord s store (m.around new) b) same
-            (done_now s ended (m.around old) (m.around new) store store (same_tickets store) e busy done (world (told.told tells) (told.sure tells sure)).of.acts id
+            (done_now s ended (m.around old) (m.around new) store store (same_tickets store) e busy done
+            (world (told.told tells) (told.sure tells sure)).of.acts id
             (free_now (m.around new).running left busy (runs tells) (beside opened)) (before.tickets busy among))
       ];
       tickets = others.tickets;
     }
-

@@ -64,8 +64,10 @@ put_safe s around store (one ∷ more) map each safe =
     put_safe s around store more _ (λ busy h. each busy (further more one busy h))
     (subst (λ o. IsSafe s around (with_put o map)) (sym t.is.held.record_at) ((calls s map).puts around t.rec t.true_now safe))
 
-pub unset_safe : (s : Setting) (around : Around) (targets : List Path) (map : Map) → IsSafe s around map → IsSafe s around (with_each targets None map)
-unset_safe s around targets map safe = (calls s map).fewer around (with_each targets None map) (λ path. by path (is_among targets path)) safe
+pub unset_safe : (s : Setting) (around : Around) (targets : List Path) (map : Map) → IsSafe s around map →
+    IsSafe s around (with_each targets None map)
+unset_safe s around targets map safe =
+    (calls s map).fewer around (with_each targets None map) (λ path. by path (is_among targets path)) safe
   where
     by : (path : Path) (b : Bool) → (cond b None (map path) ≡ map path) ⊎ (cond b None (map path) ≡ None)
     by path true = inr refl
@@ -84,7 +86,8 @@ module _ (s : Setting) (paths : List Path) (old new : Around) (store after : Sto
     is = keeps.each t.rec busy.ticket t.is;
     targets = t.targets;
     true_now = true_stays s old new t.rec t.true_now met_on
-        (λ path h. clears.files path (t.true_now.still path h) (λ among. apart path among (subst (λ (all : List Path). Contains all path) t.targets h)))
+        (λ path h. clears.files path (t.true_now.still path h)
+        (λ among. apart path among (subst (λ (all : List Path). Contains all path) t.targets h)))
         (λ path h target. t.true_now.still path h (subst (λ (runs : List Running). IsRunningTarget runs path) clears.running target));
   }
 
@@ -98,10 +101,13 @@ module _ (s : Setting) (paths : List Path) (old new : Around) (store after : Sto
   }
 
 -- where files of these paths alone change, and none that is held is made there
-pub are_cleared : {W : Type 0} (m : Meaning W) (s : Setting) (paths : List Path) (old new : W) (store after : Store) (rest fewer busies : List Busy)
+pub are_cleared : {W : Type 0} (m : Meaning W) (s : Setting) (paths : List Path) (old new : W) (store after : Store)
+    (rest fewer busies : List Busy)
     (account was : Account) → Told m old new → ClearsAt m paths old new → KeepsTickets store after → HoldsFewer rest fewer →
-    (account.is_store_shut ≡ false → was.is_store_shut ≡ false) → ((busy : Busy) → Contains fewer busy → ShareNone paths busy.hold.targets) →
-    (m.tells old → m.sure old → AreSafeIn m s old store rest busies was) → m.tells new → m.sure new → AreSafeIn m s new after fewer busies account
+    (account.is_store_shut ≡ false → was.is_store_shut ≡ false) →
+    ((busy : Busy) → Contains fewer busy → ShareNone paths busy.hold.targets) →
+    (m.tells old → m.sure old → AreSafeIn m s old store rest busies was) → m.tells new → m.sure new →
+    AreSafeIn m s new after fewer busies account
 are_cleared m s paths old new store after rest fewer busies account was told clears keeps within unshut apart safe tells sure =
     let before = safe (told.told tells) (told.sure tells sure) in
     record {
@@ -118,7 +124,8 @@ none_shared busy path among = absurd (omega (arith, among.1))
 
 -- a site over calls on its world
 module _ {W O E : Type 0} (m : Meaning W) where
-  pub site_safely_on : (a b c : Site W O E) → Told m b.world.now c.world.now → SiteGoesSafely m a b → SiteGoesSafely m b c → SiteGoesSafely m a c
+  pub site_safely_on : (a b c : Site W O E) → Told m b.world.now c.world.now → SiteGoesSafely m a b → SiteGoesSafely m b c →
+      SiteGoesSafely m a c
   site_safely_on a b c told first then s safe =
       let one = first s safe in
       let two = then s one.now in
@@ -138,15 +145,19 @@ module _ {W O E : Type 0} (m : Meaning W) where
         moments = one.moments;
         now = record {
           world = one.now;
-          tickets = λ tells sure. subst (λ (all : List Busy). AreSafeIn m s b.world.now b.store.now b.run.now.held all b.account.now) (sym same)
-              (are_cleared m s paths a.world.now b.world.now a.store.now b.store.now a.run.now.held b.run.now.held a.run.now.tickets b.account.now a.account.now
+          tickets = λ tells sure. subst (λ (all : List Busy). AreSafeIn m s b.world.now b.store.now b.run.now.held all b.account.now)
+              (sym same)
+              (are_cleared m s paths a.world.now b.world.now a.store.now b.store.now a.run.now.held b.run.now.held a.run.now.tickets
+              b.account.now a.account.now
               told clears keeps within unshut apart safe.tickets tells sure);
         };
       }
 
   -- no call was made
-  pub site_rests : HasOnlyNow m → (a b : Site W O E) → b.world.now ≡ a.world.now → b.store.now ≡ a.store.now → b.run.now.held ≡ a.run.now.held →
-      b.run.now.tickets ≡ a.run.now.tickets → (b.account.now.is_store_shut ≡ false → a.account.now.is_store_shut ≡ false) → SiteGoesSafely m a b
+  pub site_rests : HasOnlyNow m → (a b : Site W O E) → b.world.now ≡ a.world.now → b.store.now ≡ a.store.now →
+      b.run.now.held ≡ a.run.now.held →
+      b.run.now.tickets ≡ a.run.now.tickets → (b.account.now.is_store_shut ≡ false → a.account.now.is_store_shut ≡ false) →
+      SiteGoesSafely m a b
   site_rests only a b world store held same unshut =
       site_called [] a b (subst (λ (w : W). Told m a.world.now w) (sym world) (told_here m a.world.now))
       (subst (λ (w : W). GoesSafely m a.world.now w) (sym world) (safely_here m only a.world.now))
@@ -157,18 +168,21 @@ module _ {W O E : Type 0} (m : Meaning W) where
   -- looks, and other calls that change none of their files
   pub site_looked : (a b : Site W O E) → Told m a.world.now b.world.now → GoesSafely m a.world.now b.world.now →
       ClearsAt m [] a.world.now b.world.now → KeepsTickets a.store.now b.store.now → HoldsFewer a.run.now.held b.run.now.held →
-      b.run.now.tickets ≡ a.run.now.tickets → (b.account.now.is_store_shut ≡ false → a.account.now.is_store_shut ≡ false) → SiteGoesSafely m a b
+      b.run.now.tickets ≡ a.run.now.tickets → (b.account.now.is_store_shut ≡ false → a.account.now.is_store_shut ≡ false) →
+      SiteGoesSafely m a b
   site_looked a b told goes clears keeps within same unshut =
       site_called [] a b told goes clears keeps within same unshut (λ busy h. none_shared busy)
 
   -- calls on the store
   pub site_stored : HasOnlyNow m → ((w : W) → m.tells w → IsImage m w (m.seen w)) → (a b : Site W O E) (map : Map) →
-      Told m a.world.now b.world.now → (m.tells b.world.now → m.around b.world.now ≡ m.around a.world.now) → IsKept m a.world.now a.store.now →
+      Told m a.world.now b.world.now → (m.tells b.world.now → m.around b.world.now ≡ m.around a.world.now) →
+      IsKept m a.world.now a.store.now →
       Throughout m a.world.now b.world.now (IsEither (m.around a.world.now) (map_of a.store.now) map) →
       ((s : Setting) → AreSafeIn m s a.world.now a.store.now a.run.now.held a.run.now.tickets a.account.now →
       IsSafe s (m.around a.world.now) (map_of a.store.now) → IsSafe s (m.around a.world.now) map) →
       KeepsTickets a.store.now b.store.now → HoldsFewer a.run.now.held b.run.now.held →
-      b.run.now.tickets ≡ a.run.now.tickets → (b.account.now.is_store_shut ≡ false → a.account.now.is_store_shut ≡ false) → SiteGoesSafely m a b
+      b.run.now.tickets ≡ a.run.now.tickets → (b.account.now.is_store_shut ≡ false → a.account.now.is_store_shut ≡ false) →
+      SiteGoesSafely m a b
   site_stored only reads a b map told around kept time so keeps within same unshut s safe =
       let one = safe_stored m s only reads a.world.now b.world.now a.store.now map told around kept time
       (λ tells sure was. so s (safe.tickets tells sure) was) safe.world in
@@ -176,9 +190,12 @@ module _ {W O E : Type 0} (m : Meaning W) where
         moments = one.moments;
         now = record {
           world = one.now;
-          tickets = λ tells sure. subst (λ (all : List Busy). AreSafeIn m s b.world.now b.store.now b.run.now.held all b.account.now) (sym same)
-              (are_cleared m s [] a.world.now b.world.now a.store.now b.store.now a.run.now.held b.run.now.held a.run.now.tickets b.account.now a.account.now
-              told (clears_around m [] a.world.now b.world.now around) keeps within unshut (λ busy h. none_shared busy) safe.tickets tells sure);
+          tickets = λ tells sure. subst (λ (all : List Busy). AreSafeIn m s b.world.now b.store.now b.run.now.held all b.account.now)
+              (sym same)
+              (are_cleared m s [] a.world.now b.world.now a.store.now b.store.now a.run.now.held b.run.now.held a.run.now.tickets
+              b.account.now a.account.now
+              told (clears_around m [] a.world.now b.world.now around) keeps within unshut (λ busy h. none_shared busy)
+              safe.tickets tells sure);
         };
       }
 
@@ -187,40 +204,43 @@ none_fewer rest fewer none busy h = absurd (omega (arith, (subst (λ (all : List
 
 -- ---- a job starts
 
-module _ (s : Setting) (job : Job) (counts : Counts) (old new : Around) (store : Store) (starts : Starts job counts old new) (busy : Busy) where
-  met_still : (bytes : List ℕ) → Contains old.met bytes → Contains new.met bytes
-  met_still bytes h = subst (λ (all : List (List ℕ)). Contains all bytes) (sym starts.met) h
+module _ (s : Setting) (job : Job) (counts : Counts) (old new : Around) (store : Store) (starts : Starts job counts old new) (busy : Busy)
+  where
+    met_still : (bytes : List ℕ) → Contains old.met bytes → Contains new.met bytes
+    met_still bytes h = subst (λ (all : List (List ℕ)). Contains all bytes) (sym starts.met) h
 
-  pub true_started : ShareNone job.targets busy.hold.targets → HasTrueRecord s store old busy → HasTrueRecord s store new busy
-  true_started apart t = record {
-    rec = t.rec;
-    is = t.is;
-    targets = t.targets;
-    true_now = true_stays s old new t.rec t.true_now met_still
-        (λ path h. starts.files path (t.true_now.still path h) (λ among. apart path among (subst (λ (all : List Path). Contains all path) t.targets h)))
-        (λ path h target.
-        elim (run_either old.running (record { job = job; given = given_of old.tree job.deps }) path
-        (subst (λ (runs : List Running). IsRunningTarget runs path) starts.running target)) [
-          | inl before ↦ t.true_now.still path h before
-          | inr among ↦ apart path among (subst (λ (all : List Path). Contains all path) t.targets h)
-        ]);
-  }
+    pub true_started : ShareNone job.targets busy.hold.targets → HasTrueRecord s store old busy → HasTrueRecord s store new busy
+    true_started apart t = record {
+      rec = t.rec;
+      is = t.is;
+      targets = t.targets;
+      true_now = true_stays s old new t.rec t.true_now met_still
+          (λ path h. starts.files path (t.true_now.still path h)
+          (λ among. apart path among (subst (λ (all : List Path). Contains all path) t.targets h)))
+          (λ path h target.
+          elim (run_either old.running (record { job = job; given = given_of old.tree job.deps }) path
+          (subst (λ (runs : List Running). IsRunningTarget runs path) starts.running target)) [
+            | inl before ↦ t.true_now.still path h before
+            | inr among ↦ apart path among (subst (λ (all : List Path). Contains all path) t.targets h)
+          ]);
+    }
 
-  pub own_started : busy.hold.rule.0 ≢ job.id → HasOwnRecord s store old busy → HasOwnRecord s store new busy
-  own_started other t = record {
-    rec = t.rec;
-    is = t.is;
-    targets = t.targets;
-    each = λ run h id. elim (in_pushed old.running (record { job = job; given = given_of old.tree job.deps }) run
-        (subst (λ (runs : List Running). Contains runs run) starts.running h)) [
-      | inl before ↦ subst (λ (met : List (List ℕ)). IsTicketOf s met run t.rec) (sym starts.met) (t.each run before id)
-      | inr same ↦ absurd (other (sym id ∙ ap (λ (r : Running). r.job.id) (sym same)))
-    ];
-  }
+    pub own_started : busy.hold.rule.0 ≢ job.id → HasOwnRecord s store old busy → HasOwnRecord s store new busy
+    own_started other t = record {
+      rec = t.rec;
+      is = t.is;
+      targets = t.targets;
+      each = λ run h id. elim (in_pushed old.running (record { job = job; given = given_of old.tree job.deps }) run
+          (subst (λ (runs : List Running). Contains runs run) starts.running h)) [
+            | inl before ↦ subst (λ (met : List (List ℕ)). IsTicketOf s met run t.rec) (sym starts.met) (t.each run before id)
+            | inr same ↦ absurd (other (sym id ∙ ap (λ (r : Running). r.job.id) (sym same)))
+          ];
+    }
 
 -- a job started, or was refused
 module _ {W O E : Type 0} (m : Meaning W) (a b : Site W O E) (job : Job) where
-  begun : (s : Setting) → Told m a.world.now b.world.now → (m.tells b.world.now → StartsJob m job a.world.now b.world.now) → b.store.now ≡ a.store.now →
+  begun : (s : Setting) → Told m a.world.now b.world.now → (m.tells b.world.now → StartsJob m job a.world.now b.world.now) →
+      b.store.now ≡ a.store.now →
       b.run.now ≡ a.run.now → (b.account.now.is_store_shut ≡ false → a.account.now.is_store_shut ≡ false) →
       ((busy : Busy) → Contains a.run.now.held busy → ShareNone job.targets busy.hold.targets) →
       ((hold : Hold) → Contains (holds_in a.run.now.tickets) hold → KeepsApart job hold) → AreSafe m s a → AreSafe m s b
@@ -228,9 +248,11 @@ module _ {W O E : Type 0} (m : Meaning W) (a b : Site W O E) (job : Job) where
       let before = safe (told.told tells) (told.sure tells sure) in
       subst (λ (r : Run). AreSafeIn m s b.world.now b.store.now r.held r.tickets b.account.now) (sym run)
       (subst (λ (st : Store). AreSafeIn m s b.world.now st a.run.now.held a.run.now.tickets b.account.now) (sym store) (record {
-        held = λ opened busy h. true_started s job (m.counts a.world.now) (m.around a.world.now) (m.around b.world.now) a.store.now (starts tells) busy
+        held = λ opened busy h. true_started s job (m.counts a.world.now) (m.around a.world.now) (m.around b.world.now) a.store.now
+            (starts tells) busy
             (beside busy h) (before.held (unshut opened) busy h);
-        tickets = λ busy h. own_started s job (m.counts a.world.now) (m.around a.world.now) (m.around b.world.now) a.store.now (starts tells) busy
+        tickets = λ busy h. own_started s job (m.counts a.world.now) (m.around a.world.now) (m.around b.world.now) a.store.now
+            (starts tells) busy
             (apart busy.hold (held_in a.run.now.tickets busy h)).new_id (before.tickets busy h);
       }))
 
@@ -241,7 +263,10 @@ module _ {W O E : Type 0} (m : Meaning W) (a b : Site W O E) (job : Job) where
       ((hold : Hold) → Contains (holds_in a.run.now.tickets) hold → KeepsApart job hold) → SiteGoesSafely m a b
   site_begun (Ok done) told goes starts asks store run unshut beside apart s safe =
       let one = goes s safe.world in
-      record { moments = one.moments; now = record { world = one.now; tickets = begun s told starts store run unshut beside apart safe.tickets } }
+      record {
+        moments = one.moments;
+        now = record { world = one.now; tickets = begun s told starts store run unshut beside apart safe.tickets };
+      }
   site_begun (Err end) told goes starts asks store run unshut beside apart s safe =
       site_looked m a b told goes asks (subst (λ (st : Store). KeepsTickets a.store.now st) (sym store) (same_tickets a.store.now))
       (λ busy h. subst (λ (r : Run). Contains r.held busy) run h) (ap (λ (r : Run). r.tickets) run) unshut s safe

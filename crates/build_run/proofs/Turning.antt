@@ -17,7 +17,8 @@ use Rattle.build_run.proofs.Stopping.{same_tickets, site_looked, site_safely_on}
 
 module _ {W O E : Type 0} (m : Meaning W) where
   -- its world was looked at
-  pub site_saw : HasOnlyNow m → (a b : Site W O E) → Looks m a.world.now b.world.now → b.store.now ≡ a.store.now → b.run.now.held ≡ a.run.now.held →
+  pub site_saw : HasOnlyNow m → (a b : Site W O E) → Looks m a.world.now b.world.now → b.store.now ≡ a.store.now →
+      b.run.now.held ≡ a.run.now.held →
       b.run.now.tickets ≡ a.run.now.tickets → b.account.now.is_store_shut ≡ a.account.now.is_store_shut → SiteGoesSafely m a b
   site_saw only a b looks store held same shut =
       site_looked m a b looks.told (λ s safe. safe_looked m s only a.world.now b.world.now looks safe)
@@ -28,10 +29,12 @@ module _ {W O E : Type 0} (m : Meaning W) where
   pub turn_then : (a b c : Site W O E) → Told m b.world.now c.world.now → TurnsSafely m a b → SiteGoesSafely m b c → TurnsSafely m a c
   turn_then a b c told first then s along safe = site_safely_on m a b c told (λ u is. first u along is) then s safe
 
-  pub turns_on : (a b c : Site W O E) → Told m a.world.now b.world.now → Told m b.world.now c.world.now → StaysAlong m a b → TurnsSafely m a b →
+  pub turns_on : (a b c : Site W O E) → Told m a.world.now b.world.now → Told m b.world.now c.world.now → StaysAlong m a b →
+      TurnsSafely m a b →
       TurnsSafely m b c → TurnsSafely m a c
   turns_on a b c before after stays first then s along safe =
-      site_safely_on m a b c after (λ u is. first u along is) (λ u is. then u (λ tells sure. still tells sure (along (before.told tells) (before.sure tells sure))) is)
+      site_safely_on m a b c after (λ u is. first u along is)
+      (λ u is. then u (λ tells sure. still tells sure (along (before.told tells) (before.sure tells sure))) is)
       s safe
     where
       still : m.tells b.world.now → m.sure b.world.now → IsAlongSome m a → IsAlongSome m b
@@ -46,11 +49,16 @@ module _ {W O E : Type 0} (m : Meaning W) where
   held_now busy a b world store held same account s safe tickets = record {
     world = subst (λ (w : W). IsSafeNow m s w) (sym world) safe;
     tickets =
-        subst (λ (x : Account). m.tells b.world.now → m.sure b.world.now → AreSafeIn m s b.world.now b.store.now b.run.now.held b.run.now.tickets x) (sym account)
-        (subst (λ (x : List Busy). m.tells b.world.now → m.sure b.world.now → AreSafeIn m s b.world.now b.store.now b.run.now.held x a.account.now) (sym same)
-        (subst (λ (x : List Busy). m.tells b.world.now → m.sure b.world.now → AreSafeIn m s b.world.now b.store.now x a.run.now.tickets a.account.now) (sym held)
-        (subst (λ (x : Store). m.tells b.world.now → m.sure b.world.now → AreSafeIn m s b.world.now x (a.run.now.held ++ busy ∷ []) a.run.now.tickets a.account.now) (sym store)
-        (subst (λ (w : W). m.tells w → m.sure w → AreSafeIn m s w a.store.now (a.run.now.held ++ busy ∷ []) a.run.now.tickets a.account.now) (sym world) tickets))));
+        subst (λ (x : Account). m.tells b.world.now → m.sure b.world.now → AreSafeIn m s b.world.now b.store.now b.run.now.held
+        b.run.now.tickets x) (sym account)
+        (subst (λ (x : List Busy). m.tells b.world.now → m.sure b.world.now → AreSafeIn m s b.world.now b.store.now b.run.now.held x
+        a.account.now) (sym same)
+        (subst (λ (x : List Busy). m.tells b.world.now → m.sure b.world.now → AreSafeIn m s b.world.now b.store.now x a.run.now.tickets
+        a.account.now) (sym held)
+        (subst (λ (x : Store). m.tells b.world.now → m.sure b.world.now → AreSafeIn m s b.world.now x (a.run.now.held ++ busy ∷ [])
+        a.run.now.tickets a.account.now) (sym store)
+        (subst (λ (w : W). m.tells w → m.sure w → AreSafeIn m s w a.store.now (a.run.now.held ++ busy ∷ [])
+        a.run.now.tickets a.account.now) (sym world) tickets))));
   }
 
   pub holds_now : HasOnlyNow m → (busy : Busy) → (a b : Site W O E) → b.world.now ≡ a.world.now → b.store.now ≡ a.store.now →
@@ -63,7 +71,8 @@ module _ {W O E : Type 0} (m : Meaning W) where
   }
 
   -- a site as it begins: nothing runs, and nothing is held
-  pub first_safe : (s : Setting) (site : Site W O E) → site.run.now.held ≡ [] → site.run.now.tickets ≡ [] → IsSafeNow m s site.world.now → IsSafeSite m s site
+  pub first_safe : (s : Setting) (site : Site W O E) → site.run.now.held ≡ [] → site.run.now.tickets ≡ [] → IsSafeNow m s site.world.now →
+      IsSafeSite m s site
   first_safe s site held tickets safe = record {
     world = safe;
     tickets = λ tells sure. record {
@@ -73,6 +82,7 @@ module _ {W O E : Type 0} (m : Meaning W) where
   }
 
   -- what a site held in the end is what its lender has
-  pub safe_given : (s : Setting) (last : Site W O E) (old now world : W) → last.world.now ≡ world → last.world.now ≡ now → StaysSafe m s old now →
+  pub safe_given : (s : Setting) (last : Site W O E) (old now world : W) → last.world.now ≡ world → last.world.now ≡ now →
+      StaysSafe m s old now →
       StaysSafe m s old world
   safe_given s last old now world lent same safe = subst (λ (w : W). StaysSafe m s old w) (sym same ∙ lent) safe

@@ -109,7 +109,8 @@ HoldsSafely m busy old new = (s : Setting) → IsSafeNow m s old.world.now →
 
 -- A record is that of what its dependencies hold, which was met. No running job writes them, nor does its own action.
 pub record IsOverFiles (s : Setting) (around : Around) (rec : Rec) : Type 0 where
-  pub digests : map (digested s (record_in rec).hash) (given_of around.tree (map name_of rec.deps)) ≡ map named_digest (record_in rec).dependencies
+  pub digests : map (digested s (record_in rec).hash) (given_of around.tree (map name_of rec.deps))
+      ≡ map named_digest (record_in rec).dependencies
   pub met : HasMet around
   pub still : (path : Path) → Contains (map name_of rec.deps) path → IsRunningTarget around.running path → ⊥
   pub apart : ShareNone rec.targets (map name_of rec.deps)
@@ -146,7 +147,8 @@ TurnsSafelyAs m old new wanted =
 -- ---- builds
 
 -- a build has set out from some outset
-pub record HasOutset {W : Type 0} (m : Meaning W) (g : RuleGraph) (run : Run) (store : Store) (world : W) (account : Account) (options : Options)
+pub record HasOutset {W : Type 0} (m : Meaning W) (g : RuleGraph) (run : Run) (store : Store) (world : W) (account : Account)
+    (options : Options)
     : Type 0 where
   pub o : Outset
   pub ready : IsReadyFor m o g run store world account options

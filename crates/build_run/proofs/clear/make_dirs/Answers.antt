@@ -19,7 +19,8 @@ pub returns-in_err-make_dir-clause-clears : goal.returns-in_err-make_dir-clause-
 returns-in_err-make_dir-clause-clears g c = clears_on g.W.Disk.meaning [] _ _ _ c.make_dir.ensures.stays.goes.passes.told c.loop-target.invariant.clears c.make_dir.ensures.clears
 
 pub returns-in_err-make_dir-clause-safe : goal.returns-in_err-make_dir-clause-safe
-returns-in_err-make_dir-clause-safe g c = safely_on g.W.Disk.meaning _ _ _ c.make_dir.ensures.stays.goes.passes.told c.loop-target.invariant.safe c.make_dir.ensures.safe
+returns-in_err-make_dir-clause-safe g c = safely_on g.W.Disk.meaning _ _ _ c.make_dir.ensures.stays.goes.passes.told
+    c.loop-target.invariant.safe c.make_dir.ensures.safe
 
 pub loop-target-init : goal.loop-target-init
 loop-target-init g c = record {

@@ -45,7 +45,8 @@ returns-in_err-remove-clause-clears g c =
     (clears_one m c.args.targets.now _ _ _ (c.loop-target.target-index, omega (arith, c.loop-target-test.true), sym c.target-item.is) c.remove.ensures.clears)
 
 pub returns-in_err-remove-clause-safe : goal.returns-in_err-remove-clause-safe
-returns-in_err-remove-clause-safe g c = safely_on g.W.Disk.meaning _ _ _ c.remove.ensures.stays.goes.passes.told c.loop-target.invariant.safe c.remove.ensures.safe
+returns-in_err-remove-clause-safe g c = safely_on g.W.Disk.meaning _ _ _ c.remove.ensures.stays.goes.passes.told
+    c.loop-target.invariant.safe c.remove.ensures.safe
 
 pub loop-target-init : goal.loop-target-init
 loop-target-init g c = record {

@@ -25,7 +25,8 @@ returns-in-Err-Memory-clause-asks g c = clears_asked g.W.Disk.meaning [] c.args.
 pub returns-in-Ok-clause-safe : goal.returns-in-Ok-clause-safe
 returns-in-Ok-clause-safe g c = λ s safe.
     let is = c.start.ensures in
-    safe_started g.W.Disk.meaning s c.args.world.now c.start.new.self is.told is.banks is.time safe c.args.job (λ t. c.in-Ok.ensures.started t)
+    safe_started g.W.Disk.meaning s c.args.world.now c.start.new.self is.told is.banks is.time safe c.args.job
+    (λ t. c.in-Ok.ensures.started t)
     (λ t banks image. none_kept c.args.job.targets _ (c.requires.withdrawn.images (is.told.told t) banks image))
 
 pub returns-in-Err-Fault-clause-safe : goal.returns-in-Err-Fault-clause-safe

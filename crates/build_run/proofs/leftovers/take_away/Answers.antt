@@ -111,4 +111,5 @@ returns-in_err-ticket-clause-safe g c = safely_here g.W.Disk.meaning g.met.W.Dis
 
 pub returns-clause-safe : goal.returns-clause-safe
 returns-clause-safe g c =
-    safely_on g.W.Disk.meaning _ _ _ c.remove_unrecorded.ensures.stays.goes.passes.told c.withdraw.ensures.safe c.remove_unrecorded.ensures.safe
+    safely_on g.W.Disk.meaning _ _ _ c.remove_unrecorded.ensures.stays.goes.passes.told c.withdraw.ensures.safe
+    c.remove_unrecorded.ensures.safe

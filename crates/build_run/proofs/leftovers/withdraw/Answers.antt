@@ -37,7 +37,8 @@ pub returns-in-Ok-clause-safe : goal.returns-in-Ok-clause-safe
 returns-in-Ok-clause-safe g c = λ s safe.
     let m = g.W.Disk.meaning in
     let t = c.requires.ticket in
-    safe_stored m s g.met.W.Disk.only_now g.met.W.Disk.reads_as c.args.world.now c.withdraw.new.world c.args.store.now _ c.withdraw.ensures.told
+    safe_stored m s g.met.W.Disk.only_now g.met.W.Disk.reads_as c.args.world.now c.withdraw.new.world c.args.store.now _
+    c.withdraw.ensures.told
     c.withdraw.ensures.around c.requires.kept
     (c.withdraw.ensures.moments t.rec (out_alone c.args.store.now t.rec c.args.ticket.now t.out) c.requires.kept)
     (λ tells sure was. unset_safe s (m.around c.args.world.now) t.rec.targets (map_of c.args.store.now) was) safe
@@ -46,7 +47,8 @@ pub returns-in-Err-clause-safe : goal.returns-in-Err-clause-safe
 returns-in-Err-clause-safe g c = λ s safe.
     let m = g.W.Disk.meaning in
     let t = c.requires.ticket in
-    safe_stored m s g.met.W.Disk.only_now g.met.W.Disk.reads_as c.args.world.now c.withdraw.new.world c.args.store.now _ c.withdraw.ensures.told
+    safe_stored m s g.met.W.Disk.only_now g.met.W.Disk.reads_as c.args.world.now c.withdraw.new.world c.args.store.now _
+    c.withdraw.ensures.told
     c.withdraw.ensures.around c.requires.kept
     (c.withdraw.ensures.moments t.rec (out_alone c.args.store.now t.rec c.args.ticket.now t.out) c.requires.kept)
     (λ tells sure was. unset_safe s (m.around c.args.world.now) t.rec.targets (map_of c.args.store.now) was) safe

@@ -110,7 +110,8 @@ returns-clause-clears g c =
     let first = clears_none m c.args.job.now.targets _ _
     (clears_on m [] _ _ _ c.withdraw.ensures.goes.goes.passes.told c.make_dirs.ensures.clears c.withdraw.ensures.clears) in
     clears_on m c.args.job.now.targets _ _ _ c.remove_all.ensures.stays.goes.passes.told first
-    (subst (λ (paths : List (List ℕ)). ClearsAt m paths c.withdraw.new.self.world.now c.remove_all.new.world) c.as_slice-targets.ensures c.remove_all.ensures.clears)
+    (subst (λ (paths : List (List ℕ)). ClearsAt m paths c.withdraw.new.self.world.now c.remove_all.new.world)
+    c.as_slice-targets.ensures c.remove_all.ensures.clears)
 
 pub returns-in_err-make_dirs-clause-tickets : goal.returns-in_err-make_dirs-clause-tickets
 returns-in_err-make_dirs-clause-tickets g c = record { each = λ rec ticket is. is }
@@ -126,7 +127,8 @@ returns-clause-refused g c = held_err c.remove_all.result (withdrawn c.in_ok-wit
 
 pub returns-in_err-make_dirs-clause-safe : goal.returns-in_err-make_dirs-clause-safe
 returns-in_err-make_dirs-clause-safe g c =
-    site_looked g.W.Disk.meaning c.args.self.now _ c.make_dirs.ensures.stays.goes.passes.told c.make_dirs.ensures.safe c.make_dirs.ensures.clears
+    site_looked g.W.Disk.meaning c.args.self.now _ c.make_dirs.ensures.stays.goes.passes.told c.make_dirs.ensures.safe
+    c.make_dirs.ensures.clears
     (same_tickets c.args.self.now.store.now) (λ busy h. h) refl (λ unshut. unshut)
 
 pub returns-in_err-withdraw-clause-safe : goal.returns-in_err-withdraw-clause-safe
@@ -147,6 +149,8 @@ returns-clause-safe g c =
     (same_tickets c.args.self.now.store.now) (λ busy h. h) refl (λ unshut. unshut))
     c.withdraw.ensures.safe)
     (site_called m c.args.job.now.targets c.withdraw.new.self _ told c.remove_all.ensures.safe
-    (subst (λ (paths : List (List ℕ)). ClearsAt m paths c.withdraw.new.self.world.now c.remove_all.new.world) c.as_slice-targets.ensures c.remove_all.ensures.clears)
+    (subst (λ (paths : List (List ℕ)). ClearsAt m paths c.withdraw.new.self.world.now c.remove_all.new.world)
+    c.as_slice-targets.ensures c.remove_all.ensures.clears)
     (same_tickets c.withdraw.new.self.store.now) (λ busy h. h) refl (λ unshut. unshut)
-    (unheld_still c.args.self.now.run.now.held c.withdraw.new.self.run.now.held c.args.job.now.targets c.withdraw.ensures.held c.requires.ready.beside))
+    (unheld_still c.args.self.now.run.now.held c.withdraw.new.self.run.now.held c.args.job.now.targets c.withdraw.ensures.held
+    c.requires.ready.beside))

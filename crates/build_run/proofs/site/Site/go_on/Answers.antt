@@ -39,6 +39,7 @@ pub returns-clause-safe : goal.returns-clause-safe
 returns-clause-safe g c =
     let m = g.W.Disk.meaning in
     turn_then m c.args.self.now c.wait_for_all.new.self _ c.put_held.ensures.puts.goes.passes.told
-    (turn_then m c.args.self.now c.take_turns.new.self c.wait_for_all.new.self c.wait_for_all.ensures.passes.passes.told c.take_turns.ensures.safe
+    (turn_then m c.args.self.now c.take_turns.new.self c.wait_for_all.new.self c.wait_for_all.ensures.passes.passes.told
+    c.take_turns.ensures.safe
     c.wait_for_all.ensures.safe)
     c.put_held.ensures.safe

@@ -64,5 +64,6 @@ returns-then-len-most_jobs-clause-safe g c =
 
 pub returns-clause-safe : goal.returns-clause-safe
 returns-clause-safe g c = λ s safe tickets.
-    let put = c.put_held.ensures.safe s (held_now g.W.Disk.meaning c.args.busy c.args.self.now _ refl refl c.add.ensures refl refl s safe tickets) in
+    let put = c.put_held.ensures.safe s
+    (held_now g.W.Disk.meaning c.args.busy c.args.self.now _ refl refl c.add.ensures refl refl s safe tickets) in
     record { moments = put.moments; now = put.now }

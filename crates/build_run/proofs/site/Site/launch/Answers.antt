@@ -130,14 +130,17 @@ returns-in_err-show-clause-safe g c =
     let m = g.W.Disk.meaning in
     let cleared = c.clear.new.self in
     site_safely_on m c.args.self.now cleared _ (told_same m cleared.world.now) c.clear.ensures.safe
-    (site_rests m g.met.W.Disk.only_now cleared _ refl refl refl refl (λ unshut. sym (ap (λ (l : Ledger). l.shut) c.show.ensures.account) ∙ unshut))
+    (site_rests m g.met.W.Disk.only_now cleared _ refl refl refl refl
+    (λ unshut. sym (ap (λ (l : Ledger). l.shut) c.show.ensures.account) ∙ unshut))
 
 pub returns-clause-safe : goal.returns-clause-safe
 returns-clause-safe g c =
     let m = g.W.Disk.meaning in
     let cleared = c.clear.new.self in
     site_safely_on m c.args.self.now cleared _ c.begin.ensures.passes.told c.clear.ensures.safe
-    (site_begun m cleared _ c.args.job c.begin.result c.begin.ensures.passes.told c.begin.ensures.safe c.begin.ensures.starts c.begin.ensures.asks refl refl
+    (site_begun m cleared _ c.args.job c.begin.result c.begin.ensures.passes.told c.begin.ensures.safe c.begin.ensures.starts
+    c.begin.ensures.asks refl refl
     (λ unshut. sym (ap (λ (l : Ledger). l.shut) c.show.ensures.account) ∙ unshut)
     (unheld_still c.args.self.now.run.now.held cleared.run.now.held c.args.job.targets c.clear.ensures.held c.requires.ready.beside)
-    (λ hold there. c.requires.ready.apart hold (subst (λ (busies : List Busy). Contains (holds_in busies) hold) c.clear.ensures.goes.tickets there)))
+    (λ hold there. c.requires.ready.apart hold
+    (subst (λ (busies : List Busy). Contains (holds_in busies) hold) c.clear.ensures.goes.tickets there)))

@@ -150,5 +150,6 @@ returns-clause-safe g c = λ s safe over.
     (site_saw m g.met.W.Disk.only_now c.args.self.now _ c.is_stale.ensures.looks refl refl refl refl) c.start.ensures.safe s safe over in
     record {
       moments = one.moments;
-      now = (site_rests m g.met.W.Disk.only_now now _ refl refl refl refl (λ unshut. sym c.note_start.ensures.keeps.shut ∙ unshut) s one.now).now;
+      now = (site_rests m g.met.W.Disk.only_now now _ refl refl refl refl (λ unshut. sym c.note_start.ensures.keeps.shut ∙ unshut)
+          s one.now).now;
     }

@@ -102,7 +102,8 @@ pub returns-then-self-clause-safe : goal.returns-then-self-clause-safe
 returns-then-self-clause-safe g c =
     let m = g.W.Disk.meaning in
     let site = c.args.self.now in
-    site_looked m site _ (told_here m site.world.now) (safely_here m g.met.W.Disk.only_now site.world.now) (clears_here m [] site.world.now)
+    site_looked m site _ (told_here m site.world.now) (safely_here m g.met.W.Disk.only_now site.world.now)
+    (clears_here m [] site.world.now)
     (same_tickets site.store.now) (none_fewer site.run.now.held _ c.clear.ensures) refl (λ unshut. unshut)
 
 pub returns-in-Ok-clause-safe : goal.returns-in-Ok-clause-safe
@@ -114,7 +115,8 @@ returns-in-Ok-clause-safe g c =
     let are = held_outs store held (outs_front store held site.run.now.tickets (c.requires.outs c.if-self.false)) in
     let kept = c.requires.kept c.if-self.false in
     site_stored m g.met.W.Disk.only_now g.met.W.Disk.reads_as site _ (map_with store held) c.put.ensures.told c.put.ensures.around kept
-    (subst (λ (all : List Busy). PutsThroughout m site.world.now c.put.new.world store all) c.as_slice.ensures c.put.ensures.moments are kept)
+    (subst (λ (all : List Busy). PutsThroughout m site.world.now c.put.new.world store all)
+    c.as_slice.ensures c.put.ensures.moments are kept)
     (λ s tickets was. put_safe s (m.around site.world.now) store held (map_of store) (tickets.held c.if-self.false) was)
     c.put.ensures.tickets (none_fewer held _ c.clear-in-Ok.ensures) refl (λ unshut. unshut)
 
@@ -127,6 +129,8 @@ returns-in-Err-clause-safe g c =
     let are = held_outs store held (outs_front store held site.run.now.tickets (c.requires.outs c.if-self.false)) in
     let kept = c.requires.kept c.if-self.false in
     site_stored m g.met.W.Disk.only_now g.met.W.Disk.reads_as site _ (map_with store held) c.put.ensures.told c.put.ensures.around kept
-    (subst (λ (all : List Busy). PutsThroughout m site.world.now c.put.new.world store all) c.as_slice.ensures c.put.ensures.moments are kept)
+    (subst (λ (all : List Busy). PutsThroughout m site.world.now c.put.new.world store all)
+    c.as_slice.ensures c.put.ensures.moments are kept)
     (λ s tickets was. put_safe s (m.around site.world.now) store held (map_of store) (tickets.held c.if-self.false) was)
-    c.put.ensures.tickets (none_fewer held _ c.clear-in-Err.ensures) refl (λ unshut. absurd (false≢true (sym unshut ∙ c.end.ensures.reports.shut)))
+    c.put.ensures.tickets (none_fewer held _ c.clear-in-Err.ensures) refl
+    (λ unshut. absurd (false≢true (sym unshut ∙ c.end.ensures.reports.shut)))

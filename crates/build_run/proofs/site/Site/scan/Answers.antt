@@ -65,7 +65,8 @@ returns-clause-sound g c =
     sound_still g.W.Disk.meaning c.args.self.now _ stays refl refl refl refl refl
 
 pub returns-in_err-found-clause-safe : goal.returns-in_err-found-clause-safe
-returns-in_err-found-clause-safe g c = site_saw g.W.Disk.meaning g.met.W.Disk.only_now c.args.self.now _ c.scanned.ensures.looks refl refl refl refl
+returns-in_err-found-clause-safe g c = site_saw g.W.Disk.meaning g.met.W.Disk.only_now c.args.self.now _ c.scanned.ensures.looks refl refl
+    refl refl
 
 pub returns-clause-safe : goal.returns-clause-safe
 returns-clause-safe g c = site_saw g.W.Disk.meaning g.met.W.Disk.only_now c.args.self.now _ c.scanned.ensures.looks refl refl refl refl

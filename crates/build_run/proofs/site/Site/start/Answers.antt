@@ -365,7 +365,8 @@ returns-clause-safe g c = λ s safe over.
     let now = c.launch.new.self in
     site_safely_on m c.args.self.now now _ (told_here m now.world.now)
     (site_safely_on m c.args.self.now _ now c.launch.ensures.passes.passes.told
-    (site_kept m g.met.W.Disk.only_now c.args.self.now _ refl c.prepare.ensures.tickets refl refl (λ unshut. unshut)) c.launch.ensures.safe)
+    (site_kept m g.met.W.Disk.only_now c.args.self.now _ refl c.prepare.ensures.tickets refl refl (λ unshut. unshut))
+    c.launch.ensures.safe)
     (site_kept m g.met.W.Disk.only_now now _ refl c.give_up.ensures.tickets refl refl (λ unshut. unshut)) s safe
 
 pub returns-in-Ok-clause-safe : goal.returns-in-Ok-clause-safe
@@ -387,18 +388,21 @@ returns-in-Ok-clause-safe g c = λ s safe over.
         tickets = λ tells sure.
             let t = chain.now.tickets tells sure in
             let before = told.told tells in
-            subst (λ (all : List Busy). AreSafeIn m s now.world.now now.store.now now.run.now.held all now.account.now) (sym c.add.ensures) (record {
+            subst (λ (all : List Busy). AreSafeIn m s now.world.now now.store.now now.run.now.held all now.account.now)
+            (sym c.add.ensures) (record {
               held = t.held;
               tickets = λ busy h. elim (in_pushed now.run.now.tickets new busy h) [
                 | inl more ↦ t.tickets busy more
                 | inr same ↦ subst (λ (b : Busy). HasOwnRecord s now.store.now (m.around now.world.now) b) same
-                    (own_launched s job (m.counts site.world.now) (m.around site.world.now) (m.around now.world.now) c.args.now now.store.now new
+                    (own_launched s job (m.counts site.world.now) (m.around site.world.now) (m.around now.world.now)
+                    c.args.now now.store.now new
                     (c.in-Ok.ensures.starts tells) (over before (told.sure tells sure))
                     (c.launch.ensures.outs.each c.args.now new.ticket c.in_ok-ticket.ensures.out.own)
                     from.work from.signed from.targets from.deps
                     (sym from.targets ∙ ap (λ (hold : Hold). hold.targets) (sym c.in_ok-hold.ensures))
                     (ap (λ (hold : Hold). hold.rule.0) (sym c.in_ok-hold.ensures))
-                    (λ run there. (apart (hold_of run) (subst (λ (holds : List Hold). Contains holds (hold_of run)) (c.requires.sound.joined.runs before)
+                    (λ run there. (apart (hold_of run)
+                    (subst (λ (holds : List Hold). Contains holds (hold_of run)) (c.requires.sound.joined.runs before)
                     (mapped (m.around site.world.now).running run there))).new_id))
               ];
             });

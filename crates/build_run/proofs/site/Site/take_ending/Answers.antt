@@ -71,5 +71,6 @@ returns-clause-along g c = λ t sure o outset along wanted.
 
 pub returns-clause-safe : goal.returns-clause-safe
 returns-clause-safe g c =
-    site_safely_on g.W.Disk.meaning c.args.self.now c.put_if_few.new.self _ c.take_ended.ensures.passes.passes.told c.put_if_few.ensures.safe
+    site_safely_on g.W.Disk.meaning c.args.self.now c.put_if_few.new.self _ c.take_ended.ensures.passes.passes.told
+    c.put_if_few.ensures.safe
     c.take_ended.ensures.safe

@@ -47,5 +47,6 @@ loop-turn-init g c = record {
 
 pub returns-clause-safe : goal.returns-clause-safe
 returns-clause-safe g c =
-    turn_then g.W.Disk.meaning c.args.self.now c.loop-turn.self c.tell-2.new.self c.tell-2.ensures.passes.passes.told c.loop-turn.invariant.safe
+    turn_then g.W.Disk.meaning c.args.self.now c.loop-turn.self c.tell-2.new.self c.tell-2.ensures.passes.passes.told
+    c.loop-turn.invariant.safe
     c.tell-2.ensures.safe

@@ -19,4 +19,5 @@ returns-clause-along g c = λ o outset asked leads.
 
 pub returns-clause-safe : goal.returns-clause-safe
 returns-clause-safe g c =
-    site_rests g.W.Disk.meaning g.met.W.Disk.only_now c.args.self.now _ refl refl refl refl (λ unshut. sym c.tell.ensures.reports.shut ∙ unshut)
+    site_rests g.W.Disk.meaning g.met.W.Disk.only_now c.args.self.now _ refl refl refl refl
+    (λ unshut. sym c.tell.ensures.reports.shut ∙ unshut)

@@ -26,7 +26,8 @@ loop-turn-preserved g c =
           let told_mid = tell.passes.passes.told.told t in
           omega (arith, ending.takes.fewer told_mid, before.left (ending.passes.passes.told.told told_mid), ap (λ (busies : List Busy). length busies) tell.tickets);
       sound = tell.sound ending.sound;
-      safe = site_safely_on m _ _ _ tell.passes.passes.told (site_safely_on m _ _ _ ending.passes.passes.told before.safe ending.safe) tell.safe;
+      safe = site_safely_on m _ _ _ tell.passes.passes.told (site_safely_on m _ _ _ ending.passes.passes.told before.safe ending.safe)
+          tell.safe;
       same = λ e. absurd (omega (arith, e));
       halted = λ e. tell.halted (ap (λ (p : Planned). p.halted) ending.halted ∙ before.halted e);
       along = λ e. along_on m _ _ _ told.passes.told (before.along e)

@@ -172,8 +172,10 @@ returns-in-Ok-clause-safe g c =
     let ready = c.requires.ready in
     let t = ready.out in
     let kept = c.requires.sound.stored.kept ready.unshut in
-    let with = out_with store held site.run.now.tickets c.args.ticket.now c.args.job.now.targets t (c.requires.sound.stored.outs ready.unshut) ready.room ready.beside in
-    site_stored m g.met.W.Disk.only_now g.met.W.Disk.reads_as site _ (map_without store held t.rec) c.withdraw.ensures.told c.withdraw.ensures.around kept
+    let with = out_with store held site.run.now.tickets c.args.ticket.now c.args.job.now.targets t
+    (c.requires.sound.stored.outs ready.unshut) ready.room ready.beside in
+    site_stored m g.met.W.Disk.only_now g.met.W.Disk.reads_as site _ (map_without store held t.rec)
+    c.withdraw.ensures.told c.withdraw.ensures.around kept
     (subst (λ (all : List Busy). WithdrawsThroughout m site.world.now c.withdraw.new.world store all c.args.ticket.now) c.as_slice.ensures
     c.withdraw.ensures.moments t.rec with kept)
     (λ s tickets was. unset_safe s (m.around site.world.now) t.rec.targets (map_with store held)
@@ -189,8 +191,10 @@ returns-in-Err-clause-safe g c =
     let ready = c.requires.ready in
     let t = ready.out in
     let kept = c.requires.sound.stored.kept ready.unshut in
-    let with = out_with store held site.run.now.tickets c.args.ticket.now c.args.job.now.targets t (c.requires.sound.stored.outs ready.unshut) ready.room ready.beside in
-    site_stored m g.met.W.Disk.only_now g.met.W.Disk.reads_as site _ (map_without store held t.rec) c.withdraw.ensures.told c.withdraw.ensures.around kept
+    let with = out_with store held site.run.now.tickets c.args.ticket.now c.args.job.now.targets t
+    (c.requires.sound.stored.outs ready.unshut) ready.room ready.beside in
+    site_stored m g.met.W.Disk.only_now g.met.W.Disk.reads_as site _ (map_without store held t.rec)
+    c.withdraw.ensures.told c.withdraw.ensures.around kept
     (subst (λ (all : List Busy). WithdrawsThroughout m site.world.now c.withdraw.new.world store all c.args.ticket.now) c.as_slice.ensures
     c.withdraw.ensures.moments t.rec with kept)
     (λ s tickets was. unset_safe s (m.around site.world.now) t.rec.targets (map_with store held)
