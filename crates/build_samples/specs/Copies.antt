@@ -5,7 +5,7 @@ use Rattle.rule_graph.specs.Graphs.{RuleGraph, empty_graph}
 use Rattle.rule_graph.specs.declared.rule.Rule.{Rule}
 use Rattle.build_files.specs.Copying.{copying}
 
--- the rule that makes a target as a copy of a source, and says so
+-- the rule that makes a target as a copy of a source; a line is printed for it
 abbrev pub copy_rule : NodeId → NodeId → Rule
 copy_rule target source = record (copying target source) { builder = codes "InstallAs" }
 

@@ -14,13 +14,10 @@ use Rattle.world_mem.specs.declared.world.MemWorld.{MemWorld}
 use Rattle.build_samples.specs.Copies.{copy_graph, target_node}
 use Rattle.build_samples.specs.declared.sample.Sample.{Sample}
 
--- `s` with this content is all that stands
-abbrev pub HoldsOnly : List ℕ → MemWorld → Type 0
-HoldsOnly content world = (path : List ℕ) → (around_of world.state).tree path ≡ file_at ((codes "s", content) ∷ []) path
-
--- What the build began with: nothing ran, and the store was live, had no record, and stood for all that a stop might have left.
-pub record IsOutset (content : List ℕ) (world : MemWorld) (store : Store) : Type 0 where
-  pub holds : HoldsOnly content world
+-- What the build began with: `s` with this content was the only file, and nothing ran; the store was live, and neither it nor anything
+-- that a stop might have left had a record.
+pub record IsOutsetOf (content : List ℕ) (world : MemWorld) (store : Store) : Type 0 where
+  pub only : (path : List ℕ) → (around_of world.state).tree path ≡ file_at ((codes "s", content) ∷ []) path
   pub idle : (around_of world.state).running ≡ []
   pub live : is_live store ≡ true
   pub kept : IsKept world_meaning world store
@@ -33,12 +30,12 @@ options = record { jobs = 1; keep = false; hash = Md5; silent = false }
 abbrev pub wanted : Wanted
 wanted = wanted_of copy_graph (target_node ∷ []) options
 
--- The build took these steps from there, and where it reports nothing it succeeded. Nothing is left to ask of the world, which tells
--- and is sure, nor of what was requested.
+-- The build took these steps from there, and where it reports nothing it succeeded. No premise is left: a world in memory tells and is
+-- sure, and none of its directories is closed; and the node that is requested is the graph's.
 pub record HasBuilt (content : List ℕ) (sample : Sample) : Type 0 where
   pub old : MemWorld
   pub store : Store
-  pub outset : IsOutset content old store
+  pub outset : IsOutsetOf content old store
   pub runs : HasRun world_meaning wanted (map_of store) old sample.world (map_of sample.store)
   pub succeeds : sample.end.faults ≡ [] → sample.end.memory ≡ false →
       HasSucceeded world_meaning wanted (map_of store) old sample.world (map_of sample.store)

@@ -1,5 +1,5 @@
 //! What is declared for the build: `t` is a copy of `s`.
-ghost use Rattle.std.specs.Prelude.{◌≡◌, ◌∷◌, [], codes, length, IfSome};
+ghost use Rattle.std.specs.Prelude.{◌≡◌, ◌∷◌, [], codes, IfSome};
 ghost use Rattle.node_tree.specs.Nodes.{Interns};
 ghost use Rattle.rule_graph.specs.Graphs.{empty_graph};
 ghost use Rattle.build_samples.specs.Copies.{copy_graph, copy_rule, target_node};

@@ -1,6 +1,6 @@
 //! The build of the copy, over a world in memory.
 ghost use Rattle.std.specs.Prelude.{◌≡◌, ◌∷◌, [], codes, IfSome};
-ghost use Rattle.build_samples.specs.Samples.{HasBuilt, IsOutset};
+ghost use Rattle.build_samples.specs.Samples.{HasBuilt, IsOutsetOf};
 
 use crate::declared::declare_copy;
 use build_run::{BuildEnd, Options, build};
@@ -55,7 +55,7 @@ pub fn build_copy(alloc: Global, content: &[u8]) -> Option<Sample>
 
 /// What the build begins with: a world in which `s` is the only file and no call fails, and its store.
 fn outset(alloc: Global, content: &[u8]) -> Option<(MemWorld, Store)>
-    ensures { IfSome result (λ begun. IsOutset content.now begun.0 begun.1) }
+    ensures { IfSome result (λ begun. IsOutsetOf content.now begun.0 begun.1) }
 {
     let files = only_file(alloc, content)?;
     let table = ActTable::new(Vec::new(alloc));

@@ -26,7 +26,7 @@ are_nodes : (g h k : RuleGraph) (target source : NodeId) → g ≡ empty_graph (
 are_nodes g h k target source new first kept second kept_2 =
     let one : Interns [] (codes "t") target.0 h.nodes = subst (λ (g : RuleGraph). Interns g.nodes (codes "t") target.0 h.nodes) new first in
     let other : Interns (codes "t" ∷ []) (codes "s") source.0 k.nodes =
-        subst (λ (nodes : List (List ℕ)). Interns nodes (codes "s") source.0 k.nodes) one.1 second in
+    subst (λ (nodes : List (List ℕ)). Interns nodes (codes "s") source.0 k.nodes) one.1 second in
     record {
       nodes = kept_2 ∙ ap (λ (h : RuleGraph). record h { nodes = k.nodes }) (kept ∙ ap (λ (g : RuleGraph). record g { nodes = h.nodes }) new)
           ∙ ap graph_with other.1;
@@ -59,17 +59,17 @@ is_declared : (g h : RuleGraph) (target source : NodeId) (rule : Rule) (id : ℕ
     → AddsRule g rule id h → h ≡ copy_graph
 is_declared g h target source rule id are is adds =
     let added : AddsRule (graph_with (codes "t" ∷ codes "s" ∷ [])) rule id h =
-        subst (λ (g : RuleGraph). AddsRule g rule id h) are.nodes adds in
+    subst (λ (g : RuleGraph). AddsRule g rule id h) are.nodes adds in
     added.1 ∙ ap (λ (r : Rule). record copy_graph { rules = r ∷ [] }) (rule_is target source rule are.first are.second is)
 
 pub add_rule-requires : goal.add_rule-requires
 add_rule-requires c =
     let are = are_nodes _ _ _ _ _ c.in_ok-graph.ensures c.in_ok-target.ensures.node c.node_of.ensures.rest c.in_ok-source.ensures.node
-        c.node_of-2.ensures.rest in
+    c.node_of-2.ensures.rest in
     may_stand _ _ _ _ are c.in_ok-rule.ensures
 
 pub returns-in-Ok : goal.returns-in-Ok
 returns-in-Ok c =
     let are = are_nodes _ _ _ _ _ c.in_ok-graph.ensures c.in_ok-target.ensures.node c.node_of.ensures.rest c.in_ok-source.ensures.node
-        c.node_of-2.ensures.rest in
+    c.node_of-2.ensures.rest in
     (is_declared _ _ _ _ _ _ are c.in_ok-rule.ensures c.in-Ok.ensures.ok, are.first)

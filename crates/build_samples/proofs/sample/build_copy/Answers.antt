@@ -15,5 +15,22 @@ asked g node graph target =
 
 pub build-end-requires : goal.build-end-requires
 build-end-requires c =
-    let outset = c.in_ok-outset.ensures in
+    let outset = c.in_ok-world.ensures in
     record { unclosed = refl; idle = λ told. outset.idle; live = outset.live; kept = outset.kept }
+
+pub returns : goal.returns
+returns c =
+    let old = c.in_ok-world.world in
+    let map = map_of c.in_ok-world.store in
+    let new = c.build-end.new.world in
+    let behind = map_of c.build-end.new.store in
+    let asks = asked c.in_ok-graph.graph c.in_ok-graph.target c.in_ok-graph.ensures.0 c.in_ok-graph.ensures.1 in
+    record {
+      old = old;
+      store = c.in_ok-world.store;
+      outset = c.in_ok-world.ensures;
+      runs = subst (λ (w : Wanted). BuildRuns world_meaning w map old new behind) asks c.build-end.ensures.runs tt tt refl;
+      succeeds = λ none enough.
+          subst (λ (w : Wanted). BuildSucceeds world_meaning w map old new behind c.build-end.result) asks c.build-end.ensures.succeeds none enough
+          tt tt refl;
+    }

@@ -16,7 +16,7 @@ returns c =
     let begun = c.in-Ok-begin.ensures in
     let same = c.begin.ensures.around tt in
     record {
-      holds = λ path. ap (λ (a : Around). a.tree path) same ∙ new.tree path ∙ ap (λ files. file_at files path) c.in_ok-files.ensures;
+      only = λ path. ap (λ (a : Around). a.tree path) same ∙ new.tree path ∙ ap (λ files. file_at files path) c.in_ok-files.ensures;
       idle = ap (λ (a : Around). a.running) same ∙ new.running;
       live = begun.live;
       kept = begun.keeps;
