@@ -2,6 +2,7 @@ use Rattle.std.proofs.Common.{◌∙◌, inl, refl, subst, sym}
 use Rattle.scons_top.proofs.Causing.{same_world, same_out, exit_report, report_memory, world_stop, sink_stop, stop_back, caused_back, build_found}
 use Rattle.world_api.proofs.Looking.{looks_same}
 use Rattle.sign_store.specs.Stores.{map_of}
+use Rattle.build_run.proofs.Goings.{passes_on}
 use Rattle.scons_top.specs.Requested.{AreNodes}
 use Rattle.scons_top.proofs.Building.{build_done, stops, stops_begun}
 use Rattle.scons_top.proofs.Requesting.{are_below_all}
@@ -24,6 +25,11 @@ pub returns-clause-reports : goal.returns-clause-reports
 returns-clause-reports g c =
     let same = same_out _ _ _ _ c.in_ok-say.ensures.step ∙ same_world _ _ _ _ c.in_ok-store.ensures.step in
     caused_back _ _ _ c.closed.result same (c.closed.ensures.causes _ _ _ _ _ (build_found _ _ _ _ c.build-end.ensures.causes) c.tell_end-written.ensures)
+
+pub returns-clause-passes : goal.returns-clause-passes
+returns-clause-passes g c =
+    let end = c.build-end.ensures in
+    passes_on g.W.Disk.meaning _ _ _ c.begin_store.ensures.goes.passes (record { told = end.told; later = end.later })
 
 pub returns-in_err-nodes-clause-builds : goal.returns-in_err-nodes-clause-builds
 returns-in_err-nodes-clause-builds g c = λ asks.
