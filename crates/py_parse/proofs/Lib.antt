@@ -5,7 +5,7 @@ pub mod Puts
 pub mod Items
 pub mod Ways
 pub mod Choices
-pub mod Pieces
+pub mod TextPieces
 pub mod Targets
 pub mod Paths
 pub mod Shorter

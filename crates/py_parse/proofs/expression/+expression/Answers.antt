@@ -6,7 +6,7 @@ use Rattle.py_parse.proofs.Cases.{agrees_over, stopped_by, taken_shorter, map_mo
 use Rattle.py_parse.proofs.Loops.{read_shorter, continues_more, continues_end, continues_fault, operations_none, operations_fault, operations_more, links_none, links_fault, links_more}
 use Rattle.py_parse.proofs.Paths.{chained_fault0, chained_fault1, chained_ok, not_deep0, not_fault1, not_ok, unnegated_tail_answers, minus_deep0, minus_fault1, minus_ok, plain_tail_answers, posted_fault0, posted_fault1, posted_ok, bracketed_deep0, bracketed_tail, bracketed_tail_answers, leaf_tail, call_link_deep0, call_link_tail, call_link_tail_answers, index_link_deep0, index_link_tail, index_link_tail_answers}
 use Rattle.py_parse.proofs.Choices.{expr_fault0, expr_plain, expr_deep, expr_choice_answers, test_fault0, test_unfit1, test_fault2, test_ok}
-use Rattle.py_parse.proofs.Pieces.{text_tail, text_tail_answers, start_tail, start_tail_answers, pieces_begin, pieces_end, pieces_stay, field_deep, field_fault0, field_unfit1, field_ok, field_then, field_broken}
+use Rattle.py_parse.proofs.TextPieces.{text_tail, text_tail_answers, start_tail, start_tail_answers, pieces_begin, pieces_end, pieces_stay, field_deep, field_fault0, field_unfit1, field_ok, field_then, field_broken}
 use Rattle.py_parse.proofs.Ways.{display_begins, link_begins, display_closes, link_closes, display_shrinks, link_shrinks, agrees_shorter, compare_fault, compare_tail, compares_none, compares_some}
 use Rattle.py_parse.proofs.expression.+expression.Goals as goal
 

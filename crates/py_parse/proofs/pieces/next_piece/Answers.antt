@@ -2,7 +2,7 @@ use Rattle.std.proofs.Common.{arith, refl, ap, ◌∙◌}
 use Rattle.py_tree.proofs.Views.{expr_tree-Joined}
 use Rattle.py_parse.specs.Reading.{ok, fault, unfit}
 use Rattle.py_parse.proofs.Cases.{taken_shorter}
-use Rattle.py_parse.proofs.Pieces.{steps_as, part_more, turned, field_stands, pieces_ended, pieces_unfit}
+use Rattle.py_parse.proofs.TextPieces.{steps_as, part_more, turned, field_stands, pieces_ended, pieces_unfit}
 use Rattle.py_parse.proofs.pieces.next_piece.Goals as goal
 
 pub pieces-preserved-in-Part : goal.pieces-preserved-in-Part
