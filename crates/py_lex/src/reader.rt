@@ -244,10 +244,10 @@ fn take_part(alloc: Global, text: OpenText, reader: Reader<'_>) -> Result<Step<'
             line: text.line,
             kind: LexKind::Unclosed,
         }),
-        Part::Refused { kind, lines } => Ok(Step::Stops {
-            line: reader.line + lines,
-            kind,
-        }),
+        Part::Refused { kind, lines } => {
+            let line = reader.line + lines;
+            Ok(Step::Stops { line, kind })
+        }
     }
 }
 
