@@ -74,8 +74,11 @@ module _ {O : Type 0} (m : SinkMeaning O) where
   tree_wants_first old whole r is = tree_wants old old [] whole whole r is refl (prints_nothing m old)
 
   -- the sink refused the line of a node
-  pub tree_cut : (old new : O) (line whole : List ℕ) (e : TreeEnd) (r : Result (Unit {0}) TreeEnd) → IsErrAnd r (λ x. x ≡ e) → Leads line whole → PrintsTree {T = Unit {0}} m line old new (Err e) → PrintsTree m whole old new r
-  tree_cut old new line whole e r is l h = tree_exit old new whole e r is (whole_end old new (line ++ l.more) whole e l.parts (longer old new line l.more e h))
+  pub tree_cut : (old new : O) (shown line whole : List ℕ) (e : TreeEnd) (r : Result (Unit {0}) TreeEnd) → IsErrAnd r (λ x. x ≡ e) → shown ≡ line → Leads line whole
+      → PrintsTree {T = Unit {0}} m shown old new (Err e) → PrintsTree m whole old new r
+  tree_cut old new shown line whole e r is same l h =
+      let parts : whole ≡ shown ++ l.more = l.parts ∙ ap (λ (t : List ℕ). t ++ l.more) (sym same) in
+      tree_exit old new whole e r is (whole_end old new (shown ++ l.more) whole e parts (longer old new shown l.more e h))
 
   -- an end behind what was printed
   pub tree_later : (old mid new : O) (done whole rest : List ℕ) (e : TreeEnd) (r : Result (Unit {0}) TreeEnd) → IsErrAnd r (λ x. x ≡ e) → whole ≡ done ++ rest → Prints m old mid done
@@ -94,3 +97,8 @@ module _ {O : Type 0} (m : SinkMeaning O) where
   -- one line more
   pub prints_more : (old mid new : O) (done line : List ℕ) → Prints m old mid done → Prints m mid new line → Prints m old new (done ++ line)
   prints_more old mid new done line p q = prints_both m old mid new done line p q
+
+  -- a text, and what is printed behind it
+  pub tree_then : (old mid new : O) (line whole rest : List ℕ) (r : Result (Unit {0}) TreeEnd) → whole ≡ line ++ rest → Prints m old mid line → PrintsTree m rest mid new r → PrintsTree m whole old new r
+  tree_then old mid new line whole rest (Ok value) parts p h = subst (Prints m old new) (sym parts) (prints_both m old mid new line rest p h)
+  tree_then old mid new line whole rest (Err e) parts p h = whole_end old new (line ++ rest) whole e parts (second old mid new line rest e p h)

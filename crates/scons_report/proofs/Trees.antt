@@ -1,8 +1,10 @@
 -- A walk over a tree writes the tree's lines.
-use Rattle.std.proofs.Common.{◌≡◌, ◌∙◌, ◌<◌, ◌≤◌, ℕ, zero, suc, ◌+◌, ◌-◌, Bool, true, false, cond, not, List, [], ◌∷◌, ◌++◌, length, get_or, map, set, replicate, Some, None, Option, refl, sym, ap, subst, append_assoc, append-nil, arith, length-append}
-use Rattle.std.specs.Prelude.{slice_get, slice_set}
+use Rattle.std.proofs.Common.{◌≡◌, ◌∙◌, ◌<◌, ◌≤◌, ℕ, zero, suc, ◌+◌, ◌-◌, Bool, true, false, cond, not, List, [], ◌∷◌, ◌++◌, length, get_or, take, drop, map, set, replicate, Some, None, Option, refl, sym, ap, subst, append_assoc, append-nil, arith, length-append}
+use Rattle.std.specs.Prelude.{nat_eq, slice_get, slice_set, MatchOption}
 use Rattle.std.specs.List.{count_by, sum_by}
 use Rattle.std.proofs.Math.Nat.{sub-zero}
+use Rattle.std.proofs.Math.Seq.{take-length}
+use Rattle.std.proofs.lemmas.Bool.Decides.{nat_tests}
 use Rattle.std.proofs.lemmas.List.{length-set, map-append}
 use Rattle.std.proofs.lemmas.List.Sums.{sum_by-set}
 use Rattle.std.proofs.lemmas.List.Folds.{sum_by-replicate}
@@ -19,7 +21,10 @@ use Rattle.scons_report.specs.Trees.{Shown, Written, Writer, followed, nothing, 
 use Rattle.scons_report.specs.Walks.{Side, side, side_of, sides_of, margin_of, over, remaining, text_left, with_next, Takes, IsOver, IsWithin, IsBegun, GoesBelow}
 
 same_lines : (a b : Written) → a.lines ≡ b.lines → a.open_nodes ≡ b.open_nodes → a ≡ b
-same_lines a b p q = cc
+same_lines a b p q =
+    let by_lines : List (List ℕ) → Written = λ ls. record { lines = ls; open_nodes = a.open_nodes } in
+    let by_marks : List Bool → Written = λ m. record { lines = b.lines; open_nodes = m } in
+    ap by_lines p ∙ ap by_marks q
 
 followed_nothing : (a : Written) → followed a nothing ≡ a
 followed_nothing a = same_lines (followed a nothing) a (append-nil a.lines) refl
@@ -223,6 +228,25 @@ module _ (old new : List Level) (level : Level) (is : old ≡ new ++ level ∷ [
   sides_push : map side_of old ≡ map side_of new ++ side_of level ∷ []
   sides_push = ap (λ (ls : List Level). map side_of ls) is ∙ map-append side_of new (level ∷ [])
 
+-- what a slice's length says of it
+pub none_of : {A : Type 0} (xs : List A) → length xs < 1 → xs ≡ []
+none_of [] h = refl
+none_of (x ∷ xs) h = absurd (omega arith)
+
+-- all that stands behind the first
+pub cons_of : {A : Type 0} (d : A) (xs : List A) → 1 ≤ length xs → xs ≡ get_or xs 0 d ∷ take (length xs - 1) (drop 1 xs)
+cons_of d [] h = absurd (omega arith)
+cons_of {A = A} d (x ∷ xs) h =
+    let all : suc (length xs) - 1 ≡ length xs = omega arith in
+    ap (λ (ys : List A). x ∷ ys) (sym (ap (λ (n : ℕ). take n xs) all ∙ take-length xs))
+
+not_none : (n : ℕ) → nat_eq (suc n) 0 ≡ false
+not_none n = grind (arith, nat_tests)
+
+pub last_of : (rest : List NodeId) → nat_eq (length rest) 0 ≡ is_last rest
+last_of [] = refl
+last_of (n ∷ rest) = not_none (length rest)
+
 -- a level with nothing left is nothing
 pub dropped : (old new : List Level) (level : Level) → old ≡ new ++ level ∷ [] → level.left.now ≡ [] →
     (shown : Shown) (depth : ℕ) (margin : List ℕ) (marks : List Bool) → over shown depth margin (map side_of old) marks ≡ over shown depth margin (map side_of new) marks
@@ -261,6 +285,12 @@ takes first old new mid level last n rest next same fewer marks popped left push
       fewer = omega (arith, count_new, count_old, fewer);
       marks = marks2 ∙ marks;
     }
+
+pub takes_some : (old new : Walk) (o : Option Next) (next : Next) → o ≡ Some next → MatchOption o (IsOver old) (Takes old new) → Takes old new next
+takes_some old new o next is h = subst (λ (x : Option Next). MatchOption x (IsOver old) (Takes old new)) is h
+
+pub over_none : (old new : Walk) (o : Option Next) → o ≡ None → MatchOption o (IsOver old) (Takes old new) → IsOver old
+over_none old new o is h = subst (λ (x : Option Next). MatchOption x (IsOver old) (Takes old new)) is h
 
 pub take_within : (nodes : ℕ) (old new : Walk) (next : Next) → Takes old new next → IsWithin nodes old → IsWithin nodes new
 take_within nodes old new next t w =

@@ -101,7 +101,7 @@ pub record WritesLine {O : Type 0} (m : SinkMeaning O) (whole : List ℕ) (old n
   pub parts : whole ≡ line ++ left
   pub prints : Prints m old new line
 
-abbrev WritesBy : {O T : Type 0} → SinkMeaning O → List ℕ → List ℕ → O → O → Result T TreeEnd → Type 0
+abbrev pub WritesBy : {O T : Type 0} → SinkMeaning O → List ℕ → List ℕ → O → O → Result T TreeEnd → Type 0
 WritesBy m whole left old new (Ok value) = WritesLine m whole old new left
 WritesBy {T = T} m whole left old new (Err e) = PrintsTree {T = T} m whole old new (Err e)
 
