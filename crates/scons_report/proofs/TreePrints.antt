@@ -1,14 +1,14 @@
 -- Lines that are printed one after the other.
-use Rattle.std.proofs.Common.{◌≡◌, ◌∙◌, ℕ, List, [], ◌∷◌, ◌++◌, refl, sym, ap, subst, append_assoc, append-nil}
+use Rattle.std.proofs.Common.{◌≡◌, ◌∙◌, ℕ, List, [], ◌++◌, refl, sym, ap, subst, append_assoc, append-nil}
 use Rattle.std.specs.Prelude.{Result, Ok, Err, IsErrAnd}
 use Rattle.rule_graph.specs.declared.build_fault.BuildFault.{BuildFault}
 use Rattle.rule_graph.specs.declared.build_fault.BuildFault.TheVariants as fault
 use Rattle.world_api.specs.Printed.{SinkMeaning}
-use Rattle.world_api.specs.Printing.{Prints, PrintsPart, Cuts}
+use Rattle.world_api.specs.Printing.{Prints, PrintsPart}
 use Rattle.world_api.proofs.PrintRuns.{prints_nothing, prints_both, cut_second, cut_longer, part_of, part_second}
 use Rattle.scons_report.specs.declared.tree_end.TreeEnd.{TreeEnd}
 use Rattle.scons_report.specs.declared.tree_end.TreeEnd.TheVariants as end
-use Rattle.scons_report.specs.Walks.{PrintsTree, WritesLine, WritesBy}
+use Rattle.scons_report.specs.Walks.{PrintsTree, WritesBy}
 use Rattle.scons_report.proofs.Trees.{Leads}
 
 module _ {O : Type 0} (m : SinkMeaning O) where

@@ -1,14 +1,13 @@
 -- A walk over a tree writes the tree's lines.
-use Rattle.std.proofs.Common.{◌≡◌, ◌∙◌, ◌<◌, ◌≤◌, ℕ, zero, suc, ◌+◌, ◌-◌, Bool, true, false, cond, not, List, [], ◌∷◌, ◌++◌, length, get_or, take, drop, map, set, replicate, Some, None, Option, refl, sym, ap, subst, append_assoc, append-nil, arith, length-append}
-use Rattle.std.specs.Prelude.{nat_eq, slice_get, slice_set, MatchOption}
-use Rattle.std.specs.List.{count_by, sum_by}
+use Rattle.std.proofs.Common.{◌≡◌, ◌∙◌, ◌<◌, ◌≤◌, ℕ, zero, suc, ◌+◌, ◌-◌, Bool, true, false, cond, not, List, [], ◌∷◌, ◌++◌, length, get_or, take, drop, map, replicate, Some, None, Option, refl, sym, ap, subst, append_assoc, append-nil, arith, length-append}
+use Rattle.std.specs.Prelude.{nat_eq, slice_set, MatchOption}
+use Rattle.std.specs.List.{count_by}
 use Rattle.std.proofs.Math.Nat.{sub-zero}
 use Rattle.std.proofs.Math.Seq.{take-length}
 use Rattle.std.proofs.lemmas.Bool.Decides.{nat_tests}
 use Rattle.std.proofs.lemmas.List.{length-set, map-append}
 use Rattle.std.proofs.lemmas.List.Sums.{sum_by-set}
 use Rattle.std.proofs.lemmas.List.Folds.{sum_by-replicate}
-use Rattle.std.proofs.lemmas.Grind.{flat_map-append}
 use Rattle.scons_base.specs.declared.ids.NodeId.{NodeId}
 use Rattle.rule_graph.specs.Graphs.{path_of}
 use Rattle.report_texts.specs.Texts.{line_text}
@@ -17,7 +16,7 @@ use Rattle.scons_report.specs.declared.tree.Form.TheVariants.{Leaf, Open, Pruned
 use Rattle.scons_report.specs.declared.tree.Level.{Level}
 use Rattle.scons_report.specs.declared.tree.Next.{Next}
 use Rattle.scons_report.specs.declared.tree.Walk.{Walk}
-use Rattle.scons_report.specs.Trees.{Shown, Written, Writer, followed, nothing, one_line, piece, row, row_by, row_text, name_text, form_of, rows, below, is_last, text_of, tree_lines, tree_text}
+use Rattle.scons_report.specs.Trees.{Shown, Written, Writer, followed, nothing, piece, row, row_by, row_text, name_text, form_of, rows, below, is_last, text_of, tree_text}
 use Rattle.scons_report.specs.Walks.{Side, side, side_of, sides_of, margin_of, over, remaining, text_left, with_next, Takes, IsOver, IsWithin, IsBegun, GoesBelow}
 
 same_lines : (a b : Written) → a.lines ≡ b.lines → a.open_nodes ≡ b.open_nodes → a ≡ b

@@ -1,5 +1,5 @@
 //! The tree of what a word asks for: each node with what it is made of below it.
-ghost use Rattle.std.specs.Prelude.{◌≡◌, ◌<◌, ◌++◌, ◌∷◌, [], List, ℕ, false, true, IfOk, OnOk, MatchOption, get_or, length, slice_set, map, string_bytes};
+ghost use Rattle.std.specs.Prelude.{◌≡◌, ◌<◌, ◌++◌, [], false, true, IfOk, OnOk, MatchOption, get_or, length, slice_set, map, string_bytes};
 ghost use Rattle.rule_graph.specs.Graphs.{path_of as path_in};
 ghost use Rattle.report_texts.specs.Texts.{line_text};
 ghost use Rattle.scons_report.specs.Trees.{children_of, form_of, name_text, piece, row_text, shown_in, tree_text};

@@ -1,7 +1,6 @@
 -- The trees of what was asked for: what they leave of the world, and why one isn't printed to its end.
-use Rattle.std.proofs.Common.{◌≡◌, ◌≢◌, ◌∙◌, ℕ, subst, sym, refl, ap}
+use Rattle.std.proofs.Common.{◌≡◌, ◌≢◌, ℕ, subst, sym, refl}
 use Rattle.std.specs.Prelude.{Result, Ok, Err, IsErrAnd}
-use Rattle.scons_base.specs.Rising.{Rose}
 use Rattle.world_api.specs.Causes.{Later}
 use Rattle.world_api.specs.Counts.{Counts}
 use Rattle.world_api.specs.Looks.{Looks}
@@ -18,7 +17,7 @@ use Rattle.scons_top.specs.declared.stop.Stop.TheVariants as stop
 use Rattle.scons_top.specs.Stops.{top_of, HasWorldCause, HasStop}
 use Rattle.scons_top.specs.Watching.{Watches}
 use Rattle.scons_top.proofs.Watching.{later_same, later_list}
-use Rattle.scons_top.proofs.Causing.{list_fault, sink_stop, stop_back, same_world, later_here}
+use Rattle.scons_top.proofs.Causing.{list_fault, sink_stop, stop_back, same_world}
 
 -- a fault of a tree that isn't the sink's is one of the files
 of_files : (a b : Counts) (x y : ℕ) (f : BuildFault) → f ≢ fault.OutFault → HasTreeCause {T = Unit {0}} a b x y (Err (end.Fault f)) → HasListFault a b f × (y ≡ x)

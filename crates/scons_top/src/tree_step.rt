@@ -1,5 +1,5 @@
 //! The trees of what was asked for, behind a build without a fault.
-ghost use Rattle.std.specs.Prelude.{◌≡◌, IfErr, IfOk};
+ghost use Rattle.std.specs.Prelude.{IfErr, IfOk};
 ghost use Rattle.scons_top.specs.Faults.{IsLateStop, EarlyOnlyIf};
 ghost use Rattle.scons_top.specs.Stops.{Reports};
 ghost use Rattle.scons_top.specs.Trees.{AreTreesCaused};
@@ -21,6 +21,7 @@ use world_api::{Sink, World};
 
 /// Writes the last lines of a build without a fault, and in front of the end line the tree of each request in order. The first so
 /// many rules of the graph are the declared ones. A fault in it ends the run as one of a build does.
+#[tactic(auto, using(crate::proofs::Watching::standing))]
 pub(crate) fn tell_trees<W: World, O: Sink, E: Sink>(
     alloc: Global,
     graph: &mut Graph,
@@ -51,6 +52,7 @@ pub(crate) fn tell_trees<W: World, O: Sink, E: Sink>(
 }
 
 /// Prints the tree of each request in order.
+#[tactic(auto, using(crate::proofs::Watching::standing))]
 fn print_trees<W: World, O: Sink>(
     alloc: Global,
     graph: &mut Graph,

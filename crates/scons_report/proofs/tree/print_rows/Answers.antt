@@ -1,4 +1,4 @@
-use Rattle.std.proofs.Common.{◌≡◌, ◌∙◌, ◌++◌, List, ℕ, length, sym, ap, append_assoc}
+use Rattle.std.proofs.Common.{◌∙◌, ◌++◌, List, ℕ, length, sym, ap, append_assoc}
 use Rattle.scons_report.specs.Trees.{shown_in}
 use Rattle.scons_report.specs.Walks.{text_left}
 use Rattle.scons_report.proofs.Trees.{taken, takes_some}

@@ -1,5 +1,5 @@
-use Rattle.std.proofs.Common.{◌≡◌, ◌∙◌, ℕ, List, length, ap, subst, sym, ◌++◌}
-use Rattle.scons_report.specs.Trees.{shown_in, tree_text}
+use Rattle.std.proofs.Common.{◌∙◌, ℕ, List, length, ap, subst, sym, ◌++◌}
+use Rattle.scons_report.specs.Trees.{shown_in}
 use Rattle.scons_report.specs.Walks.{IsBegun, text_left}
 use Rattle.scons_report.proofs.Trees.{begun_within, begun_left}
 use Rattle.scons_report.proofs.TreePrints.{tree_cut, tree_then}

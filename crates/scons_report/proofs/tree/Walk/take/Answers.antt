@@ -1,5 +1,4 @@
 use Rattle.std.proofs.Common.{◌≡◌, ◌∙◌, ◌-◌, [], drop, length, take, refl, arith}
-use Rattle.scons_report.specs.Trees.{is_last}
 use Rattle.scons_report.proofs.Trees.{none_of, cons_of, last_of, dropped, fewer_dropped, takes}
 use Rattle.scons_report.proofs.tree.Walk.take.Goals as goal
 
