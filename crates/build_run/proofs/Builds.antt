@@ -19,10 +19,11 @@ use Rattle.run_means.proofs.Keeping.{begin, did}
 use Rattle.turn_means.specs.Standing.{Outset}
 use Rattle.build_run.specs.Along.{is_faulted}
 use Rattle.build_run.specs.Ledgers.{Ledger, ledger_of, blank}
-use Rattle.build_run.specs.Outsets.{wanted_of, BuildRuns, BuildSucceeds, HasMade, HasSetOut, IsBlank, IsReadyFor, Leaves, MakesAll, SetsOut, SetsOutBehind}
+use Rattle.build_run.specs.Outsets.{wanted_of, BuildRuns, BuildSucceeds, HasMade, HasSetOut, IsBlank, IsReadyFor, Leaves, MakesAll, SetsOut, SetsOutBehind, StandFor, StaysKept}
 use Rattle.build_run.specs.Safe.{HasOutset}
 use Rattle.build_run.specs.Takes.{IsLeftAt}
 use Rattle.build_run.specs.declared.account.Account.{Account}
+use Rattle.build_run.proofs.EndingOn.{not_before}
 use Rattle.build_run.specs.declared.building.Options.{Options}
 use Rattle.build_run.specs.declared.end.BuildEnd.{BuildEnd}
 use Rattle.build_run.specs.declared.site.Run.{Run}
@@ -85,7 +86,10 @@ module _ {W : Type 0} (m : Meaning W) (g : RuleGraph) (requested : List NodeId) 
       has_outset = record { o = o; ready = ready }
 
     module _ (after : Account) (told : m.tells c → m.tells b) (last : Store) (makes : MakesAll m h run mid b account options c after last)
-        (rose : after.is_store_shut ≡ true → Rose (m.counts a).disk_faults (m.counts c).disk_faults) where
+        (rose : after.is_store_shut ≡ true → Rose (m.counts a).disk_faults (m.counts c).disk_faults) (stays : StaysKept m c last after) where
+      stands : m.tells c → after.is_store_shut ≡ false → StandFor m c (map_of last)
+      stands tells unshut banks image = ((stays unshut).each tells banks image).image
+
       made : (tells : m.tells c) → m.sure c → (below : are_below (length g.nodes) requested ≡ true) →
           HasMade (o (told tells) below) (m.around c) after (map_of last)
       made tells sure below = makes tells sure (o (told tells) below) (ready (told tells) below)
@@ -98,6 +102,7 @@ module _ {W : Type 0} (m : Meaning W) (g : RuleGraph) (requested : List NodeId) 
         runs = (made tells sure below).runs;
         records = λ calm. (made tells sure below).records (not_true after.is_store_shut (λ e. calm (rose e)));
         rests = λ e. (made tells sure below).rests (sym same ∙ e);
+        stored = λ e. stands tells ((made tells sure below).unshut (sym same ∙ e));
       }
 
       pub build_succeeded : (answer : BuildEnd) → (answer.faults ≡ [] → answer.memory ≡ false → is_faulted after ≡ false) →
@@ -110,6 +115,9 @@ module _ {W : Type 0} (m : Meaning W) (g : RuleGraph) (requested : List NodeId) 
             rest = (has (told tells) below).rest;
             succeeded = well.succeeded;
             records = well.records;
+            stored =
+                let did = made tells sure below in
+                stands tells (did.unshut (not_before after.is_ended (is_faulted after) did.told (faulted none memory)));
           }
 
   -- or nothing is made
@@ -128,6 +136,7 @@ module _ {W : Type 0} (m : Meaning W) (g : RuleGraph) (requested : List NodeId) 
             subst (λ (steps : List Step). KeepsRecords w (map_of mid) (m.around c) (m.around c) steps (map_of mid)) (sym ran.1)
             (begins (record { wanted = w; kept = map_of mid; counts = m.counts a; before = m.around c }) (m.around c));
         rests = λ e. true_false (sym ended ∙ e);
+        stored = λ e. true_false (sym ended ∙ e);
       }
 
   pub refused_untold : (after : Account) → is_faulted after ≡ true → (answer : BuildEnd) →

@@ -153,6 +153,8 @@ module _ {W O E : Type 0} (m : Meaning W) (o : Outset) (outset : IsOutset o) (mi
         rests = λ e.
             subst (λ (l : List Step). Rests o.wanted o.kept o.before s.around l) (sym ran.1)
             (comes_to_rest (not_before mid.account.now.is_ended after.is_ended ends.ended e));
+        unshut = λ e. shut ∙ there.unshut (not_before mid.account.now.is_ended after.is_ended ends.ended e);
+        told = ends.told on.at.told;
         succeeds = ended_well;
       }
 

@@ -3,7 +3,10 @@ use Rattle.std.proofs.Common.{◌≡◌, ◌∙◌, [], subst, sym}
 use Rattle.world_api.specs.Meaning.{Meaning}
 use Rattle.world_api.specs.Printed.{SinkMeaning}
 use Rattle.build_run.specs.Goings.{Passes}
+use Rattle.sign_store.specs.Stores.{IsKept}
+use Rattle.sign_store.specs.declared.store.Store.{Store}
 use Rattle.build_run.specs.Ledgers.{AllAccounts}
+use Rattle.build_run.specs.Outsets.{StaysKept}
 use Rattle.build_run.specs.declared.account.Account.{Account}
 use Rattle.build_run.specs.declared.site.Site.{Site}
 
@@ -23,3 +26,18 @@ module _ {W O E : Type 0} (m : Meaning W) (last : Site W O E) where
       (subst (λ (x : E). AllAccounts m o e old old_out old_err before world out x last.account.now) q
       (subst (λ (x : O). AllAccounts m o e old old_out old_err before world x last.err.now last.account.now) p
       (subst (λ (x : W). AllAccounts m o e old old_out old_err before x last.out.now last.err.now last.account.now) w accounts)))
+
+  pub stored_given : (world : W) (account : Account) (store : Store) → last.world.now ≡ world → last.account.now ≡ account →
+      last.store.now ≡ store → StaysKept m last.world.now last.store.now last.account.now → StaysKept m world store account
+  stored_given world account store w a st kept =
+      subst (λ (x : Account). StaysKept m world store x) a
+      (subst (λ (x : Store). StaysKept m world x last.account.now) st
+      (subst (λ (x : W). StaysKept m x last.store.now last.account.now) w kept))
+
+-- what is looked for as a site closes leaves its store as it was
+pub kept_closed : {W O E : Type 0} (m : Meaning W) (before after : Site W O E) → after.world.now ≡ before.world.now → after.store.now ≡ before.store.now →
+    after.account.now.is_store_shut ≡ before.account.now.is_store_shut → StaysKept m before.world.now before.store.now before.account.now →
+    StaysKept m after.world.now after.store.now after.account.now
+kept_closed {W} m before after world store shut kept unshut =
+    subst (λ (x : W). IsKept m x after.store.now) (sym world)
+    (subst (λ (x : Store). IsKept m before.world.now x) (sym store) (kept (sym shut ∙ unshut)))

@@ -27,3 +27,4 @@ mod Ended
 mod Begun
 pub mod Deciding
 mod Stopped
+pub mod Reasons

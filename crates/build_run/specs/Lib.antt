@@ -6,6 +6,7 @@ pub mod Holds
 pub mod Ledgers
 pub mod Outs
 pub mod Outsets
+pub mod Reasons
 pub mod Safe
 pub mod Sites
 pub mod Takes

@@ -3,11 +3,13 @@ use Rattle.std.specs.Prelude.{◌≡◌, ℕ, Bool, true, false, List, [], lengt
 use Rattle.scons_base.specs.Rising.{Rose}
 use Rattle.scons_base.specs.declared.ids.NodeId.{NodeId}
 use Rattle.world_api.specs.Around.{Around}
-use Rattle.world_api.specs.Meaning.{Meaning}
+use Rattle.world_api.specs.Banks.{Banks}
+use Rattle.world_api.specs.Meaning.{Meaning, IsImage}
 use Rattle.world_api.specs.declared.hash.Hash.{Hash}
 use Rattle.rule_graph.specs.Graphs.{RuleGraph}
 use Rattle.rule_graph.specs.Rules.{are_below}
-use Rattle.sign_store.specs.Stores.{map_of}
+use Rattle.sign_store.specs.Ends.{image_in}
+use Rattle.sign_store.specs.Stores.{IsKept, map_of}
 use Rattle.sign_store.specs.Tables.{Map}
 use Rattle.sign_store.specs.declared.store.Store.{Store}
 use Rattle.task_plan.specs.Admits.{Fits}
@@ -108,6 +110,8 @@ pub record HasMade (o : Outset) (around : Around) (account : Account) (behind : 
   pub runs : Runs o.wanted o.kept o.counts o.before around
   pub records : account.is_store_shut ≡ false → KeepsRecords o.wanted o.kept o.before around runs.steps behind
   pub rests : account.is_ended ≡ false → Rests o.wanted o.kept o.before around runs.steps
+  pub unshut : account.is_ended ≡ false → account.is_store_shut ≡ false
+  pub told : account.is_ended ≡ true → is_faulted account ≡ true
   pub succeeds : is_faulted account ≡ false → HasEndedWell o around behind
 
 -- a build has set out from there
@@ -124,6 +128,10 @@ abbrev pub MakesAll : {W : Type 0} → Meaning W → RuleGraph → Run → Store
 MakesAll m g run store world account options new new_account new_store = m.tells new → m.sure new → (o : Outset) →
     IsReadyFor m o g run store world account options → HasMade o (m.around new) new_account (map_of new_store)
 
+-- unless the store has refused, it is kept
+abbrev pub StaysKept : {W : Type 0} → Meaning W → W → Store → Account → Type 0
+StaysKept m world store account = account.is_store_shut ≡ false → IsKept m world store
+
 -- Where no rule waits for itself and none can go on, each needed rule of a plan is settled.
 abbrev pub Finishes : RuleGraph → Planned → Type 0
 Finishes g plan = IsStill plan → AreGoingOn plan → AllMet plan → AreFrom g plan → Fits g plan → IsFinished plan
@@ -133,6 +141,10 @@ abbrev pub FinishesWell : RuleGraph → Planned → Account → Account → Type
 FinishesWell g plan old new = (old.is_ended ≡ true → is_faulted old ≡ true) → is_faulted new ≡ false → Finishes g plan
 
 -- ---- builds
+
+-- all that a stop may leave of the banks now stands for these records
+abbrev pub StandFor : {W : Type 0} → Meaning W → W → Map → Type 0
+StandFor m world map = (banks : Banks) → IsImage m world banks → image_in banks ≡ map
 
 -- What a build did: leftover copies went, with their records, and from there it took these steps.
 pub record HasRun {W : Type 0} (m : Meaning W) (w : Wanted) (map : Map) (old new : W) (behind : Map) (ended : Bool) : Type 0 where
@@ -145,6 +157,8 @@ pub record HasRun {W : Type 0} (m : Meaning W) (w : Wanted) (map : Map) (old new
       KeepsRecords w kept left (m.around new) runs.steps behind
   -- for none of the needed rules anything is left to do, unless a fault came after which nothing new starts
   pub rests : ended ≡ false → Rests w kept left (m.around new) runs.steps
+  -- nor may a stop leave anything of the banks then that stands for other records
+  pub stored : ended ≡ false → StandFor m new behind
 
 -- What a build did that ended well, and that its steps left these records.
 pub record HasSucceeded {W : Type 0} (m : Meaning W) (w : Wanted) (map : Map) (old new : W) (behind : Map) : Type 0 where
@@ -153,6 +167,7 @@ pub record HasSucceeded {W : Type 0} (m : Meaning W) (w : Wanted) (map : Map) (o
   pub rest : LeavesRest (IsLeftAt w.graph (m.around old) map) (m.around old) map left kept
   pub succeeded : Succeeded w kept (m.counts old) left (m.around new)
   pub records : KeepsRecords w kept left (m.around new) succeeded.runs.steps behind
+  pub stored : StandFor m new behind
 
 -- So builds do, in a world that tells and is sure, where the requested nodes are the graph's.
 abbrev pub BuildRuns : {W : Type 0} → Meaning W → Wanted → Map → W → W → Map → BuildEnd → Type 0

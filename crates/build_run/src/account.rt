@@ -27,6 +27,7 @@ impl Account {
     ghost use Rattle.std.specs.Prelude.{◌≡◌, true, false};
     ghost use Rattle.build_run.specs.Along.{is_faulted, IsEnd, KeepsEnds};
     ghost use Rattle.build_run.specs.Ledgers.{ledger_of, blank, wanting, with_fault, with_end, Keeps, Reports};
+    ghost use Rattle.build_run.specs.Reasons.{IsLast, IsLastEnd, IsReasoned, KeepsReason, StaysReasoned};
 
     pub(crate) fn new(alloc: Global) -> Account
         ensures ledger { ledger_of result ≡ blank }
@@ -50,6 +51,7 @@ impl Account {
         ensures reports { Reports E.meaning err.old self.old (with_end (ledger_of self.old) end) err.new self.new }
         ensures ends { IsEnd self.new }
         ensures memory { end ≡ ListEnd.Memory → self.new.memory ≡ true }
+        ensures reason { IsLastEnd end → IsReasoned self.new }
     {
         self.is_ended = true;
         match end {
@@ -70,6 +72,7 @@ impl Account {
         ensures ends { KeepsEnds self.old self.new }
         ensures faulted { is_faulted self.new ≡ true }
         ensures goes { self.new.is_ended ≡ false → goes_on ≡ true }
+        ensures reason { KeepsReason goes_on self.old self.new }
     {
         self.report(err, fault);
         self.note_faulty(rule);
@@ -81,6 +84,8 @@ impl Account {
         ensures reports { Reports E.meaning err.old self.old (with_fault (ledger_of self.old) fault) err.new self.new }
         ensures ends { KeepsEnds self.old self.new }
         ensures faulted { is_faulted self.new ≡ true }
+        ensures reason { StaysReasoned self.old self.new }
+        ensures last { IsLast fault → IsReasoned self.new }
     {
         let text = fault_text(self.alloc, &fault);
         self.keep(fault);
@@ -91,6 +96,7 @@ impl Account {
     fn show<E: Sink>(&mut self, err: &mut E, text: Result<String, Memory>)
         ensures reports { Reports E.meaning err.old self.old (ledger_of self.old) err.new self.new }
         ensures ends { KeepsEnds self.old self.new }
+        ensures reason { StaysReasoned self.old self.new }
     {
         if self.is_err_shut {
             return;
@@ -105,6 +111,7 @@ impl Account {
     fn write<E: Sink>(&mut self, err: &mut E, text: &str)
         ensures reports { Reports E.meaning err.old self.old (ledger_of self.old) err.new self.new }
         ensures ends { KeepsEnds self.old self.new }
+        ensures reason { StaysReasoned self.old self.new }
     {
         match print(err, text) {
             Ok(()) => {}
@@ -120,6 +127,8 @@ impl Account {
         ensures keeps { Keeps self.old (with_fault (ledger_of self.old) fault) self.new }
         ensures ends { KeepsEnds self.old self.new }
         ensures faulted { is_faulted self.new ≡ true }
+        ensures reason { StaysReasoned self.old self.new }
+        ensures last { IsLast fault → IsReasoned self.new }
     {
         match self.faults.push(fault) {
             Ok(()) => {}
@@ -131,6 +140,7 @@ impl Account {
         ensures ledger { ledger_of self.new ≡ wanting (ledger_of self.old) }
         ensures ends { IsEnd self.new }
         ensures memory { self.new.memory ≡ true }
+        ensures reason { IsReasoned self.new }
     {
         self.memory = true;
         self.is_ended = true;
@@ -139,6 +149,7 @@ impl Account {
     fn note_faulty(&mut self, rule: RuleId)
         ensures keeps { Keeps self.old (ledger_of self.old) self.new }
         ensures ends { KeepsEnds self.old self.new }
+        ensures reason { StaysReasoned self.old self.new }
     {
         match self.faulty.push(rule) {
             Ok(()) => {}
@@ -149,6 +160,7 @@ impl Account {
     pub(crate) fn note_start(&mut self, rule: RuleId)
         ensures keeps { Keeps self.old (ledger_of self.old) self.new }
         ensures ends { KeepsEnds self.old self.new }
+        ensures reason { StaysReasoned self.old self.new }
     {
         match self.started.push(rule) {
             Ok(()) => {}

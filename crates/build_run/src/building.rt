@@ -10,7 +10,8 @@ ghost use Rattle.build_run.specs.Along.{is_faulted, KeepsEnds};
 ghost use Rattle.build_run.specs.Causes.{BuildCauses, IsInner};
 ghost use Rattle.build_run.specs.Goings.{Goes, Passes, Stays};
 ghost use Rattle.build_run.specs.Ledgers.{ledger_of, AllAccounts, Reports};
-ghost use Rattle.build_run.specs.Outsets.{wanted_of, BuildRuns, BuildSucceeds, FinishesWell, LeavesCopies, MakesAll, SetsOut, SetsOutBehind};
+ghost use Rattle.build_run.specs.Outsets.{wanted_of, BuildRuns, BuildSucceeds, FinishesWell, LeavesCopies, MakesAll, SetsOut, SetsOutBehind, StaysKept};
+ghost use Rattle.build_run.specs.Reasons.{EndsForReason, KeepsReason, SiteKeepsReason, StaysReasoned};
 ghost use Rattle.build_run.specs.Safe.{BuildsSafely, GoesSafely, MakesSafely};
 ghost use Rattle.build_run.specs.Sites.{IsSame, SiteAccounts, most_jobs};
 ghost use Rattle.build_run.specs.Takes.{HasTakeCause};
@@ -77,6 +78,7 @@ pub fn build<W: World, O: Sink, E: Sink>(
     ensures runs { BuildRuns W.meaning (wanted_of graph.old requested.now options.now) (map_of store.old) world.old world.new (map_of store.new) result }
     ensures succeeds { BuildSucceeds W.meaning (wanted_of graph.old requested.now options.now) (map_of store.old) world.old world.new (map_of store.new) result }
     ensures safe { BuildsSafely W.meaning (wanted_of graph.old requested.now options.now) world.old world.new }
+    ensures ends { EndsForReason options.now result }
 {
     graph.laws();
     let mut account = Account::new(alloc);
@@ -176,8 +178,10 @@ fn make_all<W: World, O: Sink, E: Sink>(
     ensures passes { Passes W.meaning world.old world.new }
     ensures idle { W.meaning.tells world.new → (W.meaning.around world.new).running ≡ [] }
     ensures accounts { AllAccounts W.meaning O.meaning E.meaning world.old out.old err.old account.old world.new out.new err.new account.new }
+    ensures stored { StaysKept W.meaning world.new store.new account.new }
     ensures makes { MakesAll W.meaning graph.old run.old store.old world.old account.old options world.new account.new store.new }
     ensures safe { MakesSafely W.meaning graph.old run.old store.old world.old account.old options world.new }
+    ensures reason { KeepsReason options.keep account.old account.new }
 {
     finished_succeed();
     let mut site = Site {
@@ -204,6 +208,7 @@ impl<W: World, O: Sink, E: Sink> Site<'_, '_, W, O, E> {
         ensures accounts { SiteAccounts W.meaning O.meaning E.meaning self.old self.new }
         ensures ends { KeepsEnds self.old.account.now self.new.account.now }
         ensures finishes { FinishesWell self.old.graph.now self.old.run.now.plan self.old.account.now self.new.account.now }
+        ensures reason { SiteKeepsReason self.old self.new }
     {
         tell_cycle(self.graph, &self.run.plan, self.account, self.err);
         match skipped(self.graph, &self.run.plan, self.account) {
@@ -221,6 +226,7 @@ fn tell_cycle<E: Sink>(graph: &Graph, plan: &Plan, account: &mut Account, err: &
     ensures reports { Reports E.meaning err.old account.old (ledger_of account.old) err.new account.new }
     ensures ends { KeepsEnds account.old account.new }
     ensures finishes { FinishesWell graph.now plan.now account.old account.new }
+    ensures reason { StaysReasoned account.old account.new }
 {
     plan.finishes(graph);
     if account.is_ended {

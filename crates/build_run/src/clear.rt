@@ -5,6 +5,7 @@ ghost use Rattle.build_run.specs.Books.{RefusesSo};
 ghost use Rattle.build_run.specs.Goings.{ClearsAt, Stays, Leaves, AreGone, AreUnused};
 ghost use Rattle.build_files.specs.Causes.{HasLookCause};
 ghost use Rattle.build_run.specs.Outs.{IsTicketFor, KeepsSome};
+ghost use Rattle.build_run.specs.Reasons.{EndsLast, SiteKeepsReason};
 ghost use Rattle.build_run.specs.Safe.{GoesSafely, SiteGoesSafely};
 ghost use Rattle.build_run.specs.Sites.{IsSound, IsReady, IsCleared, KeepsRecordsBut, SiteEnds, SiteGoes};
 ghost use Rattle.build_run.specs.Takes.{Takes};
@@ -40,6 +41,8 @@ impl<W: World, O: Sink, E: Sink> Site<'_, '_, W, O, E> {
         ensures tickets { KeepsTickets self.old.store.now self.new.store.now }
         ensures refused { RefusesSo W.meaning job.now.targets self.old self.new result }
         ensures safe { SiteGoesSafely W.meaning self.old self.new }
+        ensures reason { SiteKeepsReason self.old self.new }
+        ensures last { EndsLast result }
     {
         let targets = job.targets.as_slice();
         make_dirs(self.account.alloc, self.world, &mut self.run.dirs, targets)?;
@@ -67,6 +70,8 @@ impl<W: World, O: Sink, E: Sink> Site<'_, '_, W, O, E> {
         ensures tickets { KeepsTickets self.old.store.now self.new.store.now }
         ensures shut { OnErr result (self.new.account.now.is_store_shut ≡ true) }
         ensures safe { SiteGoesSafely W.meaning self.old self.new }
+        ensures reason { SiteKeepsReason self.old self.new }
+        ensures last { EndsLast result }
     {
         if !self.store.has_record(ticket) {
             return Ok(());

@@ -5,6 +5,7 @@ ghost use Rattle.build_run.specs.Causes.{IsInner};
 ghost use Rattle.build_run.specs.Along.{GoesAlong, MakesAlong, Presents};
 ghost use Rattle.build_run.specs.Goings.{Stays};
 ghost use Rattle.world_api.specs.Looks.{Looks};
+ghost use Rattle.build_run.specs.Reasons.{EndsLast, SiteKeepsReason};
 ghost use Rattle.build_run.specs.Safe.{StartsSafely, TurnsSafelyAs};
 ghost use Rattle.build_run.specs.Sites.{IsSound, KeepsHeld, SiteEnds, SitePasses};
 
@@ -29,6 +30,8 @@ impl<W: World, O: Sink, E: Sink> Site<'_, '_, W, O, E> {
         ensures kept { KeepsHeld self.old self.new }
         ensures along { GoesAlong W.meaning self.old self.new (Want.Decide rule) result }
         ensures safe { TurnsSafelyAs W.meaning self.old self.new (Want.Decide rule) }
+        ensures reason { SiteKeepsReason self.old self.new }
+        ensures last { EndsLast result }
     {
         match present(self.run, self.world, self.graph, rule)? {
             Present::Record(now) => self.make(rule, now),
@@ -52,6 +55,8 @@ impl<W: World, O: Sink, E: Sink> Site<'_, '_, W, O, E> {
         ensures kept { KeepsHeld self.old self.new }
         ensures along { MakesAlong W.meaning self.old self.new rule now result }
         ensures safe { StartsSafely W.meaning self.old self.new now }
+        ensures reason { SiteKeepsReason self.old self.new }
+        ensures last { EndsLast result }
     {
         if !is_stale(self.world, self.graph, self.store, rule, &now)? {
             return Ok(PlanEvent::Fresh(rule));

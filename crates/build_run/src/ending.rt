@@ -5,6 +5,7 @@ ghost use Rattle.build_run.specs.Goings.{Passes, IsJoined};
 ghost use Rattle.build_run.specs.Holds.{holds_in, without};
 ghost use Rattle.build_run.specs.Ledgers.{ledger_of, with_outcome, Reports};
 ghost use Rattle.build_run.specs.Outs.{LogsEnding};
+ghost use Rattle.build_run.specs.Reasons.{KeepsReason, SiteKeepsReason};
 ghost use Rattle.build_run.specs.Safe.{GoesSafely, HoldsSafely, SiteGoesSafely};
 ghost use Rattle.build_run.specs.Sites.{IsSound, IsSoundWith, IsStoredFor, KeepsRecords, PutsRecord, SiteAccounts, SitePasses, SitePuts, TakesEnding, most_jobs};
 ghost use Rattle.sign_store.specs.Stores.{KeepsTickets};
@@ -37,6 +38,7 @@ impl<W: World, O: Sink, E: Sink> Site<'_, '_, W, O, E> {
         ensures along { EndsAlong W.meaning self.old self.new result }
         ensures halted { self.new.run.now.plan ≡ self.old.run.now.plan }
         ensures safe { SiteGoesSafely W.meaning self.old self.new }
+        ensures reason { SiteKeepsReason self.old self.new }
     {
         self.put_if_few();
         self.take_ended()
@@ -55,6 +57,7 @@ impl<W: World, O: Sink, E: Sink> Site<'_, '_, W, O, E> {
         ensures held { HoldsFewer self.old.run.now.held self.new.run.now.held }
         ensures stands { StandsPut W.meaning self.old self.new }
         ensures safe { SiteGoesSafely W.meaning self.old self.new }
+        ensures reason { SiteKeepsReason self.old self.new }
     {
         if self.run.tickets.len() >= self.options.most_jobs() {
             return;
@@ -75,6 +78,7 @@ impl<W: World, O: Sink, E: Sink> Site<'_, '_, W, O, E> {
         ensures along { TakesAlong W.meaning self.old self.new result }
         ensures halted { self.new.run.now.plan ≡ self.old.run.now.plan }
         ensures safe { SiteGoesSafely W.meaning self.old self.new }
+        ensures reason { SiteKeepsReason self.old self.new }
     {
         let ended = wait(self.world, self.run, &self.options);
         let Some(busy) = self.run.tickets.take(ended.id) else {
@@ -115,6 +119,7 @@ impl<W: World, O: Sink, E: Sink> Site<'_, '_, W, O, E> {
         ensures held { HoldsFewer (self.old.run.now.held ++ busy ∷ []) self.new.run.now.held }
         ensures stands { StandsPut W.meaning self.old self.new }
         ensures safe { HoldsSafely W.meaning busy self.old self.new }
+        ensures reason { SiteKeepsReason self.old self.new }
     {
         let Ticketed { hold, ticket } = busy;
         self.run.held.add(hold, ticket);
@@ -137,6 +142,7 @@ impl<W: World, O: Sink, E: Sink> Site<'_, '_, W, O, E> {
         ensures held { HoldsFewer self.old.run.now.held self.new.run.now.held }
         ensures stands { StandsPut W.meaning self.old self.new }
         ensures safe { SiteGoesSafely W.meaning self.old self.new }
+        ensures reason { SiteKeepsReason self.old self.new }
     {
         if self.account.is_store_shut {
             self.run.held.clear();
@@ -185,6 +191,7 @@ fn not_done<E: Sink>(
     ensures goes { GoesOnAfter outcome options.now account.new }
     ensures reports { (target : List ℕ)
         × Reports E.meaning err.old account.old (with_outcome (ledger_of account.old) target outcome) err.new account.new }
+    ensures reason { KeepsReason options.now.keep account.old account.new }
 {
     let Ok(target) = first_target(graph, rule) else {
         account.want_memory();

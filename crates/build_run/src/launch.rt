@@ -8,6 +8,7 @@ ghost use Rattle.world_api.specs.Laws.{StartsJob};
 ghost use Rattle.build_run.specs.Ledgers.{ledger_of};
 ghost use Rattle.build_run.specs.Holds.{Busy, hold_for, holds_in, KeepsApart};
 ghost use Rattle.build_run.specs.Outs.{IsTicketFor, KeepsSome, ShareNone};
+ghost use Rattle.build_run.specs.Reasons.{EndsLast, SiteKeepsReason, StaysReasoned};
 ghost use Rattle.build_run.specs.Safe.{GoesSafely, SiteGoesSafely};
 ghost use Rattle.build_run.specs.Sites.{IsReady, IsSound, IsSoundWith, KeepsRecordsBut, SiteEnds, SitePasses, holds_after};
 ghost use Rattle.build_run.specs.declared.tickets.Hold.{Hold};
@@ -45,6 +46,8 @@ impl<W: World, O: Sink, E: Sink> Site<'_, '_, W, O, E> {
         ensures outs { KeepsTickets self.old.store.now self.new.store.now }
         ensures refused { RefusesSo W.meaning job.targets self.old self.new result }
         ensures safe { SiteGoesSafely W.meaning self.old self.new }
+        ensures reason { SiteKeepsReason self.old self.new }
+        ensures last { EndsLast result }
     {
         self.clear(&job, ticket)?;
         show(self.account, self.out, text)?;
@@ -57,6 +60,7 @@ fn show<O: Sink>(account: &mut Account, out: &mut O, text: &str) -> Result<(), L
     ensures account { ledger_of account.new ≡ ledger_of account.old }
     ensures ended { account.new.is_ended ≡ account.old.is_ended }
     ensures cause { HasPrintCause (O.meaning.faults out.old) (O.meaning.faults out.new) result }
+    ensures reason { StaysReasoned account.old account.new }
 {
     match print(out, text) {
         Ok(()) => Ok(()),

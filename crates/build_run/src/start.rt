@@ -2,6 +2,7 @@
 ghost use Rattle.std.specs.Prelude.{◌≡◌, ◌<◌, ◌≤◌, [], length, true, IfOk};
 ghost use Rattle.build_files.specs.Causes.{IsQuiet};
 ghost use Rattle.build_run.specs.Along.{StartsAlong};
+ghost use Rattle.build_run.specs.Reasons.{EndsLast, SiteKeepsReason};
 ghost use Rattle.build_run.specs.Safe.{StartsSafely};
 ghost use Rattle.build_run.specs.Sites.{IsSound, KeepsHeld, SiteEnds, SitePasses};
 ghost use Rattle.turn_means.specs.Laws.{IsJobFrom};
@@ -36,6 +37,8 @@ impl<W: World, O: Sink, E: Sink> Site<'_, '_, W, O, E> {
         ensures err { self.new.err.now ≡ self.old.err.now }
         ensures along { StartsAlong W.meaning self.old self.new rule now result }
         ensures safe { StartsSafely W.meaning self.old self.new now }
+        ensures reason { SiteKeepsReason self.old self.new }
+        ensures last { EndsLast result }
     {
         if self.account.is_store_shut {
             return Err(ListEnd::Fault(BuildFault::StoreFault));

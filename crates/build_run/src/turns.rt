@@ -1,7 +1,9 @@
 //! The turns of a build: what the plan wants is done, and the plan is told what came of it.
 ghost use Rattle.std.specs.Prelude.{◌≡◌, ◌≢◌, ◌⊎◌, ◌≤◌, ◌<◌, [], true, false, length, Err};
 ghost use Rattle.build_run.specs.Along.{ComesOn, GoesAlong, IsReliable, IsSpent, IsWantedOf, RestsAlong, StaysAlong, StepsOr, Tells, TellsAlong};
+ghost use Rattle.build_run.specs.Outsets.{StaysKept};
 ghost use Rattle.build_run.specs.Ledgers.{ledger_of, with_done, Accounts, Keeps, Reports};
+ghost use Rattle.build_run.specs.Reasons.{EndsLast, SiteKeepsReason, StaysReasoned};
 ghost use Rattle.build_run.specs.Safe.{SiteGoesSafely, TurnsSafely, TurnsSafelyAs};
 ghost use Rattle.build_run.specs.Sites.{IsSound, SiteAccounts, SiteEnds, SitePasses, most_jobs, outside_of};
 ghost use Rattle.scons_base.specs.declared.ids.RuleId.{RuleId};
@@ -24,10 +26,12 @@ impl<W: World, O: Sink, E: Sink> Site<'_, '_, W, O, E> {
         ensures passes { SitePasses W.meaning self.old self.new }
         ensures accounts { SiteAccounts W.meaning O.meaning E.meaning self.old self.new }
         ensures put { self.new.run.now.held ≡ [] }
+        ensures stored { StaysKept W.meaning self.new.world.now self.new.store.now self.new.account.now }
         ensures idle { W.meaning.tells self.new.world.now → (W.meaning.around self.new.world.now).running ≡ [] }
         ensures on { ComesOn W.meaning self.old self.new }
         ensures still { RestsAlong W.meaning self.old self.new }
         ensures safe { TurnsSafely W.meaning self.old self.new }
+        ensures reason { SiteKeepsReason self.old self.new }
     {
         self.take_turns();
         self.wait_for_all();
@@ -46,6 +50,7 @@ impl<W: World, O: Sink, E: Sink> Site<'_, '_, W, O, E> {
         ensures still { RestsAlong W.meaning self.old self.new }
         ensures halts { IsSpent self.new }
         ensures safe { TurnsSafely W.meaning self.old self.new }
+        ensures reason { SiteKeepsReason self.old self.new }
     {
         for _turn in 0..u64::MAX {
             let wanted = want(self.run, &self.options);
@@ -69,6 +74,7 @@ impl<W: World, O: Sink, E: Sink> Site<'_, '_, W, O, E> {
         ensures none { length self.old.run.now.tickets ≡ 0 → self.new ≡ self.old }
         ensures halted { self.old.run.now.plan.halted ≡ true → self.new.run.now.plan.halted ≡ true }
         ensures safe { SiteGoesSafely W.meaning self.old self.new }
+        ensures reason { SiteKeepsReason self.old self.new }
     {
         let running = self.run.tickets.len();
         for _turn in 0..running {
@@ -92,6 +98,7 @@ impl<W: World, O: Sink, E: Sink> Site<'_, '_, W, O, E> {
         ensures memory { done ≡ Err ListEnd.Memory → self.new.account.now.memory ≡ true }
         ensures halts { done ≡ Err ListEnd.Memory → self.new.run.now.plan.halted ≡ true }
         ensures safe { SiteGoesSafely W.meaning self.old self.new }
+        ensures reason { EndsLast done → SiteKeepsReason self.old self.new }
     {
         tell(self.graph, &mut self.run.plan, self.account, self.err, done);
         halt(self.graph, &mut self.run.plan, self.account);
@@ -107,6 +114,8 @@ impl<W: World, O: Sink, E: Sink> Site<'_, '_, W, O, E> {
         ensures along { GoesAlong W.meaning self.old self.new wanted result }
         ensures safe { TurnsSafelyAs W.meaning self.old self.new wanted }
         ensures sound { IsSound W.meaning self.new }
+        ensures reason { SiteKeepsReason self.old self.new }
+        ensures last { EndsLast result }
     {
         match wanted {
             Want::Scan(rule, file) => self.scan(rule, file),
@@ -123,6 +132,8 @@ impl<W: World, O: Sink, E: Sink> Site<'_, '_, W, O, E> {
         ensures sound { IsSound W.meaning self.old → IsSound W.meaning self.new }
         ensures along { GoesAlong W.meaning self.old self.new (Want.Scan rule file) result }
         ensures safe { SiteGoesSafely W.meaning self.old self.new }
+        ensures reason { SiteKeepsReason self.old self.new }
+        ensures last { EndsLast result }
     {
         let found = self.run.inputs.scanned(self.world, self.graph, rule, file)?;
         self.graph.laws();
@@ -176,6 +187,7 @@ fn tell<E: Sink>(
     ensures tells { Tells graph.now plan.old account.old done plan.new account.new }
     ensures memory { done ≡ Err ListEnd.Memory → account.new.memory ≡ true }
     ensures stays { plan.old.halted ≡ true → plan.new.halted ≡ true }
+    ensures reason { EndsLast done → StaysReasoned account.old account.new }
 {
     match done {
         Ok(event) => step(graph, plan, account, event),
@@ -187,6 +199,7 @@ fn step(graph: &Graph, plan: &mut Plan, account: &mut Account, event: PlanEvent)
     ensures keeps { Keeps account.old (ledger_of account.old) account.new }
     ensures steps { StepsOr graph.now plan.old event plan.new account.old account.new }
     ensures stays { plan.old.halted ≡ true → plan.new.halted ≡ true }
+    ensures reason { StaysReasoned account.old account.new }
 {
     match plan.step(graph, event) {
         Ok(()) => {}

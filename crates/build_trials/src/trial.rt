@@ -4,6 +4,7 @@ use crate::failures::put_failures;
 use crate::graphs::{put_graph_stops, put_graphs};
 use crate::idle::IdleWorld;
 use crate::runs::put_run;
+use crate::sampled::put_copy;
 use crate::spoiled::{bank_of, put_cuts, spoil};
 use crate::steps::{STEP, Step, word_of, words_of};
 use crate::stops::put_stops;
@@ -50,6 +51,7 @@ fn put_step(told: &mut Told, world: &mut IdleWorld, step: Step) {
 fn put_runs(told: &mut Told, world: &mut IdleWorld, step: Step) {
     match step.word {
         "run" => put_run(told, world, step.rest),
+        "copy" => put_copy(world.alloc, told, step.rest),
         "refused" => {
             let number = told.number(step.rest);
             told.keep(&mut world.refused, number);

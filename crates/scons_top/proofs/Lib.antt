@@ -2,3 +2,6 @@ mod Watching
 mod Early
 mod Causing
 mod Reporting
+mod Requesting
+mod Building
+mod Stopping

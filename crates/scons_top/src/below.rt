@@ -1,4 +1,7 @@
 //! The targets below directories.
+ghost use Rattle.std.specs.Prelude.{◌≤◌, length, IfOk};
+ghost use Rattle.rule_graph.specs.Graphs.{RuleGraph};
+ghost use Rattle.scons_top.specs.Requested.{AddsNodes, GivesNodes, HaveNodes, KnowsNodes};
 
 use build_files::{path_of, rule_at};
 use indexmap::IndexSet;
@@ -13,7 +16,9 @@ pub(crate) struct Below {
 }
 
 impl Below {
-    pub(crate) fn new() -> Below {
+    pub(crate) fn new() -> Below
+        ensures { (graph : RuleGraph) → KnowsNodes graph result }
+    {
         Below { targets: None }
     }
 
@@ -23,7 +28,10 @@ impl Below {
         alloc: Global,
         graph: &Graph,
         members: &[NodeId],
-    ) -> Result<Vec<NodeId>, Memory> {
+    ) -> Result<Vec<NodeId>, Memory>
+        ensures knows { KnowsNodes graph.now self.old → KnowsNodes graph.now self.new }
+        ensures nodes { KnowsNodes graph.now self.old → GivesNodes graph.now result }
+    {
         let mut met = IndexSet::new(alloc);
         let mut nodes = Vec::new(alloc);
         for member in members {
@@ -42,7 +50,10 @@ impl Below {
         graph: &Graph,
         member: NodeId,
         nodes: &mut Vec<NodeId>,
-    ) -> Result<(), Memory> {
+    ) -> Result<(), Memory>
+        ensures knows { KnowsNodes graph.now self.old → KnowsNodes graph.now self.new }
+        ensures nodes { KnowsNodes graph.now self.old → AddsNodes graph.now nodes.old nodes.new }
+    {
         if graph.rule_of(member).is_some() {
             nodes.push(member)?;
             return Ok(());
@@ -61,7 +72,10 @@ impl Below {
         alloc: Global,
         graph: &Graph,
         dir: &PathText,
-    ) -> Result<Vec<NodeId>, Memory> {
+    ) -> Result<Vec<NodeId>, Memory>
+        ensures knows { KnowsNodes graph.now self.old → KnowsNodes graph.now self.new }
+        ensures nodes { KnowsNodes graph.now self.old → GivesNodes graph.now result }
+    {
         if self.targets.is_none() {
             self.targets = Some(targets_of(alloc, graph)?);
         }
@@ -73,7 +87,9 @@ impl Below {
 }
 
 /// The declared targets, in the order of their paths.
-fn targets_of(alloc: Global, graph: &Graph) -> Result<Vec<(PathText, NodeId)>, Memory> {
+fn targets_of(alloc: Global, graph: &Graph) -> Result<Vec<(PathText, NodeId)>, Memory>
+    ensures { IfOk result (λ targets. HaveNodes graph.now targets.items) }
+{
     let mut targets = Vec::new(alloc);
     for number in 0..graph.rules() {
         add_targets(graph, RuleId(number), &mut targets)?;
@@ -86,7 +102,9 @@ fn add_targets(
     graph: &Graph,
     rule: RuleId,
     targets: &mut Vec<(PathText, NodeId)>,
-) -> Result<(), Memory> {
+) -> Result<(), Memory>
+    ensures { HaveNodes graph.now targets.old.items → HaveNodes graph.now targets.new.items }
+{
     for target in rule_at(graph, rule)?.targets.as_slice() {
         targets.push((path_of(graph, *target)?.copy()?, *target))?;
     }
@@ -98,10 +116,13 @@ fn those_below(
     alloc: Global,
     targets: &[(PathText, NodeId)],
     dir: &PathText,
-) -> Result<Vec<NodeId>, Memory> {
+) -> Result<Vec<NodeId>, Memory>
+    ensures { (graph : RuleGraph) → HaveNodes graph targets.now → GivesNodes graph result }
+{
     let mut nodes = Vec::new(alloc);
     let is_top = dir.as_str() == ".";
-    for (path, node) in targets.iter().skip(first_below(alloc, targets, dir)?) {
+    let first = first_below(alloc, targets, dir)?;
+    for (path, node) in &targets[first..] {
         if path.is_below(dir) {
             nodes.push(*node)?;
         } else if !is_top {
@@ -116,7 +137,9 @@ fn first_below(
     alloc: Global,
     targets: &[(PathText, NodeId)],
     dir: &PathText,
-) -> Result<usize, Memory> {
+) -> Result<usize, Memory>
+    ensures { IfOk result (λ place. place ≤ length targets.now) }
+{
     let front = match dir.as_str() {
         "." => return Ok(0),
         "/" => String::from_str(alloc, "/")?,

@@ -3,7 +3,11 @@ ghost use Rattle.std.specs.Prelude.{◌≡◌, [], true, IfOk, IfErr};
 ghost use Rattle.build_run.specs.Goings.{Passes, Goes};
 ghost use Rattle.scons_top.specs.Faults.{IsLateStop, EarlyOnlyIf};
 ghost use Rattle.world_api.specs.Statuses.{HasStatus};
-ghost use Rattle.sign_store.specs.Stores.{IsKept, is_live};
+ghost use Rattle.rule_graph.specs.Graphs.{RuleGraph};
+ghost use Rattle.sign_store.specs.Stores.{IsKept, is_live, HasMapOf};
+ghost use Rattle.scons_top.specs.Builds.{BeginsStore, RunBuilds};
+ghost use Rattle.scons_top.specs.Requested.{AskForNodes, GivesNodes};
+ghost use Rattle.scons_top.specs.Stopping.{RunsSafely};
 ghost use Rattle.scons_top.specs.Stops.{Reports, SinkStep, WorldStep};
 
 use crate::ending::{closed, tell_done, tell_faulty};
@@ -38,6 +42,8 @@ pub(crate) fn build_requests<W: World, O: Sink, E: Sink>(
     ensures late { IfErr result IsLateStop }
     ensures faults { IfOk result (λ report. EarlyOnlyIf ⊥ report.faults) }
     ensures status { IfOk result (λ report. HasStatus report.status report.faults) }
+    ensures builds { AskForNodes graph.old requests.now → RunBuilds W.meaning words.now world.old world.new result }
+    ensures safe { AskForNodes graph.old requests.now → RunsSafely W.meaning world.old world.new }
 {
     let nodes = nodes_of(alloc, requests)?;
     let mut store = begin_store(alloc, world)?;
@@ -69,6 +75,8 @@ fn begin_store<W: World>(alloc: Global, world: &mut W) -> Result<Store, Stop>
     ensures live { IfOk result (λ store. is_live store ≡ true) }
     ensures keeps { IfOk result (IsKept W.meaning world.new) }
     ensures late { IfErr result IsLateStop }
+    ensures begins { BeginsStore W.meaning world.old world.new }
+    ensures map { W.meaning.tells world.new → IfOk result (HasMapOf (W.meaning.seen world.old)) }
 {
     match Store::begin(alloc, world) {
         Ok(store) => Ok(store),
@@ -77,7 +85,9 @@ fn begin_store<W: World>(alloc: Global, world: &mut W) -> Result<Store, Stop>
 }
 
 /// The requested nodes, in order.
-pub(crate) fn nodes_of(alloc: Global, requests: &[Request]) -> Result<Vec<NodeId>, Memory> {
+pub(crate) fn nodes_of(alloc: Global, requests: &[Request]) -> Result<Vec<NodeId>, Memory>
+    ensures { (graph : RuleGraph) → AskForNodes graph requests.now → GivesNodes graph result }
+{
     let mut nodes = Vec::new(alloc);
     for request in requests {
         nodes.extend_from_slice(request.nodes.as_slice())?;

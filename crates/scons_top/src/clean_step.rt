@@ -4,6 +4,7 @@ ghost use Rattle.build_files.specs.Causes.{HasLookCause};
 ghost use Rattle.build_run.specs.Goings.{Stays};
 ghost use Rattle.scons_top.specs.Stops.{OutSteps, OutReports};
 ghost use Rattle.scons_top.specs.Faults.{IsLateStop};
+ghost use Rattle.scons_top.specs.Stopping.{StepsSafely};
 ghost use Rattle.world_api.specs.Statuses.{HasStatus};
 ghost use Rattle.scons_top.specs.Watching.{Watches};
 
@@ -33,6 +34,7 @@ pub(crate) fn clean_requests<W: World, O: Sink>(
 ) -> Result<Report, Stop>
     requires idle { W.meaning.tells world.old → (W.meaning.around world.old).running ≡ [] }
     ensures stays { Stays W.meaning world.old world.new }
+    ensures safe { StepsSafely W.meaning world.old world.new }
     ensures reports { OutReports W.meaning O.meaning world.old out.old world.new out.new result }
     ensures dry { IsTrue words.now.dry → Watches W.meaning world.old world.new }
     ensures late { IfErr result IsLateStop }
@@ -58,6 +60,7 @@ fn clean_rules<W: World, O: Sink>(
 ) -> Result<(), Stop>
     requires idle { W.meaning.tells world.old → (W.meaning.around world.old).running ≡ [] }
     ensures stays { Stays W.meaning world.old world.new }
+    ensures safe { StepsSafely W.meaning world.old world.new }
     ensures steps { OutSteps W.meaning O.meaning world.old out.old world.new out.new result }
     ensures dry { IsTrue words.now.dry → Watches W.meaning world.old world.new }
     ensures late { IfErr result IsLateStop }
@@ -80,6 +83,7 @@ fn clean_all<W: World, O: Sink>(
 ) -> Result<(), Stop>
     requires idle { W.meaning.tells world.old → (W.meaning.around world.old).running ≡ [] }
     ensures stays { Stays W.meaning world.old world.new }
+    ensures safe { StepsSafely W.meaning world.old world.new }
     ensures steps { OutSteps W.meaning O.meaning world.old out.old world.new out.new result }
     ensures dry { IsTrue words.now.dry → Watches W.meaning world.old world.new }
     ensures late { IfErr result IsLateStop }
@@ -100,6 +104,7 @@ fn clean<W: World, O: Sink>(
 ) -> Result<(), Stop>
     requires idle { W.meaning.tells world.old → (W.meaning.around world.old).running ≡ [] }
     ensures stays { Stays W.meaning world.old world.new }
+    ensures safe { StepsSafely W.meaning world.old world.new }
     ensures steps { OutSteps W.meaning O.meaning world.old out.old world.new out.new result }
     ensures dry { IsTrue words.now.dry → Watches W.meaning world.old world.new }
     ensures late { IfErr result IsLateStop }
@@ -114,6 +119,7 @@ fn clean<W: World, O: Sink>(
 fn is_removed<W: World>(words: &Words, world: &mut W, path: &PathText) -> Result<bool, ListEnd>
     requires idle { W.meaning.tells world.old → (W.meaning.around world.old).running ≡ [] }
     ensures stays { Stays W.meaning world.old world.new }
+    ensures safe { StepsSafely W.meaning world.old world.new }
     ensures cause { HasLookCause (W.meaning.counts world.old) (W.meaning.counts world.new) result }
     ensures dry { IsTrue words.now.dry → Watches W.meaning world.old world.new }
 {
@@ -131,6 +137,7 @@ fn is_removed<W: World>(words: &Words, world: &mut W, path: &PathText) -> Result
 fn remove<W: World>(world: &mut W, path: &PathText) -> Result<(), ListEnd>
     requires idle { W.meaning.tells world.old → (W.meaning.around world.old).running ≡ [] }
     ensures stays { Stays W.meaning world.old world.new }
+    ensures safe { StepsSafely W.meaning world.old world.new }
     ensures cause { HasLookCause (W.meaning.counts world.old) (W.meaning.counts world.new) result }
 {
     match world.remove(path) {

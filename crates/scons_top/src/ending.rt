@@ -68,6 +68,7 @@ pub(crate) fn show<O: Sink>(
 pub(crate) fn ended<E: Sink>(alloc: Global, stop: Stop, err: &mut E) -> Report
     ensures early { EarlyOnlyIf (IsEarlyStop stop) result.faults }
     ensures status { HasStatus result.status result.faults }
+    ensures fails { result.status ≢ 0 }
     ensures causes { ErrEnds E.meaning stop err.old err.new result }
 {
     match stop {
@@ -87,6 +88,7 @@ pub(crate) fn ended<E: Sink>(alloc: Global, stop: Stop, err: &mut E) -> Report
 fn kept<E: Sink>(alloc: Global, err: &mut E, fault: Top, text: Result<String, Memory>) -> Report
     ensures early { EarlyOnlyIf (IsEarly fault) result.faults }
     ensures status { HasStatus result.status result.faults }
+    ensures fails { result.status ≢ 0 }
     ensures causes { ErrReports E.meaning fault err.old err.new result }
 {
     let mut faults = Listing::empty(alloc);
@@ -104,6 +106,7 @@ fn keep<E: Sink>(
     faults: &mut Listing<Top>,
 ) -> Result<(), Memory>
     ensures early { EarlyOnlyIf (IsEarly fault) faults.old → EarlyOnlyIf (IsEarly fault) faults.new }
+    ensures some { OnOk result (faults.new ≢ []) }
     ensures finds { OnOk result (ErrFinds E.meaning err.old err.new (faults.old ++ fault ∷ []) faults.new false) }
     ensures lacks { OnErr result (ErrFinds E.meaning err.old err.new (faults.old ++ fault ∷ []) faults.new true) }
 {
@@ -213,6 +216,7 @@ pub(crate) fn closed(
 ) -> Report
     ensures late { EarlyOnlyIf ⊥ result.faults }
     ensures status { HasStatus result.status result.faults }
+    ensures well { result.status ≡ 0 → (found ≡ []) × (memory ≡ false) }
     ensures causes { Closes found memory written result }
 {
     let mut faults = Listing::empty(alloc);

@@ -1,5 +1,7 @@
 //! What is looked up for the words of a run: the targets below directories, and the records of former builds.
 ghost use Rattle.build_files.specs.Causes.{HasLookCause};
+ghost use Rattle.rule_graph.specs.Graphs.{RuleGraph};
+ghost use Rattle.scons_top.specs.Requested.{KnowsNodes};
 ghost use Rattle.scons_top.specs.Stops.{WorldStep};
 ghost use Rattle.scons_top.specs.Watching.{Watches};
 
@@ -25,7 +27,9 @@ pub(crate) struct Lookups {
 }
 
 impl Lookups {
-    pub(crate) fn new(is_cleaning: bool) -> Lookups {
+    pub(crate) fn new(is_cleaning: bool) -> Lookups
+        ensures { (graph : RuleGraph) → KnowsNodes graph result.below }
+    {
         Lookups {
             below: Below::new(),
             view: None,

@@ -1,4 +1,5 @@
 //! The members of an alias: each is a target, a file or a directory.
+ghost use Rattle.std.specs.Prelude.{◌≡◌};
 ghost use Rattle.build_files.specs.Causes.{HasLookCause};
 ghost use Rattle.scons_top.specs.Stops.{WorldStep, IsInside};
 ghost use Rattle.scons_top.specs.Watching.{Watches};
@@ -25,6 +26,7 @@ pub(crate) fn check_members<W: World>(
 ) -> Result<(), Stop>
     ensures watches { Watches W.meaning world.old world.new }
     ensures step { WorldStep (W.meaning.counts world.old) (W.meaning.counts world.new) result }
+    ensures below { lookups.new.below ≡ lookups.old.below }
 {
     if lookups.is_cleaning {
         return Ok(());

@@ -1,5 +1,7 @@
 //! What the words ask for.
+ghost use Rattle.std.specs.Prelude.{◌≡◌, IfOk};
 ghost use Rattle.build_files.specs.Causes.{HasLookCause};
+ghost use Rattle.scons_top.specs.Requested.{AsksForNodes, AskForNodes, HasMore, KnowsNodes};
 ghost use Rattle.scons_top.specs.Stops.{WorldStep, InnerStep, IsInside};
 ghost use Rattle.scons_top.specs.Watching.{Watches};
 
@@ -33,6 +35,7 @@ pub(crate) fn requests_of<W: World>(
 ) -> Result<Vec<Request>, Stop>
     ensures watches { Watches W.meaning world.old world.new }
     ensures step { WorldStep (W.meaning.counts world.old) (W.meaning.counts world.new) result }
+    ensures nodes { IfOk result (λ requests. AskForNodes graph.new requests.items) }
 {
     let asked = match words.requested.as_slice() {
         [] => defaults_of(alloc, graph)?,
@@ -51,6 +54,7 @@ fn requests_for<W: World>(
 ) -> Result<Vec<Request>, Stop>
     ensures watches { Watches W.meaning world.old world.new }
     ensures step { WorldStep (W.meaning.counts world.old) (W.meaning.counts world.new) result }
+    ensures nodes { IfOk result (λ requests. AskForNodes graph.new requests.items) }
 {
     let mut requests = Vec::new(alloc);
     let mut lookups = Lookups::new(is_cleaning);
@@ -87,6 +91,9 @@ fn request_of<W: World>(
 ) -> Result<Request, Stop>
     ensures watches { Watches W.meaning world.old world.new }
     ensures step { WorldStep (W.meaning.counts world.old) (W.meaning.counts world.new) result }
+    ensures more { HasMore graph.old graph.new }
+    ensures knows { KnowsNodes graph.old lookups.old.below → KnowsNodes graph.new lookups.new.below }
+    ensures nodes { KnowsNodes graph.old lookups.old.below → IfOk result (AsksForNodes graph.new) }
 {
     if let Some(members) = graph.alias(word.as_str()) {
         let nodes = lookups.below.members_of(alloc, graph, members)?;
@@ -114,6 +121,9 @@ fn file_request<W: World>(
 ) -> Result<Request, Stop>
     ensures watches { Watches W.meaning world.old world.new }
     ensures step { WorldStep (W.meaning.counts world.old) (W.meaning.counts world.new) result }
+    ensures more { HasMore graph.old graph.new }
+    ensures knows { KnowsNodes graph.old lookups.old.below → KnowsNodes graph.new lookups.new.below }
+    ensures nodes { KnowsNodes graph.old lookups.old.below → IfOk result (AsksForNodes graph.new) }
 {
     match kind_of(world, path)? {
         Kind::File => plain_request(alloc, world, graph, lookups, word, path),
@@ -137,6 +147,9 @@ fn plain_request<W: World>(
 ) -> Result<Request, Stop>
     ensures watches { Watches W.meaning world.old world.new }
     ensures step { WorldStep (W.meaning.counts world.old) (W.meaning.counts world.new) result }
+    ensures more { HasMore graph.old graph.new }
+    ensures knows { KnowsNodes graph.old lookups.old.below → KnowsNodes graph.new lookups.new.below }
+    ensures nodes { KnowsNodes graph.old lookups.old.below → IfOk result (AsksForNodes graph.new) }
 {
     if is_left_over(alloc, world, graph, &mut lookups.view, path)? {
         return absent_request(alloc, graph, lookups, word, path);
@@ -152,7 +165,9 @@ fn absent_request(
     word: &Text,
     path: &PathText,
 ) -> Result<Request, Stop>
-    ensures { InnerStep result }
+    ensures step { InnerStep result }
+    ensures knows { KnowsNodes graph.now lookups.old.below → KnowsNodes graph.now lookups.new.below }
+    ensures nodes { KnowsNodes graph.now lookups.old.below → IfOk result (AsksForNodes graph.now) }
 {
     let nodes = lookups.below.targets_below(alloc, graph, path)?;
     if nodes.is_empty() {
@@ -169,14 +184,17 @@ fn node_request(
     path: &PathText,
     is_plain: bool,
 ) -> Result<Request, Stop>
-    ensures { InnerStep result }
+    ensures step { InnerStep result }
+    ensures more { HasMore graph.old graph.new }
+    ensures nodes { IfOk result (AsksForNodes graph.new) }
 {
     let nodes = vec![in alloc; graph.intern(path)?]?;
     made(word, nodes, is_plain)
 }
 
 fn made(word: &Text, nodes: Vec<NodeId>, is_plain: bool) -> Result<Request, Stop>
-    ensures { InnerStep result }
+    ensures step { InnerStep result }
+    ensures nodes { IfOk result (λ request. request.nodes ≡ nodes) }
 {
     Ok(Request {
         word: word.copy()?,

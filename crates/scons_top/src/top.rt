@@ -1,7 +1,10 @@
 //! The steps of a run.
 ghost use Rattle.std.specs.Prelude.{◌≡◌, [], Ok, IfOk, IfErr, Contains, IsTrue};
 ghost use Rattle.build_run.specs.Goings.{Passes};
+ghost use Rattle.scons_top.specs.Builds.{Builds, RunBuilds};
 ghost use Rattle.scons_top.specs.Causes.{RunCauses};
+ghost use Rattle.scons_top.specs.Requested.{AskForNodes};
+ghost use Rattle.scons_top.specs.Stopping.{RunsSafely};
 ghost use Rattle.scons_top.specs.Stops.{Reports, SinkReports};
 ghost use Rattle.scons_top.specs.Faults.{IsEarly, IsEarlyStop, EarlyOnlyIf};
 ghost use Rattle.world_api.specs.Statuses.{HasStatus};
@@ -45,6 +48,8 @@ pub fn scons<W: World, O: Sink, E: Sink>(
     ensures dry { (said : Words) → read words.now ≡ Ok said → IsTrue said.dry → Looks W.meaning world.old world.new }
     ensures help { (said : Words) → read words.now ≡ Ok said → IsTrue said.help → Looks W.meaning world.old world.new }
     ensures unchanged { (fault : Top) → Contains result.faults fault → IsEarly fault → Looks W.meaning world.old world.new }
+    ensures builds { (said : Words) → read words.now ≡ Ok said → Builds W.meaning said world.old world.new result }
+    ensures safe { RunsSafely W.meaning world.old world.new }
     ensures status { HasStatus result.status result.faults }
     ensures causes { RunCauses W.meaning O.meaning E.meaning world.old out.old err.old world.new out.new err.new result }
 {
@@ -69,6 +74,8 @@ fn take_words<W: World, O: Sink, E: Sink>(
     ensures idle { W.meaning.tells world.new → (W.meaning.around world.new).running ≡ [] }
     ensures dry { (said : Words) → read words.now ≡ Ok said → IsTrue said.dry → Looks W.meaning world.old world.new }
     ensures help { (said : Words) → read words.now ≡ Ok said → IsTrue said.help → Looks W.meaning world.old world.new }
+    ensures builds { (said : Words) → read words.now ≡ Ok said → RunBuilds W.meaning said world.old world.new result }
+    ensures safe { RunsSafely W.meaning world.old world.new }
     ensures early { IfErr result (λ stop. IsEarlyStop stop → Looks W.meaning world.old world.new) }
     ensures late { IfOk result (λ report. EarlyOnlyIf ⊥ report.faults) }
     ensures status { IfOk result (λ report. HasStatus report.status report.faults) }
@@ -95,6 +102,8 @@ pub(crate) fn run<W: World, O: Sink, E: Sink>(
     ensures idle { W.meaning.tells world.new → (W.meaning.around world.new).running ≡ [] }
     ensures dry { IsTrue words.now.dry → Looks W.meaning world.old world.new }
     ensures help { IsTrue words.now.help → Looks W.meaning world.old world.new }
+    ensures builds { RunBuilds W.meaning words.now world.old world.new result }
+    ensures safe { RunsSafely W.meaning world.old world.new }
     ensures early { IfErr result (λ stop. IsEarlyStop stop → Looks W.meaning world.old world.new) }
     ensures late { IfOk result (λ report. EarlyOnlyIf ⊥ report.faults) }
     ensures status { IfOk result (λ report. HasStatus report.status report.faults) }
@@ -140,6 +149,8 @@ fn serve<W: World, O: Sink, E: Sink>(
     ensures reports { Reports W.meaning O.meaning E.meaning world.old out.old err.old world.new out.new err.new result }
     ensures idle { W.meaning.tells world.new → (W.meaning.around world.new).running ≡ [] }
     ensures dry { IsTrue words.now.dry → Looks W.meaning world.old world.new }
+    ensures builds { AskForNodes graph.old requests.now → RunBuilds W.meaning words.now world.old world.new result }
+    ensures safe { AskForNodes graph.old requests.now → RunsSafely W.meaning world.old world.new }
     ensures early { IfErr result (λ stop. IsEarlyStop stop → Looks W.meaning world.old world.new) }
     ensures late { IfOk result (λ report. EarlyOnlyIf ⊥ report.faults) }
     ensures status { IfOk result (λ report. HasStatus report.status report.faults) }

@@ -9,6 +9,7 @@ use Rattle.build_run.proofs.Goings.{passes_on}
 use Rattle.build_run.proofs.Safely.{safe_on}
 use Rattle.build_run.proofs.Stopped.{builds_safely}
 use Rattle.build_run.proofs.Taking.{take_accounted}
+use Rattle.build_run.proofs.Reasons.{answers_so, not_ended}
 use Rattle.build_run.proofs.building.build.Goals as goal
 
 pub make_all-skipped-requires : goal.make_all-skipped-requires
@@ -58,7 +59,7 @@ returns-in-Ok-clause-runs g c =
     c.set_out.ensures.goes.passes.told.told c.in-Ok.ensures.cause
     c.in-Ok.ensures.sets (is_blank c.new-account.result c.new-account.ensures.ledger c.new-account.ensures.ended)
     c.make_all-skipped.new.account c.make_all-skipped.ensures.passes.told.told
-    c.make_all-skipped.new.store c.make_all-skipped.ensures.makes made.shut c.answer.result c.answer.ensures.ended
+    c.make_all-skipped.new.store c.make_all-skipped.ensures.makes made.shut c.make_all-skipped.ensures.stored c.answer.result c.answer.ensures.ended
 
 pub returns-in-Ok-clause-succeeds : goal.returns-in-Ok-clause-succeeds
 returns-in-Ok-clause-succeeds g c =
@@ -71,7 +72,7 @@ returns-in-Ok-clause-succeeds g c =
     c.set_out.ensures.goes.passes.told.told c.in-Ok.ensures.cause
     c.in-Ok.ensures.sets (is_blank c.new-account.result c.new-account.ensures.ledger c.new-account.ensures.ended)
     c.make_all-skipped.new.account c.make_all-skipped.ensures.passes.told.told
-    c.make_all-skipped.new.store c.make_all-skipped.ensures.makes made.shut c.answer.result c.answer.ensures.faulted
+    c.make_all-skipped.new.store c.make_all-skipped.ensures.makes made.shut c.make_all-skipped.ensures.stored c.answer.result c.answer.ensures.faulted
 
 pub returns-in-Err-clause-runs : goal.returns-in-Err-clause-runs
 returns-in-Err-clause-runs g c =
@@ -107,3 +108,9 @@ pub returns-in-Err-clause-safe : goal.returns-in-Err-clause-safe
 returns-in-Err-clause-safe g c =
     builds_safely g.W.Disk.meaning (wanted_of c.args.graph.now c.args.requested.now c.args.options.now) c.args.world.now
     c.set_out.new.world c.requires.idle (λ s below safe. c.set_out.ensures.safe s safe)
+
+pub returns-in-Ok-clause-ends : goal.returns-in-Ok-clause-ends
+returns-in-Ok-clause-ends g c =
+    let a = c.answer.ensures in
+    answers_so c.args.options.now c.make_all-skipped.new.account c.answer.result a.faults a.memory a.ended
+    (c.make_all-skipped.ensures.reason (λ keep. not_ended c.new-account.result c.new-account.ensures.ended))

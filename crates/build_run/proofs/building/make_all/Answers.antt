@@ -1,7 +1,7 @@
 use Rattle.std.proofs.Common.{◌∙◌, ap, rules}
 use Rattle.sign_store.specs.Stores.{map_of}
 use Rattle.build_run.proofs.Finishing.{first_along, has_made, made_given}
-use Rattle.build_run.proofs.Lending.{accounts_given, idle_given, passes_given}
+use Rattle.build_run.proofs.Lending.{accounts_given, idle_given, kept_closed, passes_given, stored_given}
 use Rattle.build_run.proofs.Sites.{sound_first}
 use Rattle.build_run.proofs.Stopped.{along_first}
 use Rattle.build_run.proofs.Turning.{first_safe, safe_given}
@@ -58,3 +58,15 @@ returns-clause-safe g c = λ s outset safe.
     (first_safe m s _ c.requires.held c.requires.none safe) in
     safe_given m s c.close.new.self c.args.world.now mid.world.now _ (search rules) c.close.ensures.world
     (record { moments = on.moments; now = on.now.world })
+
+pub returns-clause-stored : goal.returns-clause-stored
+returns-clause-stored g c =
+    let m = g.W.Disk.meaning in
+    let mid = c.go_on.new.self in
+    let same = c.close.ensures.same in
+    let passes = c.go_on.ensures.passes.same in
+    let lent_world = same.world ∙ passes.world in
+    let lent_account = same.account ∙ passes.account in
+    let lent_store = same.store ∙ passes.store in
+    stored_given m c.close.new.self _ c.account-1.given.0 c.store-1.given.0 (search rules) (search rules) (search rules)
+    (kept_closed m mid c.close.new.self c.close.ensures.world c.close.ensures.store c.close.ensures.shut c.go_on.ensures.stored)

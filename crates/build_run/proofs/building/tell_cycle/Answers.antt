@@ -1,5 +1,6 @@
 use Rattle.build_run.specs.Ledgers.{ledger_of}
 use Rattle.build_run.proofs.Causing.{inner, inside}
+use Rattle.build_run.proofs.Reasons.{last_inside}
 use Rattle.build_run.proofs.building.tell_cycle.Goals as goal
 
 pub returns-in-Ok-Some-clause-reports : goal.returns-in-Ok-Some-clause-reports
@@ -15,3 +16,6 @@ returns-in-Err-clause-reports g c = record {
   shut = c.end.ensures.reports.shut;
   accounts = λ counts out start a. c.end.ensures.reports.accounts counts out start (inside start (ledger_of c.args.account.now) counts out _ c.in-Err.end c.in-Err.ensures.quiet a);
 }
+
+pub returns-in-Err-clause-reason : goal.returns-in-Err-clause-reason
+returns-in-Err-clause-reason g c = λ reason. c.end.ensures.reason (last_inside c.in-Err.end c.in-Err.ensures.quiet)

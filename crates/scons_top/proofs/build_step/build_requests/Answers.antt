@@ -1,5 +1,12 @@
-use Rattle.std.proofs.Common.{◌∙◌, refl}
+use Rattle.scons_top.proofs.Stopping.{runs_by, runs_on, steps_begun, steps_here}
+use Rattle.std.proofs.Common.{◌∙◌, inl, refl, subst, sym}
 use Rattle.scons_top.proofs.Causing.{same_world, same_out, exit_report, report_memory, world_stop, sink_stop, stop_back, caused_back, build_found}
+use Rattle.world_api.proofs.Looking.{looks_same}
+use Rattle.sign_store.specs.Stores.{map_of}
+use Rattle.build_run.proofs.Goings.{passes_on}
+use Rattle.scons_top.specs.Requested.{AreNodes}
+use Rattle.scons_top.proofs.Building.{build_done, stops, stops_begun}
+use Rattle.scons_top.proofs.Requesting.{are_below_all}
 use Rattle.scons_top.proofs.build_step.build_requests.Goals as goal
 
 pub returns-in_err-nodes-clause-reports : goal.returns-in_err-nodes-clause-reports
@@ -19,3 +26,61 @@ pub returns-clause-reports : goal.returns-clause-reports
 returns-clause-reports g c =
     let same = same_out _ _ _ _ c.in_ok-say.ensures.step ∙ same_world _ _ _ _ c.in_ok-store.ensures.step in
     caused_back _ _ _ c.closed.result same (c.closed.ensures.causes _ _ _ _ _ (build_found _ _ _ _ c.build-end.ensures.causes) c.tell_end-written.ensures)
+
+pub returns-clause-passes : goal.returns-clause-passes
+returns-clause-passes g c =
+    let end = c.build-end.ensures in
+    passes_on g.W.Disk.meaning _ _ _ c.begin_store.ensures.goes.passes (record { told = end.told; later = end.later })
+
+pub returns-in_err-nodes-clause-builds : goal.returns-in_err-nodes-clause-builds
+returns-in_err-nodes-clause-builds g c = λ asks.
+    let m = g.W.Disk.meaning in
+    stops m c.args.words.now c.args.world.now _ c.from_residual.result _ c.from_residual.ensures.1 (inl (looks_same m c.args.world.now))
+
+pub returns-in_err-store-clause-builds : goal.returns-in_err-store-clause-builds
+returns-in_err-store-clause-builds g c = λ asks.
+    let r = c.from_residual-in_err-store in
+    stops_begun g.W.Disk.meaning c.args.words.now c.args.world.now _ r.result _ r.ensures.1 c.begin_store.ensures.begins
+
+pub returns-in_err-say-clause-builds : goal.returns-in_err-say-clause-builds
+returns-in_err-say-clause-builds g c = λ asks.
+    let r = c.from_residual-in_err-say in
+    stops_begun g.W.Disk.meaning c.args.words.now c.args.world.now _ r.result _ r.ensures.1 c.begin_store.ensures.begins
+
+pub returns-clause-builds : goal.returns-clause-builds
+returns-clause-builds g c = λ asks ask tells sure.
+    let graph = c.args.graph.now in
+    let requested = c.as_slice.result.now in
+    let nodes = subst (AreNodes graph) (sym c.as_slice.ensures.value) (c.in_ok-nodes.ensures graph asks) in
+    let store = c.in_ok-store in
+    let end = c.build-end in
+    let told = end.ensures.told.told tells in
+    build_done g.W.Disk.meaning c.args.words.now graph requested (map_of store.store) c.args.world.now c.begin_store.new.world end.new.world
+    (map_of end.new.store) end.result c.closed.result.status store.ensures.begins told store.ensures.step (store.ensures.map told)
+    (are_below_all graph requested nodes) c.closed.ensures.well tells sure end.ensures.runs end.ensures.succeeds
+
+pub returns-in_err-nodes-clause-safe : goal.returns-in_err-nodes-clause-safe
+returns-in_err-nodes-clause-safe g c = λ asks. runs_by _ _ _ (steps_here g.W.Disk.meaning g.met.W.Disk.only_now c.args.world.now)
+
+pub returns-in_err-store-clause-safe : goal.returns-in_err-store-clause-safe
+returns-in_err-store-clause-safe g c = λ asks.
+    let begun = c.begin_store.ensures in
+    runs_by _ _ _ (steps_begun g.W.Disk.meaning g.met.W.Disk.reads_as c.args.world.now c.begin_store.new.world begun.goes.passes.told begun.begins)
+
+pub returns-in_err-say-clause-safe : goal.returns-in_err-say-clause-safe
+returns-in_err-say-clause-safe g c = λ asks.
+    let begun = c.begin_store.ensures in
+    runs_by _ _ _ (steps_begun g.W.Disk.meaning g.met.W.Disk.reads_as c.args.world.now c.begin_store.new.world begun.goes.passes.told begun.begins)
+
+pub returns-clause-safe : goal.returns-clause-safe
+returns-clause-safe g c = λ asks.
+    let m = g.W.Disk.meaning in
+    let graph = c.args.graph.now in
+    let requested = c.as_slice.result.now in
+    let nodes = subst (AreNodes graph) (sym c.as_slice.ensures.value) (c.in_ok-nodes.ensures graph asks) in
+    let old = c.args.world.now in
+    let begun = c.begin_store in
+    let end = c.build-end in
+    runs_on m old begun.new.world end.new.world end.ensures.told
+    (steps_begun m g.met.W.Disk.reads_as old begun.new.world begun.ensures.goes.passes.told begun.ensures.begins)
+    (λ s law truth. end.ensures.safe s law truth (are_below_all graph requested nodes))

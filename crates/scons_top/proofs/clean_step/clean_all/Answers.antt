@@ -1,6 +1,7 @@
-use Rattle.std.proofs.Common.{◌∙◌}
-use Rattle.build_run.proofs.Goings.{stays_on}
-use Rattle.scons_top.proofs.Watching.{idle_on, watches_on}
+use Rattle.scons_top.proofs.Stopping.{steps_here, steps_on}
+use Rattle.std.proofs.Common.{◌∙◌, refl}
+use Rattle.build_run.proofs.Goings.{stays_here, stays_on}
+use Rattle.scons_top.proofs.Watching.{idle_on, watches_on, watches_same}
 use Rattle.scons_top.proofs.Causing.{exit_memory, exit_step, stop_back}
 use Rattle.scons_top.proofs.clean_step.clean_all.Goals as goal
 
@@ -17,6 +18,7 @@ pub loop-target-preserved : goal.loop-target-preserved
 loop-target-preserved g c = record {
   stays = stays_on _ _ _ _ c.loop-target.invariant.stays c.clean.ensures.stays;
   same = λ err. c.in_ok-clean.ensures.steps err ∙ c.loop-target.invariant.same err;
+  safe = steps_on _ _ _ _ c.clean.ensures.stays.goes.passes.told c.loop-target.invariant.safe c.clean.ensures.safe;
   dry = λ is. watches_on _ _ _ _ (c.loop-target.invariant.dry is) (c.clean.ensures.dry is);
 }
 
@@ -30,3 +32,15 @@ returns-in_err-path_of-clause-steps g c = λ err. exit_memory _ _ c.from_residua
 
 pub returns-clause-steps : goal.returns-clause-steps
 returns-clause-steps g c = λ err. c.loop-target.invariant.same err
+
+pub returns-in_err-clean-clause-safe : goal.returns-in_err-clean-clause-safe
+returns-in_err-clean-clause-safe g c =
+    steps_on _ _ _ _ c.clean.ensures.stays.goes.passes.told c.loop-target.invariant.safe c.clean.ensures.safe
+
+pub loop-target-init : goal.loop-target-init
+loop-target-init g c = record {
+  stays = stays_here g.W.Disk.meaning c.args.world.now;
+  same = λ err. refl;
+  safe = steps_here g.W.Disk.meaning g.met.W.Disk.only_now c.args.world.now;
+  dry = λ is. watches_same g.W.Disk.meaning c.args.world.now;
+}

@@ -1,3 +1,4 @@
+use Rattle.scons_top.proofs.Stopping.{steps_here}
 use Rattle.std.proofs.Common.{◌∙◌, refl}
 use Rattle.scons_top.proofs.Causing.{same_out, exit_report, report_memory, sink_stop, stop_back, good_step}
 use Rattle.scons_top.proofs.clean_step.clean_requests.Goals as goal
@@ -30,3 +31,12 @@ pub returns-clause-reports : goal.returns-clause-reports
 returns-clause-reports g c = λ err.
     let same = same_out _ _ _ err c.in_ok-say-2.ensures.step ∙ (c.in_ok-clean_rules.ensures.steps err ∙ same_out _ _ _ err c.in_ok-say.ensures.step) in
     good_step _ _ c.good.result same c.good.ensures.faults
+
+pub returns-in_err-nodes-clause-safe : goal.returns-in_err-nodes-clause-safe
+returns-in_err-nodes-clause-safe g c = steps_here g.W.Disk.meaning g.met.W.Disk.only_now c.args.world.now
+
+pub returns-in_err-say-clause-safe : goal.returns-in_err-say-clause-safe
+returns-in_err-say-clause-safe g c = steps_here g.W.Disk.meaning g.met.W.Disk.only_now c.args.world.now
+
+pub returns-in_err-rules-clause-safe : goal.returns-in_err-rules-clause-safe
+returns-in_err-rules-clause-safe g c = steps_here g.W.Disk.meaning g.met.W.Disk.only_now c.args.world.now

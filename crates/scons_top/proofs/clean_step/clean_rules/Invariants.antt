@@ -1,3 +1,4 @@
+use Rattle.scons_top.specs.Stopping.{StepsSafely}
 use Rattle.std.proofs.Common.{◌≡◌, ℕ}
 use Rattle.std.specs.Prelude.{IsTrue}
 use Rattle.build_run.specs.Causes.{outside}
@@ -9,5 +10,6 @@ abbrev pub invariant-loop-rule : goal.invariant-loop-rule
 invariant-loop-rule g l = record {
   stays : Stays g.W.Disk.meaning l.fn.world l.world;
   same : (err : ℕ) → outside (g.W.Disk.meaning.counts l.world) (g.O.Sink.meaning.faults l.out) err ≡ outside (g.W.Disk.meaning.counts l.fn.world) (g.O.Sink.meaning.faults l.fn.out) err;
+  safe : StepsSafely g.W.Disk.meaning l.fn.world l.world;
   dry : IsTrue l.words.dry → Watches g.W.Disk.meaning l.fn.world l.world;
 }

@@ -1,3 +1,4 @@
+use Rattle.scons_top.proofs.Stopping.{steps_looked, steps_on}
 use Rattle.std.proofs.Common.{◌∙◌}
 use Rattle.build_run.proofs.Goings.{stays_on}
 use Rattle.scons_top.proofs.Watching.{stays_of}
@@ -18,3 +19,27 @@ returns-in_err-remove-clause-cause g c = let r = c.from_residual-in_err-remove i
 
 pub returns-clause-cause : goal.returns-clause-cause
 returns-clause-cause g c = c.in_ok-remove.ensures.cause ∙ c.in_ok-kind_of.ensures.cause
+
+pub returns-in_err-kind_of-clause-safe : goal.returns-in_err-kind_of-clause-safe
+returns-in_err-kind_of-clause-safe g c =
+    steps_looked g.W.Disk.meaning g.met.W.Disk.only_now c.args.world.now c.kind_of.new.world c.kind_of.ensures.watches.looks
+
+pub returns-in_err-remove-clause-safe : goal.returns-in_err-remove-clause-safe
+returns-in_err-remove-clause-safe g c =
+    steps_on g.W.Disk.meaning c.args.world.now c.kind_of.new.world c.remove.new.world c.remove.ensures.stays.goes.passes.told
+    (steps_looked g.W.Disk.meaning g.met.W.Disk.only_now c.args.world.now c.kind_of.new.world c.kind_of.ensures.watches.looks)
+    c.remove.ensures.safe
+
+pub returns-clause-safe : goal.returns-clause-safe
+returns-clause-safe g c =
+    steps_on g.W.Disk.meaning c.args.world.now c.kind_of.new.world c.remove.new.world c.remove.ensures.stays.goes.passes.told
+    (steps_looked g.W.Disk.meaning g.met.W.Disk.only_now c.args.world.now c.kind_of.new.world c.kind_of.ensures.watches.looks)
+    c.remove.ensures.safe
+
+pub returns-then-ne-clause-safe : goal.returns-then-ne-clause-safe
+returns-then-ne-clause-safe g c =
+    steps_looked g.W.Disk.meaning g.met.W.Disk.only_now c.args.world.now c.kind_of.new.world c.kind_of.ensures.watches.looks
+
+pub returns-then-words-clause-safe : goal.returns-then-words-clause-safe
+returns-then-words-clause-safe g c =
+    steps_looked g.W.Disk.meaning g.met.W.Disk.only_now c.args.world.now c.kind_of.new.world c.kind_of.ensures.watches.looks

@@ -10,6 +10,7 @@ pub loop-member-preserved : goal.loop-member-preserved
 loop-member-preserved g c = record {
   watches = watches_on _ _ _ _ c.loop-member.invariant.watches c.check_member.ensures.watches;
   same = c.in_ok-check_member.ensures.step ∙ c.loop-member.invariant.same;
+  below = c.loop-member.invariant.below;
 }
 
 pub returns-in_err-check_member-clause-step : goal.returns-in_err-check_member-clause-step

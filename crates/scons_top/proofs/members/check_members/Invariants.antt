@@ -6,4 +6,5 @@ abbrev pub invariant-loop-member : goal.invariant-loop-member
 invariant-loop-member g l = record {
   watches : Watches g.W.Disk.meaning l.fn.world l.world;
   same : g.W.Disk.meaning.counts l.world ≡ g.W.Disk.meaning.counts l.fn.world;
+  below : l.lookups.below ≡ l.fn.lookups.below;
 }

@@ -15,7 +15,7 @@ pub returns-in_err-targets_below-in-Dir-clause-step : goal.returns-in_err-target
 returns-in_err-targets_below-in-Dir-clause-step g c = let r = c.from_residual-in_err-targets_below-in-Dir in world_memory _ _ r.result r.ensures.1 c.in_ok-kind_of.ensures.cause
 
 pub returns-in_ok-targets_below-in-Dir-clause-step : goal.returns-in_ok-targets_below-in-Dir-clause-step
-returns-in_ok-targets_below-in-Dir-clause-step g c = inner_step _ _ c.made.result c.in_ok-kind_of.ensures.cause c.made.ensures
+returns-in_ok-targets_below-in-Dir-clause-step g c = inner_step _ _ c.made.result c.in_ok-kind_of.ensures.cause c.made.ensures.step
 
 pub returns-in-Absent-clause-step : goal.returns-in-Absent-clause-step
-returns-in-Absent-clause-step g c = inner_step _ _ c.absent_request.result c.in_ok-kind_of.ensures.cause c.absent_request.ensures
+returns-in-Absent-clause-step g c = inner_step _ _ c.absent_request.result c.in_ok-kind_of.ensures.cause c.absent_request.ensures.step

@@ -5,7 +5,7 @@ pub returns-in_err-is_left_over-clause-step : goal.returns-in_err-is_left_over-c
 returns-in_err-is_left_over-clause-step g c = world_exit _ _ c.from_residual.result _ c.from_residual.ensures.1 c.in_err-is_left_over.ensures.step
 
 pub returns-then-branch-clause-step : goal.returns-then-branch-clause-step
-returns-then-branch-clause-step g c = inner_step _ _ c.absent_request.result c.in_ok-is_left_over.ensures.step c.absent_request.ensures
+returns-then-branch-clause-step g c = inner_step _ _ c.absent_request.result c.in_ok-is_left_over.ensures.step c.absent_request.ensures.step
 
 pub returns-clause-step : goal.returns-clause-step
-returns-clause-step g c = inner_step _ _ c.node_request.result c.in_ok-is_left_over.ensures.step c.node_request.ensures
+returns-clause-step g c = inner_step _ _ c.node_request.result c.in_ok-is_left_over.ensures.step c.node_request.ensures.step

@@ -1,4 +1,5 @@
 use Rattle.std.proofs.Common.{◌≡◌}
+use Rattle.scons_top.specs.Requested.{AskForNodes, KnowsNodes}
 use Rattle.scons_top.specs.Watching.{Watches}
 use Rattle.scons_top.proofs.requests.requests_for.Given as goal
 
@@ -6,4 +7,6 @@ abbrev pub invariant-loop-word : goal.invariant-loop-word
 invariant-loop-word g l = record {
   watches : Watches g.W.Disk.meaning l.fn.world l.world;
   same : g.W.Disk.meaning.counts l.world ≡ g.W.Disk.meaning.counts l.fn.world;
+  knows : KnowsNodes l.graph l.lookups.below;
+  nodes : AskForNodes l.graph l.requests.items;
 }

@@ -1,6 +1,10 @@
+use Rattle.scons_top.proofs.Stopping.{runs_by, runs_on, steps_looked}
 use Rattle.world_api.proofs.Looking.{looks_joined}
 use Rattle.scons_top.proofs.Early.{any_stop, stop_after}
-use Rattle.std.proofs.Common.{◌∙◌}
+use Rattle.std.proofs.Common.{◌∙◌, ap, inl, subst, sym}
+use Rattle.build_run.specs.Causes.{Outside}
+use Rattle.scons_top.specs.Requested.{AskForNodes}
+use Rattle.scons_top.proofs.Building.{builds_looked, no_help, stops}
 use Rattle.scons_top.proofs.Causing.{same_world, exit_report, world_stop, stop_back, report_back}
 use Rattle.scons_top.proofs.top.run.Goals as goal
 
@@ -32,3 +36,43 @@ returns-in_err-requests-clause-reports g c =
 
 pub returns-clause-reports : goal.returns-clause-reports
 returns-clause-reports g c = report_back _ _ _ c.serve.result (same_world _ _ _ _ c.in_ok-requests.ensures.step ∙ c.in_ok-graph.ensures.steps _) c.serve.ensures.reports
+
+pub returns-in_err-graph-clause-builds : goal.returns-in_err-graph-clause-builds
+returns-in_err-graph-clause-builds g c =
+    stops g.W.Disk.meaning c.args.words.now c.args.world.now _ c.from_residual.result _ c.from_residual.ensures.1 (inl c.read.ensures.watches.looks)
+
+pub returns-then-words-clause-builds : goal.returns-then-words-clause-builds
+returns-then-words-clause-builds g c = no_help c.args.words.now c.if-words.true
+
+pub returns-in_err-requests-clause-builds : goal.returns-in_err-requests-clause-builds
+returns-in_err-requests-clause-builds g c =
+    let r = c.from_residual-in_err-requests in
+    stops g.W.Disk.meaning c.args.words.now c.args.world.now _ r.result _ r.ensures.1
+    (inl (looks_joined _ _ _ _ c.read.ensures.watches.looks c.requests_of.ensures.watches.looks))
+
+pub returns-clause-builds : goal.returns-clause-builds
+returns-clause-builds g c =
+    let counts = c.in_ok-requests.ensures.step ∙ ap (λ (o : Outside). o.counts) (c.in_ok-graph.ensures.steps 0) in
+    builds_looked g.W.Disk.meaning c.args.words.now c.args.world.now c.requests_of.new.world c.serve.new.world c.serve.result
+    (looks_joined _ _ _ _ c.read.ensures.watches.looks c.requests_of.ensures.watches.looks) c.serve.ensures.passes.told.told c.requires.idle counts
+    (c.serve.ensures.builds (subst (AskForNodes c.requests_of.new.graph) (sym c.as_slice.ensures.value) c.in_ok-requests.ensures.nodes))
+
+pub returns-in_err-graph-clause-safe : goal.returns-in_err-graph-clause-safe
+returns-in_err-graph-clause-safe g c =
+    runs_by _ _ _ (steps_looked g.W.Disk.meaning g.met.W.Disk.only_now _ _ c.read.ensures.watches.looks)
+
+pub returns-then-words-clause-safe : goal.returns-then-words-clause-safe
+returns-then-words-clause-safe g c =
+    runs_by _ _ _ (steps_looked g.W.Disk.meaning g.met.W.Disk.only_now _ _ c.read.ensures.watches.looks)
+
+pub returns-in_err-requests-clause-safe : goal.returns-in_err-requests-clause-safe
+returns-in_err-requests-clause-safe g c =
+    runs_by _ _ _ (steps_looked g.W.Disk.meaning g.met.W.Disk.only_now _ _
+    (looks_joined _ _ _ _ c.read.ensures.watches.looks c.requests_of.ensures.watches.looks))
+
+pub returns-clause-safe : goal.returns-clause-safe
+returns-clause-safe g c =
+    runs_on g.W.Disk.meaning c.args.world.now c.requests_of.new.world c.serve.new.world c.serve.ensures.passes.told
+    (steps_looked g.W.Disk.meaning g.met.W.Disk.only_now c.args.world.now c.requests_of.new.world
+    (looks_joined _ _ _ _ c.read.ensures.watches.looks c.requests_of.ensures.watches.looks))
+    (c.serve.ensures.safe (subst (AskForNodes c.requests_of.new.graph) (sym c.as_slice.ensures.value) c.in_ok-requests.ensures.nodes))

@@ -9,6 +9,7 @@ use Rattle.build_run.proofs.Causing.{exit_same, inside, inner, look_end, same_co
 use Rattle.build_run.proofs.Sites.{sound_still}
 use Rattle.build_run.proofs.Presenting.{along_present, due_present, lacks_on}
 use Rattle.build_run.proofs.Starting.{end_of_turn, ended_looked}
+use Rattle.build_run.proofs.Reasons.{last_exit, last_inside}
 use Rattle.build_run.proofs.site.Site.decide.Goals as goal
 
 pub returns-in_err-now-clause-ends : goal.returns-in_err-now-clause-ends
@@ -126,3 +127,8 @@ returns-in-Record-clause-safe g c =
           c.in_ok-now.ensures.presents c.in_ok-now.ensures.cause c.in-Record.now (cc c.in-Record.is)
           (g.met.W.World.held site.world.now (p.looks.told.told tells)) room,
     ))
+
+pub returns-in_err-missing-in-Lacks-clause-last : goal.returns-in_err-missing-in-Lacks-clause-last
+returns-in_err-missing-in-Lacks-clause-last g c =
+    let r = c.from_residual-in_err-missing-in-Lacks in
+    last_exit r.result _ r.ensures.1 (last_inside _ c.in_err-missing-in-Lacks.ensures.quiet)

@@ -41,3 +41,9 @@ returns-clause-safe g c =
     (turn_then m c.args.self.now c.take_turns.new.self c.wait_for_all.new.self c.wait_for_all.ensures.passes.passes.told c.take_turns.ensures.safe
     c.wait_for_all.ensures.safe)
     c.put_held.ensures.safe
+
+pub returns-clause-stored : goal.returns-clause-stored
+returns-clause-stored g c = c.put_held.ensures.stored.kept
+
+pub returns-clause-reason : goal.returns-clause-reason
+returns-clause-reason g c = λ reason. c.put_held.ensures.reason (c.wait_for_all.ensures.reason (c.take_turns.ensures.reason reason))

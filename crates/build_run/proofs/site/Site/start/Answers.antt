@@ -21,6 +21,7 @@ use Rattle.build_run.proofs.Alongs.{along_ends}
 use Rattle.build_run.proofs.Booking.{store_book}
 use Rattle.build_run.proofs.Launching.{left_by, takes_away}
 use Rattle.build_run.proofs.Starting.{end_leads, ends_as, held_within, launched_on, left_on, room_in}
+use Rattle.build_run.proofs.Reasons.{last_exit, last_inside, last_within}
 use Rattle.build_run.proofs.site.Site.start.Goals as goal
 
 pub returns-then-self-clause-ends : goal.returns-then-self-clause-ends
@@ -361,3 +362,17 @@ returns-in-Ok-clause-safe g c = λ s safe over.
             });
       };
     }
+
+pub returns-in_err-text-clause-last : goal.returns-in_err-text-clause-last
+returns-in_err-text-clause-last g c = last_within c.from_residual.result c.from_residual.ensures.1
+
+pub returns-in_err-job-clause-last : goal.returns-in_err-job-clause-last
+returns-in_err-job-clause-last g c = last_within c.from_residual-in_err-job.result c.from_residual-in_err-job.ensures.1
+
+pub returns-in_err-hold-clause-last : goal.returns-in_err-hold-clause-last
+returns-in_err-hold-clause-last g c = last_within c.from_residual-in_err-hold.result c.from_residual-in_err-hold.ensures.1
+
+pub returns-in_err-ticket-clause-last : goal.returns-in_err-ticket-clause-last
+returns-in_err-ticket-clause-last g c =
+    let r = c.from_residual-in_err-ticket in
+    last_exit r.result _ r.ensures.1 (last_inside _ c.in_err-ticket.ensures.quiet)

@@ -24,6 +24,7 @@ loop-turn-preserved g c =
           (turn_along m _ _ _ _ tell.passes.passes.told turn.passes.same.options _ (c.want-wanted.ensures.wanted (search rules)) turn.along tell.along);
       safe = turns_on m _ _ _ before.passes.passes.told told.passes.told before.along before.safe
           (turn_then m _ _ _ tell.passes.passes.told (turn.safe (c.want-wanted.ensures.wanted (search rules))) tell.safe);
+      reason = λ r. tell.reason turn.last (turn.reason (before.reason r));
     }
 
 pub returns-then-eq-clause-still : goal.returns-then-eq-clause-still
@@ -46,6 +47,7 @@ loop-turn-init g c = record {
   along = search rules;
   safe = λ s along safe.
       site_rests g.W.Disk.meaning g.met.W.Disk.only_now c.args.self.now c.args.self.now refl refl refl refl (λ unshut. unshut) s safe;
+  reason = λ r. r;
 }
 
 pub returns-clause-safe : goal.returns-clause-safe

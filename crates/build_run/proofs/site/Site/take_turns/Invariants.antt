@@ -1,4 +1,5 @@
 use Rattle.build_run.specs.Along.{StaysAlong}
+use Rattle.build_run.specs.Reasons.{SiteKeepsReason}
 use Rattle.build_run.specs.Safe.{TurnsSafely}
 use Rattle.build_run.specs.Sites.{IsSound, SiteAccounts, SitePasses}
 use Rattle.build_run.proofs.site.Site.take_turns.Given as goal
@@ -12,4 +13,5 @@ invariant-loop-turn g l =
       sound : IsSound m l.self;
       along : StaysAlong m l.fn.self l.self;
       safe : TurnsSafely m l.fn.self l.self;
+      reason : SiteKeepsReason l.fn.self l.self;
     }

@@ -27,6 +27,7 @@ loop-turn-preserved g c =
           omega (arith, ending.takes.fewer told_mid, before.left (ending.passes.passes.told.told told_mid), ap (λ (busies : List Busy). length busies) tell.tickets);
       sound = tell.sound ending.sound;
       safe = site_safely_on m _ _ _ tell.passes.passes.told (site_safely_on m _ _ _ ending.passes.passes.told before.safe ending.safe) tell.safe;
+      reason = λ r. tell.reason tt (ending.reason (before.reason r));
       same = λ e. absurd (omega (arith, e));
       halted = λ e. tell.halted (ap (λ (p : Planned). p.halted) ending.halted ∙ before.halted e);
       along = λ e. along_on m _ _ _ told.passes.told (before.along e)
@@ -41,6 +42,7 @@ loop-turn-init g c = record {
   left = search rules;
   sound = search rules;
   safe = site_rests g.W.Disk.meaning g.met.W.Disk.only_now c.args.self.now c.args.self.now refl refl refl refl (λ unshut. unshut);
+  reason = λ r. r;
   same = search rules;
   halted = search rules;
   along = search rules;

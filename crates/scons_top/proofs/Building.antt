@@ -1,0 +1,179 @@
+-- What a run built, told of the world as the run found it.
+use Rattle.std.proofs.Common.{◌≡◌, ◌∙◌, inl, inr, sym, subst, ap, ℕ, Bool, List, [], length, true, false, Some}
+use Rattle.std.specs.Prelude.{Result, Ok, Err, IsErrAnd}
+use Rattle.std.proofs.lemmas.Bool.{false≢true}
+use Rattle.scons_base.specs.Rising.{Rose}
+use Rattle.scons_base.specs.declared.ids.NodeId.{NodeId}
+use Rattle.world_api.specs.declared.disk.Bank.TheVariants.{A, B}
+use Rattle.world_api.specs.Around.{Around}
+use Rattle.world_api.specs.Calls.{Asks}
+use Rattle.world_api.specs.Counts.{Counts}
+use Rattle.world_api.specs.Looks.{Looks}
+use Rattle.world_api.specs.Meaning.{Meaning, BanksKept}
+use Rattle.world_api.proofs.Looking.{looks_joined, looks_same}
+use Rattle.rule_graph.specs.Graphs.{RuleGraph}
+use Rattle.rule_graph.specs.Rules.{are_below}
+use Rattle.sign_store.specs.Ends.{image_in}
+use Rattle.sign_store.specs.Images.{image_of}
+use Rattle.sign_store.specs.Tables.{Map}
+use Rattle.build_means.specs.Builds.{Wanted, KeepsRecords, Rests, Runs, Succeeded}
+use Rattle.build_files.proofs.Left.{none_runs}
+use Rattle.build_run.specs.Outsets.{HasRun, HasSucceeded, LeavesRest, StandFor, BuildRuns, BuildSucceeds}
+use Rattle.build_run.specs.Takes.{IsLeftAt}
+use Rattle.build_run.specs.declared.end.BuildEnd.{BuildEnd}
+use Rattle.world_mem.proofs.Backs.{same_around}
+use Rattle.scons_words.specs.declared.words.Words.{Words}
+use Rattle.scons_top.specs.Builds.{AskForBuild, BeginsStore, EndsBefore, wanted_by, HasBuilt, BuildsOrStops, RunBuilds}
+use Rattle.scons_top.specs.declared.report.Report.{Report}
+use Rattle.scons_top.specs.declared.stop.Stop.{Stop}
+
+-- looks
+
+-- where nothing runs, what stands around is the same after looks
+pub around_asked : (a b : Around) → a.running ≡ [] → Asks a b → b ≡ a
+around_asked a b idle asks =
+    let none = λ (path : List ℕ). none_runs a.running path idle in
+    same_around b a (λ path. asks.files path (none path)) asks.dirs (λ path. asks.stamps path (none path))
+    asks.running asks.log asks.met asks.law asks.top
+
+-- and so are the records of the banks
+pub records_kept : {W : Type 0} (m : Meaning W) (a b : W) → BanksKept m a b → image_in (m.seen b) ≡ image_in (m.seen a)
+records_kept m a b kept =
+    ap (λ bytes. image_of bytes (m.seen b B)) (kept A).same ∙ ap (λ bytes. image_of (m.seen a A) bytes) (kept B).same
+
+-- what was done, from what was around, the counts and the records
+
+record RanFrom {W : Type 0} (m : Meaning W) (w : Wanted) (map : Map) (start : Around) (counts : Counts) (new : W)
+    (behind : Map) (ended : Bool) : Type 0 where
+  left : Around
+  kept : Map
+  rest : LeavesRest (IsLeftAt w.graph start map) start map left kept
+  runs : Runs w kept counts left (m.around new)
+  records : (Rose counts.disk_faults (m.counts new).disk_faults → ⊥) → KeepsRecords w kept left (m.around new) runs.steps behind
+  rests : ended ≡ false → Rests w kept left (m.around new) runs.steps
+  stored : ended ≡ false → StandFor m new behind
+
+record SucceededFrom {W : Type 0} (m : Meaning W) (w : Wanted) (map : Map) (start : Around) (counts : Counts) (new : W)
+    (behind : Map) : Type 0 where
+  left : Around
+  kept : Map
+  rest : LeavesRest (IsLeftAt w.graph start map) start map left kept
+  succeeded : Succeeded w kept counts left (m.around new)
+  records : KeepsRecords w kept left (m.around new) succeeded.runs.steps behind
+  stored : StandFor m new behind
+
+module _ {W : Type 0} (m : Meaning W) (w : Wanted) (before after : Map) (a b new : W) (behind : Map)
+    (around : m.around b ≡ m.around a) (counts : m.counts b ≡ m.counts a) (records : after ≡ before) where
+  pub run_back : (ended : Bool) → HasRun m w after b new behind ended → HasRun m w before a new behind ended
+  run_back ended h =
+      let r : RanFrom m w after (m.around b) (m.counts b) new behind ended =
+      record { left = h.left; kept = h.kept; rest = h.rest; runs = h.runs; records = h.records; rests = h.rests; stored = h.stored } in
+      let one = subst (λ x. RanFrom m w after x (m.counts b) new behind ended) around r in
+      let two = subst (λ c. RanFrom m w after (m.around a) c new behind ended) counts one in
+      let back = subst (λ (map : Map). RanFrom m w map (m.around a) (m.counts a) new behind ended) records two in
+      record {
+        left = back.left;
+        kept = back.kept;
+        rest = back.rest;
+        runs = back.runs;
+        records = back.records;
+        rests = back.rests;
+        stored = back.stored;
+      }
+
+  pub success_back : HasSucceeded m w after b new behind → HasSucceeded m w before a new behind
+  success_back h =
+      let r : SucceededFrom m w after (m.around b) (m.counts b) new behind =
+      record { left = h.left; kept = h.kept; rest = h.rest; succeeded = h.succeeded; records = h.records; stored = h.stored } in
+      let one = subst (λ x. SucceededFrom m w after x (m.counts b) new behind) around r in
+      let two = subst (λ c. SucceededFrom m w after (m.around a) c new behind) counts one in
+      let back = subst (λ (map : Map). SucceededFrom m w map (m.around a) (m.counts a) new behind) records two in
+      record { left = back.left; kept = back.kept; rest = back.rest; succeeded = back.succeeded; records = back.records; stored = back.stored }
+
+pub built_back : {W : Type 0} (m : Meaning W) (said : Words) (a b new : W) (status : ℕ) → m.around b ≡ m.around a → m.counts b ≡ m.counts a
+    → image_in (m.seen b) ≡ image_in (m.seen a) → HasBuilt m said b new status → HasBuilt m said a new status
+built_back m said a b new status around counts records h =
+    let w = wanted_by said h.graph h.requested in
+    let before = image_in (m.seen a) in
+    let after = image_in (m.seen b) in
+    record {
+      graph = h.graph;
+      requested = h.requested;
+      are_nodes = h.are_nodes;
+      kept = h.kept;
+      is_ended = h.is_ended;
+      runs = run_back m w before after a b new h.kept around counts records h.is_ended h.runs;
+      succeeds = λ well. success_back m w before after a b new h.kept around counts records (h.succeeds well);
+    }
+
+-- a build behind the beginning of its store
+pub build_done : {W : Type 0} (m : Meaning W) (said : Words) (g : RuleGraph) (requested : List NodeId) (store : Map)
+    (old begun new : W) (behind : Map) (answer : BuildEnd) (status : ℕ)
+    → BeginsStore m old begun → m.tells begun → m.counts begun ≡ m.counts old → store ≡ image_in (m.seen old)
+    → are_below (length g.nodes) requested ≡ true → (status ≡ 0 → (answer.faults ≡ []) × (answer.memory ≡ false))
+    → m.tells new → m.sure new → BuildRuns m (wanted_by said g requested) store begun new behind answer
+    → BuildSucceeds m (wanted_by said g requested) store begun new behind answer → HasBuilt m said old new status
+build_done m said g requested store old begun new behind answer status begins told counts records nodes well tells sure runs
+    succeeds =
+    let w = wanted_by said g requested in
+    let before = image_in (m.seen old) in
+    let around = begins.around told in
+    record {
+      graph = g;
+      requested = requested;
+      are_nodes = nodes;
+      kept = behind;
+      is_ended = answer.is_ended;
+      runs = run_back m w before store old begun new behind around counts records answer.is_ended (runs tells sure nodes);
+      succeeds = λ zero. success_back m w before store old begun new behind around counts records
+          (succeeds (well zero).0 (well zero).1 tells sure nodes);
+    }
+
+-- a run that had looked before
+
+ends_looked : {W : Type 0} (m : Meaning W) (a b new : W) → Looks m a b → EndsBefore m b new → EndsBefore m a new
+ends_looked m a b new looks (inl more) = inl (looks_joined m a b new looks more)
+ends_looked m a b new looks (inr begun) =
+    inr (record { looked = begun.looked; looks = looks_joined m a b begun.looked looks begun.looks; begins = begun.begins })
+
+steps_looked : {W : Type 0} (m : Meaning W) (said : Words) (a b new : W) (r : Result Report Stop) → Looks m a b → m.tells b
+    → (m.around a).running ≡ [] → m.counts b ≡ m.counts a → BuildsOrStops m said b new r → BuildsOrStops m said a new r
+steps_looked m said a b new (Ok report) looks told idle counts built =
+    built_back m said a b new report.status (around_asked (m.around a) (m.around b) idle (looks.around told)) counts
+    (records_kept m a b (looks.banks told)) built
+steps_looked m said a b new (Err stop) looks told idle counts ends = ends_looked m a b new looks ends
+
+pub builds_looked : {W : Type 0} (m : Meaning W) (said : Words) (a b new : W) (r : Result Report Stop) → Looks m a b
+    → (m.tells new → m.tells b) → (m.tells a → (m.around a).running ≡ []) → m.counts b ≡ m.counts a
+    → RunBuilds m said b new r → RunBuilds m said a new r
+builds_looked m said a b new r looks told idle counts builds = λ ask tells sure.
+    let here = told tells in
+    steps_looked m said a b new r looks here (idle (looks.told.told here)) counts (builds ask tells sure)
+
+-- a run that stops
+pub stops : {W : Type 0} (m : Meaning W) (said : Words) (old new : W) (r : Result Report Stop) (P : Stop → Type 0) → IsErrAnd r P
+    → EndsBefore m old new → RunBuilds m said old new r
+stops m said old new (Ok report) P is ends = absurd is
+stops m said old new (Err stop) P is ends = λ ask tells sure. ends
+
+pub stops_begun : {W : Type 0} (m : Meaning W) (said : Words) (old new : W) (r : Result Report Stop) (P : Stop → Type 0) → IsErrAnd r P
+    → BeginsStore m old new → RunBuilds m said old new r
+stops_begun m said old new r P is begins =
+    stops m said old new r P is (inr (record { looked = old; looks = looks_same m old; begins = begins }))
+
+-- a run that builds isn't asked to do these
+pub no_help : {P : Type 0} (said : Words) → said.help ≡ true → AskForBuild said → P
+no_help said is ask = absurd (false≢true (sym ask.help ∙ is))
+
+pub no_clean : {P : Type 0} (said : Words) → said.clean ≡ true → AskForBuild said → P
+no_clean said is ask = absurd (false≢true (sym ask.clean ∙ is))
+
+pub no_dry : {P : Type 0} (said : Words) → said.dry ≡ true → AskForBuild said → P
+no_dry said is ask = absurd (false≢true (sym ask.dry ∙ is))
+
+pub no_load : {P : Type 0} (said : Words) (rules : ℕ) → said.load ≡ Some rules → AskForBuild said → P
+no_load said rules is ask = let no = sym is ∙ ask.load in absurd (cc)
+
+-- the words that were read
+pub words_said : {E : Type 0} (read : Result Words E) (words said : Words) → read ≡ Ok words → read ≡ Ok said → words ≡ said
+words_said read words said one other = let same = sym one ∙ other in cc

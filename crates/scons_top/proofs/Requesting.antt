@@ -1,0 +1,39 @@
+-- Nodes of a graph among what is requested, also as the graph gets more of them.
+use Rattle.std.proofs.Common.{◌≡◌, ◌<◌, ◌++◌, ◌∷◌, ◌&&◌, [], Bool, true, List, length, refl, sym, subst, arith}
+use Rattle.std.specs.Prelude.{nat_lt}
+use Rattle.std.proofs.lemmas.Bool.{lt-ltb}
+use Rattle.std.proofs.lemmas.List.Elements.{All-weaker, All-push, All-head, All-tail}
+use Rattle.scons_base.specs.declared.ids.NodeId.{NodeId}
+use Rattle.rule_graph.specs.Graphs.{RuleGraph}
+use Rattle.rule_graph.specs.Rules.{are_below}
+use Rattle.scons_top.specs.Requested.{AreNodes, AsksForNodes, AskForNodes, HasMore}
+use Rattle.scons_top.specs.declared.requests.Request.{Request}
+
+-- a graph that has more nodes
+
+nodes_more : (g h : RuleGraph) (nodes : List NodeId) → HasMore g h → AreNodes g nodes → AreNodes h nodes
+nodes_more g h nodes more all =
+    let is_node = λ (k : RuleGraph) (node : NodeId). node.0 < length k.nodes in
+    All-weaker (is_node g) (is_node h) (λ node below. omega arith) nodes all
+
+asks_more : (g h : RuleGraph) (requests : List Request) → HasMore g h → AskForNodes g requests → AskForNodes h requests
+asks_more g h requests more all =
+    All-weaker (AsksForNodes g) (AsksForNodes h) (λ (request : Request) asks. nodes_more g h request.nodes.items more asks) requests all
+
+-- one request more
+pub asks_pushed : (g h : RuleGraph) (old new : List Request) (request : Request) → HasMore g h → new ≡ old ++ request ∷ []
+    → AskForNodes g old → AsksForNodes h request → AskForNodes h new
+asks_pushed g h old new request more same all one =
+    subst (AskForNodes h) (sym same) (All-push (AsksForNodes h) old request (asks_more g h old more all) one)
+
+-- as a test
+
+both : (a b : Bool) → a ≡ true → b ≡ true → (a && b) ≡ true
+both a b first second = rw (first, second) refl
+
+pub are_below_all : (g : RuleGraph) (nodes : List NodeId) → AreNodes g nodes → are_below (length g.nodes) nodes ≡ true
+are_below_all g [] all = refl
+are_below_all g (node ∷ nodes) all =
+    let P = λ (n : NodeId). n.0 < length g.nodes in
+    both (nat_lt node.0 (length g.nodes)) (are_below (length g.nodes) nodes)
+    (lt-ltb node.0 (length g.nodes) (All-head P node nodes all)) (are_below_all g nodes (All-tail P node nodes all))

@@ -1,0 +1,21 @@
+use Rattle.std.proofs.Common.{sym, subst, Vec, Global}
+use Rattle.scons_base.specs.declared.ids.NodeId.{NodeId}
+use Rattle.scons_top.specs.Requested.{AreNodes, KnowsNodes}
+use Rattle.scons_top.proofs.below.Below.members_of.Goals as goal
+use Rattle.scons_top.proofs.below.Below.members_of.Goals.{then-is_new+in_ok-add_member, else-is_new}
+
+pub loop-member-preserved : goal.loop-member-preserved
+loop-member-preserved c =
+    let g = c.args.graph.now in
+    let before = c.loop-member.invariant in
+    let are = λ (nodes : Vec NodeId Global). AreNodes g nodes.items in
+    elim c.if-is_new.branch [
+      | then-is_new+in_ok-add_member w ↦ record {
+        knows = λ known. subst (KnowsNodes g) (sym w.self-is) (w.add_member.ensures.knows (before.knows known));
+        nodes = λ known. subst are (sym w.nodes-is) (w.add_member.ensures.nodes (before.knows known) (before.nodes known));
+      }
+      | else-is_new w ↦ record {
+        knows = λ known. subst (KnowsNodes g) (sym w.self-is) (before.knows known);
+        nodes = λ known. subst are (sym w.nodes-is) (before.nodes known);
+      }
+    ]

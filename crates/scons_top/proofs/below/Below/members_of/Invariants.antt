@@ -1,0 +1,8 @@
+use Rattle.scons_top.specs.Requested.{AreNodes, KnowsNodes}
+use Rattle.scons_top.proofs.below.Below.members_of.Given as goal
+
+abbrev pub invariant-loop-member : goal.invariant-loop-member
+invariant-loop-member l = record {
+  knows : KnowsNodes l.graph l.fn.self → KnowsNodes l.graph l.self;
+  nodes : KnowsNodes l.graph l.fn.self → AreNodes l.graph l.nodes.items;
+}

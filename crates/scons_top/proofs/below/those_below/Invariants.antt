@@ -1,0 +1,6 @@
+use Rattle.rule_graph.specs.Graphs.{RuleGraph}
+use Rattle.scons_top.specs.Requested.{AreNodes, HaveNodes}
+use Rattle.scons_top.proofs.below.those_below.Given as goal
+
+abbrev pub invariant-loop-path : goal.invariant-loop-path
+invariant-loop-path l = (graph : RuleGraph) → HaveNodes graph l.fn.targets → AreNodes graph l.nodes.items
