@@ -1,5 +1,5 @@
 -- How a build goes along when it is told what came of a turn, and from turn to turn.
-use Rattle.std.proofs.Common.{◌≡◌, ◌⊎◌, inl, inr, Bool, true, false, ◌||◌, List, [], ◌∷◌, Contains, length, ap, refl, sym, subst, ◌∙◌}
+use Rattle.std.proofs.Common.{◌≡◌, ◌⊎◌, inl, inr, Bool, true, false, ◌||◌, [], ◌∷◌, length, ap, refl, sym, subst, ◌∙◌}
 use Rattle.std.specs.Prelude.{Result, Ok, Err, nat_lt}
 use Rattle.world_api.specs.Around.{Around}
 use Rattle.world_api.specs.Meaning.{Meaning, Told}
@@ -16,17 +16,16 @@ use Rattle.build_model.proofs.Lists.{true_false}
 use Rattle.run_means.specs.Clears.{Clears}
 use Rattle.turn_means.specs.Standing.{Outset, IsOutset, Standing}
 use Rattle.turn_means.proofs.Turns.{ends, halts}
-use Rattle.build_run.specs.Along.{ComesOn, EndsOn, HoldsFewer, KeepsEnds, KeepsKnown, StandsPut, was_put, was_refused, GoesAlong, GoesOn, GoesWell, IsAlong, IsEnd, IsOn, IsReliable, IsWantedOf, Leads, RestsAlong, StaysAlong, StepsOr, Tells, TellsAlong, is_faulted, standing_of, stepped, wanted}
+use Rattle.build_run.specs.Along.{ComesOn, EndsOn, HoldsFewer, KeepsEnds, KeepsKnown, StandsPut, GoesAlong, GoesOn, GoesWell, IsAlong, IsEnd, IsOn, IsReliable, IsWantedOf, Leads, RestsAlong, StaysAlong, StepsOr, Tells, TellsAlong, is_faulted, standing_of, stepped, wanted}
 use Rattle.sign_store.specs.Stores.{KeepsTickets}
 use Rattle.build_run.specs.Books.{Book, AreBooked, book_of}
-use Rattle.build_run.specs.Holds.{Busy}
-use Rattle.build_run.specs.Sites.{KeepsRecords, SitePuts, most_jobs, records_of}
+use Rattle.build_run.specs.Sites.{KeepsRecords, SitePuts, most_jobs}
 use Rattle.build_run.specs.declared.building.Options.{Options}
 use Rattle.build_run.specs.declared.account.Account.{Account}
 use Rattle.build_run.specs.declared.site.Site.{Site}
 use Rattle.build_run.proofs.Clearing.{clears_same}
-use Rattle.build_run.proofs.Booking.{StaysBooked, clears_booked, halts_booked, kept_on, puts_book}
-use Rattle.build_run.proofs.EndingOn.{not_before}
+use Rattle.build_run.proofs.Booking.{clears_booked, halts_booked, puts_book}
+use Rattle.build_run.proofs.EndingOn.{not_before, put_on, put_well}
 
 -- What came of a turn was told to this plan and this account.
 pub record ToldTo {W O E : Type 0} (m : Meaning W) (o : Outset) (old : Site W O E) (plan : Planned) (account : Account) : Type 0 where
@@ -168,55 +167,7 @@ pub waits_halted : {W O E : Type 0} (site : Site W O E) → site.run.now.plan.ha
     IsWantedOf (length site.run.now.tickets) (most_jobs site.options) site.run.now.plan want.Wait
 waits_halted site halted reliable = inr (λ e. true_false (sym halted ∙ e))
 
--- ---- records are put
-
-module _ {W O E : Type 0} (m : Meaning W) (o : Outset) (outset : IsOutset o) (old new : Site W O E) (along : IsAlong m o old)
-    (around : m.around new.world.now ≡ m.around old.world.now) (known : KeepsKnown old new) (stands : StandsPut m old new)
-    (less : HoldsFewer old.run.now.held new.run.now.held) (kept : KeepsRecords old new)
-    (book : StaysBooked (book_of old) (book_of new)) where
-  end_put : IsEnd new.account.now → IsOn o (book_of new) (standing_of m new)
-  end_put is =
-      kept_on o (book_of old) (book_of new) (standing_of m new) less book
-      (ended_on o outset (book_of old) (standing_of m old) (standing_of m new) along.on (clears_same [] (m.around old.world.now) (m.around new.world.now) around) is.ended is.faulted
-      (ap (λ (p : Planned). p.halted) known.plan))
-
-  same_put : new.account.now ≡ old.account.now → old.account.now.is_ended ≡ false → IsOn o (book_of new) (standing_of m new)
-  same_put same e =
-      let records : records_of new ≡ records_of old = kept (ap (λ (a : Account). a.is_store_shut) same ∙ (along.well e).unshut) in
-      let standing : standing_of m new ≡ standing_of m old = (λ i. record {
-        graph = known.graph i;
-        inputs = known.inputs i;
-        plan = known.plan i;
-        records = records i;
-        faulted = is_faulted (same i);
-        ended = (same i).is_ended;
-        around = around i;
-      }) in
-      subst (λ s. IsOn o (book_of new) s) (sym standing)
-      (kept_on o (book_of old) (book_of new) (standing_of m old) less book along.on)
-
-  put_by : (b : Bool) → old.account.now.is_ended ≡ b → StandsPut m old new → IsOn o (book_of new) (standing_of m new)
-  put_by true e (was_put same counts) =
-      end_put (record {
-        ended = ap (λ (a : Account). a.is_ended) same ∙ e;
-        faulted = ap is_faulted same ∙ along.on.at.told e;
-      })
-  put_by false e (was_put same counts) = same_put same e
-  put_by b e (was_refused is) = end_put is
-
-  -- the build stands where it stood
-  pub put_on : IsOn o (book_of new) (standing_of m new)
-  put_on = put_by old.account.now.is_ended refl stands
-
 -- ---- at the end
-
--- a store that is put to refuses with an end
-unshut_on : {W O E : Type 0} (m : Meaning W) (old new : Site W O E) →
-    (old.account.now.is_ended ≡ false → old.account.now.is_store_shut ≡ false) → StandsPut m old new →
-    new.account.now.is_ended ≡ false → new.account.now.is_store_shut ≡ false
-unshut_on m old new unshut (was_put same counts) e =
-    ap (λ (a : Account). a.is_store_shut) same ∙ unshut (sym (ap (λ (a : Account). a.is_ended) same) ∙ e)
-unshut_on m old new unshut (was_refused is) e = true_false (sym is.ended ∙ e)
 
 -- the turns, the waits and what is put behind them
 pub goes_to_rest : {W O E : Type 0} (m : Meaning W) (old mid last new : Site W O E) → Told m last.world.now new.world.now →
@@ -225,9 +176,10 @@ pub goes_to_rest : {W O E : Type 0} (m : Meaning W) (old mid last new : Site W O
     HoldsFewer last.run.now.held new.run.now.held → KeepsRecords last new → ComesOn m old new
 goes_to_rest m old mid last new told before first then puts tickets known stands less kept tells sure o outset along =
     let there = along_on m old mid last before first then (told.told tells) (told.sure tells sure) o outset along in
+    let book = puts_book m last new puts tickets kept in
     record {
-      on = put_on m o outset last new there (puts.around tells) known stands less kept (puts_book m last new puts tickets kept);
-      unshut = unshut_on m last new (λ e. (there.well e).unshut) stands;
+      on = put_on m o outset last new there (puts.around tells) puts.same.options known less kept stands book;
+      unshut = λ e. (put_well m o outset last new there (puts.around tells) puts.same.options known less kept stands book e).unshut;
     }
 
 -- where none runs behind the turns nothing changes but what is put

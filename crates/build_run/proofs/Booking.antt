@@ -1,8 +1,6 @@
 -- What a build has booked, from call to call.
 use Rattle.std.proofs.Common.{◌≡◌, ◌⊎◌, inl, inr, ◌++◌, ◌∷◌, Bool, true, false, cond, List, [], Contains, Option, Some, ap, refl, subst, sym, ◌∙◌}
 use Rattle.std.proofs.lemmas.List.Elements.{Contains-append_left, Contains-append_right}
-use Rattle.std.specs.Str.{bytes_eq}
-use Rattle.std.proofs.lemmas.Slice.Eq.{bytes_eq-Decides}
 use Rattle.world_api.specs.Around.{Around, IsRunningTarget, given_of}
 use Rattle.world_api.specs.Calls.{Asks, Ends, Starts}
 use Rattle.world_api.specs.Meaning.{Meaning}
@@ -12,18 +10,16 @@ use Rattle.world_api.specs.declared.job.Job.{Job}
 use Rattle.deciders.specs.declared.recorded.Rec.{Rec}
 use Rattle.sign_store.specs.Putting.{map_with}
 use Rattle.sign_store.specs.Stores.{IsOut, IsTicket, KeepsOthers as LeavesOthers, KeepsTickets, map_of}
-use Rattle.sign_store.specs.Tables.{Map, is_among, with_each}
+use Rattle.sign_store.specs.Tables.{Map, with_each}
 use Rattle.sign_store.specs.declared.store.Store.{Store}
 use Rattle.build_model.specs.Rules.{Path, Rule, Among, here, there}
 use Rattle.build_model.specs.Moments.{Job as Given}
 use Rattle.build_model.proofs.Lists.{some_same}
-use Rattle.build_means.proofs.Lists.{there_any}
-use Rattle.run_means.proofs.Lists.{contains_among}
 use Rattle.build_model.specs.Steps.{Step, Fresh, Began, Ended, Lacks, Halts, began, IsDecided, IsRunning}
 use Rattle.run_means.specs.Clears.{Clears}
 use Rattle.run_means.proofs.Clearing.{calls_clear}
 use Rattle.turn_means.specs.Standing.{Outset, IsOutset, Standing, setting_at}
-use Rattle.turn_means.specs.Recording.{IsWayTo, AreRecorded, IsRecordOf, KeepsOthers, HaveRecord, HaveNone, HasRecord, build_at}
+use Rattle.turn_means.specs.Recording.{Begin, End, IsWayTo, AreRecorded, IsRecordOf, KeepsOthers, HaveNone, build_at}
 use Rattle.turn_means.specs.Writing.{Writes}
 use Rattle.turn_means.proofs.Recording.{begins_without, begun_others, ends_with, leaves, stays}
 use Rattle.turn_means.proofs.Jobs.{run_before, run_either}
@@ -35,7 +31,9 @@ use Rattle.build_run.specs.Outs.{AreOut}
 use Rattle.build_run.specs.Sites.{KeepsRecords, SitePuts}
 use Rattle.build_run.specs.declared.site.Site.{Site}
 use Rattle.build_run.proofs.Holding.{in_pushed}
-use Rattle.build_run.proofs.Outs.{held_alike, not_among, out_in, outs_front, outs_left, own_beside}
+use Rattle.build_run.proofs.Outs.{held_alike, in_among, not_among, out_in, outs_front, outs_left, own_beside}
+
+-- ---- what is kept of the book
 
 -- nothing that was booked was lost
 pub record KeepsBook (old new : Book) : Type 0 where
@@ -49,13 +47,7 @@ pub record StaysBooked (old new : Book) : Type 0 where
   pub unshut : new.shut ≡ false → old.shut ≡ false
   pub keeps : new.shut ≡ false → KeepsBook old new
 
-pub same_book : (book : Book) → StaysBooked book book
-same_book book = record {
-  unshut = λ e. e;
-  keeps = λ e. record { records = refl; running = λ busy h. h; tickets = λ busy rec h is. is };
-}
-
--- the same by parts
+-- so it is where its parts are the same
 pub book_as : (old new : Book) → new.store ≡ old.store → new.held ≡ old.held → new.running ≡ old.running →
     (new.shut ≡ false → old.shut ≡ false) → StaysBooked old new
 book_as old new store held running unshut = record {
@@ -67,7 +59,7 @@ book_as old new store held running unshut = record {
   };
 }
 
--- nothing that was booked is lost
+-- or the held ones were put
 pub puts_book : {W O E : Type 0} (m : Meaning W) (old new : Site W O E) → SitePuts m old new → KeepsTickets old.store.now new.store.now →
     KeepsRecords old new → StaysBooked (book_of old) (book_of new)
 puts_book m old new puts tickets kept = record {
@@ -107,14 +99,6 @@ given_up book store busy left map leaves_others outs =
     store_book (record book { running = left }) store map (outs_left book.store book.held left busy outs)
     (λ one rec h out. leaves_others.each rec one.ticket (own_beside book.store book.held busy left outs one h) out)
 
--- what is cleared is written
-pub clears_write : (paths : List Path) (old new : Around) → Clears paths old new → Writes paths old new
-clears_write paths old new clears = record {
-  files = λ path free out. clears.files path free out;
-  stamps = λ path free out. clears.stamps path free out;
-  running = λ path target. inl (subst (λ runs. IsRunningTarget runs path) clears.running target);
-}
-
 -- none of these paths has a record any more, and else nothing that was booked was lost
 pub record TakesAway (targets : List Path) (old new : Book) : Type 0 where
   pub none : HaveNone targets (map_with new.store new.held)
@@ -122,6 +106,16 @@ pub record TakesAway (targets : List Path) (old new : Book) : Type 0 where
   pub running : (busy : Busy) → Contains new.running busy → Contains old.running busy
   pub tickets : (busy : Busy) (rec : Rec) → Contains new.running busy → IsTicket old.store rec busy.ticket →
       IsTicket new.store rec busy.ticket
+
+-- ---- what calls write
+
+-- what is cleared
+pub clears_write : (paths : List Path) (old new : Around) → Clears paths old new → Writes paths old new
+clears_write paths old new clears = record {
+  files = clears.files;
+  stamps = clears.stamps;
+  running = λ path target. inl (subst (λ runs. IsRunningTarget runs path) clears.running target);
+}
 
 -- what a start writes
 pub starts_write : (job : Job) (counts : Counts) (old mid new : Around) → Clears job.targets old mid → Starts job counts mid new →
@@ -149,8 +143,7 @@ ends_write Sure ended old new ends = record {
       (run_before ends.front ends.which ends.back path (subst (λ runs. IsRunningTarget runs path) ends.running target)));
 }
 
-pub in_among : (paths : List Path) (path : Path) → Contains paths path → is_among paths path ≡ true
-in_among paths path h = there_any (λ other. bytes_eq other path) (contains_among paths h) ((bytes_eq-Decides path path).1 refl)
+-- ---- records of paths
 
 -- what is among the paths has the record, and the rest has what it had
 with_own : (paths : List Path) (rec : Rec) (map : Map) (path : Path) → Contains paths path → with_each paths (Some rec) map path ≡ Some rec
@@ -159,9 +152,11 @@ with_own paths rec map path h = ap (λ b. cond b (Some rec) (map path)) (in_amon
 pub with_others : (paths : List Path) (rec : Option Rec) (map : Map) (path : Path) → (Contains paths path → ⊥) → with_each paths rec map path ≡ map path
 with_others paths rec map path out = ap (λ b. cond b rec (map path)) (not_among paths path out)
 
+-- ---- from step to step
+
 module _ (o : Outset) where
   -- a rule that is to have a record is so still
-  pub one_on : (old new : Around) (past more : List Step) (store after : Store) (busy : Busy) (is : IsBooked o old past store busy) →
+  one_on : (old new : Around) (past more : List Step) (store after : Store) (busy : Busy) (is : IsBooked o old past store busy) →
       Among is.rule (began more) → (IsTicket store is.rec busy.ticket → IsTicket after is.rec busy.ticket) →
       (IsRecordOf o old is.rule is.rec → IsRecordOf o new is.rule is.rec) → IsBooked o new more after busy
   one_on old new past more store after busy is stands ticket has = record {
@@ -192,6 +187,10 @@ module _ (o : Outset) where
     began = λ busy path h made. on.began busy path (less busy h) made;
     booked = λ e. booked_as s.around on.past old new (kept.keeps e) (on.booked (kept.unshut e));
   }
+
+  -- and where the account alone is another
+  pub shut_on : (book : Book) (shut : Bool) (s : Standing) → shut ≡ book.shut → IsOn o book s → IsOn o (record book { shut = shut }) s
+  shut_on book shut s same on = subst (λ (b : Bool). IsOn o (record book { shut = b }) s) (sym same) on
 
   -- steps that start nothing leave it as it is
   step_booked : (around : Around) (past more : List Step) (book : Book) → ((r : Rule) → Among r (began past) → Among r (began more)) →
@@ -247,6 +246,9 @@ module _ (o : Outset) where
       abbrev Now : Map
       Now = map_with after.store after.held
 
+      begin : Begin o old new past r Now
+      begin = begins_without o outset jobs old new past r Was Now way decided writes are.records takes.none takes.others
+
       -- the others that run are to have theirs still
       others_booked : (more : List Step) → ((q : Rule) → Among q (began past) → Among q (began more)) → (busy : Busy) →
           Contains after.running busy → IsBooked o new more after.store busy
@@ -258,23 +260,15 @@ module _ (o : Outset) where
       -- no job started
       pub refused_booked : AreBooked o new (Ended r false ∷ Began r ∷ past) after
       refused_booked = record {
-        records = (begins_without o outset jobs old new past r Was Now way decided writes are.records takes.none takes.others).refused;
+        records = begin.refused;
         each = others_booked (Ended r false ∷ Began r ∷ past) (λ q m. there m);
       }
 
       -- or one did
       pub began_booked : (busy : Busy) (rec : Rec) → busy.hold.targets ≡ r.targets → rec.targets ≡ r.targets → IsTicket after.store rec busy.ticket →
-          IsRecordOf o old r rec → (last : Book) → last.store ≡ after.store → last.held ≡ after.held → last.running ≡ after.running ++ busy ∷ [] →
-          AreBooked o new (Began r ∷ past) last
-      began_booked busy rec makes same ticket to_have last store held running =
-          let begin = begins_without o outset jobs old new past r Was Now way decided writes are.records takes.none takes.others in
-          record {
-            records = subst (λ (kept : Map). AreRecorded o new (Began r ∷ past) kept)
-                (sym (ap (λ (s : Store). map_with s last.held) store ∙ ap (λ (all : List Busy). map_with after.store all) held)) begin.started;
-            each = λ one h.
-                subst (λ (s : Store). IsBooked o new (Began r ∷ past) s one) (sym store)
-                (by one (in_pushed after.running busy one (subst (λ (all : List Busy). Contains all one) running h)));
-          }
+          IsRecordOf o old r rec → AreBooked o new (Began r ∷ past) (record after { running = after.running ++ busy ∷ [] })
+      began_booked busy rec makes same ticket to_have =
+          record { records = begin.started; each = λ one h. by one (in_pushed after.running busy one h) }
         where
           by : (one : Busy) → Contains after.running one ⊎ (busy ≡ one) → IsBooked o new (Began r ∷ past) after.store one
           by one (inl before) = others_booked (Began r ∷ past) (λ q m. there m) one before
@@ -285,7 +279,7 @@ module _ (o : Outset) where
             rec = rec;
             ticket = ticket;
             same = same;
-            to_have = (begins_without o outset jobs old new past r Was Now way decided writes are.records takes.none takes.others).to_have rec to_have;
+            to_have = begin.to_have rec to_have;
           })
 
     -- ---- endings
@@ -303,47 +297,48 @@ module _ (o : Outset) where
         (busy : Busy) (among : Contains book.running busy) (makes : busy.hold.targets ≡ r.targets)
         (running : (one : Busy) → Contains after.running one → Contains book.running one)
         (tickets : (one : Busy) (rec : Rec) → Contains after.running one → IsTicket book.store rec one.ticket → IsTicket after.store rec one.ticket)
-        where
-      others_still : (well : Bool) → (one : Busy) → Contains after.running one → IsBooked o new (Ended r well ∷ past) after.store one
-      others_still well one h =
-          let is = are.each one (running one h) in
-          one_on old new past (Ended r well ∷ past) book.store after.store one is is.stands (λ t. tickets one is.rec h t)
-          (λ e. (stays o outset jobs old new past way writes).to_have is.rule is.rec is.stands e)
+      where
+        end : End o old new past r (map_with book.store book.held)
+        end = ends_with o outset jobs old new past r (map_with book.store book.held) way runs writes are.records
 
-      failed_booked : map_with after.store after.held ≡ map_with book.store book.held → AreBooked o new (Ended r false ∷ past) after
-      failed_booked kept = record {
-        records = subst (λ (map : Map). AreRecorded o new (Ended r false ∷ past) map) (sym kept)
-            (ends_with o outset jobs old new past r (map_with book.store book.held) way runs writes are.records).failed;
-        each = others_still false;
-      }
+        others_still : (well : Bool) → (one : Busy) → Contains after.running one → IsBooked o new (Ended r well ∷ past) after.store one
+        others_still well one h =
+            let is = are.each one (running one h) in
+            one_on old new past (Ended r well ∷ past) book.store after.store one is is.stands (λ t. tickets one is.rec h t)
+            (λ e. (stays o outset jobs old new past way writes).to_have is.rule is.rec is.stands e)
 
-      done_booked : ((rec : Rec) → IsTicket book.store rec busy.ticket →
-          map_with after.store after.held ≡ with_each rec.targets (Some rec) (map_with book.store book.held)) →
-          AreBooked o new (Ended r true ∷ past) after
-      done_booked puts =
-          let is = are.each busy among in
-          let same : is.rule ≡ r = same_rule is.rule r is.stands runs.began (sym is.makes ∙ makes) in
-          let own : is.rec.targets ≡ r.targets = is.same ∙ ap (λ (x : Rule). x.targets) same in
-          let now = puts is.rec is.ticket in
-          record {
-            records =
-                (ends_with o outset jobs old new past r (map_with book.store book.held) way runs writes are.records).well is.rec
-                (map_with after.store after.held)
-                (subst (λ (x : Rule). IsRecordOf o old x is.rec) same is.to_have)
-                (λ path m.
-                ap (λ (map : Map). map path) now
-                ∙ with_own is.rec.targets is.rec (map_with book.store book.held) path
-                (subst (λ (paths : List Path). Contains paths path) (sym own) m))
-                (λ path out.
-                ap (λ (map : Map). map path) now
-                ∙ with_others is.rec.targets (Some is.rec) (map_with book.store book.held) path
-                (λ h. out (subst (λ (paths : List Path). Contains paths path) own h)));
-            each = others_still true;
-          }
+        failed_booked : map_with after.store after.held ≡ map_with book.store book.held → AreBooked o new (Ended r false ∷ past) after
+        failed_booked kept = record {
+          records = subst (λ (map : Map). AreRecorded o new (Ended r false ∷ past) map) (sym kept) end.failed;
+          each = others_still false;
+        }
 
-      pub ended_booked : (well : Bool) → (well ≡ false → map_with after.store after.held ≡ map_with book.store book.held) →
-          (well ≡ true → (rec : Rec) → IsTicket book.store rec busy.ticket →
-          map_with after.store after.held ≡ with_each rec.targets (Some rec) (map_with book.store book.held)) →
-          AreBooked o new (Ended r well ∷ past) after
-      ended_booked true kept puts = done_booked (puts refl)
-      ended_booked false kept puts = failed_booked (kept refl)
+        done_booked : ((rec : Rec) → IsTicket book.store rec busy.ticket →
+            map_with after.store after.held ≡ with_each rec.targets (Some rec) (map_with book.store book.held)) →
+            AreBooked o new (Ended r true ∷ past) after
+        done_booked puts =
+            let is = are.each busy among in
+            let same : is.rule ≡ r = same_rule is.rule r is.stands runs.began (sym is.makes ∙ makes) in
+            let own : is.rec.targets ≡ r.targets = is.same ∙ ap (λ (x : Rule). x.targets) same in
+            let now = puts is.rec is.ticket in
+            record {
+              records =
+                  end.well is.rec (map_with after.store after.held)
+                  (subst (λ (x : Rule). IsRecordOf o old x is.rec) same is.to_have)
+                  (λ path m.
+                  ap (λ (map : Map). map path) now
+                  ∙ with_own is.rec.targets is.rec (map_with book.store book.held) path
+                  (subst (λ (paths : List Path). Contains paths path) (sym own) m))
+                  (λ path out.
+                  ap (λ (map : Map). map path) now
+                  ∙ with_others is.rec.targets (Some is.rec) (map_with book.store book.held) path
+                  (λ h. out (subst (λ (paths : List Path). Contains paths path) own h)));
+              each = others_still true;
+            }
+
+        pub ended_booked : (well : Bool) → (well ≡ false → map_with after.store after.held ≡ map_with book.store book.held) →
+            (well ≡ true → (rec : Rec) → IsTicket book.store rec busy.ticket →
+            map_with after.store after.held ≡ with_each rec.targets (Some rec) (map_with book.store book.held)) →
+            AreBooked o new (Ended r well ∷ past) after
+        ended_booked true kept puts = done_booked (puts refl)
+        ended_booked false kept puts = failed_booked (kept refl)

@@ -1,5 +1,5 @@
 -- How a build goes along behind an ending.
-use Rattle.std.proofs.Common.{◌≡◌, ◌∙◌, ◌⊎◌, ◌++◌, ◌∷◌, [], ℕ, Bool, true, false, List, Option, Some, Contains, length, ◌≤◌, ap, cond, inl, inr, refl, subst, sym, arith}
+use Rattle.std.proofs.Common.{◌≡◌, ◌∙◌, ◌⊎◌, ◌++◌, ◌∷◌, [], ℕ, Bool, true, false, List, Some, Contains, length, ◌≤◌, ap, inl, inr, refl, subst, sym, arith}
 use Rattle.std.proofs.lemmas.List.{length-map}
 use Rattle.world_api.specs.Around.{Around, Running, IsRunningTarget}
 use Rattle.world_api.specs.Calls.{Ends}
@@ -12,7 +12,7 @@ use Rattle.world_api.specs.declared.job.Outcome.TheVariants.{Done, Failed, Broke
 use Rattle.scons_base.specs.declared.ids.RuleId.{RuleId}
 use Rattle.deciders.specs.declared.recorded.Rec.{Rec}
 use Rattle.sign_store.specs.Stores.{IsTicket}
-use Rattle.sign_store.specs.Tables.{Map, is_among, with_each}
+use Rattle.sign_store.specs.Tables.{Map, with_each}
 use Rattle.sign_store.specs.declared.store.Store.{Store}
 use Rattle.task_plan.specs.declared.want.PlanEvent.TheVariants as told
 use Rattle.rule_graph.specs.Graphs.{RuleGraph}
@@ -20,7 +20,7 @@ use Rattle.task_plan.specs.Plans.{Planned, is_halt, is_scan}
 use Rattle.task_plan.specs.Watched.{IsStill}
 use Rattle.task_plan.specs.declared.want.Want.TheVariants as want
 use Rattle.task_plan.specs.declared.want.PlanEvent.{PlanEvent}
-use Rattle.build_model.specs.Rules.{Path, Rule, Among, here, there}
+use Rattle.build_model.specs.Rules.{Path, Rule, Among, here}
 use Rattle.build_model.specs.Steps as model
 use Rattle.build_model.specs.Moments.{Job as Given}
 use Rattle.build_model.specs.Steps.{Step, IsRunning, began, is_over, running}
@@ -35,7 +35,6 @@ use Rattle.build_files.specs.Marked.{AreGoneOver}
 use Rattle.build_files.specs.declared.inputs.Inputs.{Inputs}
 use Rattle.plan_means.specs.Planning.{IsStep}
 use Rattle.plan_means.proofs.Resting.{is_idle}
-use Rattle.run_means.specs.Clears.{Clears}
 use Rattle.run_means.specs.Laws.{MayWait}
 use Rattle.turn_means.specs.Standing.{Outset, IsOutset, begun_at, setting_at, Standing, IsAt}
 use Rattle.turn_means.specs.Recording.{build_at}
@@ -349,24 +348,20 @@ module _ {W O E : Type 0} (m : Meaning W) (o : Outset) (outset : IsOutset o) (ol
     (records : KeepsRecords old mid) (stands : StandsPut m old mid) (book : StaysBooked (book_of old) (book_of mid)) where
   -- where the build goes on only the records were put
   same_standing : mid.account.now ≡ old.account.now → records_of mid ≡ records_of old → standing_of m mid ≡ standing_of m old
-  same_standing account kept =
-      ap (λ (x : RuleGraph). standing x mid.run.now.inputs mid.run.now.plan (records_of mid) mid.account.now (m.around mid.world.now)) known.graph
-      ∙ ap (λ (x : Inputs). standing old.graph.now x mid.run.now.plan (records_of mid) mid.account.now (m.around mid.world.now)) known.inputs
-      ∙ ap (λ (x : Planned). standing old.graph.now old.run.now.inputs x (records_of mid) mid.account.now (m.around mid.world.now)) known.plan
-      ∙ ap (λ (x : Kept). standing old.graph.now old.run.now.inputs old.run.now.plan x mid.account.now (m.around mid.world.now)) kept
-      ∙ ap (λ (x : Account). standing old.graph.now old.run.now.inputs old.run.now.plan (records_of old) x (m.around mid.world.now)) account
-      ∙ ap (λ (x : Around). standing old.graph.now old.run.now.inputs old.run.now.plan (records_of old) old.account.now x) around
-    where
-      standing : RuleGraph → Inputs → Planned → Kept → Account → Around → Standing
-      standing g i p r a x =
-          record { graph = g; inputs = i; plan = p; records = r; faulted = is_faulted a; ended = a.is_ended; around = x }
-
-  none_cleared : Clears [] (m.around old.world.now) (m.around mid.world.now)
-  none_cleared = clears_same [] (m.around old.world.now) (m.around mid.world.now) around
+  same_standing account kept = (λ i. record {
+    graph = known.graph i;
+    inputs = known.inputs i;
+    plan = known.plan i;
+    records = kept i;
+    faulted = is_faulted (account i);
+    ended = (account i).is_ended;
+    around = around i;
+  })
 
   ended_there : mid.account.now.is_ended ≡ true → IsAt o along.on.jobs (standing_of m mid) along.on.past
   ended_there e =
-      ends o outset along.on.jobs (standing_of m old) (standing_of m mid) along.on.past along.on.at none_cleared e
+      ends o outset along.on.jobs (standing_of m old) (standing_of m mid) along.on.past along.on.at
+      (clears_same [] (m.around old.world.now) (m.around mid.world.now) around) e
       ((put_ends m old mid stands).told along.on.at.told e) (ap (λ (p : Planned). p.halted) known.plan)
 
   at_by : (ended : Bool) → mid.account.now.is_ended ≡ ended → StandsPut m old mid → IsAt o along.on.jobs (standing_of m mid) along.on.past
@@ -377,8 +372,20 @@ module _ {W O E : Type 0} (m : Meaning W) (o : Outset) (outset : IsOutset o) (ol
       let unshut = ap (λ (a : Account). a.is_store_shut) account ∙ (along.well goes).unshut in
       subst (λ (s : Standing). IsAt o along.on.jobs s along.on.past) (sym (same_standing account (records unshut))) along.on.at
 
-  well_put : mid.account.now.is_ended ≡ false → GoesWell m o mid
-  well_put e =
+  -- the build stands where it stood
+  pub put_on : IsOn o (book_of mid) (standing_of m mid)
+  put_on = record {
+    jobs = along.on.jobs;
+    past = along.on.past;
+    at = at_by mid.account.now.is_ended refl stands;
+    began = λ busy path h. along.on.began busy path (held busy h);
+    booked = λ e.
+        subst (λ (a : Around). AreBooked o a along.on.past (book_of mid)) (sym around)
+        (booked_as o (m.around old.world.now) along.on.past (book_of old) (book_of mid) (book.keeps e) (along.on.booked (book.unshut e)));
+  }
+
+  pub put_well : mid.account.now.is_ended ≡ false → GoesWell m o mid
+  put_well e =
       let was = along.well (not_before old.account.now.is_ended mid.account.now.is_ended (put_ends m old mid stands).ended e) in
       record {
         unrisen = unrisen_as o.wanted.keep o.counts (m.counts old.world.now) (m.counts mid.world.now) (put_counts m old mid stands e) was.unrisen;
@@ -388,16 +395,9 @@ module _ {W O E : Type 0} (m : Meaning W) (o : Outset) (outset : IsOutset o) (ol
 
   pub may_take : holds_of (m.around old.world.now).running ≡ holds_in old.run.now.tickets →
       IsWantedOf (length old.run.now.tickets) (most_jobs old.options) old.run.now.plan want.Wait → MayTake m o mid
+  unfolding put_on
   may_take joined wanted = record {
-    on = record {
-      jobs = along.on.jobs;
-      past = along.on.past;
-      at = at_by mid.account.now.is_ended refl stands;
-      began = λ busy path h. along.on.began busy path (held busy h);
-      booked = λ e.
-          subst (λ (a : Around). AreBooked o a along.on.past (book_of mid)) (sym around)
-          (booked_as o (m.around old.world.now) along.on.past (book_of old) (book_of mid) (book.keeps e) (along.on.booked (book.unshut e)));
-    };
+    on = put_on;
     wait =
         subst (λ (a : Around). MayWait o.wanted o.kept o.before a along.on.past) (sym around)
         (may_wait o outset (standing_of m old) (along.on.jobs, along.on.past, along.on.at) old.run.now.tickets (most_jobs old.options)
@@ -406,5 +406,5 @@ module _ {W O E : Type 0} (m : Meaning W) (o : Outset) (outset : IsOutset o) (ol
       keep = ap (λ (x : Options). x.keep) options ∙ along.asked.keep;
       jobs = ap most_jobs options ∙ along.asked.jobs;
     };
-    well = well_put;
+    well = put_well;
   }

@@ -1,5 +1,5 @@
 -- How a build comes to its end: where nothing runs no rule of its plan does, and where nothing is to be reported it succeeded.
-use Rattle.std.proofs.Common.{◌≡◌, ◌∙◌, ◌+◌, ℕ, zero, suc, pred, Bool, true, false, cond, List, [], ◌∷◌, Contains, length, count_by, refl, sym, subst, ap, inl, inr, ◌⊎◌, arith}
+use Rattle.std.proofs.Common.{◌≡◌, ◌∙◌, ◌+◌, ℕ, zero, suc, false, cond, List, [], ◌∷◌, Contains, length, count_by, refl, sym, subst, ap, arith}
 use Rattle.std.proofs.lemmas.List.Sums.{sum_by-cons}
 use Rattle.world_api.specs.Counts.{Counts}
 use Rattle.world_api.specs.Meaning.{Meaning}
@@ -12,9 +12,8 @@ use Rattle.task_plan.specs.declared.states.RuleState.{RuleState}
 use Rattle.task_plan.specs.declared.states.RuleState.TheVariants.{Unneeded, Waiting, Running, Settled, Failed, Lacking}
 use Rattle.build_model.specs.Rules.{Rule, Setting, Among}
 use Rattle.build_model.specs.Moments.{Job as Given}
-use Rattle.build_model.specs.Steps.{Step, Fresh, Began, Ended, Lacks, Halts, Build, began, done, running, IsRunning, IsRun}
+use Rattle.build_model.specs.Steps.{Step, Build, running, IsRunning, IsRun}
 use Rattle.build_model.proofs.Lists.{true_false}
-use Rattle.build_model.proofs.Placed.{without}
 use Rattle.run_means.proofs.Keeping.{none_there}
 use Rattle.build_means.specs.Logs.{AreUnrisen}
 use Rattle.plan_means.specs.Deciding.{IsTied}

@@ -1,6 +1,5 @@
 -- What is left of the book where a job starts, or is refused.
-use Rattle.std.proofs.Common.{◌≡◌, ◌∙◌, ◌++◌, Bool, true, false, List, [], Contains, ap, refl, sym, subst}
-use Rattle.world_api.specs.Around.{Around}
+use Rattle.std.proofs.Common.{◌≡◌, ◌∙◌, ◌++◌, Bool, true, false, List, [], Contains, ap, refl, subst}
 use Rattle.world_api.specs.Meaning.{Meaning}
 use Rattle.deciders.specs.declared.recorded.Rec.{Rec}
 use Rattle.sign_store.specs.Putting.{map_with}
@@ -15,9 +14,9 @@ use Rattle.build_run.specs.Outs.{AreOut, KeepsSome, ShareNone}
 use Rattle.build_run.specs.Sites.{records_of}
 use Rattle.build_run.specs.Withdrawals.{HasNone}
 use Rattle.build_run.specs.declared.site.Site.{Site}
-use Rattle.build_run.proofs.Booking.{KeepsBook, TakesAway, in_among, store_book}
+use Rattle.build_run.proofs.Booking.{KeepsBook, TakesAway, store_book}
 use Rattle.build_run.proofs.Choosing.{map_beside}
-use Rattle.build_run.proofs.Outs.{outs_front, unheld_still}
+use Rattle.build_run.proofs.Outs.{in_among, outs_front, unheld_still}
 use Rattle.build_run.proofs.Starting.{IsLeftSo, all_left, none_left, store_shut}
 
 module _ {W O E : Type 0} (m : Meaning W) (old now : Site W O E) (store : Store) (targets : List Path)

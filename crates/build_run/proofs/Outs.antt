@@ -1,6 +1,7 @@
 -- The tickets that are out after each call, and the store that stands in the banks.
 use Rattle.std.proofs.Common.{◌≡◌, ◌≢◌, ◌∙◌, ◌<◌, ◌≤◌, ℕ, zero, suc, sym, refl, ap, subst, List, [], ◌∷◌, ◌++◌, Bool, true, false, cond, Contains, get_or, length, Option, Some, None, inl, inr, arith}
 use Rattle.std.specs.List.{remove}
+use Rattle.std.proofs.lemmas.List.{length-map}
 use Rattle.std.specs.Prelude.{Result, Ok, Err, OnOk}
 use Rattle.std.specs.Str.{bytes_eq}
 use Rattle.std.proofs.lemmas.Bool.{false≢true}
@@ -18,6 +19,9 @@ use Rattle.sign_store.specs.declared.ticket.Ticket.{Ticket}
 use Rattle.sign_store.proofs.GroupLemmas.{tickets_held}
 use Rattle.sign_store.proofs.Keeping.{kept_as, keeps_on}
 use Rattle.task_plan.specs.declared.want.PlanEvent.TheVariants.{DoneOk}
+use Rattle.build_model.proofs.Lists.{some_same}
+use Rattle.build_means.proofs.Lists.{any_there, map_among, there_any}
+use Rattle.run_means.proofs.Lists.{among_contains, contains_among}
 use Rattle.build_run.specs.Holds.{Busy, holds_in}
 use Rattle.build_run.specs.Outs.{IsTicketFor, IsOutFor, IsBeside, AreOut, HasOwnRoom, IsStored, KeepsSome, ShareNone}
 use Rattle.build_run.specs.Withdrawals.{HasNone, AreWithdrawn}
@@ -26,13 +30,13 @@ use Rattle.build_run.proofs.Holding.{at_front, further, in_front, in_pushed}
 
 -- ---- paths among others
 
-among_by : (b : Bool) (first path : List ℕ) (paths : List (List ℕ)) → bytes_eq first path ≡ b → (is_among paths path ≡ true → Contains paths path) → is_among (first ∷ paths) path ≡ true → Contains (first ∷ paths) path
-among_by true first path paths e rest among = subst (Contains (first ∷ paths)) ((bytes_eq-Decides first path).0 e) (at_front paths first)
-among_by false first path paths e rest among = further paths first path (rest (rw e at among))
-
 pub among_in : (paths : List (List ℕ)) (path : List ℕ) → is_among paths path ≡ true → Contains paths path
-among_in [] path among = absurd cc
-among_in (first ∷ paths) path among = among_by (bytes_eq first path) first path paths refl (among_in paths path) among
+among_in paths path among =
+    let found = any_there (λ other. bytes_eq other path) paths among in
+    subst (Contains paths) ((bytes_eq-Decides found.0 path).0 found.2) (among_contains found.1)
+
+pub in_among : (paths : List (List ℕ)) (path : List ℕ) → Contains paths path → is_among paths path ≡ true
+in_among paths path h = there_any (λ other. bytes_eq other path) (contains_among paths h) ((bytes_eq-Decides path path).1 refl)
 
 -- ---- lists of tickets
 
@@ -109,15 +113,10 @@ out_in store (first ∷ busies) busy outs h = elim (in_front busies first busy h
 ]
 
 pub held_in : (busies : List Busy) (busy : Busy) → Contains busies busy → Contains (holds_in busies) busy.hold
-held_in [] busy h = absurd (omega (arith, h.1))
-held_in (first ∷ busies) busy h = elim (in_front busies first busy h) [
-  | inl same ↦ subst (λ (b : Busy). Contains (first.hold ∷ holds_in busies) b.hold) same (at_front (holds_in busies) first.hold)
-  | inr more ↦ further (holds_in busies) first.hold busy.hold (held_in busies busy more)
-]
+held_in busies busy h = among_contains (map_among (λ (b : Busy). b.hold) (contains_among busies h))
 
 pub held_count : (busies : List Busy) → length (holds_in busies) ≡ length busies
-held_count [] = refl
-held_count (busy ∷ busies) = let rest = held_count busies in omega (arith, rest)
+held_count busies = length-map busies (λ (busy : Busy). busy.hold)
 
 -- ---- the store over calls on the world
 
@@ -224,9 +223,6 @@ pub held_outs : (store : Store) (held : List Busy) → AreOut store held → Are
 held_outs store [] outs = tt
 held_outs store (one ∷ held) outs = (record { rec = outs.0.ticket.rec; out = outs.0.ticket.out }, (λ other h. (outs.1 other h).room), held_outs store held outs.2)
 
-some_same : (a b : Rec) → Some a ≡ Some b → a ≡ b
-some_same a b e = cc
-
 -- a record of what none of them makes is apart from theirs
 pub apart_outs : (store : Store) (held : List Busy) (rec : Rec) (ticket : Ticket) (targets : List (List ℕ)) → AreOut store held → HasOwnRoom ticket held → ((busy : Busy) → Contains held busy → ShareNone targets busy.hold.targets) → rec.targets ≡ targets
     → IsApartFrom store rec ticket held
@@ -234,7 +230,7 @@ apart_outs store held rec ticket targets outs own apart same = record {
   rooms = own;
   targets = λ other put h is path here there.
       let t = (out_in store held other outs h).ticket in
-      let whose : put ≡ t.rec = some_same put t.rec (sym is ∙ t.out.own.held.record_at) in
+      let whose : put ≡ t.rec = some_same (sym is ∙ t.out.own.held.record_at) in
       let made : Contains other.hold.targets path = subst (λ (paths : List (List ℕ)). Contains paths path) (ap (λ (r : Rec). r.targets) whose ∙ t.same) (among_in put.targets path here) in
       apart other h path (subst (λ (paths : List (List ℕ)). Contains paths path) same (among_in rec.targets path there)) made;
 }

@@ -8,8 +8,7 @@ use Rattle.world_api.specs.Calls.{Asks}
 use Rattle.world_api.specs.Meaning.{Meaning}
 use Rattle.deciders.specs.declared.recorded.Rec.{Rec}
 use Rattle.sign_store.specs.Putting.{map_with}
-use Rattle.sign_store.specs.declared.store.Store.{Store}
-use Rattle.rule_graph.specs.Graphs.{RuleGraph, path_of}
+use Rattle.rule_graph.specs.Graphs.{path_of}
 use Rattle.task_plan.specs.Settled.{deps_of}
 use Rattle.task_plan.specs.declared.want.PlanEvent.TheVariants as told
 use Rattle.build_model.specs.Rules.{Path, Rule, Among, here}
@@ -27,12 +26,11 @@ use Rattle.turn_means.specs.Laws.{HasMet, IsChosen, IsTold, IsWeighed}
 use Rattle.turn_means.proofs.Turns.{lacks}
 use Rattle.build_run.specs.Along.{GoesOn, IsAlong, IsDue, IsOn, KeepsEnds, Presents, is_faulted, standing_of}
 use Rattle.build_run.specs.Sites.{most_jobs}
-use Rattle.build_run.specs.declared.account.Account.{Account}
 use Rattle.build_run.specs.declared.building.Options.{Options}
 use Rattle.build_run.specs.declared.site.Run.{Run}
 use Rattle.build_run.specs.declared.site.Site.{Site}
 use Rattle.build_run.specs.Books.{AreBooked, book_of}
-use Rattle.build_run.proofs.Booking.{book_as, kept_on, lacks_booked}
+use Rattle.build_run.proofs.Booking.{lacks_booked, shut_on}
 use Rattle.build_run.proofs.Choosing.{along_looked, deps_still, goes_before, looked_for, not_ended, numbered_rule, paths_still, told_before, unread_still, weighed_on}
 
 -- the first that is missing is so still behind a look
@@ -86,26 +84,19 @@ module _ {W O E : Type 0} (m : Meaning W) (o : Outset) (outset : IsOutset o) (ol
       old.run.now.inputs new.run.now.inputs presents.only unread)
       presents.marks
 
-  abbrev stand : RuleGraph → Store → Account → Run → Standing
-  stand g kept a r = record {
-    graph = g;
-    inputs = new.run.now.inputs;
-    plan = r.plan;
-    records = map_with kept r.held;
-    faulted = is_faulted a;
-    ended = a.is_ended;
-    around = m.around new.world.now;
-  }
-
   abbrev Now : Standing
   Now = record (standing_of m old) { inputs = new.run.now.inputs; around = m.around new.world.now }
 
-  same_standing : standing_of m new ≡ record (standing_of m old) { inputs = new.run.now.inputs; around = m.around new.world.now }
-  same_standing =
-      ap (λ (g : RuleGraph). stand g new.store.now new.account.now new.run.now) graph
-      ∙ (ap (λ (kept : Store). stand old.graph.now kept new.account.now new.run.now) store
-      ∙ (ap (λ (a : Account). stand old.graph.now old.store.now a new.run.now) account
-      ∙ ap (λ (r : Run). stand old.graph.now old.store.now old.account.now r) run))
+  same_standing : standing_of m new ≡ Now
+  same_standing = (λ i. record {
+    graph = graph i;
+    inputs = new.run.now.inputs;
+    plan = (run i).plan;
+    records = map_with (store i) ((run i).held);
+    faulted = is_faulted (account i);
+    ended = (account i).is_ended;
+    around = m.around new.world.now;
+  })
 
   -- what is read, where nothing is looked past
   read : (present : Present) → result ≡ Ok present →
@@ -184,8 +175,7 @@ module _ {W O E : Type 0} (m : Meaning W) (o : Outset) (outset : IsOutset o) (ol
   pub lacks_on : GoesOn m o last (told.Absent rule node)
   lacks_on = record {
     told = λ s t stays.
-        kept_on o (book_of (record last { account = old.account })) (book_of last) s (λ busy h. h)
-        (book_as (book_of (record last { account = old.account })) (book_of last) refl refl refl (λ e. sym shut ∙ e))
+        shut_on o (book_of (record last { account = old.account })) last.account.now.is_store_shut s shut
         (lacks_told m o outset old (record last { account = old.account }) along rule chosen asks graph store refl options run tells
         result presents counts node ok (is_faulted last.account.now) last.account.now.is_ended ends.faulted faulted
         (λ e. sym along.asked.keep ∙ goes e) s t stays);

@@ -1,9 +1,10 @@
 -- How a build stands behind a start, and behind one that was refused.
-use Rattle.std.proofs.Common.{◌≡◌, ◌∙◌, ◌<◌, true, false, List, [], ◌∷◌, ◌++◌, Contains, length, inl, inr, refl, sym, subst, ap, arith}
+use Rattle.std.proofs.Common.{◌≡◌, ◌∙◌, ◌<◌, true, false, List, [], ◌∷◌, ◌++◌, Contains, length, inl, inr, refl, sym, subst, ap}
+use Rattle.std.proofs.lemmas.List.{length-map}
 use Rattle.std.specs.Prelude.{Result, Ok, Err, IsErrAnd}
 use Rattle.scons_base.specs.declared.ids.NodeId.{NodeId}
 use Rattle.scons_base.specs.declared.ids.RuleId.{RuleId}
-use Rattle.world_api.specs.Around.{Around, Running}
+use Rattle.world_api.specs.Around.{Around}
 use Rattle.world_api.specs.Calls.{Asks, Starts}
 use Rattle.world_api.specs.Counts.{Counts}
 use Rattle.world_api.specs.Meaning.{Meaning}
@@ -35,18 +36,16 @@ use Rattle.turn_means.specs.Standing.{Outset, IsOutset, Standing}
 use Rattle.turn_means.specs.Laws.{IsJobFrom, IsTold, is_due_now}
 use Rattle.turn_means.specs.Recording.{HasRecord}
 use Rattle.turn_means.specs.Writing.{Writes}
-use Rattle.sign_store.specs.Putting.{map_with}
 use Rattle.sign_store.specs.Stores.{IsTicket}
-use Rattle.sign_store.specs.declared.store.Store.{Store}
 use Rattle.turn_means.proofs.Jobs.{launches, refuses}
 use Rattle.turn_means.proofs.Recording.{weighed_have}
 use Rattle.run_means.proofs.Clearing.{calls_clear}
 use Rattle.build_run.specs.Along.{AreAsked, EndsOn, GoesOn, GoesWell, HeldBegan, HoldsFewer, IsAlong, IsDue, IsOn, Leads, LeadsTo, Presents, is_faulted, standing_of}
-use Rattle.build_run.specs.Books.{Book, book_of}
+use Rattle.build_run.specs.Books.{AreBooked, Book, book_of}
 use Rattle.build_run.specs.Goings.{IsJoined, Launches}
-use Rattle.build_run.specs.Holds.{Busy, holds_in, holds_of}
+use Rattle.build_run.specs.Holds.{Busy, hold_of, holds_in}
 use Rattle.build_run.specs.Outs.{KeepsSome}
-use Rattle.build_run.specs.Sites.{most_jobs, records_of}
+use Rattle.build_run.specs.Sites.{most_jobs}
 use Rattle.build_run.specs.declared.site.Run.{Run}
 use Rattle.build_run.specs.declared.site.Site.{Site}
 use Rattle.build_run.specs.declared.tickets.Hold.{Hold}
@@ -92,17 +91,13 @@ held_within held left some busy h = elim some [
   | inr none ↦ none_there (subst (λ (all : List Busy). Contains all busy) none h)
 ]
 
-running_count : (running : List Running) → length (holds_of running) ≡ length running
-running_count [] = refl
-running_count (run ∷ running) = let rest = running_count running in omega (arith, rest)
-
 -- fewer actions run than may
 pub room_in : {W O E : Type 0} (m : Meaning W) (o : Outset) (site : Site W O E) → IsJoined m site.world.now (holds_in site.run.now.tickets) →
     m.tells site.world.now → AreAsked o site.options → length site.run.now.tickets < most_jobs site.options →
     length (m.around site.world.now).running < jobs_at_once o.wanted.jobs
 room_in m o site joined tells asked room =
     let same : length site.run.now.tickets ≡ length (m.around site.world.now).running =
-    sym (held_count site.run.now.tickets) ∙ (ap (λ (holds : List Hold). length holds) (sym (joined.runs tells)) ∙ running_count (m.around site.world.now).running) in
+    sym (held_count site.run.now.tickets) ∙ (ap (λ (holds : List Hold). length holds) (sym (joined.runs tells)) ∙ length-map (m.around site.world.now).running hold_of) in
     subst (λ n. length (m.around site.world.now).running < n) asked.jobs (subst (λ n. n < most_jobs site.options) same room)
 
 -- ---- how the build stands
@@ -201,14 +196,9 @@ module _ {W O E : Type 0} (m : Meaning W) (o : Outset) (outset : IsOutset o) (ol
         (inputs : new.run.now.inputs ≡ old.run.now.inputs) (ended : new.account.now.is_ended ≡ old.account.now.is_ended)
         (faulted : is_faulted new.account.now ≡ is_faulted old.account.now) (unshut_now : new.account.now.is_store_shut ≡ false)
         (within : (busy : Busy) → Contains new.run.now.held busy → Contains old.run.now.held busy)
-        (after : Book) (takes : TakesAway job.targets (book_of old) after) (busy : Busy) (makes : busy.hold.targets ≡ job.targets)
-        (ticket : IsTicket after.store rec busy.ticket) (same_store : new.store.now ≡ after.store) (same_held : new.run.now.held ≡ after.held)
-        (added : new.run.now.tickets ≡ after.running ++ busy ∷ []) where
-      records : (path : Path) → (Contains job.targets path → ⊥) → records_of new path ≡ records_of old path
-      records path out =
-          ap (λ (store : Store). map_with store new.run.now.held path) same_store ∙ ap (λ (all : List Busy). map_with after.store all path) same_held
-          ∙ takes.others path out
-
+        (left : List Busy) (takes : TakesAway job.targets (book_of old) (record (book_of new) { running = left }))
+        (busy : Busy) (makes : busy.hold.targets ≡ job.targets) (ticket : IsTicket new.store.now rec busy.ticket)
+        (added : new.run.now.tickets ≡ left ++ busy ∷ []) where
       rest_now : (s : Standing) → IsTold (standing_of m new) s (Started rule) →
           s ≡ record (standing_of m old) { plan = s.plan; records = s.records; faulted = s.faulted; ended = s.ended; around = s.around }
       rest_now s told =
@@ -237,17 +227,18 @@ module _ {W O E : Type 0} (m : Meaning W) (o : Outset) (outset : IsOutset o) (ol
               reports = record { stays = λ e. told.reports.stays (faulted ∙ e); told = told.reports.told };
               records = λ path out.
                   ap (λ (x : Standing). x.records path) told.rest
-                  ∙ records path (λ h. out (subst (λ (paths : List Path). Contains paths path) targets h));
+                  ∙ takes.others path (λ h. out (subst (λ (paths : List Path). Contains paths path) targets h));
             });
         began = λ busy path h made. began_more new.run.now.held within busy path h made;
         booked = λ e.
-            began_booked o outset along.on.jobs (m.around old.world.now) s.around along.on.past along.on.at.way due.model has.decided
+            subst (λ (all : List Busy). AreBooked o s.around (Began due.model ∷ along.on.past) (record (book_of new) { running = all })) (sym added)
+            (began_booked o outset along.on.jobs (m.around old.world.now) s.around along.on.past along.on.at.way due.model has.decided
             (subst (λ (a : Around). Writes due.model.targets (m.around old.world.now) a) (sym (ap (λ (x : Standing). x.around) told.rest))
             (subst (λ (paths : List Path). Writes paths (m.around old.world.now) (m.around new.world.now)) targets
             (starts_write job (m.counts old.world.now) (m.around old.world.now) is.mid (m.around new.world.now) is.clears is.starts)))
-            (book_of old) after (along.on.booked unshut)
-            (subst (λ (paths : List Path). TakesAway paths (book_of old) after) targets takes) busy rec (makes ∙ targets) own_targets ticket has.is
-            (book_of new) same_store same_held added;
+            (book_of old) (record (book_of new) { running = left }) (along.on.booked unshut)
+            (subst (λ (paths : List Path). TakesAway paths (book_of old) (record (book_of new) { running = left })) targets takes)
+            busy rec (makes ∙ targets) own_targets ticket has.is);
       }
 
       well_now : new.account.now.is_ended ≡ false → GoesWell m o new

@@ -1,4 +1,4 @@
-use Rattle.std.proofs.Common.{◌∙◌, List, [], Contains, ap, refl, subst, sym}
+use Rattle.std.proofs.Common.{◌∙◌, List, Contains, ap, refl, subst, sym}
 use Rattle.std.specs.Prelude.{Ok}
 use Rattle.sign_store.specs.Putting.{map_with}
 use Rattle.build_run.specs.Holds.{Busy}

@@ -4,10 +4,9 @@ use Rattle.build_run.specs.Ledgers.{Ledger, ledger_of}
 use Rattle.build_run.proofs.Causing.{account_as, begun, exit_same, print_end, same_out}
 use Rattle.build_run.specs.Books.{withdrawn}
 use Rattle.build_run.proofs.Clearing.{held_err, launched, refused}
-use Rattle.build_run.proofs.Goings.{passes_on}
+use Rattle.build_run.proofs.Goings.{passes_on, stays_here}
 use Rattle.build_run.proofs.Outs.{held_ok, stored_alike, stored_over, unheld_still}
 use Rattle.build_run.proofs.Sites.{joined_after, site_goes, sound_refused, sound_still}
-use Rattle.build_run.proofs.Goings.{stays_here}
 use Rattle.build_run.proofs.site.Site.launch.Goals as goal
 
 pub begin-requires-clause-apart : goal.begin-requires-clause-apart

@@ -1,4 +1,4 @@
-use Rattle.std.proofs.Common.{◌∙◌, [], refl, sym}
+use Rattle.std.proofs.Common.{◌∙◌, refl, sym}
 use Rattle.build_model.proofs.Lists.{true_false}
 use Rattle.build_files.proofs.Truths.{asked}
 use Rattle.turn_means.specs.Standing.{begun_at}
@@ -6,11 +6,10 @@ use Rattle.build_run.specs.Along.{is_faulted, standing_of}
 use Rattle.build_run.specs.Ledgers.{ledger_of}
 use Rattle.build_run.proofs.Causing.{exit_same, look_end}
 use Rattle.build_run.proofs.Choosing.{along_looked, found_now, fresh_on, goes_before, marks_here, told_before, weighed_now}
-use Rattle.build_run.proofs.Clearing.{clears_asked}
 use Rattle.build_run.proofs.Sites.{looked_at, sound_still}
-use Rattle.build_run.proofs.Starting.{end_of_turn, ended_on}
+use Rattle.build_run.proofs.Starting.{end_of_turn, ended_looked}
 use Rattle.build_run.specs.Books.{book_of}
-use Rattle.build_run.proofs.Booking.{book_as, kept_on, same_book}
+use Rattle.build_run.proofs.Booking.{shut_on}
 use Rattle.build_run.proofs.site.Site.make.Goals as goal
 
 pub returns-in_err-is_stale-clause-ends : goal.returns-in_err-is_stale-clause-ends
@@ -47,8 +46,7 @@ returns-in_err-is_stale-clause-along g c = λ tells sure o outset along due.
     let m = g.W.Disk.meaning in
     let site = c.args.self.now in
     end_of_turn _ m o _ c.from_residual.result c.from_residual.ensures.1
-    (ended_on m o outset site along c.is_stale.new.world (book_of site) site.run.now.plan
-    (clears_asked m [] site.world.now c.is_stale.new.world c.is_stale.ensures.looks.around tells) (λ busy h. h) (same_book (book_of site)) refl)
+    (ended_looked m o outset site along c.is_stale.new.world site.run.now refl (c.is_stale.ensures.looks.around tells))
 
 pub returns-then-not-branch-clause-along : goal.returns-then-not-branch-clause-along
 returns-then-not-branch-clause-along g c = λ tells sure o outset along due.
@@ -114,8 +112,7 @@ returns-clause-along g c = λ tells sure o outset along due.
     let ends = c.note_start.ensures.ends in
     record {
       told = λ now t stays.
-          kept_on o (book_of c.start.new.self) _ now (λ busy h. h)
-          (book_as (book_of c.start.new.self) _ refl refl refl (λ e. sym c.note_start.ensures.keeps.shut ∙ e))
+          shut_on o (book_of c.start.new.self) _ now c.note_start.ensures.keeps.shut
           (goes.told now (told_before (standing_of m c.start.new.self) (is_faulted noted) noted.is_ended now _ ends.faulted t) (λ e. stays (ends.ended e)));
       ends = λ e. true_false (sym e);
       goes = refl;

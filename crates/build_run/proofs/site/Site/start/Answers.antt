@@ -1,6 +1,5 @@
-use Rattle.std.proofs.Common.{◌≢◌, ◌∙◌, ◌++◌, ◌∷◌, List, [], Contains, ap, append_assoc, arith, length, length-append, refl, subst, sym}
+use Rattle.std.proofs.Common.{◌∙◌, ◌++◌, ◌∷◌, List, [], Contains, ap, append_assoc, arith, length, length-append, refl, subst, sym}
 use Rattle.std.proofs.lemmas.List.{map-append}
-use Rattle.std.proofs.lemmas.List.Elements.{Contains-append_left, Contains-append_right}
 use Rattle.sign_store.specs.Tables.{Map}
 use Rattle.build_run.specs.Holds.{Busy, holds_in, hold_for}
 use Rattle.build_run.specs.Goings.{IsJoined}
@@ -9,7 +8,7 @@ use Rattle.build_run.specs.Outs.{IsOutFor, IsStored}
 use Rattle.build_run.specs.declared.tickets.Hold.{Hold}
 use Rattle.build_run.proofs.Causing.{exit_same, exit_inside, inside, shut_fault}
 use Rattle.build_run.proofs.Goings.{passes_here}
-use Rattle.build_run.proofs.Outs.{apart_both, held_alike, kept_held, no_more_held, outs_front, own_after, own_room, stored_prepared, stored_beside, stored_added, unheld_still}
+use Rattle.build_run.proofs.Outs.{apart_both, kept_held, no_more_held, own_after, own_room, stored_prepared, stored_beside, stored_added, unheld_still}
 use Rattle.build_run.specs.Books.{book_of}
 use Rattle.build_run.proofs.Alongs.{along_ends}
 use Rattle.build_run.proofs.Booking.{store_book}
@@ -251,12 +250,12 @@ returns-in-Ok-clause-along g c = λ tells sure o outset along due is_due.
     launched_on m o outset site along c.args.rule c.args.now due is_due c.in_ok-job.job c.in_ok-job.ensures room _
     (c.in-Ok.ensures.starts tells) well.counts known.graph known.plan known.inputs account.ended account.faulted unshut
     (held_within site.run.now.held now.run.now.held c.launch.ensures.held)
-    (book_of now)
+    now.run.now.tickets
     (takes_away m site now c.prepare.new.store c.in_ok-job.job.targets (c.requires.sound.stored.outs c.if-self.false) p.map p.outs c.launch.ensures.tickets c.launch.ensures.held
     (c.make_none_of.ensures c.if-not-make_none_of.false) c.launch.ensures.outs c.launch.ensures.kept c.launch.ensures.sound.stored.outs unshut c.in-Ok.ensures.none)
     (record { hold = c.in_ok-hold.hold; ticket = c.in_ok-ticket.ticket })
     (ap (λ (h : Hold). h.targets) c.in_ok-hold.ensures) (c.launch.ensures.outs.each c.args.now c.in_ok-ticket.ticket c.in_ok-ticket.ensures.out.own)
-    refl refl c.add.ensures
+    c.add.ensures
 
 pub returns-clause-along : goal.returns-clause-along
 returns-clause-along g c = λ tells sure o outset along due is_due.

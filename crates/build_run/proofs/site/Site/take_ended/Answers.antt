@@ -19,7 +19,7 @@ use Rattle.build_run.proofs.Booking.{given_up}
 use Rattle.build_run.proofs.EndingOn.{done_is, put_counts, put_ends, put_others, put_unshut, taken_on, told_done, told_failed, unrisen_as, unrisen_done, unrisen_failed, was_done}
 use Rattle.build_run.proofs.Causing.{account_as, settled, untold}
 use Rattle.build_run.proofs.Goings.{passes_on}
-use Rattle.build_run.proofs.Outs.{held_alike, held_count, last_of, out_in, outs_front, outs_left, room_beside, rule_of, stored_alike, stored_beside, stored_left, stored_over, stored_taken}
+use Rattle.build_run.proofs.Outs.{held_count, last_of, out_in, room_beside, rule_of, stored_alike, stored_beside, stored_left, stored_over, stored_taken}
 use Rattle.build_run.proofs.site.Site.take_ended.Goals as goal
 
 pub returns-in_default-clause-passes : goal.returns-in_default-clause-passes

@@ -1,16 +1,14 @@
-use Rattle.std.proofs.Common.{◌∙◌, refl, sym}
+use Rattle.std.proofs.Common.{◌∙◌}
 use Rattle.build_run.specs.Books.{book_of}
 use Rattle.build_run.proofs.Alongs.{told_to}
-use Rattle.build_run.proofs.Booking.{book_as, kept_on}
+use Rattle.build_run.proofs.Booking.{shut_on}
 use Rattle.build_run.proofs.site.Site.tell.Goals as goal
 
 pub returns-clause-along : goal.returns-clause-along
 returns-clause-along g c = λ o outset asked leads.
     let t = told_to o outset g.W.Disk.meaning c.args.self.now c.args.done leads c.tell.new.plan c.halt.new.plan c.tell.new.account c.halt.ensures.goes c.tell.ensures.tells in
     record {
-      on =
-          kept_on o (book_of c.args.self.now) _ _ (λ busy h. h)
-          (book_as (book_of c.args.self.now) _ refl refl refl (λ e. sym c.tell.ensures.reports.shut ∙ e)) t.on;
+      on = shut_on o (book_of c.args.self.now) _ _ c.tell.ensures.reports.shut t.on;
       asked = asked;
       well = λ e. let w = t.well e in record { unrisen = w.unrisen; unshut = c.tell.ensures.reports.shut ∙ w.unshut; looked = w.looked };
       halted = c.halt.ensures.halts;
