@@ -150,10 +150,10 @@ evaluated d0 d1 e x t s st i = ap (λ k. left k.tasks k.values (goes_on s)) st �
 abbrev pub NotName : Expr → Type 0
 NotName e = (l : ℕ) (n : List ℕ) → e ≡ expr'.Name l n → ⊥
 
-no_line_at : (o : open'.Expr-F Argument Expr Link Operation Pair Piece) → NotName (roll-Expr o) → None ≡ named_line (expr_tree (roll-Expr o))
+no_line_at : (o : open'.Expr-F Argument Expr Link Piece Operation Pair) → NotName (roll-Expr o) → None ≡ named_line (expr_tree (roll-Expr o))
 unfolding expr_tree
 no_line_at (open'.Name l n) h = absurd (h l n (expr'.rolls-Name l n))
-no_line_at o h = ap named_line (sym (fold-roll-Expr Tree Tree Tree Tree Tree Tree argument_step expr_step link_step operation_step pair_step piece_step o))
+no_line_at o h = ap named_line (sym (fold-roll-Expr Tree Tree Tree Tree Tree Tree argument_step expr_step link_step piece_step operation_step pair_step o))
 
 pub no_line : (e : Expr) → NotName e → None ≡ named_line (expr_tree e)
 no_line e = let P : Expr → Type 0 = λ x. NotName x → None ≡ named_line (expr_tree x) in subst P (roll-out-Expr e) (no_line_at (out-Expr e))

@@ -31,10 +31,10 @@ abbrev pub before_others : List ℕ → Option Value → Tree → List Value →
 before_others n x ps xs = record { name = n; default = x } ∷ parameters_by ps xs
 
 -- a default that stands there takes the next value
-value_taken_at : (o : open'.Expr-F Argument Expr Link Operation Pair Piece) (l : ℕ) (n : List ℕ) (ps : Tree) (x : Value) (xs : List Value) → parameters_by (cons (parameter l n (expr_tree (roll-Expr o))) ps) (x ∷ xs) ≡ before_others n (Some x) ps xs
+value_taken_at : (o : open'.Expr-F Argument Expr Link Piece Operation Pair) (l : ℕ) (n : List ℕ) (ps : Tree) (x : Value) (xs : List Value) → parameters_by (cons (parameter l n (expr_tree (roll-Expr o))) ps) (x ∷ xs) ≡ before_others n (Some x) ps xs
 unfolding expr_tree
-value_taken_at (open'.Name k m) l n ps x xs = rw (fold-roll-Expr Tree Tree Tree Tree Tree Tree argument_step expr_step link_step operation_step pair_step piece_step (open'.Name k m)) refl
-value_taken_at o l n ps x xs = rw (fold-roll-Expr Tree Tree Tree Tree Tree Tree argument_step expr_step link_step operation_step pair_step piece_step o) refl
+value_taken_at (open'.Name k m) l n ps x xs = rw (fold-roll-Expr Tree Tree Tree Tree Tree Tree argument_step expr_step link_step piece_step operation_step pair_step (open'.Name k m)) refl
+value_taken_at o l n ps x xs = rw (fold-roll-Expr Tree Tree Tree Tree Tree Tree argument_step expr_step link_step piece_step operation_step pair_step o) refl
 
 value_taken : (e : Expr) (l : ℕ) (n : List ℕ) (ps : Tree) (x : Value) (xs : List Value) → parameters_by (cons (parameter l n (expr_tree e)) ps) (x ∷ xs) ≡ before_others n (Some x) ps xs
 value_taken e l n ps x xs =

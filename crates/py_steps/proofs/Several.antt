@@ -116,10 +116,10 @@ pub arguments_over : (xs : List Argument) (d : Desk) (s : State) → length xs �
 arguments_over [] d s e = all_end (values_of d) (left (tasks_of d)) s
 arguments_over (x ∷ xs) d s e = absurd (omega arith)
 
-default_at : (o : open'.Expr-F Argument Expr Link Operation Pair Piece) (l : ℕ) (n : List ℕ) (ps : Tree) → defaults_of (cons (parameter l n (expr_tree (roll-Expr o))) ps) ≡ cons (expr_tree (roll-Expr o)) (defaults_of ps)
+default_at : (o : open'.Expr-F Argument Expr Link Piece Operation Pair) (l : ℕ) (n : List ℕ) (ps : Tree) → defaults_of (cons (parameter l n (expr_tree (roll-Expr o))) ps) ≡ cons (expr_tree (roll-Expr o)) (defaults_of ps)
 unfolding expr_tree
-default_at (open'.Name k m) l n ps = rw (fold-roll-Expr Tree Tree Tree Tree Tree Tree argument_step expr_step link_step operation_step pair_step piece_step (open'.Name k m)) refl
-default_at o l n ps = rw (fold-roll-Expr Tree Tree Tree Tree Tree Tree argument_step expr_step link_step operation_step pair_step piece_step o) refl
+default_at (open'.Name k m) l n ps = rw (fold-roll-Expr Tree Tree Tree Tree Tree Tree argument_step expr_step link_step piece_step operation_step pair_step (open'.Name k m)) refl
+default_at o l n ps = rw (fold-roll-Expr Tree Tree Tree Tree Tree Tree argument_step expr_step link_step piece_step operation_step pair_step o) refl
 
 default_there : (e : Expr) (l : ℕ) (n : List ℕ) (ps : Tree) → defaults_of (cons (parameter l n (expr_tree e)) ps) ≡ cons (expr_tree e) (defaults_of ps)
 default_there e l n ps =

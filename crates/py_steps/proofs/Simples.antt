@@ -128,10 +128,10 @@ expression_goes e d d' s a =
     arrives d' (goes_on s) a (same (after_is (expr_tree e.now) s (λ x s1. comes_to (goes_on s1)) (λ x s1. k (goes_on s1)) k (left_ends (tasks_of d) (values_of d)) (λ x s1. refl)))
 
 -- `return`
-nil_of_at : (o : open'.Expr-F Argument Expr Link Operation Pair Piece) (s : State) → plan_or_nil (expr_tree (roll-Expr o)) s ≡ goes (eval (expr_tree (roll-Expr o))) s
+nil_of_at : (o : open'.Expr-F Argument Expr Link Piece Operation Pair) (s : State) → plan_or_nil (expr_tree (roll-Expr o)) s ≡ goes (eval (expr_tree (roll-Expr o))) s
 unfolding expr_tree
-nil_of_at (open'.Name l n) s = subst (λ (t : Tree). plan_or_nil t s ≡ goes (eval t) s) (sym (fold-roll-Expr Tree Tree Tree Tree Tree Tree argument_step expr_step link_step operation_step pair_step piece_step (open'.Name l n))) refl
-nil_of_at o s = subst (λ (t : Tree). plan_or_nil t s ≡ goes (eval t) s) (sym (fold-roll-Expr Tree Tree Tree Tree Tree Tree argument_step expr_step link_step operation_step pair_step piece_step o)) refl
+nil_of_at (open'.Name l n) s = subst (λ (t : Tree). plan_or_nil t s ≡ goes (eval t) s) (sym (fold-roll-Expr Tree Tree Tree Tree Tree Tree argument_step expr_step link_step piece_step operation_step pair_step (open'.Name l n))) refl
+nil_of_at o s = subst (λ (t : Tree). plan_or_nil t s ≡ goes (eval t) s) (sym (fold-roll-Expr Tree Tree Tree Tree Tree Tree argument_step expr_step link_step piece_step operation_step pair_step o)) refl
 
 nil_of : (e : Expr) (s : State) → plan_or_nil (expr_tree e) s ≡ goes (eval (expr_tree e)) s
 nil_of e s =

@@ -128,22 +128,22 @@ piece_step (open'.Field l t) = field l t
 
 -- the tree that an expression stands for, and so for its parts
 unfoldable pub expr_tree : Expr → Tree
-expr_tree = fold-Expr Tree Tree Tree Tree Tree Tree argument_step expr_step link_step operation_step pair_step piece_step
+expr_tree = fold-Expr Tree Tree Tree Tree Tree Tree argument_step expr_step link_step piece_step operation_step pair_step
 
 unfoldable pub link_tree : Link → Tree
-link_tree = fold-Link Tree Tree Tree Tree Tree Tree argument_step expr_step link_step operation_step pair_step piece_step
+link_tree = fold-Link Tree Tree Tree Tree Tree Tree argument_step expr_step link_step piece_step operation_step pair_step
 
 unfoldable pub argument_tree : Argument → Tree
-argument_tree = fold-Argument Tree Tree Tree Tree Tree Tree argument_step expr_step link_step operation_step pair_step piece_step
+argument_tree = fold-Argument Tree Tree Tree Tree Tree Tree argument_step expr_step link_step piece_step operation_step pair_step
 
 unfoldable pub operation_tree : Operation → Tree
-operation_tree = fold-Operation Tree Tree Tree Tree Tree Tree argument_step expr_step link_step operation_step pair_step piece_step
+operation_tree = fold-Operation Tree Tree Tree Tree Tree Tree argument_step expr_step link_step piece_step operation_step pair_step
 
 unfoldable pub pair_tree : Pair → Tree
-pair_tree = fold-Pair Tree Tree Tree Tree Tree Tree argument_step expr_step link_step operation_step pair_step piece_step
+pair_tree = fold-Pair Tree Tree Tree Tree Tree Tree argument_step expr_step link_step piece_step operation_step pair_step
 
 unfoldable pub piece_tree : Piece → Tree
-piece_tree = fold-Piece Tree Tree Tree Tree Tree Tree argument_step expr_step link_step operation_step pair_step piece_step
+piece_tree = fold-Piece Tree Tree Tree Tree Tree Tree argument_step expr_step link_step piece_step operation_step pair_step
 
 -- an expression that may be left out
 abbrev pub optional_tree : Option Expr → Tree
