@@ -71,12 +71,9 @@ pub field_then : {d : ℕ} {ts rest : List Token} {t : Tree} {o : Outcome} (l : 
     Reads d one_field ts (ok t rest) → Reads d (pieces_from true l (found ++ t ∷ [])) rest o → Reads d (field_from l found) ts o
 field_then l found (r_opened p (r_nested u rest r r_given)) s = r_opened p (r_nested u rest r s)
 
-nothing_given : {X : Type 0} {d : ℕ} {t : Tree} {ts rest : List Token} {w : Why} → Reads d (gives t) ts (fault w rest) → X
-nothing_given r = absurd r
-
 pub field_broken : {d : ℕ} {ts r9 : List Token} {w : Why} (l : ℕ) (found : List Tree) →
     Reads d one_field ts (fault w r9) → Reads d (field_from l found) ts (fault w r9)
-field_broken l found (r_opened p (r_nested u rest r s)) = nothing_given s
+field_broken l found (r_opened p (r_nested u rest r s)) = elim s [ ]
 field_broken l found (r_opened p (r_nested_fault r)) = r_opened p (r_nested_fault r)
 field_broken l found (r_deep p) = r_deep p
 field_broken l found (r_unopened p) = r_unopened p
