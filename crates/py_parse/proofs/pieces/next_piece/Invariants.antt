@@ -1,4 +1,4 @@
-use Rattle.std.proofs.Common.{◌≤◌, length, map}
+use Rattle.std.proofs.Common.{ℕ, ◌≤◌, length, map}
 use Rattle.py_tree.specs.Tree.{piece_tree}
 use Rattle.py_parse.specs.Open.{pieces_from}
 use Rattle.py_parse.specs.Reading.{Outcome, Reads}
@@ -7,8 +7,8 @@ use Rattle.py_parse.proofs.pieces.next_piece.Given as goal
 abbrev pub invariant-pieces : goal.invariant-pieces
 invariant-pieces l =
     ((d : ℕ) (o : Outcome) → Reads d (pieces_from l.inside l.line (map piece_tree l.pieces.items)) l.rest o →
-    Reads d (pieces_from l.fn.inside l.line (map piece_tree l.fn.pieces.items)) l.tokens o) ×
-    (length l.rest ≤ length l.tokens)
+    Reads d (pieces_from l.initial.inside l.line (map piece_tree l.initial.pieces.items)) l.initial.rest o) ×
+    (length l.rest ≤ length l.initial.rest)
 
 abbrev pub decreases-pieces : goal.decreases-pieces
 decreases-pieces l = length l.rest
