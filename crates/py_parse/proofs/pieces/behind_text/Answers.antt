@@ -1,9 +1,17 @@
-use Rattle.std.proofs.Common.{◌∙◌, ap, sym}
-use Rattle.py_tree.specs.Tree.{text, piece_tree}
-use Rattle.py_tree.proofs.Views.{expr_tree-Text}
-use Rattle.py_parse.proofs.TextPieces.{text_alone}
+use Rattle.std.proofs.Common.{◌∙◌, ◌++◌, ◌∷◌, [], List, map, ap, sym}
+use Rattle.py_tree.specs.Tree.{Tree, text, piece_tree}
+use Rattle.py_tree.specs.declared.expr.Piece.{Piece}
+use Rattle.py_tree.proofs.Views.{expr_tree-Text, piece_tree-Part}
+use Rattle.py_parse.proofs.Cases.{map_more}
+use Rattle.py_parse.proofs.TextPieces.{text_alone, text_more, pieces_continue_over}
 use Rattle.py_parse.proofs.pieces.behind_text.Goals as goal
 
 pub returns-then-not-sees-clause-goes : goal.returns-then-not-sees-clause-goes
 returns-then-not-sees-clause-goes c =
     λ d. text_alone d _ _ _ (sym c.sees.ensures ∙ c.if-not-sees.true) (expr_tree-Text _ _ ∙ ap (text c.args.token.now.line) c.in_ok-text.ensures)
+
+pub returns-clause-goes : goal.returns-clause-goes
+returns-clause-goes c =
+    let one = piece_tree-Part c.args.token.now.line _ ∙ ap (text c.args.token.now.line) c.in_ok-text.ensures in
+    let found = map_more piece_tree _ _ _ c.in_ok-push.ensures.items ∙ ap (λ (ps : List Piece). map piece_tree ps ++ _ ∷ []) c.new-pieces.ensures.items ∙ ap (λ (t : Tree). t ∷ []) one in
+    pieces_continue_over _ _ _ _ _ _ (λ d o r. text_more _ _ _ found (sym c.sees.ensures ∙ c.if-not-sees.false) r) c.next_piece.ensures.goes
