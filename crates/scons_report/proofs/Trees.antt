@@ -62,25 +62,25 @@ length_push sides s = omega (arith, length-append {A = Side})
 module _ (shown : Shown) (depth : ℕ) (old new : Walk) (next : Next) (t : Takes old new next) where
   taken_here : remaining shown depth old ≡ with_next shown depth next new
   taken_here =
-    let n = next.node in
-    let before = t.front ++ side (n ∷ t.rest) t.under_last ∷ [] in
-    let after = t.front ++ side t.rest t.under_last ∷ [] in
-    let marks = new.is_open.items in
-    let writer = below shown (depth - length t.front) in
-    let same : old.is_open.items ≡ marks = ap (λ v. v.items) (sym t.marks) in
-    let margin : margin_of [] before ≡ margin_of [] after = margin_push [] t.front (side (n ∷ t.rest) t.under_last) ∙ sym (margin_push [] t.front (side t.rest t.under_last)) in
-    let tail : List Bool → Written = λ opened. over shown depth [] t.front opened in
-    let first = t.before shown depth [] old.is_open.items ∙ ap (λ (m : List Bool). over shown depth [] before m) same in
-    let push = over_push shown depth [] t.front (side (n ∷ t.rest) t.under_last) marks in
-    let moved = ap (λ (m : List ℕ). followed (rows shown writer m marks (n ∷ t.rest)) tail) margin in
-    let split = followed_assoc (row shown writer (margin_of [] after) (is_last t.rest) n marks) (λ opened. rows shown writer (margin_of [] after) opened t.rest) tail in
-    let head = row shown writer (margin_of [] after) (is_last t.rest) n marks in
-    let joined = followed_same head (λ m. followed (rows shown writer (margin_of [] after) m t.rest) tail) (λ m. over shown depth [] after m)
-        (sym (over_push shown depth [] t.front (side t.rest t.under_last) head.open_nodes)) in
-    let whole = first ∙ (push ∙ (moved ∙ (split ∙ joined))) in
-    let count : length (sides_of new) ≡ suc (length t.front) = ap length t.after ∙ length_push t.front (side t.rest t.under_last) in
-    let deep : depth + 1 - length (sides_of new) ≡ depth - length t.front = omega arith in
-    rw (deep, t.after, t.last) whole
+      let n = next.node in
+      let before = t.front ++ side (n ∷ t.rest) t.under_last ∷ [] in
+      let after = t.front ++ side t.rest t.under_last ∷ [] in
+      let marks = new.is_open.items in
+      let writer = below shown (depth - length t.front) in
+      let same : old.is_open.items ≡ marks = ap (λ v. v.items) (sym t.marks) in
+      let margin : margin_of [] before ≡ margin_of [] after = margin_push [] t.front (side (n ∷ t.rest) t.under_last) ∙ sym (margin_push [] t.front (side t.rest t.under_last)) in
+      let tail : List Bool → Written = λ opened. over shown depth [] t.front opened in
+      let first = t.before shown depth [] old.is_open.items ∙ ap (λ (m : List Bool). over shown depth [] before m) same in
+      let push = over_push shown depth [] t.front (side (n ∷ t.rest) t.under_last) marks in
+      let moved = ap (λ (m : List ℕ). followed (rows shown writer m marks (n ∷ t.rest)) tail) margin in
+      let split = followed_assoc (row shown writer (margin_of [] after) (is_last t.rest) n marks) (λ opened. rows shown writer (margin_of [] after) opened t.rest) tail in
+      let head = row shown writer (margin_of [] after) (is_last t.rest) n marks in
+      let joined = followed_same head (λ m. followed (rows shown writer (margin_of [] after) m t.rest) tail) (λ m. over shown depth [] after m)
+      (sym (over_push shown depth [] t.front (side t.rest t.under_last) head.open_nodes)) in
+      let whole = first ∙ (push ∙ (moved ∙ (split ∙ joined))) in
+      let count : length (sides_of new) ≡ suc (length t.front) = ap length t.after ∙ length_push t.front (side t.rest t.under_last) in
+      let deep : depth + 1 - length (sides_of new) ≡ depth - length t.front = omega arith in
+      rw (deep, t.after, t.last) whole
 
 pub taken : (shown : Shown) (depth : ℕ) (old new : Walk) (next : Next) → Takes old new next → text_left shown depth old ≡ text_of (with_next shown depth next new).lines
 taken shown depth old new next t = ap (λ (w : Written). text_of w.lines) (taken_here shown depth old new next t)
@@ -170,12 +170,12 @@ module _ (shown : Shown) (nodes : ℕ) (old new : Walk) (next : Next) (w : IsWit
       let margin = margin_of [] sides ++ piece next.is_last in
       let tail : List Bool → Written = λ m. over shown nodes [] sides m in
       let first : below shown (nodes + 1 - length sides) margin opened children ≡ rows shown (below shown (nodes - length sides)) margin opened children =
-          ap (λ (d : ℕ). below shown d margin opened children) room in
+      ap (λ (d : ℕ). below shown d margin opened children) room in
       let pushed : remaining shown nodes new ≡ followed (rows shown (below shown (nodes - length sides)) margin opened children) tail =
-          ap (λ (s : List Side). over shown nodes [] s new.is_open.items) g.0
-          ∙ (ap (λ (m : List Bool). over shown nodes [] (sides ++ side children next.is_last ∷ []) m) g.1
-          ∙ (over_push shown nodes [] sides (side children next.is_last) opened
-          ∙ ap (λ (m : List ℕ). followed (rows shown (below shown (nodes - length sides)) m opened children) tail) (margin_push [] sides (side children next.is_last)))) in
+      ap (λ (s : List Side). over shown nodes [] s new.is_open.items) g.0
+      ∙ (ap (λ (m : List Bool). over shown nodes [] (sides ++ side children next.is_last ∷ []) m) g.1
+      ∙ (over_push shown nodes [] sides (side children next.is_last) opened
+      ∙ ap (λ (m : List ℕ). followed (rows shown (below shown (nodes - length sides)) m opened children) tail) (margin_push [] sides (side children next.is_last)))) in
       ap (λ (x : Written). line Open ++ text_of (followed x tail).lines) first ∙ ap (λ (x : Written). line Open ++ text_of x.lines) (sym pushed)
 
 -- What is next and behind it is its line, and what is left once its children are next.
@@ -213,8 +213,8 @@ pub begun_left : (shown : Shown) (word : List ℕ) (children : List NodeId) (wal
 begun_left shown word children walk b =
     let nodes = length shown.nodes in
     let left : remaining shown nodes walk ≡ rows shown (below shown nodes) (piece true) (replicate nodes false) children =
-        ap (λ (s : List Side). over shown nodes [] s walk.is_open.items) b.sides
-        ∙ ap (λ (m : List Bool). over shown nodes [] (side children true ∷ []) m) b.marks in
+    ap (λ (s : List Side). over shown nodes [] s walk.is_open.items) b.sides
+    ∙ ap (λ (m : List Bool). over shown nodes [] (side children true ∷ []) m) b.marks in
     ap (λ (x : Written). line_text (row_text [] word) ++ text_of x.lines) (sym left)
 
 -- nothing is left

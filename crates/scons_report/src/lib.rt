@@ -13,10 +13,10 @@ mod tree_end;
 pub use build_files::ListEnd;
 pub use clean::clean_list;
 pub use dry::{cycle_fault, dry_list};
-pub use shown::tree_text;
-pub use tree_end::TreeEnd;
 pub use report_texts::{
     building_text, cleaned_text, cleaning_text, done_text, done_with_errors_text, fault_text,
     help_text, load_text, nothing_text, read_text, reading_text, removed_text, rule_text,
     terminated_text, up_to_date_text,
 };
+pub use shown::tree_text;
+pub use tree_end::TreeEnd;

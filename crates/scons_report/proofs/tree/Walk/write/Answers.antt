@@ -20,7 +20,7 @@ returns-in_err-show-clause-writes g c =
     let form = c.form_of-form.result in
     let children = children_of c.args.graph.now c.args.plan.now c.args.next.node in
     let is : form ≡ form_of children (get_or c.args.self.now.is_open.items c.args.next.node.0 false) =
-        c.form_of-form.ensures ∙ (ap (λ (ns : List NodeId). form_of ns c.is_open.result) c.children_of-children.ensures ∙ ap (λ (b : Bool). form_of children b) c.is_open.ensures) in
+    c.form_of-form.ensures ∙ (ap (λ (ns : List NodeId). form_of ns c.is_open.result) c.children_of-children.ensures ∙ ap (λ (b : Bool). form_of children b) c.is_open.ensures) in
     let text = c.as_str.ensures.value ∙ c.in_ok-text.ensures.text in
     let line = leads shown nodes c.args.self.now c.args.self.now c.args.next form is c.requires.within c.in_ok-text.ensures.within in
     writes_end g.O.Sink.meaning _ _ _ _ r.result _ r.ensures.1
@@ -33,7 +33,7 @@ returns-clause-writes g c =
     let form = c.form_of-form.result in
     let children = children_of c.args.graph.now c.args.plan.now c.args.next.node in
     let is : form ≡ form_of children (get_or c.args.self.now.is_open.items c.args.next.node.0 false) =
-        c.form_of-form.ensures ∙ (ap (λ (ns : List NodeId). form_of ns c.is_open.result) c.children_of-children.ensures ∙ ap (λ (b : Bool). form_of children b) c.is_open.ensures) in
+    c.form_of-form.ensures ∙ (ap (λ (ns : List NodeId). form_of ns c.is_open.result) c.children_of-children.ensures ∙ ap (λ (b : Bool). form_of children b) c.is_open.ensures) in
     let text = c.as_str.ensures.value ∙ c.in_ok-text.ensures.text in
     let new = c.go_below.new.self in
     let under : GoesBelow form c.args.self.now new c.args.next children = subst (λ (ns : List NodeId). GoesBelow form c.args.self.now new c.args.next ns) c.children_of-children.ensures c.in_ok-go_below.ensures in
@@ -51,7 +51,7 @@ returns-clause-within g c =
     let form = c.form_of-form.result in
     let children = children_of c.args.graph.now c.args.plan.now c.args.next.node in
     let is : form ≡ form_of children (get_or c.args.self.now.is_open.items c.args.next.node.0 false) =
-        c.form_of-form.ensures ∙ (ap (λ (ns : List NodeId). form_of ns c.is_open.result) c.children_of-children.ensures ∙ ap (λ (b : Bool). form_of children b) c.is_open.ensures) in
+    c.form_of-form.ensures ∙ (ap (λ (ns : List NodeId). form_of ns c.is_open.result) c.children_of-children.ensures ∙ ap (λ (b : Bool). form_of children b) c.is_open.ensures) in
     let new = c.go_below.new.self in
     let under : GoesBelow form c.args.self.now new c.args.next children = subst (λ (ns : List NodeId). GoesBelow form c.args.self.now new c.args.next ns) c.children_of-children.ensures c.in_ok-go_below.ensures in
     still shown nodes c.args.self.now new c.args.next form is c.requires.within c.in_ok-text.ensures.within under
