@@ -39,7 +39,7 @@ pub fn tree_text<W: World, O: Sink>(
 
 /// What stands below a word: its nodes, or the children of the one that it names itself.
 fn children_asked<'a>(
-    graph: &Graph,
+    graph: &'a Graph,
     plan: &'a Plan,
     nodes: &'a [NodeId],
     is_node: bool,

@@ -52,7 +52,7 @@ pub(crate) struct Walk<'a> {
 /// each node.
 pub(crate) fn print_tree<'a, O: Sink>(
     alloc: Global,
-    graph: &Graph,
+    graph: &'a Graph,
     plan: &'a Plan,
     word: &str,
     children: &'a [NodeId],
@@ -78,7 +78,7 @@ fn word_text(alloc: Global, word: &str) -> Result<String, Memory>
 /// Prints what is left of a walk. There are never as many lines as there are numbers.
 fn print_rows<'a, O: Sink>(
     alloc: Global,
-    graph: &Graph,
+    graph: &'a Graph,
     plan: &'a Plan,
     mut walk: Walk<'a>,
     out: &mut O,
@@ -140,7 +140,7 @@ impl<'a> Walk<'a> {
     fn write<O: Sink>(
         &mut self,
         alloc: Global,
-        graph: &Graph,
+        graph: &'a Graph,
         plan: &'a Plan,
         next: Next,
         out: &mut O,
@@ -255,7 +255,7 @@ fn form_of(children: &[NodeId], is_open: bool) -> Form
 }
 
 /// What stands below a node: the dependencies of its rule.
-pub(crate) fn children_of<'a>(graph: &Graph, plan: &'a Plan, node: NodeId) -> &'a [NodeId]
+pub(crate) fn children_of<'a>(graph: &'a Graph, plan: &'a Plan, node: NodeId) -> &'a [NodeId]
     ensures { result.now ≡ children_of graph.now plan.now node }
 {
     match graph.rule_of(node) {
