@@ -8,3 +8,4 @@ pub mod Outsets
 pub mod Sites
 pub mod Takes
 pub mod Withdrawals
+pub mod Whys
