@@ -1,6 +1,5 @@
 use Rattle.std.proofs.Common.{◌≡◌, ◌∙◌, subst, sym, refl, ap, [], ◌∷◌, Some, None}
-use Rattle.build_model.specs.Rules.{Path}
-use Rattle.build_model.specs.Records.{Record}
+use Rattle.build_model.specs.Rules.{Path, Record}
 use Rattle.sign_store.specs.Ends.{image_in}
 use Rattle.sign_store.specs.Tables.{Map, nothing}
 use Rattle.build_means.specs.Records.{records_in}
