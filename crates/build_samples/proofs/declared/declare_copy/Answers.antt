@@ -20,18 +20,19 @@ record AreNodes (g : RuleGraph) (target source : NodeId) : Type 0 where
   first : target ≡ target_node
   second : source ≡ source_node
 
-are_nodes : (g h k : RuleGraph) (target source : NodeId) → g ≡ empty_graph (codes "/top") → Interns g.nodes (codes "t") target.0 h.nodes
-    → h ≡ record g { nodes = h.nodes } → Interns h.nodes (codes "s") source.0 k.nodes → k ≡ record h { nodes = k.nodes }
-    → AreNodes k target source
-are_nodes g h k target source new first kept second kept_2 =
-    let one : Interns [] (codes "t") target.0 h.nodes = subst (λ (g : RuleGraph). Interns g.nodes (codes "t") target.0 h.nodes) new first in
-    let other : Interns (codes "t" ∷ []) (codes "s") source.0 k.nodes =
-    subst (λ (nodes : List (List ℕ)). Interns nodes (codes "s") source.0 k.nodes) one.1 second in
+are_nodes : (g h k : RuleGraph) (target source : NodeId) → g ≡ empty_graph (codes "/top")
+    → Interns g.nodes (codes "t") target.0 h.nodes → h ≡ record g { nodes = h.nodes }
+    → Interns h.nodes (codes "s") source.0 k.nodes → k ≡ record h { nodes = k.nodes } → AreNodes k target source
+are_nodes g h k target source new one kept other kept_2 =
+    let first : Interns [] (codes "t") target.0 h.nodes =
+    subst (λ (g : RuleGraph). Interns g.nodes (codes "t") target.0 h.nodes) new one in
+    let second : Interns (codes "t" ∷ []) (codes "s") source.0 k.nodes =
+    subst (λ (nodes : List (List ℕ)). Interns nodes (codes "s") source.0 k.nodes) first.1 other in
+    let same : h ≡ graph_with h.nodes = kept ∙ ap (λ (g : RuleGraph). record g { nodes = h.nodes }) new in
     record {
-      nodes = kept_2 ∙ ap (λ (h : RuleGraph). record h { nodes = k.nodes }) (kept ∙ ap (λ (g : RuleGraph). record g { nodes = h.nodes }) new)
-          ∙ ap graph_with other.1;
-      first = node_at target 0 one.0;
-      second = node_at source 1 other.0;
+      nodes = kept_2 ∙ ap (λ (h : RuleGraph). record h { nodes = k.nodes }) same ∙ ap graph_with second.1;
+      first = node_at target 0 first.0;
+      second = node_at source 1 second.0;
     }
 
 -- the rule that both make
@@ -55,8 +56,8 @@ may_stand g target source rule are is =
     subst (λ (g : RuleGraph). IsRule (length g.nodes) rule) (sym are.nodes)
     (subst (IsRule 2) (sym (rule_is target source rule are.first are.second is)) stands)
 
-is_declared : (g h : RuleGraph) (target source : NodeId) (rule : Rule) (id : ℕ) → AreNodes g target source → rule ≡ copy_rule target source
-    → AddsRule g rule id h → h ≡ copy_graph
+is_declared : (g h : RuleGraph) (target source : NodeId) (rule : Rule) (id : ℕ) → AreNodes g target source
+    → rule ≡ copy_rule target source → AddsRule g rule id h → h ≡ copy_graph
 is_declared g h target source rule id are is adds =
     let added : AddsRule (graph_with (codes "t" ∷ codes "s" ∷ [])) rule id h =
     subst (λ (g : RuleGraph). AddsRule g rule id h) are.nodes adds in

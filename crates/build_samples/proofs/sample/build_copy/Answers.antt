@@ -13,11 +13,6 @@ asked : (g : RuleGraph) (node : NodeId) → g ≡ copy_graph → node ≡ target
 asked g node graph target =
     ap (λ (g : RuleGraph). wanted_of g (node ∷ []) options) graph ∙ ap (λ (n : NodeId). wanted_of copy_graph (n ∷ []) options) target
 
-pub build-end-requires : goal.build-end-requires
-build-end-requires c =
-    let outset = c.in_ok-world.ensures in
-    record { unclosed = refl; idle = λ told. outset.idle; live = outset.live; kept = outset.kept }
-
 pub returns : goal.returns
 returns c =
     let old = c.in_ok-world.world in
@@ -31,6 +26,6 @@ returns c =
       outset = c.in_ok-world.ensures;
       runs = subst (λ (w : Wanted). BuildRuns world_meaning w map old new behind) asks c.build-end.ensures.runs tt tt refl;
       succeeds = λ none enough.
-          subst (λ (w : Wanted). BuildSucceeds world_meaning w map old new behind c.build-end.result) asks c.build-end.ensures.succeeds none enough
-          tt tt refl;
+          subst (λ (w : Wanted). BuildSucceeds world_meaning w map old new behind c.build-end.result) asks
+          c.build-end.ensures.succeeds none enough tt tt refl;
     }

@@ -2,7 +2,7 @@ use Rattle.std.proofs.Common.{◌≡◌, ◌∙◌, ap, List, ℕ, []}
 use Rattle.world_api.specs.Around.{Around}
 use Rattle.world_api.specs.declared.disk.Bank.TheVariants.{A, B}
 use Rattle.sign_store.specs.Images.{image_of}
-use Rattle.sign_store.specs.Tables.{Map, nothing}
+use Rattle.sign_store.specs.Tables.{nothing}
 use Rattle.world_mem.specs.InSlots.{file_at}
 use Rattle.build_samples.proofs.sample.outset.Goals as goal
 
