@@ -11,6 +11,7 @@ use Rattle.py_tree.specs.declared.expr.Link.TheVariants as link'
 use Rattle.py_tree.specs.declared.expr.Argument.{Argument}
 use Rattle.py_tree.specs.declared.expr.Operation.{Operation}
 use Rattle.py_tree.specs.declared.expr.Pair.{Pair}
+use Rattle.py_tree.specs.declared.expr.Piece.{Piece}
 use Rattle.py_tree.specs.declared.expr.Argument.TheOpen as open'
 use Rattle.py_tree.specs.Tree.{Tree, cons, tuple, trees, expr_tree, link_tree, argument_step, expr_step, link_step, operation_step, pair_step, piece_step}
 use Rattle.py_parse.specs.Grammar.{is_index, ends_in_index, is_place, is_name, are_names, is_targets}

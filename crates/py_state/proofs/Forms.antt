@@ -8,6 +8,7 @@ use Rattle.py_tree.specs.declared.expr.Link.{Link}
 use Rattle.py_tree.specs.declared.expr.Argument.{Argument}
 use Rattle.py_tree.specs.declared.expr.Operation.{Operation}
 use Rattle.py_tree.specs.declared.expr.Pair.{Pair}
+use Rattle.py_tree.specs.declared.expr.Piece.{Piece}
 use Rattle.py_tree.specs.declared.expr.Argument.TheOpen as open'
 use Rattle.py_tree.specs.declared.expr.Operator.{Operator}
 use Rattle.py_tree.specs.Tree.{Tree, tuple, branch, trees, expr_tree, line_tree, branch_tree, argument_step, expr_step, link_step, operation_step, pair_step, piece_step}

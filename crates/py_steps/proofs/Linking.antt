@@ -13,6 +13,7 @@ use Rattle.py_tree.specs.declared.expr.Link.TheVariants as link'
 use Rattle.py_tree.specs.declared.expr.Argument.{Argument}
 use Rattle.py_tree.specs.declared.expr.Operation.{Operation}
 use Rattle.py_tree.specs.declared.expr.Pair.{Pair}
+use Rattle.py_tree.specs.declared.expr.Piece.{Piece}
 use Rattle.py_tree.specs.declared.expr.Argument.TheOpen as open'
 use Rattle.py_tree.proofs.Views.{optional_box, link_tree-Call, link_tree-Slice}
 use Rattle.py_heap.specs.declared.ids.HostId.{HostId}

@@ -13,6 +13,7 @@ use Rattle.py_tree.specs.declared.expr.Argument.{Argument}
 use Rattle.py_tree.specs.declared.expr.Operation.{Operation}
 use Rattle.py_tree.specs.declared.expr.Operator.{Operator}
 use Rattle.py_tree.specs.declared.expr.Pair.{Pair}
+use Rattle.py_tree.specs.declared.expr.Piece.{Piece}
 use Rattle.py_tree.specs.declared.expr.Argument.TheOpen as open'
 use Rattle.py_tree.proofs.Views.{expr_tree-Name, expr_tree-Post, link_tree-Index}
 use Rattle.py_heap.specs.declared.value.Value.{Value}

@@ -18,6 +18,7 @@ use Rattle.py_tree.specs.declared.expr.Argument.TheOpen as open'
 use Rattle.py_tree.specs.declared.line.Parameter.{Parameter}
 use Rattle.py_meaning.specs.Arguments.{defaults_of}
 use Rattle.py_tree.specs.declared.expr.Pair.{Pair}
+use Rattle.py_tree.specs.declared.expr.Piece.{Piece}
 use Rattle.py_tree.specs.declared.expr.Argument.{Argument}
 use Rattle.py_tree.specs.declared.expr.Argument.TheVariants as argument'
 use Rattle.py_tree.proofs.Views.{pair_tree-Pair, argument_tree-Positional, argument_tree-Named}

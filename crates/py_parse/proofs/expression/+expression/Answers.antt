@@ -39,8 +39,8 @@ parse_test-returns n c = test_ok _ _ _ c.in_ok-test.ensures c.in-Some.ensures c.
 pub parse_wanted-returns-then-plain : goal.parse_wanted-returns-then-plain
 parse_wanted-returns-then-plain n c = rw c.if-plain.true c.parse_chain.ensures
 
-pub parse_wanted-returns : goal.parse_wanted-returns
-parse_wanted-returns n c = rw c.if-plain.false c.parse_choice.ensures
+pub parse_wanted-returns-else-plain : goal.parse_wanted-returns-else-plain
+parse_wanted-returns-else-plain n c = rw c.if-plain.false c.parse_choice.ensures
 
 -- operators of one level
 pub parse_chain-returns-in_err-first : goal.parse_chain-returns-in_err-first
@@ -156,10 +156,10 @@ parse_atom-returns n c =
 -- texts
 pub parse_text-returns-in_err-next : goal.parse_text-returns-in_err-next
 parse_text-returns-in_err-next n c =
-    stopped_by _ _ _ _ _ c.from_residual.ensures.1 (λ w r h. text_tail _ c.requires c.in-Some.ensures (h _)) c.in_err-next.ensures
+    stopped_by _ _ _ _ _ c.from_residual.ensures.1 (λ w r h. text_tail _ c.requires c.in-Some.ensures (h _)) c.in_err-next.ensures.goes
 
 pub parse_text-returns-in-Some : goal.parse_text-returns-in-Some
-parse_text-returns-in-Some n c = text_tail_answers _ _ _ _ _ _ c.requires c.in-Some.ensures (c.parse_pieces.ensures _ _ c.in_ok-next.ensures)
+parse_text-returns-in-Some n c = text_tail_answers _ _ _ _ _ _ c.requires c.in-Some.ensures (c.parse_pieces.ensures _ _ c.in_ok-next.ensures.goes)
 
 pub parse_text-returns-in_err-next-2 : goal.parse_text-returns-in_err-next-2
 parse_text-returns-in_err-next-2 n c =
@@ -220,7 +220,7 @@ parse_field-returns-in_default-strip-clause-found n c =
 pub parse_field-returns-clause-found : goal.parse_field-returns-clause-found
 parse_field-returns-clause-found n c =
     field_ok _ c.if-depth-eq0.false c.in-Some.ensures c.in_ok-value.ensures c.in-Some-strip.ensures
-    (piece_tree-Field _ _ ∙ ap (λ e. field c.in-Some.word.line (expr_tree e)) c.into_inner.ensures)
+    (piece_tree-Field _ _ ∙ ap (λ e. field c.in-Some.brace.line (expr_tree e)) c.into_inner.ensures)
 
 pub parse_field-returns-clause-shorter : goal.parse_field-returns-clause-shorter
 parse_field-returns-clause-shorter n c =
@@ -267,16 +267,16 @@ parse_display-expressions-init n c = λ b ts g o r. display_begins _ b ts _ _ _ 
 pub parse_display-returns-in_err-value : goal.parse_display-returns-in_err-value
 parse_display-returns-in_err-value n c = λ b ts g.
     stopped_by _ _ _ _ _ c.from_residual-in_err-value.ensures.1 (λ w r h. c.expressions.invariant b ts g (fault w r) (r_part_fault h))
-    (rw c.is_plain.ensures at c.in_err-value.ensures)
+    (rw (c.is_plain.ensures, c.deref.ensures) at c.in_err-value.ensures)
 
 pub parse_display-returns-in_err-display : goal.parse_display-returns-in_err-display
 parse_display-returns-in_err-display n c = λ b ts g.
     stopped_by _ _ _ _ _ c.from_residual-in_err-display.ensures.1
-    (λ w r h. c.expressions.invariant b ts g (fault w r) (r_read _ _ (rw c.is_plain.ensures at c.in_ok-value.ensures) (h _))) c.in_err-display.ensures.goes
+    (λ w r h. c.expressions.invariant b ts g (fault w r) (r_read _ _ (rw (c.is_plain.ensures, c.deref.ensures) at c.in_ok-value.ensures) (h _))) c.in_err-display.ensures.goes
 
 pub parse_display-returns-in-Closed-2 : goal.parse_display-returns-in-Closed-2
 parse_display-returns-in-Closed-2 n c = λ b ts g.
-    c.boxed-in-Closed-2.ensures _ _ _ (c.expressions.invariant b ts g _ (r_read _ _ (rw c.is_plain.ensures at c.in_ok-value.ensures) (display_closes _ _ _ _ _ _ c.in-Closed-2.is c.in_ok-display.ensures.goes)))
+    c.boxed-in-Closed-2.ensures _ _ _ (c.expressions.invariant b ts g _ (r_read _ _ (rw (c.is_plain.ensures, c.deref.ensures) at c.in_ok-value.ensures) (display_closes _ _ _ _ _ _ c.in-Closed-2.is c.in_ok-display.ensures.goes)))
 
 pub parse_display-expressions-smaller : goal.parse_display-expressions-smaller
 parse_display-expressions-smaller n c =
@@ -287,7 +287,7 @@ parse_display-expressions-smaller n c =
 pub parse_display-expressions-preserved : goal.parse_display-expressions-preserved
 parse_display-expressions-preserved n c = λ b ts g o r.
     let s = display_begins _ _ _ _ _ _ _ o c.in-More-2.is c.in_ok-open-in-More-2.ensures.ok c.in_ok-display.ensures.goes r in
-    c.expressions.invariant b ts g o (r_read _ _ (rw c.is_plain.ensures at c.in_ok-value.ensures) s)
+    c.expressions.invariant b ts g o (r_read _ _ (rw (c.is_plain.ensures, c.deref.ensures) at c.in_ok-value.ensures) s)
 
 pub parse_brackets-expressions-init : goal.parse_brackets-expressions-init
 parse_brackets-expressions-init n c = λ b ts g o r. link_begins _ b ts _ _ _ _ o c.in-More.is c.in_ok-open.ensures.ok g r

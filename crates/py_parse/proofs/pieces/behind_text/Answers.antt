@@ -6,12 +6,13 @@ use Rattle.py_parse.proofs.Cases.{map_more}
 use Rattle.py_parse.proofs.TextPieces.{text_alone, text_more, pieces_continue_over}
 use Rattle.py_parse.proofs.pieces.behind_text.Goals as goal
 
-pub returns-then-not-sees-clause-goes : goal.returns-then-not-sees-clause-goes
-returns-then-not-sees-clause-goes c =
-    λ d. text_alone d _ _ _ (sym c.sees.ensures ∙ c.if-not-sees.true) (expr_tree-Text _ _ ∙ ap (text c.args.token.now.line) c.in_ok-text.ensures)
+pub returns-then-not-sees : goal.returns-then-not-sees
+returns-then-not-sees c = record {
+  goes = λ d. text_alone d _ _ _ (sym c.sees.ensures ∙ c.if-not-sees.true) (expr_tree-Text _ _ ∙ ap (text c.args.token.now.line) c.in_ok-text.ensures);
+}
 
-pub returns-clause-goes : goal.returns-clause-goes
-returns-clause-goes c =
+pub returns : goal.returns
+returns c =
     let one = piece_tree-Part c.args.token.now.line _ ∙ ap (text c.args.token.now.line) c.in_ok-text.ensures in
     let found = map_more piece_tree _ _ _ c.in_ok-push.ensures.items ∙ ap (λ (ps : List Piece). map piece_tree ps ++ _ ∷ []) c.new-pieces.ensures.items ∙ ap (λ (t : Tree). t ∷ []) one in
-    pieces_continue_over _ _ _ _ _ _ (λ d o r. text_more _ _ _ found (sym c.sees.ensures ∙ c.if-not-sees.false) r) c.next_piece.ensures.goes
+    record { goes = pieces_continue_over _ _ _ _ _ _ (λ d o r. text_more _ _ _ found (sym c.sees.ensures ∙ c.if-not-sees.false) r) c.next_piece.ensures.goes }

@@ -4,6 +4,12 @@ use Rattle.py_parse.proofs.Cases.{taken_shorter}
 use Rattle.py_parse.proofs.TextPieces.{steps_as, part_more, turned, field_stands, pieces_ended, pieces_unfit}
 use Rattle.py_parse.proofs.pieces.next_piece.Goals as goal
 
+pub pieces-init : goal.pieces-init
+pieces-init c = ((λ d o r. r), omega arith)
+
+pub returns-in-Field-clause-stays : goal.returns-in-Field-clause-stays
+returns-in-Field-clause-stays c = c.pieces.invariant.1
+
 pub returns-in-Field-clause-goes : goal.returns-in-Field-clause-goes
 returns-in-Field-clause-goes c = λ d o r.
     let f = steps_as _ _ _ _ c.in-Field.is c.piece_step.ensures in
@@ -19,18 +25,12 @@ returns-in-Unfit-clause-goes c = λ d.
     let f = steps_as _ _ _ _ c.in-Unfit.is c.piece_step.ensures in
     c.pieces.invariant.0 d _ (pieces_unfit d _ _ _ _ f.0 f.1 f.2 f.3)
 
-pub pieces-smaller-in_ok-push_part-in-Part : goal.pieces-smaller-in_ok-push_part-in-Part
-pieces-smaller-in_ok-push_part-in-Part c = taken_shorter (steps_as _ _ _ _ c.in-Part.is c.piece_step.ensures)
-
-pub pieces-smaller : goal.pieces-smaller
-pieces-smaller c = taken_shorter (steps_as _ _ _ _ c.in-Turns.is c.piece_step.ensures).1
-
-pub pieces-preserved-in_ok-push_part-in-Part : goal.pieces-preserved-in_ok-push_part-in-Part
-pieces-preserved-in_ok-push_part-in-Part c =
+pub pieces-preserved-in-Part : goal.pieces-preserved-in-Part
+pieces-preserved-in-Part c =
     let t = steps_as _ _ _ _ c.in-Part.is c.piece_step.ensures in
     let s = taken_shorter t in
     let i = c.pieces.invariant.1 in
-    ((λ d o r. c.pieces.invariant.0 d o (part_more _ _ _ _ t c.in_ok-push_part-in-Part.ensures r)), omega (arith, s, i))
+    ((λ d o r. c.pieces.invariant.0 d o (part_more _ _ _ _ t c.in_ok-push_part.ensures r)), omega (arith, s, i))
 
 pub pieces-preserved : goal.pieces-preserved
 pieces-preserved c =
