@@ -9,6 +9,8 @@ use Rattle.py_token.specs.declared.token.TokenKind.{TokenKind}
 use Rattle.py_token.specs.declared.token.TokenKind.TheVariants as kind'
 use Rattle.py_tree.specs.declared.expr.Expr.{Expr}
 use Rattle.py_tree.specs.declared.expr.Piece.{Piece}
+use Rattle.py_tree.specs.declared.expr.Piece.TheVariants as part'
+use Rattle.py_tree.proofs.Views.{piece_tree-Part}
 use Rattle.py_tree.specs.Tree.{Tree, nil, cons, trees, text, field, joined, expr_tree, piece_tree}
 use Rattle.py_parse.specs.declared.pieces.NextPiece.{NextPiece}
 use Rattle.py_parse.specs.declared.pieces.NextPiece.TheVariants as piece'
@@ -235,6 +237,10 @@ pub text_alone : (d l : ℕ) (t : List ℕ) (ts : List Token) {v : Tree} → hea
 unfolding beginning
 text_alone d l t ts h e =
     subst (λ v. Reads d (pick (text_rest l t) ts) ts (ok v ts)) (sym e) (by_production (text_rest l t) (no_reads _ _ _ _ h (yes_gives (text l t) [])))
+
+pub first_part : (l : ℕ) (t s : List ℕ) (old new : List Piece) → old ≡ [] → new ≡ old ++ part'.Part l s ∷ [] → s ≡ t → map piece_tree new ≡ text l t ∷ []
+first_part l t s old new e n p =
+    ap (map piece_tree) (n ∙ ap (λ (ps : List Piece). ps ++ part'.Part l s ∷ []) e) ∙ ap (λ (u : Tree). u ∷ []) (piece_tree-Part l s ∙ ap (text l) p)
 
 picks_some : (ts : List Token) → heads (one terminal'.Piece) ts ≡ true → pick more_pieces ts ≡ reads some_pieces gives
 unfolding pick choose leads beginning

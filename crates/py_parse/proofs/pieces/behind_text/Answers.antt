@@ -3,7 +3,7 @@ use Rattle.py_tree.specs.Tree.{Tree, text, piece_tree}
 use Rattle.py_tree.specs.declared.expr.Piece.{Piece}
 use Rattle.py_tree.proofs.Views.{expr_tree-Text, piece_tree-Part}
 use Rattle.py_parse.proofs.Cases.{map_more}
-use Rattle.py_parse.proofs.TextPieces.{text_alone, text_more, pieces_continue_over}
+use Rattle.py_parse.proofs.TextPieces.{text_alone, text_more, first_part, pieces_continue_over}
 use Rattle.py_parse.proofs.pieces.behind_text.Goals as goal
 
 pub returns-then-not-sees : goal.returns-then-not-sees
@@ -13,6 +13,5 @@ returns-then-not-sees c = record {
 
 pub returns : goal.returns
 returns c =
-    let one = piece_tree-Part c.args.token.now.line _ ∙ ap (text c.args.token.now.line) c.in_ok-text.ensures in
-    let found = map_more piece_tree _ _ _ c.in_ok-push.ensures.items ∙ ap (λ (ps : List Piece). map piece_tree ps ++ _ ∷ []) c.new-pieces.ensures.items ∙ ap (λ (t : Tree). t ∷ []) one in
+    let found = first_part _ _ _ _ _ c.new-pieces.ensures.items c.in_ok-push.ensures.items c.in_ok-text.ensures in
     record { goes = pieces_continue_over _ _ _ _ _ _ (λ d o r. text_more _ _ _ found (sym c.sees.ensures ∙ c.if-not-sees.false) r) c.next_piece.ensures.goes }

@@ -30,7 +30,7 @@ pieces-preserved-in-Part c =
     let t = steps_as _ _ _ _ c.in-Part.is c.piece_step.ensures in
     let s = taken_shorter t in
     let i = c.pieces.invariant.1 in
-    ((λ d o r. c.pieces.invariant.0 d o (part_more _ _ _ _ t c.in_ok-push_part.ensures r)), omega (arith, s, i))
+    ((λ d o r. c.pieces.invariant.0 d o (part_more _ _ _ _ t c.in_ok-push_part-in-Part.ensures r)), omega (arith, s, i))
 
 pub pieces-preserved : goal.pieces-preserved
 pieces-preserved c =
