@@ -51,7 +51,7 @@ all_named _ bs hs = hs
 
 all_shallow : (p : Part) → AllShallow (productions p)
 all_shallow g.script = ((λ a1 a2. tt), (tt, tt))
-all_shallow (g.line a) = (tt, (tt, all_when a.outermost (opens (g.keyword keyword'.Def) (λ x. g.function_body x.line)) (reads (g.statements a) (λ t. gives (tree.simple t)) ∷ []) tt ((λ a1. tt), tt))))
+all_shallow (g.line a) = (tt, (tt, (tt, all_when a.outermost (opens (g.keyword keyword'.Def) (λ x. g.function_body x.line)) (reads (g.statements a) (λ t. gives (tree.simple t)) ∷ []) tt ((λ a1. tt), tt))))
 all_shallow (g.branches a) = (tt, (tt, (tt, tt)))
 all_shallow (g.block a) = ((λ a1 a2 a3 a4. tt), ((λ a1. tt), tt))
 all_shallow (g.more_lines a) = ((λ a1. tt), ((λ a1 a2. tt), tt))

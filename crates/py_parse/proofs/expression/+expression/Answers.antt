@@ -220,7 +220,7 @@ parse_field-returns-in_default-strip-clause-found n c =
 pub parse_field-returns-clause-found : goal.parse_field-returns-clause-found
 parse_field-returns-clause-found n c =
     field_ok _ c.if-depth-eq0.false c.in-Some.ensures c.in_ok-value.ensures c.in-Some-strip.ensures
-    (piece_tree-Field _ _ ∙ ap (λ e. field c.in-Some.brace.now.line (expr_tree e)) c.into_inner.ensures)
+    (piece_tree-Field _ _ ∙ ap (λ e. field c.in-Some.brace.now.line (expr_tree e)) c.into_inner-value.ensures)
 
 pub parse_field-returns-clause-shorter : goal.parse_field-returns-clause-shorter
 parse_field-returns-clause-shorter n c =

@@ -1,8 +1,6 @@
-use Rattle.std.proofs.Common.{◌∙◌, ◌++◌, ◌∷◌, [], List, map, ap, sym}
-use Rattle.py_tree.specs.Tree.{Tree, text, piece_tree}
-use Rattle.py_tree.specs.declared.expr.Piece.{Piece}
-use Rattle.py_tree.proofs.Views.{expr_tree-Text, piece_tree-Part}
-use Rattle.py_parse.proofs.Cases.{map_more}
+use Rattle.std.proofs.Common.{◌∙◌, ap, sym}
+use Rattle.py_tree.specs.Tree.{text}
+use Rattle.py_tree.proofs.Views.{expr_tree-Text}
 use Rattle.py_parse.proofs.TextPieces.{text_alone, text_more, first_part, pieces_continue_over}
 use Rattle.py_parse.proofs.pieces.behind_text.Goals as goal
 
