@@ -8,6 +8,7 @@ pub mod Definitions
 pub mod Displays
 pub mod Faults
 pub mod Going
+pub mod Growing
 pub mod Items
 pub mod Joining
 pub mod Leaving
