@@ -1,9 +1,12 @@
 -- What is made of texts and fields that are put behind one another.
-use Rattle.std.proofs.Common.{◌≡◌, ◌∙◌, ℕ, false, List, [], ◌∷◌, ◌++◌, Ok, Err, Result, ap, sym, refl, subst, length, drop, map, get_or, ◌<◌, ◌+◌}
+use Rattle.std.proofs.Common.{◌≡◌, ◌∙◌, ℕ, false, List, [], ◌∷◌, ◌++◌, Ok, Err, Result, ap, sym, refl, subst, length, drop, map, get_or, ◌<◌, ◌+◌, suc-ne-zero}
 use Rattle.std.proofs.lemmas.List.{append_assoc, append-nil}
 use Rattle.scons_base.specs.declared.limits.TheConstants.{TEXT_LIMIT}
-use Rattle.py_tree.specs.Tree.{Tree, cons, text, field, trees, piece_tree}
+use Rattle.py_tree.specs.Tree.{Tree, cons, text, field, trees, piece_tree, expr_tree}
 use Rattle.py_tree.specs.declared.expr.Piece.{Piece}
+use Rattle.py_tree.specs.declared.expr.Piece.TheVariants as piece'
+use Rattle.py_tree.specs.declared.expr.Expr.{Expr}
+use Rattle.py_tree.proofs.Views.{piece_tree-Part, piece_tree-Field}
 use Rattle.py_heap.specs.declared.value.Value.{Value}
 use Rattle.py_heap.specs.declared.fault.ValueFault.{ValueFault}
 use Rattle.py_heap.specs.Heap.{Objects, with_text}
@@ -71,3 +74,17 @@ shown_made h h1 u left x y t e a b = rw (e, a, b) refl
 
 pub not_shown : (h : Objects) (u : Units) (x : Value) (e : ValueFault) → show_of h u x false ≡ Err e → shown_field h u x ≡ Err e
 not_shown h u x e r = rw r refl
+
+-- the characters of one piece
+pub part_put : (h : Objects) (p : Piece) (l : ℕ) (t s : List ℕ) (xs : List Value) → p ≡ piece'.Part l t → s ≡ t → (g : Growth) (ps : Tree) → put_pieces h g (cons (piece_tree p) ps) xs ≡ put_pieces h (grown g s) ps xs
+part_put h p l t s xs i e g ps =
+    ap (λ (u : Tree). put_pieces h g (cons u ps) xs) (ap piece_tree i ∙ piece_tree-Part l t) ∙ ap (λ (c : List ℕ). put_pieces h (grown g c) ps xs) (sym e)
+
+pub field_put : (h : Objects) (p : Piece) (l : ℕ) (e : Expr) (x : Value) (s : List ℕ) (xs rest : List Value) → p ≡ piece'.Field l e → xs ≡ x ∷ rest → s ≡ text_of h x → (g : Growth) (ps : Tree) → put_pieces h g (cons (piece_tree p) ps) xs ≡ put_pieces h (grown g s) ps rest
+field_put h p l e x s xs rest i f q g ps =
+    ap (λ (u : Tree). put_pieces h g (cons u ps) xs) (ap piece_tree i ∙ piece_tree-Field l e) ∙ ap (λ (ys : List Value). put_pieces h g (cons (field l (expr_tree e)) ps) ys) f
+    ∙ ap (λ (c : List ℕ). put_pieces h (grown g c) ps rest) (sym q)
+
+pub no_field_put : (h : Objects) (p : Piece) (l : ℕ) (e : Expr) (xs : List Value) → p ≡ piece'.Field l e → length xs ≡ 0 → (g : Growth) (ps : Tree) → put_pieces h g (cons (piece_tree p) ps) xs ≡ put_pieces h (grown g []) ps xs
+no_field_put h p l e [] i z g ps = ap (λ (u : Tree). put_pieces h g (cons u ps) []) (ap piece_tree i ∙ piece_tree-Field l e)
+no_field_put h p l e (x ∷ xs) i z g ps = absurd (suc-ne-zero _ z)

@@ -12,7 +12,7 @@ use Rattle.py_meaning.specs.Statements.{statement, after_turn, round}
 use Rattle.py_state.specs.Stores.{store_of, state_of}
 use Rattle.py_state.specs.declared.machine.Machine.{Machine}
 use Rattle.py_state.specs.declared.stop.Stop.{Stop}
-use Rattle.py_steps.specs.Desks.{stacks_of, tasks_of, values_of, top, below}
+use Rattle.py_steps.specs.Desks.{Stacks, stacks_of, tasks_of, values_of, top, below}
 use Rattle.py_steps.specs.Leads.{Unfolds, same, opens, later, Steps, left_with, left_at}
 use Rattle.py_steps.specs.Todos.{left, by_round}
 use Rattle.py_steps.specs.declared.desk.Desk.{Desk}
@@ -88,7 +88,8 @@ round_runs r x d d1 d2 d3 m m' f t e h g c a p q v =
     let s = state_of m f in
     let vs = below (values_of d) in
     let now = left (task.Lines r.block ∷ task.Rounds r ∷ tasks_of d) vs in
-    let place = two_on d1 d2 d3 (task.Rounds r) (task.Lines r.block) q v ∙ ap (λ k. record k { tasks = task.Lines r.block ∷ task.Rounds r ∷ k.tasks }) p in
+    let with_loop : Stacks → Stacks = λ k. record { tasks = task.Lines r.block ∷ task.Rounds r ∷ k.tasks; values = k.values } in
+    let place = two_on d1 d2 d3 (task.Rounds r) (task.Lines r.block) q v ∙ ap with_loop p in
     arrives d3 (goes_on (state_of m' f)) place
     (subst (λ (y : State). Unfolds (left (task.Round r ∷ tasks_of d) (values_of d) (goes_on s)) (now (goes_on y))) (sym (after_pay m m' f a))
     (subst (λ (b : Bool). Unfolds (turn_left r (tasks_of d) vs s b) (now (goes_on (with_units s m'.budget)))) (sym (by_test r x d s t true e h g))

@@ -139,6 +139,6 @@ returns-in_ok-evaluate-in-Choice-clause-leads g c =
 
 pub returns-in_ok-push-in-Joined-2-clause-leads : goal.returns-in_ok-push-in-Joined-2-clause-leads
 returns-in_ok-push-in-Joined-2-clause-leads g c =
-    λ k. leads_on (as_tree (tasks_of c.args.desk.now) (values_of c.args.desk.now) (state_of c.args.machine.now c.args.frame.now) (ap expr_tree c.in-Joined.is ∙ expr_tree-Joined c.in-Joined.line c.in-Joined.pieces ∙ ap (λ (xs : List Piece). joined c.in-Joined.line (trees (map piece_tree xs))) (sym c.as_slice-in-Joined.ensures.value)) (joined_begins c.in-Joined.line c.as_slice-in-Joined.result (tasks_of c.args.desk.now) (values_of c.args.desk.now) (state_of c.args.machine.now c.args.frame.now)))
+    λ k. leads_on (as_tree (tasks_of c.args.desk.now) (values_of c.args.desk.now) (state_of c.args.machine.now c.args.frame.now) (ap expr_tree c.in-Joined.is ∙ expr_tree-Joined c.in-Joined.line c.in-Joined.pieces ∙ ap (λ (xs : List Piece). joined c.in-Joined.line (trees (map piece_tree xs))) (sym c.as_slice-pieces.ensures.value)) (joined_begins c.in-Joined.line c.as_slice-pieces.result (tasks_of c.args.desk.now) (values_of c.args.desk.now) (state_of c.args.machine.now c.args.frame.now)))
     (pushed_two c.args.desk.now c.push-in-Joined.new.self c.push-in-Joined-2.new.self _ _ (state_of c.args.machine.now c.args.frame.now) c.in_ok-push-in-Joined.ensures c.in_ok-push-in-Joined-2.ensures
-    ∙ ap (λ base. first (eval_all (fields_of (trees (map piece_tree c.as_slice-in-Joined.result.now)))) (state_of c.args.machine.now c.args.frame.now) (all_on (values_of c.args.desk.now) (left (task.Join c.in-Joined.line c.as_slice-in-Joined.result base ∷ (tasks_of c.args.desk.now))))) c.height-base-in-Joined.ensures)
+    ∙ ap (λ base. first (eval_all (fields_of (trees (map piece_tree c.as_slice-pieces.result.now)))) (state_of c.args.machine.now c.args.frame.now) (all_on (values_of c.args.desk.now) (left (task.Join c.in-Joined.line c.as_slice-pieces.result base ∷ (tasks_of c.args.desk.now))))) c.height-base-in-Joined.ensures)
