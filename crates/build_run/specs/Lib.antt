@@ -11,3 +11,4 @@ pub mod Safe
 pub mod Sites
 pub mod Takes
 pub mod Withdrawals
+pub mod Whys

@@ -9,6 +9,7 @@ ghost use Rattle.build_run.specs.Reasons.{EndsLast, SiteKeepsReason};
 ghost use Rattle.build_run.specs.Safe.{StartsSafely, TurnsSafelyAs};
 ghost use Rattle.build_run.specs.Sites.{IsSound, KeepsHeld, SiteEnds, SitePasses};
 
+use crate::explain::why_text;
 use crate::site::{Run, Site};
 use build_files::{ListEnd, Present, first_target, is_stale, path_of};
 use deciders::Rec;
@@ -61,7 +62,16 @@ impl<W: World, O: Sink, E: Sink> Site<'_, '_, W, O, E> {
         if !is_stale(self.world, self.graph, self.store, rule, &now)? {
             return Ok(PlanEvent::Fresh(rule));
         }
-        self.start(rule, now)?;
+        let why = why_text(
+            self.account.alloc,
+            self.world,
+            self.graph,
+            self.store,
+            &self.options,
+            rule,
+            &now,
+        )?;
+        self.start(rule, now, why)?;
         self.account.note_start(rule);
         Ok(PlanEvent::Started(rule))
     }
