@@ -40,17 +40,21 @@ is_told options x = options.explain && not options.silent && not (is_copy x)
 abbrev pub old_of : Map → Rec → Reason → Option Rec
 old_of kept now reason = option_and_then kept (slice_get now.targets (place_of reason))
 
--- an answer for each target of a rule by its record of now, over the files and stamps around and these records
-pub record AreAnswersOf (x : Rule) (kept : Map) (now : Rec) (around : Around) (answers : List (Option Reason)) : Type 0 where
-  pub as_many : length answers ≡ length now.targets
+-- an answer for each of the first so many targets of a rule by its record of now, over the files and stamps around and these records
+pub record AreAnswersOf (x : Rule) (kept : Map) (now : Rec) (around : Around) (count : ℕ) (answers : List (Option Reason)) : Type 0 where
+  pub as_many : length answers ≡ count
   pub each : (place : ℕ) (p : Path) (answer : Option Reason) → slice_get now.targets place ≡ Some p → slice_get answers place ≡ Some answer →
       IsReason x.decider x.always now place (is_some (around.tree p)) (first_stamp (stamp_of around) now.targets) (kept p) answer
 
 -- the least of these answers
-pub record IsLeastReason (x : Rule) (kept : Map) (now : Rec) (around : Around) (reason : Option Reason) : Type 0 where
+pub record IsLeastSoFar (x : Rule) (kept : Map) (now : Rec) (around : Around) (count : ℕ) (reason : Option Reason) : Type 0 where
   pub answers : List (Option Reason)
-  pub are : AreAnswersOf x kept now around answers
+  pub are : AreAnswersOf x kept now around count answers
   pub least : reason ≡ least_of answers
+
+-- the least of those for all targets
+abbrev pub IsLeastReason : Rule → Map → Rec → Around → Option Reason → Type 0
+IsLeastReason x kept now around = IsLeastSoFar x kept now around (length now.targets)
 
 -- Where a rule of this number is to be told of, a text is the line of the least answer; else it is empty.
 abbrev pub line_for : Map → Rec → Option Reason → List ℕ
