@@ -1,4 +1,4 @@
-use Rattle.std.proofs.Common.{◌∙◌, ◌<◌, ℕ, List, Option, arith, ap, length, refl, sym, subst}
+use Rattle.std.proofs.Common.{◌∙◌, ◌≡◌, ◌+◌, ◌<◌, ℕ, List, Option, arith, ap, get_or, length, refl, sym, subst}
 use Rattle.std.specs.Option.{option_copied}
 use Rattle.std.proofs.lemmas.Option.{slice_get_read}
 use Rattle.world_api.proofs.Looking.{looks_joined}
@@ -45,11 +45,13 @@ loop-place-preserved g c =
           let before = c.is_file.ensures.looks.told.told told in
           let begun = c.loop-place.invariant.told before in
           let within : i < length now.targets = omega (arith, c.loop-place-test.true, c.loop-place.auto, ap (λ (ps : List (List ℕ)). length ps) c.as_slice-targets.ensures) in
+          let at : p ≡ get_or now.targets i p =
+          c.index-targets-place.is ∙ ap (λ (ps : List (List ℕ)). get_or ps i p) c.as_slice-targets.ensures in
           let stamp = stamp_same old (m.around c.first_stamp.new.world) c.as_slice-targets.result.now now.targets c.in_ok-stamp.stamp c.as_slice-targets.ensures
           idle (c.first_stamp.ensures.looks.around begun) (c.in_ok-stamp.ensures.stamp begun) in
           subst (λ (r : Option Reason). IsLeastSoFar x kept now old (i + 1) r) (sym c.least_of-first.ensures)
           (least_next x kept now old (m.around c.is_file.new.world) idle (looks.around told) i p
-          (slice_get_read now.targets (length now.targets) i p refl within c.index-targets-place.is)
+          (slice_get_read now.targets (length now.targets) i p refl within at)
           c.loop-place.first c.reason_of-found.result c.in_ok-present.present c.in_ok-stamp.stamp (option_copied c.get-old.result)
           (c.loop-place.invariant.least before idle) (c.in_ok-present.ensures.stands told) stamp c.get-old.ensures
           (subst (λ (n : ℕ). IsReason x.decider x.always now n c.in_ok-present.present c.in_ok-stamp.stamp (option_copied c.get-old.result) c.reason_of-found.result)
