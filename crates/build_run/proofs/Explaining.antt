@@ -1,23 +1,34 @@
 -- Why a rule runs: the least of the reasons of its targets, found target by target.
 use Rattle.std.proofs.Common.{◌≡◌, ◌∙◌, ◌<◌, ◌≤◌, ◌+◌, ◌⊎◌, inl, inr, ℕ, zero, suc, Bool, true, false, List, [], ◌∷◌, ◌++◌, Option, Some, None, length, length-append, get_or, refl, sym, subst, ap, arith}
-use Rattle.std.specs.Prelude.{is_some, slice_get}
+use Rattle.std.specs.Prelude.{MatchOption, is_some, slice_get}
+use Rattle.std.specs.Option.{option_map}
 use Rattle.std.proofs.lemmas.Option.{slice_get-get_or, slice_get_within}
 use Rattle.deciders.specs.declared.recorded.Rec.{Rec}
+use Rattle.rule_graph.specs.Graphs.{RuleGraph}
 use Rattle.rule_graph.specs.declared.rule.Rule.{Rule}
 use Rattle.sign_store.specs.Tables.{Map}
 use Rattle.world_api.specs.Around.{Around, IsRunningTarget}
 use Rattle.world_api.specs.Calls.{Asks}
 use Rattle.world_api.specs.Reads.{stamp_of}
+use Rattle.build_model.specs.Rules as model
 use Rattle.build_model.specs.Rules.{Path, here}
 use Rattle.build_model.specs.Stale.{first_stamp}
-use Rattle.build_means.proofs.Lists.{at_place, none_some, some_same}
+use Rattle.build_means.specs.Due.{is_due}
+use Rattle.build_means.specs.Grown.{Begun, IsGrown, copy_in, or_copy_in, rule_numbered}
+use Rattle.build_means.specs.Records.{record_in, records_in}
+use Rattle.build_means.specs.Rules.{rule_in}
+use Rattle.build_means.proofs.Growing.{get_front}
+use Rattle.build_means.proofs.Lists.{at_place, none_some, some_same, true_false}
 use Rattle.build_files.specs.Dueness.{AreIdle}
 use Rattle.build_files.specs.Leftovers.{stands}
 use Rattle.explain_report.specs.declared.reason.Reason.{Reason}
 use Rattle.explain_report.specs.Reasons.{IsReason}
-use Rattle.explain_report.specs.Rules.{least_of}
+use Rattle.explain_report.specs.Laws.{AreRecords}
+use Rattle.explain_report.specs.Rules.{AreAnswers, IsReasonOfRule, LeastIsReason, least_of}
+use Rattle.explain_report.specs.Texts.{reason_text}
 use Rattle.explain_report.proofs.Leasts.{least_more}
-use Rattle.build_run.specs.Whys.{AreAnswersOf, IsLeastSoFar}
+use Rattle.build_run.specs.Whys.{AreAnswersOf, IsLeastSoFar, IsLine, IsWhyBy, IsWhyText, TellsReason, line_for, old_of}
+use Rattle.build_run.specs.declared.building.Options.{Options}
 use Rattle.build_run.proofs.Choosing.{stamp_at}
 
 -- what stands in a list with one more behind it
@@ -91,3 +102,52 @@ module _ (x : Rule) (kept : Map) (now : Rec) (old : Around) where
   pub least_all : (count : ℕ) (reason : Option Reason) → count ≡ length now.targets → IsLeastSoFar x kept now old count reason →
       IsLeastSoFar x kept now old (length now.targets) reason
   least_all count reason all so = subst (λ (n : ℕ). IsLeastSoFar x kept now old n reason) all so
+
+-- ---- the reason that a line tells
+
+-- a rule of the model is always built just where that of its number is
+always_of : (b : Begun) (g : RuleGraph) → IsGrown b g → (number : ℕ) (x : Rule) (r : model.Rule) → slice_get g.rules number ≡ Some x →
+    rule_numbered b g number ≡ Some r → r.always ≡ x.always
+always_of b g grown number x r at is = by (slice_get b.graph.rules number) refl
+  where
+    by : (o : Option Rule) → slice_get b.graph.rules number ≡ o → r.always ≡ x.always
+    by (Some y) front =
+        let there = ap (λ rules. slice_get rules number) grown.rules ∙ get_front b.graph.rules grown.copies number y front in
+        let rule : Some (rule_in g y) ≡ Some r = sym (ap (λ o. or_copy_in g o (slice_get g.rules number)) front) ∙ is in
+        ap (λ (q : model.Rule). q.always) (sym (some_same rule)) ∙ ap (λ (z : Rule). z.always) (some_same (sym there ∙ at))
+    by None front =
+        let rule : Some (copy_in g x) ≡ Some r =
+        sym (ap (λ o. or_copy_in g o (slice_get g.rules number)) front ∙ ap (option_map (copy_in g)) at) ∙ is in
+        ap (λ (q : model.Rule). q.always) (sym (some_same rule))
+
+module _ (law : LeastIsReason) (r : model.Rule) (x : Rule) (always : r.always ≡ x.always) (kept : Map) (now : Rec) (around : Around)
+    (are : AreRecords r x.decider kept now) (due : is_due r around.tree (stamp_of around) (records_in kept) (record_in now) ≡ true)
+    (text : List ℕ) (line : IsLine x kept now around text) where
+  answers_are : AreAnswers r around.tree (stamp_of around) kept x.decider now line.is.answers
+  answers_are = record {
+    as_many = line.is.are.as_many ∙ ap (λ (ps : List Path). length ps) are.targets;
+    each = λ place p answer there e.
+        subst (λ (ps : List Path). IsReason x.decider r.always now place (is_some (around.tree p)) (first_stamp (stamp_of around) ps) (kept p) answer) are.targets
+        (subst (λ (b : Bool). IsReason x.decider b now place (is_some (around.tree p)) (first_stamp (stamp_of around) now.targets) (kept p) answer) (sym always)
+        (line.is.are.each place p answer (ap (λ (ps : List Path). slice_get ps place) are.targets ∙ there) e));
+  }
+
+  abbrev Reasoned : Type 0
+  Reasoned = (reason : Reason) × IsReasonOfRule r around.tree (stamp_of around) kept x.decider now reason × (text ≡ reason_text reason now (old_of kept now reason))
+
+  reasoned_by : (o : Option Reason) → MatchOption o (is_due r around.tree (stamp_of around) (records_in kept) (record_in now) ≡ false)
+      (λ reason. (is_due r around.tree (stamp_of around) (records_in kept) (record_in now) ≡ true) ×
+      IsReasonOfRule r around.tree (stamp_of around) kept x.decider now reason) → text ≡ line_for kept now o → Reasoned
+  reasoned_by None undue told = true_false (sym due ∙ undue)
+  reasoned_by (Some reason) is told = (reason, is.1, told)
+
+  reasoned : Reasoned
+  reasoned =
+      reasoned_by (least_of line.is.answers) (law r around.tree (stamp_of around) kept x.decider now are line.is.answers answers_are)
+      (line.line ∙ ap (line_for kept now) line.is.least)
+
+pub tells_reason : LeastIsReason → (g : RuleGraph) (options : Options) (number : ℕ) (kept : Map) (now : Rec) (around : Around) (text : List ℕ) →
+    IsWhyText g options number kept now around text → TellsReason g options number kept now around text
+tells_reason law g options number kept now around text why = λ b r x grown is at told are due.
+    reasoned law r x (always_of b g grown number x r at is) kept now around are due text
+    (subst (λ (t : Bool). IsWhyBy t x kept now around text) told (why x at))

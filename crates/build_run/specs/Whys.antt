@@ -66,15 +66,15 @@ pub record IsLine (x : Rule) (kept : Map) (now : Rec) (around : Around) (text : 
   pub is : IsLeastReason x kept now around reason
   pub line : text ≡ line_for kept now reason
 
-abbrev IsWhyBy : Bool → Rule → Map → Rec → Around → List ℕ → Type 0
+abbrev pub IsWhyBy : Bool → Rule → Map → Rec → Around → List ℕ → Type 0
 IsWhyBy false x kept now around text = text ≡ []
 IsWhyBy true x kept now around text = IsLine x kept now around text
 
 abbrev pub IsWhyText : RuleGraph → Options → ℕ → Map → Rec → Around → List ℕ → Type 0
 IsWhyText g options number kept now around text = (x : Rule) → slice_get g.rules number ≡ Some x → IsWhyBy (is_told options x) x kept now around text
 
--- So, by the law on the least answer, it is the line of the rule's reason where the rule is due (to be proved of IsLine):
--- the rule of the model by this number, with valid records, has the reason that the line tells.
+-- So, by the law on the least answer, it is the line of the rule's reason where the rule is due: the rule of the model by this
+-- number, with valid records, has the reason that the line tells.
 abbrev pub TellsReason : RuleGraph → Options → ℕ → Map → Rec → Around → List ℕ → Type 0
 TellsReason g options number kept now around text =
     (b : Begun) (r : model.Rule) (x : Rule) → IsGrown b g → rule_numbered b g number ≡ Some r → slice_get g.rules number ≡ Some x →
