@@ -7,7 +7,7 @@ use Rattle.deciders.specs.declared.recorded.Rec.{Rec}
 use Rattle.rule_graph.specs.Graphs.{RuleGraph}
 use Rattle.rule_graph.specs.declared.rule.Rule.{Rule}
 use Rattle.sign_store.specs.Tables.{Map}
-use Rattle.world_api.specs.Around.{Around, IsRunningTarget}
+use Rattle.world_api.specs.Around.{Around, IsRunningTarget, Running}
 use Rattle.world_api.specs.Calls.{Asks}
 use Rattle.world_api.specs.Reads.{stamp_of}
 use Rattle.build_model.specs.Rules as model
@@ -27,7 +27,7 @@ use Rattle.explain_report.specs.Laws.{AreRecords}
 use Rattle.explain_report.specs.Rules.{AreAnswers, IsReasonOfRule, LeastIsReason, least_of}
 use Rattle.explain_report.specs.Texts.{reason_text}
 use Rattle.explain_report.proofs.Leasts.{least_more}
-use Rattle.build_run.specs.Whys.{AreAnswersOf, IsLeastSoFar, IsLine, IsWhyBy, IsWhyText, TellsReason, line_for, old_of}
+use Rattle.build_run.specs.Whys.{AreAnswersOf, IsLeastSoFar, IsLine, IsWhyBy, IsWhyText, TellsReason, is_told, line_for, old_of}
 use Rattle.build_run.specs.declared.building.Options.{Options}
 use Rattle.build_run.proofs.Choosing.{stamp_at}
 
@@ -102,6 +102,39 @@ module _ (x : Rule) (kept : Map) (now : Rec) (old : Around) where
   pub least_all : (count : ℕ) (reason : Option Reason) → count ≡ length now.targets → IsLeastSoFar x kept now old count reason →
       IsLeastSoFar x kept now old (length now.targets) reason
   least_all count reason all so = subst (λ (n : ℕ). IsLeastSoFar x kept now old n reason) all so
+
+-- ---- a line behind a look
+
+module _ (old new : Around) (kept : Map) (now : Rec) (idle : AreIdle old now.targets) (asks : Asks old new) where
+  pub idle_on : AreIdle new now.targets
+  idle_on path h target = idle path h (subst (λ (runs : List Running). IsRunningTarget runs path) asks.running target)
+
+  line_before : (x : Rule) (text : List ℕ) → IsLine x kept now new text → IsLine x kept now old text
+  line_before x text line = record {
+    reason = line.reason;
+    is = record {
+      answers = line.is.answers;
+      are = record {
+        as_many = line.is.are.as_many;
+        each = λ place p answer there e.
+            subst (λ (b : Bool). IsReason x.decider x.always now place b (first_stamp (stamp_of old) now.targets) (kept p) answer)
+            (ap is_some (asks.files p (idle p (at_place now.targets place there))))
+            (subst (λ (t : Option ℕ). IsReason x.decider x.always now place (is_some (new.tree p)) t (kept p) answer) (first_same old new now.targets idle asks)
+            (line.is.are.each place p answer there e));
+      };
+      least = line.is.least;
+    };
+    line = line.line;
+  }
+
+  -- it says why by the files as they were
+  pub why_before : (g : RuleGraph) (options : Options) (number : ℕ) (text : List ℕ) → IsWhyText g options number kept now new text →
+      IsWhyText g options number kept now old text
+  why_before g options number text why = λ x at. by x (is_told options x) (why x at)
+    where
+      by : (x : Rule) (told : Bool) → IsWhyBy told x kept now new text → IsWhyBy told x kept now old text
+      by x true line = line_before x text line
+      by x false none = none
 
 -- ---- the reason that a line tells
 

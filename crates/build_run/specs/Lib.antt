@@ -8,6 +8,7 @@ pub mod Outs
 pub mod Outsets
 pub mod Reasons
 pub mod Safe
+pub mod Shown
 pub mod Sites
 pub mod Takes
 pub mod Withdrawals

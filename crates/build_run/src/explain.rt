@@ -5,7 +5,7 @@ ghost use Rattle.build_files.specs.Dueness.{AreIdle};
 ghost use Rattle.build_files.specs.Leftovers.{stands};
 ghost use Rattle.build_model.specs.Stale.{first_stamp as stamp_first};
 ghost use Rattle.build_run.specs.Goings.{Stays};
-ghost use Rattle.build_run.specs.Whys.{is_told, line_for, IsLeastReason, IsWhyText, TellsReason};
+ghost use Rattle.build_run.specs.Whys.{is_told, line_for, IsLeastReason, IsWhyText};
 ghost use Rattle.explain_report.specs.Rules.{least_of};
 ghost use Rattle.sign_store.specs.Stores.{map_of};
 ghost use Rattle.world_api.specs.Looks.{Looks};
@@ -14,7 +14,7 @@ ghost use Rattle.world_api.specs.Reads.{stamp_of};
 use crate::building::Options;
 use build_files::{ListEnd, rule_at};
 use deciders::Rec;
-use explain_report::{Reason, least, least_is_reason, place_of, reason_of, reason_text};
+use explain_report::{Reason, least, place_of, reason_of, reason_text};
 use rule_graph::{Graph, Rule};
 use scons_base::{Memory, PathText, RuleId};
 use sign_store::Store;
@@ -38,10 +38,7 @@ pub(crate) fn why_text<W: World>(
     ensures looks { Looks W.meaning world.old world.new }
     ensures why { W.meaning.tells world.new → AreIdle (W.meaning.around world.old) now.now.targets
         → IfOk result (λ text. IsWhyText graph.now options.now rule.0 (map_of store.now) now.now (W.meaning.around world.old) (string_bytes text)) }
-    ensures reason { W.meaning.tells world.new → AreIdle (W.meaning.around world.old) now.now.targets
-        → IfOk result (λ text. TellsReason graph.now options.now rule.0 (map_of store.now) now.now (W.meaning.around world.old) (string_bytes text)) }
 {
-    least_is_reason();
     let of = rule_at(graph, rule)?;
     if !is_told(options, of) {
         return Ok(String::new(alloc));

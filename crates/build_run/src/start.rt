@@ -1,11 +1,12 @@
 //! How the action of a stale rule starts.
-ghost use Rattle.std.specs.Prelude.{◌≡◌, ◌<◌, ◌≤◌, [], length, true, IfOk, Some, slice_get, string_bytes};
+ghost use Rattle.std.specs.Prelude.{◌≡◌, ◌<◌, ◌≤◌, [], length, true, IfOk, Some, slice_get, string_bytes, OnOk};
 ghost use Rattle.rule_graph.specs.declared.rule.Rule.{Rule as DeclaredRule};
 ghost use Rattle.build_files.specs.Causes.{IsQuiet};
 ghost use Rattle.build_run.specs.Along.{StartsAlong};
 ghost use Rattle.build_run.specs.Reasons.{EndsLast, SiteKeepsReason};
 ghost use Rattle.build_run.specs.Safe.{StartsSafely};
 ghost use Rattle.build_run.specs.Sites.{IsSound, KeepsHeld, SiteEnds, SitePasses};
+ghost use Rattle.build_run.specs.Shown.{PrintsStart};
 ghost use Rattle.build_run.specs.Whys.{started_text};
 ghost use Rattle.turn_means.specs.Laws.{IsJobFrom};
 ghost use Rattle.sign_store.specs.Stores.{IsOut, IsFresh, KeepsBanks, KeepsOthers, KeepsOut, KeepsTickets, is_live, map_of};
@@ -42,6 +43,7 @@ impl<W: World, O: Sink, E: Sink> Site<'_, '_, W, O, E> {
         ensures safe { StartsSafely W.meaning self.old self.new now }
         ensures reason { SiteKeepsReason self.old self.new }
         ensures last { EndsLast result }
+        ensures prints { OnOk result (PrintsStart O.meaning self.old self.new rule (string_bytes why)) }
     {
         if self.account.is_store_shut {
             return Err(ListEnd::Fault(BuildFault::StoreFault));

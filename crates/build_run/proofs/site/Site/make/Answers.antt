@@ -2,6 +2,11 @@ use Rattle.build_run.proofs.Begun.{starts_behind}
 use Rattle.build_run.proofs.Stopping.{site_rests}
 use Rattle.build_run.proofs.Turning.{site_saw}
 use Rattle.std.proofs.Common.{◌∙◌, refl, sym}
+use Rattle.std.specs.Prelude.{string_bytes}
+use Rattle.sign_store.specs.Stores.{map_of}
+use Rattle.build_files.specs.Dueness.{AreIdle}
+use Rattle.build_run.specs.Whys.{IsWhyText}
+use Rattle.build_run.proofs.Explaining.{idle_on, tells_reason, why_before}
 use Rattle.build_model.proofs.Lists.{true_false}
 use Rattle.world_api.proofs.Looking.{looks_joined}
 use Rattle.build_files.proofs.Looking.{cause_on}
@@ -188,4 +193,27 @@ returns-clause-safe g c = λ s safe over.
     record {
       moments = one.moments;
       now = (site_rests m g.met.W.Disk.only_now now _ refl refl refl refl (λ unshut. sym c.note_start.ensures.keeps.shut ∙ unshut) s one.now).now;
+    }
+
+pub returns-clause-shows : goal.returns-clause-shows
+returns-clause-shows g c =
+    let m = g.W.Disk.meaning in
+    let site = c.args.self.now in
+    let why = string_bytes c.in_ok-why.why in
+    let is : m.tells c.start.new.self.world.now → AreIdle (m.around site.world.now) c.args.now.targets →
+        IsWhyText site.graph.now site.options c.args.rule.0 (map_of site.store.now) c.args.now (m.around site.world.now) why =
+    λ told idle.
+    let before = c.start.ensures.passes.passes.told.told told in
+    let asks = c.is_stale.ensures.looks.around (c.why_text.ensures.looks.told.told before) in
+    why_before (m.around site.world.now) (m.around c.is_stale.new.world) (map_of site.store.now) c.args.now idle asks site.graph.now site.options
+    c.args.rule.0 why
+    (c.in_ok-why.ensures.why before
+    (idle_on (m.around site.world.now) (m.around c.is_stale.new.world) (map_of site.store.now) c.args.now idle asks)) in
+    record {
+      why = why;
+      prints = c.in_ok-start.ensures.prints;
+      is = is;
+      tells = λ told idle.
+          tells_reason c.least_is_reason.ensures site.graph.now site.options c.args.rule.0 (map_of site.store.now) c.args.now (m.around site.world.now) why
+          (is told idle);
     }
