@@ -201,7 +201,7 @@ returns-clause-shows g c =
     let site = c.args.self.now in
     let why = string_bytes c.in_ok-why.why in
     let is : m.tells c.start.new.self.world.now → AreIdle (m.around site.world.now) c.args.now.targets →
-        IsWhyText site.graph.now site.options c.args.rule.0 (map_of site.store.now) c.args.now (m.around site.world.now) why =
+    IsWhyText site.graph.now site.options c.args.rule.0 (map_of site.store.now) c.args.now (m.around site.world.now) why =
     λ told idle.
     let before = c.start.ensures.passes.passes.told.told told in
     let asks = c.is_stale.ensures.looks.around (c.why_text.ensures.looks.told.told before) in
