@@ -71,8 +71,10 @@ fn show_trees<W: World, O: Sink, E: Sink>(
             say(out, words, done_text(alloc))?;
             Ok(good(alloc))
         }
-        Err(TreeEnd::Fault(BuildFault::OutFault)) => Err(Stop::Build(BuildFault::OutFault)),
-        Err(TreeEnd::Fault(fault)) => end_with(alloc, words, fault, out, err),
+        Err(TreeEnd::Fault(fault)) => match fault {
+            BuildFault::OutFault => Err(Stop::Build(BuildFault::OutFault)),
+            _ => end_with(alloc, words, fault, out, err),
+        },
         Err(TreeEnd::Memory) => Err(Stop::Memory),
     }
 }
