@@ -1,5 +1,5 @@
 //! Scripts and their trees: each row of the table, and below it its tree, or the line of the first token that it can't have, the
-//! token's number from 0, and why.
+//! token's number from 0, and why; where it has no tokens the line of that fault, and why.
 //!
 //! A script begins behind `>>> ` and goes on behind `... `; no line feed ends its last line. A heading `=== ` has a script or
 //! tokens made. A line that begins with `#` names the rows below it.
@@ -8,7 +8,7 @@
 //! script that has a fault here, or means something else by it.
 use crate::made::{blocks, repeated, tokens_of};
 use crate::width::width;
-use py_lex::lex;
+use py_lex::{LexFault, lex};
 use py_parse::{ParseFault, ParseKind, parse};
 use py_token::Tokens;
 use py_tree::Script;
@@ -94,7 +94,11 @@ fn put_tokens(alloc: Global, told: &mut Told, fields: &str) {
 fn put_script(alloc: Global, told: &mut Told, script: &str, shows: Shows) {
     match lex(alloc, script.as_bytes()) {
         Ok(tokens) => put_tree(alloc, told, &tokens, shows),
-        Err(_) => told.refuse(),
+        Err(LexFault::At { line, kind }) => {
+            told.show(line);
+            told.show(format_args!(" {kind:?}"));
+        }
+        Err(LexFault::Memory) => told.refuse(),
     }
 }
 

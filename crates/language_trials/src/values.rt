@@ -9,9 +9,11 @@ use eval_hosts::Replying;
 use py_eval::{EvalFault, Ran, run};
 use py_heap::{Budget, Heap, HostId};
 use py_tree::Script;
-use scons_base::limits::UNIT_LIMIT;
 use std::alloc::{AllocError, Global};
 use trial_text::Told;
+
+/// The units that a case has, fewer than a reading.
+const TOTAL: u64 = 20_000_000;
 
 /// The number of the object that stands for the name `value`, and shows as a path here.
 const PATH: HostId = HostId(0);
@@ -90,7 +92,7 @@ fn put_over(alloc: Global, told: &mut Told, last: &str, script: &Script, heap: H
         first: Vec::new(alloc),
         refusals: 0,
     };
-    let outcome = run(script, heap, &mut host, Budget::new(UNIT_LIMIT));
+    let outcome = run(script, heap, &mut host, Budget::new(TOTAL));
     put_end(told, last, host.printed.as_str(), &outcome);
 }
 

@@ -19,6 +19,7 @@ fn width_of_statement(statement: &Simple) -> usize {
         Expr::List { items, .. } => items.len(),
         Expr::Tuple { items, .. } => items.len(),
         Expr::Dict { pairs, .. } => pairs.len(),
+        Expr::Joined { pieces, .. } => pieces.len(),
         Expr::Post { links, .. } => usize::max(links.len(), arguments(links.as_slice())),
         _ => 0,
     }

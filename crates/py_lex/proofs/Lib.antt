@@ -3,6 +3,7 @@ pub mod OpenLevels
 pub mod Runs
 pub mod Signs
 pub mod Spelling
+pub mod PartSpelling
 pub mod TextTokens
 pub mod TokenLists
 pub mod One
@@ -10,7 +11,10 @@ pub mod Reading
 pub mod Whole
 pub mod Clean
 pub mod TextUtf8
+pub mod PartUtf8
 pub mod StepUtf8
 pub mod Pieces
+pub mod PartPieces
+pub mod PartFits
 pub mod Writing
 pub mod Unmarked

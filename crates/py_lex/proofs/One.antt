@@ -18,7 +18,13 @@ use Rattle.scons_base.specs.Runs.{is_name_byte, front_run, after_run}
 use Rattle.py_lex.specs.Gaps.{gap_at}
 use Rattle.py_lex.specs.Texts.{piece_at, bytes_of, Spelling, closed, unclosed, refused, behind, Spells, closes, has_no_end, has_bad_escape, is_not_utf8, stands, ends_line}
 use Rattle.py_lex.specs.Tokens.{Read, class_of, lead_of, quoted, text_read, TextAt, LeadAt, QuotedAt, ClassAt, TokenAt}
-use Rattle.py_lex.specs.Steps.{State, Move, goes, ends, stops, read_move, TokenMove, GapMove, RestMove, Steps}
+use Rattle.py_lex.specs.declared.part.PartPiece.{PartPiece}
+use Rattle.py_lex.specs.declared.part.PartPiece.TheVariants.{Opens, Lone, Plain}
+use Rattle.py_lex.specs.declared.reader.Mode.{Mode}
+use Rattle.py_lex.specs.declared.reader.Mode.TheVariants.{Line, Part, Field}
+use Rattle.py_lex.specs.Parts.{PartSpelling, part_behind, part_piece_at, Parts, opens_field, closes_text, part_has_no_end, has_lone_brace, part_has_bad_escape, part_is_not_utf8, part_stands, part_ends_line}
+use Rattle.py_lex.specs.Parts as parts
+use Rattle.py_lex.specs.Steps.{State, Move, goes, ends, stops, read_move, part_move, TokenMove, GapMove, RestMove, ModeMove, Steps}
 use Rattle.std.specs.Prelude.{Result, Ok, Err}
 use Rattle.py_token.specs.declared.token.Tokens.{Tokens}
 use Rattle.py_lex.specs.declared.fault.LexFault.{LexFault}
@@ -58,11 +64,49 @@ Spells-one (stands c rest e q) r =
 Spells-one (ends_line c rest e q) r =
     let next = begins_at (EndsLine c) rest r e in ap (λ x. behind (bytes_of c) 1 x) (Spells-one q next.1.0) ∙ sym next.1.1
 
+-- what a piece says of the part that it begins
+abbrev BeginsPart : Style → PartPiece → List ℕ → PartSpelling → Type 0
+BeginsPart style Opens rest s = s ≡ parts.ends true [] 0 rest
+BeginsPart style Lone rest s = s ≡ parts.refused kinds.BadField 0
+BeginsPart style (Plain Closes) rest s = s ≡ parts.ends false [] 0 rest
+BeginsPart style (Plain Unclosed) rest s = s ≡ parts.unclosed
+BeginsPart style (Plain BadEscape) rest s = s ≡ parts.refused kinds.BadEscape 0
+BeginsPart style (Plain NotUtf8) rest s = s ≡ parts.refused kinds.NotUtf8 0
+BeginsPart style (Plain (Stands c)) rest s = (t : PartSpelling) × (Parts style rest t × (s ≡ part_behind (bytes_of c) 0 t))
+BeginsPart style (Plain (EndsLine c)) rest s = (t : PartSpelling) × (Parts style rest t × (s ≡ part_behind (bytes_of c) 1 t))
+
+begins_part : {style : Style} {bytes : List ℕ} {s : PartSpelling} → Parts style bytes s → BeginsPart style (part_piece_at style bytes).0 (part_piece_at style bytes).1 s
+begins_part {style = style} (opens_field rest e) = subst (λ p. BeginsPart style p.0 p.1 (parts.ends true [] 0 rest)) (sym e) refl
+begins_part {style = style} (closes_text rest e) = subst (λ p. BeginsPart style p.0 p.1 (parts.ends false [] 0 rest)) (sym e) refl
+begins_part {style = style} (part_has_no_end rest e) = subst (λ p. BeginsPart style p.0 p.1 parts.unclosed) (sym e) refl
+begins_part {style = style} (has_lone_brace rest e) = subst (λ p. BeginsPart style p.0 p.1 (parts.refused kinds.BadField 0)) (sym e) refl
+begins_part {style = style} (part_has_bad_escape rest e) = subst (λ p. BeginsPart style p.0 p.1 (parts.refused kinds.BadEscape 0)) (sym e) refl
+begins_part {style = style} (part_is_not_utf8 rest e) = subst (λ p. BeginsPart style p.0 p.1 (parts.refused kinds.NotUtf8 0)) (sym e) refl
+begins_part {style = style} (part_stands {s = t} c rest e r) = subst (λ p. BeginsPart style p.0 p.1 (part_behind (bytes_of c) 0 t)) (sym e) (t, (r, refl))
+begins_part {style = style} (part_ends_line {s = t} c rest e r) = subst (λ p. BeginsPart style p.0 p.1 (part_behind (bytes_of c) 1 t)) (sym e) (t, (r, refl))
+
+begins_part_at : {style : Style} {bytes : List ℕ} {s : PartSpelling} (piece : PartPiece) (rest : List ℕ) → Parts style bytes s → part_piece_at style bytes ≡ (piece, rest) → BeginsPart style piece rest s
+begins_part_at {style = style} {s = s} piece rest r e = subst (λ p. BeginsPart style p.0 p.1 s) e (begins_part r)
+
+pub Parts-one : {style : Style} {bytes : List ℕ} {s t : PartSpelling} → Parts style bytes s → Parts style bytes t → s ≡ t
+Parts-one (opens_field rest e) r = sym (begins_part_at Opens rest r e)
+Parts-one (closes_text rest e) r = sym (begins_part_at (Plain Closes) rest r e)
+Parts-one (part_has_no_end rest e) r = sym (begins_part_at (Plain Unclosed) rest r e)
+Parts-one (has_lone_brace rest e) r = sym (begins_part_at Lone rest r e)
+Parts-one (part_has_bad_escape rest e) r = sym (begins_part_at (Plain BadEscape) rest r e)
+Parts-one (part_is_not_utf8 rest e) r = sym (begins_part_at (Plain NotUtf8) rest r e)
+Parts-one (part_stands c rest e q) r =
+    let next = begins_part_at (Plain (Stands c)) rest r e in ap (λ x. part_behind (bytes_of c) 0 x) (Parts-one q next.1.0) ∙ sym next.1.1
+Parts-one (part_ends_line c rest e q) r =
+    let next = begins_part_at (Plain (EndsLine c)) rest r e in ap (λ x. part_behind (bytes_of c) 1 x) (Parts-one q next.1.0) ∙ sym next.1.1
+
 TextAt-one : (raw : Bool) (q depth : ℕ) (rest : List ℕ) (t u : Read) → TextAt raw q depth rest t → TextAt raw q depth rest u → t ≡ u
 TextAt-one raw q depth rest t u x y = x.1.1 ∙ ap (λ s. text_read depth s) (Spells-one x.1.0 y.1.0) ∙ sym y.1.1
 
 LeadAt-one : (l : Lead) (depth q : ℕ) (inside name rest : List ℕ) (t u : Read) → LeadAt l depth q inside name rest t → LeadAt l depth q inside name rest u → t ≡ u
 LeadAt-one lead.Raw depth q inside name rest t u x y = TextAt-one true q depth inside t u x y
+LeadAt-one lead.Format depth q inside name rest t u x y = both x y
+LeadAt-one lead.RawFormat depth q inside name rest t u x y = both x y
 LeadAt-one lead.Refused depth q inside name rest t u x y = both x y
 LeadAt-one lead.Name depth q inside name rest t u x y = both x y
 
@@ -96,8 +140,13 @@ RestMove-one : (rest : List ℕ) (s : State) (m n : Move) → RestMove rest s m 
 RestMove-one [] s m n x y = both x y
 RestMove-one (b ∷ bytes) s m n x y = GapMove-one (gap_at (b ∷ bytes)).0 (gap_at (b ∷ bytes)).1 s m n x y
 
+ModeMove-one : (mode : Mode) (s : State) (m n : Move) → ModeMove mode s m → ModeMove mode s n → m ≡ n
+ModeMove-one Line s m n x y = RestMove-one s.rest s m n x y
+ModeMove-one (Part text) s m n x y = x.1.1 ∙ ap (λ p. part_move text s p) (Parts-one x.1.0 y.1.0) ∙ sym y.1.1
+ModeMove-one (Field text inner) s m n x y = both x y
+
 pub Steps-one : (s : State) (m n : Move) → Steps s m → Steps s n → m ≡ n
-Steps-one s m n x y = RestMove-one s.rest s m n x y
+Steps-one s m n x y = ModeMove-one s.mode s m n x y
 
 same_state : (t u : State) → goes t ≡ goes u → t ≡ u
 same_state t u e = cc

@@ -21,13 +21,13 @@ chosen t x y = if t then x else y
 pub record Takes (f : Reader) (bytes : List ℕ) (p : Piece × List ℕ) : Type 0 where
   pub used : List ℕ
   pub parts : bytes ≡ used ++ p.1
-  short : (x : ℕ) (more back : List ℕ) → p.1 ≡ (x ∷ more) ++ back → f (used ++ x ∷ more) ≡ (p.0, x ∷ more)
+  pub short : (x : ℕ) (more back : List ℕ) → p.1 ≡ (x ∷ more) ++ back → f (used ++ x ∷ more) ≡ (p.0, x ∷ more)
 
 -- the bytes behind the first closing quote, and the same end in front of nothing
 pub record TakesEnd (f : Reader) (bytes rest : List ℕ) : Type 0 where
-  used : List ℕ
-  parts : bytes ≡ used ++ rest
-  alone : f used ≡ (Closes, [])
+  pub used : List ℕ
+  pub parts : bytes ≡ used ++ rest
+  pub alone : f used ≡ (Closes, [])
 
 abbrev pub TakesPiece : Reader → List ℕ → Piece → List ℕ → Type 0
 TakesPiece f bytes Closes rest = TakesEnd f bytes rest
@@ -37,8 +37,8 @@ TakesPiece f bytes Unclosed rest = Unit {0}
 TakesPiece f bytes BadEscape rest = Unit {0}
 TakesPiece f bytes NotUtf8 rest = Unit {0}
 
-record Cuts (f : Reader) (bytes : List ℕ) (p : Piece × List ℕ) : Type 0 where
-  cut : TakesPiece f bytes p.0 p.1
+pub record Cuts (f : Reader) (bytes : List ℕ) (p : Piece × List ℕ) : Type 0 where
+  pub cut : TakesPiece f bytes p.0 p.1
 
 if_cuts : (t : Bool) (f g : Reader) (bytes : List ℕ) → (t ≡ true → Cuts f bytes (f bytes)) → (t ≡ false → Cuts g bytes (g bytes)) → Cuts (λ r. if t then f r else g r) bytes (if t then f bytes else g bytes)
 if_cuts true f g bytes x y = x refl
@@ -297,7 +297,7 @@ module _ (style : Style) (b : ℕ) where
   backslash_cuts true rest = kept_cuts rest
   backslash_cuts false rest = escape_cuts rest
 
-  behind_first_cuts : (rest : List ℕ) → Cuts (λ r. piece_at style (b ∷ r)) rest (piece_at style (b ∷ rest))
+  pub behind_first_cuts : (rest : List ℕ) → Cuts (λ r. piece_at style (b ∷ r)) rest (piece_at style (b ∷ rest))
   behind_first_cuts rest =
       if_cuts (b == style.quote) (closing style) (λ r. if b == 92 then (if style.raw then kept r else escape r) else (if b == 255 then (NotUtf8, b ∷ r) else plain_at r)) rest
       (λ _. closing_cuts style rest)

@@ -16,7 +16,7 @@ pub leads_on : {s t : State} (u : State) → LeadsTo s t → Steps t (goes u) �
 leads_on {t = t} u so step fits = record {
   whole = λ o r. so.whole o (goes_on u step r);
   fits = fits;
-  clean = step_is_clean t u step so.clean;
+  clean = step_is_clean t u step so.fits.quote so.clean;
 }
 
 pub start_is_clean : (script : List ℕ) → IsClean script → IsClean (start script).rest

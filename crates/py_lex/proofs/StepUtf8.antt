@@ -26,13 +26,20 @@ use Rattle.py_lex.specs.Levels.{level_of}
 use Rattle.py_lex.specs.Marks.{marks, mark_at}
 use Rattle.py_lex.specs.Numbers.{number_of}
 use Rattle.py_lex.specs.Texts.{Spelling, closed, unclosed, refused, Spells, opening}
-use Rattle.py_lex.specs.Tokens.{Read, takes, refuses, class_of, lead_of, quoted, text_read, is_float, integer_read, is_fraction, mark_read, TextAt, LeadAt, QuotedAt, ClassAt, TokenAt}
-use Rattle.py_lex.specs.Steps.{State, Move, goes, ends, stops, line_end, level_move, finish, read_move, TokenMove, GapMove, RestMove, Steps}
+use Rattle.py_lex.specs.declared.reader.OpenText.{OpenText}
+use Rattle.py_lex.specs.declared.reader.Mode.{Mode}
+use Rattle.py_lex.specs.declared.reader.Mode.TheVariants.{Line, Part, Field}
+use Rattle.py_lex.specs.Sizes.{quote_of}
+use Rattle.py_lex.specs.Parts.{PartSpelling, Parts}
+use Rattle.py_lex.specs.Parts as parts
+use Rattle.py_lex.specs.Tokens.{Read, takes, begins, refuses, field_read, field_class, ends_field, class_of, lead_of, quoted, text_read, is_float, integer_read, is_fraction, mark_read, TextAt, LeadAt, QuotedAt, ClassAt, TokenAt}
+use Rattle.py_lex.specs.Steps.{State, Move, goes, ends, stops, line_end, level_move, finish, read_move, part_move, field_move, field_token_move, TokenMove, GapMove, RestMove, ModeMove, Steps}
 use Rattle.py_lex.specs.Utf8.{IsClean}
 use Rattle.scons_base.proofs.Ascii.{name_byte_is_ascii}
 use Rattle.py_lex.proofs.Clean.{is_no_mark, split, clean_next, clean_none, clean_mark, clean_behind}
 use Rattle.py_lex.proofs.Signs.{find_passes}
 use Rattle.py_lex.proofs.TextUtf8.{line_end_clean, text_is_utf8, opening_is_clean}
+use Rattle.py_lex.proofs.PartUtf8.{part_is_utf8}
 
 run_is_clean : (p : ℕ → Bool) → ((b : ℕ) → p b ≡ true → b < 128) → (xs : List ℕ) → IsClean xs → IsClean (after_run p xs)
 run_is_clean p h [] clean = clean
@@ -99,6 +106,7 @@ gap_is_clean (b ∷ rest) clean =
 -- what a token leaves
 abbrev ReadIs : Read → Type 0
 ReadIs (takes kind lines depth rest) = IsClean rest
+ReadIs (begins style rest) = IsClean rest
 ReadIs (refuses kind lines) = Unit {0}
 
 text_at_is : (raw : Bool) (q depth : ℕ) (rest : List ℕ) (t : Read) → q < 128 → IsClean rest → TextAt raw q depth rest t → ReadIs t
@@ -125,6 +133,8 @@ quoted_is (b ∷ rest) q inside e clean = by_test (b == 39 || b == 34) (b, rest)
 
 lead_at_is : (l : Lead) (depth q : ℕ) (inside name rest : List ℕ) (t : Read) → q < 128 → IsClean inside → IsClean rest → LeadAt l depth q inside name rest t → ReadIs t
 lead_at_is lead.Raw depth q inside name rest t h i r x = text_at_is true q depth inside t h i x
+lead_at_is lead.Format depth q inside name rest t h i r x = subst (λ r. ReadIs r) (sym x) (opening_is_clean false q inside h i).inside
+lead_at_is lead.RawFormat depth q inside name rest t h i r x = subst (λ r. ReadIs r) (sym x) (opening_is_clean true q inside h i).inside
 lead_at_is lead.Refused depth q inside name rest t h i r x = subst (λ r. ReadIs r) (sym x) tt
 lead_at_is lead.Name depth q inside name rest t h i r x = subst (λ r. ReadIs r) (sym x) r
 
@@ -252,6 +262,7 @@ level_is (level.Refused kind) s clean = tt
 
 read_is : (s : State) (t : Read) → ReadIs t → MoveIs (read_move s t)
 read_is s (takes kind lines depth rest) clean = clean
+read_is s (begins style rest) clean = clean
 read_is s (refuses kind lines) clean = tt
 
 token_move_is : (p : Place) (s : State) (m : Move) → IsClean s.rest → TokenMove p s m → MoveIs m
@@ -270,5 +281,42 @@ rest_move_is [] s m c clean x = subst (λ n. MoveIs n) (sym x) (finish_is s.plac
 rest_move_is (b ∷ bytes) s m c clean x =
     let gap = gap_is_clean (b ∷ bytes) c in gap_move_is (gap_at (b ∷ bytes)).0 (gap_at (b ∷ bytes)).1 s m clean gap.rest x
 
-pub step_is_clean : (s t : State) → Steps s (goes t) → IsClean s.rest → IsClean t.rest
-step_is_clean s t x clean = rest_move_is s.rest s (goes t) clean clean x
+part_move_is : (text : OpenText) (s : State) (p : PartSpelling) → text.style.quote < 128 → Parts text.style s.rest p → IsClean s.rest → MoveIs (part_move text s p)
+part_move_is text s (parts.ends field value lines rest) q r clean = (part_is_utf8 q r clean).1
+part_move_is text s parts.unclosed q r clean = tt
+part_move_is text s (parts.refused kind lines) q r clean = tt
+
+field_token_is : (text : OpenText) (s : State) (t : Read) → ReadIs t → MoveIs (field_token_move text s t)
+field_token_is text s (takes kind lines inner rest) clean = clean
+field_token_is text s (begins style rest) clean = tt
+field_token_is text s (refuses kind lines) clean = tt
+
+field_class_is : (k : Class) (inner b : ℕ) (rest : List ℕ) → IsClean (b ∷ rest) → ReadIs (field_class k inner (b ∷ rest))
+field_class_is Quote inner b rest clean = tt
+field_class_is Digit inner b rest clean = if_read (is_float (front_run is_name_byte (b ∷ rest)) (after_run is_name_byte (b ∷ rest))) _ _ tt (integer_is inner (after_run is_name_byte (b ∷ rest)) (number_of (front_run is_name_byte (b ∷ rest))) (name_is_clean (b ∷ rest) clean))
+field_class_is Letter inner b rest clean = name_is_clean (b ∷ rest) clean
+field_class_is NoText inner b rest clean = tt
+field_class_is Sign inner b rest clean = if_read (ends_field (b ∷ rest)) _ _ tt (if_read (is_fraction (b ∷ rest)) _ _ tt (mark_is inner (b ∷ rest) (mark_at (b ∷ rest)) refl clean))
+
+both_true : (a b : Bool) → (a && b) ≡ true → a ≡ true
+both_true true b e = refl
+both_true false b e = cc
+
+if_true_move : (t : Bool) (X Y : Move) → (t ≡ true → MoveIs X) → (t ≡ false → MoveIs Y) → MoveIs (if t then X else Y)
+if_true_move true X Y x y = x refl
+if_true_move false X Y x y = y refl
+
+field_move_is : (text : OpenText) (inner : ℕ) (s : State) (bytes : List ℕ) → IsClean bytes → MoveIs (field_move text inner s bytes)
+field_move_is text inner s [] clean = tt
+field_move_is text inner s (b ∷ bytes) clean =
+    if_true_move (is_blank b) _ _ (λ e. blanks_are_clean bytes (clean_next b bytes clean (blank_is_ascii b e)))
+    (λ _. if_true_move (b == 125 && inner == 0) _ _ (λ e. let is : b ≡ 125 = eqb-true b 125 (both_true _ _ e) in clean_next b bytes clean (omega (arith, is)))
+    (λ _. field_token_is text s (field_read inner (b ∷ bytes)) (field_class_is (class_of b) inner b bytes clean)))
+
+mode_move_is : (mode : Mode) (s : State) (m : Move) → quote_of mode < 128 → IsClean s.rest → ModeMove mode s m → MoveIs m
+mode_move_is Line s m q clean x = rest_move_is s.rest s m clean clean x
+mode_move_is (Part text) s m q clean x = subst (λ n. MoveIs n) (sym x.1.1) (part_move_is text s x.0 q x.1.0 clean)
+mode_move_is (Field text inner) s m q clean x = subst (λ n. MoveIs n) (sym x) (field_move_is text inner s s.rest clean)
+
+pub step_is_clean : (s t : State) → Steps s (goes t) → quote_of s.mode < 128 → IsClean s.rest → IsClean t.rest
+step_is_clean s t x q clean = mode_move_is s.mode s (goes t) q clean x

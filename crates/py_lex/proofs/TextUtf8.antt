@@ -20,18 +20,18 @@ use Rattle.py_lex.specs.Utf8.{IsClean}
 use Rattle.py_lex.proofs.Clean.{is_no_mark, split, clean_next, ascii_byte}
 
 -- a piece stands for its own bytes, or for other text behind an ASCII byte
-data Covers (bytes : List ℕ) (c : Chars) (rest : List ℕ) : Type 0 where
+pub data Covers (bytes : List ℕ) (c : Chars) (rest : List ℕ) : Type 0 where
   same : bytes ≡ bytes_of c ++ rest → list_all is_no_mark (bytes_of c) ≡ true → Covers bytes c rest
   other : (b : ℕ) (more : List ℕ) → bytes ≡ b ∷ more → b < 128 → (IsClean more → IsClean rest) → IsUtf8 (bytes_of c) → Covers bytes c rest
 
-record CoversEnd (bytes rest : List ℕ) : Type 0 where
-  first : ℕ
-  more : List ℕ
-  parts : bytes ≡ first ∷ more
-  ascii : first < 128
-  goes_on : IsClean more → IsClean rest
+pub record CoversEnd (bytes rest : List ℕ) : Type 0 where
+  pub first : ℕ
+  pub more : List ℕ
+  pub parts : bytes ≡ first ∷ more
+  pub ascii : first < 128
+  pub goes_on : IsClean more → IsClean rest
 
-abbrev PieceCovers : Piece → List ℕ → List ℕ → Type 0
+abbrev pub PieceCovers : Piece → List ℕ → List ℕ → Type 0
 PieceCovers Closes bytes rest = CoversEnd bytes rest
 PieceCovers (Stands c) bytes rest = Covers bytes c rest
 PieceCovers (EndsLine c) bytes rest = Covers bytes c rest
@@ -39,14 +39,14 @@ PieceCovers Unclosed bytes rest = Unit {0}
 PieceCovers BadEscape bytes rest = Unit {0}
 PieceCovers NotUtf8 bytes rest = Unit {0}
 
-record PieceIs (p : Piece × List ℕ) (bytes : List ℕ) : Type 0 where
-  covers : PieceCovers p.0 bytes p.1
+pub record PieceIs (p : Piece × List ℕ) (bytes : List ℕ) : Type 0 where
+  pub covers : PieceCovers p.0 bytes p.1
 
 if_piece : (t : Bool) (X Y : Piece × List ℕ) (bytes : List ℕ) → (t ≡ true → PieceIs X bytes) → (t ≡ false → PieceIs Y bytes) → PieceIs (if t then X else Y) bytes
 if_piece true X Y bytes x y = x refl
 if_piece false X Y bytes x y = y refl
 
-either : (a b : Bool) → (a && b) ≡ true → (a ≡ true) × (b ≡ true)
+pub either : (a b : Bool) → (a && b) ≡ true → (a ≡ true) × (b ≡ true)
 either true true e = (refl, refl)
 either true false e = cc
 either false b e = cc
@@ -74,7 +74,7 @@ line_byte false false b more rest x y e = cc
 pub line_end_clean : (b : ℕ) (more rest : List ℕ) → after_line_end (b ∷ more) ≡ Some rest → (b < 128) × (IsClean more → IsClean rest)
 line_end_clean b more rest e = line_byte (b == 10) (b == 13) b more rest refl refl e
 
-own_byte : (b : ℕ) (rest : List ℕ) → (b == 255) ≡ false → PieceIs (Stands (Byte b), rest) (b ∷ rest)
+pub own_byte : (b : ℕ) (rest : List ℕ) → (b == 255) ≡ false → PieceIs (Stands (Byte b), rest) (b ∷ rest)
 own_byte b rest e = record { covers = same refl (own (b == 255) e) }
   where
     own : (t : Bool) → t ≡ false → (not t && true) ≡ true
@@ -84,7 +84,7 @@ is_sign : (b n : ℕ) → b ≡ n → n < 128 → (b == 255) ≡ false
 is_sign b n e h = grind (arith, nat_tests)
 
 -- other text behind the first byte
-put : (b : ℕ) (more rest : List ℕ) (c : Chars) → b < 128 → (IsClean more → IsClean rest) → IsUtf8 (bytes_of c) → Covers (b ∷ more) c rest
+pub put : (b : ℕ) (more rest : List ℕ) (c : Chars) → b < 128 → (IsClean more → IsClean rest) → IsUtf8 (bytes_of c) → Covers (b ∷ more) c rest
 put b more rest c h goes u = other b more refl h goes u
 
 closing_covers : (style : Style) (b : ℕ) (rest : List ℕ) → style.quote < 128 → b ≡ style.quote → PieceIs (closing style rest) (b ∷ rest)
@@ -237,7 +237,7 @@ plain_covers style b rest t = by_line (after_line_end (b ∷ rest)) refl
         let l = line_end_clean b rest next e in
         if_piece style.long _ _ (b ∷ rest) (λ _. record { covers = put b rest next (Byte 10) l.0 l.1 (ascii_byte 10 (omega arith)) }) (λ _. record { covers = tt })
 
-piece_covers : (style : Style) → style.quote < 128 → (bytes : List ℕ) → PieceIs (piece_at style bytes) bytes
+pub piece_covers : (style : Style) → style.quote < 128 → (bytes : List ℕ) → PieceIs (piece_at style bytes) bytes
 piece_covers style q [] = record { covers = tt }
 piece_covers style q (b ∷ rest) =
     if_piece (b == style.quote) _ _ (b ∷ rest) (λ t. closing_covers style b rest q (eqb-true b style.quote t))
@@ -248,7 +248,7 @@ covers_at : (style : Style) → style.quote < 128 → (bytes : List ℕ) (piece 
 covers_at style q bytes piece rest e = let c = piece_covers style q bytes in subst (λ p. PieceCovers p.0 bytes p.1) e c.covers
 
 -- what a text that is closed stands for is UTF-8 behind this front, and what follows is clean
-abbrev SpellingIs : List ℕ → Spelling → Type 0
+abbrev pub SpellingIs : List ℕ → Spelling → Type 0
 SpellingIs front (closed value lines rest) = IsUtf8 (front ++ value) × IsClean rest
 SpellingIs front unclosed = Unit {0}
 SpellingIs front (refused kind lines) = Unit {0}
@@ -259,13 +259,13 @@ moved front part lines unclosed = λ is. tt
 moved front part lines (refused kind more) = λ is. tt
 
 -- what holds of the rest, behind text and behind bytes that wait for the end of a character
-abbrev Rest : List ℕ → Spelling → Type 0
+abbrev pub Rest : List ℕ → Spelling → Type 0
 Rest rest s = (done waiting : List ℕ) → IsUtf8 done → list_all is_no_mark waiting ≡ true → IsClean (waiting ++ rest) → SpellingIs (done ++ waiting) s
 
 no_marks_in : (a b : List ℕ) → list_all is_no_mark a ≡ true → list_all is_no_mark b ≡ true → list_all is_no_mark (a ++ b) ≡ true
 no_marks_in a b x y = list_all-append is_no_mark a b ∙ (cc)
 
-covered : (bytes rest : List ℕ) (c : Chars) (lines : ℕ) (s : Spelling) → Covers bytes c rest → Rest rest s → Rest bytes (behind (bytes_of c) lines s)
+pub covered : (bytes rest : List ℕ) (c : Chars) (lines : ℕ) (s : Spelling) → Covers bytes c rest → Rest rest s → Rest bytes (behind (bytes_of c) lines s)
 covered bytes rest c lines s (same e n) = λ ih done waiting u m clean.
     let joined : IsClean ((waiting ++ bytes_of c) ++ rest) = subst (λ x. IsClean x) (ap (λ x. waiting ++ x) e ∙ sym (append_assoc waiting (bytes_of c) rest)) clean in
     moved (done ++ waiting) (bytes_of c) lines s
@@ -276,7 +276,7 @@ covered bytes rest c lines s (other b more e h goes_on v) = λ ih done waiting u
     let text : IsUtf8 front = IsUtf8-append (done ++ waiting) (bytes_of c) (IsUtf8-append done waiting u cut.0) v in
     moved (done ++ waiting) (bytes_of c) lines s (subst (λ x. SpellingIs x s) (append-nil front) (ih front [] text refl (goes_on cut.1)))
 
-ended : (bytes rest : List ℕ) → CoversEnd bytes rest → Rest bytes (closed [] 0 rest)
+pub ended : (bytes rest : List ℕ) → CoversEnd bytes rest → Rest bytes (closed [] 0 rest)
 ended bytes rest c done waiting u m clean =
     let cut = split waiting c.first c.more m (subst (λ x. IsClean (waiting ++ x)) c.parts clean) c.ascii in
     (subst (λ x. IsUtf8 x) (sym (append-nil (done ++ waiting))) (IsUtf8-append done waiting u cut.0), c.goes_on cut.1)

@@ -3,7 +3,7 @@ use Rattle.std.proofs.Common.{◌≡◌, ℕ, zero, suc, ◌+◌, List, [], ◌�
 use Rattle.std.specs.Prelude.{replicate}
 use Rattle.py_token.specs.declared.token.Token.{Token}
 use Rattle.py_token.specs.declared.token.TokenKind.{TokenKind}
-use Rattle.py_token.specs.declared.token.TokenKind.TheVariants.{Name, Integer, Text, Word, Mark, Newline, Indent, Dedent}
+use Rattle.py_token.specs.declared.token.TokenKind.TheVariants.{Name, Integer, Text, Word, Mark, FStart, FPart, FEnd, Newline, Indent, Dedent}
 use Rattle.py_lex.specs.Steps.{token_at, text_behind, with_text, added, dedents}
 
 replicate_behind : {X : Type 0} (n : ℕ) (x : X) → replicate n x ++ x ∷ [] ≡ x ∷ replicate n x
@@ -24,6 +24,9 @@ added_other (Integer n) xs line = λ h. refl
 added_other (Text t) xs line = λ h. absurd (h t refl)
 added_other (Word k) xs line = λ h. refl
 added_other (Mark m) xs line = λ h. refl
+added_other FStart xs line = λ h. refl
+added_other (FPart t) xs line = λ h. refl
+added_other FEnd xs line = λ h. refl
 added_other Newline xs line = λ h. refl
 added_other Indent xs line = λ h. refl
 added_other Dedent xs line = λ h. refl
@@ -34,6 +37,9 @@ behind_other (Integer n) a line text = λ h. refl
 behind_other (Text t) a line text = λ h. absurd (h t refl)
 behind_other (Word k) a line text = λ h. refl
 behind_other (Mark m) a line text = λ h. refl
+behind_other FStart a line text = λ h. refl
+behind_other (FPart t) a line text = λ h. refl
+behind_other FEnd a line text = λ h. refl
 behind_other Newline a line text = λ h. refl
 behind_other Indent a line text = λ h. refl
 behind_other Dedent a line text = λ h. refl

@@ -20,9 +20,14 @@ use Rattle.py_lex.specs.declared.piece.Piece.TheVariants.{Closes, Unclosed, BadE
 use Rattle.py_lex.specs.Bytes.{is_blank, is_comment_byte, after_line_end, after_feed}
 use Rattle.scons_base.specs.Runs.{is_name_byte}
 use Rattle.py_lex.specs.Texts.{piece_at, closing, kept, kept_line, kept_byte, escape, escape_line, escape_byte, hex_escape, hex_char, hex_digit, simple_escape, simple_or, plain, bytes_of, Spelling, closed, unclosed, refused, behind, Spells, opening, closes, has_no_end, has_bad_escape, is_not_utf8, stands, ends_line}
-use Rattle.py_lex.specs.Written.{IsLineEnd, IsGap, blanks, comment, joined, IsLiteral, IsWord, IsSpelling, Written, nothing, gap, spelled, joined_text}
+use Rattle.py_lex.specs.declared.part.PartPiece.{PartPiece}
+use Rattle.py_lex.specs.declared.part.PartPiece.TheVariants.{Opens, Lone, Plain}
+use Rattle.py_lex.specs.Parts.{PartSpelling, part_behind, opening_brace, closing_brace, begins_with_brace, plain_piece, part_piece_at, Parts, opens_field, closes_text as part_closes_text, part_has_no_end, has_lone_brace, part_has_bad_escape, part_is_not_utf8, part_stands, part_ends_line}
+use Rattle.py_lex.specs.Parts as parts
+use Rattle.py_lex.specs.Written.{IsLineEnd, IsGap, blanks, comment, joined, IsLiteral, AreQuotes, IsStart, IsPart, IsWord, IsSpelling, Written, nothing, gap, spelled, joined_text, part_of_text}
 use Rattle.py_lex.specs.Written as written
 use Rattle.py_lex.proofs.Pieces.{chosen, feed_at, cuts_at, text_taken}
+use Rattle.py_lex.proofs.PartPieces.{part_cuts_at, part_taken}
 use Rattle.py_lex.proofs.StepUtf8.{mark_is_ascii}
 
 -- the last byte is the mark
@@ -259,6 +264,132 @@ literal_is value bytes l =
     other : l.quote ≡ 255 → ⊥
     other e = let k : (255 == 39 || 255 == 34) ≡ true = subst (λ q. (q == 39 || q == 34) ≡ true) e l.quotes in cc
 
+-- a part that is all of the bytes doesn't end with the mark
+abbrev PartIs : PartSpelling → List ℕ → Type 0
+PartIs (parts.ends field value lines []) bytes = Is bytes
+PartIs (parts.ends field value lines (x ∷ xs)) bytes = Unit {0}
+PartIs parts.unclosed bytes = Unit {0}
+PartIs (parts.refused kind lines) bytes = Unit {0}
+
+no_part_is_nothing : (style : Style) (field : Bool) (value : List ℕ) (lines : ℕ) (rest : List ℕ) → Parts style [] (parts.ends field value lines rest) → ⊥
+no_part_is_nothing style field value lines rest s = let t = part_taken style [] field value lines rest s in let p = t.parts in cc
+
+behind_part : (style : Style) (bytes used rest chars : List ℕ) (n : ℕ) (s : PartSpelling) → bytes ≡ used ++ rest → Parts style rest s → PartIs s rest → PartIs (part_behind chars n s) bytes
+behind_part style bytes used rest chars n (parts.ends field value lines []) p s is =
+    subst (λ b. Is b) (sym p) (behind_is used rest (λ e. no_part_is_nothing style field value lines [] (subst (λ r. Parts style r (parts.ends field value lines [])) e s)) is)
+behind_part style bytes used rest chars n (parts.ends field value lines (x ∷ xs)) p s is = tt
+behind_part style bytes used rest chars n parts.unclosed p s is = tt
+behind_part style bytes used rest chars n (parts.refused kind lines) p s is = tt
+
+-- what isn't plain in an f-text is a brace
+abbrev IsBrace : PartPiece → Type 0
+IsBrace Opens = Unit {0}
+IsBrace Lone = Unit {0}
+IsBrace (Plain Closes) = ⊥
+IsBrace (Plain other) = Unit {0}
+
+record Brace (p : PartPiece × List ℕ) : Type 0 where
+  is : IsBrace p.0
+
+if_brace : (t : Bool) (X Y : PartPiece × List ℕ) → Brace X → Brace Y → Brace (if t then X else Y)
+if_brace true X Y x y = x
+if_brace false X Y x y = y
+
+opening_is : (rest : List ℕ) → Brace (opening_brace rest)
+opening_is [] = record { is = tt }
+opening_is (c ∷ rest) = if_brace (c == 123) _ _ (record { is = tt }) (record { is = tt })
+
+closing_is : (bytes rest : List ℕ) → Brace (closing_brace bytes rest)
+closing_is bytes [] = record { is = tt }
+closing_is bytes (c ∷ rest) = if_brace (c == 125) _ _ (record { is = tt }) (record { is = tt })
+
+no_end : (p : PartPiece × List ℕ) (rest : List ℕ) → Brace p → p ≡ (Plain Closes, rest) → ⊥
+no_end p rest b e = subst (λ x. IsBrace x.0) e b.is
+
+plain_ends : (p : Piece × List ℕ) (rest : List ℕ) → plain_piece p ≡ (Plain Closes, rest) → p ≡ (Closes, rest)
+plain_ends (Closes, r) rest e = let same : r ≡ rest = ap (λ p. p.1) e in ap (λ x. (Closes, x)) same
+plain_ends (Unclosed, r) rest e = let k : Plain Unclosed ≡ Plain Closes = ap (λ p. p.0) e in absurd cc
+plain_ends (BadEscape, r) rest e = let k : Plain BadEscape ≡ Plain Closes = ap (λ p. p.0) e in absurd cc
+plain_ends (NotUtf8, r) rest e = let k : Plain NotUtf8 ≡ Plain Closes = ap (λ p. p.0) e in absurd cc
+plain_ends (Stands c, r) rest e = let k : Plain (Stands c) ≡ Plain Closes = ap (λ p. p.0) e in absurd cc
+plain_ends (EndsLine c, r) rest e = let k : Plain (EndsLine c) ≡ Plain Closes = ap (λ p. p.0) e in absurd cc
+
+module _ (style : Style) where
+  part_closes : (bytes rest : List ℕ) → part_piece_at style bytes ≡ (Plain Closes, rest) → piece_at style bytes ≡ (Closes, rest)
+  part_closes [] rest e = let k : Plain Unclosed ≡ Plain Closes = ap (λ p. p.0) e in absurd cc
+  part_closes (b ∷ more) rest e = by_tests (b == 123) (b == 125) (b == 92 && (style.raw && begins_with_brace more)) e
+    where
+      by_tests : (s t u : Bool) → (if s then opening_brace more else (if t then closing_brace (b ∷ more) more else (if u then (Plain (Stands (Byte 92)), more) else plain_piece (piece_at style (b ∷ more))))) ≡ (Plain Closes, rest) → piece_at style (b ∷ more) ≡ (Closes, rest)
+      by_tests true t u e = absurd (no_end (opening_brace more) rest (opening_is more) e)
+      by_tests false true u e = absurd (no_end (closing_brace (b ∷ more) more) rest (closing_is (b ∷ more) more) e)
+      by_tests false false true e = absurd (no_end (Plain (Stands (Byte 92)), more) rest (record { is = tt }) e)
+      by_tests false false false e = plain_ends (piece_at style (b ∷ more)) rest e
+
+  -- the brace of a field
+  field_opens : (bytes : List ℕ) → part_piece_at style bytes ≡ (Opens, []) → Is bytes
+  field_opens [] e = let k : Plain Unclosed ≡ Opens = ap (λ p. p.0) e in absurd cc
+  field_opens (b ∷ more) e = by_tests (b == 123) (b == 125) (b == 92 && (style.raw && begins_with_brace more)) refl e
+    where
+      alone : (rest : List ℕ) → opening_brace rest ≡ (Opens, []) → rest ≡ []
+      alone [] e = refl
+      alone (c ∷ rest) e = by_test (c == 123) e
+        where
+          by_test : (t : Bool) → ◌≡◌ {A = PartPiece × List ℕ} (if t then (Plain (Stands (Byte 123)), rest) else (Opens, c ∷ rest)) (Opens, []) → c ∷ rest ≡ []
+          by_test true e = let k : Plain (Stands (Byte 123)) ≡ Opens = ap (λ p. p.0) e in absurd cc
+          by_test false e = ap (λ p. p.1) e
+
+      by_tests : (s t u : Bool) → (b == 123) ≡ s → (if s then opening_brace more else (if t then closing_brace (b ∷ more) more else (if u then (Plain (Stands (Byte 92)), more) else plain_piece (piece_at style (b ∷ more))))) ≡ (Opens, []) → Is (b ∷ more)
+      by_tests true t u f e = let is : b ≡ 123 = eqb-true b 123 f in subst (λ r. Is (b ∷ r)) (sym (alone more e)) (last_is [] b (λ g. omega (arith, is, g)))
+      by_tests false true u f e = absurd (never_lone more e)
+        where
+          never_lone : (rest : List ℕ) → closing_brace (b ∷ more) rest ≡ (Opens, []) → ⊥
+          never_lone [] e = let k : Lone ≡ Opens = ap (λ p. p.0) e in absurd cc
+          never_lone (c ∷ rest) e = by_test (c == 125) e
+            where
+              by_test : (t : Bool) → ◌≡◌ {A = PartPiece × List ℕ} (if t then (Plain (Stands (Byte 125)), rest) else (Lone, b ∷ more)) (Opens, []) → ⊥
+              by_test true e = let k : Plain (Stands (Byte 125)) ≡ Opens = ap (λ p. p.0) e in absurd cc
+              by_test false e = let k : Lone ≡ Opens = ap (λ p. p.0) e in absurd cc
+      by_tests false false true f e = let k : Plain (Stands (Byte 92)) ≡ Opens = ap (λ p. p.0) e in absurd cc
+      by_tests false false false f e = let k : Plain (piece_at style (b ∷ more)).0 ≡ Opens = ap (λ p. p.0) e in absurd cc
+
+field_at : (style : Style) (bytes rest : List ℕ) → part_piece_at style bytes ≡ (Opens, rest) → PartIs (parts.ends true [] 0 rest) bytes
+field_at style bytes [] e = field_opens style bytes e
+field_at style bytes (x ∷ xs) e = tt
+
+end_at : (style : Style) → (style.quote ≡ 255 → ⊥) → (bytes rest : List ℕ) → part_piece_at style bytes ≡ (Plain Closes, rest) → PartIs (parts.ends false [] 0 rest) bytes
+end_at style other bytes [] e = closes_is style other bytes (part_closes style bytes [] e)
+end_at style other bytes (x ∷ xs) e = tt
+
+reads_is : {style : Style} {bytes : List ℕ} {s : PartSpelling} → (style.quote ≡ 255 → ⊥) → Parts style bytes s → PartIs s bytes
+reads_is {style = style} {bytes = bytes} other (opens_field rest e) = field_at style bytes rest e
+reads_is {style = style} {bytes = bytes} other (part_closes_text rest e) = end_at style other bytes rest e
+reads_is other (part_has_no_end rest e) = tt
+reads_is other (has_lone_brace rest e) = tt
+reads_is other (part_has_bad_escape rest e) = tt
+reads_is other (part_is_not_utf8 rest e) = tt
+reads_is {style = style} {bytes = bytes} other (part_stands {s = s} c rest e r) = let k = part_cuts_at style bytes (Plain (Stands c)) rest e in behind_part style bytes k.used rest (bytes_of c) 0 s k.parts r (reads_is other r)
+reads_is {style = style} {bytes = bytes} other (part_ends_line {s = s} c rest e r) = let k = part_cuts_at style bytes (Plain (EndsLine c)) rest e in behind_part style bytes k.used rest (bytes_of c) 1 s k.parts r (reads_is other r)
+
+no_mark : (q : ℕ) → (q == 39 || q == 34) ≡ true → q ≡ 255 → ⊥
+no_mark q is e = let k : (255 == 39 || 255 == 34) ≡ true = subst (λ x. (x == 39 || x == 34) ≡ true) e is in cc
+
+part_is : (field : Bool) (value bytes : List ℕ) → IsPart field value bytes → Is bytes
+part_is field value bytes p = reads_is (no_mark p.style.quote p.quotes) p.stands_for
+
+-- quotes alone
+quotes_are : (bytes : List ℕ) → AreQuotes bytes → (bytes ≡ [] → ⊥) × Is bytes
+quotes_are bytes (q, is, inl e) = (some, subst (λ b. Is b) (sym e) (last_is [] q (no_mark q is)))
+  where
+    some : bytes ≡ [] → ⊥
+    some f = let k : q ∷ [] ≡ [] = sym e ∙ f in cc
+quotes_are bytes (q, is, inr e) = (some, subst (λ b. Is b) (sym e) (last_is (q ∷ q ∷ []) q (no_mark q is)))
+  where
+    some : bytes ≡ [] → ⊥
+    some f = let k : q ∷ q ∷ q ∷ [] ≡ [] = sym e ∙ f in cc
+
+start_is : (bytes : List ℕ) → IsStart bytes → Is bytes
+start_is bytes s = let q = quotes_are s.quotes s.quoted in subst (λ b. Is b) (sym s.parts) (behind_is s.front s.quotes q.0 q.1)
+
 -- by the table
 word_is : (k : Keyword) → list_all is_name_byte (word_of k) ≡ true
 word_is FalseValue = refl
@@ -306,6 +437,9 @@ spelling_is (token.Integer value) bytes s = all_are is_name_byte refl bytes s.0
 spelling_is (token.Text value) bytes s = literal_is value bytes s
 spelling_is (token.Word k) bytes s = subst (λ b. Is b) (sym s) (all_are is_name_byte refl (word_of k) (word_is k))
 spelling_is (token.Mark m) bytes s = subst (λ b. Is b) (sym s) (all_are (λ b. nat_lt b 128) refl (mark_text m) (mark_is_ascii m))
+spelling_is token.FStart bytes s = start_is bytes s
+spelling_is (token.FPart value) bytes s = absurd s
+spelling_is token.FEnd bytes s = absurd s
 spelling_is token.Newline bytes s = elim s [ inl e ↦ line_end_is bytes e | inr e ↦ none bytes e ]
 spelling_is token.Indent bytes s = none bytes s
 spelling_is token.Dedent bytes s = none bytes s
@@ -318,3 +452,4 @@ written_is w front e = is w (front, e)
     is (gap tokens bytes between g w) = both_are bytes between (is w) (gap_is g)
     is (spelled tokens t bytes spelling s w) = both_are bytes spelling (is w) (spelling_is t.kind spelling s)
     is (joined_text tokens line front value bytes spelling l w) = both_are bytes spelling (is w) (literal_is value spelling l)
+    is (part_of_text tokens line after field value bytes spelling p w) = both_are bytes spelling (is w) (part_is field value spelling p)

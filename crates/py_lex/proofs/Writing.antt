@@ -1,5 +1,5 @@
 -- What is read of a script is written as its tokens are, with gaps between.
-use Rattle.std.proofs.Common.{◌≡◌, ℕ, zero, suc, ◌-◌, Bool, true, false, ◌&&◌, ◌||◌, ◌==◌, nat_eq, List, [], ◌∷◌, ◌++◌, length, take, drop, refl, sym, ap, ◌∙◌, subst, append_assoc, add-one, Option, Some, None, inl, inr}
+use Rattle.std.proofs.Common.{◌≡◌, ℕ, zero, suc, ◌+◌, ◌-◌, Bool, true, false, ◌&&◌, ◌||◌, ◌==◌, nat_eq, List, [], ◌∷◌, ◌++◌, length, take, drop, refl, sym, ap, ◌∙◌, subst, append_assoc, add-one, Option, Some, None, inl, inr}
 use Rattle.std.specs.Prelude.{if◌then◌else◌, ◌⊎◌, nat_lt, Result, Ok, Err, IfOk}
 use Rattle.std.specs.Str.{is_utf8}
 use Rattle.std.specs.Str.Lossy.{utf8_valid_len}
@@ -35,16 +35,23 @@ use Rattle.py_lex.specs.Levels.{level_of}
 use Rattle.py_lex.specs.Marks.{marks, mark_at}
 use Rattle.py_lex.specs.Numbers.{number_of}
 use Rattle.py_lex.specs.Texts.{Spelling, closed, unclosed, refused, Spells, opening}
-use Rattle.py_lex.specs.Tokens.{Read, takes, refuses, class_of, lead_of, quoted, is_r, is_b_or_f, named, word_or, text_read, is_float, integer_read, is_fraction, mark_read, TextAt, LeadAt, QuotedAt, ClassAt, TokenAt}
-use Rattle.py_lex.specs.Steps.{State, Move, goes, ends, stops, token_at, text_behind, with_text, added, dedents, next_line, line_end, level_move, finish, read_move, TokenMove, GapMove, RestMove, Steps, start}
+use Rattle.py_token.specs.declared.mark.Mark.TheVariants.{CloseBrace}
+use Rattle.py_lex.specs.declared.reader.OpenText.{OpenText}
+use Rattle.py_lex.specs.declared.reader.Mode.{Mode}
+use Rattle.py_lex.specs.declared.reader.Mode.TheVariants.{Line, Part, Field}
+use Rattle.py_lex.specs.Parts.{PartSpelling, Parts}
+use Rattle.py_lex.specs.Parts as parts
+use Rattle.py_lex.specs.Tokens.{Read, takes, begins, refuses, begun_read, class_of, lead_of, quoted, is_r, is_b, is_f, ends_field, field_class, field_read, named, word_or, text_read, is_float, integer_read, is_fraction, mark_read, TextAt, LeadAt, QuotedAt, ClassAt, TokenAt}
+use Rattle.py_lex.specs.Steps.{State, Move, goes, ends, stops, token_at, text_behind, with_text, added, dedents, next_line, line_end, level_move, finish, read_move, part_move, mode_behind, field_move, field_token_move, TokenMove, GapMove, RestMove, ModeMove, Steps, start}
 use Rattle.py_lex.specs.Lexes.{Outcome, lexed, faulty, Reads, goes_on, ends_with, stops_at, ReadIf, IsRead, Agrees, Lexes, marked, without_order_mark}
-use Rattle.py_lex.specs.Written.{IsLineEnd, IsGap, blanks, comment, joined, IsPrefix, IsLiteral, IsWord, IsSpelling, Written, nothing, gap, spelled, joined_text}
+use Rattle.py_lex.specs.Written.{IsLineEnd, IsGap, blanks, comment, joined, IsPrefix, IsLiteral, IsFormatPrefix, AreQuotes, IsStart, IsPart, IsWord, IsSpelling, Written, nothing, gap, spelled, joined_text, part_of_text}
 use Rattle.py_lex.specs.Written as written
 use Rattle.scons_base.proofs.Runs.{run_passes}
 use Rattle.py_lex.proofs.Signs.{find_passes}
 use Rattle.py_lex.proofs.TokenLists.{dedents_more, with_text-append}
 use Rattle.py_lex.proofs.Unmarked.{written_is}
 use Rattle.py_lex.proofs.Pieces.{ends_line_at, text_taken}
+use Rattle.py_lex.proofs.PartPieces.{part_taken}
 
 -- what stands in front of the rest
 record Front (P : List ℕ → Type 0) (bytes rest : List ℕ) : Type 0 where
@@ -114,6 +121,7 @@ gap_front (b ∷ rest) =
 -- a token
 abbrev ReadIs : Read → List ℕ → Type 0
 ReadIs (takes kind lines depth rest) bytes = Front (IsSpelling kind) bytes rest
+ReadIs (begins style rest) bytes = Front IsStart bytes rest × ((style.quote == 39 || style.quote == 34) ≡ true)
 ReadIs (refuses kind lines) bytes = Unit {0}
 
 -- the quotes that open a text open the same one where it is cut off
@@ -181,22 +189,49 @@ name_is : (name : List ℕ) (r : Option Keyword) → IsWord name → keyword_of 
 name_is name (Some k) w e = sym (same_text (word_of k) name (sym (find_passes (λ x. pointwise nat_eq (word_of x) name) keywords k e)))
 name_is name None w e = (w, refl)
 
+-- the quotes in front of an f-text
+record Quotes (q : ℕ) (inside : List ℕ) (p : Style × List ℕ) : Type 0 where
+  behind : List ℕ
+  parts : inside ≡ behind ++ p.1
+  are : AreQuotes (q ∷ behind)
+  quote : (p.0.quote == 39 || p.0.quote == 34) ≡ true
+
+opening_quotes : (raw : Bool) (q : ℕ) (inside : List ℕ) → (q == 39 || q == 34) ≡ true → Quotes q inside (opening raw q inside)
+opening_quotes raw q [] is = record { behind = []; parts = refl; are = (q, is, inl refl); quote = is }
+opening_quotes raw q (a ∷ []) is = record { behind = []; parts = refl; are = (q, is, inl refl); quote = is }
+opening_quotes raw q (a ∷ b ∷ rest) is = by_test (a == q && b == q) refl
+  where
+    both_true : (s t : Bool) → (s && t) ≡ true → (s ≡ true) × (t ≡ true)
+    both_true true true e = (refl, refl)
+    both_true true false e = cc
+    both_true false t e = cc
+
+    by_test : (t : Bool) → (a == q && b == q) ≡ t → Quotes q (a ∷ b ∷ rest) (opened t raw q a b rest)
+    by_test true e =
+        let s = both_true _ _ e in
+        let one : a ≡ q = eqb-true a q s.0 in
+        let two : b ≡ q = eqb-true b q s.1 in
+        record { behind = a ∷ b ∷ []; parts = refl; are = (q, is, inr (ap (λ x. q ∷ x ∷ b ∷ []) one ∙ ap (λ x. q ∷ q ∷ x ∷ []) two)); quote = is }
+    by_test false e = record { behind = []; parts = refl; are = (q, is, inl refl); quote = is }
+
 raw_prefix : (name : List ℕ) → lead_of name ≡ lead.Raw → IsPrefix true name
 raw_prefix [] e = cc
 raw_prefix (a ∷ []) e = by_test (is_r a) refl e
   where
-    other : (t : Bool) → (if t then lead.Refused else lead.Name) ≡ lead.Raw → ⊥
-    other true e = cc
-    other false e = cc
+    other : (s t : Bool) → (if s then lead.Format else (if t then lead.Refused else lead.Name)) ≡ lead.Raw → ⊥
+    other true t e = cc
+    other false true e = cc
+    other false false e = cc
 
-    by_test : (t : Bool) → is_r a ≡ t → (if t then lead.Raw else (if is_b_or_f a || (a == 117 || a == 85) then lead.Refused else lead.Name)) ≡ lead.Raw → IsPrefix true (a ∷ [])
+    by_test : (t : Bool) → is_r a ≡ t → (if t then lead.Raw else (if is_f a then lead.Format else (if is_b a || (a == 117 || a == 85) then lead.Refused else lead.Name))) ≡ lead.Raw → IsPrefix true (a ∷ [])
     by_test true t e = (a, t, refl)
-    by_test false t e = absurd (other _ e)
-raw_prefix (a ∷ b ∷ []) e = absurd (other _ e)
+    by_test false t e = absurd (other _ _ e)
+raw_prefix (a ∷ b ∷ []) e = absurd (other _ _ e)
   where
-    other : (t : Bool) → (if t then lead.Refused else lead.Name) ≡ lead.Raw → ⊥
-    other true e = cc
-    other false e = cc
+    other : (s t : Bool) → (if s then lead.RawFormat else (if t then lead.Refused else lead.Name)) ≡ lead.Raw → ⊥
+    other true t e = cc
+    other false true e = cc
+    other false false e = cc
 raw_prefix (a ∷ b ∷ c ∷ rest) e = cc
 
 quote_behind : (bytes : List ℕ) (q : ℕ) (inside : List ℕ) → quoted bytes ≡ Some (q, inside) → (bytes ≡ q ∷ inside) × ((q == 39 || q == 34) ≡ true)
@@ -213,8 +248,19 @@ module _ (depth : ℕ) (bytes name rest : List ℕ) (word : IsWord name) (parts 
   named_front : (t : Read) → t ≡ takes (named name) 0 depth rest → ReadIs t bytes
   named_front t x = subst (λ r. ReadIs r bytes) (sym x) (record { front = name; parts = parts; is = name_is name (keyword_of name) word refl })
 
+  start_front : (raw : Bool) (q : ℕ) (inside : List ℕ) (t : Read) → IsFormatPrefix name → rest ≡ q ∷ inside → (q == 39 || q == 34) ≡ true → t ≡ begun_read raw q inside → ReadIs t bytes
+  start_front raw q inside t prefixed e quotes x =
+      let o = opening_quotes raw q inside quotes in
+      subst (λ r. ReadIs r bytes) (sym x) (record {
+        front = name ++ q ∷ o.behind;
+        parts = parts ∙ ap (λ r. name ++ r) e ∙ ap (λ r. name ++ q ∷ r) o.parts ∙ sym (append_assoc name (q ∷ o.behind) (opening raw q inside).1);
+        is = record { front = name; quotes = q ∷ o.behind; parts = refl; prefixed = prefixed; quoted = o.are };
+      }, o.quote)
+
   lead_front : (l : Lead) (q : ℕ) (inside : List ℕ) (t : Read) → lead_of name ≡ l → rest ≡ q ∷ inside → (q == 39 || q == 34) ≡ true → LeadAt l depth q inside name rest t → ReadIs t bytes
   lead_front lead.Raw q inside t l e quotes x = subst (λ b. ReadIs t b) (sym (parts ∙ ap (λ r. name ++ r) e)) (text_front true q depth inside name (raw_prefix name l) quotes t x)
+  lead_front lead.Format q inside t l e quotes x = start_front false q inside t (inl l) e quotes x
+  lead_front lead.RawFormat q inside t l e quotes x = start_front true q inside t (inr l) e quotes x
   lead_front lead.Refused q inside t l e quotes x = subst (λ r. ReadIs r bytes) (sym x) tt
   lead_front lead.Name q inside t l e quotes x = named_front t x
 
@@ -288,6 +334,9 @@ module _ (line : ℕ) (value spelling : List ℕ) (is : IsLiteral value spelling
   behind_written front l (token.Integer n) w = apart front (token_at l (token.Integer n)) w
   behind_written front l (token.Word k) w = apart front (token_at l (token.Word k)) w
   behind_written front l (token.Mark m) w = apart front (token_at l (token.Mark m)) w
+  behind_written front l token.FStart w = apart front (token_at l token.FStart) w
+  behind_written front l (token.FPart v) w = apart front (token_at l (token.FPart v)) w
+  behind_written front l token.FEnd w = apart front (token_at l token.FEnd) w
   behind_written front l token.Newline w = apart front (token_at l token.Newline) w
   behind_written front l token.Indent w = apart front (token_at l token.Indent) w
   behind_written front l token.Dedent w = apart front (token_at l token.Dedent) w
@@ -305,15 +354,25 @@ added_written (token.Name n) tokens line bytes spelling is w = spelled tokens (t
 added_written (token.Integer n) tokens line bytes spelling is w = spelled tokens (token_at line (token.Integer n)) bytes spelling is w
 added_written (token.Word k) tokens line bytes spelling is w = spelled tokens (token_at line (token.Word k)) bytes spelling is w
 added_written (token.Mark m) tokens line bytes spelling is w = spelled tokens (token_at line (token.Mark m)) bytes spelling is w
+added_written token.FStart tokens line bytes spelling is w = spelled tokens (token_at line token.FStart) bytes spelling is w
+added_written (token.FPart v) tokens line bytes spelling is w = absurd is
+added_written token.FEnd tokens line bytes spelling is w = absurd is
 added_written token.Newline tokens line bytes spelling is w = spelled tokens (token_at line token.Newline) bytes spelling is w
 added_written token.Indent tokens line bytes spelling is w = spelled tokens (token_at line token.Indent) bytes spelling is w
 added_written token.Dedent tokens line bytes spelling is w = spelled tokens (token_at line token.Dedent) bytes spelling is w
+
+-- an f-text that is open has a quote
+abbrev HasQuote : Mode → Type 0
+HasQuote Line = Unit {0}
+HasQuote (Part text) = (text.style.quote == 39 || text.style.quote == 34) ≡ true
+HasQuote (Field text inner) = (text.style.quote == 39 || text.style.quote == 34) ≡ true
 
 -- what is read so far, and what is left
 record WrittenTo (script : List ℕ) (s : State) : Type 0 where
   front : List ℕ
   parts : script ≡ front ++ s.rest
   is : Written s.tokens front
+  quote : HasQuote s.mode
 
 abbrev MoveIs : List ℕ → Move → Type 0
 MoveIs script (goes t) = WrittenTo script t
@@ -331,25 +390,25 @@ if_state false script X Y x y = y
 cut_on : (script front rest more after : List ℕ) → script ≡ front ++ rest → rest ≡ more ++ after → script ≡ (front ++ more) ++ after
 cut_on script front rest more after p q = p ∙ ap (λ r. front ++ r) q ∙ sym (append_assoc front more after)
 
-next_written : (script : List ℕ) (s : State) (after front : List ℕ) → script ≡ front ++ after → Written s.tokens front → WrittenTo script (next_line s after)
-next_written script s after front p w =
+next_written : (script : List ℕ) (s : State) (after front : List ℕ) → HasQuote s.mode → script ≡ front ++ after → Written s.tokens front → WrittenTo script (next_line s after)
+next_written script s after front q p w =
     let b = run_front is_blank after in
-    record { front = front ++ b.front; parts = cut_on script front after b.front (after_run is_blank after) p b.parts; is = gap s.tokens front b.front (blanks b.is) w }
+    record { front = front ++ b.front; parts = cut_on script front after b.front (after_run is_blank after) p b.parts; is = gap s.tokens front b.front (blanks b.is) w; quote = q }
 
 module _ (script : List ℕ) (s : State) (w : WrittenTo script s) where
   gap_written : (after : List ℕ) (f : Front IsGap s.rest after) → script ≡ (w.front ++ f.front) ++ after
   gap_written after f = cut_on script w.front s.rest f.front after w.parts f.parts
 
   end_written : (p : Place) (after : List ℕ) → Front IsLineEnd s.rest after → WrittenTo script (line_end p s after)
-  end_written LineStart after f = next_written script s after (w.front ++ f.front) (cut_on script w.front s.rest f.front after w.parts f.parts) (gap s.tokens w.front f.front (written.line_end f.is) w.is)
+  end_written LineStart after f = next_written script s after (w.front ++ f.front) w.quote (cut_on script w.front s.rest f.front after w.parts f.parts) (gap s.tokens w.front f.front (written.line_end f.is) w.is)
   end_written (Inside depth) after f =
       if_state (depth == 0) script _ _
-      (next_written script (record s { tokens = s.tokens ++ token_at s.line token.Newline ∷ [] }) after (w.front ++ f.front) (cut_on script w.front s.rest f.front after w.parts f.parts) (spelled s.tokens (token_at s.line token.Newline) w.front f.front (inl f.is) w.is))
-      (record { front = w.front ++ f.front; parts = cut_on script w.front s.rest f.front after w.parts f.parts; is = gap s.tokens w.front f.front (written.line_end f.is) w.is })
+      (next_written script (record s { tokens = s.tokens ++ token_at s.line token.Newline ∷ [] }) after (w.front ++ f.front) w.quote (cut_on script w.front s.rest f.front after w.parts f.parts) (spelled s.tokens (token_at s.line token.Newline) w.front f.front (inl f.is) w.is))
+      (record { front = w.front ++ f.front; parts = cut_on script w.front s.rest f.front after w.parts f.parts; is = gap s.tokens w.front f.front (written.line_end f.is) w.is; quote = w.quote })
 
   level_written : (l : Level) → MoveIs script (level_move l s)
-  level_written (level.Closes count) = record { front = w.front; parts = w.parts; is = dedents_written s.line count s.tokens w.front w.is }
-  level_written level.Opens = record { front = w.front; parts = w.parts; is = silent s.tokens w.front (token_at s.line token.Indent) refl w.is }
+  level_written (level.Closes count) = record { front = w.front; parts = w.parts; is = dedents_written s.line count s.tokens w.front w.is; quote = w.quote }
+  level_written level.Opens = record { front = w.front; parts = w.parts; is = silent s.tokens w.front (token_at s.line token.Indent) refl w.is; quote = w.quote }
   level_written (level.Refused kind) = tt
 
   read_written : (t : Read) → ReadIs t s.rest → MoveIs script (read_move s t)
@@ -357,6 +416,13 @@ module _ (script : List ℕ) (s : State) (w : WrittenTo script s) where
     front = w.front ++ f.front;
     parts = cut_on script w.front s.rest f.front rest w.parts f.parts;
     is = added_written kind s.tokens s.line w.front f.front f.is w.is;
+    quote = w.quote;
+  }
+  read_written (begins style rest) f = record {
+    front = w.front ++ f.0.front;
+    parts = cut_on script w.front s.rest f.0.front rest w.parts f.0.parts;
+    is = spelled s.tokens (token_at s.line token.FStart) w.front f.0.front f.0.is w.is;
+    quote = f.1;
   }
   read_written (refuses kind lines) f = tt
 
@@ -365,9 +431,9 @@ module _ (script : List ℕ) (s : State) (w : WrittenTo script s) where
   token_written (Inside depth) m x = subst (λ n. MoveIs script n) (sym x.1.1) (read_written x.0 (token_front depth s.rest x.0 x.1.0))
 
   gap_move_written : (g : Gap) (after : List ℕ) (m : Move) → FrontGap g s.rest after → GapMove g after s m → MoveIs script m
-  gap_move_written Blanks after m f x = subst (λ n. MoveIs script n) (sym x) (record { front = w.front ++ f.front; parts = gap_written after f; is = gap s.tokens w.front f.front f.is w.is })
-  gap_move_written Comment after m f x = subst (λ n. MoveIs script n) (sym x) (record { front = w.front ++ f.front; parts = gap_written after f; is = gap s.tokens w.front f.front f.is w.is })
-  gap_move_written Joined after m f x = subst (λ n. MoveIs script n) (sym x) (record { front = w.front ++ f.front; parts = gap_written after f; is = gap s.tokens w.front f.front f.is w.is })
+  gap_move_written Blanks after m f x = subst (λ n. MoveIs script n) (sym x) (record { front = w.front ++ f.front; parts = gap_written after f; is = gap s.tokens w.front f.front f.is w.is; quote = w.quote })
+  gap_move_written Comment after m f x = subst (λ n. MoveIs script n) (sym x) (record { front = w.front ++ f.front; parts = gap_written after f; is = gap s.tokens w.front f.front f.is w.is; quote = w.quote })
+  gap_move_written Joined after m f x = subst (λ n. MoveIs script n) (sym x) (record { front = w.front ++ f.front; parts = gap_written after f; is = gap s.tokens w.front f.front f.is w.is; quote = w.quote })
   gap_move_written LineEnd after m f x = subst (λ n. MoveIs script n) (sym x) (end_written s.place after f)
   gap_move_written Nothing after m f x = token_written s.place m x
 
@@ -385,8 +451,101 @@ module _ (script : List ℕ) (s : State) (w : WrittenTo script s) where
       let g = gap_front (b ∷ bytes) in
       gap_move_written (gap_at (b ∷ bytes)).0 (gap_at (b ∷ bytes)).1 m (subst (λ r. FrontGap (gap_at (b ∷ bytes)).0 r (gap_at (b ∷ bytes)).1) (sym e) g.is) x
 
+  mode_quote : (text : OpenText) (field : Bool) → HasQuote (Part text) → HasQuote (mode_behind text field)
+  mode_quote text true q = q
+  mode_quote text false q = tt
+
+  part_written : (text : OpenText) (p : PartSpelling) → HasQuote (Part text) → Parts text.style s.rest p → MoveIs script (part_move text s p)
+  part_written text (parts.ends field value lines rest) q r =
+      let t = part_taken text.style s.rest field value lines rest r in
+      record {
+        front = w.front ++ t.first ∷ t.more;
+        parts = cut_on script w.front s.rest (t.first ∷ t.more) rest w.parts t.parts;
+        is = part_of_text s.tokens s.line (s.line + lines) field value w.front (t.first ∷ t.more) (record { style = text.style; lines = lines; quotes = q; stands_for = t.reads }) w.is;
+        quote = mode_quote text field q;
+      }
+  part_written text parts.unclosed q r = tt
+  part_written text (parts.refused kind lines) q r = tt
+
+  -- a token of a field
+  abbrev FieldReadIs : Read → Type 0
+  FieldReadIs (takes kind lines inner rest) = Front (IsSpelling kind) s.rest rest
+  FieldReadIs (begins style rest) = Unit {0}
+  FieldReadIs (refuses kind lines) = Unit {0}
+
+  field_token_written : (text : OpenText) (t : Read) → HasQuote (Part text) → FieldReadIs t → MoveIs script (field_token_move text s t)
+  field_token_written text (takes kind lines inner rest) q f = record {
+    front = w.front ++ f.front;
+    parts = cut_on script w.front s.rest f.front rest w.parts f.parts;
+    is = spelled s.tokens (token_at s.line kind) w.front f.front f.is w.is;
+    quote = q;
+  }
+  field_token_written text (begins style rest) q f = tt
+  field_token_written text (refuses kind lines) q f = tt
+
+  field_read_if : (t : Bool) (X Y : Read) → FieldReadIs X → FieldReadIs Y → FieldReadIs (if t then X else Y)
+  field_read_if true X Y x y = x
+  field_read_if false X Y x y = y
+
+  field_integer : (inner : ℕ) (spelling rest : List ℕ) (r : Option ℕ) → IsWord spelling → s.rest ≡ spelling ++ rest → number_of spelling ≡ r → FieldReadIs (integer_read inner rest r)
+  field_integer inner spelling rest (Some value) word p e = record { front = spelling; parts = p; is = (word, e) }
+  field_integer inner spelling rest None word p e = tt
+
+  field_mark : (inner : ℕ) (r : Option Mark) → mark_at s.rest ≡ r → FieldReadIs (mark_read inner s.rest r)
+  field_mark inner (Some m) e =
+      let n = length (mark_text m) in
+      let same : mark_text m ≡ take n s.rest = same_text (mark_text m) (take n s.rest) (sym (find_passes (λ k. starts_with nat_eq s.rest (mark_text k)) marks m e)) in
+      record { front = mark_text m; parts = sym (take-append-drop n s.rest) ∙ ap (λ x. x ++ drop n s.rest) (sym same); is = refl }
+  field_mark inner None e = tt
+
+  field_class_written : (k : Class) (inner : ℕ) → FieldReadIs (field_class k inner s.rest)
+  field_class_written Quote inner = tt
+  field_class_written Digit inner =
+      let n = run_front is_name_byte s.rest in
+      field_read_if (is_float (front_run is_name_byte s.rest) (after_run is_name_byte s.rest)) _ _ tt (field_integer inner (front_run is_name_byte s.rest) (after_run is_name_byte s.rest) (number_of (front_run is_name_byte s.rest)) n.is n.parts refl)
+  field_class_written Letter inner =
+      let n = run_front is_name_byte s.rest in
+      record { front = front_run is_name_byte s.rest; parts = n.parts; is = name_is (front_run is_name_byte s.rest) (keyword_of (front_run is_name_byte s.rest)) n.is refl }
+  field_class_written NoText inner = tt
+  field_class_written Sign inner = field_read_if (ends_field s.rest) _ _ tt (field_read_if (is_fraction s.rest) _ _ tt (field_mark inner (mark_at s.rest) refl))
+
+  field_read_written : (inner b : ℕ) (bytes : List ℕ) → s.rest ≡ b ∷ bytes → FieldReadIs (field_read inner (b ∷ bytes))
+  field_read_written inner b bytes e = subst (λ r. FieldReadIs (field_class (class_of b) inner r)) e (field_class_written (class_of b) inner)
+
+  if_true_move : (t : Bool) (X Y : Move) → (t ≡ true → MoveIs script X) → (t ≡ false → MoveIs script Y) → MoveIs script (if t then X else Y)
+  if_true_move true X Y x y = x refl
+  if_true_move false X Y x y = y refl
+
+  first_true : (c d : Bool) → (c && d) ≡ true → c ≡ true
+  first_true true d e = refl
+  first_true false d e = cc
+
+  field_written : (text : OpenText) (inner : ℕ) (rest : List ℕ) → s.rest ≡ rest → HasQuote (Part text) → HasQuote s.mode → MoveIs script (field_move text inner s rest)
+  field_written text inner [] e q q1 = tt
+  field_written text inner (b ∷ bytes) e q q1 =
+      if_true_move (is_blank b) _ _
+      (λ t. let f = blanks_front b bytes t in record {
+        front = w.front ++ f.front;
+        parts = cut_on script w.front s.rest f.front (after_run is_blank bytes) w.parts (e ∙ f.parts);
+        is = gap s.tokens w.front f.front f.is w.is;
+        quote = q1;
+      })
+      (λ _. if_true_move (b == 125 && inner == 0) _ _
+      (λ t. record {
+        front = w.front ++ 125 ∷ [];
+        parts = cut_on script w.front s.rest (125 ∷ []) bytes w.parts (e ∙ ap (λ x. x ∷ bytes) (eqb-true b 125 (first_true _ _ t)));
+        is = spelled s.tokens (token_at s.line (token.Mark CloseBrace)) w.front (125 ∷ []) refl w.is;
+        quote = q;
+      })
+      (λ _. field_token_written text (field_read inner (b ∷ bytes)) q (field_read_written inner b bytes e)))
+
+  mode_written : (mode : Mode) (m : Move) → s.mode ≡ mode → ModeMove mode s m → MoveIs script m
+  mode_written Line m e x = rest_written s.rest m refl x
+  mode_written (Part text) m e x = subst (λ n. MoveIs script n) (sym x.1.1) (part_written text x.0 (subst (λ k. HasQuote k) e w.quote) x.1.0)
+  mode_written (Field text inner) m e x = subst (λ n. MoveIs script n) (sym x) (field_written text inner s.rest refl (subst (λ k. HasQuote k) e w.quote) w.quote)
+
   step_written : (m : Move) → Steps s m → MoveIs script m
-  step_written m x = rest_written s.rest m refl x
+  step_written m x = mode_written s.mode m refl x
 
 abbrev OutcomeIs : List ℕ → Outcome → Type 0
 OutcomeIs script (lexed tokens) = Written tokens script
@@ -398,7 +557,7 @@ reads_written script {s = s} (ends_with tokens x) w = step_written script s w (e
 reads_written script (stops_at line kind x) w = tt
 
 begins_written : (script : List ℕ) → WrittenTo script (start script)
-begins_written script = let b = run_front is_blank script in record { front = b.front; parts = b.parts; is = gap [] [] b.front (blanks b.is) nothing }
+begins_written script = let b = run_front is_blank script in record { front = b.front; parts = b.parts; is = gap [] [] b.front (blanks b.is) nothing; quote = tt }
 
 -- a script that has tokens holds no mark
 unmarked_written : (utf8 : Bool) (bytes front : List ℕ) (tokens : List Token) → Written tokens (if utf8 then bytes else front ++ 255 ∷ []) → Written tokens bytes

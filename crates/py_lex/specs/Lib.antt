@@ -3,6 +3,7 @@ pub mod Gaps
 pub mod Numbers
 pub mod Marks
 pub mod Texts
+pub mod Parts
 pub mod Tokens
 pub mod Levels
 pub mod Steps

@@ -1,5 +1,5 @@
 -- A script is read step by step: a gap or a token a step.
-use Rattle.std.specs.Prelude.{◌≡◌, ℕ, ◌+◌, ◌-◌, ◌==◌, List, [], ◌∷◌, ◌++◌, length, drop, replicate, if◌then◌else◌}
+use Rattle.std.specs.Prelude.{◌≡◌, ℕ, ◌+◌, ◌-◌, Bool, true, false, ◌&&◌, ◌==◌, List, [], ◌∷◌, ◌++◌, length, drop, replicate, if◌then◌else◌}
 use Rattle.py_token.specs.declared.token.Token.{Token}
 use Rattle.py_token.specs.declared.token.TokenKind.{TokenKind}
 use Rattle.py_token.specs.declared.token.TokenKind.TheVariants as token
@@ -11,15 +11,22 @@ use Rattle.py_lex.specs.declared.levels.Level.{Level}
 use Rattle.py_lex.specs.declared.levels.Level.TheVariants.{Closes, Opens, Refused}
 use Rattle.py_lex.specs.declared.reader.Place.{Place}
 use Rattle.py_lex.specs.declared.reader.Place.TheVariants.{LineStart, Inside}
+use Rattle.py_lex.specs.declared.reader.OpenText.{OpenText}
+use Rattle.py_lex.specs.declared.reader.Mode.{Mode}
+use Rattle.py_lex.specs.declared.reader.Mode.TheVariants.{Line, Part, Field}
+use Rattle.py_token.specs.declared.mark.Mark.TheVariants.{OpenBrace, CloseBrace}
 use Rattle.py_lex.specs.Bytes.{is_blank}
 use Rattle.scons_base.specs.Runs.{front_run, after_run}
 use Rattle.py_lex.specs.Gaps.{gap_at}
 use Rattle.py_lex.specs.Levels.{level_of}
-use Rattle.py_lex.specs.Tokens.{Read, takes, refuses, TokenAt}
+use Rattle.py_lex.specs.Parts.{PartSpelling, Parts}
+use Rattle.py_lex.specs.Parts as parts
+use Rattle.py_lex.specs.Tokens.{Read, takes, begins, refuses, TokenAt, field_read}
 
--- a script that is read up to a place: the place, the indentation of the line, the open levels, innermost first, the
--- line's number, what is left, and the tokens so far
+-- a script that is read up to a place: whether an f-text is open there, the place, the indentation of the line, the open
+-- levels, innermost first, the line's number, what is left, and the tokens so far
 pub record State : Type 0 where
+  pub mode : Mode
   pub place : Place
   pub indentation : List ℕ
   pub levels : List (List ℕ)
@@ -93,6 +100,12 @@ finish (Inside depth) s =
 abbrev pub read_move : State → Read → Move
 read_move s (takes kind lines depth rest) =
     goes (record s { place = Inside depth; line = s.line + lines; rest = rest; tokens = added kind s.tokens s.line })
+read_move s (begins style rest) =
+    goes (record s {
+      mode = Part (record { style = style; line = s.line });
+      rest = rest;
+      tokens = s.tokens ++ token_at s.line token.FStart ∷ [];
+    })
 read_move s (refuses kind lines) = stops (s.line + lines) kind
 
 abbrev pub TakesToken : ℕ → State → Move → Type 0
@@ -113,13 +126,72 @@ abbrev pub RestMove : List ℕ → State → Move → Type 0
 RestMove [] s m = m ≡ finish s.place s
 RestMove (b ∷ bytes) s m = GapMove (gap_at (b ∷ bytes)).0 (gap_at (b ∷ bytes)).1 s m
 
+-- the characters of a part, if there are any
+abbrev pub part_tokens : ℕ → List ℕ → List Token
+part_tokens line [] = []
+part_tokens line (b ∷ value) = token_at line (token.FPart (b ∷ value)) ∷ []
+
+-- what stands behind a part: the brace of a field, or the end of the f-text
+abbrev pub end_of_part : Bool → TokenKind
+end_of_part true = token.Mark OpenBrace
+end_of_part false = token.FEnd
+
+abbrev pub mode_behind : OpenText → Bool → Mode
+mode_behind text true = Field text 0
+mode_behind text false = Line
+
+-- a part of an f-text (2.4.3); an f-text that isn't closed is a fault where it begins
+abbrev pub part_move : OpenText → State → PartSpelling → Move
+part_move text s (parts.ends field value lines rest) =
+    goes (record s {
+      mode = mode_behind text field;
+      line = s.line + lines;
+      rest = rest;
+      tokens = s.tokens ++ part_tokens s.line value ++ token_at (s.line + lines) (end_of_part field) ∷ [];
+    })
+part_move text s parts.unclosed = stops text.line kinds.Unclosed
+part_move text s (parts.refused kind lines) = stops (s.line + lines) kind
+
+abbrev pub TakesPart : OpenText → State → Move → Type 0
+TakesPart text s m = (p : PartSpelling) × (Parts text.style s.rest p × (m ≡ part_move text s p))
+
+-- a token of a field
+abbrev pub field_token_move : OpenText → State → Read → Move
+field_token_move text s (takes kind lines inner rest) =
+    goes (record s {
+      mode = Field text inner;
+      line = s.line + lines;
+      rest = rest;
+      tokens = s.tokens ++ token_at s.line kind ∷ [];
+    })
+field_token_move text s (begins style rest) = stops s.line kinds.BadField
+field_token_move text s (refuses kind lines) = stops (s.line + lines) kind
+
+-- the end of a field: a closing brace, where no bracket of the field is open
+abbrev pub field_over : OpenText → State → List ℕ → Move
+field_over text s rest =
+    goes (record s { mode = Part text; rest = rest; tokens = s.tokens ++ token_at s.line (token.Mark CloseBrace) ∷ [] })
+
+abbrev pub field_move : OpenText → ℕ → State → List ℕ → Move
+field_move text inner s [] = stops text.line kinds.Unclosed
+field_move text inner s (b ∷ bytes) =
+    if is_blank b then goes (record s { rest = after_run is_blank bytes })
+    else (if b == 125 && inner == 0 then field_over text s bytes
+    else field_token_move text s (field_read inner (b ∷ bytes)))
+
+abbrev pub ModeMove : Mode → State → Move → Type 0
+ModeMove Line s m = RestMove s.rest s m
+ModeMove (Part text) s m = TakesPart text s m
+ModeMove (Field text inner) s m = m ≡ field_move text inner s s.rest
+
 -- the step at a state
 abbrev pub Steps : State → Move → Type 0
-Steps s m = RestMove s.rest s m
+Steps s m = ModeMove s.mode s m
 
 -- nothing is read yet
 abbrev pub start : List ℕ → State
 start script = record {
+  mode = Line;
   place = LineStart;
   indentation = front_run is_blank script;
   levels = [] ∷ [];

@@ -1,5 +1,5 @@
 -- The tokens of a line: sections 2.3 to 2.6 of the Python language reference.
-use Rattle.std.specs.Prelude.{◌≡◌, ℕ, ◌+◌, ◌-◌, Bool, true, false, ◌||◌, ◌&&◌, ◌==◌, List, [], ◌∷◌, length, drop, Option, None, Some, if◌then◌else◌}
+use Rattle.std.specs.Prelude.{◌≡◌, ℕ, ◌+◌, ◌-◌, Bool, true, false, ◌||◌, ◌&&◌, ◌==◌, List, [], ◌∷◌, length, drop, Option, None, Some, is_some, if◌then◌else◌}
 use Rattle.std.specs.List.{list_all}
 use Rattle.std.specs.Char.{is_ascii_digit}
 use Rattle.py_token.specs.declared.keyword.Keyword.{Keyword}
@@ -10,6 +10,8 @@ use Rattle.py_token.specs.Marks.{mark_text}
 use Rattle.py_token.specs.declared.token.TokenKind.{TokenKind}
 use Rattle.py_token.specs.declared.token.TokenKind.TheVariants as token
 use Rattle.py_lex.specs.declared.bytes.TheConstants.{NO_TEXT}
+use Rattle.py_lex.specs.declared.piece.Style.{Style}
+use Rattle.py_lex.specs.Bytes.{after_line_end}
 use Rattle.py_lex.specs.declared.fault.LexKind.{LexKind}
 use Rattle.py_lex.specs.declared.fault.LexKind.TheVariants as kinds
 use Rattle.py_lex.specs.declared.token.Class.{Class}
@@ -21,10 +23,11 @@ use Rattle.py_lex.specs.Marks.{mark_at}
 use Rattle.py_lex.specs.Numbers.{number_of}
 use Rattle.py_lex.specs.Texts.{Spelling, closed, unclosed, refused, Spells, opening}
 
--- what reading a token gives: the token, the lines that end in it, the open brackets and what follows; or a fault and the
--- lines that end in front of it
+-- what reading a token gives: the token, the lines that end in it, the open brackets and what follows; or that an f-text
+-- begins, how it is written and what follows its opening quotes; or a fault and the lines that end in front of it
 pub data Read : Type 0 where
   takes : TokenKind → ℕ → ℕ → List ℕ → Read
+  begins : Style → List ℕ → Read
   refuses : LexKind → ℕ → Read
 
 abbrev pub class_of : ℕ → Class
@@ -67,15 +70,23 @@ number_turn depth bytes =
 abbrev pub is_r : ℕ → Bool
 is_r b = b == 114 || b == 82
 
-abbrev pub is_b_or_f : ℕ → Bool
-is_b_or_f b = b == 98 || (b == 66 || (b == 102 || b == 70))
+abbrev pub is_b : ℕ → Bool
+is_b b = b == 98 || b == 66
 
--- what a name is in front of a quote (2.4.1): `r` is the prefix of a raw text; Python's other prefixes are refused
+abbrev pub is_f : ℕ → Bool
+is_f b = b == 102 || b == 70
+
+-- what a name is in front of a quote (2.4.1): `r` is the prefix of a raw text, `f` that of an f-text, both in either order
+-- that of a raw f-text; Python's other prefixes are refused
 abbrev pub lead_of : List ℕ → Lead
 lead_of [] = lead.Name
 lead_of (a ∷ []) =
-    if is_r a then lead.Raw else (if is_b_or_f a || (a == 117 || a == 85) then lead.Refused else lead.Name)
-lead_of (a ∷ b ∷ []) = if is_r a && is_b_or_f b || is_b_or_f a && is_r b then lead.Refused else lead.Name
+    if is_r a then lead.Raw
+    else (if is_f a then lead.Format
+    else (if is_b a || (a == 117 || a == 85) then lead.Refused else lead.Name))
+lead_of (a ∷ b ∷ []) =
+    if is_r a && is_f b || is_f a && is_r b then lead.RawFormat
+    else (if is_r a && is_b b || is_b a && is_r b then lead.Refused else lead.Name)
 lead_of (a ∷ b ∷ c ∷ rest) = lead.Name
 
 abbrev pub quoted : List ℕ → Option (ℕ × List ℕ)
@@ -90,8 +101,14 @@ word_or name None = token.Name name
 abbrev pub named : List ℕ → TokenKind
 named name = word_or name (keyword_of name)
 
+-- an f-text is read behind its opening quotes
+abbrev pub begun_read : Bool → ℕ → List ℕ → Read
+begun_read raw quote inside = begins (opening raw quote inside).0 (opening raw quote inside).1
+
 abbrev pub LeadAt : Lead → ℕ → ℕ → List ℕ → List ℕ → List ℕ → Read → Type 0
 LeadAt lead.Raw depth quote inside name rest t = TextAt true quote depth inside t
+LeadAt lead.Format depth quote inside name rest t = t ≡ begun_read false quote inside
+LeadAt lead.RawFormat depth quote inside name rest t = t ≡ begun_read true quote inside
 LeadAt lead.Refused depth quote inside name rest t = t ≡ refuses kinds.BadByte 0
 LeadAt lead.Name depth quote inside name rest t = t ≡ takes (named name) 0 depth rest
 
@@ -139,6 +156,27 @@ ClassAt Sign depth b rest t = t ≡ sign_turn depth (b ∷ rest)
 abbrev pub TokenAt : ℕ → List ℕ → Read → Type 0
 TokenAt depth [] t = ⊥
 TokenAt depth (b ∷ rest) t = ClassAt (class_of b) depth b rest t
+
+-- a backslash, a comment or a line end
+abbrev pub ends_field : List ℕ → Bool
+ends_field [] = false
+ends_field (b ∷ rest) = b == 92 || (b == 35 || is_some (after_line_end (b ∷ rest)))
+
+abbrev pub field_sign : ℕ → List ℕ → Read
+field_sign inner bytes = if ends_field bytes then refuses kinds.BadField 0 else sign_turn inner bytes
+
+abbrev pub field_class : Class → ℕ → List ℕ → Read
+field_class Quote inner bytes = refuses kinds.BadField 0
+field_class Digit inner bytes = number_turn inner bytes
+field_class Letter inner bytes = takes (named (front_run is_name_byte bytes)) 0 inner (after_run is_name_byte bytes)
+field_class NoText inner bytes = refuses kinds.NotUtf8 0
+field_class Sign inner bytes = field_sign inner bytes
+
+-- the token of a field in front, inside so many brackets of the field (2.4.3): a field stands on one line, and holds no text,
+-- no backslash and no comment (own where the quotes are others than those of the f-text)
+abbrev pub field_read : ℕ → List ℕ → Read
+field_read inner [] = refuses kinds.Unclosed 0
+field_read inner (b ∷ rest) = field_class (class_of b) inner (b ∷ rest)
 
 abbrev pub is_name_first : List ℕ → Bool
 is_name_first [] = false

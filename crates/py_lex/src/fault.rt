@@ -29,6 +29,8 @@ pub enum LexKind {
     BadEscape,
     /// A byte begins no token.
     BadByte,
+    /// A field of an f-text holds a quote, a backslash, a `#` or a line end, or a closing brace stands alone in an f-text.
+    BadField,
     /// The script has more than 1,048,576 bytes.
     TooLong,
 }

@@ -1,16 +1,22 @@
 //! A script that is read up to a place.
 ghost use Rattle.std.specs.Prelude.{◌≡◌, ◌<◌, ◌+◌, ◌-◌, ◌^◌, ◌++◌, ◌∷◌, [], length, OnOk, IfOk};
 ghost use Rattle.py_lex.specs.Steps.{Steps, TakesToken, token_at, dedents, added, with_text, text_behind, goes, start, line_end, begin_line, finish};
+ghost use Rattle.py_lex.specs.Steps.{RestMove, TakesPart, part_tokens, end_of_part, mode_behind, field_move, field_token_move};
+ghost use Rattle.py_lex.specs.Tokens.{field_read};
+ghost use Rattle.std.specs.Str.{IsUtf8};
 ghost use Rattle.py_lex.specs.Views.{state_of, step_of};
 ghost use Rattle.py_lex.specs.Sizes.{Fits, FitsStep};
 ghost use Rattle.py_lex.specs.Utf8.{IsClean};
 
-use crate::bytes::cut_blanks;
+use crate::bytes::{cut_blanks, is_blank};
 use crate::fault::LexKind;
+use crate::field::field_token;
 use crate::gap::{Gap, next_gap};
 use crate::levels::{Level, Levels};
+use crate::part::{Part, next_part};
+use crate::piece::Style;
 use crate::token::{Turn, next_token};
-use py_token::{Token, TokenKind};
+use py_token::{Mark, Token, TokenKind};
 use scons_base::{Memory, Text};
 use std::alloc::Global;
 
@@ -22,9 +28,28 @@ pub enum Place {
     Inside(u32),
 }
 
+/// An f-text that is open: how it is written, and the line on which it begins.
+#[derive(Clone, Copy)]
+pub struct OpenText {
+    pub style: Style,
+    pub line: u32,
+}
+
+/// What is read.
+#[derive(Clone, Copy)]
+pub enum Mode {
+    /// A line.
+    Line,
+    /// An f-text, outside of its fields.
+    Part(OpenText),
+    /// A field of an f-text, inside this many brackets of the field.
+    Field(OpenText, u32),
+}
+
 /// A script that is read up to a place.
 #[derive(Drop)]
 pub struct Reader<'a> {
+    pub mode: Mode,
     pub place: Place,
     /// The blanks in front of the line.
     pub indentation: &'a [u8],
@@ -48,6 +73,7 @@ pub fn start(alloc: Global, script: &[u8]) -> Result<Reader<'_>, Memory>
 {
     let (indentation, rest) = cut_blanks(script);
     Ok(Reader {
+        mode: Mode::Line,
         place: Place::LineStart,
         indentation,
         levels: Levels::new(alloc)?,
@@ -57,11 +83,26 @@ pub fn start(alloc: Global, script: &[u8]) -> Result<Reader<'_>, Memory>
     })
 }
 
-/// Takes a gap or a token, or comes to the end.
+/// Takes a gap, a token or a part of an f-text, or comes to the end.
 pub fn next_step(alloc: Global, reader: Reader<'_>) -> Result<Step<'_>, Memory>
     requires fits { Fits (state_of reader) }
     requires clean { IsClean reader.rest.now }
     ensures steps { IfOk result (λ s. Steps (state_of reader.entry) (step_of s)) }
+    ensures fits { IfOk result (λ s. FitsStep (state_of reader.entry) (step_of s)) }
+{
+    match reader.mode {
+        Mode::Line => step_in_line(alloc, reader),
+        Mode::Part(text) => take_part(alloc, text, reader),
+        Mode::Field(text, inner) => step_in_field(alloc, text, inner, reader),
+    }
+}
+
+/// Takes a gap or a token of a line, or comes to the end.
+fn step_in_line(alloc: Global, reader: Reader<'_>) -> Result<Step<'_>, Memory>
+    requires fits { Fits (state_of reader) }
+    requires clean { IsClean reader.rest.now }
+    requires line { reader.mode ≡ Mode.Line }
+    ensures steps { IfOk result (λ s. RestMove reader.entry.rest.now (state_of reader.entry) (step_of s)) }
     ensures fits { IfOk result (λ s. FitsStep (state_of reader.entry) (step_of s)) }
 {
     if reader.rest.is_empty() {
@@ -160,8 +201,160 @@ fn take_token(alloc: Global, depth: u32, reader: Reader<'_>) -> Result<Step<'_>,
             reader.rest = rest;
             Ok(Step::Goes(reader))
         }
+        Turn::Begins { style, rest } => {
+            let line = reader.line;
+            push_token(&mut reader.tokens, line, TokenKind::FStart)?;
+            reader.mode = Mode::Part(OpenText { style, line });
+            reader.rest = rest;
+            Ok(Step::Goes(reader))
+        }
         Turn::Refuses { kind, lines } => Ok(Step::Stops {
             line: reader.line + lines,
+            kind,
+        }),
+    }
+}
+
+/// A part of an f-text, with the brace of a field or the quotes behind it.
+fn take_part(alloc: Global, text: OpenText, reader: Reader<'_>) -> Result<Step<'_>, Memory>
+    requires fits { Fits (state_of reader) }
+    requires clean { IsClean reader.rest.now }
+    requires part { reader.mode ≡ Mode.Part text }
+    ensures steps { IfOk result (λ s. TakesPart text (state_of reader.entry) (step_of s)) }
+    ensures fits { IfOk result (λ s. FitsStep (state_of reader.entry) (step_of s)) }
+{
+    match next_part(alloc, text.style, reader.rest)? {
+        Part::Ends {
+            field,
+            value,
+            lines,
+            rest,
+        } => {
+            let mut reader = reader;
+            let line = reader.line;
+            push_part(&mut reader.tokens, line, value)?;
+            let line = line + lines;
+            push_token(&mut reader.tokens, line, end_of_part(field))?;
+            reader.mode = mode_behind(text, field);
+            reader.line = line;
+            reader.rest = rest;
+            Ok(Step::Goes(reader))
+        }
+        Part::Unclosed => Ok(Step::Stops {
+            line: text.line,
+            kind: LexKind::Unclosed,
+        }),
+        Part::Refused { kind, lines } => {
+            let line = reader.line + lines;
+            Ok(Step::Stops { line, kind })
+        }
+    }
+}
+
+fn end_of_part(field: bool) -> TokenKind
+    ensures { result ≡ end_of_part field }
+{
+    if field {
+        TokenKind::Mark(Mark::OpenBrace)
+    } else {
+        TokenKind::FEnd
+    }
+}
+
+fn mode_behind(text: OpenText, field: bool) -> Mode
+    ensures { result ≡ mode_behind text field }
+{
+    if field {
+        Mode::Field(text, 0)
+    } else {
+        Mode::Line
+    }
+}
+
+/// The characters of a part, if there are any.
+fn push_part(tokens: &mut Vec<Token>, line: u32, value: Vec<u8>) -> Result<(), Memory>
+    requires utf8 { IsUtf8 value.items }
+    ensures { OnOk result (tokens.new.items ≡ tokens.old.items ++ part_tokens line value.items) }
+{
+    if value.is_empty() {
+        return Ok(());
+    }
+    match String::from_utf8(value) {
+        Ok(text) => push_token(tokens, line, TokenKind::FPart(Text::new(text))),
+        Err(_) => unreachable!(),
+    }
+}
+
+/// A blank or a token of a field, or its end.
+fn step_in_field<'a>(
+    alloc: Global,
+    text: OpenText,
+    inner: u32,
+    reader: Reader<'a>,
+) -> Result<Step<'a>, Memory>
+    requires fits { Fits (state_of reader) }
+    requires clean { IsClean reader.rest.now }
+    requires field { reader.mode ≡ Mode.Field text inner }
+    ensures steps { IfOk result (λ s.
+        step_of s ≡ field_move text inner (state_of reader.entry) reader.entry.rest.now) }
+    ensures fits { IfOk result (λ s. FitsStep (state_of reader.entry) (step_of s)) }
+{
+    let mut reader = reader;
+    let line = reader.line;
+    let Some((byte, after)) = reader.rest.split_first() else {
+        return Ok(Step::Stops {
+            line: text.line,
+            kind: LexKind::Unclosed,
+        });
+    };
+    if is_blank(*byte) {
+        reader.rest = cut_blanks(after).1;
+        return Ok(Step::Goes(reader));
+    }
+    if *byte == b'}' && inner == 0 {
+        push_token(&mut reader.tokens, line, TokenKind::Mark(Mark::CloseBrace))?;
+        reader.mode = Mode::Part(text);
+        reader.rest = after;
+        return Ok(Step::Goes(reader));
+    }
+    take_in_field(alloc, text, inner, reader)
+}
+
+fn take_in_field<'a>(
+    alloc: Global,
+    text: OpenText,
+    inner: u32,
+    reader: Reader<'a>,
+) -> Result<Step<'a>, Memory>
+    requires fits { Fits (state_of reader) }
+    requires some { 0 < length reader.rest.now }
+    requires clean { IsClean reader.rest.now }
+    requires field { reader.mode ≡ Mode.Field text inner }
+    ensures steps { IfOk result (λ s.
+        step_of s ≡ field_token_move text (state_of reader.entry) (field_read inner reader.entry.rest.now)) }
+    ensures fits { IfOk result (λ s. FitsStep (state_of reader.entry) (step_of s)) }
+{
+    let mut reader = reader;
+    let line = reader.line;
+    match field_token(alloc, inner, reader.rest)? {
+        Turn::Takes {
+            kind,
+            lines,
+            depth,
+            rest,
+        } => {
+            push_token(&mut reader.tokens, line, kind)?;
+            reader.mode = Mode::Field(text, depth);
+            reader.line = line + lines;
+            reader.rest = rest;
+            Ok(Step::Goes(reader))
+        }
+        Turn::Begins { .. } => Ok(Step::Stops {
+            line,
+            kind: LexKind::BadField,
+        }),
+        Turn::Refuses { kind, lines } => Ok(Step::Stops {
+            line: line + lines,
             kind,
         }),
     }

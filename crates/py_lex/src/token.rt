@@ -1,9 +1,9 @@
 //! One token of a script.
-ghost use Rattle.std.specs.Prelude.{◌≡◌, ◌<◌, ◌≤◌, ◌+◌, ◌^◌, true, length, IfOk, IfSome, MatchOption, None, Some};
+ghost use Rattle.std.specs.Prelude.{◌≡◌, ◌<◌, ◌≤◌, ◌+◌, ◌^◌, ℕ, true, length, IfOk, IfSome, MatchOption, None, Some};
 ghost use Rattle.std.specs.List.{list_all};
 ghost use Rattle.std.specs.Char.{is_ascii_digit};
 ghost use Rattle.scons_base.specs.Runs.{is_name_byte};
-ghost use Rattle.py_lex.specs.Tokens.{class_of, lead_of, is_r, is_b_or_f, is_float, is_fraction, is_name_first, quoted, depth_after, takes, refuses, TokenAt, NameAt, TextAt, number_turn, sign_turn, named};
+ghost use Rattle.py_lex.specs.Tokens.{class_of, lead_of, is_r, is_b, is_f, is_float, is_fraction, is_name_first, quoted, depth_after, takes, begun_read, refuses, TokenAt, NameAt, TextAt, number_turn, sign_turn, named};
 ghost use Rattle.py_lex.specs.Views.{turn_of};
 ghost use Rattle.py_lex.specs.Utf8.{IsClean};
 ghost use Rattle.py_lex.specs.Sizes.{FitsTurn, FitsBehind};
@@ -11,6 +11,7 @@ ghost use Rattle.py_lex.specs.Sizes.{FitsTurn, FitsBehind};
 use crate::bytes::NO_TEXT;
 use crate::fault::LexKind;
 use crate::number::number_of;
+use crate::piece::Style;
 use crate::sign::mark_at;
 use crate::text::{Spelt, opening, spell};
 use py_token::{Keyword, Mark, TokenKind};
@@ -34,6 +35,10 @@ pub enum Lead {
     Name,
     /// The prefix of a raw text.
     Raw,
+    /// The prefix of an f-text.
+    Format,
+    /// The prefix of a raw f-text.
+    RawFormat,
     /// Another prefix of Python.
     Refused,
 }
@@ -47,13 +52,18 @@ pub enum Turn<'a> {
         depth: u32,
         rest: &'a [u8],
     },
+    /// An f-text of this style, whose opening quotes are taken.
+    Begins {
+        style: Style,
+        rest: &'a [u8],
+    },
     Refuses {
         kind: LexKind,
         lines: u32,
     },
 }
 
-fn class_of(byte: u8) -> Class
+pub fn class_of(byte: u8) -> Class
     ensures { result ≡ class_of byte }
 {
     if byte == b'\'' || byte == b'"' {
@@ -91,7 +101,7 @@ pub fn next_token<'a>(alloc: Global, depth: u32, bytes: &'a [u8]) -> Result<Turn
     }
 }
 
-fn refused<'a>(kind: LexKind) -> Turn<'a>
+pub fn refused<'a>(kind: LexKind) -> Turn<'a>
     ensures { turn_of result ≡ refuses kind 0 }
 {
     let lines = 0;
@@ -128,7 +138,7 @@ fn text_token<'a>(
     }
 }
 
-fn number_token(depth: u32, bytes: &[u8]) -> Turn<'_>
+pub fn number_token(depth: u32, bytes: &[u8]) -> Turn<'_>
     requires some { 0 < length bytes.now }
     requires name { is_name_first bytes.now ≡ true }
     ensures turn { turn_of result ≡ number_turn depth bytes.now }
@@ -178,9 +188,21 @@ fn name_token<'a>(alloc: Global, depth: u32, bytes: &'a [u8]) -> Result<Turn<'a>
     };
     match lead_of(name) {
         Lead::Raw => text_token(alloc, depth, true, quote, inside),
+        Lead::Format => Ok(text_begun(false, quote, inside)),
+        Lead::RawFormat => Ok(text_begun(true, quote, inside)),
         Lead::Refused => Ok(refused(LexKind::BadByte)),
         Lead::Name => named(alloc, depth, name, rest),
     }
+}
+
+/// The f-text whose first quote this is.
+fn text_begun(raw: bool, quote: u8, rest: &[u8]) -> Turn<'_>
+    requires { quote < 128 }
+    ensures turn { turn_of result ≡ begun_read raw quote rest.now }
+    ensures fits { (depth : ℕ) → FitsBehind depth rest.now result }
+{
+    let (style, rest) = opening(raw, quote, rest);
+    Turn::Begins { style, rest }
 }
 
 /// The quote in front, and what follows it.
@@ -200,9 +222,12 @@ fn lead_of(name: &[u8]) -> Lead
 {
     match name {
         [only] if is_r(*only) => Lead::Raw,
-        [only] if is_b_or_f(*only) || *only == b'u' || *only == b'U' => Lead::Refused,
-        [first, second]
-            if is_r(*first) && is_b_or_f(*second) || is_b_or_f(*first) && is_r(*second) => {
+        [only] if is_f(*only) => Lead::Format,
+        [only] if is_b(*only) || *only == b'u' || *only == b'U' => Lead::Refused,
+        [first, second] if is_r(*first) && is_f(*second) || is_f(*first) && is_r(*second) => {
+            Lead::RawFormat
+        }
+        [first, second] if is_r(*first) && is_b(*second) || is_b(*first) && is_r(*second) => {
             Lead::Refused
         }
         _ => Lead::Name,
@@ -215,14 +240,20 @@ fn is_r(byte: u8) -> bool
     byte == b'r' || byte == b'R'
 }
 
-fn is_b_or_f(byte: u8) -> bool
-    ensures { result ≡ is_b_or_f byte }
+fn is_b(byte: u8) -> bool
+    ensures { result ≡ is_b byte }
 {
-    byte == b'b' || byte == b'B' || byte == b'f' || byte == b'F'
+    byte == b'b' || byte == b'B'
+}
+
+fn is_f(byte: u8) -> bool
+    ensures { result ≡ is_f byte }
+{
+    byte == b'f' || byte == b'F'
 }
 
 /// The name or the keyword.
-fn named<'a>(alloc: Global, depth: u32, name: &[u8], rest: &'a [u8]) -> Result<Turn<'a>, Memory>
+pub fn named<'a>(alloc: Global, depth: u32, name: &[u8], rest: &'a [u8]) -> Result<Turn<'a>, Memory>
     requires { list_all is_name_byte name.now ≡ true }
     ensures { IfOk result (λ t. turn_of t ≡ takes (named name.now) 0 depth rest.now) }
 {
@@ -238,7 +269,7 @@ fn named<'a>(alloc: Global, depth: u32, name: &[u8], rest: &'a [u8]) -> Result<T
     })
 }
 
-fn sign_token(depth: u32, bytes: &[u8]) -> Turn<'_>
+pub fn sign_token(depth: u32, bytes: &[u8]) -> Turn<'_>
     requires room { depth + length bytes.now < 2 ^ 31 }
     requires some { 0 < length bytes.now }
     ensures turn { turn_of result ≡ sign_turn depth bytes.now }

@@ -12,12 +12,12 @@ use Rattle.py_meaning.specs.declared.fault.EvalKind.TheVariants as kind
 use Rattle.py_meaning.specs.States.{State, Out, Fault, with_objects, script_frame}
 use Rattle.py_host.specs.declared.place.Place.{Place}
 use Rattle.py_meaning.specs.Jobs.{Job, eval, eval_all, eval_or_nil, links, operations, collect, tests, call, perform}
-use Rattle.py_meaning.specs.Jobs.{reply, inner_script, exec, exec_all, branches, turns, first_scripts}
+use Rattle.py_meaning.specs.Jobs.{reply, inner_script, exec, exec_all, branches, turns, rounds, first_scripts}
 use Rattle.py_meaning.specs.Plans.{Plan, comes_to, stops, first, within_call, asks_name, prints, asks}
 use Rattle.py_meaning.specs.Expressions.{plan_expression, plan_all, plan_operations, plan_collect, plan_tests}
 use Rattle.py_meaning.specs.Links.{plan_links}
 use Rattle.py_meaning.specs.Calls.{plan_call, plan_perform, plan_reply, plan_inner_script}
-use Rattle.py_meaning.specs.Statements.{plan_exec, plan_exec_all, plan_or_nil, plan_branches, plan_turns}
+use Rattle.py_meaning.specs.Statements.{plan_exec, plan_exec_all, plan_or_nil, plan_branches, plan_turns, plan_rounds}
 use Rattle.py_meaning.specs.Scripts.{plan_first_scripts}
 
 -- how a job goes on
@@ -37,6 +37,7 @@ plan (exec t) s = plan_exec t s
 plan (exec_all ts) s = plan_exec_all ts s
 plan (branches bs ls) s = plan_branches bs ls s
 plan (turns l walk ns block) s = plan_turns l walk ns block s
+plan (rounds l t block) s = plan_rounds l t block s
 plan (first_scripts t) s = plan_first_scripts t s
 
 -- a fault that isn't the host's refusal

@@ -2,7 +2,8 @@
 use Rattle.std.specs.Prelude.{ℕ, pos, Bool, true, false, not as turned, List, [], ◌∷◌, ◌++◌, Option, Some, None}
 use Rattle.std.specs.Prelude.{Result, Ok, Err, length}
 use Rattle.py_tree.specs.Tree.{Tree, nil, cons, absent, name, integer, text, constant, group, tuple, list}
-use Rattle.py_tree.specs.Tree.{comprehension, dict, pair, post, named, negative, not, chain, operation, compare}
+use Rattle.py_tree.specs.Tree.{comprehension, dict, pair, post, named, negative, not, chain, operation, compare, choice}
+use Rattle.py_tree.specs.Tree.{joined, field}
 use Rattle.py_tree.specs.declared.expr.Constant.{Constant}
 use Rattle.py_tree.specs.declared.expr.Constant.TheVariants as constant'
 use Rattle.py_tree.specs.declared.expr.Operator.{Operator}
@@ -28,6 +29,7 @@ use Rattle.py_meaning.specs.Jobs.{eval, links, operations, collect, tests}
 use Rattle.py_meaning.specs.Plans.{Plan, comes_to, first, asks_name, value, faulty, goes, on_value, after, after_all}
 use Rattle.py_meaning.specs.Plans.{checked, made, paid}
 use Rattle.py_meaning.specs.Lookup.{Found, a_value, unset, outside, found_in, with_inner}
+use Rattle.py_meaning.specs.Joined.{shown_field, fields_of, joined_text}
 use Rattle.py_meaning.specs.Loops.{Walk, walk_of, next_of, names_of, shared}
 
 abbrev pub constant_value : Constant → Value
@@ -94,6 +96,11 @@ outer s (names ∷ more) = with_frame s (record s.frame { inner = more })
 abbrev pub outside_again : State → State
 outside_again s = outer s s.frame.inner
 
+-- where the test holds the first one, else the other
+abbrev pub picked : Bool → Tree → Tree → State → Plan
+picked true t u s = goes (eval t) s
+picked false t u s = goes (eval u) s
+
 abbrev pub plan_expression : Tree → State → Plan
 plan_expression (name l n) s = name_found l n s (found_in s n)
 plan_expression (integer l n) s = checked l s (fitting (pos n)) (λ i. value (v.Int i) s)
@@ -113,6 +120,12 @@ plan_expression (not l t) s = after t s (λ x s1. value (v.Bool (turned (truth_o
 plan_expression (chain t os) s = after t s (λ x s1. goes (operations x os) s1)
 plan_expression (compare l k t1 t2) s =
     after t1 s (λ x s1. after t2 s1 (λ y s2. made l s2 (binary_of (comparison_op k) s2.objects s2.units x y)))
+-- section 6.13: the test first, then one of the two
+plan_expression (choice l t c u) s = after c s (λ x s1. picked (truth_of s1.objects x) t u s1)
+-- the fields from left to right, then the whole
+plan_expression (joined l ps) s =
+    after_all (fields_of ps) s (λ xs s1. made l s1 (joined_text s1.objects s1.units ps xs))
+plan_expression (field l t) s = after t s (λ x s1. made l s1 (shown_field s1.objects s1.units x))
 -- the value of a named argument
 plan_expression (named l n t) s = goes (eval t) s
 plan_expression other s = comes_to (goes_on s)

@@ -37,5 +37,7 @@ pub data Job : Type 0 where
   branches : Tree → Tree → Job
   -- the turns of a `for`: its line, what is left to go over, its names, its block
   turns : ℕ → Walk → Tree → Tree → Job
+  -- the turns of a `while`: its line, its test, its block
+  rounds : ℕ → Tree → Tree → Job
   -- first scripts, from this one on
   first_scripts : Tree → Job

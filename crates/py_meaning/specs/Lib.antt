@@ -1,6 +1,7 @@
 pub mod Arguments
 pub mod Calls
 pub mod Evaluates
+pub mod Joined
 pub mod Expressions
 pub mod Jobs
 pub mod Lines

@@ -3,7 +3,7 @@ use Rattle.std.specs.Prelude.{ℕ}
 use Rattle.py_tree.specs.Tree.{Tree, nil, cons, absent, word, name, integer, text, constant, group, tuple, list}
 use Rattle.py_tree.specs.Tree.{comprehension, dict, pair, post, attribute, call, named, index, slice, negative, not}
 use Rattle.py_tree.specs.Tree.{chain, operation, compare, assign, augment, expression, pass, break, continue, return}
-use Rattle.py_tree.specs.Tree.{imports, simple, branching, branch, for', def, parameter}
+use Rattle.py_tree.specs.Tree.{imports, simple, branching, branch, for', while', def, parameter, choice, joined}
 
 abbrev pub first_line : Tree → ℕ
 first_line (name l n) = l
@@ -21,6 +21,8 @@ first_line (negative l t) = l
 first_line (not l t) = l
 first_line (chain t os) = first_line t
 first_line (compare l k t u) = first_line t
+first_line (choice l t c u) = first_line t
+first_line (joined l ps) = l
 first_line (assign l t e) = first_line t
 first_line (augment l k t e) = first_line t
 first_line (expression e) = first_line e
@@ -32,5 +34,6 @@ first_line (imports l) = l
 first_line (branching (cons b bs) ls) = first_line b
 first_line (branch l t ls) = l
 first_line (for' l ns e ls) = l
+first_line (while' l t ls) = l
 first_line (def l n ps ls) = l
 first_line other = 0

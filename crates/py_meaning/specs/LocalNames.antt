@@ -4,7 +4,7 @@ use Rattle.std.specs.Prelude.{ℕ, List, [], ◌∷◌}
 use Rattle.std.specs.Str.{bytes_eq}
 use Rattle.indexmap.specs.IndexSet.{insert_key}
 use Rattle.py_tree.specs.Tree.{Tree, nil, cons, word, name, tuple, assign, augment, simple, branching, branch, for'}
-use Rattle.py_tree.specs.Tree.{def, parameter}
+use Rattle.py_tree.specs.Tree.{while', def, parameter}
 
 -- one more name, if it isn't there
 abbrev pub with_local : List (List ℕ) → List ℕ → List (List ℕ)
@@ -29,6 +29,7 @@ bound_names names (augment l k t e) = target_names names t
 bound_names names (branching bs ls) = bound_names (bound_names names bs) ls
 bound_names names (branch l t ls) = bound_names names ls
 bound_names names (for' l ns e ls) = bound_names (target_names names ns) ls
+bound_names names (while' l t ls) = bound_names names ls
 bound_names names (def l n ps ls) = with_local names n
 bound_names names other = names
 

@@ -2,7 +2,7 @@
 -- and each turn of a loop one (own).
 use Rattle.std.specs.Prelude.{ℕ, Bool, true, false, List, [], ◌∷◌, ◌++◌, Option, Some, None, Result, Ok, Err, length}
 use Rattle.py_tree.specs.Tree.{Tree, nil, cons, absent, name, tuple, post, index, assign, augment, expression, pass}
-use Rattle.py_tree.specs.Tree.{break, continue, return, imports, simple, branching, branch, for', def}
+use Rattle.py_tree.specs.Tree.{break, continue, return, imports, simple, branching, branch, for', while', def}
 use Rattle.py_tree.specs.declared.expr.Operator.{Operator}
 use Rattle.py_tree.specs.declared.expr.Operator.TheVariants as operator'
 use Rattle.py_heap.specs.declared.value.Value.{Value}
@@ -21,7 +21,7 @@ use Rattle.py_methods.specs.Calls.{method_of}
 use Rattle.py_host.specs.Calls as question
 use Rattle.py_meaning.specs.Arguments.{parameters_by, defaults_of}
 use Rattle.py_meaning.specs.Expressions.{named_line}
-use Rattle.py_meaning.specs.Jobs.{eval, eval_or_nil, exec, exec_all, branches, turns, links}
+use Rattle.py_meaning.specs.Jobs.{eval, eval_or_nil, exec, exec_all, branches, turns, rounds, links}
 use Rattle.py_meaning.specs.Lines.{first_line}
 use Rattle.py_meaning.specs.Links.{after_item}
 use Rattle.py_meaning.specs.LocalNames.{local_names}
@@ -134,6 +134,7 @@ statement (augment l k t e) s = augmented l k t e s
 statement (branching bs ls) s = goes (branches bs ls) s
 statement (for' l ns e ls) s =
     after e s (λ x s1. checked l s1 (walk_of s1.objects x) (λ walk. goes (turns l walk ns ls) s1))
+statement (while' l t ls) s = goes (rounds l t ls) s
 statement (def l n ps ls) s = after_all (defaults_of ps) s (λ xs s1. done (defined n ps ls xs s1))
 statement other s = done s
 
@@ -174,3 +175,12 @@ turned l ns block (Some next) s = paid l s (λ s1. checked l s1 (shared next.1 (
 
 abbrev pub plan_turns : ℕ → Walk → Tree → Tree → State → Plan
 plan_turns l walk ns block s = turned l ns block (next_of s.objects walk) s
+
+-- section 8.2 ("The while statement"): the test before each turn, which costs one unit where the test holds
+abbrev pub round : ℕ → Tree → Tree → Bool → State → Plan
+round l t block true s =
+    paid l s (λ s1. first (exec_all block) s1 (after_turn (λ s2. goes (rounds l t block) s2)))
+round l t block false s = done s
+
+abbrev pub plan_rounds : ℕ → Tree → Tree → State → Plan
+plan_rounds l t block s = after t s (λ x s1. round l t block (truth_of s1.objects x) s1)

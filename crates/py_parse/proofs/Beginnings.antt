@@ -31,7 +31,7 @@ maybe_named (tree.name l n) bs hs = (maybe_first ((g.mark mark'.Assign) ∷ (g.m
 maybe_named _ bs hs = hs
 
 all_atom : AllFirst f_atom (productions g.atom)
-all_atom = (first_opens (one terminal'.Bracket) _ f_atom wanted, (first_takes (one terminal'.Leaf) _ f_atom (further wanted), tt))
+all_atom = (first_opens (one terminal'.Bracket) _ f_atom wanted, (first_takes (one terminal'.Text) _ f_atom (further wanted), (first_takes (one terminal'.FStart) _ f_atom (further (further wanted)), (first_takes (one terminal'.Leaf) _ f_atom (further (further (further wanted))), tt))))
 
 pub all_posted : AllFirst f_atom (productions g.posted)
 all_posted = (first_part _ _ f_atom f_atom all_atom (λ k h. h), tt)
@@ -54,8 +54,26 @@ all_negation = (first_opens (g.keyword keyword'.Not) _ f_neg wanted, (first_part
 all_and : AllFirst f_neg (productions (g.chained level'.And))
 all_and = (first_part _ _ f_neg f_neg all_negation (λ k h. h), tt)
 
+pub all_plain : AllFirst f_neg (productions g.plain)
+all_plain = (first_part _ _ f_neg f_neg all_and (λ k h. h), tt)
+
 pub all_expr : AllFirst f_neg (productions g.expr)
-all_expr = (first_part _ _ f_neg f_neg all_and (λ k h. h), tt)
+all_expr = (first_part _ _ f_neg f_neg all_plain (λ k h. h), tt)
+
+pub maybe_choice_rest : (a : Tree) → AllMaybe ((g.keyword keyword'.If) ∷ []) (productions (g.choice_rest a))
+maybe_choice_rest a = (maybe_first ((g.keyword keyword'.If) ∷ []) _ (first_opens (g.keyword keyword'.If) _ ((g.keyword keyword'.If) ∷ []) wanted), (maybe_nothing ((g.keyword keyword'.If) ∷ []) _, tt))
+
+pub all_some_pieces : AllFirst ((one terminal'.Text) ∷ (one terminal'.FStart) ∷ []) (productions g.some_pieces)
+all_some_pieces = (first_takes (one terminal'.Text) _ ((one terminal'.Text) ∷ (one terminal'.FStart) ∷ []) wanted, (first_takes (one terminal'.FStart) _ ((one terminal'.Text) ∷ (one terminal'.FStart) ∷ []) (further wanted), tt))
+
+pub all_parts : AllFirst ((one terminal'.FPart) ∷ (g.mark mark'.OpenBrace) ∷ (one terminal'.FEnd) ∷ []) (productions g.parts)
+all_parts = (first_takes (one terminal'.FPart) _ ((one terminal'.FPart) ∷ (g.mark mark'.OpenBrace) ∷ (one terminal'.FEnd) ∷ []) wanted, (first_opens (g.mark mark'.OpenBrace) _ ((one terminal'.FPart) ∷ (g.mark mark'.OpenBrace) ∷ (one terminal'.FEnd) ∷ []) (further wanted), (first_takes (one terminal'.FEnd) _ ((one terminal'.FPart) ∷ (g.mark mark'.OpenBrace) ∷ (one terminal'.FEnd) ∷ []) (further (further wanted)), tt)))
+
+pub maybe_more_pieces : AllMaybe ((one terminal'.Text) ∷ (one terminal'.FStart) ∷ []) (productions g.more_pieces)
+maybe_more_pieces = (maybe_first ((one terminal'.Text) ∷ (one terminal'.FStart) ∷ []) _ (first_part _ _ ((one terminal'.Text) ∷ (one terminal'.FStart) ∷ []) ((one terminal'.Text) ∷ (one terminal'.FStart) ∷ []) all_some_pieces (λ k h. h)), (maybe_nothing ((one terminal'.Text) ∷ (one terminal'.FStart) ∷ []) _, tt))
+
+pub maybe_text_rest : (a : ℕ) (b : List ℕ) → AllMaybe ((one terminal'.Text) ∷ (one terminal'.FStart) ∷ []) (productions (g.text_rest a b))
+maybe_text_rest a b = (maybe_first ((one terminal'.Text) ∷ (one terminal'.FStart) ∷ []) _ (first_part _ _ ((one terminal'.Text) ∷ (one terminal'.FStart) ∷ []) ((one terminal'.Text) ∷ (one terminal'.FStart) ∷ []) all_some_pieces (λ k h. h)), (maybe_nothing ((one terminal'.Text) ∷ (one terminal'.FStart) ∷ []) _, tt))
 
 pub all_exprs : AllFirst f_neg (productions g.exprs)
 all_exprs = (first_part _ _ f_neg f_neg all_expr (λ k h. h), tt)
@@ -76,7 +94,7 @@ pub all_statements : (a : Site) → AllFirst f_small (productions (g.statements 
 all_statements a = (first_part _ _ f_small f_small (all_small a) (λ k h. h), tt)
 
 pub all_line : (a : Site) → AllFirst f_line (productions (g.line a))
-all_line a = (first_opens (g.keyword keyword'.If) _ f_line wanted, (first_opens (g.keyword keyword'.For) _ f_line (further wanted), (first_when f_line a.outermost (opens (g.keyword keyword'.Def) (λ x. g.function_body x.line)) (reads (g.statements a) (λ t. gives (tree.simple t)) ∷ []) (first_opens (g.keyword keyword'.Def) _ f_line (further (further wanted))) (first_part _ _ f_small f_line (all_statements a) among_3, tt))))
+all_line a = (first_opens (g.keyword keyword'.If) _ f_line wanted, (first_opens (g.keyword keyword'.For) _ f_line (further wanted), (first_opens (g.keyword keyword'.While) _ f_line (further (further wanted)), (first_when f_line a.outermost (opens (g.keyword keyword'.Def) (λ x. g.function_body x.line)) (reads (g.statements a) (λ t. gives (tree.simple t)) ∷ []) (first_opens (g.keyword keyword'.Def) _ f_line (further (further (further wanted)))) (first_part _ _ f_small f_line (all_statements a) among_3, tt)))))
 
 all_names : AllFirst ((one terminal'.Name) ∷ []) (productions g.names)
 all_names = (first_takes (one terminal'.Name) _ ((one terminal'.Name) ∷ []) wanted, tt)
@@ -129,8 +147,8 @@ all_subscript_rest a b = (first_takes (g.mark mark'.Colon) _ ((g.mark mark'.Colo
 pub all_statements_rest : (a : Site) → AllFirst ((one terminal'.Newline) ∷ (g.mark mark'.Semicolon) ∷ []) (productions (g.statements_rest a))
 all_statements_rest a = (first_takes (one terminal'.Newline) _ ((one terminal'.Newline) ∷ (g.mark mark'.Semicolon) ∷ []) wanted, (first_takes (g.mark mark'.Semicolon) _ ((one terminal'.Newline) ∷ (g.mark mark'.Semicolon) ∷ []) (further wanted), tt))
 
-pub all_more_lines : (a : Site) → AllFirst ((one terminal'.Dedent) ∷ (g.keyword keyword'.If) ∷ (g.keyword keyword'.For) ∷ (g.keyword keyword'.Def) ∷ (g.keyword keyword'.Pass) ∷ (g.keyword keyword'.From) ∷ (g.keyword keyword'.Break) ∷ (g.keyword keyword'.Continue) ∷ (g.keyword keyword'.Return) ∷ (g.keyword keyword'.Not) ∷ (g.mark mark'.Minus) ∷ (one terminal'.Bracket) ∷ (one terminal'.Leaf) ∷ []) (productions (g.more_lines a))
-all_more_lines a = (first_takes (one terminal'.Dedent) _ ((one terminal'.Dedent) ∷ (g.keyword keyword'.If) ∷ (g.keyword keyword'.For) ∷ (g.keyword keyword'.Def) ∷ (g.keyword keyword'.Pass) ∷ (g.keyword keyword'.From) ∷ (g.keyword keyword'.Break) ∷ (g.keyword keyword'.Continue) ∷ (g.keyword keyword'.Return) ∷ (g.keyword keyword'.Not) ∷ (g.mark mark'.Minus) ∷ (one terminal'.Bracket) ∷ (one terminal'.Leaf) ∷ []) wanted, (first_part _ _ f_line ((one terminal'.Dedent) ∷ (g.keyword keyword'.If) ∷ (g.keyword keyword'.For) ∷ (g.keyword keyword'.Def) ∷ (g.keyword keyword'.Pass) ∷ (g.keyword keyword'.From) ∷ (g.keyword keyword'.Break) ∷ (g.keyword keyword'.Continue) ∷ (g.keyword keyword'.Return) ∷ (g.keyword keyword'.Not) ∷ (g.mark mark'.Minus) ∷ (one terminal'.Bracket) ∷ (one terminal'.Leaf) ∷ []) (all_line a) among_5, tt))
+pub all_more_lines : (a : Site) → AllFirst ((one terminal'.Dedent) ∷ (g.keyword keyword'.If) ∷ (g.keyword keyword'.For) ∷ (g.keyword keyword'.While) ∷ (g.keyword keyword'.Def) ∷ (g.keyword keyword'.Pass) ∷ (g.keyword keyword'.From) ∷ (g.keyword keyword'.Break) ∷ (g.keyword keyword'.Continue) ∷ (g.keyword keyword'.Return) ∷ (g.keyword keyword'.Not) ∷ (g.mark mark'.Minus) ∷ (one terminal'.Bracket) ∷ (one terminal'.Text) ∷ (one terminal'.FStart) ∷ (one terminal'.Leaf) ∷ []) (productions (g.more_lines a))
+all_more_lines a = (first_takes (one terminal'.Dedent) _ ((one terminal'.Dedent) ∷ (g.keyword keyword'.If) ∷ (g.keyword keyword'.For) ∷ (g.keyword keyword'.While) ∷ (g.keyword keyword'.Def) ∷ (g.keyword keyword'.Pass) ∷ (g.keyword keyword'.From) ∷ (g.keyword keyword'.Break) ∷ (g.keyword keyword'.Continue) ∷ (g.keyword keyword'.Return) ∷ (g.keyword keyword'.Not) ∷ (g.mark mark'.Minus) ∷ (one terminal'.Bracket) ∷ (one terminal'.Text) ∷ (one terminal'.FStart) ∷ (one terminal'.Leaf) ∷ []) wanted, (first_part _ _ f_line ((one terminal'.Dedent) ∷ (g.keyword keyword'.If) ∷ (g.keyword keyword'.For) ∷ (g.keyword keyword'.While) ∷ (g.keyword keyword'.Def) ∷ (g.keyword keyword'.Pass) ∷ (g.keyword keyword'.From) ∷ (g.keyword keyword'.Break) ∷ (g.keyword keyword'.Continue) ∷ (g.keyword keyword'.Return) ∷ (g.keyword keyword'.Not) ∷ (g.mark mark'.Minus) ∷ (one terminal'.Bracket) ∷ (one terminal'.Text) ∷ (one terminal'.FStart) ∷ (one terminal'.Leaf) ∷ []) (all_line a) among_5, tt))
 
 pub maybe_op_Or : AllMaybe ((one (terminal'.Operator level'.Or)) ∷ []) (productions (g.operations level'.Or))
 maybe_op_Or = (maybe_first ((one (terminal'.Operator level'.Or)) ∷ []) _ (first_takes (one (terminal'.Operator level'.Or)) _ ((one (terminal'.Operator level'.Or)) ∷ []) wanted), (maybe_nothing ((one (terminal'.Operator level'.Or)) ∷ []) _, tt))

@@ -8,7 +8,7 @@ use Rattle.py_parse.specs.declared.site.Site.{Site}
 use Rattle.py_parse.specs.declared.stop.Stop.{Stop}
 use Rattle.py_parse.specs.declared.terminal.Terminal.TheVariants as terminal'
 use Rattle.py_parse.specs.Terminals.{Want, one, heads}
-use Rattle.py_parse.specs.Grammar.{Body, takes, opens, reads, gives, when, keyword, mark, top, block, branches, conditional, loop_body, function_body, indented, line, script, small, statements, statements_rest, with_branch, productions}
+use Rattle.py_parse.specs.Grammar.{Body, takes, opens, reads, gives, when, keyword, mark, top, block, branches, conditional, loop_body, while_body, function_body, indented, line, script, small, statements, statements_rest, with_branch, productions}
 use Rattle.py_parse.specs.Reading.{Outcome, ok, fault, Why, unfit, deep, Reads, r_given, r_taken, r_refused, r_opened, r_unopened, r_read, r_part_fault, r_nested, r_nested_fault, pick, choose, leads, beginning}
 use Rattle.py_parse.specs.Agrees.{Taken, Agrees, branch_body, behind, onto, all_behind}
 use Rattle.py_parse.specs.Permits.{Permitted}
@@ -68,18 +68,19 @@ statements_shorter d s ts rest t r = small_strict d s ts rest t r
 simple_strict : (d : ℕ) (s : Site) → Strict d (reads (statements s) (λ t. gives (simple t)))
 simple_strict d s ts rest _ (r_read t _ r r_given) = statements_shorter d s ts rest t r
 
-line_strict : (d : ℕ) (s : Site) (b : Bool) → AllStrict d (opens (keyword keyword'.If) (λ x. conditional x.line s) ∷ (opens (keyword keyword'.For) (λ x. loop_body x.line s) ∷ when b (opens (keyword keyword'.Def) (λ x. function_body x.line)) (reads (statements s) (λ t. gives (simple t)) ∷ [])))
-line_strict d s true = (opens_strict d _ _, (opens_strict d _ _, (opens_strict d _ _, simple_strict d s)))
-line_strict d s false = (opens_strict d _ _, (opens_strict d _ _, simple_strict d s))
+line_strict : (d : ℕ) (s : Site) (b : Bool) → AllStrict d (opens (keyword keyword'.If) (λ x. conditional x.line s) ∷ (opens (keyword keyword'.For) (λ x. loop_body x.line s) ∷ (opens (keyword keyword'.While) (λ x. while_body x.line s) ∷ when b (opens (keyword keyword'.Def) (λ x. function_body x.line)) (reads (statements s) (λ t. gives (simple t)) ∷ []))))
+line_strict d s true = (opens_strict d _ _, (opens_strict d _ _, (opens_strict d _ _, (opens_strict d _ _, simple_strict d s))))
+line_strict d s false = (opens_strict d _ _, (opens_strict d _ _, (opens_strict d _ _, simple_strict d s)))
 
 pub line_shorter : (d : ℕ) (s : Site) (ts rest : List Token) (t : Tree) → Reads d (pick (line s) ts) ts (ok t rest) → length rest < length ts
 unfolding pick
 line_shorter d s ts rest t r = choose_strict d (productions (line s)) ts rest t (line_strict d s s.outermost) r
 
--- a line that is no `if` and no `for`
+-- a line that is no `if`, no `for` and no `while`
 pub record Blockless (ts : List Token) : Type 0 where
   pub no_if : heads (keyword keyword'.If) ts ≡ false
   pub no_for : heads (keyword keyword'.For) ts ≡ false
+  pub no_while : heads (keyword keyword'.While) ts ≡ false
 
 none_opened : {d : ℕ} {ts : List Token} {o : Outcome} (w : Want) (k : Token → Body) (bs : List Body) → HasOne bs →
     heads w ts ≡ false → Reads d (choose bs ts) ts o → Reads d (choose (opens w k ∷ bs) ts) ts o
@@ -95,7 +96,7 @@ has_defining false s = tt
 
 behind_for : (d : ℕ) (s : Site) (ts : List Token) (o : Outcome) → Blockless ts → Reads d (choose (defining s.outermost s) ts) ts o → Reads d (pick (line s) ts) ts o
 behind_for d s ts o h r =
-    by_production (line s) (none_opened _ _ _ tt h.no_if (none_opened _ _ (defining s.outermost s) (has_defining s.outermost s) h.no_for r))
+    by_production (line s) (none_opened _ _ _ tt h.no_if (none_opened _ _ _ tt h.no_for (none_opened _ _ (defining s.outermost s) (has_defining s.outermost s) h.no_while r)))
 
 def_opened : (d : ℕ) (b : Bool) (s : Site) (ts rest : List Token) (x : Token) (o : Outcome) → d ≢ 0 → Permitted b (keyword keyword'.Def) ts x rest →
     Reads d (function_body x.line) rest o → Reads d (choose (defining b s) ts) ts o

@@ -11,11 +11,11 @@ use Rattle.py_parse.specs.Grammar as g
 use Rattle.py_parse.specs.Grammar.{Part, Body, productions, gives, takes, opens, reads, deeper}
 use Rattle.py_parse.specs.Parses.{Among, here, there, Spells, given, taken, opened, read, nested}
 use Rattle.py_parse.specs.Reading.{ok, Reads, r_given, r_taken, r_opened, r_read, r_nested, pick, choose, leads, beginning}
-use Rattle.py_parse.proofs.Follow.{blocked, s_free, s_atom, s_product, s_sum, s_cmp, s_and, s_expr, s_items, s_args, s_names, s_tests, s_upper, s_small, s_line, s_script}
+use Rattle.py_parse.proofs.Follow.{blocked, s_free, s_pieces, s_atom, s_product, s_sum, s_cmp, s_and, s_plain, s_expr, s_items, s_args, s_names, s_tests, s_upper, s_small, s_line, s_script}
 
 -- the tokens that would go on with a level of operators, and with a part
 abbrev pub level_stops : Level → List Want
-level_stops level'.Or = s_expr
+level_stops level'.Or = s_plain
 level_stops level'.And = s_and
 level_stops level'.Sum = s_sum
 level_stops level'.Product = s_product
@@ -41,6 +41,9 @@ stops g.exprs = s_items
 stops (g.exprs_rest a) = s_items
 stops g.items = s_items
 stops g.items_rest = s_items
+stops g.expr = s_expr
+stops (g.choice_rest a) = s_expr
+stops (g.choice_body a b) = s_expr
 stops (g.chained a) = level_stops a
 stops (g.operations a) = level_stops a
 stops g.negation = s_cmp
@@ -53,7 +56,12 @@ stops g.posted = s_atom
 stops g.links = s_atom
 stops g.one_link = s_free
 stops (g.call_body a) = s_free
-stops g.atom = s_free
+stops g.atom = s_pieces
+stops (g.text_rest a b) = s_pieces
+stops g.some_pieces = s_pieces
+stops g.more_pieces = s_pieces
+stops g.parts = s_pieces
+stops (g.field_body a) = s_free
 stops (g.grouped a) = s_free
 stops (g.listed a) = s_free
 stops (g.listed_rest a b) = s_free

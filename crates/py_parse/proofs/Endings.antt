@@ -10,14 +10,14 @@ use Rattle.py_parse.specs.declared.terminal.Terminal.TheVariants as terminal'
 use Rattle.py_parse.specs.Terminals.{Want, one}
 use Rattle.py_parse.specs.Grammar as g
 use Rattle.py_parse.specs.Grammar.{Body, productions, gives, takes, opens, reads, when, first_named}
-use Rattle.py_parse.proofs.Follow.{s_free, s_atom, s_product, s_sum, s_cmp, s_and, s_expr, s_items, s_args, s_names, s_tests, s_upper, s_small, s_line, s_script, f_line}
+use Rattle.py_parse.proofs.Follow.{s_free, s_pieces, s_atom, s_product, s_sum, s_cmp, s_and, s_plain, s_expr, s_items, s_args, s_names, s_tests, s_upper, s_small, s_line, s_script, f_line}
 use Rattle.py_parse.proofs.Complete.{Fine, stops}
 use Rattle.py_token.specs.declared.mark.Mark.{Mark}
 use Rattle.py_token.specs.declared.token.TokenKind.TheVariants as kind'
 use Rattle.py_parse.specs.declared.site.Site.{Site}
 use Rattle.py_parse.proofs.First.{wanted, first_takes, first_part, followed_first, followed_end, followed_maybe}
-use Rattle.py_parse.proofs.Wants.{apart_6, less_7, less_8, less_9, apart_10, apart_11, apart_12, apart_13, apart_14, less_15, less_16, apart_17, apart_18, apart_19, less_20, less_21, less_22, apart_23, less_24, apart_25, less_26, less_27, less_28, apart_29, less_30, less_31, less_32, apart_33, less_34, apart_35, apart_36, apart_37, apart_38, apart_39, apart_40, less_41, less_42, less_43, apart_44, less_45, apart_46, apart_47, less_48, apart_49, apart_50, less_51, apart_52, less_53, apart_54, less_55, apart_56, less_57}
-use Rattle.py_parse.proofs.Beginnings.{maybe_links, maybe_compared, maybe_exprs_rest, maybe_items_rest, maybe_pairs_rest, maybe_args_rest, maybe_assigned, maybe_tests, maybe_branches, maybe_script, maybe_named_rest, maybe_defaults_rest, all_listed_rest, all_subscript_rest, all_statements_rest, all_more_lines, maybe_op_Or, maybe_op_And, maybe_op_Sum, maybe_op_Product}
+use Rattle.py_parse.proofs.Wants.{apart_6, less_7, less_8, less_9, apart_10, apart_11, apart_12, apart_13, apart_14, less_15, less_16, apart_17, apart_18, apart_19, less_20, less_21, less_22, apart_23, less_24, apart_25, less_26, less_27, less_28, apart_29, less_30, less_31, less_32, apart_33, less_34, apart_35, apart_36, apart_37, apart_38, apart_39, apart_40, less_41, less_42, less_43, apart_44, less_45, apart_46, apart_47, less_48, apart_49, apart_50, less_51, apart_52, less_53, apart_54, less_55, apart_56, less_57, if_after_plain, expr_plain, plain_plain, else_after_plain, brace_after_expr, pieces_pieces, links_after_pieces, atom_pieces, pieces_free, parts_after_free}
+use Rattle.py_parse.proofs.Beginnings.{maybe_links, maybe_compared, maybe_exprs_rest, maybe_items_rest, maybe_pairs_rest, maybe_args_rest, maybe_assigned, maybe_tests, maybe_branches, maybe_script, maybe_named_rest, maybe_defaults_rest, all_listed_rest, all_subscript_rest, all_statements_rest, all_more_lines, maybe_op_Or, maybe_op_And, maybe_op_Sum, maybe_op_Product, maybe_choice_rest, all_some_pieces, maybe_more_pieces, maybe_text_rest, all_parts}
 
 abbrev pub AllFine : List Want → List Body → Type 0
 AllFine ss [] = Unit {0}
@@ -44,16 +44,16 @@ pub fine_script : AllFine s_script (productions g.script)
 fine_script = ((λ u. (followed_maybe s_script _ _ f_line s_line maybe_script apart_6 (λ u. followed_end s_script _ s_line less_7), (λ u. (followed_end s_script _ s_script less_8, tt)))), (tt, tt))
 
 pub fine_line : (a : Site) → AllFine s_line (productions (g.line a))
-fine_line a = ((λ x. (λ u. (followed_first s_line _ ((g.mark mark'.Colon) ∷ []) s_expr (first_takes (g.mark mark'.Colon) _ ((g.mark mark'.Colon) ∷ []) wanted) apart_13, (λ x. (λ u. (followed_maybe s_line _ _ ((g.keyword keyword'.Elif) ∷ (g.keyword keyword'.Else) ∷ []) s_free (maybe_branches a) apart_14 (λ u. followed_end s_line _ s_free less_9), (λ u. (followed_end s_line _ s_line less_15, tt)))))))), ((λ x. (λ u. (followed_first s_line _ ((g.keyword keyword'.In) ∷ []) s_names (first_takes (g.keyword keyword'.In) _ ((g.keyword keyword'.In) ∷ []) wanted) apart_11, (λ x. (λ u. (followed_first s_line _ ((g.mark mark'.Colon) ∷ []) s_items (first_takes (g.mark mark'.Colon) _ ((g.mark mark'.Colon) ∷ []) wanted) apart_12, (λ x. (λ u. (followed_end s_line _ s_free less_9, tt))))))))), (fine_when s_line a.outermost (opens (g.keyword keyword'.Def) (λ x. g.function_body x.line)) (reads (g.statements a) (λ t. gives (tree.simple t)) ∷ []) ((λ x. (λ x. (λ x. (λ u. (followed_first s_line _ ((g.mark mark'.Colon) ∷ []) s_free (first_takes (g.mark mark'.Colon) _ ((g.mark mark'.Colon) ∷ []) wanted) apart_10, (λ x. (λ u. (followed_end s_line _ s_free less_9, tt))))))))) ((λ u. (followed_end s_line _ s_free less_9, tt)), tt))))
+fine_line a = ((λ x. (λ u. (followed_first s_line _ ((g.mark mark'.Colon) ∷ []) s_expr (first_takes (g.mark mark'.Colon) _ ((g.mark mark'.Colon) ∷ []) wanted) apart_13, (λ x. (λ u. (followed_maybe s_line _ _ ((g.keyword keyword'.Elif) ∷ (g.keyword keyword'.Else) ∷ []) s_free (maybe_branches a) apart_14 (λ u. followed_end s_line _ s_free less_9), (λ u. (followed_end s_line _ s_line less_15, tt)))))))), ((λ x. (λ u. (followed_first s_line _ ((g.keyword keyword'.In) ∷ []) s_names (first_takes (g.keyword keyword'.In) _ ((g.keyword keyword'.In) ∷ []) wanted) apart_11, (λ x. (λ u. (followed_first s_line _ ((g.mark mark'.Colon) ∷ []) s_items (first_takes (g.mark mark'.Colon) _ ((g.mark mark'.Colon) ∷ []) wanted) apart_12, (λ x. (λ u. (followed_end s_line _ s_free less_9, tt))))))))), ((λ x. (λ u. (followed_first s_line _ ((g.mark mark'.Colon) ∷ []) s_expr (first_takes (g.mark mark'.Colon) _ ((g.mark mark'.Colon) ∷ []) wanted) apart_13, (λ x. (λ u. (followed_end s_line _ s_free less_9, tt)))))), (fine_when s_line a.outermost (opens (g.keyword keyword'.Def) (λ x. g.function_body x.line)) (reads (g.statements a) (λ t. gives (tree.simple t)) ∷ []) ((λ x. (λ x. (λ x. (λ u. (followed_first s_line _ ((g.mark mark'.Colon) ∷ []) s_free (first_takes (g.mark mark'.Colon) _ ((g.mark mark'.Colon) ∷ []) wanted) apart_10, (λ x. (λ u. (followed_end s_line _ s_free less_9, tt))))))))) ((λ u. (followed_end s_line _ s_free less_9, tt)), tt)))))
 
 pub fine_branches : (a : Site) → AllFine s_line (productions (g.branches a))
 fine_branches a = ((λ x. (λ u. (followed_first s_line _ ((g.mark mark'.Colon) ∷ []) s_expr (first_takes (g.mark mark'.Colon) _ ((g.mark mark'.Colon) ∷ []) wanted) apart_13, (λ x. (λ u. (followed_maybe s_line _ _ ((g.keyword keyword'.Elif) ∷ (g.keyword keyword'.Else) ∷ []) s_free (maybe_branches a) apart_14 (λ u. followed_end s_line _ s_free less_9), (λ u. (followed_end s_line _ s_line less_15, tt)))))))), ((λ x. (λ x. (λ u. (followed_end s_line _ s_free less_9, tt)))), (tt, tt)))
 
 pub fine_block : (a : Site) → AllFine s_free (productions (g.block a))
-fine_block a = ((λ x. (λ x. (λ u. (followed_first s_free _ ((one terminal'.Dedent) ∷ (g.keyword keyword'.If) ∷ (g.keyword keyword'.For) ∷ (g.keyword keyword'.Def) ∷ (g.keyword keyword'.Pass) ∷ (g.keyword keyword'.From) ∷ (g.keyword keyword'.Break) ∷ (g.keyword keyword'.Continue) ∷ (g.keyword keyword'.Return) ∷ (g.keyword keyword'.Not) ∷ (g.mark mark'.Minus) ∷ (one terminal'.Bracket) ∷ (one terminal'.Leaf) ∷ []) s_line (first_part _ _ ((one terminal'.Dedent) ∷ (g.keyword keyword'.If) ∷ (g.keyword keyword'.For) ∷ (g.keyword keyword'.Def) ∷ (g.keyword keyword'.Pass) ∷ (g.keyword keyword'.From) ∷ (g.keyword keyword'.Break) ∷ (g.keyword keyword'.Continue) ∷ (g.keyword keyword'.Return) ∷ (g.keyword keyword'.Not) ∷ (g.mark mark'.Minus) ∷ (one terminal'.Bracket) ∷ (one terminal'.Leaf) ∷ []) ((one terminal'.Dedent) ∷ (g.keyword keyword'.If) ∷ (g.keyword keyword'.For) ∷ (g.keyword keyword'.Def) ∷ (g.keyword keyword'.Pass) ∷ (g.keyword keyword'.From) ∷ (g.keyword keyword'.Break) ∷ (g.keyword keyword'.Continue) ∷ (g.keyword keyword'.Return) ∷ (g.keyword keyword'.Not) ∷ (g.mark mark'.Minus) ∷ (one terminal'.Bracket) ∷ (one terminal'.Leaf) ∷ []) (all_more_lines a) (λ k h. h)) apart_17, (λ u. (followed_end s_free _ s_free less_16, tt)))))), ((λ u. (followed_end s_free _ s_free less_16, tt)), tt))
+fine_block a = ((λ x. (λ x. (λ u. (followed_first s_free _ ((one terminal'.Dedent) ∷ (g.keyword keyword'.If) ∷ (g.keyword keyword'.For) ∷ (g.keyword keyword'.While) ∷ (g.keyword keyword'.Def) ∷ (g.keyword keyword'.Pass) ∷ (g.keyword keyword'.From) ∷ (g.keyword keyword'.Break) ∷ (g.keyword keyword'.Continue) ∷ (g.keyword keyword'.Return) ∷ (g.keyword keyword'.Not) ∷ (g.mark mark'.Minus) ∷ (one terminal'.Bracket) ∷ (one terminal'.Text) ∷ (one terminal'.FStart) ∷ (one terminal'.Leaf) ∷ []) s_line (first_part _ _ ((one terminal'.Dedent) ∷ (g.keyword keyword'.If) ∷ (g.keyword keyword'.For) ∷ (g.keyword keyword'.While) ∷ (g.keyword keyword'.Def) ∷ (g.keyword keyword'.Pass) ∷ (g.keyword keyword'.From) ∷ (g.keyword keyword'.Break) ∷ (g.keyword keyword'.Continue) ∷ (g.keyword keyword'.Return) ∷ (g.keyword keyword'.Not) ∷ (g.mark mark'.Minus) ∷ (one terminal'.Bracket) ∷ (one terminal'.Text) ∷ (one terminal'.FStart) ∷ (one terminal'.Leaf) ∷ []) ((one terminal'.Dedent) ∷ (g.keyword keyword'.If) ∷ (g.keyword keyword'.For) ∷ (g.keyword keyword'.While) ∷ (g.keyword keyword'.Def) ∷ (g.keyword keyword'.Pass) ∷ (g.keyword keyword'.From) ∷ (g.keyword keyword'.Break) ∷ (g.keyword keyword'.Continue) ∷ (g.keyword keyword'.Return) ∷ (g.keyword keyword'.Not) ∷ (g.mark mark'.Minus) ∷ (one terminal'.Bracket) ∷ (one terminal'.Text) ∷ (one terminal'.FStart) ∷ (one terminal'.Leaf) ∷ []) (all_more_lines a) (λ k h. h)) apart_17, (λ u. (followed_end s_free _ s_free less_16, tt)))))), ((λ u. (followed_end s_free _ s_free less_16, tt)), tt))
 
 pub fine_more_lines : (a : Site) → AllFine s_free (productions (g.more_lines a))
-fine_more_lines a = ((λ x. tt), ((λ u. (followed_first s_free _ ((one terminal'.Dedent) ∷ (g.keyword keyword'.If) ∷ (g.keyword keyword'.For) ∷ (g.keyword keyword'.Def) ∷ (g.keyword keyword'.Pass) ∷ (g.keyword keyword'.From) ∷ (g.keyword keyword'.Break) ∷ (g.keyword keyword'.Continue) ∷ (g.keyword keyword'.Return) ∷ (g.keyword keyword'.Not) ∷ (g.mark mark'.Minus) ∷ (one terminal'.Bracket) ∷ (one terminal'.Leaf) ∷ []) s_line (first_part _ _ ((one terminal'.Dedent) ∷ (g.keyword keyword'.If) ∷ (g.keyword keyword'.For) ∷ (g.keyword keyword'.Def) ∷ (g.keyword keyword'.Pass) ∷ (g.keyword keyword'.From) ∷ (g.keyword keyword'.Break) ∷ (g.keyword keyword'.Continue) ∷ (g.keyword keyword'.Return) ∷ (g.keyword keyword'.Not) ∷ (g.mark mark'.Minus) ∷ (one terminal'.Bracket) ∷ (one terminal'.Leaf) ∷ []) ((one terminal'.Dedent) ∷ (g.keyword keyword'.If) ∷ (g.keyword keyword'.For) ∷ (g.keyword keyword'.Def) ∷ (g.keyword keyword'.Pass) ∷ (g.keyword keyword'.From) ∷ (g.keyword keyword'.Break) ∷ (g.keyword keyword'.Continue) ∷ (g.keyword keyword'.Return) ∷ (g.keyword keyword'.Not) ∷ (g.mark mark'.Minus) ∷ (one terminal'.Bracket) ∷ (one terminal'.Leaf) ∷ []) (all_more_lines a) (λ k h. h)) apart_17, (λ u. (followed_end s_free _ s_free less_16, tt)))), tt))
+fine_more_lines a = ((λ x. tt), ((λ u. (followed_first s_free _ ((one terminal'.Dedent) ∷ (g.keyword keyword'.If) ∷ (g.keyword keyword'.For) ∷ (g.keyword keyword'.While) ∷ (g.keyword keyword'.Def) ∷ (g.keyword keyword'.Pass) ∷ (g.keyword keyword'.From) ∷ (g.keyword keyword'.Break) ∷ (g.keyword keyword'.Continue) ∷ (g.keyword keyword'.Return) ∷ (g.keyword keyword'.Not) ∷ (g.mark mark'.Minus) ∷ (one terminal'.Bracket) ∷ (one terminal'.Text) ∷ (one terminal'.FStart) ∷ (one terminal'.Leaf) ∷ []) s_line (first_part _ _ ((one terminal'.Dedent) ∷ (g.keyword keyword'.If) ∷ (g.keyword keyword'.For) ∷ (g.keyword keyword'.While) ∷ (g.keyword keyword'.Def) ∷ (g.keyword keyword'.Pass) ∷ (g.keyword keyword'.From) ∷ (g.keyword keyword'.Break) ∷ (g.keyword keyword'.Continue) ∷ (g.keyword keyword'.Return) ∷ (g.keyword keyword'.Not) ∷ (g.mark mark'.Minus) ∷ (one terminal'.Bracket) ∷ (one terminal'.Text) ∷ (one terminal'.FStart) ∷ (one terminal'.Leaf) ∷ []) ((one terminal'.Dedent) ∷ (g.keyword keyword'.If) ∷ (g.keyword keyword'.For) ∷ (g.keyword keyword'.While) ∷ (g.keyword keyword'.Def) ∷ (g.keyword keyword'.Pass) ∷ (g.keyword keyword'.From) ∷ (g.keyword keyword'.Break) ∷ (g.keyword keyword'.Continue) ∷ (g.keyword keyword'.Return) ∷ (g.keyword keyword'.Not) ∷ (g.mark mark'.Minus) ∷ (one terminal'.Bracket) ∷ (one terminal'.Text) ∷ (one terminal'.FStart) ∷ (one terminal'.Leaf) ∷ []) (all_more_lines a) (λ k h. h)) apart_17, (λ u. (followed_end s_free _ s_free less_16, tt)))), tt))
 
 pub fine_statements : (a : Site) → AllFine s_free (productions (g.statements a))
 fine_statements a = ((λ u. (followed_first s_free _ ((one terminal'.Newline) ∷ (g.mark mark'.Semicolon) ∷ []) s_small (first_part _ _ ((one terminal'.Newline) ∷ (g.mark mark'.Semicolon) ∷ []) ((one terminal'.Newline) ∷ (g.mark mark'.Semicolon) ∷ []) (all_statements_rest a) (λ k h. h)) apart_18, (λ u. (followed_end s_free _ s_free less_16, tt)))), tt)
@@ -118,8 +118,32 @@ fine_constants = ((λ x. tt), tt)
 pub fine_unary : AllFine s_atom (productions g.unary)
 fine_unary = ((λ x. (λ u. (followed_end s_atom _ s_atom less_32, tt))), ((λ u. (followed_end s_atom _ s_atom less_32, tt)), tt))
 
+pub fine_expr : AllFine s_expr (productions g.expr)
+fine_expr = ((λ u. (followed_maybe s_expr _ _ ((g.keyword keyword'.If) ∷ []) s_plain (maybe_choice_rest _) if_after_plain (λ u. followed_end s_expr _ s_plain expr_plain), (λ u. (followed_end s_expr _ s_expr less_45, tt)))), tt)
+
+pub fine_choice_rest : (a : Tree) → AllFine s_expr (productions (g.choice_rest a))
+fine_choice_rest a = ((λ x. (λ u. (followed_end s_expr _ s_expr less_45, tt))), (tt, tt))
+
+pub fine_choice_body : (a : ℕ) (b : Tree) → AllFine s_expr (productions (g.choice_body a b))
+fine_choice_body a b = ((λ u. (followed_first s_expr _ ((g.keyword keyword'.Else) ∷ []) s_plain (first_takes (g.keyword keyword'.Else) _ ((g.keyword keyword'.Else) ∷ []) wanted) else_after_plain, (λ x. (λ u. (followed_end s_expr _ s_expr less_45, tt))))), tt)
+
+pub fine_text_rest : (a : ℕ) (b : List ℕ) → AllFine s_pieces (productions (g.text_rest a b))
+fine_text_rest a b = ((λ u. (followed_end s_pieces _ s_pieces pieces_pieces, tt)), (tt, tt))
+
+pub fine_some_pieces : AllFine s_pieces (productions g.some_pieces)
+fine_some_pieces = ((λ x. (λ u. (followed_end s_pieces _ s_pieces pieces_pieces, tt))), ((λ x. (λ u. (followed_end s_pieces _ s_pieces pieces_pieces, tt))), tt))
+
+pub fine_more_pieces : AllFine s_pieces (productions g.more_pieces)
+fine_more_pieces = ((λ u. (followed_end s_pieces _ s_pieces pieces_pieces, tt)), (tt, tt))
+
+pub fine_parts : AllFine s_pieces (productions g.parts)
+fine_parts = ((λ x. (λ u. (followed_end s_pieces _ s_pieces pieces_pieces, tt))), ((λ x. (λ t. (followed_first s_pieces _ ((one terminal'.FPart) ∷ (g.mark mark'.OpenBrace) ∷ (one terminal'.FEnd) ∷ []) s_free (first_part _ _ ((one terminal'.FPart) ∷ (g.mark mark'.OpenBrace) ∷ (one terminal'.FEnd) ∷ []) ((one terminal'.FPart) ∷ (g.mark mark'.OpenBrace) ∷ (one terminal'.FEnd) ∷ []) all_parts (λ k h. h)) parts_after_free, (λ u. (followed_end s_pieces _ s_pieces pieces_pieces, tt))))), ((λ x. (λ u. (followed_end s_pieces _ s_pieces pieces_pieces, tt))), tt)))
+
+pub fine_field_body : (a : ℕ) → AllFine s_free (productions (g.field_body a))
+fine_field_body a = ((λ u. (followed_first s_free _ ((g.mark mark'.CloseBrace) ∷ []) s_expr (first_takes (g.mark mark'.CloseBrace) _ ((g.mark mark'.CloseBrace) ∷ []) wanted) brace_after_expr, (λ x. tt))), tt)
+
 pub fine_posted : AllFine s_atom (productions g.posted)
-fine_posted = ((λ u. (followed_maybe s_atom _ _ ((g.mark mark'.OpenParen) ∷ (g.mark mark'.OpenBracket) ∷ (g.mark mark'.Dot) ∷ []) s_free maybe_links apart_33 (λ u. followed_end s_atom _ s_free less_34), (λ u. (followed_end s_atom _ s_atom less_32, tt)))), tt)
+fine_posted = ((λ u. (followed_maybe s_atom _ _ ((g.mark mark'.OpenParen) ∷ (g.mark mark'.OpenBracket) ∷ (g.mark mark'.Dot) ∷ []) s_pieces maybe_links links_after_pieces (λ u. followed_end s_atom _ s_pieces atom_pieces), (λ u. (followed_end s_atom _ s_atom less_32, tt)))), tt)
 
 pub fine_links : AllFine s_atom (productions g.links)
 fine_links = ((λ u. (followed_maybe s_atom _ _ ((g.mark mark'.OpenParen) ∷ (g.mark mark'.OpenBracket) ∷ (g.mark mark'.Dot) ∷ []) s_free maybe_links apart_33 (λ u. followed_end s_atom _ s_free less_34), (λ u. (followed_end s_atom _ s_atom less_32, tt)))), (tt, tt))
@@ -130,8 +154,8 @@ fine_one_link = ((λ x. (λ u. (followed_end s_free _ s_free less_16, tt))), ((�
 pub fine_call_body : (a : ℕ) → AllFine s_free (productions (g.call_body a))
 fine_call_body a = ((λ u. (followed_first s_free _ ((g.mark mark'.CloseParen) ∷ []) s_args (first_takes (g.mark mark'.CloseParen) _ ((g.mark mark'.CloseParen) ∷ []) wanted) apart_23, (λ x. tt))), tt)
 
-pub fine_atom : AllFine s_free (productions g.atom)
-fine_atom = ((λ x. (λ u. (rw (display_free x.line x.kind) (followed_end s_free _ s_free less_16), tt))), ((λ x. tt), tt))
+pub fine_atom : AllFine s_pieces (productions g.atom)
+fine_atom = ((λ x. (λ u. (rw (display_free x.line x.kind) (followed_end s_pieces _ s_free pieces_free), tt))), ((λ x. (λ u. (followed_end s_pieces _ s_pieces pieces_pieces, tt))), ((λ x. (λ u. (followed_end s_pieces _ s_pieces pieces_pieces, tt))), ((λ x. tt), tt))))
 
 pub fine_grouped : (a : ℕ) → AllFine s_free (productions (g.grouped a))
 fine_grouped a = ((λ x. tt), ((λ u. (followed_first s_free _ ((g.mark mark'.CloseParen) ∷ []) s_items (first_takes (g.mark mark'.CloseParen) _ ((g.mark mark'.CloseParen) ∷ []) wanted) apart_35, (λ x. tt))), tt))
@@ -140,7 +164,7 @@ pub fine_listed : (a : ℕ) → AllFine s_free (productions (g.listed a))
 fine_listed a = ((λ x. tt), ((λ u. (followed_first s_free _ ((g.keyword keyword'.For) ∷ (g.mark mark'.Comma) ∷ (g.mark mark'.CloseBracket) ∷ []) s_expr (first_part _ _ ((g.keyword keyword'.For) ∷ (g.mark mark'.Comma) ∷ (g.mark mark'.CloseBracket) ∷ []) ((g.keyword keyword'.For) ∷ (g.mark mark'.Comma) ∷ (g.mark mark'.CloseBracket) ∷ []) (all_listed_rest _ _) (λ k h. h)) apart_36, (λ u. (followed_end s_free _ s_free less_16, tt)))), tt))
 
 pub fine_listed_rest : (a : ℕ) (b : Tree) → AllFine s_free (productions (g.listed_rest a b))
-fine_listed_rest a b = ((λ x. (λ u. (followed_first s_free _ ((g.keyword keyword'.In) ∷ []) s_names (first_takes (g.keyword keyword'.In) _ ((g.keyword keyword'.In) ∷ []) wanted) apart_11, (λ x. (λ u. (followed_maybe s_free _ _ ((g.keyword keyword'.If) ∷ []) s_expr maybe_tests apart_38 (λ u. followed_first s_free _ ((g.mark mark'.CloseBracket) ∷ []) s_expr (first_takes (g.mark mark'.CloseBracket) _ ((g.mark mark'.CloseBracket) ∷ []) wanted) apart_39), (λ u. (followed_first s_free _ ((g.mark mark'.CloseBracket) ∷ []) s_tests (first_takes (g.mark mark'.CloseBracket) _ ((g.mark mark'.CloseBracket) ∷ []) wanted) apart_40, (λ x. tt))))))))), ((λ u. (followed_first s_free _ ((g.mark mark'.CloseBracket) ∷ []) s_items (first_takes (g.mark mark'.CloseBracket) _ ((g.mark mark'.CloseBracket) ∷ []) wanted) apart_37, (λ x. tt))), tt))
+fine_listed_rest a b = ((λ x. (λ u. (followed_first s_free _ ((g.keyword keyword'.In) ∷ []) s_names (first_takes (g.keyword keyword'.In) _ ((g.keyword keyword'.In) ∷ []) wanted) apart_11, (λ x. (λ u. (followed_maybe s_free _ _ ((g.keyword keyword'.If) ∷ []) s_plain maybe_tests apart_38 (λ u. followed_first s_free _ ((g.mark mark'.CloseBracket) ∷ []) s_plain (first_takes (g.mark mark'.CloseBracket) _ ((g.mark mark'.CloseBracket) ∷ []) wanted) apart_39), (λ u. (followed_first s_free _ ((g.mark mark'.CloseBracket) ∷ []) s_tests (first_takes (g.mark mark'.CloseBracket) _ ((g.mark mark'.CloseBracket) ∷ []) wanted) apart_40, (λ x. tt))))))))), ((λ u. (followed_first s_free _ ((g.mark mark'.CloseBracket) ∷ []) s_items (first_takes (g.mark mark'.CloseBracket) _ ((g.mark mark'.CloseBracket) ∷ []) wanted) apart_37, (λ x. tt))), tt))
 
 pub fine_names : AllFine s_names (productions g.names)
 fine_names = ((λ x. (λ u. (followed_end s_names _ s_names less_41, tt))), tt)
@@ -149,7 +173,7 @@ pub fine_names_rest : AllFine s_names (productions g.names_rest)
 fine_names_rest = ((λ x. (λ u. (followed_end s_names _ s_names less_41, tt))), (tt, tt))
 
 pub fine_tests : AllFine s_tests (productions g.tests)
-fine_tests = ((λ x. (λ u. (followed_maybe s_tests _ _ ((g.keyword keyword'.If) ∷ []) s_expr maybe_tests apart_38 (λ u. followed_end s_tests _ s_expr less_42), (λ u. (followed_end s_tests _ s_tests less_43, tt))))), (tt, tt))
+fine_tests = ((λ x. (λ u. (followed_maybe s_tests _ _ ((g.keyword keyword'.If) ∷ []) s_plain maybe_tests apart_38 (λ u. followed_end s_tests _ s_plain less_42), (λ u. (followed_end s_tests _ s_tests less_43, tt))))), (tt, tt))
 
 pub fine_dict_body : (a : ℕ) → AllFine s_free (productions (g.dict_body a))
 fine_dict_body a = ((λ u. (followed_first s_free _ ((g.mark mark'.CloseBrace) ∷ []) s_items (first_takes (g.mark mark'.CloseBrace) _ ((g.mark mark'.CloseBrace) ∷ []) wanted) apart_44, (λ x. tt))), tt)
@@ -184,11 +208,11 @@ fine_named_args a = ((λ x. (λ x. (λ u. (followed_maybe s_args _ _ ((g.mark ma
 pub fine_named_rest : (a : List (List ℕ)) → AllFine s_args (productions (g.named_rest a))
 fine_named_rest a = ((λ x. (λ u. (followed_end s_args _ s_args less_24, tt))), (tt, tt))
 
-pub fine_chain_Or : AllFine s_expr (productions (g.chained level'.Or))
-fine_chain_Or = ((λ t. (followed_maybe s_expr _ _ ((one (terminal'.Operator level'.Or)) ∷ []) s_and maybe_op_Or apart_50 (λ u. followed_end s_expr _ s_and less_51), (λ u. (followed_end s_expr _ s_expr (λ k h. h), tt)))), tt)
+pub fine_chain_Or : AllFine s_plain (productions (g.chained level'.Or))
+fine_chain_Or = ((λ t. (followed_maybe s_plain _ _ ((one (terminal'.Operator level'.Or)) ∷ []) s_and maybe_op_Or apart_50 (λ u. followed_end s_plain _ s_and less_51), (λ u. (followed_end s_plain _ s_plain (λ k h. h), tt)))), tt)
 
-pub fine_op_Or : AllFine s_expr (productions (g.operations level'.Or))
-fine_op_Or = ((λ x t. (followed_maybe s_expr _ _ ((one (terminal'.Operator level'.Or)) ∷ []) s_and maybe_op_Or apart_50 (λ u. followed_end s_expr _ s_and less_51), (λ u. (followed_end s_expr _ s_expr (λ k h. h), tt)))), (tt, tt))
+pub fine_op_Or : AllFine s_plain (productions (g.operations level'.Or))
+fine_op_Or = ((λ x t. (followed_maybe s_plain _ _ ((one (terminal'.Operator level'.Or)) ∷ []) s_and maybe_op_Or apart_50 (λ u. followed_end s_plain _ s_and less_51), (λ u. (followed_end s_plain _ s_plain (λ k h. h), tt)))), (tt, tt))
 
 pub fine_chain_And : AllFine s_and (productions (g.chained level'.And))
 fine_chain_And = ((λ t. (followed_maybe s_and _ _ ((one (terminal'.Operator level'.And)) ∷ []) s_cmp maybe_op_And apart_52 (λ u. followed_end s_and _ s_cmp less_53), (λ u. (followed_end s_and _ s_and (λ k h. h), tt)))), tt)

@@ -30,6 +30,10 @@ abbrev pub kind_for : Terminal → TokenKind
 kind_for terminal'.Name = kind'.Name []
 kind_for terminal'.Integer = kind'.Integer 0
 kind_for terminal'.Text = kind'.Text []
+kind_for terminal'.FStart = kind'.FStart
+kind_for terminal'.FPart = kind'.FPart []
+kind_for terminal'.FEnd = kind'.FEnd
+kind_for terminal'.Piece = kind'.FStart
 kind_for terminal'.Newline = kind'.Newline
 kind_for terminal'.Indent = kind'.Indent
 kind_for terminal'.Dedent = kind'.Dedent
@@ -57,6 +61,10 @@ kind_fits : (t : Terminal) → is_of t (kind_for t) ≡ true
 kind_fits terminal'.Name = refl
 kind_fits terminal'.Integer = refl
 kind_fits terminal'.Text = refl
+kind_fits terminal'.FStart = refl
+kind_fits terminal'.FPart = refl
+kind_fits terminal'.FEnd = refl
+kind_fits terminal'.Piece = refl
 kind_fits terminal'.Newline = refl
 kind_fits terminal'.Indent = refl
 kind_fits terminal'.Dedent = refl
@@ -151,7 +159,7 @@ through : {d : ℕ} {p : Part} (q : Part) → Among (reads q gives) (productions
 through q a s = sample_by (reads q gives) a (fill_part q gives s (fill_end s.tree))
 
 s_leaf : (d : ℕ) → Sample d g.atom
-s_leaf d = sample_by _ (there here) (fill_token (one terminal'.Leaf) (λ x. gives (g.leaf_of x)) (fill_end _))
+s_leaf d = sample_by _ (there (there (there here))) (fill_token (one terminal'.Leaf) (λ x. gives (g.leaf_of x)) (fill_end _))
 
 s_links : (d : ℕ) → Sample d g.links
 s_links d = nothing tree.nil (there here)
@@ -186,8 +194,17 @@ s_negation d = through g.comparison (there here) (s_comparison d)
 s_and : (d : ℕ) → Sample d (g.chained level'.And)
 s_and d = s_chain d level'.And (s_negation d)
 
+s_plain : (d : ℕ) → Sample d g.plain
+s_plain d = s_chain d level'.Or (s_and d)
+
+s_choice_rest : (d : ℕ) (t : Tree) → Sample d (g.choice_rest t)
+s_choice_rest d t = nothing t (there here)
+
 s_expr : (d : ℕ) → Sample d g.expr
-s_expr d = s_chain d level'.Or (s_and d)
+s_expr d = sample_by _ here (fill_part g.plain _ (s_plain d) (fill_part (g.choice_rest _) _ (s_choice_rest d _) (fill_end _)))
+
+s_parts : (d : ℕ) → Sample d g.parts
+s_parts d = sample_by _ (there (there here)) (fill_token (one terminal'.FEnd) _ (fill_part g.more_pieces _ (nothing tree.nil (there here)) (fill_end _)))
 
 s_exprs_rest : (d : ℕ) (t : Tree) → Sample d (g.exprs_rest t)
 s_exprs_rest d t = nothing t (there here)
@@ -212,7 +229,7 @@ last_of_line true a b = there here
 last_of_line false a b = here
 
 s_line : (d : ℕ) (s : Site) → Sample d (g.line s)
-s_line d s = sample_by _ (there (there (last_of_line s.outermost _ _))) (fill_part (g.statements s) _ (s_statements d s) (fill_end _))
+s_line d s = sample_by _ (there (there (there (last_of_line s.outermost _ _)))) (fill_part (g.statements s) _ (s_statements d s) (fill_end _))
 
 last_of_two : (v w : Bool) (a b c : Body) → Among c (g.when v a (g.when w b (c ∷ [])))
 last_of_two true true a b c = there (there here)
@@ -246,7 +263,10 @@ sample d g.exprs = s_exprs d
 sample d (g.exprs_rest a) = s_exprs_rest d a
 sample d g.items = nothing tree.absent (there here)
 sample d g.items_rest = nothing tree.nil (there here)
-sample d (g.chained level'.Or) = s_expr d
+sample d g.expr = s_expr d
+sample d (g.choice_rest a) = s_choice_rest d a
+sample d (g.choice_body a b) = sample_by _ here (fill_part g.plain _ (s_plain d) (fill_token (g.keyword keyword'.Else) _ (fill_part g.expr _ (s_expr d) (fill_end _))))
+sample d (g.chained level'.Or) = s_plain d
 sample d (g.chained level'.And) = s_and d
 sample d (g.chained level'.Sum) = s_sum d
 sample d (g.chained level'.Product) = s_product d
@@ -262,6 +282,11 @@ sample d g.links = s_links d
 sample d g.one_link = sample_by _ (there (there here)) (fill_token (g.mark mark'.Dot) _ (fill_token (one terminal'.Name) _ (fill_end _)))
 sample d (g.call_body a) = sample_by _ here (fill_part g.args _ (nothing tree.nil (there here)) (fill_token (g.mark mark'.CloseParen) _ (fill_end _)))
 sample d g.atom = s_leaf d
+sample d (g.text_rest a b) = nothing (tree.text a b) (there here)
+sample d g.some_pieces = sample_by _ (there here) (fill_token (one terminal'.FStart) _ (fill_part g.parts _ (s_parts d) (fill_end _)))
+sample d g.more_pieces = nothing tree.nil (there here)
+sample d g.parts = s_parts d
+sample d (g.field_body a) = sample_by _ here (fill_part g.expr _ (s_expr d) (fill_token (g.mark mark'.CloseBrace) _ (fill_end _)))
 sample d (g.grouped a) = sample_by _ here (fill_token (g.mark mark'.CloseParen) _ (fill_end _))
 sample d (g.listed a) = sample_by _ here (fill_token (g.mark mark'.CloseBracket) _ (fill_end _))
 sample d (g.listed_rest a b) = sample_by _ (there here) (fill_part g.items_rest _ (nothing tree.nil (there here)) (fill_token (g.mark mark'.CloseBracket) _ (fill_end _)))

@@ -77,3 +77,14 @@ pub covers_read : (p : Part) (f g : Tree → Body) → ((u : Tree) → Covers (f
     (d : ℕ) (ts : List Token) (o : Outcome) → Reads d (reads p f) ts o → Reads d (reads p g) ts o
 covers_read p f g h d ts o (r_read u rest r s) = r_read u rest r (h u d rest o s)
 covers_read p f g h d ts o (r_part_fault r) = r_part_fault r
+
+pub covers_opened : (w : Want) (f g : Token → Body) → ((x : Token) → Covers (f x) (g x)) →
+    (d : ℕ) (ts : List Token) (o : Outcome) → Reads d (opens w f) ts o → Reads d (opens w g) ts o
+covers_opened w f g h _ _ o (r_opened {d = d} {x = x} {ts = rest} p r) = r_opened p (h x (suc d) rest o r)
+covers_opened w f g h _ _ o (r_deep p) = r_deep p
+covers_opened w f g h _ _ o (r_unopened p) = r_unopened p
+
+pub covers_nested : (p : Part) (f g : Tree → Body) → ((u : Tree) → Covers (f u) (g u)) →
+    (d : ℕ) (ts : List Token) (o : Outcome) → Reads d (deeper p f) ts o → Reads d (deeper p g) ts o
+covers_nested p f g h _ ts o (r_nested {d = d} u rest r s) = r_nested u rest r (h u (suc d) rest o s)
+covers_nested p f g h _ ts o (r_nested_fault r) = r_nested_fault r

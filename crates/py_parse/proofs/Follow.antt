@@ -139,15 +139,19 @@ every_mark P h x = every_mark_in P all_marks x h (place_marks x)
 -- a test that holds of every kind of token
 pub every_kind : (P : TokenKind → Bool) → list_all (λ w. P (kind'.Word w)) all_words ≡ true → list_all (λ m. P (kind'.Mark m)) all_marks ≡ true →
     ((n : List ℕ) → P (kind'.Name n) ≡ true) → ((n : ℕ) → P (kind'.Integer n) ≡ true) → ((t : List ℕ) → P (kind'.Text t) ≡ true) →
+    P kind'.FStart ≡ true → ((t : List ℕ) → P (kind'.FPart t) ≡ true) → P kind'.FEnd ≡ true →
     P kind'.Newline ≡ true → P kind'.Indent ≡ true → P kind'.Dedent ≡ true → (k : TokenKind) → P k ≡ true
-every_kind P w m n i t nl ind ded (kind'.Name x) = n x
-every_kind P w m n i t nl ind ded (kind'.Integer x) = i x
-every_kind P w m n i t nl ind ded (kind'.Text x) = t x
-every_kind P w m n i t nl ind ded (kind'.Word x) = every_word (λ v. P (kind'.Word v)) w x
-every_kind P w m n i t nl ind ded (kind'.Mark x) = every_mark (λ v. P (kind'.Mark v)) m x
-every_kind P w m n i t nl ind ded kind'.Newline = nl
-every_kind P w m n i t nl ind ded kind'.Indent = ind
-every_kind P w m n i t nl ind ded kind'.Dedent = ded
+every_kind P w m n i t fs fp fe nl ind ded (kind'.Name x) = n x
+every_kind P w m n i t fs fp fe nl ind ded (kind'.Integer x) = i x
+every_kind P w m n i t fs fp fe nl ind ded (kind'.Text x) = t x
+every_kind P w m n i t fs fp fe nl ind ded (kind'.Word x) = every_word (λ v. P (kind'.Word v)) w x
+every_kind P w m n i t fs fp fe nl ind ded (kind'.Mark x) = every_mark (λ v. P (kind'.Mark v)) m x
+every_kind P w m n i t fs fp fe nl ind ded kind'.FStart = fs
+every_kind P w m n i t fs fp fe nl ind ded (kind'.FPart x) = fp x
+every_kind P w m n i t fs fp fe nl ind ded kind'.FEnd = fe
+every_kind P w m n i t fs fp fe nl ind ded kind'.Newline = nl
+every_kind P w m n i t fs fp fe nl ind ded kind'.Indent = ind
+every_kind P w m n i t fs fp fe nl ind ded kind'.Dedent = ded
 
 abbrev pub excludes : List Want → List Want → TokenKind → Bool
 excludes fs ss k = not (any_fits fs k && any_fits ss k)
@@ -168,41 +172,47 @@ covered false false h e = refl
 abbrev pub s_free : List Want
 s_free = []
 
+abbrev pub s_pieces : List Want
+s_pieces = (one terminal'.Text) ∷ (one terminal'.FStart) ∷ []
+
 abbrev pub s_atom : List Want
-s_atom = (one terminal'.Link) ∷ []
+s_atom = (one terminal'.Link) ∷ (one terminal'.Text) ∷ (one terminal'.FStart) ∷ []
 
 abbrev pub s_product : List Want
-s_product = (one (terminal'.Operator level'.Product)) ∷ (one terminal'.Link) ∷ []
+s_product = (one (terminal'.Operator level'.Product)) ∷ (one terminal'.Link) ∷ (one terminal'.Text) ∷ (one terminal'.FStart) ∷ []
 
 abbrev pub s_sum : List Want
-s_sum = (one (terminal'.Operator level'.Sum)) ∷ (one (terminal'.Operator level'.Product)) ∷ (one terminal'.Link) ∷ []
+s_sum = (one (terminal'.Operator level'.Sum)) ∷ (one (terminal'.Operator level'.Product)) ∷ (one terminal'.Link) ∷ (one terminal'.Text) ∷ (one terminal'.FStart) ∷ []
 
 abbrev pub s_cmp : List Want
-s_cmp = (one terminal'.Comparison) ∷ (g.keyword keyword'.Not) ∷ (g.keyword keyword'.Is) ∷ (one (terminal'.Operator level'.Sum)) ∷ (one (terminal'.Operator level'.Product)) ∷ (one terminal'.Link) ∷ []
+s_cmp = (one terminal'.Comparison) ∷ (g.keyword keyword'.Not) ∷ (g.keyword keyword'.Is) ∷ (one (terminal'.Operator level'.Sum)) ∷ (one (terminal'.Operator level'.Product)) ∷ (one terminal'.Link) ∷ (one terminal'.Text) ∷ (one terminal'.FStart) ∷ []
 
 abbrev pub s_and : List Want
-s_and = (one (terminal'.Operator level'.And)) ∷ (one terminal'.Comparison) ∷ (g.keyword keyword'.Not) ∷ (g.keyword keyword'.Is) ∷ (one (terminal'.Operator level'.Sum)) ∷ (one (terminal'.Operator level'.Product)) ∷ (one terminal'.Link) ∷ []
+s_and = (one (terminal'.Operator level'.And)) ∷ (one terminal'.Comparison) ∷ (g.keyword keyword'.Not) ∷ (g.keyword keyword'.Is) ∷ (one (terminal'.Operator level'.Sum)) ∷ (one (terminal'.Operator level'.Product)) ∷ (one terminal'.Link) ∷ (one terminal'.Text) ∷ (one terminal'.FStart) ∷ []
+
+abbrev pub s_plain : List Want
+s_plain = (one (terminal'.Operator level'.Or)) ∷ (one (terminal'.Operator level'.And)) ∷ (one terminal'.Comparison) ∷ (g.keyword keyword'.Not) ∷ (g.keyword keyword'.Is) ∷ (one (terminal'.Operator level'.Sum)) ∷ (one (terminal'.Operator level'.Product)) ∷ (one terminal'.Link) ∷ (one terminal'.Text) ∷ (one terminal'.FStart) ∷ []
 
 abbrev pub s_expr : List Want
-s_expr = (one (terminal'.Operator level'.Or)) ∷ (one (terminal'.Operator level'.And)) ∷ (one terminal'.Comparison) ∷ (g.keyword keyword'.Not) ∷ (g.keyword keyword'.Is) ∷ (one (terminal'.Operator level'.Sum)) ∷ (one (terminal'.Operator level'.Product)) ∷ (one terminal'.Link) ∷ []
+s_expr = (g.keyword keyword'.If) ∷ (one (terminal'.Operator level'.Or)) ∷ (one (terminal'.Operator level'.And)) ∷ (one terminal'.Comparison) ∷ (g.keyword keyword'.Not) ∷ (g.keyword keyword'.Is) ∷ (one (terminal'.Operator level'.Sum)) ∷ (one (terminal'.Operator level'.Product)) ∷ (one terminal'.Link) ∷ (one terminal'.Text) ∷ (one terminal'.FStart) ∷ []
 
 abbrev pub s_items : List Want
-s_items = (g.mark mark'.Comma) ∷ (one terminal'.Expression) ∷ (one (terminal'.Operator level'.Or)) ∷ (one (terminal'.Operator level'.And)) ∷ (one terminal'.Comparison) ∷ (g.keyword keyword'.Not) ∷ (g.keyword keyword'.Is) ∷ (one (terminal'.Operator level'.Sum)) ∷ (one (terminal'.Operator level'.Product)) ∷ (one terminal'.Link) ∷ []
+s_items = (g.mark mark'.Comma) ∷ (one terminal'.Expression) ∷ (g.keyword keyword'.If) ∷ (one (terminal'.Operator level'.Or)) ∷ (one (terminal'.Operator level'.And)) ∷ (one terminal'.Comparison) ∷ (g.keyword keyword'.Not) ∷ (g.keyword keyword'.Is) ∷ (one (terminal'.Operator level'.Sum)) ∷ (one (terminal'.Operator level'.Product)) ∷ (one terminal'.Link) ∷ (one terminal'.Text) ∷ (one terminal'.FStart) ∷ []
 
 abbrev pub s_args : List Want
-s_args = (g.mark mark'.Assign) ∷ (g.mark mark'.Comma) ∷ (one terminal'.Expression) ∷ (one (terminal'.Operator level'.Or)) ∷ (one (terminal'.Operator level'.And)) ∷ (one terminal'.Comparison) ∷ (g.keyword keyword'.Not) ∷ (g.keyword keyword'.Is) ∷ (one (terminal'.Operator level'.Sum)) ∷ (one (terminal'.Operator level'.Product)) ∷ (one terminal'.Link) ∷ []
+s_args = (g.mark mark'.Assign) ∷ (g.mark mark'.Comma) ∷ (one terminal'.Expression) ∷ (g.keyword keyword'.If) ∷ (one (terminal'.Operator level'.Or)) ∷ (one (terminal'.Operator level'.And)) ∷ (one terminal'.Comparison) ∷ (g.keyword keyword'.Not) ∷ (g.keyword keyword'.Is) ∷ (one (terminal'.Operator level'.Sum)) ∷ (one (terminal'.Operator level'.Product)) ∷ (one terminal'.Link) ∷ (one terminal'.Text) ∷ (one terminal'.FStart) ∷ []
 
 abbrev pub s_names : List Want
 s_names = (g.mark mark'.Comma) ∷ []
 
 abbrev pub s_tests : List Want
-s_tests = (g.keyword keyword'.If) ∷ (one (terminal'.Operator level'.Or)) ∷ (one (terminal'.Operator level'.And)) ∷ (one terminal'.Comparison) ∷ (g.keyword keyword'.Not) ∷ (g.keyword keyword'.Is) ∷ (one (terminal'.Operator level'.Sum)) ∷ (one (terminal'.Operator level'.Product)) ∷ (one terminal'.Link) ∷ []
+s_tests = (g.keyword keyword'.If) ∷ (one (terminal'.Operator level'.Or)) ∷ (one (terminal'.Operator level'.And)) ∷ (one terminal'.Comparison) ∷ (g.keyword keyword'.Not) ∷ (g.keyword keyword'.Is) ∷ (one (terminal'.Operator level'.Sum)) ∷ (one (terminal'.Operator level'.Product)) ∷ (one terminal'.Link) ∷ (one terminal'.Text) ∷ (one terminal'.FStart) ∷ []
 
 abbrev pub s_upper : List Want
-s_upper = (one terminal'.Expression) ∷ (one (terminal'.Operator level'.Or)) ∷ (one (terminal'.Operator level'.And)) ∷ (one terminal'.Comparison) ∷ (g.keyword keyword'.Not) ∷ (g.keyword keyword'.Is) ∷ (one (terminal'.Operator level'.Sum)) ∷ (one (terminal'.Operator level'.Product)) ∷ (one terminal'.Link) ∷ []
+s_upper = (one terminal'.Expression) ∷ (g.keyword keyword'.If) ∷ (one (terminal'.Operator level'.Or)) ∷ (one (terminal'.Operator level'.And)) ∷ (one terminal'.Comparison) ∷ (g.keyword keyword'.Not) ∷ (g.keyword keyword'.Is) ∷ (one (terminal'.Operator level'.Sum)) ∷ (one (terminal'.Operator level'.Product)) ∷ (one terminal'.Link) ∷ (one terminal'.Text) ∷ (one terminal'.FStart) ∷ []
 
 abbrev pub s_small : List Want
-s_small = (g.mark mark'.Assign) ∷ (one terminal'.Augment) ∷ (g.mark mark'.Comma) ∷ (one terminal'.Expression) ∷ (one (terminal'.Operator level'.Or)) ∷ (one (terminal'.Operator level'.And)) ∷ (one terminal'.Comparison) ∷ (g.keyword keyword'.Not) ∷ (g.keyword keyword'.Is) ∷ (one (terminal'.Operator level'.Sum)) ∷ (one (terminal'.Operator level'.Product)) ∷ (one terminal'.Link) ∷ []
+s_small = (g.mark mark'.Assign) ∷ (one terminal'.Augment) ∷ (g.mark mark'.Comma) ∷ (one terminal'.Expression) ∷ (g.keyword keyword'.If) ∷ (one (terminal'.Operator level'.Or)) ∷ (one (terminal'.Operator level'.And)) ∷ (one terminal'.Comparison) ∷ (g.keyword keyword'.Not) ∷ (g.keyword keyword'.Is) ∷ (one (terminal'.Operator level'.Sum)) ∷ (one (terminal'.Operator level'.Product)) ∷ (one terminal'.Link) ∷ (one terminal'.Text) ∷ (one terminal'.FStart) ∷ []
 
 abbrev pub s_line : List Want
 s_line = (g.keyword keyword'.Elif) ∷ (g.keyword keyword'.Else) ∷ []
@@ -211,25 +221,16 @@ abbrev pub s_script : List Want
 s_script = (one terminal'.Any) ∷ []
 
 abbrev pub f_atom : List Want
-f_atom = (one terminal'.Bracket) ∷ (one terminal'.Leaf) ∷ []
+f_atom = (one terminal'.Bracket) ∷ (one terminal'.Text) ∷ (one terminal'.FStart) ∷ (one terminal'.Leaf) ∷ []
 
 abbrev pub f_unary : List Want
-f_unary = (g.mark mark'.Minus) ∷ (one terminal'.Bracket) ∷ (one terminal'.Leaf) ∷ []
+f_unary = (g.mark mark'.Minus) ∷ (one terminal'.Bracket) ∷ (one terminal'.Text) ∷ (one terminal'.FStart) ∷ (one terminal'.Leaf) ∷ []
 
 abbrev pub f_neg : List Want
-f_neg = (g.keyword keyword'.Not) ∷ (g.mark mark'.Minus) ∷ (one terminal'.Bracket) ∷ (one terminal'.Leaf) ∷ []
+f_neg = (g.keyword keyword'.Not) ∷ (g.mark mark'.Minus) ∷ (one terminal'.Bracket) ∷ (one terminal'.Text) ∷ (one terminal'.FStart) ∷ (one terminal'.Leaf) ∷ []
 
 abbrev pub f_small : List Want
-f_small = (g.keyword keyword'.Pass) ∷ (g.keyword keyword'.From) ∷ (g.keyword keyword'.Break) ∷ (g.keyword keyword'.Continue) ∷ (g.keyword keyword'.Return) ∷ (g.keyword keyword'.Not) ∷ (g.mark mark'.Minus) ∷ (one terminal'.Bracket) ∷ (one terminal'.Leaf) ∷ []
+f_small = (g.keyword keyword'.Pass) ∷ (g.keyword keyword'.From) ∷ (g.keyword keyword'.Break) ∷ (g.keyword keyword'.Continue) ∷ (g.keyword keyword'.Return) ∷ (g.keyword keyword'.Not) ∷ (g.mark mark'.Minus) ∷ (one terminal'.Bracket) ∷ (one terminal'.Text) ∷ (one terminal'.FStart) ∷ (one terminal'.Leaf) ∷ []
 
 abbrev pub f_line : List Want
-f_line = (g.keyword keyword'.If) ∷ (g.keyword keyword'.For) ∷ (g.keyword keyword'.Def) ∷ (g.keyword keyword'.Pass) ∷ (g.keyword keyword'.From) ∷ (g.keyword keyword'.Break) ∷ (g.keyword keyword'.Continue) ∷ (g.keyword keyword'.Return) ∷ (g.keyword keyword'.Not) ∷ (g.mark mark'.Minus) ∷ (one terminal'.Bracket) ∷ (one terminal'.Leaf) ∷ []
-
-pub try_one : (k : TokenKind) → any_fits ((one (terminal'.Operator level'.Or)) ∷ []) k ≡ true → any_fits s_and k ≡ false
-try_one k = excluded _ _ (every_kind (excludes ((one (terminal'.Operator level'.Or)) ∷ []) s_and) refl refl (λ n. refl) (λ n. refl) (λ n. refl) refl refl refl k)
-
-pub try_two : (k : TokenKind) → any_fits ((g.mark mark'.Colon) ∷ (g.mark mark'.CloseBracket) ∷ []) k ≡ true → any_fits s_items k ≡ false
-try_two k = excluded _ _ (every_kind (excludes ((g.mark mark'.Colon) ∷ (g.mark mark'.CloseBracket) ∷ []) s_items) refl refl (λ n. refl) (λ n. refl) (λ n. refl) refl refl refl k)
-
-pub try_three : (k : TokenKind) → any_fits f_line k ≡ true → any_fits s_line k ≡ false
-try_three k = excluded _ _ (every_kind (excludes f_line s_line) refl refl (λ n. refl) (λ n. refl) (λ n. refl) refl refl refl k)
+f_line = (g.keyword keyword'.If) ∷ (g.keyword keyword'.For) ∷ (g.keyword keyword'.While) ∷ (g.keyword keyword'.Def) ∷ (g.keyword keyword'.Pass) ∷ (g.keyword keyword'.From) ∷ (g.keyword keyword'.Break) ∷ (g.keyword keyword'.Continue) ∷ (g.keyword keyword'.Return) ∷ (g.keyword keyword'.Not) ∷ (g.mark mark'.Minus) ∷ (one terminal'.Bracket) ∷ (one terminal'.Text) ∷ (one terminal'.FStart) ∷ (one terminal'.Leaf) ∷ []

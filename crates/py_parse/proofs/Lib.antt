@@ -4,6 +4,8 @@ pub mod Steps
 pub mod Puts
 pub mod Items
 pub mod Ways
+pub mod Choices
+pub mod TextPieces
 pub mod Targets
 pub mod Paths
 pub mod Shorter

@@ -9,17 +9,19 @@ use Rattle.py_parse.specs.declared.terminal.Terminal.TheVariants as terminal'
 use Rattle.py_parse.specs.Terminals.{Want, one, fresh}
 use Rattle.py_parse.specs.Grammar as g
 use Rattle.py_parse.specs.Grammar.{Body, productions, gives, takes, opens, reads, when}
-use Rattle.py_parse.proofs.Follow.{s_free, s_atom, s_product, s_sum, s_cmp, s_and, s_expr, s_items, s_args, s_names, s_tests, s_upper, s_small, s_line, s_script, f_atom, f_unary, f_neg, f_small, f_line}
+use Rattle.py_parse.proofs.Follow.{s_free, s_pieces, s_atom, s_product, s_sum, s_cmp, s_and, s_plain, s_expr, s_items, s_args, s_names, s_tests, s_upper, s_small, s_line, s_script, f_atom, f_unary, f_neg, f_small, f_line}
 use Rattle.py_parse.proofs.Complete.{Ordered}
 use Rattle.py_parse.specs.declared.site.Site.{Site}
 use Rattle.py_parse.specs.Reading.{beginning}
 use Rattle.py_parse.proofs.First.{wanted, first_takes, first_opens, first_part, followed_first, followed_end, followed_maybe, own_first}
-use Rattle.py_parse.proofs.Wants.{only, less_58, single_59, apart_60, apart_61, apart_62, apart_63, apart_64, apart_65, less_66, apart_67, less_68, apart_69, apart_70, apart_71, apart_72, apart_73, apart_74, apart_75, apart_76, apart_77, apart_78, apart_79, apart_80, apart_81, apart_82, apart_83, apart_84, apart_85, apart_86, less_87, single_88, less_89, apart_90, less_91, less_92, less_93, apart_94, less_95, less_96, apart_97, less_98, apart_99, apart_100, less_101, apart_102, less_103, apart_104, apart_105, less_106, single_107, apart_108, apart_109, apart_110, apart_111, apart_112, apart_113, apart_114, apart_115, less_116, less_117, apart_118, apart_119, less_120, less_121, less_122, less_123, less_124, less_125}
-use Rattle.py_parse.proofs.Beginnings.{all_posted, all_comparison, all_expr, all_exprs, all_one_pair, all_constants, all_one_link, all_statements, all_line, maybe_items_rest}
+use Rattle.py_parse.proofs.Wants.{only, less_58, single_59, apart_60, apart_61, apart_62, apart_63, apart_64, apart_65, less_66, apart_67, less_68, apart_69, apart_70, apart_71, apart_72, apart_73, apart_74, apart_75, apart_76, apart_77, apart_78, apart_79, apart_80, apart_81, apart_82, apart_83, apart_84, apart_85, apart_86, less_87, single_88, less_89, apart_90, less_91, less_92, less_93, apart_94, less_95, less_96, apart_97, less_98, apart_99, apart_100, less_101, apart_102, less_103, apart_104, apart_105, less_106, single_107, apart_108, apart_109, apart_110, apart_111, apart_112, apart_113, apart_114, apart_115, less_116, less_117, apart_118, apart_119, less_120, less_121, less_122, less_123, less_124, less_125, expr_if, pieces_piece, piece_heads, text_no_bracket, start_no_bracket, start_no_text, leaf_no_text, leaf_no_start, brace_no_part, end_no_part, end_no_brace, while_no_if, while_no_for, def_no_while, small_no_while}
+use Rattle.py_parse.proofs.Beginnings.{all_posted, all_comparison, all_expr, all_exprs, all_one_pair, all_constants, all_one_link, all_statements, all_line, maybe_items_rest, all_some_pieces}
 
-drop_third : (ss : List Want) (v : Bool) (a b c d : Body) → Ordered ss (a ∷ b ∷ c ∷ d ∷ []) → Ordered ss (a ∷ b ∷ when v c (d ∷ []))
-drop_third ss true a b c d o = o
-drop_third ss false a b c d o = (o.0, o.1, (o.2.0, (o.2.1.1.0, tt)), (o.3.0, o.3.1, (o.3.2.1.0, tt), tt))
+drop_fourth : (ss : List Want) (v : Bool) (a b c d e : Body) → Ordered ss (a ∷ b ∷ c ∷ d ∷ e ∷ []) → Ordered ss (a ∷ b ∷ c ∷ when v d (e ∷ []))
+drop_fourth ss true a b c d e o = o
+drop_fourth ss false a b c d e o =
+    let m = o.3 in let n = m.3 in
+    (o.0, o.1, (o.2.0, (o.2.1.0, (o.2.1.1.1.0, tt))), (m.0, m.1, (m.2.0, (m.2.1.1.0, tt)), (n.0, n.1, (n.2.1.0, tt), tt)))
 
 drop_two : (ss : List Want) (v w : Bool) (a b c : Body) → Ordered ss (a ∷ b ∷ c ∷ []) → Ordered ss (when v a (when w b (c ∷ [])))
 drop_two ss true true a b c o = o
@@ -50,7 +52,7 @@ ordered_script = (tt, own_first _ (one terminal'.Any) f_line (first_part _ _ f_l
 
 pub ordered_line : (a : Site) → Ordered s_line (productions (g.line a))
 unfolding beginning
-ordered_line a = drop_third s_line a.outermost (opens (g.keyword keyword'.If) (λ x. g.conditional x.line a)) (opens (g.keyword keyword'.For) (λ x. g.loop_body x.line a)) (opens (g.keyword keyword'.Def) (λ x. g.function_body x.line)) (reads (g.statements a) (λ t. gives (tree.simple t))) (tt, own_first _ (g.keyword keyword'.If) ((g.keyword keyword'.If) ∷ []) (first_opens (g.keyword keyword'.If) _ ((g.keyword keyword'.If) ∷ []) wanted) (only (g.keyword keyword'.If)), (followed_first s_line _ ((g.keyword keyword'.For) ∷ []) ((g.keyword keyword'.If) ∷ []) (first_opens (g.keyword keyword'.For) _ ((g.keyword keyword'.For) ∷ []) wanted) apart_62, (followed_first s_line _ ((g.keyword keyword'.Def) ∷ []) ((g.keyword keyword'.If) ∷ []) (first_opens (g.keyword keyword'.Def) _ ((g.keyword keyword'.Def) ∷ []) wanted) apart_61, (followed_first s_line _ f_small ((g.keyword keyword'.If) ∷ []) (first_part _ _ f_small f_small (all_statements a) (λ k h. h)) apart_60, tt))), (tt, own_first _ (g.keyword keyword'.For) ((g.keyword keyword'.For) ∷ []) (first_opens (g.keyword keyword'.For) _ ((g.keyword keyword'.For) ∷ []) wanted) (only (g.keyword keyword'.For)), (followed_first s_line _ ((g.keyword keyword'.Def) ∷ []) ((g.keyword keyword'.For) ∷ []) (first_opens (g.keyword keyword'.Def) _ ((g.keyword keyword'.Def) ∷ []) wanted) apart_64, (followed_first s_line _ f_small ((g.keyword keyword'.For) ∷ []) (first_part _ _ f_small f_small (all_statements a) (λ k h. h)) apart_63, tt)), (tt, own_first _ (g.keyword keyword'.Def) ((g.keyword keyword'.Def) ∷ []) (first_opens (g.keyword keyword'.Def) _ ((g.keyword keyword'.Def) ∷ []) wanted) (only (g.keyword keyword'.Def)), (followed_first s_line _ f_small ((g.keyword keyword'.Def) ∷ []) (first_part _ _ f_small f_small (all_statements a) (λ k h. h)) apart_65, tt), tt)))
+ordered_line a = drop_fourth s_line a.outermost (opens (g.keyword keyword'.If) (λ x. g.conditional x.line a)) (opens (g.keyword keyword'.For) (λ x. g.loop_body x.line a)) (opens (g.keyword keyword'.While) (λ x. g.while_body x.line a)) (opens (g.keyword keyword'.Def) (λ x. g.function_body x.line)) (reads (g.statements a) (λ t. gives (tree.simple t))) (tt, own_first _ (g.keyword keyword'.If) ((g.keyword keyword'.If) ∷ []) (first_opens (g.keyword keyword'.If) _ ((g.keyword keyword'.If) ∷ []) wanted) (only (g.keyword keyword'.If)), ((followed_first s_line _ ((g.keyword keyword'.For) ∷ []) ((g.keyword keyword'.If) ∷ []) (first_opens (g.keyword keyword'.For) _ ((g.keyword keyword'.For) ∷ []) wanted) apart_62), ((followed_first s_line _ ((g.keyword keyword'.While) ∷ []) ((g.keyword keyword'.If) ∷ []) (first_opens (g.keyword keyword'.While) _ ((g.keyword keyword'.While) ∷ []) wanted) while_no_if), ((followed_first s_line _ ((g.keyword keyword'.Def) ∷ []) ((g.keyword keyword'.If) ∷ []) (first_opens (g.keyword keyword'.Def) _ ((g.keyword keyword'.Def) ∷ []) wanted) apart_61), ((followed_first s_line _ f_small ((g.keyword keyword'.If) ∷ []) (first_part _ _ f_small f_small (all_statements a) (λ k h. h)) apart_60), tt)))), (tt, own_first _ (g.keyword keyword'.For) ((g.keyword keyword'.For) ∷ []) (first_opens (g.keyword keyword'.For) _ ((g.keyword keyword'.For) ∷ []) wanted) (only (g.keyword keyword'.For)), ((followed_first s_line _ ((g.keyword keyword'.While) ∷ []) ((g.keyword keyword'.For) ∷ []) (first_opens (g.keyword keyword'.While) _ ((g.keyword keyword'.While) ∷ []) wanted) while_no_for), ((followed_first s_line _ ((g.keyword keyword'.Def) ∷ []) ((g.keyword keyword'.For) ∷ []) (first_opens (g.keyword keyword'.Def) _ ((g.keyword keyword'.Def) ∷ []) wanted) apart_64), ((followed_first s_line _ f_small ((g.keyword keyword'.For) ∷ []) (first_part _ _ f_small f_small (all_statements a) (λ k h. h)) apart_63), tt))), (tt, own_first _ (g.keyword keyword'.While) ((g.keyword keyword'.While) ∷ []) (first_opens (g.keyword keyword'.While) _ ((g.keyword keyword'.While) ∷ []) wanted) (only (g.keyword keyword'.While)), ((followed_first s_line _ ((g.keyword keyword'.Def) ∷ []) ((g.keyword keyword'.While) ∷ []) (first_opens (g.keyword keyword'.Def) _ ((g.keyword keyword'.Def) ∷ []) wanted) def_no_while), ((followed_first s_line _ f_small ((g.keyword keyword'.While) ∷ []) (first_part _ _ f_small f_small (all_statements a) (λ k h. h)) small_no_while), tt)), (tt, own_first _ (g.keyword keyword'.Def) ((g.keyword keyword'.Def) ∷ []) (first_opens (g.keyword keyword'.Def) _ ((g.keyword keyword'.Def) ∷ []) wanted) (only (g.keyword keyword'.Def)), ((followed_first s_line _ f_small ((g.keyword keyword'.Def) ∷ []) (first_part _ _ f_small f_small (all_statements a) (λ k h. h)) apart_65), tt), tt))))
 
 pub ordered_branches : (a : Site) → Ordered s_line (productions (g.branches a))
 unfolding beginning
@@ -164,9 +166,41 @@ pub ordered_call_body : (a : ℕ) → Ordered s_free (productions (g.call_body a
 unfolding beginning
 ordered_call_body a = tt
 
-pub ordered_atom : Ordered s_free (productions g.atom)
+pub ordered_atom : Ordered s_pieces (productions g.atom)
 unfolding beginning
-ordered_atom = (tt, own_first _ (one terminal'.Bracket) ((one terminal'.Bracket) ∷ []) (first_opens (one terminal'.Bracket) _ ((one terminal'.Bracket) ∷ []) wanted) (only (one terminal'.Bracket)), (followed_first s_free _ ((one terminal'.Leaf) ∷ []) ((one terminal'.Bracket) ∷ []) (first_takes (one terminal'.Leaf) _ ((one terminal'.Leaf) ∷ []) wanted) apart_111, tt), tt)
+ordered_atom = (tt, own_first _ (one terminal'.Bracket) ((one terminal'.Bracket) ∷ []) (first_opens (one terminal'.Bracket) _ ((one terminal'.Bracket) ∷ []) wanted) (only (one terminal'.Bracket)), ((followed_first s_pieces _ ((one terminal'.Text) ∷ []) ((one terminal'.Bracket) ∷ []) (first_takes (one terminal'.Text) _ ((one terminal'.Text) ∷ []) wanted) text_no_bracket), ((followed_first s_pieces _ ((one terminal'.FStart) ∷ []) ((one terminal'.Bracket) ∷ []) (first_takes (one terminal'.FStart) _ ((one terminal'.FStart) ∷ []) wanted) start_no_bracket), ((followed_first s_pieces _ ((one terminal'.Leaf) ∷ []) ((one terminal'.Bracket) ∷ []) (first_takes (one terminal'.Leaf) _ ((one terminal'.Leaf) ∷ []) wanted) apart_111), tt))), (tt, own_first _ (one terminal'.Text) ((one terminal'.Text) ∷ []) (first_takes (one terminal'.Text) _ ((one terminal'.Text) ∷ []) wanted) (only (one terminal'.Text)), ((followed_first s_pieces _ ((one terminal'.FStart) ∷ []) ((one terminal'.Text) ∷ []) (first_takes (one terminal'.FStart) _ ((one terminal'.FStart) ∷ []) wanted) start_no_text), ((followed_first s_pieces _ ((one terminal'.Leaf) ∷ []) ((one terminal'.Text) ∷ []) (first_takes (one terminal'.Leaf) _ ((one terminal'.Leaf) ∷ []) wanted) leaf_no_text), tt)), (tt, own_first _ (one terminal'.FStart) ((one terminal'.FStart) ∷ []) (first_takes (one terminal'.FStart) _ ((one terminal'.FStart) ∷ []) wanted) (only (one terminal'.FStart)), ((followed_first s_pieces _ ((one terminal'.Leaf) ∷ []) ((one terminal'.FStart) ∷ []) (first_takes (one terminal'.Leaf) _ ((one terminal'.Leaf) ∷ []) wanted) leaf_no_start), tt), tt)))
+
+pub ordered_text_rest : (a : ℕ) (b : List ℕ) → Ordered s_pieces (productions (g.text_rest a b))
+unfolding beginning
+ordered_text_rest a b = (tt, own_first _ (one terminal'.Piece) ((one terminal'.Text) ∷ (one terminal'.FStart) ∷ []) (first_part _ _ ((one terminal'.Text) ∷ (one terminal'.FStart) ∷ []) ((one terminal'.Text) ∷ (one terminal'.FStart) ∷ []) all_some_pieces (λ k h. h)) piece_heads, (followed_end s_pieces _ ((one terminal'.Piece) ∷ []) pieces_piece, tt), tt)
+
+pub ordered_some_pieces : Ordered s_pieces (productions g.some_pieces)
+unfolding beginning
+ordered_some_pieces = (tt, own_first _ (one terminal'.Text) ((one terminal'.Text) ∷ []) (first_takes (one terminal'.Text) _ ((one terminal'.Text) ∷ []) wanted) (only (one terminal'.Text)), ((followed_first s_pieces _ ((one terminal'.FStart) ∷ []) ((one terminal'.Text) ∷ []) (first_takes (one terminal'.FStart) _ ((one terminal'.FStart) ∷ []) wanted) start_no_text), tt), tt)
+
+pub ordered_more_pieces : Ordered s_pieces (productions g.more_pieces)
+unfolding beginning
+ordered_more_pieces = (tt, own_first _ (one terminal'.Piece) ((one terminal'.Text) ∷ (one terminal'.FStart) ∷ []) (first_part _ _ ((one terminal'.Text) ∷ (one terminal'.FStart) ∷ []) ((one terminal'.Text) ∷ (one terminal'.FStart) ∷ []) all_some_pieces (λ k h. h)) piece_heads, (followed_end s_pieces _ ((one terminal'.Piece) ∷ []) pieces_piece, tt), tt)
+
+pub ordered_parts : Ordered s_pieces (productions g.parts)
+unfolding beginning
+ordered_parts = (tt, own_first _ (one terminal'.FPart) ((one terminal'.FPart) ∷ []) (first_takes (one terminal'.FPart) _ ((one terminal'.FPart) ∷ []) wanted) (only (one terminal'.FPart)), ((followed_first s_pieces _ ((g.mark mark'.OpenBrace) ∷ []) ((one terminal'.FPart) ∷ []) (first_opens (g.mark mark'.OpenBrace) _ ((g.mark mark'.OpenBrace) ∷ []) wanted) brace_no_part), ((followed_first s_pieces _ ((one terminal'.FEnd) ∷ []) ((one terminal'.FPart) ∷ []) (first_takes (one terminal'.FEnd) _ ((one terminal'.FEnd) ∷ []) wanted) end_no_part), tt)), (tt, own_first _ (g.mark mark'.OpenBrace) ((g.mark mark'.OpenBrace) ∷ []) (first_opens (g.mark mark'.OpenBrace) _ ((g.mark mark'.OpenBrace) ∷ []) wanted) (only (g.mark mark'.OpenBrace)), ((followed_first s_pieces _ ((one terminal'.FEnd) ∷ []) ((g.mark mark'.OpenBrace) ∷ []) (first_takes (one terminal'.FEnd) _ ((one terminal'.FEnd) ∷ []) wanted) end_no_brace), tt), tt))
+
+pub ordered_field_body : (a : ℕ) → Ordered s_free (productions (g.field_body a))
+unfolding beginning
+ordered_field_body a = tt
+
+pub ordered_expr : Ordered s_expr (productions g.expr)
+unfolding beginning
+ordered_expr = tt
+
+pub ordered_choice_rest : (a : Tree) → Ordered s_expr (productions (g.choice_rest a))
+unfolding beginning
+ordered_choice_rest a = (tt, own_first _ (g.keyword keyword'.If) ((g.keyword keyword'.If) ∷ []) (first_opens (g.keyword keyword'.If) _ ((g.keyword keyword'.If) ∷ []) wanted) (only (g.keyword keyword'.If)), (followed_end s_expr _ ((g.keyword keyword'.If) ∷ []) expr_if, tt), tt)
+
+pub ordered_choice_body : (a : ℕ) (b : Tree) → Ordered s_expr (productions (g.choice_body a b))
+unfolding beginning
+ordered_choice_body a b = tt
 
 pub ordered_grouped : (a : ℕ) → Ordered s_free (productions (g.grouped a))
 unfolding beginning
@@ -237,8 +271,8 @@ pub ordered_named_rest : (a : List (List ℕ)) → Ordered s_args (productions (
 unfolding beginning
 ordered_named_rest a = (tt, own_first _ (g.mark mark'.Comma) ((g.mark mark'.Comma) ∷ []) (first_takes (g.mark mark'.Comma) _ ((g.mark mark'.Comma) ∷ []) wanted) (only (g.mark mark'.Comma)), (followed_end s_args _ ((g.mark mark'.Comma) ∷ []) less_95, tt), tt)
 
-pub ordered_op_Or : Ordered s_expr (productions (g.operations level'.Or))
-ordered_op_Or = (tt, own_first _ (one (terminal'.Operator level'.Or)) ((one (terminal'.Operator level'.Or)) ∷ []) (first_takes (one (terminal'.Operator level'.Or)) _ ((one (terminal'.Operator level'.Or)) ∷ []) wanted) (only (one (terminal'.Operator level'.Or))), (followed_end s_expr _ ((one (terminal'.Operator level'.Or)) ∷ []) less_122, tt), tt)
+pub ordered_op_Or : Ordered s_plain (productions (g.operations level'.Or))
+ordered_op_Or = (tt, own_first _ (one (terminal'.Operator level'.Or)) ((one (terminal'.Operator level'.Or)) ∷ []) (first_takes (one (terminal'.Operator level'.Or)) _ ((one (terminal'.Operator level'.Or)) ∷ []) wanted) (only (one (terminal'.Operator level'.Or))), (followed_end s_plain _ ((one (terminal'.Operator level'.Or)) ∷ []) less_122, tt), tt)
 
 pub ordered_op_And : Ordered s_and (productions (g.operations level'.And))
 ordered_op_And = (tt, own_first _ (one (terminal'.Operator level'.And)) ((one (terminal'.Operator level'.And)) ∷ []) (first_takes (one (terminal'.Operator level'.And)) _ ((one (terminal'.Operator level'.And)) ∷ []) wanted) (only (one (terminal'.Operator level'.And))), (followed_end s_and _ ((one (terminal'.Operator level'.And)) ∷ []) less_123, tt), tt)

@@ -4,13 +4,13 @@ use Rattle.std.proofs.Common.{◌≡◌, ◌≢◌, ℕ, ◌-◌, List, [], fals
 use Rattle.py_token.specs.declared.keyword.Keyword.TheVariants as keyword'
 use Rattle.py_token.specs.declared.mark.Mark.TheVariants as mark'
 use Rattle.py_token.specs.declared.token.Token.{Token}
-use Rattle.py_tree.specs.Tree.{Tree, nil, cons, group, tuple, list, attribute, index, negative, imports, simple, branching, branch, for', def, pass, augment}
+use Rattle.py_tree.specs.Tree.{Tree, nil, cons, group, tuple, list, attribute, index, negative, imports, simple, branching, branch, for', while', def, pass, augment}
 use Rattle.py_parse.specs.declared.stop.Stop.{Stop}
 use Rattle.py_parse.specs.declared.level.Level.{Level}
 use Rattle.py_parse.specs.declared.site.Site.{Site}
 use Rattle.py_parse.specs.declared.terminal.Terminal.TheVariants as terminal'
 use Rattle.py_parse.specs.Terminals.{one, heads, name_in, augment_in}
-use Rattle.py_parse.specs.Grammar.{chained, operand, operations, chain_of, negation, comparison, unary, posted, atom, links, post_of, display_of, leaf_of, grouped, listed, exprs, expr, names, one_link, call_body, subscript, subscript_rest, loop_body, function_body, parameters, params, in_loop, in_function, below, block, conditional, branches, indented, statements, more_lines, import_body, assignment, augment_body, small, line, keyword, mark, takes, gives}
+use Rattle.py_parse.specs.Grammar.{chained, operand, operations, chain_of, negation, comparison, unary, posted, atom, links, post_of, display_of, leaf_of, grouped, listed, exprs, expr, names, one_link, call_body, subscript, subscript_rest, loop_body, while_body, function_body, parameters, params, in_loop, in_function, below, block, conditional, branches, indented, statements, more_lines, import_body, assignment, augment_body, small, line, keyword, mark, takes, gives}
 use Rattle.py_parse.specs.Reading.{Outcome, ok, fault, Why, unfit, deep, Reads, r_refused, r_read, r_part_fault, pick}
 use Rattle.py_parse.specs.Agrees.{Taken, Agrees, branch_body}
 use Rattle.py_parse.proofs.Cases.{by_production, last_production, takes_at, opens_at, deeper_at, deeper_fault, deeper_gives, yes_takes, yes_opens, yes_deep, no_takes, no_opens, reads_gives, given_at, agrees_over}
@@ -95,8 +95,8 @@ bracketed_tail_answers view res d x ts0 ts1 hd t0 r =
     agrees_over view res (Reads (d - 1) (pick (display_of x) ts1) ts1) _ (λ o q. bracketed_tail d hd t0 q) r
 
 pub leaf_tail : (d : ℕ) {ts0 : List Token} {o : Outcome} →
-    heads (one terminal'.Bracket) ts0 ≡ false → Reads d (takes (one terminal'.Leaf) (λ x. gives (leaf_of x))) ts0 o → Reads d (pick (atom) ts0) ts0 (o)
-leaf_tail d {ts0 = ts0} h0 r = by_production (atom) (no_opens _ _ _ _ h0 (last_production _ (r)))
+    heads (one terminal'.Bracket) ts0 ≡ false → heads (one terminal'.Text) ts0 ≡ false → heads (one terminal'.FStart) ts0 ≡ false → Reads d (takes (one terminal'.Leaf) (λ x. gives (leaf_of x))) ts0 o → Reads d (pick (atom) ts0) ts0 (o)
+leaf_tail d {ts0 = ts0} h0 h1 h2 r = by_production (atom) (no_opens _ _ _ _ h0 (no_takes _ _ _ _ h1 (no_takes _ _ _ _ h2 (last_production _ (r)))))
 
 pub empty_group_ok : (d : ℕ) (l : ℕ) {x : Token} {ts0 : List Token} {ts1 : List Token} {v : Tree} →
     Taken (mark mark'.CloseParen) ts0 x ts1 → v ≡ group l (tuple l nil false) → Reads d (pick (grouped l) ts0) ts0 (ok v ts1)
@@ -249,6 +249,35 @@ pub for_tail_answers : {X : Type 0} (view : X → Outcome) (res : Result X Stop)
     heads (keyword keyword'.If) ts0 ≡ false → d ≢ 0 → Taken (keyword keyword'.For) ts0 x ts1 → Agrees view res (Reads d (loop_body x.line s) ts1) → Agrees view res (Reads d (pick (line s) ts0) ts0)
 for_tail_answers view res d s x ts0 ts1 h0 hd t0 r =
     agrees_over view res (Reads d (loop_body x.line s) ts1) _ (λ o q. for_tail d s h0 hd t0 q) r
+
+pub while_fault0 : (d : ℕ) (l : ℕ) (s : Site) {ts0 : List Token} {w : Why} {r9 : List Token} →
+    Reads d (pick (expr) ts0) ts0 (fault w r9) → Reads d (while_body l s) ts0 (fault w r9)
+while_fault0 d l s {ts0 = ts0} r = r_part_fault r
+
+pub while_unfit1 : (d : ℕ) (l : ℕ) (s : Site) {c : Tree} {ts0 : List Token} {ts1 : List Token} →
+    Reads d (pick (expr) ts0) ts0 (ok c ts1) → heads (mark mark'.Colon) ts1 ≡ false → Reads d (while_body l s) ts0 (fault unfit ts1)
+while_unfit1 d l s {c = c} {ts0 = ts0} {ts1 = ts1} r0 nh = r_read c ts1 r0 (r_refused nh)
+
+pub while_fault2 : (d : ℕ) (l : ℕ) (s : Site) {c : Tree} {ts0 : List Token} {ts1 : List Token} {y : Token} {ts2 : List Token} {w : Why} {r9 : List Token} →
+    Reads d (pick (expr) ts0) ts0 (ok c ts1) → Taken (mark mark'.Colon) ts1 y ts2 → d ≢ 0 → Reads (d - 1) (pick (block (in_loop s)) ts2) ts2 (fault w r9) → Reads d (while_body l s) ts0 (fault w r9)
+while_fault2 d l s {c = c} {ts0 = ts0} {ts1 = ts1} {ts2 = ts2} r0 t1 hd r = r_read c ts1 r0 (takes_at _ t1 (deeper_fault d _ hd r))
+
+pub while_ok : (d : ℕ) (l : ℕ) (s : Site) {c : Tree} {ts0 : List Token} {ts1 : List Token} {y : Token} {ts2 : List Token} {b : Tree} {ts3 : List Token} {v : Tree} →
+    Reads d (pick (expr) ts0) ts0 (ok c ts1) → Taken (mark mark'.Colon) ts1 y ts2 → d ≢ 0 → Reads (d - 1) (pick (block (in_loop s)) ts2) ts2 (ok b ts3) → v ≡ while' l c b → Reads d (while_body l s) ts0 (ok v ts3)
+while_ok d l s {c = c} {ts0 = ts0} {ts1 = ts1} {ts2 = ts2} {b = b} {ts3 = ts3} r0 t1 hd r2 ev = r_read c ts1 r0 (takes_at _ t1 (deeper_at d _ b ts3 hd r2 (given_at ev)))
+
+pub while_deep0 : (d : ℕ) (s : Site) {ts0 : List Token} {x9 : Token} {ts1 : List Token} →
+    heads (keyword keyword'.If) ts0 ≡ false → heads (keyword keyword'.For) ts0 ≡ false → d ≡ 0 → Taken (keyword keyword'.While) ts0 x9 ts1 → Reads d (pick (line s) ts0) ts0 (fault deep ts0)
+while_deep0 d s {ts0 = ts0} {ts1 = ts1} h0 h1 hz t9 = by_production (line s) (no_opens _ _ _ _ h0 (no_opens _ _ _ _ h1 (yes_deep d _ _ hz t9)))
+
+pub while_tail : (d : ℕ) (s : Site) {x : Token} {ts0 : List Token} {ts1 : List Token} {o : Outcome} →
+    heads (keyword keyword'.If) ts0 ≡ false → heads (keyword keyword'.For) ts0 ≡ false → d ≢ 0 → Taken (keyword keyword'.While) ts0 x ts1 → Reads d (while_body x.line s) ts1 o → Reads d (pick (line s) ts0) ts0 (o)
+while_tail d s {ts0 = ts0} {ts1 = ts1} h0 h1 hd t0 r = by_production (line s) (no_opens _ _ _ _ h0 (no_opens _ _ _ _ h1 (yes_opens d _ _ hd t0 (r))))
+
+pub while_tail_answers : {X : Type 0} (view : X → Outcome) (res : Result X Stop) (d : ℕ) (s : Site) (x : Token) (ts0 : List Token) (ts1 : List Token) →
+    heads (keyword keyword'.If) ts0 ≡ false → heads (keyword keyword'.For) ts0 ≡ false → d ≢ 0 → Taken (keyword keyword'.While) ts0 x ts1 → Agrees view res (Reads d (while_body x.line s) ts1) → Agrees view res (Reads d (pick (line s) ts0) ts0)
+while_tail_answers view res d s x ts0 ts1 h0 h1 hd t0 r =
+    agrees_over view res (Reads d (while_body x.line s) ts1) _ (λ o q. while_tail d s h0 h1 hd t0 q) r
 
 pub else_unfit1 : (d : ℕ) (s : Site) {x : Token} {ts0 : List Token} {ts1 : List Token} →
     heads (keyword keyword'.Elif) ts0 ≡ false → d ≢ 0 → Taken (keyword keyword'.Else) ts0 x ts1 → heads (mark mark'.Colon) ts1 ≡ false → Reads d (pick (branches s) ts0) ts0 (fault unfit ts1)

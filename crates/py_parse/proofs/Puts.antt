@@ -15,7 +15,7 @@ use Rattle.py_parse.specs.declared.display.NextDisplay.{NextDisplay}
 use Rattle.py_parse.specs.declared.stop.Stop.{Stop}
 use Rattle.py_parse.specs.declared.terminal.Terminal.TheVariants as terminal'
 use Rattle.py_parse.specs.Terminals.{one, fresh, heads, constant_in}
-use Rattle.py_parse.specs.Grammar.{Body, reads, mark, keyword, is_name, closed, trails, expr, listed_rest, dict_body, call_body, subscript_rest, sliced, names, comprehended, leaf_at}
+use Rattle.py_parse.specs.Grammar.{Body, reads, mark, keyword, is_name, closed, trails, expr, plain, listed_rest, dict_body, call_body, subscript_rest, sliced, names, comprehended, leaf_at}
 use Rattle.py_parse.specs.Reading.{Outcome, ok, fault, Why, Reads, r_read, pick}
 use Rattle.py_parse.specs.Agrees.{Taken, FreshAt, AgreesOnStop, onto}
 use Rattle.py_parse.specs.Open.{Continues, group_end, grouped_after, tuple_after, list_end, list_after, item_after, source_after, tests_from, test_after, dict_end, key_after, value_after, call_end, argument_after, named_after, named_from_here, lower_after, upper_after}
@@ -236,9 +236,9 @@ upper_given {d = d} {ts = ts} {o = o} l t u v e r = subst (λ w. Reads d (upper_
 -- the rest of a comprehension behind its names
 pub comprehension_opens : {d : ℕ} {ts rest rest' : List Token} {x : Token} {n : Tree} {o : Outcome} (l : ℕ) (t u : Tree) → u ≡ t →
     Reads d (pick names ts) ts (ok n rest) → Taken (keyword keyword'.In) rest x rest' →
-    Reads d (reads expr (λ s. source_after l u n s)) rest' o → Reads d (comprehended l t) ts o
+    Reads d (reads plain (λ s. source_after l u n s)) rest' o → Reads d (comprehended l t) ts o
 comprehension_opens {d = d} {rest = rest} {rest' = rest'} {n = n} {o = o} l t u e r a s =
-    r_read n rest r (takes_at _ a (subst (λ v. Reads d (reads expr (λ s. source_after l v n s)) rest' o) e s))
+    r_read n rest r (takes_at _ a (subst (λ v. Reads d (reads plain (λ s. source_after l v n s)) rest' o) e s))
 
 pub not_a_name : {a : Bool} (b : Bool) → false ≡ a → a && b ≡ false
 not_a_name b e = rw (← e) refl
@@ -248,16 +248,15 @@ pub seen_one : (none seen : List (List ℕ)) (n m : List ℕ) → none ≡ [] �
 seen_one none seen n m e f p = f ∙ ap (λ l. l ++ m ∷ []) e ∙ ap (λ k. k ∷ []) p
 
 rest_of_leaves : (l : ℕ) (k : TokenKind) → ((n : List ℕ) → k ≡ kind'.Name n → ⊥) → ((n : ℕ) → k ≡ kind'.Integer n → ⊥) →
-    ((t : List ℕ) → k ≡ kind'.Text t → ⊥) → constant l (constant_in k) ≡ leaf_at l k
-rest_of_leaves l (kind'.Name n) a b c = absurd (a n refl)
-rest_of_leaves l (kind'.Integer n) a b c = absurd (b n refl)
-rest_of_leaves l (kind'.Text t) a b c = absurd (c t refl)
-rest_of_leaves l _ a b c = refl
+    constant l (constant_in k) ≡ leaf_at l k
+rest_of_leaves l (kind'.Name n) a b = absurd (a n refl)
+rest_of_leaves l (kind'.Integer n) a b = absurd (b n refl)
+rest_of_leaves l _ a b = refl
 
--- a token that is no name, number and text stands for a constant
+-- a token that is no name and no number stands for a constant
 pub leaf_rest : (l : ℕ) (k : TokenKind) (v : Constant) (t : Tree) → ((n : List ℕ) → k ≡ kind'.Name n → ⊥) → ((n : ℕ) → k ≡ kind'.Integer n → ⊥) →
-    ((t : List ℕ) → k ≡ kind'.Text t → ⊥) → t ≡ constant l v → v ≡ constant_in k → t ≡ leaf_at l k
-leaf_rest l k v t a b c e f = e ∙ ap (constant l) f ∙ rest_of_leaves l k a b c
+    t ≡ constant l v → v ≡ constant_in k → t ≡ leaf_at l k
+leaf_rest l k v t a b e f = e ∙ ap (constant l) f ∙ rest_of_leaves l k a b
 
 -- a call's stop is the whole's
 pub stops_here : (b : Body) (ts : List Token) (r : Result NextDisplay Stop) (P : Outcome → Type 0) (s : Stop) → IsErrAnd r (λ e. e ≡ s) →

@@ -17,7 +17,7 @@ use Rattle.py_parse.specs.declared.link.NextLink.TheVariants as follow'
 use Rattle.py_parse.specs.declared.stop.Stop.{Stop}
 use Rattle.py_parse.specs.declared.terminal.Terminal.TheVariants as terminal'
 use Rattle.py_parse.specs.Terminals.{Want, one, fresh, fits, heads, name_in}
-use Rattle.py_parse.specs.Grammar.{Body, gives, takes, reads, mark, keyword, first_named, is_name, closed, trails, expr, exprs, exprs_rest, items, items_rest, tests, one_pair, pairs, pairs_rest, args, args_rest, named_args, named_rest, upper}
+use Rattle.py_parse.specs.Grammar.{Body, gives, takes, reads, mark, keyword, first_named, is_name, closed, trails, expr, plain as unchosen, exprs, exprs_rest, items, items_rest, tests, one_pair, pairs, pairs_rest, args, args_rest, named_args, named_rest, upper}
 use Rattle.py_parse.specs.Reading.{Outcome, fault, unfit, Reads, r_taken, r_refused, r_given, r_read, r_part_fault, pick, choose, beginning}
 use Rattle.py_parse.specs.Agrees.{Taken, onto, optional_box}
 use Rattle.py_parse.specs.Open.{GoesOn, Continues, LinkGoesOn, LinkContinues}
@@ -139,9 +139,9 @@ pub tests_stop : {d : ℕ} {ts : List Token} {o : Outcome} (k : Tree → Body) �
 tests_stop {ts = ts} k h r = r_read nil ts (by_production tests (no_takes _ _ _ _ h (yes_gives nil []))) r
 
 pub tests_go : {d : ℕ} {ts rest : List Token} {x : Token} {o : Outcome} (k : Tree → Body) →
-    Taken (keyword keyword'.If) ts x rest → Reads d (reads expr (λ t. reads tests (λ u. k (cons t u)))) rest o → Reads d (reads tests k) ts o
+    Taken (keyword keyword'.If) ts x rest → Reads d (reads unchosen (λ t. reads tests (λ u. k (cons t u)))) rest o → Reads d (reads tests k) ts o
 tests_go k t r =
-    reads_by tests k (takes (keyword keyword'.If) (λ _. reads expr (λ t. reads tests (λ u. gives (cons t u)))))
+    reads_by tests k (takes (keyword keyword'.If) (λ _. reads unchosen (λ t. reads tests (λ u. gives (cons t u)))))
     (λ o' s. by_production tests (yes_takes _ _ t (untake t s)))
     (takes_at _ t r)
 

@@ -11,8 +11,8 @@ use Rattle.py_parse.proofs.Follow.{s_script}
 use Rattle.py_parse.proofs.Complete.{Fine, Ordered, stops, complete}
 use Rattle.py_parse.specs.Reading.{Reads, ok}
 use Rattle.py_parse.proofs.First.{followed_end}
-use Rattle.py_parse.proofs.Endings.{AllFine, fine_script, fine_line, fine_branches, fine_block, fine_more_lines, fine_statements, fine_statements_rest, fine_statements_more, fine_small, fine_returned, fine_assigned, fine_parameters, fine_params, fine_param_rest, fine_defaults, fine_defaults_rest, fine_exprs, fine_exprs_rest, fine_items, fine_items_rest, fine_negation, fine_comparison, fine_compared, fine_is_right, fine_constants, fine_unary, fine_posted, fine_links, fine_one_link, fine_call_body, fine_atom, fine_grouped, fine_listed, fine_listed_rest, fine_names, fine_names_rest, fine_tests, fine_dict_body, fine_one_pair, fine_pairs, fine_pairs_rest, fine_subscript, fine_subscript_rest, fine_upper, fine_args, fine_args_rest, fine_named_args, fine_named_rest, fine_chain_Or, fine_op_Or, fine_chain_And, fine_op_And, fine_chain_Sum, fine_op_Sum, fine_chain_Product, fine_op_Product}
-use Rattle.py_parse.proofs.Orders.{ordered_script, ordered_line, ordered_branches, ordered_block, ordered_more_lines, ordered_statements, ordered_statements_rest, ordered_statements_more, ordered_small, ordered_returned, ordered_assigned, ordered_parameters, ordered_params, ordered_param_rest, ordered_defaults, ordered_defaults_rest, ordered_exprs, ordered_exprs_rest, ordered_items, ordered_items_rest, ordered_negation, ordered_comparison, ordered_compared, ordered_is_right, ordered_constants, ordered_unary, ordered_posted, ordered_links, ordered_one_link, ordered_call_body, ordered_atom, ordered_grouped, ordered_listed, ordered_listed_rest, ordered_names, ordered_names_rest, ordered_tests, ordered_dict_body, ordered_one_pair, ordered_pairs, ordered_pairs_rest, ordered_subscript, ordered_subscript_rest, ordered_upper, ordered_args, ordered_args_rest, ordered_named_args, ordered_named_rest, ordered_op_Or, ordered_op_And, ordered_op_Sum, ordered_op_Product}
+use Rattle.py_parse.proofs.Endings.{AllFine, fine_script, fine_line, fine_branches, fine_block, fine_more_lines, fine_statements, fine_statements_rest, fine_statements_more, fine_small, fine_returned, fine_assigned, fine_parameters, fine_params, fine_param_rest, fine_defaults, fine_defaults_rest, fine_exprs, fine_exprs_rest, fine_items, fine_items_rest, fine_negation, fine_comparison, fine_compared, fine_is_right, fine_constants, fine_unary, fine_posted, fine_links, fine_one_link, fine_call_body, fine_atom, fine_grouped, fine_listed, fine_listed_rest, fine_names, fine_names_rest, fine_tests, fine_dict_body, fine_one_pair, fine_pairs, fine_pairs_rest, fine_subscript, fine_subscript_rest, fine_upper, fine_args, fine_args_rest, fine_named_args, fine_named_rest, fine_chain_Or, fine_expr, fine_choice_rest, fine_choice_body, fine_text_rest, fine_some_pieces, fine_more_pieces, fine_parts, fine_field_body, fine_op_Or, fine_chain_And, fine_op_And, fine_chain_Sum, fine_op_Sum, fine_chain_Product, fine_op_Product}
+use Rattle.py_parse.proofs.Orders.{ordered_script, ordered_line, ordered_branches, ordered_block, ordered_more_lines, ordered_statements, ordered_statements_rest, ordered_statements_more, ordered_small, ordered_returned, ordered_assigned, ordered_parameters, ordered_params, ordered_param_rest, ordered_defaults, ordered_defaults_rest, ordered_exprs, ordered_exprs_rest, ordered_items, ordered_items_rest, ordered_negation, ordered_comparison, ordered_compared, ordered_is_right, ordered_constants, ordered_unary, ordered_posted, ordered_links, ordered_one_link, ordered_call_body, ordered_atom, ordered_grouped, ordered_listed, ordered_listed_rest, ordered_names, ordered_names_rest, ordered_tests, ordered_dict_body, ordered_one_pair, ordered_pairs, ordered_pairs_rest, ordered_subscript, ordered_subscript_rest, ordered_upper, ordered_args, ordered_args_rest, ordered_named_args, ordered_named_rest, ordered_op_Or, ordered_op_And, ordered_op_Sum, ordered_op_Product, ordered_expr, ordered_choice_rest, ordered_choice_body, ordered_text_rest, ordered_some_pieces, ordered_more_pieces, ordered_parts, ordered_field_body}
 
 all_fine : (p : Part) → AllFine (stops p) (productions p)
 all_fine g.script = fine_script
@@ -35,6 +35,14 @@ all_fine g.exprs = fine_exprs
 all_fine (g.exprs_rest a) = fine_exprs_rest a
 all_fine g.items = fine_items
 all_fine g.items_rest = fine_items_rest
+all_fine g.expr = fine_expr
+all_fine (g.choice_rest a) = fine_choice_rest a
+all_fine (g.choice_body a b) = fine_choice_body a b
+all_fine (g.text_rest a b) = fine_text_rest a b
+all_fine g.some_pieces = fine_some_pieces
+all_fine g.more_pieces = fine_more_pieces
+all_fine g.parts = fine_parts
+all_fine (g.field_body a) = fine_field_body a
 all_fine (g.chained level'.Or) = fine_chain_Or
 all_fine (g.chained level'.And) = fine_chain_And
 all_fine (g.chained level'.Sum) = fine_chain_Sum
@@ -98,6 +106,14 @@ all_ordered g.exprs = ordered_exprs
 all_ordered (g.exprs_rest a) = ordered_exprs_rest a
 all_ordered g.items = ordered_items
 all_ordered g.items_rest = ordered_items_rest
+all_ordered g.expr = ordered_expr
+all_ordered (g.choice_rest a) = ordered_choice_rest a
+all_ordered (g.choice_body a b) = ordered_choice_body a b
+all_ordered (g.text_rest a b) = ordered_text_rest a b
+all_ordered g.some_pieces = ordered_some_pieces
+all_ordered g.more_pieces = ordered_more_pieces
+all_ordered g.parts = ordered_parts
+all_ordered (g.field_body a) = ordered_field_body a
 all_ordered (g.chained level'.Or) = tt
 all_ordered (g.chained level'.And) = tt
 all_ordered (g.chained level'.Sum) = tt

@@ -17,16 +17,16 @@ use Rattle.py_parse.specs.declared.level.Level.TheVariants as level'
 use Rattle.py_parse.specs.Grammar.{Body, reads, expr, chained, comparison, compared}
 use Rattle.py_parse.specs.Reading.{Outcome, ok, fault, Why, Reads, r_read, r_part_fault, pick}
 use Rattle.py_parse.specs.Agrees.{Agrees, Compares, ComparisonAt, EndsAt}
-use Rattle.py_parse.specs.Open.{GoesOn, Shrinks, LinkGoesOn, LinkShrinks, display_after, link_after}
+use Rattle.py_parse.specs.Open.{GoesOn, Shrinks, LinkGoesOn, LinkShrinks, display_after, link_after, is_plain, wanted}
 use Rattle.py_parse.proofs.Cases.{by_production, last_production, reads_gives}
 use Rattle.py_parse.proofs.Loops.{read_shorter}
 
 -- a display or link that goes on with an expression
 pub display_begins : (d : ℕ) (b : Body) (ts : List Token) (n : NextDisplay) (s s' : OpenDisplay) (rest : Bor (List Token)) (o : Outcome) →
-    n ≡ next'.More s rest → s' ≡ s → GoesOn b ts n → Reads d (reads expr (λ t. display_after s' t)) rest.now o → Reads d b ts o
+    n ≡ next'.More s rest → s' ≡ s → GoesOn b ts n → Reads d (reads (wanted (is_plain s')) (λ t. display_after s' t)) rest.now o → Reads d b ts o
 display_begins d b ts n s s' rest o e p g r =
     let h : GoesOn b ts (next'.More s rest) = subst (λ m. GoesOn b ts m) e g in
-    h d o (subst (λ q. Reads d (reads expr (λ t. display_after q t)) rest.now o) p r)
+    h d o (subst (λ q. Reads d (reads (wanted (is_plain q)) (λ t. display_after q t)) rest.now o) p r)
 
 pub link_begins : (d : ℕ) (b : Body) (ts : List Token) (n : NextLink) (s s' : OpenLink) (rest : Bor (List Token)) (o : Outcome) →
     n ≡ follow'.More s rest → s' ≡ s → LinkGoesOn b ts n → Reads d (reads expr (λ t. link_after s' t)) rest.now o → Reads d b ts o

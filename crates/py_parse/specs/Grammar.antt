@@ -12,12 +12,12 @@ use Rattle.py_tree.specs.declared.expr.Comparison.TheVariants as comparison'
 use Rattle.py_tree.specs.Tree.{Tree, nil, cons, absent, word, name, integer, text, constant, group, tuple, list}
 use Rattle.py_tree.specs.Tree.{comprehension, dict, pair, post, attribute, call, named, index, slice, negative, not}
 use Rattle.py_tree.specs.Tree.{chain, operation, compare, assign, augment, expression, pass, break, continue, return}
-use Rattle.py_tree.specs.Tree.{imports, simple, branching, branch, for', def, parameter}
+use Rattle.py_tree.specs.Tree.{imports, simple, branching, branch, for', while', def, parameter, joined, field, choice}
 use Rattle.py_parse.specs.declared.terminal.Terminal.TheVariants as terminal'
 use Rattle.py_parse.specs.declared.level.Level.{Level}
 use Rattle.py_parse.specs.declared.level.Level.TheVariants as level'
 use Rattle.py_parse.specs.declared.site.Site.{Site}
-use Rattle.py_parse.specs.Terminals.{Want, one, fresh, name_in, operator_in, augment_in, comparison_in, constant_in}
+use Rattle.py_parse.specs.Terminals.{Want, one, fresh, name_in, operator_in, augment_in, comparison_in, constant_in, text_in}
 
 -- The parts of the grammar. A part that goes on with something keeps what it goes on with.
 pub data Part : Type 0 where
@@ -43,6 +43,9 @@ pub data Part : Type 0 where
   exprs_rest : Tree → Part
   items : Part
   items_rest : Part
+  expr : Part
+  choice_rest : Tree → Part
+  choice_body : ℕ → Tree → Part
   chained : Level → Part
   operations : Level → Part
   negation : Part
@@ -56,6 +59,11 @@ pub data Part : Type 0 where
   one_link : Part
   call_body : ℕ → Part
   atom : Part
+  text_rest : ℕ → List ℕ → Part
+  some_pieces : Part
+  more_pieces : Part
+  parts : Part
+  field_body : ℕ → Part
   grouped : ℕ → Part
   listed : ℕ → Part
   listed_rest : ℕ → Tree → Part
@@ -89,8 +97,9 @@ mark m = one (terminal'.Mark m)
 abbrev pub keyword : Keyword → Want
 keyword w = one (terminal'.Word w)
 
-abbrev pub expr : Part
-expr = chained level'.Or
+-- an expression that isn't a conditional one
+abbrev pub plain : Part
+plain = chained level'.Or
 
 -- Operator precedence: section 6.17. What the operators of a level join is the next level above.
 abbrev pub operand : Level → Part
@@ -179,7 +188,6 @@ first_named _ bs = bs
 abbrev pub leaf_at : ℕ → TokenKind → Tree
 leaf_at l (kind'.Name n) = name l n
 leaf_at l (kind'.Integer n) = integer l n
-leaf_at l (kind'.Text t) = text l t
 leaf_at l k = constant l (constant_in k)
 
 abbrev pub mark_display : ℕ → Mark → Part
@@ -191,7 +199,7 @@ abbrev pub display_at : ℕ → TokenKind → Part
 display_at l (kind'.Mark m) = mark_display l m
 display_at l _ = dict_body l
 
--- A name, a number, a text or a constant.
+-- A name, a number or a constant.
 abbrev pub leaf_of : Token → Tree
 leaf_of x = leaf_at x.line x.kind
 
@@ -199,10 +207,18 @@ leaf_of x = leaf_at x.line x.kind
 abbrev pub display_of : Token → Part
 display_of x = display_at x.line x.kind
 
--- The rest of a comprehension behind its `for`.
+-- The characters that a text or a part of an f-text holds, as a piece.
+abbrev pub piece_of : Token → Tree
+piece_of x = text x.line (text_in x.kind)
+
+-- A field of an f-text, with its braces.
+abbrev pub one_field : Body
+one_field = opens (mark mark'.OpenBrace) (λ x. deeper (field_body x.line) gives)
+
+-- The rest of a comprehension behind its `for`. What it goes over and its tests are no conditional expressions.
 abbrev pub comprehended : ℕ → Tree → Body
 comprehended l t =
-    reads names (λ n. takes (keyword keyword'.In) (λ _. reads expr (λ s. reads tests (λ u.
+    reads names (λ n. takes (keyword keyword'.In) (λ _. reads plain (λ s. reads tests (λ u.
     takes (mark mark'.CloseBracket) (λ _. gives (comprehension l t n s u))))))
 
 -- An `if` or `elif` behind its word, with the branches behind it.
@@ -215,6 +231,10 @@ abbrev pub loop_body : ℕ → Site → Body
 loop_body l s =
     reads names (λ n. takes (keyword keyword'.In) (λ _. reads exprs (λ e. takes (mark mark'.Colon) (λ _.
     deeper (block (in_loop s)) (λ b. gives (for' l n e b))))))
+
+abbrev pub while_body : ℕ → Site → Body
+while_body l s =
+    reads expr (λ c. takes (mark mark'.Colon) (λ _. deeper (block (in_loop s)) (λ b. gives (while' l c b))))
 
 abbrev pub function_body : ℕ → Body
 function_body l =
@@ -249,6 +269,7 @@ productions script = reads (line top) (λ t. reads script (λ u. gives (cons t u
 productions (line s) =
     opens (keyword keyword'.If) (λ x. conditional x.line s) ∷
     opens (keyword keyword'.For) (λ x. loop_body x.line s) ∷
+    opens (keyword keyword'.While) (λ x. while_body x.line s) ∷
     when s.outermost
     (opens (keyword keyword'.Def) (λ x. function_body x.line))
     (reads (statements s) (λ t. gives (simple t)) ∷ [])
@@ -303,6 +324,12 @@ productions (exprs_rest t) =
     gives t ∷ []
 productions items = reads expr (λ t. reads items_rest (λ u. gives (cons t u))) ∷ gives absent ∷ []
 productions items_rest = takes (mark mark'.Comma) (λ _. reads items gives) ∷ gives nil ∷ []
+-- Conditional expressions: section 6.13. What stands behind the `if` is one level deeper.
+productions expr = reads plain (λ t. reads (choice_rest t) gives) ∷ []
+productions (choice_rest t) =
+    opens (keyword keyword'.If) (λ x. deeper (choice_body x.line t) gives) ∷ gives t ∷ []
+productions (choice_body l t) =
+    reads plain (λ c. takes (keyword keyword'.Else) (λ _. reads expr (λ e. gives (choice l t c e)))) ∷ []
 -- Boolean operations, binary arithmetic operations: sections 6.11 and 6.7.
 productions (chained l) = reads (operand l) (λ t. reads (operations l) (λ u. gives (chain_of t u))) ∷ []
 productions (operations l) =
@@ -353,7 +380,22 @@ productions (named_rest seen) = takes (mark mark'.Comma) (λ _. reads (named_arg
 -- Atoms: section 6.2.
 productions atom =
     opens (one terminal'.Bracket) (λ x. deeper (display_of x) gives) ∷
+    takes (one terminal'.Text) (λ x. reads (text_rest x.line (text_in x.kind)) gives) ∷
+    takes (one terminal'.FStart) (λ x. reads parts (λ u. gives (joined x.line u))) ∷
     takes (one terminal'.Leaf) (λ x. gives (leaf_of x)) ∷ []
+-- Texts behind one another are one: section 2.4.2. A field of an f-text is one level deeper: section 2.4.3, without
+-- conversions, formats and `=`.
+productions (text_rest l t) =
+    reads some_pieces (λ u. gives (joined l (cons (text l t) u))) ∷ gives (text l t) ∷ []
+productions some_pieces =
+    takes (one terminal'.Text) (λ x. reads more_pieces (λ u. gives (cons (piece_of x) u))) ∷
+    takes (one terminal'.FStart) (λ _. reads parts gives) ∷ []
+productions more_pieces = reads some_pieces gives ∷ gives nil ∷ []
+productions parts =
+    takes (one terminal'.FPart) (λ x. reads parts (λ u. gives (cons (piece_of x) u))) ∷
+    opens (mark mark'.OpenBrace) (λ x. deeper (field_body x.line) (λ t. reads parts (λ u. gives (cons t u)))) ∷
+    takes (one terminal'.FEnd) (λ _. reads more_pieces gives) ∷ []
+productions (field_body l) = reads expr (λ t. takes (mark mark'.CloseBrace) (λ _. gives (field l t))) ∷ []
 productions (grouped l) =
     takes (mark mark'.CloseParen) (λ _. gives (group l (tuple l nil false))) ∷
     reads exprs (λ t. takes (mark mark'.CloseParen) (λ _. gives (group l t))) ∷ []
@@ -367,7 +409,7 @@ productions names =
     takes (one terminal'.Name) (λ x. reads names_rest (λ u. gives (cons (word (name_in x.kind)) u))) ∷ []
 productions names_rest = takes (mark mark'.Comma) (λ _. reads names gives) ∷ gives nil ∷ []
 productions tests =
-    takes (keyword keyword'.If) (λ _. reads expr (λ t. reads tests (λ u. gives (cons t u)))) ∷ gives nil ∷ []
+    takes (keyword keyword'.If) (λ _. reads plain (λ t. reads tests (λ u. gives (cons t u)))) ∷ gives nil ∷ []
 productions one_pair = reads expr (λ k. takes (mark mark'.Colon) (λ x. reads expr (λ v. gives (pair x.line k v)))) ∷ []
 productions (dict_body l) = reads pairs (λ u. takes (mark mark'.CloseBrace) (λ _. gives (dict l u))) ∷ []
 productions pairs = reads one_pair (λ t. reads pairs_rest (λ u. gives (cons t u))) ∷ gives nil ∷ []

@@ -1,9 +1,9 @@
 -- Brackets that are open: what is still read behind an expression that stands in one, up to its closing bracket.
-use Rattle.std.specs.Prelude.{ℕ, ◌<◌, ◌≤◌, List, map, length, Result, Ok, Err}
+use Rattle.std.specs.Prelude.{◌≡◌, ℕ, ◌<◌, ◌≤◌, ◌++◌, Bool, true, false, List, [], ◌∷◌, map, length, Result, Ok, Err}
 use Rattle.py_token.specs.declared.mark.Mark.TheVariants as mark'
 use Rattle.py_token.specs.declared.token.Token.{Token}
 use Rattle.py_tree.specs.Tree.{Tree, cons, group, tuple, list, comprehension, dict, pair, call, named, slice, words}
-use Rattle.py_tree.specs.Tree.{expr_tree, link_tree, pair_tree, argument_tree}
+use Rattle.py_tree.specs.Tree.{expr_tree, link_tree, pair_tree, argument_tree, piece_tree, joined}
 use Rattle.py_parse.specs.declared.display.OpenDisplay.{OpenDisplay}
 use Rattle.py_parse.specs.declared.display.OpenDisplay.TheVariants as display'
 use Rattle.py_parse.specs.declared.display.NextDisplay.{NextDisplay}
@@ -12,11 +12,17 @@ use Rattle.py_parse.specs.declared.link.OpenLink.{OpenLink}
 use Rattle.py_parse.specs.declared.link.OpenLink.TheVariants as open'
 use Rattle.py_parse.specs.declared.link.NextLink.{NextLink}
 use Rattle.py_parse.specs.declared.link.NextLink.TheVariants as follow'
+use Rattle.py_parse.specs.declared.pieces.NextPiece.{NextPiece}
+use Rattle.py_parse.specs.declared.pieces.NextPiece.TheVariants as piece'
+use Rattle.py_parse.specs.declared.pieces.PieceStep.{PieceStep}
+use Rattle.py_parse.specs.declared.pieces.PieceStep.TheVariants as step'
+use Rattle.py_parse.specs.declared.terminal.Terminal.TheVariants as terminal'
+use Rattle.py_parse.specs.Terminals.{Want, one, heads}
 use Rattle.py_parse.specs.declared.stop.Stop.{Stop}
-use Rattle.py_parse.specs.Grammar.{Body, gives, takes, reads, mark, expr, exprs_rest, items_rest, listed_rest, tests}
-use Rattle.py_parse.specs.Grammar.{pairs_rest, args_rest, named_args, named_rest, subscript_rest, closed, trails}
+use Rattle.py_parse.specs.Grammar.{Part, Body, gives, takes, reads, mark, expr, plain, exprs_rest, items_rest, listed_rest, tests}
+use Rattle.py_parse.specs.Grammar.{parts, more_pieces, field_body, opens, deeper, pairs_rest, args_rest, named_args, named_rest, subscript_rest, closed, trails}
 use Rattle.py_parse.specs.Reading.{Outcome, ok, Reads}
-use Rattle.py_parse.specs.Agrees.{AgreesOnStop, onto, optional_box}
+use Rattle.py_parse.specs.Agrees.{AgreesOnStop, Taken, onto, optional_box}
 
 -- parentheses
 abbrev pub group_end : ℕ → Tree → Body
@@ -75,11 +81,21 @@ display_after (display'.Test l e ns s ts) t =
 display_after (display'.Key l ps) t = key_after l (map pair_tree ps.items) t
 display_after (display'.Value l ps k c) t = value_after l (map pair_tree ps.items) (expr_tree k) c t
 
+-- the next expression of a display: what a comprehension goes over and its tests are no conditional ones
+abbrev pub is_plain : OpenDisplay → Bool
+is_plain (display'.Source l e ns) = true
+is_plain (display'.Test l e ns s ts) = true
+is_plain other = false
+
+abbrev pub wanted : Bool → Part
+wanted true = plain
+wanted false = expr
+
 -- Reading the body at these tokens goes on so, at every budget: it ends as reading an expression and what stands behind
 -- it does, from fewer tokens on; or it ended; or it stops.
 abbrev pub GoesOn : Body → List Token → NextDisplay → Type 0
 GoesOn b ts (next'.More s rest) =
-    (d : ℕ) (o : Outcome) → Reads d (reads expr (λ t. display_after s t)) rest.now o → Reads d b ts o
+    (d : ℕ) (o : Outcome) → Reads d (reads (wanted (is_plain s)) (λ t. display_after s t)) rest.now o → Reads d b ts o
 GoesOn b ts (next'.Closed e rest) = (d : ℕ) → Reads d b ts (ok (expr_tree e) rest.now)
 
 abbrev pub Continues : Body → List Token → Result NextDisplay Stop → Type 0
@@ -91,6 +107,56 @@ abbrev pub Shrinks : List Token → Result NextDisplay Stop → Type 0
 Shrinks ts (Ok (next'.More s rest)) = length rest.now < length ts
 Shrinks ts (Ok (next'.Closed e rest)) = Unit {0}
 Shrinks ts (Err s) = Unit {0}
+
+-- texts behind the pieces found: from a part of an f-text on, or behind a text
+abbrev pub pieces_from : Bool → ℕ → List Tree → Body
+pieces_from true l found = reads parts (λ u. gives (joined l (onto found u)))
+pieces_from false l found = reads more_pieces (λ u. gives (joined l (onto found u)))
+
+-- what is read from a field on
+abbrev pub field_from : ℕ → List Tree → Body
+field_from l found =
+    opens (mark mark'.OpenBrace) (λ x. deeper (field_body x.line) (λ t. pieces_from true l (found ++ t ∷ [])))
+
+-- a field stands at these tokens; or the texts ended
+abbrev pub PiecesGoOn : ℕ → Body → List Token → NextPiece → Type 0
+PiecesGoOn l b ts (piece'.Field found rest) =
+    (d : ℕ) (o : Outcome) → Reads d (field_from l (map piece_tree found.items)) rest.now o → Reads d b ts o
+PiecesGoOn l b ts (piece'.Ended e rest) = (d : ℕ) → Reads d b ts (ok (expr_tree e) rest.now)
+
+abbrev pub PiecesContinue : ℕ → Body → List Token → Result NextPiece Stop → Type 0
+PiecesContinue l b ts (Ok n) = PiecesGoOn l b ts n
+PiecesContinue l b ts (Err s) = AgreesOnStop s (λ o. (d : ℕ) → Reads d b ts o)
+
+-- it goes on from no more tokens
+abbrev pub PiecesStay : List Token → Result NextPiece Stop → Type 0
+PiecesStay ts (Ok (piece'.Field found rest)) = length rest.now ≤ length ts
+PiecesStay ts (Ok (piece'.Ended e rest)) = Unit {0}
+PiecesStay ts (Err s) = Unit {0}
+
+-- what the first token is, in an f-text or behind a text
+abbrev pub part_wanted : Bool → Want
+part_wanted true = one terminal'.FPart
+part_wanted false = one terminal'.Text
+
+abbrev pub turn_wanted : Bool → Want
+turn_wanted true = one terminal'.FEnd
+turn_wanted false = one terminal'.FStart
+
+abbrev pub no_part_heads : Bool → List Token → Type 0
+no_part_heads inside ts = heads (part_wanted inside) ts ≡ false
+
+abbrev pub StepsTo : Bool → List Token → PieceStep → Type 0
+StepsTo inside ts (step'.Part x rest) = Taken (part_wanted inside) ts x.now rest.now
+StepsTo inside ts (step'.Turns rest) =
+    (x : Token) × Taken (turn_wanted inside) ts x rest.now × no_part_heads inside ts ×
+    (inside ≡ true → heads (mark mark'.OpenBrace) ts ≡ false)
+StepsTo inside ts step'.Field = (inside ≡ true) × no_part_heads inside ts × (heads (mark mark'.OpenBrace) ts ≡ true)
+StepsTo inside ts step'.Ends =
+    (inside ≡ false) × no_part_heads inside ts × (heads (turn_wanted inside) ts ≡ false)
+StepsTo inside ts step'.Unfit =
+    (inside ≡ true) × no_part_heads inside ts × (heads (mark mark'.OpenBrace) ts ≡ false) ×
+    (heads (turn_wanted inside) ts ≡ false)
 
 -- calls
 abbrev pub call_end : ℕ → Tree → Body

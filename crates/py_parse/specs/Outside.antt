@@ -40,7 +40,6 @@ unsupported_word keyword'.Lambda = true
 unsupported_word keyword'.Nonlocal = true
 unsupported_word keyword'.Raise = true
 unsupported_word keyword'.Try = true
-unsupported_word keyword'.While = true
 unsupported_word keyword'.With = true
 unsupported_word keyword'.Yield = true
 unsupported_word _ = false
@@ -89,7 +88,8 @@ end_in_is_constant front =
     end_in (word keyword'.Is ∷ word keyword'.Not ∷ terminal'.Constant ∷ []) front
 
 abbrev pub begins_operand : TokenKind → Bool
-begins_operand k = is_of terminal'.Leaf k || is_of (mark mark'.Minus) k || is_of terminal'.Bracket k
+begins_operand k =
+    is_of terminal'.Leaf k || is_of terminal'.Piece k || is_of (mark mark'.Minus) k || is_of terminal'.Bracket k
 
 abbrev pub continues_operand : TokenKind → Bool
 continues_operand k =
@@ -129,12 +129,10 @@ compares (kind'.Word w) rest = word_compares w rest
 compares (kind'.Mark m) rest = is_some (mark_comparison m)
 compares _ rest = false
 
--- What is refused behind an expression, and elsewhere is none: a conditional expression, a second comparison.
+-- What is refused behind an expression, and elsewhere is none: a second comparison.
 abbrev pub unsupported_behind : List Token → Option Unsupported
 unsupported_behind [] = None
-unsupported_behind (x ∷ rest) =
-    if is_of (word keyword'.If) x.kind then Some (unsupported'.Word keyword'.If)
-    else (if compares x.kind rest then Some unsupported'.Chain else None)
+unsupported_behind (x ∷ rest) = if compares x.kind rest then Some unsupported'.Chain else None
 
 abbrev pub unsupported_at : List Token → List Token → Option Unsupported
 unsupported_at front [] = None

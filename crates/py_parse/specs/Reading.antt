@@ -6,12 +6,13 @@ use Rattle.py_tree.specs.Tree.{Tree}
 use Rattle.py_parse.specs.declared.terminal.Terminal.{Terminal}
 use Rattle.py_parse.specs.declared.terminal.Terminal.TheVariants as terminal'
 use Rattle.py_parse.specs.Terminals.{Want, one, fits, heads}
-use Rattle.py_parse.specs.Grammar.{Part, Body, gives, takes, opens, reads, deeper, line, one_link, productions}
+use Rattle.py_parse.specs.Grammar.{Part, Body, gives, takes, opens, reads, deeper, line, one_link, some_pieces, productions}
 
--- how a part begins that is one of several: a line by any token, what stands behind an atom, else an expression
+-- how a part begins that is one of several: a line by any token, what stands behind an atom, texts, else an expression
 unfoldable pub beginning : Part → Terminal
 beginning (line s) = terminal'.Any
 beginning one_link = terminal'.Link
+beginning some_pieces = terminal'.Piece
 beginning _ = terminal'.Expression
 
 -- the next token may begin the body

@@ -156,13 +156,18 @@ abbrev pub constant_of : TokenKind → Option Constant
 constant_of (kind'.Word w) = word_constant w
 constant_of _ = None
 
--- Names, numbers, texts and constants.
+-- Names, numbers and constants.
 abbrev pub is_leaf : TokenKind → Bool
 is_leaf (kind'.Name n) = true
 is_leaf (kind'.Integer n) = true
-is_leaf (kind'.Text t) = true
 is_leaf (kind'.Word w) = is_some (word_constant w)
 is_leaf _ = false
+
+-- How a text begins.
+abbrev pub is_piece : TokenKind → Bool
+is_piece (kind'.Text t) = true
+is_piece kind'.FStart = true
+is_piece _ = false
 
 abbrev pub is_bracket : Mark → Bool
 is_bracket mark'.OpenParen = true
@@ -195,6 +200,7 @@ abbrev pub starts_of : TokenKind → Bool
 starts_of (kind'.Name n) = true
 starts_of (kind'.Integer n) = true
 starts_of (kind'.Text t) = true
+starts_of kind'.FStart = true
 starts_of (kind'.Word w) = word_starts w
 starts_of (kind'.Mark m) = mark_starts m
 starts_of _ = false
@@ -215,6 +221,12 @@ is_of terminal'.Integer (kind'.Integer n) = true
 is_of terminal'.Integer _ = false
 is_of terminal'.Text (kind'.Text t) = true
 is_of terminal'.Text _ = false
+is_of terminal'.FStart kind'.FStart = true
+is_of terminal'.FStart _ = false
+is_of terminal'.FPart (kind'.FPart t) = true
+is_of terminal'.FPart _ = false
+is_of terminal'.FEnd kind'.FEnd = true
+is_of terminal'.FEnd _ = false
 is_of terminal'.Newline kind'.Newline = true
 is_of terminal'.Newline _ = false
 is_of terminal'.Indent kind'.Indent = true
@@ -234,6 +246,7 @@ is_of terminal'.Augment k = is_some (augment_of k)
 is_of terminal'.Comparison k = is_some (comparison_of k)
 is_of terminal'.Constant k = is_some (constant_of k)
 is_of terminal'.Leaf k = is_leaf k
+is_of terminal'.Piece k = is_piece k
 is_of terminal'.Bracket k = bracket_of k
 is_of terminal'.Link k = link_of k
 is_of terminal'.Expression k = starts_of k
@@ -269,6 +282,7 @@ number_in _ = 0
 
 abbrev pub text_in : TokenKind → List ℕ
 text_in (kind'.Text t) = t
+text_in (kind'.FPart t) = t
 text_in _ = []
 
 abbrev pub operator_in : Level → TokenKind → Operator

@@ -20,7 +20,7 @@ use py_tree::{Comparison, Constant, Expr, Link};
 use scons_base::Memory;
 use std::alloc::{AllocFailed, Global};
 
-/// A name, a number, a text or a constant.
+/// A name, a number or a constant.
 pub fn take_leaf<'a>(
     alloc: Global,
     tokens: &'a [Token],
@@ -50,10 +50,6 @@ fn leaf_of(token: &Token) -> Result<Expr, Memory>
             line,
             value: *value,
         }),
-        TokenKind::Text(text) => {
-            let text = text.copy()?;
-            Ok(Expr::Text { line, text })
-        }
         kind => {
             let constant = constant_of(kind).unwrap_or(Constant::None);
             Ok(Expr::Constant { line, constant })
@@ -95,6 +91,26 @@ pub fn compare(
         comparison,
         left,
         right,
+    };
+    Box::new(alloc, whole)
+}
+
+/// A conditional expression.
+pub fn choice(
+    alloc: Global,
+    line: u32,
+    value: Box<Expr>,
+    test: Box<Expr>,
+    other: Box<Expr>,
+) -> Result<Box<Expr>, AllocFailed<Expr>>
+    ensures { IfOk result (λ e.
+        expr_tree e.value ≡ tree.choice line (expr_tree value.value) (expr_tree test.value) (expr_tree other.value)) }
+{
+    let whole = Expr::Choice {
+        line,
+        value,
+        test,
+        other,
     };
     Box::new(alloc, whole)
 }

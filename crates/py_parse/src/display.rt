@@ -1,6 +1,7 @@
 //! Parentheses, lists and dicts that are open: what may stand in them behind an expression.
+ghost use Rattle.std.specs.Prelude.{◌≡◌};
 ghost use Rattle.py_tree.specs.Tree.{expr_tree};
-ghost use Rattle.py_parse.specs.Open.{Shrinks, display_after, Continues};
+ghost use Rattle.py_parse.specs.Open.{Shrinks, display_after, is_plain, Continues};
 ghost use Rattle.py_parse.specs.Reading.{pick};
 ghost use Rattle.py_parse.specs.Grammar as grammar;
 
@@ -86,6 +87,17 @@ pub fn open_display<'a>(
 }
 
 impl OpenDisplay {
+    /// The expression that stands next is no conditional one.
+    pub fn is_plain(&self) -> bool
+        ensures { result ≡ is_plain self.now }
+    {
+        match self {
+            OpenDisplay::Source { .. } => true,
+            OpenDisplay::Test { .. } => true,
+            _ => false,
+        }
+    }
+
     /// What comes behind this expression, which is the next in the display.
     pub fn put<'a>(
         self,

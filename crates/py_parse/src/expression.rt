@@ -1,24 +1,27 @@
-//! Expressions, from the lowest level of operators down to atoms. A function goes down a level of nesting at an opening
-//! bracket, a `not` and a unary minus alone.
-ghost use Rattle.std.specs.Prelude.{◌<◌, List, length, IfOk};
+//! Expressions, from conditional ones and the lowest level of operators down to atoms. A function goes down a level of nesting
+//! at an opening bracket, a field of an f-text, an `if`, a `not` and a unary minus alone.
+ghost use Rattle.std.specs.Prelude.{◌≡◌, ◌<◌, List, false, length, IfOk};
 ghost use Rattle.py_token.specs.declared.token.Token.{Token};
-ghost use Rattle.py_tree.specs.Tree.{expr_tree, link_tree};
+ghost use Rattle.py_tree.specs.Tree.{expr_tree, link_tree, piece_tree};
 ghost use Rattle.py_parse.specs.Agrees.{Agrees, right_of};
-ghost use Rattle.py_parse.specs.Open.{GoesOn, LinkGoesOn};
+ghost use Rattle.py_parse.specs.Open.{GoesOn, LinkGoesOn, PiecesGoOn, wanted};
+ghost use Rattle.py_parse.specs.Terminals.{one, heads};
+ghost use Rattle.py_parse.specs.declared.terminal.Terminal.TheVariants as terminal';
 ghost use Rattle.py_parse.specs.Reading.{Reads, pick, ok};
 ghost use Rattle.py_parse.specs.Grammar as grammar;
 
 use crate::arguments::open_call;
-use crate::atoms::{boxed, compare, take_attribute, take_leaf};
+use crate::atoms::{boxed, choice, compare, take_attribute, take_leaf};
 use crate::display::{NextDisplay, open_display, put_in_display};
 use crate::level::Level;
 use crate::link::{NextLink, put_in_link};
 use crate::operators::{chain_of, next_comparison, next_operator, post_of, take_constant};
+use crate::pieces::{NextPiece, behind_text, next_piece, put_field};
 use crate::stop::Stop;
 use crate::subscripts::open_subscript;
 use crate::terminal::{Terminal, sees, strip};
 use py_token::{Keyword, Mark, Token};
-use py_tree::{Comparison, Expr, Link, Operation};
+use py_tree::{Comparison, Expr, Link, Operation, Piece};
 use std::alloc::Global;
 
 /// An expression. `depth` is how many levels of nesting are left.
@@ -29,8 +32,67 @@ pub fn parse_expr<'a>(
 ) -> Result<(Expr, &'a [Token]), Stop<'a>>
     ensures { Agrees (λ p. ok (expr_tree p.0) p.1.now) result (Reads depth (pick grammar.expr tokens.now) tokens.now) }
 {
-    let (expr, rest) = parse_chain(alloc, Level::Or, depth, tokens)?;
+    let (expr, rest) = parse_choice(alloc, depth, tokens)?;
     Ok((Box::into_inner(expr), rest))
+}
+
+/// An expression: operands that are joined, and maybe a conditional expression that they begin.
+#[cycle(expression)]
+fn parse_choice<'a>(
+    alloc: Global,
+    depth: u32,
+    tokens: &'a [Token],
+) -> Result<(Box<Expr>, &'a [Token]), Stop<'a>>
+    ensures { Agrees (λ p. ok (expr_tree p.0.value) p.1.now) result
+        (Reads depth (pick grammar.expr tokens.now) tokens.now) }
+{
+    let (value, rest) = parse_chain(alloc, Level::Or, depth, tokens)?;
+    let Some((word, after)) = strip(Terminal::Word(Keyword::If), rest) else {
+        return Ok((value, rest));
+    };
+    if depth == 0 {
+        return Err(Stop::TooDeep(rest));
+    }
+    parse_test(alloc, depth - 1, word.line, value, after)
+}
+
+/// What stands behind the `if` of a conditional expression, which gives this value where its test holds.
+#[cycle(expression)]
+fn parse_test<'a>(
+    alloc: Global,
+    depth: u32,
+    line: u32,
+    value: Box<Expr>,
+    tokens: &'a [Token],
+) -> Result<(Box<Expr>, &'a [Token]), Stop<'a>>
+    ensures { Agrees (λ p. ok (expr_tree p.0.value) p.1.now) result
+        (Reads depth (pick (grammar.choice_body line (expr_tree value.value)) tokens.now) tokens.now) }
+{
+    let (test, rest) = parse_chain(alloc, Level::Or, depth, tokens)?;
+    let Some((_, rest)) = strip(Terminal::Word(Keyword::Else), rest) else {
+        return Err(Stop::At(rest));
+    };
+    let (other, rest) = parse_choice(alloc, depth, rest)?;
+    let whole = choice(alloc, line, value, test, other)?;
+    Ok((whole, rest))
+}
+
+/// An expression, a conditional one only where it may be one.
+#[cycle(expression)]
+fn parse_wanted<'a>(
+    alloc: Global,
+    plain: bool,
+    depth: u32,
+    tokens: &'a [Token],
+) -> Result<(Box<Expr>, &'a [Token]), Stop<'a>>
+    ensures { Agrees (λ p. ok (expr_tree p.0.value) p.1.now) result
+        (Reads depth (pick (wanted plain) tokens.now) tokens.now) }
+{
+    if plain {
+        parse_chain(alloc, Level::Or, depth, tokens)
+    } else {
+        parse_choice(alloc, depth, tokens)
+    }
 }
 
 /// Operands with operators of a level between them.
@@ -180,7 +242,7 @@ fn parse_post<'a>(
     Ok((post, rest))
 }
 
-/// A name, a number, a text, a constant, or a display in brackets.
+/// A name, a number, a constant, texts, or a display in brackets.
 #[cycle(expression)]
 fn parse_atom<'a>(
     alloc: Global,
@@ -191,13 +253,88 @@ fn parse_atom<'a>(
         (Reads depth (pick grammar.atom tokens.now) tokens.now) }
 {
     let Some((bracket, rest)) = strip(Terminal::Bracket, tokens) else {
-        return take_leaf(alloc, tokens);
+        return parse_text(alloc, depth, tokens);
     };
     if depth == 0 {
         return Err(Stop::TooDeep(tokens));
     }
     let next = open_display(alloc, bracket, rest)?;
     parse_display(alloc, depth - 1, next)
+}
+
+/// Texts, or an atom of one token.
+#[cycle(expression)]
+fn parse_text<'a>(
+    alloc: Global,
+    depth: u32,
+    tokens: &'a [Token],
+) -> Result<(Box<Expr>, &'a [Token]), Stop<'a>>
+    requires { heads (one terminal'.Bracket) tokens.now ≡ false }
+    ensures { Agrees (λ p. ok (expr_tree p.0.value) p.1.now) result
+        (Reads depth (pick grammar.atom tokens.now) tokens.now) }
+{
+    if let Some((text, rest)) = strip(Terminal::Text, tokens) {
+        let next = behind_text(alloc, text, rest)?;
+        return parse_pieces(alloc, depth, text.line, next);
+    }
+    if let Some((start, rest)) = strip(Terminal::FStart, tokens) {
+        let next = next_piece(alloc, start.line, true, Vec::new(alloc), rest)?;
+        return parse_pieces(alloc, depth, start.line, next);
+    }
+    take_leaf(alloc, tokens)
+}
+
+/// The fields of texts of which the first stands on this line, and what stands between them.
+#[cycle(expression)]
+fn parse_pieces<'a>(
+    alloc: Global,
+    depth: u32,
+    line: u32,
+    next: NextPiece<'a>,
+) -> Result<(Box<Expr>, &'a [Token]), Stop<'a>>
+    ensures { (b : grammar.Body) (ts : List Token) → PiecesGoOn line b ts next.entry →
+        Agrees (λ p. ok (expr_tree p.0.value) p.1.now) result (Reads depth b ts) }
+{
+    let (mut pieces, mut rest) = match next {
+        NextPiece::Ended(texts, rest) => return boxed(alloc, texts, rest),
+        NextPiece::Field(pieces, rest) => (pieces, rest),
+    };
+    'fields: loop {
+        let (field, after) = parse_field(alloc, depth, rest)?;
+        match put_field(alloc, line, pieces, field, after)? {
+            NextPiece::Ended(texts, after) => return boxed(alloc, texts, after),
+            NextPiece::Field(more, after) => {
+                pieces = more;
+                rest = after;
+            }
+        }
+    }
+}
+
+/// A field of an f-text, with its braces.
+#[cycle(expression)]
+fn parse_field<'a>(
+    alloc: Global,
+    depth: u32,
+    tokens: &'a [Token],
+) -> Result<(Piece, &'a [Token]), Stop<'a>>
+    ensures found { Agrees (λ p. ok (piece_tree p.0) p.1.now) result
+        (Reads depth grammar.one_field tokens.now) }
+    ensures shorter { IfOk result (λ p. length p.1.now < length tokens.now) }
+{
+    let Some((brace, rest)) = strip(Terminal::Mark(Mark::OpenBrace), tokens) else {
+        return Err(Stop::At(tokens));
+    };
+    if depth == 0 {
+        return Err(Stop::TooDeep(tokens));
+    }
+    let (value, rest) = parse_choice(alloc, depth - 1, rest)?;
+    let Some((_, rest)) = strip(Terminal::Mark(Mark::CloseBrace), rest) else {
+        return Err(Stop::At(rest));
+    };
+    let line = brace.line;
+    let value = Box::into_inner(value);
+    Ok((Piece::Field { line, value }, rest))
 }
 
 /// A call, a subscript or an attribute behind an atom.
@@ -244,7 +381,7 @@ fn parse_display<'a>(
     };
     let mut open = Box::new(alloc, open)?;
     'expressions: loop {
-        let (value, after) = parse_chain(alloc, Level::Or, depth, rest)?;
+        let (value, after) = parse_wanted(alloc, open.is_plain(), depth, rest)?;
         match put_in_display(alloc, open, value, after)? {
             NextDisplay::Closed(display, after) => return boxed(alloc, display, after),
             NextDisplay::More(more, after) => {
@@ -271,7 +408,7 @@ fn parse_brackets<'a>(
     };
     let mut open = Box::new(alloc, open)?;
     'expressions: loop {
-        let (value, after) = parse_chain(alloc, Level::Or, depth, rest)?;
+        let (value, after) = parse_choice(alloc, depth, rest)?;
         match put_in_link(alloc, open, value, after)? {
             NextLink::Closed(link, after) => return Ok((link, after)),
             NextLink::More(more, after) => {

@@ -35,7 +35,7 @@ pub enum ParseKind {
 /// What of Python a script hasn't.
 #[derive(Clone, Copy, Debug, PartialEq, Eq)]
 pub enum Unsupported {
-    /// A keyword; or a form that is named by one: `def` in a block, `if` behind an expression, `is` with a right side
+    /// A keyword; or a form that is named by one: `def` in a block, `is` with a right side
     /// that is no constant, `import` of another module.
     Word(Keyword),
     Mark(Mark),

@@ -25,6 +25,7 @@ mod operators;
 mod outside;
 mod parameters;
 mod parser;
+mod pieces;
 mod script;
 mod seen;
 mod site;

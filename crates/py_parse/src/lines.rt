@@ -45,6 +45,12 @@ pub fn parse_line<'a>(
         }
         return parse_for(alloc, site, depth, word.line, rest);
     }
+    if let Some((word, rest)) = strip(Terminal::Word(Keyword::While), tokens) {
+        if depth == 0 {
+            return Err(Stop::TooDeep(tokens));
+        }
+        return parse_while(alloc, site, depth, word.line, rest);
+    }
     if let Some((word, rest)) = strip_where(site.outermost, Terminal::Word(Keyword::Def), tokens) {
         if depth == 0 {
             return Err(Stop::TooDeep(tokens));
@@ -161,6 +167,26 @@ fn parse_for<'a>(
         },
         rest,
     ))
+}
+
+/// What stands behind `while`.
+#[cycle(line)]
+fn parse_while<'a>(
+    alloc: Global,
+    site: Site,
+    depth: u32,
+    line: u32,
+    tokens: &'a [Token],
+) -> Result<(Line, &'a [Token]), Stop<'a>>
+    requires { depth ≢ 0 }
+    ensures { Agrees (λ p. ok (line_tree p.0) p.1.now) result (Reads depth (grammar.while_body line site) tokens.now) }
+{
+    let (test, rest) = parse_expr(alloc, depth, tokens)?;
+    let Some((_, rest)) = strip(Terminal::Mark(Mark::Colon), rest) else {
+        return Err(Stop::At(rest));
+    };
+    let (block, rest) = parse_block(alloc, site.in_loop(), depth - 1, rest)?;
+    Ok((Line::While { line, test, block }, rest))
 }
 
 /// What stands behind `def`.

@@ -12,9 +12,6 @@ pub fn unsupported_behind(rest: &[Token]) -> Option<Unsupported>
     ensures { result ≡ outside.unsupported_behind rest.now }
 {
     let (token, behind) = rest.split_first()?;
-    if Terminal::Word(Keyword::If).fits(&token.kind) {
-        return Some(Unsupported::Word(Keyword::If));
-    }
     if compares(&token.kind, behind) {
         return Some(Unsupported::Chain);
     }
@@ -110,6 +107,7 @@ fn begins_operand(kind: &TokenKind) -> bool
     ensures { result ≡ outside.begins_operand kind.now }
 {
     Terminal::Leaf.fits(kind)
+        || Terminal::Piece.fits(kind)
         || Terminal::Mark(Mark::Minus).fits(kind)
         || Terminal::Bracket.fits(kind)
 }
@@ -176,7 +174,6 @@ fn is_unsupported_word(word: Keyword) -> bool
         Keyword::Nonlocal => true,
         Keyword::Raise => true,
         Keyword::Try => true,
-        Keyword::While => true,
         Keyword::With => true,
         Keyword::Yield => true,
         _ => false,

@@ -118,8 +118,18 @@ pub fn is_leaf(kind: &TokenKind) -> bool
     match kind {
         TokenKind::Name(_) => true,
         TokenKind::Integer(_) => true,
-        TokenKind::Text(_) => true,
         TokenKind::Word(word) => word_constant(*word).is_some(),
+        _ => false,
+    }
+}
+
+/// A text may begin so.
+pub fn is_piece(kind: &TokenKind) -> bool
+    ensures { result ≡ terminals.is_piece kind.now }
+{
+    match kind {
+        TokenKind::Text(_) => true,
+        TokenKind::FStart => true,
         _ => false,
     }
 }
@@ -178,6 +188,7 @@ pub fn starts_expr(kind: &TokenKind) -> bool
         TokenKind::Name(_) => true,
         TokenKind::Integer(_) => true,
         TokenKind::Text(_) => true,
+        TokenKind::FStart => true,
         TokenKind::Word(word) => word_starts(*word),
         TokenKind::Mark(mark) => mark_starts(*mark),
         _ => false,

@@ -5,7 +5,7 @@ ghost use Rattle.py_parse.specs.Agrees.{Taken};
 
 use crate::level::Level;
 use crate::tables::{
-    augment_of, comparison_of, constant_of, is_bracket, is_leaf, is_link, operator_of, starts_expr,
+    augment_of, comparison_of, constant_of, is_bracket, is_leaf, is_link, is_piece, operator_of, starts_expr,
 };
 use py_token::{Keyword, Mark, Token, TokenKind};
 
@@ -15,6 +15,9 @@ pub enum Terminal {
     Name,
     Integer,
     Text,
+    FStart,
+    FPart,
+    FEnd,
     Newline,
     Indent,
     Dedent,
@@ -30,8 +33,10 @@ pub enum Terminal {
     /// A comparison of one token with any right side.
     Comparison,
     Constant,
-    /// A name, a number, a text or a constant.
+    /// A name, a number or a constant.
     Leaf,
+    /// How a text begins.
+    Piece,
     /// An opening bracket.
     Bracket,
     /// What stands behind an atom.
@@ -49,6 +54,9 @@ impl Terminal {
             (Terminal::Name, TokenKind::Name(_)) => true,
             (Terminal::Integer, TokenKind::Integer(_)) => true,
             (Terminal::Text, TokenKind::Text(_)) => true,
+            (Terminal::FStart, TokenKind::FStart) => true,
+            (Terminal::FPart, TokenKind::FPart(_)) => true,
+            (Terminal::FEnd, TokenKind::FEnd) => true,
             (Terminal::Newline, TokenKind::Newline) => true,
             (Terminal::Indent, TokenKind::Indent) => true,
             (Terminal::Dedent, TokenKind::Dedent) => true,
@@ -61,6 +69,7 @@ impl Terminal {
             (Terminal::Comparison, kind) => comparison_of(kind).is_some(),
             (Terminal::Constant, kind) => constant_of(kind).is_some(),
             (Terminal::Leaf, kind) => is_leaf(kind),
+            (Terminal::Piece, kind) => is_piece(kind),
             (Terminal::Bracket, TokenKind::Mark(mark)) => is_bracket(*mark),
             (Terminal::Link, TokenKind::Mark(mark)) => is_link(*mark),
             (Terminal::Expression, kind) => starts_expr(kind),

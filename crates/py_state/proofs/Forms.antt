@@ -8,9 +8,10 @@ use Rattle.py_tree.specs.declared.expr.Link.{Link}
 use Rattle.py_tree.specs.declared.expr.Argument.{Argument}
 use Rattle.py_tree.specs.declared.expr.Operation.{Operation}
 use Rattle.py_tree.specs.declared.expr.Pair.{Pair}
+use Rattle.py_tree.specs.declared.expr.Piece.{Piece}
 use Rattle.py_tree.specs.declared.expr.Argument.TheOpen as open'
 use Rattle.py_tree.specs.declared.expr.Operator.{Operator}
-use Rattle.py_tree.specs.Tree.{Tree, tuple, branch, trees, expr_tree, line_tree, branch_tree, argument_step, expr_step, link_step, operation_step, pair_step}
+use Rattle.py_tree.specs.Tree.{Tree, tuple, branch, trees, expr_tree, line_tree, branch_tree, argument_step, expr_step, link_step, operation_step, pair_step, piece_step}
 use Rattle.py_tree.specs.declared.expr.Operator.TheVariants as operator'
 use Rattle.py_tree.specs.declared.line.Branch.{Branch}
 use Rattle.py_tree.proofs.Views.{branch_tree-Branch}
@@ -26,10 +27,10 @@ use Rattle.py_host.specs.Calls.{Arguments}
 use Rattle.py_meaning.specs.Arguments.{with_argument}
 use Rattle.py_meaning.specs.LocalNames.{target_names}
 
-positional_at : (o : open'.Expr-F Argument Expr Link Operation Pair) (given : Arguments) (v : Value) → with_argument given (expr_tree (roll-Expr o)) v ≡ record given { positional = given.positional ++ v ∷ [] }
+positional_at : (o : open'.Expr-F Argument Expr Link Piece Operation Pair) (given : Arguments) (v : Value) → with_argument given (expr_tree (roll-Expr o)) v ≡ record given { positional = given.positional ++ v ∷ [] }
 unfolding expr_tree
-positional_at (open'.Name l n) given v = ap (λ t. with_argument given t v) (fold-roll-Expr Tree Tree Tree Tree Tree argument_step expr_step link_step operation_step pair_step (open'.Name l n))
-positional_at o given v = ap (λ t. with_argument given t v) (fold-roll-Expr Tree Tree Tree Tree Tree argument_step expr_step link_step operation_step pair_step o)
+positional_at (open'.Name l n) given v = ap (λ t. with_argument given t v) (fold-roll-Expr Tree Tree Tree Tree Tree Tree argument_step expr_step link_step piece_step operation_step pair_step (open'.Name l n))
+positional_at o given v = ap (λ t. with_argument given t v) (fold-roll-Expr Tree Tree Tree Tree Tree Tree argument_step expr_step link_step piece_step operation_step pair_step o)
 
 -- an argument without a name goes behind the positional ones
 pub positional : (e : Expr) (given : Arguments) (v : Value) → with_argument given (expr_tree e) v ≡ record given { positional = given.positional ++ v ∷ [] }
@@ -43,11 +44,11 @@ NotName e = (l : ℕ) (n : List ℕ) → e ≡ expr'.Name l n → ⊥
 abbrev pub NotTuple : Expr → Type 0
 NotTuple e = (l : ℕ) (ts : Vec Expr Global) (b : Bool) → e ≡ expr'.Tuple l ts b → ⊥
 
-no_target_at : (o : open'.Expr-F Argument Expr Link Operation Pair) (names : List (List ℕ)) → NotName (roll-Expr o) → NotTuple (roll-Expr o) → target_names names (expr_tree (roll-Expr o)) ≡ names
+no_target_at : (o : open'.Expr-F Argument Expr Link Piece Operation Pair) (names : List (List ℕ)) → NotName (roll-Expr o) → NotTuple (roll-Expr o) → target_names names (expr_tree (roll-Expr o)) ≡ names
 unfolding expr_tree
 no_target_at (open'.Name l n) names h k = absurd (h l n (expr'.rolls-Name l n))
 no_target_at (open'.Tuple l ts b) names h k = absurd (k l ts b (expr'.rolls-Tuple l ts b))
-no_target_at o names h k = ap (target_names names) (fold-roll-Expr Tree Tree Tree Tree Tree argument_step expr_step link_step operation_step pair_step o)
+no_target_at o names h k = ap (target_names names) (fold-roll-Expr Tree Tree Tree Tree Tree Tree argument_step expr_step link_step piece_step operation_step pair_step o)
 
 -- a target that is neither a name nor several ones binds none
 pub no_target : (e : Expr) (names : List (List ℕ)) → NotName e → NotTuple e → target_names names (expr_tree e) ≡ names

@@ -29,6 +29,7 @@ pub fn expression_line(expr: &Expr) -> u32
         Expr::Name { line, .. }
         | Expr::Integer { line, .. }
         | Expr::Text { line, .. }
+        | Expr::Joined { line, .. }
         | Expr::Constant { line, .. }
         | Expr::Group { line, .. }
         | Expr::List { line, .. }
@@ -43,5 +44,6 @@ pub fn expression_line(expr: &Expr) -> u32
         Expr::Post { atom, .. } => expression_line(atom),
         Expr::Chain { first, .. } => expression_line(first),
         Expr::Compare { left, .. } => expression_line(left),
+        Expr::Choice { value, .. } => expression_line(value),
     }
 }

@@ -68,6 +68,7 @@ fn add_line(names: &mut IndexSet<Text>, line: &Line) -> Result<(), Memory>
             add_all(names, bound.as_slice())?;
             add_lines(names, block.as_slice())
         }
+        Line::While { block, .. } => add_lines(names, block.as_slice()),
         Line::Def { name, .. } => add(names, name),
     }
 }

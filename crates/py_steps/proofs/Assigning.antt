@@ -5,13 +5,14 @@ use denote.Ref.{Bor}
 use Rattle.std.specs.declared.boxed.Box.{Box}
 use Rattle.std.specs.declared.alloc.Global.{Global}
 use Rattle.std.specs.declared.vec.Vec.{Vec}
-use Rattle.py_tree.specs.Tree.{Tree, cons, tuple, post, trees, expr_tree, link_tree, argument_step, expr_step, link_step, operation_step, pair_step}
+use Rattle.py_tree.specs.Tree.{Tree, cons, tuple, post, trees, expr_tree, link_tree, argument_step, expr_step, link_step, operation_step, pair_step, piece_step}
 use Rattle.py_tree.specs.declared.expr.Expr.{Expr, roll-Expr, out-Expr, roll-out-Expr, fold-roll-Expr}
 use Rattle.py_tree.specs.declared.expr.Expr.TheVariants as expr'
 use Rattle.py_tree.specs.declared.expr.Link.{Link}
 use Rattle.py_tree.specs.declared.expr.Argument.{Argument}
 use Rattle.py_tree.specs.declared.expr.Operation.{Operation}
 use Rattle.py_tree.specs.declared.expr.Pair.{Pair}
+use Rattle.py_tree.specs.declared.expr.Piece.{Piece}
 use Rattle.py_tree.specs.declared.expr.Argument.TheOpen as open'
 use Rattle.py_tree.proofs.Views.{expr_tree-Name, expr_tree-Tuple}
 use Rattle.py_heap.specs.declared.value.Value.{Value}
@@ -39,10 +40,10 @@ use Rattle.py_steps.proofs.Places.{NotPost, post_tree}
 use Rattle.py_steps.proofs.Rests.{arrives, left_ends}
 
 -- the names of several targets, up to the first that is none
-no_name_at : (o : open'.Expr-F Argument Expr Link Operation Pair) (ts : Tree) → NotName (roll-Expr o) → names_of (cons (expr_tree (roll-Expr o)) ts) ≡ []
+no_name_at : (o : open'.Expr-F Argument Expr Link Piece Operation Pair) (ts : Tree) → NotName (roll-Expr o) → names_of (cons (expr_tree (roll-Expr o)) ts) ≡ []
 unfolding expr_tree
 no_name_at (open'.Name l n) ts h = absurd (h l n (expr'.rolls-Name l n))
-no_name_at o ts h = ap (λ t. names_of (cons t ts)) (fold-roll-Expr Tree Tree Tree Tree Tree argument_step expr_step link_step operation_step pair_step o)
+no_name_at o ts h = ap (λ t. names_of (cons t ts)) (fold-roll-Expr Tree Tree Tree Tree Tree Tree argument_step expr_step link_step piece_step operation_step pair_step o)
 
 no_name : (e : Expr) (ts : Tree) → NotName e → names_of (cons (expr_tree e) ts) ≡ []
 no_name e ts =
@@ -145,12 +146,12 @@ item_takes l a i front ls li d d1 d2 s q v w =
     (λ base key s1. item_set_is li base key (top vs) s1 done (λ s2. left (tasks_of d) (drop 1 vs) (goes_on s2)) k (λ s2. ap (λ (ys : List Value). left (tasks_of d) ys (goes_on s2)) (sym (below_one vs))))))
 
 -- a target of another form takes it for nothing
-assigned_other_at : (o : open'.Expr-F Argument Expr Link Operation Pair) (l : ℕ) (x : Value) (s : State) (f : State → Plan) → NotName (roll-Expr o) → NotTuple (roll-Expr o) → NotPost (roll-Expr o) → assigned l (expr_tree (roll-Expr o)) x s f ≡ f s
+assigned_other_at : (o : open'.Expr-F Argument Expr Link Piece Operation Pair) (l : ℕ) (x : Value) (s : State) (f : State → Plan) → NotName (roll-Expr o) → NotTuple (roll-Expr o) → NotPost (roll-Expr o) → assigned l (expr_tree (roll-Expr o)) x s f ≡ f s
 unfolding expr_tree
 assigned_other_at (open'.Name ln n) l x s f h g i = absurd (h ln n (expr'.rolls-Name ln n))
 assigned_other_at (open'.Tuple lt ts b) l x s f h g i = absurd (g lt ts b (expr'.rolls-Tuple lt ts b))
 assigned_other_at (open'.Post a ls) l x s f h g i = absurd (i a ls (expr'.rolls-Post a ls))
-assigned_other_at o l x s f h g i = ap (λ t. assigned l t x s f) (fold-roll-Expr Tree Tree Tree Tree Tree argument_step expr_step link_step operation_step pair_step o)
+assigned_other_at o l x s f h g i = ap (λ t. assigned l t x s f) (fold-roll-Expr Tree Tree Tree Tree Tree Tree argument_step expr_step link_step piece_step operation_step pair_step o)
 
 assigned_other : (e : Expr) (l : ℕ) (x : Value) (s : State) (f : State → Plan) → NotName e → NotTuple e → NotPost e → assigned l (expr_tree e) x s f ≡ f s
 assigned_other e l x s f =

@@ -2,7 +2,7 @@
 use Rattle.std.specs.Prelude.{not as turned}
 use Rattle.std.proofs.Common.{◌≡◌, ◌∙◌, arith, ℕ, ◌-◌, List, [], ◌∷◌, ◌++◌, Bool, Option, None, Result, Ok, Err, ℤ, pos, ap, sym, refl, subst, length, reverse}
 use Rattle.std.proofs.lemmas.List.{take_at, drop_at, length-append, reverse-reverse}
-use Rattle.py_tree.specs.Tree.{Tree, expr_tree, argument_step, expr_step, link_step, operation_step, pair_step, integer, text, constant, group, tuple, list, dict, comprehension, post, negative, not, chain, compare}
+use Rattle.py_tree.specs.Tree.{Tree, expr_tree, argument_step, expr_step, link_step, operation_step, pair_step, piece_step, integer, text, constant, group, tuple, list, dict, comprehension, post, negative, not, chain, compare}
 use Rattle.py_tree.specs.declared.expr.Constant.{Constant}
 use Rattle.py_tree.specs.declared.expr.Comparison.{Comparison}
 use Rattle.py_heap.specs.declared.value.Value.{Value}
@@ -26,6 +26,7 @@ use Rattle.py_tree.specs.declared.expr.Link.{Link}
 use Rattle.py_tree.specs.declared.expr.Argument.{Argument}
 use Rattle.py_tree.specs.declared.expr.Operation.{Operation}
 use Rattle.py_tree.specs.declared.expr.Pair.{Pair}
+use Rattle.py_tree.specs.declared.expr.Piece.{Piece}
 use Rattle.py_tree.specs.declared.expr.Argument.TheOpen as open'
 use Rattle.py_compare.specs.Numbers.{fitting}
 use Rattle.py_heap.specs.Given.{given_text}
@@ -150,10 +151,10 @@ evaluated d0 d1 e x t s st i = ap (λ k. left k.tasks k.values (goes_on s)) st �
 abbrev pub NotName : Expr → Type 0
 NotName e = (l : ℕ) (n : List ℕ) → e ≡ expr'.Name l n → ⊥
 
-no_line_at : (o : open'.Expr-F Argument Expr Link Operation Pair) → NotName (roll-Expr o) → None ≡ named_line (expr_tree (roll-Expr o))
+no_line_at : (o : open'.Expr-F Argument Expr Link Piece Operation Pair) → NotName (roll-Expr o) → None ≡ named_line (expr_tree (roll-Expr o))
 unfolding expr_tree
 no_line_at (open'.Name l n) h = absurd (h l n (expr'.rolls-Name l n))
-no_line_at o h = ap named_line (sym (fold-roll-Expr Tree Tree Tree Tree Tree argument_step expr_step link_step operation_step pair_step o))
+no_line_at o h = ap named_line (sym (fold-roll-Expr Tree Tree Tree Tree Tree Tree argument_step expr_step link_step piece_step operation_step pair_step o))
 
 pub no_line : (e : Expr) → NotName e → None ≡ named_line (expr_tree e)
 no_line e = let P : Expr → Type 0 = λ x. NotName x → None ≡ named_line (expr_tree x) in subst P (roll-out-Expr e) (no_line_at (out-Expr e))

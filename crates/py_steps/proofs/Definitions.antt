@@ -1,12 +1,13 @@
 -- A `def`: its parameters, and the function that it makes.
 use Rattle.std.proofs.Common.{◌≡◌, ◌∙◌, ℕ, true, List, [], ◌∷◌, ◌++◌, Option, Some, None, is_some, map, length, refl, sym, subst, ap}
 use Rattle.std.proofs.lemmas.List.{length-map}
-use Rattle.py_tree.specs.Tree.{Tree, cons, parameter, trees, line_tree, optional_tree, parameter_tree, expr_tree, argument_step, expr_step, link_step, operation_step, pair_step}
+use Rattle.py_tree.specs.Tree.{Tree, cons, parameter, trees, line_tree, optional_tree, parameter_tree, expr_tree, argument_step, expr_step, link_step, operation_step, pair_step, piece_step}
 use Rattle.py_tree.specs.declared.expr.Expr.{Expr, roll-Expr, out-Expr, roll-out-Expr, fold-roll-Expr}
 use Rattle.py_tree.specs.declared.expr.Link.{Link}
 use Rattle.py_tree.specs.declared.expr.Argument.{Argument}
 use Rattle.py_tree.specs.declared.expr.Operation.{Operation}
 use Rattle.py_tree.specs.declared.expr.Pair.{Pair}
+use Rattle.py_tree.specs.declared.expr.Piece.{Piece}
 use Rattle.py_tree.specs.declared.expr.Argument.TheOpen as open'
 use Rattle.py_tree.specs.declared.line.Parameter as code
 use Rattle.py_heap.specs.declared.value.Value.{Value}
@@ -31,10 +32,10 @@ abbrev pub before_others : List ℕ → Option Value → Tree → List Value →
 before_others n x ps xs = record { name = n; default = x } ∷ parameters_by ps xs
 
 -- a default that stands there takes the next value
-value_taken_at : (o : open'.Expr-F Argument Expr Link Operation Pair) (l : ℕ) (n : List ℕ) (ps : Tree) (x : Value) (xs : List Value) → parameters_by (cons (parameter l n (expr_tree (roll-Expr o))) ps) (x ∷ xs) ≡ before_others n (Some x) ps xs
+value_taken_at : (o : open'.Expr-F Argument Expr Link Piece Operation Pair) (l : ℕ) (n : List ℕ) (ps : Tree) (x : Value) (xs : List Value) → parameters_by (cons (parameter l n (expr_tree (roll-Expr o))) ps) (x ∷ xs) ≡ before_others n (Some x) ps xs
 unfolding expr_tree
-value_taken_at (open'.Name k m) l n ps x xs = rw (fold-roll-Expr Tree Tree Tree Tree Tree argument_step expr_step link_step operation_step pair_step (open'.Name k m)) refl
-value_taken_at o l n ps x xs = rw (fold-roll-Expr Tree Tree Tree Tree Tree argument_step expr_step link_step operation_step pair_step o) refl
+value_taken_at (open'.Name k m) l n ps x xs = rw (fold-roll-Expr Tree Tree Tree Tree Tree Tree argument_step expr_step link_step piece_step operation_step pair_step (open'.Name k m)) refl
+value_taken_at o l n ps x xs = rw (fold-roll-Expr Tree Tree Tree Tree Tree Tree argument_step expr_step link_step piece_step operation_step pair_step o) refl
 
 value_taken : (e : Expr) (l : ℕ) (n : List ℕ) (ps : Tree) (x : Value) (xs : List Value) → parameters_by (cons (parameter l n (expr_tree e)) ps) (x ∷ xs) ≡ before_others n (Some x) ps xs
 value_taken e l n ps x xs =

@@ -53,7 +53,7 @@ display_stops X k l base d m f xs ys e stop q a i g b =
     (ap (display_of k m.heap m.budget) (sym (i ∙ a)) ∙ g w))))
 
 -- what has no room within the limit has none in units
-no_room : {X : Type 0} (limit n : ℕ) (x : X) (u : Units) (e : ValueFault) → limited limit n x ≡ Err e → room limit u n ≡ Err e
+pub no_room : {X : Type 0} (limit n : ℕ) (x : X) (u : Units) (e : ValueFault) → limited limit n x ≡ Err e → room limit u n ≡ Err e
 unfolding limited room
 no_room limit n x u e h = by (nat_le n limit) refl
   where
@@ -64,7 +64,7 @@ no_room limit n x u e h = by (nat_le n limit) refl
         let same : fault.TooBig (told_length n) ≡ e = cc in
         rw t (ap (λ z. Err z) same)
 
-within : {X : Type 0} (limit n : ℕ) (x y : X) → limited limit n x ≡ Ok y → x ≡ y
+pub within : {X : Type 0} (limit n : ℕ) (x y : X) → limited limit n x ≡ Ok y → x ≡ y
 unfolding limited
 within limit n x y h = by (nat_le n limit) refl
   where

@@ -1,7 +1,7 @@
 -- Lines: what each form of one comes to.
 use Rattle.std.proofs.Common.{◌≡◌, ◌∙◌, ℕ, List, [], ◌∷◌, ◌++◌, Result, Ok, Err, map, length, reverse, refl, sym, subst, ap, suc-ne-zero}
 use denote.Ref.{Bor}
-use Rattle.py_tree.specs.Tree.{Tree, simple, branching, for', def, trees, words, line_tree, branch_tree, simple_tree, expr_tree, parameter_tree}
+use Rattle.py_tree.specs.Tree.{Tree, simple, branching, for', while', def, trees, words, line_tree, branch_tree, simple_tree, expr_tree, parameter_tree}
 use Rattle.py_tree.specs.declared.expr.Expr.{Expr}
 use Rattle.py_tree.specs.declared.line.Line.{Line}
 use Rattle.py_tree.specs.declared.line.Branch.{Branch}
@@ -11,7 +11,7 @@ use Rattle.py_tree.specs.declared.line.Line.TheVariants as line'
 use Rattle.std.specs.declared.vec.Vec.{Vec}
 use Rattle.std.specs.declared.rc.Rc.{Rc}
 use Rattle.std.specs.declared.alloc.Global.{Global}
-use Rattle.py_tree.proofs.Views.{branch_tree-Branch, line_tree-Simple, line_tree-If, line_tree-For, line_tree-Def}
+use Rattle.py_tree.proofs.Views.{branch_tree-Branch, line_tree-Simple, line_tree-If, line_tree-For, line_tree-While, line_tree-Def}
 use Rattle.py_heap.specs.declared.value.Value.{Value}
 use Rattle.py_heap.specs.Units.{charged}
 use Rattle.py_meaning.specs.Arguments.{defaults_of}
@@ -138,6 +138,9 @@ pub for_tree : (l : ℕ) (ns : Vec (List ℕ) Global) (e : Expr) (ls : Vec Line 
 for_tree l ns e ls xs ys p f =
     line_tree-For l ns e ls ∙ ap (λ (x : List (List ℕ)). for' l (words x) (expr_tree e) (trees (map line_tree ls.items))) (sym p)
     ∙ ap (λ (y : List Line). for' l (words xs) (expr_tree e) (trees (map line_tree y))) (sym f)
+
+pub while_tree : (l : ℕ) (t : Expr) (ls : Vec Line Global) (ys : List Line) → ys ≡ ls.items → line_tree (line'.While l t ls) ≡ while' l (expr_tree t) (trees (map line_tree ys))
+while_tree l t ls ys e = line_tree-While l t ls ∙ ap (λ (y : List Line). while' l (expr_tree t) (trees (map line_tree y))) (sym e)
 
 pub def_tree : (l : ℕ) (n : List ℕ) (ps : Vec Parameter Global) (ls : Rc (Vec Line Global) Global) (xs : List Parameter) → xs ≡ ps.items → line_tree (line'.Def l n ps ls) ≡ def l n (trees (map parameter_tree xs)) (trees (map line_tree ls.value.items))
 def_tree l n ps ls xs e = line_tree-Def l n ps ls ∙ ap (λ (x : List Parameter). def l n (trees (map parameter_tree x)) (trees (map line_tree ls.value.items))) (sym e)

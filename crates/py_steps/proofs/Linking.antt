@@ -6,13 +6,14 @@ use denote.Ref.{Bor}
 use Rattle.std.specs.declared.boxed.Box.{Box}
 use Rattle.std.specs.declared.vec.Vec.{Vec}
 use Rattle.std.specs.declared.alloc.Global.{Global}
-use Rattle.py_tree.specs.Tree.{Tree, nil, cons, attribute, call, index, slice, trees, expr_tree, link_tree, argument_tree, argument_step, expr_step, link_step, operation_step, pair_step}
+use Rattle.py_tree.specs.Tree.{Tree, nil, cons, attribute, call, index, slice, trees, expr_tree, link_tree, argument_tree, argument_step, expr_step, link_step, operation_step, pair_step, piece_step}
 use Rattle.py_tree.specs.declared.expr.Expr.{Expr, roll-Expr, out-Expr, roll-out-Expr, fold-roll-Expr}
 use Rattle.py_tree.specs.declared.expr.Link.{Link, roll-Link, out-Link, roll-out-Link, fold-roll-Link}
 use Rattle.py_tree.specs.declared.expr.Link.TheVariants as link'
 use Rattle.py_tree.specs.declared.expr.Argument.{Argument}
 use Rattle.py_tree.specs.declared.expr.Operation.{Operation}
 use Rattle.py_tree.specs.declared.expr.Pair.{Pair}
+use Rattle.py_tree.specs.declared.expr.Piece.{Piece}
 use Rattle.py_tree.specs.declared.expr.Argument.TheOpen as open'
 use Rattle.py_tree.proofs.Views.{optional_box, link_tree-Call, link_tree-Slice}
 use Rattle.py_heap.specs.declared.ids.HostId.{HostId}
@@ -123,10 +124,10 @@ index_comes named l e t rest d d' s p a =
     (λ i s1. item_is l (top vs) i s1 next there (in_place_at d) (λ y s2. rest_is rest None ts (below vs) y s2)))))
 
 -- an end of a slice
-optional_at : (o : open'.Expr-F Argument Expr Link Operation Pair) (s : State) (f : Option Value → State → Plan) → after_optional (expr_tree (roll-Expr o)) s f ≡ after (expr_tree (roll-Expr o)) s (λ x s1. f (Some x) s1)
+optional_at : (o : open'.Expr-F Argument Expr Link Piece Operation Pair) (s : State) (f : Option Value → State → Plan) → after_optional (expr_tree (roll-Expr o)) s f ≡ after (expr_tree (roll-Expr o)) s (λ x s1. f (Some x) s1)
 unfolding expr_tree
-optional_at (open'.Name l n) s f = subst (λ (t : Tree). after_optional t s f ≡ after t s (λ x s1. f (Some x) s1)) (sym (fold-roll-Expr Tree Tree Tree Tree Tree argument_step expr_step link_step operation_step pair_step (open'.Name l n))) refl
-optional_at o s f = subst (λ (t : Tree). after_optional t s f ≡ after t s (λ x s1. f (Some x) s1)) (sym (fold-roll-Expr Tree Tree Tree Tree Tree argument_step expr_step link_step operation_step pair_step o)) refl
+optional_at (open'.Name l n) s f = subst (λ (t : Tree). after_optional t s f ≡ after t s (λ x s1. f (Some x) s1)) (sym (fold-roll-Expr Tree Tree Tree Tree Tree Tree argument_step expr_step link_step piece_step operation_step pair_step (open'.Name l n))) refl
+optional_at o s f = subst (λ (t : Tree). after_optional t s f ≡ after t s (λ x s1. f (Some x) s1)) (sym (fold-roll-Expr Tree Tree Tree Tree Tree Tree argument_step expr_step link_step piece_step operation_step pair_step o)) refl
 
 optional_there : (e : Expr) (s : State) (f : Option Value → State → Plan) → after_optional (expr_tree e) s f ≡ after (expr_tree e) s (λ x s1. f (Some x) s1)
 optional_there e s f =
@@ -240,12 +241,12 @@ no_method_at X l x t k s y q e f =
 abbrev pub OtherLink : Link → Type 0
 OtherLink x = (l : ℕ) (us : Vec Argument Global) → x ≡ link'.Call l us → ⊥
 
-no_call_at : (o : open'.Link-F Argument Expr Link Operation Pair) (more : Tree) → OtherLink (roll-Link o) → NotCall (cons (link_tree (roll-Link o)) more)
+no_call_at : (o : open'.Link-F Argument Expr Link Piece Operation Pair) (more : Tree) → OtherLink (roll-Link o) → NotCall (cons (link_tree (roll-Link o)) more)
 unfolding expr_tree link_tree
 no_call_at (open'.Call l us) more h = absurd (h l us (link'.rolls-Call l us))
-no_call_at (open'.Attribute l n) more h = subst (λ (t : Tree). NotCall (cons t more)) (sym (fold-roll-Link Tree Tree Tree Tree Tree argument_step expr_step link_step operation_step pair_step (open'.Attribute l n))) tt
-no_call_at (open'.Index l e) more h = subst (λ (t : Tree). NotCall (cons t more)) (sym (fold-roll-Link Tree Tree Tree Tree Tree argument_step expr_step link_step operation_step pair_step (open'.Index l e))) tt
-no_call_at (open'.Slice l e f) more h = subst (λ (t : Tree). NotCall (cons t more)) (sym (fold-roll-Link Tree Tree Tree Tree Tree argument_step expr_step link_step operation_step pair_step (open'.Slice l e f))) tt
+no_call_at (open'.Attribute l n) more h = subst (λ (t : Tree). NotCall (cons t more)) (sym (fold-roll-Link Tree Tree Tree Tree Tree Tree argument_step expr_step link_step piece_step operation_step pair_step (open'.Attribute l n))) tt
+no_call_at (open'.Index l e) more h = subst (λ (t : Tree). NotCall (cons t more)) (sym (fold-roll-Link Tree Tree Tree Tree Tree Tree argument_step expr_step link_step piece_step operation_step pair_step (open'.Index l e))) tt
+no_call_at (open'.Slice l e f) more h = subst (λ (t : Tree). NotCall (cons t more)) (sym (fold-roll-Link Tree Tree Tree Tree Tree Tree argument_step expr_step link_step piece_step operation_step pair_step (open'.Slice l e f))) tt
 
 no_call : (x : Link) (more : Tree) → OtherLink x → NotCall (cons (link_tree x) more)
 no_call x more =

@@ -4,7 +4,7 @@ use denote.Ref.{Bor}
 use Rattle.std.specs.declared.boxed.Box.{Box}
 use Rattle.std.specs.declared.alloc.Global.{Global}
 use Rattle.std.specs.declared.vec.Vec.{Vec}
-use Rattle.py_tree.specs.Tree.{Tree, nil, cons, name, post, index, trees, expr_tree, link_tree, argument_step, expr_step, link_step, operation_step, pair_step}
+use Rattle.py_tree.specs.Tree.{Tree, nil, cons, name, post, index, trees, expr_tree, link_tree, argument_step, expr_step, link_step, operation_step, pair_step, piece_step}
 use Rattle.py_tree.specs.declared.expr.Expr.{Expr, roll-Expr, out-Expr, roll-out-Expr, fold-roll-Expr}
 use Rattle.py_tree.specs.declared.expr.Expr.TheVariants as expr'
 use Rattle.py_tree.specs.declared.expr.Link.{Link, roll-Link, out-Link, roll-out-Link, fold-roll-Link}
@@ -13,6 +13,7 @@ use Rattle.py_tree.specs.declared.expr.Argument.{Argument}
 use Rattle.py_tree.specs.declared.expr.Operation.{Operation}
 use Rattle.py_tree.specs.declared.expr.Operator.{Operator}
 use Rattle.py_tree.specs.declared.expr.Pair.{Pair}
+use Rattle.py_tree.specs.declared.expr.Piece.{Piece}
 use Rattle.py_tree.specs.declared.expr.Argument.TheOpen as open'
 use Rattle.py_tree.proofs.Views.{expr_tree-Name, expr_tree-Post, link_tree-Index}
 use Rattle.py_heap.specs.declared.value.Value.{Value}
@@ -46,10 +47,10 @@ index_last (f ∷ fs) l t = grown (link_tree f) fs (link'.Index l t) ∙ ap (beh
 abbrev pub NotIndex : Link → Type 0
 NotIndex x = (l : ℕ) (t : Box Expr Global) → x ≡ link'.Index l t → ⊥
 
-no_index_at : (o : open'.Link-F Argument Expr Link Operation Pair) → NotIndex (roll-Link o) → last_index (cons (link_tree (roll-Link o)) nil) ≡ None
+no_index_at : (o : open'.Link-F Argument Expr Link Piece Operation Pair) → NotIndex (roll-Link o) → last_index (cons (link_tree (roll-Link o)) nil) ≡ None
 unfolding expr_tree link_tree
 no_index_at (open'.Index l t) h = absurd (h l t (link'.rolls-Index l t))
-no_index_at o h = ap (λ y. last_index (cons y nil)) (fold-roll-Link Tree Tree Tree Tree Tree argument_step expr_step link_step operation_step pair_step o)
+no_index_at o h = ap (λ y. last_index (cons y nil)) (fold-roll-Link Tree Tree Tree Tree Tree Tree argument_step expr_step link_step piece_step operation_step pair_step o)
 
 no_index : (x : Link) → NotIndex x → last_index (cons (link_tree x) nil) ≡ None
 no_index x =
@@ -112,11 +113,11 @@ augment_item_goes l op a e i front ls li d d' s q w =
 abbrev pub NotPost : Expr → Type 0
 NotPost e = (a : Box Expr Global) (ls : Vec Link Global) → e ≡ expr'.Post a ls → ⊥
 
-augmented_other_at : (o : open'.Expr-F Argument Expr Link Operation Pair) (l : ℕ) (op : Operator) (e : Tree) (s : State) → NotName (roll-Expr o) → NotPost (roll-Expr o) → augmented l op (expr_tree (roll-Expr o)) e s ≡ comes_to (goes_on s)
+augmented_other_at : (o : open'.Expr-F Argument Expr Link Piece Operation Pair) (l : ℕ) (op : Operator) (e : Tree) (s : State) → NotName (roll-Expr o) → NotPost (roll-Expr o) → augmented l op (expr_tree (roll-Expr o)) e s ≡ comes_to (goes_on s)
 unfolding expr_tree
 augmented_other_at (open'.Name ln n) l op e s h g = absurd (h ln n (expr'.rolls-Name ln n))
 augmented_other_at (open'.Post a ls) l op e s h g = absurd (g a ls (expr'.rolls-Post a ls))
-augmented_other_at o l op e s h g = ap (λ t. augmented l op t e s) (fold-roll-Expr Tree Tree Tree Tree Tree argument_step expr_step link_step operation_step pair_step o)
+augmented_other_at o l op e s h g = ap (λ t. augmented l op t e s) (fold-roll-Expr Tree Tree Tree Tree Tree Tree argument_step expr_step link_step piece_step operation_step pair_step o)
 
 pub augment_other : (t : Expr) (l : ℕ) (op : Operator) (e : Tree) (d : Desk) (s : State) → NotName t → NotPost t → Unfolds (plan_at (augmented l op (expr_tree t) e s) d) (left (tasks_of d) (values_of d) (goes_on s))
 unfolding bind

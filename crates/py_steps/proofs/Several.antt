@@ -3,7 +3,7 @@ use Rattle.std.proofs.Common.{arith, ◌≡◌, ◌∙◌, ℕ, List, [], ◌∷
 use mathlib.Core.Path.{fun_ext}
 use Rattle.std.proofs.lemmas.List.{append_assoc}
 use Rattle.std.proofs.lemmas.Grind.{reverse_onto}
-use Rattle.py_tree.specs.Tree.{Tree, nil, cons, pair, named, parameter, trees, expr_tree, pair_tree, argument_tree, parameter_tree, optional_tree, argument_step, expr_step, link_step, operation_step, pair_step}
+use Rattle.py_tree.specs.Tree.{Tree, nil, cons, pair, named, parameter, trees, expr_tree, pair_tree, argument_tree, parameter_tree, optional_tree, argument_step, expr_step, link_step, operation_step, pair_step, piece_step}
 use Rattle.py_heap.specs.declared.value.Value.{Value}
 use Rattle.py_meaning.specs.States.{State, Out, gives, all_give, goes_on, breaks, continues, returns, ends, exits}
 use Rattle.py_meaning.specs.Jobs.{eval_all}
@@ -18,6 +18,7 @@ use Rattle.py_tree.specs.declared.expr.Argument.TheOpen as open'
 use Rattle.py_tree.specs.declared.line.Parameter.{Parameter}
 use Rattle.py_meaning.specs.Arguments.{defaults_of}
 use Rattle.py_tree.specs.declared.expr.Pair.{Pair}
+use Rattle.py_tree.specs.declared.expr.Piece.{Piece}
 use Rattle.py_tree.specs.declared.expr.Argument.{Argument}
 use Rattle.py_tree.specs.declared.expr.Argument.TheVariants as argument'
 use Rattle.py_tree.proofs.Views.{pair_tree-Pair, argument_tree-Positional, argument_tree-Named}
@@ -43,7 +44,7 @@ rest_at x vs k (returns y s) = refl
 rest_at x vs k (ends s) = refl
 rest_at x vs k (exits y s) = refl
 
-rest_on : (x : Value) (vs : List Value) (k : Rest) (us : Tree) (s : State) → bind (after_all us s (λ xs s1. comes_to (all_give (x ∷ xs) s1))) (all_on vs k) ≡ first (eval_all us) s (all_on (x ∷ vs) k)
+pub rest_on : (x : Value) (vs : List Value) (k : Rest) (us : Tree) (s : State) → bind (after_all us s (λ xs s1. comes_to (all_give (x ∷ xs) s1))) (all_on vs k) ≡ first (eval_all us) s (all_on (x ∷ vs) k)
 unfolding bind
 rest_on x vs k us s = ap (λ (on : Out → Plan). first (eval_all us) s on) (fun_ext (rest_at x vs k))
 
@@ -116,10 +117,10 @@ pub arguments_over : (xs : List Argument) (d : Desk) (s : State) → length xs �
 arguments_over [] d s e = all_end (values_of d) (left (tasks_of d)) s
 arguments_over (x ∷ xs) d s e = absurd (omega arith)
 
-default_at : (o : open'.Expr-F Argument Expr Link Operation Pair) (l : ℕ) (n : List ℕ) (ps : Tree) → defaults_of (cons (parameter l n (expr_tree (roll-Expr o))) ps) ≡ cons (expr_tree (roll-Expr o)) (defaults_of ps)
+default_at : (o : open'.Expr-F Argument Expr Link Piece Operation Pair) (l : ℕ) (n : List ℕ) (ps : Tree) → defaults_of (cons (parameter l n (expr_tree (roll-Expr o))) ps) ≡ cons (expr_tree (roll-Expr o)) (defaults_of ps)
 unfolding expr_tree
-default_at (open'.Name k m) l n ps = rw (fold-roll-Expr Tree Tree Tree Tree Tree argument_step expr_step link_step operation_step pair_step (open'.Name k m)) refl
-default_at o l n ps = rw (fold-roll-Expr Tree Tree Tree Tree Tree argument_step expr_step link_step operation_step pair_step o) refl
+default_at (open'.Name k m) l n ps = rw (fold-roll-Expr Tree Tree Tree Tree Tree Tree argument_step expr_step link_step piece_step operation_step pair_step (open'.Name k m)) refl
+default_at o l n ps = rw (fold-roll-Expr Tree Tree Tree Tree Tree Tree argument_step expr_step link_step piece_step operation_step pair_step o) refl
 
 default_there : (e : Expr) (l : ℕ) (n : List ℕ) (ps : Tree) → defaults_of (cons (parameter l n (expr_tree e)) ps) ≡ cons (expr_tree e) (defaults_of ps)
 default_there e l n ps =

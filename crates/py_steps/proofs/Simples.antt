@@ -1,12 +1,13 @@
 -- Statements: what each form of one comes to.
 use Rattle.std.proofs.Common.{◌≡◌, ◌⊎◌, inl, inr, ℕ, List, [], ◌∷◌, Result, Ok, Err, map, length, refl, sym, subst, ap, suc-ne-zero}
 use denote.Ref.{Bor}
-use Rattle.py_tree.specs.Tree.{Tree, absent, assign, expression, pass, imports, break, continue, return, trees, simple_tree, expr_tree, argument_step, expr_step, link_step, operation_step, pair_step}
+use Rattle.py_tree.specs.Tree.{Tree, absent, assign, expression, pass, imports, break, continue, return, trees, simple_tree, expr_tree, argument_step, expr_step, link_step, operation_step, pair_step, piece_step}
 use Rattle.py_tree.specs.declared.expr.Expr.{Expr, roll-Expr, out-Expr, roll-out-Expr, fold-roll-Expr}
 use Rattle.py_tree.specs.declared.expr.Link.{Link}
 use Rattle.py_tree.specs.declared.expr.Argument.{Argument}
 use Rattle.py_tree.specs.declared.expr.Operation.{Operation}
 use Rattle.py_tree.specs.declared.expr.Pair.{Pair}
+use Rattle.py_tree.specs.declared.expr.Piece.{Piece}
 use Rattle.py_tree.specs.declared.expr.Argument.TheOpen as open'
 use Rattle.py_tree.specs.declared.line.Simple.{Simple}
 use Rattle.py_tree.specs.declared.line.Simple.TheVariants as simple'
@@ -97,11 +98,13 @@ imports_goes l d s = same refl
 left_breaks : (ts : List Task) (vs : List Value) (s : State) → left ts vs (breaks s) ≡ left (past_loop ts) vs (goes_on s)
 left_breaks [] vs s = refl
 left_breaks (task.Turns t walk ∷ ts) vs s = refl
+left_breaks (task.Rounds r ∷ ts) vs s = refl
 left_breaks (t ∷ ts) vs s = left_breaks ts vs s
 
 left_continues : (ts : List Task) (vs : List Value) (s : State) → left ts vs (continues s) ≡ left (in_loop ts) vs (goes_on s)
 left_continues [] vs s = refl
 left_continues (task.Turns t walk ∷ ts) vs s = refl
+left_continues (task.Rounds r ∷ ts) vs s = refl
 left_continues (t ∷ ts) vs s = left_continues ts vs s
 
 pub break_goes : (l : ℕ) (d d' : Desk) (s : State) → stacks_of d' ≡ record { tasks = past_loop (tasks_of d); values = values_of d } → Unfolds (plan_at (statement (break l) s) d) (left (tasks_of d') (values_of d') (goes_on s))
@@ -126,10 +129,10 @@ expression_goes e d d' s a =
     arrives d' (goes_on s) a (same (after_is (expr_tree e.now) s (λ x s1. comes_to (goes_on s1)) (λ x s1. k (goes_on s1)) k (left_ends (tasks_of d) (values_of d)) (λ x s1. refl)))
 
 -- `return`
-nil_of_at : (o : open'.Expr-F Argument Expr Link Operation Pair) (s : State) → plan_or_nil (expr_tree (roll-Expr o)) s ≡ goes (eval (expr_tree (roll-Expr o))) s
+nil_of_at : (o : open'.Expr-F Argument Expr Link Piece Operation Pair) (s : State) → plan_or_nil (expr_tree (roll-Expr o)) s ≡ goes (eval (expr_tree (roll-Expr o))) s
 unfolding expr_tree
-nil_of_at (open'.Name l n) s = subst (λ (t : Tree). plan_or_nil t s ≡ goes (eval t) s) (sym (fold-roll-Expr Tree Tree Tree Tree Tree argument_step expr_step link_step operation_step pair_step (open'.Name l n))) refl
-nil_of_at o s = subst (λ (t : Tree). plan_or_nil t s ≡ goes (eval t) s) (sym (fold-roll-Expr Tree Tree Tree Tree Tree argument_step expr_step link_step operation_step pair_step o)) refl
+nil_of_at (open'.Name l n) s = subst (λ (t : Tree). plan_or_nil t s ≡ goes (eval t) s) (sym (fold-roll-Expr Tree Tree Tree Tree Tree Tree argument_step expr_step link_step piece_step operation_step pair_step (open'.Name l n))) refl
+nil_of_at o s = subst (λ (t : Tree). plan_or_nil t s ≡ goes (eval t) s) (sym (fold-roll-Expr Tree Tree Tree Tree Tree Tree argument_step expr_step link_step piece_step operation_step pair_step o)) refl
 
 nil_of : (e : Expr) (s : State) → plan_or_nil (expr_tree e) s ≡ goes (eval (expr_tree e)) s
 nil_of e s =

@@ -1,5 +1,5 @@
 -- The tasks of a body and the values that they take, the uppermost first.
-use Rattle.std.specs.Prelude.{ℕ, ◌-◌, List, [], ◌∷◌, reverse, take, drop, length}
+use Rattle.std.specs.Prelude.{ℕ, ◌-◌, Bool, true, false, cond, List, [], ◌∷◌, reverse, take, drop, length}
 use Rattle.py_heap.specs.declared.value.Value.{Value}
 use Rattle.py_heap.specs.declared.value.Value.TheVariants as v
 use Rattle.py_steps.specs.declared.desk.Desk.{Desk}
@@ -35,13 +35,17 @@ above height vs = reverse (take (length vs - height) vs)
 abbrev pub under : ℕ → List Value → List Value
 under height vs = drop (length vs - height) vs
 
+-- the turns of a loop
+abbrev pub is_loop : Task → Bool
+is_loop (task.Turns t walk) = true
+is_loop (task.Rounds r) = true
+is_loop other = false
+
 -- the tasks from the innermost loop on, and those behind it
 abbrev pub in_loop : List Task → List Task
 in_loop [] = []
-in_loop (task.Turns t walk ∷ ts) = task.Turns t walk ∷ ts
-in_loop (t ∷ ts) = in_loop ts
+in_loop (t ∷ ts) = cond (is_loop t) (t ∷ ts) (in_loop ts)
 
 abbrev pub past_loop : List Task → List Task
 past_loop [] = []
-past_loop (task.Turns t walk ∷ ts) = ts
-past_loop (t ∷ ts) = past_loop ts
+past_loop (t ∷ ts) = cond (is_loop t) ts (past_loop ts)

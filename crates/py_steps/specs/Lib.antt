@@ -1,4 +1,5 @@
 pub mod Desks
+pub mod Growths
 pub mod Leads
 pub mod Shapes
 pub mod Todos

@@ -5,7 +5,7 @@ use Rattle.std.specs.declared.boxed.Box.{Box}
 use Rattle.std.specs.declared.alloc.Global.{Global}
 use Rattle.py_tree.specs.declared.expr.Expr.{Expr}
 use Rattle.py_tree.specs.Tree.{Tree, absent, trees, words, expr_tree, pair_tree, argument_tree, operation_tree}
-use Rattle.py_tree.specs.Tree.{link_tree, simple_tree, line_tree, branch_tree, parameter_tree}
+use Rattle.py_tree.specs.Tree.{link_tree, simple_tree, line_tree, branch_tree, parameter_tree, piece_tree}
 use Rattle.py_tree.specs.declared.expr.Operator.{Operator}
 use Rattle.py_tree.specs.declared.expr.Operator.TheVariants as operator'
 use Rattle.py_heap.specs.declared.value.Value.{Value}
@@ -18,14 +18,15 @@ use Rattle.py_operators.specs.Indexing.{sliced}
 use Rattle.py_methods.specs.declared.name.Name.{Name}
 use Rattle.py_meaning.specs.States.{State, Out, goes_on, breaks, continues, returns, after_operation}
 use Rattle.py_meaning.specs.Jobs.{Callee, a_value, a_method, eval, eval_all, links, operations, collect, tests, call}
-use Rattle.py_meaning.specs.Jobs.{exec_all, branches, turns}
+use Rattle.py_meaning.specs.Jobs.{exec_all, branches, turns, rounds}
 use Rattle.py_meaning.specs.Plans.{Plan, comes_to, first, on_value, on_values, checked, bind}
 use Rattle.py_meaning.specs.Expressions.{flat_pairs, displayed, inside, outside_again}
 use Rattle.py_meaning.specs.Arguments.{arguments_by, defaults_of}
 use Rattle.py_meaning.specs.Loops.{walk_of}
 use Rattle.py_meaning.specs.Links.{after_item}
 use Rattle.py_meaning.specs.Lookup.{with_bound}
-use Rattle.py_meaning.specs.Statements.{assigned, augmented_of, after_item_set, defined}
+use Rattle.py_meaning.specs.Statements.{assigned, augmented_of, after_item_set, defined, round}
+use Rattle.py_meaning.specs.Joined.{shown_field, fields_of, joined_text}
 use Rattle.py_state.specs.Walks.{plain}
 use Rattle.py_steps.specs.Desks.{top, below, above, under}
 use Rattle.py_steps.specs.declared.task.Task.{Task}
@@ -33,6 +34,7 @@ use Rattle.py_steps.specs.declared.task.Task.TheVariants as task
 use Rattle.py_steps.specs.declared.task.Comprehension.{Comprehension}
 use Rattle.py_steps.specs.declared.task.Collecting.{Collecting}
 use Rattle.py_steps.specs.declared.task.Definition.{Definition}
+use Rattle.py_steps.specs.declared.task.Round.{Round}
 
 -- how it goes on with the values that are there, by what was done
 abbrev pub Rest : Type 0
@@ -131,6 +133,16 @@ is_decided other holds = false
 abbrev pub parameters_in : Definition → Tree
 parameters_in d = trees (map parameter_tree d.parameters.now)
 
+-- the first of two trees where something holds, else the other
+abbrev pub one_of : Bool → Tree → Tree → Tree
+one_of true t u = t
+one_of false t u = u
+
+-- a turn of a `while`, if its test holds
+abbrev pub by_round : Round → List Value → Rest → Bool → State → Plan
+by_round r vs k holds s =
+    bind (round r.line (expr_tree r.test.now) (trees (map line_tree r.block.now)) holds s) (k vs)
+
 -- a task in which nothing is called
 abbrev pub IsStep : Task → Type 0
 IsStep (task.Call l name ts base) = ⊥
@@ -143,9 +155,15 @@ does (task.EvaluateAll es) vs s k = first (eval_all (trees (map expr_tree es.now
 does (task.Pairs ps) vs s k = first (eval_all (flat_pairs (trees (map pair_tree ps.now)))) s (all_on vs k)
 does (task.Arguments ts) vs s k = first (eval_all (trees (map argument_tree ts.now))) s (all_on vs k)
 does (task.Defaults ps) vs s k = first (eval_all (defaults_of (trees (map parameter_tree ps.now)))) s (all_on vs k)
+does (task.Fields ps) vs s k = first (eval_all (fields_of (trees (map piece_tree ps.now)))) s (all_on vs k)
 does (task.Tuple l base) vs s k = made_on l s (new_tuple s.objects s.units (above base vs)) (under base vs) k
 does (task.List l base) vs s k = made_on l s (new_list s.objects s.units (above base vs)) (under base vs) k
 does (task.Dict l base) vs s k = made_on l s (displayed s.objects s.units (above base vs)) (under base vs) k
+does (task.Show l) vs s k = made_on l s (shown_field s.objects s.units (top vs)) (below vs) k
+does (task.Join l ps base) vs s k =
+    made_on l s (joined_text s.objects s.units (trees (map piece_tree ps.now)) (above base vs)) (under base vs) k
+does (task.Pick a b) vs s k =
+    first (eval (one_of (truth_of s.objects (top vs)) (expr_tree a.now) (expr_tree b.now))) s (gives_on (below vs) k)
 does (task.Negate l) vs s k = made_on l s (negative_of s.objects s.units (top vs)) (below vs) k
 does task.Not vs s k = k (v.Bool (not (truth_of s.objects (top vs))) ∷ below vs) (goes_on s)
 does (task.Binary l op) vs s k =
@@ -179,6 +197,8 @@ does (task.Begin t) vs s k = checked t.line s (walk_of s.objects (top vs)) (λ w
     first (turns t.line walk (words t.names.now) (trees (map line_tree t.block.now))) s (k (below vs)))
 does (task.Turns t walk) vs s k =
     first (turns t.line (plain walk) (words t.names.now) (trees (map line_tree t.block.now))) s (k vs)
+does (task.Rounds r) vs s k = first (rounds r.line (expr_tree r.test.now) (trees (map line_tree r.block.now))) s (k vs)
+does (task.Round r) vs s k = by_round r (below vs) k (truth_of s.objects (top vs)) s
 does (task.Define d base) vs s k =
     k (under base vs) (goes_on (defined d.name.now (parameters_in d) (trees (map line_tree d.block.now.value.items))
     (above base vs) s))
@@ -206,4 +226,6 @@ left [] vs o = comes_to (settled o)
 left (t ∷ ts) vs (goes_on s) = does t vs s (left ts)
 left (task.Turns t walk ∷ ts) vs (breaks s) = left ts vs (goes_on s)
 left (task.Turns t walk ∷ ts) vs (continues s) = does (task.Turns t walk) vs s (left ts)
+left (task.Rounds r ∷ ts) vs (breaks s) = left ts vs (goes_on s)
+left (task.Rounds r ∷ ts) vs (continues s) = does (task.Rounds r) vs s (left ts)
 left (t ∷ ts) vs o = left ts vs o

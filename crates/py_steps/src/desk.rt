@@ -1,6 +1,6 @@
 //! The tasks that are left in a body, and the values that they take.
 ghost use Rattle.std.specs.Prelude.{◌≡◌, ◌∷◌, [], length, IfOk, OnOk, MatchOption};
-ghost use Rattle.py_steps.specs.Desks.{stacks_of, tasks_of, values_of, top, below, above, under, in_loop, past_loop};
+ghost use Rattle.py_steps.specs.Desks.{stacks_of, tasks_of, values_of, top, below, above, under, is_loop, in_loop, past_loop};
 
 use crate::task::Task;
 use py_heap::Value;
@@ -127,7 +127,7 @@ impl<'a> Desk<'a> {
         ensures { stacks_of self.new ≡ record (stacks_of self.old) { tasks = past_loop (tasks_of self.old) } }
     {
         'tasks: while let Some(task) = self.tasks.pop() {
-            if let Task::Turns { .. } = task {
+            if is_loop(&task) {
                 return;
             }
         }
@@ -138,10 +138,21 @@ impl<'a> Desk<'a> {
         ensures { stacks_of self.new ≡ record (stacks_of self.old) { tasks = in_loop (tasks_of self.old) } }
     {
         'tasks: while let Some(task) = self.tasks.last() {
-            if let Task::Turns { .. } = task {
+            if is_loop(task) {
                 return;
             }
             let _task = self.tasks.pop();
         }
+    }
+}
+
+/// The turns of a loop, which `break` leaves and `continue` goes on with.
+fn is_loop(task: &Task<'_>) -> bool
+    ensures { result ≡ is_loop task.now }
+{
+    match task {
+        Task::Turns { .. } => true,
+        Task::Rounds(_) => true,
+        _ => false,
     }
 }

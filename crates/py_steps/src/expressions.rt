@@ -130,7 +130,39 @@ pub fn evaluate<'a, H: Host>(
             desk.evaluate(left, Task::Evaluate(right))?;
             Ok(())
         }
+        Expr::Choice {
+            value, test, other, ..
+        } => {
+            desk.evaluate(test, Task::Pick { value, other })?;
+            Ok(())
+        }
+        Expr::Joined { line, pieces } => {
+            let base = desk.height();
+            let line = *line;
+            let pieces = pieces.as_slice();
+            desk.push(Task::Join { line, pieces, base })?;
+            desk.push(Task::Fields(pieces))?;
+            Ok(())
+        }
     }
+}
+
+/// One of two expressions, by the test that is there.
+pub fn pick<'a>(
+    machine: &Machine,
+    desk: &mut Desk<'a>,
+    value: &'a Expr,
+    other: &'a Expr,
+) -> Result<(), Stop>
+    ensures { (f : meaning.Frame) → Steps (left_with (Task.Pick value.entry other.entry) desk.old machine.now f) result
+        (left_at desk.new machine.now f) }
+{
+    let test = desk.take();
+    if truth(&machine.heap, test) {
+        return Ok(desk.push(Task::Evaluate(value))?);
+    }
+    desk.push(Task::Evaluate(other))?;
+    Ok(())
 }
 
 /// The line of the name that an atom is.

@@ -13,8 +13,9 @@ mod loops;
 mod statements;
 mod steps;
 mod task;
+mod texts;
 
 pub use desk::Desk;
 pub use statements::Flow;
 pub use steps::step;
-pub use task::{Collecting, Comprehension, Definition, Loop, Task};
+pub use task::{Collecting, Comprehension, Definition, Loop, Round, Task};

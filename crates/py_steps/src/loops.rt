@@ -1,4 +1,4 @@
-//! `for` and `if`.
+//! `for`, `while` and `if`.
 ghost use Rattle.std.specs.Prelude.{◌≡◌, ◌≢◌, Ok, Err, IfOk, IfErr, OnOk};
 ghost use Rattle.py_meaning.specs.Loops.{shared};
 ghost use Rattle.py_meaning.specs.Statements.{with_all_bound};
@@ -7,7 +7,7 @@ ghost use Rattle.py_state.specs.Stores.{state_of, store_of};
 ghost use Rattle.py_steps.specs.Leads.{Steps, left_with, left_at, DoesTask};
 
 use crate::desk::Desk;
-use crate::task::{Loop, Task};
+use crate::task::{Loop, Round, Task};
 use py_heap::{Value, ValueFault, Values, truth};
 use py_state::{Frame, Machine, Stop, Walk, unpacked, value_fault};
 use py_tree::{Branch, Line};
@@ -66,6 +66,34 @@ pub fn turn<'a>(
     };
     bind_all(machine, frame, turns.names, items.as_slice())?;
     desk.push(Task::Lines(turns.block))?;
+    Ok(())
+}
+
+/// The test in front of a turn of a `while`.
+pub fn next_round<'a>(desk: &mut Desk<'a>, round: Round<'a>) -> Result<(), Stop>
+    ensures { DoesTask (Task.Rounds round.entry) desk.old result desk.new }
+{
+    desk.evaluate(round.test, Task::Round(round))?;
+    Ok(())
+}
+
+/// A turn of a `while` whose test is true.
+pub fn run_round<'a>(
+    machine: &mut Machine,
+    frame: &Frame,
+    desk: &mut Desk<'a>,
+    round: Round<'a>,
+) -> Result<(), Stop>
+    ensures { Steps (left_with (Task.Round round.entry) desk.old machine.old frame.now) result
+        (left_at desk.new machine.new frame.now) }
+{
+    let test = desk.take();
+    if !truth(&machine.heap, test) {
+        return Ok(());
+    }
+    machine.pay(frame, round.line)?;
+    desk.push(Task::Rounds(round))?;
+    desk.push(Task::Lines(round.block))?;
     Ok(())
 }
 

@@ -1,7 +1,7 @@
 //! Lines and statements.
 ghost use Rattle.std.specs.Prelude.{◌≡◌, ◌∷◌, ℕ, Ok, Err, IfOk, OnOk, IfErr, map};
 ghost use Rattle.py_tree.specs.Tree.{Tree, cons, trees, words, line_tree, branch_tree, simple_tree, expr_tree};
-ghost use Rattle.py_tree.specs.Tree.{optional_tree, parameter_tree, branching, for', def, assign, augment};
+ghost use Rattle.py_tree.specs.Tree.{optional_tree, parameter_tree, branching, for', while', def, assign, augment};
 ghost use Rattle.py_tree.specs.Tree.{expression, return};
 ghost use Rattle.py_heap.specs.declared.fault.ValueFault.{ValueFault};
 ghost use Rattle.py_heap.specs.Units.{charged};
@@ -15,7 +15,7 @@ ghost use Rattle.py_steps.specs.Leads.{Steps, StepsOrReturns, left_with, left_at
 
 use crate::assignments::augment;
 use crate::desk::Desk;
-use crate::task::{Definition, Loop, Task};
+use crate::task::{Definition, Loop, Round, Task};
 use py_heap::Value;
 use py_state::{Bindable, Frame, Function, Machine, Stop, bindable, first_line, local_names};
 use py_tree::{Branch, Expr, Line, Operator, Parameter, Simple};
@@ -72,6 +72,14 @@ fn run_line<'a>(
                 block: block.as_slice(),
             };
             run_for(machine, frame, desk, turns, source)
+        }
+        Line::While { line, test, block } => {
+            let round = Round {
+                line: *line,
+                test,
+                block: block.as_slice(),
+            };
+            run_while(machine, frame, desk, round)
         }
         Line::Def {
             line,
@@ -137,6 +145,23 @@ fn run_for<'a>(
 {
     machine.pay(frame, turns.line)?;
     desk.evaluate(source, Task::Begin(turns))?;
+    Ok(())
+}
+
+fn run_while<'a>(
+    machine: &mut Machine,
+    frame: &Frame,
+    desk: &mut Desk<'a>,
+    round: Round<'a>,
+) -> Result<(), Stop>
+    ensures { Steps
+        (exec_at (while' round.entry.line (expr_tree round.entry.test.now) (trees (map line_tree round.entry.block.now)))
+        desk.old (state_of machine.old frame.now))
+        result
+        (left_at desk.new machine.new frame.now) }
+{
+    machine.pay(frame, round.line)?;
+    desk.push(Task::Rounds(round))?;
     Ok(())
 }
 

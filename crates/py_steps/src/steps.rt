@@ -9,12 +9,13 @@ use crate::comprehensions::{collect, comprehend, test, tested};
 use crate::desk::Desk;
 use crate::expressions::{
     Shape, display, evaluate, evaluate_all, evaluate_arguments, evaluate_defaults, evaluate_pairs,
-    negated, operated, operations, turned,
+    negated, operated, operations, pick, turned,
 };
 use crate::links::{indexed, link, sliced};
-use crate::loops::{begin, choose, next_branch, turn};
+use crate::loops::{begin, choose, next_branch, next_round, run_round, turn};
 use crate::statements::{Flow, define, run_lines, run_statements};
 use crate::task::Task;
+use crate::texts::{evaluate_fields, join, show_field};
 use py_host::Host;
 use py_state::{Frame, Machine, Stop};
 use scons_base::Text;
@@ -40,6 +41,10 @@ pub fn step<'a, H: Host>(
         Task::Pairs(pairs) => on(evaluate_pairs(desk, pairs)),
         Task::Arguments(arguments) => on(evaluate_arguments(desk, arguments)),
         Task::Defaults(parameters) => on(evaluate_defaults(desk, parameters)),
+        Task::Fields(pieces) => on(evaluate_fields(desk, pieces)),
+        Task::Show { line } => on(show_field(machine, frame, desk, line)),
+        Task::Join { line, pieces, base } => on(join(machine, frame, desk, line, pieces, base)),
+        Task::Pick { value, other } => on(pick(machine, desk, value, other)),
         Task::Tuple { line, base } => on(display(machine, frame, desk, line, base, Shape::Tuple)),
         Task::List { line, base } => on(display(machine, frame, desk, line, base, Shape::List)),
         Task::Dict { line, base } => on(display(machine, frame, desk, line, base, Shape::Dict)),
@@ -67,6 +72,8 @@ pub fn step<'a, H: Host>(
         } => on(choose(machine, desk, branch, branches, otherwise)),
         Task::Begin(turns) => on(begin(machine, frame, desk, turns)),
         Task::Turns { turns, walk } => on(turn(machine, frame, desk, turns, walk)),
+        Task::Rounds(round) => on(next_round(desk, round)),
+        Task::Round(round) => on(run_round(machine, frame, desk, round)),
         Task::Define { definition, base } => on(define(machine, frame, desk, definition, base)),
         Task::Assign { line, target } => on(assign(machine, frame, desk, line, target)),
         Task::Bind(name) => on(bind(machine, frame, desk, name)),

@@ -2,7 +2,7 @@
 use py_methods::Name;
 use py_operators::Op;
 use py_state::Walk;
-use py_tree::{Argument, Branch, Expr, Line, Link, Operation, Operator, Pair, Parameter, Simple};
+use py_tree::{Argument, Branch, Expr, Line, Link, Operation, Operator, Pair, Parameter, Piece, Simple};
 use scons_base::Text;
 use std::rc::Rc;
 
@@ -31,6 +31,14 @@ pub struct Loop<'a> {
     pub block: &'a [Line],
 }
 
+/// A `while`'s parts.
+#[derive(Clone, Copy)]
+pub struct Round<'a> {
+    pub line: u32,
+    pub test: &'a Expr,
+    pub block: &'a [Line],
+}
+
 /// A `def`'s parts.
 #[derive(Clone, Copy)]
 pub struct Definition<'a> {
@@ -49,6 +57,8 @@ pub enum Task<'a> {
     Arguments(&'a [Argument]),
     /// Those of the parameters that have a default.
     Defaults(&'a [Parameter]),
+    /// Those of the pieces that are fields.
+    Fields(&'a [Piece]),
     /// Displays of the values above a height.
     Tuple {
         line: u32,
@@ -61,6 +71,20 @@ pub enum Task<'a> {
     Dict {
         line: u32,
         base: usize,
+    },
+    /// The text of a field whose value is there, and a text of the pieces whose fields gave the values above a height.
+    Show {
+        line: u32,
+    },
+    Join {
+        line: u32,
+        pieces: &'a [Piece],
+        base: usize,
+    },
+    /// One of two expressions, by a test that is there.
+    Pick {
+        value: &'a Expr,
+        other: &'a Expr,
     },
     /// Operators on values that are there.
     Negate {
@@ -125,6 +149,9 @@ pub enum Task<'a> {
         turns: Loop<'a>,
         walk: Walk,
     },
+    /// The turns of a `while` from a test on, and a turn whose test is there.
+    Rounds(Round<'a>),
+    Round(Round<'a>),
     /// The values of the defaults stand above a height.
     Define {
         definition: Definition<'a>,

@@ -22,6 +22,12 @@ pub enum TokenKind {
     Text(Text),
     Word(Keyword),
     Mark(Mark),
+    /// An f-text begins.
+    FStart,
+    /// The characters that stand in an f-text up to a field, or up to its end.
+    FPart(Text),
+    /// An f-text ends.
+    FEnd,
     Newline,
     Indent,
     Dedent,

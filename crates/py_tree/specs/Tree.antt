@@ -11,6 +11,7 @@ use Rattle.py_tree.specs.declared.expr.Link.{Link, fold-Link}
 use Rattle.py_tree.specs.declared.expr.Argument.{Argument, fold-Argument}
 use Rattle.py_tree.specs.declared.expr.Operation.{Operation, fold-Operation}
 use Rattle.py_tree.specs.declared.expr.Pair.{Pair, fold-Pair}
+use Rattle.py_tree.specs.declared.expr.Piece.{Piece, fold-Piece}
 use Rattle.py_tree.specs.declared.expr.Argument.TheOpen as open'
 use Rattle.py_tree.specs.declared.line.Line.{Line, fold-Line}
 use Rattle.py_tree.specs.declared.line.Branch.{Branch, fold-Branch}
@@ -30,6 +31,9 @@ pub data Tree : Type 0 where
   name : ℕ → List ℕ → Tree
   integer : ℕ → ℕ → Tree
   text : ℕ → List ℕ → Tree
+  -- texts behind one another: the characters of each, and the fields of f-texts
+  joined : ℕ → Tree → Tree
+  field : ℕ → Tree → Tree
   constant : ℕ → Constant → Tree
   group : ℕ → Tree → Tree
   tuple : ℕ → Tree → Bool → Tree
@@ -50,6 +54,8 @@ pub data Tree : Type 0 where
   chain : Tree → Tree → Tree
   operation : ℕ → Operator → Tree → Tree
   compare : ℕ → Comparison → Tree → Tree → Tree
+  -- the value, the test and the other value of a conditional expression
+  choice : ℕ → Tree → Tree → Tree → Tree
   -- statements without a block
   assign : ℕ → Tree → Tree → Tree
   augment : ℕ → Operator → Tree → Tree → Tree
@@ -64,6 +70,7 @@ pub data Tree : Type 0 where
   branching : Tree → Tree → Tree
   branch : ℕ → Tree → Tree → Tree
   for' : ℕ → Tree → Tree → Tree → Tree
+  while' : ℕ → Tree → Tree → Tree
   def : ℕ → List ℕ → Tree → Tree → Tree
   parameter : ℕ → List ℕ → Tree → Tree
 
@@ -81,10 +88,11 @@ abbrev pub optional : Option (Box Tree Global) → Tree
 optional None = absent
 optional (Some t) = t.value
 
-abbrev pub expr_step : open'.Expr-F Tree Tree Tree Tree Tree → Tree
+abbrev pub expr_step : open'.Expr-F Tree Tree Tree Tree Tree Tree → Tree
 expr_step (open'.Name l n) = name l n
 expr_step (open'.Integer l n) = integer l n
 expr_step (open'.Text l t) = text l t
+expr_step (open'.Joined l ps) = joined l (trees ps.items)
 expr_step (open'.Constant l k) = constant l k
 expr_step (open'.Group l t) = group l t.value
 expr_step (open'.Tuple l ts b) = tuple l (trees ts.items) b
@@ -96,38 +104,46 @@ expr_step (open'.Negative l t) = negative l t.value
 expr_step (open'.Not l t) = not l t.value
 expr_step (open'.Chain t os) = chain t.value (trees os.items)
 expr_step (open'.Compare l k t u) = compare l k t.value u.value
+expr_step (open'.Choice l t c u) = choice l t.value c.value u.value
 
-abbrev pub link_step : open'.Link-F Tree Tree Tree Tree Tree → Tree
+abbrev pub link_step : open'.Link-F Tree Tree Tree Tree Tree Tree → Tree
 link_step (open'.Attribute l n) = attribute l n
 link_step (open'.Call l as') = call l (trees as'.items)
 link_step (open'.Index l t) = index l t.value
 link_step (open'.Slice l t u) = slice l (optional t) (optional u)
 
-abbrev pub argument_step : open'.Argument-F Tree Tree Tree Tree Tree → Tree
+abbrev pub argument_step : open'.Argument-F Tree Tree Tree Tree Tree Tree → Tree
 argument_step (open'.Positional t) = t
 argument_step (open'.Named l n t) = named l n t
 
-abbrev pub operation_step : open'.Operation-F Tree Tree Tree Tree Tree → Tree
+abbrev pub operation_step : open'.Operation-F Tree Tree Tree Tree Tree Tree → Tree
 operation_step o = operation o.line o.operator o.operand
 
-abbrev pub pair_step : open'.Pair-F Tree Tree Tree Tree Tree → Tree
+abbrev pub pair_step : open'.Pair-F Tree Tree Tree Tree Tree Tree → Tree
 pair_step p = pair p.line p.key p.value
+
+abbrev pub piece_step : open'.Piece-F Tree Tree Tree Tree Tree Tree → Tree
+piece_step (open'.Part l t) = text l t
+piece_step (open'.Field l t) = field l t
 
 -- the tree that an expression stands for, and so for its parts
 unfoldable pub expr_tree : Expr → Tree
-expr_tree = fold-Expr Tree Tree Tree Tree Tree argument_step expr_step link_step operation_step pair_step
+expr_tree = fold-Expr Tree Tree Tree Tree Tree Tree argument_step expr_step link_step piece_step operation_step pair_step
 
 unfoldable pub link_tree : Link → Tree
-link_tree = fold-Link Tree Tree Tree Tree Tree argument_step expr_step link_step operation_step pair_step
+link_tree = fold-Link Tree Tree Tree Tree Tree Tree argument_step expr_step link_step piece_step operation_step pair_step
 
 unfoldable pub argument_tree : Argument → Tree
-argument_tree = fold-Argument Tree Tree Tree Tree Tree argument_step expr_step link_step operation_step pair_step
+argument_tree = fold-Argument Tree Tree Tree Tree Tree Tree argument_step expr_step link_step piece_step operation_step pair_step
 
 unfoldable pub operation_tree : Operation → Tree
-operation_tree = fold-Operation Tree Tree Tree Tree Tree argument_step expr_step link_step operation_step pair_step
+operation_tree = fold-Operation Tree Tree Tree Tree Tree Tree argument_step expr_step link_step piece_step operation_step pair_step
 
 unfoldable pub pair_tree : Pair → Tree
-pair_tree = fold-Pair Tree Tree Tree Tree Tree argument_step expr_step link_step operation_step pair_step
+pair_tree = fold-Pair Tree Tree Tree Tree Tree Tree argument_step expr_step link_step piece_step operation_step pair_step
+
+unfoldable pub piece_tree : Piece → Tree
+piece_tree = fold-Piece Tree Tree Tree Tree Tree Tree argument_step expr_step link_step piece_step operation_step pair_step
 
 -- an expression that may be left out
 abbrev pub optional_tree : Option Expr → Tree
@@ -151,6 +167,7 @@ abbrev pub line_step : lines'.Line-F Tree Tree → Tree
 line_step (lines'.Simple ss) = simple (trees (map simple_tree ss.items))
 line_step (lines'.If bs ls) = branching (trees bs.items) (trees ls.items)
 line_step (lines'.For l ns e ls) = for' l (words ns.items) (expr_tree e) (trees ls.items)
+line_step (lines'.While l e ls) = while' l (expr_tree e) (trees ls.items)
 line_step (lines'.Def l n ps ls) = def l n (trees (map parameter_tree ps.items)) (trees ls.value.items)
 
 abbrev pub branch_step : lines'.Branch-F Tree Tree → Tree

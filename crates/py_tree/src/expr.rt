@@ -52,6 +52,11 @@ pub enum Expr {
         line: u32,
         text: Text,
     },
+    /// Texts behind one another, of which at least one is an f-text. The line is that of the first one.
+    Joined {
+        line: u32,
+        pieces: Vec<Piece>,
+    },
     Constant {
         line: u32,
         constant: Constant,
@@ -106,6 +111,13 @@ pub enum Expr {
         left: Box<Expr>,
         right: Box<Expr>,
     },
+    /// `value if test else other`.
+    Choice {
+        line: u32,
+        value: Box<Expr>,
+        test: Box<Expr>,
+        other: Box<Expr>,
+    },
 }
 
 /// What stands behind an atom.
@@ -156,4 +168,12 @@ pub struct Pair {
     pub line: u32,
     pub key: Expr,
     pub value: Expr,
+}
+
+/// A piece of joined texts: characters, or a field of an f-text, which stands on the line of its brace.
+#[derive(Debug, Drop)]
+#[cycle(tree)]
+pub enum Piece {
+    Part { line: u32, text: Text },
+    Field { line: u32, value: Expr },
 }

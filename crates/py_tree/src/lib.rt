@@ -7,5 +7,5 @@
 mod expr;
 mod line;
 
-pub use expr::{Argument, Comparison, Constant, Expr, Link, Operation, Operator, Pair};
+pub use expr::{Argument, Comparison, Constant, Expr, Link, Operation, Operator, Pair, Piece};
 pub use line::{Branch, Line, Parameter, Script, Simple};

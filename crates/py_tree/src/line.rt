@@ -28,6 +28,11 @@ pub enum Line {
         source: Expr,
         block: Vec<Line>,
     },
+    While {
+        line: u32,
+        test: Expr,
+        block: Vec<Line>,
+    },
     /// The block is shared with the functions that the line makes.
     Def {
         line: u32,

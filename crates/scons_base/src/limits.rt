@@ -31,7 +31,7 @@ pub const JOB_LIMIT: u32 = 64;
 pub const SCRIPT_DEPTH_LIMIT: u32 = 32;
 
 /// Units of one reading.
-pub const UNIT_LIMIT: u64 = 20_000_000;
+pub const UNIT_LIMIT: u64 = 30_000_000;
 
 /// Calls inside one another.
 pub const CALL_DEPTH_LIMIT: u32 = 200;

@@ -1,4 +1,4 @@
-use Rattle.py_tree.proofs.Views.{expr_tree-Name, expr_tree-Integer, expr_tree-Text, expr_tree-Constant}
+use Rattle.py_tree.proofs.Views.{expr_tree-Name, expr_tree-Integer, expr_tree-Constant}
 use Rattle.std.proofs.Common.{refl, ap, ◌∙◌, unwrap_or}
 use Rattle.py_tree.specs.declared.expr.Constant.TheVariants as constant'
 use Rattle.py_parse.proofs.Puts.{leaf_rest}
@@ -10,8 +10,5 @@ returns-in_ok-name-in-Name c = rw (expr_tree-Name, c.in_ok-name-in-Name.ensures,
 pub returns-in-Integer : goal.returns-in-Integer
 returns-in-Integer c = rw (expr_tree-Integer, c.in-Integer.is) refl
 
-pub returns-in_ok-text-in-Text : goal.returns-in_ok-text-in-Text
-returns-in_ok-text-in-Text c = rw (expr_tree-Text, c.in_ok-text-in-Text.ensures, c.in-Text.is) refl
-
 pub returns-in_default : goal.returns-in_default
-returns-in_default c = leaf_rest _ _ _ _ c.in_default.not-Name c.in_default.not-Integer c.in_default.not-Text (expr_tree-Constant _ _) (c.unwrap_or-constant.ensures ∙ ap (λ o. unwrap_or o constant'.None) c.constant_of.ensures)
+returns-in_default c = leaf_rest _ _ _ _ c.in_default.not-Name c.in_default.not-Integer (expr_tree-Constant _ _) (c.unwrap_or-constant.ensures ∙ ap (λ o. unwrap_or o constant'.None) c.constant_of.ensures)

@@ -3,13 +3,13 @@ use Rattle.std.specs.declared.vec.Vec.{Vec}
 use Rattle.std.specs.declared.alloc.Global.{Global}
 use Rattle.py_tree.specs.declared.line.Line.{Line}
 use Rattle.py_tree.specs.Tree.{branch_tree, line_tree, parameter_tree, trees, def}
-use Rattle.py_tree.proofs.Views.{branch_tree-Branch, line_tree-Simple, line_tree-If, line_tree-For, line_tree-Def}
+use Rattle.py_tree.proofs.Views.{branch_tree-Branch, line_tree-Simple, line_tree-If, line_tree-For, line_tree-While, line_tree-Def}
 use Rattle.py_parse.specs.Grammar as grammar
 use Rattle.py_parse.specs.Agrees as agrees
 use Rattle.py_parse.specs.Reading.{Reads, ok, pick}
 use Rattle.py_parse.proofs.Cases.{stopped_by, taken_shorter, map_more}
 use Rattle.py_parse.proofs.Loops.{read_shorter}
-use Rattle.py_parse.proofs.Paths.{if_deep0, if_tail_answers, for_deep0, for_tail_answers, branch_fault0, branch_unfit1, branch_fault2, branch_ok, no_branch_ok, else_unfit1, else_ok, else_fault2, loop_fault0, loop_unfit1, loop_fault2, loop_unfit3, loop_fault4, loop_ok, function_unfit0, function_fault2, function_unfit3, function_fault4, function_ok, indent_unfit1, indent_tail_answers}
+use Rattle.py_parse.proofs.Paths.{if_deep0, if_tail_answers, for_deep0, for_tail_answers, while_deep0, while_tail_answers, while_fault0, while_unfit1, while_fault2, while_ok, branch_fault0, branch_unfit1, branch_fault2, branch_ok, no_branch_ok, else_unfit1, else_ok, else_fault2, loop_fault0, loop_unfit1, loop_fault2, loop_unfit3, loop_fault4, loop_ok, function_unfit0, function_fault2, function_unfit3, function_fault4, function_ok, indent_unfit1, indent_tail_answers}
 use Rattle.py_parse.proofs.Blocks.{agrees_as, line_shorter, def_answers, def_deep, simple_fault, simple_ok, branches_start, branches_fault, branches_more, branches_stop, branches_end, lines_start, lines_fault, lines_more, lines_end, function_unfit1}
 use Rattle.py_parse.proofs.lines.+line.Goals as goal
 
@@ -26,23 +26,30 @@ pub parse_line-returns-in-Some-strip : goal.parse_line-returns-in-Some-strip
 parse_line-returns-in-Some-strip t c = for_tail_answers _ _ _ _ _ _ _ c.in_default.ensures c.if-depth-eq0-2.false c.in-Some-strip.ensures c.parse_for.ensures
 
 pub parse_line-returns-then-depth-eq0-3 : goal.parse_line-returns-then-depth-eq0-3
-parse_line-returns-then-depth-eq0-3 t c =
-    def_deep _ _ _ _ _ (record { no_if = c.in_default.ensures; no_for = c.in_default-strip.ensures }) c.if-depth-eq0-3.true c.in-Some-strip_where.ensures
+parse_line-returns-then-depth-eq0-3 t c = while_deep0 _ _ c.in_default.ensures c.in_default-strip.ensures c.if-depth-eq0-3.true c.in-Some-strip-2.ensures
+
+pub parse_line-returns-in-Some-strip-2 : goal.parse_line-returns-in-Some-strip-2
+parse_line-returns-in-Some-strip-2 t c =
+    while_tail_answers _ _ _ _ _ _ _ c.in_default.ensures c.in_default-strip.ensures c.if-depth-eq0-3.false c.in-Some-strip-2.ensures c.parse_while.ensures
+
+pub parse_line-returns-then-depth-eq0-4 : goal.parse_line-returns-then-depth-eq0-4
+parse_line-returns-then-depth-eq0-4 t c =
+    def_deep _ _ _ _ _ (record { no_if = c.in_default.ensures; no_for = c.in_default-strip.ensures; no_while = c.in_default-strip-2.ensures }) c.if-depth-eq0-4.true c.in-Some-strip_where.ensures
 
 pub parse_line-returns-in-Some-strip_where : goal.parse_line-returns-in-Some-strip_where
 parse_line-returns-in-Some-strip_where t c =
-    def_answers _ _ _ _ _ _ _ (record { no_if = c.in_default.ensures; no_for = c.in_default-strip.ensures }) c.if-depth-eq0-3.false c.in-Some-strip_where.ensures c.parse_def.ensures
+    def_answers _ _ _ _ _ _ _ (record { no_if = c.in_default.ensures; no_for = c.in_default-strip.ensures; no_while = c.in_default-strip-2.ensures }) c.if-depth-eq0-4.false c.in-Some-strip_where.ensures c.parse_def.ensures
 
 pub parse_line-returns-in_err-statements : goal.parse_line-returns-in_err-statements
 parse_line-returns-in_err-statements t c =
     stopped_by _ _ (Reads c.args.depth (pick (grammar.statements c.args.site) c.args.tokens.now) c.args.tokens.now) (Reads c.args.depth (pick (grammar.line c.args.site) c.args.tokens.now) c.args.tokens.now)
     c.in_err-statements.field-0.0 c.from_residual.ensures.1
-    (λ w rest r. simple_fault _ _ _ _ _ (record { no_if = c.in_default.ensures; no_for = c.in_default-strip.ensures }) c.in_default-strip_where.ensures r)
+    (λ w rest r. simple_fault _ _ _ _ _ (record { no_if = c.in_default.ensures; no_for = c.in_default-strip.ensures; no_while = c.in_default-strip-2.ensures }) c.in_default-strip_where.ensures r)
     c.in_err-statements.ensures
 
 pub parse_line-returns : goal.parse_line-returns
 parse_line-returns t c =
-    simple_ok _ _ _ _ _ _ (record { no_if = c.in_default.ensures; no_for = c.in_default-strip.ensures }) c.in_default-strip_where.ensures c.in_ok-statements.ensures
+    simple_ok _ _ _ _ _ _ (record { no_if = c.in_default.ensures; no_for = c.in_default-strip.ensures; no_while = c.in_default-strip-2.ensures }) c.in_default-strip_where.ensures c.in_ok-statements.ensures
     (line_tree-Simple c.in_ok-statements.statements)
 
 pub parse_if-branches-init : goal.parse_if-branches-init
@@ -139,6 +146,25 @@ parse_for-returns t c =
     let b = rw c.in_loop.ensures at c.in_ok-block.ensures in
     loop_ok c.args.depth c.args.line c.args.site (c.in_ok-names.ensures c.args.depth) c.in-Some.ensures c.in_ok-source.ensures c.in-Some-strip.ensures c.requires b
     (line_tree-For c.args.line c.in_ok-names.names c.in_ok-source.source c.in_ok-block.block)
+
+pub parse_while-returns-in_err-test : goal.parse_while-returns-in_err-test
+parse_while-returns-in_err-test t c =
+    stopped_by _ _ (Reads c.args.depth (pick grammar.expr c.args.tokens.now) c.args.tokens.now) (Reads c.args.depth (grammar.while_body c.args.line c.args.site) c.args.tokens.now)
+    c.in_err-test.field-0.0 c.from_residual.ensures.1 (λ w rest r. while_fault0 c.args.depth c.args.line c.args.site r) c.in_err-test.ensures
+
+pub parse_while-returns-in_default : goal.parse_while-returns-in_default
+parse_while-returns-in_default t c = while_unfit1 c.args.depth c.args.line c.args.site c.in_ok-test.ensures c.in_default.ensures
+
+pub parse_while-returns-in_err-block : goal.parse_while-returns-in_err-block
+parse_while-returns-in_err-block t c =
+    let b = rw c.in_loop.ensures at c.in_err-block.ensures in
+    stopped_by _ _ (Reads (c.args.depth - 1) (pick (grammar.block (grammar.in_loop c.args.site)) c.in-Some.rest.now) c.in-Some.rest.now) (Reads c.args.depth (grammar.while_body c.args.line c.args.site) c.args.tokens.now)
+    c.in_err-block.field-0.0 c.from_residual-in_err-block.ensures.1 (λ w rest r. while_fault2 c.args.depth c.args.line c.args.site c.in_ok-test.ensures c.in-Some.ensures c.requires r) b
+
+pub parse_while-returns : goal.parse_while-returns
+parse_while-returns t c =
+    let b = rw c.in_loop.ensures at c.in_ok-block.ensures in
+    while_ok c.args.depth c.args.line c.args.site c.in_ok-test.ensures c.in-Some.ensures c.requires b (line_tree-While c.args.line c.in_ok-test.test c.in_ok-block.block)
 
 pub parse_def-returns-in_default : goal.parse_def-returns-in_default
 parse_def-returns-in_default t c = function_unfit0 _ _ c.in_default.ensures

@@ -24,6 +24,9 @@ decreases-parse_else l = 8 * l.depth + 1
 abbrev pub decreases-parse_for : goal.decreases-parse_for
 decreases-parse_for l = 8 * l.depth + 1
 
+abbrev pub decreases-parse_while : goal.decreases-parse_while
+decreases-parse_while l = 8 * l.depth + 1
+
 abbrev pub decreases-parse_def : goal.decreases-parse_def
 decreases-parse_def l = 8 * l.depth + 1
 

@@ -1,28 +1,33 @@
 use Rattle.std.proofs.Common.{arith, ◌≡◌, ◌∙◌, ◌∷◌, List, map, length, ap, sym, refl, subst, w64}
 use Rattle.std.proofs.lemmas.Int.{ints}
 use mir.Val.{to_z, of_z}
-use Rattle.py_tree.specs.Tree.{trees, words, expr_tree, operation_tree, link_tree, pair_tree}
+use Rattle.py_tree.specs.Tree.{trees, words, joined, expr_tree, operation_tree, link_tree, pair_tree, piece_tree}
 use Rattle.py_tree.specs.declared.expr.Expr.{Expr}
 use Rattle.py_tree.specs.declared.expr.Operation.{Operation}
 use Rattle.py_tree.specs.declared.expr.Link.{Link}
 use Rattle.py_tree.specs.declared.expr.Pair.{Pair}
-use Rattle.py_tree.proofs.Views.{expr_tree-Name, expr_tree-Integer, expr_tree-Text, expr_tree-Constant, expr_tree-Group, expr_tree-Tuple, expr_tree-List, expr_tree-Comprehension, expr_tree-Dict, expr_tree-Post, expr_tree-Negative, expr_tree-Not, expr_tree-Chain, expr_tree-Compare}
+use Rattle.py_tree.specs.declared.expr.Piece.{Piece}
+use Rattle.py_tree.proofs.Views.{expr_tree-Name, expr_tree-Integer, expr_tree-Text, expr_tree-Constant, expr_tree-Group, expr_tree-Tuple, expr_tree-List, expr_tree-Comprehension, expr_tree-Dict, expr_tree-Post, expr_tree-Negative, expr_tree-Not, expr_tree-Chain, expr_tree-Compare, expr_tree-Choice, expr_tree-Joined}
 use Rattle.py_heap.specs.declared.value.Value.TheVariants as v
 use Rattle.py_heap.specs.Given.{given_text}
 use Rattle.py_operators.specs.Binary.{binary_of}
 use Rattle.py_meaning.specs.States.{goes_on}
-use Rattle.py_meaning.specs.Jobs.{eval_all, operations, links}
+use Rattle.py_meaning.specs.Jobs.{eval, eval_all, operations, links}
 use Rattle.py_meaning.specs.Plans.{first, after}
 use Rattle.py_meaning.specs.Expressions.{flat_pairs, named_line}
 use Rattle.py_meaning.specs.Loops.{walk_of}
 use Rattle.py_meaning.specs.Lookup.{found_in}
+use Rattle.py_meaning.specs.Joined.{fields_of}
+use Rattle.py_heap.specs.Heap.{truth_of}
 use Rattle.py_state.specs.Stores.{state_of}
 use Rattle.py_steps.specs.Desks.{Stacks, tasks_of, values_of}
 use Rattle.py_steps.specs.declared.task.Task.TheVariants as task
-use Rattle.py_steps.specs.Todos.{left, gives_on, all_on, made_on}
+use Rattle.py_steps.specs.Todos.{left, gives_on, all_on, made_on, one_of}
 use Rattle.py_steps.specs.Leads.{Stops}
 use Rattle.py_steps.proofs.Beginnings.{as_tree, before, evaluated, walked, integer_begins, integer_stops, text_begins, text_stops, constant_begins, group_begins, tuple_begins, list_begins, dict_begins, comprehension_begins, post_begins, negative_begins, not_begins, chain_begins, compare_begins}
 use Rattle.py_steps.proofs.Going.{given, pushed, pushed_two}
+use Rattle.py_steps.proofs.Joining.{joined_begins}
+use Rattle.py_steps.proofs.Picking.{choice_begins}
 use Rattle.py_steps.proofs.Naming.{named_leads_as, unnamed_stops_as}
 use Rattle.py_steps.proofs.Stepping.{leads_on, stops_value}
 use Rattle.py_steps.proofs.expressions.evaluate.Goals as goal
@@ -124,3 +129,16 @@ returns-in_ok-evaluate-in-Compare-clause-leads g c =
     (evaluated c.push-in-Compare.new.self c.evaluate-in-Compare.new.self _ c.in-Compare.left.value _ (state_of c.args.machine.now c.args.frame.now) c.in_ok-evaluate-in-Compare.ensures c.deref-in-Compare.ensures
     ∙ ap (λ (d : Stacks). after (expr_tree c.in-Compare.left.value) (state_of c.args.machine.now c.args.frame.now) (λ x s. after (expr_tree c.deref-in-Compare-2.result.now) s (λ y s2. left d.tasks (y ∷ x ∷ d.values) (goes_on s2)))) c.in_ok-push-in-Compare.ensures
     ∙ ap (λ (e : Expr). after (expr_tree c.in-Compare.left.value) (state_of c.args.machine.now c.args.frame.now) (λ x s. after (expr_tree e) s (λ y s2. made_on c.in-Compare.line s2 (binary_of c.comparison_op-op.result s2.objects s2.units x y) (values_of c.args.desk.now) (left (tasks_of c.args.desk.now))))) c.deref-in-Compare-2.ensures)
+
+pub returns-in_ok-evaluate-in-Choice-clause-leads : goal.returns-in_ok-evaluate-in-Choice-clause-leads
+returns-in_ok-evaluate-in-Choice-clause-leads g c =
+    λ k. leads_on (as_tree (tasks_of c.args.desk.now) (values_of c.args.desk.now) (state_of c.args.machine.now c.args.frame.now) (ap expr_tree c.in-Choice.is ∙ expr_tree-Choice c.in-Choice.line c.in-Choice.value c.in-Choice.test c.in-Choice.other) (choice_begins c.in-Choice.line (expr_tree c.in-Choice.value.value) (expr_tree c.in-Choice.test.value) (expr_tree c.in-Choice.other.value) (tasks_of c.args.desk.now) (values_of c.args.desk.now) (state_of c.args.machine.now c.args.frame.now)))
+    (evaluated c.args.desk.now c.evaluate-in-Choice.new.self _ c.in-Choice.test.value _ (state_of c.args.machine.now c.args.frame.now) c.in_ok-evaluate-in-Choice.ensures c.deref-in-Choice.ensures
+    ∙ ap (λ (e : Expr). after (expr_tree c.in-Choice.test.value) (state_of c.args.machine.now c.args.frame.now) (λ x s. first (eval (one_of (truth_of s.objects x) (expr_tree e) (expr_tree c.deref-in-Choice-3.result.now))) s (gives_on (values_of c.args.desk.now) (left (tasks_of c.args.desk.now))))) c.deref-in-Choice-2.ensures
+    ∙ ap (λ (e : Expr). after (expr_tree c.in-Choice.test.value) (state_of c.args.machine.now c.args.frame.now) (λ x s. first (eval (one_of (truth_of s.objects x) (expr_tree c.in-Choice.value.value) (expr_tree e))) s (gives_on (values_of c.args.desk.now) (left (tasks_of c.args.desk.now))))) c.deref-in-Choice-3.ensures)
+
+pub returns-in_ok-push-in-Joined-2-clause-leads : goal.returns-in_ok-push-in-Joined-2-clause-leads
+returns-in_ok-push-in-Joined-2-clause-leads g c =
+    λ k. leads_on (as_tree (tasks_of c.args.desk.now) (values_of c.args.desk.now) (state_of c.args.machine.now c.args.frame.now) (ap expr_tree c.in-Joined.is ∙ expr_tree-Joined c.in-Joined.line c.in-Joined.pieces ∙ ap (λ (xs : List Piece). joined c.in-Joined.line (trees (map piece_tree xs))) (sym c.as_slice-pieces.ensures.value)) (joined_begins c.in-Joined.line c.as_slice-pieces.result (tasks_of c.args.desk.now) (values_of c.args.desk.now) (state_of c.args.machine.now c.args.frame.now)))
+    (pushed_two c.args.desk.now c.push-in-Joined.new.self c.push-in-Joined-2.new.self _ _ (state_of c.args.machine.now c.args.frame.now) c.in_ok-push-in-Joined.ensures c.in_ok-push-in-Joined-2.ensures
+    ∙ ap (λ base. first (eval_all (fields_of (trees (map piece_tree c.as_slice-pieces.result.now)))) (state_of c.args.machine.now c.args.frame.now) (all_on (values_of c.args.desk.now) (left (task.Join c.in-Joined.line c.as_slice-pieces.result base ∷ (tasks_of c.args.desk.now))))) c.height-base-in-Joined.ensures)

@@ -1,7 +1,7 @@
 use Rattle.py_tree.specs.declared.line.Line.TheVariants as line'
 use Rattle.py_state.specs.Stores.{state_of}
 use Rattle.py_steps.specs.Leads.{left_at}
-use Rattle.py_steps.proofs.Lines.{line_as, line_unfolds, simple_opens, simple_tree_of, if_tree, for_tree, def_tree}
+use Rattle.py_steps.proofs.Lines.{line_as, line_unfolds, simple_opens, simple_tree_of, if_tree, for_tree, while_tree, def_tree}
 use Rattle.py_steps.proofs.statements.run_line.Goals as goal
 
 pub returns-in_ok-push-in-Simple : goal.returns-in_ok-push-in-Simple
@@ -19,6 +19,11 @@ pub returns-in-For : goal.returns-in-For
 returns-in-For c =
     line_as c.args.line.now (line'.For c.in-For.line c.in-For.names c.in-For.source c.in-For.block) _ c.args.desk.now (state_of c.args.machine.now c.args.frame.now) c.run_for.result (left_at c.run_for.new.desk c.run_for.new.machine c.args.frame.now) c.in-For.is
     (for_tree c.in-For.line c.in-For.names c.in-For.source c.in-For.block c.as_slice-in-For.result.now c.as_slice-in-For-2.result.now c.as_slice-in-For.ensures.value c.as_slice-in-For-2.ensures.value) c.run_for.ensures
+
+pub returns-in-While : goal.returns-in-While
+returns-in-While c =
+    line_as c.args.line.now (line'.While c.in-While.line c.in-While.test c.in-While.block) _ c.args.desk.now (state_of c.args.machine.now c.args.frame.now) c.run_while.result (left_at c.run_while.new.desk c.run_while.new.machine c.args.frame.now) c.in-While.is
+    (while_tree c.in-While.line c.in-While.test c.in-While.block c.as_slice-in-While.result.now c.as_slice-in-While.ensures.value) c.run_while.ensures
 
 pub returns-in-Def : goal.returns-in-Def
 returns-in-Def c =

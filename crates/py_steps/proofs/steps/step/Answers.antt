@@ -103,3 +103,21 @@ returns-in-StoreBelow-clause-flows g c = λ k. on_leads g.H.Host.meaning k c.arg
 
 pub returns-in-StoreAbove-clause-flows : goal.returns-in-StoreAbove-clause-flows
 returns-in-StoreAbove-clause-flows g c = λ k. on_leads g.H.Host.meaning k c.args.task _ c.args.desk.now c.store_above.new.desk c.args.machine.now c.store_above.new.machine c.args.frame.now c.args.frame.now c.args.host.now c.store_above.new.host c.store_above.result c.on-in-StoreAbove.result c.in-StoreAbove.is c.on-in-StoreAbove.ensures (c.store_above.ensures.leads k)
+
+pub returns-in-Fields-clause-flows : goal.returns-in-Fields-clause-flows
+returns-in-Fields-clause-flows g c = λ k. on_steps g.H.Host.meaning k c.args.task _ c.args.desk.now c.evaluate_fields.new.desk c.args.machine.now c.args.machine.now c.args.frame.now c.args.frame.now c.args.host.now c.evaluate_fields.result c.on-in-Fields.result c.in-Fields.is c.on-in-Fields.ensures (c.evaluate_fields.ensures (state_of c.args.machine.now c.args.frame.now))
+
+pub returns-in-Show-clause-flows : goal.returns-in-Show-clause-flows
+returns-in-Show-clause-flows g c = λ k. on_steps g.H.Host.meaning k c.args.task _ c.args.desk.now c.show_field.new.desk c.args.machine.now c.show_field.new.machine c.args.frame.now c.args.frame.now c.args.host.now c.show_field.result c.on-in-Show.result c.in-Show.is c.on-in-Show.ensures c.show_field.ensures
+
+pub returns-in-Join-clause-flows : goal.returns-in-Join-clause-flows
+returns-in-Join-clause-flows g c = λ k. on_steps g.H.Host.meaning k c.args.task _ c.args.desk.now c.join.new.desk c.args.machine.now c.join.new.machine c.args.frame.now c.args.frame.now c.args.host.now c.join.result c.on-in-Join.result c.in-Join.is c.on-in-Join.ensures c.join.ensures
+
+pub returns-in-Pick-clause-flows : goal.returns-in-Pick-clause-flows
+returns-in-Pick-clause-flows g c = λ k. on_steps g.H.Host.meaning k c.args.task _ c.args.desk.now c.pick.new.desk c.args.machine.now c.args.machine.now c.args.frame.now c.args.frame.now c.args.host.now c.pick.result c.on-in-Pick.result c.in-Pick.is c.on-in-Pick.ensures (c.pick.ensures c.args.frame.now)
+
+pub returns-in-Rounds-clause-flows : goal.returns-in-Rounds-clause-flows
+returns-in-Rounds-clause-flows g c = λ k. on_steps g.H.Host.meaning k c.args.task _ c.args.desk.now c.next_round.new.desk c.args.machine.now c.args.machine.now c.args.frame.now c.args.frame.now c.args.host.now c.next_round.result c.on-in-Rounds.result c.in-Rounds.is c.on-in-Rounds.ensures (c.next_round.ensures (state_of c.args.machine.now c.args.frame.now))
+
+pub returns-in-Round-clause-flows : goal.returns-in-Round-clause-flows
+returns-in-Round-clause-flows g c = λ k. on_steps g.H.Host.meaning k c.args.task _ c.args.desk.now c.run_round.new.desk c.args.machine.now c.run_round.new.machine c.args.frame.now c.args.frame.now c.args.host.now c.run_round.result c.on-in-Round.result c.in-Round.is c.on-in-Round.ensures c.run_round.ensures

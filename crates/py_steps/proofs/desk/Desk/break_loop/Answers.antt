@@ -1,11 +1,15 @@
-use Rattle.std.proofs.Common.{arith, ◌≡◌, ap, length, reverse}
-use Rattle.py_steps.proofs.Leaving.{stacks_are, turns_taken, none_taken}
+use Rattle.std.proofs.Common.{arith, ◌≡◌, ◌∙◌, ap, sym, length, reverse}
+use Rattle.py_steps.proofs.Leaving.{stacks_are, loop_taken, other_taken, none_taken}
 use Rattle.py_steps.proofs.desk.Desk.break_loop.Goals as goal
 
-pub returns-in-Turns : goal.returns-in-Turns
-returns-in-Turns c =
-    stacks_are _ _ _ _ (turns_taken c.tasks.self.tasks.items c.pop.new.self.items c.args.self.now.tasks.items c.in-Some.task c.in-Turns.turns c.in-Turns.walk c.tasks.invariant.0 c.in-Some.ensures.items c.in-Turns.is)
+pub returns-then-is_loop : goal.returns-then-is_loop
+returns-then-is_loop c =
+    stacks_are _ _ _ _ (loop_taken c.tasks.self.tasks.items c.pop.new.self.items c.args.self.now.tasks.items c.in-Some.task c.tasks.invariant.0 c.in-Some.ensures.items (sym c.is_loop.ensures ∙ c.if-is_loop.true))
     (ap (λ vs. reverse vs.items) c.tasks.invariant.1)
+
+pub tasks-preserved : goal.tasks-preserved
+tasks-preserved c =
+    (other_taken c.tasks.self.tasks.items c.pop.new.self.items c.args.self.now.tasks.items c.in-Some.task c.tasks.invariant.0 c.in-Some.ensures.items (sym c.is_loop.ensures ∙ c.if-is_loop.false), c.tasks.invariant.1)
 
 pub returns : goal.returns
 returns c =

@@ -1,10 +1,10 @@
-use Rattle.std.proofs.Common.{ap, reverse}
-use Rattle.py_steps.proofs.Leaving.{stacks_are, turns_seen, none_seen}
+use Rattle.std.proofs.Common.{◌∙◌, ap, sym, reverse}
+use Rattle.py_steps.proofs.Leaving.{stacks_are, loop_seen, none_seen}
 use Rattle.py_steps.proofs.desk.Desk.continue_loop.Goals as goal
 
-pub returns-in-Turns : goal.returns-in-Turns
-returns-in-Turns c =
-    stacks_are _ _ _ _ (turns_seen c.tasks.self.tasks.items c.deref.result.now c.args.self.now.tasks.items c.in-Some.task.now c.in-Turns.turns c.in-Turns.walk c.tasks.invariant.0 c.deref.ensures.value c.in-Some.ensures.value c.in-Turns.is)
+pub returns-then-is_loop : goal.returns-then-is_loop
+returns-then-is_loop c =
+    stacks_are _ _ _ _ (loop_seen c.tasks.self.tasks.items c.deref.result.now c.args.self.now.tasks.items c.in-Some.task.now c.tasks.invariant.0 c.deref.ensures.value c.in-Some.ensures.value (sym c.is_loop.ensures ∙ c.if-is_loop.true))
     (ap (λ vs. reverse vs.items) c.tasks.invariant.1)
 
 pub returns : goal.returns
