@@ -86,6 +86,20 @@ impl Inputs {
         }
     }
 
+    /// The files of a build over a graph whose first so many rules are the declared ones. Those behind them copy files into
+    /// variant directories, as a build before added them.
+    pub fn over(alloc: Global, hash: Hash, graph: &Graph, declared: u32) -> Inputs
+        ensures unread { (node : ℕ) → IsUnread (seen_at result.files.seen.items node) }
+        ensures unscanned { (scan : Scan) → get same_scan result.found.files scan ≡ None }
+        ensures unmarked { (number : ℕ) → is_marked result number ≡ false }
+        ensures gone { result.gone.keys ≡ [] }
+        ensures declared { result.declared ≡ declared }
+    {
+        let mut inputs = Inputs::new(alloc, hash, graph);
+        inputs.declared = declared;
+        inputs
+    }
+
     /// Whether a file stands at the path of a node that no rule makes.
     #[tactic(auto, using(crate::proofs::Looking::looking))]
     pub(crate) fn is_file<W: World>(

@@ -72,7 +72,7 @@ use Rattle.build_run.proofs.Outs.{outs_front, not_among}
 -- ---- over a look
 
 module _ (old new : Around) (asks : Asks old new) where
-  stamp_at : (path : Path) → (IsRunningTarget old.running path → ⊥) → stamp_of new path ≡ stamp_of old path
+  pub stamp_at : (path : Path) → (IsRunningTarget old.running path → ⊥) → stamp_of new path ≡ stamp_of old path
   stamp_at path free =
       ap (λ (c : Content). option_map (λ (bytes : List ℕ). new.stamps path) c) (asks.files path free)
       ∙ ap (λ (n : ℕ). option_map (λ (bytes : List ℕ). n) (old.tree path)) (asks.stamps path free)

@@ -28,3 +28,4 @@ mod Begun
 pub mod Deciding
 mod Stopped
 pub mod Reasons
+mod Explaining

@@ -8,6 +8,8 @@ pub mod Outs
 pub mod Outsets
 pub mod Reasons
 pub mod Safe
+pub mod Shown
 pub mod Sites
 pub mod Takes
 pub mod Withdrawals
+pub mod Whys

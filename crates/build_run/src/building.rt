@@ -44,6 +44,8 @@ pub struct Options {
     pub hash: Hash,
     /// Whether no lines are written.
     pub silent: bool,
+    /// Whether a line says of each rule that starts why it does.
+    pub explain: bool,
 }
 
 impl Options {

@@ -7,11 +7,14 @@ ghost use Rattle.build_run.specs.Goings.{Stays};
 ghost use Rattle.world_api.specs.Looks.{Looks};
 ghost use Rattle.build_run.specs.Reasons.{EndsLast, SiteKeepsReason};
 ghost use Rattle.build_run.specs.Safe.{StartsSafely, TurnsSafelyAs};
+ghost use Rattle.build_run.specs.Shown.{ShowsMade};
 ghost use Rattle.build_run.specs.Sites.{IsSound, KeepsHeld, SiteEnds, SitePasses};
 
+use crate::explain::why_text;
 use crate::site::{Run, Site};
 use build_files::{ListEnd, Present, first_target, is_stale, path_of};
 use deciders::Rec;
+use explain_report::least_is_reason;
 use rule_graph::{BuildFault, Graph, What};
 use scons_base::limits::DEP_LIMIT;
 use scons_base::{NodeId, RuleId};
@@ -57,11 +60,22 @@ impl<W: World, O: Sink, E: Sink> Site<'_, '_, W, O, E> {
         ensures safe { StartsSafely W.meaning self.old self.new now }
         ensures reason { SiteKeepsReason self.old self.new }
         ensures last { EndsLast result }
+        ensures shows { ShowsMade W.meaning O.meaning self.old self.new rule now result }
     {
+        least_is_reason();
         if !is_stale(self.world, self.graph, self.store, rule, &now)? {
             return Ok(PlanEvent::Fresh(rule));
         }
-        self.start(rule, now)?;
+        let why = why_text(
+            self.account.alloc,
+            self.world,
+            self.graph,
+            self.store,
+            &self.options,
+            rule,
+            &now,
+        )?;
+        self.start(rule, now, why)?;
         self.account.note_start(rule);
         Ok(PlanEvent::Started(rule))
     }

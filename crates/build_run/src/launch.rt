@@ -5,6 +5,7 @@ ghost use Rattle.build_run.specs.Along.{IsWellStill, KeepsKnown, SameEnds};
 ghost use Rattle.build_run.specs.Books.{RefusesSo};
 ghost use Rattle.build_run.specs.Goings.{Passes, ClearsAt, LaunchesAt, IsJoined, AreAbsent};
 ghost use Rattle.world_api.specs.Laws.{StartsJob};
+ghost use Rattle.world_api.specs.Printing.{Prints};
 ghost use Rattle.build_run.specs.Ledgers.{ledger_of};
 ghost use Rattle.build_run.specs.Holds.{Busy, hold_for, holds_in, KeepsApart};
 ghost use Rattle.build_run.specs.Outs.{IsTicketFor, KeepsSome, ShareNone};
@@ -48,6 +49,7 @@ impl<W: World, O: Sink, E: Sink> Site<'_, '_, W, O, E> {
         ensures safe { SiteGoesSafely W.meaning self.old self.new }
         ensures reason { SiteKeepsReason self.old self.new }
         ensures last { EndsLast result }
+        ensures prints { OnOk result (Prints O.meaning self.old.out.now self.new.out.now text.now) }
     {
         self.clear(&job, ticket)?;
         show(self.account, self.out, text)?;
@@ -61,6 +63,7 @@ fn show<O: Sink>(account: &mut Account, out: &mut O, text: &str) -> Result<(), L
     ensures ended { account.new.is_ended ≡ account.old.is_ended }
     ensures cause { HasPrintCause (O.meaning.faults out.old) (O.meaning.faults out.new) result }
     ensures reason { StaysReasoned account.old account.new }
+    ensures prints { OnOk result (Prints O.meaning out.old out.new text.now) }
 {
     match print(out, text) {
         Ok(()) => Ok(()),

@@ -11,6 +11,7 @@ mod clear;
 mod decide;
 mod end;
 mod ending;
+mod explain;
 mod launch;
 mod leftovers;
 mod site;

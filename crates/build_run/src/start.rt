@@ -1,10 +1,13 @@
 //! How the action of a stale rule starts.
-ghost use Rattle.std.specs.Prelude.{◌≡◌, ◌<◌, ◌≤◌, [], length, true, IfOk};
+ghost use Rattle.std.specs.Prelude.{◌≡◌, ◌<◌, ◌≤◌, [], length, true, IfOk, Some, slice_get, string_bytes, OnOk};
+ghost use Rattle.rule_graph.specs.declared.rule.Rule.{Rule as DeclaredRule};
 ghost use Rattle.build_files.specs.Causes.{IsQuiet};
 ghost use Rattle.build_run.specs.Along.{StartsAlong};
 ghost use Rattle.build_run.specs.Reasons.{EndsLast, SiteKeepsReason};
 ghost use Rattle.build_run.specs.Safe.{StartsSafely};
 ghost use Rattle.build_run.specs.Sites.{IsSound, KeepsHeld, SiteEnds, SitePasses};
+ghost use Rattle.build_run.specs.Shown.{PrintsStart};
+ghost use Rattle.build_run.specs.Whys.{started_text};
 ghost use Rattle.turn_means.specs.Laws.{IsJobFrom};
 ghost use Rattle.sign_store.specs.Stores.{IsOut, IsFresh, KeepsBanks, KeepsOthers, KeepsOut, KeepsTickets, is_live, map_of};
 
@@ -21,12 +24,13 @@ use std::alloc::Global;
 use world_api::{Job, Sink, World, copy_lines};
 
 impl<W: World, O: Sink, E: Sink> Site<'_, '_, W, O, E> {
-    /// Starts the action of a rule with this record. All memory is taken before anything of the rule is touched.
+    /// Starts the action of a rule with this record, for which it has been told why. All memory is taken before anything of the
+    /// rule is touched.
     ///
     /// A plan gives each rule once, and after those that make what it reads. So no job comes up that gets in the way of one
     /// that runs, or makes what one has made whose record is held; such a one would be answered as want of memory is. After
     /// a fault of the store nothing starts.
-    pub(crate) fn start(&mut self, rule: RuleId, now: Rec) -> Result<(), ListEnd>
+    pub(crate) fn start(&mut self, rule: RuleId, now: Rec, why: String) -> Result<(), ListEnd>
         requires sound { IsSound W.meaning self.old }
         requires room { length self.old.run.now.tickets < 64 }
         ensures passes { SitePasses W.meaning self.old self.new }
@@ -39,11 +43,12 @@ impl<W: World, O: Sink, E: Sink> Site<'_, '_, W, O, E> {
         ensures safe { StartsSafely W.meaning self.old self.new now }
         ensures reason { SiteKeepsReason self.old self.new }
         ensures last { EndsLast result }
+        ensures prints { OnOk result (PrintsStart O.meaning self.old self.new rule (string_bytes why)) }
     {
         if self.account.is_store_shut {
             return Err(ListEnd::Fault(BuildFault::StoreFault));
         }
-        let text = shown_text(self.account.alloc, self.graph, &self.options, rule)?;
+        let text = shown_text(self.account.alloc, self.graph, &self.options, rule, why)?;
         let job = job_of(self.account.alloc, self.graph, rule, &now)?;
         let hold = Hold::of(&job)?;
         if !self.run.tickets.are_apart(&job) {
@@ -66,21 +71,26 @@ impl<W: World, O: Sink, E: Sink> Site<'_, '_, W, O, E> {
     }
 }
 
-/// What is printed of a rule as it starts.
+/// What is printed of a rule as it starts: why it does, where that is asked for, and its lines.
 fn shown_text(
     alloc: Global,
     graph: &Graph,
     options: &Options,
     rule: RuleId,
-) -> Result<String, Memory> {
+    why: String,
+) -> Result<String, Memory>
+    ensures { IfOk result (λ text. (x : DeclaredRule) → slice_get graph.now.rules rule.0 ≡ Some x
+        → string_bytes text ≡ started_text graph.now options.now x (string_bytes why)) }
+{
     if options.silent {
         return Ok(String::new(alloc));
     }
-    if rule.0 < graph.rules() {
-        rule_text(alloc, graph, rule)
-    } else {
-        Err(Memory)
+    if rule.0 >= graph.rules() {
+        return Err(Memory);
     }
+    let mut text = why;
+    text.push_str(rule_text(alloc, graph, rule)?.as_str())?;
+    Ok(text)
 }
 
 /// A ticket is given up, unless the store has refused: then it isn't called again.

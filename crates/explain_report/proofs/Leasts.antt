@@ -1,6 +1,6 @@
 -- The least of two reasons, and of some answers.
 use Rattle.std.proofs.Common.{◌≡◌, ℕ, zero, suc, ◌<◌, ◌≤◌, Bool, true, false, cond, List, [], ◌∷◌, Option, Some, None, refl, sym, subst, ap, ◌∙◌, inl, inr, ◌⊎◌, arith}
-use Rattle.std.specs.Prelude.{slice_get, nat_lt, nat_eq, ◌&&◌}
+use Rattle.std.specs.Prelude.{slice_get, nat_lt, nat_eq, ◌&&◌, ◌++◌}
 use Rattle.std.specs.Bool.{Decides}
 use Rattle.std.proofs.lemmas.Bool.{cases_lt}
 use Rattle.std.proofs.lemmas.Bool.Decides.{Decides-or, Decides-and, Decides-ltb, Decides-eqb}
@@ -99,3 +99,44 @@ pub told : (answers : List (Option Reason)) → Told answers (least_of answers)
 told [] = λ i a e. none_some e
 told (None ∷ answers) = skips answers (least_of answers) (told answers)
 told (Some b ∷ answers) = adds b answers (least_of answers) (told answers)
+
+-- ---- one answer after another
+
+before_on : (a b c : Reason) → IsBefore a b → IsBefore b c → IsBefore a c
+before_on a b c (inl lt) (inl less) = inl (omega (arith, lt, less))
+before_on a b c (inl lt) (inr h) = inl (omega (arith, lt, h.0))
+before_on a b c (inr h) (inl less) = inl (omega (arith, h.0, less))
+before_on a b c (inr h) (inr k) = inr (omega (arith, h.0, k.0), omega (arith, h.1, k.1))
+
+not_so : (a b : Reason) → is_before a b ≡ false → IsBefore a b → ⊥
+not_so a b e h = true_false (sym ((before_decides a b).1 h) ∙ e)
+
+-- the least of three, whichever two are taken first
+least_joined : (a b c : Reason) → least a (least b c) ≡ least (least a b) c
+least_joined a b c = by (is_before c b) (is_before b a) (is_before c a) refl refl refl
+  where
+    by : (x y z : Bool) → is_before c b ≡ x → is_before b a ≡ y → is_before c a ≡ z → least a (least b c) ≡ least (least a b) c
+    by true y true e f g =
+        ap (λ t. least a (cond t c b)) e ∙ (ap (λ t. cond t c a) g ∙ sym (right y f))
+      where
+        right : (t : Bool) → is_before b a ≡ t → least (least a b) c ≡ c
+        right true h = ap (λ t. least (cond t b a) c) h ∙ ap (λ t. cond t c b) e
+        right false h = ap (λ t. least (cond t b a) c) h ∙ ap (λ t. cond t c a) g
+    by true true false e f g = absurd (not_so c a g (before_on c b a ((before_decides c b).0 e) ((before_decides b a).0 f)))
+    by true false false e f g = ap (λ t. least a (cond t c b)) e ∙ sym (ap (λ t. least (cond t b a) c) f)
+    by false true z e f g =
+        ap (λ t. least a (cond t c b)) e ∙ (ap (λ t. cond t b a) f ∙ sym (ap (λ t. least (cond t b a) c) f ∙ ap (λ t. cond t c b) e))
+    by false false true e f g = absurd (not_before c b a (not_so c b e) (not_so b a f) ((before_decides c a).0 g))
+    by false false false e f g =
+        ap (λ t. least a (cond t c b)) e ∙ (ap (λ t. cond t b a) f ∙ sym (ap (λ t. least (cond t b a) c) f ∙ ap (λ t. cond t c a) g))
+
+least_beside : (reason : Reason) (m found : Option Reason) → least_with reason (least_of (m ∷ found ∷ [])) ≡ least_of (least_with reason m ∷ found ∷ [])
+least_beside reason None found = refl
+least_beside reason (Some a) None = refl
+least_beside reason (Some a) (Some b) = ap Some (least_joined reason a b)
+
+-- one answer more
+pub least_more : (answers : List (Option Reason)) (found : Option Reason) → least_of (answers ++ found ∷ []) ≡ least_of (least_of answers ∷ found ∷ [])
+least_more [] found = refl
+least_more (None ∷ answers) found = least_more answers found
+least_more (Some reason ∷ answers) found = ap (least_with reason) (least_more answers found) ∙ least_beside reason (least_of answers) found

@@ -12,5 +12,5 @@ mod texts;
 
 pub use finding::reason_of;
 pub use laws::{due_where_a_reason_holds, least_is_reason};
-pub use reason::{Reason, least};
+pub use reason::{Reason, least, place_of};
 pub use texts::reason_text;

@@ -53,7 +53,8 @@ fn number(reason: Reason) -> u32
     }
 }
 
-fn place_of(reason: Reason) -> u32
+/// The place of the target that a reason is about, among those of the rule.
+pub fn place_of(reason: Reason) -> u32
     ensures { result ≡ place_of reason }
 {
     match reason {

@@ -1,1 +1,4 @@
+pub mod Asked
 pub mod Causes
+pub mod Trees
+pub mod Walks

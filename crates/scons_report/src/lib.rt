@@ -1,10 +1,14 @@
-//! What a run says: the texts on both sinks, the rules that a dry run lists, and the rules that cleaning goes over.
+//! What a run says: the texts on both sinks, the rules that a dry run lists, those that cleaning goes over, and the tree of what a
+//! word asks for.
 //!
 //! The wording of the texts is this project's own and follows SCons. Each text is whole lines with their line feeds.
 #![tactic(auto)]
 
 mod clean;
 mod dry;
+mod shown;
+mod tree;
+mod tree_end;
 
 pub use build_files::ListEnd;
 pub use clean::clean_list;
@@ -14,3 +18,5 @@ pub use report_texts::{
     help_text, load_text, nothing_text, read_text, reading_text, removed_text, rule_text,
     terminated_text, up_to_date_text,
 };
+pub use shown::tree_text;
+pub use tree_end::TreeEnd;

@@ -5,3 +5,4 @@ mod Reporting
 mod Requesting
 mod Building
 mod Stopping
+mod Shown

@@ -5,4 +5,5 @@ pub mod Faults
 pub mod Requested
 pub mod Stopping
 pub mod Stops
+pub mod Trees
 pub mod Watching

@@ -1,5 +1,5 @@
 //! The build of what was requested.
-ghost use Rattle.std.specs.Prelude.{◌≡◌, [], true, IfOk, IfErr};
+ghost use Rattle.std.specs.Prelude.{◌≡◌, [], true, false, IfOk, IfErr};
 ghost use Rattle.build_run.specs.Goings.{Passes, Goes};
 ghost use Rattle.scons_top.specs.Faults.{IsLateStop, EarlyOnlyIf};
 ghost use Rattle.world_api.specs.Statuses.{HasStatus};
@@ -15,6 +15,7 @@ use crate::printed::say;
 use crate::report::Report;
 use crate::requests::Request;
 use crate::stop::Stop;
+use crate::tree_step::tell_trees;
 use build_run::{BuildEnd, Options, build};
 use rule_graph::Graph;
 use scons_base::{Memory, NodeId};
@@ -53,7 +54,9 @@ pub(crate) fn build_requests<W: World, O: Sink, E: Sink>(
         keep: words.keep,
         hash: words.hash,
         silent: words.silent,
+        explain: words.explain,
     };
+    let declared = graph.rules();
     let end = build(
         alloc,
         graph,
@@ -64,6 +67,12 @@ pub(crate) fn build_requests<W: World, O: Sink, E: Sink>(
         err,
         &options,
     );
+    if has_trees(words, &end) {
+        let started = end.started.as_slice();
+        return tell_trees(
+            alloc, graph, declared, words, requests, started, world, out, err,
+        );
+    }
     let written = tell_end(alloc, graph, words, requests, &end, out);
     Ok(closed(alloc, end.faults, end.skipped, end.memory, written))
 }
@@ -82,6 +91,14 @@ fn begin_store<W: World>(alloc: Global, world: &mut W) -> Result<Store, Stop>
         Ok(store) => Ok(store),
         Err(refusal) => Err(Stop::from(refusal)),
     }
+}
+
+/// Whether trees are shown behind a build that ended so: it has no fault.
+fn has_trees(words: &Words, end: &BuildEnd) -> bool
+    ensures faults { result ≡ true → end.now.faults ≡ [] }
+    ensures memory { result ≡ true → end.now.memory ≡ false }
+{
+    words.tree && !words.silent && !end.memory && end.faults.is_empty()
 }
 
 /// The requested nodes, in order.

@@ -103,7 +103,7 @@ fn lines_of(alloc: Global, graph: &Graph, rule: RuleId) -> Result<String, Memory
 }
 
 /// Prints the fault that ended the list, and the last line of output.
-fn end_with<O: Sink, E: Sink>(
+pub(crate) fn end_with<O: Sink, E: Sink>(
     alloc: Global,
     words: &Words,
     fault: BuildFault,

@@ -133,11 +133,27 @@ pub(crate) fn tell_done<O: Sink>(
     ensures late { IfErr result IsLateStop }
     ensures step { SinkStep (O.meaning.faults out.old) (O.meaning.faults out.new) result }
 {
+    tell_requests(alloc, graph, words, requests, started, out)?;
+    say(out, words, done_text(alloc))
+}
+
+/// Writes what was up to date, of each request in order.
+pub(crate) fn tell_requests<O: Sink>(
+    alloc: Global,
+    graph: &Graph,
+    words: &Words,
+    requests: &[Request],
+    started: &[RuleId],
+    out: &mut O,
+) -> Result<(), Stop>
+    ensures late { IfErr result IsLateStop }
+    ensures step { SinkStep (O.meaning.faults out.old) (O.meaning.faults out.new) result }
+{
     let marks = marks_of(alloc, graph, started)?;
     for request in requests {
         tell_request(alloc, graph, words, request, marks.as_slice(), out)?;
     }
-    say(out, words, done_text(alloc))
+    Ok(())
 }
 
 /// Writes what was up to date of what was requested by one word.

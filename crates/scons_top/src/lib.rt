@@ -19,6 +19,7 @@ mod requests;
 mod stop;
 mod texts;
 mod top;
+mod tree_step;
 
 pub use report::{Report, Top};
 pub use top::scons;

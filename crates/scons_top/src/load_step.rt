@@ -87,6 +87,8 @@ fn build_words(alloc: Global, jobs: u32) -> Result<Words, Memory> {
         jobs,
         keep: false,
         hash: Hash::Md5,
+        explain: false,
+        tree: false,
         dry: false,
         clean: false,
         quiet: true,

@@ -23,6 +23,8 @@ pub(crate) struct Request {
     pub(crate) nodes: Vec<NodeId>,
     /// Whether it is a file without a rule.
     pub(crate) is_plain: bool,
+    /// Whether the word is the path of its one node.
+    pub(crate) is_node: bool,
 }
 
 /// What is requested: the words, without any the defaults, without those the top directory.
@@ -98,7 +100,7 @@ fn request_of<W: World>(
     if let Some(members) = graph.alias(word.as_str()) {
         let nodes = lookups.below.members_of(alloc, graph, members)?;
         check_members(alloc, world, graph, lookups, word, nodes.as_slice())?;
-        return made(word, nodes, false);
+        return made(word, nodes);
     }
     let Ok(path) = PathText::read(alloc, word.as_str()) else {
         return Err(unknown(word));
@@ -127,11 +129,7 @@ fn file_request<W: World>(
 {
     match kind_of(world, path)? {
         Kind::File => plain_request(alloc, world, graph, lookups, word, path),
-        Kind::Dir => made(
-            word,
-            lookups.below.targets_below(alloc, graph, path)?,
-            false,
-        ),
+        Kind::Dir => made(word, lookups.below.targets_below(alloc, graph, path)?),
         Kind::Absent => absent_request(alloc, graph, lookups, word, path),
     }
 }
@@ -173,7 +171,7 @@ fn absent_request(
     if nodes.is_empty() {
         return Err(unknown(word));
     }
-    made(word, nodes, false)
+    made(word, nodes)
 }
 
 /// The request of one node.
@@ -189,17 +187,24 @@ fn node_request(
     ensures nodes { IfOk result (AsksForNodes graph.new) }
 {
     let nodes = vec![in alloc; graph.intern(path)?]?;
-    made(word, nodes, is_plain)
+    Ok(Request {
+        word: word.copy()?,
+        nodes,
+        is_plain,
+        is_node: true,
+    })
 }
 
-fn made(word: &Text, nodes: Vec<NodeId>, is_plain: bool) -> Result<Request, Stop>
+/// The request of what lies behind a word that is no node's path.
+fn made(word: &Text, nodes: Vec<NodeId>) -> Result<Request, Stop>
     ensures step { InnerStep result }
     ensures nodes { IfOk result (λ request. request.nodes ≡ nodes) }
 {
     Ok(Request {
         word: word.copy()?,
         nodes,
-        is_plain,
+        is_plain: false,
+        is_node: false,
     })
 }
 

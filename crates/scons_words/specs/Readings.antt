@@ -31,6 +31,8 @@ start_reading = record {
   jobs = 1;
   load = None;
   hash = Md5;
+  explain = false;
+  tree = false;
   options = true;
   waiting = None;
   other = None;
@@ -64,12 +66,22 @@ abbrev hash_by : Reading → Option Hash → Outcome
 hash_by r (Some hash) = Ok (record r { hash = hash })
 hash_by r None = Err kind.BadValue
 
+-- what is explained, and which tree is shown: one word each is taken
+
+abbrev explain_by : Reading → Bool → Outcome
+explain_by r is = if is then Ok (record r { explain = true }) else Err kind.BadValue
+
+abbrev tree_by : Reading → Bool → Outcome
+tree_by r is = if is then Ok (record r { tree = true }) else Err kind.BadValue
+
 -- an option with its value: each script is added, of all others the last counts
 abbrev pub with_value : Reading → Valued → List ℕ → Outcome
 with_value r valued.Script text = script_by r text (fault_in text)
 with_value r valued.Jobs text = jobs_by r (number_up_to JOB_LIMIT text)
 with_value r valued.Load text = load_by r (number_up_to LOAD_LIMIT text)
 with_value r valued.HashFormat text = hash_by r (hash_in text)
+with_value r valued.Debug text = explain_by r (bytes_eq text (codes "explain"))
+with_value r valued.Tree text = tree_by r (bytes_eq text (codes "prune"))
 
 -- an option whose value is the rest of its word, or the next word where there is no rest
 abbrev pub valued_by : Reading → Valued → List ℕ → Outcome
@@ -239,6 +251,8 @@ words_of r = record {
   help = r.flags.help;
   load = r.load;
   hash = r.hash;
+  explain = r.explain;
+  tree = r.tree;
 }
 
 abbrev unmixed : Option ℕ → Reading → Result Words WordsFault

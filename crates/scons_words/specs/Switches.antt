@@ -46,4 +46,6 @@ long_switch name =
     else (if is_among (codes "file" ∷ codes "makefile" ∷ codes "sconstruct" ∷ []) name then Some (switch.Valued valued.Script)
     else (if bytes_eq name (codes "jobs") then Some (switch.Valued valued.Jobs)
     else (if bytes_eq name (codes "load") then Some (switch.Valued valued.Load)
-    else (if bytes_eq name (codes "hash-format") then Some (switch.Valued valued.HashFormat) else None))))))))
+    else (if bytes_eq name (codes "hash-format") then Some (switch.Valued valued.HashFormat)
+    else (if bytes_eq name (codes "debug") then Some (switch.Valued valued.Debug)
+    else (if bytes_eq name (codes "tree") then Some (switch.Valued valued.Tree) else None))))))))))

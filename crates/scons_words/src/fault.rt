@@ -11,7 +11,7 @@ pub enum UsageKind {
     NeedsValue,
     /// Jobs other than 1 to 64, or a load other than 1 to 20,000.
     BadNumber,
-    /// A hash format that there isn't.
+    /// A hash format that there isn't, or another value than the one that an option takes.
     BadValue,
     /// A target, or a script, that is no path in normal form.
     BadTarget,

@@ -1,7 +1,8 @@
 //! Reading words from left to right.
 ghost use Rattle.std.specs.Prelude.{◌≡◌, ◌≢◌, ◌<◌, length, true, false, Ok, Err, Some, None, IfOk, IfErr, OnOk, MatchOption, IfNone, IfSome, IsTrue, is_some};
+ghost use Rattle.std.specs.Str.{bytes_eq};
 ghost use Rattle.scons_base.specs.PathFaults.{fault_in};
-ghost use Rattle.scons_words.specs.Values.{hash_found, number_named};
+ghost use Rattle.scons_words.specs.Values.{hash_found, is_taken, number_named};
 ghost use Rattle.scons_words.specs.Switches.{long_switch};
 ghost use Rattle.scons_words.specs.Readings.{start_reading, mixed, fault_at, with_value, valued_by, first_switch, behind_dash, LeadsWith, has_equals, IsParted, name_of, plain_long, valued_long, behind_dashes, undashed, after_dashes, after_dash, option_word, argument_by, requested_by, operand, word_read, hash_in, is_number_switch, is_long_number, stands_with_load, step, words_of, ended, read};
 ghost use Rattle.scons_words.specs.declared.fault.UsageKind.{UsageKind};
@@ -31,6 +32,8 @@ pub(crate) struct Reading {
     jobs: u32,
     load: Option<u32>,
     hash: Hash,
+    explain: bool,
+    tree: bool,
     /// Whether a word may still be an option.
     options: bool,
     /// The option whose value the next word is.
@@ -76,6 +79,8 @@ impl Reading {
             jobs: 1,
             load: None,
             hash: Hash::Md5,
+            explain: false,
+            tree: false,
             options: true,
             waiting: None,
             other: None,
@@ -252,6 +257,8 @@ impl Reading {
             Valued::Jobs => self.jobs = number_named(value, JOB_LIMIT)?,
             Valued::Load => self.load = Some(number_named(value, LOAD_LIMIT)?),
             Valued::HashFormat => self.hash = hash_named(value)?,
+            Valued::Debug => self.explain = is_named(value, "explain")?,
+            Valued::Tree => self.tree = is_named(value, "prune")?,
         }
         Ok(())
     }
@@ -314,6 +321,8 @@ impl Reading {
             jobs,
             load,
             hash,
+            explain,
+            tree,
             options: _,
             waiting: _,
             other: _,
@@ -331,6 +340,8 @@ impl Reading {
             help: flags.help,
             load,
             hash,
+            explain,
+            tree,
         }
     }
 }
@@ -415,6 +426,17 @@ fn hash_named(text: &str) -> Result<Hash, Refusal>
         Ok(Hash::Sha1)
     } else if text == "sha256" {
         Ok(Hash::Sha256)
+    } else {
+        Err(Refusal::Kind(UsageKind::BadValue))
+    }
+}
+
+/// True where a value is the one that its option takes.
+fn is_named(text: &str, name: &str) -> Result<bool, Refusal>
+    ensures { result ≡ is_taken (bytes_eq text.now name.now) }
+{
+    if text == name {
+        Ok(true)
     } else {
         Err(Refusal::Kind(UsageKind::BadValue))
     }

@@ -20,6 +20,8 @@ pub(crate) enum Valued {
     Jobs,
     Load,
     HashFormat,
+    Debug,
+    Tree,
 }
 
 #[derive(Clone, Copy)]
@@ -75,6 +77,10 @@ pub(crate) fn long_switch(name: &str) -> Option<Switch>
         Some(Switch::Valued(Valued::Load))
     } else if name == "hash-format" {
         Some(Switch::Valued(Valued::HashFormat))
+    } else if name == "debug" {
+        Some(Switch::Valued(Valued::Debug))
+    } else if name == "tree" {
+        Some(Switch::Valued(Valued::Tree))
     } else {
         None
     }

@@ -25,4 +25,8 @@ pub struct Words {
     pub load: Option<u32>,
     /// What digests of contents are made by.
     pub hash: Hash,
+    /// Whether to say why each rule runs.
+    pub explain: bool,
+    /// Whether to show what is made of what.
+    pub tree: bool,
 }

@@ -38,6 +38,26 @@ fn edit_header<T: Wait + Drop, G: Gate + Drop>(told: &mut Told, trial: &mut Tria
     trial.run(told, "-Q -j2");
 }
 
+/// The same project: why each rule runs, and what the program is made of.
+pub(crate) fn put_explained<T>(alloc: Global, rt: T, told: &mut Told)
+where
+    T: Threads + Wait + Clone + Send + Sync + Drop + 'static,
+{
+    let name = "why rules run";
+    told.put_all(&["== ", name, "\n"]);
+    match Trial::new(rt, headers(alloc, told), NoGate) {
+        Some(mut trial) => explain(told, &mut trial),
+        None => told.refuse(),
+    }
+    told.end(name);
+}
+
+fn explain<T: Wait + Drop, G: Gate + Drop>(told: &mut Told, trial: &mut Trial<T, G>) {
+    trial.run(told, "-Q --debug=explain");
+    trial.edit(told, "x.h", "two\n");
+    trial.run(told, "-Q --debug=explain --tree=prune app");
+}
+
 /// Two headers are made, of which the first includes the second, and a source includes the first: the text of its object names each
 /// dependency.
 pub(crate) fn put_made<T>(alloc: Global, rt: T, told: &mut Told)

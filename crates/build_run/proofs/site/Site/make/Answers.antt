@@ -2,12 +2,19 @@ use Rattle.build_run.proofs.Begun.{starts_behind}
 use Rattle.build_run.proofs.Stopping.{site_rests}
 use Rattle.build_run.proofs.Turning.{site_saw}
 use Rattle.std.proofs.Common.{◌∙◌, refl, sym}
+use Rattle.std.specs.Prelude.{string_bytes}
+use Rattle.sign_store.specs.Stores.{map_of}
+use Rattle.build_files.specs.Dueness.{AreIdle}
+use Rattle.build_run.specs.Whys.{IsWhyText}
+use Rattle.build_run.proofs.Explaining.{idle_on, tells_reason, why_before}
 use Rattle.build_model.proofs.Lists.{true_false}
+use Rattle.world_api.proofs.Looking.{looks_joined}
+use Rattle.build_files.proofs.Looking.{cause_on}
 use Rattle.build_files.proofs.Truths.{asked}
 use Rattle.turn_means.specs.Standing.{begun_at}
 use Rattle.build_run.specs.Along.{is_faulted, standing_of}
 use Rattle.build_run.specs.Ledgers.{ledger_of}
-use Rattle.build_run.proofs.Causing.{exit_same, look_end}
+use Rattle.build_run.proofs.Causing.{exit_same, look_end, same_counts}
 use Rattle.build_run.proofs.Choosing.{along_looked, found_now, fresh_on, goes_before, marks_here, told_before, weighed_now}
 use Rattle.build_run.proofs.Sites.{looked_at, sound_still}
 use Rattle.build_run.proofs.Starting.{end_of_turn, ended_looked}
@@ -36,10 +43,46 @@ returns-then-not-branch-clause-sound g c =
 pub returns-then-not-branch-clause-kept : goal.returns-then-not-branch-clause-kept
 returns-then-not-branch-clause-kept g c = λ unshut busy path h made. refl
 
+pub returns-in_err-why-clause-ends : goal.returns-in_err-why-clause-ends
+returns-in_err-why-clause-ends g c = λ start a.
+    let before = ledger_of c.args.self.now.account.now in
+    let r = c.from_residual-in_err-why in
+    exit_same start before _ r.result _ r.ensures.1
+    (look_end start before _ _ _ _ _ c.in_err-why.ensures.cause (same_counts start before _ _ _ _ c.in_ok-is_stale.ensures.cause a))
+
+pub returns-in_err-why-clause-sound : goal.returns-in_err-why-clause-sound
+returns-in_err-why-clause-sound g c =
+    let m = g.W.Disk.meaning in
+    let stays = looked_at m _ _ c.why_text.result (looks_joined m _ _ _ c.is_stale.ensures.looks c.why_text.ensures.looks)
+    (cause_on _ _ _ c.why_text.result c.in_ok-is_stale.ensures.cause c.why_text.ensures.cause) in
+    sound_still m c.args.self.now _ stays refl refl refl refl refl c.requires.sound
+
+pub returns-in_err-why-clause-kept : goal.returns-in_err-why-clause-kept
+returns-in_err-why-clause-kept g c = λ unshut busy path h made. refl
+
+pub returns-in_err-why-clause-along : goal.returns-in_err-why-clause-along
+returns-in_err-why-clause-along g c = λ tells sure o outset along due.
+    let m = g.W.Disk.meaning in
+    let site = c.args.self.now in
+    let looks = looks_joined m _ _ _ c.is_stale.ensures.looks c.why_text.ensures.looks in
+    end_of_turn _ m o _ c.from_residual-in_err-why.result c.from_residual-in_err-why.ensures.1
+    (ended_looked m o outset site along c.why_text.new.world site.run.now refl (looks.around tells))
+
+pub returns-in_err-why-clause-safe : goal.returns-in_err-why-clause-safe
+returns-in_err-why-clause-safe g c = λ s safe over.
+    let m = g.W.Disk.meaning in
+    let looks = looks_joined m _ _ _ c.is_stale.ensures.looks c.why_text.ensures.looks in
+    site_saw m g.met.W.Disk.only_now c.args.self.now _ looks refl refl refl refl s safe
+
 pub start-requires-clause-sound : goal.start-requires-clause-sound
 start-requires-clause-sound g c =
-    let stays = looked_at g.W.Disk.meaning _ _ c.is_stale.result c.is_stale.ensures.looks c.is_stale.ensures.cause in
-    sound_still g.W.Disk.meaning c.args.self.now _ stays refl refl refl refl refl c.requires.sound
+    let m = g.W.Disk.meaning in
+    let stays = looked_at m _ _ c.why_text.result (looks_joined m _ _ _ c.is_stale.ensures.looks c.why_text.ensures.looks)
+    (cause_on _ _ _ c.why_text.result c.in_ok-is_stale.ensures.cause c.why_text.ensures.cause) in
+    sound_still m c.args.self.now _ stays refl refl refl refl refl c.requires.sound
+
+pub returns-clause-reason : goal.returns-clause-reason
+returns-clause-reason g c = λ reason keep. c.note_start.ensures.reason (c.start.ensures.reason reason keep)
 
 pub returns-clause-kept : goal.returns-clause-kept
 returns-clause-kept g c = λ unshut. c.start.ensures.kept (sym c.note_start.ensures.keeps.shut ∙ unshut)
@@ -75,20 +118,20 @@ pub returns-in_err-start-clause-along : goal.returns-in_err-start-clause-along
 returns-in_err-start-clause-along g c = λ tells sure o outset along due.
     let m = g.W.Disk.meaning in
     let site = c.args.self.now in
-    let looks = c.is_stale.ensures.looks in
+    let looks = looks_joined m _ _ _ c.is_stale.ensures.looks c.why_text.ensures.looks in
     let before = c.start.ensures.passes.passes.told.told tells in
     let asks = looks.around before in
-    let is = found_now m o outset site along c.args.rule c.args.now due c.is_stale.new.world asks c.requires.sound g.met.W.Disk.reads_as
-    (looks.told.told before) c.in_ok-is_stale.field-0 (c.in_ok-is_stale.ensures.due before) in
+    let is = found_now m o outset site along c.args.rule c.args.now due c.why_text.new.world asks c.requires.sound g.met.W.Disk.reads_as
+    (looks.told.told before) c.in_ok-is_stale.field-0 (c.in_ok-is_stale.ensures.due (c.why_text.ensures.looks.told.told before)) in
     end_of_turn _ m o _ c.from_residual-in_err-start.result c.from_residual-in_err-start.ensures.1
     (c.in_err-start.ensures.along tells sure o outset
-    (along_looked m o outset site _ along asks refl refl refl refl refl c.in_ok-is_stale.ensures.cause
-    (λ is. asked (begun_at o) site.graph.now site.run.now.inputs (m.around site.world.now) (m.around c.is_stale.new.world) asks is) refl (λ is. is) (marks_here site.graph.now site.run.now.inputs))
+    (along_looked m o outset site _ along asks refl refl refl refl refl (c.in_ok-why.ensures.cause ∙ c.in_ok-is_stale.ensures.cause)
+    (λ is. asked (begun_at o) site.graph.now site.run.now.inputs (m.around site.world.now) (m.around c.why_text.new.world) asks is) refl (λ is. is) (marks_here site.graph.now site.run.now.inputs))
     (record {
       room = due.room;
       own = due.own;
       model = due.model;
-      weighed = weighed_now m o outset site along c.args.rule c.args.now due c.is_stale.new.world asks;
+      weighed = weighed_now m o outset site along c.args.rule c.args.now due c.why_text.new.world asks;
     })
     (sym is ∙ c.if-not-branch.false))
 
@@ -96,19 +139,19 @@ pub returns-clause-along : goal.returns-clause-along
 returns-clause-along g c = λ tells sure o outset along due.
     let m = g.W.Disk.meaning in
     let site = c.args.self.now in
-    let looks = c.is_stale.ensures.looks in
+    let looks = looks_joined m _ _ _ c.is_stale.ensures.looks c.why_text.ensures.looks in
     let before = c.start.ensures.passes.passes.told.told tells in
     let asks = looks.around before in
-    let is = found_now m o outset site along c.args.rule c.args.now due c.is_stale.new.world asks c.requires.sound g.met.W.Disk.reads_as
-    (looks.told.told before) c.in_ok-is_stale.field-0 (c.in_ok-is_stale.ensures.due before) in
+    let is = found_now m o outset site along c.args.rule c.args.now due c.why_text.new.world asks c.requires.sound g.met.W.Disk.reads_as
+    (looks.told.told before) c.in_ok-is_stale.field-0 (c.in_ok-is_stale.ensures.due (c.why_text.ensures.looks.told.told before)) in
     let goes = c.in_ok-start.ensures.along tells sure o outset
-    (along_looked m o outset site _ along asks refl refl refl refl refl c.in_ok-is_stale.ensures.cause
-    (λ is. asked (begun_at o) site.graph.now site.run.now.inputs (m.around site.world.now) (m.around c.is_stale.new.world) asks is) refl (λ is. is) (marks_here site.graph.now site.run.now.inputs))
+    (along_looked m o outset site _ along asks refl refl refl refl refl (c.in_ok-why.ensures.cause ∙ c.in_ok-is_stale.ensures.cause)
+    (λ is. asked (begun_at o) site.graph.now site.run.now.inputs (m.around site.world.now) (m.around c.why_text.new.world) asks is) refl (λ is. is) (marks_here site.graph.now site.run.now.inputs))
     (record {
       room = due.room;
       own = due.own;
       model = due.model;
-      weighed = weighed_now m o outset site along c.args.rule c.args.now due c.is_stale.new.world asks;
+      weighed = weighed_now m o outset site along c.args.rule c.args.now due c.why_text.new.world asks;
     })
     (sym is ∙ c.if-not-branch.false) in
     let noted = c.note_start.new.self in
@@ -136,16 +179,41 @@ returns-then-not-branch-clause-safe g c = λ s safe over.
 pub returns-in_err-start-clause-safe : goal.returns-in_err-start-clause-safe
 returns-in_err-start-clause-safe g c =
     let m = g.W.Disk.meaning in
-    starts_behind m c.args.self.now _ c.start.new.self c.args.now c.is_stale.ensures.looks c.start.ensures.passes.passes.told
-    (site_saw m g.met.W.Disk.only_now c.args.self.now _ c.is_stale.ensures.looks refl refl refl refl) c.start.ensures.safe
+    let looks = looks_joined m _ _ _ c.is_stale.ensures.looks c.why_text.ensures.looks in
+    starts_behind m c.args.self.now _ c.start.new.self c.args.now looks c.start.ensures.passes.passes.told
+    (site_saw m g.met.W.Disk.only_now c.args.self.now _ looks refl refl refl refl) c.start.ensures.safe
 
 pub returns-clause-safe : goal.returns-clause-safe
 returns-clause-safe g c = λ s safe over.
     let m = g.W.Disk.meaning in
+    let looks = looks_joined m _ _ _ c.is_stale.ensures.looks c.why_text.ensures.looks in
     let now = c.start.new.self in
-    let one = starts_behind m c.args.self.now _ now c.args.now c.is_stale.ensures.looks c.start.ensures.passes.passes.told
-    (site_saw m g.met.W.Disk.only_now c.args.self.now _ c.is_stale.ensures.looks refl refl refl refl) c.start.ensures.safe s safe over in
+    let one = starts_behind m c.args.self.now _ now c.args.now looks c.start.ensures.passes.passes.told
+    (site_saw m g.met.W.Disk.only_now c.args.self.now _ looks refl refl refl refl) c.start.ensures.safe s safe over in
     record {
       moments = one.moments;
       now = (site_rests m g.met.W.Disk.only_now now _ refl refl refl refl (λ unshut. sym c.note_start.ensures.keeps.shut ∙ unshut) s one.now).now;
+    }
+
+pub returns-clause-shows : goal.returns-clause-shows
+returns-clause-shows g c =
+    let m = g.W.Disk.meaning in
+    let site = c.args.self.now in
+    let why = string_bytes c.in_ok-why.why in
+    let is : m.tells c.start.new.self.world.now → AreIdle (m.around site.world.now) c.args.now.targets →
+    IsWhyText site.graph.now site.options c.args.rule.0 (map_of site.store.now) c.args.now (m.around site.world.now) why =
+    λ told idle.
+    let before = c.start.ensures.passes.passes.told.told told in
+    let asks = c.is_stale.ensures.looks.around (c.why_text.ensures.looks.told.told before) in
+    why_before (m.around site.world.now) (m.around c.is_stale.new.world) (map_of site.store.now) c.args.now idle asks site.graph.now site.options
+    c.args.rule.0 why
+    (c.in_ok-why.ensures.why before
+    (idle_on (m.around site.world.now) (m.around c.is_stale.new.world) (map_of site.store.now) c.args.now idle asks)) in
+    record {
+      why = why;
+      prints = c.in_ok-start.ensures.prints;
+      is = is;
+      tells = λ told idle.
+          tells_reason c.least_is_reason.ensures site.graph.now site.options c.args.rule.0 (map_of site.store.now) c.args.now (m.around site.world.now) why
+          (is told idle);
     }

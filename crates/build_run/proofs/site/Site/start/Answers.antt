@@ -5,9 +5,10 @@ use Rattle.build_run.proofs.Holding.{in_pushed}
 use Rattle.build_run.proofs.Stopping.{site_rests, site_safely_on}
 use Rattle.build_run.specs.Holds.{hold_of}
 use Rattle.build_run.specs.Safe.{AreSafeIn, HasOwnRecord}
-use Rattle.std.proofs.Common.{◌∙◌, ◌++◌, ◌∷◌, List, [], Contains, inl, inr, ap, append_assoc, arith, length, length-append, refl, subst, sym}
+use Rattle.std.proofs.Common.{◌∙◌, ◌++◌, ◌∷◌, ℕ, List, [], Contains, inl, inr, ap, append_assoc, arith, length, length-append, refl, subst, sym}
 use Rattle.std.proofs.lemmas.List.{map-append}
 use Rattle.sign_store.specs.Tables.{Map}
+use Rattle.world_api.specs.Printing.{Prints}
 use Rattle.build_run.specs.Holds.{Busy, holds_in, hold_for}
 use Rattle.build_run.specs.Goings.{IsJoined}
 use Rattle.build_run.specs.Ledgers.{ledger_of}
@@ -376,3 +377,9 @@ pub returns-in_err-ticket-clause-last : goal.returns-in_err-ticket-clause-last
 returns-in_err-ticket-clause-last g c =
     let r = c.from_residual-in_err-ticket in
     last_exit r.result _ r.ensures.1 (last_inside _ c.in_err-ticket.ensures.quiet)
+
+pub returns-in-Ok-clause-prints : goal.returns-in-Ok-clause-prints
+returns-in-Ok-clause-prints g c = λ x at.
+    let site = c.args.self.now in
+    subst (λ (t : List ℕ). Prints g.O.Sink.meaning site.out.now c.launch.new.self.out.now t) (c.as_str.ensures.value ∙ c.in_ok-text.ensures x at)
+    c.in-Ok.ensures.prints
