@@ -7,6 +7,7 @@ use Rattle.scons_base.specs.declared.ids.NodeId.{NodeId}
 use Rattle.world_api.specs.declared.disk.Bank.TheVariants.{A, B}
 use Rattle.world_api.specs.Around.{Around}
 use Rattle.world_api.specs.Calls.{Asks}
+use Rattle.world_api.specs.Causes.{Later}
 use Rattle.world_api.specs.Counts.{Counts}
 use Rattle.world_api.specs.Looks.{Looks}
 use Rattle.world_api.specs.Meaning.{Meaning, BanksKept}
@@ -24,8 +25,10 @@ use Rattle.build_run.specs.declared.end.BuildEnd.{BuildEnd}
 use Rattle.world_mem.proofs.Backs.{same_around}
 use Rattle.scons_words.specs.declared.words.Words.{Words}
 use Rattle.scons_top.specs.Builds.{AskForBuild, BeginsStore, EndsBefore, wanted_by, HasBuilt, BuildsOrStops, RunBuilds}
+use Rattle.scons_top.specs.Watching.{Watches}
 use Rattle.scons_top.specs.declared.report.Report.{Report}
 use Rattle.scons_top.specs.declared.stop.Stop.{Stop}
+use Rattle.scons_top.proofs.Causing.{rose_on}
 
 -- looks
 
@@ -89,6 +92,79 @@ module _ {W : Type 0} (m : Meaning W) (w : Wanted) (before after : Map) (a b new
       let two = subst (λ c. SucceededFrom m w after (m.around a) c new behind) counts one in
       let back = subst (λ (map : Map). SucceededFrom m w map (m.around a) (m.counts a) new behind) records two in
       record { left = back.left; kept = back.kept; rest = back.rest; succeeded = back.succeeded; records = back.records; stored = back.stored }
+
+-- looks behind a build that rests
+
+-- all that a stop may leave of the banks it could have left before
+stand_looked : {W : Type 0} (m : Meaning W) (a b : W) (map : Map) → BanksKept m a b → StandFor m a map → StandFor m b map
+stand_looked m a b map same stands banks image = stands banks (λ bank. (same bank).no_more (banks bank) (image bank))
+
+-- what was done, up to what is around and the count of the disk
+record RanTo {W : Type 0} (m : Meaning W) (w : Wanted) (map : Map) (old : W) (end : Around) (disk : ℕ) (behind : Map) (ended : Bool)
+    : Type 0 where
+  left : Around
+  kept : Map
+  rest : LeavesRest (IsLeftAt w.graph (m.around old) map) (m.around old) map left kept
+  runs : Runs w kept (m.counts old) left end
+  records : (Rose (m.counts old).disk_faults disk → ⊥) → KeepsRecords w kept left end runs.steps behind
+  rests : ended ≡ false → Rests w kept left end runs.steps
+
+record SucceededTo {W : Type 0} (m : Meaning W) (w : Wanted) (map : Map) (old : W) (end : Around) (behind : Map) : Type 0 where
+  left : Around
+  kept : Map
+  rest : LeavesRest (IsLeftAt w.graph (m.around old) map) (m.around old) map left kept
+  succeeded : Succeeded w kept (m.counts old) left end
+  records : KeepsRecords w kept left end succeeded.runs.steps behind
+
+module _ {W : Type 0} (m : Meaning W) (w : Wanted) (map : Map) (old a b : W) (behind : Map)
+    (around : m.around b ≡ m.around a) (same : BanksKept m a b) where
+  pub run_on : Later (m.counts a) (m.counts b) → (ended : Bool) → HasRun m w map old a behind ended → HasRun m w map old b behind ended
+  run_on later ended h =
+      let first = (m.counts old).disk_faults in
+      let disk = (m.counts a).disk_faults in
+      let r : RanTo m w map old (m.around a) disk behind ended =
+      record { left = h.left; kept = h.kept; rest = h.rest; runs = h.runs; records = h.records; rests = h.rests } in
+      let on = subst (λ x. RanTo m w map old x disk behind ended) (sym around) r in
+      record {
+        left = on.left;
+        kept = on.kept;
+        rest = on.rest;
+        runs = on.runs;
+        records = λ none. on.records (λ rose. none (rose_on first disk (m.counts b).disk_faults rose later.disk));
+        rests = on.rests;
+        stored = λ is. stand_looked m a b behind same (h.stored is);
+      }
+
+  pub success_on : HasSucceeded m w map old a behind → HasSucceeded m w map old b behind
+  success_on h =
+      let r : SucceededTo m w map old (m.around a) behind =
+      record { left = h.left; kept = h.kept; rest = h.rest; succeeded = h.succeeded; records = h.records } in
+      let on = subst (λ x. SucceededTo m w map old x behind) (sym around) r in
+      record {
+        left = on.left;
+        kept = on.kept;
+        rest = on.rest;
+        succeeded = on.succeeded;
+        records = on.records;
+        stored = stand_looked m a b behind same h.stored;
+      }
+
+pub built_looked : {W : Type 0} (m : Meaning W) (said : Words) (old a b : W) (status : ℕ) → Watches m a b → m.tells b
+    → (m.around a).running ≡ [] → HasBuilt m said old a status → HasBuilt m said old b status
+built_looked m said old a b status watches told idle h =
+    let w = wanted_by said h.graph h.requested in
+    let map = image_in (m.seen old) in
+    let around = around_asked (m.around a) (m.around b) idle (watches.looks.around told) in
+    let same = watches.looks.banks told in
+    record {
+      graph = h.graph;
+      requested = h.requested;
+      are_nodes = h.are_nodes;
+      kept = h.kept;
+      is_ended = h.is_ended;
+      runs = run_on m w map old a b h.kept around same watches.later h.is_ended h.runs;
+      succeeds = λ well. success_on m w map old a b h.kept around same (h.succeeds well);
+    }
 
 pub built_back : {W : Type 0} (m : Meaning W) (said : Words) (a b new : W) (status : ℕ) → m.around b ≡ m.around a → m.counts b ≡ m.counts a
     → image_in (m.seen b) ≡ image_in (m.seen a) → HasBuilt m said b new status → HasBuilt m said a new status

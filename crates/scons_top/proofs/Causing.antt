@@ -254,7 +254,7 @@ world_memory a b r is same = inner_step a b r same (inner_memory r is)
 
 -- faults that are found
 
-rose_on : (a b c : ℕ) → Rose a b → b ≤ c → Rose a c
+pub rose_on : (a b c : ℕ) → Rose a b → b ≤ c → Rose a c
 rose_on a b c r le = let up = r.later in let more = r.more in record { later = omega (arith, up, le); more = omega (arith, more, le) }
 
 rose_from : (a b c : ℕ) → a ≤ b → Rose b c → Rose a c

@@ -1,5 +1,6 @@
 -- The trees of what was asked for: what they leave of the world, and why one isn't printed to its end.
-use Rattle.std.proofs.Common.{◌≡◌, ◌≢◌, ℕ, subst, sym, refl}
+use Rattle.std.proofs.Common.{◌≡◌, ◌≢◌, ◌≤◌, ℕ, Bool, false, List, [], Contains, inl, inr, arith, subst, sym, refl}
+use Rattle.std.proofs.lemmas.Bool.{cases_lt}
 use Rattle.std.specs.Prelude.{Result, Ok, Err, IsErrAnd}
 use Rattle.world_api.specs.Causes.{Later}
 use Rattle.world_api.specs.Counts.{Counts}
@@ -8,7 +9,7 @@ use Rattle.world_api.specs.Meaning.{Meaning}
 use Rattle.rule_graph.specs.declared.build_fault.BuildFault.{BuildFault}
 use Rattle.rule_graph.specs.declared.build_fault.BuildFault.TheVariants as fault
 use Rattle.build_files.specs.declared.end.ListEnd.TheVariants as list_end
-use Rattle.build_run.specs.Causes.{outside}
+use Rattle.build_run.specs.Causes.{Outside, outside, AreCaused, AreTold}
 use Rattle.scons_report.specs.Asked.{HasTreeCause}
 use Rattle.scons_report.specs.Causes.{HasFaultCause as HasListFault}
 use Rattle.scons_report.specs.declared.tree_end.TreeEnd.{TreeEnd}
@@ -71,3 +72,35 @@ pub file_shown : (a b : Counts) (x y : ℕ) (e : TreeEnd) (f : BuildFault) → e
 file_shown a b x y e f is not h =
     let c = of_files a b x y f not (subst (λ (t : TreeEnd). HasTreeCause {T = Unit {0}} a b x y (Err t)) is h) in
     (list_fault a b f c.0, c.1)
+
+-- a build without a fault leaves all counts as they were
+
+still : (x y : ℕ) → x ≤ y → (y ≢ x → ⊥) → y ≡ x
+still x y le not = elim (cases_lt x y) [
+  | inl more ↦ absurd (not (λ same. omega (arith, more, same)))
+  | inr most ↦ omega (arith, le, most)
+]
+
+none_in : (f : BuildFault) → Contains [] f → ⊥
+none_in f h = omega (arith, h.1)
+
+same_counts : (a b : Counts) → Later a b → (b.disk_faults ≢ a.disk_faults → ⊥) → (b.tree_faults ≢ a.tree_faults → ⊥)
+    → (b.start_faults ≢ a.start_faults → ⊥) → (b.action_failures ≢ a.action_failures → ⊥) → b ≡ a
+same_counts a b later disk tree start action =
+    let d = still a.disk_faults b.disk_faults later.disk disk in
+    let t = still a.tree_faults b.tree_faults later.tree tree in
+    let s = still a.start_faults b.start_faults later.start start in
+    let f = still a.action_failures b.action_failures later.action action in
+    λ i. record { disk_faults = d i; tree_faults = t i; start_faults = s i; action_failures = f i }
+
+pub none_found : (a b : Outside) (faults : List BuildFault) (memory : Bool) → faults ≡ [] → memory ≡ false
+    → AreCaused a b faults memory → b ≡ a
+none_found a b faults memory none well caused =
+    let told = subst (λ (fs : List BuildFault). AreTold a b fs) none (caused.told well) in
+    let later = caused.later in
+    let counts = same_counts a.counts b.counts later.counts (λ ne. none_in fault.StoreFault (told.disk ne))
+    (λ ne. let h = told.tree ne in none_in h.0 h.1) (λ ne. let h = told.start ne in none_in h.0 h.1)
+    (λ ne. let h = told.action ne in none_in h.0 h.1) in
+    let out = still a.out b.out later.out (λ ne. none_in fault.OutFault (told.out ne)) in
+    let err = still a.err b.err later.err (λ ne. none_in fault.OutFault (told.err ne)) in
+    λ i. record { counts = counts i; out = out i; err = err i }

@@ -16,7 +16,7 @@ use Rattle.build_means.specs.Records.{records_in}
 use Rattle.build_files.proofs.Left.{none_runs}
 use Rattle.turn_means.specs.Safety.{IsLeft}
 use Rattle.turn_means.proofs.Safety.{calls, stop}
-use Rattle.build_run.specs.Safe.{IsOfLaw, IsSafeMoment, TellsTruth}
+use Rattle.build_run.specs.Safe.{IsOfLaw, IsSafeMoment, StaysTrue, TellsTruth}
 use Rattle.scons_top.specs.Builds.{BeginsStore}
 use Rattle.scons_top.specs.Stopping.{RunsSafely, StepsSafely}
 
@@ -66,10 +66,10 @@ module _ {W : Type 0} (m : Meaning W) where
   pub runs_by : (old new : W) → StepsSafely m old new → RunsSafely m old new
   runs_by old new steps s law truth = let all = steps s law truth in record { moments = all.moments; now = all.now }
 
-  -- looks, many or none
-  pub steps_looked : HasOnlyNow m → (old new : W) → Looks m old new → StepsSafely m old new
+  -- looks, many or none, keep what is true
+  true_looked : HasOnlyNow m → (old new : W) (s : Setting) → Looks m old new → TellsTruth m s old → StaysTrue m s old new
   unfolding IsSince
-  steps_looked only old new looks s law truth = record {
+  true_looked only old new s looks truth = record {
     moments = surely m old new (IsSafeMoment s) (record {
       told = looks.told.told;
       each = λ t a banks left sure. elim (looks.before t (m.clock old) a banks left) [
@@ -85,7 +85,6 @@ module _ {W : Type 0} (m : Meaning W) where
       now = λ t banks image sure. after t sure banks image;
     });
     now = after;
-    law = λ t. law_on s (m.around old) (m.around new) (looks.around t).law (law (looks.told.told t));
   }
     where
       at_look : m.tells new → m.sure new → (a : Around) (banks : Banks) → Asks (m.around old) a → IsImage m old banks
@@ -96,6 +95,22 @@ module _ {W : Type 0} (m : Meaning W) where
       after : TellsTruth m s new
       after t sure banks image =
           at_look t sure (m.around new) banks (looks.around t) (λ bank. (looks.banks t bank).no_more (banks bank) (image bank))
+
+  pub steps_looked : HasOnlyNow m → (old new : W) → Looks m old new → StepsSafely m old new
+  steps_looked only old new looks s law truth =
+      let all = true_looked only old new s looks truth in
+      record {
+        moments = all.moments;
+        now = all.now;
+        law = λ t. law_on s (m.around old) (m.around new) (looks.around t).law (law (looks.told.told t));
+      }
+
+  -- looks behind a run
+  pub runs_looked : HasOnlyNow m → (old mid new : W) → RunsSafely m old mid → Looks m mid new → RunsSafely m old new
+  runs_looked only old mid new first looks s law truth =
+      let one = first s law truth in
+      let two = true_looked only mid new s looks one.now in
+      record { moments = sure_chains m old mid new (IsSafeMoment s) looks.told one.moments two.moments; now = two.now }
 
   -- a removal while nothing runs
   pub steps_removed : (old new : W) (path : Path) → (m.tells old → (m.around old).running ≡ []) → Told m old new

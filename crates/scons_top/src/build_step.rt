@@ -69,9 +69,9 @@ pub(crate) fn build_requests<W: World, O: Sink, E: Sink>(
     );
     if has_trees(words, &end) {
         let started = end.started.as_slice();
-        return tell_trees(
+        return Ok(tell_trees(
             alloc, graph, declared, words, requests, started, world, out, err,
-        );
+        ));
     }
     let written = tell_end(alloc, graph, words, requests, &end, out);
     Ok(closed(alloc, end.faults, end.skipped, end.memory, written))

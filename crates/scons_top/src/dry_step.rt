@@ -1,6 +1,6 @@
 //! A dry run: what a build would start is listed.
-ghost use Rattle.std.specs.Prelude.{◌≡◌, ◌++◌, ◌∷◌, [], true, false, IfOk};
-ghost use Rattle.scons_top.specs.Faults.{EarlyOnlyIf};
+ghost use Rattle.std.specs.Prelude.{◌≡◌, ◌++◌, ◌∷◌, [], true, false, IfOk, IfErr};
+ghost use Rattle.scons_top.specs.Faults.{IsLateStop, EarlyOnlyIf};
 ghost use Rattle.world_api.specs.Statuses.{HasStatus};
 ghost use Rattle.scons_report.specs.Causes.{HasListCause};
 ghost use Rattle.sign_store.specs.Reached.{HasFaultCause};
@@ -110,6 +110,7 @@ pub(crate) fn end_with<O: Sink, E: Sink>(
     out: &mut O,
     err: &mut E,
 ) -> Result<Report, Stop>
+    ensures late { IfErr result IsLateStop }
     ensures faults { IfOk result (λ report. EarlyOnlyIf ⊥ report.faults) }
     ensures status { IfOk result (λ report. HasStatus report.status report.faults) }
     ensures reports { ListEnds O.meaning E.meaning fault out.old err.old out.new err.new result }

@@ -1,5 +1,6 @@
 //! The trees of what was asked for, behind a build without a fault.
 ghost use Rattle.std.specs.Prelude.{IfErr, IfOk};
+ghost use Rattle.scons_top.specs.Causes.{RunCauses};
 ghost use Rattle.scons_top.specs.Faults.{IsLateStop, EarlyOnlyIf};
 ghost use Rattle.scons_top.specs.Stops.{Reports};
 ghost use Rattle.scons_top.specs.Trees.{AreTreesCaused};
@@ -7,7 +8,7 @@ ghost use Rattle.scons_top.specs.Watching.{Watches};
 ghost use Rattle.world_api.specs.Statuses.{HasStatus};
 
 use crate::dry_step::end_with;
-use crate::ending::{good, tell_requests};
+use crate::ending::{ended, good, tell_requests};
 use crate::printed::say;
 use crate::report::Report;
 use crate::requests::Request;
@@ -20,9 +21,34 @@ use std::alloc::Global;
 use world_api::{Sink, World};
 
 /// Writes the last lines of a build without a fault, and in front of the end line the tree of each request in order. The first so
-/// many rules of the graph are the declared ones. A fault in it ends the run as one of a build does.
-#[tactic(auto, using(crate::proofs::Watching::standing))]
+/// many rules of the graph are the declared ones. What was built stands whatever comes, so there is a report of it.
 pub(crate) fn tell_trees<W: World, O: Sink, E: Sink>(
+    alloc: Global,
+    graph: &mut Graph,
+    declared: u32,
+    words: &Words,
+    requests: &[Request],
+    started: &[RuleId],
+    world: &mut W,
+    out: &mut O,
+    err: &mut E,
+) -> Report
+    ensures watches { Watches W.meaning world.old world.new }
+    ensures causes { RunCauses W.meaning O.meaning E.meaning world.old out.old err.old world.new out.new err.new result }
+    ensures faults { EarlyOnlyIf ⊥ result.faults }
+    ensures status { HasStatus result.status result.faults }
+{
+    match show_trees(
+        alloc, graph, declared, words, requests, started, world, out, err,
+    ) {
+        Ok(report) => report,
+        Err(stop) => ended(alloc, stop, err),
+    }
+}
+
+/// The same, up to a refusal of standard output or want of memory. A fault in a tree ends the run as one of a build does.
+#[tactic(auto, using(crate::proofs::Watching::standing))]
+fn show_trees<W: World, O: Sink, E: Sink>(
     alloc: Global,
     graph: &mut Graph,
     declared: u32,
@@ -45,8 +71,10 @@ pub(crate) fn tell_trees<W: World, O: Sink, E: Sink>(
             say(out, words, done_text(alloc))?;
             Ok(good(alloc))
         }
-        Err(TreeEnd::Fault(BuildFault::OutFault)) => Err(Stop::Build(BuildFault::OutFault)),
-        Err(TreeEnd::Fault(fault)) => end_with(alloc, words, fault, out, err),
+        Err(TreeEnd::Fault(fault)) => match fault {
+            BuildFault::OutFault => Err(Stop::Build(BuildFault::OutFault)),
+            _ => end_with(alloc, words, fault, out, err),
+        },
         Err(TreeEnd::Memory) => Err(Stop::Memory),
     }
 }

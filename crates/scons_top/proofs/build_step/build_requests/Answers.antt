@@ -1,11 +1,13 @@
-use Rattle.scons_top.proofs.Stopping.{runs_by, runs_on, steps_begun, steps_here}
+use Rattle.scons_top.proofs.Stopping.{runs_by, runs_looked, runs_on, steps_begun, steps_here}
 use Rattle.std.proofs.Common.{◌∙◌, inl, refl, subst, sym}
 use Rattle.scons_top.proofs.Causing.{same_world, same_out, exit_report, report_memory, world_stop, sink_stop, stop_back, caused_back, build_found}
 use Rattle.world_api.proofs.Looking.{looks_same}
 use Rattle.sign_store.specs.Stores.{map_of}
 use Rattle.build_run.proofs.Goings.{passes_on}
 use Rattle.scons_top.specs.Requested.{AreNodes}
-use Rattle.scons_top.proofs.Building.{build_done, stops, stops_begun}
+use Rattle.scons_top.proofs.Building.{build_done, built_looked, stops, stops_begun}
+use Rattle.scons_top.proofs.Shown.{none_found}
+use Rattle.scons_top.proofs.Watching.{idle_of, passes_of}
 use Rattle.scons_top.proofs.Requesting.{are_below_all}
 use Rattle.scons_top.proofs.build_step.build_requests.Goals as goal
 
@@ -84,3 +86,59 @@ returns-clause-safe g c = λ asks.
     runs_on m old begun.new.world end.new.world end.ensures.told
     (steps_begun m g.met.W.Disk.reads_as old begun.new.world begun.ensures.goes.passes.told begun.ensures.begins)
     (λ s law truth. end.ensures.safe s law truth (are_below_all graph requested nodes))
+
+-- behind a build without a fault
+
+pub returns-then-has_trees-clause-passes : goal.returns-then-has_trees-clause-passes
+returns-then-has_trees-clause-passes g c =
+    let m = g.W.Disk.meaning in
+    let end = c.build-end in
+    passes_on m _ _ _ c.begin_store.ensures.goes.passes (passes_on m _ end.new.world c.tell_trees.new.world
+    (record { told = end.ensures.told; later = end.ensures.later }) (passes_of m _ _ c.tell_trees.ensures.watches))
+
+pub returns-then-has_trees-clause-idle : goal.returns-then-has_trees-clause-idle
+returns-then-has_trees-clause-idle g c = idle_of g.W.Disk.meaning _ _ c.tell_trees.ensures.watches c.build-end.ensures.idle
+
+pub returns-then-has_trees-clause-reports : goal.returns-then-has_trees-clause-reports
+returns-then-has_trees-clause-reports g c =
+    let is = c.if-has_trees.true in
+    let has = c.has_trees.ensures in
+    let none = none_found _ _ _ _ (has.faults is) (has.memory is) c.build-end.ensures.causes in
+    let same = same_out _ _ _ _ c.in_ok-say.ensures.step ∙ same_world _ _ _ _ c.in_ok-store.ensures.step in
+    caused_back _ _ _ c.tell_trees.result (none ∙ same) c.tell_trees.ensures.causes
+
+pub returns-then-has_trees-clause-builds : goal.returns-then-has_trees-clause-builds
+returns-then-has_trees-clause-builds g c = λ asks ask tells sure.
+    let m = g.W.Disk.meaning in
+    let said = c.args.words.now in
+    let old = c.args.world.now in
+    let graph = c.args.graph.now in
+    let requested = c.as_slice.result.now in
+    let nodes = subst (AreNodes graph) (sym c.as_slice.ensures.value) (c.in_ok-nodes.ensures graph asks) in
+    let store = c.in_ok-store in
+    let end = c.build-end in
+    let watches = c.tell_trees.ensures.watches in
+    let here = watches.looks.told.told tells in
+    let told = end.ensures.told.told here in
+    let is = c.if-has_trees.true in
+    let has = c.has_trees.ensures in
+    let status = c.tell_trees.result.status in
+    built_looked m said old end.new.world c.tell_trees.new.world status watches tells (end.ensures.idle here)
+    (build_done m said graph requested (map_of store.store) old c.begin_store.new.world end.new.world (map_of end.new.store) end.result
+    status store.ensures.begins told store.ensures.step (store.ensures.map told) (are_below_all graph requested nodes)
+    (λ zero. (has.faults is, has.memory is)) here (watches.looks.told.sure tells sure) end.ensures.runs end.ensures.succeeds)
+
+pub returns-then-has_trees-clause-safe : goal.returns-then-has_trees-clause-safe
+returns-then-has_trees-clause-safe g c = λ asks.
+    let m = g.W.Disk.meaning in
+    let graph = c.args.graph.now in
+    let requested = c.as_slice.result.now in
+    let nodes = subst (AreNodes graph) (sym c.as_slice.ensures.value) (c.in_ok-nodes.ensures graph asks) in
+    let old = c.args.world.now in
+    let begun = c.begin_store in
+    let end = c.build-end in
+    runs_looked m g.met.W.Disk.only_now old end.new.world c.tell_trees.new.world
+    (runs_on m old begun.new.world end.new.world end.ensures.told
+    (steps_begun m g.met.W.Disk.reads_as old begun.new.world begun.ensures.goes.passes.told begun.ensures.begins)
+    (λ s law truth. end.ensures.safe s law truth (are_below_all graph requested nodes)))
+    c.tell_trees.ensures.watches.looks

@@ -1,4 +1,4 @@
-use Rattle.scons_top.proofs.Causing.{world_found}
+use Rattle.scons_top.proofs.Causing.{memory_late, world_found}
 use Rattle.scons_top.proofs.Reporting.{listed, list_wanting}
 use Rattle.scons_top.proofs.dry_step.end_with.Goals as goal
 
@@ -13,3 +13,9 @@ returns-clause-reports g c = λ old new h.
     let first = world_found old new _ _ c.args.fault h in
     let all = listed g.E.Sink.meaning _ new _ _ _ _ c.args.fault _ _ _ _ _ c.empty-faults.ensures c.in_ok-push.ensures.ok c.print-printed.ensures.ok c.print-printed.ensures.err c.add_unprinted-lost.ensures first in
     c.closed.ensures.causes _ new _ _ _ all c.tell_faulty-written.ensures.step
+
+pub returns-in_err-text-clause-late : goal.returns-in_err-text-clause-late
+returns-in_err-text-clause-late g c = memory_late c.from_residual.result c.from_residual.ensures.1
+
+pub returns-in_err-push-clause-late : goal.returns-in_err-push-clause-late
+returns-in_err-push-clause-late g c = memory_late c.from_residual-in_err-push.result c.from_residual-in_err-push.ensures.1

@@ -1,0 +1,15 @@
+use Rattle.std.proofs.Common.{◌∙◌}
+use Rattle.scons_top.proofs.Causing.{same_out, report_back}
+use Rattle.scons_top.proofs.Shown.{file_shown}
+use Rattle.scons_top.proofs.tree_step.show_trees.Goals as goal
+
+pub returns-in_default-clause-reports : goal.returns-in_default-clause-reports
+returns-in_default-clause-reports g c =
+    let i = c.in-Err-Fault in
+    let old = g.W.Disk.meaning.counts c.args.world.now in
+    let new = g.W.Disk.meaning.counts c.print_trees.new.world in
+    let before = g.O.Sink.meaning.faults c.tell_requests.new.out in
+    let after = g.O.Sink.meaning.faults c.print_trees.new.out in
+    let cause = file_shown old new before after i.field-0 i.fault i.field-0-is c.in_default.not-OutFault i.ensures.cause in
+    report_back _ _ _ c.end_with.result (same_out old (g.O.Sink.meaning.faults c.args.out.now) after _ (cause.1 ∙ c.in_ok-tell_requests.ensures.step))
+    (c.end_with.ensures.reports old new cause.0)
