@@ -62,3 +62,9 @@ crates_of_program() {
     END { visit("scons_cli") }
   ' "$top/crates.txt"
 }
+
+# keeps_proofs: whether this kit's `rt ci` takes the names of crates, and keeps on the machine what it proved: rattle-kit-13f does both,
+# rattle-kit-13b neither.
+keeps_proofs() {
+  grep -q '^class Kept' "$(realpath "$(command -v rt)")"
+}

@@ -92,6 +92,41 @@ fn make_headers<T: Wait + Drop, G: Gate + Drop>(told: &mut Told, trial: &mut Tri
     trial.show(told, "a.o");
 }
 
+/// A header is written from a source, whose text changes and makes the same header again. So the object that includes it is made by
+/// the first run alone.
+pub(crate) fn put_written<T>(alloc: Global, rt: T, told: &mut Told)
+where
+    T: Threads + Wait + Clone + Send + Sync + Drop + 'static,
+{
+    let name = "a header that is written";
+    told.put_all(&["== ", name, "\n"]);
+    match Trial::new(rt, written(alloc, told), NoGate) {
+        Some(mut trial) => write_header(told, &mut trial),
+        None => told.refuse(),
+    }
+    told.end(name);
+}
+
+fn written(alloc: Global, told: &mut Told) -> Start {
+    let mut start = Start::new(alloc);
+    start.file(
+        told,
+        "SConstruct",
+        "Substfile('c.h.in', SUBST_DICT={'A': 'BB', 'B': 'c'})\nObject('u.c')\n",
+    );
+    start.file(told, "c.h.in", "A-B\n");
+    start.file(told, "u.c", "#include \"c.h\"\n");
+    start
+}
+
+fn write_header<T: Wait + Drop, G: Gate + Drop>(told: &mut Told, trial: &mut Trial<T, G>) {
+    trial.run(told, "-Q -j2");
+    trial.show(told, "c.h");
+    trial.edit(told, "c.h.in", "cc-B\n");
+    trial.run(told, "-Q -j2");
+    trial.show(told, "c.h");
+}
+
 /// Of two targets that a third is made of, one fails as long as its source holds `0`.
 pub(crate) fn put_failed<T>(alloc: Global, rt: T, told: &mut Told)
 where
