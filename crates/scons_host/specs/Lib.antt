@@ -1,4 +1,5 @@
 pub mod Causes
+pub mod Kinds
 pub mod Laws
 pub mod Looking
 pub mod Prints

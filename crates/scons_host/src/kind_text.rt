@@ -1,7 +1,12 @@
 //! How a fault of a script is told: the name of its kind, and what the kind keeps, after a space each.
+ghost use Rattle.std.specs.Prelude.{◌≡◌, IfOk, string_bytes};
+ghost use Rattle.std.specs.Fmt.{decimal};
+ghost use Rattle.scons_host.specs.Kinds.{IsKindText, IsEvalText, named, two_rules_text, named_twice, mismatch_text, lex_text, parse_text, value_text, value_kind_text, name_text, path_text, variant_text, subst_text};
+
 use crate::end::{FirstRule, ReadKind};
 use env_subst::SubstFault;
-use py_heap::{Key, ValueFault};
+use py_heap::{Key, ValueFault, ValueKind};
+use py_lex::LexKind;
 use py_meaning::EvalKind;
 use py_parse::ParseKind;
 use scons_base::{Memory, PathFault, PathText, Text};
@@ -13,14 +18,13 @@ type Told = Result<String, Memory>;
 
 impl ReadKind {
     /// The name of the innermost kind, and each value that it keeps.
-    pub fn text(&self, alloc: Global) -> Result<String, Memory> {
+    pub fn text(&self, alloc: Global) -> Result<String, Memory>
+        ensures { IfOk result (λ text. IsKindText self.now (string_bytes text)) }
+    {
         match self {
             ReadKind::NoScript(path) => with_path(alloc, "NoScript", path),
-            ReadKind::Lex(kind) => Ok(format!(in alloc; "{kind:?}")?),
-            ReadKind::Parse(ParseKind::OutOfSubset(word)) => {
-                with(alloc, "OutOfSubset", word.word())
-            }
-            ReadKind::Parse(kind) => Ok(format!(in alloc; "{kind:?}")?),
+            ReadKind::Lex(kind) => word(alloc, lex_name(*kind)),
+            ReadKind::Parse(kind) => parse_text(alloc, *kind),
             ReadKind::Eval(kind) => eval_text(alloc, kind),
             ReadKind::Name(fault) => name_text(alloc, fault),
             ReadKind::Key(name) => with_text(alloc, "Key", name),
@@ -30,39 +34,79 @@ impl ReadKind {
 }
 
 /// The target, the line of its first rule, and the script of that where it is another one.
-fn two_rules(alloc: Global, target: &PathText, first: &FirstRule) -> Told {
+fn two_rules(alloc: Global, target: &PathText, first: &FirstRule) -> Told
+    ensures { IfOk result (λ text. string_bytes text ≡ two_rules_text target.now first.now) }
+{
     let target = target.as_str();
+    let line = first.line;
     match &first.script {
-        None => Ok(format!(in alloc; "TwoRules {target} {}", first.line)?),
-        Some(script) => Ok(format!(in alloc;
-            "TwoRules {target} {} {}",
-            first.line,
-            script.as_str()
-        )?),
+        None => Ok(format!(in alloc; "TwoRules {target} {line}")?),
+        Some(script) => {
+            let script = script.as_str();
+            Ok(format!(in alloc; "TwoRules {target} {line} {script}")?)
+        }
     }
 }
 
-fn word(alloc: Global, name: &str) -> Told {
+fn word(alloc: Global, name: &str) -> Told
+    ensures { IfOk result (λ text. string_bytes text ≡ name.now) }
+{
     Ok(String::from_str(alloc, name)?)
 }
 
-fn with(alloc: Global, name: &str, kept: &str) -> Told {
+fn with(alloc: Global, name: &str, kept: &str) -> Told
+    ensures { IfOk result (λ text. string_bytes text ≡ named name.now kept.now) }
+{
     Ok(format!(in alloc; "{name} {kept}")?)
 }
 
-fn with_text(alloc: Global, name: &str, kept: &Text) -> Told {
+fn with_text(alloc: Global, name: &str, kept: &Text) -> Told
+    ensures { IfOk result (λ text. string_bytes text ≡ named name.now kept.now) }
+{
     with(alloc, name, kept.as_str())
 }
 
-fn with_path(alloc: Global, name: &str, kept: &PathText) -> Told {
+fn with_path(alloc: Global, name: &str, kept: &PathText) -> Told
+    ensures { IfOk result (λ text. string_bytes text ≡ named name.now kept.now) }
+{
     with(alloc, name, kept.as_str())
 }
 
-fn with_number(alloc: Global, name: &str, kept: u64) -> Told {
+fn with_number(alloc: Global, name: &str, kept: u64) -> Told
+    ensures { IfOk result (λ text. string_bytes text ≡ named name.now (decimal kept)) }
+{
     Ok(format!(in alloc; "{name} {kept}")?)
 }
 
-fn eval_text(alloc: Global, kind: &EvalKind) -> Told {
+fn lex_name(kind: LexKind) -> &'static str
+    ensures { result.now ≡ lex_text kind }
+{
+    match kind {
+        LexKind::NotUtf8 => "NotUtf8",
+        LexKind::Tab => "Tab",
+        LexKind::Indent => "Indent",
+        LexKind::Unclosed => "Unclosed",
+        LexKind::BadNumber => "BadNumber",
+        LexKind::BadEscape => "BadEscape",
+        LexKind::BadByte => "BadByte",
+        LexKind::BadField => "BadField",
+        LexKind::TooLong => "TooLong",
+    }
+}
+
+fn parse_text(alloc: Global, kind: ParseKind) -> Told
+    ensures { IfOk result (λ text. string_bytes text ≡ parse_text kind) }
+{
+    match kind {
+        ParseKind::OutOfSubset(word) => with(alloc, "OutOfSubset", word.word()),
+        ParseKind::TooDeep => word(alloc, "TooDeep"),
+        ParseKind::Unexpected => word(alloc, "Unexpected"),
+    }
+}
+
+fn eval_text(alloc: Global, kind: &EvalKind) -> Told
+    ensures { IfOk result (λ text. IsEvalText kind.now (string_bytes text)) }
+{
     match kind {
         EvalKind::Name(name) => with_text(alloc, "Name", name),
         EvalKind::Value(fault) => value_text(alloc, fault),
@@ -73,15 +117,15 @@ fn eval_text(alloc: Global, kind: &EvalKind) -> Told {
     }
 }
 
-fn value_text(alloc: Global, fault: &ValueFault) -> Told {
+fn value_text(alloc: Global, fault: &ValueFault) -> Told
+    ensures { IfOk result (λ text. string_bytes text ≡ value_text fault.now) }
+{
     match fault {
-        ValueFault::Mismatch(first, second) => {
-            Ok(format!(in alloc; "Mismatch {first:?} {second:?}")?)
-        }
+        ValueFault::Mismatch(first, second) => mismatch_text(alloc, *first, *second),
         ValueFault::Index(place, length) => Ok(format!(in alloc; "Index {place} {length}")?),
         ValueFault::Key(Key::Int(number)) => Ok(format!(in alloc; "Key {number}")?),
         ValueFault::Key(Key::Text(text)) => with_text(alloc, "Key", text),
-        ValueFault::KeyKind(kind) => Ok(format!(in alloc; "Key {kind:?}")?),
+        ValueFault::KeyKind(kind) => with(alloc, "Key", kind_name(*kind)),
         ValueFault::Overflow => word(alloc, "Overflow"),
         ValueFault::Zero => word(alloc, "Zero"),
         ValueFault::BadText => word(alloc, "BadText"),
@@ -93,7 +137,34 @@ fn value_text(alloc: Global, fault: &ValueFault) -> Told {
     }
 }
 
-fn name_text(alloc: Global, fault: &NameFault) -> Told {
+fn mismatch_text(alloc: Global, first: ValueKind, second: ValueKind) -> Told
+    ensures { IfOk result (λ text. string_bytes text ≡ mismatch_text first second) }
+{
+    let first = kind_name(first);
+    let second = kind_name(second);
+    Ok(format!(in alloc; "Mismatch {first} {second}")?)
+}
+
+fn kind_name(kind: ValueKind) -> &'static str
+    ensures { result.now ≡ value_kind_text kind }
+{
+    match kind {
+        ValueKind::Nil => "Nil",
+        ValueKind::Bool => "Bool",
+        ValueKind::Int => "Int",
+        ValueKind::Text => "Text",
+        ValueKind::List => "List",
+        ValueKind::Tuple => "Tuple",
+        ValueKind::Dict => "Dict",
+        ValueKind::Func => "Func",
+        ValueKind::Builtin => "Builtin",
+        ValueKind::Object => "Object",
+    }
+}
+
+fn name_text(alloc: Global, fault: &NameFault) -> Told
+    ensures { IfOk result (λ text. string_bytes text ≡ name_text fault.now) }
+{
     match fault {
         NameFault::BadArgument(name) => with_text(alloc, "BadArgument", name),
         NameFault::OutOfProfile(name) => with_text(alloc, "OutOfProfile", name),
@@ -115,7 +186,9 @@ fn name_text(alloc: Global, fault: &NameFault) -> Told {
     }
 }
 
-fn path_text(alloc: Global, fault: &PathFault) -> Told {
+fn path_text(alloc: Global, fault: &PathFault) -> Told
+    ensures { IfOk result (λ text. string_bytes text ≡ path_text fault.now) }
+{
     match fault {
         PathFault::Empty => word(alloc, "Empty"),
         PathFault::BadByte(place) => with_number(alloc, "BadByte", *place as u64),
@@ -125,7 +198,9 @@ fn path_text(alloc: Global, fault: &PathFault) -> Told {
     }
 }
 
-fn variant_text(alloc: Global, fault: &VariantFault) -> Told {
+fn variant_text(alloc: Global, fault: &VariantFault) -> Told
+    ensures { IfOk result (λ text. string_bytes text ≡ variant_text fault.now) }
+{
     match fault {
         VariantFault::Nested => word(alloc, "Nested"),
         VariantFault::Twice => word(alloc, "Twice"),
@@ -134,19 +209,23 @@ fn variant_text(alloc: Global, fault: &VariantFault) -> Told {
     }
 }
 
-fn subst_text(alloc: Global, fault: &SubstFault) -> Told {
+fn subst_text(alloc: Global, fault: &SubstFault) -> Told
+    ensures { IfOk result (λ text. string_bytes text ≡ subst_text fault.now) }
+{
     match fault {
-        SubstFault::BadBrace { name, at } => {
-            Ok(format!(in alloc; "BadBrace {} {at}", name.as_str())?)
-        }
-        SubstFault::BadAttr { name, at } => Ok(format!(in alloc;
-            "BadAttr {} {at}",
-            name.as_str()
-        )?),
+        SubstFault::BadBrace { name, at } => with_place(alloc, "BadBrace", name, *at),
+        SubstFault::BadAttr { name, at } => with_place(alloc, "BadAttr", name, *at),
         SubstFault::Marks(piece) => with_number(alloc, "Marks", u64::from(*piece)),
         SubstFault::TooLong(length) => with_number(alloc, "TooLong", *length),
         SubstFault::TooMany(count) => with_number(alloc, "TooMany", *count),
         SubstFault::BadPath(fault) => path_text(alloc, fault),
         SubstFault::Memory => word(alloc, "Memory"),
     }
+}
+
+fn with_place(alloc: Global, name: &str, variable: &Text, at: u64) -> Told
+    ensures { IfOk result (λ text. string_bytes text ≡ named_twice name.now variable.now (decimal at)) }
+{
+    let variable = variable.as_str();
+    Ok(format!(in alloc; "{name} {variable} {at}")?)
 }
