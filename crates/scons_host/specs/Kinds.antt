@@ -1,5 +1,5 @@
 -- How a fault of a script is told: the name of its innermost kind, and what the kind keeps, after a space each.
-use Rattle.std.specs.Prelude.{◌≡◌, ℕ, List, ◌++◌, codes, Some, None, Option}
+use Rattle.std.specs.Prelude.{◌≡◌, ℕ, ℤ, List, ◌++◌, codes, Some, None, Option}
 use Rattle.std.specs.Fmt.{decimal, signed_decimal}
 use Rattle.scons_base.specs.declared.fault.PathFault.{PathFault}
 use Rattle.scons_base.specs.declared.fault.PathFault.TheVariants as path
@@ -69,9 +69,12 @@ key_text (key.Text text) = text
 abbrev pub mismatch_text : ValueKind → ValueKind → List ℕ
 mismatch_text first second = named_twice (codes "Mismatch") (value_kind_text first) (value_kind_text second)
 
+abbrev pub index_text : ℤ → ℕ → List ℕ
+index_text place length = named_twice (codes "Index") (signed_decimal place) (decimal length)
+
 abbrev pub value_text : ValueFault → List ℕ
 value_text (value.Mismatch first second) = mismatch_text first second
-value_text (value.Index place length) = named_twice (codes "Index") (signed_decimal place) (decimal length)
+value_text (value.Index place length) = index_text place length
 value_text (value.Key key) = named (codes "Key") (key_text key)
 value_text (value.KeyKind kind) = named (codes "Key") (value_kind_text kind)
 value_text value.Overflow = codes "Overflow"

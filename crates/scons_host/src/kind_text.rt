@@ -1,7 +1,7 @@
 //! How a fault of a script is told: the name of its kind, and what the kind keeps, after a space each.
 ghost use Rattle.std.specs.Prelude.{◌≡◌, IfOk, string_bytes};
 ghost use Rattle.std.specs.Fmt.{decimal};
-ghost use Rattle.scons_host.specs.Kinds.{IsKindText, IsEvalText, named, two_rules_text, named_twice, mismatch_text, lex_text, parse_text, value_text, value_kind_text, name_text, path_text, variant_text, subst_text};
+ghost use Rattle.scons_host.specs.Kinds.{IsKindText, IsEvalText, named, two_rules_text, named_twice, mismatch_text, index_text, lex_text, parse_text, value_text, value_kind_text, name_text, path_text, variant_text, subst_text};
 
 use crate::end::{FirstRule, ReadKind};
 use env_subst::SubstFault;
@@ -122,7 +122,7 @@ fn value_text(alloc: Global, fault: &ValueFault) -> Told
 {
     match fault {
         ValueFault::Mismatch(first, second) => mismatch_text(alloc, *first, *second),
-        ValueFault::Index(place, length) => Ok(format!(in alloc; "Index {place} {length}")?),
+        ValueFault::Index(place, length) => index_text(alloc, *place, *length),
         ValueFault::Key(Key::Int(number)) => Ok(format!(in alloc; "Key {number}")?),
         ValueFault::Key(Key::Text(text)) => with_text(alloc, "Key", text),
         ValueFault::KeyKind(kind) => with(alloc, "Key", kind_name(*kind)),
@@ -143,6 +143,12 @@ fn mismatch_text(alloc: Global, first: ValueKind, second: ValueKind) -> Told
     let first = kind_name(first);
     let second = kind_name(second);
     Ok(format!(in alloc; "Mismatch {first} {second}")?)
+}
+
+fn index_text(alloc: Global, place: i64, length: u64) -> Told
+    ensures { IfOk result (λ text. string_bytes text ≡ index_text place length) }
+{
+    Ok(format!(in alloc; "Index {place} {length}")?)
 }
 
 fn kind_name(kind: ValueKind) -> &'static str
