@@ -3,3 +3,4 @@ pub mod Values
 pub mod Switches
 pub mod Arguments
 pub mod Readings
+pub mod Names

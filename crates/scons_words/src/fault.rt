@@ -22,7 +22,13 @@ pub enum UsageKind {
 }
 
 impl UsageKind {
-    pub fn name(self) -> &'static str {
+    ghost use Rattle.std.specs.Prelude.{◌≡◌};
+    ghost use Rattle.scons_words.specs.Names.{usage_name};
+
+    /// The name by which it is told.
+    pub fn name(self) -> &'static str
+        ensures { result.now ≡ usage_name self }
+    {
         match self {
             UsageKind::Unknown => "Unknown",
             UsageKind::NeedsValue => "NeedsValue",
