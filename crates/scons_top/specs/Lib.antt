@@ -5,5 +5,6 @@ pub mod Faults
 pub mod Requested
 pub mod Stopping
 pub mod Stops
+pub mod Texts
 pub mod Trees
 pub mod Watching
