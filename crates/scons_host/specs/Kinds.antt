@@ -136,10 +136,13 @@ name_text (name.SelfSource path) = named (codes "SelfSource") path
 name_text (name.Subst fault) = subst_text fault
 name_text name.Memory = codes "Memory"
 
+abbrev pub other_script_text : List ℕ → ℕ → List ℕ → List ℕ
+other_script_text target line script = codes "TwoRules " ++ target ++ codes " " ++ decimal line ++ codes " " ++ script
+
 -- a target, the line of its first rule, and the script of that where it is another one
 abbrev pub two_rules_by : List ℕ → ℕ → Option (List ℕ) → List ℕ
 two_rules_by target line None = named_twice (codes "TwoRules") target (decimal line)
-two_rules_by target line (Some script) = named_twice (codes "TwoRules") target (decimal line) ++ codes " " ++ script
+two_rules_by target line (Some script) = other_script_text target line script
 
 abbrev pub two_rules_text : List ℕ → FirstRule → List ℕ
 two_rules_text target first = two_rules_by target first.line first.script

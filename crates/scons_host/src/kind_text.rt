@@ -1,7 +1,7 @@
 //! How a fault of a script is told: the name of its kind, and what the kind keeps, after a space each.
 ghost use Rattle.std.specs.Prelude.{◌≡◌, IfOk, string_bytes};
 ghost use Rattle.std.specs.Fmt.{decimal};
-ghost use Rattle.scons_host.specs.Kinds.{IsKindText, IsEvalText, named, two_rules_text, named_twice, mismatch_text, index_text, lex_text, parse_text, value_text, value_kind_text, name_text, path_text, variant_text, subst_text};
+ghost use Rattle.scons_host.specs.Kinds.{IsKindText, IsEvalText, named, two_rules_text, other_script_text, named_twice, mismatch_text, index_text, lex_text, parse_text, value_text, value_kind_text, name_text, path_text, variant_text, subst_text};
 
 use crate::end::{FirstRule, ReadKind};
 use env_subst::SubstFault;
@@ -38,14 +38,16 @@ fn two_rules(alloc: Global, target: &PathText, first: &FirstRule) -> Told
     ensures { IfOk result (λ text. string_bytes text ≡ two_rules_text target.now first.now) }
 {
     let target = target.as_str();
-    let line = first.line;
     match &first.script {
-        None => Ok(format!(in alloc; "TwoRules {target} {line}")?),
-        Some(script) => {
-            let script = script.as_str();
-            Ok(format!(in alloc; "TwoRules {target} {line} {script}")?)
-        }
+        None => with_place(alloc, "TwoRules", target, u64::from(first.line)),
+        Some(script) => other_script(alloc, target, first.line, script.as_str()),
     }
+}
+
+fn other_script(alloc: Global, target: &str, line: u32, script: &str) -> Told
+    ensures { IfOk result (λ text. string_bytes text ≡ other_script_text target.now line script.now) }
+{
+    Ok(format!(in alloc; "TwoRules {target} {line} {script}")?)
 }
 
 fn word(alloc: Global, name: &str) -> Told
@@ -219,8 +221,8 @@ fn subst_text(alloc: Global, fault: &SubstFault) -> Told
     ensures { IfOk result (λ text. string_bytes text ≡ subst_text fault.now) }
 {
     match fault {
-        SubstFault::BadBrace { name, at } => with_place(alloc, "BadBrace", name, *at),
-        SubstFault::BadAttr { name, at } => with_place(alloc, "BadAttr", name, *at),
+        SubstFault::BadBrace { name, at } => with_place(alloc, "BadBrace", name.as_str(), *at),
+        SubstFault::BadAttr { name, at } => with_place(alloc, "BadAttr", name.as_str(), *at),
         SubstFault::Marks(piece) => with_number(alloc, "Marks", u64::from(*piece)),
         SubstFault::TooLong(length) => with_number(alloc, "TooLong", *length),
         SubstFault::TooMany(count) => with_number(alloc, "TooMany", *count),
@@ -229,9 +231,8 @@ fn subst_text(alloc: Global, fault: &SubstFault) -> Told
     }
 }
 
-fn with_place(alloc: Global, name: &str, variable: &Text, at: u64) -> Told
-    ensures { IfOk result (λ text. string_bytes text ≡ named_twice name.now variable.now (decimal at)) }
+fn with_place(alloc: Global, name: &str, kept: &str, at: u64) -> Told
+    ensures { IfOk result (λ text. string_bytes text ≡ named_twice name.now kept.now (decimal at)) }
 {
-    let variable = variable.as_str();
-    Ok(format!(in alloc; "{name} {variable} {at}")?)
+    Ok(format!(in alloc; "{name} {kept} {at}")?)
 }
