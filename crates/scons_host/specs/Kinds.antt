@@ -1,5 +1,5 @@
 -- How a fault of a script is told: the name of its innermost kind, and what the kind keeps, after a space each.
-use Rattle.std.specs.Prelude.{◌≡◌, ℕ, ℤ, List, ◌++◌, codes, Some, None, Option}
+use Rattle.std.specs.Prelude.{◌≡◌, ℕ, ℤ, List, [], ◌∷◌, ◌++◌, codes, Some, None, Option}
 use Rattle.std.specs.Fmt.{decimal, signed_decimal}
 use Rattle.scons_base.specs.declared.fault.PathFault.{PathFault}
 use Rattle.scons_base.specs.declared.fault.PathFault.TheVariants as path
@@ -49,6 +49,11 @@ abbrev pub parse_text : ParseKind → List ℕ
 parse_text (parse.OutOfSubset word) = named (codes "OutOfSubset") (spelling_of word)
 parse_text parse.TooDeep = codes "TooDeep"
 parse_text parse.Unexpected = codes "Unexpected"
+
+-- what is told of the place of a fault, if anything, behind its kind
+abbrev pub told_behind : List ℕ → List ℕ → List ℕ
+told_behind kind [] = kind
+told_behind kind (b ∷ told) = named kind (b ∷ told)
 
 abbrev pub value_kind_text : ValueKind → List ℕ
 value_kind_text value_kind.Nil = codes "Nil"
@@ -149,8 +154,8 @@ two_rules_text target first = two_rules_by target first.line first.script
 
 abbrev pub IsKindText : ReadKind → List ℕ → Type 0
 IsKindText (read.NoScript path) text = text ≡ named (codes "NoScript") path
-IsKindText (read.Lex kind) text = text ≡ lex_text kind
-IsKindText (read.Parse kind) text = text ≡ parse_text kind
+IsKindText (read.Lex kind told) text = text ≡ told_behind (lex_text kind) told
+IsKindText (read.Parse kind told) text = text ≡ told_behind (parse_text kind) told
 IsKindText (read.Eval kind) text = IsEvalText kind text
 IsKindText (read.Name fault) text = text ≡ name_text fault
 IsKindText (read.Key name) text = text ≡ named (codes "Key") name

@@ -1,7 +1,7 @@
 //! How a fault of a script is told: the name of its kind, and what the kind keeps, after a space each.
 ghost use Rattle.std.specs.Prelude.{◌≡◌, IfOk, string_bytes};
 ghost use Rattle.std.specs.Fmt.{decimal};
-ghost use Rattle.scons_host.specs.Kinds.{IsKindText, IsEvalText, named, two_rules_text, other_script_text, named_twice, mismatch_text, index_text, lex_text, parse_text, value_text, value_kind_text, name_text, path_text, variant_text, subst_text};
+ghost use Rattle.scons_host.specs.Kinds.{IsKindText, IsEvalText, named, two_rules_text, other_script_text, named_twice, mismatch_text, index_text, lex_text, parse_text, told_behind, value_text, value_kind_text, name_text, path_text, variant_text, subst_text};
 
 use crate::end::{FirstRule, ReadKind};
 use env_subst::SubstFault;
@@ -23,8 +23,8 @@ impl ReadKind {
     {
         match self {
             ReadKind::NoScript(path) => with_path(alloc, "NoScript", path),
-            ReadKind::Lex(kind) => word(alloc, lex_name(*kind)),
-            ReadKind::Parse(kind) => parse_text(alloc, *kind),
+            ReadKind::Lex(kind, told) => with_told(alloc, lex_name(*kind), told),
+            ReadKind::Parse(kind, told) => parse_text(alloc, *kind, told),
             ReadKind::Eval(kind) => eval_text(alloc, kind),
             ReadKind::Name(fault) => name_text(alloc, fault),
             ReadKind::Key(name) => with_text(alloc, "Key", name),
@@ -96,13 +96,30 @@ fn lex_name(kind: LexKind) -> &'static str
     }
 }
 
-fn parse_text(alloc: Global, kind: ParseKind) -> Told
+fn parse_text(alloc: Global, kind: ParseKind, told: &Text) -> Told
+    ensures { IfOk result (λ text. string_bytes text ≡ told_behind (parse_text kind) told.now) }
+{
+    let kind = parse_kind(alloc, kind)?;
+    with_told(alloc, kind.as_str(), told)
+}
+
+fn parse_kind(alloc: Global, kind: ParseKind) -> Told
     ensures { IfOk result (λ text. string_bytes text ≡ parse_text kind) }
 {
     match kind {
         ParseKind::OutOfSubset(word) => with(alloc, "OutOfSubset", word.word()),
         ParseKind::TooDeep => word(alloc, "TooDeep"),
         ParseKind::Unexpected => word(alloc, "Unexpected"),
+    }
+}
+
+/// What is told of the place of a fault, if anything, behind its kind.
+fn with_told(alloc: Global, kind: &str, told: &Text) -> Told
+    ensures { IfOk result (λ text. string_bytes text ≡ told_behind kind.now told.now) }
+{
+    match told.as_str() {
+        "" => word(alloc, kind),
+        told => with(alloc, kind, told),
     }
 }
 
