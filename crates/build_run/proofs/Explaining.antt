@@ -1,8 +1,7 @@
 -- Why a rule runs: the least of the reasons of its targets, found target by target.
-use Rattle.std.proofs.Common.{◌≡◌, ◌∙◌, ◌<◌, ◌≤◌, ◌+◌, ◌⊎◌, inl, inr, ℕ, zero, suc, Bool, true, false, List, [], ◌∷◌, ◌++◌, Option, Some, None, length, length-append, get_or, refl, sym, subst, ap, arith}
+use Rattle.std.proofs.Common.{◌≡◌, ◌∙◌, ◌+◌, ◌⊎◌, inl, inr, ℕ, zero, suc, Bool, true, false, List, [], ◌∷◌, ◌++◌, Option, Some, None, length, length-append, refl, sym, subst, ap, arith}
 use Rattle.std.specs.Prelude.{MatchOption, is_some, slice_get}
 use Rattle.std.specs.Option.{option_map}
-use Rattle.std.proofs.lemmas.Option.{slice_get-get_or, slice_get_within}
 use Rattle.deciders.specs.declared.recorded.Rec.{Rec}
 use Rattle.rule_graph.specs.Graphs.{RuleGraph}
 use Rattle.rule_graph.specs.declared.rule.Rule.{Rule}
@@ -27,7 +26,7 @@ use Rattle.explain_report.specs.Laws.{AreRecords}
 use Rattle.explain_report.specs.Rules.{AreAnswers, IsReasonOfRule, LeastIsReason, least_of}
 use Rattle.explain_report.specs.Texts.{reason_text}
 use Rattle.explain_report.proofs.Leasts.{least_more}
-use Rattle.build_run.specs.Whys.{AreAnswersOf, IsLeastSoFar, IsLine, IsWhyBy, IsWhyText, TellsReason, is_told, line_for, old_of}
+use Rattle.build_run.specs.Whys.{IsLeastSoFar, IsLine, IsWhyBy, IsWhyText, TellsReason, is_told, line_for, old_of}
 use Rattle.build_run.specs.declared.building.Options.{Options}
 use Rattle.build_run.proofs.Choosing.{stamp_at}
 
