@@ -25,7 +25,7 @@ pub record IsOutsetOf (content : List ℕ) (world : MemWorld) (store : Store) : 
   pub empty : map_of store ≡ nothing
 
 abbrev pub options : Options
-options = record { jobs = 1; keep = false; hash = Md5; silent = false }
+options = record { jobs = 1; keep = false; hash = Md5; silent = false; explain = false }
 
 -- `t` was requested, of the graph in which it is a copy of `s`
 abbrev pub wanted : Wanted

@@ -33,6 +33,7 @@ pub fn build_copy(alloc: Global, content: &[u8]) -> Option<Sample>
         keep: false,
         hash: Hash::Md5,
         silent: false,
+        explain: false,
     };
     let end = build(
         alloc,
