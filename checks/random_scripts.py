@@ -145,7 +145,7 @@ class Maker:
         if kind == 2:
             return f"str({put(self.dice.choice(list(self.names)), CONDITIONAL)})", POST
         if kind == 3:
-            return f"{put('text', POST)}{self.dice.choice(['[1:]', '[:2]', '[:n]', '.upper()', '[n % 2:m]', '[n % 2:m]', '[0]'])}", POST
+            return f"{put('text', POST)}{self.dice.choice(['[1:]', '[:2]', '[:n]', '.strip()', '[n % 2:m]', '[n % 2:m]', '[0]'])}", POST
         if kind == 4:
             return f"'%s-%d' % ({put('text', CONDITIONAL)}, {put('int', CONDITIONAL)})", PRODUCT
         return self.pieces(room), POST
