@@ -251,11 +251,14 @@ module _ (depth : ℕ) (bytes name rest : List ℕ) (word : IsWord name) (parts 
   start_front : (raw : Bool) (q : ℕ) (inside : List ℕ) (t : Read) → IsFormatPrefix name → rest ≡ q ∷ inside → (q == 39 || q == 34) ≡ true → t ≡ begun_read raw q inside → ReadIs t bytes
   start_front raw q inside t prefixed e quotes x =
       let o = opening_quotes raw q inside quotes in
-      subst (λ r. ReadIs r bytes) (sym x) (record {
-        front = name ++ q ∷ o.behind;
-        parts = parts ∙ ap (λ r. name ++ r) e ∙ ap (λ r. name ++ q ∷ r) o.parts ∙ sym (append_assoc name (q ∷ o.behind) (opening raw q inside).1);
-        is = record { front = name; quotes = q ∷ o.behind; parts = refl; prefixed = prefixed; quoted = o.are };
-      }, o.quote)
+      subst (λ r. ReadIs r bytes) (sym x) (
+        record {
+          front = name ++ q ∷ o.behind;
+          parts = parts ∙ ap (λ r. name ++ r) e ∙ ap (λ r. name ++ q ∷ r) o.parts ∙ sym (append_assoc name (q ∷ o.behind) (opening raw q inside).1);
+          is = record { front = name; quotes = q ∷ o.behind; parts = refl; prefixed = prefixed; quoted = o.are };
+        },
+        o.quote,
+      )
 
   lead_front : (l : Lead) (q : ℕ) (inside : List ℕ) (t : Read) → lead_of name ≡ l → rest ≡ q ∷ inside → (q == 39 || q == 34) ≡ true → LeadAt l depth q inside name rest t → ReadIs t bytes
   lead_front lead.Raw q inside t l e quotes x = subst (λ b. ReadIs t b) (sym (parts ∙ ap (λ r. name ++ r) e)) (text_front true q depth inside name (raw_prefix name l) quotes t x)

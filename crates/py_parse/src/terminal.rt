@@ -5,7 +5,8 @@ ghost use Rattle.py_parse.specs.Agrees.{Taken};
 
 use crate::level::Level;
 use crate::tables::{
-    augment_of, comparison_of, constant_of, is_bracket, is_leaf, is_link, is_piece, operator_of, starts_expr,
+    augment_of, comparison_of, constant_of, is_bracket, is_leaf, is_link, is_piece, operator_of,
+    starts_expr,
 };
 use py_token::{Keyword, Mark, Token, TokenKind};
 

@@ -131,7 +131,10 @@ pub fn evaluate<'a, H: Host>(
             Ok(())
         }
         Expr::Choice {
-            value, test, other, ..
+            value,
+            test,
+            other,
+            ..
         } => {
             desk.evaluate(test, Task::Pick { value, other })?;
             Ok(())

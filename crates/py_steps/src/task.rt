@@ -2,7 +2,9 @@
 use py_methods::Name;
 use py_operators::Op;
 use py_state::Walk;
-use py_tree::{Argument, Branch, Expr, Line, Link, Operation, Operator, Pair, Parameter, Piece, Simple};
+use py_tree::{
+    Argument, Branch, Expr, Line, Link, Operation, Operator, Pair, Parameter, Piece, Simple,
+};
 use scons_base::Text;
 use std::rc::Rc;
 
