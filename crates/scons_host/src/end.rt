@@ -11,8 +11,10 @@ use scons_decls::NameFault;
 pub enum ReadKind {
     /// There is no script at this path.
     NoScript(PathText),
-    Lex(LexKind),
-    Parse(ParseKind),
+    /// It has no tokens. The text is what is told of the place.
+    Lex(LexKind, Text),
+    /// Its tokens are no script. The text is what is told of the first that doesn't fit.
+    Parse(ParseKind, Text),
     Eval(EvalKind),
     Name(NameFault),
     /// An environment has no variable or builder of this name.

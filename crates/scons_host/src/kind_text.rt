@@ -16,17 +16,25 @@ impl ReadKind {
     pub fn text(&self, alloc: Global) -> Result<String, Memory> {
         match self {
             ReadKind::NoScript(path) => with_path(alloc, "NoScript", path),
-            ReadKind::Lex(kind) => Ok(format!(in alloc; "{kind:?}")?),
-            ReadKind::Parse(ParseKind::OutOfSubset(word)) => {
-                with(alloc, "OutOfSubset", word.word())
+            ReadKind::Lex(kind, told) => with_told(alloc, format!(in alloc; "{kind:?}")?, told),
+            ReadKind::Parse(ParseKind::OutOfSubset(word), told) => {
+                with_told(alloc, with(alloc, "OutOfSubset", word.word())?, told)
             }
-            ReadKind::Parse(kind) => Ok(format!(in alloc; "{kind:?}")?),
+            ReadKind::Parse(kind, told) => with_told(alloc, format!(in alloc; "{kind:?}")?, told),
             ReadKind::Eval(kind) => eval_text(alloc, kind),
             ReadKind::Name(fault) => name_text(alloc, fault),
             ReadKind::Key(name) => with_text(alloc, "Key", name),
             ReadKind::TwoRules(target, first) => two_rules(alloc, target, first),
         }
     }
+}
+
+/// What is told of the place of a fault, if anything, behind its kind.
+fn with_told(alloc: Global, kind: String, told: &Text) -> Told {
+    if told.as_str().is_empty() {
+        return Ok(kind);
+    }
+    with(alloc, kind.as_str(), told.as_str())
 }
 
 /// The target, the line of its first rule, and the script of that where it is another one.

@@ -12,6 +12,7 @@ mod called;
 mod calls;
 mod declaring;
 mod end;
+mod form_text;
 mod globbing;
 mod host;
 mod kept;

@@ -7,6 +7,7 @@ ghost use Rattle.world_api.specs.Looks.{LooksAtFiles};
 use crate::asks::bytes_of;
 use crate::calls::Caller;
 use crate::end::ReadKind;
+use crate::form_text::{told_of_bytes, told_of_tokens};
 use crate::open::OpenCall;
 use crate::scopes::put_exports;
 use crate::state::State;
@@ -238,14 +239,16 @@ fn script_of(alloc: Global, path: &PathText, bytes: &Blob) -> Result<Script, Sto
     let tokens = match lex(alloc, bytes.as_slice()) {
         Ok(tokens) => tokens,
         Err(LexFault::At { line, kind }) => {
-            return Err(Stop::There(path.copy()?, line, ReadKind::Lex(kind)));
+            let told = told_of_bytes(alloc, kind, line, bytes.as_slice())?;
+            return Err(Stop::There(path.copy()?, line, ReadKind::Lex(kind, told)));
         }
         Err(LexFault::Memory) => return Err(Stop::Memory),
     };
     match parse(alloc, &tokens) {
         Ok(script) => Ok(script),
-        Err(ParseFault::At { line, kind, .. }) => {
-            Err(Stop::There(path.copy()?, line, ReadKind::Parse(kind)))
+        Err(ParseFault::At { line, token, kind }) => {
+            let told = told_of_tokens(alloc, kind, token, tokens.as_slice())?;
+            Err(Stop::There(path.copy()?, line, ReadKind::Parse(kind, told)))
         }
         Err(ParseFault::Memory) => Err(Stop::Memory),
     }
