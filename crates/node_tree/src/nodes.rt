@@ -1,7 +1,7 @@
 //! A number for each path.
 ghost use Rattle.std.specs.Prelude.{◌≡◌, ◌≢◌, ◌==◌, ◌<◌, ◌≤◌, ◌+◌, [], List, ℕ, Some, None, IfOk, IfErr, OnErr, OnOk, length, slice_get};
 ghost use Rattle.std.specs.Option.{option_map};
-ghost use Rattle.node_tree.specs.Nodes.{number_of, AreApart, Interns};
+ghost use Rattle.node_tree.specs.Nodes.{number_of, with_path, AreApart, Interns};
 
 use indexmap::IndexSet;
 use scons_base::limits::NODE_LIMIT;
@@ -67,6 +67,8 @@ impl Nodes {
     /// The number of a path, which is the next one for a path that had none.
     pub fn intern(&mut self, path: &PathText) -> Result<NodeId, NodeRefusal>
         ensures ok { IfOk result (λ id. Interns self.old path.now id.0 self.new) }
+        ensures paths { OnOk result (self.new ≡ with_path self.old path.now) }
+        ensures at { IfOk result (λ id. slice_get self.new id.0 ≡ Some path.now) }
         ensures limit { OnOk result (length self.new ≤ NODE_LIMIT) }
         ensures full { IfErr result (λ e. e ≢ NodeRefusal.Memory → (e ≡ NodeRefusal.Full (NODE_LIMIT + 1))
             × (length self.old ≡ NODE_LIMIT) × (number_of self.old path.now ≡ None)) }

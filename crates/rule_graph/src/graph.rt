@@ -2,7 +2,7 @@
 ghost use Rattle.std.specs.Prelude.{◌≡◌, ◌≢◌, ◌==◌, ◌<◌, ◌≤◌, ◌+◌, ◌++◌, ◌∷◌, [], ℕ, Some, None, length, slice_get, IfOk, IfErr, OnOk, OnErr, IfSome, option_copied, true};
 ghost use Rattle.std.specs.Option.{option_map};
 ghost use Rattle.scons_base.specs.declared.limits.TheConstants.{NODE_LIMIT};
-ghost use Rattle.node_tree.specs.Nodes.{number_of, AreApart, Interns};
+ghost use Rattle.node_tree.specs.Nodes.{number_of, with_path, AreApart, Interns};
 ghost use Rattle.variant_dirs.specs.Variants.{add_fault, added};
 ghost use Rattle.rule_graph.specs.Rules.{rule_of, are_below, AreSingle, IsRule};
 ghost use Rattle.rule_graph.specs.Aliases.{members_of, with_members};
@@ -79,6 +79,9 @@ impl Graph {
     pub fn intern(&mut self, path: &PathText) -> Result<NodeId, NodeRefusal>
         ensures ok { IfOk result (λ id. Interns self.old.nodes path.now id.0 self.new.nodes
             × (id.0 < length self.new.nodes)) }
+        ensures paths { OnOk result (self.new.nodes ≡ with_path self.old.nodes path.now) }
+        ensures at { IfOk result (λ id. slice_get self.new.nodes id.0 ≡ Some path.now) }
+        ensures limit { OnOk result (length self.new.nodes ≤ NODE_LIMIT) }
         ensures rest { self.new ≡ record self.old { nodes = self.new.nodes } }
         ensures full { IfErr result (λ e. e ≢ NodeRefusal.Memory → (e ≡ NodeRefusal.Full (NODE_LIMIT + 1))
             × (length self.old.nodes ≡ NODE_LIMIT) × (number_of self.old.nodes path.now ≡ None)) }
@@ -108,9 +111,11 @@ impl Graph {
         ensures apart { AreApart self.now.nodes }
         ensures single { AreSingle self.now.rules }
         ensures named { IsGraph (length self.now.nodes) self.now.rules self.now.aliases }
+        ensures room { length self.now.nodes ≤ NODE_LIMIT }
     {
         self.nodes.laws();
         self.rules.laws();
+        let _nodes = self.nodes.len();
     }
 
     /// How many paths have a number.
