@@ -4,6 +4,7 @@ ghost use Rattle.build_run.specs.Along.{is_faulted, EndsAlong, GoesOnAfter, Hold
 ghost use Rattle.build_run.specs.Goings.{Passes, IsJoined};
 ghost use Rattle.build_run.specs.Holds.{holds_in, without};
 ghost use Rattle.build_run.specs.Ledgers.{ledger_of, with_outcome, Reports};
+ghost use Rattle.build_run.specs.Output.{IsQuiet};
 ghost use Rattle.build_run.specs.Outs.{LogsEnding};
 ghost use Rattle.build_run.specs.Reasons.{KeepsReason, SiteKeepsReason};
 ghost use Rattle.build_run.specs.Safe.{GoesSafely, HoldsSafely, SiteGoesSafely};
@@ -36,6 +37,7 @@ impl<W: World, O: Sink, E: Sink> Site<'_, '_, W, O, E> {
         ensures sound { IsSound W.meaning self.new }
         ensures takes { TakesEnding W.meaning self.old self.new result }
         ensures along { EndsAlong W.meaning self.old self.new result }
+        ensures quiet { IsQuiet W.meaning self.old self.new }
         ensures halted { self.new.run.now.plan ≡ self.old.run.now.plan }
         ensures safe { SiteGoesSafely W.meaning self.old self.new }
         ensures reason { SiteKeepsReason self.old self.new }
@@ -76,6 +78,7 @@ impl<W: World, O: Sink, E: Sink> Site<'_, '_, W, O, E> {
         ensures sound { IsSound W.meaning self.new }
         ensures takes { TakesEnding W.meaning self.old self.new result }
         ensures along { TakesAlong W.meaning self.old self.new result }
+        ensures quiet { IsQuiet W.meaning self.old self.new }
         ensures halted { self.new.run.now.plan ≡ self.old.run.now.plan }
         ensures safe { SiteGoesSafely W.meaning self.old self.new }
         ensures reason { SiteKeepsReason self.old self.new }

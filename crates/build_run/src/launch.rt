@@ -5,9 +5,10 @@ ghost use Rattle.build_run.specs.Along.{IsWellStill, KeepsKnown, SameEnds};
 ghost use Rattle.build_run.specs.Books.{RefusesSo};
 ghost use Rattle.build_run.specs.Goings.{Passes, ClearsAt, LaunchesAt, IsJoined, AreAbsent};
 ghost use Rattle.world_api.specs.Laws.{StartsJob};
-ghost use Rattle.world_api.specs.Printing.{Prints};
+ghost use Rattle.world_api.specs.Printing.{Cuts, Prints};
 ghost use Rattle.build_run.specs.Ledgers.{ledger_of};
 ghost use Rattle.build_run.specs.Holds.{Busy, hold_for, holds_in, KeepsApart};
+ghost use Rattle.build_run.specs.Output.{PrintsLast};
 ghost use Rattle.build_run.specs.Outs.{IsTicketFor, KeepsSome, ShareNone};
 ghost use Rattle.build_run.specs.Reasons.{EndsLast, SiteKeepsReason, StaysReasoned};
 ghost use Rattle.build_run.specs.Safe.{GoesSafely, SiteGoesSafely};
@@ -50,6 +51,7 @@ impl<W: World, O: Sink, E: Sink> Site<'_, '_, W, O, E> {
         ensures reason { SiteKeepsReason self.old self.new }
         ensures last { EndsLast result }
         ensures prints { OnOk result (Prints O.meaning self.old.out.now self.new.out.now text.now) }
+        ensures cuts { OnErr result (PrintsLast O.meaning self.old.out.now self.new.out.now text.now) }
     {
         self.clear(&job, ticket)?;
         show(self.account, self.out, text)?;
@@ -64,6 +66,7 @@ fn show<O: Sink>(account: &mut Account, out: &mut O, text: &str) -> Result<(), L
     ensures cause { HasPrintCause (O.meaning.faults out.old) (O.meaning.faults out.new) result }
     ensures reason { StaysReasoned account.old account.new }
     ensures prints { OnOk result (Prints O.meaning out.old out.new text.now) }
+    ensures cuts { OnErr result (Cuts O.meaning out.old out.new text.now) }
 {
     match print(out, text) {
         Ok(()) => Ok(()),

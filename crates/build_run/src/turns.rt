@@ -1,8 +1,9 @@
 //! The turns of a build: what the plan wants is done, and the plan is told what came of it.
-ghost use Rattle.std.specs.Prelude.{◌≡◌, ◌≢◌, ◌⊎◌, ◌≤◌, ◌<◌, [], true, false, length, Err};
+ghost use Rattle.std.specs.Prelude.{◌≡◌, ◌≢◌, ◌⊎◌, ◌≤◌, ◌<◌, [], true, false, length, Err, OnErr};
 ghost use Rattle.build_run.specs.Along.{ComesOn, GoesAlong, IsReliable, IsSpent, IsWantedOf, RestsAlong, StaysAlong, StepsOr, Tells, TellsAlong};
 ghost use Rattle.build_run.specs.Outsets.{StaysKept};
 ghost use Rattle.build_run.specs.Ledgers.{ledger_of, with_done, Accounts, Keeps, Reports};
+ghost use Rattle.build_run.specs.Output.{IsQuiet, PrintsAlong, TurnsPrinting};
 ghost use Rattle.build_run.specs.Reasons.{EndsLast, SiteKeepsReason, StaysReasoned};
 ghost use Rattle.build_run.specs.Safe.{SiteGoesSafely, TurnsSafely, TurnsSafelyAs};
 ghost use Rattle.build_run.specs.Sites.{IsSound, SiteAccounts, SiteEnds, SitePasses, most_jobs, outside_of};
@@ -29,6 +30,7 @@ impl<W: World, O: Sink, E: Sink> Site<'_, '_, W, O, E> {
         ensures stored { StaysKept W.meaning self.new.world.now self.new.store.now self.new.account.now }
         ensures idle { W.meaning.tells self.new.world.now → (W.meaning.around self.new.world.now).running ≡ [] }
         ensures on { ComesOn W.meaning self.old self.new }
+        ensures printing { PrintsAlong W.meaning O.meaning self.old self.new }
         ensures still { RestsAlong W.meaning self.old self.new }
         ensures safe { TurnsSafely W.meaning self.old self.new }
         ensures reason { SiteKeepsReason self.old self.new }
@@ -49,6 +51,7 @@ impl<W: World, O: Sink, E: Sink> Site<'_, '_, W, O, E> {
         ensures along { StaysAlong W.meaning self.old self.new }
         ensures still { RestsAlong W.meaning self.old self.new }
         ensures halts { IsSpent self.new }
+        ensures printing { PrintsAlong W.meaning O.meaning self.old self.new }
         ensures safe { TurnsSafely W.meaning self.old self.new }
         ensures reason { SiteKeepsReason self.old self.new }
     {
@@ -71,6 +74,7 @@ impl<W: World, O: Sink, E: Sink> Site<'_, '_, W, O, E> {
         ensures sound { IsSound W.meaning self.new }
         ensures idle { W.meaning.tells self.new.world.now → (W.meaning.around self.new.world.now).running ≡ [] }
         ensures along { IsSpent self.old → StaysAlong W.meaning self.old self.new }
+        ensures quiet { IsQuiet W.meaning self.old self.new }
         ensures none { length self.old.run.now.tickets ≡ 0 → self.new ≡ self.old }
         ensures halted { self.old.run.now.plan.halted ≡ true → self.new.run.now.plan.halted ≡ true }
         ensures safe { SiteGoesSafely W.meaning self.old self.new }
@@ -94,6 +98,9 @@ impl<W: World, O: Sink, E: Sink> Site<'_, '_, W, O, E> {
         ensures sound { IsSound W.meaning self.old → IsSound W.meaning self.new }
         ensures tickets { self.new.run.now.tickets ≡ self.old.run.now.tickets }
         ensures along { TellsAlong W.meaning self.old self.new done }
+        ensures quiet { IsQuiet W.meaning self.old self.new }
+        ensures still { self.new.world.now ≡ self.old.world.now }
+        ensures ends { OnErr done (self.new.account.now.is_ended ≡ true) }
         ensures halted { self.old.run.now.plan.halted ≡ true → self.new.run.now.plan.halted ≡ true }
         ensures memory { done ≡ Err ListEnd.Memory → self.new.account.now.memory ≡ true }
         ensures halts { done ≡ Err ListEnd.Memory → self.new.run.now.plan.halted ≡ true }
@@ -112,6 +119,7 @@ impl<W: World, O: Sink, E: Sink> Site<'_, '_, W, O, E> {
         ensures passes { SitePasses W.meaning self.old self.new }
         ensures ends { SiteEnds W.meaning O.meaning E.meaning self.old self.new result }
         ensures along { GoesAlong W.meaning self.old self.new wanted result }
+        ensures printing { TurnsPrinting W.meaning O.meaning self.old self.new wanted result }
         ensures safe { TurnsSafelyAs W.meaning self.old self.new wanted }
         ensures sound { IsSound W.meaning self.new }
         ensures reason { SiteKeepsReason self.old self.new }
@@ -131,6 +139,7 @@ impl<W: World, O: Sink, E: Sink> Site<'_, '_, W, O, E> {
         ensures ends { SiteEnds W.meaning O.meaning E.meaning self.old self.new result }
         ensures sound { IsSound W.meaning self.old → IsSound W.meaning self.new }
         ensures along { GoesAlong W.meaning self.old self.new (Want.Scan rule file) result }
+        ensures quiet { IsQuiet W.meaning self.old self.new }
         ensures safe { SiteGoesSafely W.meaning self.old self.new }
         ensures reason { SiteKeepsReason self.old self.new }
         ensures last { EndsLast result }

@@ -3,7 +3,7 @@ use Rattle.build_means.specs.Rules.{IsReading}
 use Rattle.build_run.specs.Causes.{outside}
 use Rattle.build_run.specs.Ledgers.{ledger_of, ledger_of_end, blank, with_end}
 use Rattle.build_run.specs.Outsets.{wanted_of}
-use Rattle.build_run.proofs.Builds.{build_ran, build_refused, build_succeeded, has_outset, is_blank, refused_untold}
+use Rattle.build_run.proofs.Builds.{build_printed, build_ran, build_silent, build_refused, build_succeeded, has_outset, is_blank, refused_untold}
 use Rattle.build_run.proofs.Causing.{account_as, at_first, caused, ended, same_counts}
 use Rattle.build_run.proofs.Goings.{passes_on}
 use Rattle.build_run.proofs.Safely.{safe_on}
@@ -114,3 +114,25 @@ returns-in-Ok-clause-ends g c =
     let a = c.answer.ensures in
     answers_so c.args.options.now c.make_all-skipped.new.account c.answer.result a.faults a.memory a.ended
     (c.make_all-skipped.ensures.reason (λ keep. not_ended c.new-account.result c.new-account.ensures.ended))
+
+pub returns-in-Ok-clause-prints : goal.returns-in-Ok-clause-prints
+returns-in-Ok-clause-prints g c =
+    let start = outside (g.W.Disk.meaning.counts c.args.world.now) (g.O.Sink.meaning.faults c.args.out.now) (g.E.Sink.meaning.faults c.args.err.now) in
+    let first = account_as start start blank (ledger_of c.new-account.result) c.new-account.ensures.ledger (at_first start) in
+    let made = c.make_all-skipped.ensures.accounts start (same_counts start (ledger_of c.new-account.result) _ _ _ _ c.in-Ok.ensures.cause first) in
+    let read : IsReading c.args.graph.now = record { apart = c.laws.ensures.apart; single = c.laws.ensures.single; named = c.laws.ensures.named } in
+    build_printed g.W.Disk.meaning c.args.graph.now c.args.requested.now c.args.options.now read c.args.world.now c.set_out.new.world
+    c.make_all-skipped.new.world c.args.store.now c.set_out.new.store c.requires.idle c.set_out.new.graph c.in-Ok.run' c.new-account.result
+    c.set_out.ensures.goes.passes.told.told c.in-Ok.ensures.cause
+    c.in-Ok.ensures.sets (is_blank c.new-account.result c.new-account.ensures.ledger c.new-account.ensures.ended)
+    c.make_all-skipped.new.account c.make_all-skipped.ensures.passes.told.told
+    c.make_all-skipped.new.store c.make_all-skipped.ensures.makes made.shut c.make_all-skipped.ensures.stored
+    g.O.Sink.meaning c.args.out.now c.make_all-skipped.new.out c.make_all-skipped.ensures.prints c.answer.result c.answer.ensures.ended
+
+pub returns-in-Err-clause-prints : goal.returns-in-Err-clause-prints
+returns-in-Err-clause-prints g c =
+    let read : IsReading c.args.graph.now = record { apart = c.laws.ensures.apart; single = c.laws.ensures.single; named = c.laws.ensures.named } in
+    build_silent g.W.Disk.meaning c.args.graph.now c.args.requested.now c.args.options.now read c.args.world.now c.set_out.new.world
+    c.set_out.new.world c.args.store.now c.set_out.new.store c.requires.idle g.O.Sink.meaning c.args.out.now
+    c.set_out.ensures.goes.passes.told.told c.in-Err.ensures.rest
+    c.answer-in-Err.result (c.answer-in-Err.ensures.ended ∙ c.end.ensures.ends.ended)
