@@ -1,13 +1,11 @@
 -- What a build has printed in the end.
-use Rattle.std.proofs.Common.{◌≡◌, ◌∙◌, ◌++◌, ℕ, List, [], append-nil, ap, arith, refl, subst, sym}
-use Rattle.scons_base.specs.declared.ids.NodeId.{NodeId}
+use Rattle.std.proofs.Common.{◌≡◌, ◌∙◌, [], append-nil, arith, refl, subst, sym}
 use Rattle.rule_graph.specs.Graphs.{RuleGraph}
 use Rattle.sign_store.specs.declared.store.Store.{Store}
-use Rattle.world_api.specs.Around.{Around, Entry}
+use Rattle.world_api.specs.Around.{Around}
 use Rattle.world_api.specs.Meaning.{Meaning}
 use Rattle.world_api.specs.Printed.{SinkMeaning}
 use Rattle.turn_means.specs.Standing.{Outset}
-use Rattle.build_run.specs.Along.{IsAlong}
 use Rattle.build_run.specs.Outsets.{IsReadyFor}
 use Rattle.build_run.specs.Output.{IsPrinted, MakesPrinted, PrintsAlong}
 use Rattle.build_run.specs.StartTexts.{HasPrinted, no_more, no_text}

@@ -1,9 +1,9 @@
 -- What a site has printed, from call to call.
-use Rattle.std.proofs.Common.{◌≡◌, ◌∙◌, ◌≤◌, ◌++◌, ◌∷◌, inl, inr, ℕ, Bool, true, false, List, [], Contains, ap, refl, subst, sym}
+use Rattle.std.proofs.Common.{◌≡◌, ◌∙◌, ◌≤◌, inl, inr, ℕ, true, false, List, [], ap, subst, sym}
 use Rattle.std.specs.Prelude.{Result, Ok, Err, IsErrAnd, OnErr, length}
 use Rattle.scons_base.specs.Rising.{Rose}
 use Rattle.scons_base.specs.declared.ids.RuleId.{RuleId}
-use Rattle.world_api.specs.Around.{Around, Entry, IsRunningTarget, Started, Finished}
+use Rattle.world_api.specs.Around.{Around, Entry, Started}
 use Rattle.world_api.specs.Calls.{Asks, Ends}
 use Rattle.world_api.specs.Counts.{Counts}
 use Rattle.world_api.specs.Laws.{EndsJob}
@@ -17,10 +17,9 @@ use Rattle.task_plan.specs.Plans.{Planned}
 use Rattle.task_plan.specs.declared.want.PlanEvent.{PlanEvent}
 use Rattle.task_plan.specs.declared.want.Want.{Want}
 use Rattle.build_files.specs.declared.end.ListEnd.{ListEnd}
-use Rattle.build_model.specs.Rules.{Path, Among}
+use Rattle.build_model.specs.Rules.{Among}
 use Rattle.build_model.proofs.Lists.{true_false}
 use Rattle.run_means.proofs.Clearing.{calls_clear}
-use Rattle.run_means.proofs.Keeping.{none_there}
 use Rattle.turn_means.specs.Standing.{Outset, IsOutset}
 use Rattle.turn_means.specs.Writing.{Writes}
 use Rattle.turn_means.proofs.Recording.{stays}

@@ -1,6 +1,6 @@
 -- The reason that is told for a rule as it starts is the one over what stood and was recorded as the build began.
-use Rattle.std.proofs.Common.{◌≡◌, ◌∙◌, ◌<◌, ◌++◌, ◌∷◌, inl, inr, ℕ, zero, suc, Bool, true, false, List, [], Option, Some, None, map, ap, refl, subst, sym, length}
-use Rattle.std.specs.Prelude.{is_some, slice_get, unwrap_or}
+use Rattle.std.proofs.Common.{◌≡◌, ◌∙◌, ◌++◌, ◌∷◌, inl, inr, ℕ, Bool, true, false, List, [], Option, Some, None, map, ap, refl, subst, sym, length}
+use Rattle.std.specs.Prelude.{is_some, slice_get}
 use Rattle.std.specs.List.{AllByRecursion}
 use Rattle.std.specs.Option.{option_and_then, option_map}
 use Rattle.scons_base.specs.declared.ids.NodeId.{NodeId}
@@ -8,15 +8,13 @@ use Rattle.scons_base.specs.declared.ids.RuleId.{RuleId}
 use Rattle.deciders.specs.Records.{IsValid}
 use Rattle.deciders.specs.declared.recorded.Dep.{Dep}
 use Rattle.deciders.specs.declared.recorded.Rec.{Rec}
-use Rattle.world_api.specs.Around.{Around}
 use Rattle.world_api.specs.Calls.{Asks}
 use Rattle.world_api.specs.Reads.{stamp_of}
 use Rattle.world_api.specs.declared.decider.Decider.{Decider}
-use Rattle.world_api.specs.declared.decider.Decider.TheVariants.{Content, Newer, Match, ContentMatch}
 use Rattle.world_api.specs.declared.job.Work.{Work}
 use Rattle.world_api.specs.declared.job.Work.TheVariants.{Shell, Copy, Write}
 use Rattle.rule_graph.specs.Graphs.{RuleGraph, path_of}
-use Rattle.rule_graph.specs.Rules.{IsRule, are_below}
+use Rattle.rule_graph.specs.Rules.{IsRule}
 use Rattle.rule_graph.specs.declared.rule.Rule.{Rule}
 use Rattle.sign_store.specs.Tables.{Map}
 use Rattle.sign_store.specs.declared.store.Store.{Store}
@@ -32,11 +30,11 @@ use Rattle.build_model.specs.Stale.{first_stamp}
 use Rattle.build_model.specs.Steps.{Step}
 use Rattle.build_model.proofs.Lists.{nil_cons, same_head, same_tail}
 use Rattle.build_means.specs.Due.{is_due}
-use Rattle.build_means.specs.Grown.{Begun, IsGrown, copy_in, or_copy_in, rule_numbered}
+use Rattle.build_means.specs.Grown.{Begun, copy_in, or_copy_in}
 use Rattle.build_means.specs.Records.{dependency_in, record_in, records_in}
 use Rattle.build_means.specs.Rules.{decider_of, paths_of, rule_in}
-use Rattle.build_means.proofs.Growing.{get_either, get_front, paths_stay}
-use Rattle.build_means.proofs.Lists.{at_place, none_some, some_same}
+use Rattle.build_means.proofs.Growing.{get_either, paths_stay}
+use Rattle.build_means.proofs.Lists.{at_place, some_same}
 use Rattle.plan_means.specs.Planning.{IsGraphNow}
 use Rattle.plan_means.proofs.Single.{numbered_stands}
 use Rattle.task_plan.specs.Settled.{deps_of}
@@ -48,14 +46,13 @@ use Rattle.explain_report.specs.Rules.{IsReasonOfRule}
 use Rattle.explain_report.specs.Texts.{reason_text}
 use Rattle.run_means.specs.Ways.{IsWay}
 use Rattle.turn_means.specs.Laws.{IsWeighed, is_due_now}
-use Rattle.turn_means.specs.Recording.{IsRecordOf}
 use Rattle.turn_means.specs.Standing.{Outset, IsOutset, Standing, Knows, begun_at, setting_at}
 use Rattle.turn_means.proofs.Deciding.{decided, first_same, makes, record_is}
 use Rattle.turn_means.proofs.Running.{unbegun_same, unbegun_stamp}
 use Rattle.build_run.specs.Along.{HeldBegan}
 use Rattle.build_run.specs.Holds.{Busy}
 use Rattle.build_run.specs.Outs.{AreOut}
-use Rattle.build_run.specs.StartTexts.{IsLineIf, IsOwnText, IsReasonLine, IsTextOf, of_copy, of_declared}
+use Rattle.build_run.specs.StartTexts.{IsLineIf, IsOwnText, IsReasonLine, of_copy, of_declared}
 use Rattle.build_run.specs.Whys.{IsWhyBy, IsWhyText, TellsReason, is_told, old_of, started_text}
 use Rattle.build_run.specs.declared.building.Options.{Options}
 use Rattle.build_run.proofs.Choosing.{due_now, held_apart, map_beside, targets_are}
@@ -68,12 +65,15 @@ module _ (r : model.Rule) (t u : Tree) (stamps later : Stamps) (kept as_kept : M
     (records : (p : Path) → Among p r.targets → kept p ≡ as_kept p) where
   holds_too : (reason : Reason) → HoldsIn r t stamps kept decider now reason → HoldsIn r u later as_kept decider now reason
   holds_too reason is =
-      let m = at_place r.targets is.1 is.2 in
-      (is.0, is.1, is.2,
-          subst (λ (o : Option Rec). Holds decider r.always now is.1 (is_some (u is.0)) (first_stamp later r.targets) o reason) (records is.0 m)
-          (subst (λ (s : Option ℕ). Holds decider r.always now is.1 (is_some (u is.0)) s (kept is.0) reason) (first_same stamps later r.targets times)
-          (subst (λ (b : Bool). Holds decider r.always now is.1 b (first_stamp stamps r.targets) (kept is.0) reason)
-          (ap is_some (files is.0 m)) is.3)))
+      let m = at_place r.targets is.1 is.2 in (
+        is.0,
+        is.1,
+        is.2,
+        subst (λ (o : Option Rec). Holds decider r.always now is.1 (is_some (u is.0)) (first_stamp later r.targets) o reason) (records is.0 m)
+            (subst (λ (s : Option ℕ). Holds decider r.always now is.1 (is_some (u is.0)) s (kept is.0) reason) (first_same stamps later r.targets times)
+            (subst (λ (b : Bool). Holds decider r.always now is.1 b (first_stamp stamps r.targets) (kept is.0) reason)
+            (ap is_some (files is.0 m)) is.3)),
+      )
 
   old_too : now.targets ≡ r.targets → (reason : Reason) → old_of kept now reason ≡ old_of as_kept now reason
   old_too same reason = by (slice_get now.targets (place_of reason)) refl

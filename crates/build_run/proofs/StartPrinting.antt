@@ -1,5 +1,5 @@
 -- What is printed where a rule starts, or is refused.
-use Rattle.std.proofs.Common.{◌≡◌, ◌∙◌, ◌≤◌, ◌++◌, ◌∷◌, ◌⊎◌, inl, inr, ℕ, Bool, true, false, List, [], Contains, None, append-nil, append_assoc, ap, arith, cond, refl, subst, sym}
+use Rattle.std.proofs.Common.{◌≡◌, ◌∙◌, ◌≤◌, ◌++◌, ◌∷◌, inl, inr, ℕ, Bool, true, false, List, [], Contains, None, append-nil, append_assoc, ap, arith, cond, refl, subst, sym}
 use Rattle.std.specs.Prelude.{slice_get, Some}
 use Rattle.scons_base.specs.Rising.{Rose}
 use Rattle.scons_base.specs.declared.ids.RuleId.{RuleId}
@@ -7,10 +7,7 @@ use Rattle.deciders.specs.Records.{IsValid}
 use Rattle.deciders.specs.declared.recorded.Rec.{Rec}
 use Rattle.rule_graph.specs.declared.rule.Rule.{Rule}
 use Rattle.sign_store.specs.Tables.{Map, with_each}
-use Rattle.sign_store.specs.Putting.{map_with}
-use Rattle.sign_store.specs.Stores.{map_of}
 use Rattle.world_api.specs.Around.{Around, Entry, Started}
-use Rattle.world_api.specs.Counts.{Counts}
 use Rattle.world_api.specs.Meaning.{IsImage, Meaning}
 use Rattle.world_api.specs.Printed.{SinkMeaning}
 use Rattle.world_api.specs.Printing.{Prints, Cuts}
@@ -23,26 +20,24 @@ use Rattle.build_means.specs.Grown.{rule_numbered}
 use Rattle.build_means.specs.Logs.{IsNewId}
 use Rattle.run_means.specs.Clears.{Clears}
 use Rattle.turn_means.specs.Laws.{IsJobFrom, is_due_now}
-use Rattle.turn_means.specs.Recording.{Begin, IsRecordOf, build_at}
-use Rattle.turn_means.specs.Standing.{Outset, IsOutset, Knows, begun_at, setting_at}
+use Rattle.turn_means.specs.Recording.{Begin, IsRecordOf}
+use Rattle.turn_means.specs.Standing.{Outset, IsOutset, Knows, begun_at}
 use Rattle.turn_means.specs.Writing.{Writes}
 use Rattle.turn_means.proofs.Deciding.{decided, makes, place, place_among}
 use Rattle.turn_means.proofs.Recording.{begins_without, begun_others}
 use Rattle.build_run.specs.Along.{IsAlong, IsDue, standing_of}
-use Rattle.build_run.specs.Books.{book_of}
 use Rattle.build_run.specs.Goings.{Launches}
 use Rattle.build_run.specs.Output.{IsPrinted, PrintsLast, SaysWhy, SiteHasPrinted, nothing, whole, cut}
 use Rattle.build_run.specs.Sites.{IsSound, records_of}
-use Rattle.build_run.specs.StartTexts.{AreTexts, HasPrinted, IsJobText, IsOwnText, IsRest, no_more, of_start, one_more}
+use Rattle.build_run.specs.StartTexts.{AreTexts, IsJobText, IsOwnText, IsRest, no_more, of_start, one_more}
 use Rattle.build_run.specs.Whys.{started_text}
 use Rattle.build_run.specs.declared.building.Options.{Options}
 use Rattle.build_run.specs.declared.site.Site.{Site}
 use Rattle.build_run.proofs.Booking.{clears_write, starts_write, with_others}
 use Rattle.build_run.proofs.Outs.{in_among, outs_front}
 use Rattle.build_run.proofs.Reasoned.{own_text}
-use Rattle.build_run.proofs.Texts.{has_on, jobs_on, own_on, texts_on}
+use Rattle.build_run.proofs.Texts.{jobs_on, own_on, texts_on}
 use Rattle.build_run.proofs.Valid.{records_valid}
-use Rattle.build_run.specs.Output.{AddsEndings, none_added}
 
 -- a later count has risen too
 rose_on : (a b c : ℕ) → a ≤ b → Rose b c → Rose a c

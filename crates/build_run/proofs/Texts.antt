@@ -1,5 +1,5 @@
 -- The texts of the rules that started stay theirs while nothing starts.
-use Rattle.std.proofs.Common.{◌≡◌, ◌∙◌, ◌++◌, ◌∷◌, inl, inr, ℕ, Bool, true, false, List, [], ap, append_assoc, refl, subst, sym}
+use Rattle.std.proofs.Common.{◌≡◌, ◌∙◌, ◌++◌, ◌∷◌, inl, inr, ℕ, Bool, true, false, List, [], ap, append_assoc, subst, sym}
 use Rattle.std.proofs.lemmas.List.{append_cancel_left}
 use Rattle.scons_base.specs.Rising.{Rose}
 use Rattle.rule_graph.specs.Graphs.{RuleGraph}

@@ -9,7 +9,7 @@ use Rattle.deciders.specs.declared.recorded.Rec.{Rec}
 use Rattle.deciders.specs.declared.version.Version.{Version}
 use Rattle.deciders.specs.declared.version.Version.TheVariants.{One, Two}
 use Rattle.deciders.proofs.Takings.{bind_some, guard_holds}
-use Rattle.sign_store.specs.Images.{payload_in, put_in, change_in, entry_in, applied, after_entries, entries_map, body_of}
+use Rattle.sign_store.specs.Images.{payload_in, put_in, change_in, entry_in, applied, after_entries, body_of}
 use Rattle.sign_store.specs.Stores.{IsKept, map_of}
 use Rattle.sign_store.specs.Tables.{Map, nothing, is_among, with_each}
 use Rattle.sign_store.specs.declared.store.Store.{Store}

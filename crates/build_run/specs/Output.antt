@@ -1,7 +1,7 @@
 -- What a site has printed on standard output, from call to call.
-use Rattle.std.specs.Prelude.{◌≡◌, ◌<◌, ℕ, Bool, true, false, List, [], ◌∷◌, ◌++◌, length, Result, Ok, Err}
+use Rattle.std.specs.Prelude.{◌≡◌, ℕ, Bool, true, false, List, [], ◌∷◌, ◌++◌, length, Result, Ok, Err}
 use Rattle.scons_base.specs.declared.ids.RuleId.{RuleId}
-use Rattle.world_api.specs.Around.{Around, Entry, Finished}
+use Rattle.world_api.specs.Around.{Entry, Finished}
 use Rattle.world_api.specs.Meaning.{Meaning}
 use Rattle.world_api.specs.Printed.{SinkMeaning}
 use Rattle.world_api.specs.Printing.{Cuts, Prints}
@@ -14,8 +14,6 @@ use Rattle.sign_store.specs.Tables.{Map}
 use Rattle.sign_store.specs.declared.store.Store.{Store}
 use Rattle.task_plan.specs.declared.want.PlanEvent.{PlanEvent}
 use Rattle.task_plan.specs.declared.want.Want.{Want}
-use Rattle.task_plan.specs.declared.want.Want.TheVariants as want
-use Rattle.build_files.specs.Dueness.{AreIdle}
 use Rattle.build_files.specs.declared.end.ListEnd.{ListEnd}
 use Rattle.build_means.specs.Builds.{Wanted}
 use Rattle.turn_means.specs.Laws.{is_due_now}

@@ -20,9 +20,8 @@ use Rattle.build_run.proofs.Sites.{looked_at, sound_still}
 use Rattle.build_run.proofs.Starting.{end_of_turn, ended_looked}
 use Rattle.build_run.specs.Books.{book_of}
 use Rattle.build_run.proofs.Booking.{shut_on}
-use Rattle.build_run.specs.Output.{SaysWhy}
 use Rattle.build_run.proofs.Explaining.{why_after}
-use Rattle.build_run.proofs.Printing.{end_printed, quiet_looked, quiet_make, quiet_prints, quiet_tells}
+use Rattle.build_run.proofs.Printing.{end_printed, quiet_looked, quiet_make, quiet_prints}
 use Rattle.build_run.proofs.Choosing.{targets_idle}
 use Rattle.build_run.proofs.site.Site.make.Goals as goal
 

@@ -24,7 +24,6 @@ use Rattle.build_run.proofs.EndingOn.{done_is, put_counts, put_ends, put_others,
 use Rattle.build_run.proofs.Causing.{account_as, settled, untold}
 use Rattle.build_run.proofs.Goings.{passes_on}
 use Rattle.build_run.proofs.Outs.{held_count, last_of, out_in, room_beside, rule_of, stored_alike, stored_beside, stored_left, stored_over, stored_taken}
-use Rattle.build_run.specs.Output.{AddsEndings, none_added, one_added}
 use Rattle.build_run.proofs.Choosing.{goes_before}
 use Rattle.build_run.proofs.Printing.{ends_same, put_ended, quiet_ended}
 use Rattle.build_run.proofs.site.Site.take_ended.Goals as goal
