@@ -26,6 +26,7 @@ use Rattle.build_run.specs.Safe.{HasOutset}
 use Rattle.build_run.specs.Takes.{IsLeftAt}
 use Rattle.build_run.specs.declared.account.Account.{Account}
 use Rattle.build_run.proofs.BuildPrinting.{none_printed}
+use Rattle.build_run.proofs.StepTexts.{steps_printed}
 use Rattle.build_run.proofs.EndingOn.{not_before}
 use Rattle.build_run.specs.declared.building.Options.{Options}
 use Rattle.build_run.specs.declared.end.BuildEnd.{BuildEnd}
@@ -120,6 +121,8 @@ module _ {W : Type 0} (m : Meaning W) (g : RuleGraph) (requested : List NodeId) 
         prints = λ tells sure shows below. record {
           ran = has_run answer same tells sure below;
           printed = prints.prints tells sure shows (o (told tells) below) (ready (told tells) below);
+          steps = steps_printed p (o (told tells) below) (ready (told tells) below).outset options (m.around c) out new_out (made tells sure below).runs
+              (prints.prints tells sure shows (o (told tells) below) (ready (told tells) below));
         };
       }
 
@@ -162,6 +165,9 @@ module _ {W : Type 0} (m : Meaning W) (g : RuleGraph) (requested : List NodeId) 
   build_refused back leaves answer ended = λ tells sure below. has_refused back leaves answer ended tells
 
   -- and printed
+  abbrev begun_here : m.tells c → are_below (length g.nodes) requested ≡ true → Outset
+  begun_here tells below = record { wanted = w; kept = map_of mid; counts = m.counts a; before = m.around c }
+
   pub build_silent : {O : Type 0} (p : SinkMeaning O) (out : O) → (m.tells c → m.tells a) →
       Leaves m a store c mid (IsLeftAt g (m.around a) (map_of store)) → (answer : BuildEnd) → answer.is_ended ≡ true →
       BuildPrints m p w (map_of store) options a out c out (map_of mid) answer
@@ -169,7 +175,9 @@ module _ {W : Type 0} (m : Meaning W) (g : RuleGraph) (requested : List NodeId) 
     told = λ t. t;
     prints = λ tells sure shows below. record {
       ran = has_refused back leaves answer ended tells;
-      printed = none_printed p (record { wanted = w; kept = map_of mid; counts = m.counts a; before = m.around c }) options (m.around c) out refl;
+      printed = none_printed p (begun_here tells below) options (m.around c) out refl;
+      steps = steps_printed p (begun_here tells below) (record { reading = read; below = below }) options (m.around c) out out
+          (has_refused back leaves answer ended tells).runs (none_printed p (begun_here tells below) options (m.around c) out refl);
     };
   }
 

@@ -35,3 +35,5 @@ mod Printing
 mod Reasoned
 mod StartPrinting
 mod BuildPrinting
+mod Reporting
+mod StepTexts

@@ -22,7 +22,7 @@ use Rattle.turn_means.specs.Writing.{Writes}
 use Rattle.build_run.specs.Along.{IsAlong, IsDue, IsWantedOf, standing_of}
 use Rattle.build_run.specs.Outsets.{HasRun, IsReadyFor}
 use Rattle.build_run.specs.Sites.{most_jobs}
-use Rattle.build_run.specs.StartTexts.{HasPrinted}
+use Rattle.build_run.specs.StartTexts.{AreStepTexts, HasOwnText, HasPrinted}
 use Rattle.build_run.specs.Whys.{IsWhyText, TellsReason}
 use Rattle.build_run.specs.declared.account.Account.{Account}
 use Rattle.build_run.specs.declared.building.Options.{Options}
@@ -114,11 +114,12 @@ abbrev pub outset_of : {W : Type 0} (m : Meaning W) (w : Wanted) (map : Map) (ol
     HasRun m w map old new behind ended → Outset
 outset_of m w map old new behind ended ran = record { wanted = w; kept = ran.kept; counts = m.counts old; before = ran.left }
 
--- A build ran, and printed the texts of the rules that its log says it started.
+-- A build ran, and printed the texts of the rules that its log says it started, which are those that began by its steps.
 pub record HasRunPrinting {W O : Type 0} (m : Meaning W) (p : SinkMeaning O) (w : Wanted) (map : Map) (options : Options) (old : W) (out : O)
     (new : W) (new_out : O) (behind : Map) (ended : Bool) : Type 0 where
   pub ran : HasRun m w map old new behind ended
   pub printed : HasPrinted p (outset_of m w map old new behind ended ran) options (m.around new) out new_out
+  pub steps : AreStepTexts (HasOwnText (outset_of m w map old new behind ended ran) options (m.around new)) ran.runs.steps printed.text
 
 -- So builds do, in a world that tells and is sure, where the requested nodes are the graph's, and where standard output tells.
 pub record BuildPrints {W O : Type 0} (m : Meaning W) (p : SinkMeaning O) (w : Wanted) (map : Map) (options : Options) (old : W) (out : O)

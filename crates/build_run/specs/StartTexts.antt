@@ -13,6 +13,7 @@ use Rattle.rule_graph.specs.declared.rule.Rule.{Rule}
 use Rattle.rule_graph.specs.Graphs.{RuleGraph}
 use Rattle.build_model.specs.Rules as model
 use Rattle.build_model.specs.Rules.{Path, Among}
+use Rattle.build_model.specs.Steps.{Step, Fresh, Began, Ended, Lacks, Halts}
 use Rattle.build_means.specs.Grown.{IsCopyOf}
 use Rattle.build_means.specs.Logs.{IsNewId}
 use Rattle.explain_report.specs.declared.reason.Reason.{Reason}
@@ -70,6 +71,27 @@ pub data AreTexts (IsText : Job → List ℕ → Type 0) : List Entry → List �
       AreTexts IsText entries text → AreTexts IsText (entries ++ Started job counts ∷ []) (text ++ own)
   of_ending : {entries : List Entry} {text : List ℕ} (id : ℕ) (outcome : Outcome) → AreTexts IsText entries text →
       AreTexts IsText (entries ++ Finished id outcome ∷ []) text
+
+-- The same by the steps of a build, the latest first: of each rule whose action began its text, behind those of the rules that
+-- began before. Nothing is printed of a rule that is up to date, that lacks a dependency, or whose action ends.
+pub data AreStepTexts (IsText : model.Rule → List ℕ → Type 0) : List Step → List ℕ → Type 0 where
+  no_step : AreStepTexts IsText [] []
+  of_fresh : {past : List Step} {text : List ℕ} (r : model.Rule) → AreStepTexts IsText past text → AreStepTexts IsText (Fresh r ∷ past) text
+  of_begun : {past : List Step} {text : List ℕ} (r : model.Rule) (own : List ℕ) → IsText r own → AreStepTexts IsText past text →
+      AreStepTexts IsText (Began r ∷ past) (text ++ own)
+  -- it couldn't be started
+  of_refused : {past : List Step} {text : List ℕ} (r : model.Rule) → AreStepTexts IsText past text →
+      AreStepTexts IsText (Ended r false ∷ Began r ∷ past) text
+  of_ended : {past : List Step} {text : List ℕ} (r : model.Rule) (well : Bool) → AreStepTexts IsText past text →
+      AreStepTexts IsText (Ended r well ∷ past) text
+  of_lacking : {past : List Step} {text : List ℕ} (r : model.Rule) (p : Path) → AreStepTexts IsText past text →
+      AreStepTexts IsText (Lacks r p ∷ past) text
+  of_halt : {past : List Step} {text : List ℕ} → AreStepTexts IsText past text → AreStepTexts IsText (Halts ∷ past) text
+
+-- the text of a rule, by its number
+pub record HasOwnText (o : Outset) (options : Options) (around : Around) (r : model.Rule) (text : List ℕ) : Type 0 where
+  pub number : ℕ
+  pub own : IsOwnText o options around number r text
 
 -- What stands behind them: nothing, or the text of one rule for which these entries have no job, where standard output refused
 -- maybe only a front of it.

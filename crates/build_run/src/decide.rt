@@ -3,6 +3,7 @@ ghost use Rattle.std.specs.Prelude.{◌≡◌, ◌≤◌, ◌<◌, [], length, I
 ghost use Rattle.build_files.specs.Causes.{HasLookCause, IsQuiet};
 ghost use Rattle.build_run.specs.Causes.{IsInner};
 ghost use Rattle.build_run.specs.Along.{GoesAlong, MakesAlong, Presents};
+ghost use Rattle.build_run.specs.FaultTexts.{SiteKeepsTold};
 ghost use Rattle.build_run.specs.Goings.{Stays};
 ghost use Rattle.world_api.specs.Looks.{Looks};
 ghost use Rattle.build_run.specs.Output.{MakesPrinting, TurnsPrinting};
@@ -36,6 +37,7 @@ impl<W: World, O: Sink, E: Sink> Site<'_, '_, W, O, E> {
         ensures printing { TurnsPrinting W.meaning O.meaning self.old self.new (Want.Decide rule) result }
         ensures safe { TurnsSafelyAs W.meaning self.old self.new (Want.Decide rule) }
         ensures reason { SiteKeepsReason self.old self.new }
+        ensures texts { SiteKeepsTold E.meaning self.old self.new }
         ensures last { EndsLast result }
     {
         match present(self.run, self.world, self.graph, rule)? {
@@ -62,6 +64,7 @@ impl<W: World, O: Sink, E: Sink> Site<'_, '_, W, O, E> {
         ensures printing { MakesPrinting W.meaning O.meaning self.old self.new rule now result }
         ensures safe { StartsSafely W.meaning self.old self.new now }
         ensures reason { SiteKeepsReason self.old self.new }
+        ensures texts { SiteKeepsTold E.meaning self.old self.new }
         ensures last { EndsLast result }
         ensures shows { ShowsMade W.meaning O.meaning self.old self.new rule now result }
     {

@@ -1,6 +1,7 @@
 //! The turns of a build: what the plan wants is done, and the plan is told what came of it.
 ghost use Rattle.std.specs.Prelude.{◌≡◌, ◌≢◌, ◌⊎◌, ◌≤◌, ◌<◌, [], true, false, length, Err, OnErr};
 ghost use Rattle.build_run.specs.Along.{ComesOn, GoesAlong, IsReliable, IsSpent, IsWantedOf, RestsAlong, StaysAlong, StepsOr, Tells, TellsAlong};
+ghost use Rattle.build_run.specs.FaultTexts.{KeepsTold, SameTold, SiteKeepsTold};
 ghost use Rattle.build_run.specs.Outsets.{StaysKept};
 ghost use Rattle.build_run.specs.Ledgers.{ledger_of, with_done, Accounts, Keeps, Reports};
 ghost use Rattle.build_run.specs.Output.{IsQuiet, PrintsAlong, TurnsPrinting};
@@ -34,6 +35,7 @@ impl<W: World, O: Sink, E: Sink> Site<'_, '_, W, O, E> {
         ensures still { RestsAlong W.meaning self.old self.new }
         ensures safe { TurnsSafely W.meaning self.old self.new }
         ensures reason { SiteKeepsReason self.old self.new }
+        ensures texts { SiteKeepsTold E.meaning self.old self.new }
     {
         self.take_turns();
         self.wait_for_all();
@@ -54,6 +56,7 @@ impl<W: World, O: Sink, E: Sink> Site<'_, '_, W, O, E> {
         ensures printing { PrintsAlong W.meaning O.meaning self.old self.new }
         ensures safe { TurnsSafely W.meaning self.old self.new }
         ensures reason { SiteKeepsReason self.old self.new }
+        ensures texts { SiteKeepsTold E.meaning self.old self.new }
     {
         for _turn in 0..u64::MAX {
             let wanted = want(self.run, &self.options);
@@ -79,6 +82,7 @@ impl<W: World, O: Sink, E: Sink> Site<'_, '_, W, O, E> {
         ensures halted { self.old.run.now.plan.halted ≡ true → self.new.run.now.plan.halted ≡ true }
         ensures safe { SiteGoesSafely W.meaning self.old self.new }
         ensures reason { SiteKeepsReason self.old self.new }
+        ensures texts { SiteKeepsTold E.meaning self.old self.new }
     {
         let running = self.run.tickets.len();
         for _turn in 0..running {
@@ -106,6 +110,7 @@ impl<W: World, O: Sink, E: Sink> Site<'_, '_, W, O, E> {
         ensures halts { done ≡ Err ListEnd.Memory → self.new.run.now.plan.halted ≡ true }
         ensures safe { SiteGoesSafely W.meaning self.old self.new }
         ensures reason { EndsLast done → SiteKeepsReason self.old self.new }
+        ensures texts { SiteKeepsTold E.meaning self.old self.new }
     {
         tell(self.graph, &mut self.run.plan, self.account, self.err, done);
         halt(self.graph, &mut self.run.plan, self.account);
@@ -123,6 +128,7 @@ impl<W: World, O: Sink, E: Sink> Site<'_, '_, W, O, E> {
         ensures safe { TurnsSafelyAs W.meaning self.old self.new wanted }
         ensures sound { IsSound W.meaning self.new }
         ensures reason { SiteKeepsReason self.old self.new }
+        ensures texts { SiteKeepsTold E.meaning self.old self.new }
         ensures last { EndsLast result }
     {
         match wanted {
@@ -142,6 +148,7 @@ impl<W: World, O: Sink, E: Sink> Site<'_, '_, W, O, E> {
         ensures quiet { IsQuiet W.meaning self.old self.new }
         ensures safe { SiteGoesSafely W.meaning self.old self.new }
         ensures reason { SiteKeepsReason self.old self.new }
+        ensures texts { SiteKeepsTold E.meaning self.old self.new }
         ensures last { EndsLast result }
     {
         let found = self.run.inputs.scanned(self.world, self.graph, rule, file)?;
@@ -197,6 +204,7 @@ fn tell<E: Sink>(
     ensures memory { done ≡ Err ListEnd.Memory → account.new.memory ≡ true }
     ensures stays { plan.old.halted ≡ true → plan.new.halted ≡ true }
     ensures reason { EndsLast done → StaysReasoned account.old account.new }
+    ensures texts { KeepsTold E.meaning err.old account.old err.new account.new }
 {
     match done {
         Ok(event) => step(graph, plan, account, event),
@@ -209,6 +217,7 @@ fn step(graph: &Graph, plan: &mut Plan, account: &mut Account, event: PlanEvent)
     ensures steps { StepsOr graph.now plan.old event plan.new account.old account.new }
     ensures stays { plan.old.halted ≡ true → plan.new.halted ≡ true }
     ensures reason { StaysReasoned account.old account.new }
+    ensures texts { SameTold account.old account.new }
 {
     match plan.step(graph, event) {
         Ok(()) => {}

@@ -10,6 +10,8 @@ use Rattle.build_run.proofs.Safely.{safe_on}
 use Rattle.build_run.proofs.Stopped.{builds_safely}
 use Rattle.build_run.proofs.Taking.{take_accounted}
 use Rattle.build_run.proofs.Reasons.{answers_so, not_ended}
+use Rattle.build_run.proofs.Reporting.{begins_told, build_tells}
+use Rattle.build_run.specs.Ledgers.{Ledger}
 use Rattle.build_run.proofs.building.build.Goals as goal
 
 pub make_all-skipped-requires : goal.make_all-skipped-requires
@@ -136,3 +138,19 @@ returns-in-Err-clause-prints g c =
     c.set_out.new.world c.args.store.now c.set_out.new.store c.requires.idle g.O.Sink.meaning c.args.out.now
     c.set_out.ensures.goes.passes.told.told c.in-Err.ensures.rest
     c.answer-in-Err.result (c.answer-in-Err.ensures.ended ∙ c.end.ensures.ends.ended)
+
+pub returns-in-Ok-clause-tells : goal.returns-in-Ok-clause-tells
+returns-in-Ok-clause-tells g c =
+    let e = g.E.Sink.meaning in
+    let new = c.new-account in
+    build_tells e c.args.err.now c.make_all-skipped.new.err c.make_all-skipped.new.account c.answer.result c.answer.ensures.faults c.answer.ensures.memory
+    (c.make_all-skipped.ensures.texts c.args.err.now
+    (begins_told e c.args.err.now new.result (ap (λ (l : Ledger). l.faults) new.ensures.ledger) new.ensures.unshut))
+
+pub returns-in-Err-clause-tells : goal.returns-in-Err-clause-tells
+returns-in-Err-clause-tells g c =
+    let e = g.E.Sink.meaning in
+    let new = c.new-account in
+    build_tells e c.args.err.now c.end.new.err c.end.new.self c.answer-in-Err.result c.answer-in-Err.ensures.faults c.answer-in-Err.ensures.memory
+    (c.end.ensures.texts c.args.err.now
+    (begins_told e c.args.err.now new.result (ap (λ (l : Ledger). l.faults) new.ensures.ledger) new.ensures.unshut))

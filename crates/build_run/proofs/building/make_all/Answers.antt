@@ -6,6 +6,7 @@ use Rattle.build_run.proofs.Lending.{accounts_given, idle_given, kept_closed, pa
 use Rattle.build_run.proofs.Sites.{sound_first}
 use Rattle.build_run.proofs.Stopped.{along_first}
 use Rattle.build_run.proofs.Turning.{first_safe, safe_given}
+use Rattle.build_run.proofs.Reporting.{told_given}
 use Rattle.build_run.proofs.building.make_all.Goals as goal
 
 pub go_on-requires : goal.go_on-requires
@@ -83,3 +84,12 @@ returns-clause-prints g c =
     let lent_out = same.out ∙ passes.out in
     makes_given m p _ _ _ _ _ _ _ c.close.new.self mid.world.now _ mid.out.now _ (search rules) (search rules) c.close.ensures.world c.close.ensures.out
     (goes_printed m p _ mid c.requires.held c.requires.none passes.options c.go_on.ensures.printing)
+
+pub returns-clause-texts : goal.returns-clause-texts
+returns-clause-texts g c =
+    let same = c.close.ensures.same in
+    let passes = c.go_on.ensures.passes.same in
+    let lent_err = same.err ∙ passes.err in
+    let lent_account = same.account ∙ passes.account in
+    told_given g.E.Sink.meaning c.close.new.self _ _ _ c.account-1.given.0 (search rules) (search rules)
+    (λ start has. c.close.ensures.texts start (c.go_on.ensures.texts start has))

@@ -61,3 +61,6 @@ returns-clause-printing g c =
     prints_on m p c.args.self.now mid _ (tells_on m mid.world.now c.wait_for_all.new.self.world.now _ waits.passes.passes.told told)
     c.take_turns.ensures.along c.take_turns.ensures.printing
     (quiet_prints m p mid _ (quiet_on m mid c.wait_for_all.new.self _ told waits.quiet (quiet_put m c.wait_for_all.new.self _ put.puts put.stands)))
+
+pub returns-clause-texts : goal.returns-clause-texts
+returns-clause-texts g c = λ start has. c.put_held.ensures.texts start (c.wait_for_all.ensures.texts start (c.take_turns.ensures.texts start has))

@@ -11,6 +11,7 @@ use Rattle.build_run.proofs.Outs.{held_ok, stored_alike, stored_over, unheld_sti
 use Rattle.build_run.proofs.Sites.{joined_after, site_goes, sound_refused, sound_still}
 use Rattle.build_run.specs.Output.{nothing}
 use Rattle.build_run.proofs.StartPrinting.{last_cut, last_whole}
+use Rattle.build_run.proofs.Reporting.{cleared_told, same_told}
 use Rattle.build_run.proofs.site.Site.launch.Goals as goal
 
 pub begin-requires-clause-apart : goal.begin-requires-clause-apart
@@ -153,3 +154,14 @@ returns-in_err-show-clause-cuts g c =
 pub returns-clause-cuts : goal.returns-clause-cuts
 returns-clause-cuts g c =
     held_err c.begin.result (last_whole g.O.Sink.meaning _ _ _ _ c.clear.ensures.goes.out c.in_ok-show.ensures.prints)
+
+pub returns-in_err-clear-clause-texts : goal.returns-in_err-clear-clause-texts
+returns-in_err-clear-clause-texts g c = cleared_told g.E.Sink.meaning _ _ _ _ c.clear.ensures.goes.err c.clear.ensures.texts
+
+pub returns-in_err-show-clause-texts : goal.returns-in_err-show-clause-texts
+returns-in_err-show-clause-texts g c = λ start has.
+    same_told g.E.Sink.meaning _ _ _ c.show.ensures.texts start (cleared_told g.E.Sink.meaning _ _ _ _ c.clear.ensures.goes.err c.clear.ensures.texts start has)
+
+pub returns-clause-texts : goal.returns-clause-texts
+returns-clause-texts g c = λ start has.
+    same_told g.E.Sink.meaning _ _ _ c.show.ensures.texts start (cleared_told g.E.Sink.meaning _ _ _ _ c.clear.ensures.goes.err c.clear.ensures.texts start has)

@@ -23,6 +23,7 @@ use Rattle.build_run.proofs.Booking.{shut_on}
 use Rattle.build_run.proofs.Explaining.{why_after}
 use Rattle.build_run.proofs.Printing.{end_printed, quiet_looked, quiet_make, quiet_prints}
 use Rattle.build_run.proofs.Choosing.{targets_idle}
+use Rattle.build_run.proofs.Reporting.{same_told}
 use Rattle.build_run.proofs.site.Site.make.Goals as goal
 
 pub returns-in_err-is_stale-clause-ends : goal.returns-in_err-is_stale-clause-ends
@@ -321,3 +322,7 @@ returns-clause-printing g c = record {
       start (on.prints before (told.sure tells sure) (c.start.ensures.printing.told shows) o outset along start printed) in
       record { has = so.has; none = λ e. so.none (goes_before c.start.new.self.account.now c.note_start.new.self c.note_start.ensures.ends e) };
 }
+
+pub returns-clause-texts : goal.returns-clause-texts
+returns-clause-texts g c = λ start has.
+    same_told g.E.Sink.meaning _ c.start.new.self.account.now c.note_start.new.self c.note_start.ensures.same start (c.start.ensures.texts start has)

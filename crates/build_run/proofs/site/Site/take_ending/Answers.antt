@@ -81,3 +81,6 @@ returns-clause-quiet g c =
     let put = c.put_if_few.ensures in
     quiet_on m c.args.self.now c.put_if_few.new.self _ c.take_ended.ensures.passes.passes.told
     (quiet_put m c.args.self.now c.put_if_few.new.self put.puts put.stands) c.take_ended.ensures.quiet
+
+pub returns-clause-texts : goal.returns-clause-texts
+returns-clause-texts g c = λ start has. c.take_ended.ensures.texts start (c.put_if_few.ensures.texts start has)

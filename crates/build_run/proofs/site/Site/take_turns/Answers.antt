@@ -28,6 +28,7 @@ loop-turn-preserved g c =
       printing = prints_on m g.O.Sink.meaning _ _ _ told.passes.told before.along before.printing
           (turn_prints m g.O.Sink.meaning _ _ _ _ _ tell.passes.passes.told (c.want-wanted.ensures.wanted (search rules)) turn.printing tell.quiet tell.still
           tell.ends);
+      texts = λ start has. tell.texts start (turn.texts start (before.texts start has));
       reason = λ r. tell.reason turn.last (turn.reason (before.reason r));
     }
 
@@ -53,6 +54,7 @@ loop-turn-init g c = record {
   safe = λ s along safe.
       site_rests g.W.Disk.meaning g.met.W.Disk.only_now c.args.self.now c.args.self.now refl refl refl refl (λ unshut. unshut) s safe;
   reason = λ r. r;
+  texts = λ start has. has;
 }
 
 pub returns-clause-safe : goal.returns-clause-safe
@@ -65,3 +67,6 @@ returns-clause-printing g c =
     prints_on g.W.Disk.meaning g.O.Sink.meaning c.args.self.now c.loop-turn.self c.tell-2.new.self c.tell-2.ensures.passes.passes.told
     c.loop-turn.invariant.along c.loop-turn.invariant.printing
     (quiet_prints g.W.Disk.meaning g.O.Sink.meaning c.loop-turn.self c.tell-2.new.self c.tell-2.ensures.quiet)
+
+pub returns-clause-texts : goal.returns-clause-texts
+returns-clause-texts g c = λ start has. c.tell-2.ensures.texts start (c.loop-turn.invariant.texts start has)

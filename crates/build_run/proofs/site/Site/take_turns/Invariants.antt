@@ -1,4 +1,5 @@
 use Rattle.build_run.specs.Along.{StaysAlong}
+use Rattle.build_run.specs.FaultTexts.{SiteKeepsTold}
 use Rattle.build_run.specs.Output.{PrintsAlong}
 use Rattle.build_run.specs.Reasons.{SiteKeepsReason}
 use Rattle.build_run.specs.Safe.{TurnsSafely}
@@ -16,4 +17,5 @@ invariant-loop-turn g l =
       printing : PrintsAlong m g.O.Sink.meaning l.fn.self l.self;
       safe : TurnsSafely m l.fn.self l.self;
       reason : SiteKeepsReason l.fn.self l.self;
+      texts : SiteKeepsTold g.E.Sink.meaning l.fn.self l.self;
     }
