@@ -39,7 +39,7 @@ prefix_on before mid now first text was is = record {
 }
 
 not_true : {b : Bool} {A : Type 0} → b ≡ true → b ≡ false → A
-not_true is no = true_false (sym is ∙ no)
+not_true is isnt = true_false (sym is ∙ isnt)
 
 rose_later : (a b c : ℕ) → a ≤ b → Rose b c → Rose a c
 rose_later a b c before rose = record { later = omega (arith, before, rose.later); more = omega (arith, before, rose.more) }

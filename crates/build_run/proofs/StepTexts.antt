@@ -54,39 +54,39 @@ same_job {j} e = ap (job_or j) e
 no_ending : {A : Type 0} {id : ℕ} {outcome : Outcome} {job : Job} {counts : Counts} → Finished id outcome ≡ Started job counts → A
 no_ending e = cc e
 
+-- the text of the last start, and what stands before it
+record Last (IsText : Job → List ℕ → Type 0) (entries : List Entry) (job : Job) (text : List ℕ) : Type 0 where
+  front : List ℕ
+  own : List ℕ
+  parts : text ≡ front ++ own
+  is : IsText job own
+  before : AreTexts IsText entries front
+
 module _ {IsText : Job → List ℕ → Type 0} where
   none_printed : {entries : List Entry} {text : List ℕ} → AreTexts IsText entries text → entries ≡ [] → text ≡ []
   none_printed no_text e = refl
   none_printed (of_start {entries} job counts own is rest) e = snoc_some entries (Started job counts) e
   none_printed (of_ending {entries} id outcome rest) e = snoc_some entries (Finished id outcome) e
 
-  -- the text of the last start
-  record Last (entries : List Entry) (job : Job) (text : List ℕ) : Type 0 where
-    front : List ℕ
-    own : List ℕ
-    parts : text ≡ front ++ own
-    is : IsText job own
-    before : AreTexts IsText entries front
-
   last_start : {all : List Entry} {text : List ℕ} → AreTexts IsText all text → (entries : List Entry) (job : Job) (counts : Counts) →
-      all ≡ entries ++ Started job counts ∷ [] → Last entries job text
+      all ≡ entries ++ Started job counts ∷ [] → Last IsText entries job text
   last_start no_text entries job counts e = snoc_some entries (Started job counts) (sym e)
-  last_start (of_start {front} {text} j c own is rest) entries job counts e = record {
+  last_start (of_start {entries = front} {text = text} j c own is rest) entries job counts e = record {
     front = text;
     own = own;
     parts = refl;
     is = subst (λ (k : Job). IsText k own) (same_job (snoc_last front entries (Started j c) (Started job counts) e)) is;
     before = subst (λ (l : List Entry). AreTexts IsText l text) (snoc_front front entries (Started j c) (Started job counts) e) rest;
   }
-  last_start (of_ending {front} id outcome rest) entries job counts e =
+  last_start (of_ending {entries = front} id outcome rest) entries job counts e =
       no_ending (snoc_last front entries (Finished id outcome) (Started job counts) e)
 
   last_end : {all : List Entry} {text : List ℕ} → AreTexts IsText all text → (entries : List Entry) (id : ℕ) (outcome : Outcome) →
       all ≡ entries ++ Finished id outcome ∷ [] → AreTexts IsText entries text
   last_end no_text entries id outcome e = snoc_some entries (Finished id outcome) (sym e)
-  last_end (of_start {front} j c own is rest) entries id outcome e =
+  last_end (of_start {entries = front} j c own is rest) entries id outcome e =
       no_ending (sym (snoc_last front entries (Started j c) (Finished id outcome) e))
-  last_end (of_ending {front} {text} i o rest) entries id outcome e =
+  last_end (of_ending {entries = front} {text = text} i o rest) entries id outcome e =
       subst (λ (l : List Entry). AreTexts IsText l text) (snoc_front front entries (Finished i o) (Finished id outcome) e) rest
 
 -- ---- by the steps

@@ -118,7 +118,7 @@ impl Account {
         ensures reports { Reports E.meaning err.old self.old (ledger_of self.old) err.new self.new }
         ensures ends { KeepsEnds self.old self.new }
         ensures reason { StaysReasoned self.old self.new }
-        ensures shows { self.old.is_err_shut ≡ false → Shows E.meaning err.old self.old (string_bytes text.now) err.new self.new }
+        ensures shows { self.old.is_err_shut ≡ false → Shows E.meaning err.old self.old text.now err.new self.new }
     {
         match print(err, text) {
             Ok(()) => {}

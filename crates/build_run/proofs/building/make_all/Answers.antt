@@ -91,5 +91,5 @@ returns-clause-texts g c =
     let passes = c.go_on.ensures.passes.same in
     let lent_err = same.err ∙ passes.err in
     let lent_account = same.account ∙ passes.account in
-    told_given g.E.Sink.meaning c.close.new.self _ _ _ c.account-1.given.0 (search rules) (search rules)
+    told_given g.E.Sink.meaning c.close.new.self c.args.err.now c.args.account.now _ c.account-1.given.0 (search rules) (search rules)
     (λ start has. c.close.ensures.texts start (c.go_on.ensures.texts start has))

@@ -3,6 +3,8 @@ use Rattle.build_run.proofs.Stopping.{site_rests}
 use Rattle.build_run.proofs.Turning.{turn_then, turns_on}
 use Rattle.build_run.proofs.Alongs.{along_on, memory_along, rests_by, rests_halted, turn_along}
 use Rattle.build_run.proofs.Printing.{prints_on, quiet_prints, turn_prints}
+use Rattle.build_run.specs.Ledgers.{ledger_of}
+use Rattle.build_run.proofs.Causing.{wanted}
 use Rattle.build_run.proofs.Sites.{site_on}
 use Rattle.build_run.proofs.site.Site.take_turns.Goals as goal
 
@@ -70,3 +72,7 @@ returns-clause-printing g c =
 
 pub returns-clause-texts : goal.returns-clause-texts
 returns-clause-texts g c = λ start has. c.tell-2.ensures.texts start (c.loop-turn.invariant.texts start has)
+
+pub returns-clause-accounts : goal.returns-clause-accounts
+returns-clause-accounts g c = λ start a.
+    c.tell-2.ensures.accounts start (wanted start (ledger_of c.loop-turn.self.account.now) _ (c.loop-turn.invariant.accounts start a))
