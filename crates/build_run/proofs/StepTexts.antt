@@ -8,7 +8,7 @@ use Rattle.world_api.specs.declared.job.Job.{Job}
 use Rattle.world_api.specs.declared.job.Outcome.{Outcome}
 use Rattle.build_model.specs.Rules as model
 use Rattle.build_model.specs.Rules.{Among, here, there}
-use Rattle.build_model.specs.Steps.{Step, Fresh, Began, Ended, Lacks, Halts, began}
+use Rattle.build_model.specs.Steps.{Step, Began, began}
 use Rattle.build_model.proofs.Lists.{among_same, nil_cons, same_head, same_tail}
 use Rattle.build_model.proofs.Ready.{needed_place}
 use Rattle.build_model.proofs.Runs.{begun_prepared}

@@ -1,4 +1,4 @@
-use Rattle.std.proofs.Common.{List, ℕ, refl, subst}
+use Rattle.std.proofs.Common.{List, ℕ, subst}
 use Rattle.std.specs.Prelude.{string_bytes}
 use Rattle.build_run.specs.FaultTexts.{Shows}
 use Rattle.build_run.proofs.Reporting.{none_if, ok_if, shut_if}
